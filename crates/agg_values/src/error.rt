@@ -1,0 +1,29 @@
+use std::alloc::{AllocError, AllocFailed};
+use thiserror::Error;
+
+/// Memory was refused.
+#[derive(Clone, Copy, Debug, PartialEq, Eq)]
+pub struct OutOfMemory;
+
+impl From<AllocError> for OutOfMemory {
+    fn from(_error: AllocError) -> OutOfMemory {
+        OutOfMemory
+    }
+}
+
+impl<T: Drop> From<AllocFailed<T>> for OutOfMemory {
+    fn from(_error: AllocFailed<T>) -> OutOfMemory {
+        OutOfMemory
+    }
+}
+
+/// A counter would pass its type, or a limit on occurrences was reached.
+#[derive(Clone, Copy, Debug, PartialEq, Eq)]
+pub struct TooMany;
+
+/// A request that cannot be answered as it stands.
+#[derive(Clone, Copy, Debug, PartialEq, Eq, Error)]
+pub enum InvalidArgument {
+    #[error("a page has room for no bucket")]
+    ZeroSize,
+}

@@ -1,0 +1,26 @@
+//! Keys, their order and their texts, with the small containers that contracts see as lists and maps.
+#![tactic(auto)]
+
+mod address;
+mod after_key;
+mod composite_key;
+mod error;
+mod item_list;
+mod key;
+mod name_map;
+mod order;
+mod steps;
+mod text;
+mod tuple;
+
+pub use address::Address;
+pub use after_key::AfterKey;
+pub use composite_key::CompositeKey;
+pub use error::{InvalidArgument, OutOfMemory, TooMany};
+pub use item_list::ItemList;
+pub use key::{CompositeIntermediateKey, canonical};
+pub use name_map::{NameKeys, NameMap};
+pub use order::{MissingOrder, Order, composite_intermediate_key_ordering};
+pub use steps::Steps;
+pub use text::Text;
+pub use tuple::Tuple;
