@@ -1,0 +1,4 @@
+pub mod Groups
+pub mod Occurrences
+pub mod Page
+pub mod Source

@@ -1,13 +1,12 @@
-// A library with one function.
+//! Documents, the segments that hold them, and the queries that match them.
 #![tactic(auto)]
 
-ghost use Rattle.std.specs.Prelude.{◌≡◌};
-ghost use Rattle.agg_segment.specs.Echo.{echo_of};
+mod document;
+mod query;
+mod schema;
+mod segment;
 
-// The `ensures` clause is the contract: what `echo` returns is `echo_of` of its argument, a definition
-// in `specs/Echo.antt`, which a caller's clause can cite too.
-pub fn echo(x: usize) -> usize
-    ensures { result ≡ echo_of x }
-{
-    x
-}
+pub use document::{Document, FieldValue};
+pub use query::QueryTree;
+pub use schema::Schema;
+pub use segment::{BuildError, MAX_DOCUMENTS, SegmentBuilder, SegmentReader};

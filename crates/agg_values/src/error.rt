@@ -2,7 +2,8 @@ use std::alloc::{AllocError, AllocFailed};
 use thiserror::Error;
 
 /// Memory was refused.
-#[derive(Clone, Copy, Debug, PartialEq, Eq)]
+#[derive(Clone, Copy, Debug, PartialEq, Eq, Error)]
+#[error("out of memory")]
 pub struct OutOfMemory;
 
 impl From<AllocError> for OutOfMemory {
@@ -17,8 +18,9 @@ impl<T: Drop> From<AllocFailed<T>> for OutOfMemory {
     }
 }
 
-/// A counter would pass its type, or a limit on occurrences was reached.
-#[derive(Clone, Copy, Debug, PartialEq, Eq)]
+/// A counter would pass its type, or there are too many occurrences.
+#[derive(Clone, Copy, Debug, PartialEq, Eq, Error)]
+#[error("too many occurrences")]
 pub struct TooMany;
 
 /// A request that cannot be answered as it stands.

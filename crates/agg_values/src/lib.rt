@@ -24,3 +24,9 @@ pub use order::{MissingOrder, Order, composite_intermediate_key_ordering};
 pub use steps::Steps;
 pub use text::Text;
 pub use tuple::Tuple;
+
+/// The place of a document in its segment.
+pub type DocId = u32;
+
+/// The number of a bucket of a collector.
+pub type BucketId = u32;

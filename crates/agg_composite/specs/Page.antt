@@ -1,0 +1,40 @@
+-- A page of a composite, as a relation on whole lists of documents.
+use Rattle.std.specs.Prelude.{◌≡◌, ◌≤◌, ℕ, List, [], ◌∷◌, Bool, IsTrue, length, map, count_by, replicate, All, Contains}
+use Rattle.std.specs.List.{flat_map}
+use Rattle.std.specs.List.Sorted.{IsStrictlySortedBy}
+use Rattle.std.specs.declared.cmp.Ordering.TheVariants.{Less}
+use Rattle.agg_values.specs.declared.key.CompositeIntermediateKey.{CompositeIntermediateKey}
+use Rattle.agg_values.specs.KeyOrder.{tuple_order}
+use Rattle.agg_segment.specs.Document.{Fields}
+use Rattle.agg_composite.specs.declared.request.source.CompositeAggregationSource.{CompositeAggregationSource}
+use Rattle.agg_composite.specs.Source.{rules_of}
+use Rattle.agg_composite.specs.Occurrences.{occurrences, occurrences_in, is_past, same_tuple}
+
+-- a group of a page: its tuple, how often it occurs, and its documents, once for each occurrence
+pub record Entry : Type 0 where
+  pub tuple : List CompositeIntermediateKey
+  pub count : ℕ
+  pub documents : List Fields
+
+module _ (sources : List CompositeAggregationSource) where
+  -- how often a tuple occurs in the documents
+  abbrev pub count_in : List Fields → List CompositeIntermediateKey → ℕ
+  count_in documents tuple = count_by (same_tuple (rules_of sources) tuple) (occurrences_in sources documents)
+
+  -- the documents, each as often as the tuple occurs in it
+  abbrev pub documents_of : List Fields → List CompositeIntermediateKey → List Fields
+  documents_of documents tuple = flat_map (λ d. replicate (count_by (same_tuple (rules_of sources) tuple) (occurrences sources d)) d) documents
+
+  -- a tuple that the page may list: it occurs, and lies past the bound
+  abbrev pub MayList : List CompositeIntermediateKey → List Fields → List CompositeIntermediateKey → Type 0
+  MayList bound documents tuple = Contains (occurrences_in sources documents) tuple × IsTrue (is_past (rules_of sources) bound tuple)
+
+  -- the page of a size past a bound: the lowest tuples, ascending, each with its exact count and its documents
+  pub record IsPage (size : ℕ) (bound : List CompositeIntermediateKey) (documents : List Fields) (entries : List Entry) : Type 0 where
+    pub ascending : IsStrictlySortedBy (tuple_order (rules_of sources)) (map (λ e. e.tuple) entries)
+    pub short : length entries ≤ size
+    pub listed : All (λ e. MayList bound documents e.tuple) entries
+    pub complete : (tuple : List CompositeIntermediateKey) → MayList bound documents tuple → ¬ (Contains (map (λ e. e.tuple) entries) tuple)
+        → All (λ e. tuple_order (rules_of sources) e.tuple tuple ≡ Less) entries × (length entries ≡ size)
+    pub counted : All (λ e. e.count ≡ count_in documents e.tuple) entries
+    pub kept : All (λ e. e.documents ≡ documents_of documents e.tuple) entries

@@ -1,0 +1,1 @@
+//! Groups the documents of a segment by the tuples of a composite.

@@ -1,0 +1,72 @@
+ghost use Rattle.std.specs.Prelude.{◌≡◌, unwrap_or};
+ghost use Rattle.agg_composite.specs.declared.limits.CollectError.TheVariants.{OutOfMemory as NoMemory};
+
+use agg_values::OutOfMemory;
+use thiserror::Error;
+
+/// The bytes that the collectors of a walk may hold, where no limit is given.
+pub const DEFAULT_MEMORY_LIMIT: u64 = 500_000_000;
+
+/// The buckets that a result may have, where no limit is given.
+pub const DEFAULT_BUCKET_LIMIT: u32 = 65_000;
+
+/// The limits of a walk, and the bytes that its collectors have charged.
+#[derive(Debug, Drop)]
+pub struct LimitsLedger {
+    in_use: u64,
+    memory_limit: u64,
+    bucket_limit: u32,
+}
+
+impl LimitsLedger {
+    /// A ledger with nothing in use, and the default in place of a limit that isn't given.
+    pub fn new(memory_limit: Option<u64>, bucket_limit: Option<u32>) -> LimitsLedger
+        ensures in_use { result.in_use ≡ 0 }
+        ensures memory { result.memory_limit ≡ unwrap_or memory_limit DEFAULT_MEMORY_LIMIT }
+        ensures buckets { result.bucket_limit ≡ unwrap_or bucket_limit DEFAULT_BUCKET_LIMIT }
+    {
+        LimitsLedger {
+            in_use: 0,
+            memory_limit: memory_limit.unwrap_or(DEFAULT_MEMORY_LIMIT),
+            bucket_limit: bucket_limit.unwrap_or(DEFAULT_BUCKET_LIMIT),
+        }
+    }
+
+    /// The bytes that are charged and not given back.
+    pub fn in_use(&self) -> u64
+        ensures { result ≡ self.now.in_use }
+    {
+        self.in_use
+    }
+
+    /// The bytes that may be in use.
+    pub fn memory_limit(&self) -> u64
+        ensures { result ≡ self.now.memory_limit }
+    {
+        self.memory_limit
+    }
+
+    /// The buckets that a result may have.
+    pub fn bucket_limit(&self) -> u32
+        ensures { result ≡ self.now.bucket_limit }
+    {
+        self.bucket_limit
+    }
+}
+
+/// Why a collector refused documents.
+#[derive(Clone, Copy, Debug, PartialEq, Eq, Error)]
+pub enum CollectError {
+    #[error("too many occurrences")]
+    TooMany,
+    #[error("out of memory")]
+    OutOfMemory,
+}
+
+impl From<OutOfMemory> for CollectError {
+    ghost from_gives = { λ _ e. e ≡ NoMemory };
+
+    fn from(_error: OutOfMemory) -> CollectError {
+        CollectError::OutOfMemory
+    }
+}

@@ -1,0 +1,68 @@
+ghost use Rattle.std.specs.Prelude.{◌≡◌};
+ghost use Rattle.agg_composite.specs.Source.{field_of, name_of, order_of, missing_order_of, missing_bucket_of};
+
+use agg_values::{MissingOrder, Order, Text};
+
+/// A source whose keys are the values of a field.
+#[derive(Debug, Drop)]
+pub struct TermCompositeAggregationSource {
+    pub name: Text,
+    pub field: Text,
+    pub order: Order,
+    /// Whether a document without a value has the key Null.
+    pub missing_bucket: bool,
+    pub missing_order: MissingOrder,
+}
+
+/// A source of keys.
+#[derive(Debug, Drop)]
+pub enum CompositeAggregationSource {
+    Terms(TermCompositeAggregationSource),
+}
+
+impl CompositeAggregationSource {
+    /// The field that is read.
+    pub fn field(&self) -> &Text
+        ensures { result.now ≡ field_of self.now }
+    {
+        match self {
+            CompositeAggregationSource::Terms(terms) => &terms.field,
+        }
+    }
+
+    /// The name under which the key is shown.
+    pub fn name(&self) -> &Text
+        ensures { result.now ≡ name_of self.now }
+    {
+        match self {
+            CompositeAggregationSource::Terms(terms) => &terms.name,
+        }
+    }
+
+    /// The direction in which the keys ascend.
+    pub fn order(&self) -> Order
+        ensures { result ≡ order_of self.now }
+    {
+        match self {
+            CompositeAggregationSource::Terms(terms) => terms.order,
+        }
+    }
+
+    /// The place of Null among the keys.
+    pub fn missing_order(&self) -> MissingOrder
+        ensures { result ≡ missing_order_of self.now }
+    {
+        match self {
+            CompositeAggregationSource::Terms(terms) => terms.missing_order,
+        }
+    }
+
+    /// Whether a document without a value has the key Null.
+    pub fn missing_bucket(&self) -> bool
+        ensures { result ≡ missing_bucket_of self.now }
+    {
+        match self {
+            CompositeAggregationSource::Terms(terms) => terms.missing_bucket,
+        }
+    }
+}

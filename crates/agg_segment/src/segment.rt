@@ -1,0 +1,114 @@
+ghost use Rattle.std.specs.Prelude.{◌≡◌, ◌≢◌, ◌≤◌, ◌<◌, ◌↔◌, Some, Err, [], ◌∷◌, ◌++◌, length, slice_get, IfOk, OnOk, OnErr, IsErrOf};
+ghost use Rattle.agg_segment.specs.declared.segment.BuildError.TheVariants.{OutOfMemory as NoMemory};
+
+use crate::Document;
+use agg_values::{DocId, OutOfMemory};
+use std::alloc::{AllocFailed, Global};
+use std::marker::Model;
+use thiserror::Error;
+
+/// How many documents a segment may hold.
+pub const MAX_DOCUMENTS: u32 = 16_777_216;
+
+/// Why a segment refused a document.
+#[derive(Clone, Copy, Debug, PartialEq, Eq, Error)]
+pub enum BuildError {
+    #[error("a segment holds at most 16777216 documents")]
+    TooManyDocuments,
+    #[error("out of memory")]
+    OutOfMemory,
+}
+
+impl<T: Drop> From<AllocFailed<T>> for BuildError {
+    ghost from_gives = { λ _ e. e ≡ NoMemory };
+
+    fn from(_error: AllocFailed<T>) -> BuildError {
+        BuildError::OutOfMemory
+    }
+}
+
+/// A segment in the making, seen by contracts as its documents.
+#[derive(Drop)]
+pub struct SegmentBuilder {
+    documents: Vec<Document>,
+}
+
+impl Model for SegmentBuilder {
+    ghost use Rattle.std.specs.Prelude.{List, ℕ, ◌≤◌, length};
+    ghost use Rattle.agg_segment.specs.declared.document.FieldValue.{FieldValue};
+
+    ghost Value = { List (List (List ℕ × List FieldValue)) };
+
+    ghost view = { λ builder. builder.documents.items };
+
+    ghost invariant = { λ builder. length builder.documents.items ≤ 16777216 };
+}
+
+impl SegmentBuilder {
+    /// A segment with no documents.
+    pub fn new(alloc: Global) -> SegmentBuilder
+        ensures { result ≡ [] }
+    {
+        SegmentBuilder {
+            documents: Vec::new(alloc),
+        }
+    }
+
+    /// Appends a document.
+    pub fn add_document(&mut self, document: Document) -> Result<(), BuildError>
+        ensures ok { OnOk result (self.new ≡ self.old ++ document ∷ []) }
+        ensures full { IsErrOf result BuildError.TooManyDocuments ↔ (length self.old ≡ MAX_DOCUMENTS) }
+        ensures err { OnErr result (self.new ≡ self.old) }
+    {
+        if self.documents.len() == MAX_DOCUMENTS as usize {
+            return Err(BuildError::TooManyDocuments);
+        }
+        self.documents.push(document)?;
+        Ok(())
+    }
+
+    /// The segment of these documents.
+    pub fn build(self) -> Result<SegmentReader, BuildError>
+        ensures built { IfOk result (λ reader. reader ≡ self) }
+        ensures memory { result ≢ Err BuildError.TooManyDocuments }
+    {
+        Ok(SegmentReader {
+            documents: self.documents,
+        })
+    }
+}
+
+/// A segment, seen by contracts as its documents.
+#[derive(Drop)]
+pub struct SegmentReader {
+    documents: Vec<Document>,
+}
+
+impl Model for SegmentReader {
+    ghost use Rattle.std.specs.Prelude.{List, ℕ, ◌≤◌, length};
+    ghost use Rattle.agg_segment.specs.declared.document.FieldValue.{FieldValue};
+
+    ghost Value = { List (List (List ℕ × List FieldValue)) };
+
+    ghost view = { λ reader. reader.documents.items };
+
+    ghost invariant = { λ reader. length reader.documents.items ≤ 16777216 };
+}
+
+impl SegmentReader {
+    /// The number of documents.
+    pub fn num_docs(&self) -> u32
+        ensures count { result ≡ length self.now }
+        ensures bound { result ≤ MAX_DOCUMENTS }
+    {
+        self.documents.len() as u32
+    }
+
+    /// The document at a place.
+    pub fn document(&self, doc: DocId) -> &Document
+        requires { doc < length self.now }
+        ensures { slice_get self.now doc ≡ Some result.now }
+    {
+        &self.documents[doc as usize]
+    }
+}
