@@ -1,3 +1,5 @@
+pub mod Address
 pub mod Key
 pub mod KeyOrder
 pub mod Names
+pub mod Shown

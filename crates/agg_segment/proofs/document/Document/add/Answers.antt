@@ -18,8 +18,8 @@ returns-in-Some-clause-ok c =
     let had = ap (λ o. unwrap_or o []) e.value in
     on_ok_weaker c.push.result
     (λ pushed.
-          written ∙ held ∙ ap (λ w. put field w es) (pushed ∙ ap (λ v. v ++ c.args.value ∷ []) had)
-          ∙ ap (λ m. put field (values_in m field ++ c.args.value ∷ []) m) c.self.view_is)
+    written ∙ held ∙ ap (λ w. put field w es) (pushed ∙ ap (λ v. v ++ c.args.value ∷ []) had)
+    ∙ ap (λ m. put field (values_in m field ++ c.args.value ∷ []) m) c.self.view_is)
     c.push.ensures.ok
 
 pub returns-in-Some-clause-err : goal.returns-in-Some-clause-err
