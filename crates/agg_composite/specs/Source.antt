@@ -2,6 +2,7 @@
 use Rattle.std.specs.Prelude.{ℕ, List, [], ◌∷◌, Bool, map, if◌then◌else◌}
 use Rattle.agg_values.specs.declared.key.CompositeIntermediateKey.{CompositeIntermediateKey}
 use Rattle.agg_values.specs.declared.key.CompositeIntermediateKey.TheVariants as key
+use Rattle.agg_values.specs.Key.{typed_number}
 use Rattle.agg_values.specs.declared.order.Order.{Order}
 use Rattle.agg_values.specs.declared.order.MissingOrder.{MissingOrder}
 use Rattle.agg_segment.specs.Document.{Fields}
@@ -36,7 +37,7 @@ rules_of sources = map (λ s. (order_of s, missing_order_of s)) sources
 
 -- the typed key of a value
 abbrev pub key_of : FieldValue → CompositeIntermediateKey
-key_of (I64 n) = key.I64 n
+key_of (I64 n) = typed_number n
 
 -- the keys, or one Null where there is none and a missing value has a bucket
 abbrev pub or_missing : Bool → List CompositeIntermediateKey → List CompositeIntermediateKey

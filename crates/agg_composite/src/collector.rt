@@ -1,1 +1,151 @@
-//! Groups the documents of a segment by the tuples of a composite.
+ghost use Rattle.std.specs.Prelude.{◌≡◌, ◌+◌, ◌^◌, ◌<◌, ◌≤◌, List, [], ◌++◌, length, take, count_by, IfOk, OnOk, IsErrOf, All};
+ghost use Rattle.agg_composite.specs.Groups.{Groups, IsPlain, documents_at, page_entries, past_occurrences};
+ghost use Rattle.agg_composite.specs.Occurrences.{same_tuple};
+ghost use Rattle.agg_composite.specs.Source.{rules_of};
+
+use crate::PageEntry;
+use crate::limits::CollectError;
+use crate::request::{CompositeAggregation, CompositeAggregationSource};
+use agg_segment::{FieldValue, SegmentReader};
+use agg_values::{
+    BucketId, CompositeIntermediateKey, DocId, ItemList, OutOfMemory, Steps, Tuple,
+    composite_intermediate_key_ordering,
+};
+use std::alloc::Global;
+use std::cmp::Ordering;
+use std::collections::BTreeMap;
+use std::marker::Model;
+use std::sync::ledger::Ledger;
+
+/// Groups the documents of a segment by the tuples of a composite. Contracts see the distinct
+/// tuples that it visited, ascending, each with how often it was visited.
+#[derive(Drop)]
+pub struct SegmentCompositeCollector {
+    alloc: Global,
+    counts: BTreeMap<i64, u64>,
+}
+
+impl Model for SegmentCompositeCollector {
+    ghost use Rattle.std.specs.Prelude.{List, ℕ};
+    ghost use Rattle.agg_values.specs.declared.key.CompositeIntermediateKey.{CompositeIntermediateKey};
+
+    ghost Value = { List (List CompositeIntermediateKey × ℕ) };
+
+    ghost use Rattle.agg_composite.specs.Groups.{numbers_held};
+
+    ghost view = { λ collector. numbers_held collector.counts.entries };
+}
+
+impl SegmentCompositeCollector {
+    /// A collector for a composite of so many sources, without groups.
+    pub fn new(alloc: Global, num_sources: usize) -> Result<SegmentCompositeCollector, OutOfMemory>
+        requires some { 1 ≤ num_sources }
+        requires few { num_sources ≤ 16 }
+        ensures { IfOk result (λ collector. collector ≡ []) }
+    {
+        let _ = num_sources;
+        Ok(SegmentCompositeCollector {
+            alloc,
+            counts: BTreeMap::new(alloc),
+        })
+    }
+
+    /// Visits the tuples of the documents at these places that lie past the bound, which stands in
+    /// place of the composite's own. What is held after an error isn't said.
+    pub fn collect<L: Ledger>(
+        &mut self,
+        parent_bucket_id: BucketId,
+        docs: &[DocId],
+        composite: &CompositeAggregation,
+        bound: &Tuple,
+        segment: &SegmentReader,
+        steps: &mut Steps<L>,
+    ) -> Result<(), CollectError>
+        requires parent { parent_bucket_id ≡ 0 }
+        requires form { IsPlain composite.now.sources }
+        requires within { All (λ doc. doc < length segment.now) docs.now }
+        ensures ok { OnOk result
+            ((visited : _)
+            → Groups (rules_of composite.now.sources) visited self.old
+            → Groups (rules_of composite.now.sources) (visited ++ past_occurrences composite.now.sources bound.now (documents_at segment.now docs.now)) self.new) }
+        ensures too_many { IsErrOf result CollectError.TooMany
+            → (visited : _)
+            → Groups (rules_of composite.now.sources) visited self.old
+            → (tuple : _)
+            × (2 ^ 64 ≤ count_by (same_tuple (rules_of composite.now.sources) tuple) visited + length (past_occurrences composite.now.sources bound.now (documents_at segment.now docs.now))) }
+    {
+        let _ = parent_bucket_id;
+        let Some(source) = composite.sources.as_slice().first() else {
+            return Ok(());
+        };
+        for doc in docs {
+            let values = segment.document(*doc).values(source.field());
+            visit_values(&mut self.counts, values, source, bound, steps)?;
+        }
+        Ok(())
+    }
+
+    /// The lowest tuples that were visited, as many as the composite's size, each with its count.
+    pub fn page(
+        &self,
+        parent_bucket_id: BucketId,
+        composite: &CompositeAggregation,
+        bound: &Tuple,
+        segment: &SegmentReader,
+    ) -> Result<ItemList<PageEntry>, OutOfMemory>
+        requires parent { parent_bucket_id ≡ 0 }
+        ensures { IfOk result (λ page. page ≡ page_entries (take composite.now.size self.now)) }
+    {
+        let _ = parent_bucket_id;
+        let _ = bound;
+        let _ = segment;
+        let mut entries = ItemList::new(self.alloc);
+        for (number, count) in &self.counts {
+            if entries.as_slice().len() >= composite.size as usize {
+                break;
+            }
+            let mut key = Tuple::new(self.alloc);
+            key.push(CompositeIntermediateKey::I64(*number))?;
+            entries.push(PageEntry {
+                key,
+                doc_count: *count,
+            })?;
+        }
+        Ok(entries)
+    }
+}
+
+// Visits the values of one document that lie past the bound.
+fn visit_values<L: Ledger>(
+    counts: &mut BTreeMap<i64, u64>,
+    values: &[FieldValue],
+    source: &CompositeAggregationSource,
+    bound: &Tuple,
+    steps: &mut Steps<L>,
+) -> Result<(), CollectError> {
+    for value in values {
+        let FieldValue::I64(number) = value;
+        if lies_past(*number, source, bound) {
+            visit(counts, *number)?;
+            steps.tick();
+        }
+    }
+    Ok(())
+}
+
+// Whether the tuple of a number lies past the bound.
+fn lies_past(number: i64, source: &CompositeAggregationSource, bound: &Tuple) -> bool {
+    let Some(first) = bound.as_slice().first() else {
+        return true;
+    };
+    let key = CompositeIntermediateKey::I64(number);
+    composite_intermediate_key_ordering(first, &key, source.order(), source.missing_order())
+        == Ordering::Less
+}
+
+// Counts one more visit of a number.
+fn visit(counts: &mut BTreeMap<i64, u64>, number: i64) -> Result<(), CollectError> {
+    let count = counts.entry(number)?.or_insert(0);
+    *count = count.checked_add(1).ok_or(CollectError::TooMany)?;
+    Ok(())
+}

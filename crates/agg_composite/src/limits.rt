@@ -2,6 +2,7 @@ ghost use Rattle.std.specs.Prelude.{◌≡◌, unwrap_or};
 ghost use Rattle.agg_composite.specs.declared.limits.CollectError.TheVariants.{OutOfMemory as NoMemory};
 
 use agg_values::OutOfMemory;
+use std::alloc::AllocFailed;
 use thiserror::Error;
 
 /// The bytes that the collectors of a walk may hold, where no limit is given.
@@ -67,6 +68,14 @@ impl From<OutOfMemory> for CollectError {
     ghost from_gives = { λ _ e. e ≡ NoMemory };
 
     fn from(_error: OutOfMemory) -> CollectError {
+        CollectError::OutOfMemory
+    }
+}
+
+impl<T: Drop> From<AllocFailed<T>> for CollectError {
+    ghost from_gives = { λ _ e. e ≡ NoMemory };
+
+    fn from(_error: AllocFailed<T>) -> CollectError {
         CollectError::OutOfMemory
     }
 }

@@ -1,5 +1,5 @@
 -- Keys: a value with its type, or Null.
-use Rattle.std.specs.Prelude.{ℕ, ◌^◌, ◌<◌, ◌≤◌, ◌≤ℤ◌, ◌<ℤ◌, ℤ, pos, negsuc, List, [], Bool, true, false, nat_lt, if◌then◌else◌, ⊤}
+use Rattle.std.specs.Prelude.{ℕ, ◌^◌, ◌<◌, ◌≤◌, ◌<ℤ◌, ℤ, pos, unsigned_abs, int_lt, List, [], Bool, true, false, nat_lt, if◌then◌else◌, ⊤}
 use Rattle.agg_values.specs.declared.key.CompositeIntermediateKey.{CompositeIntermediateKey}
 use Rattle.agg_values.specs.declared.key.CompositeIntermediateKey.TheVariants.{Bool as Truth, Str, I64, U64, DateTime, IpAddr, Null}
 
@@ -32,6 +32,10 @@ address_of _ = 0
 abbrev pub text_of : CompositeIntermediateKey → List ℕ
 text_of (Str text) = text
 text_of _ = []
+
+-- the typed key of a number: an I64 where it fits one, else a U64
+abbrev pub typed_number : ℤ → CompositeIntermediateKey
+typed_number n = if int_lt n (pos (2 ^ 63)) then I64 n else U64 (unsigned_abs n)
 
 -- the same value, with a number as an I64 where it fits one
 abbrev pub canonical_key : CompositeIntermediateKey → CompositeIntermediateKey
