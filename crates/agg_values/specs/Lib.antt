@@ -1,4 +1,5 @@
 pub mod Address
+pub mod AddressGrammar
 pub mod Column
 pub mod Key
 pub mod KeyOrder
