@@ -3,24 +3,35 @@
 
 mod address;
 mod after_key;
+mod column;
 mod composite_key;
 mod error;
 mod item_list;
 mod key;
+mod laws;
 mod name_map;
+mod number;
 mod order;
+mod order_target;
 mod steps;
 mod text;
 mod tuple;
 
 pub use address::Address;
 pub use after_key::AfterKey;
+pub use column::ColumnPaginationOrder;
 pub use composite_key::CompositeKey;
 pub use error::{InvalidArgument, OutOfMemory, TooMany};
 pub use item_list::ItemList;
 pub use key::{CompositeIntermediateKey, canonical};
+pub use laws::{
+    desc_reverses_asc, key_order_is_exact, key_order_is_total, tuple_order_is_exact,
+    tuple_order_is_total,
+};
 pub use name_map::{NameKeys, NameMap};
+pub use number::{ProjectedNumber, cmp_i64_u64, i64_to_u64, u64_to_i64};
 pub use order::{MissingOrder, Order, composite_intermediate_key_ordering};
+pub use order_target::OrderTarget;
 pub use steps::Steps;
 pub use text::Text;
 pub use tuple::Tuple;

@@ -1,0 +1,6 @@
+pub mod AddressTexts
+pub mod GroupTexts
+pub mod Groups
+pub mod KeyOrder
+pub mod TupleOrder
+pub mod ZeroRuns

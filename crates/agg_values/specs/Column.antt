@@ -1,0 +1,26 @@
+-- The classes of keys.
+use Rattle.std.specs.Prelude.{Option, Some, None}
+use Rattle.agg_values.specs.declared.column.ColumnPaginationOrder.{ColumnPaginationOrder}
+use Rattle.agg_values.specs.declared.column.ColumnPaginationOrder.TheVariants as class
+use Rattle.agg_values.specs.declared.key.CompositeIntermediateKey.{CompositeIntermediateKey}
+use Rattle.agg_values.specs.declared.key.CompositeIntermediateKey.TheVariants as key
+use Rattle.agg_values.specs.declared.composite_key.CompositeKey.{CompositeKey}
+use Rattle.agg_values.specs.declared.composite_key.CompositeKey.TheVariants as shown
+
+-- the class of a key; Null has none
+abbrev pub class_of : CompositeIntermediateKey → Option ColumnPaginationOrder
+class_of (key.Bool b) = Some class.Bool
+class_of (key.Str text) = Some class.Str
+class_of (key.I64 n) = Some class.Numeric
+class_of (key.U64 n) = Some class.Numeric
+class_of (key.IpAddr address) = Some class.IpAddr
+class_of (key.DateTime ns) = Some class.DateTime
+class_of key.Null = None
+
+-- the class of a shown key; Null has none
+abbrev pub shown_class_of : CompositeKey → Option ColumnPaginationOrder
+shown_class_of (shown.Bool b) = Some class.Bool
+shown_class_of (shown.Str text) = Some class.Str
+shown_class_of (shown.I64 n) = Some class.Numeric
+shown_class_of (shown.U64 n) = Some class.Numeric
+shown_class_of shown.Null = None
