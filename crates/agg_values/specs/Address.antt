@@ -1,5 +1,5 @@
 -- The text of an address: RFC 5952, sections 4 and 5.
-use Rattle.std.specs.Prelude.{ℕ, ◌+◌, ◌-◌, ◌*◌, ◌/◌, ◌%◌, ◌^◌, List, [], ◌∷◌, ◌++◌, Bool, false, ◌==◌, if◌then◌else◌, length, map, take, drop, fold, max, unwrap_or, position, take_while, codes, nat_lt, decimal}
+use Rattle.std.specs.Prelude.{ℕ, ◌+◌, ◌-◌, ◌*◌, ◌/◌, ◌%◌, ◌^◌, List, ◌++◌, Bool, false, ◌==◌, if◌then◌else◌, length, map, take, drop, fold, max, unwrap_or, position, take_while, codes, nat_lt, decimal}
 use Rattle.std.specs.Fmt.{radix_digits}
 use Rattle.std.specs.List.{range_with_len, join_with_byte}
 

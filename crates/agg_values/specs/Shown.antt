@@ -1,5 +1,5 @@
 -- Keys as they are shown.
-use Rattle.std.specs.Prelude.{ℤ, pos, int_div}
+use Rattle.std.specs.Prelude.{pos, int_div}
 use Rattle.agg_values.specs.declared.key.CompositeIntermediateKey.{CompositeIntermediateKey}
 use Rattle.agg_values.specs.declared.key.CompositeIntermediateKey.TheVariants as key
 use Rattle.agg_values.specs.declared.composite_key.CompositeKey.{CompositeKey}

@@ -7,6 +7,7 @@ mod composite_key;
 mod error;
 mod item_list;
 mod key;
+mod laws;
 mod name_map;
 mod order;
 mod steps;
@@ -19,6 +20,10 @@ pub use composite_key::CompositeKey;
 pub use error::{InvalidArgument, OutOfMemory, TooMany};
 pub use item_list::ItemList;
 pub use key::{CompositeIntermediateKey, canonical};
+pub use laws::{
+    desc_reverses_asc, key_order_is_exact, key_order_is_total, tuple_order_is_exact,
+    tuple_order_is_total,
+};
 pub use name_map::{NameKeys, NameMap};
 pub use order::{MissingOrder, Order, composite_intermediate_key_ordering};
 pub use steps::Steps;
