@@ -25,6 +25,10 @@ module _ (sources : List CompositeAggregationSource) where
   abbrev pub documents_of : List Fields → List CompositeIntermediateKey → List Fields
   documents_of documents tuple = flat_map (λ d. replicate (count_by (same_tuple (rules_of sources) tuple) (occurrences sources d)) d) documents
 
+  -- a group as an entry: its tuple and count, with the documents of the tuple
+  abbrev pub entry_of : List Fields → List CompositeIntermediateKey × ℕ → Entry
+  entry_of documents group = record { tuple = group.0; count = group.1; documents = documents_of documents group.0 }
+
   -- a tuple that the page may list: it occurs, and lies past the bound
   abbrev pub MayList : List CompositeIntermediateKey → List Fields → List CompositeIntermediateKey → Type 0
   MayList bound documents tuple = Contains (occurrences_in sources documents) tuple × IsTrue (is_past (rules_of sources) bound tuple)

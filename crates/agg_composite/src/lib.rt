@@ -2,9 +2,11 @@
 #![tactic(auto)]
 
 mod collector;
+mod laws;
 pub mod limits;
 mod page_entry;
 pub mod request;
 
 pub use collector::SegmentCompositeCollector;
+pub use laws::the_lowest_groups_are_a_page;
 pub use page_entry::PageEntry;

@@ -1,0 +1,2 @@
+pub mod PageFromGroups
+pub mod PageLists
