@@ -1,10 +1,27 @@
-ghost use Rattle.std.specs.Prelude.{List, ℕ, map, take};
+ghost use Rattle.std.specs.Prelude.{◌≡◌, ◌≢◌, ℕ, List, map, take, AllPairs};
 ghost use Rattle.agg_segment.specs.Document.{Fields};
 ghost use Rattle.agg_values.specs.declared.key.CompositeIntermediateKey.{CompositeIntermediateKey};
 ghost use Rattle.agg_composite.specs.Groups.{Groups, past_occurrences};
-ghost use Rattle.agg_composite.specs.Page.{IsPage, entry_of};
+ghost use Rattle.agg_composite.specs.Page.{Entry, IsPage, entry_of};
 ghost use Rattle.agg_composite.specs.Source.{rules_of};
 ghost use Rattle.agg_composite.specs.declared.request.source.CompositeAggregationSource.{CompositeAggregationSource};
+
+/// Every size, bound and list of documents has a page, and only one.
+pub fn each_request_has_one_page()
+    ensures exists { (sources : List CompositeAggregationSource) (size : ℕ) (bound : List CompositeIntermediateKey) (documents : List Fields)
+        → (page : List Entry) × IsPage sources size bound documents page }
+    ensures unique { (sources : List CompositeAggregationSource) (size : ℕ) (bound : List CompositeIntermediateKey) (documents : List Fields) (page other : List Entry)
+        → IsPage sources size bound documents page
+        → IsPage sources size bound documents other
+        → page ≡ other }
+{}
+
+/// Different places of a page hold different tuples.
+pub fn a_page_lists_each_tuple_once()
+    ensures { (sources : List CompositeAggregationSource) (size : ℕ) (bound : List CompositeIntermediateKey) (documents : List Fields) (page : List Entry)
+        → IsPage sources size bound documents page
+        → AllPairs (λ entry other. entry.tuple ≢ other.tuple) page }
+{}
 
 /// The lowest groups of the past occurrences of all documents, as many as the size, are a page.
 pub fn the_lowest_groups_are_a_page()

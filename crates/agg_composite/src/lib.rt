@@ -8,5 +8,7 @@ mod page_entry;
 pub mod request;
 
 pub use collector::SegmentCompositeCollector;
-pub use laws::the_lowest_groups_are_a_page;
+pub use laws::{
+    a_page_lists_each_tuple_once, each_request_has_one_page, the_lowest_groups_are_a_page,
+};
 pub use page_entry::PageEntry;
