@@ -1,11 +1,11 @@
 -- Ascending keys: that they differ, that there is one list of the lowest of a kind, and how to make them from any list.
-use Rattle.std.proofs.Common.{◌≡◌, ◌≢◌, ℕ, ◌-◌, ◌<◌, ◌≤◌, inl, inr, cond, List, [], ◌∷◌, length, get_or, map, is_eq, refl, sym, ap, ◌∙◌, subst, arith, Ordering, Less, Equal, Greater}
+use Rattle.std.proofs.Common.{◌≡◌, ◌≢◌, ℕ, ◌+◌, ◌-◌, ◌<◌, ◌≤◌, inl, inr, cond, List, [], ◌∷◌, ◌++◌, length, get_or, map, is_eq, refl, sym, ap, ◌∙◌, subst, arith, Ordering, Less, Equal, Greater}
 use Rattle.std.specs.Cmp.{IsTotalOrder}
 use Rattle.std.specs.Ordering.{ordering_reverse, match_ordering}
 use Rattle.std.specs.List.{AllByRecursion, AllPairs, count_by}
 use Rattle.std.specs.List.Sorted.{IsStrictlySortedBy}
 use Rattle.std.proofs.lemmas.Cmp.{tied_itself}
-use Rattle.std.proofs.lemmas.List.{get_or-map, length-map}
+use Rattle.std.proofs.lemmas.List.{get_or-map, length-append, length-map}
 use Rattle.std.proofs.lemmas.List.Sums.{sum_by-cons}
 use Rattle.std.proofs.lemmas.Map.Keys.{Less-from_sorted, sorted_head, sorted_tail}
 use Rattle.agg_composite.proofs.PageLists.{Has}
@@ -20,6 +20,26 @@ AllByRecursion-Has P (y ∷ ys) x all (inr h) = AllByRecursion-Has P ys x all.1 
 pub AllByRecursion-weaker : {X : Type 0} (P Q : X → Type 0) → ((x : X) → P x → Q x) → (xs : List X) → AllByRecursion P xs → AllByRecursion Q xs
 AllByRecursion-weaker P Q follows [] all = tt
 AllByRecursion-weaker P Q follows (x ∷ xs) all = (follows x all.0, AllByRecursion-weaker P Q follows xs all.1)
+
+-- what holds of each element of two lists holds of each of the lists end to end
+pub AllByRecursion-append : {X : Type 0} (P : X → Type 0) (xs ys : List X) → AllByRecursion P xs → AllByRecursion P ys → AllByRecursion P (xs ++ ys)
+AllByRecursion-append P [] ys all_xs all_ys = all_ys
+AllByRecursion-append P (x ∷ xs) ys all_xs all_ys = (all_xs.0, AllByRecursion-append P xs ys all_xs.1 all_ys)
+
+-- what holds of one that is held holds of each element
+pub AllByRecursion-from_Has : {X : Type 0} (P : X → Type 0) (xs : List X) → ((x : X) → Has x xs → P x) → AllByRecursion P xs
+AllByRecursion-from_Has P [] each = tt
+AllByRecursion-from_Has P (x ∷ xs) each = (each x (inl refl), AllByRecursion-from_Has P xs (λ y h. each y (inr h)))
+
+-- what is held by one of two lists is held by the lists end to end
+pub Has-append_left : {X : Type 0} (xs ys : List X) (x : X) → Has x xs → Has x (xs ++ ys)
+Has-append_left [] ys x h = absurd h
+Has-append_left (y ∷ xs) ys x (inl e) = inl e
+Has-append_left (y ∷ xs) ys x (inr h) = inr (Has-append_left xs ys x h)
+
+pub Has-append_right : {X : Type 0} (xs ys : List X) (x : X) → Has x ys → Has x (xs ++ ys)
+Has-append_right [] ys x h = h
+Has-append_right (y ∷ xs) ys x h = inr (Has-append_right xs ys x h)
 
 -- two facts on each element
 AllByRecursion-both : {X : Type 0} (P Q : X → Type 0) (xs : List X) → AllByRecursion P xs → AllByRecursion Q xs → AllByRecursion (λ x. P x × Q x) xs
@@ -91,6 +111,30 @@ module _ {K : Type 0} (R : K → K → Ordering) (total : IsTotalOrder R) where
       let rest = subst (λ z. Lowest R (λ x. M x × (R z x ≡ Less)) (n - 1) ls) (sym first) (others M n l ls b) in
       let same = Lowest-same ks ls (λ x. M x × (R k x ≡ Less)) (λ x y m_x m_y e. exact x y m_x.0 m_y.0 e) (n - 1) (others M n k ks a) rest in
       λ i. first i ∷ same i
+
+  -- ascending keys, and behind them ascending keys that are above them
+  sorted_append : (ks ls : List K) → IsStrictlySortedBy R ks → IsStrictlySortedBy R ls → ((x y : K) → Has x ks → Has y ls → R x y ≡ Less) → IsStrictlySortedBy R (ks ++ ls)
+  unfolding IsStrictlySortedBy
+  sorted_append [] ls up_ks up_ls above = up_ls
+  sorted_append (k ∷ ks) ls up_ks up_ls above = (
+    AllByRecursion-append (λ y. R k y ≡ Less) ks ls up_ks.0 (AllByRecursion-from_Has (λ y. R k y ≡ Less) ls (λ y h. above k y (inl refl) h)),
+    sorted_append ks ls up_ks.1 up_ls (λ x y h_x h_y. above x y (inr h_x) h_y),
+  )
+
+  -- the lowest keys of the kind M, and behind them the lowest of those that are above them, which are of the kind N
+  pub Lowest-append : (M N : K → Type 0) → ((x : K) → N x → M x) → (n m : ℕ) (ks ls : List K) → Lowest R M n ks → Lowest R N m ls
+      → ((x y : K) → Has x ks → N y → R x y ≡ Less)
+      → ((x : K) → M x → AllByRecursion (λ l. R l x ≡ Less) ks → N x)
+      → Lowest R M (n + m) (ks ++ ls)
+  Lowest-append M N wider n m ks ls a b above rest = record {
+    ascending = sorted_append ks ls a.ascending b.ascending (λ x y h_x h_y. above x y h_x (AllByRecursion-Has N ls y b.listed h_y));
+    short = let h_a = a.short in let h_b = b.short in rw (length-append ks ls) (omega arith);
+    listed = AllByRecursion-append M ks ls a.listed (AllByRecursion-weaker N M wider ls b.listed);
+    complete = λ x kind out.
+        let first = a.complete x kind (λ h. out (Has-append_left ks ls x h)) in
+        let second = b.complete x (rest x kind first.0) (λ h. out (Has-append_right ks ls x h)) in
+        (AllByRecursion-append (λ l. R l x ≡ Less) ks ls first.0 second.0, (let e = first.1 in let f = second.1 in length-append ks ls ∙ (λ i. e i + f i)));
+  }
 
 -- ascending keys with one more, which changes nothing where it is among them
 abbrev pub insert_key : {K : Type 0} → (K → K → Ordering) → K → List K → List K

@@ -1,5 +1,5 @@
 -- Occurrences are tuples of canonical keys, one for each source.
-use Rattle.std.proofs.Common.{◌≡◌, ◌^◌, ◌≤◌, ◌<ℤ◌, ℤ, pos, Bool, true, false, List, [], ◌∷◌, ◌++◌, map, refl, arith, Equal}
+use Rattle.std.proofs.Common.{◌≡◌, ◌^◌, ◌≤◌, ◌<ℤ◌, ℤ, pos, Bool, true, false, List, [], ◌∷◌, map, refl, arith, Equal}
 use Rattle.std.specs.Prelude.{int_lt, unsigned_abs}
 use Rattle.std.specs.List.{All, AllByRecursion, Contains, flat_map}
 use Rattle.std.proofs.lemmas.Bool.{cond_both}
@@ -17,12 +17,7 @@ use Rattle.agg_segment.specs.declared.document.FieldValue.TheVariants as value
 use Rattle.agg_composite.specs.declared.request.source.CompositeAggregationSource.{CompositeAggregationSource}
 use Rattle.agg_composite.specs.Source.{rules_of, key_of, or_missing, source_values, missing_bucket_of, field_of}
 use Rattle.agg_composite.specs.Occurrences.{occurrences, occurrences_in}
-use Rattle.agg_composite.proofs.PageKeys.{AllByRecursion-weaker}
-
--- what holds of each element of two lists holds of each of the lists end to end
-AllByRecursion-append : {X : Type 0} (P : X → Type 0) (xs ys : List X) → AllByRecursion P xs → AllByRecursion P ys → AllByRecursion P (xs ++ ys)
-AllByRecursion-append P [] ys all_xs all_ys = all_ys
-AllByRecursion-append P (x ∷ xs) ys all_xs all_ys = (all_xs.0, AllByRecursion-append P xs ys all_xs.1 all_ys)
+use Rattle.agg_composite.proofs.PageKeys.{AllByRecursion-append, AllByRecursion-weaker}
 
 -- what holds of each element under a map holds of each image
 AllByRecursion-map : {X Y : Type 0} (P : Y → Type 0) (f : X → Y) (xs : List X) → AllByRecursion (λ x. P (f x)) xs → AllByRecursion P (map f xs)

@@ -1,8 +1,8 @@
 -- There is at most one page of a request.
 use Rattle.std.proofs.Common.{◌≡◌, ◌≢◌, ℕ, List, [], ◌∷◌, map, refl, sym, ap, ◌∙◌, Ordering, Less}
-use Rattle.std.specs.List.{AllByRecursion, AllPairs}
+use Rattle.std.specs.List.{All, AllByRecursion, AllPairs}
 use Rattle.std.proofs.lemmas.List.{length-map}
-use Rattle.std.proofs.lemmas.List.Elements.{All-map, recursion_from_All}
+use Rattle.std.proofs.lemmas.List.Elements.{All-map, All-from_recursion, recursion_from_All}
 use Rattle.agg_values.specs.declared.key.CompositeIntermediateKey.{CompositeIntermediateKey}
 use Rattle.agg_values.specs.KeyOrder.{tuple_order}
 use Rattle.agg_values.proofs.TupleOrder.{tuple_order-total}
@@ -10,7 +10,7 @@ use Rattle.agg_segment.specs.Document.{Fields}
 use Rattle.agg_composite.specs.declared.request.source.CompositeAggregationSource.{CompositeAggregationSource}
 use Rattle.agg_composite.specs.Source.{rules_of}
 use Rattle.agg_composite.specs.Page.{Entry, IsPage, MayList, count_in, documents_of}
-use Rattle.agg_composite.proofs.PageLists.{Has-from_Contains}
+use Rattle.agg_composite.proofs.PageLists.{All-from_map, Contains-from_Has, Has-from_Contains}
 use Rattle.agg_composite.proofs.PageKeys.{Lowest, Lowest-same, AllPairs-from_sorted}
 use Rattle.agg_composite.proofs.PageTuples.{occurring-exact}
 
@@ -25,6 +25,28 @@ module _ (sources : List CompositeAggregationSource) (size : ℕ) (bound : List 
     complete = λ tuple may out.
         let h = page.complete tuple may (λ c. out (Has-from_Contains tuples tuple c)) in
         (recursion_from_All (λ l. R l tuple ≡ Less) tuples (All-map (λ l. R l tuple ≡ Less) (λ e. e.tuple) entries h.0), length-map entries (λ e. e.tuple) ∙ h.1);
+  }
+    where
+      R : List CompositeIntermediateKey → List CompositeIntermediateKey → Ordering
+      R = tuple_order (rules_of sources)
+
+      tuples : List (List CompositeIntermediateKey)
+      tuples = map (λ e. e.tuple) entries
+
+  -- entries of the lowest tuples, with their exact counts and documents, are a page
+  pub IsPage-from_lowest : (entries : List Entry) → Lowest (tuple_order (rules_of sources)) (MayList sources bound documents) size (map (λ e. e.tuple) entries)
+      → All (λ e. e.count ≡ count_in sources documents e.tuple) entries
+      → All (λ e. e.documents ≡ documents_of sources documents e.tuple) entries
+      → IsPage sources size bound documents entries
+  IsPage-from_lowest entries low counted kept = record {
+    ascending = low.ascending;
+    short = simp length-map at low.short;
+    listed = All-from_map (MayList sources bound documents) (λ e. e.tuple) entries (All-from_recursion (MayList sources bound documents) tuples low.listed);
+    complete = λ tuple may out.
+        let h = low.complete tuple may (λ c. out (Contains-from_Has tuples tuple c)) in
+        (All-from_map (λ l. R l tuple ≡ Less) (λ e. e.tuple) entries (All-from_recursion (λ l. R l tuple ≡ Less) tuples h.0), sym (length-map entries (λ e. e.tuple)) ∙ h.1);
+    counted = counted;
+    kept = kept;
   }
     where
       R : List CompositeIntermediateKey → List CompositeIntermediateKey → Ordering

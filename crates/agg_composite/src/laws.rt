@@ -1,9 +1,10 @@
-ghost use Rattle.std.specs.Prelude.{◌≡◌, ◌≢◌, ℕ, List, map, take, AllPairs};
+ghost use Rattle.std.specs.Prelude.{◌≡◌, ◌≢◌, ℕ, ◌+◌, ◌*◌, List, ◌++◌, length, map, take, flat_map, AllPairs};
 ghost use Rattle.agg_segment.specs.Document.{Fields};
 ghost use Rattle.agg_values.specs.declared.key.CompositeIntermediateKey.{CompositeIntermediateKey};
 ghost use Rattle.agg_composite.specs.Groups.{Groups, past_occurrences};
 ghost use Rattle.agg_composite.specs.Page.{Entry, IsPage, entry_of};
 ghost use Rattle.agg_composite.specs.Source.{rules_of};
+ghost use Rattle.agg_composite.specs.Walk.{IsWalk, last_tuple};
 ghost use Rattle.agg_composite.specs.declared.request.source.CompositeAggregationSource.{CompositeAggregationSource};
 
 /// Every size, bound and list of documents has a page, and only one.
@@ -21,6 +22,17 @@ pub fn a_page_lists_each_tuple_once()
     ensures { (sources : List CompositeAggregationSource) (size : ℕ) (bound : List CompositeIntermediateKey) (documents : List Fields) (page : List Entry)
         → IsPage sources size bound documents page
         → AllPairs (λ entry other. entry.tuple ≢ other.tuple) page }
+{}
+
+/// The pages of a walk, each past the last tuple of the one before, are one page of all their sizes.
+pub fn successive_pages_are_one_page()
+    ensures two { (sources : List CompositeAggregationSource) (size more : ℕ) (bound : List CompositeIntermediateKey) (documents : List Fields) (page next : List Entry)
+        → IsPage sources size bound documents page
+        → IsPage sources more (last_tuple bound page) documents next
+        → IsPage sources (size + more) bound documents (page ++ next) }
+    ensures all { (sources : List CompositeAggregationSource) (size : ℕ) (bound : List CompositeIntermediateKey) (documents : List Fields) (pages : List (List Entry))
+        → IsWalk sources size bound documents pages
+        → IsPage sources (length pages * size) bound documents (flat_map (λ page. page) pages) }
 {}
 
 /// The lowest groups of the past occurrences of all documents, as many as the size, are a page.
