@@ -6,3 +6,4 @@ pub mod PagePast
 pub mod PageTuples
 pub mod PageUnique
 pub mod PageWalk
+pub mod PageWhole

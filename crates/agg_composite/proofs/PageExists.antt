@@ -32,7 +32,7 @@ keys-made f (k ∷ ks) = ap (λ t. k ∷ t) (keys-made f ks)
 
 module _ (rules : List (Order × MissingOrder)) (visited : List (List CompositeIntermediateKey)) where
   -- the tuples of the groups are the ascending ones
-  keys-groups : keys_of (groups_of rules visited) ≡ ascending_keys (tuple_order rules) visited
+  pub keys-groups : keys_of (groups_of rules visited) ≡ ascending_keys (tuple_order rules) visited
   keys-groups = keys-made (λ t. count_by (same_tuple rules t) visited) (ascending_keys (tuple_order rules) visited)
 
   -- each of the ascending tuples was visited
@@ -65,11 +65,20 @@ module _ (rules : List (Order × MissingOrder)) (visited : List (List CompositeI
       tuples : List (List CompositeIntermediateKey)
       tuples = ascending_keys (tuple_order rules) visited
 
+-- the past occurrences of all documents have groups
+pub Groups-past : (sources : List CompositeAggregationSource) (bound : List CompositeIntermediateKey) (documents : List Fields)
+    → Groups (rules_of sources) (past_occurrences sources bound documents) (groups_of (rules_of sources) (past_occurrences sources bound documents))
+Groups-past sources bound documents =
+    Groups-groups_of (rules_of sources) (past_occurrences sources bound documents)
+    (All-filter (is_past (rules_of sources) bound) (IsCanonicalTuple (rules_of sources)) (occurrences_in sources documents) (occurrences_in-canonical sources documents))
+
+-- the lowest of these groups are a page
+pub IsPage-past : (sources : List CompositeAggregationSource) (size : ℕ) (bound : List CompositeIntermediateKey) (documents : List Fields)
+    → IsPage sources size bound documents (map (entry_of sources documents) (take size (groups_of (rules_of sources) (past_occurrences sources bound documents))))
+IsPage-past sources size bound documents =
+    IsPage-from_groups sources documents size bound (groups_of (rules_of sources) (past_occurrences sources bound documents)) (Groups-past sources bound documents)
+
 -- there is a page of each size past each bound
 pub page_exists : (sources : List CompositeAggregationSource) (size : ℕ) (bound : List CompositeIntermediateKey) (documents : List Fields) → (page : List Entry) × IsPage sources size bound documents page
 page_exists sources size bound documents =
-    let past = past_occurrences sources bound documents in
-    let canonical = All-filter (is_past (rules_of sources) bound) (IsCanonicalTuple (rules_of sources)) (occurrences_in sources documents) (occurrences_in-canonical sources documents) in (
-      map (entry_of sources documents) (take size (groups_of (rules_of sources) past)),
-      IsPage-from_groups sources documents size bound (groups_of (rules_of sources) past) (Groups-groups_of (rules_of sources) past canonical),
-    )
+    (map (entry_of sources documents) (take size (groups_of (rules_of sources) (past_occurrences sources bound documents))), IsPage-past sources size bound documents)

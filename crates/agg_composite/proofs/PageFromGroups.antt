@@ -62,15 +62,15 @@ module _ (sources : List CompositeAggregationSource) (documents : List Fields) w
   tuples-entries (g ∷ groups) = ap (λ ts. g.0 ∷ ts) (tuples-entries groups)
 
   -- the tuples of the entries of the lowest groups
-  front : (size : ℕ) (held : List (List CompositeIntermediateKey × ℕ)) → map (λ e. e.tuple) (map (entry_of sources documents) (take size held)) ≡ take size (keys_of held)
-  front size held = tuples-entries (take size held) ∙ sym (take-map (λ (g : List CompositeIntermediateKey × ℕ). g.0) size held)
+  pub tuples-lowest : (size : ℕ) (held : List (List CompositeIntermediateKey × ℕ)) → map (λ e. e.tuple) (map (entry_of sources documents) (take size held)) ≡ take size (keys_of held)
+  tuples-lowest size held = tuples-entries (take size held) ∙ sym (take-map (λ (g : List CompositeIntermediateKey × ℕ). g.0) size held)
 
   -- the lowest groups of all past occurrences, as many as the size, are a page
   pub IsPage-from_groups : (size : ℕ) (bound : List CompositeIntermediateKey) (held : List (List CompositeIntermediateKey × ℕ))
       → Groups (rules_of sources) (past_occurrences sources bound documents) held
       → IsPage sources size bound documents (map (entry_of sources documents) (take size held))
   IsPage-from_groups size bound held groups = record {
-    ascending = subst (IsStrictlySortedBy R) (sym (front size held)) (IsStrictlySortedBy-take R size (keys_of held) groups.ascending);
+    ascending = subst (IsStrictlySortedBy R) (sym (tuples-lowest size held)) (IsStrictlySortedBy-take R size (keys_of held) groups.ascending);
     short = simp (length-map, length-take) (omega arith);
     listed = All-map MayList_here (entry_of sources documents) (take size held) (All-take (λ g. MayList sources bound documents g.0) size held may);
     complete = λ tuple may out. full tuple out (in_front_or_above R size (keys_of held) tuple groups.ascending (holds tuple may));
@@ -101,10 +101,10 @@ module _ (sources : List CompositeAggregationSource) (documents : List Fields) w
       full : (tuple : List CompositeIntermediateKey) → ¬ (Contains (map (λ e. e.tuple) (map (entry_of sources documents) (take size held))) tuple)
           → Contains (take size (keys_of held)) tuple ⊎ (All (λ l. R l tuple ≡ Less) (take size (keys_of held)) × (length (take size (keys_of held)) ≡ size))
           → All (λ e. R e.tuple tuple ≡ Less) (map (entry_of sources documents) (take size held)) × (length (map (entry_of sources documents) (take size held)) ≡ size)
-      full tuple out (inl c) = absurd (out (subst (λ ts. Contains ts tuple) (sym (front size held)) c))
+      full tuple out (inl c) = absurd (out (subst (λ ts. Contains ts tuple) (sym (tuples-lowest size held)) c))
       full tuple out (inr h) = (
-        All-from_map (λ l. R l tuple ≡ Less) (λ e. e.tuple) _ (subst (All (λ l. R l tuple ≡ Less)) (sym (front size held)) h.0),
-        sym (length-map _ (λ (e : Entry). e.tuple)) ∙ ap length (front size held) ∙ h.1,
+        All-from_map (λ l. R l tuple ≡ Less) (λ e. e.tuple) _ (subst (All (λ l. R l tuple ≡ Less)) (sym (tuples-lowest size held)) h.0),
+        sym (length-map _ (λ (e : Entry). e.tuple)) ∙ ap length (tuples-lowest size held) ∙ h.1,
       )
 
       exact : All (λ g. g.1 ≡ count_in sources documents g.0) held

@@ -1,5 +1,5 @@
 -- Ascending keys: that they differ, that there is one list of the lowest of a kind, and how to make them from any list.
-use Rattle.std.proofs.Common.{◌≡◌, ◌≢◌, ℕ, ◌+◌, ◌-◌, ◌<◌, ◌≤◌, inl, inr, cond, List, [], ◌∷◌, ◌++◌, length, get_or, map, is_eq, refl, sym, ap, ◌∙◌, subst, arith, Ordering, Less, Equal, Greater}
+use Rattle.std.proofs.Common.{◌≡◌, ◌≢◌, ℕ, suc, ◌+◌, ◌-◌, ◌<◌, ◌≤◌, inl, inr, cond, List, [], ◌∷◌, ◌++◌, length, get_or, map, is_eq, refl, sym, ap, ◌∙◌, subst, arith, Ordering, Less, Equal, Greater}
 use Rattle.std.specs.Cmp.{IsTotalOrder}
 use Rattle.std.specs.Ordering.{ordering_reverse, match_ordering}
 use Rattle.std.specs.List.{AllByRecursion, AllPairs, count_by}
@@ -178,6 +178,22 @@ module _ {K : Type 0} (R : K → K → Ordering) (total : IsTotalOrder R) where
   unfolding IsStrictlySortedBy
   ascending_keys-sorted [] = tt
   ascending_keys-sorted (k ∷ ks) = sorted_inserted k (ascending_keys R ks) (ascending_keys-sorted ks)
+
+  -- an insertion's length, by how the key compares with the first
+  length_inserted_by : (o : Ordering) (k l : K) (ls more : List K) → length more ≤ suc (length ls) → length (match_ordering o (k ∷ l ∷ ls) (l ∷ ls) (l ∷ more)) ≤ suc (suc (length ls))
+  length_inserted_by Less k l ls more short = omega arith
+  length_inserted_by Equal k l ls more short = omega arith
+  length_inserted_by Greater k l ls more short = omega arith
+
+  -- an insertion adds at most one key
+  length_inserted : (k : K) (ls : List K) → length (insert_key R k ls) ≤ suc (length ls)
+  length_inserted k [] = omega arith
+  length_inserted k (l ∷ ls) = length_inserted_by (R k l) k l ls (insert_key R k ls) (length_inserted k ls)
+
+  -- a list has no more ascending keys than keys
+  pub length-ascending_keys : (ks : List K) → length (ascending_keys R ks) ≤ length ks
+  length-ascending_keys [] = omega arith
+  length-ascending_keys (k ∷ ks) = let rest = length-ascending_keys ks in let one = length_inserted k (ascending_keys R ks) in omega arith
 
   -- what holds of each key of a list holds of each of its ascending keys
   pub ascending_keys-all : (P : K → Type 0) (ks : List K) → AllByRecursion P ks → AllByRecursion P (ascending_keys R ks)

@@ -1,4 +1,4 @@
-ghost use Rattle.std.specs.Prelude.{◌≡◌, ◌≢◌, ℕ, ◌+◌, ◌*◌, List, ◌++◌, length, map, take, flat_map, AllPairs};
+ghost use Rattle.std.specs.Prelude.{◌≡◌, ◌≢◌, ℕ, ◌+◌, ◌*◌, ◌<◌, List, ◌++◌, length, map, take, flat_map, All, AllPairs, Any, Contains};
 ghost use Rattle.agg_segment.specs.Document.{Fields};
 ghost use Rattle.agg_values.specs.declared.key.CompositeIntermediateKey.{CompositeIntermediateKey};
 ghost use Rattle.agg_composite.specs.Groups.{Groups, past_occurrences};
@@ -33,6 +33,30 @@ pub fn successive_pages_are_one_page()
     ensures all { (sources : List CompositeAggregationSource) (size : ℕ) (bound : List CompositeIntermediateKey) (documents : List Fields) (pages : List (List Entry))
         → IsWalk sources size bound documents pages
         → IsPage sources (length pages * size) bound documents (flat_map (λ page. page) pages) }
+{}
+
+/// A page with fewer entries than its size lists every tuple of the documents past the bound.
+pub fn a_page_with_room_is_the_last()
+    ensures { (sources : List CompositeAggregationSource) (size : ℕ) (bound : List CompositeIntermediateKey) (documents : List Fields) (page : List Entry)
+        → IsPage sources size bound documents page
+        → length page < size
+        → All (Contains (map (λ entry. entry.tuple) page)) (past_occurrences sources bound documents) }
+{}
+
+/// A walk through the pages lists each tuple past the bound once, and comes to a page with room.
+pub fn a_walk_lists_each_tuple_once()
+    ensures once { (sources : List CompositeAggregationSource) (size : ℕ) (bound : List CompositeIntermediateKey) (documents : List Fields) (pages : List (List Entry))
+        → IsWalk sources size bound documents pages
+        → AllPairs (λ entry other. entry.tuple ≢ other.tuple) (flat_map (λ page. page) pages) }
+    ensures all { (sources : List CompositeAggregationSource) (size : ℕ) (bound : List CompositeIntermediateKey) (documents : List Fields) (pages : List (List Entry))
+        → IsWalk sources size bound documents pages
+        → Any (λ page. length page < size) pages
+        → All (Contains (map (λ entry. entry.tuple) (flat_map (λ page. page) pages))) (past_occurrences sources bound documents) }
+    ensures ends { (sources : List CompositeAggregationSource) (size : ℕ) (bound : List CompositeIntermediateKey) (documents : List Fields) (pages : List (List Entry))
+        → IsWalk sources size bound documents pages
+        → 0 < size
+        → length (past_occurrences sources bound documents) < length pages
+        → Any (λ page. length page < size) pages }
 {}
 
 /// The lowest groups of the past occurrences of all documents, as many as the size, are a page.
