@@ -53,6 +53,15 @@ pub record Lowest {K : Type 0} (R : K → K → Ordering) (M : K → Type 0) (n 
   pub listed : AllByRecursion M ks
   pub complete : (k : K) → M k → ¬ (Has k ks) → AllByRecursion (λ l. R l k ≡ Less) ks × (length ks ≡ n)
 
+-- the lowest keys of a kind are those of a kind that the same keys are of
+pub Lowest-alike : {K : Type 0} (R : K → K → Ordering) (M N : K → Type 0) → ((x : K) → M x → N x) → ((x : K) → N x → M x) → (n : ℕ) (ks : List K) → Lowest R M n ks → Lowest R N n ks
+Lowest-alike R M N there back n ks low = record {
+  ascending = low.ascending;
+  short = low.short;
+  listed = AllByRecursion-weaker M N there ks low.listed;
+  complete = λ x kind out. low.complete x (back x kind) out;
+}
+
 module _ {K : Type 0} (R : K → K → Ordering) (total : IsTotalOrder R) where
   -- no key is below itself
   not_below_itself : (k : K) → R k k ≡ Less → ⊥

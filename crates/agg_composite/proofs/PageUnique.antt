@@ -56,7 +56,7 @@ module _ (sources : List CompositeAggregationSource) (size : ℕ) (bound : List 
       tuples = map (λ e. e.tuple) entries
 
   -- the entry of a tuple
-  abbrev entry_at : List CompositeIntermediateKey → Entry
+  abbrev pub entry_at : List CompositeIntermediateKey → Entry
   entry_at tuple = record { tuple = tuple; count = count_in sources documents tuple; documents = documents_of sources documents tuple }
 
   -- entries with their exact counts and documents are those of their tuples
@@ -69,7 +69,7 @@ module _ (sources : List CompositeAggregationSource) (size : ℕ) (bound : List 
       λ i. record { tuple = e.tuple; count = counted.0 i; documents = kept.0 i } ∷ rest i
 
   -- a page's entries are those of its tuples
-  entries-from_tuples : (entries : List Entry) → IsPage sources size bound documents entries → entries ≡ map entry_at (map (λ e. e.tuple) entries)
+  pub entries-from_tuples : (entries : List Entry) → IsPage sources size bound documents entries → entries ≡ map entry_at (map (λ e. e.tuple) entries)
   entries-from_tuples entries page =
       exact_entries entries (recursion_from_All (λ e. e.count ≡ count_in sources documents e.tuple) entries page.counted)
       (recursion_from_All (λ e. e.documents ≡ documents_of sources documents e.tuple) entries page.kept)

@@ -16,6 +16,10 @@ pub record Entry : Type 0 where
   pub count : ℕ
   pub documents : List Fields
 
+-- an entry as a group: its tuple with its count
+abbrev pub group_of : Entry → List CompositeIntermediateKey × ℕ
+group_of entry = (entry.tuple, entry.count)
+
 module _ (sources : List CompositeAggregationSource) where
   -- how often a tuple occurs in the documents
   abbrev pub count_in : List Fields → List CompositeIntermediateKey → ℕ

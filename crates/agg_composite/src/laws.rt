@@ -1,8 +1,8 @@
-ghost use Rattle.std.specs.Prelude.{◌≡◌, ◌≢◌, ℕ, ◌+◌, ◌*◌, ◌<◌, List, ◌++◌, length, map, take, flat_map, All, AllPairs, Any, Contains};
+ghost use Rattle.std.specs.Prelude.{◌≡◌, ◌≢◌, ℕ, ◌+◌, ◌*◌, ◌<◌, List, ◌++◌, length, map, take, flat_map, All, AllPairs, Any, Contains, IsPermutation};
 ghost use Rattle.agg_segment.specs.Document.{Fields};
 ghost use Rattle.agg_values.specs.declared.key.CompositeIntermediateKey.{CompositeIntermediateKey};
 ghost use Rattle.agg_composite.specs.Groups.{Groups, past_occurrences};
-ghost use Rattle.agg_composite.specs.Page.{Entry, IsPage, entry_of};
+ghost use Rattle.agg_composite.specs.Page.{Entry, IsPage, entry_of, group_of};
 ghost use Rattle.agg_composite.specs.Source.{rules_of};
 ghost use Rattle.agg_composite.specs.Walk.{IsWalk, last_tuple};
 ghost use Rattle.agg_composite.specs.declared.request.source.CompositeAggregationSource.{CompositeAggregationSource};
@@ -57,6 +57,19 @@ pub fn a_walk_lists_each_tuple_once()
         → 0 < size
         → length (past_occurrences sources bound documents) < length pages
         → Any (λ page. length page < size) pages }
+{}
+
+/// Each entry of a page counts its documents, and the order of all documents changes no tuple and
+/// no count.
+pub fn counts_are_of_the_documents()
+    ensures counted { (sources : List CompositeAggregationSource) (size : ℕ) (bound : List CompositeIntermediateKey) (documents : List Fields) (page : List Entry)
+        → IsPage sources size bound documents page
+        → All (λ entry. entry.count ≡ length entry.documents) page }
+    ensures any_order { (sources : List CompositeAggregationSource) (size : ℕ) (bound : List CompositeIntermediateKey) (documents others : List Fields) (page other : List Entry)
+        → IsPermutation documents others
+        → IsPage sources size bound documents page
+        → IsPage sources size bound others other
+        → map group_of page ≡ map group_of other }
 {}
 
 /// The lowest groups of the past occurrences of all documents, as many as the size, are a page.
