@@ -2,3 +2,4 @@ pub mod Groups
 pub mod Occurrences
 pub mod Page
 pub mod Source
+pub mod Walk

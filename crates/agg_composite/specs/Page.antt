@@ -1,5 +1,5 @@
 -- A page of a composite, as a relation on whole lists of documents.
-use Rattle.std.specs.Prelude.{◌≡◌, ◌≤◌, ℕ, List, [], ◌∷◌, Bool, IsTrue, length, map, count_by, replicate, All, Contains}
+use Rattle.std.specs.Prelude.{◌≡◌, ◌≤◌, ℕ, List, IsTrue, length, map, count_by, replicate, All, Contains}
 use Rattle.std.specs.List.{flat_map}
 use Rattle.std.specs.List.Sorted.{IsStrictlySortedBy}
 use Rattle.std.specs.declared.cmp.Ordering.TheVariants.{Less}
@@ -16,6 +16,10 @@ pub record Entry : Type 0 where
   pub count : ℕ
   pub documents : List Fields
 
+-- an entry as a group: its tuple with its count
+abbrev pub group_of : Entry → List CompositeIntermediateKey × ℕ
+group_of entry = (entry.tuple, entry.count)
+
 module _ (sources : List CompositeAggregationSource) where
   -- how often a tuple occurs in the documents
   abbrev pub count_in : List Fields → List CompositeIntermediateKey → ℕ
@@ -24,6 +28,10 @@ module _ (sources : List CompositeAggregationSource) where
   -- the documents, each as often as the tuple occurs in it
   abbrev pub documents_of : List Fields → List CompositeIntermediateKey → List Fields
   documents_of documents tuple = flat_map (λ d. replicate (count_by (same_tuple (rules_of sources) tuple) (occurrences sources d)) d) documents
+
+  -- a group as an entry: its tuple and count, with the documents of the tuple
+  abbrev pub entry_of : List Fields → List CompositeIntermediateKey × ℕ → Entry
+  entry_of documents group = record { tuple = group.0; count = group.1; documents = documents_of documents group.0 }
 
   -- a tuple that the page may list: it occurs, and lies past the bound
   abbrev pub MayList : List CompositeIntermediateKey → List Fields → List CompositeIntermediateKey → Type 0

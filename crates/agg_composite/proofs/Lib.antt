@@ -1,0 +1,10 @@
+pub mod PageCounts
+pub mod PageExists
+pub mod PageFromGroups
+pub mod PageKeys
+pub mod PageLists
+pub mod PagePast
+pub mod PageTuples
+pub mod PageUnique
+pub mod PageWalk
+pub mod PageWhole

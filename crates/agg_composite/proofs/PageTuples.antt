@@ -1,0 +1,90 @@
+-- Occurrences are tuples of canonical keys, one for each source.
+use Rattle.std.proofs.Common.{◌≡◌, ◌^◌, ◌≤◌, ◌<ℤ◌, ℤ, pos, Bool, true, false, List, [], ◌∷◌, map, refl, arith, Equal}
+use Rattle.std.specs.Prelude.{int_lt, unsigned_abs}
+use Rattle.std.specs.List.{All, AllByRecursion, Contains, flat_map}
+use Rattle.std.proofs.lemmas.Bool.{cond_both}
+use Rattle.std.proofs.lemmas.Int.{ints}
+use Rattle.std.proofs.lemmas.List.Elements.{All-nil, All-cons, All-contains, All-from_recursion}
+use Rattle.agg_values.specs.declared.key.CompositeIntermediateKey.{CompositeIntermediateKey}
+use Rattle.agg_values.specs.declared.key.CompositeIntermediateKey.TheVariants.{I64, U64}
+use Rattle.agg_values.specs.Key.{IsCanonical, typed_number}
+use Rattle.agg_values.specs.KeyOrder.{tuple_order}
+use Rattle.agg_values.specs.Laws.{IsCanonicalTuple}
+use Rattle.agg_values.proofs.TupleOrder.{tuple_order-exact}
+use Rattle.agg_segment.specs.Document.{Fields}
+use Rattle.agg_segment.specs.declared.document.FieldValue.{FieldValue}
+use Rattle.agg_segment.specs.declared.document.FieldValue.TheVariants as value
+use Rattle.agg_composite.specs.declared.request.source.CompositeAggregationSource.{CompositeAggregationSource}
+use Rattle.agg_composite.specs.Source.{rules_of, key_of, or_missing, source_values, missing_bucket_of, field_of}
+use Rattle.agg_composite.specs.Occurrences.{occurrences, occurrences_in}
+use Rattle.agg_composite.proofs.PageKeys.{AllByRecursion-append, AllByRecursion-weaker}
+
+-- what holds of each element under a map holds of each image
+AllByRecursion-map : {X Y : Type 0} (P : Y → Type 0) (f : X → Y) (xs : List X) → AllByRecursion (λ x. P (f x)) xs → AllByRecursion P (map f xs)
+AllByRecursion-map P f [] all = tt
+AllByRecursion-map P f (x ∷ xs) all = (all.0, AllByRecursion-map P f xs all.1)
+
+-- what holds of each element of each part holds of each element of the parts end to end
+AllByRecursion-flat_map : {X Y : Type 0} (P : Y → Type 0) (f : X → List Y) (xs : List X) → AllByRecursion (λ x. AllByRecursion P (f x)) xs → AllByRecursion P (flat_map f xs)
+AllByRecursion-flat_map P f [] all = tt
+AllByRecursion-flat_map P f (x ∷ xs) all = AllByRecursion-append P (f x) (flat_map f xs) all.0 (AllByRecursion-flat_map P f xs all.1)
+
+-- what holds of any element holds of each
+AllByRecursion-always : {X : Type 0} (P : X → Type 0) → ((x : X) → P x) → (xs : List X) → AllByRecursion P xs
+AllByRecursion-always P always [] = tt
+AllByRecursion-always P always (x ∷ xs) = (always x, AllByRecursion-always P always xs)
+
+-- a typed number is canonical
+pub typed_number-canonical : (n : ℤ) → IsCanonical (typed_number n)
+typed_number-canonical n =
+    cond_both (int_lt n (pos (2 ^ 63))) (I64 n) (U64 (unsigned_abs n)) IsCanonical
+    (λ e. let below : n <ℤ pos (2 ^ 63) = omega (arith, ints) in below)
+    (λ e. let above : 2 ^ 63 ≤ unsigned_abs n = omega (arith, ints) in above)
+
+-- the key of a value is canonical
+key_of-canonical : (v : FieldValue) → IsCanonical (key_of v)
+key_of-canonical (value.I64 n) = typed_number-canonical n
+
+-- what holds of the keys and of Null holds of the keys or Null
+or_missing-all : (missing : Bool) (keys : List CompositeIntermediateKey) → AllByRecursion IsCanonical keys → AllByRecursion IsCanonical (or_missing missing keys)
+or_missing-all true [] all = (tt, tt)
+or_missing-all false [] all = tt
+or_missing-all missing (k ∷ keys) all = all
+
+-- the keys that a source reads are canonical
+pub source_values-canonical : (source : CompositeAggregationSource) (document : Fields) → AllByRecursion IsCanonical (source_values source document)
+source_values-canonical source document =
+    or_missing-all (missing_bucket_of source) _
+    (AllByRecursion-map IsCanonical key_of (document (field_of source)) (AllByRecursion-always (λ v. IsCanonical (key_of v)) key_of-canonical (document (field_of source))))
+
+-- one more key before a tuple
+longer : (source : CompositeAggregationSource) (sources : List CompositeAggregationSource) (k : CompositeIntermediateKey) → IsCanonical k
+    → (t : List CompositeIntermediateKey) → IsCanonicalTuple (rules_of sources) t → IsCanonicalTuple (rules_of (source ∷ sources)) (k ∷ t)
+longer source sources k key t tuple = (omega arith, All-cons IsCanonical k t key tuple.1)
+
+-- a document's tuples are canonical
+pub occurrences-canonical : (sources : List CompositeAggregationSource) (document : Fields) → AllByRecursion (IsCanonicalTuple (rules_of sources)) (occurrences sources document)
+occurrences-canonical [] document = ((refl, All-nil IsCanonical), tt)
+occurrences-canonical (source ∷ sources) document =
+    AllByRecursion-flat_map (IsCanonicalTuple (rules_of (source ∷ sources))) (λ k. map (λ t. k ∷ t) (occurrences sources document)) (source_values source document)
+    (AllByRecursion-weaker IsCanonical _
+    (λ k key.
+    AllByRecursion-map (IsCanonicalTuple (rules_of (source ∷ sources))) (λ t. k ∷ t) (occurrences sources document)
+    (AllByRecursion-weaker (IsCanonicalTuple (rules_of sources)) _ (longer source sources k key) (occurrences sources document) (occurrences-canonical sources document)))
+    (source_values source document) (source_values-canonical source document))
+
+-- the tuples of all documents are canonical
+pub occurrences_in-canonical : (sources : List CompositeAggregationSource) (documents : List Fields) → All (IsCanonicalTuple (rules_of sources)) (occurrences_in sources documents)
+occurrences_in-canonical sources documents =
+    let canonical = AllByRecursion-always (λ d. AllByRecursion (IsCanonicalTuple (rules_of sources)) (occurrences sources d)) (occurrences-canonical sources) documents in
+    All-from_recursion (IsCanonicalTuple (rules_of sources)) (occurrences_in sources documents) (AllByRecursion-flat_map (IsCanonicalTuple (rules_of sources)) (occurrences sources) documents canonical)
+
+-- a tuple of the documents is canonical
+pub occurring-canonical : (sources : List CompositeAggregationSource) (documents : List Fields) (t : List CompositeIntermediateKey) → Contains (occurrences_in sources documents) t → IsCanonicalTuple (rules_of sources) t
+occurring-canonical sources documents t c = All-contains (IsCanonicalTuple (rules_of sources)) (occurrences_in sources documents) t (occurrences_in-canonical sources documents) c
+
+-- tuples of the documents that compare as equal are one
+pub occurring-exact : (sources : List CompositeAggregationSource) (documents : List Fields) (t u : List CompositeIntermediateKey)
+    → Contains (occurrences_in sources documents) t → Contains (occurrences_in sources documents) u → tuple_order (rules_of sources) t u ≡ Equal → t ≡ u
+occurring-exact sources documents t u in_t in_u e =
+    tuple_order-exact (rules_of sources) t u (occurring-canonical sources documents t in_t) (occurring-canonical sources documents u in_u) e

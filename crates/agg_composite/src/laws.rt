@@ -1,0 +1,80 @@
+ghost use Rattle.std.specs.Prelude.{◌≡◌, ◌≢◌, ℕ, ◌+◌, ◌*◌, ◌<◌, List, ◌++◌, length, map, take, flat_map, All, AllPairs, Any, Contains, IsPermutation};
+ghost use Rattle.agg_segment.specs.Document.{Fields};
+ghost use Rattle.agg_values.specs.declared.key.CompositeIntermediateKey.{CompositeIntermediateKey};
+ghost use Rattle.agg_composite.specs.Groups.{Groups, past_occurrences};
+ghost use Rattle.agg_composite.specs.Page.{Entry, IsPage, entry_of, group_of};
+ghost use Rattle.agg_composite.specs.Source.{rules_of};
+ghost use Rattle.agg_composite.specs.Walk.{IsWalk, last_tuple};
+ghost use Rattle.agg_composite.specs.declared.request.source.CompositeAggregationSource.{CompositeAggregationSource};
+
+/// Every size, bound and list of documents has a page, and only one.
+pub fn each_request_has_one_page()
+    ensures exists { (sources : List CompositeAggregationSource) (size : ℕ) (bound : List CompositeIntermediateKey) (documents : List Fields)
+        → (page : List Entry) × IsPage sources size bound documents page }
+    ensures unique { (sources : List CompositeAggregationSource) (size : ℕ) (bound : List CompositeIntermediateKey) (documents : List Fields) (page other : List Entry)
+        → IsPage sources size bound documents page
+        → IsPage sources size bound documents other
+        → page ≡ other }
+{}
+
+/// Different places of a page hold different tuples.
+pub fn a_page_lists_each_tuple_once()
+    ensures { (sources : List CompositeAggregationSource) (size : ℕ) (bound : List CompositeIntermediateKey) (documents : List Fields) (page : List Entry)
+        → IsPage sources size bound documents page
+        → AllPairs (λ entry other. entry.tuple ≢ other.tuple) page }
+{}
+
+/// The pages of a walk, each past the last tuple of the one before, are one page of all their sizes.
+pub fn successive_pages_are_one_page()
+    ensures two { (sources : List CompositeAggregationSource) (size more : ℕ) (bound : List CompositeIntermediateKey) (documents : List Fields) (page next : List Entry)
+        → IsPage sources size bound documents page
+        → IsPage sources more (last_tuple bound page) documents next
+        → IsPage sources (size + more) bound documents (page ++ next) }
+    ensures all { (sources : List CompositeAggregationSource) (size : ℕ) (bound : List CompositeIntermediateKey) (documents : List Fields) (pages : List (List Entry))
+        → IsWalk sources size bound documents pages
+        → IsPage sources (length pages * size) bound documents (flat_map (λ page. page) pages) }
+{}
+
+/// A page with fewer entries than its size lists every tuple of the documents past the bound.
+pub fn a_page_with_room_is_the_last()
+    ensures { (sources : List CompositeAggregationSource) (size : ℕ) (bound : List CompositeIntermediateKey) (documents : List Fields) (page : List Entry)
+        → IsPage sources size bound documents page
+        → length page < size
+        → All (Contains (map (λ entry. entry.tuple) page)) (past_occurrences sources bound documents) }
+{}
+
+/// A walk through the pages lists each tuple past the bound once, and comes to a page with room.
+pub fn a_walk_lists_each_tuple_once()
+    ensures once { (sources : List CompositeAggregationSource) (size : ℕ) (bound : List CompositeIntermediateKey) (documents : List Fields) (pages : List (List Entry))
+        → IsWalk sources size bound documents pages
+        → AllPairs (λ entry other. entry.tuple ≢ other.tuple) (flat_map (λ page. page) pages) }
+    ensures all { (sources : List CompositeAggregationSource) (size : ℕ) (bound : List CompositeIntermediateKey) (documents : List Fields) (pages : List (List Entry))
+        → IsWalk sources size bound documents pages
+        → Any (λ page. length page < size) pages
+        → All (Contains (map (λ entry. entry.tuple) (flat_map (λ page. page) pages))) (past_occurrences sources bound documents) }
+    ensures ends { (sources : List CompositeAggregationSource) (size : ℕ) (bound : List CompositeIntermediateKey) (documents : List Fields) (pages : List (List Entry))
+        → IsWalk sources size bound documents pages
+        → 0 < size
+        → length (past_occurrences sources bound documents) < length pages
+        → Any (λ page. length page < size) pages }
+{}
+
+/// Each entry of a page counts its documents, and the order of all documents changes no tuple and
+/// no count.
+pub fn counts_are_of_the_documents()
+    ensures counted { (sources : List CompositeAggregationSource) (size : ℕ) (bound : List CompositeIntermediateKey) (documents : List Fields) (page : List Entry)
+        → IsPage sources size bound documents page
+        → All (λ entry. entry.count ≡ length entry.documents) page }
+    ensures any_order { (sources : List CompositeAggregationSource) (size : ℕ) (bound : List CompositeIntermediateKey) (documents others : List Fields) (page other : List Entry)
+        → IsPermutation documents others
+        → IsPage sources size bound documents page
+        → IsPage sources size bound others other
+        → map group_of page ≡ map group_of other }
+{}
+
+/// The lowest groups of the past occurrences of all documents, as many as the size, are a page.
+pub fn the_lowest_groups_are_a_page()
+    ensures { (sources : List CompositeAggregationSource) (size : ℕ) (bound : List CompositeIntermediateKey) (documents : List Fields) (held : List (List CompositeIntermediateKey × ℕ))
+        → Groups (rules_of sources) (past_occurrences sources bound documents) held
+        → IsPage sources size bound documents (map (entry_of sources documents) (take size held)) }
+{}
