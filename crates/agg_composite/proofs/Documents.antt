@@ -1,13 +1,14 @@
 -- The occurrences of a plain composite in documents, one document more.
-use Rattle.std.proofs.Common.{◌≡◌, ℕ, List, [], ◌∷◌, ◌++◌, false, map, filter, refl, sym, ap, ◌∙◌}
+use Rattle.std.proofs.Common.{◌≡◌, ℕ, List, [], ◌∷◌, ◌++◌, false, Some, map, filter, slice_get, slice_index_or, refl, sym, ap, ◌∙◌}
 use Rattle.std.specs.List.{flat_map}
 use Rattle.std.proofs.lemmas.List.{map-append, append-nil}
 use Rattle.std.proofs.lemmas.List.Concat.{flat_map-append, flat_map-cons, flat_map_single}
 use Rattle.std.proofs.lemmas.List.Elements.{filter-append}
+use Rattle.std.proofs.lemmas.Option.{get_or_from_slice_get}
 use Rattle.agg_values.specs.declared.key.CompositeIntermediateKey.{CompositeIntermediateKey}
 use Rattle.agg_values.specs.declared.order.Order.TheVariants.{Asc}
 use Rattle.agg_values.specs.declared.order.MissingOrder.TheVariants.{Default}
-use Rattle.agg_segment.specs.Document.{Fields}
+use Rattle.agg_segment.specs.Document.{Fields, meaning, values_in}
 use Rattle.agg_segment.specs.declared.document.FieldValue.{FieldValue}
 use Rattle.agg_composite.specs.declared.request.source.CompositeAggregationSource.{CompositeAggregationSource}
 use Rattle.agg_composite.specs.Counts.{plain_rules, past_tuples, tuples_in}
@@ -55,3 +56,14 @@ pub plain-document : (source : CompositeAggregationSource) (bound : List Composi
 plain-document source bound document o m b =
     ap (λ rules. filter (is_past rules bound) (occurrences_in (source ∷ []) (document ∷ []))) (rules-plain source o m)
     ∙ ap (filter (is_past plain_rules bound)) (plain-occurrences source document b)
+
+-- what the document at a place gives, by the values that were read from it
+pub plain-part : (source : CompositeAggregationSource) (bound : List CompositeIntermediateKey) (segment : List (List (List ℕ × List FieldValue))) (doc : ℕ)
+    → order_of source ≡ Asc → missing_order_of source ≡ Default → missing_bucket_of source ≡ false
+    → (document : List (List ℕ × List FieldValue)) (name : List ℕ) (values : List FieldValue)
+    → slice_get segment doc ≡ Some document → name ≡ field_of source → values ≡ values_in document name
+    → past_occurrences (source ∷ []) bound (documents_at segment (doc ∷ [])) ≡ past_tuples bound values
+plain-part source bound segment doc o m b document name values d n v =
+    let e : values_in (slice_index_or segment doc []) (field_of source) ≡ values =
+          ap (λ x. values_in x (field_of source)) (get_or_from_slice_get segment doc document [] d) ∙ ap (values_in document) (sym n) ∙ sym v in
+    plain-document source bound (meaning (slice_index_or segment doc [])) o m b ∙ ap (past_tuples bound) e
