@@ -1,5 +1,6 @@
 pub mod Chains
 pub mod Counting
 pub mod Documents
+pub mod Front
 pub mod Lists
 pub mod Past
