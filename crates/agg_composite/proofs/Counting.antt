@@ -1,10 +1,10 @@
 -- From a map of counts to the groups of a plain composite, and back.
-use Rattle.std.proofs.Common.{◌≡◌, ℕ, ℤ, ◌+◌, ◌<◌, ◌≤◌, ◌⊎◌, zero, suc, List, [], ◌∷◌, ◌++◌, Bool, true, false, cond, Option, None, Some, IsSome, is_some, length, get_or, map, count_by, filter, All, Contains, refl, sym, ap, ◌∙◌, subst, inl, inr, arith}
+use Rattle.std.proofs.Common.{◌≡◌, ℕ, ℤ, ◌+◌, ◌<◌, ◌≤◌, ◌⊎◌, zero, suc, List, [], ◌∷◌, ◌++◌, false, Option, None, Some, IsSome, is_some, length, map, count_by, All, Contains, refl, sym, ap, ◌∙◌, subst, inl, inr, arith}
 use Rattle.std.specs.BTreeMap.{is_at}
 use Rattle.std.specs.List.{AllByRecursion}
 use Rattle.std.specs.List.Sorted.{IsStrictlySortedBy}
 use Rattle.std.specs.Map.{keys_of, lookup}
-use Rattle.std.specs.Ordering.{int_cmp, eq_by_cmp, is_eq, ordering_then}
+use Rattle.std.specs.Ordering.{int_cmp, is_eq, ordering_then}
 use Rattle.std.specs.declared.cmp.Ordering.{Ordering}
 use Rattle.std.specs.declared.cmp.Ordering.TheVariants.{Less, Equal, Greater}
 use Rattle.std.proofs.lemmas.Bool.{false_from_ne_true, false≢true}
@@ -19,7 +19,7 @@ use Rattle.agg_values.specs.declared.key.CompositeIntermediateKey.{CompositeInte
 use Rattle.agg_values.specs.declared.key.CompositeIntermediateKey.TheVariants.{I64}
 use Rattle.agg_values.specs.KeyOrder.{tuple_order}
 use Rattle.agg_composite.specs.Counts.{Counts, Holds, plain_rules, positive}
-use Rattle.agg_composite.specs.Groups.{Groups, numbers_held}
+use Rattle.agg_composite.specs.Groups.{numbers_held}
 use Rattle.agg_composite.specs.Occurrences.{same_tuple}
 use Rattle.agg_composite.proofs.Lists.{All-from_map, All-from_Contains, Contains-map, count_by-none, count_by-some, count_by-positive, count_by-map, count_by-agree}
 
@@ -117,15 +117,16 @@ not-visited es numbers g q h n m = false_from_ne_true _ (λ e.
 counted-entry : (es : List (ℤ × ℕ)) (numbers : List ℤ) → Holds (tuples_of numbers) es → (q : ℤ) (v : ℕ) → Contains es (q, v) → (0 < v) × (v ≡ count_by (is_at (int_cmp q)) numbers)
 counted-entry es numbers g q v m =
     let f = All-contains (λ e. (0 < e.1) × (e.1 ≡ count_by (same_tuple plain_rules (I64 e.0 ∷ [])) (tuples_of numbers))) es (q, v)
-              (All-from_map (λ e. (0 < e.1) × (e.1 ≡ count_by (same_tuple plain_rules e.0) (tuples_of numbers))) (λ e. (I64 e.0 ∷ [], e.1)) es g.counted) m in
+    (All-from_map (λ e. (0 < e.1) × (e.1 ≡ count_by (same_tuple plain_rules e.0) (tuples_of numbers))) (λ e. (I64 e.0 ∷ [], e.1)) es g.counted) m in
     (f.0, f.1 ∙ count-tuples q numbers)
 
 counted-from : (es : List (ℤ × ℕ)) (numbers : List ℤ) → Holds (tuples_of numbers) es → (q : ℤ) → lookup (is_at (int_cmp q)) es ≡ positive (count_by (is_at (int_cmp q)) numbers)
 counted-from es numbers g q = elim (option-cases (lookup (is_at (int_cmp q)) es)) [
-    inl h ↦ h ∙ ap positive (sym (count_by-none (is_at (int_cmp q)) numbers (All-from_Contains (λ n. is_at (int_cmp q) n ≡ false) numbers (not-visited es numbers g q h))))
+  | inl h ↦ h ∙ ap positive (sym (count_by-none (is_at (int_cmp q)) numbers (All-from_Contains (λ n. is_at (int_cmp q) n ≡ false) numbers (not-visited es numbers g q h))))
   | inr p ↦
-        let f = counted-entry es numbers g q p.0 (Contains-from_lookup (tells_apart exact_signed) q p.0 es p.1) in
-        p.1 ∙ some-positive p.0 f.0 ∙ ap positive f.1 ]
+      let f = counted-entry es numbers g q p.0 (Contains-from_lookup (tells_apart exact_signed) q p.0 es p.1) in
+      p.1 ∙ some-positive p.0 f.0 ∙ ap positive f.1
+]
 
 pub Counts-from_Groups : (es : List (ℤ × ℕ)) (numbers : List ℤ) → Holds (tuples_of numbers) es → Counts es numbers
 Counts-from_Groups es numbers g = record { ascending = sorted-from es g.ascending; counted = counted-from es numbers g }
@@ -156,21 +157,22 @@ visited-entry es numbers c n m =
     let h = count_by-positive (is_at (int_cmp n)) numbers n m (ap is_eq (tied_itself int_cmp_total n)) in
     let s : IsSome (lookup (is_at (int_cmp n)) es) = ap is_some (c.counted n) ∙ is_some-positive _ h in
     subst (λ ts. Contains ts (I64 n ∷ [])) (sym (keys-held es))
-      (Contains-map (λ m. I64 m ∷ []) (keys_of es) n (Contains-keys_from_lookup (tells_apart exact_signed) n es s))
+    (Contains-map (λ m. I64 m ∷ []) (keys_of es) n (Contains-keys_from_lookup (tells_apart exact_signed) n es s))
 
 pub Groups-from_Counts : (es : List (ℤ × ℕ)) (numbers : List ℤ) → Counts es numbers → Holds (tuples_of numbers) es
 Groups-from_Counts es numbers c = record {
-    ascending = sorted-to es c.ascending;
-    counted = All-map (λ e. (0 < e.1) × (e.1 ≡ count_by (same_tuple plain_rules e.0) (tuples_of numbers))) (λ e. (I64 e.0 ∷ [], e.1)) es
+  ascending = sorted-to es c.ascending;
+  counted = All-map (λ e. (0 < e.1) × (e.1 ≡ count_by (same_tuple plain_rules e.0) (tuples_of numbers))) (λ e. (I64 e.0 ∷ [], e.1)) es
       (All-from_Contains (λ e. (0 < e.1) × (e.1 ≡ count_by (same_tuple plain_rules (I64 e.0 ∷ [])) (tuples_of numbers))) es
-        (λ e m. let f = entry-count es numbers c e m in (f.0, f.1 ∙ sym (count-tuples e.0 numbers))));
-    occurring = subst (λ ts. All (Contains (tuples_of numbers)) ts) (sym (keys-held es))
+      (λ e m. let f = entry-count es numbers c e m in (f.0, f.1 ∙ sym (count-tuples e.0 numbers))));
+  occurring = subst (λ ts. All (Contains (tuples_of numbers)) ts) (sym (keys-held es))
       (All-map (Contains (tuples_of numbers)) (λ n. I64 n ∷ []) (keys_of es)
-        (All-map (λ n. Contains (tuples_of numbers) (I64 n ∷ [])) (λ e. e.0) es
-          (All-from_Contains (λ e. Contains (tuples_of numbers) (I64 e.0 ∷ [])) es
-            (λ e m. Contains-map (λ n. I64 n ∷ []) numbers e.0 (entry-visited es numbers c e m)))));
-    complete = All-map (Contains (keys_of (numbers_held es))) (λ n. I64 n ∷ []) numbers
-      (All-from_Contains (λ n. Contains (keys_of (numbers_held es)) (I64 n ∷ [])) numbers (visited-entry es numbers c)) }
+      (All-map (λ n. Contains (tuples_of numbers) (I64 n ∷ [])) (λ e. e.0) es
+      (All-from_Contains (λ e. Contains (tuples_of numbers) (I64 e.0 ∷ [])) es
+      (λ e m. Contains-map (λ n. I64 n ∷ []) numbers e.0 (entry-visited es numbers c e m)))));
+  complete = All-map (Contains (keys_of (numbers_held es))) (λ n. I64 n ∷ []) numbers
+      (All-from_Contains (λ n. Contains (keys_of (numbers_held es)) (I64 n ∷ [])) numbers (visited-entry es numbers c));
+}
 
 -- ---- one more visit
 

@@ -1,6 +1,5 @@
 -- The occurrences of a plain composite in documents, one document more.
 use Rattle.std.proofs.Common.{◌≡◌, ℕ, ℤ, ◌+◌, ◌≤◌, length, count_by, subst, List, [], ◌∷◌, ◌++◌, false, Some, map, filter, slice_get, slice_index_or, refl, sym, ap, ◌∙◌}
-use Rattle.std.specs.List.{flat_map}
 use Rattle.std.proofs.lemmas.List.{map-append, append-nil}
 use Rattle.std.proofs.lemmas.List.Concat.{flat_map-append, flat_map-cons, flat_map_single}
 use Rattle.std.proofs.lemmas.List.Elements.{filter-append}
@@ -65,7 +64,7 @@ pub plain-part : (source : CompositeAggregationSource) (bound : List CompositeIn
     → past_occurrences (source ∷ []) bound (documents_at segment (doc ∷ [])) ≡ past_tuples bound values
 plain-part source bound segment doc o m b document name values d n v =
     let e : values_in (slice_index_or segment doc []) (field_of source) ≡ values =
-          ap (λ x. values_in x (field_of source)) (get_or_from_slice_get segment doc document [] d) ∙ ap (values_in document) (sym n) ∙ sym v in
+    ap (λ x. values_in x (field_of source)) (get_or_from_slice_get segment doc document [] d) ∙ ap (values_in document) (sym n) ∙ sym v in
     plain-document source bound (meaning (slice_index_or segment doc [])) o m b ∙ ap (past_tuples bound) e
 
 -- what holds of the visits of a plain source holds of those of its composite
@@ -78,16 +77,18 @@ composite-visits sources source e o m bound documents es fs step visited g =
     let r : rules_of sources ≡ plain_rules = ap rules_of e ∙ rules-plain source o m in
     let k = step visited (subst (λ rules. Groups rules visited (numbers_held es)) r g) in
     subst (λ rules. Groups rules (visited ++ past_occurrences sources bound documents) (numbers_held fs)) (sym r)
-      (subst (λ ss. Holds (visited ++ past_occurrences ss bound documents) fs) (sym e) k)
+    (subst (λ ss. Holds (visited ++ past_occurrences ss bound documents) fs) (sym e) k)
 
 pub composite-too_many : (sources : List CompositeAggregationSource) (source : CompositeAggregationSource) → sources ≡ source ∷ [] → order_of source ≡ Asc → missing_order_of source ≡ Default
     → (bound : List CompositeIntermediateKey) (documents : List Fields) (es : List (ℤ × ℕ)) (limit : ℕ)
     → ((visited : List (List CompositeIntermediateKey)) → Holds visited es
-        → (tuple : List CompositeIntermediateKey) × (limit ≤ count_by (same_tuple plain_rules tuple) visited + length (past_occurrences (source ∷ []) bound documents)))
+    → (tuple : List CompositeIntermediateKey) × (limit ≤ count_by (same_tuple plain_rules tuple) visited + length (past_occurrences (source ∷ []) bound documents)))
     → (visited : List (List CompositeIntermediateKey)) → Groups (rules_of sources) visited (numbers_held es)
     → (tuple : List CompositeIntermediateKey) × (limit ≤ count_by (same_tuple (rules_of sources) tuple) visited + length (past_occurrences sources bound documents))
 composite-too_many sources source e o m bound documents es limit many visited g =
     let r : rules_of sources ≡ plain_rules = ap rules_of e ∙ rules-plain source o m in
-    let k = many visited (subst (λ rules. Groups rules visited (numbers_held es)) r g) in
-    (k.0, subst (λ rules. limit ≤ count_by (same_tuple rules k.0) visited + length (past_occurrences sources bound documents)) (sym r)
-      (subst (λ ss. limit ≤ count_by (same_tuple plain_rules k.0) visited + length (past_occurrences ss bound documents)) (sym e) k.1))
+    let k = many visited (subst (λ rules. Groups rules visited (numbers_held es)) r g) in (
+      k.0,
+      subst (λ rules. limit ≤ count_by (same_tuple rules k.0) visited + length (past_occurrences sources bound documents)) (sym r)
+          (subst (λ ss. limit ≤ count_by (same_tuple plain_rules k.0) visited + length (past_occurrences ss bound documents)) (sym e) k.1),
+    )

@@ -1,5 +1,5 @@
 -- The first groups as the entries of a page.
-use Rattle.std.proofs.Common.{◌≡◌, ℕ, ◌≤◌, List, [], ◌++◌, length, take, sym, ap, ◌∙◌, subst, arith}
+use Rattle.std.proofs.Common.{◌≡◌, ℕ, ◌≤◌, List, [], ◌++◌, length, take, sym, ap, ◌∙◌, arith}
 use Rattle.std.proofs.Math.Seq.{take-append_seam}
 use Rattle.std.proofs.lemmas.List.{take-map, take_all, append-nil, length-map}
 use Rattle.agg_values.specs.declared.key.CompositeIntermediateKey.{CompositeIntermediateKey}

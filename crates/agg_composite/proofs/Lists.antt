@@ -1,5 +1,5 @@
 -- Lists through a map, and counts of what passes a test.
-use Rattle.std.proofs.Common.{◌≡◌, ℕ, ◌+◌, ◌<◌, List, [], ◌∷◌, ◌++◌, Bool, true, false, cond, map, get_or, count_by, All, Contains, refl, sym, ap, ◌∙◌, inl, inr, arith}
+use Rattle.std.proofs.Common.{◌≡◌, ◌+◌, ◌<◌, List, [], ◌∷◌, Bool, true, false, cond, map, get_or, count_by, All, Contains, refl, sym, ap, ◌∙◌, inl, inr, arith}
 use Rattle.std.proofs.lemmas.Bool.{cases_Bool}
 use Rattle.std.proofs.lemmas.List.Elements.{All-contains, All-contains_itself, All-cons, All-head, All-nil, All-tail, All-weaker, Contains-append_right, Contains-get_or}
 use Rattle.std.proofs.lemmas.List.Sums.{sum_by-cons}
@@ -33,19 +33,20 @@ count_by-none p (x ∷ xs) h =
 pub count_by-some : {X : Type 0} (p : X → Bool) (xs : List X) → 0 < count_by p xs → (x : X) × Contains xs x × (p x ≡ true)
 count_by-some p [] h = absurd (omega arith)
 count_by-some p (x ∷ xs) h = elim (cases_Bool (p x)) [
-    inl e ↦ (x, Contains-here x xs, e)
+  | inl e ↦ (x, Contains-here x xs, e)
   | inr e ↦
-        let s : count_by p (x ∷ xs) ≡ 0 + count_by p xs = count-step p x xs ∙ rw e refl in
-        let r = count_by-some p xs (omega arith) in
-        (r.0, Contains-append_right (x ∷ []) xs r.0 r.1, r.2) ]
+      let s : count_by p (x ∷ xs) ≡ 0 + count_by p xs = count-step p x xs ∙ rw e refl in
+      let r = count_by-some p xs (omega arith) in
+      (r.0, Contains-append_right (x ∷ []) xs r.0 r.1, r.2)
+]
 
 all_counted : {X : Type 0} (p : X → Bool) (xs : List X) → All (λ x. p x ≡ true → 0 < count_by p xs) xs
 all_counted p [] = All-nil _
 all_counted p (x ∷ xs) =
     let first : p x ≡ true → 0 < count_by p (x ∷ xs) = λ e. rw (count-step p x xs, e) (omega arith) in
     All-cons (λ y. p y ≡ true → 0 < count_by p (x ∷ xs)) x xs first
-      (All-weaker (λ y. p y ≡ true → 0 < count_by p xs) (λ y. p y ≡ true → 0 < count_by p (x ∷ xs))
-        (λ y g e. let h = g e in rw (count-step p x xs) (omega arith)) xs (all_counted p xs))
+    (All-weaker (λ y. p y ≡ true → 0 < count_by p xs) (λ y. p y ≡ true → 0 < count_by p (x ∷ xs))
+    (λ y g e. let h = g e in rw (count-step p x xs) (omega arith)) xs (all_counted p xs))
 
 -- one that passes makes the count positive
 pub count_by-positive : {X : Type 0} (p : X → Bool) (xs : List X) (x : X) → Contains xs x → p x ≡ true → 0 < count_by p xs

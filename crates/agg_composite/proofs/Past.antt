@@ -1,17 +1,16 @@
 -- The tuples that lie past a bound, one value or one document more.
-use Rattle.std.proofs.Common.{◌≡◌, ℕ, ℤ, ◌+◌, ◌<◌, ◌≤◌, ◌^◌, pos, List, [], ◌∷◌, ◌++◌, Bool, true, false, cond, length, get_or, take, map, filter, count_by, FitsSigned, int_lt, if◌then◌else◌, refl, sym, ap, ◌∙◌, subst, append_assoc, length-append, arith}
+use Rattle.std.proofs.Common.{◌≡◌, ℤ, ◌^◌, pos, List, [], ◌∷◌, true, false, filter, FitsSigned, int_lt, refl, ap, ◌∙◌, arith}
 use mir.Syntax.{w64}
 use Rattle.std.proofs.lemmas.Int.{ints}
 use Rattle.std.proofs.lemmas.List.{map-append}
 use Rattle.std.proofs.lemmas.List.Elements.{filter-append}
-use Rattle.std.proofs.lemmas.List.Sums.{sum_by-append, count_by-le-length}
 use Rattle.agg_values.specs.Key.{typed_number}
 use Rattle.agg_values.specs.declared.key.CompositeIntermediateKey.{CompositeIntermediateKey}
 use Rattle.agg_values.specs.declared.key.CompositeIntermediateKey.TheVariants.{I64}
 use Rattle.agg_segment.specs.declared.document.FieldValue.{FieldValue}
 use Rattle.agg_segment.specs.declared.document.FieldValue.TheVariants as field
-use Rattle.agg_composite.specs.Counts.{Counts, Holds, plain_rules, past_tuples, tuples_in}
-use Rattle.agg_composite.specs.Occurrences.{is_past, same_tuple}
+use Rattle.agg_composite.specs.Counts.{plain_rules, past_tuples, tuples_in}
+use Rattle.agg_composite.specs.Occurrences.{is_past}
 use Rattle.agg_composite.specs.Source.{key_of}
 use Rattle.agg_composite.proofs.Chains.{Appends}
 

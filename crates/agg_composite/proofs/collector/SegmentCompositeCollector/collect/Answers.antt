@@ -13,10 +13,10 @@ returns-clause-ok g c =
     let same : source ≡ p.0 = same_Some source p.0 (c.in-Some.ensures.value ∙ ap (λ ss. slice_get ss 0) (c.as_slice.ensures ∙ p.1)) in
     let e = p.1 ∙ ap (λ s. s ∷ []) (sym same) in
     on_ok_weaker c.visit_documents.result
-      (λ step visited h. composite-visits c.args.composite.now.sources source e (ap order_of same ∙ p.2) (ap missing_order_of same ∙ p.3)
-        c.args.bound.now (documents_at c.args.segment.now c.args.docs.now) c.self.inside.counts.entries c.visit_documents.new.counts.entries
-        step visited (subst (λ held. Groups (rules_of c.args.composite.now.sources) visited held) (sym c.self.view_is) h))
-      c.visit_documents.ensures.ok
+    (λ step visited h. composite-visits c.args.composite.now.sources source e (ap order_of same ∙ p.2) (ap missing_order_of same ∙ p.3)
+    c.args.bound.now (documents_at c.args.segment.now c.args.docs.now) c.self.inside.counts.entries c.visit_documents.new.counts.entries
+    step visited (subst (λ held. Groups (rules_of c.args.composite.now.sources) visited held) (sym c.self.view_is) h))
+    c.visit_documents.ensures.ok
 
 pub returns-clause-too_many : goal.returns-clause-too_many
 returns-clause-too_many g c =
@@ -25,5 +25,5 @@ returns-clause-too_many g c =
     let same : source ≡ p.0 = same_Some source p.0 (c.in-Some.ensures.value ∙ ap (λ ss. slice_get ss 0) (c.as_slice.ensures ∙ p.1)) in
     let e = p.1 ∙ ap (λ s. s ∷ []) (sym same) in
     λ err visited h. composite-too_many c.args.composite.now.sources source e (ap order_of same ∙ p.2) (ap missing_order_of same ∙ p.3)
-      c.args.bound.now (documents_at c.args.segment.now c.args.docs.now) c.self.inside.counts.entries (2 ^ 64)
-      (c.visit_documents.ensures.too_many err) visited (subst (λ held. Groups (rules_of c.args.composite.now.sources) visited held) (sym c.self.view_is) h)
+    c.args.bound.now (documents_at c.args.segment.now c.args.docs.now) c.self.inside.counts.entries (2 ^ 64)
+    (c.visit_documents.ensures.too_many err) visited (subst (λ held. Groups (rules_of c.args.composite.now.sources) visited held) (sym c.self.view_is) h)

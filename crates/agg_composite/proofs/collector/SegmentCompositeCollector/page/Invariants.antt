@@ -4,5 +4,6 @@ use Rattle.agg_composite.proofs.collector.SegmentCompositeCollector.page.Given a
 
 abbrev pub invariant-loop-number : goal.invariant-loop-number
 invariant-loop-number l = record {
-    parts : l.entries ++ page_entries (numbers_held l.number-iterator) ≡ page_entries (numbers_held l.self-inside.counts.entries);
-    short : length l.entries ≤ l.composite.size }
+  parts : l.entries ++ page_entries (numbers_held l.number-iterator) ≡ page_entries (numbers_held l.self-inside.counts.entries);
+  short : length l.entries ≤ l.composite.size;
+}
