@@ -1,3 +1,9 @@
+pub mod Chains
+pub mod Counting
+pub mod Documents
+pub mod Errors
+pub mod Front
+pub mod Lists
 pub mod PageCounts
 pub mod PageExists
 pub mod PageFromGroups
@@ -8,3 +14,4 @@ pub mod PageTuples
 pub mod PageUnique
 pub mod PageWalk
 pub mod PageWhole
+pub mod Past

@@ -1,3 +1,4 @@
+pub mod Counts
 pub mod Groups
 pub mod Occurrences
 pub mod Page

@@ -1,7 +1,14 @@
-ghost use Rattle.std.specs.Prelude.{◌≡◌, ◌+◌, ◌^◌, ◌<◌, ◌≤◌, List, [], ◌++◌, length, take, count_by, IfOk, OnOk, IsErrOf, All};
+ghost use Rattle.std.specs.Prelude.{false, ◌≡◌, ◌+◌, ◌^◌, ◌<◌, ◌≤◌, List, [], ◌∷◌, ◌++◌, length, take, count_by, IfOk, OnOk, IsErrOf, All};
+ghost use Rattle.std.specs.BTreeMap.{is_at};
+ghost use Rattle.std.specs.Ordering.{int_cmp};
+ghost use Rattle.agg_values.specs.declared.key.CompositeIntermediateKey.TheVariants as key;
+ghost use Rattle.agg_values.specs.declared.order.Order.TheVariants.{Asc};
+ghost use Rattle.agg_segment.specs.declared.document.FieldValue.TheVariants as field;
+ghost use Rattle.agg_values.specs.declared.order.MissingOrder.TheVariants.{Default};
+ghost use Rattle.agg_composite.specs.Counts.{Counts, Holds, past_tuples, plain_rules};
 ghost use Rattle.agg_composite.specs.Groups.{Groups, IsPlain, documents_at, page_entries, past_occurrences};
-ghost use Rattle.agg_composite.specs.Occurrences.{same_tuple};
-ghost use Rattle.agg_composite.specs.Source.{rules_of};
+ghost use Rattle.agg_composite.specs.Occurrences.{is_past, same_tuple};
+ghost use Rattle.agg_composite.specs.Source.{rules_of, order_of, missing_order_of, missing_bucket_of};
 
 use crate::PageEntry;
 use crate::limits::CollectError;
@@ -78,11 +85,7 @@ impl SegmentCompositeCollector {
         let Some(source) = composite.sources.as_slice().first() else {
             return Ok(());
         };
-        for doc in docs {
-            let values = segment.document(*doc).values(source.field());
-            visit_values(&mut self.counts, values, source, bound, steps)?;
-        }
-        Ok(())
+        visit_documents(&mut self.counts, docs, source, bound, segment, steps)
     }
 
     /// The lowest tuples that were visited, as many as the composite's size, each with its count.
@@ -115,6 +118,36 @@ impl SegmentCompositeCollector {
     }
 }
 
+// Visits the values of the documents at these places that lie past the bound.
+fn visit_documents<L: Ledger>(
+    counts: &mut BTreeMap<i64, u64>,
+    docs: &[DocId],
+    source: &CompositeAggregationSource,
+    bound: &Tuple,
+    segment: &SegmentReader,
+    steps: &mut Steps<L>,
+) -> Result<(), CollectError>
+    requires order { order_of source.now ≡ Asc }
+    requires missing { missing_order_of source.now ≡ Default }
+    requires bucket { missing_bucket_of source.now ≡ false }
+    requires within { All (λ doc. doc < length segment.now) docs.now }
+    ensures ok { OnOk result
+        ((visited : _)
+        → Holds visited counts.old.entries
+        → Holds (visited ++ past_occurrences (source.now ∷ []) bound.now (documents_at segment.now docs.now)) counts.new.entries) }
+    ensures too_many { IsErrOf result CollectError.TooMany
+        → (visited : _)
+        → Holds visited counts.old.entries
+        → (tuple : _)
+        × (2 ^ 64 ≤ count_by (same_tuple plain_rules tuple) visited + length (past_occurrences (source.now ∷ []) bound.now (documents_at segment.now docs.now))) }
+{
+    for doc in docs {
+        let values = segment.document(*doc).values(source.field());
+        visit_values(counts, values, source, bound, steps)?;
+    }
+    Ok(())
+}
+
 // Visits the values of one document that lie past the bound.
 fn visit_values<L: Ledger>(
     counts: &mut BTreeMap<i64, u64>,
@@ -122,19 +155,68 @@ fn visit_values<L: Ledger>(
     source: &CompositeAggregationSource,
     bound: &Tuple,
     steps: &mut Steps<L>,
-) -> Result<(), CollectError> {
+) -> Result<(), CollectError>
+    requires order { order_of source.now ≡ Asc }
+    requires missing { missing_order_of source.now ≡ Default }
+    ensures ok { OnOk result
+        ((visited : _)
+        → Holds visited counts.old.entries
+        → Holds (visited ++ past_tuples bound.now values.now) counts.new.entries) }
+    ensures too_many { IsErrOf result CollectError.TooMany
+        → (visited : _)
+        → Holds visited counts.old.entries
+        → (tuple : _)
+        × (2 ^ 64 ≤ count_by (same_tuple plain_rules tuple) visited + length (past_tuples bound.now values.now)) }
+{
     for value in values {
-        let FieldValue::I64(number) = value;
-        if lies_past(*number, source, bound) {
-            visit(counts, *number)?;
-            steps.tick();
-        }
+        visit_value(counts, value, source, bound, steps)?;
     }
     Ok(())
 }
 
+// Visits a value if it lies past the bound.
+fn visit_value<L: Ledger>(
+    counts: &mut BTreeMap<i64, u64>,
+    value: &FieldValue,
+    source: &CompositeAggregationSource,
+    bound: &Tuple,
+    steps: &mut Steps<L>,
+) -> Result<(), CollectError>
+    requires order { order_of source.now ≡ Asc }
+    requires missing { missing_order_of source.now ≡ Default }
+    ensures ok { OnOk result
+        ((visited : _)
+        → Holds visited counts.old.entries
+        → Holds (visited ++ past_tuples bound.now (value.now ∷ [])) counts.new.entries) }
+    ensures too_many { IsErrOf result CollectError.TooMany
+        → (visited : _)
+        → Holds visited counts.old.entries
+        → (tuple : _)
+        × (2 ^ 64 ≤ count_by (same_tuple plain_rules tuple) visited + length (past_tuples bound.now (value.now ∷ []))) }
+{
+    let number = number_of(value);
+    if lies_past(number, source, bound) {
+        visit(counts, number)?;
+        steps.tick();
+    }
+    Ok(())
+}
+
+// The number of a value.
+fn number_of(value: &FieldValue) -> i64
+    ensures { value.now ≡ field.I64 result }
+{
+    match value {
+        FieldValue::I64(number) => *number,
+    }
+}
+
 // Whether the tuple of a number lies past the bound.
-fn lies_past(number: i64, source: &CompositeAggregationSource, bound: &Tuple) -> bool {
+fn lies_past(number: i64, source: &CompositeAggregationSource, bound: &Tuple) -> bool
+    requires order { order_of source.now ≡ Asc }
+    requires missing { missing_order_of source.now ≡ Default }
+    ensures { result ≡ is_past plain_rules bound.now (key.I64 number ∷ []) }
+{
     let Some(first) = bound.as_slice().first() else {
         return true;
     };
@@ -144,7 +226,16 @@ fn lies_past(number: i64, source: &CompositeAggregationSource, bound: &Tuple) ->
 }
 
 // Counts one more visit of a number.
-fn visit(counts: &mut BTreeMap<i64, u64>, number: i64) -> Result<(), CollectError> {
+fn visit(counts: &mut BTreeMap<i64, u64>, number: i64) -> Result<(), CollectError>
+    ensures ok { OnOk result
+        ((numbers : _)
+        → Counts counts.old.entries numbers
+        → Counts counts.new.entries (numbers ++ number ∷ [])) }
+    ensures too_many { IsErrOf result CollectError.TooMany
+        → (numbers : _)
+        → Counts counts.old.entries numbers
+        → 2 ^ 64 ≤ count_by (is_at (int_cmp number)) numbers + 1 }
+{
     let count = counts.entry(number)?.or_insert(0);
     *count = count.checked_add(1).ok_or(CollectError::TooMany)?;
     Ok(())
