@@ -4,6 +4,7 @@ pub mod PageFromGroups
 pub mod PageKeys
 pub mod PageLists
 pub mod PagePast
+pub mod PageSteps
 pub mod PageTuples
 pub mod PageUnique
 pub mod PageWalk
