@@ -1,3 +1,4 @@
+pub mod PageAfter
 pub mod PageCounts
 pub mod PageExists
 pub mod PageFromGroups

@@ -1,4 +1,5 @@
 pub mod Groups
+pub mod Named
 pub mod Occurrences
 pub mod Page
 pub mod Source

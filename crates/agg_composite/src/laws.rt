@@ -4,8 +4,10 @@ ghost use Rattle.agg_segment.specs.Document.{Fields};
 ghost use Rattle.agg_values.specs.declared.key.CompositeIntermediateKey.{CompositeIntermediateKey};
 ghost use Rattle.agg_values.specs.KeyOrder.{tuple_order};
 ghost use Rattle.agg_composite.specs.Groups.{Groups, past_occurrences};
+ghost use Rattle.agg_composite.specs.Named.{after_map};
+ghost use Rattle.agg_composite.specs.Occurrences.{bound_of};
 ghost use Rattle.agg_composite.specs.Page.{Entry, IsPage, MayList, entry_of, group_of};
-ghost use Rattle.agg_composite.specs.Source.{rules_of};
+ghost use Rattle.agg_composite.specs.Source.{name_of, rules_of};
 ghost use Rattle.agg_composite.specs.Walk.{AreSuccessive, Step, last_tuple, steps_over};
 ghost use Rattle.agg_composite.specs.declared.request.source.CompositeAggregationSource.{CompositeAggregationSource};
 
@@ -75,6 +77,14 @@ pub fn a_walk_ends_with_every_tuple()
         → AreSuccessive sources bound (steps_over size documents pages)
         → Any (λ page. length page < size) pages
         → All (Contains (map (λ entry. entry.tuple) (flat_map (λ page. page) pages))) (past_occurrences sources bound documents) }
+{}
+
+/// The bound that a tuple gives as an after key is the tuple.
+pub fn an_after_key_is_its_tuple()
+    ensures { (sources : List CompositeAggregationSource) (tuple : List CompositeIntermediateKey)
+        → AllPairs (λ source other. name_of source ≢ name_of other) sources
+        → length tuple ≡ length sources
+        → bound_of sources (after_map sources tuple) ≡ tuple }
 {}
 
 /// Each entry of a page counts its documents, and the order of all documents changes no tuple and
