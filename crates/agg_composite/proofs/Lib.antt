@@ -4,12 +4,14 @@ pub mod Documents
 pub mod Errors
 pub mod Front
 pub mod Lists
+pub mod PageAfter
 pub mod PageCounts
 pub mod PageExists
 pub mod PageFromGroups
 pub mod PageKeys
 pub mod PageLists
 pub mod PagePast
+pub mod PageSteps
 pub mod PageTuples
 pub mod PageUnique
 pub mod PageWalk

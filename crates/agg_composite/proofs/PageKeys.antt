@@ -1,5 +1,5 @@
 -- Ascending keys: that they differ, that there is one list of the lowest of a kind, and how to make them from any list.
-use Rattle.std.proofs.Common.{◌≡◌, ◌≢◌, ℕ, suc, ◌+◌, ◌-◌, ◌<◌, ◌≤◌, inl, inr, cond, List, [], ◌∷◌, ◌++◌, length, get_or, map, is_eq, refl, sym, ap, ◌∙◌, subst, arith, Ordering, Less, Equal, Greater}
+use Rattle.std.proofs.Common.{◌≡◌, ◌≢◌, ℕ, suc, ◌+◌, ◌-◌, ◌<◌, ◌≤◌, ◌⊎◌, ⊎_elim, inl, inr, cond, List, [], ◌∷◌, ◌++◌, length, get_or, map, is_eq, refl, sym, ap, ◌∙◌, subst, arith, Ordering, Less, Equal, Greater}
 use Rattle.std.specs.Cmp.{IsTotalOrder}
 use Rattle.std.specs.Ordering.{ordering_reverse, match_ordering}
 use Rattle.std.specs.List.{AllByRecursion, AllPairs, count_by}
@@ -122,7 +122,7 @@ module _ {K : Type 0} (R : K → K → Ordering) (total : IsTotalOrder R) where
       λ i. first i ∷ same i
 
   -- ascending keys, and behind them ascending keys that are above them
-  sorted_append : (ks ls : List K) → IsStrictlySortedBy R ks → IsStrictlySortedBy R ls → ((x y : K) → Has x ks → Has y ls → R x y ≡ Less) → IsStrictlySortedBy R (ks ++ ls)
+  pub sorted_append : (ks ls : List K) → IsStrictlySortedBy R ks → IsStrictlySortedBy R ls → ((x y : K) → Has x ks → Has y ls → R x y ≡ Less) → IsStrictlySortedBy R (ks ++ ls)
   unfolding IsStrictlySortedBy
   sorted_append [] ls up_ks up_ls above = up_ls
   sorted_append (k ∷ ks) ls up_ks up_ls above = (
@@ -144,6 +144,23 @@ module _ {K : Type 0} (R : K → K → Ordering) (total : IsTotalOrder R) where
         let second = b.complete x (rest x kind first.0) (λ h. out (Has-append_right ks ls x h)) in
         (AllByRecursion-append (λ l. R l x ≡ Less) ks ls first.0 second.0, (let e = first.1 in let f = second.1 in length-append ks ls ∙ (λ i. e i + f i)));
   }
+
+module _ {K : Type 0} (R : K → K → Ordering) (total : IsTotalOrder R) (M : K → Type 0) (exact : (x y : K) → M x → M y → R x y ≡ Equal → x ≡ y) where
+  -- a key that compares otherwise than as equal is another
+  apart : (k l : K) (o : Ordering) → R k l ≡ o → (o ≡ Equal → ⊥) → k ≡ l → ⊥
+  apart k l o is differs same = differs (sym is ∙ subst (λ z. R k z ≡ Equal) same (tied_itself total k))
+
+  -- a key is held behind the first or not, by how it compares with the first
+  held_by_first : (x k : K) (ks : List K) → M x → M k → Has x ks ⊎ ¬ (Has x ks) → (o : Ordering) → R k x ≡ o → Has x (k ∷ ks) ⊎ ¬ (Has x (k ∷ ks))
+  held_by_first x k ks m_x m_k (inl h) o is = inl (inr h)
+  held_by_first x k ks m_x m_k (inr out) Less is = inr (λ h. ⊎_elim (apart k x Less is (λ e. cc)) out h)
+  held_by_first x k ks m_x m_k (inr out) Equal is = inl (inl (exact k x m_k m_x is))
+  held_by_first x k ks m_x m_k (inr out) Greater is = inr (λ h. ⊎_elim (apart k x Greater is (λ e. cc)) out h)
+
+  -- a key is held or not, where keys of the kind that compare as equal are one
+  pub held_or_not : (x : K) (ks : List K) → M x → AllByRecursion M ks → Has x ks ⊎ ¬ (Has x ks)
+  held_or_not x [] m_x all = inr (λ h. h)
+  held_or_not x (k ∷ ks) m_x all = held_by_first x k ks m_x all.0 (held_or_not x ks m_x all.1) (R k x) refl
 
 -- ascending keys with one more, which changes nothing where it is among them
 abbrev pub insert_key : {K : Type 0} → (K → K → Ordering) → K → List K → List K

@@ -12,26 +12,26 @@ use Rattle.agg_composite.specs.declared.request.source.CompositeAggregationSourc
 use Rattle.agg_composite.specs.Source.{rules_of}
 use Rattle.agg_composite.specs.Occurrences.{is_past, occurrences_in}
 use Rattle.agg_composite.specs.Page.{Entry, IsPage, MayList, count_in, documents_of}
-use Rattle.agg_composite.specs.Walk.{IsWalk, last_tuple}
+use Rattle.agg_composite.specs.Walk.{AreSuccessive, last_tuple, steps_over}
 use Rattle.agg_composite.proofs.PageKeys.{Lowest, Lowest-append, AllByRecursion-Has}
 use Rattle.agg_composite.proofs.PagePast.{is_past-above, is_past-whole}
 use Rattle.agg_composite.proofs.PageTuples.{occurring-canonical}
 use Rattle.agg_composite.proofs.PageUnique.{Lowest-from_page, IsPage-from_lowest}
 
 -- the test for less
-less-from_is_lt : (o : Ordering) → is_lt o ≡ true → o ≡ Less
+pub less-from_is_lt : (o : Ordering) → is_lt o ≡ true → o ≡ Less
 less-from_is_lt Less e = refl
 less-from_is_lt Equal e = cc
 less-from_is_lt Greater e = cc
 
 -- what holds of each tuple holds of the last
-at_last : (P : List CompositeIntermediateKey → Type 0) (entry : Entry) (entries : List Entry) → AllByRecursion P (map (λ e. e.tuple) (entry ∷ entries)) → P (last_tuple entry.tuple entries)
+pub at_last : (P : List CompositeIntermediateKey → Type 0) (entry : Entry) (entries : List Entry) → AllByRecursion P (map (λ e. e.tuple) (entry ∷ entries)) → P (last_tuple entry.tuple entries)
 at_last P entry [] all = all.0
 at_last P entry (next ∷ entries) all = at_last P next entries all.1
 
-module _ (sources : List CompositeAggregationSource) (documents : List Fields) where
+module _ (sources : List CompositeAggregationSource) where
   -- what is above the last of ascending tuples is above each
-  all_below : (entry : Entry) (entries : List Entry) → IsStrictlySortedBy (tuple_order (rules_of sources)) (map (λ e. e.tuple) (entry ∷ entries))
+  pub all_below : (entry : Entry) (entries : List Entry) → IsStrictlySortedBy (tuple_order (rules_of sources)) (map (λ e. e.tuple) (entry ∷ entries))
       → (tuple : List CompositeIntermediateKey) → tuple_order (rules_of sources) (last_tuple entry.tuple entries) tuple ≡ Less
       → AllByRecursion (λ t. tuple_order (rules_of sources) t tuple ≡ Less) (map (λ e. e.tuple) (entry ∷ entries))
   unfolding IsStrictlySortedBy
@@ -40,6 +40,7 @@ module _ (sources : List CompositeAggregationSource) (documents : List Fields) w
       let rest = all_below next entries up.1 tuple less in
       ((tuple_order-total (rules_of sources)).trans entry.tuple next.tuple tuple up.0.0 rest.0, rest)
 
+module _ (sources : List CompositeAggregationSource) (documents : List Fields) where
   -- past a tuple of the documents lie those of them that are above it
   above_whole : (last : List CompositeIntermediateKey) → Contains (occurrences_in sources documents) last → (tuple : List CompositeIntermediateKey) → Contains (occurrences_in sources documents) tuple
       → is_past (rules_of sources) last tuple ≡ is_lt (tuple_order (rules_of sources) last tuple)
@@ -58,7 +59,7 @@ module _ (sources : List CompositeAggregationSource) (documents : List Fields) w
       Lowest-append R (tuple_order-total (rules_of sources)) (MayList sources bound documents) (MayList sources last documents)
       (λ tuple may. (may.0, is_past-above (rules_of sources) bound last tuple listed.1 (above tuple may)))
       size more (map (λ e. e.tuple) (entry ∷ entries)) (map (λ e. e.tuple) next) first second
-      (λ t u h may. AllByRecursion-Has (λ l. R l u ≡ Less) (map (λ e. e.tuple) (entry ∷ entries)) t (all_below entry entries first.ascending u (above u may)) h)
+      (λ t u h may. AllByRecursion-Has (λ l. R l u ≡ Less) (map (λ e. e.tuple) (entry ∷ entries)) t (all_below sources entry entries first.ascending u (above u may)) h)
       (λ tuple may below. (may.0, above_whole last listed.0 tuple may.0 ∙ ap is_lt (at_last (λ l. R l tuple ≡ Less) entry entries below)))
     where
       R : List CompositeIntermediateKey → List CompositeIntermediateKey → Ordering
@@ -97,7 +98,7 @@ module _ (sources : List CompositeAggregationSource) (documents : List Fields) w
   }
 
   -- the pages of a walk are one page of all their sizes
-  pub IsPage-from_walk : (size : ℕ) (bound : List CompositeIntermediateKey) (pages : List (List Entry)) → IsWalk sources size bound documents pages
+  pub IsPage-from_walk : (size : ℕ) (bound : List CompositeIntermediateKey) (pages : List (List Entry)) → AreSuccessive sources bound (steps_over size documents pages)
       → IsPage sources (length pages * size) bound documents (flat_map (λ page. page) pages)
   IsPage-from_walk size bound [] walk = let none : 0 ≡ 0 * size = omega arith in subst (λ n. IsPage sources n bound documents []) none (no_entries bound)
   IsPage-from_walk size bound (page ∷ pages) walk =

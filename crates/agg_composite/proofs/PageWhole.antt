@@ -1,6 +1,6 @@
 -- A page with room lists every past tuple, and so do the pages of a walk of which one has room.
-use Rattle.std.proofs.Common.{◌≡◌, ◌≢◌, ℕ, zero, suc, ◌*◌, ◌<◌, ◌≤◌, ◌⊎◌, inl, inr, List, [], ◌∷◌, ◌++◌, length, take, map, min, refl, sym, ap, ◌∙◌, subst, arith, suc-mul}
-use Rattle.std.specs.List.{All, AllPairs, Any, Contains, flat_map}
+use Rattle.std.proofs.Common.{◌≡◌, ℕ, zero, suc, ◌*◌, ◌<◌, ◌≤◌, ◌⊎◌, inl, inr, List, [], ◌∷◌, ◌++◌, length, take, map, min, refl, sym, ap, ◌∙◌, subst, arith, suc-mul}
+use Rattle.std.specs.List.{All, Any, Contains, flat_map}
 use Rattle.std.proofs.lemmas.Bool.{cases_lt}
 use Rattle.std.proofs.lemmas.List.{length-append, length-map, length-take, take_all}
 use Rattle.agg_values.specs.declared.key.CompositeIntermediateKey.{CompositeIntermediateKey}
@@ -11,11 +11,11 @@ use Rattle.agg_composite.specs.declared.request.source.CompositeAggregationSourc
 use Rattle.agg_composite.specs.Source.{rules_of}
 use Rattle.agg_composite.specs.Groups.{past_occurrences}
 use Rattle.agg_composite.specs.Page.{Entry, IsPage, entry_of}
-use Rattle.agg_composite.specs.Walk.{IsWalk, last_tuple}
+use Rattle.agg_composite.specs.Walk.{AreSuccessive, last_tuple, steps_over}
 use Rattle.agg_composite.proofs.PageLists.{Has, Has-from_Contains, Contains-from_Has}
 use Rattle.agg_composite.proofs.PageKeys.{ascending_keys, length-ascending_keys}
 use Rattle.agg_composite.proofs.PageFromGroups.{tuples-lowest}
-use Rattle.agg_composite.proofs.PageUnique.{IsPage-same, IsPage-distinct}
+use Rattle.agg_composite.proofs.PageUnique.{IsPage-same}
 use Rattle.agg_composite.proofs.PageExists.{groups_of, keys-groups, Groups-past, IsPage-past}
 use Rattle.agg_composite.proofs.PageWalk.{IsPage-from_walk}
 
@@ -69,7 +69,7 @@ room-from_Any size pages h = (h.1, Has-from_Contains pages h.1 (h.0, h.2, h.3), 
 
 module _ (sources : List CompositeAggregationSource) (documents : List Fields) (size : ℕ) where
   -- the pages of a walk of which one has room have room in all
-  room_in_all : (bound : List CompositeIntermediateKey) (pages : List (List Entry)) → IsWalk sources size bound documents pages → (page : List Entry) → Has page pages → length page < size
+  room_in_all : (bound : List CompositeIntermediateKey) (pages : List (List Entry)) → AreSuccessive sources bound (steps_over size documents pages) → (page : List Entry) → Has page pages → length page < size
       → length (flat_map (λ page. page) pages) < length pages * size
   room_in_all bound [] walk page h room = absurd h
   room_in_all bound (first ∷ pages) walk page (inl e) room =
@@ -82,14 +82,14 @@ module _ (sources : List CompositeAggregationSource) (documents : List Fields) (
       rw (length-append first (flat_map (λ page. page) pages), suc-mul (length pages) size) (omega arith)
 
   -- a walk of which one page has room lists every past tuple
-  pub walk_with_room : (bound : List CompositeIntermediateKey) (pages : List (List Entry)) → IsWalk sources size bound documents pages → Any (λ page. length page < size) pages
+  pub walk_with_room : (bound : List CompositeIntermediateKey) (pages : List (List Entry)) → AreSuccessive sources bound (steps_over size documents pages) → Any (λ page. length page < size) pages
       → All (Contains (map (λ e. e.tuple) (flat_map (λ page. page) pages))) (past_occurrences sources bound documents)
   walk_with_room bound pages walk some =
       let h = room-from_Any size pages some in
       with_room sources bound documents (length pages * size) (flat_map (λ page. page) pages) (IsPage-from_walk sources documents size bound pages walk) (room_in_all bound pages walk h.0 h.1 h.2)
 
   -- some page of a walk has room, or all are full
-  room_or_full : (bound : List CompositeIntermediateKey) (pages : List (List Entry)) → IsWalk sources size bound documents pages
+  room_or_full : (bound : List CompositeIntermediateKey) (pages : List (List Entry)) → AreSuccessive sources bound (steps_over size documents pages)
       → HasRoom size pages ⊎ (length (flat_map (λ page. page) pages) ≡ length pages * size)
   room_or_full bound [] walk = inr (omega arith)
   room_or_full bound (first ∷ pages) walk = by_first (cases_lt (length first) size) (room_or_full (last_tuple bound first) pages walk.1)
@@ -101,7 +101,7 @@ module _ (sources : List CompositeAggregationSource) (documents : List Fields) (
       by_first (inr full) (inr all) = inr (let short = walk.0.short in rw (length-append first (flat_map (λ page. page) pages), suc-mul (length pages) size) (omega arith))
 
   -- a walk of more pages than there are past occurrences has a page with room
-  pub walk_ends : 0 < size → (bound : List CompositeIntermediateKey) (pages : List (List Entry)) → IsWalk sources size bound documents pages
+  pub walk_ends : 0 < size → (bound : List CompositeIntermediateKey) (pages : List (List Entry)) → AreSuccessive sources bound (steps_over size documents pages)
       → length (past_occurrences sources bound documents) < length pages
       → Any (λ page. length page < size) pages
   walk_ends some bound pages walk long = by_room (room_or_full bound pages walk)
@@ -112,9 +112,3 @@ module _ (sources : List CompositeAggregationSource) (documents : List Fields) (
           let within = length-page-le sources bound documents (length pages * size) (flat_map (λ page. page) pages) (IsPage-from_walk sources documents size bound pages walk) in
           let many = at_least (length pages) size some in
           absurd (omega arith)
-
-  -- a walk lists no tuple twice
-  pub walk_distinct : (bound : List CompositeIntermediateKey) (pages : List (List Entry)) → IsWalk sources size bound documents pages
-      → AllPairs (λ e f. e.tuple ≢ f.tuple) (flat_map (λ page. page) pages)
-  walk_distinct bound pages walk =
-      IsPage-distinct sources (length pages * size) bound documents (flat_map (λ page. page) pages) (IsPage-from_walk sources documents size bound pages walk)

@@ -1,5 +1,5 @@
 -- A walk through the pages of a composite, each past the last tuple of the one before.
-use Rattle.std.specs.Prelude.{ℕ, List, [], ◌∷◌, ⊤}
+use Rattle.std.specs.Prelude.{ℕ, List, [], ◌∷◌, ⊤, map}
 use Rattle.agg_values.specs.declared.key.CompositeIntermediateKey.{CompositeIntermediateKey}
 use Rattle.agg_segment.specs.Document.{Fields}
 use Rattle.agg_composite.specs.declared.request.source.CompositeAggregationSource.{CompositeAggregationSource}
@@ -10,7 +10,17 @@ abbrev pub last_tuple : List CompositeIntermediateKey → List Entry → List Co
 last_tuple bound [] = bound
 last_tuple bound (entry ∷ entries) = last_tuple entry.tuple entries
 
--- pages of a size, the first past the bound and each other past the last tuple of the one before
-abbrev pub IsWalk : List CompositeAggregationSource → ℕ → List CompositeIntermediateKey → List Fields → List (List Entry) → Type 0
-IsWalk sources size bound documents [] = ⊤
-IsWalk sources size bound documents (page ∷ pages) = IsPage sources size bound documents page × IsWalk sources size (last_tuple bound page) documents pages
+-- a step of a walk: a page of a size, over the documents as they are at the step
+pub record Step : Type 0 where
+  pub size : ℕ
+  pub documents : List Fields
+  pub page : List Entry
+
+-- the first page lies past the bound, and each other past the last tuple of the one before
+abbrev pub AreSuccessive : List CompositeAggregationSource → List CompositeIntermediateKey → List Step → Type 0
+AreSuccessive sources bound [] = ⊤
+AreSuccessive sources bound (step ∷ steps) = IsPage sources step.size bound step.documents step.page × AreSuccessive sources (last_tuple bound step.page) steps
+
+-- pages of one size over the same documents
+abbrev pub steps_over : ℕ → List Fields → List (List Entry) → List Step
+steps_over size documents pages = map (λ page. record { size = size; documents = documents; page = page }) pages

@@ -1,10 +1,14 @@
 ghost use Rattle.std.specs.Prelude.{◌≡◌, ◌≢◌, ℕ, ◌+◌, ◌*◌, ◌<◌, List, ◌++◌, length, map, take, flat_map, All, AllPairs, Any, Contains, IsPermutation};
+ghost use Rattle.std.specs.List.Sorted.{IsStrictlySortedBy};
 ghost use Rattle.agg_segment.specs.Document.{Fields};
 ghost use Rattle.agg_values.specs.declared.key.CompositeIntermediateKey.{CompositeIntermediateKey};
+ghost use Rattle.agg_values.specs.KeyOrder.{tuple_order};
 ghost use Rattle.agg_composite.specs.Groups.{Groups, past_occurrences};
-ghost use Rattle.agg_composite.specs.Page.{Entry, IsPage, entry_of, group_of};
-ghost use Rattle.agg_composite.specs.Source.{rules_of};
-ghost use Rattle.agg_composite.specs.Walk.{IsWalk, last_tuple};
+ghost use Rattle.agg_composite.specs.Named.{after_map};
+ghost use Rattle.agg_composite.specs.Occurrences.{bound_of};
+ghost use Rattle.agg_composite.specs.Page.{Entry, IsPage, MayList, entry_of, group_of};
+ghost use Rattle.agg_composite.specs.Source.{name_of, rules_of};
+ghost use Rattle.agg_composite.specs.Walk.{AreSuccessive, Step, last_tuple, steps_over};
 ghost use Rattle.agg_composite.specs.declared.request.source.CompositeAggregationSource.{CompositeAggregationSource};
 
 /// Every size, bound and list of documents has a page, and only one.
@@ -31,7 +35,7 @@ pub fn successive_pages_are_one_page()
         → IsPage sources more (last_tuple bound page) documents next
         → IsPage sources (size + more) bound documents (page ++ next) }
     ensures all { (sources : List CompositeAggregationSource) (size : ℕ) (bound : List CompositeIntermediateKey) (documents : List Fields) (pages : List (List Entry))
-        → IsWalk sources size bound documents pages
+        → AreSuccessive sources bound (steps_over size documents pages)
         → IsPage sources (length pages * size) bound documents (flat_map (λ page. page) pages) }
 {}
 
@@ -43,20 +47,44 @@ pub fn a_page_with_room_is_the_last()
         → All (Contains (map (λ entry. entry.tuple) page)) (past_occurrences sources bound documents) }
 {}
 
-/// A walk through the pages lists each tuple past the bound once, and comes to a page with room.
+/// A walk lists its tuples in ascending order and each once, also where the documents change
+/// between its pages. Where some page has room, it lists each tuple past the bound that all of them
+/// may list.
 pub fn a_walk_lists_each_tuple_once()
-    ensures once { (sources : List CompositeAggregationSource) (size : ℕ) (bound : List CompositeIntermediateKey) (documents : List Fields) (pages : List (List Entry))
-        → IsWalk sources size bound documents pages
-        → AllPairs (λ entry other. entry.tuple ≢ other.tuple) (flat_map (λ page. page) pages) }
-    ensures all { (sources : List CompositeAggregationSource) (size : ℕ) (bound : List CompositeIntermediateKey) (documents : List Fields) (pages : List (List Entry))
-        → IsWalk sources size bound documents pages
-        → Any (λ page. length page < size) pages
-        → All (Contains (map (λ entry. entry.tuple) (flat_map (λ page. page) pages))) (past_occurrences sources bound documents) }
+    ensures ascending { (sources : List CompositeAggregationSource) (bound : List CompositeIntermediateKey) (steps : List Step)
+        → AreSuccessive sources bound steps
+        → IsStrictlySortedBy (tuple_order (rules_of sources)) (map (λ entry. entry.tuple) (flat_map (λ step. step.page) steps)) }
+    ensures once { (sources : List CompositeAggregationSource) (bound : List CompositeIntermediateKey) (steps : List Step)
+        → AreSuccessive sources bound steps
+        → AllPairs (λ entry other. entry.tuple ≢ other.tuple) (flat_map (λ step. step.page) steps) }
+    ensures whole { (sources : List CompositeAggregationSource) (bound : List CompositeIntermediateKey) (steps : List Step)
+        → AreSuccessive sources bound steps
+        → (tuple : List CompositeIntermediateKey)
+        → All (λ step. MayList sources bound step.documents tuple) steps
+        → Any (λ step. length step.page < step.size) steps
+        → Contains (map (λ entry. entry.tuple) (flat_map (λ step. step.page) steps)) tuple }
+{}
+
+/// A walk over the same documents comes to a page with room, and has listed every tuple past the
+/// bound then.
+pub fn a_walk_ends_with_every_tuple()
     ensures ends { (sources : List CompositeAggregationSource) (size : ℕ) (bound : List CompositeIntermediateKey) (documents : List Fields) (pages : List (List Entry))
-        → IsWalk sources size bound documents pages
+        → AreSuccessive sources bound (steps_over size documents pages)
         → 0 < size
         → length (past_occurrences sources bound documents) < length pages
         → Any (λ page. length page < size) pages }
+    ensures every { (sources : List CompositeAggregationSource) (size : ℕ) (bound : List CompositeIntermediateKey) (documents : List Fields) (pages : List (List Entry))
+        → AreSuccessive sources bound (steps_over size documents pages)
+        → Any (λ page. length page < size) pages
+        → All (Contains (map (λ entry. entry.tuple) (flat_map (λ page. page) pages))) (past_occurrences sources bound documents) }
+{}
+
+/// The bound that a tuple gives as an after key is the tuple.
+pub fn an_after_key_is_its_tuple()
+    ensures { (sources : List CompositeAggregationSource) (tuple : List CompositeIntermediateKey)
+        → AllPairs (λ source other. name_of source ≢ name_of other) sources
+        → length tuple ≡ length sources
+        → bound_of sources (after_map sources tuple) ≡ tuple }
 {}
 
 /// Each entry of a page counts its documents, and the order of all documents changes no tuple and

@@ -1,11 +1,11 @@
-use Rattle.agg_composite.proofs.PageWhole.{walk_distinct, walk_ends, walk_with_room}
+use Rattle.agg_composite.proofs.PageSteps.{walk_ascends, walk_distinct, walk_lists}
 use Rattle.agg_composite.proofs.laws.a_walk_lists_each_tuple_once.Goals as goal
 
+pub returns-clause-ascending : goal.returns-clause-ascending
+returns-clause-ascending c = walk_ascends
+
 pub returns-clause-once : goal.returns-clause-once
-returns-clause-once c sources size bound documents pages walk = walk_distinct sources documents size bound pages walk
+returns-clause-once c = walk_distinct
 
-pub returns-clause-all : goal.returns-clause-all
-returns-clause-all c sources size bound documents pages walk room = walk_with_room sources documents size bound pages walk room
-
-pub returns-clause-ends : goal.returns-clause-ends
-returns-clause-ends c sources size bound documents pages walk some long = walk_ends sources documents size some bound pages walk long
+pub returns-clause-whole : goal.returns-clause-whole
+returns-clause-whole c = walk_lists
