@@ -5,3 +5,4 @@ pub mod Errors
 pub mod Front
 pub mod Lists
 pub mod Past
+pub mod Start
