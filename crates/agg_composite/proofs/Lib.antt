@@ -17,3 +17,4 @@ pub mod PageUnique
 pub mod PageWalk
 pub mod PageWhole
 pub mod Past
+pub mod Start

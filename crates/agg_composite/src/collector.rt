@@ -102,9 +102,10 @@ impl SegmentCompositeCollector {
         let _ = parent_bucket_id;
         let _ = bound;
         let _ = segment;
+        let size = composite.size as usize;
         let mut entries = ItemList::new(self.alloc);
         for (number, count) in &self.counts {
-            if entries.as_slice().len() >= composite.size as usize {
+            if entries.as_slice().len() >= size {
                 break;
             }
             let mut key = Tuple::new(self.alloc);
