@@ -21,7 +21,7 @@ pub use address::Address;
 pub use after_key::AfterKey;
 pub use column::ColumnPaginationOrder;
 pub use composite_key::CompositeKey;
-pub use error::{InvalidArgument, OutOfMemory, TooMany};
+pub use error::{InvalidArgument, KeyTextError, OutOfMemory, TooMany};
 pub use item_list::ItemList;
 pub use key::{CompositeIntermediateKey, canonical};
 pub use laws::{
