@@ -8,6 +8,7 @@ mod composite_key;
 mod error;
 mod item_list;
 mod key;
+mod key_value;
 mod laws;
 mod name_map;
 mod number;
@@ -24,6 +25,7 @@ pub use composite_key::CompositeKey;
 pub use error::{InvalidArgument, KeyTextError, OutOfMemory, TooMany};
 pub use item_list::ItemList;
 pub use key::{CompositeIntermediateKey, canonical};
+pub use key_value::{IntermediateKey, Key};
 pub use laws::{
     desc_reverses_asc, key_order_is_exact, key_order_is_total, tuple_order_is_exact,
     tuple_order_is_total,
