@@ -2,5 +2,6 @@ pub mod AddressTexts
 pub mod GroupTexts
 pub mod Groups
 pub mod KeyOrder
+pub mod KeyTexts
 pub mod TupleOrder
 pub mod ZeroRuns

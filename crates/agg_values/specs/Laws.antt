@@ -1,5 +1,6 @@
 -- Laws of orders.
-use Rattle.std.specs.Prelude.{◌≡◌, List, length}
+use Rattle.std.specs.Prelude.{◌≡◌, List, Bool, length}
+use Rattle.std.specs.Bool.{Decides}
 use Rattle.std.specs.List.{All}
 use Rattle.std.specs.declared.cmp.Ordering.{Ordering}
 use Rattle.std.specs.declared.cmp.Ordering.TheVariants.{Equal}
@@ -20,3 +21,7 @@ IsReverseOn {K} P cmp of = (x y : K) → P x → P y → cmp x y ≡ ordering_re
 -- a tuple of canonical keys, one for each rule
 abbrev pub IsCanonicalTuple : List (Order × MissingOrder) → List CompositeIntermediateKey → Type 0
 IsCanonicalTuple rules keys = (length keys ≡ length rules) × All IsCanonical keys
+
+-- a test answers true exactly for the same value
+abbrev pub IsSameness : {K : Type 0} → (K → K → Bool) → Type 0
+IsSameness {K} eq = (x y : K) → Decides (eq x y) (x ≡ y)

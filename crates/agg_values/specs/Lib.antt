@@ -3,6 +3,8 @@ pub mod AddressGrammar
 pub mod Column
 pub mod Key
 pub mod KeyOrder
+pub mod KeyText
+pub mod KeyValue
 pub mod Laws
 pub mod Names
 pub mod OrderTarget

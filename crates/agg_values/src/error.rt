@@ -1,3 +1,6 @@
+ghost use Rattle.std.specs.Prelude.{◌≡◌};
+ghost use Rattle.agg_values.specs.declared.error.KeyTextError.TheVariants.{OutOfMemory};
+
 use std::alloc::{AllocError, AllocFailed};
 use thiserror::Error;
 
@@ -28,4 +31,27 @@ pub struct TooMany;
 pub enum InvalidArgument {
     #[error("a page has room for no bucket")]
     ZeroSize,
+}
+
+/// A text that is no after key's.
+#[derive(Clone, Copy, Debug, PartialEq, Eq, Error)]
+pub enum KeyTextError {
+    #[error("there is no colon")]
+    NoColon,
+    #[error("unknown type")]
+    UnknownType,
+    #[error("bad value")]
+    BadValue,
+    #[error("unsupported type")]
+    Unsupported,
+    #[error("out of memory")]
+    OutOfMemory,
+}
+
+impl From<OutOfMemory> for KeyTextError {
+    ghost from_gives = { λ _ error. error ≡ OutOfMemory };
+
+    fn from(_error: OutOfMemory) -> KeyTextError {
+        KeyTextError::OutOfMemory
+    }
 }

@@ -8,6 +8,7 @@ mod composite_key;
 mod error;
 mod item_list;
 mod key;
+mod key_value;
 mod laws;
 mod name_map;
 mod number;
@@ -21,12 +22,13 @@ pub use address::Address;
 pub use after_key::AfterKey;
 pub use column::ColumnPaginationOrder;
 pub use composite_key::CompositeKey;
-pub use error::{InvalidArgument, OutOfMemory, TooMany};
+pub use error::{InvalidArgument, KeyTextError, OutOfMemory, TooMany};
 pub use item_list::ItemList;
 pub use key::{CompositeIntermediateKey, canonical};
+pub use key_value::{IntermediateKey, Key};
 pub use laws::{
-    desc_reverses_asc, key_order_is_exact, key_order_is_total, tuple_order_is_exact,
-    tuple_order_is_total,
+    classes_ascend_as_keys, desc_reverses_asc, equality_is_sameness, key_order_is_exact,
+    key_order_is_total, tuple_order_is_exact, tuple_order_is_total,
 };
 pub use name_map::{NameKeys, NameMap};
 pub use number::{ProjectedNumber, cmp_i64_u64, i64_to_u64, u64_to_i64};

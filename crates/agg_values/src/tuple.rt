@@ -1,7 +1,14 @@
 ghost use Rattle.std.specs.Prelude.{◌≡◌, [], ◌∷◌, ◌++◌, OnOk, OnErr, IfOk};
+ghost use Rattle.std.specs.Cmp.{partial_equiv_from_equiv};
+ghost use Rattle.std.specs.Cmp.Lexicographic.{pointwise, lists_equiv};
+ghost use Rattle.std.specs.Hash as fed;
+ghost use Rattle.std.specs.Hash.{items_Alike};
+ghost use Rattle.agg_values.specs.contracts.key.CompositeIntermediateKeyEq.TheImpl.Laws as equality;
+ghost use Rattle.agg_values.specs.contracts.key.CompositeIntermediateKeyHash.TheImpl.Laws as hashes;
 
 use crate::{CompositeIntermediateKey, OutOfMemory};
 use std::alloc::Global;
+use std::hash::{Hash, Hasher};
 use std::marker::Model;
 
 /// A list of keys, one for each source of a composite.
@@ -54,5 +61,29 @@ impl Tuple {
             tuple.push(key.try_clone(alloc)?)?;
         }
         Ok(tuple)
+    }
+}
+
+impl PartialEq for Tuple {
+    ghost eq = { pointwise ⟦<CompositeIntermediateKey as PartialEq>⟧.eq };
+
+    ghost laws = { partial_equiv_from_equiv (lists_equiv equality.laws-law) };
+
+    fn eq(&self, other: &Tuple) -> bool {
+        self.as_slice() == other.as_slice()
+    }
+}
+
+impl Eq for Tuple {
+    ghost laws = { lists_equiv equality.laws-law };
+}
+
+impl Hash for Tuple {
+    ghost hash_input = { fed.slice ⟦<CompositeIntermediateKey as Hash>⟧.hash_input };
+
+    ghost respects_eq = { (items_Alike (record { fed = hashes.respects_eq-law })).fed };
+
+    fn hash<H: Hasher>(&self, state: &mut H) {
+        self.as_slice().hash(state);
     }
 }
