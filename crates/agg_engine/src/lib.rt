@@ -1,13 +1,7 @@
-// A library with one function.
+//! Results, and the walk that pages over snapshots.
 #![tactic(auto)]
 
-ghost use Rattle.std.specs.Prelude.{◌≡◌};
-ghost use Rattle.agg_engine.specs.Echo.{echo_of};
+pub mod results;
+mod walk;
 
-// The `ensures` clause is the contract: what `echo` returns is `echo_of` of its argument, a definition
-// in `specs/Echo.antt`, which a caller's clause can cite too.
-pub fn echo(x: usize) -> usize
-    ensures { result ≡ echo_of x }
-{
-    x
-}
+pub use walk::{Snapshot, Walk, WalkError, walk_pages};

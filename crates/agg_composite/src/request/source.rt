@@ -1,7 +1,8 @@
-ghost use Rattle.std.specs.Prelude.{◌≡◌};
+ghost use Rattle.std.specs.Prelude.{◌≡◌, IfOk};
 ghost use Rattle.agg_composite.specs.Source.{field_of, name_of, order_of, missing_order_of, missing_bucket_of};
 
-use agg_values::{MissingOrder, Order, Text};
+use agg_values::{MissingOrder, Order, OutOfMemory, Text};
+use std::alloc::Global;
 
 /// A source whose keys are the values of a field.
 #[derive(Debug, Drop)]
@@ -14,6 +15,21 @@ pub struct TermCompositeAggregationSource {
     pub missing_order: MissingOrder,
 }
 
+impl TermCompositeAggregationSource {
+    /// An equal source.
+    pub fn try_clone(&self, alloc: Global) -> Result<TermCompositeAggregationSource, OutOfMemory>
+        ensures { IfOk result (λ source. source ≡ self.now) }
+    {
+        Ok(TermCompositeAggregationSource {
+            name: self.name.try_clone(alloc)?,
+            field: self.field.try_clone(alloc)?,
+            order: self.order,
+            missing_bucket: self.missing_bucket,
+            missing_order: self.missing_order,
+        })
+    }
+}
+
 /// A source of keys.
 #[derive(Debug, Drop)]
 pub enum CompositeAggregationSource {
@@ -21,6 +37,17 @@ pub enum CompositeAggregationSource {
 }
 
 impl CompositeAggregationSource {
+    /// An equal source.
+    pub fn try_clone(&self, alloc: Global) -> Result<CompositeAggregationSource, OutOfMemory>
+        ensures { IfOk result (λ source. source ≡ self.now) }
+    {
+        match self {
+            CompositeAggregationSource::Terms(terms) => {
+                Ok(CompositeAggregationSource::Terms(terms.try_clone(alloc)?))
+            }
+        }
+    }
+
     /// The field that is read.
     pub fn field(&self) -> &Text
         ensures { result.now ≡ field_of self.now }

@@ -1,0 +1,7 @@
+pub mod BySource
+pub mod Joined
+pub mod LastKey
+pub mod MatchingDocs
+pub mod Occurring
+pub mod SnapshotPage
+pub mod WalkSteps

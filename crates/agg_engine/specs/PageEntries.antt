@@ -1,0 +1,22 @@
+-- The entries of a page as the collector gives them.
+use Rattle.std.specs.Prelude.{◌==◌, ℕ, List, Option, None, if◌then◌else◌, length, map}
+use Rattle.std.specs.List.{last_or}
+use Rattle.agg_values.specs.declared.key.CompositeIntermediateKey.{CompositeIntermediateKey}
+use Rattle.agg_values.specs.Shown.{shown_key}
+use Rattle.agg_composite.specs.declared.page_entry.PageEntry.{PageEntry}
+use Rattle.agg_composite.specs.declared.request.source.CompositeAggregationSource.{CompositeAggregationSource}
+use Rattle.agg_composite.specs.Page.{Entry}
+use Rattle.agg_composite.specs.Named.{by_source}
+use Rattle.agg_engine.specs.declared.results.types.CompositeBucketEntry.{CompositeBucketEntry}
+
+-- an entry of the page, without its documents
+abbrev pub page_entry : Entry → PageEntry
+page_entry entry = record { key = entry.tuple; doc_count = entry.count }
+
+-- the last tuple of a page that has as many entries as it has room for
+abbrev pub last_key : ℕ → List PageEntry → Option (List CompositeIntermediateKey)
+last_key size entries = if length entries == size then last_or None (map (λ e. e.key) entries) else None
+
+-- an entry as it is shown
+abbrev pub shown_page_entry : List CompositeAggregationSource → PageEntry → CompositeBucketEntry
+shown_page_entry sources entry = record { key = by_source shown_key sources entry.key; doc_count = entry.doc_count }

@@ -1,0 +1,5 @@
+//! The results that a walk answers, and their text as JSON.
+mod json_text;
+mod types;
+
+pub use types::{AggregationResult, AggregationResults, BucketResult, CompositeBucketEntry};

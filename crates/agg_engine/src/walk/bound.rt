@@ -1,0 +1,23 @@
+ghost use Rattle.std.specs.Prelude.{◌≡◌, IfOk};
+ghost use Rattle.agg_engine.specs.PageEntries.{last_key};
+
+use agg_composite::PageEntry;
+use agg_values::{OutOfMemory, Tuple};
+use std::alloc::Global;
+
+/// The last tuple of a page that has as many entries as it has room for.
+pub fn next_bound(
+    alloc: Global,
+    entries: &[PageEntry],
+    size: u32,
+) -> Result<Option<Tuple>, OutOfMemory>
+    ensures { IfOk result (λ next. next ≡ last_key size entries.now) }
+{
+    if entries.len() != size as usize {
+        return Ok(None);
+    }
+    match entries.last() {
+        Some(entry) => Ok(Some(entry.key.try_clone(alloc)?)),
+        None => Ok(None),
+    }
+}

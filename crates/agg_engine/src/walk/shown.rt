@@ -1,0 +1,102 @@
+//! Pages as they are shown.
+ghost use Rattle.std.specs.Prelude.{◌≡◌, ◌≤◌, ◌∷◌, [], IfOk, length, map};
+ghost use Rattle.agg_values.specs.Shown.{shown_key};
+ghost use Rattle.agg_composite.specs.Named.{after_map, by_source};
+ghost use Rattle.agg_engine.specs.Results.{shown_after};
+ghost use Rattle.agg_engine.specs.PageEntries.{shown_page_entry};
+ghost use Rattle.agg_engine.specs.declared.results.types.AggregationResult.TheVariants.{BucketResult as Buckets};
+ghost use Rattle.agg_engine.specs.declared.results.types.BucketResult.TheVariants.{Composite};
+
+use crate::results::{AggregationResult, AggregationResults, BucketResult, CompositeBucketEntry};
+use agg_composite::PageEntry;
+use agg_composite::request::CompositeAggregationSource;
+use agg_values::{AfterKey, CompositeKey, ItemList, NameMap, OutOfMemory, Text, Tuple};
+use std::alloc::Global;
+
+/// The results of a request that has one composite: its page under its name.
+pub fn page_results(
+    alloc: Global,
+    name: &Text,
+    sources: &[CompositeAggregationSource],
+    entries: &[PageEntry],
+    next: &Option<Tuple>,
+) -> Result<AggregationResults, OutOfMemory>
+    ensures { IfOk result
+        (λ results. results.0
+        ≡ (name.now, Buckets (Composite (map (shown_page_entry sources.now) entries.now) (shown_after sources.now next.now))) ∷ []) }
+{
+    let mut results = NameMap::new(alloc);
+    let page = BucketResult::Composite {
+        buckets: shown_buckets(alloc, sources, entries)?,
+        after_key: shown_after_key(alloc, sources, next)?,
+    };
+    results.insert(
+        name.try_clone(alloc)?,
+        AggregationResult::BucketResult(page),
+    )?;
+    Ok(AggregationResults(results))
+}
+
+fn shown_buckets(
+    alloc: Global,
+    sources: &[CompositeAggregationSource],
+    entries: &[PageEntry],
+) -> Result<ItemList<CompositeBucketEntry>, OutOfMemory>
+    ensures { IfOk result (λ buckets. buckets ≡ map (shown_page_entry sources.now) entries.now) }
+{
+    let mut buckets = ItemList::new(alloc);
+    for entry in entries {
+        buckets.push(CompositeBucketEntry {
+            key: shown_keys(alloc, sources, &entry.key)?,
+            doc_count: entry.doc_count,
+        })?;
+    }
+    Ok(buckets)
+}
+
+fn shown_after_key(
+    alloc: Global,
+    sources: &[CompositeAggregationSource],
+    next: &Option<Tuple>,
+) -> Result<NameMap<AfterKey>, OutOfMemory>
+    ensures { IfOk result (λ after_key. after_key ≡ shown_after sources.now next.now) }
+{
+    match next {
+        None => Ok(NameMap::new(alloc)),
+        Some(tuple) => after_keys(alloc, sources, tuple),
+    }
+}
+
+// The shown key of each source, by its name: of sources of one name the first's.
+fn shown_keys(
+    alloc: Global,
+    sources: &[CompositeAggregationSource],
+    tuple: &Tuple,
+) -> Result<NameMap<CompositeKey>, OutOfMemory>
+    ensures { IfOk result (λ keys. keys ≡ by_source shown_key sources.now tuple.now) }
+{
+    let values = tuple.as_slice();
+    let mut keys = NameMap::new(alloc);
+    for i in (0..sources.len().min(values.len())).rev() {
+        let shown = CompositeKey::from_intermediate(alloc, values[i].try_clone(alloc)?)?;
+        keys.insert(sources[i].name().try_clone(alloc)?, shown)?;
+    }
+    Ok(keys)
+}
+
+// The after key of each source, by its name: of sources of one name the first's.
+fn after_keys(
+    alloc: Global,
+    sources: &[CompositeAggregationSource],
+    tuple: &Tuple,
+) -> Result<NameMap<AfterKey>, OutOfMemory>
+    ensures { IfOk result (λ keys. keys ≡ after_map sources.now tuple.now) }
+{
+    let values = tuple.as_slice();
+    let mut keys = NameMap::new(alloc);
+    for i in (0..sources.len().min(values.len())).rev() {
+        let after = AfterKey(values[i].try_clone(alloc)?);
+        keys.insert(sources[i].name().try_clone(alloc)?, after)?;
+    }
+    Ok(keys)
+}
