@@ -74,7 +74,6 @@ behind tuple c = record c { after = after_map c.sources tuple }
 
 named_key : (name given : List ℕ) (a : Aggregation) → NamesComposite name ((given, a) ∷ []) → name ≡ given
 named_key name given a held = by_test (is_at (name_cmp name) given) refl held
-
   where
     by_test : (b : Bool) → is_at (name_cmp name) given ≡ b → IsSome (cond b (Some a) None) → name ≡ given
     by_test true e h = exact_bytes name given (equal-from_is_eq (slice_cmp nat_cmp name given) e)
@@ -227,16 +226,17 @@ module _ (name : List ℕ) (query : QueryTree) (c : CompositeAggregation) (plain
           elim too_many [
             | inl h ↦ absurd (no_more-standing few h)
             | inr h ↦ subst (λ o. MatchOption o ⊥ (λ tuple. ReachesTooMany name query (resumed name tuple (standing name c bound)) rest))
-            (after-page name query c plain bound state.whole s h.0 h.1 page is_page) h.2
+                (after-page name query c plain bound state.whole s h.0 h.1 page is_page) h.2
           ]
 
       -- a page that isn't full ends the walk
       pub state-ended : after_tuple s.page_size page ≡ None → IsWalk name query (one name c) snapshots (state.results ++ this ∷ []) true
       state-ended last =
           let nothing : List Results = [] in
-          state.goes_on (this ∷ nothing) true
-          (this-results,
-          subst (λ o. MatchOption o ((nothing ≡ []) × (true ≡ true)) (λ tuple. IsWalk name query (resumed name tuple (standing name c bound)) rest nothing true)) (sym (this-after ∙ last)) (refl, refl))
+          state.goes_on (this ∷ nothing) true (
+            this-results,
+            subst (λ o. MatchOption o ((nothing ≡ []) × (true ≡ true)) (λ tuple. IsWalk name query (resumed name tuple (standing name c bound)) rest nothing true)) (sym (this-after ∙ last)) (refl, refl),
+          )
 
       pub state-ended-fits : after_tuple s.page_size page ≡ None → ¬ (ReachesTooMany name query (one name c) snapshots)
       state-ended-fits last too_many =
@@ -249,15 +249,19 @@ module _ (name : List ℕ) (query : QueryTree) (c : CompositeAggregation) (plain
         results = state.results ++ this ∷ [];
         pages_shown = ap (λ p. p ++ shown (one name c) this ∷ []) state.pages_shown ∙ sym (map-append (shown (one name c)) state.results (this ∷ []));
         goes_on = λ more ended walk. rw (append_assoc state.results (this ∷ []) more)
-        (state.goes_on (this ∷ more) ended
-        (this-results,
-        subst (λ o. MatchOption o ((more ≡ []) × (ended ≡ true)) (λ t. IsWalk name query (resumed name t (standing name c bound)) rest more ended)) (sym (this-after ∙ last))
-        (subst (λ request. IsWalk name query request rest more ended) (sym (standing-later name c bound tuple)) walk)));
+            (state.goes_on (this ∷ more) ended (
+              this-results,
+              subst (λ o. MatchOption o ((more ≡ []) × (ended ≡ true)) (λ t. IsWalk name query (resumed name t (standing name c bound)) rest more ended)) (sym (this-after ∙ last))
+                  (subst (λ request. IsWalk name query request rest more ended) (sym (standing-later name c bound tuple)) walk),
+            ));
         fits = λ too_many. subst (λ request. ReachesTooMany name query request rest) (standing-later name c bound tuple)
-        (subst (λ o. MatchOption o ⊥ (λ t. ReachesTooMany name query (resumed name t (standing name c bound)) rest)) last (too_many-goes_on (state.fits too_many)));
-        reaches = λ too_many. state.reaches (inr (this, this-results,
-        subst (λ o. MatchOption o ⊥ (λ t. ReachesTooMany name query (resumed name t (standing name c bound)) rest)) (sym (this-after ∙ last))
-        (subst (λ request. ReachesTooMany name query request rest) (sym (standing-later name c bound tuple)) too_many)));
+            (subst (λ o. MatchOption o ⊥ (λ t. ReachesTooMany name query (resumed name t (standing name c bound)) rest)) last (too_many-goes_on (state.fits too_many)));
+        reaches = λ too_many. state.reaches (inr (
+          this,
+          this-results,
+          subst (λ o. MatchOption o ⊥ (λ t. ReachesTooMany name query (resumed name t (standing name c bound)) rest)) (sym (this-after ∙ last))
+              (subst (λ request. ReachesTooMany name query request rest) (sym (standing-later name c bound tuple)) too_many),
+        ));
         whole = inr (after-whole c.sources s.page_size bound (matching query s) page tuple is_page last);
       }
 
@@ -319,7 +323,7 @@ pub record IsNext (name : List ℕ) (query : QueryTree) (s : Snapshot) (sources 
   pub results_are : results.0 ≡ (name, Buckets (CompositeBuckets (map (shown_page_entry sources) entries) (shown_after sources next))) ∷ []
 
 module _ (name : List ℕ) (query : QueryTree) (request : Request) (snapshots : List Snapshot) (sources : List CompositeAggregationSource) (bound : List CompositeIntermediateKey)
-  (s : Snapshot) (rest : List Snapshot) (pages : List AggregationResults) (w : IsWalking name query request snapshots sources bound (s ∷ rest) pages) where
+    (s : Snapshot) (rest : List Snapshot) (pages : List AggregationResults) (w : IsWalking name query request snapshots sources bound (s ∷ rest) pages) where
   pub walking-too_many : 2 ^ 32 ≤ length (occurrences_in sources (matching query s)) → ReachesTooMany name query request snapshots
   walking-too_many many =
       subst (λ r. ReachesTooMany name query r snapshots) (sym w.request_is)
@@ -350,9 +354,11 @@ module _ (name : List ℕ) (query : QueryTree) (request : Request) (snapshots : 
         let walk = state-ended name query w.composite w.plain snapshots bound s rest pages w.state n.page own_page own_few last in
         let listed : pages ++ results ∷ [] ≡ map (shown (one name w.composite)) (w.state.results ++ this ∷ []) =
         ap (λ p. p ++ results ∷ []) w.state.pages_shown ∙ ap (λ r. map (shown (one name w.composite)) w.state.results ++ r ∷ []) own_results
-        ∙ sym (map-append (shown (one name w.composite)) w.state.results (this ∷ [])) in
-        (w.state.results ++ this ∷ [], subst (λ r. IsWalk name query r snapshots (w.state.results ++ this ∷ []) true) (sym w.request_is) walk,
-        subst (λ r. pages ++ results ∷ [] ≡ map (shown r) (w.state.results ++ this ∷ [])) (sym w.request_is) listed)
+        ∙ sym (map-append (shown (one name w.composite)) w.state.results (this ∷ [])) in (
+          w.state.results ++ this ∷ [],
+          subst (λ r. IsWalk name query r snapshots (w.state.results ++ this ∷ []) true) (sym w.request_is) walk,
+          subst (λ r. pages ++ results ∷ [] ≡ map (shown r) (w.state.results ++ this ∷ [])) (sym w.request_is) listed,
+        )
 
     pub walking-ended-fits : next ≡ None → ¬ (ReachesTooMany name query request snapshots)
     walking-ended-fits none too_many =
@@ -372,7 +378,7 @@ module _ (name : List ℕ) (query : QueryTree) (request : Request) (snapshots : 
 
 -- behind the last snapshot
 module _ (name : List ℕ) (query : QueryTree) (request : Request) (snapshots : List Snapshot) (sources : List CompositeAggregationSource) (bound : List CompositeIntermediateKey)
-  (pages : List AggregationResults) (w : IsWalking name query request snapshots sources bound [] pages) where
+    (pages : List AggregationResults) (w : IsWalking name query request snapshots sources bound [] pages) where
   pub walking-out : (x : List Results) × IsWalk name query request snapshots x false × (pages ≡ map (shown request) x)
   walking-out =
       let out = state-out name query w.composite w.plain snapshots bound pages w.state in

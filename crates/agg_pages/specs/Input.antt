@@ -1,0 +1,120 @@
+-- What the bytes of an input stand for.
+use Rattle.std.specs.Prelude.{◌≤◌, ◌==◌, ◌&&◌, ◌^◌, ℕ, ℤ, List, [], ◌∷◌, Bool, true, false, Option, None, Some, if◌then◌else◌, length, drop, map, option_map, option_and_then, codes, nat_lt, nat_le, nat_eq}
+use Rattle.std.specs.List.{list_all, starts_with}
+use Rattle.std.specs.Str.{all_ascii_digits, is_utf8}
+use Rattle.std.specs.Str.Parse.{digits_value}
+use Rattle.serde_json.specs.Data.{Data, null, boolean, number, string, array, object}
+use Rattle.serde_json.specs.Events.{members_len}
+use Rattle.serde_json.specs.Find.{as_str, get}
+use Rattle.serde_json.specs.Read.{read}
+use Rattle.agg_values.specs.declared.order.Order.TheVariants.{Asc}
+use Rattle.agg_values.specs.declared.order.MissingOrder.TheVariants.{Default}
+use Rattle.agg_segment.specs.declared.document.FieldValue.{FieldValue}
+use Rattle.agg_segment.specs.declared.document.FieldValue.TheVariants.{I64}
+use Rattle.agg_composite.specs.declared.request.source.CompositeAggregationSource.{CompositeAggregationSource}
+use Rattle.agg_composite.specs.declared.request.source.CompositeAggregationSource.TheVariants.{Terms}
+use Rattle.agg_composite.specs.declared.request.aggregation.Aggregation.{Aggregation}
+use Rattle.agg_composite.specs.declared.request.aggregation.AggregationVariants.{AggregationVariants}
+use Rattle.agg_composite.specs.declared.request.aggregation.AggregationVariants.TheVariants.{Composite}
+use Rattle.agg_engine.specs.declared.walk.Snapshot.{Snapshot}
+use Rattle.agg_pages.specs.declared.input.header.Header.{Header}
+use Rattle.agg_pages.specs.declared.input.Input.{Input}
+use Rattle.agg_pages.specs.Json.{only_member, only_named, only_item, whole_number, small_number, each_item, each_member}
+use Rattle.agg_pages.specs.Lines.{lines_of}
+
+-- ---- the header
+
+-- a source: its name, and a terms source over a field
+abbrev pub source_of : Data → Option CompositeAggregationSource
+source_of d = option_and_then (λ m. option_map (λ field. Terms (record { name = m.0; field = field; order = Asc; missing_bucket = false; missing_order = Default }))
+    (option_and_then as_str (option_and_then (only_named (codes "field")) (only_named (codes "terms") m.1)))) (only_member d)
+
+-- a composite: exactly its sources, of which there is one, and its size
+abbrev pub composite_of : Data → Option AggregationVariants
+composite_of (object ms) = if members_len ms == 2
+    then option_and_then (λ source. option_map (λ size. Composite (record { sources = source ∷ []; size = size; after = [] }))
+    (option_and_then small_number (get (codes "size") (object ms)))) (option_and_then source_of (option_and_then only_item (get (codes "sources") (object ms))))
+    else None
+composite_of _ = None
+
+-- a request: one name with a composite
+abbrev pub request_of : Data → Option (List (List ℕ × Aggregation))
+request_of d = option_and_then (λ m. option_map (λ agg. (m.0, record { agg = agg }) ∷ []) (option_and_then composite_of (only_named (codes "composite") m.1))) (only_member d)
+
+-- an array of texts
+abbrev pub texts_of : Data → Option (List (List ℕ))
+texts_of (array items) = each_item as_str items
+texts_of _ = None
+
+-- a header: exactly its request, its name and its schema
+abbrev pub header_of_data : Data → Option Header
+header_of_data (object ms) = if members_len ms == 3
+    then option_and_then (λ request. option_and_then (λ name. option_map (λ schema. record { request = request; name = name; schema = schema })
+    (option_and_then texts_of (get (codes "schema") (object ms)))) (option_and_then as_str (get (codes "name") (object ms))))
+    (option_and_then request_of (get (codes "request") (object ms)))
+    else None
+header_of_data _ = None
+
+abbrev pub header_of : List ℕ → Option Header
+header_of line = option_and_then header_of_data (read line)
+
+-- ---- documents and snapshots
+
+abbrev pub value_of_data : Data → Option FieldValue
+value_of_data d = option_map I64 (whole_number d)
+
+-- the values of a field: one, or an array of them
+abbrev pub field_values : Data → Option (List FieldValue)
+field_values (array items) = each_item value_of_data items
+field_values d = option_map (λ v. v ∷ []) (value_of_data d)
+
+-- a document: an object from field to values
+abbrev pub document_of_data : Data → Option (List (List ℕ × List FieldValue))
+document_of_data (object ms) = each_member field_values ms
+document_of_data _ = None
+
+-- a line behind the header: a snapshot begins, with its page size, or a document stands in it
+pub data Line : Type 0 where
+  begins : ℕ → Line
+  holds : List (List ℕ × List FieldValue) → Line
+
+-- one or more ASCII digits, with a value within u32
+abbrev pub page_size_of : List ℕ → Option ℕ
+page_size_of digits = if nat_lt 0 (length digits) && all_ascii_digits digits && nat_lt (digits_value 10 digits) (2 ^ 32) then Some (digits_value 10 digits) else None
+
+abbrev pub line_of : List ℕ → Option Line
+line_of line = if starts_with nat_eq line (codes "snapshot ") then option_map begins (page_size_of (drop 9 line)) else option_map holds (option_and_then document_of_data (read line))
+
+abbrev pub each_line : List (List ℕ) → Option (List Line)
+each_line [] = Some []
+each_line (l ∷ ls) = option_and_then (λ x. option_map (λ xs. x ∷ xs) (each_line ls)) (line_of l)
+
+-- a snapshot of documents: its first opens its one segment
+abbrev pub snapshot_of : ℕ → List (List (List ℕ × List FieldValue)) → Snapshot
+snapshot_of size [] = record { segments = []; page_size = size }
+snapshot_of size (d ∷ ds) = record { segments = (d ∷ ds) ∷ []; page_size = size }
+
+-- the documents before the first snapshot, and the snapshots
+abbrev pub grouped : List Line → List (List (List ℕ × List FieldValue)) × List Snapshot
+grouped [] = ([], [])
+grouped (holds document ∷ lines) = (document ∷ (grouped lines).0, (grouped lines).1)
+grouped (begins size ∷ lines) = ([], snapshot_of size (grouped lines).0 ∷ (grouped lines).1)
+
+-- whether no segment has too many documents
+abbrev pub all_fit : List Snapshot → Bool
+all_fit snapshots = list_all (λ s. list_all (λ segment. nat_le (length segment) 16777216) s.segments) snapshots
+
+-- the snapshots that the lines behind the header stand for
+abbrev pub snapshots_of : List Line → Option (List Snapshot)
+snapshots_of lines = if (length (grouped lines).0 == 0) && all_fit (grouped lines).1 then Some (grouped lines).1 else None
+
+-- ---- the input
+
+abbrev pub input_of_lines : List (List ℕ) → Option Input
+input_of_lines [] = None
+input_of_lines (first ∷ lines) = option_and_then (λ header. option_map (λ snapshots. record { header = header; snapshots = snapshots })
+    (option_and_then snapshots_of (each_line lines))) (header_of first)
+
+-- what bytes stand for, if they are a valid input: UTF-8, no more than the limit, a header and then snapshots
+abbrev pub input : List ℕ → Option Input
+input bytes = if nat_le (length bytes) 67108864 && is_utf8 bytes then input_of_lines (lines_of bytes) else None

@@ -1,0 +1,12 @@
+-- The lines of an input.
+use Rattle.std.specs.Prelude.{ℕ, List, Bool, not, ◌==◌, ◌||◌, map, filter}
+use Rattle.std.specs.List.{list_all, slice_split}
+use Rattle.std.specs.Str.Lines.{strip_carriage_return}
+
+-- whether a line has nothing but spaces and tabs
+abbrev pub is_blank : List ℕ → Bool
+is_blank line = list_all (λ b. b == 32 || b == 9) line
+
+-- the lines that say something: cut at each line feed, without one carriage return at the end, blank ones left out
+abbrev pub lines_of : List ℕ → List (List ℕ)
+lines_of bytes = filter (λ line. not (is_blank line)) (map strip_carriage_return (slice_split (λ b. b == 10) bytes))
