@@ -1,2 +1,6 @@
+pub mod InputForms
+pub mod InputLemmas
+pub mod JsonLemmas
+pub mod LinesLemmas
 pub mod PageLines
 pub mod Words

@@ -1,11 +1,10 @@
 -- What the bytes of an input stand for.
-use Rattle.std.specs.Prelude.{◌≤◌, ◌==◌, ◌&&◌, ◌^◌, ℕ, ℤ, List, [], ◌∷◌, Bool, true, false, Option, None, Some, if◌then◌else◌, length, drop, map, option_map, option_and_then, codes, nat_lt, nat_le, nat_eq}
+use Rattle.std.specs.Prelude.{◌==◌, ◌&&◌, ◌^◌, ℕ, List, [], ◌∷◌, Bool, false, Option, None, Some, if◌then◌else◌, length, drop, option_map, option_and_then, codes, nat_lt, nat_le, nat_eq}
 use Rattle.std.specs.List.{list_all, starts_with}
 use Rattle.std.specs.Str.{all_ascii_digits, is_utf8}
 use Rattle.std.specs.Str.Parse.{digits_value}
-use Rattle.serde_json.specs.Data.{Data, null, boolean, number, string, array, object}
-use Rattle.serde_json.specs.Events.{members_len}
-use Rattle.serde_json.specs.Find.{as_str, get}
+use Rattle.serde_json.specs.Data.{Data, array}
+use Rattle.serde_json.specs.Find.{as_array, as_object, as_str, get}
 use Rattle.serde_json.specs.Read.{read}
 use Rattle.agg_values.specs.declared.order.Order.TheVariants.{Asc}
 use Rattle.agg_values.specs.declared.order.MissingOrder.TheVariants.{Default}
@@ -19,23 +18,27 @@ use Rattle.agg_composite.specs.declared.request.aggregation.AggregationVariants.
 use Rattle.agg_engine.specs.declared.walk.Snapshot.{Snapshot}
 use Rattle.agg_pages.specs.declared.input.header.Header.{Header}
 use Rattle.agg_pages.specs.declared.input.Input.{Input}
-use Rattle.agg_pages.specs.Json.{only_member, only_named, only_item, whole_number, small_number, each_item, each_member}
+use Rattle.agg_pages.specs.declared.input.line.Line.{Line}
+use Rattle.agg_pages.specs.declared.input.line.Line.TheVariants.{Begins, Holds}
+use Rattle.agg_pages.specs.Json.{has_members, only_member, only_named, only_item, whole_number, small_number, each_item, each_member}
 use Rattle.agg_pages.specs.Lines.{lines_of}
 
 -- ---- the header
 
+-- the field of a terms source
+abbrev pub terms_field : Data → Option (List ℕ)
+terms_field d = option_and_then as_str (option_and_then (only_named (codes "field")) (only_named (codes "terms") d))
+
 -- a source: its name, and a terms source over a field
 abbrev pub source_of : Data → Option CompositeAggregationSource
-source_of d = option_and_then (λ m. option_map (λ field. Terms (record { name = m.0; field = field; order = Asc; missing_bucket = false; missing_order = Default }))
-    (option_and_then as_str (option_and_then (only_named (codes "field")) (only_named (codes "terms") m.1)))) (only_member d)
+source_of d = option_and_then (λ m. option_map (λ field. Terms (record { name = m.0; field = field; order = Asc; missing_bucket = false; missing_order = Default })) (terms_field m.1)) (only_member d)
 
 -- a composite: exactly its sources, of which there is one, and its size
 abbrev pub composite_of : Data → Option AggregationVariants
-composite_of (object ms) = if members_len ms == 2
+composite_of d = if has_members 2 d
     then option_and_then (λ source. option_map (λ size. Composite (record { sources = source ∷ []; size = size; after = [] }))
-    (option_and_then small_number (get (codes "size") (object ms)))) (option_and_then source_of (option_and_then only_item (get (codes "sources") (object ms))))
+    (option_and_then small_number (get (codes "size") d))) (option_and_then source_of (option_and_then only_item (get (codes "sources") d)))
     else None
-composite_of _ = None
 
 -- a request: one name with a composite
 abbrev pub request_of : Data → Option (List (List ℕ × Aggregation))
@@ -43,17 +46,15 @@ request_of d = option_and_then (λ m. option_map (λ agg. (m.0, record { agg = a
 
 -- an array of texts
 abbrev pub texts_of : Data → Option (List (List ℕ))
-texts_of (array items) = each_item as_str items
-texts_of _ = None
+texts_of d = option_and_then (each_item as_str) (as_array d)
 
 -- a header: exactly its request, its name and its schema
 abbrev pub header_of_data : Data → Option Header
-header_of_data (object ms) = if members_len ms == 3
+header_of_data d = if has_members 3 d
     then option_and_then (λ request. option_and_then (λ name. option_map (λ schema. record { request = request; name = name; schema = schema })
-    (option_and_then texts_of (get (codes "schema") (object ms)))) (option_and_then as_str (get (codes "name") (object ms))))
-    (option_and_then request_of (get (codes "request") (object ms)))
+    (option_and_then texts_of (get (codes "schema") d))) (option_and_then as_str (get (codes "name") d)))
+    (option_and_then request_of (get (codes "request") d))
     else None
-header_of_data _ = None
 
 abbrev pub header_of : List ℕ → Option Header
 header_of line = option_and_then header_of_data (read line)
@@ -70,20 +71,18 @@ field_values d = option_map (λ v. v ∷ []) (value_of_data d)
 
 -- a document: an object from field to values
 abbrev pub document_of_data : Data → Option (List (List ℕ × List FieldValue))
-document_of_data (object ms) = each_member field_values ms
-document_of_data _ = None
+document_of_data d = option_and_then (each_member field_values) (as_object d)
 
--- a line behind the header: a snapshot begins, with its page size, or a document stands in it
-pub data Line : Type 0 where
-  begins : ℕ → Line
-  holds : List (List ℕ × List FieldValue) → Line
+abbrev pub document_of : List ℕ → Option (List (List ℕ × List FieldValue))
+document_of line = option_and_then document_of_data (read line)
 
 -- one or more ASCII digits, with a value within u32
 abbrev pub page_size_of : List ℕ → Option ℕ
 page_size_of digits = if nat_lt 0 (length digits) && all_ascii_digits digits && nat_lt (digits_value 10 digits) (2 ^ 32) then Some (digits_value 10 digits) else None
 
+-- what a line behind the header says
 abbrev pub line_of : List ℕ → Option Line
-line_of line = if starts_with nat_eq line (codes "snapshot ") then option_map begins (page_size_of (drop 9 line)) else option_map holds (option_and_then document_of_data (read line))
+line_of line = if starts_with nat_eq line (codes "snapshot ") then option_map Begins (page_size_of (drop 9 line)) else option_map Holds (document_of line)
 
 abbrev pub each_line : List (List ℕ) → Option (List Line)
 each_line [] = Some []
@@ -97,8 +96,8 @@ snapshot_of size (d ∷ ds) = record { segments = (d ∷ ds) ∷ []; page_size =
 -- the documents before the first snapshot, and the snapshots
 abbrev pub grouped : List Line → List (List (List ℕ × List FieldValue)) × List Snapshot
 grouped [] = ([], [])
-grouped (holds document ∷ lines) = (document ∷ (grouped lines).0, (grouped lines).1)
-grouped (begins size ∷ lines) = ([], snapshot_of size (grouped lines).0 ∷ (grouped lines).1)
+grouped (Holds document ∷ lines) = (document ∷ (grouped lines).0, (grouped lines).1)
+grouped (Begins size ∷ lines) = ([], snapshot_of size (grouped lines).0 ∷ (grouped lines).1)
 
 -- whether no segment has too many documents
 abbrev pub all_fit : List Snapshot → Bool

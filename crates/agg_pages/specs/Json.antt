@@ -1,8 +1,14 @@
 -- Looking into JSON values.
-use Rattle.std.specs.Prelude.{◌==◌, ◌∷◌, [], ℕ, ℤ, List, Option, None, Some, if◌then◌else◌, option_map, option_and_then, nat_lt, ◌^◌}
+use Rattle.std.specs.Prelude.{◌==◌, ◌∷◌, [], ℕ, ℤ, List, Bool, false, Option, None, Some, if◌then◌else◌, option_map, option_and_then, nat_lt, ◌^◌}
 use Rattle.std.specs.Str.{bytes_eq}
-use Rattle.serde_json.specs.Data.{Data, null, boolean, number, string, array, object, Items, no_items, item, Members, no_members, member}
-use Rattle.serde_json.specs.Find.{as_number, as_str, as_u64, as_i64}
+use Rattle.serde_json.specs.Data.{Data, array, object, Items, no_items, item, Members, no_members, member}
+use Rattle.serde_json.specs.Events.{members_len}
+use Rattle.serde_json.specs.Find.{as_number, as_u64, as_i64}
+
+-- whether it is an object of so many members
+abbrev pub has_members : ℕ → Data → Bool
+has_members count (object members) = members_len members == count
+has_members count _ = false
 
 -- the one member of an object that has no other
 abbrev pub only_member : Data → Option (List ℕ × Data)

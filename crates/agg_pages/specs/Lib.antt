@@ -4,4 +4,5 @@ pub mod Input
 pub mod Json
 pub mod Lines
 pub mod Printed
+pub mod Snapshots
 pub mod Status

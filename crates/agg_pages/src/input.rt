@@ -1,16 +1,30 @@
 //! The input: a header and then snapshots, a line each.
 
+mod document;
 mod header;
+mod json_value;
+mod line;
+mod lines;
+mod snapshots;
 
 ghost use Rattle.std.specs.Prelude.{◌≡◌, Some, None, IfOk, IsErrOf};
 ghost use Rattle.agg_pages.specs.Input.{input};
 ghost use Rattle.agg_engine.specs.Form.{IsFirstForm};
 
 use agg_engine::Snapshot;
+use agg_segment::BuildError;
 use agg_values::{ItemList, OutOfMemory};
 pub use header::Header;
+use header::read_header;
+use lines::Lines;
+use serde_json::Category;
+use snapshots::read_snapshots;
 use std::alloc::Global;
+use std::str::from_utf8;
 use thiserror::Error;
+
+// How many bytes an input may have.
+const MAX_BYTES: usize = 67_108_864;
 
 /// Why bytes gave no input.
 #[derive(Clone, Copy, Debug, PartialEq, Eq, Error)]
@@ -31,6 +45,34 @@ impl From<OutOfMemory> for InputError {
     }
 }
 
+impl From<serde_json::Error> for InputError {
+    ghost use Rattle.agg_pages.specs.declared.input.InputError.TheVariants.{NotInput};
+    ghost use Rattle.serde_json.specs.Errors.{IsMemory};
+
+    ghost from_gives = { λ error e. e ≡ NotInput → ¬ (IsMemory error) };
+
+    fn from(error: serde_json::Error) -> InputError {
+        match error.classify() {
+            Category::Memory => InputError::OutOfMemory,
+            _ => InputError::NotInput,
+        }
+    }
+}
+
+impl From<BuildError> for InputError {
+    ghost use Rattle.agg_pages.specs.declared.input.InputError.TheVariants.{NotInput};
+    ghost use Rattle.agg_segment.specs.declared.segment.BuildError.TheVariants.{TooManyDocuments};
+
+    ghost from_gives = { λ error e. e ≡ NotInput → error ≡ TooManyDocuments };
+
+    fn from(error: BuildError) -> InputError {
+        match error {
+            BuildError::TooManyDocuments => InputError::NotInput,
+            BuildError::OutOfMemory => InputError::OutOfMemory,
+        }
+    }
+}
+
 /// A request over snapshots.
 #[derive(Drop)]
 pub struct Input {
@@ -44,6 +86,61 @@ pub fn read_input(alloc: Global, bytes: &[u8]) -> Result<Input, InputError>
     ensures form { IfOk result (λ i. IsFirstForm i.header.request i.snapshots) }
     ensures not_input { IsErrOf result InputError.NotInput → input bytes.now ≡ None }
 {
-    let _ = (alloc, bytes.len());
-    Err(InputError::OutOfMemory)
+    if bytes.len() > MAX_BYTES {
+        return Err(InputError::NotInput);
+    }
+    let Ok(text) = from_utf8(bytes) else {
+        return Err(InputError::NotInput);
+    };
+    let mut lines = Lines::new(text);
+    let first = lines.next().ok_or(InputError::NotInput)?;
+    let header = read_header(alloc, first)?;
+    let snapshots = read_snapshots(alloc, lines)?;
+    Ok(Input { header, snapshots })
+}
+
+#[cfg(test)]
+mod tests {
+    use super::*;
+    use std::test::Fail;
+
+    const HEADER: &str =
+        "{\"request\":{\"byA\":{\"composite\":{\"sources\":[{\"a\":{\"terms\":{\"field\":\"A\"}}}],\"size\":2}}},\"name\":\"byA\",\"schema\":[\"A\"]}";
+
+    #[test]
+    fn reads(rt: HostRuntime) -> Result<(), Fail> {
+        let text = format!(in rt.alloc();
+            "\n{HEADER}\r\nsnapshot 2\n{{\"A\":1,\"B\":[2,-3]}}\n \t\n{{}}\nsnapshot 07\n"
+        )?;
+        let input = read_input(rt.alloc(), text.as_bytes())?;
+        assert_eq!(rt; input.header.request.len(), 1);
+        assert_eq!(rt; input.header.schema.fields().len(), 1);
+        let snapshots = input.snapshots.as_slice();
+        assert_eq!(rt; snapshots.len(), 2);
+        assert_eq!(rt; snapshots[0].page_size, 2);
+        assert_eq!(rt; snapshots[0].segments.as_slice().len(), 1);
+        assert_eq!(rt; snapshots[0].segments.as_slice()[0].num_docs(), 2);
+        assert_eq!(rt; snapshots[1].page_size, 7);
+        assert_eq!(rt; snapshots[1].segments.as_slice().len(), 0);
+        Ok(())
+    }
+
+    #[test]
+    fn refuses(rt: HostRuntime) -> Result<(), Fail> {
+        for tail in [
+            "snapshot +1",
+            "snapshot 4294967296",
+            "snapshot ",
+            "{}",
+            "snapshot 1\n{\"A\":1.5}",
+            "snapshot 1\n{\"A\":[1,null]}",
+            "snapshot 1\n[]",
+            "snapshot 1\n{",
+        ] {
+            let text = format!(in rt.alloc(); "{HEADER}\n{tail}")?;
+            let read = read_input(rt.alloc(), text.as_bytes());
+            assert_eq!(rt; read.err(), Some(InputError::NotInput));
+        }
+        Ok(())
+    }
 }

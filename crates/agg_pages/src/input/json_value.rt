@@ -1,0 +1,85 @@
+//! Looking into JSON values.
+ghost use Rattle.std.specs.Prelude.{◌≡◌, Some, None, IfOk, IsErrOf, option_map};
+ghost use Rattle.serde_json.specs.Read.{read};
+ghost use Rattle.serde_json.specs.Find.{get, as_str};
+ghost use Rattle.serde_json.specs.View.{view};
+ghost use Rattle.agg_pages.specs.Json.{has_members, only_item, only_member, only_named, small_number};
+
+use super::InputError;
+use agg_values::Text;
+use serde_json::Value;
+use std::alloc::Global;
+
+/// The value of a text.
+pub fn parse(alloc: Global, text: &str) -> Result<Value, InputError>
+    ensures ok { IfOk result (λ value. read text.now ≡ Some (view value)) }
+    ensures not_input { IsErrOf result InputError.NotInput → read text.now ≡ None }
+{
+    Ok(Value::from_str(alloc, text)?)
+}
+
+/// Whether a value is an object of so many members.
+pub fn has_members(value: &Value, count: usize) -> bool
+    ensures { result ≡ has_members count (view value.now) }
+{
+    match value.as_object() {
+        Some(members) => members.len() == count,
+        None => false,
+    }
+}
+
+/// The member of this name.
+pub fn member<'a>(value: &'a Value, name: &str) -> Result<&'a Value, InputError>
+    ensures ok { IfOk result (λ found. get name.now (view value.now) ≡ Some (view found.now)) }
+    ensures not_input { IsErrOf result InputError.NotInput → get name.now (view value.now) ≡ None }
+{
+    value.get(name).ok_or(InputError::NotInput)
+}
+
+/// The one member of an object that has no other.
+pub fn only_member(value: &Value) -> Option<(&str, &Value)>
+    ensures { option_map (λ m. (m.0.now, view m.1.now)) result ≡ only_member (view value.now) }
+{
+    let mut members = value.as_object()?.iter();
+    let (name, only) = members.next()?;
+    if members.next().is_some() {
+        return None;
+    }
+    Some((name.as_str(), only))
+}
+
+/// The value of that member, where it has this name.
+pub fn only_named<'a>(value: &'a Value, name: &str) -> Option<&'a Value>
+    ensures { option_map (λ v. view v.now) result ≡ only_named name.now (view value.now) }
+{
+    let (found, only) = only_member(value)?;
+    if found == name { Some(only) } else { None }
+}
+
+/// The one item of an array that has no other.
+pub fn only_item(value: &Value) -> Option<&Value>
+    ensures { option_map (λ v. view v.now) result ≡ only_item (view value.now) }
+{
+    let mut items = value.as_array()?.iter();
+    let only = items.next()?;
+    if items.next().is_some() {
+        return None;
+    }
+    Some(only)
+}
+
+/// A whole number within u32.
+pub fn small_number(value: &Value) -> Option<u32>
+    ensures { result ≡ small_number (view value.now) }
+{
+    u32::try_from(value.as_u64()?).ok()
+}
+
+/// The copy of a text.
+pub fn read_text(alloc: Global, value: &Value) -> Result<Text, InputError>
+    ensures ok { IfOk result (λ text. as_str (view value.now) ≡ Some text) }
+    ensures not_input { IsErrOf result InputError.NotInput → as_str (view value.now) ≡ None }
+{
+    let text = value.as_str().ok_or(InputError::NotInput)?;
+    Ok(Text::copy_of(alloc, text)?)
+}
