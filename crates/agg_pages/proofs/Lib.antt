@@ -3,4 +3,6 @@ pub mod InputLemmas
 pub mod JsonLemmas
 pub mod LinesLemmas
 pub mod PageLines
+pub mod Reading
+pub mod Replies
 pub mod Words

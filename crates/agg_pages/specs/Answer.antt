@@ -8,12 +8,6 @@ use Rattle.agg_engine.specs.declared.walk.error.WalkError.TheVariants.{Invalid, 
 use Rattle.agg_engine.specs.Walk.{NamesComposite, ReachesTooMany, has_zero_size}
 use Rattle.agg_engine.specs.ShownWalk.{IsShownWalk}
 use Rattle.agg_pages.specs.declared.input.Input.{Input}
-use Rattle.agg_pages.specs.declared.input.InputError.{InputError}
-use Rattle.agg_pages.specs.declared.input.InputError.TheVariants as refused
-use Rattle.agg_pages.specs.declared.source.read_all.ReadAllError.{ReadAllError}
-use Rattle.agg_pages.specs.declared.source.read_all.ReadAllError.TheVariants as reading
-use Rattle.agg_pages.specs.declared.status.Status.{Status}
-use Rattle.agg_pages.specs.declared.status.Status.TheVariants as status
 use Rattle.agg_pages.specs.Input.{input}
 use Rattle.agg_pages.specs.Printed.{printed, refusal_line}
 
@@ -59,17 +53,6 @@ IsReplyTo i false text = IsPrintedWalkOf i text
 abbrev pub IsReply : List ℕ → Bool → List ℕ → Type 0
 IsReply bytes true text = IsRefusal bytes text
 IsReply bytes false text = IsPrintedWalk bytes text
-
--- the status where not all bytes were read
-abbrev pub status_of_reading : ReadAllError → Status
-status_of_reading reading.ReadFault = status.ReadFault
-status_of_reading reading.TooLong = status.Input
-status_of_reading reading.OutOfMemory = status.OutOfMemory
-
--- the status where bytes gave no input
-abbrev pub status_of_input : InputError → Status
-status_of_input refused.NotInput = status.Input
-status_of_input refused.OutOfMemory = status.OutOfMemory
 
 -- the bytes are no input: all were read, or one past the limit
 abbrev pub IsNoInput : List ℕ → Option (List ℕ) → Type 0

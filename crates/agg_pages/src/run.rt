@@ -1,15 +1,15 @@
 //! The program as a function of its words, its source and its sink.
 ghost use Rattle.std.specs.Prelude.{◌≡◌, ◌≢◌, ◌<◌, ◌⊎◌, ◌↔◌, ℕ, List, [], ◌∷◌, Some, Err, take, true, false, IfOk, IfErr, IsTrue, string_bytes};
 ghost use Rattle.std.specs.Io.KnownBytes.{Appends};
-ghost use Rattle.agg_pages.specs.Answer.{IsNoInput, IsPrintedWalk, IsRefusal, IsReply, IsReplyTo, IsValid, status_of_input, status_of_reading, walk_words};
+ghost use Rattle.agg_pages.specs.Answer.{IsNoInput, IsPrintedWalk, IsRefusal, IsReply, IsReplyTo, IsValid, walk_words};
 ghost use Rattle.agg_pages.specs.Causes.{Rose};
 ghost use Rattle.agg_pages.specs.Input.{input};
 ghost use Rattle.agg_engine.specs.Form.{IsFirstForm};
 
-use crate::input::{Input, InputError, read_input};
+use crate::input::{Input, read_input};
 use crate::output::{refusal_text, walk_text};
 use crate::sink::{Sink, write_all};
-use crate::source::{ReadAllError, Source, read_all};
+use crate::source::{Source, read_all};
 use crate::status::Status;
 use agg_composite::limits::LimitsLedger;
 use agg_composite::request::NamedBuilder;
@@ -139,28 +139,9 @@ fn answer<R: Source, L: Ledger>(
         → IsNoInput bytes (R.left source.new) }
     ensures read_fault { result ≡ Err Status.ReadFault → Rose (R.faults source.old) (R.faults source.new) }
 {
-    let bytes = read_all(alloc, source).map_err(status_of_reading)?;
-    let input = read_input(alloc, &bytes).map_err(status_of_input)?;
-    reply_to(alloc, &input, steps).map_err(|_| Status::OutOfMemory)
-}
-
-fn status_of_reading(error: ReadAllError) -> Status
-    ensures { result ≡ status_of_reading error }
-{
-    match error {
-        ReadAllError::ReadFault => Status::ReadFault,
-        ReadAllError::TooLong => Status::Input,
-        ReadAllError::OutOfMemory => Status::OutOfMemory,
-    }
-}
-
-fn status_of_input(error: InputError) -> Status
-    ensures { result ≡ status_of_input error }
-{
-    match error {
-        InputError::NotInput => Status::Input,
-        InputError::OutOfMemory => Status::OutOfMemory,
-    }
+    let bytes = read_all(alloc, source)?;
+    let input = read_input(alloc, &bytes)?;
+    Ok(reply_to(alloc, &input, steps)?)
 }
 
 // The answer to an input: the printed walk, or the line of a refusal.

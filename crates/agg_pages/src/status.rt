@@ -1,5 +1,10 @@
 ghost use Rattle.std.specs.Prelude.{◌≡◌};
-ghost use Rattle.agg_pages.specs.Status.{code_of};
+ghost use Rattle.agg_pages.specs.Status.{code_of, status_of_input, status_of_reading};
+ghost use Rattle.agg_pages.specs.declared.status.Status.TheVariants.{OutOfMemory as NoMemory};
+
+use crate::input::InputError;
+use crate::source::ReadAllError;
+use agg_values::OutOfMemory;
 
 /// How a run of the program ended.
 #[derive(Clone, Copy, Debug, PartialEq, Eq)]
@@ -27,5 +32,36 @@ impl Status {
             Status::WriteFault => 5,
             Status::OutOfMemory => 6,
         }
+    }
+}
+
+impl From<ReadAllError> for Status {
+    ghost from_gives = { λ error status. status ≡ status_of_reading error };
+
+    fn from(error: ReadAllError) -> Status {
+        match error {
+            ReadAllError::ReadFault => Status::ReadFault,
+            ReadAllError::TooLong => Status::Input,
+            ReadAllError::OutOfMemory => Status::OutOfMemory,
+        }
+    }
+}
+
+impl From<InputError> for Status {
+    ghost from_gives = { λ error status. status ≡ status_of_input error };
+
+    fn from(error: InputError) -> Status {
+        match error {
+            InputError::NotInput => Status::Input,
+            InputError::OutOfMemory => Status::OutOfMemory,
+        }
+    }
+}
+
+impl From<OutOfMemory> for Status {
+    ghost from_gives = { λ _ status. status ≡ NoMemory };
+
+    fn from(_error: OutOfMemory) -> Status {
+        Status::OutOfMemory
     }
 }
