@@ -94,6 +94,7 @@ mod tests {
         ] {
             let written = Address(number).write(rt.alloc())?;
             assert_eq!(rt; written.as_str(), text);
+            assert_eq!(rt; Address(number).to_string(rt.alloc())?.as_str(), text);
         }
         Ok(())
     }
