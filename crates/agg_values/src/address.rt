@@ -78,3 +78,68 @@ pub(crate) fn shown_text(alloc: Global, address: Address) -> Result<Text, OutOfM
     let ip = ipv6_of(address).to_canonical();
     Ok(Text::from_string(ip.to_string(alloc)?))
 }
+
+#[cfg(test)]
+mod tests {
+    use super::*;
+    use std::test::Fail;
+
+    #[test]
+    fn writes_the_recommended_text(rt: HostRuntime) -> Result<(), Fail> {
+        for (number, text) in [
+            (0, "::"),
+            (1, "::1"),
+            (281_470_698_652_420, "::ffff:1.2.3.4"),
+            (u128::MAX, "ffff:ffff:ffff:ffff:ffff:ffff:ffff:ffff"),
+        ] {
+            let written = Address(number).write(rt.alloc())?;
+            assert_eq!(rt; written.as_str(), text);
+            assert_eq!(rt; Address(number).to_string(rt.alloc())?.as_str(), text);
+        }
+        Ok(())
+    }
+
+    #[test]
+    fn writes_what_it_read(rt: HostRuntime) -> Result<(), Fail> {
+        for (text, canonical) in [
+            ("2001:DB8:0:0:0:0:0:1", "2001:db8::1"),
+            ("1:0:0:2:3:0:0:4", "1::2:3:0:0:4"),
+            ("1:0:0:2:0:0:0:3", "1:0:0:2::3"),
+            ("1:0:2:3:4:5:6:7", "1:0:2:3:4:5:6:7"),
+            ("0001:000a::", "1:a::"),
+            ("1.2.3.4", "::ffff:1.2.3.4"),
+            ("::FFFF:102:304", "::ffff:1.2.3.4"),
+            ("64:ff9b::1.2.3.4", "64:ff9b::102:304"),
+            ("1:2:3:4:5:6:7::", "1:2:3:4:5:6:7:0"),
+        ] {
+            let read = Address::read(&Text::copy_of(rt.alloc(), text)?).ok_or("refused")?;
+            assert_eq!(rt; read.write(rt.alloc())?.as_str(), canonical, "{text}");
+        }
+        Ok(())
+    }
+
+    #[test]
+    fn refuses_other_texts(rt: HostRuntime) -> Result<(), Fail> {
+        for text in [
+            "",
+            ":",
+            "1.2.3",
+            "1.2.3.04",
+            "1.2.3.256",
+            "1.2.3.4.5",
+            "::1::2",
+            "1:2:3:4:5:6:7",
+            "1:2:3:4:5:6:7:8::",
+            "12345::",
+            "::g",
+            "1.2.3.4::",
+            "[::1]",
+            "fe80::1%1",
+            " ::1",
+        ] {
+            let read = Address::read(&Text::copy_of(rt.alloc(), text)?);
+            assert_eq!(rt; read, None, "{text}");
+        }
+        Ok(())
+    }
+}

@@ -76,3 +76,35 @@ impl fmt::Display for IntermediateKey {
         }
     }
 }
+
+#[cfg(test)]
+mod tests {
+    use super::*;
+    use std::test::Fail;
+
+    #[test]
+    fn takes_the_type_away(rt: HostRuntime) -> Result<(), Fail> {
+        let alloc = rt.alloc();
+        for (typed, typed_text, plain, plain_text) in [
+            (IntermediateKey::Bool(true), "true", Key::U64(1), "1"),
+            (IntermediateKey::I64(-5), "-5", Key::I64(-5), "-5"),
+            (
+                IntermediateKey::IpAddr(Address(0xffff_0102_0304)),
+                "::ffff:1.2.3.4",
+                Key::Str(Text::copy_of(alloc, "1.2.3.4")?),
+                "1.2.3.4",
+            ),
+        ] {
+            assert_eq!(rt; typed.to_string(alloc)?.as_str(), typed_text);
+            let key = Key::from_intermediate(alloc, typed)?;
+            assert_eq!(rt; key.to_string(alloc)?.as_str(), plain_text);
+            assert_eq!(rt; key, plain);
+        }
+        Ok(())
+    }
+
+    #[test]
+    fn keeps_a_plain_key(rt: HostRuntime) {
+        assert_eq!(rt; IntermediateKey::from(Key::U64(5)), IntermediateKey::U64(5));
+    }
+}

@@ -122,3 +122,32 @@ impl<'a, T> Iterator for NameKeys<'a, T> {
         self.inner.next()
     }
 }
+
+#[cfg(test)]
+mod tests {
+    use super::*;
+    use crate::{CompositeIntermediateKey, ItemList, Tuple};
+    use std::test::Fail;
+
+    #[test]
+    fn containers_grow_with_ample_memory(rt: HostRuntime) -> Result<(), Fail> {
+        let alloc = rt.alloc();
+        let mut names = NameMap::new(alloc);
+        assert_eq!(rt; names.insert(Text::copy_of(alloc, "b")?, 1)?, None);
+        assert_eq!(rt; names.insert(Text::copy_of(alloc, "a")?, 2)?, None);
+        assert_eq!(rt; names.insert(Text::copy_of(alloc, "b")?, 3)?, Some(1));
+        assert_eq!(rt; names.len(), 2);
+        assert_eq!(rt; names.keys().count(), 2);
+        assert_eq!(rt; names.iter().count(), 2);
+        assert_eq!(rt; names.get(&Text::copy_of(alloc, "a")?).copied(), Some(2));
+        assert_eq!(rt; names.remove(&Text::copy_of(alloc, "b")?), Some(3));
+        let mut tuple = Tuple::new(alloc);
+        tuple.push(CompositeIntermediateKey::Str(Text::copy_of(alloc, "é")?))?;
+        assert!(rt; tuple.try_clone(alloc)? == tuple);
+        let mut list = ItemList::new(alloc);
+        list.push(tuple)?;
+        assert_eq!(rt; list.as_slice().len(), 1);
+        assert_eq!(rt; ItemList::from_vec(list.into_vec()).as_slice().len(), 1);
+        Ok(())
+    }
+}
