@@ -11,6 +11,7 @@ ghost use Rattle.std.specs.Prelude.{◌≡◌, Some, None, IfOk, IsErrOf};
 ghost use Rattle.agg_pages.specs.Input.{input};
 ghost use Rattle.agg_engine.specs.Form.{IsFirstForm};
 
+use crate::source::MAX_INPUT_BYTES;
 use agg_engine::Snapshot;
 use agg_segment::BuildError;
 use agg_values::{ItemList, OutOfMemory};
@@ -22,9 +23,6 @@ use snapshots::read_snapshots;
 use std::alloc::Global;
 use std::str::from_utf8;
 use thiserror::Error;
-
-// How many bytes an input may have.
-const MAX_BYTES: usize = 67_108_864;
 
 /// Why bytes gave no input.
 #[derive(Clone, Copy, Debug, PartialEq, Eq, Error)]
@@ -86,7 +84,7 @@ pub fn read_input(alloc: Global, bytes: &[u8]) -> Result<Input, InputError>
     ensures form { IfOk result (λ i. IsFirstForm i.header.request i.snapshots) }
     ensures not_input { IsErrOf result InputError.NotInput → input bytes.now ≡ None }
 {
-    if bytes.len() > MAX_BYTES {
+    if bytes.len() > MAX_INPUT_BYTES {
         return Err(InputError::NotInput);
     }
     let Ok(text) = from_utf8(bytes) else {
