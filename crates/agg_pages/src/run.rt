@@ -86,7 +86,12 @@ pub fn run_uncounted<R: Source, W: Sink>(
     builders: Vec<NamedBuilder>,
     source: &mut R,
     sink: &mut W,
-) -> Status {
+) -> Status
+    ensures ok { result ≡ Status.Ok
+        → (bytes : List ℕ)
+        → R.left source.old ≡ Some bytes
+        → (R.left source.new ≡ Some []) × ((text : List ℕ) × IsPrintedWalk bytes text × Appends (W.held sink.old) (W.held sink.new) text) }
+{
     run_over::<R, W, Brand>(alloc, words, builders, source, sink, Blank::new(1))
 }
 
@@ -101,6 +106,10 @@ fn run_over<R: Source, W: Sink, L: Ledger>(
     requires name { blank.name ≡ L.name }
     requires parts { blank.parts ≡ L.parts }
     requires shared { 0 < L.parts }
+    ensures ok { result ≡ Status.Ok
+        → (bytes : List ℕ)
+        → R.left source.old ≡ Some bytes
+        → (R.left source.new ≡ Some []) × ((text : List ℕ) × IsPrintedWalk bytes text × Appends (W.held sink.old) (W.held sink.new) text) }
 {
     let mut steps: Steps<L> = Steps::new(blank);
     run(alloc, words, builders, source, sink, &mut steps)

@@ -1,4 +1,4 @@
--- The texts that are read as an address: those of RFC 4291, section 2.2, and IPv4 texts.
+-- The texts that are read as an address: the text forms of RFC 4291, and IPv4 texts.
 use Rattle.std.specs.Prelude.{◌≡◌, ℕ, ◌^◌, ◌<◌, ◌⊎◌, List, ◌∷◌}
 use Rattle.std.specs.Net.Addr.{segments_of, ipv4_octets, ipv6_segments}
 use Rattle.std.specs.declared.net.ip_addr.IpAddr.{IpAddr}
