@@ -15,9 +15,10 @@ use std::test::Fail;
 // A page size, and documents by their values.
 type Given = (u32, &'static [&'static [i64]]);
 
-// What is asked of the composite `by_n`, and what is answered.
+// What is asked of a request that has the composite `by_n`, and what is answered.
 #[derive(Clone, Copy)]
 struct Case {
+    what: &'static str,
     name: &'static str,
     size: u32,
     snapshots: &'static [Given],
@@ -114,24 +115,24 @@ fn walk_of(alloc: Global, case: &Case) -> Result<Result<Walk, WalkError>, Fail> 
 fn walks_end_as_told(rt: HostRuntime) -> Result<(), Fail> {
     let alloc = rt.alloc();
     for case in [
-        // No snapshot at all.
         Case {
+            what: "no snapshot at all",
             name: "by_n",
             size: 1,
             snapshots: &[],
             pages: &[],
             end: "goes on",
         },
-        // A document that holds a value twice, in a page that isn't full.
         Case {
+            what: "a value twice in one document, in a page with room",
             name: "by_n",
             size: 1,
             snapshots: &[(2, &[&[7, 7]])],
             pages: &["{\"by_n\":{\"buckets\":[{\"doc_count\":2,\"key\":{\"n\":7}}]}}"],
             end: "ended",
         },
-        // Documents with no value, one and several. The last snapshot isn't reached.
         Case {
+            what: "documents with no value, one and several, and a snapshot that isn't reached",
             name: "by_n",
             size: 9,
             snapshots: &[
@@ -145,8 +146,8 @@ fn walks_end_as_told(rt: HostRuntime) -> Result<(), Fail> {
             ],
             end: "ended",
         },
-        // A full page in the last snapshot.
         Case {
+            what: "a full page in the last snapshot",
             name: "by_n",
             size: 9,
             snapshots: &[(1, &[&[2], &[1]])],
@@ -155,8 +156,8 @@ fn walks_end_as_told(rt: HostRuntime) -> Result<(), Fail> {
             ],
             end: "goes on",
         },
-        // An unknown name, with a snapshot and with none.
         Case {
+            what: "an unknown name",
             name: "by_m",
             size: 1,
             snapshots: &[(1, &[&[2]])],
@@ -164,14 +165,15 @@ fn walks_end_as_told(rt: HostRuntime) -> Result<(), Fail> {
             end: "UnknownComposite",
         },
         Case {
+            what: "an unknown name over no snapshot",
             name: "by_m",
             size: 1,
             snapshots: &[],
             pages: &[],
             end: "UnknownComposite",
         },
-        // A size of 0 in the request, and one in the last of three snapshots.
         Case {
+            what: "a size of 0 in the request",
             name: "by_n",
             size: 0,
             snapshots: &[],
@@ -179,6 +181,7 @@ fn walks_end_as_told(rt: HostRuntime) -> Result<(), Fail> {
             end: "ZeroSize",
         },
         Case {
+            what: "a page size of 0 in the last of three snapshots",
             name: "by_m",
             size: 1,
             snapshots: &[(1, &[]), (1, &[]), (0, &[])],
@@ -186,21 +189,17 @@ fn walks_end_as_told(rt: HostRuntime) -> Result<(), Fail> {
             end: "ZeroSize",
         },
     ] {
+        let what = case.what;
         let (pages, end) = match walk_of(alloc, &case)? {
-            Ok(Walk { pages, ended: true }) => (pages, "ended"),
-            Ok(
-                Walk {
-                    pages,
-                    ended: false,
-                },
-            ) => (pages, "goes on"),
+            Ok(walk) if walk.ended => (walk.pages, "ended"),
+            Ok(walk) => (walk.pages, "goes on"),
             Err(error) => (ItemList::new(alloc), error.name()),
         };
-        assert_eq!(rt; end, case.end);
-        assert_eq!(rt; pages.as_slice().len(), case.pages.len());
+        assert_eq!(rt; end, case.end, "{what}");
+        assert_eq!(rt; pages.as_slice().len(), case.pages.len(), "{what}");
         for (page, want) in pages.as_slice().iter().zip(case.pages) {
             let text = page.write_json(alloc)?;
-            assert_eq!(rt; text.as_str(), *want);
+            assert_eq!(rt; text.as_str(), *want, "{what}");
         }
     }
     Ok(())
