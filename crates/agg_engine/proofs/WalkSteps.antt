@@ -1,6 +1,6 @@
 -- The walk, snapshot by snapshot, for a request of one composite over one source.
-use Rattle.std.proofs.Common.{◌≡◌, ◌≤◌, ◌<◌, ◌^◌, ◌⊎◌, ◌==◌, ℕ, List, [], ◌∷◌, ◌++◌, Bool, true, false, cond, Option, None, Some, IsSome, Ordering, Equal, ◌+◌, get_or, length, map, drop, refl, sym, ap, ◌∙◌, subst, inl, inr, append_assoc, append-nil, arith, rules, nat_cmp}
-use Rattle.std.specs.Prelude.{MatchOption, All, Contains, ⊤, option_and_then}
+use Rattle.std.proofs.Common.{◌≡◌, ◌≤◌, ◌<◌, ◌^◌, ◌⊎◌, ◌==◌, ℕ, List, [], ◌∷◌, ◌++◌, Bool, true, false, cond, Option, None, Some, IsSome, ◌+◌, get_or, length, map, drop, refl, sym, ap, ◌∙◌, subst, inl, inr, append_assoc, append-nil, arith, nat_cmp}
+use Rattle.std.specs.Prelude.{MatchOption, Contains, ⊤, option_and_then}
 use Rattle.std.specs.List.{AllByRecursion}
 use Rattle.std.proofs.lemmas.List.Elements.{recursion_from_All}
 use Rattle.std.proofs.lemmas.List.{length-map, map-append, drop_more, drop_all}
@@ -31,12 +31,12 @@ use Rattle.agg_composite.proofs.PageAfter.{bound_of-after_map}
 use Rattle.agg_composite.proofs.PageTuples.{occurring-canonical}
 use Rattle.agg_composite.proofs.PageUnique.{IsPage-same}
 use Rattle.agg_engine.specs.Form.{IsOneComposite}
-use Rattle.agg_engine.specs.Results.{CompositeResult, IsCompositeResult, IsResults, after_in, after_tuple, shown, shown_after, shown_entry}
+use Rattle.agg_engine.specs.Results.{CompositeResult, IsResults, after_in, after_tuple, shown, shown_after, shown_entry}
 use Rattle.agg_engine.specs.PageEntries.{last_key, page_entry, shown_page_entry}
 use Rattle.agg_engine.specs.declared.results.types.AggregationResult.TheVariants.{BucketResult as Buckets}
 use Rattle.agg_engine.specs.declared.results.types.BucketResult.TheVariants.{Composite as CompositeBuckets}
 use Rattle.agg_composite.specs.declared.page_entry.PageEntry.{PageEntry}
-use Rattle.agg_engine.specs.Walk.{HasTooMany, IsWalk, NamesComposite, ReachesTooMany, changed, matching, resumed, sized, uncut_count, with_after, with_size}
+use Rattle.agg_engine.specs.Walk.{HasTooMany, IsWalk, NamesComposite, ReachesTooMany, changed, matching, resumed, sized, with_after, with_size}
 use Rattle.agg_engine.specs.declared.walk.Snapshot.{Snapshot}
 use Rattle.agg_engine.specs.declared.results.types.AggregationResults.{AggregationResults}
 

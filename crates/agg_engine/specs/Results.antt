@@ -1,9 +1,8 @@
 -- The results of a request over documents.
-use Rattle.std.specs.Prelude.{◌≡◌, ◌==◌, ℕ, List, [], ◌∷◌, Option, None, Some, if◌then◌else◌, length, map, option_map, option_and_then, ⊤}
+use Rattle.std.specs.Prelude.{◌≡◌, ◌==◌, ℕ, List, [], ◌∷◌, Option, None, Some, if◌then◌else◌, length, map, option_and_then, ⊤}
 use Rattle.std.specs.List.{last_or}
 use Rattle.agg_values.specs.declared.key.CompositeIntermediateKey.{CompositeIntermediateKey}
 use Rattle.agg_values.specs.declared.after_key.AfterKey.{AfterKey}
-use Rattle.agg_values.specs.declared.composite_key.CompositeKey.{CompositeKey}
 use Rattle.agg_values.specs.Names.{value_of}
 use Rattle.agg_values.specs.Shown.{shown_key}
 use Rattle.agg_segment.specs.Document.{Fields}

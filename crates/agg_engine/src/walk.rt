@@ -4,6 +4,8 @@ mod checks;
 mod error;
 mod page;
 mod shown;
+#[cfg(test)]
+mod tests;
 
 ghost use Rattle.std.specs.Prelude.{◌≡◌, IfOk, OnOk, IsErrOf, true, false};
 ghost use Rattle.agg_values.specs.declared.error.InvalidArgument.TheVariants.{ZeroSize};

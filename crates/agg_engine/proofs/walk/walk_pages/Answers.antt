@@ -1,5 +1,5 @@
-use Rattle.std.proofs.Common.{◌≡◌, ◌++◌, ◌∷◌, [], ◌+◌, None, Some, drop, length, get_or, sym, ap, ◌∙◌, subst, rules, arith}
-use Rattle.agg_engine.proofs.WalkSteps.{IsNext, IsWalking, walking-at, walking-end, walking-start, walking-ended, walking-ended-fits, walking-more, walking-out, walking-out-fits, walking-too_many}
+use Rattle.std.proofs.Common.{◌∙◌, arith}
+use Rattle.agg_engine.proofs.WalkSteps.{IsNext, walking-at, walking-end, walking-start, walking-ended, walking-ended-fits, walking-more, walking-out}
 use Rattle.agg_engine.proofs.walk.walk_pages.Goals as goal
 use Rattle.agg_engine.proofs.walk.walk_pages.Goals.{In_ok-push}
 
