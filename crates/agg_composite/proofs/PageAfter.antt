@@ -15,7 +15,7 @@ use Rattle.agg_composite.specs.declared.request.source.CompositeAggregationSourc
 use Rattle.agg_composite.specs.Source.{name_of}
 use Rattle.agg_composite.specs.Named.{after_map}
 use Rattle.agg_composite.specs.Occurrences.{bound_of}
-use Rattle.agg_composite.proofs.PageKeys.{AllByRecursion-weaker}
+use Rattle.agg_composite.proofs.Lists.{AllByRecursion-weaker}
 
 -- two values of which the test takes the first, after another test
 same_first : {X : Type 0} (b : Bool) (x y z : X) → cond b x z ≡ cond b x (cond b y z)

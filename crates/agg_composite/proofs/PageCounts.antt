@@ -1,10 +1,8 @@
 -- The counts of a page: each is the number of the entry's documents, and none hangs on the order of the documents.
-use Rattle.std.proofs.Common.{◌≡◌, ℕ, ◌+◌, ◌⊎◌, inl, inr, Bool, cond, List, [], ◌∷◌, ◌++◌, length, get_or, map, replicate, refl, sym, ap, ◌∙◌, subst, length-append}
-use Rattle.std.specs.List.{All, Contains, count_by, flat_map, sum_by}
+use Rattle.std.proofs.Common.{◌≡◌, ℕ, List, [], ◌∷◌, length, get_or, map, refl, sym, ap, ◌∙◌}
+use Rattle.std.specs.List.{All, Contains, count_by}
 use Rattle.std.specs.List.Sorted.{IsPermutation}
-use Rattle.std.proofs.lemmas.List.{length-replicate}
 use Rattle.std.proofs.lemmas.List.Sorted.{Contains-permutation, IsPermutation-sym, sum_by-IsPermutation}
-use Rattle.std.proofs.lemmas.List.Sums.{sum_by-append, sum_by-cons}
 use Rattle.agg_values.specs.declared.key.CompositeIntermediateKey.{CompositeIntermediateKey}
 use Rattle.agg_values.specs.KeyOrder.{tuple_order}
 use Rattle.agg_values.proofs.TupleOrder.{tuple_order-total}
@@ -13,49 +11,10 @@ use Rattle.agg_composite.specs.declared.request.source.CompositeAggregationSourc
 use Rattle.agg_composite.specs.Source.{rules_of}
 use Rattle.agg_composite.specs.Occurrences.{occurrences, occurrences_in, same_tuple}
 use Rattle.agg_composite.specs.Page.{Entry, IsPage, MayList, count_in, documents_of, group_of}
-use Rattle.agg_composite.proofs.PageLists.{Has, Has-from_Contains, Contains-from_Has}
-use Rattle.agg_composite.proofs.PageKeys.{Has-append_left, Has-append_right, Lowest-alike, Lowest-same}
+use Rattle.agg_composite.proofs.Lists.{Has-from_Contains, Contains-from_Has, Has-flat_map, Has-from_flat_map, count_by-flat_map, length-repeated}
+use Rattle.agg_composite.proofs.PageKeys.{Lowest-alike, Lowest-same}
 use Rattle.agg_composite.proofs.PageTuples.{occurring-exact}
 use Rattle.agg_composite.proofs.PageUnique.{Lowest-from_page, entry_at, entries-from_tuples}
-
-module _ {X Y : Type 0} (f : X → List Y) where
-  -- a count over parts end to end is the sum of the counts
-  count_by-flat_map : (p : Y → Bool) (xs : List X) → count_by p (flat_map f xs) ≡ sum_by (λ x. count_by p (f x)) xs
-  count_by-flat_map p [] = refl
-  count_by-flat_map p (x ∷ xs) =
-      sum_by-append (λ y. cond (p y) 1 0) (f x) (flat_map f xs) ∙ ap (λ n. count_by p (f x) + n) (count_by-flat_map p xs) ∙ sym (sum_by-cons (λ z. count_by p (f z)) x xs)
-
-  -- what two lists end to end hold, one of them holds
-  held_by_one : (xs ys : List Y) (y : Y) → Has y (xs ++ ys) → Has y xs ⊎ Has y ys
-  held_by_one [] ys y h = inr h
-  held_by_one (x ∷ xs) ys y (inl e) = inl (inl e)
-  held_by_one (x ∷ xs) ys y (inr h) = one_more (held_by_one xs ys y h)
-    where
-      one_more : Has y xs ⊎ Has y ys → Has y (x ∷ xs) ⊎ Has y ys
-      one_more (inl a) = inl (inr a)
-      one_more (inr b) = inr b
-
-  -- what the first part or the others hold, the part of some element holds
-  by_part : (x : X) (xs : List X) (y : Y) → (Has y (flat_map f xs) → (z : X) × Has z xs × Has y (f z)) → Has y (f x) ⊎ Has y (flat_map f xs) → (z : X) × Has z (x ∷ xs) × Has y (f z)
-  by_part x xs y rest (inl a) = (x, inl refl, a)
-  by_part x xs y rest (inr b) = let r = rest b in (r.0, inr r.1, r.2)
-
-  -- what the parts hold, the part of some element holds
-  Has-from_flat_map : (xs : List X) (y : Y) → Has y (flat_map f xs) → (x : X) × Has x xs × Has y (f x)
-  Has-from_flat_map [] y h = absurd h
-  Has-from_flat_map (x ∷ xs) y h = by_part x xs y (Has-from_flat_map xs y) (held_by_one (f x) (flat_map f xs) y h)
-
-  -- what the part of an element holds, the parts hold
-  Has-flat_map : (xs : List X) (x : X) (y : Y) → Has x xs → Has y (f x) → Has y (flat_map f xs)
-  Has-flat_map [] x y h own = absurd h
-  Has-flat_map (z ∷ xs) x y (inl e) own = Has-append_left (f z) (flat_map f xs) y (subst (λ v. Has y (f v)) (sym e) own)
-  Has-flat_map (z ∷ xs) x y (inr h) own = Has-append_right (f z) (flat_map f xs) y (Has-flat_map xs x y h own)
-
--- how long a list is in which each element is repeated
-length-repeated : {X : Type 0} (n : X → ℕ) (xs : List X) → length (flat_map (λ x. replicate (n x) x) xs) ≡ sum_by n xs
-length-repeated n [] = refl
-length-repeated n (x ∷ xs) =
-    length-append (replicate (n x) x) (flat_map (λ z. replicate (n z) z) xs) ∙ (λ i. length-replicate (n x) x i + length-repeated n xs i) ∙ sym (sum_by-cons n x xs)
 
 module _ (sources : List CompositeAggregationSource) where
   -- how often a tuple occurs is how many documents it has

@@ -16,7 +16,7 @@ use Rattle.agg_composite.specs.Source.{rules_of}
 use Rattle.agg_composite.specs.Occurrences.{occurrences_in, is_past, same_tuple}
 use Rattle.agg_composite.specs.Groups.{Groups, past_occurrences}
 use Rattle.agg_composite.specs.Page.{Entry, IsPage, entry_of}
-use Rattle.agg_composite.proofs.PageLists.{Has-from_Contains, Contains-from_Has}
+use Rattle.agg_composite.proofs.Lists.{Has-from_Contains, Contains-from_Has}
 use Rattle.agg_composite.proofs.PageKeys.{ascending_keys, ascending_keys-sorted, ascending_keys-all, ascending_keys-hold, counts_itself}
 use Rattle.agg_composite.proofs.PageTuples.{occurrences_in-canonical}
 use Rattle.agg_composite.proofs.PageFromGroups.{IsPage-from_groups}

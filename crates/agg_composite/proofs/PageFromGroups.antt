@@ -1,13 +1,12 @@
 -- The lowest groups of all past occurrences are a page.
-use Rattle.std.proofs.Common.{◌≡◌, ℕ, zero, suc, ◌⊎◌, inl, inr, Bool, true, ◌&&◌, ◌||◌, List, [], ◌∷◌, ◌++◌, ◌<◌, length, get_or, take, map, refl, sym, ap, ◌∙◌, subst, arith, rules, Ordering, Less, Equal, Greater, is_eq, is_lt, ltb}
+use Rattle.std.proofs.Common.{◌≡◌, ℕ, zero, suc, ◌⊎◌, inl, inr, Bool, true, ◌&&◌, ◌||◌, List, [], ◌∷◌, ◌<◌, length, get_or, take, map, refl, sym, ap, ◌∙◌, subst, arith, rules, Ordering, Less, Equal, Greater, is_eq, is_lt, ltb}
 use Rattle.std.specs.List.{All, Contains, filter, count_by}
 use Rattle.std.specs.List.Sorted.{IsStrictlySortedBy}
 use Rattle.std.specs.Map.{keys_of}
 use Rattle.std.specs.Ordering.{ordering_then}
-use Rattle.std.proofs.lemmas.List.Concat.{flat_map-append}
 use Rattle.std.proofs.lemmas.Cmp.{alike_right}
 use Rattle.std.proofs.lemmas.List.{length-map, length-take, take-map}
-use Rattle.std.proofs.lemmas.List.Elements.{All-nil, filter-append, All-take, All-map, All-weaker, All-contains}
+use Rattle.std.proofs.lemmas.List.Elements.{All-nil, All-take, All-map, All-weaker, All-contains}
 use Rattle.agg_values.specs.declared.key.CompositeIntermediateKey.{CompositeIntermediateKey}
 use Rattle.agg_values.specs.declared.order.Order.{Order}
 use Rattle.agg_values.specs.declared.order.MissingOrder.{MissingOrder}
@@ -20,7 +19,8 @@ use Rattle.agg_composite.specs.Source.{rules_of}
 use Rattle.agg_composite.specs.Occurrences.{occurrences, occurrences_in, is_past, same_tuple}
 use Rattle.agg_composite.specs.Groups.{Groups, page_entries, past_occurrences}
 use Rattle.agg_composite.specs.Page.{Entry, IsPage, MayList, entry_of, count_in, documents_of}
-use Rattle.agg_composite.proofs.PageLists.{Contains-filter, Contains-from_filter, count_by-filter, All-from_map, IsStrictlySortedBy-take, in_front_or_above}
+use Rattle.agg_composite.proofs.Lists.{Contains-filter, Contains-from_filter, count_by-filter, All-from_map}
+use Rattle.agg_composite.proofs.PageKeys.{IsStrictlySortedBy-take, in_front_or_above}
 
 -- two orders in a row that are both equal
 both_equal : (a b : Ordering) → a ≡ Equal → b ≡ Equal → ordering_then a b ≡ Equal
@@ -56,7 +56,7 @@ module _ (rules : List (Order × MissingOrder)) where
   count_by-past bound t occurrences past =
       count_by-filter (is_past rules bound) (same_tuple rules t) (λ u same. sym (is_past-same bound t u (equal-from_is_eq _ same)) ∙ past) occurrences
 
--- nothing visited has no groups
+-- the groups of no visits are none
 pub Groups-nothing : (rules : List (Order × MissingOrder)) → Groups rules [] []
 unfolding IsStrictlySortedBy
 Groups-nothing rules = record {
@@ -65,13 +65,6 @@ Groups-nothing rules = record {
   occurring = All-nil (Contains []);
   complete = All-nil (Contains []);
 }
-
--- the past occurrences of two lists of documents are those of the lists end to end
-pub past_occurrences-append : (sources : List CompositeAggregationSource) (bound : List CompositeIntermediateKey) (documents more : List Fields)
-    → past_occurrences sources bound (documents ++ more) ≡ past_occurrences sources bound documents ++ past_occurrences sources bound more
-past_occurrences-append sources bound documents more =
-    ap (filter (is_past (rules_of sources) bound)) (flat_map-append (occurrences sources) documents more)
-    ∙ filter-append (is_past (rules_of sources) bound) (occurrences_in sources documents) (occurrences_in sources more)
 
 module _ (sources : List CompositeAggregationSource) (documents : List Fields) where
   -- the tuples of the entries of groups

@@ -1,50 +1,16 @@
--- Ascending keys: that they differ, that there is one list of the lowest of a kind, and how to make them from any list.
-use Rattle.std.proofs.Common.{◌≡◌, ◌≢◌, ℕ, suc, ◌+◌, ◌-◌, ◌<◌, ◌≤◌, ◌⊎◌, ⊎_elim, inl, inr, cond, List, [], ◌∷◌, ◌++◌, length, get_or, map, is_eq, refl, sym, ap, ◌∙◌, subst, arith, Ordering, Less, Equal, Greater}
+-- Ascending keys: that they differ, that there is one list of the lowest of a kind, how to make them from any list, and their fronts.
+use Rattle.std.proofs.Common.{◌≡◌, ◌≢◌, ℕ, suc, ◌+◌, ◌-◌, ◌<◌, ◌≤◌, ◌⊎◌, ⊎_elim, inl, inr, cond, List, [], ◌∷◌, ◌++◌, zero, length, get_or, take, map, is_eq, refl, sym, ap, ◌∙◌, subst, arith, Ordering, Less, Equal, Greater}
 use Rattle.std.specs.Cmp.{IsTotalOrder}
 use Rattle.std.specs.Ordering.{ordering_reverse, match_ordering}
-use Rattle.std.specs.List.{AllByRecursion, AllPairs, count_by}
+use Rattle.std.specs.List.{All, AllByRecursion, AllPairs, Contains, count_by}
 use Rattle.std.specs.List.Sorted.{IsStrictlySortedBy}
 use Rattle.std.proofs.lemmas.Cmp.{tied_itself}
-use Rattle.std.proofs.lemmas.List.{get_or-map, length-append, length-map}
+use Rattle.std.proofs.lemmas.List.{get_or-map, get_or-take, get_or_default, length-append, length-map, length-take, length-take-le}
 use Rattle.std.proofs.lemmas.List.Sums.{sum_by-cons}
 use Rattle.std.proofs.lemmas.Map.Keys.{Less-from_sorted, sorted_head, sorted_tail}
-use Rattle.agg_composite.proofs.PageLists.{Has}
-
--- what holds of each element holds of one that is held
-pub AllByRecursion-Has : {X : Type 0} (P : X → Type 0) (xs : List X) (x : X) → AllByRecursion P xs → Has x xs → P x
-AllByRecursion-Has P [] x all h = absurd h
-AllByRecursion-Has P (y ∷ ys) x all (inl e) = subst P e all.0
-AllByRecursion-Has P (y ∷ ys) x all (inr h) = AllByRecursion-Has P ys x all.1 h
-
--- what follows from a fact on each element
-pub AllByRecursion-weaker : {X : Type 0} (P Q : X → Type 0) → ((x : X) → P x → Q x) → (xs : List X) → AllByRecursion P xs → AllByRecursion Q xs
-AllByRecursion-weaker P Q follows [] all = tt
-AllByRecursion-weaker P Q follows (x ∷ xs) all = (follows x all.0, AllByRecursion-weaker P Q follows xs all.1)
-
--- what holds of each element of two lists holds of each of the lists end to end
-pub AllByRecursion-append : {X : Type 0} (P : X → Type 0) (xs ys : List X) → AllByRecursion P xs → AllByRecursion P ys → AllByRecursion P (xs ++ ys)
-AllByRecursion-append P [] ys all_xs all_ys = all_ys
-AllByRecursion-append P (x ∷ xs) ys all_xs all_ys = (all_xs.0, AllByRecursion-append P xs ys all_xs.1 all_ys)
-
--- what holds of one that is held holds of each element
-pub AllByRecursion-from_Has : {X : Type 0} (P : X → Type 0) (xs : List X) → ((x : X) → Has x xs → P x) → AllByRecursion P xs
-AllByRecursion-from_Has P [] each = tt
-AllByRecursion-from_Has P (x ∷ xs) each = (each x (inl refl), AllByRecursion-from_Has P xs (λ y h. each y (inr h)))
-
--- what is held by one of two lists is held by the lists end to end
-pub Has-append_left : {X : Type 0} (xs ys : List X) (x : X) → Has x xs → Has x (xs ++ ys)
-Has-append_left [] ys x h = absurd h
-Has-append_left (y ∷ xs) ys x (inl e) = inl e
-Has-append_left (y ∷ xs) ys x (inr h) = inr (Has-append_left xs ys x h)
-
-pub Has-append_right : {X : Type 0} (xs ys : List X) (x : X) → Has x ys → Has x (xs ++ ys)
-Has-append_right [] ys x h = h
-Has-append_right (y ∷ xs) ys x h = inr (Has-append_right xs ys x h)
-
--- two facts on each element
-AllByRecursion-both : {X : Type 0} (P Q : X → Type 0) (xs : List X) → AllByRecursion P xs → AllByRecursion Q xs → AllByRecursion (λ x. P x × Q x) xs
-AllByRecursion-both P Q [] p q = tt
-AllByRecursion-both P Q (x ∷ xs) p q = ((p.0, q.0), AllByRecursion-both P Q xs p.1 q.1)
+use Rattle.std.proofs.lemmas.Bool.{cases_lt}
+use Rattle.agg_composite.proofs.Lists.{Has, AllByRecursion-Has, AllByRecursion-append, AllByRecursion-both, AllByRecursion-from_Has, AllByRecursion-take, Has-append_left, Has-append_right}
+pub use Rattle.agg_composite.proofs.Lists.{AllByRecursion-weaker}
 
 -- keys ascend, are of the kind M and no more than n, and a key of the kind that isn't among them is above them all, where they are n
 pub record Lowest {K : Type 0} (R : K → K → Ordering) (M : K → Type 0) (n : ℕ) (ks : List K) : Type 0 where
@@ -265,3 +231,26 @@ module _ {K : Type 0} (R : K → K → Ordering) (total : IsTotalOrder R) where
       let one : ◌≡◌ {A = ℕ} (cond (is_eq (R x k)) 1 0) 1 = ap (λ o. cond (is_eq o) 1 0) same in
       rw (sum_by-cons (λ y. cond (is_eq (R x y)) 1 0) k ks) (omega arith)
   counts_itself x (k ∷ ks) (inr h) = let rest = counts_itself x ks h in rw (sum_by-cons (λ y. cond (is_eq (R x y)) 1 0) k ks) (omega arith)
+
+-- a front of an ascending list ascends
+pub IsStrictlySortedBy-take : {K : Type 0} (R : K → K → Ordering) (n : ℕ) (ks : List K) → IsStrictlySortedBy R ks → IsStrictlySortedBy R (take n ks)
+unfolding IsStrictlySortedBy
+IsStrictlySortedBy-take R zero ks up = tt
+IsStrictlySortedBy-take R (suc n) [] up = tt
+IsStrictlySortedBy-take R (suc n) (k ∷ ks) up = (AllByRecursion-take (λ y. R k y ≡ Less) n ks up.0, IsStrictlySortedBy-take R n ks up.1)
+
+-- the front of an ascending list holds an element of the list, or it is full and all in it is below the element
+pub in_front_or_above : {K : Type 0} (R : K → K → Ordering) (n : ℕ) (ks : List K) (k : K) → IsStrictlySortedBy R ks → Contains ks k
+    → Contains (take n ks) k ⊎ (All (λ l. R l k ≡ Less) (take n ks) × (length (take n ks) ≡ n))
+in_front_or_above R n ks k up c = by_place (cases_lt c.0 n)
+  where
+    by_place : (c.0 < n) ⊎ (n ≤ c.0) → Contains (take n ks) k ⊎ (All (λ l. R l k ≡ Less) (take n ks) × (length (take n ks) ≡ n))
+    by_place (inl lt) = inl (c.0, simp length-take (omega arith), get_or-take n ks c.0 k lt ∙ c.2)
+    by_place (inr le) = inr (below, length-take-le n ks (omega arith))
+      where
+        below : All (λ l. R l k ≡ Less) (take n ks)
+        below j d lt =
+            let within : j < n = omega (arith, length-take n ks) in
+            let less = Less-from_sorted R ks j c.0 d up (omega arith) c.1 in
+            let there = get_or_default ks c.0 d k c.1 ∙ c.2 in
+            rw (get_or-take n ks j d within) (subst (λ l. R (get_or ks j d) l ≡ Less) there less)

@@ -13,9 +13,9 @@ use Rattle.agg_composite.specs.declared.request.source.CompositeAggregationSourc
 use Rattle.agg_composite.specs.Source.{rules_of}
 use Rattle.agg_composite.specs.Occurrences.{is_past, occurrences_in}
 use Rattle.agg_composite.specs.Page.{Entry, MayList}
-use Rattle.agg_composite.specs.Walk.{AreSuccessive, Step, last_tuple}
-use Rattle.agg_composite.proofs.PageLists.{Has, Has-from_Contains, Contains-from_Has}
-use Rattle.agg_composite.proofs.PageKeys.{AllByRecursion-append, AllByRecursion-Has, AllByRecursion-weaker, AllPairs-from_sorted, Has-append_left, Has-append_right, Lowest, held_or_not, sorted_append}
+use Rattle.agg_composite.specs.Successive.{AreSuccessive, Step, last_tuple}
+use Rattle.agg_composite.proofs.Lists.{Has, Has-from_Contains, Contains-from_Has, AllByRecursion-append, AllByRecursion-Has, AllByRecursion-weaker, Has-append_left, Has-append_right}
+use Rattle.agg_composite.proofs.PageKeys.{AllPairs-from_sorted, Lowest, held_or_not, sorted_append}
 use Rattle.agg_composite.proofs.PagePast.{is_past-above, is_past-whole}
 use Rattle.agg_composite.proofs.PageTuples.{occurring-canonical}
 use Rattle.agg_composite.proofs.PageUnique.{Lowest-from_page}

@@ -1,7 +1,7 @@
 -- Occurrences are tuples of canonical keys, one for each source.
 use Rattle.std.proofs.Common.{◌≡◌, ◌^◌, ◌≤◌, ◌<ℤ◌, ℤ, pos, Bool, true, false, List, [], ◌∷◌, map, refl, arith, Equal}
 use Rattle.std.specs.Prelude.{int_lt, unsigned_abs}
-use Rattle.std.specs.List.{All, AllByRecursion, Contains, flat_map}
+use Rattle.std.specs.List.{All, AllByRecursion, Contains}
 use Rattle.std.proofs.lemmas.Bool.{cond_both}
 use Rattle.std.proofs.lemmas.Int.{ints}
 use Rattle.std.proofs.lemmas.List.Elements.{All-nil, All-cons, All-contains, All-from_recursion}
@@ -17,22 +17,7 @@ use Rattle.agg_segment.specs.declared.document.FieldValue.TheVariants as value
 use Rattle.agg_composite.specs.declared.request.source.CompositeAggregationSource.{CompositeAggregationSource}
 use Rattle.agg_composite.specs.Source.{rules_of, key_of, or_missing, source_values, missing_bucket_of, field_of}
 use Rattle.agg_composite.specs.Occurrences.{occurrences, occurrences_in}
-use Rattle.agg_composite.proofs.PageKeys.{AllByRecursion-append, AllByRecursion-weaker}
-
--- what holds of each element under a map holds of each image
-AllByRecursion-map : {X Y : Type 0} (P : Y → Type 0) (f : X → Y) (xs : List X) → AllByRecursion (λ x. P (f x)) xs → AllByRecursion P (map f xs)
-AllByRecursion-map P f [] all = tt
-AllByRecursion-map P f (x ∷ xs) all = (all.0, AllByRecursion-map P f xs all.1)
-
--- what holds of each element of each part holds of each element of the parts end to end
-AllByRecursion-flat_map : {X Y : Type 0} (P : Y → Type 0) (f : X → List Y) (xs : List X) → AllByRecursion (λ x. AllByRecursion P (f x)) xs → AllByRecursion P (flat_map f xs)
-AllByRecursion-flat_map P f [] all = tt
-AllByRecursion-flat_map P f (x ∷ xs) all = AllByRecursion-append P (f x) (flat_map f xs) all.0 (AllByRecursion-flat_map P f xs all.1)
-
--- what holds of any element holds of each
-AllByRecursion-always : {X : Type 0} (P : X → Type 0) → ((x : X) → P x) → (xs : List X) → AllByRecursion P xs
-AllByRecursion-always P always [] = tt
-AllByRecursion-always P always (x ∷ xs) = (always x, AllByRecursion-always P always xs)
+use Rattle.agg_composite.proofs.Lists.{AllByRecursion-always, AllByRecursion-flat_map, AllByRecursion-map, AllByRecursion-weaker}
 
 -- a typed number is canonical
 pub typed_number-canonical : (n : ℤ) → IsCanonical (typed_number n)

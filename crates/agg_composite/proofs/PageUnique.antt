@@ -10,7 +10,7 @@ use Rattle.agg_segment.specs.Document.{Fields}
 use Rattle.agg_composite.specs.declared.request.source.CompositeAggregationSource.{CompositeAggregationSource}
 use Rattle.agg_composite.specs.Source.{rules_of}
 use Rattle.agg_composite.specs.Page.{Entry, IsPage, MayList, count_in, documents_of}
-use Rattle.agg_composite.proofs.PageLists.{All-from_map, Contains-from_Has, Has-from_Contains}
+use Rattle.agg_composite.proofs.Lists.{All-from_map, Contains-from_Has, Has-from_Contains}
 use Rattle.agg_composite.proofs.PageKeys.{Lowest, Lowest-same, AllPairs-from_sorted}
 use Rattle.agg_composite.proofs.PageTuples.{occurring-exact}
 

@@ -12,8 +12,9 @@ use Rattle.agg_composite.specs.declared.request.source.CompositeAggregationSourc
 use Rattle.agg_composite.specs.Source.{rules_of}
 use Rattle.agg_composite.specs.Occurrences.{is_past, occurrences_in}
 use Rattle.agg_composite.specs.Page.{Entry, IsPage, MayList, count_in, documents_of}
-use Rattle.agg_composite.specs.Walk.{AreSuccessive, last_tuple, steps_over}
-use Rattle.agg_composite.proofs.PageKeys.{Lowest, Lowest-append, AllByRecursion-Has}
+use Rattle.agg_composite.specs.Successive.{AreSuccessive, last_tuple, steps_over}
+use Rattle.agg_composite.proofs.Lists.{AllByRecursion-Has}
+use Rattle.agg_composite.proofs.PageKeys.{Lowest, Lowest-append}
 use Rattle.agg_composite.proofs.PagePast.{is_past-above, is_past-whole}
 use Rattle.agg_composite.proofs.PageTuples.{occurring-canonical}
 use Rattle.agg_composite.proofs.PageUnique.{Lowest-from_page, IsPage-from_lowest}

@@ -11,8 +11,8 @@ use Rattle.agg_composite.specs.declared.request.source.CompositeAggregationSourc
 use Rattle.agg_composite.specs.Source.{rules_of}
 use Rattle.agg_composite.specs.Groups.{past_occurrences}
 use Rattle.agg_composite.specs.Page.{Entry, IsPage, entry_of}
-use Rattle.agg_composite.specs.Walk.{AreSuccessive, last_tuple, steps_over}
-use Rattle.agg_composite.proofs.PageLists.{Has, Has-from_Contains, Contains-from_Has}
+use Rattle.agg_composite.specs.Successive.{AreSuccessive, last_tuple, steps_over}
+use Rattle.agg_composite.proofs.Lists.{Has, Has-from_Contains, Contains-from_Has}
 use Rattle.agg_composite.proofs.PageKeys.{ascending_keys, length-ascending_keys}
 use Rattle.agg_composite.proofs.PageFromGroups.{tuples-lowest}
 use Rattle.agg_composite.proofs.PageUnique.{IsPage-same}

@@ -1,5 +1,5 @@
 -- What a collector holds: the distinct tuples that it visited, with their numbers.
-use Rattle.std.specs.Prelude.{◌≡◌, ◌<◌, ℕ, List, [], ◌∷◌, Bool, false, ℤ, count_by, filter, map, All, Contains, slice_index_or}
+use Rattle.std.specs.Prelude.{◌≡◌, ◌<◌, ℕ, List, [], ◌∷◌, false, ℤ, count_by, filter, map, All, Contains, slice_index_or}
 use Rattle.std.specs.Map.{keys_of}
 use Rattle.std.specs.List.Sorted.{IsStrictlySortedBy}
 use Rattle.agg_values.specs.declared.key.CompositeIntermediateKey.{CompositeIntermediateKey}

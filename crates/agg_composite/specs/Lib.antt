@@ -4,4 +4,4 @@ pub mod Named
 pub mod Occurrences
 pub mod Page
 pub mod Source
-pub mod Walk
+pub mod Successive

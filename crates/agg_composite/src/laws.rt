@@ -8,7 +8,7 @@ ghost use Rattle.agg_composite.specs.Named.{after_map};
 ghost use Rattle.agg_composite.specs.Occurrences.{bound_of};
 ghost use Rattle.agg_composite.specs.Page.{Entry, IsPage, MayList, entry_of, group_of};
 ghost use Rattle.agg_composite.specs.Source.{name_of, rules_of};
-ghost use Rattle.agg_composite.specs.Walk.{AreSuccessive, Step, last_tuple, steps_over};
+ghost use Rattle.agg_composite.specs.Successive.{AreSuccessive, Step, last_tuple, steps_over};
 ghost use Rattle.agg_composite.specs.declared.request.source.CompositeAggregationSource.{CompositeAggregationSource};
 
 /// Every size, bound and list of documents has a page, and only one.

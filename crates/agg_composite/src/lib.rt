@@ -6,6 +6,8 @@ mod laws;
 pub mod limits;
 mod page_entry;
 pub mod request;
+#[cfg(test)]
+mod tests;
 
 pub use collector::SegmentCompositeCollector;
 pub use laws::{

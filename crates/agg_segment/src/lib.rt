@@ -5,6 +5,8 @@ mod document;
 mod query;
 mod schema;
 mod segment;
+#[cfg(test)]
+mod tests;
 
 pub use document::{Document, FieldValue};
 pub use query::QueryTree;

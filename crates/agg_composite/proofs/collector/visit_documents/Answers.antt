@@ -4,8 +4,8 @@ use Rattle.agg_composite.specs.declared.limits.CollectError.TheVariants.{TooMany
 use Rattle.agg_composite.specs.Counts.{Holds, plain_rules, past_tuples}
 use Rattle.agg_composite.specs.Groups.{documents_at, past_occurrences}
 use Rattle.agg_composite.specs.Occurrences.{same_tuple}
-use Rattle.agg_composite.proofs.Chains.{gives-more, within-whole}
-use Rattle.agg_composite.proofs.Documents.{plain-part, past-documents-append}
+use Rattle.agg_composite.proofs.CollectorParts.{gives-more, within-whole}
+use Rattle.agg_composite.proofs.CollectorDocuments.{plain-part, past-documents-append}
 use Rattle.agg_composite.proofs.Errors.{error-kept}
 use Rattle.agg_composite.proofs.collector.visit_documents.Goals as goal
 

@@ -5,8 +5,8 @@ use Rattle.std.proofs.lemmas.Int.{to_z-of_z}
 use Rattle.agg_values.specs.declared.key.CompositeIntermediateKey.TheVariants.{I64}
 use Rattle.agg_composite.specs.Counts.{Holds, plain_rules, past_tuples}
 use Rattle.agg_composite.specs.Occurrences.{is_past, same_tuple}
-use Rattle.agg_composite.proofs.Counting.{Holds-more, Holds-too_many}
-use Rattle.agg_composite.proofs.Past.{past-value-yes}
+use Rattle.agg_composite.proofs.CollectorCounts.{Holds-more, Holds-too_many}
+use Rattle.agg_composite.proofs.CollectorPast.{past-value-yes}
 use Rattle.agg_composite.proofs.Errors.{error-kept}
 use Rattle.agg_composite.proofs.collector.visit_value.Goals as goal
 

@@ -3,7 +3,7 @@ use Rattle.std.proofs.lemmas.Option.{same_Some}
 use Rattle.std.proofs.lemmas.Result.{on_ok_weaker}
 use Rattle.agg_composite.specs.Groups.{Groups, documents_at}
 use Rattle.agg_composite.specs.Source.{rules_of, order_of, missing_order_of}
-use Rattle.agg_composite.proofs.Documents.{composite-visits, composite-too_many}
+use Rattle.agg_composite.proofs.CollectorDocuments.{composite-visits, composite-too_many}
 use Rattle.agg_composite.proofs.collector.SegmentCompositeCollector.collect.Goals as goal
 
 pub returns-clause-ok : goal.returns-clause-ok

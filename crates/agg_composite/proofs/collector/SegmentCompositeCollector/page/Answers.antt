@@ -1,6 +1,6 @@
 use Rattle.std.proofs.Common.{◌≡◌, ◌++◌, length, sym, ap, ◌∙◌, arith}
 use Rattle.agg_composite.specs.Groups.{numbers_held, page_entries}
-use Rattle.agg_composite.proofs.Front.{front-full, front-all}
+use Rattle.agg_composite.proofs.CollectorFront.{front-full, front-all}
 use Rattle.agg_composite.proofs.collector.SegmentCompositeCollector.page.Goals as goal
 use Rattle.agg_composite.proofs.collector.SegmentCompositeCollector.page.Goals.{in-None, in-Some+then-as_slice-size}
 

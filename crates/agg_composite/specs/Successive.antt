@@ -1,4 +1,4 @@
--- A walk through the pages of a composite, each past the last tuple of the one before.
+-- Successive pages of a composite, each past the last tuple of the one before. The documents may change between them.
 use Rattle.std.specs.Prelude.{ℕ, List, [], ◌∷◌, ⊤, map}
 use Rattle.agg_values.specs.declared.key.CompositeIntermediateKey.{CompositeIntermediateKey}
 use Rattle.agg_segment.specs.Document.{Fields}
@@ -10,7 +10,7 @@ abbrev pub last_tuple : List CompositeIntermediateKey → List Entry → List Co
 last_tuple bound [] = bound
 last_tuple bound (entry ∷ entries) = last_tuple entry.tuple entries
 
--- a step of a walk: a page of a size, over the documents as they are at the step
+-- one of successive pages: its size, and the documents as they are then
 pub record Step : Type 0 where
   pub size : ℕ
   pub documents : List Fields
@@ -21,6 +21,6 @@ abbrev pub AreSuccessive : List CompositeAggregationSource → List CompositeInt
 AreSuccessive sources bound [] = ⊤
 AreSuccessive sources bound (step ∷ steps) = IsPage sources step.size bound step.documents step.page × AreSuccessive sources (last_tuple bound step.page) steps
 
--- pages of one size over the same documents
+-- pages of one size, all over the same documents
 abbrev pub steps_over : ℕ → List Fields → List (List Entry) → List Step
 steps_over size documents pages = map (λ page. record { size = size; documents = documents; page = page }) pages

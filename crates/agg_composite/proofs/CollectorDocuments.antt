@@ -14,7 +14,7 @@ use Rattle.agg_composite.specs.Counts.{Holds, plain_rules, past_tuples, tuples_i
 use Rattle.agg_composite.specs.Groups.{Groups, numbers_held, documents_at, past_occurrences}
 use Rattle.agg_composite.specs.Occurrences.{is_past, same_tuple, occurrences, occurrences_in}
 use Rattle.agg_composite.specs.Source.{key_of, or_missing, field_of, order_of, missing_order_of, missing_bucket_of, rules_of, source_values}
-use Rattle.agg_composite.proofs.Chains.{Appends}
+use Rattle.agg_composite.proofs.CollectorParts.{Appends}
 
 pub past-occurrences-append : (sources : List CompositeAggregationSource) (bound : List CompositeIntermediateKey) → Appends (past_occurrences sources bound)
 past-occurrences-append sources bound xs ys =

@@ -1,5 +1,5 @@
 -- The tuples that lie past a bound, one value or one document more.
-use Rattle.std.proofs.Common.{◌≡◌, ℤ, ◌^◌, pos, List, [], ◌∷◌, true, false, filter, FitsSigned, int_lt, refl, ap, ◌∙◌, arith}
+use Rattle.std.proofs.Common.{◌≡◌, ℤ, ◌^◌, pos, List, [], ◌∷◌, true, filter, FitsSigned, int_lt, refl, ap, ◌∙◌, arith}
 use mir.Syntax.{w64}
 use Rattle.std.proofs.lemmas.Int.{ints}
 use Rattle.std.proofs.lemmas.List.{map-append}
@@ -12,7 +12,7 @@ use Rattle.agg_segment.specs.declared.document.FieldValue.TheVariants as field
 use Rattle.agg_composite.specs.Counts.{plain_rules, past_tuples, tuples_in}
 use Rattle.agg_composite.specs.Occurrences.{is_past}
 use Rattle.agg_composite.specs.Source.{key_of}
-use Rattle.agg_composite.proofs.Chains.{Appends}
+use Rattle.agg_composite.proofs.CollectorParts.{Appends}
 
 -- an i64 has its I64 as its key
 pub typed-number : (n : ℤ) → FitsSigned w64 n → typed_number n ≡ I64 n
@@ -25,15 +25,9 @@ past-appends bound xs ys =
     ap (filter (is_past plain_rules bound)) (map-append (λ v. key_of v ∷ []) xs ys)
     ∙ filter-append (is_past plain_rules bound) (tuples_in xs) (tuples_in ys)
 
--- one value whose tuple lies past the bound, and one whose tuple doesn't
+-- what one value gives whose tuple lies past the bound
 pub past-value-yes : (bound : List CompositeIntermediateKey) (value : FieldValue) (n : ℤ) → value ≡ field.I64 n → FitsSigned w64 n
     → is_past plain_rules bound (I64 n ∷ []) ≡ true → past_tuples bound (value ∷ []) ≡ (I64 n ∷ []) ∷ []
 past-value-yes bound value n e f p =
-    let k : key_of value ≡ I64 n = ap key_of e ∙ typed-number n f in
-    rw (k, p) refl
-
-pub past-value-no : (bound : List CompositeIntermediateKey) (value : FieldValue) (n : ℤ) → value ≡ field.I64 n → FitsSigned w64 n
-    → is_past plain_rules bound (I64 n ∷ []) ≡ false → past_tuples bound (value ∷ []) ≡ []
-past-value-no bound value n e f p =
     let k : key_of value ≡ I64 n = ap key_of e ∙ typed-number n f in
     rw (k, p) refl
