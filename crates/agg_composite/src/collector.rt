@@ -58,7 +58,8 @@ impl SegmentCompositeCollector {
     }
 
     /// Visits the tuples of the documents at these places that lie past the bound, which stands in
-    /// place of the composite's own. What is held after an error isn't said.
+    /// place of the composite's own, and takes a step at each. What is held after an error isn't
+    /// said.
     pub fn collect<L: Ledger>(
         &mut self,
         parent_bucket_id: BucketId,
@@ -75,6 +76,7 @@ impl SegmentCompositeCollector {
             ((visited : _)
             → Groups (rules_of composite.now.sources) visited self.old
             → Groups (rules_of composite.now.sources) (visited ++ past_occurrences composite.now.sources bound.now (documents_at segment.now docs.now)) self.new) }
+        ensures ticks { OnOk result (steps.new ≡ steps.old + length (past_occurrences composite.now.sources bound.now (documents_at segment.now docs.now))) }
         ensures too_many { IsErrOf result CollectError.TooMany
             → (visited : _)
             → Groups (rules_of composite.now.sources) visited self.old
@@ -136,6 +138,7 @@ fn visit_documents<L: Ledger>(
         ((visited : _)
         → Holds visited counts.old.entries
         → Holds (visited ++ past_occurrences (source.now ∷ []) bound.now (documents_at segment.now docs.now)) counts.new.entries) }
+    ensures ticks { OnOk result (steps.new ≡ steps.old + length (past_occurrences (source.now ∷ []) bound.now (documents_at segment.now docs.now))) }
     ensures too_many { IsErrOf result CollectError.TooMany
         → (visited : _)
         → Holds visited counts.old.entries
@@ -163,6 +166,7 @@ fn visit_values<L: Ledger>(
         ((visited : _)
         → Holds visited counts.old.entries
         → Holds (visited ++ past_tuples bound.now values.now) counts.new.entries) }
+    ensures ticks { OnOk result (steps.new ≡ steps.old + length (past_tuples bound.now values.now)) }
     ensures too_many { IsErrOf result CollectError.TooMany
         → (visited : _)
         → Holds visited counts.old.entries
@@ -189,6 +193,7 @@ fn visit_value<L: Ledger>(
         ((visited : _)
         → Holds visited counts.old.entries
         → Holds (visited ++ past_tuples bound.now (value.now ∷ [])) counts.new.entries) }
+    ensures ticks { OnOk result (steps.new ≡ steps.old + length (past_tuples bound.now (value.now ∷ []))) }
     ensures too_many { IsErrOf result CollectError.TooMany
         → (visited : _)
         → Holds visited counts.old.entries

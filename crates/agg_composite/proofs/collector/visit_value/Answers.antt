@@ -20,6 +20,14 @@ returns-in_ok-visit-clause-ok g c =
     λ visited h. subst (λ ts. Holds (visited ++ ts) c.visit.new.counts.entries) (sym e)
     (Holds-more c.args.counts.now.entries c.visit.new.counts.entries n step visited h)
 
+pub returns-in_ok-visit-clause-ticks : goal.returns-in_ok-visit-clause-ticks
+returns-in_ok-visit-clause-ticks g c =
+    let n = c.number_of-number.result in
+    let f : FitsSigned w64 n = search rules in
+    let p : is_past plain_rules c.args.bound.now (I64 n ∷ []) ≡ true = simp to_z-of_z at (sym c.lies_past.ensures ∙ c.if-lies_past.true) in
+    let e = past-value-yes c.args.bound.now c.args.value.now n c.number_of-number.ensures f p in
+    c.tick.ensures ∙ ap (λ ts. c.args.steps.now + length ts) (sym e)
+
 pub returns-in_err-visit-clause-too_many : goal.returns-in_err-visit-clause-too_many
 returns-in_err-visit-clause-too_many g c =
     let n = c.number_of-number.result in
