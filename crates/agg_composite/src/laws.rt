@@ -1,3 +1,4 @@
+//! What holds of pages, as their definition says it.
 ghost use Rattle.std.specs.Prelude.{◌≡◌, ◌≢◌, ℕ, ◌+◌, ◌*◌, ◌<◌, List, ◌++◌, length, map, take, flat_map, All, AllPairs, Any, Contains, IsPermutation};
 ghost use Rattle.std.specs.List.Sorted.{IsStrictlySortedBy};
 ghost use Rattle.agg_segment.specs.Document.{Fields};

@@ -1,3 +1,4 @@
+//! The limits of a walk, and the ledger of what it has in use.
 ghost use Rattle.std.specs.Prelude.{◌≡◌, unwrap_or};
 ghost use Rattle.agg_composite.specs.declared.limits.CollectError.TheVariants.{OutOfMemory as NoMemory};
 

@@ -1,3 +1,4 @@
+//! What holds of walks, as their definition says it.
 ghost use Rattle.std.specs.Prelude.{◌≡◌, ℕ, List, [], Bool, false};
 ghost use Rattle.agg_segment.specs.declared.query.QueryTree.{QueryTree};
 ghost use Rattle.agg_composite.specs.declared.request.aggregation.Aggregation.{Aggregation};

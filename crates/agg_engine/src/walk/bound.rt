@@ -1,3 +1,4 @@
+//! The bound of the next page.
 ghost use Rattle.std.specs.Prelude.{◌≡◌, IfOk};
 ghost use Rattle.agg_engine.specs.PageEntries.{last_key};
 
