@@ -182,7 +182,7 @@ fn walks_end_as_told(rt: HostRuntime) -> Result<(), Fail> {
         },
         Case {
             what: "a page size of 0 in the last of three snapshots",
-            name: "by_m",
+            name: "by_n",
             size: 1,
             snapshots: &[(1, &[]), (1, &[]), (0, &[])],
             pages: &[],
