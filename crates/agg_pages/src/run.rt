@@ -1,4 +1,7 @@
 //! The program as a function of its words, its source and its sink.
+#[cfg(test)]
+mod tests;
+
 ghost use Rattle.std.specs.Prelude.{◌≡◌, ◌≢◌, ◌<◌, ◌⊎◌, ◌↔◌, ℕ, List, [], ◌∷◌, Some, Err, take, true, false, IfOk, IfErr, IsTrue, string_bytes};
 ghost use Rattle.std.specs.Io.KnownBytes.{Appends};
 ghost use Rattle.agg_pages.specs.Answer.{IsNoInput, IsPrintedWalk, IsRefusal, IsReply, IsReplyTo, IsValid, walk_words};

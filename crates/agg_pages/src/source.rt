@@ -1,5 +1,7 @@
 //! Where bytes come from.
 mod calls;
+#[cfg(test)]
+mod drip;
 mod memory;
 mod read_all;
 mod standard;
@@ -13,6 +15,8 @@ ghost use Rattle.std.specs.Io.KnownBytes.{ReadConsumes};
 ghost use Rattle.agg_pages.specs.Causes.{HasCause};
 
 pub use calls::CallCounter;
+#[cfg(test)]
+pub use drip::Drip;
 pub use memory::MemorySource;
 pub use read_all::{MAX_INPUT_BYTES, ReadAllError, read_all};
 pub use standard::StdSource;

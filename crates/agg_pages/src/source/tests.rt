@@ -1,24 +1,5 @@
-ghost use Rattle.std.specs.Prelude.{Some};
-
 use super::*;
 use std::test::Fail;
-
-// Bytes that come one at a time.
-#[derive(Drop)]
-struct Drip(SteadySource);
-
-impl Source for Drip {
-    ghost left = { λ source. Some source.0 };
-
-    ghost faults = { λ _. 0 };
-
-    fn read(&mut self, buf: &mut [u8]) -> Result<usize, Failed> {
-        match buf {
-            [] => Ok(0),
-            [first, ..] => self.0.read(std::slice::from_mut(first)),
-        }
-    }
-}
 
 #[test]
 fn reads_bytes_that_come_one_at_a_time(rt: HostRuntime) -> Result<(), Fail> {
