@@ -26,6 +26,82 @@ struct Case {
     end: &'static str,
 }
 
+const CASES: [Case; 8] = [
+    Case {
+        what: "no snapshot at all",
+        name: "by_n",
+        size: 1,
+        snapshots: &[],
+        pages: &[],
+        end: "goes on",
+    },
+    Case {
+        what: "a value twice in one document, in a page with room",
+        name: "by_n",
+        size: 1,
+        snapshots: &[(2, &[&[7, 7]])],
+        pages: &["{\"by_n\":{\"buckets\":[{\"doc_count\":2,\"key\":{\"n\":7}}]}}"],
+        end: "ended",
+    },
+    Case {
+        what: "documents with no value, one and several, and a snapshot that isn't reached",
+        name: "by_n",
+        size: 9,
+        snapshots: &[
+            (2, &[&[], &[5], &[9, -3, 5]]),
+            (2, &[&[9], &[5], &[]]),
+            (1, &[&[10]]),
+        ],
+        pages: &[
+            "{\"by_n\":{\"after_key\":{\"n\":\"i64:5\"},\"buckets\":[{\"doc_count\":1,\"key\":{\"n\":-3}},{\"doc_count\":2,\"key\":{\"n\":5}}]}}",
+            "{\"by_n\":{\"buckets\":[{\"doc_count\":1,\"key\":{\"n\":9}}]}}",
+        ],
+        end: "ended",
+    },
+    Case {
+        what: "a full page in the last snapshot",
+        name: "by_n",
+        size: 9,
+        snapshots: &[(1, &[&[2], &[1]])],
+        pages: &[
+            "{\"by_n\":{\"after_key\":{\"n\":\"i64:1\"},\"buckets\":[{\"doc_count\":1,\"key\":{\"n\":1}}]}}",
+        ],
+        end: "goes on",
+    },
+    Case {
+        what: "an unknown name",
+        name: "by_m",
+        size: 1,
+        snapshots: &[(1, &[&[2]])],
+        pages: &[],
+        end: "UnknownComposite",
+    },
+    Case {
+        what: "an unknown name over no snapshot",
+        name: "by_m",
+        size: 1,
+        snapshots: &[],
+        pages: &[],
+        end: "UnknownComposite",
+    },
+    Case {
+        what: "a size of 0 in the request",
+        name: "by_n",
+        size: 0,
+        snapshots: &[],
+        pages: &[],
+        end: "ZeroSize",
+    },
+    Case {
+        what: "a page size of 0 in the last of three snapshots",
+        name: "by_n",
+        size: 1,
+        snapshots: &[(1, &[]), (1, &[]), (0, &[])],
+        pages: &[],
+        end: "ZeroSize",
+    },
+];
+
 fn document_of(alloc: Global, values: &[i64]) -> Result<Document, Fail> {
     let mut document = Document::new(alloc);
     for value in values {
@@ -114,81 +190,7 @@ fn walk_of(alloc: Global, case: &Case) -> Result<Result<Walk, WalkError>, Fail> 
 #[test]
 fn walks_end_as_told(rt: HostRuntime) -> Result<(), Fail> {
     let alloc = rt.alloc();
-    for case in [
-        Case {
-            what: "no snapshot at all",
-            name: "by_n",
-            size: 1,
-            snapshots: &[],
-            pages: &[],
-            end: "goes on",
-        },
-        Case {
-            what: "a value twice in one document, in a page with room",
-            name: "by_n",
-            size: 1,
-            snapshots: &[(2, &[&[7, 7]])],
-            pages: &["{\"by_n\":{\"buckets\":[{\"doc_count\":2,\"key\":{\"n\":7}}]}}"],
-            end: "ended",
-        },
-        Case {
-            what: "documents with no value, one and several, and a snapshot that isn't reached",
-            name: "by_n",
-            size: 9,
-            snapshots: &[
-                (2, &[&[], &[5], &[9, -3, 5]]),
-                (2, &[&[9], &[5], &[]]),
-                (1, &[&[10]]),
-            ],
-            pages: &[
-                "{\"by_n\":{\"after_key\":{\"n\":\"i64:5\"},\"buckets\":[{\"doc_count\":1,\"key\":{\"n\":-3}},{\"doc_count\":2,\"key\":{\"n\":5}}]}}",
-                "{\"by_n\":{\"buckets\":[{\"doc_count\":1,\"key\":{\"n\":9}}]}}",
-            ],
-            end: "ended",
-        },
-        Case {
-            what: "a full page in the last snapshot",
-            name: "by_n",
-            size: 9,
-            snapshots: &[(1, &[&[2], &[1]])],
-            pages: &[
-                "{\"by_n\":{\"after_key\":{\"n\":\"i64:1\"},\"buckets\":[{\"doc_count\":1,\"key\":{\"n\":1}}]}}",
-            ],
-            end: "goes on",
-        },
-        Case {
-            what: "an unknown name",
-            name: "by_m",
-            size: 1,
-            snapshots: &[(1, &[&[2]])],
-            pages: &[],
-            end: "UnknownComposite",
-        },
-        Case {
-            what: "an unknown name over no snapshot",
-            name: "by_m",
-            size: 1,
-            snapshots: &[],
-            pages: &[],
-            end: "UnknownComposite",
-        },
-        Case {
-            what: "a size of 0 in the request",
-            name: "by_n",
-            size: 0,
-            snapshots: &[],
-            pages: &[],
-            end: "ZeroSize",
-        },
-        Case {
-            what: "a page size of 0 in the last of three snapshots",
-            name: "by_n",
-            size: 1,
-            snapshots: &[(1, &[]), (1, &[]), (0, &[])],
-            pages: &[],
-            end: "ZeroSize",
-        },
-    ] {
+    for case in CASES {
         let what = case.what;
         let (pages, end) = match walk_of(alloc, &case)? {
             Ok(walk) if walk.ended => (walk.pages, "ended"),
