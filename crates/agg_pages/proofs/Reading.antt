@@ -1,9 +1,8 @@
 -- Bytes that were not read as an input.
-use Rattle.std.proofs.Common.{◌≡◌, ◌<◌, ℕ, List, Option, None, Some, Bool, true, false, cond, length, refl, sym, ap, ◌∙◌, arith}
+use Rattle.std.proofs.Common.{◌≡◌, ◌<◌, ℕ, List, None, false, cond, length, refl, ap, arith}
 use Rattle.std.specs.Prelude.{◌&&◌, nat_le}
 use Rattle.std.specs.Str.{is_utf8}
 use Rattle.std.proofs.lemmas.Bool.Decides.{nat_tests}
-use Rattle.agg_pages.specs.declared.input.Input.{Input as Data}
 use Rattle.agg_pages.specs.declared.source.read_all.ReadAllError.{ReadAllError}
 use Rattle.agg_pages.specs.declared.source.read_all.ReadAllError.TheVariants.{ReadFault, TooLong, OutOfMemory}
 use Rattle.agg_pages.specs.declared.status.Status.TheVariants as status

@@ -1,5 +1,5 @@
 -- Replies to bytes, by what they say of them.
-use Rattle.std.proofs.Common.{◌≡◌, ◌⊎◌, ℕ, List, Bool, true, false, Some, refl, sym, ap, ◌∙◌, subst, inl, inr}
+use Rattle.std.proofs.Common.{◌≡◌, ◌⊎◌, ℕ, List, Bool, true, false, Some, sym, ◌∙◌, subst, inl, inr}
 use Rattle.std.proofs.lemmas.Bool.{false≢true}
 use Rattle.agg_values.specs.declared.error.InvalidArgument.TheVariants.{ZeroSize}
 use Rattle.agg_engine.specs.declared.walk.error.WalkError.{WalkError}

@@ -1,5 +1,5 @@
 -- A list of one word.
-use Rattle.std.proofs.Common.{◌≡◌, ◌≤◌, ◌<◌, ℕ, List, [], ◌∷◌, get_or, length, refl, sym, ap, ◌∙◌, arith}
+use Rattle.std.proofs.Common.{◌≡◌, ◌≤◌, ◌<◌, List, [], ◌∷◌, get_or, length, sym, ap, arith}
 
 pub one_word : {A : Type 0} (words : List A) (word : A) → 1 ≤ length words → length words < 2 → word ≡ get_or words 0 word → words ≡ word ∷ []
 one_word [] word some few is = absurd (omega arith)

@@ -1,5 +1,5 @@
 -- What a run answers for the bytes that it reads.
-use Rattle.std.specs.Prelude.{◌≡◌, ◌≢◌, ◌<◌, ◌+◌, ◌⊎◌, ℕ, List, [], ◌∷◌, Bool, true, false, Option, None, Some, drop, length, take, codes}
+use Rattle.std.specs.Prelude.{◌≡◌, ◌<◌, ◌+◌, ◌⊎◌, ℕ, List, [], ◌∷◌, Bool, true, false, Option, None, Some, drop, length, codes}
 use Rattle.agg_values.specs.declared.error.InvalidArgument.TheVariants.{ZeroSize}
 use Rattle.agg_segment.specs.declared.query.QueryTree.TheVariants.{All}
 use Rattle.agg_engine.specs.declared.walk.Walk.{Walk}

@@ -1,5 +1,5 @@
 -- Counts of faults, and the memory forms of a source and a sink.
-use Rattle.std.specs.Prelude.{◌≡◌, ◌+◌, ◌-◌, ◌^◌, ◌≤◌, ◌==◌, ◌&&◌, ℕ, List, Bool, Result, OnErr, min, nat_lt, if◌then◌else◌}
+use Rattle.std.specs.Prelude.{◌+◌, ◌-◌, ◌^◌, ◌≤◌, ◌==◌, ◌&&◌, ℕ, List, Bool, Result, OnErr, min, nat_lt, if◌then◌else◌}
 use Rattle.std.specs.List.{list_any}
 
 -- a count after one more, which stops at its end

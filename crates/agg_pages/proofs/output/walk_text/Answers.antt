@@ -1,5 +1,5 @@
-use Rattle.std.proofs.Common.{◌+◌, ◌++◌, sym, ap, ◌∙◌, arith, take}
-use Rattle.agg_pages.specs.Printed.{ended_line, page_line, page_lines}
+use Rattle.std.proofs.Common.{◌+◌, ◌++◌, sym, ap, ◌∙◌}
+use Rattle.agg_pages.specs.Printed.{page_line}
 use Rattle.agg_pages.proofs.PageLines.{page_lines-more}
 use Rattle.agg_pages.proofs.output.walk_text.Goals as goal
 

@@ -1,4 +1,4 @@
-use Rattle.std.proofs.Common.{◌≡◌, ◌∷◌, [], get_or, sym, ap, ◌∙◌, codes, arith}
+use Rattle.std.proofs.Common.{◌∷◌, [], get_or, sym, ap, ◌∙◌, codes, arith}
 use Rattle.std.proofs.lemmas.Slice.Eq.{bytes_eq-Decides}
 use Rattle.agg_pages.proofs.Words.{one_word}
 use Rattle.agg_pages.proofs.run.is_walk.Goals as goal

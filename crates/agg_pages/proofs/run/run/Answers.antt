@@ -1,4 +1,4 @@
-use Rattle.std.proofs.Common.{◌≡◌, ◌⊎◌, sym, ap, ◌∙◌, subst, inl, inr, string_bytes}
+use Rattle.std.proofs.Common.{subst, inl, inr, string_bytes}
 use Rattle.agg_pages.specs.Answer.{IsReply}
 use Rattle.agg_pages.proofs.Replies.{reply-either, valid-not_refused}
 use Rattle.agg_pages.proofs.run.run.Goals as goal
