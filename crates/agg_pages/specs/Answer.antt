@@ -1,5 +1,5 @@
 -- What a run answers for the bytes that it reads.
-use Rattle.std.specs.Prelude.{◌≡◌, ◌<◌, ◌+◌, ◌⊎◌, ℕ, List, [], ◌∷◌, Bool, true, false, Option, None, Some, drop, length, codes}
+use Rattle.std.specs.Prelude.{◌≡◌, ◌<◌, ◌+◌, ◌⊎◌, ℕ, List, [], ◌∷◌, Bool, true, false, Option, None, Some, drop, take, length, codes}
 use Rattle.agg_values.specs.declared.error.InvalidArgument.TheVariants.{ZeroSize}
 use Rattle.agg_segment.specs.declared.query.QueryTree.TheVariants.{All}
 use Rattle.agg_engine.specs.declared.walk.Walk.{Walk}
@@ -57,3 +57,7 @@ IsReply bytes false text = IsPrintedWalk bytes text
 -- the bytes are no input: all were read, or one past the limit
 abbrev pub IsNoInput : List ℕ → Option (List ℕ) → Type 0
 IsNoInput bytes left = (input bytes ≡ None) × ((left ≡ Some []) ⊎ ((67108864 < length bytes) × (left ≡ Some (drop (67108864 + 1) bytes))))
+
+-- the text is the front of an answer to the bytes
+abbrev pub IsFront : List ℕ → List ℕ → Type 0
+IsFront bytes front = (text : List ℕ) × (IsPrintedWalk bytes text ⊎ IsRefusal bytes text) × ((count : ℕ) × (front ≡ take count text))

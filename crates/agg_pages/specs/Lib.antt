@@ -4,5 +4,6 @@ pub mod Input
 pub mod Json
 pub mod Lines
 pub mod Printed
+pub mod Run
 pub mod Snapshots
 pub mod Status

@@ -4,9 +4,9 @@ mod tests;
 
 ghost use Rattle.std.specs.Prelude.{◌≡◌, ◌≢◌, ◌<◌, ◌⊎◌, ◌↔◌, ℕ, List, [], ◌∷◌, Some, Err, take, true, false, IfOk, IfErr, IsTrue, string_bytes};
 ghost use Rattle.std.specs.Io.KnownBytes.{Appends};
-ghost use Rattle.agg_pages.specs.Answer.{IsNoInput, IsPrintedWalk, IsRefusal, IsReply, IsReplyTo, IsValid, walk_words};
+ghost use Rattle.agg_pages.specs.Answer.{IsReply, IsReplyTo, walk_words};
 ghost use Rattle.agg_pages.specs.Causes.{Rose};
-ghost use Rattle.agg_pages.specs.Input.{input};
+ghost use Rattle.agg_pages.specs.Run.{HadNoInput, IsAnswered};
 ghost use Rattle.agg_engine.specs.Form.{IsFirstForm};
 
 use crate::input::{Input, read_input};
@@ -33,44 +33,7 @@ pub fn run<R: Source, W: Sink, L: Ledger>(
     sink: &mut W,
     steps: &mut Steps<L>,
 ) -> Status
-    // Status 0: the bytes read are a valid input, and the printed walk of them is written.
-    ensures ok { result ≡ Status.Ok
-        → (bytes : List ℕ)
-        → R.left source.old ≡ Some bytes
-        → (R.left source.new ≡ Some []) × ((text : List ℕ) × IsPrintedWalk bytes text × Appends (W.held sink.old) (W.held sink.new) text) }
-
-    // Each other status has its cause.
-    ensures usage { result ≡ Status.Usage ↔ (words.now ≢ walk_words) }
-    ensures read_fault { result ≡ Status.ReadFault → Rose (R.faults source.old) (R.faults source.new) }
-    ensures no_input { result ≡ Status.Input
-        → (bytes : List ℕ)
-        → R.left source.old ≡ Some bytes
-        → IsNoInput bytes (R.left source.new) }
-    ensures refused { result ≡ Status.Refused
-        → (bytes : List ℕ)
-        → R.left source.old ≡ Some bytes
-        → (R.left source.new ≡ Some []) × ((text : List ℕ) × IsRefusal bytes text × Appends (W.held sink.old) (W.held sink.new) text) }
-    ensures write_fault { result ≡ Status.WriteFault → Rose (W.faults sink.old) (W.faults sink.new) }
-    ensures prefix { result ≡ Status.WriteFault
-        → (bytes : List ℕ)
-        → R.left source.old ≡ Some bytes
-        → (R.left source.new ≡ Some []) × ((text : List ℕ) × (IsPrintedWalk bytes text ⊎ IsRefusal bytes text) × ((count : ℕ) × Appends (W.held sink.old) (W.held sink.new) (take count text))) }
-
-    // A usage touches nothing, and these write nothing.
-    ensures untouched { result ≡ Status.Usage → (source.new ≡ source.old) × (sink.new ≡ sink.old) }
-    ensures quiet { (result ≡ Status.Input) ⊎ ((result ≡ Status.ReadFault) ⊎ (result ≡ Status.OutOfMemory))
-        → sink.new ≡ sink.old }
-
-    // A valid call without a fault is answered, unless memory is refused.
-    ensures complete { words.now ≡ walk_words
-        → (bytes : List ℕ)
-        → (i : _)
-        → R.left source.old ≡ Some bytes
-        → input bytes ≡ Some i
-        → IsValid i
-        → ¬ (Rose (R.faults source.old) (R.faults source.new))
-        → ¬ (Rose (W.faults sink.old) (W.faults sink.new))
-        → (result ≡ Status.Ok) ⊎ (result ≡ Status.OutOfMemory) }
+    ensures { IsAnswered R.left R.faults W.held W.faults words.now result source.old source.new sink.old sink.new }
 {
     let _ = builders.len();
     if !is_walk(words) {
@@ -90,14 +53,12 @@ pub fn run_uncounted<R: Source, W: Sink>(
     source: &mut R,
     sink: &mut W,
 ) -> Status
-    ensures ok { result ≡ Status.Ok
-        → (bytes : List ℕ)
-        → R.left source.old ≡ Some bytes
-        → (R.left source.new ≡ Some []) × ((text : List ℕ) × IsPrintedWalk bytes text × Appends (W.held sink.old) (W.held sink.new) text) }
+    ensures { IsAnswered R.left R.faults W.held W.faults words.now result source.old source.new sink.old sink.new }
 {
     run_over::<R, W, Brand>(alloc, words, builders, source, sink, Blank::new(1))
 }
 
+// The same, where a blank makes the counter.
 fn run_over<R: Source, W: Sink, L: Ledger>(
     alloc: Global,
     words: &[Text],
@@ -109,10 +70,7 @@ fn run_over<R: Source, W: Sink, L: Ledger>(
     requires name { blank.name ≡ L.name }
     requires parts { blank.parts ≡ L.parts }
     requires shared { 0 < L.parts }
-    ensures ok { result ≡ Status.Ok
-        → (bytes : List ℕ)
-        → R.left source.old ≡ Some bytes
-        → (R.left source.new ≡ Some []) × ((text : List ℕ) × IsPrintedWalk bytes text × Appends (W.held sink.old) (W.held sink.new) text) }
+    ensures { IsAnswered R.left R.faults W.held W.faults words.now result source.old source.new sink.old sink.new }
 {
     let mut steps: Steps<L> = Steps::new(blank);
     run(alloc, words, builders, source, sink, &mut steps)
@@ -145,10 +103,7 @@ fn answer<R: Source, L: Ledger>(
         → R.left source.old ≡ Some bytes
         → (R.left source.new ≡ Some []) × IsReply bytes reply.refused (string_bytes reply.text)) }
     ensures kinds { IfErr result (λ status. (status ≡ Status.Input) ⊎ ((status ≡ Status.ReadFault) ⊎ (status ≡ Status.OutOfMemory))) }
-    ensures no_input { result ≡ Err Status.Input
-        → (bytes : List ℕ)
-        → R.left source.old ≡ Some bytes
-        → IsNoInput bytes (R.left source.new) }
+    ensures no_input { result ≡ Err Status.Input → HadNoInput (R.left source.old) (R.left source.new) }
     ensures read_fault { result ≡ Err Status.ReadFault → Rose (R.faults source.old) (R.faults source.new) }
 {
     let bytes = read_all(alloc, source)?;
