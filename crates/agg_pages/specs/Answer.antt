@@ -8,7 +8,7 @@ use Rattle.agg_engine.specs.declared.walk.error.WalkError.TheVariants.{Invalid, 
 use Rattle.agg_engine.specs.Walk.{NamesComposite, ReachesTooMany, has_zero_size}
 use Rattle.agg_engine.specs.ShownWalk.{IsShownWalk}
 use Rattle.agg_pages.specs.declared.input.Input.{Input}
-use Rattle.agg_pages.specs.Input.{input}
+use Rattle.agg_pages.specs.Input.{input, max_input_bytes}
 use Rattle.agg_pages.specs.Printed.{printed, refusal_line}
 
 -- the words of the command
@@ -56,7 +56,7 @@ IsReply bytes false text = IsPrintedWalk bytes text
 
 -- the bytes are no input: all were read, or one past the limit
 abbrev pub IsNoInput : List ℕ → Option (List ℕ) → Type 0
-IsNoInput bytes left = (input bytes ≡ None) × ((left ≡ Some []) ⊎ ((67108864 < length bytes) × (left ≡ Some (drop (67108864 + 1) bytes))))
+IsNoInput bytes left = (input bytes ≡ None) × ((left ≡ Some []) ⊎ ((max_input_bytes < length bytes) × (left ≡ Some (drop (max_input_bytes + 1) bytes))))
 
 -- the text is the front of an answer to the bytes
 abbrev pub IsFront : List ℕ → List ℕ → Type 0

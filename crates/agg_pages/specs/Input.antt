@@ -114,6 +114,10 @@ input_of_lines [] = None
 input_of_lines (first ∷ lines) = option_and_then (λ header. option_map (λ snapshots. record { header = header; snapshots = snapshots })
     (option_and_then snapshots_of (each_line lines))) (header_of first)
 
+-- how many bytes an input has at most
+abbrev pub max_input_bytes : ℕ
+max_input_bytes = 67108864
+
 -- what bytes stand for, if they are a valid input: UTF-8, no more than the limit, a header and then snapshots
 abbrev pub input : List ℕ → Option Input
-input bytes = if nat_le (length bytes) 67108864 && is_utf8 bytes then input_of_lines (lines_of bytes) else None
+input bytes = if nat_le (length bytes) max_input_bytes && is_utf8 bytes then input_of_lines (lines_of bytes) else None

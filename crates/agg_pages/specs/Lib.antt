@@ -3,6 +3,7 @@ pub mod Causes
 pub mod Input
 pub mod Json
 pub mod Lines
+pub mod Memory
 pub mod Printed
 pub mod Run
 pub mod Snapshots

@@ -2,7 +2,7 @@
 #[cfg(test)]
 mod tests;
 
-ghost use Rattle.std.specs.Prelude.{◌≡◌, ◌≢◌, ◌<◌, ◌⊎◌, ◌↔◌, ℕ, List, [], ◌∷◌, Some, Err, take, true, false, IfOk, IfErr, IsTrue, string_bytes};
+ghost use Rattle.std.specs.Prelude.{◌≡◌, ◌<◌, ◌⊎◌, ◌↔◌, ℕ, List, [], Some, Err, take, true, false, IfOk, IfErr, IsTrue, string_bytes};
 ghost use Rattle.std.specs.Io.KnownBytes.{Appends};
 ghost use Rattle.agg_pages.specs.Answer.{IsReply, IsReplyTo, walk_words};
 ghost use Rattle.agg_pages.specs.Causes.{Rose};
@@ -35,7 +35,7 @@ pub fn run<R: Source, W: Sink, L: Ledger>(
 ) -> Status
     ensures { IsAnswered R.left R.faults W.held W.faults words.now result source.old source.new sink.old sink.new }
 {
-    let _ = builders.len();
+    drop(builders);
     if !is_walk(words) {
         return Status::Usage;
     }

@@ -10,7 +10,7 @@ ghost use Rattle.std.specs.Io.{WritesAtMost};
 ghost use Rattle.std.specs.Io.KnownBytes.{WriteAppends};
 ghost use Rattle.agg_pages.specs.Causes.{HasCause};
 
-use crate::source::Failed;
+use crate::fault::Failed;
 pub use memory::MemorySink;
 pub use standard::StdSink;
 pub use write_all::write_all;

@@ -1,5 +1,4 @@
 //! Where bytes come from.
-mod calls;
 #[cfg(test)]
 mod drip;
 mod memory;
@@ -14,17 +13,13 @@ ghost use Rattle.std.specs.Io.{ReadsAtMost};
 ghost use Rattle.std.specs.Io.KnownBytes.{ReadConsumes};
 ghost use Rattle.agg_pages.specs.Causes.{HasCause};
 
-pub use calls::CallCounter;
+use crate::fault::Failed;
 #[cfg(test)]
 pub use drip::Drip;
 pub use memory::MemorySource;
 pub use read_all::{MAX_INPUT_BYTES, ReadAllError, read_all};
 pub use standard::StdSource;
 pub use steady::SteadySource;
-
-/// A read or a write failed.
-#[derive(Clone, Copy, Debug, PartialEq, Eq)]
-pub struct Failed;
 
 /// Where bytes come from.
 pub trait Source {

@@ -1,13 +1,19 @@
-ghost use Rattle.std.specs.Prelude.{Some};
+ghost use Rattle.std.specs.Prelude.{None, Some};
 
 use super::*;
+use crate::fault::Failed;
 use crate::sink::MemorySink;
-use crate::source::{Drip, Failed, MAX_INPUT_BYTES, MemorySource, SteadySource};
+use crate::source::{Drip, MAX_INPUT_BYTES, MemorySource, SteadySource};
+use agg_composite::request::{QueryBuildError, QueryBuilder};
+use agg_segment::Schema;
 use std::process::Abort;
 use std::test::Fail;
 
 const HEADER: &str =
     r#"{"request":{"g":{"composite":{"sources":[{"a":{"terms":{"field":"a"}}}],"size":2}}},"name":"g","schema":["a","b"]}"#;
+
+const HEADER_OF_TEN: &str =
+    r#"{"request":{"g":{"composite":{"sources":[{"a":{"terms":{"field":"a"}}}],"size":10}}},"name":"g","schema":["a","b"]}"#;
 
 const SNAPSHOTS: &str = r#"
 snapshot 2
@@ -28,26 +34,30 @@ const PAGES: &str =
 {"ended":true}
 "#;
 
-// Other inputs of the same header: what stands behind it, and the lines that are written.
-const WALKS: [(&str, &str); 5] = [
-    (SNAPSHOTS, PAGES),
+// Inputs, as a header and what stands behind it, and the lines that are written.
+const WALKS: [(&str, &str, &str); 6] = [
+    (HEADER, SNAPSHOTS, PAGES),
     (
+        HEADER,
         "\r\n\r\n \t\r\nsnapshot 02\r\n{\"a\":3}\n\n{\"a\":1}\r\n{\"a\":2}\n{\"a\":1}\nsnapshot 2\n{\"a\":[3,1,2]}\r\n{\"a\":1}",
         PAGES,
     ),
-    ("", "{\"ended\":false}\n"),
+    (HEADER, "", "{\"ended\":false}\n"),
     (
+        HEADER_OF_TEN,
         "\nsnapshot 10\n{\"a\":[5,5]}\n",
         r#"{"page":1,"results":{"g":{"buckets":[{"doc_count":2,"key":{"a":5}}]}}}
 {"ended":true}
 "#,
     ),
     (
+        HEADER,
         "\nsnapshot 10\n{}\n{\"a\":[]}\n{\"b\":4}\n{\"a\":-7}\n{\"b\":4,\"a\":[9,-7,8]}\n",
         r#"{"page":1,"results":{"g":{"buckets":[{"doc_count":2,"key":{"a":-7}},{"doc_count":1,"key":{"a":8}},{"doc_count":1,"key":{"a":9}}]}}}
 {"ended":true}
 "#,
     ),
+    (SALES, "", SALES_PAGES),
 ];
 
 const SALES: &str =
@@ -91,6 +101,18 @@ impl Sink for Sip {
     }
 }
 
+// A builder that has no query for any schema.
+#[derive(Drop)]
+struct NoQuery;
+
+impl QueryBuilder for NoQuery {
+    ghost tree_for = { λ _ _. None };
+
+    fn build_query(&self, _alloc: Global, _schema: &Schema) -> Result<QueryTree, QueryBuildError> {
+        Err(QueryBuildError::NoTree)
+    }
+}
+
 fn run_words<R: Source, W: Sink>(
     alloc: Global,
     words: &[&str],
@@ -101,7 +123,12 @@ fn run_words<R: Source, W: Sink>(
     for word in words {
         texts.push(Text::copy_of(alloc, word)?)?;
     }
-    Ok(run_uncounted(alloc, &texts, Vec::new(alloc), source, sink))
+    let mut builders = Vec::new(alloc);
+    builders.push(NamedBuilder {
+        name: Text::copy_of(alloc, "unasked")?,
+        builder: Box::new(alloc, NoQuery)?,
+    })?;
+    Ok(run_uncounted(alloc, &texts, builders, source, sink))
 }
 
 // Walks what a header and the lines behind it say.
@@ -124,10 +151,10 @@ fn expect(
 
 #[test]
 fn writes_the_pages_of_each_input(rt: HostRuntime) -> Result<(), Fail> {
-    for (behind, pages) in WALKS {
-        expect(&rt, HEADER, behind, Status::Ok, pages)?;
+    for (header, behind, pages) in WALKS {
+        expect(&rt, header, behind, Status::Ok, pages)?;
     }
-    expect(&rt, SALES, "", Status::Ok, SALES_PAGES)
+    Ok(())
 }
 
 #[test]

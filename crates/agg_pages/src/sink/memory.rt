@@ -1,10 +1,11 @@
 ghost use Rattle.std.specs.Prelude.{◌≡◌, ◌-◌, ◌<◌, ◌↔◌, ◌⊎◌, [], Some, IsErr, IsTrue, IfOk, is_err, length, min};
 ghost use Rattle.std.specs.Io.{WritesAtMost};
 ghost use Rattle.std.specs.Io.KnownBytes.{WriteAppends};
-ghost use Rattle.agg_pages.specs.Causes.{HasCause, after_call, is_next_listed, no_calls};
+ghost use Rattle.agg_pages.specs.Causes.{HasCause};
+ghost use Rattle.agg_pages.specs.Memory.{after_call, is_next_listed, no_calls};
 
 use super::Sink;
-use crate::source::{CallCounter, Failed};
+use crate::fault::{CallCounter, Failed};
 use agg_values::OutOfMemory;
 use std::alloc::Global;
 use std::marker::Model;
@@ -19,7 +20,7 @@ pub struct MemorySink {
 
 impl Model for MemorySink {
     ghost use Rattle.std.specs.Prelude.{◌≡◌, ◌≤◌, vec_capacity, vec_len};
-    ghost use Rattle.agg_pages.specs.Causes.{Memory, memory_room};
+    ghost use Rattle.agg_pages.specs.Memory.{Memory, memory_room};
 
     ghost Value = { Memory };
 

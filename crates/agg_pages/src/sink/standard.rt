@@ -4,29 +4,38 @@ ghost use Rattle.std.specs.Io.KnownBytes.{Appends, WriteAppends};
 ghost use Rattle.agg_pages.specs.Causes.{HasCause, faults_after, one_more};
 
 use super::Sink;
-use crate::source::Failed;
+use crate::fault::Failed;
 use std::io::Write;
+use std::marker::Model;
 
 /// A writer of std as a sink, which flushes each write and counts those that failed. It tells no
-/// bytes, since a failed flush says nothing of what was written.
+/// bytes, since a failed flush says nothing of what was written. Contracts see the writer and the
+/// count.
 #[derive(Drop)]
 pub struct StdSink<W> {
     writer: W,
     faults: u64,
 }
 
+impl<W> Model for StdSink<W> {
+    ghost use Rattle.agg_pages.specs.Causes.{Counted};
+
+    ghost Value = { Counted W };
+
+    ghost view = { λ sink. record { inner = sink.writer; faults = sink.faults } };
+}
+
 impl<W> StdSink<W> {
     /// A sink over a writer, with no fault counted.
     pub fn new(writer: W) -> StdSink<W>
-        ensures writer { result.writer ≡ writer }
-        ensures faults { result.faults ≡ 0 }
+        ensures { result ≡ record { inner = writer; faults = 0 } }
     {
         StdSink { writer, faults: 0 }
     }
 
     fn fail(&mut self) -> Failed
         ensures counted { self.new.faults ≡ one_more self.old.faults }
-        ensures writer { self.new.writer ≡ self.old.writer }
+        ensures writer { self.new.inner ≡ self.old.inner }
         ensures later { self.old.faults ≤ self.new.faults }
     {
         self.faults = self.faults.saturating_add(1);
@@ -47,8 +56,8 @@ impl<W: Write> Sink for StdSink<W> {
 
         // What the writer is known to hold has grown by what was taken, or by some front of the
         // piece where the call failed.
-        ensures written { IfOk result (λ count. Appends (W.contents self.old.writer) (W.contents self.new.writer) (take count bytes.now)) }
-        ensures front { OnErr result ((count : ℕ) × Appends (W.contents self.old.writer) (W.contents self.new.writer) (take count bytes.now)) }
+        ensures written { IfOk result (λ count. Appends (W.contents self.old.inner) (W.contents self.new.inner) (take count bytes.now)) }
+        ensures front { OnErr result ((count : ℕ) × Appends (W.contents self.old.inner) (W.contents self.new.inner) (take count bytes.now)) }
         ensures counted { self.new.faults ≡ faults_after (is_err result) self.old.faults }
     {
         let Ok(count) = self.writer.write(bytes) else {

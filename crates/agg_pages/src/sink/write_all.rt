@@ -1,9 +1,9 @@
-ghost use Rattle.std.specs.Prelude.{◌≡◌, ◌≤◌, ℕ, take, OnOk, OnErr};
+ghost use Rattle.std.specs.Prelude.{◌≤◌, ℕ, take, OnOk, OnErr};
 ghost use Rattle.std.specs.Io.KnownBytes.{Appends};
 ghost use Rattle.agg_pages.specs.Causes.{Rose};
 
 use super::Sink;
-use crate::source::Failed;
+use crate::fault::Failed;
 
 /// Writes all bytes, piece by piece.
 pub fn write_all<W: Sink>(sink: &mut W, bytes: &[u8]) -> Result<(), Failed>

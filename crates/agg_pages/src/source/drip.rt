@@ -1,6 +1,7 @@
 ghost use Rattle.std.specs.Prelude.{Some};
 
-use super::{Failed, Source, SteadySource};
+use super::{Source, SteadySource};
+use crate::fault::Failed;
 
 /// Bytes that come one at a time.
 #[derive(Drop)]

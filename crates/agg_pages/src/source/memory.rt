@@ -1,9 +1,11 @@
 ghost use Rattle.std.specs.Prelude.{◌≡◌, ◌↔◌, Some, IsErr, IsTrue, IfOk, is_err, length, min};
 ghost use Rattle.std.specs.Io.{ReadsAtMost};
 ghost use Rattle.std.specs.Io.KnownBytes.{ReadConsumes};
-ghost use Rattle.agg_pages.specs.Causes.{HasCause, after_call, is_next_listed, no_calls};
+ghost use Rattle.agg_pages.specs.Causes.{HasCause};
+ghost use Rattle.agg_pages.specs.Memory.{after_call, is_next_listed, no_calls};
 
-use super::{CallCounter, Failed, Source, SteadySource};
+use super::{Source, SteadySource};
+use crate::fault::{CallCounter, Failed};
 use std::marker::Model;
 
 /// Bytes in memory, whose reads fail at listed calls. Contracts see the bytes that are left, and
@@ -15,7 +17,7 @@ pub struct MemorySource {
 }
 
 impl Model for MemorySource {
-    ghost use Rattle.agg_pages.specs.Causes.{Memory};
+    ghost use Rattle.agg_pages.specs.Memory.{Memory};
 
     ghost Value = { Memory };
 

@@ -1,7 +1,8 @@
 ghost use Rattle.std.specs.Prelude.{◌≡◌, ◌≤◌, ◌<◌, ◌+◌, ℕ, List, Some, [], IfOk, IsErrOf, length, drop};
 ghost use Rattle.agg_pages.specs.Causes.{Rose};
 
-use super::{Failed, Source};
+use super::Source;
+use crate::fault::Failed;
 use std::alloc::{AllocError, Global};
 
 /// How many bytes an input has at most.

@@ -3,34 +3,44 @@ ghost use Rattle.std.specs.Io.{ReadsAtMost};
 ghost use Rattle.std.specs.Io.KnownBytes.{ReadConsumes};
 ghost use Rattle.agg_pages.specs.Causes.{HasCause, faults_after};
 
-use super::{Failed, Source};
+use super::Source;
+use crate::fault::Failed;
 use std::io::Read;
+use std::marker::Model;
 
-/// A reader of std as a source, which counts the reads that failed.
+/// A reader of std as a source, which counts the reads that failed. Contracts see the reader and
+/// the count.
 #[derive(Drop)]
 pub struct StdSource<R> {
     reader: R,
     faults: u64,
 }
 
+impl<R> Model for StdSource<R> {
+    ghost use Rattle.agg_pages.specs.Causes.{Counted};
+
+    ghost Value = { Counted R };
+
+    ghost view = { λ source. record { inner = source.reader; faults = source.faults } };
+}
+
 impl<R> StdSource<R> {
     /// A source over a reader, with no fault counted.
     pub fn new(reader: R) -> StdSource<R>
-        ensures reader { result.reader ≡ reader }
-        ensures faults { result.faults ≡ 0 }
+        ensures { result ≡ record { inner = reader; faults = 0 } }
     {
         StdSource { reader, faults: 0 }
     }
 }
 
 impl<R: Read> Source for StdSource<R> {
-    ghost left = { λ source. R.remaining source.reader };
+    ghost left = { λ source. R.remaining source.inner };
 
     ghost faults = { λ source. source.faults };
 
     fn read(&mut self, buf: &mut [u8]) -> Result<usize, Failed>
         ensures bound { ReadsAtMost result buf.new }
-        ensures bytes { ReadConsumes (R.remaining self.old.reader) (R.remaining self.new.reader) result buf.new }
+        ensures bytes { ReadConsumes (R.remaining self.old.inner) (R.remaining self.new.inner) result buf.new }
         ensures cause { HasCause self.old.faults self.new.faults result }
         ensures counted { self.new.faults ≡ faults_after (is_err result) self.old.faults }
     {

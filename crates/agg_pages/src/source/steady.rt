@@ -1,9 +1,10 @@
-ghost use Rattle.std.specs.Prelude.{◌≡◌, Some, Ok, length, take, min};
+ghost use Rattle.std.specs.Prelude.{◌≡◌, Some, Ok, length, min};
 ghost use Rattle.std.specs.Io.{ReadsAtMost};
 ghost use Rattle.std.specs.Io.KnownBytes.{ReadConsumes};
 ghost use Rattle.agg_pages.specs.Causes.{HasCause};
 
-use super::{Failed, Source};
+use super::Source;
+use crate::fault::Failed;
 use std::marker::Model;
 
 /// Bytes in memory, which never fail to be read. Contracts see the bytes that are left.

@@ -1,6 +1,5 @@
-use Rattle.std.proofs.Common.{rules, ◌≡◌, refl, subst, take, inl, inr, string_bytes}
+use Rattle.std.proofs.Common.{rules, refl, subst, take, inl, inr, string_bytes}
 use Rattle.agg_pages.specs.Answer.{IsReply}
-use Rattle.agg_pages.specs.Run.{IsAnswered}
 use Rattle.agg_pages.proofs.Replies.{reply-either, valid-not_refused}
 use Rattle.agg_pages.proofs.run.run.Goals as goal
 

@@ -1,5 +1,5 @@
 ghost use Rattle.std.specs.Prelude.{◌≡◌, ◌≤◌};
-ghost use Rattle.agg_pages.specs.Causes.{after_call, is_next_listed, no_calls};
+ghost use Rattle.agg_pages.specs.Memory.{after_call, is_next_listed, no_calls};
 
 use std::marker::Model;
 
@@ -12,7 +12,7 @@ pub struct CallCounter {
 }
 
 impl Model for CallCounter {
-    ghost use Rattle.agg_pages.specs.Causes.{Calls};
+    ghost use Rattle.agg_pages.specs.Memory.{Calls};
 
     ghost Value = { Calls };
 
