@@ -36,12 +36,13 @@ pub struct SegmentBuilder {
 impl Model for SegmentBuilder {
     ghost use Rattle.std.specs.Prelude.{List, ℕ, ◌≤◌, length};
     ghost use Rattle.agg_segment.specs.declared.document.FieldValue.{FieldValue};
+    ghost use Rattle.agg_segment.specs.declared.segment.TheConstants.{MAX_DOCUMENTS};
 
     ghost Value = { List (List (List ℕ × List FieldValue)) };
 
     ghost view = { λ builder. builder.documents.items };
 
-    ghost invariant = { λ builder. length builder.documents.items ≤ 16777216 };
+    ghost invariant = { λ builder. length builder.documents.items ≤ MAX_DOCUMENTS };
 }
 
 impl SegmentBuilder {
@@ -87,12 +88,13 @@ pub struct SegmentReader {
 impl Model for SegmentReader {
     ghost use Rattle.std.specs.Prelude.{List, ℕ, ◌≤◌, length};
     ghost use Rattle.agg_segment.specs.declared.document.FieldValue.{FieldValue};
+    ghost use Rattle.agg_segment.specs.declared.segment.TheConstants.{MAX_DOCUMENTS};
 
     ghost Value = { List (List (List ℕ × List FieldValue)) };
 
     ghost view = { λ reader. reader.documents.items };
 
-    ghost invariant = { λ reader. length reader.documents.items ≤ 16777216 };
+    ghost invariant = { λ reader. length reader.documents.items ≤ MAX_DOCUMENTS };
 }
 
 impl SegmentReader {

@@ -42,7 +42,7 @@ abbrev pub canonical_key : CompositeIntermediateKey → CompositeIntermediateKey
 canonical_key (U64 n) = if nat_lt n (2 ^ 63) then I64 (pos n) else U64 n
 canonical_key key = key
 
--- a U64 is one that no I64 can be
+-- a U64 is one that no I64 can be, and an I64 is below 2 ^ 63; the other bounds of the numbers are their types' own, and aren't repeated here
 abbrev pub IsCanonical : CompositeIntermediateKey → Type 0
 IsCanonical (U64 n) = 2 ^ 63 ≤ n
 IsCanonical (I64 n) = n <ℤ pos (2 ^ 63)

@@ -217,4 +217,24 @@ mod tests {
         }
         Ok(())
     }
+
+    #[test]
+    fn wraps_a_key_and_gives_it_back(rt: HostRuntime) -> Result<(), Fail> {
+        let alloc = rt.alloc();
+        for key in [
+            CompositeIntermediateKey::Bool(true),
+            CompositeIntermediateKey::Str(Text::copy_of(alloc, "a:b")?),
+            CompositeIntermediateKey::I64(-5),
+            CompositeIntermediateKey::U64(u64::MAX),
+            CompositeIntermediateKey::DateTime(-1),
+            CompositeIntermediateKey::IpAddr(Address(1)),
+            CompositeIntermediateKey::Null,
+        ] {
+            let copy = key.try_clone(alloc)?;
+            let after = AfterKey::from(key);
+            assert_eq!(rt; after.0, copy);
+            assert_eq!(rt; CompositeIntermediateKey::from(after), copy);
+        }
+        Ok(())
+    }
 }

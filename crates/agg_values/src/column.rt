@@ -44,3 +44,79 @@ impl CompositeKey {
         }
     }
 }
+
+#[cfg(test)]
+mod tests {
+    use super::*;
+    use crate::{Address, Text};
+    use std::test::Fail;
+
+    #[test]
+    fn gives_the_class_of_each_key(rt: HostRuntime) -> Result<(), Fail> {
+        let alloc = rt.alloc();
+        for (key, class) in [
+            (
+                CompositeIntermediateKey::Bool(true),
+                Some(ColumnPaginationOrder::Bool),
+            ),
+            (
+                CompositeIntermediateKey::Str(Text::copy_of(alloc, "a")?),
+                Some(ColumnPaginationOrder::Str),
+            ),
+            (
+                CompositeIntermediateKey::I64(-1),
+                Some(ColumnPaginationOrder::Numeric),
+            ),
+            (
+                CompositeIntermediateKey::U64(1),
+                Some(ColumnPaginationOrder::Numeric),
+            ),
+            (
+                CompositeIntermediateKey::IpAddr(Address(1)),
+                Some(ColumnPaginationOrder::IpAddr),
+            ),
+            (
+                CompositeIntermediateKey::DateTime(1),
+                Some(ColumnPaginationOrder::DateTime),
+            ),
+            (CompositeIntermediateKey::Null, None),
+        ] {
+            assert_eq!(rt; key.column_pagination_order(), class, "{key:?}");
+        }
+        Ok(())
+    }
+
+    #[test]
+    fn gives_the_class_of_each_shown_key(rt: HostRuntime) -> Result<(), Fail> {
+        let alloc = rt.alloc();
+        for (key, class) in [
+            (CompositeKey::Bool(true), Some(ColumnPaginationOrder::Bool)),
+            (
+                CompositeKey::Str(Text::copy_of(alloc, "a")?),
+                Some(ColumnPaginationOrder::Str),
+            ),
+            (CompositeKey::I64(-1), Some(ColumnPaginationOrder::Numeric)),
+            (CompositeKey::U64(1), Some(ColumnPaginationOrder::Numeric)),
+            (CompositeKey::Null, None),
+        ] {
+            assert_eq!(rt; key.column_pagination_order(), class, "{key:?}");
+        }
+        Ok(())
+    }
+
+    #[test]
+    fn orders_the_classes(rt: HostRuntime) {
+        let ascending = [
+            ColumnPaginationOrder::Bool,
+            ColumnPaginationOrder::Str,
+            ColumnPaginationOrder::Numeric,
+            ColumnPaginationOrder::IpAddr,
+            ColumnPaginationOrder::DateTime,
+        ];
+        for (i, left) in ascending.iter().enumerate() {
+            for (j, right) in ascending.iter().enumerate() {
+                assert_eq!(rt; left.cmp(right), i.cmp(&j), "{left:?} and {right:?}");
+            }
+        }
+    }
+}

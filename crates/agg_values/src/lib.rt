@@ -15,6 +15,8 @@ mod number;
 mod order;
 mod order_target;
 mod steps;
+#[cfg(test)]
+mod tests;
 mod text;
 mod tuple;
 

@@ -71,11 +71,11 @@ fn compare_directed(
 fn compare_ascending(left: &CompositeIntermediateKey, right: &CompositeIntermediateKey) -> Ordering
     ensures { result ≡ ascending_order left.now right.now }
 {
-    let class = class_place(left).cmp(&class_place(right));
-    let number = number_in(left).cmp(&number_in(right));
-    let address = address_in(left).cmp(&address_in(right));
-    let text = text_in(left).cmp(text_in(right));
-    class.then(number).then(address).then(text)
+    class_place(left)
+        .cmp(&class_place(right))
+        .then_with(|| number_in(left).cmp(&number_in(right)))
+        .then_with(|| address_in(left).cmp(&address_in(right)))
+        .then_with(|| text_in(left).cmp(text_in(right)))
 }
 
 fn class_place(key: &CompositeIntermediateKey) -> u8

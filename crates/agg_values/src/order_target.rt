@@ -1,4 +1,4 @@
-ghost use Rattle.std.specs.Prelude.{◌≡◌, ◌≢◌, codes, Some};
+ghost use Rattle.std.specs.Prelude.{◌≡◌, codes, Some};
 ghost use Rattle.agg_values.specs.OrderTarget.{target_text};
 
 use crate::Text;
