@@ -99,9 +99,13 @@ grouped [] = ([], [])
 grouped (Holds document ∷ lines) = (document ∷ (grouped lines).0, (grouped lines).1)
 grouped (Begins size ∷ lines) = ([], snapshot_of size (grouped lines).0 ∷ (grouped lines).1)
 
+-- how many documents a segment has at most
+abbrev pub max_documents : ℕ
+max_documents = 16777216
+
 -- whether no segment has too many documents
 abbrev pub all_fit : List Snapshot → Bool
-all_fit snapshots = list_all (λ s. list_all (λ segment. nat_le (length segment) 16777216) s.segments) snapshots
+all_fit snapshots = list_all (λ s. list_all (λ segment. nat_le (length segment) max_documents) s.segments) snapshots
 
 -- the snapshots that the lines behind the header stand for
 abbrev pub snapshots_of : List Line → Option (List Snapshot)

@@ -18,7 +18,8 @@ pub enum CompositeKey {
 const NANOS_PER_MILLI: i64 = 1_000_000;
 
 impl CompositeKey {
-    /// The key as it is shown: a date in milliseconds, truncated, a mapped address as its IPv4 text, any other as its IPv6 text.
+    /// The key as it is shown: a date in milliseconds, truncated, a mapped address as its IPv4 text
+    /// and any other as its IPv6 text.
     pub fn from_intermediate(
         alloc: Global,
         key: CompositeIntermediateKey,
