@@ -12,11 +12,11 @@ ghost use Rattle.agg_composite.specs.Occurrences.{is_past};
 ghost use Rattle.agg_composite.specs.Source.{rules_of, order_of, missing_order_of, missing_bucket_of};
 
 use crate::PageEntry;
-use crate::limits::CollectError;
+use crate::limits::{BucketId, CollectError};
 use crate::request::{CompositeAggregation, CompositeAggregationSource};
 use agg_segment::{FieldValue, SegmentReader};
 use agg_values::{
-    BucketId, CompositeIntermediateKey, DocId, ItemList, OutOfMemory, Steps, Tuple,
+    CompositeIntermediateKey, DocId, ItemList, OutOfMemory, Steps, Tuple,
     composite_intermediate_key_ordering,
 };
 use std::alloc::Global;
