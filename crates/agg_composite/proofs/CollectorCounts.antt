@@ -1,5 +1,5 @@
 -- From a map of counts to the groups of a plain composite, and back.
-use Rattle.std.proofs.Common.{◌≡◌, ℕ, ℤ, ◌+◌, ◌<◌, ◌≤◌, ◌⊎◌, zero, suc, List, [], ◌∷◌, ◌++◌, false, Option, None, Some, IsSome, is_some, length, map, count_by, All, Contains, refl, sym, ap, ◌∙◌, subst, inl, inr, arith}
+use Rattle.std.proofs.Common.{◌≡◌, ℕ, ℤ, ◌+◌, ◌<◌, ◌≤◌, ◌⊎◌, zero, suc, List, [], ◌∷◌, ◌++◌, false, cond, Option, None, Some, IsSome, is_some, length, map, count_by, All, Contains, refl, sym, ap, ◌∙◌, subst, inl, inr, arith}
 use Rattle.std.specs.BTreeMap.{is_at}
 use Rattle.std.specs.List.{AllByRecursion}
 use Rattle.std.specs.List.Sorted.{IsStrictlySortedBy}
@@ -10,6 +10,7 @@ use Rattle.std.specs.declared.cmp.Ordering.TheVariants.{Less, Equal, Greater}
 use Rattle.std.proofs.lemmas.Bool.{false_from_ne_true, false≢true}
 use Rattle.std.proofs.lemmas.Cmp.{int_cmp_total, eq_by_cmp_equiv, tied_itself}
 use Rattle.std.proofs.lemmas.List.{map-append, length-map, get_or-map}
+use Rattle.std.proofs.lemmas.List.Sums.{sum_by-append}
 use Rattle.std.proofs.lemmas.List.Elements.{All-contains, All-cons, All-head, All-nil, All-tail, All-map}
 use Rattle.std.proofs.lemmas.Map.Keys.{IsDistinct-from_sorted}
 use Rattle.std.proofs.lemmas.Map.Lookups.{exact_signed}
@@ -18,10 +19,14 @@ use Rattle.std.proofs.lemmas.Option.{same_Some, none-some}
 use Rattle.agg_values.specs.declared.key.CompositeIntermediateKey.{CompositeIntermediateKey}
 use Rattle.agg_values.specs.declared.key.CompositeIntermediateKey.TheVariants.{I64}
 use Rattle.agg_values.specs.KeyOrder.{tuple_order}
-use Rattle.agg_composite.specs.Counts.{Counts, Holds, plain_rules, positive}
-use Rattle.agg_composite.specs.Groups.{numbers_held}
+use Rattle.agg_composite.specs.Counts.{Counts, plain_rules, positive}
+use Rattle.agg_composite.specs.Groups.{Groups, HasVisited, numbers_held}
 use Rattle.agg_composite.specs.Occurrences.{same_tuple}
-use Rattle.agg_composite.proofs.Lists.{All-from_map, All-from_Contains, Contains-map, count_by-none, count_by-some, count_by-positive, count_by-map, count_by-agree}
+use Rattle.agg_composite.proofs.Lists.{All-from_map, All-from_Contains, Contains-map, count-step, count_by-none, count_by-some, count_by-positive, count_by-map, count_by-agree}
+
+-- the entries, as tuples, are the groups of what was visited
+abbrev pub Holds : List (List CompositeIntermediateKey) → List (ℤ × ℕ) → Type 0
+Holds visited entries = Groups plain_rules visited (numbers_held entries)
 
 -- numbers as tuples of one key
 abbrev tuples_of : List ℤ → List (List CompositeIntermediateKey)
@@ -176,20 +181,28 @@ Groups-from_Counts es numbers c = record {
 
 -- ---- one more visit
 
-pub Holds-more : (es fs : List (ℤ × ℕ)) (number : ℤ) → ((numbers : List ℤ) → Counts es numbers → Counts fs (numbers ++ number ∷ []))
-    → (visited : List (List CompositeIntermediateKey)) → Holds visited es → Holds (visited ++ (I64 number ∷ []) ∷ []) fs
-Holds-more es fs number step visited g =
-    let p = numbers-visited es visited g.complete in
-    let c = Counts-from_Groups es p.0 (subst (λ vs. Holds vs es) p.1 g) in
-    let after = Groups-from_Counts fs (p.0 ++ number ∷ []) (step p.0 c) in
-    let e : visited ++ (I64 number ∷ []) ∷ [] ≡ tuples_of (p.0 ++ number ∷ []) = ap (λ vs. vs ++ (I64 number ∷ []) ∷ []) p.1 ∙ sym (map-append (λ n. I64 n ∷ []) p.0 (number ∷ [])) in
-    subst (λ vs. Holds vs fs) (sym e) after
+visited-then : (visited : List (List CompositeIntermediateKey)) (numbers : List ℤ) (number : ℤ) → visited ≡ tuples_of numbers → visited ++ (I64 number ∷ []) ∷ [] ≡ tuples_of (numbers ++ number ∷ [])
+visited-then visited numbers number e = ap (λ vs. vs ++ (I64 number ∷ []) ∷ []) e ∙ sym (map-append (λ n. I64 n ∷ []) numbers (number ∷ []))
 
--- too many visits of a number are too many of its tuple
-pub Holds-too_many : (es : List (ℤ × ℕ)) (number : ℤ) (limit : ℕ) → ((numbers : List ℤ) → Counts es numbers → limit ≤ count_by (is_at (int_cmp number)) numbers + 1)
-    → (visited : List (List CompositeIntermediateKey)) → Holds visited es → limit ≤ count_by (same_tuple plain_rules (I64 number ∷ [])) visited + 1
-Holds-too_many es number limit step visited g =
+pub HasVisited-number : (es fs : List (ℤ × ℕ)) (number : ℤ) → ((numbers : List ℤ) → Counts es numbers → Counts fs (numbers ++ number ∷ []))
+    → HasVisited plain_rules ((I64 number ∷ []) ∷ []) (numbers_held es) (numbers_held fs)
+HasVisited-number es fs number step visited g =
     let p = numbers-visited es visited g.complete in
     let c = Counts-from_Groups es p.0 (subst (λ vs. Holds vs es) p.1 g) in
-    let e : count_by (same_tuple plain_rules (I64 number ∷ [])) visited ≡ count_by (is_at (int_cmp number)) p.0 = ap (count_by (same_tuple plain_rules (I64 number ∷ []))) p.1 ∙ count-tuples number p.0 in
-    omega (arith, e, step p.0 c)
+    subst (λ vs. Holds vs fs) (sym (visited-then visited p.0 number p.1)) (Groups-from_Counts fs (p.0 ++ number ∷ []) (step p.0 c))
+
+count-then : (number : ℤ) (numbers : List ℤ) → count_by (is_at (int_cmp number)) (numbers ++ number ∷ []) ≡ count_by (is_at (int_cmp number)) numbers + 1
+count-then number numbers =
+    let p = is_at (int_cmp number) in
+    let sum : count_by p (numbers ++ number ∷ []) ≡ count_by p numbers + count_by p (number ∷ []) = sum_by-append (λ n. cond (p n) 1 0) numbers (number ∷ []) in
+    sum ∙ ap (λ n. count_by p numbers + n) (count-step p number [] ∙ ap (λ b. cond b 1 0 + 0) (ap is_eq (tied_itself int_cmp_total number)))
+
+-- a number that is visited too often is a tuple that is
+pub number-too_often : (es : List (ℤ × ℕ)) (number : ℤ) (limit : ℕ) → ((numbers : List ℤ) → Counts es numbers → limit ≤ count_by (is_at (int_cmp number)) numbers + 1)
+    → (visited : List (List CompositeIntermediateKey)) → Holds visited es → limit ≤ count_by (same_tuple plain_rules (I64 number ∷ [])) (visited ++ (I64 number ∷ []) ∷ [])
+number-too_often es number limit step visited g =
+    let p = numbers-visited es visited g.complete in
+    let c = Counts-from_Groups es p.0 (subst (λ vs. Holds vs es) p.1 g) in
+    let e : count_by (same_tuple plain_rules (I64 number ∷ [])) (visited ++ (I64 number ∷ []) ∷ []) ≡ count_by (is_at (int_cmp number)) (p.0 ++ number ∷ []) =
+    ap (count_by (same_tuple plain_rules (I64 number ∷ []))) (visited-then visited p.0 number p.1) ∙ count-tuples number (p.0 ++ number ∷ []) in
+    omega (arith, e, count-then number p.0, step p.0 c)

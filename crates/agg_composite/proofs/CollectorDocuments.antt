@@ -1,18 +1,20 @@
 -- The occurrences of a plain composite in documents, one document more.
-use Rattle.std.proofs.Common.{◌≡◌, ℕ, ℤ, ◌+◌, ◌≤◌, length, count_by, subst, List, [], ◌∷◌, ◌++◌, false, Some, map, filter, slice_get, slice_index_or, refl, sym, ap, ◌∙◌}
+use Rattle.std.proofs.Common.{◌≡◌, ℕ, subst, List, [], ◌∷◌, false, Some, map, filter, slice_get, slice_index_or, refl, sym, ap, ◌∙◌}
 use Rattle.std.proofs.lemmas.List.{map-append, append-nil}
 use Rattle.std.proofs.lemmas.List.Concat.{flat_map-append, flat_map-cons, flat_map_single}
 use Rattle.std.proofs.lemmas.List.Elements.{filter-append}
 use Rattle.std.proofs.lemmas.Option.{get_or_from_slice_get}
 use Rattle.agg_values.specs.declared.key.CompositeIntermediateKey.{CompositeIntermediateKey}
+use Rattle.agg_values.specs.declared.order.Order.{Order}
 use Rattle.agg_values.specs.declared.order.Order.TheVariants.{Asc}
+use Rattle.agg_values.specs.declared.order.MissingOrder.{MissingOrder}
 use Rattle.agg_values.specs.declared.order.MissingOrder.TheVariants.{Default}
 use Rattle.agg_segment.specs.Document.{Fields, meaning, values_in}
 use Rattle.agg_segment.specs.declared.document.FieldValue.{FieldValue}
 use Rattle.agg_composite.specs.declared.request.source.CompositeAggregationSource.{CompositeAggregationSource}
-use Rattle.agg_composite.specs.Counts.{Holds, plain_rules, past_tuples, tuples_in}
-use Rattle.agg_composite.specs.Groups.{Groups, numbers_held, documents_at, past_occurrences}
-use Rattle.agg_composite.specs.Occurrences.{is_past, same_tuple, occurrences, occurrences_in}
+use Rattle.agg_composite.specs.Counts.{plain_rules, past_tuples, tuples_in}
+use Rattle.agg_composite.specs.Groups.{documents_at, past_occurrences}
+use Rattle.agg_composite.specs.Occurrences.{is_past, occurrences, occurrences_in}
 use Rattle.agg_composite.specs.Source.{key_of, or_missing, field_of, order_of, missing_order_of, missing_bucket_of, rules_of, source_values}
 use Rattle.agg_composite.proofs.CollectorParts.{Appends}
 
@@ -68,27 +70,10 @@ plain-part source bound segment doc o m b document name values d n v =
     plain-document source bound (meaning (slice_index_or segment doc [])) o m b ∙ ap (past_tuples bound) e
 
 -- what holds of the visits of a plain source holds of those of its composite
-pub composite-visits : (sources : List CompositeAggregationSource) (source : CompositeAggregationSource) → sources ≡ source ∷ [] → order_of source ≡ Asc → missing_order_of source ≡ Default
-    → (bound : List CompositeIntermediateKey) (documents : List Fields) (es fs : List (ℤ × ℕ))
-    → ((visited : List (List CompositeIntermediateKey)) → Holds visited es → Holds (visited ++ past_occurrences (source ∷ []) bound documents) fs)
-    → (visited : List (List CompositeIntermediateKey)) → Groups (rules_of sources) visited (numbers_held es)
-    → Groups (rules_of sources) (visited ++ past_occurrences sources bound documents) (numbers_held fs)
-composite-visits sources source e o m bound documents es fs step visited g =
-    let r : rules_of sources ≡ plain_rules = ap rules_of e ∙ rules-plain source o m in
-    let k = step visited (subst (λ rules. Groups rules visited (numbers_held es)) r g) in
-    subst (λ rules. Groups rules (visited ++ past_occurrences sources bound documents) (numbers_held fs)) (sym r)
-    (subst (λ ss. Holds (visited ++ past_occurrences ss bound documents) fs) (sym e) k)
-
-pub composite-too_many : (sources : List CompositeAggregationSource) (source : CompositeAggregationSource) → sources ≡ source ∷ [] → order_of source ≡ Asc → missing_order_of source ≡ Default
-    → (bound : List CompositeIntermediateKey) (documents : List Fields) (es : List (ℤ × ℕ)) (limit : ℕ)
-    → ((visited : List (List CompositeIntermediateKey)) → Holds visited es
-    → (tuple : List CompositeIntermediateKey) × (limit ≤ count_by (same_tuple plain_rules tuple) visited + length (past_occurrences (source ∷ []) bound documents)))
-    → (visited : List (List CompositeIntermediateKey)) → Groups (rules_of sources) visited (numbers_held es)
-    → (tuple : List CompositeIntermediateKey) × (limit ≤ count_by (same_tuple (rules_of sources) tuple) visited + length (past_occurrences sources bound documents))
-composite-too_many sources source e o m bound documents es limit many visited g =
-    let r : rules_of sources ≡ plain_rules = ap rules_of e ∙ rules-plain source o m in
-    let k = many visited (subst (λ rules. Groups rules visited (numbers_held es)) r g) in (
-      k.0,
-      subst (λ rules. limit ≤ count_by (same_tuple rules k.0) visited + length (past_occurrences sources bound documents)) (sym r)
-          (subst (λ ss. limit ≤ count_by (same_tuple plain_rules k.0) visited + length (past_occurrences ss bound documents)) (sym e) k.1),
-    )
+pub composite-visits : (P : List (Order × MissingOrder) → List (List CompositeIntermediateKey) → Type 0)
+    → (sources : List CompositeAggregationSource) (source : CompositeAggregationSource) → sources ≡ source ∷ [] → order_of source ≡ Asc → missing_order_of source ≡ Default
+    → (bound : List CompositeIntermediateKey) (documents : List Fields)
+    → P plain_rules (past_occurrences (source ∷ []) bound documents) → P (rules_of sources) (past_occurrences sources bound documents)
+composite-visits P sources source e o m bound documents held =
+    subst (λ ss. P (rules_of ss) (past_occurrences ss bound documents)) (sym e)
+    (subst (λ rules. P rules (past_occurrences (source ∷ []) bound documents)) (sym (rules-plain source o m)) held)

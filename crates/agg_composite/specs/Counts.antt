@@ -10,7 +10,6 @@ use Rattle.agg_values.specs.declared.order.MissingOrder.{MissingOrder}
 use Rattle.agg_values.specs.declared.order.Order.TheVariants.{Asc}
 use Rattle.agg_values.specs.declared.order.MissingOrder.TheVariants.{Default}
 use Rattle.agg_segment.specs.declared.document.FieldValue.{FieldValue}
-use Rattle.agg_composite.specs.Groups.{Groups, numbers_held}
 use Rattle.agg_composite.specs.Occurrences.{is_past}
 use Rattle.agg_composite.specs.Source.{key_of}
 
@@ -27,10 +26,6 @@ pub record Counts (entries : List (ℤ × ℕ)) (numbers : List ℤ) : Type 0 wh
 -- the rules of one plain source
 abbrev pub plain_rules : List (Order × MissingOrder)
 plain_rules = (Asc, Default) ∷ []
-
--- the entries, as tuples, are the groups of what was visited
-abbrev pub Holds : List (List CompositeIntermediateKey) → List (ℤ × ℕ) → Type 0
-Holds visited entries = Groups plain_rules visited (numbers_held entries)
 
 -- the tuples of one key each, one for each value
 abbrev pub tuples_in : List FieldValue → List (List CompositeIntermediateKey)

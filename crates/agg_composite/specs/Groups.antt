@@ -1,5 +1,5 @@
 -- What a collector holds: the distinct tuples that it visited, with their numbers.
-use Rattle.std.specs.Prelude.{◌≡◌, ◌<◌, ℕ, List, [], ◌∷◌, false, ℤ, count_by, filter, map, All, Contains, slice_index_or}
+use Rattle.std.specs.Prelude.{◌≡◌, ◌<◌, ◌≤◌, ◌^◌, ℕ, List, [], ◌∷◌, ◌++◌, false, ℤ, count_by, filter, map, All, Contains, slice_index_or}
 use Rattle.std.specs.Map.{keys_of}
 use Rattle.std.specs.List.Sorted.{IsStrictlySortedBy}
 use Rattle.agg_values.specs.declared.key.CompositeIntermediateKey.{CompositeIntermediateKey}
@@ -22,6 +22,15 @@ pub record Groups (rules : List (Order × MissingOrder)) (visited : List (List C
   pub counted : All (λ e. (0 < e.1) × (e.1 ≡ count_by (same_tuple rules e.0) visited)) held
   pub occurring : All (Contains visited) (keys_of held)
   pub complete : All (Contains (keys_of held)) visited
+
+-- what held the groups of what was visited now holds those of it with these tuples behind
+abbrev pub HasVisited : List (Order × MissingOrder) → List (List CompositeIntermediateKey) → List (List CompositeIntermediateKey × ℕ) → List (List CompositeIntermediateKey × ℕ) → Type 0
+HasVisited rules tuples held held_now = (visited : List (List CompositeIntermediateKey)) → Groups rules visited held → Groups rules (visited ++ tuples) held_now
+
+-- with these tuples behind what was visited, some tuple is visited 2^64 times or more
+abbrev pub VisitsTooOften : List (Order × MissingOrder) → List (List CompositeIntermediateKey) → List (List CompositeIntermediateKey × ℕ) → Type 0
+VisitsTooOften rules tuples held = (visited : List (List CompositeIntermediateKey)) → Groups rules visited held
+    → (tuple : List CompositeIntermediateKey) × (2 ^ 64 ≤ count_by (same_tuple rules tuple) (visited ++ tuples))
 
 -- the documents at these places of a segment
 abbrev pub documents_at : List (List (List ℕ × List FieldValue)) → List ℕ → List Fields

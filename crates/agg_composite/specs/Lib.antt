@@ -1,5 +1,6 @@
 pub mod Counts
 pub mod Groups
+pub mod Limits
 pub mod Named
 pub mod Occurrences
 pub mod Page

@@ -1,5 +1,5 @@
 -- The tuples of a document, and those that lie past a bound.
-use Rattle.std.specs.Prelude.{ℕ, List, [], ◌∷◌, Bool, ◌&&◌, ◌||◌, Option, None, Some, length, map, nat_lt}
+use Rattle.std.specs.Prelude.{ℕ, List, [], ◌∷◌, Bool, ◌&&◌, ◌||◌, Option, None, Some, length, map, take, nat_lt}
 use Rattle.std.specs.List.{flat_map}
 use Rattle.std.specs.Ordering.{is_lt, is_eq}
 use Rattle.agg_values.specs.declared.key.CompositeIntermediateKey.{CompositeIntermediateKey}
@@ -11,7 +11,6 @@ use Rattle.agg_values.specs.Names.{value_of}
 use Rattle.agg_segment.specs.Document.{Fields}
 use Rattle.agg_composite.specs.declared.request.source.CompositeAggregationSource.{CompositeAggregationSource}
 use Rattle.agg_composite.specs.Source.{name_of, source_values}
-use Rattle.std.proofs.Common.{take}
 
 -- one tuple for each choice of one key per source, repeats kept
 abbrev pub occurrences : List CompositeAggregationSource → Fields → List (List CompositeIntermediateKey)

@@ -6,17 +6,17 @@ ghost use Rattle.agg_values.specs.declared.key.CompositeIntermediateKey.TheVaria
 ghost use Rattle.agg_values.specs.declared.order.Order.TheVariants.{Asc};
 ghost use Rattle.agg_segment.specs.declared.document.FieldValue.TheVariants as field;
 ghost use Rattle.agg_values.specs.declared.order.MissingOrder.TheVariants.{Default};
-ghost use Rattle.agg_composite.specs.Counts.{Counts, Holds, past_tuples, plain_rules};
-ghost use Rattle.agg_composite.specs.Groups.{Groups, IsPlain, documents_at, page_entries, past_occurrences};
-ghost use Rattle.agg_composite.specs.Occurrences.{is_past, same_tuple};
+ghost use Rattle.agg_composite.specs.Counts.{Counts, past_tuples, plain_rules};
+ghost use Rattle.agg_composite.specs.Groups.{HasVisited, IsPlain, VisitsTooOften, documents_at, numbers_held, page_entries, past_occurrences};
+ghost use Rattle.agg_composite.specs.Occurrences.{is_past};
 ghost use Rattle.agg_composite.specs.Source.{rules_of, order_of, missing_order_of, missing_bucket_of};
 
 use crate::PageEntry;
-use crate::limits::CollectError;
+use crate::limits::{BucketId, CollectError};
 use crate::request::{CompositeAggregation, CompositeAggregationSource};
 use agg_segment::{FieldValue, SegmentReader};
 use agg_values::{
-    BucketId, CompositeIntermediateKey, DocId, ItemList, OutOfMemory, Steps, Tuple,
+    CompositeIntermediateKey, DocId, ItemList, OutOfMemory, Steps, Tuple,
     composite_intermediate_key_ordering,
 };
 use std::alloc::Global;
@@ -73,16 +73,9 @@ impl SegmentCompositeCollector {
         requires parent { parent_bucket_id ≡ 0 }
         requires form { IsPlain composite.now.sources }
         requires within { All (λ doc. doc < length segment.now) docs.now }
-        ensures ok { OnOk result
-            ((visited : _)
-            → Groups (rules_of composite.now.sources) visited self.old
-            → Groups (rules_of composite.now.sources) (visited ++ past_occurrences composite.now.sources bound.now (documents_at segment.now docs.now)) self.new) }
+        ensures ok { OnOk result (HasVisited (rules_of composite.now.sources) (past_occurrences composite.now.sources bound.now (documents_at segment.now docs.now)) self.old self.new) }
         ensures ticks { OnOk result (steps.new ≡ steps.old + length (past_occurrences composite.now.sources bound.now (documents_at segment.now docs.now))) }
-        ensures too_many { IsErrOf result CollectError.TooMany
-            → (visited : _)
-            → Groups (rules_of composite.now.sources) visited self.old
-            → (tuple : _)
-            × (2 ^ 64 ≤ count_by (same_tuple (rules_of composite.now.sources) tuple) visited + length (past_occurrences composite.now.sources bound.now (documents_at segment.now docs.now))) }
+        ensures too_many { IsErrOf result CollectError.TooMany → VisitsTooOften (rules_of composite.now.sources) (past_occurrences composite.now.sources bound.now (documents_at segment.now docs.now)) self.old }
     {
         let _ = parent_bucket_id;
         let Some(source) = composite.sources.as_slice().first() else {
@@ -135,16 +128,9 @@ fn visit_documents<L: Ledger>(
     requires missing { missing_order_of source.now ≡ Default }
     requires bucket { missing_bucket_of source.now ≡ false }
     requires within { All (λ doc. doc < length segment.now) docs.now }
-    ensures ok { OnOk result
-        ((visited : _)
-        → Holds visited counts.old.entries
-        → Holds (visited ++ past_occurrences (source.now ∷ []) bound.now (documents_at segment.now docs.now)) counts.new.entries) }
+    ensures ok { OnOk result (HasVisited plain_rules (past_occurrences (source.now ∷ []) bound.now (documents_at segment.now docs.now)) (numbers_held counts.old.entries) (numbers_held counts.new.entries)) }
     ensures ticks { OnOk result (steps.new ≡ steps.old + length (past_occurrences (source.now ∷ []) bound.now (documents_at segment.now docs.now))) }
-    ensures too_many { IsErrOf result CollectError.TooMany
-        → (visited : _)
-        → Holds visited counts.old.entries
-        → (tuple : _)
-        × (2 ^ 64 ≤ count_by (same_tuple plain_rules tuple) visited + length (past_occurrences (source.now ∷ []) bound.now (documents_at segment.now docs.now))) }
+    ensures too_many { IsErrOf result CollectError.TooMany → VisitsTooOften plain_rules (past_occurrences (source.now ∷ []) bound.now (documents_at segment.now docs.now)) (numbers_held counts.old.entries) }
 {
     for doc in docs {
         let values = segment.document(*doc).values(source.field());
@@ -163,16 +149,9 @@ fn visit_values<L: Ledger>(
 ) -> Result<(), CollectError>
     requires order { order_of source.now ≡ Asc }
     requires missing { missing_order_of source.now ≡ Default }
-    ensures ok { OnOk result
-        ((visited : _)
-        → Holds visited counts.old.entries
-        → Holds (visited ++ past_tuples bound.now values.now) counts.new.entries) }
+    ensures ok { OnOk result (HasVisited plain_rules (past_tuples bound.now values.now) (numbers_held counts.old.entries) (numbers_held counts.new.entries)) }
     ensures ticks { OnOk result (steps.new ≡ steps.old + length (past_tuples bound.now values.now)) }
-    ensures too_many { IsErrOf result CollectError.TooMany
-        → (visited : _)
-        → Holds visited counts.old.entries
-        → (tuple : _)
-        × (2 ^ 64 ≤ count_by (same_tuple plain_rules tuple) visited + length (past_tuples bound.now values.now)) }
+    ensures too_many { IsErrOf result CollectError.TooMany → VisitsTooOften plain_rules (past_tuples bound.now values.now) (numbers_held counts.old.entries) }
 {
     for value in values {
         visit_value(counts, value, source, bound, steps)?;
@@ -190,16 +169,9 @@ fn visit_value<L: Ledger>(
 ) -> Result<(), CollectError>
     requires order { order_of source.now ≡ Asc }
     requires missing { missing_order_of source.now ≡ Default }
-    ensures ok { OnOk result
-        ((visited : _)
-        → Holds visited counts.old.entries
-        → Holds (visited ++ past_tuples bound.now (value.now ∷ [])) counts.new.entries) }
+    ensures ok { OnOk result (HasVisited plain_rules (past_tuples bound.now (value.now ∷ [])) (numbers_held counts.old.entries) (numbers_held counts.new.entries)) }
     ensures ticks { OnOk result (steps.new ≡ steps.old + length (past_tuples bound.now (value.now ∷ []))) }
-    ensures too_many { IsErrOf result CollectError.TooMany
-        → (visited : _)
-        → Holds visited counts.old.entries
-        → (tuple : _)
-        × (2 ^ 64 ≤ count_by (same_tuple plain_rules tuple) visited + length (past_tuples bound.now (value.now ∷ []))) }
+    ensures too_many { IsErrOf result CollectError.TooMany → VisitsTooOften plain_rules (past_tuples bound.now (value.now ∷ [])) (numbers_held counts.old.entries) }
 {
     let number = number_of(value);
     if lies_past(number, source, bound) {

@@ -29,7 +29,8 @@ pub fn a_page_lists_each_tuple_once()
         → AllPairs (λ entry other. entry.tuple ≢ other.tuple) page }
 {}
 
-/// The pages of a walk, each past the last tuple of the one before, are one page of all their sizes.
+/// Successive pages over the same documents, each past the last tuple of the one before, are one
+/// page of all their sizes.
 pub fn successive_pages_are_one_page()
     ensures two { (sources : List CompositeAggregationSource) (size more : ℕ) (bound : List CompositeIntermediateKey) (documents : List Fields) (page next : List Entry)
         → IsPage sources size bound documents page
@@ -48,10 +49,10 @@ pub fn a_page_with_room_is_the_last()
         → All (Contains (map (λ entry. entry.tuple) page)) (past_occurrences sources bound documents) }
 {}
 
-/// A walk lists its tuples in ascending order and each once, also where the documents change
-/// between its pages. Where some page has room, it lists each tuple past the bound that all of them
-/// may list.
-pub fn a_walk_lists_each_tuple_once()
+/// Successive pages list their tuples in ascending order and each once, also where the documents
+/// change between them. Where some page has room, they list each tuple that each of them may list
+/// past the bound.
+pub fn successive_pages_list_each_tuple_once()
     ensures ascending { (sources : List CompositeAggregationSource) (bound : List CompositeIntermediateKey) (steps : List Step)
         → AreSuccessive sources bound steps
         → IsStrictlySortedBy (tuple_order (rules_of sources)) (map (λ entry. entry.tuple) (flat_map (λ step. step.page) steps)) }
@@ -66,9 +67,9 @@ pub fn a_walk_lists_each_tuple_once()
         → Contains (map (λ entry. entry.tuple) (flat_map (λ step. step.page) steps)) tuple }
 {}
 
-/// A walk over the same documents comes to a page with room, and has listed every tuple past the
-/// bound then.
-pub fn a_walk_ends_with_every_tuple()
+/// Successive pages over the same documents come to one with room, and have listed every tuple past
+/// the bound then.
+pub fn successive_pages_end_with_every_tuple()
     ensures ends { (sources : List CompositeAggregationSource) (size : ℕ) (bound : List CompositeIntermediateKey) (documents : List Fields) (pages : List (List Entry))
         → AreSuccessive sources bound (steps_over size documents pages)
         → 0 < size

@@ -4,7 +4,11 @@ ghost use Rattle.agg_composite.specs.declared.limits.CollectError.TheVariants.{O
 
 use agg_values::OutOfMemory;
 use std::alloc::AllocFailed;
+use std::marker::Model;
 use thiserror::Error;
+
+/// The number of a bucket of a collector.
+pub type BucketId = u32;
 
 /// The bytes that the collectors of a walk may hold, where no limit is given.
 pub const DEFAULT_MEMORY_LIMIT: u64 = 500_000_000;
@@ -18,6 +22,14 @@ pub struct LimitsLedger {
     in_use: u64,
     memory_limit: u64,
     bucket_limit: u32,
+}
+
+impl Model for LimitsLedger {
+    ghost use Rattle.agg_composite.specs.Limits.{Limits};
+
+    ghost Value = { Limits };
+
+    ghost view = { λ ledger. record { in_use = ledger.in_use; memory_limit = ledger.memory_limit; bucket_limit = ledger.bucket_limit } };
 }
 
 impl LimitsLedger {

@@ -32,7 +32,7 @@ use Rattle.agg_composite.proofs.PageTuples.{occurring-canonical}
 use Rattle.agg_composite.proofs.PageUnique.{IsPage-same}
 use Rattle.agg_engine.specs.Form.{IsOneComposite}
 use Rattle.agg_engine.specs.Results.{CompositeResult, IsResults, after_in, after_tuple, shown, shown_after, shown_entry}
-use Rattle.agg_engine.specs.PageEntries.{last_key, page_entry, shown_page_entry}
+use Rattle.agg_engine.specs.PageEntries.{ArePageEntries, last_key, page_entry, shown_page_entry}
 use Rattle.agg_engine.specs.declared.results.types.AggregationResult.TheVariants.{BucketResult as Buckets}
 use Rattle.agg_engine.specs.declared.results.types.BucketResult.TheVariants.{Composite as CompositeBuckets}
 use Rattle.agg_composite.specs.declared.page_entry.PageEntry.{PageEntry}
@@ -315,9 +315,7 @@ shown-page sources (e ∷ page) = ap (λ t. shown_entry sources e ∷ t) (shown-
 
 -- what the page of a snapshot gives: its entries, the bound behind it, and its results as they are shown
 pub record IsNext (name : List ℕ) (query : QueryTree) (s : Snapshot) (sources : List CompositeAggregationSource) (bound : List CompositeIntermediateKey) (entries : List PageEntry) (next : Option (List CompositeIntermediateKey)) (results : AggregationResults) : Type 0 where
-  pub page : List Entry
-  pub is_page : IsPage sources s.page_size bound (matching query s) page
-  pub entries_are : entries ≡ map page_entry page
+  pub page : ArePageEntries sources s.page_size bound (matching query s) entries
   pub few : length (occurrences_in sources (matching query s)) < 2 ^ 32
   pub next_is : next ≡ last_key s.page_size entries
   pub results_are : results.0 ≡ (name, Buckets (CompositeBuckets (map (shown_page_entry sources) entries) (shown_after sources next))) ∷ []
@@ -329,52 +327,55 @@ module _ (name : List ℕ) (query : QueryTree) (request : Request) (snapshots : 
       subst (λ r. ReachesTooMany name query r snapshots) (sym w.request_is)
       (state-too_many name query w.composite w.plain snapshots bound s rest pages w.state (subst (λ ss. 2 ^ 32 ≤ length (occurrences_in ss (matching query s))) w.same_sources many))
 
-  module _ (entries : List PageEntry) (next : Option (List CompositeIntermediateKey)) (results : AggregationResults) (n : IsNext name query s sources bound entries next results) where
-    own_page : IsPage w.composite.sources s.page_size bound (matching query s) n.page
-    own_page = subst (λ ss. IsPage ss s.page_size bound (matching query s) n.page) w.same_sources n.is_page
+-- at a snapshot, with what its page gives
+module _ {name : List ℕ} {query : QueryTree} {request : Request} {snapshots : List Snapshot} {sources : List CompositeAggregationSource} {bound : List CompositeIntermediateKey}
+    {s : Snapshot} {rest : List Snapshot} {pages : List AggregationResults} (w : IsWalking name query request snapshots sources bound (s ∷ rest) pages)
+    {entries : List PageEntry} {next : Option (List CompositeIntermediateKey)} {results : AggregationResults} (n : IsNext name query s sources bound entries next results) where
+  own_page : IsPage w.composite.sources s.page_size bound (matching query s) n.page.0
+  own_page = subst (λ ss. IsPage ss s.page_size bound (matching query s) n.page.0) w.same_sources n.page.1
 
-    own_few : length (occurrences_in w.composite.sources (matching query s)) < 2 ^ 32
-    own_few = subst (λ ss. length (occurrences_in ss (matching query s)) < 2 ^ 32) w.same_sources n.few
+  own_few : length (occurrences_in w.composite.sources (matching query s)) < 2 ^ 32
+  own_few = subst (λ ss. length (occurrences_in ss (matching query s)) < 2 ^ 32) w.same_sources n.few
 
-    own_next : next ≡ after_tuple s.page_size n.page
-    own_next = n.next_is ∙ ap (last_key s.page_size) n.entries_are ∙ last_key-page s.page_size n.page
+  own_next : next ≡ after_tuple s.page_size n.page.0
+  own_next = n.next_is ∙ ap (last_key s.page_size) n.page.2 ∙ last_key-page s.page_size n.page.0
 
-    own_results : results ≡ shown (one name w.composite) (one_result name (result_of s.page_size n.page))
-    own_results =
-        let Shown : List CompositeAggregationSource → List PageEntry → Option (List CompositeIntermediateKey) → AggregationResults =
-        λ ss es o. record { 0 = (name, Buckets (CompositeBuckets (map (shown_page_entry ss) es) (shown_after ss o))) ∷ [] } in
-        ap (λ r. record { 0 = r }) n.results_are ∙ ap (λ ss. Shown ss entries next) w.same_sources ∙ ap (λ es. Shown w.composite.sources es next) n.entries_are
-        ∙ ap (Shown w.composite.sources (map page_entry n.page)) own_next
-        ∙ ap (λ bs. record { 0 = (name, Buckets (CompositeBuckets bs (shown_after w.composite.sources (after_tuple s.page_size n.page)))) ∷ [] }) (shown-page w.composite.sources n.page)
+  own_results : results ≡ shown (one name w.composite) (one_result name (result_of s.page_size n.page.0))
+  own_results =
+      let Shown : List CompositeAggregationSource → List PageEntry → Option (List CompositeIntermediateKey) → AggregationResults =
+      λ ss es o. record { 0 = (name, Buckets (CompositeBuckets (map (shown_page_entry ss) es) (shown_after ss o))) ∷ [] } in
+      ap (λ r. record { 0 = r }) n.results_are ∙ ap (λ ss. Shown ss entries next) w.same_sources ∙ ap (λ es. Shown w.composite.sources es next) n.page.2
+      ∙ ap (Shown w.composite.sources (map page_entry n.page.0)) own_next
+      ∙ ap (λ bs. record { 0 = (name, Buckets (CompositeBuckets bs (shown_after w.composite.sources (after_tuple s.page_size n.page.0)))) ∷ [] }) (shown-page w.composite.sources n.page.0)
 
-    pub walking-ended : next ≡ None → (x : List Results) × IsWalk name query request snapshots x true × (pages ++ results ∷ [] ≡ map (shown request) x)
-    walking-ended none =
-        let last = sym own_next ∙ none in
-        let this = one_result name (result_of s.page_size n.page) in
-        let walk = state-ended name query w.composite w.plain snapshots bound s rest pages w.state n.page own_page own_few last in
-        let listed : pages ++ results ∷ [] ≡ map (shown (one name w.composite)) (w.state.results ++ this ∷ []) =
-        ap (λ p. p ++ results ∷ []) w.state.pages_shown ∙ ap (λ r. map (shown (one name w.composite)) w.state.results ++ r ∷ []) own_results
-        ∙ sym (map-append (shown (one name w.composite)) w.state.results (this ∷ [])) in (
-          w.state.results ++ this ∷ [],
-          subst (λ r. IsWalk name query r snapshots (w.state.results ++ this ∷ []) true) (sym w.request_is) walk,
-          subst (λ r. pages ++ results ∷ [] ≡ map (shown r) (w.state.results ++ this ∷ [])) (sym w.request_is) listed,
-        )
+  pub walking-ended : next ≡ None → (x : List Results) × IsWalk name query request snapshots x true × (pages ++ results ∷ [] ≡ map (shown request) x)
+  walking-ended none =
+      let last = sym own_next ∙ none in
+      let this = one_result name (result_of s.page_size n.page.0) in
+      let walk = state-ended name query w.composite w.plain snapshots bound s rest pages w.state n.page.0 own_page own_few last in
+      let listed : pages ++ results ∷ [] ≡ map (shown (one name w.composite)) (w.state.results ++ this ∷ []) =
+      ap (λ p. p ++ results ∷ []) w.state.pages_shown ∙ ap (λ r. map (shown (one name w.composite)) w.state.results ++ r ∷ []) own_results
+      ∙ sym (map-append (shown (one name w.composite)) w.state.results (this ∷ [])) in (
+        w.state.results ++ this ∷ [],
+        subst (λ r. IsWalk name query r snapshots (w.state.results ++ this ∷ []) true) (sym w.request_is) walk,
+        subst (λ r. pages ++ results ∷ [] ≡ map (shown r) (w.state.results ++ this ∷ [])) (sym w.request_is) listed,
+      )
 
-    pub walking-ended-fits : next ≡ None → ¬ (ReachesTooMany name query request snapshots)
-    walking-ended-fits none too_many =
-        state-ended-fits name query w.composite w.plain snapshots bound s rest pages w.state n.page own_page own_few (sym own_next ∙ none)
-        (subst (λ r. ReachesTooMany name query r snapshots) w.request_is too_many)
+  pub walking-ended-fits : next ≡ None → ¬ (ReachesTooMany name query request snapshots)
+  walking-ended-fits none too_many =
+      state-ended-fits name query w.composite w.plain snapshots bound s rest pages w.state n.page.0 own_page own_few (sym own_next ∙ none)
+      (subst (λ r. ReachesTooMany name query r snapshots) w.request_is too_many)
 
-    pub walking-more : (tuple : List CompositeIntermediateKey) → next ≡ Some tuple → IsWalking name query request snapshots sources tuple rest (pages ++ results ∷ [])
-    walking-more tuple some =
-        let more = state-more name query w.composite w.plain snapshots bound s rest pages w.state n.page own_page own_few tuple (sym own_next ∙ some) in
-        record {
-          composite = w.composite;
-          request_is = w.request_is;
-          plain = w.plain;
-          same_sources = w.same_sources;
-          state = subst (λ r. WalkState name query w.composite snapshots tuple rest (pages ++ r ∷ [])) (sym own_results) more;
-        }
+  pub walking-more : (tuple : List CompositeIntermediateKey) → next ≡ Some tuple → IsWalking name query request snapshots sources tuple rest (pages ++ results ∷ [])
+  walking-more tuple some =
+      let more = state-more name query w.composite w.plain snapshots bound s rest pages w.state n.page.0 own_page own_few tuple (sym own_next ∙ some) in
+      record {
+        composite = w.composite;
+        request_is = w.request_is;
+        plain = w.plain;
+        same_sources = w.same_sources;
+        state = subst (λ r. WalkState name query w.composite snapshots tuple rest (pages ++ r ∷ [])) (sym own_results) more;
+      }
 
 -- behind the last snapshot
 module _ (name : List ℕ) (query : QueryTree) (request : Request) (snapshots : List Snapshot) (sources : List CompositeAggregationSource) (bound : List CompositeIntermediateKey)

@@ -42,6 +42,3 @@ pub use tuple::Tuple;
 
 /// The place of a document in its segment.
 pub type DocId = u32;
-
-/// The number of a bucket of a collector.
-pub type BucketId = u32;

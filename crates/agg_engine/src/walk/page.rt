@@ -1,11 +1,10 @@
 //! The page of one snapshot.
-ghost use Rattle.std.specs.Prelude.{◌≡◌, ◌≤◌, ◌<◌, ◌^◌, ◌↔◌, ℕ, List, IfOk, OnOk, IsErrOf, IsTrue, All, filter, length, map};
+ghost use Rattle.std.specs.Prelude.{◌≡◌, ◌≤◌, ◌<◌, ◌^◌, ◌↔◌, IfOk, OnOk, IsErrOf, IsTrue, All, filter, length, map};
 ghost use Rattle.agg_segment.specs.Document.{meaning};
 ghost use Rattle.agg_segment.specs.Query.{matches};
 ghost use Rattle.agg_composite.specs.Groups.{IsPlain, documents_at};
 ghost use Rattle.agg_composite.specs.Occurrences.{occurrences_in};
-ghost use Rattle.agg_composite.specs.Page.{IsPage, Entry};
-ghost use Rattle.agg_engine.specs.PageEntries.{page_entry};
+ghost use Rattle.agg_engine.specs.PageEntries.{ArePageEntries};
 ghost use Rattle.agg_engine.specs.Walk.{matching};
 
 use super::Snapshot;
@@ -49,10 +48,7 @@ pub fn snapshot_page<L: Ledger>(
 ) -> Result<ItemList<PageEntry>, CollectError>
     requires plain { IsPlain composite.now.sources }
     requires one { length snapshot.now.segments ≤ 1 }
-    ensures page { IfOk result
-        (λ entries. (page : List Entry)
-        × IsPage composite.now.sources composite.now.size bound.now (matching query.now snapshot.now) page
-        × (entries ≡ map page_entry page)) }
+    ensures page { IfOk result (ArePageEntries composite.now.sources composite.now.size bound.now (matching query.now snapshot.now)) }
     ensures fits { OnOk result (length (occurrences_in composite.now.sources (matching query.now snapshot.now)) < 2 ^ 32) }
     ensures too_many { IsErrOf result CollectError.TooMany
         → 2 ^ 32 ≤ length (occurrences_in composite.now.sources (matching query.now snapshot.now)) }
@@ -72,10 +68,7 @@ fn segment_page<L: Ledger>(
     steps: &mut Steps<L>,
 ) -> Result<ItemList<PageEntry>, CollectError>
     requires plain { IsPlain composite.now.sources }
-    ensures page { IfOk result
-        (λ entries. (page : List Entry)
-        × IsPage composite.now.sources composite.now.size bound.now (filter (matches query.now) (map meaning segment.now)) page
-        × (entries ≡ map page_entry page)) }
+    ensures page { IfOk result (ArePageEntries composite.now.sources composite.now.size bound.now (filter (matches query.now) (map meaning segment.now))) }
     ensures fits { OnOk result (length (occurrences_in composite.now.sources (filter (matches query.now) (map meaning segment.now))) < 2 ^ 32) }
     ensures too_many { IsErrOf result CollectError.TooMany
         → 2 ^ 32 ≤ length (occurrences_in composite.now.sources (filter (matches query.now) (map meaning segment.now))) }

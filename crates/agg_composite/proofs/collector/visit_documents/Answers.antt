@@ -1,10 +1,9 @@
-use Rattle.std.proofs.Common.{◌≡◌, ◌+◌, ◌++◌, [], ◌∷◌, Err, take, length, get_or, sym, ap, ◌∙◌, subst, append_assoc, arith}
+use Rattle.std.proofs.Common.{◌≡◌, ◌+◌, [], ◌∷◌, Err, length, get_or, sym, ap, ◌∙◌, subst, arith}
 use Rattle.std.proofs.lemmas.List.{take_all}
 use Rattle.agg_composite.specs.declared.limits.CollectError.TheVariants.{TooMany}
-use Rattle.agg_composite.specs.Counts.{Holds, plain_rules, past_tuples}
-use Rattle.agg_composite.specs.Groups.{documents_at, past_occurrences}
-use Rattle.agg_composite.specs.Occurrences.{same_tuple}
-use Rattle.agg_composite.proofs.CollectorParts.{gives-more, length-more, within-whole}
+use Rattle.agg_composite.specs.Counts.{plain_rules}
+use Rattle.agg_composite.specs.Groups.{HasVisited, VisitsTooOften, documents_at, numbers_held, past_occurrences}
+use Rattle.agg_composite.proofs.CollectorParts.{HasVisited-more, VisitsTooOften-more, length-more}
 use Rattle.agg_composite.proofs.CollectorDocuments.{plain-part, past-documents-append}
 use Rattle.agg_composite.proofs.Errors.{error-kept}
 use Rattle.agg_composite.proofs.collector.visit_documents.Goals as goal
@@ -16,18 +15,17 @@ loop-doc-preserved g c =
     let segment = c.args.segment.now in
     let docs = c.args.docs.now in
     let i = c.loop-doc.doc-index in
-    let before = past_occurrences (source ∷ []) bound (documents_at segment (take i docs)) in
+    let now = numbers_held c.loop-doc.counts.entries in
+    let after = numbers_held c.visit_values.new.counts.entries in
     let part = plain-part source bound segment (get_or docs i 0) c.requires.order c.requires.missing c.requires.bucket
     c.document.result.now c.field.result.now c.values-values.result.now c.document.ensures c.field.ensures c.values-values.ensures in
-    let e = gives-more (λ ds. past_occurrences (source ∷ []) bound (documents_at segment ds)) (past-documents-append (source ∷ []) bound segment) docs i 0 c.loop-doc-test.true
-    ∙ ap (λ ts. before ++ ts) part in
     let more = length-more (λ ds. past_occurrences (source ∷ []) bound (documents_at segment ds)) (past-documents-append (source ∷ []) bound segment) docs i 0 c.loop-doc-test.true in
     let so_far = c.loop-doc.invariant.ticks in
     let own = c.in_ok-visit_values.ensures.ticks in
     record {
-      groups = λ visited h.
-          let k = c.in_ok-visit_values.ensures.ok (visited ++ before) (c.loop-doc.invariant.groups visited h) in
-          subst (λ ts. Holds ts c.visit_values.new.counts.entries) (append_assoc visited before (past_tuples bound c.values-values.result.now) ∙ ap (λ ts. visited ++ ts) (sym e)) k;
+      groups = HasVisited-more (λ ds. past_occurrences (source ∷ []) bound (documents_at segment ds)) (past-documents-append (source ∷ []) bound segment) plain_rules docs i 0 c.loop-doc-test.true
+          (numbers_held c.args.counts.now.entries) now after
+          c.loop-doc.invariant.groups (subst (λ ts. HasVisited plain_rules ts now after) (sym part) c.in_ok-visit_values.ensures.ok);
       ticks = omega (arith, so_far, own, more, ap length part);
     }
 
@@ -38,19 +36,19 @@ returns-in_err-visit_values-clause-too_many g c =
     let segment = c.args.segment.now in
     let docs = c.args.docs.now in
     let i = c.loop-doc.doc-index in
+    let now = numbers_held c.loop-doc.counts.entries in
     let part = plain-part source bound segment (get_or docs i 0) c.requires.order c.requires.missing c.requires.bucket
     c.document.result.now c.field.result.now c.values-values.result.now c.document.ensures c.field.ensures c.values-values.ensures in
-    λ err visited h.
+    λ err.
     let was : Err c.in_err-visit_values.field-0.0 ≡ Err TooMany = error-kept c.from_residual.result c.in_err-visit_values.field-0.0 TooMany c.from_residual.ensures.1 err in
-    let m = c.in_err-visit_values.ensures.too_many was (visited ++ past_occurrences (source ∷ []) bound (documents_at segment (take i docs))) (c.loop-doc.invariant.groups visited h) in
-    let w = within-whole (λ ds. past_occurrences (source ∷ []) bound (documents_at segment ds)) (past-documents-append (source ∷ []) bound segment)
-    (same_tuple plain_rules m.0) visited docs i 0 c.loop-doc-test.true in
-    (m.0, omega (arith, m.1, w, ap length part))
+    VisitsTooOften-more (λ ds. past_occurrences (source ∷ []) bound (documents_at segment ds)) (past-documents-append (source ∷ []) bound segment) plain_rules docs i 0 c.loop-doc-test.true
+    (numbers_held c.args.counts.now.entries) now c.loop-doc.invariant.groups (subst (λ ts. VisitsTooOften plain_rules ts now) (sym part) (c.in_err-visit_values.ensures.too_many was))
 
 pub returns-clause-ok : goal.returns-clause-ok
-returns-clause-ok g c = λ visited h.
+returns-clause-ok g c =
     let e = take_all c.loop-doc.doc-index c.args.docs.now c.loop-doc-test.false in
-    subst (λ docs. Holds (visited ++ past_occurrences (c.args.source.now ∷ []) c.args.bound.now (documents_at c.args.segment.now docs)) c.loop-doc.counts.entries) e (c.loop-doc.invariant.groups visited h)
+    subst (λ docs. HasVisited plain_rules (past_occurrences (c.args.source.now ∷ []) c.args.bound.now (documents_at c.args.segment.now docs)) (numbers_held c.args.counts.now.entries) (numbers_held c.loop-doc.counts.entries))
+    e c.loop-doc.invariant.groups
 
 pub returns-clause-ticks : goal.returns-clause-ticks
 returns-clause-ticks g c =

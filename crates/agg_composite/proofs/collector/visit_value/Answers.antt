@@ -1,11 +1,12 @@
-use Rattle.std.proofs.Common.{rules, ◌≡◌, ◌+◌, ◌≤◌, ◌++◌, [], ◌∷◌, true, length, count_by, FitsSigned, sym, ap, ◌∙◌, ◌^◌, Err, subst, arith}
+use Rattle.std.proofs.Common.{rules, ◌≡◌, ◌+◌, [], ◌∷◌, true, length, FitsSigned, sym, ap, ◌∙◌, ◌^◌, Err, subst}
 use Rattle.agg_composite.specs.declared.limits.CollectError.TheVariants.{TooMany}
 use mir.Syntax.{w64}
 use Rattle.std.proofs.lemmas.Int.{to_z-of_z}
 use Rattle.agg_values.specs.declared.key.CompositeIntermediateKey.TheVariants.{I64}
-use Rattle.agg_composite.specs.Counts.{Holds, plain_rules, past_tuples}
-use Rattle.agg_composite.specs.Occurrences.{is_past, same_tuple}
-use Rattle.agg_composite.proofs.CollectorCounts.{Holds-more, Holds-too_many}
+use Rattle.agg_composite.specs.Counts.{plain_rules}
+use Rattle.agg_composite.specs.Groups.{HasVisited, VisitsTooOften, numbers_held}
+use Rattle.agg_composite.specs.Occurrences.{is_past}
+use Rattle.agg_composite.proofs.CollectorCounts.{HasVisited-number, number-too_often}
 use Rattle.agg_composite.proofs.CollectorPast.{past-value-yes}
 use Rattle.agg_composite.proofs.Errors.{error-kept}
 use Rattle.agg_composite.proofs.collector.visit_value.Goals as goal
@@ -17,8 +18,8 @@ returns-in_ok-visit-clause-ok g c =
     let p : is_past plain_rules c.args.bound.now (I64 n ∷ []) ≡ true = simp to_z-of_z at (sym c.lies_past.ensures ∙ c.if-lies_past.true) in
     let e = past-value-yes c.args.bound.now c.args.value.now n c.number_of-number.ensures f p in
     let step = simp to_z-of_z at c.in_ok-visit.ensures.ok in
-    λ visited h. subst (λ ts. Holds (visited ++ ts) c.visit.new.counts.entries) (sym e)
-    (Holds-more c.args.counts.now.entries c.visit.new.counts.entries n step visited h)
+    subst (λ ts. HasVisited plain_rules ts (numbers_held c.args.counts.now.entries) (numbers_held c.visit.new.counts.entries)) (sym e)
+    (HasVisited-number c.args.counts.now.entries c.visit.new.counts.entries n step)
 
 pub returns-in_ok-visit-clause-ticks : goal.returns-in_ok-visit-clause-ticks
 returns-in_ok-visit-clause-ticks g c =
@@ -35,8 +36,7 @@ returns-in_err-visit-clause-too_many g c =
     let p : is_past plain_rules c.args.bound.now (I64 n ∷ []) ≡ true = simp to_z-of_z at (sym c.lies_past.ensures ∙ c.if-lies_past.true) in
     let e = past-value-yes c.args.bound.now c.args.value.now n c.number_of-number.ensures f p in
     let i = simp to_z-of_z at c.in_err-visit.ensures.too_many in
-    let l : length (past_tuples c.args.bound.now (c.args.value.now ∷ [])) ≡ 1 = ap length e in
-    λ err visited h.
+    λ err.
     let was : Err c.in_err-visit.field-0.0 ≡ Err TooMany = error-kept c.from_residual.result c.in_err-visit.field-0.0 TooMany c.from_residual.ensures.1 err in
-    let m : 2 ^ 64 ≤ count_by (same_tuple plain_rules (I64 n ∷ [])) visited + 1 = Holds-too_many c.args.counts.now.entries n (2 ^ 64) (i was) visited h in
-    ((I64 n ∷ []), omega (arith, m, l))
+    subst (λ ts. VisitsTooOften plain_rules ts (numbers_held c.args.counts.now.entries)) (sym e)
+    (λ visited h. (I64 n ∷ [], number-too_often c.args.counts.now.entries n (2 ^ 64) (i was) visited h))

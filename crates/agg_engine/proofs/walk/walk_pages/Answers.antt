@@ -1,5 +1,6 @@
-use Rattle.std.proofs.Common.{◌∙◌, arith}
-use Rattle.agg_engine.proofs.WalkSteps.{IsNext, walking-at, walking-end, walking-start, walking-ended, walking-ended-fits, walking-more, walking-out}
+use Rattle.std.proofs.Common.{◌+◌, ◌∷◌, ◌∙◌, drop, arith}
+use Rattle.agg_engine.proofs.WalkSteps.{IsNext, IsWalking, walking-at, walking-end, walking-start, walking-ended, walking-ended-fits, walking-more, walking-out}
+use Rattle.agg_engine.proofs.walk.walk_pages.Given as given
 use Rattle.agg_engine.proofs.walk.walk_pages.Goals as goal
 use Rattle.agg_engine.proofs.walk.walk_pages.Goals.{In_ok-push}
 
@@ -13,54 +14,35 @@ returns-clause-pages g c =
     let w = walking-end c.args.name.now c.args.query.now c.args.request.now c.args.snapshots.now _ c.loop-snapshot.paged.sources c.loop-snapshot.bound c.loop-snapshot.snapshot-index c.loop-snapshot.pages c.loop-snapshot.invariant c.as_slice-snapshot-items.ensures (omega arith) in
     walking-out c.args.name.now c.args.query.now c.args.request.now c.args.snapshots.now c.loop-snapshot.paged.sources c.loop-snapshot.bound c.loop-snapshot.pages w
 
+-- the walk has come to this snapshot
+here : (g : given.Over) (c : In_ok-push g)
+    → IsWalking c.args.name.now c.args.query.now c.args.request.now c.args.snapshots.now c.loop-snapshot.paged.sources c.loop-snapshot.bound (c.snapshot-item.result ∷ drop (c.loop-snapshot.snapshot-index + 1) c.args.snapshots.now) c.loop-snapshot.pages
+here g c =
+    walking-at c.args.name.now c.args.query.now c.args.request.now c.args.snapshots.now _ c.loop-snapshot.paged.sources c.loop-snapshot.bound c.loop-snapshot.snapshot-index c.loop-snapshot.pages c.snapshot-item.result c.loop-snapshot.invariant
+    c.as_slice-snapshot-items.ensures (omega arith) c.snapshot-item.is
+
+-- what the page of this snapshot gives
+next : (g : given.Over) (c : In_ok-push g)
+    → IsNext c.args.name.now c.args.query.now c.snapshot-item.result c.loop-snapshot.paged.sources c.loop-snapshot.bound c.in_ok-entries.entries c.in_ok-next.next c.in_ok-page_results.field-0
+next g c = record {
+  page = c.in_ok-entries.ensures.page;
+  few = c.in_ok-entries.ensures.fits;
+  next_is = cc c.in_ok-next.ensures;
+  results_are = cc c.in_ok-page_results.ensures;
+}
+
 pub returns-in_default-next-clause-pages : goal.returns-in_default-next-clause-pages
 returns-in_default-next-clause-pages g c =
-    let s = c.snapshot-item.result in
-    let w =
-    walking-at c.args.name.now c.args.query.now c.args.request.now c.args.snapshots.now _ c.loop-snapshot.paged.sources c.loop-snapshot.bound c.loop-snapshot.snapshot-index c.loop-snapshot.pages s c.loop-snapshot.invariant
-    c.as_slice-snapshot-items.ensures (omega arith) c.snapshot-item.is in
-    let e = c.in_ok-entries.ensures in
-    let n : IsNext c.args.name.now c.args.query.now s c.loop-snapshot.paged.sources c.loop-snapshot.bound c.in_ok-entries.entries c.in_ok-next.next c.in_ok-page_results.field-0 = record {
-      page = e.page.0;
-      is_page = e.page.1;
-      entries_are = e.page.2;
-      few = e.fits;
-      next_is = cc c.in_ok-next.ensures;
-      results_are = cc c.in_ok-page_results.ensures;
-    } in
-    let out = walking-ended c.args.name.now c.args.query.now c.args.request.now c.args.snapshots.now c.loop-snapshot.paged.sources c.loop-snapshot.bound s _ c.loop-snapshot.pages w c.in_ok-entries.entries c.in_ok-next.next c.in_ok-page_results.field-0 n c.in_default-next.is in
+    let turn = (goal.at.returns-in_default-next-clause-pages g c).In_ok-push in
+    let out = walking-ended (here g turn) (next g turn) c.in_default-next.is in
     (out.0, out.1, c.in_ok-push.ensures.ok ∙ out.2)
 
 pub returns-in_default-next-clause-fits : goal.returns-in_default-next-clause-fits
 returns-in_default-next-clause-fits g c =
-    let s = c.snapshot-item.result in
-    let w =
-    walking-at c.args.name.now c.args.query.now c.args.request.now c.args.snapshots.now _ c.loop-snapshot.paged.sources c.loop-snapshot.bound c.loop-snapshot.snapshot-index c.loop-snapshot.pages s c.loop-snapshot.invariant
-    c.as_slice-snapshot-items.ensures (omega arith) c.snapshot-item.is in
-    let e = c.in_ok-entries.ensures in
-    let n : IsNext c.args.name.now c.args.query.now s c.loop-snapshot.paged.sources c.loop-snapshot.bound c.in_ok-entries.entries c.in_ok-next.next c.in_ok-page_results.field-0 = record {
-      page = e.page.0;
-      is_page = e.page.1;
-      entries_are = e.page.2;
-      few = e.fits;
-      next_is = cc c.in_ok-next.ensures;
-      results_are = cc c.in_ok-page_results.ensures;
-    } in
-    walking-ended-fits c.args.name.now c.args.query.now c.args.request.now c.args.snapshots.now c.loop-snapshot.paged.sources c.loop-snapshot.bound s _ c.loop-snapshot.pages w c.in_ok-entries.entries c.in_ok-next.next c.in_ok-page_results.field-0 n c.in_default-next.is
+    let turn = (goal.at.returns-in_default-next-clause-fits g c).In_ok-push in
+    walking-ended-fits (here g turn) (next g turn) c.in_default-next.is
 
 pub loop-snapshot-preserved : goal.loop-snapshot-preserved
 loop-snapshot-preserved g c =
-    let s = c.snapshot-item.result in
-    let w =
-    walking-at c.args.name.now c.args.query.now c.args.request.now c.args.snapshots.now _ c.loop-snapshot.paged.sources c.loop-snapshot.bound c.loop-snapshot.snapshot-index c.loop-snapshot.pages s c.loop-snapshot.invariant
-    c.as_slice-snapshot-items.ensures (omega arith) c.snapshot-item.is in
-    let e = c.in_ok-entries.ensures in
-    let n : IsNext c.args.name.now c.args.query.now s c.loop-snapshot.paged.sources c.loop-snapshot.bound c.in_ok-entries.entries c.in_ok-next.next c.in_ok-page_results.field-0 = record {
-      page = e.page.0;
-      is_page = e.page.1;
-      entries_are = e.page.2;
-      few = e.fits;
-      next_is = cc c.in_ok-next.ensures;
-      results_are = cc c.in_ok-page_results.ensures;
-    } in
-    rw c.in_ok-push.ensures.ok (walking-more c.args.name.now c.args.query.now c.args.request.now c.args.snapshots.now c.loop-snapshot.paged.sources c.loop-snapshot.bound s _ c.loop-snapshot.pages w c.in_ok-entries.entries c.in_ok-next.next c.in_ok-page_results.field-0 n c.in-Some-next.tuple c.in-Some-next.is)
+    let turn = (goal.at.loop-snapshot-preserved g c).In_ok-push in
+    rw c.in_ok-push.ensures.ok (walking-more (here g turn) (next g turn) c.in-Some-next.tuple c.in-Some-next.is)

@@ -1,5 +1,5 @@
 use Rattle.agg_composite.proofs.PageWhole.{walk_ends, walk_with_room}
-use Rattle.agg_composite.proofs.laws.a_walk_ends_with_every_tuple.Goals as goal
+use Rattle.agg_composite.proofs.laws.successive_pages_end_with_every_tuple.Goals as goal
 
 pub returns-clause-ends : goal.returns-clause-ends
 returns-clause-ends c sources size bound documents pages walk some long = walk_ends sources documents size some bound pages walk long

@@ -1,5 +1,5 @@
 use Rattle.agg_composite.proofs.PageSteps.{walk_ascends, walk_distinct, walk_lists}
-use Rattle.agg_composite.proofs.laws.a_walk_lists_each_tuple_once.Goals as goal
+use Rattle.agg_composite.proofs.laws.successive_pages_list_each_tuple_once.Goals as goal
 
 pub returns-clause-ascending : goal.returns-clause-ascending
 returns-clause-ascending c = walk_ascends
