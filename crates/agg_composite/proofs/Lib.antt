@@ -16,3 +16,4 @@ pub mod PageTuples
 pub mod PageUnique
 pub mod PageWalk
 pub mod PageWhole
+pub mod UncutLength

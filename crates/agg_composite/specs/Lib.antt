@@ -6,3 +6,4 @@ pub mod Occurrences
 pub mod Page
 pub mod Source
 pub mod Successive
+pub mod Uncut

@@ -5,4 +5,5 @@ pub mod MatchingDocs
 pub mod Occurring
 pub mod OneWalk
 pub mod SnapshotPage
+pub mod WalkErrors
 pub mod WalkSteps

@@ -30,6 +30,7 @@ use Rattle.agg_composite.proofs.PageFromGroups.{equal-from_is_eq}
 use Rattle.agg_composite.proofs.PageAfter.{bound_of-after_map}
 use Rattle.agg_composite.proofs.PageTuples.{occurring-canonical}
 use Rattle.agg_composite.proofs.PageUnique.{IsPage-same}
+use Rattle.agg_composite.proofs.UncutLength.{length-uncut}
 use Rattle.agg_engine.specs.Form.{IsOneComposite}
 use Rattle.agg_engine.specs.Results.{CompositeResult, IsResults, after_in, after_tuple, shown, shown_after, shown_entry}
 use Rattle.agg_engine.specs.PageEntries.{ArePageEntries, last_key, page_entry, shown_page_entry}
@@ -150,6 +151,14 @@ after-All : (P : List CompositeIntermediateKey → Type 0) (full : Bool) (page :
 after-All P true page all = last-All P None (map (λ e. e.tuple) page) tt (tuples-All P page all)
 after-All P false page all = tt
 
+keys-page : (page : List Entry) → map (λ e. e.key) (map page_entry page) ≡ map (λ e. e.tuple) page
+keys-page [] = refl
+keys-page (e ∷ page) = ap (λ t. e.tuple ∷ t) (keys-page page)
+
+-- the after tuple of a page, by its tuples
+after_tuple-tuples : (size : ℕ) (page : List Entry) → after_tuple size page ≡ cond (length page == size) (last_or None (map (λ e. e.tuple) page)) None
+after_tuple-tuples size page = rw (length-map page page_entry, keys-page page) refl
+
 -- the after tuple of a page has a key for each source
 pub after-whole : (sources : List CompositeAggregationSource) (size : ℕ) (bound : List CompositeIntermediateKey) (documents : List Fields) (page : List Entry) (tuple : List CompositeIntermediateKey)
     → IsPage sources size bound documents page → after_tuple size page ≡ Some tuple → length tuple ≡ length sources
@@ -157,7 +166,7 @@ after-whole sources size bound documents page tuple is_page last =
     let P : List CompositeIntermediateKey → Type 0 = λ t. Contains (occurrences_in sources documents) t in
     let listed = recursion_from_All (λ e. MayList sources bound documents e.tuple) page is_page.listed in
     let occurs = after-All P (length page == size) page (AllByRecursion-weaker (λ e. MayList sources bound documents e.tuple) (λ e. P e.tuple) (λ e m. m.0) page listed) in
-    let at : P tuple = subst (λ o. MatchOption o ⊤ P) last occurs in
+    let at : P tuple = subst (λ o. MatchOption o ⊤ P) (sym (after_tuple-tuples size page) ∙ last) occurs in
     (occurring-canonical sources documents tuple at).0 ∙ length-map sources (λ s. (order_of s, missing_order_of s))
 
 -- ---- the walk so far
@@ -197,15 +206,16 @@ module _ (name : List ℕ) (query : QueryTree) (c : CompositeAggregation) (plain
   module _ (bound : List CompositeIntermediateKey) (s : Snapshot) (rest : List Snapshot) (pages : List AggregationResults) (state : WalkState name query c snapshots bound (s ∷ rest) pages) where
     -- too many occurrences in the next snapshot
     too_many-standing : 2 ^ 32 ≤ length (occurrences_in c.sources (matching query s)) → HasTooMany (standing name c bound) (matching query s)
-    too_many-standing many = subst (λ request. HasTooMany request (matching query s)) (sym (standing-one name c bound)) (inl many)
+    too_many-standing many = subst (λ request. HasTooMany request (matching query s)) (sym (standing-one name c bound)) (inl (subst (λ n. 2 ^ 32 ≤ n) (sym (length-uncut (behind bound c) (matching query s))) many))
 
     pub state-too_many : 2 ^ 32 ≤ length (occurrences_in c.sources (matching query s)) → ReachesTooMany name query (one name c) snapshots
     state-too_many many = state.reaches (inl (too_many-standing many))
 
     no_more-standing : length (occurrences_in c.sources (matching query s)) < 2 ^ 32 → ¬ (HasTooMany (standing name c bound) (matching query s))
     no_more-standing few many =
+        let counted = length-uncut (behind bound c) (matching query s) in
         elim (subst (λ request. HasTooMany request (matching query s)) (standing-one name c bound) many) [
-          | inl h ↦ omega arith
+          | inl h ↦ omega (arith, counted)
           | inr h ↦ h
         ]
 
@@ -302,13 +312,6 @@ walking-start name query request snapshots named sources (given, c, request_is, 
       state = state-start name query c plain snapshots at_start;
     }
 
-keys-page : (page : List Entry) → map (λ e. e.key) (map page_entry page) ≡ map (λ e. e.tuple) page
-keys-page [] = refl
-keys-page (e ∷ page) = ap (λ t. e.tuple ∷ t) (keys-page page)
-
-last_key-page : (size : ℕ) (page : List Entry) → last_key size (map page_entry page) ≡ after_tuple size page
-last_key-page size page = rw (length-map page page_entry, keys-page page) refl
-
 shown-page : (sources : List CompositeAggregationSource) (page : List Entry) → map (shown_page_entry sources) (map page_entry page) ≡ map (shown_entry sources) page
 shown-page sources [] = refl
 shown-page sources (e ∷ page) = ap (λ t. shown_entry sources e ∷ t) (shown-page sources page)
@@ -338,7 +341,7 @@ module _ {name : List ℕ} {query : QueryTree} {request : Request} {snapshots : 
   own_few = subst (λ ss. length (occurrences_in ss (matching query s)) < 2 ^ 32) w.same_sources n.few
 
   own_next : next ≡ after_tuple s.page_size n.page.0
-  own_next = n.next_is ∙ ap (last_key s.page_size) n.page.2 ∙ last_key-page s.page_size n.page.0
+  own_next = n.next_is ∙ ap (last_key s.page_size) n.page.2
 
   own_results : results ≡ shown (one name w.composite) (one_result name (result_of s.page_size n.page.0))
   own_results =

@@ -10,6 +10,6 @@ use Rattle.agg_engine.specs.declared.walk.Snapshot.{Snapshot}
 abbrev pub IsOneComposite : List (List ℕ × Aggregation) → Type 0
 IsOneComposite request = (name : List ℕ) × (composite : CompositeAggregation) × (request ≡ (name, record { agg = Composite composite }) ∷ []) × IsPlain composite.sources × (composite.after ≡ [])
 
--- such a request, and snapshots of one segment at most
-abbrev pub IsFirstForm : List (List ℕ × Aggregation) → List Snapshot → Type 0
-IsFirstForm request snapshots = IsOneComposite request × All (λ s. length s.segments ≤ 1) snapshots
+-- the form that a walk takes so far: such a request, and snapshots of one segment at most
+abbrev pub IsTakenForm : List (List ℕ × Aggregation) → List Snapshot → Type 0
+IsTakenForm request snapshots = IsOneComposite request × All (λ s. length s.segments ≤ 1) snapshots

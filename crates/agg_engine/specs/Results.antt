@@ -1,19 +1,18 @@
 -- The results of a request over documents.
-use Rattle.std.specs.Prelude.{◌≡◌, ◌==◌, ℕ, List, [], ◌∷◌, Option, None, Some, if◌then◌else◌, length, map, option_and_then, ⊤}
-use Rattle.std.specs.List.{last_or}
+use Rattle.std.specs.Prelude.{◌≡◌, ℕ, List, [], ◌∷◌, Option, None, Some, map, option_and_then, ⊤}
 use Rattle.agg_values.specs.declared.key.CompositeIntermediateKey.{CompositeIntermediateKey}
 use Rattle.agg_values.specs.declared.after_key.AfterKey.{AfterKey}
 use Rattle.agg_values.specs.Names.{value_of}
-use Rattle.agg_values.specs.Shown.{shown_key}
 use Rattle.agg_segment.specs.Document.{Fields}
 use Rattle.agg_composite.specs.declared.request.source.CompositeAggregationSource.{CompositeAggregationSource}
 use Rattle.agg_composite.specs.declared.request.aggregation.CompositeAggregation.{CompositeAggregation}
 use Rattle.agg_composite.specs.declared.request.aggregation.Aggregation.{Aggregation}
 use Rattle.agg_composite.specs.declared.request.aggregation.AggregationVariants.{AggregationVariants}
 use Rattle.agg_composite.specs.declared.request.aggregation.AggregationVariants.TheVariants.{Composite}
-use Rattle.agg_composite.specs.Named.{by_source, after_map}
+use Rattle.agg_composite.specs.Named.{after_map}
 use Rattle.agg_composite.specs.Occurrences.{bound_of}
 use Rattle.agg_composite.specs.Page.{Entry, IsPage}
+use Rattle.agg_engine.specs.PageEntries.{last_key, page_entry, shown_page_entry}
 use Rattle.agg_engine.specs.declared.results.types.AggregationResult.{AggregationResult}
 use Rattle.agg_engine.specs.declared.results.types.AggregationResult.TheVariants.{BucketResult as Buckets}
 use Rattle.agg_engine.specs.declared.results.types.BucketResult.TheVariants.{Composite as CompositeBuckets}
@@ -27,7 +26,7 @@ pub record CompositeResult : Type 0 where
 
 -- the last tuple of a page that has as many entries as it has room for
 abbrev pub after_tuple : ℕ → List Entry → Option (List CompositeIntermediateKey)
-after_tuple size entries = if length entries == size then last_or None (map (λ e. e.tuple) entries) else None
+after_tuple size entries = last_key size (map page_entry entries)
 
 -- the result of a composite over documents
 pub record IsCompositeResult (composite : CompositeAggregation) (documents : List Fields) (result : CompositeResult) : Type 0 where
@@ -51,7 +50,7 @@ after_in name results = option_and_then (λ r. r.after) (value_of name results)
 
 -- a group as it is shown
 abbrev pub shown_entry : List CompositeAggregationSource → Entry → CompositeBucketEntry
-shown_entry sources entry = record { key = by_source shown_key sources entry.tuple; doc_count = entry.count }
+shown_entry sources entry = shown_page_entry sources (page_entry entry)
 
 -- the after key of a page, empty where the page isn't full
 abbrev pub shown_after : List CompositeAggregationSource → Option (List CompositeIntermediateKey) → List (List ℕ × AfterKey)

@@ -10,9 +10,9 @@ use Rattle.agg_segment.specs.declared.query.QueryTree.{QueryTree}
 use Rattle.agg_composite.specs.declared.request.aggregation.Aggregation.{Aggregation}
 use Rattle.agg_composite.specs.declared.request.aggregation.AggregationVariants.{AggregationVariants}
 use Rattle.agg_composite.specs.declared.request.aggregation.AggregationVariants.TheVariants.{Composite}
-use Rattle.agg_composite.specs.Occurrences.{occurrences_in}
-use Rattle.agg_engine.specs.declared.walk.Snapshot.{Snapshot}
 use Rattle.agg_composite.specs.Named.{after_map}
+use Rattle.agg_composite.specs.Uncut.{uncut}
+use Rattle.agg_engine.specs.declared.walk.Snapshot.{Snapshot}
 use Rattle.agg_engine.specs.Results.{CompositeResult, IsResults, after_in}
 
 -- the documents of a snapshot: those of its segments, joined
@@ -51,14 +51,10 @@ IsWalk name query request (s ∷ snapshots) (r ∷ rs) ended =
     IsResults (sized name s.page_size request) (matching query s) r
     × MatchOption (after_in name r) ((rs ≡ []) × (ended ≡ true)) (λ tuple. IsWalk name query (resumed name tuple request) snapshots rs ended)
 
--- the occurrences of an aggregation in documents, without bound or size
-abbrev pub uncut_count : AggregationVariants → List Fields → ℕ
-uncut_count (Composite composite) documents = length (occurrences_in composite.sources documents)
-
 -- some aggregation of a request has too many occurrences
 abbrev pub HasTooMany : List (List ℕ × Aggregation) → List Fields → Type 0
 HasTooMany [] documents = ⊥
-HasTooMany (a ∷ request) documents = (2 ^ 32 ≤ uncut_count a.1.agg documents) ⊎ HasTooMany request documents
+HasTooMany (a ∷ request) documents = (2 ^ 32 ≤ length (uncut a.1.agg documents)) ⊎ HasTooMany request documents
 
 -- a snapshot that the walk reaches has too many occurrences
 abbrev pub ReachesTooMany : List ℕ → QueryTree → List (List ℕ × Aggregation) → List Snapshot → Type 0

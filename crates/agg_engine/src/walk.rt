@@ -1,7 +1,9 @@
 //! The walk: a page for each reached snapshot.
 mod bound;
 mod checks;
+mod copy;
 mod error;
+mod matching;
 mod page;
 mod shown;
 #[cfg(test)]
@@ -10,7 +12,7 @@ mod tests;
 ghost use Rattle.std.specs.Prelude.{◌≡◌, IfOk, OnOk, IsErrOf, true, false};
 ghost use Rattle.agg_values.specs.declared.error.InvalidArgument.TheVariants.{ZeroSize};
 ghost use Rattle.agg_engine.specs.Walk.{NamesComposite, ReachesTooMany, has_zero_size};
-ghost use Rattle.agg_engine.specs.Form.{IsFirstForm};
+ghost use Rattle.agg_engine.specs.Form.{IsTakenForm};
 ghost use Rattle.agg_engine.specs.ShownWalk.{IsShownWalk};
 
 use crate::results::AggregationResults;
@@ -50,7 +52,7 @@ pub fn walk_pages<L: Ledger>(
     snapshots: &ItemList<Snapshot>,
     steps: &mut Steps<L>,
 ) -> Result<Walk, WalkError>
-    requires form { IsFirstForm request.now snapshots.now }
+    requires form { IsTakenForm request.now snapshots.now }
 
     // An Ok is the walk, as it is shown, of a request that may be asked.
     ensures pages { IfOk result (λ walk. IsShownWalk name.now query.now request.now snapshots.now walk) }
@@ -68,14 +70,15 @@ pub fn walk_pages<L: Ledger>(
         × ReachesTooMany name.now query.now request.now snapshots.now }
     ensures limits { limits.new ≡ limits.old }
 {
-    let _ = (limits.in_use(), schema.fields().len());
+    let _ = limits;
+    let _ = schema;
     if checks::has_zero_size(request, snapshots.as_slice()) {
         return Err(WalkError::Invalid(InvalidArgument::ZeroSize));
     }
     let Some(composite) = checks::named_composite(request, name) else {
         return Err(WalkError::UnknownComposite);
     };
-    let mut paged = page::copy_of(alloc, composite)?;
+    let mut paged = copy::copy_of(alloc, composite)?;
     let mut bound = Tuple::new(alloc);
     let mut pages = ItemList::new(alloc);
     for snapshot in snapshots.as_slice() {

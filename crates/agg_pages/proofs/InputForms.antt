@@ -17,7 +17,7 @@ use Rattle.agg_composite.specs.declared.request.aggregation.AggregationVariants.
 use Rattle.agg_composite.specs.declared.request.aggregation.AggregationVariants.TheVariants.{Composite}
 use Rattle.agg_composite.specs.declared.request.aggregation.CompositeAggregation.{CompositeAggregation}
 use Rattle.agg_composite.specs.declared.request.source.CompositeAggregationSource.{CompositeAggregationSource}
-use Rattle.agg_engine.specs.Form.{IsFirstForm, IsOneComposite}
+use Rattle.agg_engine.specs.Form.{IsTakenForm, IsOneComposite}
 use Rattle.agg_engine.specs.declared.walk.Snapshot.{Snapshot}
 use Rattle.agg_pages.specs.declared.input.header.Header.{Header}
 use Rattle.agg_pages.specs.declared.input.line.Line.{Line}
@@ -124,6 +124,6 @@ snapshots_small : (lines : List Line) → IfSome (snapshots_of lines) (All IsSma
 snapshots_small lines = cond_all (All IsSmall) _ (Some (grouped lines).1) (grouped_small lines)
 
 -- an input has the first form
-pub input_form : (first : List ℕ) (later : List (List ℕ)) (header : Header) (snapshots : List Snapshot) → header_of first ≡ Some header → option_and_then snapshots_of (each_line later) ≡ Some snapshots → IsFirstForm header.request snapshots
+pub input_form : (first : List ℕ) (later : List (List ℕ)) (header : Header) (snapshots : List Snapshot) → header_of first ≡ Some header → option_and_then snapshots_of (each_line later) ≡ Some snapshots → IsTakenForm header.request snapshots
 input_form first later header snapshots head tail =
     (MatchOption-at_some _ HasForm header head (header_form first), MatchOption-at_some _ (All IsSmall) snapshots tail (then_any (All IsSmall) snapshots_of (each_line later) snapshots_small))

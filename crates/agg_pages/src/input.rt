@@ -9,7 +9,7 @@ mod snapshots;
 
 ghost use Rattle.std.specs.Prelude.{◌≡◌, Some, None, IfOk, IsErrOf};
 ghost use Rattle.agg_pages.specs.Input.{input};
-ghost use Rattle.agg_engine.specs.Form.{IsFirstForm};
+ghost use Rattle.agg_engine.specs.Form.{IsTakenForm};
 
 use crate::source::MAX_INPUT_BYTES;
 use agg_engine::Snapshot;
@@ -81,7 +81,7 @@ pub struct Input {
 /// The input that bytes stand for.
 pub fn read_input(alloc: Global, bytes: &[u8]) -> Result<Input, InputError>
     ensures ok { IfOk result (λ i. input bytes.now ≡ Some i) }
-    ensures form { IfOk result (λ i. IsFirstForm i.header.request i.snapshots) }
+    ensures form { IfOk result (λ i. IsTakenForm i.header.request i.snapshots) }
     ensures not_input { IsErrOf result InputError.NotInput → input bytes.now ≡ None }
 {
     if bytes.len() > MAX_INPUT_BYTES {

@@ -7,7 +7,7 @@ ghost use Rattle.std.specs.Io.KnownBytes.{Appends};
 ghost use Rattle.agg_pages.specs.Answer.{IsReply, IsReplyTo, walk_words};
 ghost use Rattle.agg_pages.specs.Causes.{Rose};
 ghost use Rattle.agg_pages.specs.Run.{HadNoInput, IsAnswered};
-ghost use Rattle.agg_engine.specs.Form.{IsFirstForm};
+ghost use Rattle.agg_engine.specs.Form.{IsTakenForm};
 
 use crate::input::{Input, read_input};
 use crate::output::{refusal_text, walk_text};
@@ -117,7 +117,7 @@ fn reply_to<L: Ledger>(
     input: &Input,
     steps: &mut Steps<L>,
 ) -> Result<Reply, OutOfMemory>
-    requires { IsFirstForm input.now.header.request input.now.snapshots }
+    requires { IsTakenForm input.now.header.request input.now.snapshots }
     ensures { IfOk result (λ reply. IsReplyTo input.now reply.refused (string_bytes reply.text)) }
 {
     let mut limits = LimitsLedger::new(None, None);

@@ -1,5 +1,5 @@
 //! Texts of results. Each writer appends the text of one thing.
-ghost use Rattle.std.specs.Prelude.{◌≡◌, List, [], ◌∷◌, ℕ, ◌++◌, string_bytes, IfOk, OnOk};
+ghost use Rattle.std.specs.Prelude.{◌≡◌, List, [], ◌∷◌, ℕ, ◌++◌, string_bytes, OnOk};
 ghost use Rattle.json.specs.Print.{quoted};
 ghost use Rattle.agg_engine.specs.Json.{array_text, after_key_member, braced, bucket_text, bucket_result_text, comma_unless, composite_members, object_text, quoted_after_key, result_text, shown_key_text};
 

@@ -1,41 +1,21 @@
 //! The page of one snapshot.
-ghost use Rattle.std.specs.Prelude.{◌≡◌, ◌≤◌, ◌<◌, ◌^◌, ◌↔◌, IfOk, OnOk, IsErrOf, IsTrue, All, filter, length, map};
+ghost use Rattle.std.specs.Prelude.{◌≤◌, ◌<◌, ◌^◌, IfOk, OnOk, IsErrOf, filter, length, map};
 ghost use Rattle.agg_segment.specs.Document.{meaning};
 ghost use Rattle.agg_segment.specs.Query.{matches};
-ghost use Rattle.agg_composite.specs.Groups.{IsPlain, documents_at};
+ghost use Rattle.agg_composite.specs.Groups.{IsPlain};
 ghost use Rattle.agg_composite.specs.Occurrences.{occurrences_in};
 ghost use Rattle.agg_engine.specs.PageEntries.{ArePageEntries};
 ghost use Rattle.agg_engine.specs.Walk.{matching};
 
 use super::Snapshot;
+use super::matching::{has_too_many, matching_docs};
 use agg_composite::limits::CollectError;
 use agg_composite::request::CompositeAggregation;
 use agg_composite::{PageEntry, SegmentCompositeCollector};
 use agg_segment::{QueryTree, SegmentReader};
-use agg_values::{DocId, ItemList, NameMap, OutOfMemory, Steps, Tuple};
+use agg_values::{ItemList, Steps, Tuple};
 use std::alloc::Global;
 use std::sync::ledger::Ledger;
-
-// A composite has fewer occurrences than this over the documents of a snapshot.
-const TOO_MANY: u64 = 1 << 32;
-
-/// A composite over equal sources, that begins at the start.
-pub fn copy_of(
-    alloc: Global,
-    composite: &CompositeAggregation,
-) -> Result<CompositeAggregation, OutOfMemory>
-    ensures { IfOk result (λ copy. copy.sources ≡ composite.now.sources) }
-{
-    let mut sources = ItemList::new(alloc);
-    for source in composite.sources.as_slice() {
-        sources.push(source.try_clone(alloc)?)?;
-    }
-    Ok(CompositeAggregation {
-        sources,
-        size: composite.size,
-        after: NameMap::new(alloc),
-    })
-}
 
 /// The page of a composite over the documents of a snapshot that a query matches.
 pub fn snapshot_page<L: Ledger>(
@@ -77,46 +57,7 @@ fn segment_page<L: Ledger>(
     if has_too_many(composite, segment, &docs) {
         return Err(CollectError::TooMany);
     }
-    let mut collector = SegmentCompositeCollector::new(alloc, 1)?;
+    let mut collector = SegmentCompositeCollector::new(alloc, composite.sources.as_slice().len())?;
     collector.collect(0, &docs, composite, bound, segment, steps)?;
     Ok(collector.page(0, composite, bound, segment)?)
-}
-
-// The documents of a segment that a query matches, ascending.
-fn matching_docs(
-    alloc: Global,
-    query: &QueryTree,
-    segment: &SegmentReader,
-) -> Result<Vec<DocId>, OutOfMemory>
-    ensures documents { IfOk result
-        (λ docs. documents_at segment.now docs.items ≡ filter (matches query.now) (map meaning segment.now)) }
-    ensures within { IfOk result (λ docs. All (λ doc. doc < length segment.now) docs.items) }
-{
-    let mut docs = Vec::new(alloc);
-    for doc in 0..segment.num_docs() {
-        if query.matches_document(segment.document(doc)) {
-            docs.push(doc)?;
-        }
-    }
-    Ok(docs)
-}
-
-// Whether the documents have too many occurrences of a composite over one plain source.
-fn has_too_many(composite: &CompositeAggregation, segment: &SegmentReader, docs: &[DocId]) -> bool
-    requires plain { IsPlain composite.now.sources }
-    requires within { All (λ doc. doc < length segment.now) docs.now }
-    ensures { IsTrue result ↔ (2 ^ 32 ≤ length (occurrences_in composite.now.sources (documents_at segment.now docs.now))) }
-{
-    let Some(source) = composite.sources.as_slice().first() else {
-        return false;
-    };
-    let mut count: u64 = 0;
-    for doc in docs {
-        let values = segment.document(*doc).values(source.field());
-        count = count.saturating_add(values.len() as u64);
-        if count >= TOO_MANY {
-            return true;
-        }
-    }
-    false
 }

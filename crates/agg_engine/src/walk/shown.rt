@@ -1,5 +1,5 @@
 //! Pages as they are shown.
-ghost use Rattle.std.specs.Prelude.{◌≡◌, ◌≤◌, ◌∷◌, [], IfOk, length, map};
+ghost use Rattle.std.specs.Prelude.{◌≡◌, ◌∷◌, [], IfOk, map};
 ghost use Rattle.agg_values.specs.Shown.{shown_key};
 ghost use Rattle.agg_composite.specs.Named.{after_map, by_source};
 ghost use Rattle.agg_engine.specs.Results.{shown_after};

@@ -1,5 +1,7 @@
-use Rattle.std.proofs.Common.{◌+◌, ◌∷◌, ◌∙◌, drop, arith}
-use Rattle.agg_engine.proofs.WalkSteps.{IsNext, IsWalking, walking-at, walking-end, walking-start, walking-ended, walking-ended-fits, walking-more, walking-out}
+use Rattle.std.proofs.Common.{◌≡◌, ◌+◌, ◌∷◌, ◌∙◌, Err, IsSome, drop, refl, subst, arith}
+use Rattle.agg_composite.specs.declared.limits.CollectError.TheVariants as collect
+use Rattle.agg_engine.proofs.WalkErrors.{too_many-kept}
+use Rattle.agg_engine.proofs.WalkSteps.{IsNext, IsWalking, walking-at, walking-end, walking-start, walking-ended, walking-ended-fits, walking-more, walking-out, walking-too_many}
 use Rattle.agg_engine.proofs.walk.walk_pages.Given as given
 use Rattle.agg_engine.proofs.walk.walk_pages.Goals as goal
 use Rattle.agg_engine.proofs.walk.walk_pages.Goals.{In_ok-push}
@@ -46,3 +48,11 @@ pub loop-snapshot-preserved : goal.loop-snapshot-preserved
 loop-snapshot-preserved g c =
     let turn = (goal.at.loop-snapshot-preserved g c).In_ok-push in
     rw c.in_ok-push.ensures.ok (walking-more (here g turn) (next g turn) c.in-Some-next.tuple c.in-Some-next.is)
+
+pub returns-in_err-entries-clause-too_many : goal.returns-in_err-entries-clause-too_many
+returns-in_err-entries-clause-too_many g c = λ err.
+    let come = walking-at c.args.name.now c.args.query.now c.args.request.now c.args.snapshots.now _ c.loop-snapshot.paged.sources c.loop-snapshot.bound c.loop-snapshot.snapshot-index c.loop-snapshot.pages c.snapshot-item.result c.loop-snapshot.invariant
+    c.as_slice-snapshot-items.ensures (omega arith) c.snapshot-item.is in
+    let was : Err c.in_err-entries.field-0.0 ≡ Err collect.TooMany = too_many-kept c.from_residual-in_err-entries.result c.in_err-entries.field-0.0 c.from_residual-in_err-entries.ensures.1 err in
+    let reaches = walking-too_many c.args.name.now c.args.query.now c.args.request.now c.args.snapshots.now c.loop-snapshot.paged.sources c.loop-snapshot.bound c.snapshot-item.result _ c.loop-snapshot.pages come (c.in_err-entries.ensures.too_many was) in
+    (cc (c.if-has_zero_size.ensures, c.as_slice.ensures), subst IsSome c.in-Some.ensures refl, reaches)

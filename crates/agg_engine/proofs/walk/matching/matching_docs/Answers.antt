@@ -5,8 +5,8 @@ use Rattle.std.proofs.lemmas.List.Elements.{All-push}
 use Rattle.agg_segment.specs.Query.{matches}
 use Rattle.agg_composite.specs.Groups.{documents_at}
 use Rattle.agg_engine.proofs.MatchingDocs.{documents_at-kept, documents_at-left_out}
-use Rattle.agg_engine.proofs.walk.page.matching_docs.Goals as goal
-use Rattle.agg_engine.proofs.walk.page.matching_docs.Goals.{then-matches_document+in_ok-push, else-matches_document}
+use Rattle.agg_engine.proofs.walk.matching.matching_docs.Goals as goal
+use Rattle.agg_engine.proofs.walk.matching.matching_docs.Goals.{then-matches_document+in_ok-push, else-matches_document}
 
 pub loop-doc-preserved : goal.loop-doc-preserved
 loop-doc-preserved c =

@@ -1,7 +1,7 @@
 use Rattle.std.proofs.Common.{◌≡◌, ◌<◌, ◌^◌, length, take}
 use Rattle.agg_composite.specs.Groups.{documents_at}
 use Rattle.agg_composite.specs.Occurrences.{occurrences_in}
-use Rattle.agg_engine.proofs.walk.page.has_too_many.Given as goal
+use Rattle.agg_engine.proofs.walk.matching.has_too_many.Given as goal
 
 abbrev pub invariant-loop-doc : goal.invariant-loop-doc
 invariant-loop-doc l = record {

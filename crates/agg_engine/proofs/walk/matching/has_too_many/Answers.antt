@@ -1,6 +1,6 @@
 use Rattle.std.proofs.Common.{◌+◌, slice_get, ap, ◌∙◌, arith, rules}
 use Rattle.agg_engine.proofs.Occurring.{count_at-more, count_at-front}
-use Rattle.agg_engine.proofs.walk.page.has_too_many.Goals as goal
+use Rattle.agg_engine.proofs.walk.matching.has_too_many.Goals as goal
 
 pub loop-doc-preserved : goal.loop-doc-preserved
 loop-doc-preserved c =

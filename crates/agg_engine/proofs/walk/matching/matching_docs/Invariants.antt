@@ -3,7 +3,7 @@ use Rattle.std.specs.List.{All}
 use Rattle.agg_segment.specs.Document.{meaning}
 use Rattle.agg_segment.specs.Query.{matches}
 use Rattle.agg_composite.specs.Groups.{documents_at}
-use Rattle.agg_engine.proofs.walk.page.matching_docs.Given as goal
+use Rattle.agg_engine.proofs.walk.matching.matching_docs.Given as goal
 
 abbrev pub invariant-loop-doc : goal.invariant-loop-doc
 invariant-loop-doc l = record {
