@@ -1,5 +1,7 @@
 -- The text of an address is the one that std writes, and it reads back.
-use Rattle.std.proofs.Common.{◌≡◌, ℕ, zero, suc, ◌/◌, ◌%◌, ◌^◌, ◌<◌, Bool, true, false, cond, List, [], ◌∷◌, ◌++◌, get_or, take, drop, refl, sym, ap, ◌∙◌, subst, arith, inl, inr, append_assoc, eq-eqb}
+use Rattle.std.proofs.Common.{◌≡◌, ℕ, zero, suc, ◌/◌, ◌%◌, ◌^◌, ◌<◌, Bool, true, false, cond, List}
+use Rattle.std.proofs.Common.{[], ◌∷◌, ◌++◌, get_or, take, drop, refl, sym, ap, ◌∙◌, subst, arith}
+use Rattle.std.proofs.Common.{inl, inr, append_assoc, eq-eqb}
 use Rattle.std.proofs.Math.Nat.{div-div-eq-div-mul}
 use Rattle.std.proofs.lemmas.Bool.{eqb-true}
 use Rattle.std.proofs.lemmas.Slice.Eq.{bytes_eq-Decides}
@@ -15,7 +17,8 @@ use Rattle.std.specs.declared.net.ip_addr.IpAddr.{IpAddr}
 use Rattle.std.specs.declared.net.ip_addr.IpAddr.TheVariants.{V4, V6}
 use Rattle.std.specs.declared.net.ipv6_addr.Ipv6Addr.{Ipv6Addr}
 use Rattle.std.specs.Net.Text as Text
-use Rattle.agg_values.specs.Address.{groups_of, ipv6_text, ipv4_text, is_mapped, address_text, shown_address}
+use Rattle.agg_values.specs.Address.{groups_of, ipv6_text, ipv4_text, is_mapped, address_text}
+use Rattle.agg_values.specs.Address.{shown_address}
 use Rattle.agg_values.specs.AddressGrammar.{IsAddressText, ip_groups}
 use Rattle.agg_values.proofs.Groups.{step, from_be_bytes-groups_of}
 use Rattle.agg_values.proofs.GroupTexts.{hex_groups_text-same}

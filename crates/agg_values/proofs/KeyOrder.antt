@@ -1,17 +1,19 @@
 -- The order of keys is total, and exact on canonical keys.
-use Rattle.std.proofs.Common.{◌≡◌, ◌≢◌, ℕ, ◌^◌, List, true, false, cond, eqb, ℤ, pos, Ordering, Less, Equal, Greater, refl, sym, ◌∙◌, arith}
-use Rattle.std.proofs.lemmas.Cmp.{on_total, then_total, back_total, nat_cmp_total, int_cmp_total, nat_list_cmp_total}
+use Rattle.std.proofs.Common.{◌≡◌, ◌≢◌, ℕ, ◌^◌, List, true, false, cond, eqb, ℤ, pos, Ordering}
+use Rattle.std.proofs.Common.{Less, Equal, Greater, refl, sym, ◌∙◌, arith}
+use Rattle.std.proofs.lemmas.Cmp.{on_total, then_total, back_total, nat_cmp_total, int_cmp_total}
+use Rattle.std.proofs.lemmas.Cmp.{nat_list_cmp_total}
 use Rattle.std.proofs.lemmas.Map.Lookups.{exact_unsigned, exact_signed, exact_bytes}
 use Rattle.std.proofs.lemmas.Bool.Decides.{nat_tests}
 use Rattle.std.proofs.lemmas.Int.{ints}
 use Rattle.std.specs.Cmp.{IsTotalOrder, then_flip}
 use Rattle.std.specs.Prelude.{int_lt, unsigned_abs}
 use Rattle.std.specs.Ordering.{nat_cmp, ordering_then, ordering_reverse}
-use Rattle.agg_values.specs.Key.{class_rank, truth_or_number, address_of, text_of, IsCanonical}
+use Rattle.agg_values.specs.TypedKey.{class_rank, truth_or_number, address_of, text_of, IsCanonical}
 use Rattle.agg_values.specs.KeyOrder.{ascending_order, directed, null_rank, key_order}
 use Rattle.agg_values.specs.Laws.{IsExactOn, IsReverseOn}
-use Rattle.agg_values.specs.declared.key.CompositeIntermediateKey.{CompositeIntermediateKey}
-use Rattle.agg_values.specs.declared.key.CompositeIntermediateKey.TheVariants.{Bool as Truth, Str, I64, U64, DateTime, IpAddr, Null}
+use Rattle.agg_values.specs.TypedKey.{CompositeIntermediateKey}
+use Rattle.agg_values.specs.TypedKey.key.{Bool as Truth, Str, I64, U64, DateTime, IpAddr, Null}
 use Rattle.agg_values.specs.declared.order.Order.{Order}
 use Rattle.agg_values.specs.declared.order.Order.TheVariants.{Asc, Desc}
 use Rattle.agg_values.specs.declared.order.MissingOrder.{MissingOrder}

@@ -1,5 +1,9 @@
 -- Texts of after keys: what is written reads back, a text is of one key at most, and which refusal it gets.
-use Rattle.std.proofs.Common.{◌≡◌, ◌≢◌, ℕ, ℤ, pos, negsuc, zero, suc, ◌+◌, ◌*◌, ◌<◌, ◌^◌, Bool, true, false, cond, eqb, List, [], ◌∷◌, ◌++◌, length, get_or, decimal, Option, Some, None, Result, Ok, Err, MatchResult, IfOk, IfErr, refl, true≢false, eq-eqb, ne_eqb, neg_ℤ, sym, ap, ◌∙◌, subst, arith, FitsSigned}
+use Rattle.std.proofs.Common.{◌≡◌, ◌≢◌, ℕ, ℤ, pos, negsuc, zero, suc, ◌+◌, ◌*◌, ◌<◌, ◌^◌, Bool}
+use Rattle.std.proofs.Common.{true, false, cond, eqb, List, [], ◌∷◌, ◌++◌, length, get_or, decimal}
+use Rattle.std.proofs.Common.{Option, Some, None, Result, Ok, Err, MatchResult, IfOk, IfErr, refl}
+use Rattle.std.proofs.Common.{true≢false, eq-eqb, ne_eqb, neg_ℤ, sym, ap, ◌∙◌, subst, arith}
+use Rattle.std.proofs.Common.{FitsSigned}
 use Rattle.std.specs.Int.{w64}
 use Rattle.std.specs.Fmt.{signed_decimal}
 use Rattle.std.specs.List.{Contains}
@@ -11,11 +15,13 @@ use Rattle.std.proofs.lemmas.List.{get_or_default}
 use Rattle.std.proofs.lemmas.Fmt.{decimal_is_IsNumeral}
 use Rattle.std.proofs.lemmas.Str.Parse.{without_leading_plus_none, digit_at}
 use Rattle.agg_values.specs.AddressGrammar.{IsAddressText}
-use Rattle.agg_values.specs.KeyText.{colon, kind_text, IsSignedText, IsUnsignedText, IsValueText, IsKeyText, IsRefusedAs, IsValueRefusedAs}
+use Rattle.agg_values.specs.KeyText.{colon, kind_text, IsSignedText, IsUnsignedText, IsValueText}
+use Rattle.agg_values.specs.KeyText.{IsKeyText, IsRefusedAs, IsValueRefusedAs}
 use Rattle.agg_values.specs.declared.error.KeyTextError.{KeyTextError}
-use Rattle.agg_values.specs.declared.error.KeyTextError.TheVariants.{NoColon, UnknownType, BadValue, Unsupported, OutOfMemory}
-use Rattle.agg_values.specs.declared.key.CompositeIntermediateKey.{CompositeIntermediateKey}
-use Rattle.agg_values.specs.declared.key.CompositeIntermediateKey.TheVariants.{Bool as Truth, Str, I64, U64, DateTime, IpAddr, Null}
+use Rattle.agg_values.specs.declared.error.KeyTextError.TheVariants.{NoColon, UnknownType, BadValue}
+use Rattle.agg_values.specs.declared.error.KeyTextError.TheVariants.{Unsupported, OutOfMemory}
+use Rattle.agg_values.specs.TypedKey.{CompositeIntermediateKey}
+use Rattle.agg_values.specs.TypedKey.key.{Bool as Truth, Str, I64, U64, DateTime, IpAddr, Null}
 use Rattle.agg_values.proofs.AddressTexts.{IsAddressText-unique}
 
 -- a number that tells texts apart

@@ -1,14 +1,15 @@
 -- The order of tuples is total, and exact on tuples of canonical keys.
-use Rattle.std.proofs.Common.{◌≡◌, ℕ, List, [], ◌∷◌, Ordering, Equal, refl, sym, ap, ◌∙◌, arith}
+use Rattle.std.proofs.Common.{◌≡◌, ℕ, [], ◌∷◌, Ordering, Equal, refl, sym, ap, ◌∙◌, arith}
 use Rattle.std.proofs.lemmas.Cmp.{on_total, then_total, nat_cmp_total, tied_itself}
 use Rattle.std.proofs.lemmas.List.Elements.{All-rest}
 use Rattle.std.specs.Cmp.{IsTotalOrder}
 use Rattle.std.specs.Ordering.{nat_cmp, on, then_cmp, ordering_then, ordering_reverse}
-use Rattle.agg_values.specs.Key.{IsCanonical}
-use Rattle.agg_values.specs.KeyOrder.{key_order, tuple_order}
+use Rattle.agg_values.specs.TypedKey.{IsCanonical}
+use Rattle.agg_values.specs.KeyOrder.{SourceRules, key_order, tuple_order}
+use Rattle.agg_values.specs.Tuple.{KeyTuple}
 use Rattle.agg_values.specs.Laws.{IsExactOn, IsCanonicalTuple}
-use Rattle.agg_values.specs.declared.key.CompositeIntermediateKey.{CompositeIntermediateKey}
-use Rattle.agg_values.specs.declared.key.CompositeIntermediateKey.TheVariants.{Null}
+use Rattle.agg_values.specs.TypedKey.{CompositeIntermediateKey}
+use Rattle.agg_values.specs.TypedKey.key.{Null}
 use Rattle.agg_values.specs.declared.order.Order.{Order}
 use Rattle.agg_values.specs.declared.order.MissingOrder.{MissingOrder}
 use Rattle.agg_values.proofs.KeyOrder.{key_order-total, key_order-exact, then_equal}
@@ -22,27 +23,27 @@ total_from_same {K} {R} {S} same total = record {
 }
 
 -- an ended tuple stands before one that goes on
-abbrev going : List CompositeIntermediateKey → ℕ
+abbrev going : KeyTuple → ℕ
 going [] = 0
 going (key ∷ keys) = 1
 
-abbrev first_key : List CompositeIntermediateKey → CompositeIntermediateKey
+abbrev first_key : KeyTuple → CompositeIntermediateKey
 first_key [] = Null
 first_key (key ∷ keys) = key
 
-abbrev other_keys : List CompositeIntermediateKey → List CompositeIntermediateKey
+abbrev other_keys : KeyTuple → KeyTuple
 other_keys [] = []
 other_keys (key ∷ keys) = keys
 
 -- by whether the tuples go on, by their first keys, and by the rest
-abbrev stepwise : Order × MissingOrder → List (Order × MissingOrder) → List CompositeIntermediateKey → List CompositeIntermediateKey → Ordering
+abbrev stepwise : Order × MissingOrder → SourceRules → KeyTuple → KeyTuple → Ordering
 stepwise rule rules = then_cmp (on going nat_cmp) (then_cmp (on first_key (key_order rule.0 rule.1)) (on other_keys (tuple_order rules)))
 
 all_equal : (a b : Ordering) → a ≡ Equal → b ≡ Equal → ordering_then a b ≡ Equal
 all_equal a b p q = cc
 
-tuple_order-stepwise : (rule : Order × MissingOrder) (rules : List (Order × MissingOrder)) → IsTotalOrder (tuple_order rules)
-    → (ts us : List CompositeIntermediateKey) → tuple_order (rule ∷ rules) ts us ≡ stepwise rule rules ts us
+tuple_order-stepwise : (rule : Order × MissingOrder) (rules : SourceRules) → IsTotalOrder (tuple_order rules)
+    → (ts us : KeyTuple) → tuple_order (rule ∷ rules) ts us ≡ stepwise rule rules ts us
 tuple_order-stepwise rule rules rest [] [] =
     sym (all_equal _ _ (tied_itself (key_order-total rule.0 rule.1) Null) (tied_itself rest []))
 tuple_order-stepwise rule rules rest [] (u ∷ us) = refl
@@ -50,7 +51,7 @@ tuple_order-stepwise rule rules rest (t ∷ ts) [] = refl
 tuple_order-stepwise rule rules rest (t ∷ ts) (u ∷ us) = refl
 
 -- the order of tuples is total, for each list of rules
-pub tuple_order-total : (rules : List (Order × MissingOrder)) → IsTotalOrder (tuple_order rules)
+pub tuple_order-total : (rules : SourceRules) → IsTotalOrder (tuple_order rules)
 tuple_order-total [] = record { antisymm = λ x y. refl; trans = λ x y z p q. p; congr = λ x y z p. refl }
 tuple_order-total (rule ∷ rules) =
     let rest = tuple_order-total rules in
@@ -58,7 +59,7 @@ tuple_order-total (rule ∷ rules) =
     (then_total (on_total going nat_cmp_total) (then_total (on_total first_key (key_order-total rule.0 rule.1)) (on_total other_keys rest)))
 
 -- on tuples of canonical keys, one for each rule, Equal is answered only for the same tuple
-pub tuple_order-exact : (rules : List (Order × MissingOrder)) → IsExactOn (IsCanonicalTuple rules) (tuple_order rules)
+pub tuple_order-exact : (rules : SourceRules) → IsExactOn (IsCanonicalTuple rules) (tuple_order rules)
 tuple_order-exact [] [] [] in_ts in_us e = refl
 tuple_order-exact [] [] (u ∷ us) in_ts in_us e = absurd (omega (arith, in_us.0))
 tuple_order-exact [] (t ∷ ts) us in_ts in_us e = absurd (omega (arith, in_ts.0))

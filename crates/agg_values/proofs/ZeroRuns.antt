@@ -1,5 +1,8 @@
 -- The longest run of zero groups, and the first of that length.
-use Rattle.std.proofs.Common.{◌≡◌, ℕ, zero, suc, ◌+◌, ◌<◌, Bool, true, false, cond, eqb, ltb, not, List, [], ◌∷◌, length, drop, map, fold, max, refl, sym, ap, ◌∙◌, arith, inl, inr, le-leb, lt-ltb, Some, None, unwrap_or, ne_eqb, eq-eqb}
+use Rattle.std.proofs.Common.{◌≡◌, ℕ, zero, suc, ◌+◌, ◌<◌, Bool, true, false, cond, eqb, ltb, not}
+use Rattle.std.proofs.Common.{List, [], ◌∷◌, length, drop, map, fold, max, refl, sym, ap, ◌∙◌}
+use Rattle.std.proofs.Common.{arith, inl, inr, le-leb, lt-ltb, Some, None, unwrap_or, ne_eqb}
+use Rattle.std.proofs.Common.{eq-eqb}
 use Rattle.std.specs.List.{range_with_len, prefix_len, position_or_len}
 use Rattle.std.proofs.lemmas.List.Folds.{length-prefix_len}
 use Rattle.std.proofs.lemmas.Bool.{cases_lt, cases_eq, lt-leb}

@@ -1,49 +1,36 @@
--- Keys: a value with its type, or Null.
-use Rattle.std.specs.Prelude.{ℕ, ◌^◌, ◌≤◌, ◌<ℤ◌, ℤ, pos, unsigned_abs, int_lt, List, [], nat_lt, if◌then◌else◌, ⊤}
-use Rattle.agg_values.specs.declared.key.CompositeIntermediateKey.{CompositeIntermediateKey}
-use Rattle.agg_values.specs.declared.key.CompositeIntermediateKey.TheVariants.{Bool as Truth, Str, I64, U64, DateTime, IpAddr, Null}
+-- Keys of buckets.
+use Rattle.std.specs.Prelude.{ℕ, List, codes, decimal, if◌then◌else◌}
+use Rattle.std.specs.Fmt.{signed_decimal}
+use Rattle.agg_values.specs.Address.{address_text, shown_address}
+use Rattle.agg_values.specs.declared.key.Key.{Key}
+use Rattle.agg_values.specs.declared.key.Key.TheVariants as bucket
+use Rattle.agg_values.specs.declared.key.IntermediateKey.{IntermediateKey}
+use Rattle.agg_values.specs.declared.key.IntermediateKey.TheVariants as intermediate
 
--- the place of a key's class among the classes; Null has none, and stands at 0
-abbrev pub class_rank : CompositeIntermediateKey → ℕ
-class_rank Null = 0
-class_rank (Truth b) = 1
-class_rank (Str text) = 2
-class_rank (I64 n) = 3
-class_rank (U64 n) = 3
-class_rank (IpAddr a) = 4
-class_rank (DateTime ns) = 5
+-- the key without its type
+abbrev pub bucket_key : IntermediateKey → Key
+bucket_key (intermediate.IpAddr address) = bucket.Str (shown_address address.0)
+bucket_key (intermediate.Bool b) = bucket.U64 (if b then 1 else 0)
+bucket_key (intermediate.Str text) = bucket.Str text
+bucket_key (intermediate.I64 n) = bucket.I64 n
+bucket_key (intermediate.U64 n) = bucket.U64 n
 
--- the number of a key: false is 0 and true is 1, a date is its nanoseconds; 0 for the other classes
-abbrev pub truth_or_number : CompositeIntermediateKey → ℤ
-truth_or_number Null = pos 0
-truth_or_number (Truth b) = pos (if b then 1 else 0)
-truth_or_number (Str text) = pos 0
-truth_or_number (I64 n) = n
-truth_or_number (U64 n) = pos n
-truth_or_number (IpAddr a) = pos 0
-truth_or_number (DateTime ns) = ns
+-- the same key, among those that keep their types
+abbrev pub intermediate_key : Key → IntermediateKey
+intermediate_key (bucket.Str text) = intermediate.Str text
+intermediate_key (bucket.I64 n) = intermediate.I64 n
+intermediate_key (bucket.U64 n) = intermediate.U64 n
 
--- the address of a key, 0 for the other classes
-abbrev pub address_of : CompositeIntermediateKey → ℕ
-address_of (IpAddr a) = a.0
-address_of _ = 0
+-- what is displayed of a key
+abbrev pub bucket_key_text : Key → List ℕ
+bucket_key_text (bucket.Str text) = text
+bucket_key_text (bucket.I64 n) = signed_decimal n
+bucket_key_text (bucket.U64 n) = decimal n
 
--- the text of a key, empty for the other classes
-abbrev pub text_of : CompositeIntermediateKey → List ℕ
-text_of (Str text) = text
-text_of _ = []
-
--- the typed key of a number: an I64 where it fits one, else a U64
-abbrev pub typed_number : ℤ → CompositeIntermediateKey
-typed_number n = if int_lt n (pos (2 ^ 63)) then I64 n else U64 (unsigned_abs n)
-
--- the same value, with a number as an I64 where it fits one
-abbrev pub canonical_key : CompositeIntermediateKey → CompositeIntermediateKey
-canonical_key (U64 n) = if nat_lt n (2 ^ 63) then I64 (pos n) else U64 n
-canonical_key key = key
-
--- a U64 is one that no I64 can be, and an I64 is below 2 ^ 63; the other bounds of the numbers are their types' own, and aren't repeated here
-abbrev pub IsCanonical : CompositeIntermediateKey → Type 0
-IsCanonical (U64 n) = 2 ^ 63 ≤ n
-IsCanonical (I64 n) = n <ℤ pos (2 ^ 63)
-IsCanonical _ = ⊤
+-- what is displayed of a key that keeps its type
+abbrev pub intermediate_key_text : IntermediateKey → List ℕ
+intermediate_key_text (intermediate.IpAddr address) = address_text address.0
+intermediate_key_text (intermediate.Bool b) = if b then codes "true" else codes "false"
+intermediate_key_text (intermediate.Str text) = text
+intermediate_key_text (intermediate.I64 n) = signed_decimal n
+intermediate_key_text (intermediate.U64 n) = decimal n

@@ -1,15 +1,18 @@
 -- The texts of after keys: a kind, a colon and a value.
-use Rattle.std.specs.Prelude.{◌≡◌, ◌≢◌, ℕ, ℤ, ◌^◌, ◌<◌, List, [], ◌∷◌, ◌++◌, ⊤, codes, decimal, FitsSigned, if◌then◌else◌}
+use Rattle.std.specs.Prelude.{◌≡◌, ◌≢◌, ℕ, ℤ, ◌^◌, ◌<◌, List, [], ◌∷◌, ◌++◌, ⊤, codes, decimal}
+use Rattle.std.specs.Prelude.{FitsSigned, if◌then◌else◌}
 use Rattle.std.specs.Int.{w64}
 use Rattle.std.specs.Fmt.{signed_decimal}
-use Rattle.std.specs.Str.Parse.{IsNumeral, digits_value, signed_digits_value, without_leading_plus, without_leading_sign}
+use Rattle.std.specs.Str.Parse.{IsNumeral, digits_value, signed_digits_value, without_leading_plus}
+use Rattle.std.specs.Str.Parse.{without_leading_sign}
 use Rattle.std.specs.List.{Contains}
 use Rattle.agg_values.specs.Address.{address_text}
 use Rattle.agg_values.specs.AddressGrammar.{IsAddressText}
 use Rattle.agg_values.specs.declared.error.KeyTextError.{KeyTextError}
-use Rattle.agg_values.specs.declared.error.KeyTextError.TheVariants.{NoColon, UnknownType, BadValue, Unsupported, OutOfMemory}
-use Rattle.agg_values.specs.declared.key.CompositeIntermediateKey.{CompositeIntermediateKey}
-use Rattle.agg_values.specs.declared.key.CompositeIntermediateKey.TheVariants.{Bool as Truth, Str, I64, U64, DateTime, IpAddr, Null}
+use Rattle.agg_values.specs.declared.error.KeyTextError.TheVariants.{NoColon, UnknownType, BadValue}
+use Rattle.agg_values.specs.declared.error.KeyTextError.TheVariants.{Unsupported, OutOfMemory}
+use Rattle.agg_values.specs.TypedKey.{CompositeIntermediateKey}
+use Rattle.agg_values.specs.TypedKey.key.{Bool as Truth, Str, I64, U64, DateTime, IpAddr, Null}
 
 -- the byte `:`
 abbrev pub colon : ℕ
@@ -41,11 +44,14 @@ key_text key = kind_text key ++ colon ∷ value_text key
 
 -- decimal digits behind a plus, a minus or no sign, that write a signed number of 64 bits
 abbrev pub IsSignedText : List ℕ → ℤ → Type 0
-IsSignedText text n = IsNumeral 10 (without_leading_sign text) × FitsSigned w64 n × (n ≡ signed_digits_value 10 text)
+IsSignedText text n =
+    IsNumeral 10 (without_leading_sign text) × FitsSigned w64 n × (n ≡ signed_digits_value 10 text)
 
 -- decimal digits behind a plus or no sign, that write an unsigned number of 64 bits
 abbrev pub IsUnsignedText : List ℕ → ℕ → Type 0
-IsUnsignedText text n = IsNumeral 10 (without_leading_plus text) × (n < 2 ^ 64) × (n ≡ digits_value 10 (without_leading_plus text))
+IsUnsignedText text n =
+    IsNumeral 10 (without_leading_plus text) × (n < 2 ^ 64)
+    × (n ≡ digits_value 10 (without_leading_plus text))
 
 -- the texts that are read as the value of a key; Null takes any
 abbrev pub IsValueText : List ℕ → CompositeIntermediateKey → Type 0
@@ -59,7 +65,8 @@ IsValueText value Null = ⊤
 
 -- the texts that are read as a key
 abbrev pub IsKeyText : List ℕ → CompositeIntermediateKey → Type 0
-IsKeyText text key = (value : List ℕ) × (text ≡ kind_text key ++ colon ∷ value) × IsValueText value key
+IsKeyText text key =
+    (value : List ℕ) × (text ≡ kind_text key ++ colon ∷ value) × IsValueText value key
 
 -- the kind is of no key
 abbrev pub IsUnknownKind : List ℕ → Type 0
@@ -70,7 +77,8 @@ abbrev pub IsRefusedAs : List ℕ → KeyTextError → Type 0
 IsRefusedAs text NoColon = ¬ (Contains text colon)
 IsRefusedAs text Unsupported = (value : List ℕ) × (text ≡ codes "f64:" ++ value)
 IsRefusedAs text UnknownType =
-    (kind value : List ℕ) × (text ≡ kind ++ colon ∷ value) × (¬ (Contains kind colon)) × (kind ≢ codes "f64") × IsUnknownKind kind
+    (kind value : List ℕ) × (text ≡ kind ++ colon ∷ value) × (¬ (Contains kind colon))
+    × (kind ≢ codes "f64") × IsUnknownKind kind
 IsRefusedAs text BadValue =
     (key : CompositeIntermediateKey) × (value : List ℕ) × (text ≡ kind_text key ++ colon ∷ value)
     × ((other : CompositeIntermediateKey) → ¬ (IsKeyText text other))

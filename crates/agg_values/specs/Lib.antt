@@ -2,10 +2,13 @@ pub mod Address
 pub mod AddressGrammar
 pub mod Column
 pub mod Key
+pub mod KeyLaws
 pub mod KeyOrder
 pub mod KeyText
-pub mod KeyValue
 pub mod Laws
 pub mod Names
 pub mod OrderTarget
 pub mod Shown
+pub mod Tuple
+pub mod TypedKey
+pub mod formers

@@ -1,7 +1,8 @@
 -- Targets of an order, as texts.
 use Rattle.std.specs.Prelude.{ℕ, List, codes}
 use Rattle.agg_values.specs.declared.order_target.OrderTarget.{OrderTarget}
-use Rattle.agg_values.specs.declared.order_target.OrderTarget.TheVariants.{Key, Count, SubAggregation}
+use Rattle.agg_values.specs.declared.order_target.OrderTarget.TheVariants.{Key, Count}
+use Rattle.agg_values.specs.declared.order_target.OrderTarget.TheVariants.{SubAggregation}
 
 -- the text of a target
 abbrev pub target_text : OrderTarget → List ℕ

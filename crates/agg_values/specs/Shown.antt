@@ -1,12 +1,13 @@
 -- Keys as they are shown.
 use Rattle.std.specs.Prelude.{pos, int_div}
-use Rattle.agg_values.specs.declared.key.CompositeIntermediateKey.{CompositeIntermediateKey}
-use Rattle.agg_values.specs.declared.key.CompositeIntermediateKey.TheVariants as key
+use Rattle.agg_values.specs.TypedKey.{CompositeIntermediateKey}
+use Rattle.agg_values.specs.TypedKey.key as key
 use Rattle.agg_values.specs.declared.composite_key.CompositeKey.{CompositeKey}
 use Rattle.agg_values.specs.declared.composite_key.CompositeKey.TheVariants as shown
 use Rattle.agg_values.specs.Address.{shown_address}
 
--- a date is shown in milliseconds, toward zero, a mapped address as its IPv4 text, any other as its IPv6 text, and the rest as it is
+-- a date is shown in milliseconds, toward zero, a mapped address as its IPv4 text, any other as its
+-- IPv6 text, and the rest as it is
 abbrev pub shown_key : CompositeIntermediateKey → CompositeKey
 shown_key (key.Bool b) = shown.Bool b
 shown_key (key.Str text) = shown.Str text

@@ -54,69 +54,44 @@ mod tests {
     #[test]
     fn gives_the_class_of_each_key(rt: HostRuntime) -> Result<(), Fail> {
         let alloc = rt.alloc();
-        for (key, class) in [
+        for (key, class, shown_class) in [
+            (CompositeIntermediateKey::Null, None, None),
             (
                 CompositeIntermediateKey::Bool(true),
+                Some(ColumnPaginationOrder::Bool),
                 Some(ColumnPaginationOrder::Bool),
             ),
             (
                 CompositeIntermediateKey::Str(Text::copy_of(alloc, "a")?),
                 Some(ColumnPaginationOrder::Str),
+                Some(ColumnPaginationOrder::Str),
             ),
             (
                 CompositeIntermediateKey::I64(-1),
+                Some(ColumnPaginationOrder::Numeric),
                 Some(ColumnPaginationOrder::Numeric),
             ),
             (
                 CompositeIntermediateKey::U64(1),
                 Some(ColumnPaginationOrder::Numeric),
+                Some(ColumnPaginationOrder::Numeric),
             ),
             (
                 CompositeIntermediateKey::IpAddr(Address(1)),
                 Some(ColumnPaginationOrder::IpAddr),
+                Some(ColumnPaginationOrder::Str),
             ),
             (
                 CompositeIntermediateKey::DateTime(1),
                 Some(ColumnPaginationOrder::DateTime),
+                Some(ColumnPaginationOrder::Numeric),
             ),
-            (CompositeIntermediateKey::Null, None),
         ] {
             assert_eq!(rt; key.column_pagination_order(), class, "{key:?}");
+            let shown = CompositeKey::from_intermediate(alloc, key)?;
+            assert_eq!(rt; shown.column_pagination_order(), shown_class, "{shown:?}");
         }
+        assert!(rt; ColumnPaginationOrder::Str < ColumnPaginationOrder::Numeric);
         Ok(())
-    }
-
-    #[test]
-    fn gives_the_class_of_each_shown_key(rt: HostRuntime) -> Result<(), Fail> {
-        let alloc = rt.alloc();
-        for (key, class) in [
-            (CompositeKey::Bool(true), Some(ColumnPaginationOrder::Bool)),
-            (
-                CompositeKey::Str(Text::copy_of(alloc, "a")?),
-                Some(ColumnPaginationOrder::Str),
-            ),
-            (CompositeKey::I64(-1), Some(ColumnPaginationOrder::Numeric)),
-            (CompositeKey::U64(1), Some(ColumnPaginationOrder::Numeric)),
-            (CompositeKey::Null, None),
-        ] {
-            assert_eq!(rt; key.column_pagination_order(), class, "{key:?}");
-        }
-        Ok(())
-    }
-
-    #[test]
-    fn orders_the_classes(rt: HostRuntime) {
-        let ascending = [
-            ColumnPaginationOrder::Bool,
-            ColumnPaginationOrder::Str,
-            ColumnPaginationOrder::Numeric,
-            ColumnPaginationOrder::IpAddr,
-            ColumnPaginationOrder::DateTime,
-        ];
-        for (i, left) in ascending.iter().enumerate() {
-            for (j, right) in ascending.iter().enumerate() {
-                assert_eq!(rt; left.cmp(right), i.cmp(&j), "{left:?} and {right:?}");
-            }
-        }
     }
 }

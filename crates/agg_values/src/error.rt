@@ -29,8 +29,22 @@ pub struct TooMany;
 /// A request that cannot be answered as it stands.
 #[derive(Clone, Copy, Debug, PartialEq, Eq, Error)]
 pub enum InvalidArgument {
+    #[error("a composite has no source")]
+    NoSource,
     #[error("a page has room for no bucket")]
     ZeroSize,
+    #[error("a composite has more than 16 sources")]
+    TooManySources,
+    #[error("two sources of a composite have one name")]
+    DuplicateSource,
+    #[error("an interval is below one")]
+    BadInterval,
+    #[error("a date source takes either a fixed or a calendar interval")]
+    IntervalChoice,
+    #[error("Null is no after value of a source without a missing bucket")]
+    NullAfter,
+    #[error("an after value is not of its source's type")]
+    AfterType,
 }
 
 /// A text that is no after key's.

@@ -1,6 +1,6 @@
 ghost use Rattle.std.specs.Prelude.{◌≡◌, [], ◌∷◌, ◌++◌, OnOk, OnErr};
 
-use crate::OutOfMemory;
+use crate::{OutOfMemory, room};
 use std::alloc::Global;
 use std::marker::Model;
 
@@ -46,6 +46,11 @@ impl<T> ItemList<T> {
         items
     }
 
+    /// The allocator that the list was made with.
+    pub fn allocator(&self) -> Global {
+        *self.items.allocator()
+    }
+
     /// The items.
     pub fn as_slice(&self) -> &[T]
         ensures { result.now ≡ self.now }
@@ -60,7 +65,26 @@ impl<T: Drop> ItemList<T> {
         ensures ok { OnOk result (self.new ≡ self.old ++ item ∷ []) }
         ensures err { OnErr result (self.new ≡ self.old) }
     {
-        self.items.push(item)?;
+        room::push(&mut self.items, item)
+    }
+}
+
+#[cfg(test)]
+mod tests {
+    use super::*;
+    use std::test::Fail;
+
+    #[test]
+    fn lists_its_items(rt: HostRuntime) -> Result<(), Fail> {
+        let mut list = ItemList::new(rt.alloc());
+        for item in [3, 1, 2] {
+            list.push(item)?;
+        }
+        let mut others = ItemList::from_vec(Vec::new(list.allocator()));
+        others.push(4)?;
+        let items = list.into_vec();
+        assert_eq!(rt; items.as_slice(), [3, 1, 2].as_slice());
+        assert_eq!(rt; others.as_slice(), [4].as_slice());
         Ok(())
     }
 }

@@ -1,52 +1,111 @@
-ghost use Rattle.std.specs.Prelude.{◌≡◌, IfOk};
-ghost use Rattle.agg_values.specs.Key.{canonical_key};
+ghost use Rattle.std.specs.Prelude.{◌≡◌, Some, IfOk};
+ghost use Rattle.agg_values.specs.Key.{
+  bucket_key,
+  bucket_key_text,
+  intermediate_key,
+  intermediate_key_text,
+};
 
+use crate::address::shown_text;
 use crate::{Address, OutOfMemory, Text};
 use std::alloc::Global;
+use std::fmt;
 
-/// A key as it is paged by: a value with its type, or Null for a missing value.
+/// A key of a bucket.
 #[derive(Debug, Drop, PartialEq, Eq, Hash)]
-pub enum CompositeIntermediateKey {
+pub enum Key {
+    Str(Text),
+    I64(i64),
+    U64(u64),
+}
+
+/// A key of a bucket that keeps its type.
+#[derive(Debug, Drop, PartialEq, Eq, Hash)]
+pub enum IntermediateKey {
+    IpAddr(Address),
     Bool(bool),
     Str(Text),
     I64(i64),
     U64(u64),
-    /// Nanoseconds since 1970-01-01T00:00:00Z.
-    DateTime(i64),
-    IpAddr(Address),
-    Null,
 }
 
-impl CompositeIntermediateKey {
-    /// An equal key.
-    pub fn try_clone(&self, alloc: Global) -> Result<CompositeIntermediateKey, OutOfMemory>
-        ensures { IfOk result (λ key. key ≡ self.now) }
+impl Key {
+    /// The key without its type: a Bool is 0 or 1, and an address its shown text.
+    pub fn from_intermediate(alloc: Global, key: IntermediateKey) -> Result<Key, OutOfMemory>
+        ensures { IfOk result (λ bucket. bucket ≡ bucket_key key) }
     {
-        match self {
-            CompositeIntermediateKey::Bool(b) => Ok(CompositeIntermediateKey::Bool(*b)),
-            CompositeIntermediateKey::Str(text) => {
-                Ok(CompositeIntermediateKey::Str(text.try_clone(alloc)?))
-            }
-            CompositeIntermediateKey::I64(n) => Ok(CompositeIntermediateKey::I64(*n)),
-            CompositeIntermediateKey::U64(n) => Ok(CompositeIntermediateKey::U64(*n)),
-            CompositeIntermediateKey::DateTime(ns) => Ok(CompositeIntermediateKey::DateTime(*ns)),
-            CompositeIntermediateKey::IpAddr(address) => {
-                Ok(CompositeIntermediateKey::IpAddr(*address))
-            }
-            CompositeIntermediateKey::Null => Ok(CompositeIntermediateKey::Null),
+        match key {
+            IntermediateKey::IpAddr(address) => Ok(Key::Str(shown_text(alloc, address)?)),
+            IntermediateKey::Bool(b) => Ok(Key::U64(u64::from(b))),
+            IntermediateKey::Str(text) => Ok(Key::Str(text)),
+            IntermediateKey::I64(n) => Ok(Key::I64(n)),
+            IntermediateKey::U64(n) => Ok(Key::U64(n)),
         }
     }
 }
 
-/// The key of the same value whose number is an I64 where it fits one.
-pub fn canonical(key: CompositeIntermediateKey) -> CompositeIntermediateKey
-    ensures { result ≡ canonical_key key }
-{
-    match key {
-        CompositeIntermediateKey::U64(n) => match i64::try_from(n) {
-            Ok(small) => CompositeIntermediateKey::I64(small),
-            Err(_) => CompositeIntermediateKey::U64(n),
-        },
-        other => other,
+impl From<Key> for IntermediateKey {
+    ghost from_gives = { λ key intermediate. intermediate ≡ intermediate_key key };
+
+    fn from(key: Key) -> IntermediateKey {
+        match key {
+            Key::Str(text) => IntermediateKey::Str(text),
+            Key::I64(n) => IntermediateKey::I64(n),
+            Key::U64(n) => IntermediateKey::U64(n),
+        }
+    }
+}
+
+impl fmt::Display for Key {
+    ghost output = { λ key. Some (bucket_key_text key) };
+
+    fn fmt<W: fmt::Write>(&self, f: &mut fmt::Formatter<W>) -> fmt::Result {
+        match self {
+            Key::Str(text) => f.write_str(text.as_str()),
+            Key::I64(n) => write!(f, "{n}"),
+            Key::U64(n) => write!(f, "{n}"),
+        }
+    }
+}
+
+impl fmt::Display for IntermediateKey {
+    ghost output = { λ key. Some (intermediate_key_text key) };
+
+    fn fmt<W: fmt::Write>(&self, f: &mut fmt::Formatter<W>) -> fmt::Result {
+        match self {
+            IntermediateKey::IpAddr(address) => write!(f, "{address}"),
+            IntermediateKey::Bool(b) => write!(f, "{b}"),
+            IntermediateKey::Str(text) => f.write_str(text.as_str()),
+            IntermediateKey::I64(n) => write!(f, "{n}"),
+            IntermediateKey::U64(n) => write!(f, "{n}"),
+        }
+    }
+}
+
+#[cfg(test)]
+mod tests {
+    use super::*;
+    use std::test::Fail;
+
+    #[test]
+    fn takes_the_type_away(rt: HostRuntime) -> Result<(), Fail> {
+        let alloc = rt.alloc();
+        for (intermediate, shown, bucket, bucket_shown) in [
+            (IntermediateKey::Bool(true), "true", Key::U64(1), "1"),
+            (IntermediateKey::I64(-5), "-5", Key::I64(-5), "-5"),
+            (
+                IntermediateKey::IpAddr(Address(0xffff_0102_0304)),
+                "::ffff:1.2.3.4",
+                Key::Str(Text::copy_of(alloc, "1.2.3.4")?),
+                "1.2.3.4",
+            ),
+            (IntermediateKey::from(Key::U64(5)), "5", Key::U64(5), "5"),
+        ] {
+            assert_eq!(rt; intermediate.to_string(alloc)?.as_str(), shown);
+            let key = Key::from_intermediate(alloc, intermediate)?;
+            assert_eq!(rt; key.to_string(alloc)?.as_str(), bucket_shown);
+            assert_eq!(rt; key, bucket);
+        }
+        Ok(())
     }
 }

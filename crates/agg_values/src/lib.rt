@@ -1,19 +1,23 @@
-//! Keys, their order and their texts, with the small containers that contracts see as lists and maps.
+//! Keys, their order and their texts, with the small containers that contracts see as lists and
+//! maps.
 #![tactic(auto)]
 
 mod address;
 mod after_key;
 mod column;
+mod composite_intermediate_key;
 mod composite_key;
 mod error;
 mod item_list;
 mod key;
-mod key_value;
 mod laws;
+mod name_entries;
 mod name_map;
 mod number;
 mod order;
 mod order_target;
+mod request_error;
+mod room;
 mod steps;
 #[cfg(test)]
 mod tests;
@@ -23,19 +27,21 @@ mod tuple;
 pub use address::Address;
 pub use after_key::AfterKey;
 pub use column::ColumnPaginationOrder;
+pub use composite_intermediate_key::{CompositeIntermediateKey, canonical};
 pub use composite_key::CompositeKey;
 pub use error::{InvalidArgument, KeyTextError, OutOfMemory, TooMany};
 pub use item_list::ItemList;
-pub use key::{CompositeIntermediateKey, canonical};
-pub use key_value::{IntermediateKey, Key};
+pub use key::{IntermediateKey, Key};
 pub use laws::{
     classes_ascend_as_keys, desc_reverses_asc, equality_is_sameness, key_order_is_exact,
-    key_order_is_total, tuple_order_is_exact, tuple_order_is_total,
+    key_order_is_total, the_defaults, tuple_order_is_exact, tuple_order_is_total,
 };
-pub use name_map::{NameKeys, NameMap};
+pub use name_entries::{NameEntries, NameKeys};
+pub use name_map::NameMap;
 pub use number::{ProjectedNumber, cmp_i64_u64, i64_to_u64, u64_to_i64};
 pub use order::{MissingOrder, Order, composite_intermediate_key_ordering};
 pub use order_target::OrderTarget;
+pub use request_error::{AggregationError, DateHistogramParseError, RequestError};
 pub use steps::Steps;
 pub use text::Text;
 pub use tuple::Tuple;

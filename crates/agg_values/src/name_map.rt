@@ -1,30 +1,39 @@
-ghost use Rattle.std.specs.Prelude.{◌≡◌, ◌==◌, [], length, IfOk, OnOk, OnErr, option_map};
-ghost use Rattle.std.specs.Iterator.{YieldsFirstRef, item_count};
+ghost use Rattle.std.specs.Prelude.{◌≡◌, ◌==◌, ℕ, List, [], length, IfOk, IfSome, OnOk, OnErr};
+ghost use Rattle.std.specs.Prelude.{option_map};
+ghost use Rattle.std.specs.List.{IsAmong};
 ghost use Rattle.std.specs.List.Sorted.{IsStrictlySortedBy};
-ghost use Rattle.std.specs.Map.{keys_of};
+ghost use Rattle.std.specs.Map.{keys_of, values_of};
+ghost use Rattle.std_collections.specs.Layout.BTreeMap.{seek};
+ghost use Rattle.std_collections.specs.Map.Iter.{ShowsValuesInOrder, deref_pair};
 ghost use Rattle.agg_values.specs.Names.{name_cmp, value_of, put, without};
 
-use crate::{OutOfMemory, Text};
+use crate::{NameEntries, NameKeys, OutOfMemory, Text, room};
 use std::alloc::Global;
-use std::collections::BTreeMap;
-use std::collections::btree_map::{Iter, Keys};
+use std::cmp::Ordering;
 use std::marker::Model;
+use std::mem;
 
-/// An ordered map from names, seen by contracts as its entries in the order of their names.
+/// An ordered map from names, seen by contracts as its entries in the order of their names. It
+/// takes room for one entry at first.
 #[derive(Drop)]
 pub struct NameMap<T> {
-    entries: BTreeMap<Text, T>,
+    entries: Vec<(Text, T)>,
 }
 
 impl<T> Model for NameMap<T> {
     ghost use Rattle.std.specs.Prelude.{List, ℕ};
     ghost use Rattle.std.specs.Coded.{coded_list, coded×, coded_ℕ};
+    ghost use Rattle.std.specs.List.Sorted.{IsStrictlySortedBy};
+    ghost use Rattle.std.specs.Map.{keys_of};
+    ghost use Rattle.agg_values.specs.Names.{name_cmp};
 
     ghost Value = { List (List ℕ × T) };
 
     ghost coded = { coded_list (coded× (coded_list coded_ℕ) T.code) };
 
-    ghost view = { λ map. map.entries.entries };
+    ghost view = { λ map. map.entries.items };
+
+    ghost invariant = { λ map. IsStrictlySortedBy name_cmp (keys_of map.entries.items) };
 }
 
 impl<T> NameMap<T> {
@@ -33,15 +42,24 @@ impl<T> NameMap<T> {
         ensures { result ≡ [] }
     {
         NameMap {
-            entries: BTreeMap::new(alloc),
+            entries: Vec::new(alloc),
         }
+    }
+
+    /// The allocator that the map was made with.
+    pub fn allocator(&self) -> Global {
+        *self.entries.allocator()
     }
 
     /// The value of a name, None exactly where the name isn't held.
     pub fn get(&self, name: &Text) -> Option<&T>
-        ensures { option_map (λ v. v.now) result ≡ value_of name.now self.now }
+        ensures value { option_map (λ v. v.now) result ≡ value_of name.now self.now }
+        ensures member { IfSome result (λ v. IsAmong (values_of self.now) v.now) }
     {
-        self.entries.get(name)
+        match place_of(&self.entries, name) {
+            Ok(at) => Some(&self.entries[at].1),
+            Err(_) => None,
+        }
     }
 
     /// The number of names.
@@ -65,16 +83,19 @@ impl<T> NameMap<T> {
         ensures ascending { IsStrictlySortedBy name_cmp (keys_of self.now) }
     {
         NameKeys {
-            inner: self.entries.keys(),
+            entries: self.iter(),
         }
     }
 
     /// The names with their values, ascending by name.
-    pub fn iter(&self) -> Iter<'_, Text, T>
+    pub fn iter(&self) -> NameEntries<'_, T>
         ensures entries { result ≡ self.now }
+        ensures values_in_order { ShowsValuesInOrder (deref_pair {K = List ℕ} {X = T}) }
         ensures ascending { IsStrictlySortedBy name_cmp (keys_of self.now) }
     {
-        self.entries.iter()
+        NameEntries {
+            rest: self.entries.as_slice(),
+        }
     }
 }
 
@@ -85,7 +106,13 @@ impl<T: Drop> NameMap<T> {
         ensures ok { OnOk result (self.new ≡ put name value self.old) }
         ensures err { OnErr result (self.new ≡ self.old) }
     {
-        Ok(self.entries.insert(name, value)?)
+        match place_of(&self.entries, &name) {
+            Ok(at) => Ok(Some(mem::replace(&mut self.entries[at].1, value))),
+            Err(at) => {
+                room::insert(&mut self.entries, at, (name, value))?;
+                Ok(None)
+            }
+        }
     }
 
     /// Takes a value out, None exactly where the name isn't held.
@@ -93,61 +120,66 @@ impl<T: Drop> NameMap<T> {
         ensures value { result ≡ value_of name.now self.old }
         ensures rest { self.new ≡ without name.now self.old }
     {
-        self.entries.remove(name)
+        match place_of(&self.entries, name) {
+            Ok(at) => {
+                let (_, value) = self.entries.remove(at);
+                Some(value)
+            }
+            Err(_) => None,
+        }
     }
 }
 
-/// The names of a map, ascending.
-#[derive(Drop)]
-pub struct NameKeys<'a, T> {
-    inner: Keys<'a, Text, T>,
-}
-
-impl<'a, T> Model for NameKeys<'a, T> {
-    ghost use Rattle.std.specs.Prelude.{List, ℕ};
-
-    ghost Value = { List (List ℕ) };
-
-    ghost view = { λ names. names.inner };
-}
-
-impl<'a, T> Iterator for NameKeys<'a, T> {
-    type Item = &'a Text;
-
-    ghost next_gives = { YieldsFirstRef (λ names. names) };
-
-    ghost remaining = { item_count (λ names. names) };
-
-    fn next(&mut self) -> Option<&'a Text> {
-        self.inner.next()
+// Where the name is, or where it would go.
+fn place_of<T>(entries: &[(Text, T)], name: &Text) -> Result<usize, usize>
+    requires { IsStrictlySortedBy name_cmp (keys_of entries.now) }
+    ensures { result ≡ seek (name_cmp name.now) entries.now }
+{
+    let mut low = 0;
+    let mut high = entries.len();
+    while low < high {
+        let mid = low + (high - low) / 2;
+        match entries[mid].0.cmp(name) {
+            Ordering::Less => low = mid + 1,
+            Ordering::Equal => return Ok(mid),
+            Ordering::Greater => high = mid,
+        }
     }
+    Err(low)
 }
 
 #[cfg(test)]
 mod tests {
     use super::*;
-    use crate::{CompositeIntermediateKey, ItemList, Tuple};
     use std::test::Fail;
 
     #[test]
-    fn containers_grow_with_ample_memory(rt: HostRuntime) -> Result<(), Fail> {
+    fn holds_a_value_by_name(rt: HostRuntime) -> Result<(), Fail> {
         let alloc = rt.alloc();
-        let mut names = NameMap::new(alloc);
-        assert_eq!(rt; names.insert(Text::copy_of(alloc, "b")?, 1)?, None);
-        assert_eq!(rt; names.insert(Text::copy_of(alloc, "a")?, 2)?, None);
-        assert_eq!(rt; names.insert(Text::copy_of(alloc, "b")?, 3)?, Some(1));
-        assert_eq!(rt; names.len(), 2);
-        assert_eq!(rt; names.keys().count(), 2);
-        assert_eq!(rt; names.iter().count(), 2);
-        assert_eq!(rt; names.get(&Text::copy_of(alloc, "a")?).copied(), Some(2));
-        assert_eq!(rt; names.remove(&Text::copy_of(alloc, "b")?), Some(3));
-        let mut tuple = Tuple::new(alloc);
-        tuple.push(CompositeIntermediateKey::Str(Text::copy_of(alloc, "é")?))?;
-        assert!(rt; tuple.try_clone(alloc)? == tuple);
-        let mut list = ItemList::new(alloc);
-        list.push(tuple)?;
-        assert_eq!(rt; list.as_slice().len(), 1);
-        assert_eq!(rt; ItemList::from_vec(list.into_vec()).as_slice().len(), 1);
+        let mut map = NameMap::new(alloc);
+        assert!(rt; map.is_empty());
+        for (name, value, old) in [
+            ("b", 1, None),
+            ("a", 2, None),
+            ("b", 3, Some(1)),
+            ("é", 4, None),
+        ] {
+            let name = Text::copy_of(map.allocator(), name)?;
+            assert_eq!(rt; map.insert(name, value)?, old);
+        }
+        for (name, value) in [("a", Some(2)), ("b", Some(3)), ("c", None)] {
+            let found = map.get(&Text::copy_of(alloc, name)?).copied();
+            assert_eq!(rt; found, value, "{name}");
+        }
+        assert_eq!(rt; map.keys().count(), map.len());
+        let mut names = String::new(alloc);
+        for (name, _) in map.iter() {
+            names.push_str(name.as_str())?;
+        }
+        assert_eq!(rt; names.as_str(), "abé");
+        assert_eq!(rt; map.remove(&Text::copy_of(alloc, "c")?), None);
+        assert_eq!(rt; map.remove(&Text::copy_of(alloc, "b")?), Some(3));
+        assert_eq!(rt; map.len(), 2);
         Ok(())
     }
 }

@@ -1,5 +1,5 @@
 ghost use Rattle.std.specs.Prelude.{◌≡◌};
-ghost use Rattle.agg_values.specs.Key.{class_rank, truth_or_number, address_of, text_of};
+ghost use Rattle.agg_values.specs.TypedKey.{class_rank, truth_or_number, address_of, text_of};
 ghost use Rattle.agg_values.specs.KeyOrder.{ascending_order, directed, null_rank, key_order};
 
 use crate::CompositeIntermediateKey;
@@ -123,7 +123,7 @@ fn text_in(key: &CompositeIntermediateKey) -> &str
 #[cfg(test)]
 mod tests {
     use super::*;
-    use crate::{Address, Text, canonical};
+    use crate::{Address, Text};
     use std::alloc::Global;
     use std::test::Fail;
 
@@ -180,20 +180,5 @@ mod tests {
             }
         }
         Ok(())
-    }
-
-    #[test]
-    fn compares_numbers_by_value(rt: HostRuntime) {
-        let typed = CompositeIntermediateKey::U64(5);
-        let signed = CompositeIntermediateKey::I64(5);
-        let ordering = composite_intermediate_key_ordering(
-            &typed,
-            &signed,
-            Order::Asc,
-            MissingOrder::Last,
-        );
-        assert_eq!(rt; ordering, Ordering::Equal);
-        assert!(rt; typed != signed);
-        assert_eq!(rt; canonical(typed), signed);
     }
 }

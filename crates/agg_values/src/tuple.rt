@@ -3,10 +3,10 @@ ghost use Rattle.std.specs.Cmp.{partial_equiv_from_equiv};
 ghost use Rattle.std.specs.Cmp.Lexicographic.{pointwise, lists_equiv};
 ghost use Rattle.std.specs.Hash as fed;
 ghost use Rattle.std.specs.Hash.{items_Alike};
-ghost use Rattle.agg_values.specs.contracts.key.CompositeIntermediateKeyEq.TheImpl.Laws as equality;
-ghost use Rattle.agg_values.specs.contracts.key.CompositeIntermediateKeyHash.TheImpl.Laws as hashes;
+ghost use Rattle.agg_values.specs.KeyLaws.equality as equality;
+ghost use Rattle.agg_values.specs.KeyLaws.hashes as hashes;
 
-use crate::{CompositeIntermediateKey, OutOfMemory};
+use crate::{CompositeIntermediateKey, OutOfMemory, room};
 use std::alloc::Global;
 use std::hash::{Hash, Hasher};
 use std::marker::Model;
@@ -19,7 +19,7 @@ pub struct Tuple {
 
 impl Model for Tuple {
     ghost use Rattle.std.specs.Prelude.{List};
-    ghost use Rattle.agg_values.specs.declared.key.CompositeIntermediateKey.{CompositeIntermediateKey};
+    ghost use Rattle.agg_values.specs.TypedKey.{CompositeIntermediateKey};
 
     ghost Value = { List CompositeIntermediateKey };
 
@@ -41,8 +41,7 @@ impl Tuple {
         ensures ok { OnOk result (self.new ≡ self.old ++ key ∷ []) }
         ensures err { OnErr result (self.new ≡ self.old) }
     {
-        self.keys.push(key)?;
-        Ok(())
+        room::push(&mut self.keys, key)
     }
 
     /// The keys.
@@ -56,12 +55,21 @@ impl Tuple {
     pub fn try_clone(&self, alloc: Global) -> Result<Tuple, OutOfMemory>
         ensures { IfOk result (λ tuple. tuple ≡ self.now) }
     {
-        let mut tuple = Tuple::new(alloc);
+        let mut tuple = with_room(alloc, self.keys.len())?;
         for key in self.as_slice() {
             tuple.push(key.try_clone(alloc)?)?;
         }
         Ok(tuple)
     }
+}
+
+// The empty tuple, with room for some keys.
+fn with_room(alloc: Global, len: usize) -> Result<Tuple, OutOfMemory>
+    ensures { IfOk result (λ tuple. tuple ≡ []) }
+{
+    Ok(Tuple {
+        keys: Vec::with_capacity(alloc, len)?,
+    })
 }
 
 impl PartialEq for Tuple {
@@ -85,5 +93,24 @@ impl Hash for Tuple {
 
     fn hash<H: Hasher>(&self, state: &mut H) {
         self.as_slice().hash(state);
+    }
+}
+
+#[cfg(test)]
+mod tests {
+    use super::*;
+    use crate::Text;
+    use std::test::Fail;
+
+    #[test]
+    fn copies_its_keys(rt: HostRuntime) -> Result<(), Fail> {
+        let alloc = rt.alloc();
+        let mut tuple = Tuple::new(alloc);
+        tuple.push(CompositeIntermediateKey::Str(Text::copy_of(alloc, "é")?))?;
+        tuple.push(CompositeIntermediateKey::Null)?;
+        let copy = tuple.try_clone(alloc)?;
+        assert_eq!(rt; copy.as_slice().len(), 2);
+        assert_eq!(rt; copy, tuple);
+        Ok(())
     }
 }

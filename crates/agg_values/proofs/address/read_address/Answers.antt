@@ -1,5 +1,6 @@
 use Rattle.std.proofs.Common.{ap, Some}
-use Rattle.agg_values.proofs.AddressTexts.{IsAddressText-from_ip, IsAddressText-unique, IsAddressText-none}
+use Rattle.agg_values.proofs.AddressTexts.{IsAddressText-from_ip, IsAddressText-unique}
+use Rattle.agg_values.proofs.AddressTexts.{IsAddressText-none}
 use Rattle.agg_values.proofs.address.read_address.Goals as goal
 
 pub returns-in-Ok-clause-each : goal.returns-in-Ok-clause-each

@@ -1,5 +1,7 @@
 use Rattle.std.specs.Prelude.{codes}
-use Rattle.agg_values.proofs.KeyTexts.{bad_value, error_of_none, some_is_not_none, refused_truth, refused_signed, refused_unsigned, refused_date, refused_address}
+use Rattle.agg_values.proofs.KeyTexts.{bad_value, error_of_none, some_is_not_none, refused_truth}
+use Rattle.agg_values.proofs.KeyTexts.{refused_signed, refused_unsigned, refused_date}
+use Rattle.agg_values.proofs.KeyTexts.{refused_address}
 use Rattle.agg_values.specs.declared.error.KeyTextError.TheVariants.{BadValue}
 use Rattle.agg_values.proofs.after_key.read_value.Goals as goal
 

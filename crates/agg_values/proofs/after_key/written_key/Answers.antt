@@ -1,6 +1,6 @@
 use Rattle.std.proofs.Common.{subst, sym}
 use Rattle.agg_values.specs.KeyText.{value_text, IsValueText}
-use Rattle.agg_values.specs.declared.key.CompositeIntermediateKey.{CompositeIntermediateKey}
+use Rattle.agg_values.specs.TypedKey.{CompositeIntermediateKey}
 use Rattle.agg_values.proofs.after_key.written_key.Goals as goal
 
 pub returns-in-IpAddr-clause-reads_back : goal.returns-in-IpAddr-clause-reads_back

@@ -2,7 +2,8 @@ use Rattle.std.proofs.Common.{◌∙◌, ℕ, List, ◌∷◌, ◌++◌, ap, sym
 use Rattle.std.proofs.lemmas.Str.Pattern.{split_parts}
 use Rattle.agg_values.specs.KeyText.{colon, IsKeyText, IsRefusedAs}
 use Rattle.agg_values.specs.declared.error.KeyTextError.TheVariants.{NoColon}
-use Rattle.agg_values.proofs.KeyTexts.{passed_on, error_of_none, refused_text, not_contained_by_place, IsKeyText-unique}
+use Rattle.agg_values.proofs.KeyTexts.{passed_on, error_of_none, refused_text}
+use Rattle.agg_values.proofs.KeyTexts.{not_contained_by_place, IsKeyText-unique}
 use Rattle.agg_values.proofs.after_key.AfterKey.read.Goals as goal
 
 pub returns-in_err-kind-clause-err : goal.returns-in_err-kind-clause-err

@@ -1,0 +1,88 @@
+-- `NameMap` as a type that may hold the type that holds it.
+use mathlib.Core.Path.{◌≡◌, refl, sym, subst}
+use mathlib.Core.List.{List, [], ◌∷◌, map}
+use mathlib.Core.Former.{Former, this, list, via, children}
+use Prim.Native.Nat.{ℕ}
+use denote.RattleType.{RattleType}
+use denote.HoleLaws.{Alike}
+use denote.HolePlaces.{Recodes, struct_places, laid}
+use denote.Hole.Carrier.{listed}
+use denote.Hole.Fix.{over}
+use denote.Param.Weighed.{Weighed, most}
+use denote.Model.Placed.{view_places}
+use denote.Struct.Tuple.{type_at}
+use denote.Struct.Declared as S
+use Rattle.std.specs.formers.vec.Vec as vec
+use Rattle.std.specs.declared.alloc.Global.{Global}
+use Rattle.std.specs.contracts.alloc.Global as heap
+use Rattle.std.specs.contracts.impls.GlobalAllocator.TheImpl.{ghosts}
+use Rattle.std.specs.List.Sorted.{IsStrictlySortedBy, IsStrictlySortedBy-prop}
+use Rattle.std.specs.Map.{keys_of, values_of}
+use Rattle.std_collections.specs.Layout.Former.{entry, on_value, entries_puts, values_listed}
+use Rattle.std_collections.specs.Layout.Former.{keys_on_values, entries_recoded}
+use Rattle.agg_values.specs.Names.{name_cmp}
+use Rattle.agg_values.specs.contracts.text.Text as text
+use Rattle.agg_values.specs.declared.name_map.NameMap.TheInside.{Inside}
+use Rattle.agg_values.specs.declared.name_map.NameMap.TheView.{view, invariant}
+use Rattle.agg_values.specs.contracts.name_map.NameMap as C
+use Rattle.agg_values.specs.contracts.name_map.NameMap.TheInside as I
+
+abbrev pub the_former : Former {0} → Former {0}
+the_former g = list (entry g (List ℕ))
+
+abbrev pub the_weighed : {g : Former {0}} → Weighed g → Weighed (the_former g)
+the_weighed w = record {
+  weight = λ X μ es. most (w.weight X μ) (values_of es);
+  puts = λ X μ es. entries_puts w (List ℕ) X μ es;
+}
+
+pub the_empty : List (List ℕ × ⊥)
+the_empty = []
+
+abbrev pub the_items : (X : Type 0) → List (List ℕ × X) → List X
+the_items X es = values_of es
+
+pub the_items_listed : (X : Type 0) (es : List (List ℕ × X))
+    → listed _ (children (the_former this) X es) ≡ the_items X es
+the_items_listed X es = values_listed (List ℕ) X es
+
+abbrev fields : Former {0}
+fields =
+    via (vec.the_former (entry this (List ℕ)) Global) Inside (λ X a. a.entries)
+    (λ X v. record { entries = v }) (λ X a. refl) (λ X v. refl)
+
+-- a name with a value, as the tuple that it is
+abbrev entry_type : RattleType → S.Declared
+entry_type R = type_at (40 ∷ 44 ∷ 41 ∷ []) (text.the_row ∷ R ∷ [])
+
+abbrev entry_row : RattleType → RattleType
+entry_row R = S.row (entry_type R)
+
+module _ (R R' : RattleType) (h : R.Denot → R'.Denot) where
+  entry_places : Alike R R' h → Alike (entry_row R) (entry_row R') (on_value h)
+  entry_places a =
+      struct_places (entry_type R) (entry_type R') ((λ n. n), (h, tt)) _ (λ d. refl) refl
+      ((refl, (λ n. refl, λ n. refl)), (laid _ _ _ a, tt))
+
+  same_keys : (es : List (List ℕ × R.Denot)) → keys_of (map (on_value h) es) ≡ keys_of es
+  same_keys es = keys_on_values h es
+
+  pub the_places : Alike R R' h
+      → Alike (C.the_row R) (C.the_row R') ((the_former this).map R.Denot R'.Denot h)
+  the_places a =
+      let vector =
+      vec.the_places heap.the_row ghosts (entry_row R) (entry_row R') (on_value h)
+      (entry_places a) in
+      view_places fields (list (entry this (List ℕ))) view (λ X Y k u. refl) (λ X u. refl)
+      R.Denot R'.Denot h (C.the_row R).coded (C.the_row R').coded
+      (invariant R.Denot) (invariant R'.Denot) (λ u. IsStrictlySortedBy-prop name_cmp _)
+      (λ u. IsStrictlySortedBy-prop name_cmp _)
+      (λ u e. subst (IsStrictlySortedBy name_cmp) (sym (same_keys u.entries.items)) e)
+      (λ u e. subst (IsStrictlySortedBy name_cmp) (same_keys u.entries.items) e)
+      (over (I.the_row R)) (over (I.the_row R'))
+      (struct_places (I.the_type R) (I.the_type R') (vec.mapped (on_value h), tt)
+      _ (λ d. refl) refl (laid _ _ _ vector, tt))
+
+  pub the_codes_placed : Recodes R R' h
+      → Recodes (C.the_row R) (C.the_row R') ((the_former this).map R.Denot R'.Denot h)
+  the_codes_placed e es = entries_recoded text.the_row R R' h e es
