@@ -42,7 +42,8 @@ impl Document {
 
     /// Appends a value to a field's list.
     pub fn add(&mut self, field: Text, value: FieldValue) -> Result<(), OutOfMemory>
-        ensures ok { OnOk result (self.new ≡ put field (values_in self.old field ++ value ∷ []) self.old) }
+        ensures ok { OnOk result
+            (self.new ≡ put field (values_in self.old field ++ value ∷ []) self.old) }
         ensures err { OnErr result (self.new ≡ self.old) }
     {
         if let Some(values) = self.fields.get_mut(&field) {

@@ -1,8 +1,9 @@
-ghost use Rattle.std.specs.Prelude.{◌≡◌};
-ghost use Rattle.agg_segment.specs.Document.{meaning};
+ghost use Rattle.std.specs.Prelude.{◌≡◌, ◌<◌, length};
 ghost use Rattle.agg_segment.specs.Query.{matches};
+ghost use Rattle.agg_segment.specs.Segment.{document_at};
 
-use crate::Document;
+use crate::SegmentReader;
+use agg_values::DocId;
 
 /// A query, by the documents that it matches.
 #[derive(Debug, Drop)]
@@ -12,11 +13,13 @@ pub enum QueryTree {
 }
 
 impl QueryTree {
-    /// Whether a document matches.
-    pub fn matches_document(&self, document: &Document) -> bool
-        ensures { result ≡ matches self.now (meaning document.now) }
+    /// Whether the document at a place of a segment matches.
+    pub fn matches_document(&self, segment: &SegmentReader, doc: DocId) -> bool
+        requires { doc < length segment.now }
+        ensures { result ≡ matches self.now (document_at segment.now doc) }
     {
-        let _ = document;
+        let _ = segment;
+        let _ = doc;
         match self {
             QueryTree::All => true,
         }

@@ -1,8 +1,10 @@
-ghost use Rattle.std.specs.Prelude.{◌≡◌, ◌≢◌, ◌≤◌, ◌<◌, ◌↔◌, Some, Err, [], ◌∷◌, ◌++◌, length, slice_get, IfOk, OnOk, OnErr, IsErrOf};
-ghost use Rattle.agg_segment.specs.declared.segment.BuildError.TheVariants.{OutOfMemory as NoMemory};
+ghost use Rattle.std.specs.Prelude.{◌≡◌, ◌≢◌, ◌≤◌, ◌<◌, ◌↔◌, Err, [], ◌∷◌, ◌++◌, length, IfOk};
+ghost use Rattle.std.specs.Prelude.{OnOk, OnErr, IsErrOf};
+ghost use Rattle.agg_segment.specs.Segment.{document_at};
+ghost use Rattle.agg_segment.specs.declared.segment.BuildError.TheVariants as error;
 
-use crate::Document;
-use agg_values::{DocId, OutOfMemory};
+use crate::{Document, FieldValue};
+use agg_values::{DocId, OutOfMemory, Text};
 use std::alloc::{AllocFailed, Global};
 use std::marker::Model;
 use thiserror::Error;
@@ -20,7 +22,7 @@ pub enum BuildError {
 }
 
 impl<T: Drop> From<AllocFailed<T>> for BuildError {
-    ghost from_gives = { λ _ e. e ≡ NoMemory };
+    ghost from_gives = { λ _ e. e ≡ error.OutOfMemory };
 
     fn from(_error: AllocFailed<T>) -> BuildError {
         BuildError::OutOfMemory
@@ -58,7 +60,8 @@ impl SegmentBuilder {
     /// Appends a document.
     pub fn add_document(&mut self, document: Document) -> Result<(), BuildError>
         ensures ok { OnOk result (self.new ≡ self.old ++ document ∷ []) }
-        ensures full { IsErrOf result BuildError.TooManyDocuments ↔ (length self.old ≡ MAX_DOCUMENTS) }
+        ensures full { IsErrOf result BuildError.TooManyDocuments
+            ↔ (length self.old ≡ MAX_DOCUMENTS) }
         ensures err { OnErr result (self.new ≡ self.old) }
     {
         if self.documents.len() == MAX_DOCUMENTS as usize {
@@ -106,11 +109,11 @@ impl SegmentReader {
         self.documents.len() as u32
     }
 
-    /// The document at a place.
-    pub fn document(&self, doc: DocId) -> &Document
+    /// The values of a field in the document at a place.
+    pub fn values(&self, doc: DocId, field: &Text) -> &[FieldValue]
         requires { doc < length self.now }
-        ensures { slice_get self.now doc ≡ Some result.now }
+        ensures { result.now ≡ document_at self.now doc field.now }
     {
-        &self.documents[doc as usize]
+        self.documents[doc as usize].values(field)
     }
 }

@@ -1,5 +1,5 @@
 //! What the calls answer where memory is ample.
-use crate::{Document, FieldValue, QueryTree, Schema, SegmentBuilder};
+use crate::{BuildError, Document, FieldValue, MAX_DOCUMENTS, QueryTree, Schema, SegmentBuilder};
 use agg_values::{ItemList, Text};
 use std::test::Fail;
 
@@ -25,7 +25,6 @@ fn a_document_gives_the_values_of_its_fields(rt: HostRuntime) -> Result<(), Fail
             assert_eq!(rt; *value, FieldValue::I64(*number), "{field}");
         }
     }
-    assert!(rt; QueryTree::All.matches_document(&document));
     Ok(())
 }
 
@@ -42,13 +41,24 @@ fn a_segment_gives_its_documents(rt: HostRuntime) -> Result<(), Fail> {
     let segment = builder.build()?;
     assert_eq!(rt; segment.num_docs(), 2);
     for (place, number) in [(0, 3), (1, 1)] {
-        assert_eq!(rt; segment.document(place).values(&field).len(), 1, "{place}");
-        assert_eq!(rt;
-            segment.document(place).values(&field)[0],
-            FieldValue::I64(number),
-            "{place}"
-        );
+        let values = segment.values(place, &field);
+        assert_eq!(rt; values.len(), 1, "{place}");
+        assert_eq!(rt; values[0], FieldValue::I64(number), "{place}");
+        assert!(rt; QueryTree::All.matches_document(&segment, place));
     }
+    Ok(())
+}
+
+#[test]
+fn a_full_segment_takes_no_document(rt: HostRuntime) -> Result<(), Fail> {
+    let alloc = rt.alloc();
+    let mut builder = SegmentBuilder::new(alloc);
+    for _ in 0..MAX_DOCUMENTS {
+        builder.add_document(Document::new(alloc))?;
+    }
+    let refused = builder.add_document(Document::new(alloc));
+    assert_eq!(rt; refused, Err(BuildError::TooManyDocuments));
+    assert_eq!(rt; builder.build()?.num_docs(), MAX_DOCUMENTS);
     Ok(())
 }
 
