@@ -1,4 +1,4 @@
--- From a map of counts to the groups of a plain composite, and back.
+-- From a map of counts to the groups of one ascending source, and back.
 use Rattle.std.proofs.Common.{◌≡◌, ℕ, ℤ, ◌+◌, ◌<◌, ◌≤◌, ◌⊎◌, zero, suc, List, [], ◌∷◌, ◌++◌, false, cond, Option, None, Some, IsSome, is_some, length, map, count_by, All, Contains, refl, sym, ap, ◌∙◌, subst, inl, inr, arith}
 use Rattle.std.specs.BTreeMap.{is_at}
 use Rattle.std.specs.List.{AllByRecursion}
@@ -16,20 +16,22 @@ use Rattle.std.proofs.lemmas.Map.Keys.{IsDistinct-from_sorted}
 use Rattle.std.proofs.lemmas.Map.Lookups.{exact_signed}
 use Rattle.std.proofs.lemmas.Map.Views.{tells_apart, Contains-from_lookup, lookup-from_Contains, Contains-keys_from_lookup, IsSome-lookup_from_Contains}
 use Rattle.std.proofs.lemmas.Option.{same_Some, none-some}
-use Rattle.agg_values.specs.declared.key.CompositeIntermediateKey.{CompositeIntermediateKey}
-use Rattle.agg_values.specs.declared.key.CompositeIntermediateKey.TheVariants.{I64}
+use Rattle.agg_values.specs.declared.composite_intermediate_key.CompositeIntermediateKey.TheVariants.{I64}
 use Rattle.agg_values.specs.KeyOrder.{tuple_order}
-use Rattle.agg_composite.specs.Counts.{Counts, plain_rules, positive}
-use Rattle.agg_composite.specs.Groups.{Groups, HasVisited, numbers_held}
-use Rattle.agg_composite.specs.Occurrences.{same_tuple}
-use Rattle.agg_composite.proofs.Lists.{All-from_map, All-from_Contains, Contains-map, count-step, count_by-none, count_by-some, count_by-positive, count_by-map, count_by-agree}
+use Rattle.agg_composite.specs.Counts.{Counts, positive, numbers_held}
+use Rattle.agg_request.specs.Source.{ascending_rules}
+use Rattle.agg_request.specs.Groups.{Groups}
+use Rattle.agg_composite.specs.Visits.{HasVisited}
+use Rattle.agg_request.specs.Occurrences.{same_tuple}
+use Rattle.agg_request.proofs.Lists.{All-from_map, All-from_Contains, Contains-map, count-step, count_by-none, count_by-some, count_by-positive, count_by-map, count_by-agree}
+use Rattle.agg_values.specs.Tuple.{KeyTuple}
 
 -- the entries, as tuples, are the groups of what was visited
-abbrev pub Holds : List (List CompositeIntermediateKey) → List (ℤ × ℕ) → Type 0
-Holds visited entries = Groups plain_rules visited (numbers_held entries)
+abbrev pub Holds : List KeyTuple → List (ℤ × ℕ) → Type 0
+Holds visited entries = Groups ascending_rules visited (numbers_held entries)
 
 -- numbers as tuples of one key
-abbrev tuples_of : List ℤ → List (List CompositeIntermediateKey)
+abbrev tuples_of : List ℤ → List KeyTuple
 tuples_of numbers = map (λ n. I64 n ∷ []) numbers
 
 -- ---- tuples of one number
@@ -39,13 +41,13 @@ then-equal Less = refl
 then-equal Equal = refl
 then-equal Greater = refl
 
-order-plain : (a b : ℤ) → tuple_order plain_rules (I64 a ∷ []) (I64 b ∷ []) ≡ int_cmp a b
-order-plain a b = then-equal (int_cmp a b)
+order-ascending : (a b : ℤ) → tuple_order ascending_rules (I64 a ∷ []) (I64 b ∷ []) ≡ int_cmp a b
+order-ascending a b = then-equal (int_cmp a b)
 
-count-tuples : (q : ℤ) (numbers : List ℤ) → count_by (same_tuple plain_rules (I64 q ∷ [])) (tuples_of numbers) ≡ count_by (is_at (int_cmp q)) numbers
+count-tuples : (q : ℤ) (numbers : List ℤ) → count_by (same_tuple ascending_rules (I64 q ∷ [])) (tuples_of numbers) ≡ count_by (is_at (int_cmp q)) numbers
 count-tuples q numbers =
-    count_by-map (same_tuple plain_rules (I64 q ∷ [])) (λ n. I64 n ∷ []) numbers
-    ∙ count_by-agree (λ n. same_tuple plain_rules (I64 q ∷ []) (I64 n ∷ [])) (is_at (int_cmp q)) numbers (λ n. ap is_eq (order-plain q n))
+    count_by-map (same_tuple ascending_rules (I64 q ∷ [])) (λ n. I64 n ∷ []) numbers
+    ∙ count_by-agree (λ n. same_tuple ascending_rules (I64 q ∷ []) (I64 n ∷ [])) (is_at (int_cmp q)) numbers (λ n. ap is_eq (order-ascending q n))
 
 keys-held : (es : List (ℤ × ℕ)) → keys_of (numbers_held es) ≡ tuples_of (keys_of es)
 keys-held [] = refl
@@ -54,21 +56,21 @@ keys-held (e ∷ es) = ap (λ ts. (I64 e.0 ∷ []) ∷ ts) (keys-held es)
 -- ---- their order
 
 below-to : (a : ℤ) (es : List (ℤ × ℕ)) → AllByRecursion (λ b. int_cmp a b ≡ Less) (keys_of es)
-    → AllByRecursion (λ t. tuple_order plain_rules (I64 a ∷ []) t ≡ Less) (keys_of (numbers_held es))
+    → AllByRecursion (λ t. tuple_order ascending_rules (I64 a ∷ []) t ≡ Less) (keys_of (numbers_held es))
 below-to a [] h = tt
-below-to a (e ∷ es) h = (order-plain a e.0 ∙ h.0, below-to a es h.1)
+below-to a (e ∷ es) h = (order-ascending a e.0 ∙ h.0, below-to a es h.1)
 
-sorted-to : (es : List (ℤ × ℕ)) → IsStrictlySortedBy int_cmp (keys_of es) → IsStrictlySortedBy (tuple_order plain_rules) (keys_of (numbers_held es))
+sorted-to : (es : List (ℤ × ℕ)) → IsStrictlySortedBy int_cmp (keys_of es) → IsStrictlySortedBy (tuple_order ascending_rules) (keys_of (numbers_held es))
 unfolding IsStrictlySortedBy
 sorted-to [] h = tt
 sorted-to (e ∷ es) h = (below-to e.0 es h.0, sorted-to es h.1)
 
-below-from : (a : ℤ) (es : List (ℤ × ℕ)) → AllByRecursion (λ t. tuple_order plain_rules (I64 a ∷ []) t ≡ Less) (keys_of (numbers_held es))
+below-from : (a : ℤ) (es : List (ℤ × ℕ)) → AllByRecursion (λ t. tuple_order ascending_rules (I64 a ∷ []) t ≡ Less) (keys_of (numbers_held es))
     → AllByRecursion (λ b. int_cmp a b ≡ Less) (keys_of es)
 below-from a [] h = tt
-below-from a (e ∷ es) h = (sym (order-plain a e.0) ∙ h.0, below-from a es h.1)
+below-from a (e ∷ es) h = (sym (order-ascending a e.0) ∙ h.0, below-from a es h.1)
 
-sorted-from : (es : List (ℤ × ℕ)) → IsStrictlySortedBy (tuple_order plain_rules) (keys_of (numbers_held es)) → IsStrictlySortedBy int_cmp (keys_of es)
+sorted-from : (es : List (ℤ × ℕ)) → IsStrictlySortedBy (tuple_order ascending_rules) (keys_of (numbers_held es)) → IsStrictlySortedBy int_cmp (keys_of es)
 unfolding IsStrictlySortedBy
 sorted-from [] h = tt
 sorted-from (e ∷ es) h = (below-from e.0 es h.0, sorted-from es h.1)
@@ -76,14 +78,14 @@ sorted-from (e ∷ es) h = (below-from e.0 es h.0, sorted-from es h.1)
 -- ---- what was visited, as numbers
 
 -- a tuple of one number
-abbrev IsNumber : List CompositeIntermediateKey → Type 0
+abbrev IsNumber : KeyTuple → Type 0
 IsNumber t = (n : ℤ) × (t ≡ I64 n ∷ [])
 
 number-keys : (es : List (ℤ × ℕ)) → All IsNumber (keys_of (numbers_held es))
 number-keys [] = All-nil IsNumber
 number-keys (e ∷ es) = All-cons IsNumber (I64 e.0 ∷ []) (keys_of (numbers_held es)) (e.0, refl) (number-keys es)
 
-numbers-visited : (es : List (ℤ × ℕ)) (visited : List (List CompositeIntermediateKey)) → All (Contains (keys_of (numbers_held es))) visited → (numbers : List ℤ) × (visited ≡ tuples_of numbers)
+numbers-visited : (es : List (ℤ × ℕ)) (visited : List KeyTuple) → All (Contains (keys_of (numbers_held es))) visited → (numbers : List ℤ) × (visited ≡ tuples_of numbers)
 numbers-visited es [] h = ([], refl)
 numbers-visited es (t ∷ ts) h =
     let p = All-contains IsNumber (keys_of (numbers_held es)) t (number-keys es) (All-head (Contains (keys_of (numbers_held es))) t ts h) in
@@ -121,8 +123,8 @@ not-visited es numbers g q h n m = false_from_ne_true _ (λ e.
 -- an entry of groups has a positive count
 counted-entry : (es : List (ℤ × ℕ)) (numbers : List ℤ) → Holds (tuples_of numbers) es → (q : ℤ) (v : ℕ) → Contains es (q, v) → (0 < v) × (v ≡ count_by (is_at (int_cmp q)) numbers)
 counted-entry es numbers g q v m =
-    let f = All-contains (λ e. (0 < e.1) × (e.1 ≡ count_by (same_tuple plain_rules (I64 e.0 ∷ [])) (tuples_of numbers))) es (q, v)
-    (All-from_map (λ e. (0 < e.1) × (e.1 ≡ count_by (same_tuple plain_rules e.0) (tuples_of numbers))) (λ e. (I64 e.0 ∷ [], e.1)) es g.counted) m in
+    let f = All-contains (λ e. (0 < e.1) × (e.1 ≡ count_by (same_tuple ascending_rules (I64 e.0 ∷ [])) (tuples_of numbers))) es (q, v)
+    (All-from_map (λ e. (0 < e.1) × (e.1 ≡ count_by (same_tuple ascending_rules e.0) (tuples_of numbers))) (λ e. (I64 e.0 ∷ [], e.1)) es g.counted) m in
     (f.0, f.1 ∙ count-tuples q numbers)
 
 counted-from : (es : List (ℤ × ℕ)) (numbers : List ℤ) → Holds (tuples_of numbers) es → (q : ℤ) → lookup (is_at (int_cmp q)) es ≡ positive (count_by (is_at (int_cmp q)) numbers)
@@ -167,8 +169,8 @@ visited-entry es numbers c n m =
 pub Groups-from_Counts : (es : List (ℤ × ℕ)) (numbers : List ℤ) → Counts es numbers → Holds (tuples_of numbers) es
 Groups-from_Counts es numbers c = record {
   ascending = sorted-to es c.ascending;
-  counted = All-map (λ e. (0 < e.1) × (e.1 ≡ count_by (same_tuple plain_rules e.0) (tuples_of numbers))) (λ e. (I64 e.0 ∷ [], e.1)) es
-      (All-from_Contains (λ e. (0 < e.1) × (e.1 ≡ count_by (same_tuple plain_rules (I64 e.0 ∷ [])) (tuples_of numbers))) es
+  counted = All-map (λ e. (0 < e.1) × (e.1 ≡ count_by (same_tuple ascending_rules e.0) (tuples_of numbers))) (λ e. (I64 e.0 ∷ [], e.1)) es
+      (All-from_Contains (λ e. (0 < e.1) × (e.1 ≡ count_by (same_tuple ascending_rules (I64 e.0 ∷ [])) (tuples_of numbers))) es
       (λ e m. let f = entry-count es numbers c e m in (f.0, f.1 ∙ sym (count-tuples e.0 numbers))));
   occurring = subst (λ ts. All (Contains (tuples_of numbers)) ts) (sym (keys-held es))
       (All-map (Contains (tuples_of numbers)) (λ n. I64 n ∷ []) (keys_of es)
@@ -181,11 +183,11 @@ Groups-from_Counts es numbers c = record {
 
 -- ---- one more visit
 
-visited-then : (visited : List (List CompositeIntermediateKey)) (numbers : List ℤ) (number : ℤ) → visited ≡ tuples_of numbers → visited ++ (I64 number ∷ []) ∷ [] ≡ tuples_of (numbers ++ number ∷ [])
+visited-then : (visited : List KeyTuple) (numbers : List ℤ) (number : ℤ) → visited ≡ tuples_of numbers → visited ++ (I64 number ∷ []) ∷ [] ≡ tuples_of (numbers ++ number ∷ [])
 visited-then visited numbers number e = ap (λ vs. vs ++ (I64 number ∷ []) ∷ []) e ∙ sym (map-append (λ n. I64 n ∷ []) numbers (number ∷ []))
 
 pub HasVisited-number : (es fs : List (ℤ × ℕ)) (number : ℤ) → ((numbers : List ℤ) → Counts es numbers → Counts fs (numbers ++ number ∷ []))
-    → HasVisited plain_rules ((I64 number ∷ []) ∷ []) (numbers_held es) (numbers_held fs)
+    → HasVisited ascending_rules ((I64 number ∷ []) ∷ []) (numbers_held es) (numbers_held fs)
 HasVisited-number es fs number step visited g =
     let p = numbers-visited es visited g.complete in
     let c = Counts-from_Groups es p.0 (subst (λ vs. Holds vs es) p.1 g) in
@@ -199,10 +201,10 @@ count-then number numbers =
 
 -- a number that is visited too often is a tuple that is
 pub number-too_often : (es : List (ℤ × ℕ)) (number : ℤ) (limit : ℕ) → ((numbers : List ℤ) → Counts es numbers → limit ≤ count_by (is_at (int_cmp number)) numbers + 1)
-    → (visited : List (List CompositeIntermediateKey)) → Holds visited es → limit ≤ count_by (same_tuple plain_rules (I64 number ∷ [])) (visited ++ (I64 number ∷ []) ∷ [])
+    → (visited : List KeyTuple) → Holds visited es → limit ≤ count_by (same_tuple ascending_rules (I64 number ∷ [])) (visited ++ (I64 number ∷ []) ∷ [])
 number-too_often es number limit step visited g =
     let p = numbers-visited es visited g.complete in
     let c = Counts-from_Groups es p.0 (subst (λ vs. Holds vs es) p.1 g) in
-    let e : count_by (same_tuple plain_rules (I64 number ∷ [])) (visited ++ (I64 number ∷ []) ∷ []) ≡ count_by (is_at (int_cmp number)) (p.0 ++ number ∷ []) =
-    ap (count_by (same_tuple plain_rules (I64 number ∷ []))) (visited-then visited p.0 number p.1) ∙ count-tuples number (p.0 ++ number ∷ []) in
+    let e : count_by (same_tuple ascending_rules (I64 number ∷ [])) (visited ++ (I64 number ∷ []) ∷ []) ≡ count_by (is_at (int_cmp number)) (p.0 ++ number ∷ []) =
+    ap (count_by (same_tuple ascending_rules (I64 number ∷ []))) (visited-then visited p.0 number p.1) ∙ count-tuples number (p.0 ++ number ∷ []) in
     omega (arith, e, count-then number p.0, step p.0 c)

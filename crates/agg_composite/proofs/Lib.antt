@@ -4,16 +4,3 @@ pub mod CollectorFront
 pub mod CollectorParts
 pub mod CollectorPast
 pub mod Errors
-pub mod Lists
-pub mod PageAfter
-pub mod PageCounts
-pub mod PageExists
-pub mod PageFromGroups
-pub mod PageKeys
-pub mod PagePast
-pub mod PageSteps
-pub mod PageTuples
-pub mod PageUnique
-pub mod PageWalk
-pub mod PageWhole
-pub mod UncutLength

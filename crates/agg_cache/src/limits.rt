@@ -1,0 +1,89 @@
+ghost use Rattle.std.specs.Prelude.{◌≡◌, unwrap_or};
+
+use std::marker::Model;
+
+/// The number of a bucket of a collector.
+pub type BucketId = u32;
+
+/// The bytes that the collectors of a walk may hold, where no limit is given.
+pub const DEFAULT_MEMORY_LIMIT: u64 = 500_000_000;
+
+/// The buckets that a result may have, where no limit is given.
+pub const DEFAULT_BUCKET_LIMIT: u32 = 65_000;
+
+/// The limits of a walk, and the bytes that its collectors have charged.
+#[derive(Debug, Drop)]
+pub struct LimitsLedger {
+    in_use: u64,
+    memory_limit: u64,
+    bucket_limit: u32,
+}
+
+impl Model for LimitsLedger {
+    ghost use Rattle.agg_cache.specs.Limits.{Limits};
+
+    ghost Value = { Limits };
+
+    ghost view = { λ ledger. record {
+      in_use = ledger.in_use;
+      memory_limit = ledger.memory_limit;
+      bucket_limit = ledger.bucket_limit;
+    } };
+}
+
+impl LimitsLedger {
+    /// A ledger with nothing in use, and the default in place of a limit that isn't given.
+    pub fn new(memory_limit: Option<u64>, bucket_limit: Option<u32>) -> LimitsLedger
+        ensures in_use { result.in_use ≡ 0 }
+        ensures memory { result.memory_limit ≡ unwrap_or memory_limit 500000000 }
+        ensures buckets { result.bucket_limit ≡ unwrap_or bucket_limit 65000 }
+    {
+        LimitsLedger {
+            in_use: 0,
+            memory_limit: memory_limit.unwrap_or(DEFAULT_MEMORY_LIMIT),
+            bucket_limit: bucket_limit.unwrap_or(DEFAULT_BUCKET_LIMIT),
+        }
+    }
+
+    /// The bytes that are charged and not given back.
+    pub fn in_use(&self) -> u64
+        ensures { result ≡ self.now.in_use }
+    {
+        self.in_use
+    }
+
+    /// The bytes that may be in use.
+    pub fn memory_limit(&self) -> u64
+        ensures { result ≡ self.now.memory_limit }
+    {
+        self.memory_limit
+    }
+
+    /// The buckets that a result may have.
+    pub fn bucket_limit(&self) -> u32
+        ensures { result ≡ self.now.bucket_limit }
+    {
+        self.bucket_limit
+    }
+}
+
+#[cfg(test)]
+mod tests {
+    use super::LimitsLedger;
+
+    #[test]
+    fn a_limit_that_is_not_given_is_the_default(rt: HostRuntime) {
+        for (memory_limit, bucket_limit, expected) in [
+            (None, Some(7), (0, 500_000_000, 7)),
+            (Some(9), None, (0, 9, 65_000)),
+        ] {
+            let limits = LimitsLedger::new(memory_limit, bucket_limit);
+            let shown = (
+                limits.in_use(),
+                limits.memory_limit(),
+                limits.bucket_limit(),
+            );
+            assert_eq!(rt; shown, expected);
+        }
+    }
+}

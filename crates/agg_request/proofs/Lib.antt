@@ -1,0 +1,15 @@
+pub mod JsonLemmas
+pub mod Lists
+pub mod OccurrencesLength
+pub mod PageAfter
+pub mod PageCounts
+pub mod PageExists
+pub mod PageFromGroups
+pub mod PageKeys
+pub mod PagePast
+pub mod PageSteps
+pub mod PageTuples
+pub mod PageUnique
+pub mod PageWalk
+pub mod PageWhole
+pub mod UncutLength

@@ -1,0 +1,173 @@
+-- How many occurrences documents have, and how it is counted without walking them.
+use Rattle.std.proofs.Common.{◌≡◌, inl, inr, ℕ, zero, suc, ◌+◌, ◌*◌, ◌<◌, ◌≤◌, List, [], ◌∷◌, ◌++◌, length, length-append, min, take, drop, map, get_or, sym, ap, ◌∙◌, arith}
+use Rattle.std.proofs.Math.Nat.{mul_assoc, zero-mul, suc-mul, one-mul, mul-one, mul-zero, le-mul_of_pos_right, min-eq_left, min-eq_right, min-le_left}
+use Rattle.std.specs.List.{flat_map}
+use Rattle.std.proofs.lemmas.Bool.{cases_lt}
+use Rattle.std.proofs.lemmas.List.{map-append, append-nil, length-map, take_more, take-append-drop}
+use Rattle.std.proofs.lemmas.List.Concat.{flat_map-append, flat_map-cons}
+use Rattle.std.proofs.lemmas.List.Sums.{length-filter, count_by-le-length}
+use Rattle.agg_values.specs.Tuple.{KeyTuple}
+use Rattle.agg_values.specs.declared.composite_intermediate_key.CompositeIntermediateKey.{CompositeIntermediateKey}
+use Rattle.agg_segment.specs.Document.{Fields}
+use Rattle.agg_segment.specs.Segment.{StoredSegment, document_at, documents_at}
+use Rattle.agg_request.specs.declared.source.CompositeAggregationSource.{CompositeAggregationSource}
+use Rattle.agg_request.specs.Source.{rules_of, source_values, Sources}
+use Rattle.agg_request.specs.Occurrences.{past_occurrences, is_past, occurrences, occurrences_in}
+
+-- ---- of one document: a product over the sources
+
+-- the tuples that begin with one of these keys and go on with one of these tuples
+length-pairs : (tuples : List KeyTuple) (keys : KeyTuple)
+    → length (flat_map (λ k. map (λ t. k ∷ t) tuples) keys) ≡ length keys * length tuples
+length-pairs tuples [] = sym (zero-mul (length tuples))
+length-pairs tuples (k ∷ keys) =
+    let with_key = λ (key : CompositeIntermediateKey). map (λ t. key ∷ t) tuples in
+    let parts = ap length (flat_map-cons with_key k keys) ∙ length-append (with_key k) (flat_map with_key keys) in
+    let first = length-map tuples (λ t. k ∷ t) in
+    let rest = length-pairs tuples keys in
+    let product = suc-mul (length keys) (length tuples) in
+    omega (arith, parts, first, rest, product)
+
+length-occurrences-append : (sources others : Sources) (document : Fields)
+    → length (occurrences (sources ++ others) document)
+    ≡ length (occurrences sources document) * length (occurrences others document)
+length-occurrences-append [] others document = sym (one-mul _)
+length-occurrences-append (source ∷ sources) others document =
+    let keys = source_values source document in
+    length-pairs (occurrences (sources ++ others) document) keys
+    ∙ ap (λ n. length keys * n) (length-occurrences-append sources others document)
+    ∙ sym (mul_assoc (length keys) (length (occurrences sources document)) (length (occurrences others document)))
+    ∙ ap (λ n. n * length (occurrences others document)) (sym (length-pairs (occurrences sources document) keys))
+
+length-occurrences-one : (source : CompositeAggregationSource) (document : Fields)
+    → length (occurrences (source ∷ []) document) ≡ length (source_values source document)
+length-occurrences-one source document =
+    length-pairs ([] ∷ []) (source_values source document) ∙ mul-one _
+
+-- one source more
+length-occurrences-more : (sources : Sources) (i : ℕ) (d : CompositeAggregationSource) (document : Fields) → i < length sources
+    → length (occurrences (take (i + 1) sources) document)
+    ≡ length (occurrences (take i sources) document) * length (source_values (get_or sources i d) document)
+length-occurrences-more sources i d document l =
+    ap (λ ss. length (occurrences ss document)) (take_more sources i d l)
+    ∙ length-occurrences-append (take i sources) (get_or sources i d ∷ []) document
+    ∙ ap (λ n. length (occurrences (take i sources) document) * n) (length-occurrences-one (get_or sources i d) document)
+
+-- a product that is cut at each step is the product, cut
+cut-product : (a b most : ℕ) → min (min a most * b) most ≡ min (a * b) most
+cut-product a zero most = ap (λ n. min n most) (mul-zero (min a most) ∙ sym (mul-zero a))
+cut-product a (suc b) most = elim (cases_lt a most) [
+  | inl below ↦ let l : a ≤ most = omega arith in ap (λ n. min (n * suc b) most) (min-eq_left l)
+  | inr above ↦
+      let cut : min a most ≡ most = min-eq_right above in
+      let positive : 0 < suc b = omega arith in
+      let kept : most ≤ most * suc b = le-mul_of_pos_right most positive in
+      let greater : most ≤ a * suc b = let more = le-mul_of_pos_right a positive in omega (arith, more, above) in
+      ap (λ n. min (n * suc b) most) cut ∙ min-eq_right kept ∙ sym (min-eq_right greater)
+]
+
+-- the cut product, one source more
+pub cut-occurrences-more : (sources : Sources) (i : ℕ) (d : CompositeAggregationSource)
+    → (document : Fields) (product keys most : ℕ) → i < length sources
+    → product ≡ min (length (occurrences (take i sources) document)) most
+    → keys ≡ length (source_values (get_or sources i d) document)
+    → min (product * keys) most
+    ≡ min (length (occurrences (take (i + 1) sources) document)) most
+cut-occurrences-more sources i d document product keys most l p k =
+    let all = length (occurrences (take i sources) document) in
+    ap (λ n. min (n * keys) most) p
+    ∙ cut-product all keys most
+    ∙ ap (λ n. min (all * n) most) k
+    ∙ ap (λ n. min n most) (sym (length-occurrences-more sources i d document l))
+
+-- ---- of documents: a sum
+
+-- how many occurrences the documents at these places have
+abbrev count_at : Sources → StoredSegment → List ℕ → ℕ
+count_at sources segment docs = length (occurrences_in sources (documents_at segment docs))
+
+count_at-append : (sources : Sources) (segment : StoredSegment) (xs ys : List ℕ)
+    → count_at sources segment (xs ++ ys) ≡ count_at sources segment xs + count_at sources segment ys
+count_at-append sources segment xs ys =
+    ap (λ documents. length (occurrences_in sources documents)) (map-append (document_at segment) xs ys)
+    ∙ ap length (flat_map-append (occurrences sources) (documents_at segment xs) (documents_at segment ys))
+    ∙ length-append (occurrences_in sources (documents_at segment xs)) (occurrences_in sources (documents_at segment ys))
+
+-- the document at one more place adds its occurrences
+count_at-more : (sources : Sources) (segment : StoredSegment) (docs : List ℕ) (i : ℕ) → i < length docs
+    → length (occurrences_in sources (documents_at segment (take (i + 1) docs)))
+    ≡ length (occurrences_in sources (documents_at segment (take i docs)))
+    + length (occurrences sources (document_at segment (get_or docs i 0)))
+count_at-more sources segment docs i l =
+    let document = document_at segment (get_or docs i 0) in
+    let one : count_at sources segment (get_or docs i 0 ∷ []) ≡ length (occurrences sources document) =
+    ap length (flat_map-cons (occurrences sources) document [] ∙ append-nil (occurrences sources document)) in
+    ap (count_at sources segment) (take_more docs i 0 l)
+    ∙ count_at-append sources segment (take i docs) (get_or docs i 0 ∷ [])
+    ∙ ap (λ n. count_at sources segment (take i docs) + n) one
+
+-- the first places have no more than all
+count_at-front : (sources : Sources) (segment : StoredSegment) (n : ℕ) (docs : List ℕ)
+    → length (occurrences_in sources (documents_at segment (take n docs)))
+    ≤ length (occurrences_in sources (documents_at segment docs))
+count_at-front sources segment n docs =
+    let e = ap (count_at sources segment) (sym (take-append-drop n docs)) ∙ count_at-append sources segment (take n docs) (drop n docs) in
+    omega (arith, e)
+
+-- a sum that is cut at each step is the sum, cut
+cut-sum : (count more most : ℕ) → min (count + min more most) most ≡ min (count + more) most
+cut-sum count more most = elim (cases_lt more most) [
+  | inl below ↦ let l : more ≤ most = omega arith in ap (λ n. min (count + n) most) (min-eq_left l)
+  | inr above ↦
+      let cut : min more most ≡ most = min-eq_right above in
+      let kept : most ≤ count + most = omega arith in
+      let greater : most ≤ count + more = omega arith in
+      ap (λ n. min (count + n) most) cut ∙ min-eq_right kept ∙ sym (min-eq_right greater)
+]
+
+-- a cut sum is below a limit where the sum is
+below-cut : (sum most limit : ℕ) → limit ≤ most → min sum most < limit → min sum most ≡ sum
+below-cut sum most limit within below = elim (cases_lt sum most) [
+  | inl less ↦ let l : sum ≤ most = omega arith in min-eq_left l
+  | inr past ↦ let cut = min-eq_right past in absurd (omega (arith, cut, below, within))
+]
+
+-- the documents at the first places and one more, by a sum that is cut
+module _ (sources : Sources) (segment : StoredSegment) (docs : List ℕ)
+    (i : ℕ) (l : i < length docs) (count own most : ℕ)
+    (counted : count ≡ length (occurrences_in sources (documents_at segment (take i docs))))
+    (one : own ≡ min (length (occurrences sources (document_at segment (get_or docs i 0)))) most)
+  where
+    cut-count : min (count + own) most ≡ min (count_at sources segment (take (i + 1) docs)) most
+    cut-count =
+        let document = document_at segment (get_or docs i 0) in
+        ap (λ n. min (count + n) most) one
+        ∙ cut-sum count (length (occurrences sources document)) most
+        ∙ ap (λ n. min (n + length (occurrences sources document)) most) counted
+        ∙ ap (λ n. min n most) (sym (count_at-more sources segment docs i l))
+
+    -- below a limit it is the sum
+    pub count-below : (limit : ℕ) → limit ≤ most → min (count + own) most < limit
+        → min (count + own) most
+        ≡ length (occurrences_in sources (documents_at segment (take (i + 1) docs)))
+    count-below limit within below =
+        let all = count_at sources segment (take (i + 1) docs) in
+        let few : min all most < limit = omega (arith, cut-count, below) in
+        cut-count ∙ below-cut all most limit within few
+
+    -- it is no more than the occurrences of all
+    pub count-within : min (count + own) most
+        ≤ length (occurrences_in sources (documents_at segment docs))
+    count-within =
+        let cut = min-le_left (count_at sources segment (take (i + 1) docs)) most in
+        let front = count_at-front sources segment (i + 1) docs in
+        omega (arith, cut-count, cut, front)
+
+-- ---- past a bound
+
+-- those past a bound are no more than all
+pub past-fewer : (sources : Sources) (bound : KeyTuple) (documents : List Fields)
+    → length (past_occurrences sources bound documents) ≤ length (occurrences_in sources documents)
+past-fewer sources bound documents =
+    let past = is_past (rules_of sources) bound in
+    omega (arith, length-filter past (occurrences_in sources documents), count_by-le-length past (occurrences_in sources documents))

@@ -1,0 +1,9 @@
+pub mod BySource
+pub mod Groups
+pub mod Json
+pub mod Occurrences
+pub mod Page
+pub mod Request
+pub mod Source
+pub mod Successive
+pub mod Uncut

@@ -1,0 +1,63 @@
+-- Sources, and the keys that they read.
+use Rattle.std.specs.Prelude.{◌≡◌, ℕ, List, [], ◌∷◌, Bool, false, map, if◌then◌else◌}
+use Rattle.agg_values.specs.KeyOrder.{SourceRules}
+use Rattle.agg_values.specs.declared.composite_intermediate_key.CompositeIntermediateKey.{CompositeIntermediateKey}
+use Rattle.agg_values.specs.declared.composite_intermediate_key.CompositeIntermediateKey.TheVariants.{Null}
+use Rattle.agg_values.specs.declared.order.Order.{Order}
+use Rattle.agg_values.specs.declared.order.Order.TheVariants.{Asc}
+use Rattle.agg_values.specs.declared.order.MissingOrder.{MissingOrder}
+use Rattle.agg_values.specs.declared.order.MissingOrder.TheVariants.{Default}
+use Rattle.agg_segment.specs.Document.{Fields, key_of}
+use Rattle.agg_request.specs.declared.source.CompositeAggregationSource.{CompositeAggregationSource}
+use Rattle.agg_request.specs.declared.source.CompositeAggregationSource.TheVariants.{Terms}
+
+-- the sources of a composite
+abbrev pub Sources : Type 0
+Sources = List CompositeAggregationSource
+
+-- the field that a source reads
+abbrev pub field_of : CompositeAggregationSource → List ℕ
+field_of (Terms s) = s.field
+
+-- the name of a source
+abbrev pub name_of : CompositeAggregationSource → List ℕ
+name_of (Terms s) = s.name
+
+-- the direction in which a source's keys ascend
+abbrev pub order_of : CompositeAggregationSource → Order
+order_of (Terms s) = s.order
+
+-- the place of Null among a source's keys
+abbrev pub missing_order_of : CompositeAggregationSource → MissingOrder
+missing_order_of (Terms s) = s.missing_order
+
+-- whether a document without a value has the key Null
+abbrev pub missing_bucket_of : CompositeAggregationSource → Bool
+missing_bucket_of (Terms s) = s.missing_bucket
+
+-- the order and the missing order of each source
+abbrev pub rules_of : Sources → SourceRules
+rules_of sources = map (λ s. (order_of s, missing_order_of s)) sources
+
+-- the keys, or one Null where there is none and a missing value has a bucket
+abbrev pub or_missing : Bool → List CompositeIntermediateKey → List CompositeIntermediateKey
+or_missing missing [] = if missing then Null ∷ [] else []
+or_missing missing (k ∷ ks) = k ∷ ks
+
+-- the keys that a source reads in a document: every value of its field
+abbrev pub source_values : CompositeAggregationSource → Fields → List CompositeIntermediateKey
+source_values source document =
+    or_missing (missing_bucket_of source) (map key_of (document (field_of source)))
+
+-- the rules of one ascending source
+abbrev pub ascending_rules : SourceRules
+ascending_rules = (Asc, Default) ∷ []
+
+-- one ascending source, without a bucket for a missing value: all that a composite may have so far
+abbrev pub IsOneAscendingSource : Sources → Type 0
+IsOneAscendingSource sources =
+    (source : CompositeAggregationSource)
+    × (sources ≡ source ∷ [])
+    × (order_of source ≡ Asc)
+    × (missing_order_of source ≡ Default)
+    × (missing_bucket_of source ≡ false)

@@ -1,0 +1,78 @@
+ghost use Rattle.std.specs.Prelude.{◌≡◌, List, ℕ, Option, None, Some, IfOk, IsErrOf};
+ghost use Rattle.agg_segment.specs.declared.query.QueryTree.{QueryTree as Tree};
+
+use agg_segment::{QueryTree, Schema};
+use agg_values::Text;
+use std::alloc::Global;
+use thiserror::Error;
+
+/// Why a builder gave no query.
+#[derive(Clone, Copy, Debug, PartialEq, Eq, Error)]
+pub enum QueryBuildError {
+    #[error("the builder has no query for this schema")]
+    NoTree,
+    #[error("out of memory")]
+    OutOfMemory,
+}
+
+/// What makes a query for a schema.
+pub trait QueryBuilder: Drop {
+    /// The query that it makes for the fields of a schema, if any.
+    ghost tree_for: { Self → List (List ℕ) → Option Tree };
+
+    fn build_query(&self, alloc: Global, schema: &Schema) -> Result<QueryTree, QueryBuildError>
+        ensures ok { IfOk result (λ tree. tree_for self.now schema.now ≡ Some tree) }
+        ensures none { IsErrOf result QueryBuildError.NoTree
+            → tree_for self.now schema.now ≡ None };
+}
+
+/// A builder under the name by which a request asks for it.
+#[derive(Drop)]
+pub struct NamedBuilder {
+    pub name: Text,
+    pub builder: Box<dyn QueryBuilder>,
+}
+
+#[cfg(test)]
+mod tests {
+    use super::{QueryBuildError, QueryBuilder};
+    use agg_segment::{QueryTree, Schema};
+    use agg_values::Text;
+    use std::alloc::Global;
+    use std::test::Fail;
+
+    // A builder that matches every document where the schema has a field.
+    #[derive(Drop)]
+    struct AllOfSome {}
+
+    impl QueryBuilder for AllOfSome {
+        ghost use Rattle.std.specs.Prelude.{◌==◌, if◌then◌else◌, None, Some, length};
+        ghost use Rattle.agg_segment.specs.declared.query.QueryTree.TheVariants.{All as AllOf};
+
+        ghost tree_for = { λ _ fields. (if (length fields == 0) then None else Some AllOf) };
+
+        fn build_query(
+            &self,
+            alloc: Global,
+            schema: &Schema,
+        ) -> Result<QueryTree, QueryBuildError> {
+            let _ = alloc;
+            if schema.fields().is_empty() {
+                return Err(QueryBuildError::NoTree);
+            }
+            Ok(QueryTree::All)
+        }
+    }
+
+    #[test]
+    fn a_builder_gives_a_query_or_none(rt: HostRuntime) -> Result<(), Fail> {
+        let alloc = rt.alloc();
+        let mut schema = Schema::new(alloc);
+        let refused = AllOfSome {}.build_query(alloc, &schema);
+        assert_eq!(rt; refused.err(), Some(QueryBuildError::NoTree));
+        schema.add_field(Text::copy_of(alloc, "a")?)?;
+        let query = AllOfSome {}.build_query(alloc, &schema)?;
+        assert!(rt; matches!(query, QueryTree::All));
+        Ok(())
+    }
+}

@@ -1,0 +1,21 @@
+//! Requests: named aggregations over sources, what they read in documents, and the pages that they
+//! ask for.
+#![tactic(auto)]
+
+mod aggregation;
+mod builder;
+pub mod json_value;
+mod laws;
+mod occurrences;
+mod source;
+
+pub use aggregation::{Aggregation, AggregationVariants, Aggregations, CompositeAggregation};
+pub use builder::{NamedBuilder, QueryBuildError, QueryBuilder};
+pub use laws::{
+    a_page_lists_each_tuple_once, a_page_with_room_is_the_last, an_after_key_is_its_tuple,
+    counts_are_of_the_documents, each_request_has_one_page, successive_pages_are_one_page,
+    successive_pages_end_with_every_tuple, successive_pages_list_each_tuple_once,
+    the_lowest_groups_are_a_page,
+};
+pub use occurrences::counts_too_many;
+pub use source::{CompositeAggregationSource, TermCompositeAggregationSource};
