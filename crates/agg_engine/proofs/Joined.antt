@@ -2,7 +2,7 @@
 use Rattle.std.proofs.Common.{◌≡◌, ℕ, List, [], ◌∷◌, ◌++◌, Bool, true, false, map, refl, sym, ap, ◌∙◌, append_assoc}
 use Rattle.std.specs.List.{join_with_byte}
 use Rattle.json.specs.Print.{quoted}
-use Rattle.agg_engine.specs.Json.{comma_unless, member_text}
+use Rattle.agg_engine.specs.ResultsText.{comma_unless, member_text}
 
 -- whether a list is empty
 abbrev pub none_yet : {A : Type 0} → List A → Bool

@@ -1,9 +1,12 @@
 pub mod BySource
 pub mod Joined
-pub mod LastKey
 pub mod MatchingDocs
-pub mod Occurring
+pub mod OneRequest
 pub mod OneWalk
+pub mod PageBound
+pub mod ShownPage
 pub mod SnapshotPage
+pub mod Snapshots
 pub mod WalkErrors
-pub mod WalkSteps
+pub mod WalkState
+pub mod Walking

@@ -1,18 +1,18 @@
 -- A request has one walk over the same snapshots.
 use Rattle.std.proofs.Common.{◌≡◌, ℕ, List, [], ◌∷◌, Bool, true, false, Option, None, Some, refl, sym, ap, ◌∙◌, subst}
 use Rattle.std.specs.Prelude.{MatchOption}
-use Rattle.agg_values.specs.declared.key.CompositeIntermediateKey.{CompositeIntermediateKey}
 use Rattle.agg_segment.specs.Document.{Fields}
 use Rattle.agg_segment.specs.declared.query.QueryTree.{QueryTree}
-use Rattle.agg_composite.specs.declared.request.aggregation.AggregationVariants.{AggregationVariants}
-use Rattle.agg_composite.specs.declared.request.aggregation.AggregationVariants.TheVariants.{Composite}
-use Rattle.agg_composite.specs.Occurrences.{bound_of}
-use Rattle.agg_composite.proofs.PageExists.{page_exists}
-use Rattle.agg_composite.proofs.PageUnique.{IsPage-same}
-use Rattle.agg_engine.specs.Results.{CompositeResult, IsResult, IsResults, after_in, after_tuple}
-use Rattle.agg_engine.specs.Walk.{IsWalk, matching, resumed, sized}
-use Rattle.agg_engine.specs.declared.walk.Snapshot.{Snapshot}
-use Rattle.agg_engine.proofs.WalkSteps.{Request, Results}
+use Rattle.agg_request.specs.declared.aggregation.AggregationVariants.{AggregationVariants}
+use Rattle.agg_request.specs.declared.aggregation.AggregationVariants.TheVariants.{Composite}
+use Rattle.agg_request.specs.Occurrences.{bound_of}
+use Rattle.agg_request.proofs.PageExists.{page_exists}
+use Rattle.agg_request.proofs.PageUnique.{IsPage-same}
+use Rattle.agg_request.specs.Request.{Request}
+use Rattle.agg_engine.specs.Results.{CompositeResult, IsResult, IsResults, Results, after_in, after_tuple}
+use Rattle.agg_engine.specs.Snapshot.{SnapshotDocuments}
+use Rattle.agg_engine.specs.Walk.{IsWalk, matching_documents, request_behind, request_at_size}
+use Rattle.agg_values.specs.Tuple.{KeyTuple}
 
 -- ---- the results of a request over documents
 
@@ -51,11 +51,11 @@ results-exist (a ∷ request) documents =
 
 module _ (name : List ℕ) (query : QueryTree) where
   -- how the walk goes on behind a page with this last tuple, if it is full
-  abbrev GoesOn : Request → List Snapshot → List Results → Bool → Option (List CompositeIntermediateKey) → Type 0
-  GoesOn request snapshots results ended last = MatchOption last ((results ≡ []) × (ended ≡ true)) (λ tuple. IsWalk name query (resumed name tuple request) snapshots results ended)
+  abbrev GoesOn : Request → List SnapshotDocuments → List Results → Bool → Option KeyTuple → Type 0
+  GoesOn request snapshots results ended last = MatchOption last ((results ≡ []) × (ended ≡ true)) (λ tuple. IsWalk name query (request_behind name tuple request) snapshots results ended)
 
-  behind-same : (request : Request) (snapshots : List Snapshot) (results others : List Results) (ended other : Bool) (last : Option (List CompositeIntermediateKey))
-      → ((tuple : List CompositeIntermediateKey) → IsWalk name query (resumed name tuple request) snapshots results ended → IsWalk name query (resumed name tuple request) snapshots others other → (results ≡ others) × (ended ≡ other))
+  behind-same : (request : Request) (snapshots : List SnapshotDocuments) (results others : List Results) (ended other : Bool) (last : Option KeyTuple)
+      → ((tuple : KeyTuple) → IsWalk name query (request_behind name tuple request) snapshots results ended → IsWalk name query (request_behind name tuple request) snapshots others other → (results ≡ others) × (ended ≡ other))
       → GoesOn request snapshots results ended last
       → GoesOn request snapshots others other last
       → (results ≡ others) × (ended ≡ other)
@@ -63,7 +63,7 @@ module _ (name : List ℕ) (query : QueryTree) where
   behind-same request snapshots results others ended other (Some tuple) later h k = later tuple h k
 
   -- two walks are the same
-  pub walk-same : (request : Request) (snapshots : List Snapshot) (results others : List Results) (ended other : Bool)
+  pub walk-same : (request : Request) (snapshots : List SnapshotDocuments) (results others : List Results) (ended other : Bool)
       → IsWalk name query request snapshots results ended
       → IsWalk name query request snapshots others other
       → (results ≡ others) × (ended ≡ other)
@@ -73,25 +73,25 @@ module _ (name : List ℕ) (query : QueryTree) where
   walk-same request (s ∷ snapshots) [] others ended other h k = absurd h
   walk-same request (s ∷ snapshots) (r ∷ results) [] ended other h k = absurd k
   walk-same request (s ∷ snapshots) (r ∷ results) (q ∷ others) ended other h k =
-      let page = results-same (sized name s.page_size request) (matching query s) r q h.0 k.0 in
+      let page = results-same (request_at_size name s.page_size request) (matching_documents query s) r q h.0 k.0 in
       let rest =
       behind-same request snapshots results others ended other (after_in name r)
-      (λ tuple h k. walk-same (resumed name tuple request) snapshots results others ended other h k)
+      (λ tuple h k. walk-same (request_behind name tuple request) snapshots results others ended other h k)
       h.1 (subst (λ p. GoesOn request snapshots others other (after_in name p)) (sym page) k.1) in
       (λ i. page i ∷ rest.0 i, rest.1)
 
-  behind-exists : (request : Request) (snapshots : List Snapshot) (last : Option (List CompositeIntermediateKey))
-      → ((tuple : List CompositeIntermediateKey) → (results : List Results) × (ended : Bool) × IsWalk name query (resumed name tuple request) snapshots results ended)
+  behind-exists : (request : Request) (snapshots : List SnapshotDocuments) (last : Option KeyTuple)
+      → ((tuple : KeyTuple) → (results : List Results) × (ended : Bool) × IsWalk name query (request_behind name tuple request) snapshots results ended)
       → (results : List Results) × (ended : Bool) × GoesOn request snapshots results ended last
   behind-exists request snapshots None later = ([], true, (refl, refl))
   behind-exists request snapshots (Some tuple) later = later tuple
 
   -- there is a walk
-  pub walk-exists : (request : Request) (snapshots : List Snapshot) → (results : List Results) × (ended : Bool) × IsWalk name query request snapshots results ended
+  pub walk-exists : (request : Request) (snapshots : List SnapshotDocuments) → (results : List Results) × (ended : Bool) × IsWalk name query request snapshots results ended
   walk-exists request [] = ([], false, refl)
   walk-exists request (s ∷ snapshots) =
-      let page = results-exist (sized name s.page_size request) (matching query s) in
-      let rest = behind-exists request snapshots (after_in name page.0) (λ tuple. walk-exists (resumed name tuple request) snapshots) in
+      let page = results-exist (request_at_size name s.page_size request) (matching_documents query s) in
+      let rest = behind-exists request snapshots (after_in name page.0) (λ tuple. walk-exists (request_behind name tuple request) snapshots) in
       (page.0 ∷ rest.0, rest.1, (page.1, rest.2))
 
   -- over no snapshot there is no page

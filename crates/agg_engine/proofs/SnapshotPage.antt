@@ -1,42 +1,63 @@
 -- The page of a snapshot, from the groups that a collector holds.
-use Rattle.std.proofs.Common.{◌≡◌, ℕ, zero, suc, List, [], ◌∷◌, None, take, map, slice_get, refl, sym, ap, ◌∙◌, subst}
-use Rattle.std.specs.List.{filter, flat_map}
-use Rattle.agg_values.specs.declared.key.CompositeIntermediateKey.{CompositeIntermediateKey}
-use Rattle.agg_segment.specs.Document.{Fields, meaning}
-use Rattle.agg_segment.specs.Query.{matches}
-use Rattle.agg_segment.specs.declared.query.QueryTree.{QueryTree}
+use Rattle.std.proofs.Common.{◌≡◌, ℕ, zero, suc, List, [], Result, Ok, Err, IsErrAnd, take, map, sym, ap, ◌∙◌, subst, arith}
+use Rattle.std.proofs.lemmas.Result.{err_from_is_err_and}
+use Rattle.agg_values.specs.Tuple.{KeyTuple}
+use Rattle.agg_segment.specs.Document.{Fields}
+use Rattle.agg_request.specs.declared.aggregation.CompositeAggregation.{CompositeAggregation}
+use Rattle.agg_request.specs.declared.aggregation.AggregationVariants.TheVariants.{Composite}
+use Rattle.agg_request.specs.Groups.{Groups, Group}
+use Rattle.agg_request.specs.Occurrences.{past_occurrences}
+use Rattle.agg_request.specs.Page.{entry_of}
+use Rattle.agg_request.specs.Source.{rules_of, Sources}
+use Rattle.agg_request.specs.Uncut.{CountsTooMany}
+use Rattle.agg_cache.specs.declared.error.CollectError.{CollectError}
+use Rattle.agg_cache.specs.declared.error.CollectError.TheVariants.{TooMany}
+use Rattle.agg_request.proofs.PageFromGroups.{Groups-nothing, IsPage-from_groups, groups-entries}
+use Rattle.agg_composite.specs.PageEntries.{ArePageEntries, entry_group}
 use Rattle.agg_composite.specs.declared.page_entry.PageEntry.{PageEntry}
-use Rattle.agg_composite.specs.declared.request.source.CompositeAggregationSource.{CompositeAggregationSource}
-use Rattle.agg_composite.specs.Groups.{Groups, page_entries, past_occurrences}
-use Rattle.agg_composite.specs.Page.{entry_of}
-use Rattle.agg_composite.specs.Source.{rules_of}
-use Rattle.agg_composite.proofs.PageFromGroups.{Groups-nothing, IsPage-from_groups, page_entries-entries}
-use Rattle.agg_engine.specs.PageEntries.{ArePageEntries}
-use Rattle.agg_engine.specs.Walk.{matching}
-use Rattle.agg_engine.specs.declared.walk.Snapshot.{Snapshot}
+use Rattle.agg_engine.specs.PageAnswers.{AnswersPage}
 
-pub ArePageEntries-from_groups : (sources : List CompositeAggregationSource) (size : ℕ) (bound : List CompositeIntermediateKey) (documents : List Fields) (held : List (List CompositeIntermediateKey × ℕ)) (entries : List PageEntry)
+-- entries that have the lowest groups are those of the page
+pub ArePageEntries-from_groups : (sources : Sources) (size : ℕ) (bound : KeyTuple) (documents : List Fields) (held : List Group) (entries : List PageEntry)
     → Groups (rules_of sources) (past_occurrences sources bound documents) held
-    → entries ≡ page_entries (take size held)
+    → map entry_group entries ≡ take size held
     → ArePageEntries sources size bound documents entries
-ArePageEntries-from_groups sources size bound documents held entries groups e =
-    (map (entry_of sources documents) (take size held), IsPage-from_groups sources documents size bound held groups, e ∙ sym (page_entries-entries sources documents (take size held)))
+ArePageEntries-from_groups sources size bound documents held entries groups e = (
+  map (entry_of sources documents) (take size held),
+  IsPage-from_groups sources documents size bound held groups,
+  e ∙ sym (groups-entries sources documents (take size held)),
+)
 
-entries-none : (size : ℕ) → [] ≡ page_entries (take size [])
-entries-none zero = refl
-entries-none (suc size) = refl
+groups-none : (size : ℕ) (entries : List PageEntry) → entries ≡ [] → map entry_group entries ≡ take size []
+groups-none zero entries e = ap (map entry_group) e
+groups-none (suc size) entries e = ap (map entry_group) e
 
 -- no documents have the page of no entries
-ArePageEntries-none : (sources : List CompositeAggregationSource) (size : ℕ) (bound : List CompositeIntermediateKey) → ArePageEntries sources size bound [] []
-ArePageEntries-none sources size bound = ArePageEntries-from_groups sources size bound [] [] [] (Groups-nothing (rules_of sources)) (entries-none size)
+pub ArePageEntries-none : (sources : Sources) (size : ℕ) (bound : KeyTuple) (entries : List PageEntry) → entries ≡ [] → ArePageEntries sources size bound [] entries
+ArePageEntries-none sources size bound entries e =
+    ArePageEntries-from_groups sources size bound [] [] entries (Groups-nothing (rules_of sources)) (groups-none size entries e)
 
-none-first : {X : Type 0} (xs : List X) → None ≡ slice_get xs 0 → xs ≡ []
-none-first [] e = refl
-none-first (x ∷ xs) e = cc
+-- ---- what a call for a page answers
 
--- a snapshot without a segment has the page of no entries
-pub ArePageEntries-no_segment : (sources : List CompositeAggregationSource) (size : ℕ) (bound : List CompositeIntermediateKey) (query : QueryTree) (snapshot : Snapshot) (entries : List PageEntry)
-    → None ≡ slice_get snapshot.segments 0 → entries ≡ [] → ArePageEntries sources size bound (matching query snapshot) entries
-ArePageEntries-no_segment sources size bound query snapshot entries n e =
-    let none : matching query snapshot ≡ [] = ap (λ segments. filter (matches query) (flat_map (λ segment. map meaning segment) segments)) (none-first snapshot.segments n) in
-    subst (λ documents. ArePageEntries sources size bound documents entries) (sym none) (subst (ArePageEntries sources size bound []) (sym e) (ArePageEntries-none sources size bound))
+module _ (composite : CompositeAggregation) (bound : KeyTuple) (documents : List Fields) where
+  pub AnswersPage-ok : (entries : List PageEntry) → ArePageEntries composite.sources composite.size bound documents entries
+      → ¬ (CountsTooMany (Composite composite) documents) → AnswersPage composite bound documents (Ok entries)
+  AnswersPage-ok entries page fits = record { page = page; fits = fits; too_many = λ e. cc e }
+
+  answers-err : (e : CollectError) → (e ≡ TooMany → CountsTooMany (Composite composite) documents) → AnswersPage composite bound documents (Err e)
+  answers-err e many = record { page = tt; fits = tt; too_many = λ is. many (cc is) }
+
+  -- an error that is handed on
+  pub AnswersPage-kept : (result : Result (List PageEntry) CollectError) (given : CollectError) → IsErrAnd result (λ e. e ≡ given)
+      → (given ≡ TooMany → CountsTooMany (Composite composite) documents) → AnswersPage composite bound documents result
+  AnswersPage-kept result given kept many =
+      let found = err_from_is_err_and result kept in
+      subst (AnswersPage composite bound documents) (sym found.1) (answers-err found.0 (λ is. many (sym found.2 ∙ is)))
+
+  -- no documents have the page of no entries
+  pub AnswersPage-none : (entries : List PageEntry) → documents ≡ [] → entries ≡ [] → AnswersPage composite bound documents (Ok entries)
+  AnswersPage-none entries none e =
+      let page = ArePageEntries-none composite.sources composite.size bound entries e in
+      AnswersPage-ok entries
+      (subst (λ documents. ArePageEntries composite.sources composite.size bound documents entries) (sym none) page)
+      (λ many. absurd (omega (arith, subst (CountsTooMany (Composite composite)) none many)))

@@ -1,15 +1,22 @@
 -- The form that a walk takes so far.
 use Rattle.std.specs.Prelude.{◌≡◌, ◌≤◌, ℕ, List, [], ◌∷◌, length, All}
-use Rattle.agg_composite.specs.declared.request.aggregation.Aggregation.{Aggregation}
-use Rattle.agg_composite.specs.declared.request.aggregation.CompositeAggregation.{CompositeAggregation}
-use Rattle.agg_composite.specs.declared.request.aggregation.AggregationVariants.TheVariants.{Composite}
-use Rattle.agg_composite.specs.Groups.{IsPlain}
-use Rattle.agg_engine.specs.declared.walk.Snapshot.{Snapshot}
+use Rattle.agg_request.specs.declared.aggregation.Aggregation.{Aggregation}
+use Rattle.agg_request.specs.declared.aggregation.CompositeAggregation.{CompositeAggregation}
+use Rattle.agg_request.specs.declared.aggregation.AggregationVariants.TheVariants.{Composite}
+use Rattle.agg_request.specs.Request.{Request}
+use Rattle.agg_request.specs.Source.{IsOneAscendingSource}
+use Rattle.agg_engine.specs.Snapshot.{SnapshotDocuments}
 
--- one composite over one plain source, whose page begins at the start
-abbrev pub IsOneComposite : List (List ℕ × Aggregation) → Type 0
-IsOneComposite request = (name : List ℕ) × (composite : CompositeAggregation) × (request ≡ (name, record { agg = Composite composite }) ∷ []) × IsPlain composite.sources × (composite.after ≡ [])
+-- one aggregation, which is a composite over one ascending source, whose page begins at the start
+abbrev pub IsOneComposite : Request → Type 0
+IsOneComposite request =
+    (name : List ℕ) × (aggregation : Aggregation) × (composite : CompositeAggregation)
+    × (request ≡ (name, aggregation) ∷ [])
+    × (aggregation.agg ≡ Composite composite)
+    × IsOneAscendingSource composite.sources
+    × (composite.after ≡ [])
 
 -- the form that a walk takes so far: such a request, and snapshots of one segment at most
-abbrev pub IsTakenForm : List (List ℕ × Aggregation) → List Snapshot → Type 0
-IsTakenForm request snapshots = IsOneComposite request × All (λ s. length s.segments ≤ 1) snapshots
+abbrev pub IsTakenForm : Request → List SnapshotDocuments → Type 0
+IsTakenForm request snapshots =
+    IsOneComposite request × All (λ s. length s.segments ≤ 1) snapshots

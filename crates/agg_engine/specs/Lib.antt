@@ -1,7 +1,10 @@
 pub mod Form
-pub mod Json
-pub mod PageEntries
+pub mod NamedComposite
+pub mod PageAnswers
 pub mod Results
+pub mod ResultsText
+pub mod ShownResults
 pub mod ShownWalk
+pub mod Snapshot
 pub mod Walk
 pub mod WalkError

@@ -1,77 +1,90 @@
 -- The walk of a request over snapshots.
-use Rattle.std.specs.Prelude.{◌≡◌, ◌≤◌, ◌^◌, ◌==◌, ◌||◌, ◌⊎◌, ℕ, List, [], ◌∷◌, Bool, true, false, IsSome, MatchOption, if◌then◌else◌, length, map, filter}
+use Rattle.std.specs.Prelude.{◌≡◌, ◌==◌, ◌||◌, ◌⊎◌, ℕ, List, [], ◌∷◌, Bool, true, false}
+use Rattle.std.specs.Prelude.{MatchOption, if◌then◌else◌, map, filter}
 use Rattle.std.specs.List.{flat_map, list_any}
 use Rattle.std.specs.BTreeMap.{is_at}
-use Rattle.agg_values.specs.declared.key.CompositeIntermediateKey.{CompositeIntermediateKey}
-use Rattle.agg_values.specs.Names.{name_cmp, value_of}
-use Rattle.agg_segment.specs.Document.{Fields, meaning}
+use Rattle.agg_values.specs.Names.{name_cmp}
+use Rattle.agg_values.specs.Tuple.{KeyTuple}
+use Rattle.agg_segment.specs.Document.{Fields}
 use Rattle.agg_segment.specs.Query.{matches}
 use Rattle.agg_segment.specs.declared.query.QueryTree.{QueryTree}
-use Rattle.agg_composite.specs.declared.request.aggregation.Aggregation.{Aggregation}
-use Rattle.agg_composite.specs.declared.request.aggregation.AggregationVariants.{AggregationVariants}
-use Rattle.agg_composite.specs.declared.request.aggregation.AggregationVariants.TheVariants.{Composite}
-use Rattle.agg_composite.specs.Named.{after_map}
-use Rattle.agg_composite.specs.Uncut.{uncut}
-use Rattle.agg_engine.specs.declared.walk.Snapshot.{Snapshot}
-use Rattle.agg_engine.specs.Results.{CompositeResult, IsResults, after_in}
+use Rattle.agg_request.specs.declared.aggregation.Aggregation.{Aggregation}
+use Rattle.agg_request.specs.declared.aggregation.AggregationVariants.{AggregationVariants}
+use Rattle.agg_request.specs.declared.aggregation.AggregationVariants.TheVariants.{Composite}
+use Rattle.agg_request.specs.BySource.{after_map}
+use Rattle.agg_request.specs.Request.{Request}
+use Rattle.agg_request.specs.Uncut.{CountsTooMany}
+use Rattle.agg_engine.specs.Results.{IsResults, Results, after_in}
+use Rattle.agg_engine.specs.Snapshot.{SnapshotDocuments}
 
 -- the documents of a snapshot: those of its segments, joined
-abbrev pub documents_in : Snapshot → List Fields
-documents_in snapshot = flat_map (λ segment. map meaning segment) snapshot.segments
+abbrev pub documents_in : SnapshotDocuments → List Fields
+documents_in snapshot = flat_map (λ documents. documents) snapshot.segments
 
 -- the documents of a snapshot that a query matches
-abbrev pub matching : QueryTree → Snapshot → List Fields
-matching query snapshot = filter (matches query) (documents_in snapshot)
+abbrev pub matching_documents : QueryTree → SnapshotDocuments → List Fields
+matching_documents query snapshot = filter (matches query) (documents_in snapshot)
 
--- an aggregation with another size, or with a tuple as its after key
+-- an aggregation with another size
 abbrev pub with_size : ℕ → AggregationVariants → AggregationVariants
 with_size size (Composite composite) = Composite (record composite { size = size })
 
-abbrev pub with_after : List CompositeIntermediateKey → AggregationVariants → AggregationVariants
-with_after tuple (Composite composite) = Composite (record composite { after = after_map composite.sources tuple })
+-- an aggregation with a tuple as its after key
+abbrev pub with_after : KeyTuple → AggregationVariants → AggregationVariants
+with_after tuple (Composite composite) =
+    Composite (record composite { after = after_map composite.sources tuple })
+
+-- an aggregation in which what it asks is changed
+abbrev pub changed : (AggregationVariants → AggregationVariants) → Aggregation → Aggregation
+changed change aggregation = record aggregation { agg = change aggregation.agg }
 
 -- a request in which the aggregation of a name is changed
-abbrev pub changed : (AggregationVariants → AggregationVariants) → List ℕ → List (List ℕ × Aggregation) → List (List ℕ × Aggregation)
-changed change name request = map (λ a. if is_at (name_cmp name) a.0 then (a.0, record { agg = change a.1.agg }) else a) request
+abbrev pub request_with : (AggregationVariants → AggregationVariants) → List ℕ → Request → Request
+request_with change name request =
+    map (λ a. if is_at (name_cmp name) a.0 then (a.0, changed change a.1) else a) request
 
 -- the request of a snapshot: its page size stands in place of the named composite's size
-abbrev pub sized : List ℕ → ℕ → List (List ℕ × Aggregation) → List (List ℕ × Aggregation)
-sized name size = changed (with_size size) name
+abbrev pub request_at_size : List ℕ → ℕ → Request → Request
+request_at_size name size = request_with (with_size size) name
 
 -- the request that goes on behind a tuple
-abbrev pub resumed : List ℕ → List CompositeIntermediateKey → List (List ℕ × Aggregation) → List (List ℕ × Aggregation)
-resumed name tuple = changed (with_after tuple) name
+abbrev pub request_behind : List ℕ → KeyTuple → Request → Request
+request_behind name tuple = request_with (with_after tuple) name
 
--- the walk: each snapshot's results, as long as the page before is full; it has ended where a page isn't
-abbrev pub IsWalk : List ℕ → QueryTree → List (List ℕ × Aggregation) → List Snapshot → List (List (List ℕ × CompositeResult)) → Bool → Type 0
+-- the walk: each snapshot's results, as long as the page before is full; it has ended where a page
+-- isn't full
+abbrev pub IsWalk : List ℕ → QueryTree → Request
+    → List SnapshotDocuments → List Results → Bool → Type 0
 IsWalk name query request [] [] ended = ended ≡ false
 IsWalk name query request [] (r ∷ rs) ended = ⊥
 IsWalk name query request (s ∷ snapshots) [] ended = ⊥
 IsWalk name query request (s ∷ snapshots) (r ∷ rs) ended =
-    IsResults (sized name s.page_size request) (matching query s) r
-    × MatchOption (after_in name r) ((rs ≡ []) × (ended ≡ true)) (λ tuple. IsWalk name query (resumed name tuple request) snapshots rs ended)
+    IsResults (request_at_size name s.page_size request) (matching_documents query s) r
+    × MatchOption (after_in name r)
+    ((rs ≡ []) × (ended ≡ true))
+    (λ tuple. IsWalk name query (request_behind name tuple request) snapshots rs ended)
 
--- some aggregation of a request has too many occurrences
-abbrev pub HasTooMany : List (List ℕ × Aggregation) → List Fields → Type 0
+-- some aggregation of a request counts too many documents
+abbrev pub HasTooMany : Request → List Fields → Type 0
 HasTooMany [] documents = ⊥
-HasTooMany (a ∷ request) documents = (2 ^ 32 ≤ length (uncut a.1.agg documents)) ⊎ HasTooMany request documents
+HasTooMany (a ∷ request) documents = CountsTooMany a.1.agg documents ⊎ HasTooMany request documents
 
--- a snapshot that the walk reaches has too many occurrences
-abbrev pub ReachesTooMany : List ℕ → QueryTree → List (List ℕ × Aggregation) → List Snapshot → Type 0
+-- the walk reaches a snapshot in which the request counts too many documents
+abbrev pub ReachesTooMany : List ℕ → QueryTree → Request → List SnapshotDocuments → Type 0
 ReachesTooMany name query request [] = ⊥
 ReachesTooMany name query request (s ∷ snapshots) =
-    HasTooMany request (matching query s)
-    ⊎ ((r : List (List ℕ × CompositeResult)) × IsResults (sized name s.page_size request) (matching query s) r
-    × MatchOption (after_in name r) ⊥ (λ tuple. ReachesTooMany name query (resumed name tuple request) snapshots))
+    HasTooMany request (matching_documents query s)
+    ⊎ ((r : Results)
+    × IsResults (request_at_size name s.page_size request) (matching_documents query s) r
+    × MatchOption (after_in name r)
+    ⊥
+    (λ tuple. ReachesTooMany name query (request_behind name tuple request) snapshots))
 
 -- the size of an aggregation
 abbrev pub size_of : AggregationVariants → ℕ
 size_of (Composite composite) = composite.size
 
 -- whether a size of the request is 0, or the page size of some snapshot, reached or not
-abbrev pub has_zero_size : List (List ℕ × Aggregation) → List Snapshot → Bool
-has_zero_size request snapshots = list_any (λ a. size_of a.1.agg == 0) request || list_any (λ s. s.page_size == 0) snapshots
-
--- a name is that of a composite of the request
-abbrev pub NamesComposite : List ℕ → List (List ℕ × Aggregation) → Type 0
-NamesComposite name request = IsSome (value_of name request)
+abbrev pub has_zero_size : Request → List SnapshotDocuments → Bool
+has_zero_size request snapshots =
+    list_any (λ a. size_of a.1.agg == 0) request || list_any (λ s. s.page_size == 0) snapshots

@@ -1,25 +1,29 @@
 //! What holds of walks, as their definition says it.
 ghost use Rattle.std.specs.Prelude.{◌≡◌, ℕ, List, [], Bool, false};
 ghost use Rattle.agg_segment.specs.declared.query.QueryTree.{QueryTree};
-ghost use Rattle.agg_composite.specs.declared.request.aggregation.Aggregation.{Aggregation};
-ghost use Rattle.agg_engine.specs.declared.walk.Snapshot.{Snapshot};
-ghost use Rattle.agg_engine.specs.Results.{CompositeResult};
+ghost use Rattle.agg_engine.specs.Results.{Results};
+ghost use Rattle.agg_engine.specs.Snapshot.{SnapshotDocuments};
 ghost use Rattle.agg_engine.specs.Walk.{IsWalk};
+ghost use Rattle.agg_request.specs.Request.{Request};
 
 /// The walk over no snapshot has no page and has not ended.
 pub fn a_walk_over_no_snapshot_has_no_page()
-    ensures walk { (name : List ℕ) (query : QueryTree) (request : List (List ℕ × Aggregation))
+    ensures walk { (name : List ℕ) (query : QueryTree) (request : Request)
         → IsWalk name query request [] [] false }
-    ensures only { (name : List ℕ) (query : QueryTree) (request : List (List ℕ × Aggregation)) (results : List (List (List ℕ × CompositeResult))) (ended : Bool)
+    ensures only { (name : List ℕ) (query : QueryTree) (request : Request)
+        (results : List Results) (ended : Bool)
         → IsWalk name query request [] results ended
         → (results ≡ []) × (ended ≡ false) }
 {}
 
 /// Every request has a walk over every list of snapshots, and only one.
 pub fn each_request_has_one_walk()
-    ensures exists { (name : List ℕ) (query : QueryTree) (request : List (List ℕ × Aggregation)) (snapshots : List Snapshot)
-        → (results : List (List (List ℕ × CompositeResult))) × (ended : Bool) × IsWalk name query request snapshots results ended }
-    ensures unique { (name : List ℕ) (query : QueryTree) (request : List (List ℕ × Aggregation)) (snapshots : List Snapshot) (results others : List (List (List ℕ × CompositeResult))) (ended other : Bool)
+    ensures exists { (name : List ℕ) (query : QueryTree) (request : Request)
+        (snapshots : List SnapshotDocuments)
+        → (results : List Results) × (ended : Bool)
+        × IsWalk name query request snapshots results ended }
+    ensures unique { (name : List ℕ) (query : QueryTree) (request : Request)
+        (snapshots : List SnapshotDocuments) (results others : List Results) (ended other : Bool)
         → IsWalk name query request snapshots results ended
         → IsWalk name query request snapshots others other
         → (results ≡ others) × (ended ≡ other) }

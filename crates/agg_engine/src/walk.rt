@@ -9,15 +9,18 @@ mod shown;
 #[cfg(test)]
 mod tests;
 
-ghost use Rattle.std.specs.Prelude.{◌≡◌, IfOk, OnOk, IsErrOf, true, false};
+ghost use Rattle.std.specs.Prelude.{◌≡◌, ◌≤◌, IfErr, IfOk, OnOk, IsErrOf, true, false};
 ghost use Rattle.agg_values.specs.declared.error.InvalidArgument.TheVariants.{ZeroSize};
-ghost use Rattle.agg_engine.specs.Walk.{NamesComposite, ReachesTooMany, has_zero_size};
 ghost use Rattle.agg_engine.specs.Form.{IsTakenForm};
+ghost use Rattle.agg_engine.specs.NamedComposite.{NamesComposite};
 ghost use Rattle.agg_engine.specs.ShownWalk.{IsShownWalk};
+ghost use Rattle.agg_engine.specs.Snapshot.{snapshots_documents};
+ghost use Rattle.agg_engine.specs.Walk.{ReachesTooMany, has_zero_size};
+ghost use Rattle.agg_engine.specs.WalkError.{MayAnswer};
 
 use crate::results::AggregationResults;
-use agg_composite::limits::LimitsLedger;
-use agg_composite::request::Aggregations;
+use agg_cache::LimitsLedger;
+use agg_request::Aggregations;
 use agg_segment::{QueryTree, Schema, SegmentReader};
 use agg_values::{InvalidArgument, ItemList, Steps, Text, Tuple};
 pub use error::WalkError;
@@ -42,6 +45,7 @@ pub struct Walk {
 /// Pages over the groups of a named composite. The first snapshot is reached with the request as it
 /// is, and a later one where the page before is full, with that page's last tuple as its bound.
 /// The schema is for builders of queries, which no request has yet.
+#[tactic(auto, using(crate::proofs::WalkErrors::of_memory, crate::proofs::WalkErrors::of_collect))]
 pub fn walk_pages<L: Ledger>(
     alloc: Global,
     limits: &mut LimitsLedger,
@@ -52,23 +56,33 @@ pub fn walk_pages<L: Ledger>(
     snapshots: &ItemList<Snapshot>,
     steps: &mut Steps<L>,
 ) -> Result<Walk, WalkError>
-    requires form { IsTakenForm request.now snapshots.now }
+    requires form { IsTakenForm request.now (snapshots_documents snapshots.now) }
 
     // An Ok is the walk, as it is shown, of a request that may be asked.
-    ensures pages { IfOk result (λ walk. IsShownWalk name.now query.now request.now snapshots.now walk) }
-    ensures sizes { OnOk result (has_zero_size request.now snapshots.now ≡ false) }
+    ensures pages { IfOk result
+        (IsShownWalk name.now query.now request.now (snapshots_documents snapshots.now)) }
+    ensures sizes { OnOk result
+        (has_zero_size request.now (snapshots_documents snapshots.now) ≡ false) }
     ensures named { OnOk result (NamesComposite name.now request.now) }
-    ensures fits { OnOk result (¬ (ReachesTooMany name.now query.now request.now snapshots.now)) }
+    ensures fits { OnOk result
+        (¬ (ReachesTooMany name.now query.now request.now (snapshots_documents snapshots.now))) }
 
     // Each other answer has its cause.
     ensures zero_size { IsErrOf result (WalkError.Invalid ZeroSize)
-        → has_zero_size request.now snapshots.now ≡ true }
-    ensures unknown { IsErrOf result WalkError.UnknownComposite → ¬ (NamesComposite name.now request.now) }
+        → has_zero_size request.now (snapshots_documents snapshots.now) ≡ true }
+    ensures unknown { IsErrOf result WalkError.UnknownComposite
+        → ¬ (NamesComposite name.now request.now) }
     ensures too_many { IsErrOf result WalkError.TooMany
-        → (has_zero_size request.now snapshots.now ≡ false)
+        → (has_zero_size request.now (snapshots_documents snapshots.now) ≡ false)
         × NamesComposite name.now request.now
-        × ReachesTooMany name.now query.now request.now snapshots.now }
+        × ReachesTooMany name.now query.now request.now (snapshots_documents snapshots.now) }
+    ensures kinds { IfErr result MayAnswer }
+
+    // No byte is charged. Steps never fall, and a refusal before any snapshot takes none.
     ensures limits { limits.new ≡ limits.old }
+    ensures later { steps.old ≤ steps.new }
+    ensures sizes_first { IsErrOf result (WalkError.Invalid ZeroSize) → steps.new ≡ steps.old }
+    ensures name_first { IsErrOf result WalkError.UnknownComposite → steps.new ≡ steps.old }
 {
     let _ = limits;
     let _ = schema;

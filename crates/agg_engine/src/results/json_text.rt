@@ -1,7 +1,10 @@
-//! Texts of results. Each writer appends the text of one thing.
+//! Texts of results as JSON. Each writer appends the text of one thing.
 ghost use Rattle.std.specs.Prelude.{◌≡◌, List, [], ◌∷◌, ℕ, ◌++◌, string_bytes, OnOk};
 ghost use Rattle.json.specs.Print.{quoted};
-ghost use Rattle.agg_engine.specs.Json.{array_text, after_key_member, braced, bucket_text, bucket_result_text, comma_unless, composite_members, object_text, quoted_after_key, result_text, shown_key_text};
+ghost use Rattle.agg_engine.specs.ResultsText.{array_text, after_key_member, braced, bucket_text};
+ghost use Rattle.agg_engine.specs.ResultsText.{bucket_result_text, comma_unless, composite_members};
+ghost use Rattle.agg_engine.specs.ResultsText.{object_text, quoted_after_key, result_text};
+ghost use Rattle.agg_engine.specs.ResultsText.{shown_key_text};
 
 use super::{AggregationResult, BucketResult, CompositeBucketEntry};
 use agg_values::{AfterKey, CompositeKey, ItemList, NameMap, OutOfMemory};
@@ -22,7 +25,8 @@ pub fn write_object<T: JsonText>(
     text: &mut String,
     map: &NameMap<T>,
 ) -> Result<(), OutOfMemory>
-    ensures { OnOk result (string_bytes text.new ≡ string_bytes text.old ++ object_text T.json map.now) }
+    ensures { OnOk result
+        (string_bytes text.new ≡ string_bytes text.old ++ object_text T.json map.now) }
 {
     text.push('{')?;
     let mut first = true;
@@ -42,7 +46,8 @@ pub fn write_array<T: JsonText>(
     text: &mut String,
     items: &[T],
 ) -> Result<(), OutOfMemory>
-    ensures { OnOk result (string_bytes text.new ≡ string_bytes text.old ++ array_text T.json items.now) }
+    ensures { OnOk result
+        (string_bytes text.new ≡ string_bytes text.old ++ array_text T.json items.now) }
 {
     text.push('[')?;
     let mut first = true;
@@ -76,14 +81,15 @@ fn write_quoted(alloc: Global, text: &mut String, s: &str) -> Result<(), OutOfMe
 
 // Appends a member's name and its colon.
 fn write_name(alloc: Global, text: &mut String, name: &str) -> Result<(), OutOfMemory>
-    ensures { OnOk result (string_bytes text.new ≡ string_bytes text.old ++ (quoted name.now ++ 58 ∷ [])) }
+    ensures { OnOk result
+        (string_bytes text.new ≡ string_bytes text.old ++ (quoted name.now ++ 58 ∷ [])) }
 {
     write_quoted(alloc, text, name)?;
     text.push(':')?;
     Ok(())
 }
 
-// Appends the page of a composite: its after key, unless it is empty, and its groups.
+// Appends the page of a composite: its after key, unless that is empty, and its buckets.
 fn write_composite(
     alloc: Global,
     text: &mut String,
@@ -91,7 +97,8 @@ fn write_composite(
     after_key: &NameMap<AfterKey>,
 ) -> Result<(), OutOfMemory>
     ensures { OnOk result
-        (string_bytes text.new ≡ string_bytes text.old ++ braced (composite_members buckets.now after_key.now)) }
+        (string_bytes text.new
+        ≡ string_bytes text.old ++ braced (composite_members buckets.now after_key.now)) }
 {
     text.push('{')?;
     write_after_key(alloc, text, after_key)?;
@@ -107,7 +114,8 @@ fn write_after_key(
     text: &mut String,
     after_key: &NameMap<AfterKey>,
 ) -> Result<(), OutOfMemory>
-    ensures { OnOk result (string_bytes text.new ≡ string_bytes text.old ++ after_key_member after_key.now) }
+    ensures { OnOk result
+        (string_bytes text.new ≡ string_bytes text.old ++ after_key_member after_key.now) }
 {
     if !after_key.is_empty() {
         text.push_str("\"after_key\":")?;

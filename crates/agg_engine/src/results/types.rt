@@ -1,9 +1,8 @@
 ghost use Rattle.std.specs.Prelude.{◌≡◌, IfOk};
-ghost use Rattle.agg_engine.specs.Json.{results_text};
+ghost use Rattle.agg_engine.specs.ResultsText.{results_text};
 
 use super::json_text;
 use agg_values::{AfterKey, CompositeKey, ItemList, NameMap, OutOfMemory, Text};
-use std::alloc::Global;
 
 /// The results of a request, by name.
 #[derive(Drop)]
@@ -25,7 +24,7 @@ pub enum BucketResult {
     },
 }
 
-/// One group of a page.
+/// One group of a page, as it is shown.
 #[derive(Drop)]
 pub struct CompositeBucketEntry {
     /// The shown key of each source, by its name.
@@ -35,9 +34,10 @@ pub struct CompositeBucketEntry {
 
 impl AggregationResults {
     /// The results as JSON, with members ascending and no blanks.
-    pub fn write_json(&self, alloc: Global) -> Result<Text, OutOfMemory>
+    pub fn write_json(&self) -> Result<Text, OutOfMemory>
         ensures { IfOk result (λ text. text ≡ results_text self.now) }
     {
+        let alloc = self.0.allocator();
         let mut text = String::new(alloc);
         json_text::write_object(alloc, &mut text, &self.0)?;
         Ok(Text::from_string(text))

@@ -1,6 +1,7 @@
 //! The bound of the next page.
-ghost use Rattle.std.specs.Prelude.{◌≡◌, IfOk};
-ghost use Rattle.agg_engine.specs.PageEntries.{last_key};
+ghost use Rattle.std.specs.Prelude.{IfOk};
+ghost use Rattle.agg_engine.specs.PageAnswers.{IsOfPage};
+ghost use Rattle.agg_engine.specs.Results.{after_tuple};
 
 use agg_composite::PageEntry;
 use agg_values::{OutOfMemory, Tuple};
@@ -12,7 +13,7 @@ pub fn next_bound(
     entries: &[PageEntry],
     size: u32,
 ) -> Result<Option<Tuple>, OutOfMemory>
-    ensures { IfOk result (λ next. next ≡ last_key size entries.now) }
+    ensures { IfOk result (IsOfPage (after_tuple size) entries.now) }
 {
     if entries.len() != size as usize {
         return Ok(None);

@@ -1,8 +1,8 @@
 ghost use Rattle.std.specs.Prelude.{◌≡◌};
 ghost use Rattle.agg_engine.specs.WalkError.{error_name, error_from_collect};
-ghost use Rattle.agg_engine.specs.declared.walk.error.WalkError.TheVariants.{OutOfMemory as NoMemory};
+ghost use Rattle.agg_engine.specs.declared.walk.error.WalkError.TheVariants.{OutOfMemory as Memory};
 
-use agg_composite::limits::CollectError;
+use agg_cache::CollectError;
 use agg_values::{InvalidArgument, OutOfMemory};
 use thiserror::Error;
 
@@ -25,7 +25,14 @@ impl WalkError {
         ensures { result.now ≡ error_name self.now }
     {
         match self {
+            WalkError::Invalid(InvalidArgument::NoSource) => "NoSource",
             WalkError::Invalid(InvalidArgument::ZeroSize) => "ZeroSize",
+            WalkError::Invalid(InvalidArgument::TooManySources) => "TooManySources",
+            WalkError::Invalid(InvalidArgument::DuplicateSource) => "DuplicateSource",
+            WalkError::Invalid(InvalidArgument::BadInterval) => "BadInterval",
+            WalkError::Invalid(InvalidArgument::IntervalChoice) => "IntervalChoice",
+            WalkError::Invalid(InvalidArgument::NullAfter) => "NullAfter",
+            WalkError::Invalid(InvalidArgument::AfterType) => "AfterType",
             WalkError::UnknownComposite => "UnknownComposite",
             WalkError::TooMany => "TooMany",
             WalkError::OutOfMemory => "OutOfMemory",
@@ -34,7 +41,7 @@ impl WalkError {
 }
 
 impl From<OutOfMemory> for WalkError {
-    ghost from_gives = { λ _ e. e ≡ NoMemory };
+    ghost from_gives = { λ _ e. e ≡ Memory };
 
     fn from(_error: OutOfMemory) -> WalkError {
         WalkError::OutOfMemory

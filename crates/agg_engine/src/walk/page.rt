@@ -1,17 +1,17 @@
 //! The page of one snapshot.
-ghost use Rattle.std.specs.Prelude.{◌≤◌, ◌<◌, ◌^◌, IfOk, OnOk, IsErrOf, filter, length, map};
-ghost use Rattle.agg_segment.specs.Document.{meaning};
+ghost use Rattle.std.specs.Prelude.{◌≤◌, filter, length};
 ghost use Rattle.agg_segment.specs.Query.{matches};
-ghost use Rattle.agg_composite.specs.Groups.{IsPlain};
-ghost use Rattle.agg_composite.specs.Occurrences.{occurrences_in};
-ghost use Rattle.agg_engine.specs.PageEntries.{ArePageEntries};
-ghost use Rattle.agg_engine.specs.Walk.{matching};
+ghost use Rattle.agg_segment.specs.Segment.{documents_of};
+ghost use Rattle.agg_request.specs.Source.{IsOneAscendingSource};
+ghost use Rattle.agg_engine.specs.PageAnswers.{AnswersPage};
+ghost use Rattle.agg_engine.specs.Snapshot.{snapshot_documents};
+ghost use Rattle.agg_engine.specs.Walk.{matching_documents};
 
 use super::Snapshot;
-use super::matching::{has_too_many, matching_docs};
-use agg_composite::limits::CollectError;
-use agg_composite::request::CompositeAggregation;
+use super::matching::matching_docs;
+use agg_cache::CollectError;
 use agg_composite::{PageEntry, SegmentCompositeCollector};
+use agg_request::{CompositeAggregation, counts_too_many};
 use agg_segment::{QueryTree, SegmentReader};
 use agg_values::{ItemList, Steps, Tuple};
 use std::alloc::Global;
@@ -26,12 +26,14 @@ pub fn snapshot_page<L: Ledger>(
     snapshot: &Snapshot,
     steps: &mut Steps<L>,
 ) -> Result<ItemList<PageEntry>, CollectError>
-    requires plain { IsPlain composite.now.sources }
+    requires form { IsOneAscendingSource composite.now.sources }
     requires one { length snapshot.now.segments ≤ 1 }
-    ensures page { IfOk result (ArePageEntries composite.now.sources composite.now.size bound.now (matching query.now snapshot.now)) }
-    ensures fits { OnOk result (length (occurrences_in composite.now.sources (matching query.now snapshot.now)) < 2 ^ 32) }
-    ensures too_many { IsErrOf result CollectError.TooMany
-        → 2 ^ 32 ≤ length (occurrences_in composite.now.sources (matching query.now snapshot.now)) }
+    ensures page { AnswersPage
+        composite.now
+        bound.now
+        (matching_documents query.now (snapshot_documents snapshot.now))
+        result }
+    ensures later { steps.old ≤ steps.new }
 {
     match snapshot.segments.as_slice().first() {
         None => Ok(ItemList::new(alloc)),
@@ -39,6 +41,7 @@ pub fn snapshot_page<L: Ledger>(
     }
 }
 
+// The page over the documents of a segment that a query matches.
 fn segment_page<L: Ledger>(
     alloc: Global,
     composite: &CompositeAggregation,
@@ -47,14 +50,16 @@ fn segment_page<L: Ledger>(
     segment: &SegmentReader,
     steps: &mut Steps<L>,
 ) -> Result<ItemList<PageEntry>, CollectError>
-    requires plain { IsPlain composite.now.sources }
-    ensures page { IfOk result (ArePageEntries composite.now.sources composite.now.size bound.now (filter (matches query.now) (map meaning segment.now))) }
-    ensures fits { OnOk result (length (occurrences_in composite.now.sources (filter (matches query.now) (map meaning segment.now))) < 2 ^ 32) }
-    ensures too_many { IsErrOf result CollectError.TooMany
-        → 2 ^ 32 ≤ length (occurrences_in composite.now.sources (filter (matches query.now) (map meaning segment.now))) }
+    requires form { IsOneAscendingSource composite.now.sources }
+    ensures page { AnswersPage
+        composite.now
+        bound.now
+        (filter (matches query.now) (documents_of segment.now))
+        result }
+    ensures later { steps.old ≤ steps.new }
 {
     let docs = matching_docs(alloc, query, segment)?;
-    if has_too_many(composite, segment, &docs) {
+    if counts_too_many(composite, segment, &docs) {
         return Err(CollectError::TooMany);
     }
     let mut collector = SegmentCompositeCollector::new(alloc, composite.sources.as_slice().len())?;

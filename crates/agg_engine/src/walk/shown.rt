@@ -1,19 +1,18 @@
 //! Pages as they are shown.
-ghost use Rattle.std.specs.Prelude.{◌≡◌, ◌∷◌, [], IfOk, map};
+ghost use Rattle.std.specs.Prelude.{◌≡◌, IfOk, map};
 ghost use Rattle.agg_values.specs.Shown.{shown_key};
-ghost use Rattle.agg_composite.specs.Named.{after_map, by_source};
-ghost use Rattle.agg_engine.specs.Results.{shown_after};
-ghost use Rattle.agg_engine.specs.PageEntries.{shown_page_entry};
-ghost use Rattle.agg_engine.specs.declared.results.types.AggregationResult.TheVariants.{BucketResult as Buckets};
-ghost use Rattle.agg_engine.specs.declared.results.types.BucketResult.TheVariants.{Composite};
+ghost use Rattle.agg_request.specs.BySource.{after_map, by_source};
+ghost use Rattle.agg_engine.specs.PageAnswers.{IsOfPage};
+ghost use Rattle.agg_engine.specs.ShownResults.{shown_after, shown_entry, shown_page};
 
 use crate::results::{AggregationResult, AggregationResults, BucketResult, CompositeBucketEntry};
 use agg_composite::PageEntry;
-use agg_composite::request::CompositeAggregationSource;
+use agg_request::CompositeAggregationSource;
 use agg_values::{AfterKey, CompositeKey, ItemList, NameMap, OutOfMemory, Text, Tuple};
 use std::alloc::Global;
 
-/// The results of a request that has one composite: its page under its name.
+/// The results of a request that has one composite: its page under its name, with the bound of the
+/// next page.
 pub fn page_results(
     alloc: Global,
     name: &Text,
@@ -22,8 +21,7 @@ pub fn page_results(
     next: &Option<Tuple>,
 ) -> Result<AggregationResults, OutOfMemory>
     ensures { IfOk result
-        (λ results. results.0
-        ≡ (name.now, Buckets (Composite (map (shown_page_entry sources.now) entries.now) (shown_after sources.now next.now))) ∷ []) }
+        (λ results. IsOfPage (shown_page name.now sources.now next.now) entries.now results.0) }
 {
     let mut results = NameMap::new(alloc);
     let page = BucketResult::Composite {
@@ -37,12 +35,13 @@ pub fn page_results(
     Ok(AggregationResults(results))
 }
 
+// The buckets of the page that has these entries.
 fn shown_buckets(
     alloc: Global,
     sources: &[CompositeAggregationSource],
     entries: &[PageEntry],
 ) -> Result<ItemList<CompositeBucketEntry>, OutOfMemory>
-    ensures { IfOk result (λ buckets. buckets ≡ map (shown_page_entry sources.now) entries.now) }
+    ensures { IfOk result (IsOfPage (map (shown_entry sources.now)) entries.now) }
 {
     let mut buckets = ItemList::new(alloc);
     for entry in entries {
@@ -54,6 +53,7 @@ fn shown_buckets(
     Ok(buckets)
 }
 
+// The after key of the bound of the next page, empty where there is none.
 fn shown_after_key(
     alloc: Global,
     sources: &[CompositeAggregationSource],

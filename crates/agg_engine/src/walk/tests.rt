@@ -2,7 +2,7 @@ ghost use Rattle.std.specs.Prelude.{◌≡◌, ◌≤◌, ◌<◌, IfOk, All, le
 ghost use Rattle.agg_engine.specs.Form.{IsOneComposite};
 
 use super::*;
-use agg_composite::request::{
+use agg_request::{
     Aggregation, AggregationVariants, CompositeAggregation, CompositeAggregationSource,
     TermCompositeAggregationSource,
 };
@@ -53,7 +53,8 @@ const CASES: [Case; 8] = [
             (1, &[&[10]]),
         ],
         pages: &[
-            "{\"by_n\":{\"after_key\":{\"n\":\"i64:5\"},\"buckets\":[{\"doc_count\":1,\"key\":{\"n\":-3}},{\"doc_count\":2,\"key\":{\"n\":5}}]}}",
+            "{\"by_n\":{\"after_key\":{\"n\":\"i64:5\"},\"buckets\":[\
+             {\"doc_count\":1,\"key\":{\"n\":-3}},{\"doc_count\":2,\"key\":{\"n\":5}}]}}",
             "{\"by_n\":{\"buckets\":[{\"doc_count\":1,\"key\":{\"n\":9}}]}}",
         ],
         end: "ended",
@@ -64,7 +65,8 @@ const CASES: [Case; 8] = [
         size: 9,
         snapshots: &[(1, &[&[2], &[1]])],
         pages: &[
-            "{\"by_n\":{\"after_key\":{\"n\":\"i64:1\"},\"buckets\":[{\"doc_count\":1,\"key\":{\"n\":1}}]}}",
+            "{\"by_n\":{\"after_key\":{\"n\":\"i64:1\"},\"buckets\":[\
+             {\"doc_count\":1,\"key\":{\"n\":1}}]}}",
         ],
         end: "goes on",
     },
@@ -200,21 +202,9 @@ fn walks_end_as_told(rt: HostRuntime) -> Result<(), Fail> {
         assert_eq!(rt; end, case.end, "{what}");
         assert_eq!(rt; pages.as_slice().len(), case.pages.len(), "{what}");
         for (page, want) in pages.as_slice().iter().zip(case.pages) {
-            let text = page.write_json(alloc)?;
+            let text = page.write_json()?;
             assert_eq!(rt; text.as_str(), *want, "{what}");
         }
     }
     Ok(())
-}
-
-#[test]
-fn each_error_has_its_name(rt: HostRuntime) {
-    for (error, name) in [
-        (WalkError::Invalid(InvalidArgument::ZeroSize), "ZeroSize"),
-        (WalkError::UnknownComposite, "UnknownComposite"),
-        (WalkError::TooMany, "TooMany"),
-        (WalkError::OutOfMemory, "OutOfMemory"),
-    ] {
-        assert_eq!(rt; error.name(), name);
-    }
 }

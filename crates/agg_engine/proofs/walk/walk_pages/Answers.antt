@@ -1,36 +1,59 @@
-use Rattle.std.proofs.Common.{◌≡◌, ◌+◌, ◌∷◌, ◌∙◌, Err, IsSome, drop, refl, subst, arith}
-use Rattle.agg_composite.specs.declared.limits.CollectError.TheVariants as collect
+use Rattle.std.proofs.Common.{◌≡◌, ◌+◌, ◌<◌, List, ◌∷◌, ◌∙◌, Err, drop, get_or, length, ap, subst, arith}
+use Rattle.agg_composite.specs.declared.page_entry.PageEntry.{PageEntry}
+use Rattle.agg_request.specs.Source.{Sources}
+use Rattle.agg_request.specs.declared.aggregation.CompositeAggregation.{CompositeAggregation}
+use Rattle.agg_cache.specs.declared.error.CollectError.TheVariants as collect
+use Rattle.agg_engine.specs.PageAnswers.{IsOfPage}
+use Rattle.agg_engine.specs.Results.{after_tuple}
+use Rattle.agg_engine.specs.ShownResults.{shown_page}
+use Rattle.agg_engine.specs.declared.walk.Snapshot.{Snapshot}
+use Rattle.agg_engine.proofs.Snapshots.{few_segments-at}
+use Rattle.agg_engine.specs.Snapshot.{snapshot_documents, snapshots_documents}
 use Rattle.agg_engine.proofs.WalkErrors.{too_many-kept}
-use Rattle.agg_engine.proofs.WalkSteps.{IsNext, IsWalking, walking-at, walking-end, walking-start, walking-ended, walking-ended-fits, walking-more, walking-out, walking-too_many}
+use Rattle.agg_engine.proofs.Walking.{IsNext, IsWalking, walking-at, walking-end, walking-start, walking-ended, walking-ended-fits, walking-more, walking-out, walking-too_many}
 use Rattle.agg_engine.proofs.walk.walk_pages.Given as given
 use Rattle.agg_engine.proofs.walk.walk_pages.Goals as goal
 use Rattle.agg_engine.proofs.walk.walk_pages.Goals.{In_ok-push}
 
 pub loop-snapshot-init : goal.loop-snapshot-init
 loop-snapshot-init g c =
-    let start = walking-start c.args.name.now c.args.query.now c.args.request.now c.args.snapshots.now c.in-Some.composite.now c.in_ok-paged.paged.sources c.requires.form.0 c.in-Some.ensures c.in_ok-paged.ensures in
-    rw (c.new-bound.ensures, c.new-pages.ensures) start
+    let same = ap (λ (d : CompositeAggregation). d.sources) c.in_ok-paged.ensures in
+    let start = walking-start c.args.name.now c.args.query.now c.args.request.now (snapshots_documents c.args.snapshots.now) c.in-Some.composite.now c.in_ok-paged.paged c.requires.form.0 c.in-Some.ensures.named same in
+    record { walking = rw (c.new-bound.ensures, c.new-pages.ensures) start; later = omega arith }
+
+pub snapshot_page-requires-clause-one : goal.snapshot_page-requires-clause-one
+snapshot_page-requires-clause-one g c =
+    let snapshots = c.args.snapshots.now in
+    let at = c.loop-snapshot.snapshot-index in
+    let same = c.as_slice-snapshot-items.ensures in
+    few_segments-at snapshots at c.snapshot-item.result c.requires.form.1 (subst (λ (l : List Snapshot). at < length l) same (omega arith))
+    (c.snapshot-item.is ∙ ap (λ (l : List Snapshot). get_or l at c.snapshot-item.result) same)
 
 pub returns-clause-pages : goal.returns-clause-pages
 returns-clause-pages g c =
-    let w = walking-end c.args.name.now c.args.query.now c.args.request.now c.args.snapshots.now _ c.loop-snapshot.paged.sources c.loop-snapshot.bound c.loop-snapshot.snapshot-index c.loop-snapshot.pages c.loop-snapshot.invariant c.as_slice-snapshot-items.ensures (omega arith) in
-    walking-out c.args.name.now c.args.query.now c.args.request.now c.args.snapshots.now c.loop-snapshot.paged.sources c.loop-snapshot.bound c.loop-snapshot.pages w
+    let w = walking-end c.args.name.now c.args.query.now c.args.request.now c.args.snapshots.now _ c.loop-snapshot.paged.sources c.loop-snapshot.bound c.loop-snapshot.snapshot-index c.loop-snapshot.pages c.loop-snapshot.invariant.walking c.as_slice-snapshot-items.ensures (omega arith) in
+    walking-out c.args.name.now c.args.query.now c.args.request.now (snapshots_documents c.args.snapshots.now) c.loop-snapshot.paged.sources c.loop-snapshot.bound c.loop-snapshot.pages w
 
 -- the walk has come to this snapshot
 here : (g : given.Over) (c : In_ok-push g)
-    → IsWalking c.args.name.now c.args.query.now c.args.request.now c.args.snapshots.now c.loop-snapshot.paged.sources c.loop-snapshot.bound (c.snapshot-item.result ∷ drop (c.loop-snapshot.snapshot-index + 1) c.args.snapshots.now) c.loop-snapshot.pages
+    → IsWalking c.args.name.now c.args.query.now c.args.request.now (snapshots_documents c.args.snapshots.now) c.loop-snapshot.paged.sources c.loop-snapshot.bound
+    (snapshot_documents c.snapshot-item.result ∷ snapshots_documents (drop (c.loop-snapshot.snapshot-index + 1) c.args.snapshots.now)) c.loop-snapshot.pages
 here g c =
-    walking-at c.args.name.now c.args.query.now c.args.request.now c.args.snapshots.now _ c.loop-snapshot.paged.sources c.loop-snapshot.bound c.loop-snapshot.snapshot-index c.loop-snapshot.pages c.snapshot-item.result c.loop-snapshot.invariant
-    c.as_slice-snapshot-items.ensures (omega arith) c.snapshot-item.is
+    walking-at c.args.name.now c.args.query.now c.args.request.now c.args.snapshots.now _ c.loop-snapshot.paged.sources c.loop-snapshot.bound c.loop-snapshot.snapshot-index c.loop-snapshot.pages c.loop-snapshot.invariant.walking
+    c.as_slice-snapshot-items.ensures c.snapshot-item.result (omega arith) c.snapshot-item.is
 
 -- what the page of this snapshot gives
 next : (g : given.Over) (c : In_ok-push g)
-    → IsNext c.args.name.now c.args.query.now c.snapshot-item.result c.loop-snapshot.paged.sources c.loop-snapshot.bound c.in_ok-entries.entries c.in_ok-next.next c.in_ok-page_results.field-0
+    → IsNext c.args.name.now c.args.query.now (snapshot_documents c.snapshot-item.result) c.loop-snapshot.paged c.loop-snapshot.bound c.in_ok-entries.entries c.in_ok-next.next c.in_ok-page_results.field-0
 next g c = record {
-  page = c.in_ok-entries.ensures.page;
-  few = c.in_ok-entries.ensures.fits;
-  next_is = cc c.in_ok-next.ensures;
-  results_are = cc c.in_ok-page_results.ensures;
+  page = c.in_ok-entries.ensures.page.page;
+  fits = c.in_ok-entries.ensures.page.fits;
+  next_is = subst (λ entries. IsOfPage (after_tuple c.snapshot-item.result.page_size) entries c.in_ok-next.next) c.as_slice-in-loop-snapshot.ensures c.in_ok-next.ensures;
+  results_are =
+      let Are : Sources → List PageEntry → Type 0 =
+      λ sources entries. IsOfPage (shown_page c.args.name.now sources c.in_ok-next.next) entries c.in_ok-page_results.field-0.0 in
+      subst (λ sources. Are sources c.in_ok-entries.entries) c.as_slice-in-loop-snapshot-2.ensures
+      (subst (Are c.as_slice-in-loop-snapshot-2.result.now) c.as_slice-in-loop-snapshot-3.ensures c.in_ok-page_results.ensures);
 }
 
 pub returns-in_default-next-clause-pages : goal.returns-in_default-next-clause-pages
@@ -47,12 +70,13 @@ returns-in_default-next-clause-fits g c =
 pub loop-snapshot-preserved : goal.loop-snapshot-preserved
 loop-snapshot-preserved g c =
     let turn = (goal.at.loop-snapshot-preserved g c).In_ok-push in
-    rw c.in_ok-push.ensures.ok (walking-more (here g turn) (next g turn) c.in-Some-next.tuple c.in-Some-next.is)
+    let more = walking-more (here g turn) (next g turn) c.in-Some-next.tuple c.in-Some-next.is in
+    record { walking = rw c.in_ok-push.ensures.ok more; later = omega arith }
 
 pub returns-in_err-entries-clause-too_many : goal.returns-in_err-entries-clause-too_many
 returns-in_err-entries-clause-too_many g c = λ err.
-    let come = walking-at c.args.name.now c.args.query.now c.args.request.now c.args.snapshots.now _ c.loop-snapshot.paged.sources c.loop-snapshot.bound c.loop-snapshot.snapshot-index c.loop-snapshot.pages c.snapshot-item.result c.loop-snapshot.invariant
-    c.as_slice-snapshot-items.ensures (omega arith) c.snapshot-item.is in
+    let come = walking-at c.args.name.now c.args.query.now c.args.request.now c.args.snapshots.now _ c.loop-snapshot.paged.sources c.loop-snapshot.bound c.loop-snapshot.snapshot-index c.loop-snapshot.pages c.loop-snapshot.invariant.walking
+    c.as_slice-snapshot-items.ensures c.snapshot-item.result (omega arith) c.snapshot-item.is in
     let was : Err c.in_err-entries.field-0.0 ≡ Err collect.TooMany = too_many-kept c.from_residual-in_err-entries.result c.in_err-entries.field-0.0 c.from_residual-in_err-entries.ensures.1 err in
-    let reaches = walking-too_many c.args.name.now c.args.query.now c.args.request.now c.args.snapshots.now c.loop-snapshot.paged.sources c.loop-snapshot.bound c.snapshot-item.result _ c.loop-snapshot.pages come (c.in_err-entries.ensures.too_many was) in
-    (cc (c.if-has_zero_size.ensures, c.as_slice.ensures), subst IsSome c.in-Some.ensures refl, reaches)
+    let reaches = walking-too_many c.args.name.now c.args.query.now c.args.request.now (snapshots_documents c.args.snapshots.now) c.loop-snapshot.paged c.loop-snapshot.bound (snapshot_documents c.snapshot-item.result) _ c.loop-snapshot.pages come (c.in_err-entries.ensures.page.too_many was) in
+    (cc (c.if-has_zero_size.ensures, c.as_slice.ensures), (c.in-Some.composite.now, c.in-Some.ensures.named), reaches)

@@ -3,9 +3,10 @@ use Rattle.std.proofs.lemmas.List.{append-nil}
 use Rattle.std.specs.Prelude.{codes}
 use Rattle.json.specs.Print.{escape_byte}
 use Rattle.agg_values.specs.declared.after_key.AfterKey.{AfterKey}
-use Rattle.agg_engine.specs.Json.{after_key_member, array_text, braced, bucket_text, composite_members, member_text, object_text, quoted_after_key}
+use Rattle.agg_engine.specs.ResultsText.{after_key_member, array_text, braced, bucket_text, composite_members, member_text, object_text, quoted_after_key}
 use Rattle.agg_engine.specs.declared.results.types.CompositeBucketEntry.{CompositeBucketEntry}
 use Rattle.agg_engine.proofs.results.json_text.write_composite.Goals as goal
+use Rattle.agg_values.specs.Names.{Named}
 
 -- the groups alone
 last-written : (before groups : List ℕ) → (((before ++ 123 ∷ []) ++ codes "\"buckets\":") ++ groups) ++ 125 ∷ [] ≡ before ++ braced (member_text (codes "buckets") groups ∷ [])
@@ -18,7 +19,7 @@ full-written : (before keys groups : List ℕ)
 unfolding escape_byte
 full-written before keys groups = rw (append_assoc keys (44 ∷ member_text (codes "buckets") groups) (125 ∷ [])) (simp append_assoc)
 
-composite-written : (before opened keyed named listed closed : List ℕ) (buckets : List CompositeBucketEntry) (after : List (List ℕ × AfterKey))
+composite-written : (before opened keyed named listed closed : List ℕ) (buckets : List CompositeBucketEntry) (after : Named AfterKey)
     → opened ≡ before ++ 123 ∷ []
     → keyed ≡ opened ++ after_key_member after
     → named ≡ keyed ++ codes "\"buckets\":"

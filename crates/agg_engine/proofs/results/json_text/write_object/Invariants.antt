@@ -1,7 +1,7 @@
 use Rattle.std.proofs.Common.{◌≡◌, ◌++◌, string_bytes, map}
 use Rattle.std.specs.List.{join_with_byte}
 use Rattle.agg_engine.proofs.Joined.{none_yet}
-use Rattle.agg_engine.specs.Json.{member_text}
+use Rattle.agg_engine.specs.ResultsText.{member_text}
 use Rattle.agg_engine.proofs.results.json_text.write_object.Given as goal
 
 -- the members so far are written, with commas between them

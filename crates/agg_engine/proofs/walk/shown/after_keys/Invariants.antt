@@ -1,5 +1,5 @@
 use Rattle.std.proofs.Common.{◌≡◌, drop}
-use Rattle.agg_composite.specs.Named.{after_map}
+use Rattle.agg_request.specs.BySource.{after_map}
 use Rattle.agg_engine.proofs.walk.shown.after_keys.Given as goal
 
 -- the keys of the sources from here on

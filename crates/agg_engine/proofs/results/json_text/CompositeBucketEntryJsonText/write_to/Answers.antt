@@ -1,7 +1,7 @@
 use Rattle.std.proofs.Common.{◌≡◌, ◌++◌, ◌∷◌, [], List, ℕ, arith, append_assoc, ap, ◌∙◌, string_bytes}
 use Rattle.std.specs.Prelude.{codes}
 use Rattle.json.specs.Print.{escape_byte}
-use Rattle.agg_engine.specs.Json.{braced, member_text}
+use Rattle.agg_engine.specs.ResultsText.{braced, member_text}
 use Rattle.agg_engine.proofs.results.json_text.CompositeBucketEntryJsonText.write_to.Goals as goal
 
 -- the number of occurrences, then the key, then the brace
