@@ -1,6 +1,5 @@
 pub mod InputForms
 pub mod InputLemmas
-pub mod JsonLemmas
 pub mod LinesLemmas
 pub mod PageLines
 pub mod Reading

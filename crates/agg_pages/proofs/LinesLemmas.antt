@@ -23,9 +23,11 @@ returned : (l : List ℕ) → get_or l (length l - 1) 0 ≡ 13 → l ≡ take (l
 returned l h =
     let some : 0 < length l = last_return l h in
     let e : length l - 1 + 1 ≡ length l = omega arith in
-    sym (take_all (length l) l (omega arith)) ∙ ap (λ n. take n l) (sym e) ∙ take_more l (length l - 1) 0 (omega arith) ∙ ap (λ c. take (length l - 1) l ++ c ∷ []) h
+    sym (take_all (length l) l (omega arith)) ∙ ap (λ n. take n l) (sym e)
+    ∙ take_more l (length l - 1) 0 (omega arith) ∙ ap (λ c. take (length l - 1) l ++ c ∷ []) h
 
-strip_yes : (l : List ℕ) → get_or l (length l - 1) 0 ≡ 13 → strip_carriage_return l ≡ take (length l - 1) l
+strip_yes : (l : List ℕ) → get_or l (length l - 1) 0 ≡ 13
+    → strip_carriage_return l ≡ take (length l - 1) l
 strip_yes l h = rw (eq-eqb _ _ h)
 
 strip_no : (l : List ℕ) → (get_or l (length l - 1) 0 ≡ 13 → ⊥) → strip_carriage_return l ≡ l
@@ -34,11 +36,15 @@ strip_no l h = grind (arith, nat_tests)
 strip_end : (x : List ℕ) → strip_carriage_return (x ++ 13 ∷ []) ≡ x
 strip_end x =
     let n : length (x ++ 13 ∷ []) - 1 ≡ length x = omega (arith, length-append x (13 ∷ [])) in
-    strip_yes (x ++ 13 ∷ []) (rw n (get_or-append_seam x 13 [] 0)) ∙ rw n (take-append_seam x (13 ∷ []))
+    strip_yes (x ++ 13 ∷ []) (rw n (get_or-append_seam x 13 [] 0))
+    ∙ rw n (take-append_seam x (13 ∷ []))
 
 -- what `strip_suffix` leaves is the line without its carriage return
-pub stripped : (line : Bor (List ℕ)) (r : Option (Bor (List ℕ))) → MatchOption r ((front : List ℕ) → line.now ≢ front ++ 13 ∷ []) (λ x. line.now ≡ x.now ++ 13 ∷ []) → (unwrap_or r line).now ≡ strip_carriage_return line.now
-stripped line None h = sym (strip_no line.now (λ e. h (take (length line.now - 1) line.now) (returned line.now e)))
+pub stripped : (line : Bor (List ℕ)) (r : Option (Bor (List ℕ)))
+    → MatchOption r ((prefix : List ℕ) → line.now ≢ prefix ++ 13 ∷ [])
+    (λ x. line.now ≡ x.now ++ 13 ∷ []) → (unwrap_or r line).now ≡ strip_carriage_return line.now
+stripped line None h =
+    sym (strip_no line.now (λ e. h (take (length line.now - 1) line.now) (returned line.now e)))
 stripped line (Some x) h = sym (ap strip_carriage_return h ∙ strip_end x.now)
 
 -- ---- the line feed
@@ -46,20 +52,28 @@ stripped line (Some x) h = sym (ap strip_carriage_return h ∙ strip_end x.now)
 no_feed : (b : ℕ) → b ≢ 10 → eqb b 10 ≡ false
 no_feed b h = grind (arith, nat_tests)
 
-feeds_none : (bs : List ℕ) → ((i : ℕ) → i < length bs → get_or bs i 0 ≢ 10) → All (λ b. eqb b 10 ≡ false) bs
-feeds_none bs h = All-from_get_or (λ b. eqb b 10 ≡ false) bs 0 (λ i lt. no_feed (get_or bs i 0) (h i lt))
+feeds_none : (bs : List ℕ) → ((i : ℕ) → i < length bs → get_or bs i 0 ≢ 10)
+    → All (λ b. eqb b 10 ≡ false) bs
+feeds_none bs h =
+    All-from_get_or (λ b. eqb b 10 ≡ false) bs 0 (λ i lt. no_feed (get_or bs i 0) (h i lt))
 
 -- the first line ends at the first line feed
-pub cut_at : (text line left : List ℕ) → text ≡ line ++ 10 ∷ left → ((i : ℕ) → i < length line → get_or line i 0 ≢ 10) → all_lines_of text ≡ strip_carriage_return line ∷ all_lines_of left
-cut_at text line left e h = rw (e, slice_split_at (λ b. eqb b 10) line 10 left (feeds_none line h) refl)
+pub cut_at : (text line left : List ℕ) → text ≡ line ++ 10 ∷ left
+    → ((i : ℕ) → i < length line → get_or line i 0 ≢ 10)
+    → all_lines_of text ≡ strip_carriage_return line ∷ all_lines_of left
+cut_at text line left e h =
+    rw (e, slice_split_at (λ b. eqb b 10) line 10 left (feeds_none line h) refl)
 
 -- a text without a line feed is one line
-pub cut_none : (text : List ℕ) → ((i : ℕ) → i < length text → get_or text i 0 ≢ 10) → all_lines_of text ≡ strip_carriage_return text ∷ []
+pub cut_none : (text : List ℕ) → ((i : ℕ) → i < length text → get_or text i 0 ≢ 10)
+    → all_lines_of text ≡ strip_carriage_return text ∷ []
 cut_none text h = rw (slice_split_none (λ b. eqb b 10) text (feeds_none text h))
 
 -- ---- the page size
 
 -- what `parse` says of a text without a sign
-pub page_size_is : {E : Type 0} (ds : List ℕ) (r : Result ℕ E) → OkIff r ((all_ascii_digits ds ≡ true) × (0 < length ds) × (digits_value 10 ds < 2 ^ 32)) (digits_value 10 ds) → result_ok r ≡ page_size_of ds
+pub page_size_is : {E : Type 0} (ds : List ℕ) (r : Result ℕ E)
+    → OkIff r ((all_ascii_digits ds ≡ true) × (0 < length ds) × (digits_value 10 ds < 2 ^ 32))
+    (digits_value 10 ds) → result_ok r ≡ page_size_of ds
 page_size_is ds (Ok n) h = search (rules, nat_tests)
 page_size_is ds (Err e) h = search (rules, nat_tests)

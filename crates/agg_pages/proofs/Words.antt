@@ -1,7 +1,8 @@
 -- A list of one word.
 use Rattle.std.proofs.Common.{◌≡◌, ◌≤◌, ◌<◌, List, [], ◌∷◌, get_or, length, sym, ap, arith}
 
-pub one_word : {A : Type 0} (words : List A) (word : A) → 1 ≤ length words → length words < 2 → word ≡ get_or words 0 word → words ≡ word ∷ []
+pub one_word : {A : Type 0} (words : List A) (word : A) → 1 ≤ length words → length words < 2
+    → word ≡ get_or words 0 word → words ≡ word ∷ []
 one_word [] word some few is = absurd (omega arith)
 one_word (w ∷ []) word some few is = ap (λ x. x ∷ []) (sym is)
 one_word (w ∷ v ∷ words) word some few is = absurd (omega arith)

@@ -1,10 +1,11 @@
 pub mod Answer
 pub mod Causes
 pub mod Input
-pub mod Json
 pub mod Lines
 pub mod Memory
-pub mod Printed
+pub mod Observed
+pub mod Output
+pub mod Reading
 pub mod Run
 pub mod Snapshots
 pub mod Status

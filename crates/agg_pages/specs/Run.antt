@@ -1,38 +1,70 @@
 -- How a run answers: the cause of each status, and what is then read and written.
-use Rattle.std.specs.Prelude.{◌≡◌, ◌≢◌, ◌⊎◌, ◌↔◌, ℕ, List, [], Option, Some}
+use Rattle.std.specs.Prelude.{◌≡◌, ◌≢◌, ◌+◌, ◌⊎◌, ◌↔◌, ℕ, List, Some}
 use Rattle.std.specs.Io.KnownBytes.{Appends}
 use Rattle.agg_pages.specs.declared.input.Input.{Input}
 use Rattle.agg_pages.specs.declared.status.Status.{Status}
-use Rattle.agg_pages.specs.declared.status.Status.TheVariants as status
-use Rattle.agg_pages.specs.Answer.{IsFront, IsNoInput, IsPrintedWalk, IsRefusal, IsValid, walk_words}
-use Rattle.agg_pages.specs.Causes.{Rose}
-use Rattle.agg_pages.specs.Input.{input}
+use Rattle.agg_pages.specs.declared.status.Status.TheVariants.{Ok, Refused, Usage}
+use Rattle.agg_pages.specs.declared.status.Status.TheVariants.{Input as NotInput, ReadFault}
+use Rattle.agg_pages.specs.declared.status.Status.TheVariants.{WriteFault, OutOfMemory}
+use Rattle.agg_pages.specs.Answer.{IsReplyPrefix, IsNoInput, IsPrintedWalk, IsRefusal, IsValid}
+use Rattle.agg_pages.specs.Answer.{walk_arguments}
+use Rattle.agg_pages.specs.Input.{input, max_input_bytes}
+use Rattle.agg_pages.specs.Observed.{Observed, HadFault, IsUntouched, bytes_after, bytes_before}
+use Rattle.agg_pages.specs.Reading.{GivesAll, TakesAtMost}
 
--- all bytes that a source told it had left are read, and a sink holds such a text of them behind what it held
-abbrev pub HasWritten : (List ℕ → List ℕ → Type 0) → Option (List ℕ) → Option (List ℕ) → Option (List ℕ) → Option (List ℕ) → Type 0
-HasWritten IsText left left_now held held_now = (bytes : List ℕ) → left ≡ Some bytes → (left_now ≡ Some []) × ((text : List ℕ) × IsText bytes text × Appends held held_now text)
+-- a run of the program: its arguments and its status
+pub record Command : Type 0 where
+  pub arguments : List (List ℕ)
+  pub status : Status
+
+-- a run with these arguments, and the status that it ended with
+abbrev pub command : List (List ℕ) → Status → Command
+command arguments status = record { arguments = arguments; status = status }
+
+-- a source gave bytes of this input, which are all that it had left, where it told them
+abbrev pub GaveInput : {R : Type 0} → Observed R → Input → Type 0
+GaveInput source i =
+    (bytes : List ℕ)
+    × GivesAll (bytes_before source) (bytes_after source) bytes
+    × (input bytes ≡ Some i)
+
+-- a source gave an input, and a sink holds such a text of it behind what it held
+abbrev pub HasWritten : {R W : Type 0} → (Input → List ℕ → Type 0) → Observed R → Observed W
+    → Type 0
+HasWritten IsText source sink =
+    (i : Input) × GaveInput source i
+    × ((text : List ℕ) × IsText i text × Appends (bytes_before sink) (bytes_after sink) text)
 
 -- the bytes that a source told it had left are no input
-abbrev pub HadNoInput : Option (List ℕ) → Option (List ℕ) → Type 0
-HadNoInput left left_now = (bytes : List ℕ) → left ≡ Some bytes → IsNoInput bytes left_now
+abbrev pub HadNoInput : {R : Type 0} → Observed R → Type 0
+HadNoInput source =
+    (bytes : List ℕ) → bytes_before source ≡ Some bytes → IsNoInput bytes (bytes_after source)
 
--- a source tells that it has a valid input left
-abbrev pub HasValidInput : Option (List ℕ) → Type 0
-HasValidInput left = (bytes : List ℕ) × (i : Input) × (left ≡ Some bytes) × (input bytes ≡ Some i) × IsValid i
+-- a source told that it had a valid input left
+abbrev pub HadValidInput : {R : Type 0} → Observed R → Type 0
+HadValidInput source =
+    (bytes : List ℕ) × (i : Input)
+    × (bytes_before source ≡ Some bytes) × (input bytes ≡ Some i) × IsValid i
 
--- each status has its cause, where a source and a sink stood so before and after the run
-pub record IsAnswered {R W : Type 0} (left : R → Option (List ℕ)) (read_faults : R → ℕ) (held : W → Option (List ℕ)) (write_faults : W → ℕ) (words : List (List ℕ)) (answer : Status) (source source_now : R) (sink sink_now : W) : Type 0 where
-  -- status 0: the bytes read are a valid input, and the printed walk of them is written
-  pub ok : answer ≡ status.Ok → HasWritten IsPrintedWalk (left source) (left source_now) (held sink) (held sink_now)
+-- each status has its cause, in what a source gave and a sink took
+pub record IsAnswered {R W : Type 0} (command : Command) (source : Observed R) (sink : Observed W)
+    : Type 0 where
+  -- status 0: the bytes read are a valid input, and the printed walk of it is written
+  pub ok : command.status ≡ Ok → HasWritten IsPrintedWalk source sink
   -- each other status has its cause
-  pub usage : answer ≡ status.Usage ↔ (words ≢ walk_words)
-  pub read_fault : answer ≡ status.ReadFault → Rose (read_faults source) (read_faults source_now)
-  pub no_input : answer ≡ status.Input → HadNoInput (left source) (left source_now)
-  pub refused : answer ≡ status.Refused → HasWritten IsRefusal (left source) (left source_now) (held sink) (held sink_now)
-  pub write_fault : answer ≡ status.WriteFault → Rose (write_faults sink) (write_faults sink_now)
-  pub front : answer ≡ status.WriteFault → HasWritten IsFront (left source) (left source_now) (held sink) (held sink_now)
+  pub usage : command.status ≡ Usage ↔ (command.arguments ≢ walk_arguments)
+  pub read_fault : command.status ≡ ReadFault → HadFault source
+  pub no_input : command.status ≡ NotInput → HadNoInput source
+  pub refused : command.status ≡ Refused → HasWritten IsRefusal source sink
+  pub write_fault : command.status ≡ WriteFault → HadFault sink
+  pub prefix : command.status ≡ WriteFault → HasWritten IsReplyPrefix source sink
   -- a usage touches nothing, and these write nothing
-  pub untouched : answer ≡ status.Usage → (source_now ≡ source) × (sink_now ≡ sink)
-  pub quiet : (answer ≡ status.Input) ⊎ ((answer ≡ status.ReadFault) ⊎ (answer ≡ status.OutOfMemory)) → sink_now ≡ sink
+  pub untouched : command.status ≡ Usage → IsUntouched source × IsUntouched sink
+  pub quiet : (command.status ≡ NotInput)
+      ⊎ ((command.status ≡ ReadFault) ⊎ (command.status ≡ OutOfMemory)) → IsUntouched sink
+  -- whatever the status, no more than one byte past the limit is gone
+  pub taken : TakesAtMost (max_input_bytes + 1) (bytes_before source) (bytes_after source)
   -- a valid call without a fault is answered, unless memory is refused
-  pub complete : words ≡ walk_words → HasValidInput (left source) → ¬ (Rose (read_faults source) (read_faults source_now)) → ¬ (Rose (write_faults sink) (write_faults sink_now)) → (answer ≡ status.Ok) ⊎ (answer ≡ status.OutOfMemory)
+  pub complete : command.arguments ≡ walk_arguments → HadValidInput source
+      → ¬ (HadFault source) → ¬ (HadFault sink)
+      → (command.status ≡ Ok) ⊎ (command.status ≡ OutOfMemory)

@@ -14,7 +14,8 @@ lines_in (Some one) = Begins one.page_size ∷ map Holds one.documents
 
 -- the snapshots, where these lines follow
 abbrev pub completed : SnapshotsBuilder → List Line → Option (List Snapshot)
-completed builder lines = option_map (λ later. builder.closed ++ later) (snapshots_of (lines_in builder.current ++ lines))
+completed builder lines =
+    option_map (λ later. builder.closed ++ later) (snapshots_of (lines_in builder.current ++ lines))
 
 -- an open snapshot, closed
 abbrev pub closed_of : Option OpenSnapshot → List Snapshot

@@ -2,10 +2,11 @@
 use Rattle.std.specs.Prelude.{ℕ}
 use Rattle.agg_pages.specs.declared.input.InputError.{InputError}
 use Rattle.agg_pages.specs.declared.input.InputError.TheVariants as refused
-use Rattle.agg_pages.specs.declared.source.read_all.ReadAllError.{ReadAllError}
-use Rattle.agg_pages.specs.declared.source.read_all.ReadAllError.TheVariants as reading
+use Rattle.agg_pages.specs.declared.source.reading.ReadAllError.{ReadAllError}
+use Rattle.agg_pages.specs.declared.source.reading.ReadAllError.TheVariants as reading
 use Rattle.agg_pages.specs.declared.status.Status.{Status}
-use Rattle.agg_pages.specs.declared.status.Status.TheVariants.{Ok, Refused, Usage, Input, ReadFault, WriteFault, OutOfMemory}
+use Rattle.agg_pages.specs.declared.status.Status.TheVariants.{Ok, Refused, Usage, Input, ReadFault}
+use Rattle.agg_pages.specs.declared.status.Status.TheVariants.{WriteFault, OutOfMemory}
 
 -- the exit code of a status
 abbrev pub code_of : Status → ℕ

@@ -2,12 +2,13 @@
 
 mod document;
 mod header;
-mod json_value;
 mod line;
 mod lines;
 mod snapshots;
+mod value;
 
 ghost use Rattle.std.specs.Prelude.{◌≡◌, Some, None, IfOk, IsErrOf};
+ghost use Rattle.agg_pages.specs.Answer.{snapshots_in};
 ghost use Rattle.agg_pages.specs.Input.{input};
 ghost use Rattle.agg_engine.specs.Form.{IsTakenForm};
 
@@ -34,9 +35,9 @@ pub enum InputError {
 }
 
 impl From<OutOfMemory> for InputError {
-    ghost use Rattle.agg_pages.specs.declared.input.InputError.TheVariants.{OutOfMemory as NoMemory};
+    ghost use Rattle.agg_pages.specs.declared.input.InputError.TheVariants as error;
 
-    ghost from_gives = { λ _ e. e ≡ NoMemory };
+    ghost from_gives = { λ _ e. e ≡ error.OutOfMemory };
 
     fn from(_error: OutOfMemory) -> InputError {
         InputError::OutOfMemory
@@ -44,8 +45,8 @@ impl From<OutOfMemory> for InputError {
 }
 
 impl From<serde_json::Error> for InputError {
-    ghost use Rattle.agg_pages.specs.declared.input.InputError.TheVariants.{NotInput};
     ghost use Rattle.serde_json.specs.Errors.{IsMemory};
+    ghost use Rattle.agg_pages.specs.declared.input.InputError.TheVariants.{NotInput};
 
     ghost from_gives = { λ error e. e ≡ NotInput → ¬ (IsMemory error) };
 
@@ -58,8 +59,8 @@ impl From<serde_json::Error> for InputError {
 }
 
 impl From<BuildError> for InputError {
-    ghost use Rattle.agg_pages.specs.declared.input.InputError.TheVariants.{NotInput};
     ghost use Rattle.agg_segment.specs.declared.segment.BuildError.TheVariants.{TooManyDocuments};
+    ghost use Rattle.agg_pages.specs.declared.input.InputError.TheVariants.{NotInput};
 
     ghost from_gives = { λ error e. e ≡ NotInput → error ≡ TooManyDocuments };
 
@@ -81,7 +82,7 @@ pub struct Input {
 /// The input that bytes stand for.
 pub fn read_input(alloc: Global, bytes: &[u8]) -> Result<Input, InputError>
     ensures ok { IfOk result (λ i. input bytes.now ≡ Some i) }
-    ensures form { IfOk result (λ i. IsTakenForm i.header.request i.snapshots) }
+    ensures form { IfOk result (λ i. IsTakenForm i.header.request (snapshots_in i)) }
     ensures not_input { IsErrOf result InputError.NotInput → input bytes.now ≡ None }
 {
     if bytes.len() > MAX_INPUT_BYTES {
@@ -102,8 +103,9 @@ mod tests {
     use super::*;
     use std::test::Fail;
 
-    const HEADER: &str =
-        "{\"request\":{\"byA\":{\"composite\":{\"sources\":[{\"a\":{\"terms\":{\"field\":\"A\"}}}],\"size\":2}}},\"name\":\"byA\",\"schema\":[\"A\"]}";
+    const HEADER: &str = "{\"request\":{\"byA\":{\"composite\":{\
+        \"sources\":[{\"a\":{\"terms\":{\"field\":\"A\"}}}],\"size\":2}}},\
+        \"name\":\"byA\",\"schema\":[\"A\"]}";
 
     #[test]
     fn reads(rt: HostRuntime) -> Result<(), Fail> {
@@ -125,19 +127,29 @@ mod tests {
 
     #[test]
     fn refuses(rt: HostRuntime) -> Result<(), Fail> {
-        for tail in [
-            "snapshot +1",
-            "snapshot 4294967296",
+        for behind in [
+            HEADER,
+            "segment",
+            "snapshot",
             "snapshot ",
-            "{}",
+            "snapshot  2",
+            "snapshot +1",
+            "snapshot -1",
+            "snapshot 4294967296",
+            "{\"A\":1}",
             "snapshot 1\n{\"A\":1.5}",
             "snapshot 1\n{\"A\":[1,null]}",
-            "snapshot 1\n[]",
+            "snapshot 1\n{\"A\":[[1]]}",
+            "snapshot 1\n[1]",
             "snapshot 1\n{",
         ] {
-            let text = format!(in rt.alloc(); "{HEADER}\n{tail}")?;
+            let text = format!(in rt.alloc(); "{HEADER}\n{behind}")?;
             let read = read_input(rt.alloc(), text.as_bytes());
-            assert_eq!(rt; read.err(), Some(InputError::NotInput));
+            assert_eq!(rt; read.err(), Some(InputError::NotInput), "at {behind}");
+        }
+        for text in ["", "\n", "{\"byA\"", "snapshot 1"] {
+            let read = read_input(rt.alloc(), text.as_bytes());
+            assert_eq!(rt; read.err(), Some(InputError::NotInput), "at {text}");
         }
         Ok(())
     }

@@ -1,6 +1,6 @@
 //! The text of an answer.
 ghost use Rattle.std.specs.Prelude.{◌≡◌, ◌++◌, IfOk, OnOk, string_bytes};
-ghost use Rattle.agg_pages.specs.Printed.{ended_line, page_line, printed, refusal_line};
+ghost use Rattle.agg_pages.specs.Output.{ended_line, page_line, refusal_text, walk_text};
 
 use agg_engine::results::AggregationResults;
 use agg_engine::{Walk, WalkError};
@@ -9,11 +9,11 @@ use std::alloc::Global;
 
 /// A walk: a line for each page, and one that says whether it has ended.
 pub fn walk_text(alloc: Global, walk: &Walk) -> Result<String, OutOfMemory>
-    ensures { IfOk result (λ text. string_bytes text ≡ printed walk.now) }
+    ensures { IfOk result (λ text. string_bytes text ≡ walk_text walk.now) }
 {
     let mut text = String::new(alloc);
     for (index, page) in walk.pages.as_slice().iter().enumerate() {
-        write_page(alloc, &mut text, index as u64 + 1, page)?;
+        write_page(&mut text, index as u64 + 1, page)?;
     }
     text.push_str(ended_text(walk.ended))?;
     Ok(text)
@@ -31,15 +31,11 @@ fn ended_text(ended: bool) -> &'static str
 }
 
 // Appends the line of a page.
-fn write_page(
-    alloc: Global,
-    text: &mut String,
-    number: u64,
-    page: &AggregationResults,
-) -> Result<(), OutOfMemory>
-    ensures { OnOk result (string_bytes text.new ≡ string_bytes text.old ++ page_line number page.now) }
+fn write_page(text: &mut String, number: u64, page: &AggregationResults) -> Result<(), OutOfMemory>
+    ensures { OnOk result
+        (string_bytes text.new ≡ string_bytes text.old ++ page_line number page.now) }
 {
-    let results = page.write_json(alloc)?;
+    let results = page.write_json()?;
     write!(text, "{{\"page\":{number},\"results\":")?;
     text.push_str(results.as_str())?;
     text.push_str("}\n")?;
@@ -48,7 +44,7 @@ fn write_page(
 
 /// The line of a refusal.
 pub fn refusal_text(alloc: Global, error: &WalkError) -> Result<String, OutOfMemory>
-    ensures { IfOk result (λ text. string_bytes text ≡ refusal_line error.now) }
+    ensures { IfOk result (λ text. string_bytes text ≡ refusal_text error.now) }
 {
     let mut text = String::from_str(alloc, "error: ")?;
     text.push_str(error.name())?;

@@ -3,7 +3,7 @@ mod memory;
 mod standard;
 #[cfg(test)]
 mod tests;
-mod write_all;
+mod writing;
 
 ghost use Rattle.std.specs.Prelude.{List, ℕ, Option, IfOk, ◌<◌, length};
 ghost use Rattle.std.specs.Io.{WritesAtMost};
@@ -13,7 +13,7 @@ ghost use Rattle.agg_pages.specs.Causes.{HasCause};
 use crate::fault::Failed;
 pub use memory::MemorySink;
 pub use standard::StdSink;
-pub use write_all::write_all;
+pub use writing::write_all;
 
 /// Where bytes go.
 pub trait Sink {
@@ -23,7 +23,7 @@ pub trait Sink {
     /// How many of its calls failed, as far as it counts.
     ghost faults: { Self → ℕ };
 
-    /// Takes bytes from the front of the piece, at least one where the piece isn't empty.
+    /// Takes a prefix of the piece, of at least one byte where the piece isn't empty.
     fn write(&mut self, bytes: &[u8]) -> Result<usize, Failed>
         ensures bound { WritesAtMost result bytes.now }
         ensures some { IfOk result (λ count. 0 < length bytes.now → 0 < count) }

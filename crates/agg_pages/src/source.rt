@@ -2,7 +2,7 @@
 #[cfg(test)]
 mod drip;
 mod memory;
-mod read_all;
+mod reading;
 mod standard;
 mod steady;
 #[cfg(test)]
@@ -17,7 +17,7 @@ use crate::fault::Failed;
 #[cfg(test)]
 pub use drip::Drip;
 pub use memory::MemorySource;
-pub use read_all::{MAX_INPUT_BYTES, ReadAllError, read_all};
+pub use reading::{MAX_INPUT_BYTES, ReadAllError, read_all};
 pub use standard::StdSource;
 pub use steady::SteadySource;
 

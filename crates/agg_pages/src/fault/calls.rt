@@ -16,7 +16,11 @@ impl Model for CallCounter {
 
     ghost Value = { Calls };
 
-    ghost view = { λ c. record { number = c.number; failing = c.failing.items; faults = c.faults } };
+    ghost view = { λ calls. record {
+      number = calls.number;
+      failing = calls.failing.items;
+      faults = calls.faults;
+    } };
 }
 
 impl CallCounter {

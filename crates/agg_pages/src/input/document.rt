@@ -1,11 +1,11 @@
 //! A document: an object from field to values.
 ghost use Rattle.std.specs.Prelude.{◌≡◌, Some, None, IfOk, IsErrOf};
 ghost use Rattle.serde_json.specs.View.{members_view, items_view, view};
-ghost use Rattle.agg_pages.specs.Json.{each_item, each_member};
+ghost use Rattle.agg_request.specs.Json.{each_item, each_member};
 ghost use Rattle.agg_pages.specs.Input.{document_of, field_values, value_of_data};
 
 use super::InputError;
-use super::json_value::parse;
+use super::value::parse;
 use agg_segment::{Document, FieldValue};
 use agg_values::{ItemList, Text};
 use serde_json::{Map, Value};
@@ -53,7 +53,8 @@ fn read_values(alloc: Global, value: Value) -> Result<ItemList<FieldValue>, Inpu
 }
 
 fn values_of_items(alloc: Global, items: &[Value]) -> Result<ItemList<FieldValue>, InputError>
-    ensures ok { IfOk result (λ values. each_item value_of_data (items_view items.now) ≡ Some values) }
+    ensures ok { IfOk result
+        (λ values. each_item value_of_data (items_view items.now) ≡ Some values) }
     ensures not_input { IsErrOf result InputError.NotInput
         → each_item value_of_data (items_view items.now) ≡ None }
 {

@@ -1,13 +1,16 @@
 //! The header: what a walk is asked for.
 ghost use Rattle.std.specs.Prelude.{◌≡◌, Some, None, IfOk, IsErrOf, option_map};
+ghost use Rattle.serde_json.specs.Find.{as_str, get};
 ghost use Rattle.serde_json.specs.View.{view};
-ghost use Rattle.agg_pages.specs.Input.{composite_of, header_of, header_of_data, request_of, source_of, terms_field, texts_of};
+ghost use Rattle.agg_pages.specs.Input.{composite_of, header_of, header_of_data, request_of};
+ghost use Rattle.agg_pages.specs.Input.{source_of, terms_field, texts_of};
 
 use super::InputError;
-use super::json_value::{
-    has_members, member, only_item, only_member, only_named, parse, read_text, small_number,
+use super::value::parse;
+use agg_request::json_value::{
+    has_members, only_item, only_member, only_named, read_text, small_number,
 };
-use agg_composite::request::{
+use agg_request::{
     Aggregation, AggregationVariants, Aggregations, CompositeAggregation,
     CompositeAggregationSource, TermCompositeAggregationSource,
 };
@@ -36,19 +39,36 @@ pub fn read_header(alloc: Global, line: &str) -> Result<Header, InputError>
 // Exactly a request, a name and a schema.
 fn header_of_value(alloc: Global, value: &Value) -> Result<Header, InputError>
     ensures ok { IfOk result (λ header. header_of_data (view value.now) ≡ Some header) }
-    ensures not_input { IsErrOf result InputError.NotInput → header_of_data (view value.now) ≡ None }
+    ensures not_input { IsErrOf result InputError.NotInput
+        → header_of_data (view value.now) ≡ None }
 {
     if !has_members(value, 3) {
         return Err(InputError::NotInput);
     }
     let request = read_request(alloc, member(value, "request")?)?;
-    let name = read_text(alloc, member(value, "name")?)?;
+    let name = text_of(alloc, member(value, "name")?)?;
     let schema = read_schema(alloc, member(value, "schema")?)?;
     Ok(Header {
         request,
         name,
         schema,
     })
+}
+
+// The member of this name, which has to be there.
+fn member<'a>(value: &'a Value, name: &str) -> Result<&'a Value, InputError>
+    ensures ok { IfOk result (λ found. get name.now (view value.now) ≡ Some (view found.now)) }
+    ensures not_input { IsErrOf result InputError.NotInput → get name.now (view value.now) ≡ None }
+{
+    value.get(name).ok_or(InputError::NotInput)
+}
+
+// The copy of a value that has to be a text.
+fn text_of(alloc: Global, value: &Value) -> Result<Text, InputError>
+    ensures ok { IfOk result (λ text. as_str (view value.now) ≡ Some text) }
+    ensures not_input { IsErrOf result InputError.NotInput → as_str (view value.now) ≡ None }
+{
+    read_text(alloc, value)?.ok_or(InputError::NotInput)
 }
 
 // One name with a composite.
@@ -115,7 +135,7 @@ fn read_schema(alloc: Global, value: &Value) -> Result<Schema, InputError>
     let names = value.as_array().ok_or(InputError::NotInput)?;
     let mut schema = Schema::new(alloc);
     for name in names {
-        schema.add_field(read_text(alloc, name)?)?;
+        schema.add_field(text_of(alloc, name)?)?;
     }
     Ok(schema)
 }

@@ -1,5 +1,6 @@
 //! Snapshots, from their lines.
-ghost use Rattle.std.specs.Prelude.{◌≡◌, ◌≢◌, ◌∷◌, [], List, Some, None, Err, true, IfOk, OnOk, IsErrOf, option_and_then};
+ghost use Rattle.std.specs.Prelude.{◌≡◌, ◌≢◌, ◌∷◌, [], List, Some, None, Err, true, IfOk, OnOk};
+ghost use Rattle.std.specs.Prelude.{IsErrOf, option_and_then};
 ghost use Rattle.agg_pages.specs.declared.input.line.Line.{Line as Said};
 ghost use Rattle.agg_pages.specs.Input.{all_fit, each_line, snapshot_of, snapshots_of};
 ghost use Rattle.agg_pages.specs.Snapshots.{IsClosed, completed};
@@ -37,7 +38,8 @@ impl OpenSnapshot {
     // The snapshot of these documents.
     fn close(self, alloc: Global) -> Result<Snapshot, InputError>
         ensures ok { IfOk result (λ s. s ≡ snapshot_of self.page_size self.documents) }
-        ensures fits { OnOk result (all_fit (snapshot_of self.page_size self.documents ∷ []) ≡ true) }
+        ensures fits { OnOk result
+            (all_fit (snapshot_of self.page_size self.documents ∷ []) ≡ true) }
         ensures memory { result ≢ Err InputError.NotInput }
     {
         let segment = self.documents.build()?;

@@ -1,4 +1,5 @@
-ghost use Rattle.std.specs.Prelude.{◌≡◌, ◌-◌, ◌<◌, ◌↔◌, ◌⊎◌, [], Some, IsErr, IsTrue, IfOk, is_err, length, min};
+ghost use Rattle.std.specs.Prelude.{◌≡◌, ◌-◌, ◌<◌, ◌↔◌, ◌⊎◌, [], Some, IsErr, IsTrue, IfOk, is_err};
+ghost use Rattle.std.specs.Prelude.{length, min};
 ghost use Rattle.std.specs.Io.{WritesAtMost};
 ghost use Rattle.std.specs.Io.KnownBytes.{WriteAppends};
 ghost use Rattle.agg_pages.specs.Causes.{HasCause};
@@ -26,7 +27,8 @@ impl Model for MemorySink {
 
     ghost view = { λ sink. record { bytes = sink.bytes.items; calls = sink.calls } };
 
-    ghost invariant = { λ sink. (memory_room ≤ vec_capacity sink.bytes) × (vec_len sink.bytes ≤ memory_room) };
+    ghost invariant = { λ sink.
+        (memory_room ≤ vec_capacity sink.bytes) × (vec_len sink.bytes ≤ memory_room) };
 }
 
 impl MemorySink {
@@ -36,7 +38,8 @@ impl MemorySink {
     /// An empty sink, which fails at each of the listed calls, counted from 1. All the memory that
     /// it needs is taken here.
     pub fn new(alloc: Global, failing: Vec<u64>) -> Result<MemorySink, OutOfMemory>
-        ensures { IfOk result (λ sink. sink ≡ record { bytes = []; calls = no_calls failing.items }) }
+        ensures { IfOk result
+            (λ sink. sink ≡ record { bytes = []; calls = no_calls failing.items }) }
     {
         Ok(MemorySink {
             bytes: Vec::with_capacity(alloc, MemorySink::ROOM)?,
@@ -65,8 +68,10 @@ impl Sink for MemorySink {
 
         // It fails at a listed call, and where a piece that isn't empty finds no room.
         ensures fails { IsErr result
-            ↔ (IsTrue (is_next_listed self.old.calls) ⊎ ((0 < length bytes.now) × (length self.old.bytes ≡ MemorySink.ROOM))) }
-        ensures count { IfOk result (λ count. count ≡ min (length bytes.now) (MemorySink.ROOM - length self.old.bytes)) }
+            ↔ (IsTrue (is_next_listed self.old.calls)
+            ⊎ ((0 < length bytes.now) × (length self.old.bytes ≡ MemorySink.ROOM))) }
+        ensures count { IfOk result
+            (λ count. count ≡ min (length bytes.now) (MemorySink.ROOM - length self.old.bytes)) }
         ensures calls { self.new.calls ≡ after_call (is_err result) self.old.calls }
     {
         let room = MemorySink::ROOM - self.bytes.len();

@@ -1,11 +1,12 @@
-ghost use Rattle.std.specs.Prelude.{◌≡◌, ◌≤◌, ◌<◌, ℕ, None, IfOk, OnErr, is_err, length, take};
+ghost use Rattle.std.specs.Prelude.{◌≡◌, ◌≤◌, ◌<◌, ◌⊎◌, ◌↔◌, ℕ, None, Ok, IfOk, IsErr, OnErr};
+ghost use Rattle.std.specs.Prelude.{is_err, length, take};
 ghost use Rattle.std.specs.Io.{WritesAtMost};
 ghost use Rattle.std.specs.Io.KnownBytes.{Appends, WriteAppends};
-ghost use Rattle.agg_pages.specs.Causes.{HasCause, faults_after, one_more};
+ghost use Rattle.agg_pages.specs.Causes.{HasCause, faults_after};
 
 use super::Sink;
 use crate::fault::Failed;
-use std::io::Write;
+use std::io::{self, Write};
 use std::marker::Model;
 
 /// A writer of std as a sink, which flushes each write and counts those that failed. It tells no
@@ -33,13 +34,28 @@ impl<W> StdSink<W> {
         StdSink { writer, faults: 0 }
     }
 
-    fn fail(&mut self) -> Failed
-        ensures counted { self.new.faults ≡ one_more self.old.faults }
-        ensures writer { self.new.inner ≡ self.old.inner }
+    // The answer for what a write of the piece and its flush answered: the count, or a fault, which
+    // is counted. It is one as well where nothing was taken of a piece that isn't empty.
+    fn settle(
+        &mut self,
+        bytes: &[u8],
+        written: io::Result<usize>,
+        flushed: io::Result<()>,
+    ) -> Result<usize, Failed>
+        ensures count { IfOk result (λ count. written ≡ Ok count) }
+        ensures fails { IsErr result
+            ↔ (IsErr written ⊎ (IsErr flushed ⊎ ((written ≡ Ok 0) × (0 < length bytes.now)))) }
+        ensures counted { self.new.faults ≡ faults_after (is_err result) self.old.faults }
         ensures later { self.old.faults ≤ self.new.faults }
+        ensures writer { self.new.inner ≡ self.old.inner }
     {
-        self.faults = self.faults.saturating_add(1);
-        Failed
+        match (written, flushed) {
+            (Ok(count), Ok(())) if count > 0 || bytes.is_empty() => Ok(count),
+            _ => {
+                self.faults = self.faults.saturating_add(1);
+                Err(Failed)
+            }
+        }
     }
 }
 
@@ -54,21 +70,65 @@ impl<W: Write> Sink for StdSink<W> {
         ensures bytes { WriteAppends None None result bytes.now }
         ensures cause { HasCause self.old.faults self.new.faults result }
 
-        // What the writer is known to hold has grown by what was taken, or by some front of the
+        // What the writer is known to hold has grown by what was taken, or by some prefix of the
         // piece where the call failed.
-        ensures written { IfOk result (λ count. Appends (W.contents self.old.inner) (W.contents self.new.inner) (take count bytes.now)) }
-        ensures front { OnErr result ((count : ℕ) × Appends (W.contents self.old.inner) (W.contents self.new.inner) (take count bytes.now)) }
+        ensures written { IfOk result (λ count. Appends
+            (W.contents self.old.inner) (W.contents self.new.inner) (take count bytes.now)) }
+        ensures prefix { OnErr result ((count : ℕ) × Appends
+            (W.contents self.old.inner) (W.contents self.new.inner) (take count bytes.now)) }
         ensures counted { self.new.faults ≡ faults_after (is_err result) self.old.faults }
     {
-        let Ok(count) = self.writer.write(bytes) else {
-            return Err(self.fail());
-        };
-        if count == 0 && !bytes.is_empty() {
-            return Err(self.fail());
+        let written = self.writer.write(bytes);
+        let flushed = self.writer.flush();
+        self.settle(bytes, written, flushed)
+    }
+}
+
+#[cfg(test)]
+mod tests {
+    use super::*;
+    use std::io::ErrorKind;
+    use std::test::Fail;
+
+    // A writer that answers what it is told to.
+    #[derive(Drop)]
+    struct Told {
+        write: Result<usize, ErrorKind>,
+        flush: Result<(), ErrorKind>,
+        flushes: u64,
+    }
+
+    impl Write for Told {
+        fn write(&mut self, buf: &[u8]) -> io::Result<usize> {
+            let count = self.write.map_err(io::Error::from)?;
+            Ok(count.min(buf.len()))
         }
-        if self.writer.flush().is_err() {
-            return Err(self.fail());
+
+        fn flush(&mut self) -> io::Result<()> {
+            self.flushes = self.flushes.saturating_add(1);
+            self.flush.map_err(io::Error::from)
         }
-        Ok(count)
+    }
+
+    #[test]
+    fn answers_as_its_writer_does(rt: HostRuntime) -> Result<(), Fail> {
+        for (write, flush, bytes, answer) in [
+            (Ok(2), Ok(()), "abc", Ok(2)),
+            (Ok(3), Ok(()), "abc", Ok(3)),
+            (Ok(0), Ok(()), "", Ok(0)),
+            (Ok(0), Ok(()), "abc", Err(Failed)),
+            (Err(ErrorKind::BrokenPipe), Ok(()), "abc", Err(Failed)),
+            (Ok(3), Err(ErrorKind::BrokenPipe), "abc", Err(Failed)),
+        ] {
+            let mut sink = StdSink::new(Told {
+                write,
+                flush,
+                flushes: 0,
+            });
+            assert_eq!(rt; sink.write(bytes.as_bytes()), answer, "at {bytes}");
+            assert_eq!(rt; sink.faults, answer.is_err() as u64, "at {bytes}");
+            assert_eq!(rt; sink.writer.flushes, 1, "at {bytes}");
+        }
+        Ok(())
     }
 }

@@ -46,7 +46,8 @@ impl Source for MemorySource {
         ensures bytes { ReadConsumes (Some self.old.bytes) (Some self.new.bytes) result buf.new }
         ensures cause { HasCause self.old.calls.faults self.new.calls.faults result }
         ensures listed { IsErr result ↔ IsTrue (is_next_listed self.old.calls) }
-        ensures count { IfOk result (λ count. count ≡ min (length buf.old) (length self.old.bytes)) }
+        ensures count { IfOk result
+            (λ count. count ≡ min (length buf.old) (length self.old.bytes)) }
         ensures calls { self.new.calls ≡ after_call (is_err result) self.old.calls }
     {
         let failed = self.calls.is_next_listed();

@@ -1,11 +1,12 @@
-ghost use Rattle.std.specs.Prelude.{◌≡◌, is_err};
+ghost use Rattle.std.specs.Prelude.{◌≡◌, ◌≤◌, is_err};
+ghost use Rattle.std.specs.Result.{result_ok};
 ghost use Rattle.std.specs.Io.{ReadsAtMost};
 ghost use Rattle.std.specs.Io.KnownBytes.{ReadConsumes};
 ghost use Rattle.agg_pages.specs.Causes.{HasCause, faults_after};
 
 use super::Source;
 use crate::fault::Failed;
-use std::io::Read;
+use std::io::{self, Read};
 use std::marker::Model;
 
 /// A reader of std as a source, which counts the reads that failed. Contracts see the reader and
@@ -31,6 +32,22 @@ impl<R> StdSource<R> {
     {
         StdSource { reader, faults: 0 }
     }
+
+    // The answer for what the reader answered: its count, or a fault, which is counted.
+    fn settle(&mut self, read: io::Result<usize>) -> Result<usize, Failed>
+        ensures answer { result_ok result ≡ result_ok read }
+        ensures counted { self.new.faults ≡ faults_after (is_err read) self.old.faults }
+        ensures later { self.old.faults ≤ self.new.faults }
+        ensures reader { self.new.inner ≡ self.old.inner }
+    {
+        match read {
+            Ok(count) => Ok(count),
+            Err(_) => {
+                self.faults = self.faults.saturating_add(1);
+                Err(Failed)
+            }
+        }
+    }
 }
 
 impl<R: Read> Source for StdSource<R> {
@@ -40,16 +57,51 @@ impl<R: Read> Source for StdSource<R> {
 
     fn read(&mut self, buf: &mut [u8]) -> Result<usize, Failed>
         ensures bound { ReadsAtMost result buf.new }
-        ensures bytes { ReadConsumes (R.remaining self.old.inner) (R.remaining self.new.inner) result buf.new }
+        ensures bytes { ReadConsumes
+            (R.remaining self.old.inner) (R.remaining self.new.inner) result buf.new }
         ensures cause { HasCause self.old.faults self.new.faults result }
         ensures counted { self.new.faults ≡ faults_after (is_err result) self.old.faults }
     {
-        match self.reader.read(buf) {
-            Ok(count) => Ok(count),
-            Err(_) => {
-                self.faults = self.faults.saturating_add(1);
-                Err(Failed)
+        let read = self.reader.read(buf);
+        self.settle(read)
+    }
+}
+
+#[cfg(test)]
+mod tests {
+    use super::*;
+    use std::io::ErrorKind;
+    use std::test::Fail;
+
+    // A reader whose second read fails.
+    #[derive(Drop)]
+    struct Broken {
+        reads: u64,
+    }
+
+    impl Read for Broken {
+        fn read(&mut self, buf: &mut [u8]) -> io::Result<usize> {
+            self.reads = self.reads.saturating_add(1);
+            match buf {
+                _ if self.reads == 2 => Err(io::Error::from(ErrorKind::Interrupted)),
+                [] => Ok(0),
+                [first, ..] => {
+                    *first = b'x';
+                    Ok(1)
+                }
             }
         }
+    }
+
+    #[test]
+    fn fails_where_its_reader_does(rt: HostRuntime) -> Result<(), Fail> {
+        let mut source = StdSource::new(Broken { reads: 0 });
+        let mut buf = [0; 3];
+        for (read, faults) in [(Ok(1), 0), (Err(Failed), 1), (Ok(1), 1)] {
+            assert_eq!(rt; source.read(&mut buf), read);
+            assert_eq!(rt; source.faults, faults);
+        }
+        assert_eq!(rt; buf.as_slice(), b"x\0\0".as_slice());
+        Ok(())
     }
 }

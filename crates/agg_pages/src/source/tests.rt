@@ -2,20 +2,19 @@ use super::*;
 use std::test::Fail;
 
 #[test]
-fn reads_bytes_that_come_one_at_a_time(rt: HostRuntime) -> Result<(), Fail> {
+fn reads_all_that_comes_slowly_or_in_chunks(rt: HostRuntime) -> Result<(), Fail> {
     let bytes = b"one at a time".to_vec(rt.alloc())?;
-    let mut source = Drip(SteadySource::new(bytes));
-    let all = read_all(rt.alloc(), &mut source)?;
+    let mut slow = Drip(SteadySource::new(bytes));
+    let all = read_all(rt.alloc(), &mut slow)?;
     assert_eq!(rt; all.as_slice(), b"one at a time".as_slice());
-    Ok(())
-}
 
-#[test]
-fn reads_many_chunks(rt: HostRuntime) -> Result<(), Fail> {
-    let bytes = vec![in rt.alloc(); 7; 20_000]?;
-    let mut source = SteadySource::new(bytes);
-    let all = read_all(rt.alloc(), &mut source)?;
-    assert_eq!(rt; all.len(), 20_000);
+    let mut large = SteadySource::new(vec![in rt.alloc(); 7; 20_000]?);
+    assert_eq!(rt; read_all(rt.alloc(), &mut large)?.len(), 20_000);
+
+    let bytes = b"abcd".to_vec(rt.alloc())?;
+    let mut broken = MemorySource::new(bytes, vec![in rt.alloc(); 2]?);
+    let all = read_all(rt.alloc(), &mut broken);
+    assert_eq!(rt; all.err(), Some(ReadAllError::ReadFault));
     Ok(())
 }
 
@@ -25,20 +24,9 @@ fn fails_at_the_second_read_alone(rt: HostRuntime) -> Result<(), Fail> {
     let failing = vec![in rt.alloc(); 2]?;
     let mut source = MemorySource::new(bytes, failing);
     let mut buf = [0; 3];
-    assert_eq!(rt; source.read(&mut buf), Ok(3));
-    assert_eq!(rt; source.read(&mut buf), Err(Failed));
-    assert_eq!(rt; source.read(&mut buf), Ok(1));
+    for read in [Ok(3), Err(Failed), Ok(1), Ok(0)] {
+        assert_eq!(rt; source.read(&mut buf), read);
+    }
     assert_eq!(rt; buf.as_slice(), b"dbc".as_slice());
-    assert_eq!(rt; source.read(&mut buf), Ok(0));
-    Ok(())
-}
-
-#[test]
-fn a_failed_read_is_told(rt: HostRuntime) -> Result<(), Fail> {
-    let bytes = b"abcd".to_vec(rt.alloc())?;
-    let failing = vec![in rt.alloc(); 2]?;
-    let mut source = MemorySource::new(bytes, failing);
-    let all = read_all(rt.alloc(), &mut source);
-    assert_eq!(rt; all.err(), Some(ReadAllError::ReadFault));
     Ok(())
 }

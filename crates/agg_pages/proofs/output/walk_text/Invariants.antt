@@ -1,5 +1,5 @@
 use Rattle.std.proofs.Common.{◌≡◌, take, string_bytes}
-use Rattle.agg_pages.specs.Printed.{page_lines}
+use Rattle.agg_pages.specs.Output.{page_lines}
 use Rattle.agg_pages.proofs.output.walk_text.Given as goal
 
 -- the lines of the pages so far

@@ -5,5 +5,6 @@ use Rattle.agg_pages.proofs.input.lines.without_return.Goals as goal
 
 pub returns : goal.returns
 returns c =
-    let cut = strip_suffix_char 13 c.args.line.now c.strip_suffix.result c.strip_suffix.ensures.cases (omega arith) in
+    let cut = strip_suffix_char 13 c.args.line.now c.strip_suffix.result
+    c.strip_suffix.ensures.cases (omega arith) in
     ap (λ x. x.now) c.unwrap_or.ensures ∙ stripped c.args.line c.strip_suffix.result cut

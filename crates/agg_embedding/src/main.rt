@@ -1,0 +1,51 @@
+//! How a program of one's own takes pages: the input stands in memory, and so does what is written.
+#![tactic(auto)]
+
+ghost use Rattle.std.specs.Prelude.{◌≡◌, Some, IfOk};
+ghost use Rattle.agg_pages.specs.Answer.{IsPrintedWalk};
+ghost use Rattle.agg_pages.specs.Input.{input};
+ghost use Rattle.agg_pages.specs.declared.input.Input.{Input};
+
+use agg_pages::sink::{MemorySink, Sink, StdSink, write_all};
+use agg_pages::source::SteadySource;
+use agg_pages::{Status, run_uncounted};
+use agg_values::Text;
+use std::alloc::Global;
+use std::process::ExitCode;
+
+const SALES: &str = concat!(
+    "{\"request\":{\"by_shop\":{\"composite\":{\"sources\":[{\"shop\":{\"terms\":",
+    "{\"field\":\"shop\"}}}],\"size\":2}}},\"name\":\"by_shop\",\"schema\":[\"shop\"]}\n",
+    "snapshot 2\n{\"shop\":12}\n{\"shop\":3}\n{\"shop\":12}\n",
+    "snapshot 2\n{\"shop\":12}\n{\"shop\":3}\n{\"shop\":12}\n{\"shop\":41}\n",
+);
+
+fn main(rt: HostRuntime) -> ExitCode {
+    match show_sales(rt.alloc(), &mut StdSink::new(rt.stdout())) {
+        Ok(()) => ExitCode::SUCCESS,
+        Err(status) => ExitCode::from(status.code()),
+    }
+}
+
+fn show_sales<W: Sink>(alloc: Global, out: &mut W) -> Result<(), Status> {
+    let bytes = SALES
+        .as_bytes()
+        .to_vec(alloc)
+        .map_err(|_| Status::OutOfMemory)?;
+    let pages = pages_of(alloc, bytes)?;
+    write_all(out, pages.bytes()).map_err(|_| Status::WriteFault)
+}
+
+// The printed pages of an input, or the status where it has none.
+fn pages_of(alloc: Global, bytes: Vec<u8>) -> Result<MemorySink, Status>
+    ensures { IfOk result
+        (λ sink. (i : Input) × (input bytes.items ≡ Some i) × IsPrintedWalk i sink.bytes) }
+{
+    let words = [Text::copy_of(alloc, "walk")?];
+    let mut source = SteadySource::new(bytes);
+    let mut sink = MemorySink::new(alloc, Vec::new(alloc))?;
+    match run_uncounted(alloc, &words, Vec::new(alloc), &mut source, &mut sink) {
+        Status::Ok => Ok(sink),
+        status => Err(status),
+    }
+}

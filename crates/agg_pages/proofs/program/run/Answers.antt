@@ -1,0 +1,65 @@
+use Rattle.std.proofs.Common.{rules, refl, subst, take, inl, inr, string_bytes}
+use Rattle.agg_pages.specs.Answer.{IsReply}
+use Rattle.agg_pages.proofs.Replies.{given_input, reply-either, valid-not_refused}
+use Rattle.agg_pages.proofs.program.run.Goals as goal
+
+pub returns-in-Ok : goal.returns-in-Ok
+returns-in-Ok g c =
+    let reply = c.in-Ok.reply in
+    let text = string_bytes reply.text in
+    let (i, gave, replied) = c.in-Ok.ensures.ok in
+    let written = c.deliver.ensures in
+    record {
+      ok = λ is. (
+        i,
+        gave,
+        (
+          text,
+          subst (λ refused. IsReply refused i text) (written.ok is).0
+              replied,
+          (written.ok is).1,
+        ),
+      );
+      usage = search rules;
+      read_fault = search rules;
+      no_input = search rules;
+      refused = λ is. (
+        i,
+        gave,
+        (
+          text,
+          subst (λ refused. IsReply refused i text)
+              (written.refused is).0 replied,
+          (written.refused is).1,
+        ),
+      );
+      write_fault = written.fault;
+      prefix = λ is.
+          let count = (written.prefix is).0 in (
+            i,
+            gave,
+            (
+              take count text,
+              (
+                text,
+                reply-either reply.refused i text replied,
+                (count, refl),
+              ),
+              (written.prefix is).1,
+            ),
+          );
+      untouched = search rules;
+      quiet = search rules;
+      taken = c.in-Ok.ensures.taken;
+      complete = λ walk (bytes, j, told, is, valid) no_read_fault no_write_fault.
+          let (given, gives, reads) = gave in
+          let same = given_input _ _ given bytes i j gives told reads is in
+          elim written.kinds [
+            | inl ok ↦ inl ok
+            | inr other ↦ elim other [
+              | inl refused ↦ absurd (valid-not_refused i j text same valid
+                  (subst (λ b. IsReply b i text) (written.refused refused).0 replied))
+              | inr fault ↦ absurd (no_write_fault (written.fault fault))
+            ]
+          ];
+    }

@@ -1,5 +1,0 @@
-use Rattle.agg_pages.proofs.run.run_uncounted.Given as goal
-
--- the ledger is the one of the blank
-abbrev pub ghosts-run_over : goal.ghosts-run_over
-ghosts-run_over g a = record { name = a.blank.name; parts = a.blank.parts }

@@ -1,0 +1,31 @@
+-- The text of an answer.
+use Rattle.std.specs.Prelude.{◌+◌, ℕ, List, [], ◌∷◌, ◌++◌, Bool, if◌then◌else◌, codes, decimal}
+use Rattle.agg_engine.specs.declared.results.types.AggregationResults.{AggregationResults}
+use Rattle.agg_engine.specs.declared.walk.Walk.{Walk}
+use Rattle.agg_engine.specs.declared.walk.error.WalkError.{WalkError}
+use Rattle.agg_engine.specs.ResultsText.{results_text}
+use Rattle.agg_engine.specs.WalkError.{error_name}
+
+-- the line of a page, pages counted from 1
+abbrev pub page_line : ℕ → AggregationResults → List ℕ
+page_line number results =
+    codes "{\"page\":" ++ decimal number
+    ++ codes ",\"results\":" ++ results_text results
+    ++ codes "}\n"
+
+-- a line for each page from a number on
+abbrev pub page_lines : ℕ → List AggregationResults → List ℕ
+page_lines number [] = []
+page_lines number (page ∷ pages) = page_line number page ++ page_lines (number + 1) pages
+
+-- whether the walk has ended
+abbrev pub ended_line : Bool → List ℕ
+ended_line ended = if ended then codes "{\"ended\":true}\n" else codes "{\"ended\":false}\n"
+
+-- a walk: its pages, and then whether it has ended
+abbrev pub walk_text : Walk → List ℕ
+walk_text walk = page_lines 1 walk.pages ++ ended_line walk.ended
+
+-- a refusal, by the name of its error
+abbrev pub refusal_text : WalkError → List ℕ
+refusal_text error = codes "error: " ++ error_name error ++ 10 ∷ []

@@ -1,0 +1,15 @@
+//! The outside of walks: where bytes come from and go to, the input that bytes stand for, the text
+//! of an answer, and the run that joins them.
+#![tactic(auto)]
+
+mod fault;
+pub mod input;
+pub mod output;
+mod program;
+pub mod sink;
+pub mod source;
+mod status;
+
+pub use fault::Failed;
+pub use program::{run, run_uncounted};
+pub use status::Status;

@@ -1,0 +1,179 @@
+//! The program as a function of its arguments, its source and its sink.
+#[cfg(test)]
+mod tests;
+
+ghost use Rattle.std.specs.Prelude.{◌≡◌, ◌<◌, ◌+◌, ◌⊎◌, ◌↔◌, ℕ, Err, take, true, false, IfOk};
+ghost use Rattle.std.specs.Prelude.{IfErr, IsTrue, string_bytes};
+ghost use Rattle.std.specs.Io.KnownBytes.{Appends};
+ghost use Rattle.agg_engine.specs.Form.{IsTakenForm};
+ghost use Rattle.agg_pages.specs.declared.input.Input.{Input as Read};
+ghost use Rattle.agg_pages.specs.Answer.{IsReply, snapshots_in, walk_arguments};
+ghost use Rattle.agg_pages.specs.Causes.{Rose};
+ghost use Rattle.agg_pages.specs.Input.{max_input_bytes};
+ghost use Rattle.agg_pages.specs.Observed.{over};
+ghost use Rattle.agg_pages.specs.Reading.{TakesAtMost};
+ghost use Rattle.agg_pages.specs.Run.{GaveInput, HadNoInput, IsAnswered, command};
+
+use crate::input::{Input, read_input};
+use crate::output::{refusal_text, walk_text};
+use crate::sink::{Sink, write_all};
+use crate::source::{Source, read_all};
+use crate::status::Status;
+use agg_cache::LimitsLedger;
+use agg_engine::{WalkError, walk_pages};
+use agg_request::NamedBuilder;
+use agg_segment::QueryTree;
+use agg_values::{OutOfMemory, Steps, Text};
+use std::alloc::Global;
+use std::marker::Brand;
+use std::sync::ledger::{Blank, Ledger};
+
+/// Does all that the program does. `words` are its arguments without its name; the builders are
+/// given up unasked, since no request asks for one yet.
+pub fn run<R: Source, W: Sink, L: Ledger>(
+    alloc: Global,
+    words: &[Text],
+    builders: Vec<NamedBuilder>,
+    source: &mut R,
+    sink: &mut W,
+    steps: &mut Steps<L>,
+) -> Status
+    ensures { IsAnswered (command words.now result)
+        (over R.left R.faults source.old source.new) (over W.held W.faults sink.old sink.new) }
+{
+    drop(builders);
+    if !is_walk(words) {
+        return Status::Usage;
+    }
+    match answer(alloc, source, steps) {
+        Ok(reply) => deliver(sink, &reply),
+        Err(status) => status,
+    }
+}
+
+/// The same, where nobody counts the steps.
+pub fn run_uncounted<R: Source, W: Sink>(
+    alloc: Global,
+    words: &[Text],
+    builders: Vec<NamedBuilder>,
+    source: &mut R,
+    sink: &mut W,
+) -> Status
+    ensures { IsAnswered (command words.now result)
+        (over R.left R.faults source.old source.new) (over W.held W.faults sink.old sink.new) }
+{
+    run_over::<R, W, Brand>(alloc, words, builders, source, sink, Blank::new(1))
+}
+
+// The same, where a blank makes the counter.
+fn run_over<R: Source, W: Sink, L: Ledger>(
+    alloc: Global,
+    words: &[Text],
+    builders: Vec<NamedBuilder>,
+    source: &mut R,
+    sink: &mut W,
+    blank: Blank,
+) -> Status
+    requires name { blank.name ≡ L.name }
+    requires parts { blank.parts ≡ L.parts }
+    requires shared { 0 < L.parts }
+    ensures { IsAnswered (command words.now result)
+        (over R.left R.faults source.old source.new) (over W.held W.faults sink.old sink.new) }
+{
+    let mut steps: Steps<L> = Steps::new(blank);
+    run(alloc, words, builders, source, sink, &mut steps)
+}
+
+// The whole text of an answer, and whether it is a refusal.
+#[derive(Drop)]
+struct Reply {
+    text: String,
+    refused: bool,
+}
+
+fn is_walk(words: &[Text]) -> bool
+    ensures { IsTrue result ↔ (words.now ≡ walk_arguments) }
+{
+    match words {
+        [word] => word.as_str() == "walk",
+        _ => false,
+    }
+}
+
+// The answer to the bytes that a source has left, or the status where there is none.
+fn answer<R: Source, L: Ledger>(
+    alloc: Global,
+    source: &mut R,
+    steps: &mut Steps<L>,
+) -> Result<Reply, Status>
+    ensures ok { IfOk result
+        (λ reply. (i : Read) × GaveInput (over R.left R.faults source.old source.new) i
+        × IsReply reply.refused i (string_bytes reply.text)) }
+    ensures kinds { IfErr result (λ status. (status ≡ Status.Input)
+        ⊎ ((status ≡ Status.ReadFault) ⊎ (status ≡ Status.OutOfMemory))) }
+    ensures no_input { result ≡ Err Status.Input
+        → HadNoInput (over R.left R.faults source.old source.new) }
+    ensures read_fault { result ≡ Err Status.ReadFault
+        → Rose (R.faults source.old) (R.faults source.new) }
+    ensures taken { TakesAtMost (max_input_bytes + 1) (R.left source.old) (R.left source.new) }
+{
+    let bytes = read_all(alloc, source)?;
+    let input = read_input(alloc, &bytes)?;
+    Ok(reply_to(alloc, &input, steps)?)
+}
+
+// The answer to an input: the printed walk, or the line of a refusal.
+fn reply_to<L: Ledger>(
+    alloc: Global,
+    input: &Input,
+    steps: &mut Steps<L>,
+) -> Result<Reply, OutOfMemory>
+    requires { IsTakenForm input.now.header.request (snapshots_in input.now) }
+    ensures { IfOk result (λ reply. IsReply reply.refused input.now (string_bytes reply.text)) }
+{
+    let mut limits = LimitsLedger::new(None, None);
+    let header = &input.header;
+    let walked = walk_pages(
+        alloc,
+        &mut limits,
+        &header.schema,
+        &header.request,
+        &header.name,
+        &QueryTree::All,
+        &input.snapshots,
+        steps,
+    );
+    match walked {
+        Ok(walk) => Ok(Reply {
+            text: walk_text(alloc, &walk)?,
+            refused: false,
+        }),
+        Err(WalkError::OutOfMemory) => Err(OutOfMemory),
+        Err(error) => Ok(Reply {
+            text: refusal_text(alloc, &error)?,
+            refused: true,
+        }),
+    }
+}
+
+// Writes an answer.
+fn deliver<W: Sink>(sink: &mut W, reply: &Reply) -> Status
+    ensures ok { result ≡ Status.Ok
+        → (reply.now.refused ≡ false)
+        × Appends (W.held sink.old) (W.held sink.new) (string_bytes reply.now.text) }
+    ensures refused { result ≡ Status.Refused
+        → (reply.now.refused ≡ true)
+        × Appends (W.held sink.old) (W.held sink.new) (string_bytes reply.now.text) }
+    ensures prefix { result ≡ Status.WriteFault
+        → (count : ℕ)
+        × Appends (W.held sink.old) (W.held sink.new) (take count (string_bytes reply.now.text)) }
+    ensures fault { result ≡ Status.WriteFault → Rose (W.faults sink.old) (W.faults sink.new) }
+    ensures kinds { (result ≡ Status.Ok)
+        ⊎ ((result ≡ Status.Refused) ⊎ (result ≡ Status.WriteFault)) }
+{
+    match write_all(sink, reply.text.as_bytes()) {
+        Err(_) => Status::WriteFault,
+        Ok(()) if reply.refused => Status::Refused,
+        Ok(()) => Status::Ok,
+    }
+}
