@@ -1,0 +1,81 @@
+ghost use Rattle.std.specs.Prelude.{◌≡◌, ◌≤◌, ◌==◌, ℕ, length, filter};
+ghost use Rattle.agg_columns.specs.Names.{numbered_names};
+ghost use Rattle.agg_columns.specs.Columns.{all_keys, AreInOrder, ClassesAscend};
+ghost use Rattle.agg_columns.specs.Segment.{document_at, documents_of};
+
+use crate::names::find_number;
+use crate::{Column, MAX_DOCUMENTS};
+use agg_values::Text;
+use std::collections::BTreeMap;
+use std::marker::Model;
+
+/// A segment, seen by contracts as its columns and the numbers of their fields.
+#[derive(Drop)]
+pub struct SegmentReader {
+    count: u32,
+    names: BTreeMap<String, u32>,
+    columns: Vec<Column>,
+}
+
+impl Model for SegmentReader {
+    ghost use Rattle.std.specs.Prelude.{◌≤◌};
+    ghost use Rattle.agg_columns.specs.Columns.{AreInOrder};
+    ghost use Rattle.agg_columns.specs.Segment.{Stored};
+    ghost use Rattle.agg_columns.specs.Names.{numbered_names};
+    ghost use Rattle.agg_columns.specs.declared.builder.TheConstants.{MAX_DOCUMENTS};
+
+    ghost Value = { Stored };
+
+    ghost view = { λ r.
+        record { count = r.count; names = numbered_names r.names; columns = r.columns.items } };
+
+    ghost invariant = { λ r. (r.count ≤ MAX_DOCUMENTS) × AreInOrder r.columns.items };
+}
+
+impl SegmentReader {
+    pub(crate) fn from_parts(
+        count: u32,
+        names: BTreeMap<String, u32>,
+        columns: Vec<Column>,
+    ) -> SegmentReader
+        requires few { count ≤ MAX_DOCUMENTS }
+        requires order { AreInOrder columns.items }
+        ensures { result
+            ≡ record { count = count; names = numbered_names names; columns = columns.items } }
+    {
+        SegmentReader {
+            count,
+            names,
+            columns,
+        }
+    }
+
+    /// The number of documents.
+    pub fn num_docs(&self) -> u32
+        ensures count { result ≡ length (documents_of self.now) }
+        ensures bound { result ≤ MAX_DOCUMENTS }
+    {
+        self.count
+    }
+
+    /// The columns of a field, ascending by class.
+    pub fn columns(&self, field: &Text) -> &[Column]
+        ensures keys { (doc : ℕ) → all_keys result.now doc ≡ document_at self.now doc field.now }
+        ensures classes { ClassesAscend result.now }
+    {
+        match find_number(&self.names, field.as_str()) {
+            Some(number) => columns_of(&self.columns, number),
+            None => &[],
+        }
+    }
+}
+
+// The columns of the field of a number.
+fn columns_of(columns: &[Column], field: u32) -> &[Column]
+    requires { AreInOrder columns.now }
+    ensures { result.now ≡ filter (λ c. c.field == field) columns.now }
+{
+    let from = columns.partition_point(|c| c.field() < field);
+    let to = columns.partition_point(|c| c.field() <= field);
+    &columns[from..to]
+}
