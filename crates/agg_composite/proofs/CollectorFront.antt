@@ -5,7 +5,8 @@ use Rattle.std.proofs.lemmas.List.{take_all, append-nil}
 use Rattle.agg_request.specs.Groups.{Group}
 
 -- as many as the size
-pub front-full : (size : ℕ) (held groups rest : List Group) → groups ++ rest ≡ held → length groups ≡ size
+pub front-full : (size : ℕ) (held groups rest : List Group) → groups ++ rest ≡ held
+    → length groups ≡ size
     → groups ≡ take size held
 front-full size held groups rest h l =
     sym (take-append_seam groups rest) ∙ ap (take (length groups)) h ∙ ap (λ n. take n held) l

@@ -1,10 +1,12 @@
 -- Visits in a row: what a list gives is what its elements give, in order.
-use Rattle.std.proofs.Common.{◌≡◌, ℕ, ◌+◌, ◌<◌, ◌≤◌, List, [], ◌∷◌, ◌++◌, Bool, Result, Ok, Err, IsErrAnd, length, get_or, take, drop, count_by, cond, sym, ap, ◌∙◌, length-append, append_assoc, subst, arith}
+use Rattle.std.proofs.Common.{◌≡◌, ℕ, ◌+◌, ◌<◌, ◌≤◌, List, [], ◌∷◌, ◌++◌, Bool, Result, Ok, Err}
+use Rattle.std.proofs.Common.{IsErrAnd, length, get_or, take, drop, count_by, cond, sym, ap, ◌∙◌}
+use Rattle.std.proofs.Common.{length-append, append_assoc, subst, arith}
 use Rattle.std.proofs.lemmas.List.{take_all, take_more, take-append-drop}
 use Rattle.std.proofs.lemmas.List.Sums.{sum_by-append}
 use Rattle.std.proofs.lemmas.Result.{err_from_is_err_and}
 use Rattle.agg_cache.specs.declared.error.CollectError.{CollectError}
-use Rattle.agg_cache.specs.declared.error.CollectError.TheVariants.{TooMany}
+use Rattle.agg_cache.specs.declared.error.CollectError.TheVariants.{OutOfMemory, TooMany}
 use Rattle.agg_request.specs.Groups.{Groups, Group}
 use Rattle.agg_composite.specs.Visits.{AnswersVisits, HasVisited, VisitsTooOften}
 use Rattle.agg_request.specs.Occurrences.{same_tuple}
@@ -15,28 +17,36 @@ use Rattle.agg_values.specs.Tuple.{KeyTuple}
 abbrev pub Appends : {X Y : Type 0} → (List X → List Y) → Type 0
 Appends {X} f = (xs ys : List X) → f (xs ++ ys) ≡ f xs ++ f ys
 
-gives-more : {X Y : Type 0} (f : List X → List Y) → Appends f → (xs : List X) (i : ℕ) (d : X) → i < length xs → f (take (i + 1) xs) ≡ f (take i xs) ++ f (get_or xs i d ∷ [])
+gives-more : {X Y : Type 0} (f : List X → List Y) → Appends f → (xs : List X) (i : ℕ) (d : X)
+    → i < length xs → f (take (i + 1) xs) ≡ f (take i xs) ++ f (get_or xs i d ∷ [])
 gives-more f h xs i d l = ap f (take_more xs i d l) ∙ h (take i xs) (get_or xs i d ∷ [])
 
 -- how much a front gives, one element on
-length-more : {X Y : Type 0} (f : List X → List Y) → Appends f → (xs : List X) (i : ℕ) (d : X) → i < length xs
+length-more : {X Y : Type 0} (f : List X → List Y) → Appends f → (xs : List X) (i : ℕ) (d : X)
+    → i < length xs
     → length (f (take (i + 1) xs)) ≡ length (f (take i xs)) + length (f (get_or xs i d ∷ []))
-length-more f h xs i d l = ap length (gives-more f h xs i d l) ∙ length-append (f (take i xs)) (f (get_or xs i d ∷ []))
+length-more f h xs i d l = ap length (gives-more f h xs i d l) ∙ length-append (f (take i xs))
+    (f (get_or xs i d ∷ []))
 
 -- the parts before, so far and of the next element are the first ones of all
-gives-front : {X Y : Type 0} (f : List X → List Y) → Appends f → (before : List Y) (xs : List X) (i : ℕ) (d : X) → i < length xs
+gives-front : {X Y : Type 0} (f : List X → List Y) → Appends f
+    → (before : List Y) (xs : List X) (i : ℕ) (d : X) → i < length xs
     → before ++ f xs ≡ ((before ++ f (take i xs)) ++ f (get_or xs i d ∷ [])) ++ f (drop (i + 1) xs)
 gives-front f h before xs i d l =
     ap (λ ys. before ++ f ys) (sym (take-append-drop (i + 1) xs))
-    ∙ ap (λ ys. before ++ ys) (h (take (i + 1) xs) (drop (i + 1) xs) ∙ ap (λ ys. ys ++ f (drop (i + 1) xs)) (gives-more f h xs i d l))
+    ∙ ap (λ ys. before ++ ys) (h (take (i + 1) xs) (drop (i + 1) xs)
+    ∙ ap (λ ys. ys ++ f (drop (i + 1) xs)) (gives-more f h xs i d l))
     ∙ sym (append_assoc before (f (take i xs) ++ f (get_or xs i d ∷ [])) (f (drop (i + 1) xs)))
-    ∙ ap (λ ys. ys ++ f (drop (i + 1) xs)) (sym (append_assoc before (f (take i xs)) (f (get_or xs i d ∷ []))))
+    ∙ ap (λ ys. ys ++ f (drop (i + 1) xs)) (sym (append_assoc before (f (take i xs))
+    (f (get_or xs i d ∷ []))))
 
 -- no more pass so far and in the next element's part than in all
-pub passes-front : {X Y : Type 0} (f : List X → List Y) → Appends f → (p : Y → Bool) (before : List Y) (xs : List X) (i : ℕ) (d : X) → i < length xs
+pub passes-front : {X Y : Type 0} (f : List X → List Y) → Appends f
+    → (p : Y → Bool) (before : List Y) (xs : List X) (i : ℕ) (d : X) → i < length xs
     → count_by p ((before ++ f (take i xs)) ++ f (get_or xs i d ∷ [])) ≤ count_by p (before ++ f xs)
 passes-front f h p before xs i d l =
-    let e = ap (count_by p) (gives-front f h before xs i d l) ∙ sum_by-append (λ y. cond (p y) 1 0) ((before ++ f (take i xs)) ++ f (get_or xs i d ∷ [])) (f (drop (i + 1) xs)) in
+    let e = ap (count_by p) (gives-front f h before xs i d l) ∙ sum_by-append (λ y. cond (p y) 1 0)
+    ((before ++ f (take i xs)) ++ f (get_or xs i d ∷ [])) (f (drop (i + 1) xs)) in
     omega (arith, e)
 
 -- a front and the next element's part give no more than all
@@ -55,10 +65,12 @@ length-front f h xs i d l =
 pub answers-error : (rules : SourceRules) (tuples : List KeyTuple) (held after : List Group)
     → (steps steps_after : ℕ) (error : CollectError) (returned : Result (Unit {0}) CollectError)
     → IsErrAnd returned (λ e. e ≡ error)
-    → (◌≡◌ {A = Result (Unit {0}) CollectError} (Err error) (Err TooMany) → VisitsTooOften rules tuples held)
+    → (◌≡◌ {A = Result (Unit {0}) CollectError} (Err error) (Err TooMany)
+    → VisitsTooOften rules tuples held)
     → steps ≤ steps_after → steps_after ≤ steps + length tuples
     → AnswersVisits rules tuples held after steps steps_after returned
-answers-error rules tuples held after steps steps_after error returned is_err too_many later bounded =
+answers-error rules tuples held after steps steps_after error returned is_err too_many later bounded
+    =
     let given = err_from_is_err_and returned is_err in
     subst (AnswersVisits rules tuples held after steps steps_after) (sym given.1) (record {
       ok = tt;
@@ -68,7 +80,8 @@ answers-error rules tuples held after steps steps_after error returned is_err to
       bounded = bounded;
     })
 
--- what has come of the elements before i: the tuples that they give are visited, with a step at each
+-- what has come of the elements before i: the tuples that they give are visited, with a step at
+-- each
 pub record VisitsSoFar {X : Type 0} (f : List X → List KeyTuple) (rules : SourceRules)
     (xs : List X) (i : ℕ) (held now : List Group) (steps steps_now : ℕ) : Type 0 where
   pub groups : HasVisited rules (f (take i xs)) held now
@@ -91,9 +104,20 @@ module _ {X : Type 0} (f : List X → List KeyTuple) (h : Appends f) (rules : So
         bounded = omega (arith, ticks);
       }
 
+  -- want of memory at an element
+  pub memory-visited : (d : X) (returned : Result (Unit {0}) CollectError) → i < length xs
+      → IsErrAnd returned (λ e. e ≡ OutOfMemory)
+      → AnswersVisits rules (f xs) held now steps steps_now returned
+  memory-visited d returned l is_err =
+      let before = so_far.ticks in
+      let front = length-front f h xs i d l in
+      answers-error rules (f xs) held now steps steps_now OutOfMemory returned is_err
+      (λ too_many. absurd (cc too_many)) (omega (arith, before)) (omega (arith, before, front))
+
   module _ (d : X) (l : i < length xs) (after : List Group) (steps_after : ℕ) where
     -- one element more
-    pub one-visited : AnswersVisits rules (f (get_or xs i d ∷ [])) now after steps_now steps_after (Ok tt)
+    pub one-visited : AnswersVisits rules (f (get_or xs i d ∷ [])) now after steps_now steps_after
+        (Ok tt)
         → VisitsSoFar f rules xs (i + 1) held after steps steps_after
     one-visited own =
         let before = so_far.ticks in

@@ -4,3 +4,4 @@ pub mod CollectorFront
 pub mod CollectorParts
 pub mod CollectorPast
 pub mod Errors
+pub mod SignedNumbers

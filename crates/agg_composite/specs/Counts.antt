@@ -6,9 +6,8 @@ use Rattle.std.specs.List.Sorted.{IsStrictlySortedBy}
 use Rattle.std.specs.Map.{keys_of, lookup}
 use Rattle.std.specs.Ordering.{int_cmp}
 use Rattle.agg_values.specs.Tuple.{KeyTuple}
-use Rattle.agg_values.specs.declared.composite_intermediate_key.CompositeIntermediateKey.TheVariants.{I64}
-use Rattle.agg_segment.specs.Document.{key_of}
-use Rattle.agg_segment.specs.declared.document.FieldValue.{FieldValue}
+use Rattle.agg_values.specs.TypedKey.{CompositeIntermediateKey, canonical_key}
+use Rattle.agg_values.specs.declared.typed_key.CompositeIntermediateKey.TheVariants as key
 use Rattle.agg_request.specs.Groups.{Group}
 use Rattle.agg_request.specs.Occurrences.{is_past}
 use Rattle.agg_request.specs.Source.{ascending_rules}
@@ -26,12 +25,12 @@ pub record Counts (entries : List (ℤ × ℕ)) (numbers : List ℤ) : Type 0 wh
 
 -- numbers with their counts, as groups of tuples of one key
 abbrev pub numbers_held : List (ℤ × ℕ) → List Group
-numbers_held counts = map (λ e. (I64 e.0 ∷ [], e.1)) counts
+numbers_held counts = map (λ e. (key.I64 e.0 ∷ [], e.1)) counts
 
--- the tuples of one key each, one for each value
-abbrev pub tuples_in : List FieldValue → List KeyTuple
-tuples_in values = map (λ v. key_of v ∷ []) values
+-- the tuples of one key each, one for each value, numbers by value
+abbrev pub tuples_in : List CompositeIntermediateKey → List KeyTuple
+tuples_in values = map (λ v. canonical_key v ∷ []) values
 
 -- the tuples of the values that lie past a bound
-abbrev pub past_tuples : KeyTuple → List FieldValue → List KeyTuple
+abbrev pub past_tuples : KeyTuple → List CompositeIntermediateKey → List KeyTuple
 past_tuples bound values = filter (is_past ascending_rules bound) (tuples_in values)

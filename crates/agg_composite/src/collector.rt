@@ -1,10 +1,7 @@
 //! The collector that groups the documents of a segment.
-#[cfg(test)]
-mod tests;
-
-ghost use Rattle.std.specs.Prelude.{◌≡◌, ◌<◌, ◌≤◌, [], length, take, map, IfOk, All};
+ghost use Rattle.std.specs.Prelude.{◌≡◌, ◌≤◌, [], take, map, IfOk, IsTrue, All};
 ghost use Rattle.agg_request.specs.Occurrences.{past_occurrences};
-ghost use Rattle.agg_request.specs.Source.{IsOneAscendingSource, rules_of};
+ghost use Rattle.agg_request.specs.Source.{IsOneAscendingSource, hold_signed_numbers, rules_of};
 ghost use Rattle.agg_segment.specs.Segment.{documents_at};
 ghost use Rattle.agg_composite.specs.PageEntries.{entry_group};
 ghost use Rattle.agg_composite.specs.Visits.{AnswersVisits};
@@ -66,7 +63,9 @@ impl SegmentCompositeCollector {
     ) -> Result<(), CollectError>
         requires parent { parent_bucket_id ≡ 0 }
         requires form { IsOneAscendingSource composite.now.sources }
-        requires within { All (λ doc. doc < length segment.now) docs.now }
+        requires numbers { All (λ document. IsTrue
+            (hold_signed_numbers composite.now.sources document))
+            (documents_at segment.now docs.now) }
         ensures { AnswersVisits
             (rules_of composite.now.sources)
             (past_occurrences composite.now.sources bound.now (documents_at segment.now docs.now))
@@ -76,7 +75,15 @@ impl SegmentCompositeCollector {
         let Some(source) = composite.sources.as_slice().first() else {
             return Ok(());
         };
-        visit_documents(&mut self.counts, docs, source, bound, segment, steps)
+        visit_documents(
+            self.alloc,
+            &mut self.counts,
+            docs,
+            source,
+            bound,
+            segment,
+            steps,
+        )
     }
 
     /// The lowest tuples that were visited, as many as the composite's size, each with its count.

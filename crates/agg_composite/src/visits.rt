@@ -1,31 +1,34 @@
 //! Visits of the values of one ascending source.
-ghost use Rattle.std.specs.Prelude.{◌≡◌, ◌+◌, ◌^◌, ◌<◌, ◌≤◌, [], ◌∷◌, ◌++◌, false};
-ghost use Rattle.std.specs.Prelude.{length, count_by, OnOk, IsErrOf, All};
+ghost use Rattle.std.specs.Prelude.{◌≡◌, ◌+◌, ◌^◌, ◌≤◌, [], ◌∷◌, ◌++◌, false};
+ghost use Rattle.std.specs.Prelude.{count_by, map, IfOk, OnOk, IsErrOf, IsTrue, All};
+ghost use Rattle.std.specs.List.{list_all};
 ghost use Rattle.std.specs.BTreeMap.{is_at};
 ghost use Rattle.std.specs.Ordering.{int_cmp};
-ghost use Rattle.agg_values.specs.declared.composite_intermediate_key.CompositeIntermediateKey.TheVariants as key;
+ghost use Rattle.agg_values.specs.declared.typed_key.CompositeIntermediateKey.TheVariants as key;
 ghost use Rattle.agg_values.specs.declared.order.Order.TheVariants.{Asc};
 ghost use Rattle.agg_values.specs.declared.order.MissingOrder.TheVariants.{Default};
-ghost use Rattle.agg_segment.specs.declared.document.FieldValue.TheVariants as field;
+ghost use Rattle.agg_segment.specs.Columns.{all_keys, encoded_key, StandsForKey};
 ghost use Rattle.agg_segment.specs.Segment.{documents_at};
 ghost use Rattle.agg_request.specs.Occurrences.{past_occurrences, is_past};
 ghost use Rattle.agg_request.specs.Source.{ascending_rules, order_of, missing_order_of};
-ghost use Rattle.agg_request.specs.Source.{missing_bucket_of};
+ghost use Rattle.agg_request.specs.Source.{field_of, is_signed_number, missing_bucket_of};
 ghost use Rattle.agg_composite.specs.Counts.{Counts, past_tuples, numbers_held};
 ghost use Rattle.agg_composite.specs.Visits.{AnswersVisits};
 
 use agg_cache::CollectError;
 use agg_request::CompositeAggregationSource;
-use agg_segment::{FieldValue, SegmentReader};
+use agg_segment::{Column, SegmentReader};
 use agg_values::{
-    CompositeIntermediateKey, DocId, Steps, Tuple, composite_intermediate_key_ordering,
+    CompositeIntermediateKey, DocId, OutOfMemory, Steps, Tuple, composite_intermediate_key_ordering,
 };
+use std::alloc::Global;
 use std::cmp::Ordering;
 use std::collections::BTreeMap;
 use std::sync::ledger::Ledger;
 
 /// Visits the values of the documents at these places that lie past the bound.
 pub fn visit_documents<L: Ledger>(
+    alloc: Global,
     counts: &mut BTreeMap<i64, u64>,
     docs: &[DocId],
     source: &CompositeAggregationSource,
@@ -36,46 +39,92 @@ pub fn visit_documents<L: Ledger>(
     requires order { order_of source.now ≡ Asc }
     requires missing { missing_order_of source.now ≡ Default }
     requires bucket { missing_bucket_of source.now ≡ false }
-    requires within { All (λ doc. doc < length segment.now) docs.now }
+    requires numbers { All (λ document. IsTrue
+        (list_all is_signed_number (document (field_of source.now))))
+        (documents_at segment.now docs.now) }
     ensures { AnswersVisits
         ascending_rules
         (past_occurrences (source.now ∷ []) bound.now (documents_at segment.now docs.now))
         (numbers_held counts.old.entries) (numbers_held counts.new.entries)
         steps.old steps.new result }
 {
+    let columns = segment.columns(source.field());
     for doc in docs {
-        let values = segment.values(*doc, source.field());
-        visit_values(counts, values, source, bound, steps)?;
+        visit_document(alloc, counts, *doc, columns, source, bound, steps)?;
     }
     Ok(())
 }
 
-// Visits the values of one document that lie past the bound.
-fn visit_values<L: Ledger>(
+// Visits the values that a document has in columns.
+fn visit_document<L: Ledger>(
+    alloc: Global,
     counts: &mut BTreeMap<i64, u64>,
-    values: &[FieldValue],
+    doc: DocId,
+    columns: &[Column],
     source: &CompositeAggregationSource,
     bound: &Tuple,
     steps: &mut Steps<L>,
 ) -> Result<(), CollectError>
     requires order { order_of source.now ≡ Asc }
     requires missing { missing_order_of source.now ≡ Default }
+    requires numbers { IsTrue (list_all is_signed_number (all_keys columns.now doc)) }
     ensures { AnswersVisits
         ascending_rules
-        (past_tuples bound.now values.now)
+        (past_tuples bound.now (all_keys columns.now doc))
+        (numbers_held counts.old.entries) (numbers_held counts.new.entries)
+        steps.old steps.new result }
+{
+    for column in columns {
+        let values = column.values_for_doc(doc);
+        visit_values(alloc, counts, values, column, source, bound, steps)?;
+    }
+    Ok(())
+}
+
+// Visits the values of a column.
+fn visit_values<L: Ledger>(
+    alloc: Global,
+    counts: &mut BTreeMap<i64, u64>,
+    values: &[u64],
+    column: &Column,
+    source: &CompositeAggregationSource,
+    bound: &Tuple,
+    steps: &mut Steps<L>,
+) -> Result<(), CollectError>
+    requires order { order_of source.now ≡ Asc }
+    requires missing { missing_order_of source.now ≡ Default }
+    requires stand { All (StandsForKey column.now.keys) values.now }
+    requires numbers { IsTrue
+        (list_all is_signed_number (map (encoded_key column.now.keys) values.now)) }
+    ensures { AnswersVisits
+        ascending_rules
+        (past_tuples bound.now (map (encoded_key column.now.keys) values.now))
         (numbers_held counts.old.entries) (numbers_held counts.new.entries)
         steps.old steps.new result }
 {
     for value in values {
-        visit_value(counts, value, source, bound, steps)?;
+        let number = number_at(alloc, *value, column)?;
+        visit_number(counts, number, source, bound, steps)?;
     }
     Ok(())
 }
 
-// Visits a value if it lies past the bound.
-fn visit_value<L: Ledger>(
+// The number of a column's value, which is a signed one.
+fn number_at(alloc: Global, value: u64, column: &Column) -> Result<i64, OutOfMemory>
+    requires stand { StandsForKey column.now.keys value }
+    requires number { IsTrue (is_signed_number (encoded_key column.now.keys value)) }
+    ensures { IfOk result (λ number. encoded_key column.now.keys value ≡ key.I64 number) }
+{
+    match column.decode(alloc, value)? {
+        CompositeIntermediateKey::I64(number) => Ok(number),
+        _ => Ok(0),
+    }
+}
+
+// Visits a number if its tuple lies past the bound.
+fn visit_number<L: Ledger>(
     counts: &mut BTreeMap<i64, u64>,
-    value: &FieldValue,
+    number: i64,
     source: &CompositeAggregationSource,
     bound: &Tuple,
     steps: &mut Steps<L>,
@@ -84,25 +133,15 @@ fn visit_value<L: Ledger>(
     requires missing { missing_order_of source.now ≡ Default }
     ensures { AnswersVisits
         ascending_rules
-        (past_tuples bound.now (value.now ∷ []))
+        (past_tuples bound.now (key.I64 number ∷ []))
         (numbers_held counts.old.entries) (numbers_held counts.new.entries)
         steps.old steps.new result }
 {
-    let number = number_of(value);
     if lies_past(number, source, bound) {
         visit(counts, number)?;
         steps.tick();
     }
     Ok(())
-}
-
-// The number of a value.
-fn number_of(value: &FieldValue) -> i64
-    ensures { value.now ≡ field.I64 result }
-{
-    match value {
-        FieldValue::I64(number) => *number,
-    }
 }
 
 // Whether the tuple of a number lies past the bound.

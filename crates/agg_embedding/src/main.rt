@@ -1,10 +1,9 @@
 //! How a program of one's own takes pages: the input stands in memory, and so does what is written.
 #![tactic(auto)]
 
-ghost use Rattle.std.specs.Prelude.{◌≡◌, Some, IfOk};
+ghost use Rattle.std.specs.Prelude.{IfOk};
 ghost use Rattle.agg_pages.specs.Answer.{IsPrintedWalk};
-ghost use Rattle.agg_pages.specs.Input.{input};
-ghost use Rattle.agg_pages.specs.declared.input.Input.{Input};
+ghost use Rattle.agg_pages.specs.Input.{Input, IsInput};
 
 use agg_pages::sink::{MemorySink, Sink, StdSink, write_all};
 use agg_pages::source::SteadySource;
@@ -39,7 +38,7 @@ fn show_sales<W: Sink>(alloc: Global, out: &mut W) -> Result<(), Status> {
 // The printed pages of an input, or the status where it has none.
 fn pages_of(alloc: Global, bytes: Vec<u8>) -> Result<MemorySink, Status>
     ensures { IfOk result
-        (λ sink. (i : Input) × (input bytes.items ≡ Some i) × IsPrintedWalk i sink.bytes) }
+        (λ sink. (i : Input) × IsInput bytes.items i × IsPrintedWalk i sink.bytes) }
 {
     let words = [Text::copy_of(alloc, "walk")?];
     let mut source = SteadySource::new(bytes);

@@ -1,6 +1,5 @@
 pub mod BySource
 pub mod Joined
-pub mod MatchingDocs
 pub mod OneRequest
 pub mod OneWalk
 pub mod PageBound

@@ -1,5 +1,6 @@
 -- A request of one composite, and how a walk changes it.
-use Rattle.std.proofs.Common.{◌≡◌, ◌⊎◌, ℕ, List, [], ◌∷◌, Bool, true, false, cond, Option, None, Some, length, refl, sym, ap, ◌∙◌, inl, inr, arith, nat_cmp}
+use Rattle.std.proofs.Common.{◌≡◌, ◌⊎◌, ℕ, List, [], ◌∷◌, Bool, true, false, cond, Option, None}
+use Rattle.std.proofs.Common.{Some, length, refl, sym, ap, ◌∙◌, inl, inr, arith, nat_cmp}
 use Rattle.std.specs.Prelude.{option_map}
 use Rattle.std.specs.Ordering.{is_eq}
 use Rattle.std.specs.BTreeMap.{is_at}
@@ -19,7 +20,8 @@ use Rattle.agg_request.specs.Source.{IsOneAscendingSource}
 use Rattle.agg_request.proofs.PageFromGroups.{equal-from_is_eq}
 use Rattle.agg_request.proofs.PageAfter.{bound_of-after_map}
 use Rattle.agg_engine.specs.NamedComposite.{IsCompositeNamed, NamesComposite}
-use Rattle.agg_engine.specs.Walk.{changed, request_with, request_behind, request_at_size, with_after, with_size}
+use Rattle.agg_engine.specs.Walk.{changed, request_with, request_behind, request_at_size}
+use Rattle.agg_engine.specs.Walk.{with_after, with_size}
 
 -- a request of one aggregation, which is a composite
 abbrev pub one : List ℕ → Aggregation → CompositeAggregation → Request
@@ -29,13 +31,22 @@ is_itself : (name : List ℕ) → is_at (name_cmp name) name ≡ true
 is_itself name = ap is_eq (tied_itself nat_list_cmp_total name)
 
 -- the value of the only name
-pub value-own : {T : Type 0} (name : List ℕ) (value : T) → value_of name ((name, value) ∷ []) ≡ Some value
+pub value-own : {T : Type 0} (name : List ℕ) (value : T) → value_of name ((name, value) ∷ [])
+    ≡ Some value
 value-own name value = ap (λ b. cond b (Some value) None) (is_itself name)
 
-changed-one : (change : AggregationVariants → AggregationVariants) (name : List ℕ) (a : Aggregation) (c : CompositeAggregation)
-    → request_with change name (one name a c) ≡ (name, changed change (record a { agg = Composite c })) ∷ []
+changed-one : (change : AggregationVariants → AggregationVariants) (name : List ℕ) (a : Aggregation)
+    (c : CompositeAggregation)
+    → request_with change name (one name a c)
+    ≡ (name, changed change (record a { agg = Composite c })) ∷ []
 changed-one change name a c =
-    ap (λ b. cond b (name, record a { agg = change (Composite c) }) (name, record a { agg = Composite c }) ∷ []) (is_itself name)
+    ap (λ b. cond b (name, record a { agg = change (Composite c) }) (
+      name,
+      record a {
+        agg =
+            Composite c;
+      },
+    ) ∷ []) (is_itself name)
 
 -- a composite with another size, and with a tuple as its after key
 abbrev pub at_size : ℕ → CompositeAggregation → CompositeAggregation
@@ -53,32 +64,39 @@ module _ (name : List ℕ) (a : Aggregation) (c : CompositeAggregation) (bound :
   one_behind-is = changed-one (with_after bound) name a c
 
   -- a request that goes on twice goes on behind the later tuple
-  pub one_behind-later : (tuple : KeyTuple) → request_behind name tuple (one_behind name a c bound) ≡ one_behind name a c tuple
+  pub one_behind-later : (tuple : KeyTuple) → request_behind name tuple (one_behind name a c bound)
+      ≡ one_behind name a c tuple
   one_behind-later tuple =
       ap (request_behind name tuple) one_behind-is
       ∙ changed-one (with_after tuple) name a (behind bound c)
       ∙ sym (changed-one (with_after tuple) name a c)
 
-  pub one_behind-sized : (size : ℕ) → request_at_size name size (one_behind name a c bound) ≡ one name a (at_size size (behind bound c))
-  one_behind-sized size = ap (request_at_size name size) one_behind-is ∙ changed-one (with_size size) name a (behind bound c)
+  pub one_behind-sized : (size : ℕ) → request_at_size name size (one_behind name a c bound)
+      ≡ one name a (at_size size (behind bound c))
+  one_behind-sized size = ap (request_at_size name size) one_behind-is
+      ∙ changed-one (with_size size) name a (behind bound c)
 
 -- at the start the request stands as it is
-pub one_behind-start : (name : List ℕ) (a : Aggregation) (c : CompositeAggregation) → IsOneAscendingSource c.sources → c.after ≡ []
+pub one_behind-start : (name : List ℕ) (a : Aggregation) (c : CompositeAggregation)
+    → IsOneAscendingSource c.sources → c.after ≡ []
     → one_behind name a c [] ≡ one name a c
 one_behind-start name a c form at_start =
-    one_behind-is name a c [] ∙ ap (λ after. one name a (record c { after = after })) (rw form.1 (sym at_start))
+    one_behind-is name a c [] ∙ ap (λ after. one name a (record c { after = after }))
+    (rw form.1 (sym at_start))
 
 -- a bound has no key, or one for each source
 abbrev pub IsWhole : CompositeAggregation → KeyTuple → Type 0
 IsWhole c bound = (bound ≡ []) ⊎ (length bound ≡ length c.sources)
 
 -- the bound of a composite over one source behind a tuple is the tuple
-pub bound-behind : (c : CompositeAggregation) (bound : KeyTuple) → IsOneAscendingSource c.sources → IsWhole c bound
+pub bound-behind : (c : CompositeAggregation) (bound : KeyTuple) → IsOneAscendingSource c.sources
+    → IsWhole c bound
     → bound_of c.sources (after_map c.sources bound) ≡ bound
 bound-behind c bound form whole =
     elim whole [
       | inl none ↦ rw (none, form.1) refl
-      | inr full ↦ bound_of-after_map c.sources bound (rw form.1 (λ i j d before within. absurd (omega arith))) full
+      | inr full ↦ bound_of-after_map c.sources bound (rw form.1 (λ i j d before within.
+          absurd (omega arith))) full
     ]
 
 -- ---- the composite of a name
@@ -99,11 +117,13 @@ unfolding agg_in
 same_agg agg other e = ap (agg_in agg) e
 
 -- the composite of a name is that of the only aggregation, under its name
-pub named-one : (name given : List ℕ) (a : Aggregation) (c named : CompositeAggregation) → a.agg ≡ Composite c
+pub named-one : (name given : List ℕ) (a : Aggregation) (c named : CompositeAggregation)
+    → a.agg ≡ Composite c
     → IsCompositeNamed name ((given, a) ∷ []) named → (name ≡ given) × (named ≡ c)
 named-one name given a c named is found = by_test (is_at (name_cmp name) given) refl found
   where
-    by_test : (b : Bool) → is_at (name_cmp name) given ≡ b → option_map (λ (x : Aggregation). x.agg) (cond b (Some a) None) ≡ Some (Composite named)
+    by_test : (b : Bool) → is_at (name_cmp name) given ≡ b
+        → option_map (λ (x : Aggregation). x.agg) (cond b (Some a) None) ≡ Some (Composite named)
         → (name ≡ given) × (named ≡ c)
     by_test true e h = (
       exact_bytes name given (equal-from_is_eq (slice_cmp nat_cmp name given) e),
@@ -112,9 +132,12 @@ named-one name given a c named is found = by_test (is_at (name_cmp name) given) 
     by_test false e h = cc
 
 names-from_agg : (name : List ℕ) (request : Request) (agg : AggregationVariants)
-    → option_map (λ (x : Aggregation). x.agg) (value_of name request) ≡ Some agg → NamesComposite name request
+    → option_map (λ (x : Aggregation). x.agg) (value_of name request) ≡ Some agg
+    → NamesComposite name request
 names-from_agg name request (Composite c) e = (c, e)
 
 -- a name with an aggregation is that of a composite so far
-pub names-from_value : (name : List ℕ) (request : Request) (a : Aggregation) → value_of name request ≡ Some a → NamesComposite name request
-names-from_value name request a e = names-from_agg name request a.agg (ap (option_map (λ (x : Aggregation). x.agg)) e)
+pub names-from_value : (name : List ℕ) (request : Request) (a : Aggregation)
+    → value_of name request ≡ Some a → NamesComposite name request
+names-from_value name request a e = names-from_agg name request a.agg
+    (ap (option_map (λ (x : Aggregation). x.agg)) e)

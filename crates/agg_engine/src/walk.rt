@@ -6,8 +6,6 @@ mod error;
 mod matching;
 mod page;
 mod shown;
-#[cfg(test)]
-mod tests;
 
 ghost use Rattle.std.specs.Prelude.{◌≡◌, ◌≤◌, IfErr, IfOk, OnOk, IsErrOf, true, false};
 ghost use Rattle.agg_values.specs.declared.error.InvalidArgument.TheVariants.{ZeroSize};

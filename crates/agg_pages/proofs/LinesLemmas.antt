@@ -1,5 +1,8 @@
 -- Lines, cut off a text one by one.
-use Rattle.std.proofs.Common.{◌≡◌, ◌≢◌, ℕ, ◌+◌, ◌-◌, ◌^◌, ◌<◌, List, [], ◌∷◌, ◌++◌, length, get_or, take, Bor, Option, Some, None, Result, Ok, Err, MatchOption, unwrap_or, eqb, eq-eqb, refl, sym, ap, ◌∙◌, arith, rules, true, false}
+use Rattle.std.proofs.Common.{◌≡◌, ◌≢◌, ℕ, ◌+◌, ◌-◌, ◌^◌, ◌<◌, List, [], ◌∷◌, ◌++◌, length}
+use Rattle.std.proofs.Common.{get_or, take, Bor, Option, Some, None, Result, Ok, Err, MatchOption}
+use Rattle.std.proofs.Common.{unwrap_or, eqb, eq-eqb, refl, sym, ap, ◌∙◌, arith, rules, true}
+use Rattle.std.proofs.Common.{false}
 use Rattle.std.specs.Result.{OkIff, result_ok}
 use Rattle.std.specs.Str.{all_ascii_digits}
 use Rattle.std.specs.Str.Parse.{digits_value}
@@ -10,7 +13,7 @@ use Rattle.std.proofs.lemmas.List.Elements.{All-from_get_or}
 use Rattle.std.proofs.lemmas.List.Splits.{slice_split_at, slice_split_none}
 use Rattle.std.specs.List.{All}
 use Rattle.std.proofs.Math.Seq.{get_or-append_seam, take-append_seam}
-use Rattle.agg_pages.specs.Input.{page_size_of}
+use Rattle.agg_pages.specs.SnapshotLines.{page_size_of}
 use Rattle.agg_pages.specs.Lines.{all_lines_of}
 
 -- ---- the carriage return

@@ -1,23 +1,13 @@
 -- Bytes that were not read as an input.
-use Rattle.std.proofs.Common.{◌≡◌, ◌<◌, ℕ, List, None, false, cond, length, refl, ap, arith}
-use Rattle.std.specs.Prelude.{◌&&◌, nat_le}
-use Rattle.std.specs.Str.{is_utf8}
-use Rattle.std.proofs.lemmas.Bool.Decides.{nat_tests}
+use Rattle.std.proofs.Common.{◌≡◌, ◌⊎◌, inl, inr, refl}
+use Rattle.agg_pages.specs.declared.input.InputError.{InputError}
+use Rattle.agg_pages.specs.declared.input.InputError.TheVariants as refused
+use Rattle.agg_pages.specs.declared.status.Status.{Status}
 use Rattle.agg_pages.specs.declared.source.reading.ReadAllError.{ReadAllError}
-use Rattle.agg_pages.specs.declared.source.reading.ReadAllError.TheVariants.{ReadFault, TooLong, OutOfMemory}
+use Rattle.agg_pages.specs.declared.source.reading.ReadAllError.TheVariants.{ReadFault, TooLong}
+use Rattle.agg_pages.specs.declared.source.reading.ReadAllError.TheVariants.{OutOfMemory}
 use Rattle.agg_pages.specs.declared.status.Status.TheVariants as status
-use Rattle.agg_pages.specs.Status.{status_of_reading}
-use Rattle.agg_pages.specs.Input.{input, input_of_lines}
-use Rattle.agg_pages.specs.Lines.{lines_of}
-
-not_within : (n : ℕ) → 67108864 < n → nat_le n 67108864 ≡ false
-not_within n h = grind (arith, nat_tests)
-
--- more bytes than an input has are no input
-pub input-too_long : (bytes : List ℕ) → 67108864 < length bytes → input bytes ≡ None
-input-too_long bytes h =
-    ap (λ b. cond (b && is_utf8 bytes) (input_of_lines (lines_of bytes)) None)
-    (not_within (length bytes) h)
+use Rattle.agg_pages.specs.Status.{status_of_input, status_of_reading}
 
 -- the one fault of reading that is a fault of the input
 pub too_long-from_status : (error : ReadAllError) → status_of_reading error ≡ status.Input
@@ -25,3 +15,35 @@ pub too_long-from_status : (error : ReadAllError) → status_of_reading error �
 too_long-from_status ReadFault e = cc
 too_long-from_status TooLong e = refl
 too_long-from_status OutOfMemory e = cc
+
+-- and the one of bytes that were read
+pub not_input-from_status : (error : InputError) → status_of_input error ≡ status.Input
+    → error ≡ refused.NotInput
+not_input-from_status refused.NotInput e = refl
+not_input-from_status refused.OutOfMemory e = cc
+
+-- ---- statuses without an answer
+
+abbrev pub IsUnanswered : Status → Type 0
+IsUnanswered s =
+    (s ≡ status.Input) ⊎ ((s ≡ status.ReadFault) ⊎ (s ≡ status.OutOfMemory))
+
+pub no_ok : (s : Status) → IsUnanswered s → s ≡ status.Ok → ⊥
+no_ok s (inl e) k = cc
+no_ok s (inr (inl e)) k = cc
+no_ok s (inr (inr e)) k = cc
+
+pub no_usage : (s : Status) → IsUnanswered s → s ≡ status.Usage → ⊥
+no_usage s (inl e) k = cc
+no_usage s (inr (inl e)) k = cc
+no_usage s (inr (inr e)) k = cc
+
+pub no_refused : (s : Status) → IsUnanswered s → s ≡ status.Refused → ⊥
+no_refused s (inl e) k = cc
+no_refused s (inr (inl e)) k = cc
+no_refused s (inr (inr e)) k = cc
+
+pub no_write_fault : (s : Status) → IsUnanswered s → s ≡ status.WriteFault → ⊥
+no_write_fault s (inl e) k = cc
+no_write_fault s (inr (inl e)) k = cc
+no_write_fault s (inr (inr e)) k = cc

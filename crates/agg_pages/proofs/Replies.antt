@@ -1,14 +1,22 @@
 -- Replies to inputs, and what bytes and an input say of one another.
-use Rattle.std.proofs.Common.{◌≡◌, ◌⊎◌, ℕ, List, Bool, true, false, Option, Some, sym, ◌∙◌, ap, subst, inl, inr}
+use Rattle.std.proofs.Common.{◌≡◌, ◌⊎◌, ℕ, List, Bool, true, false, Option, Some, sym, ◌∙◌}
+use Rattle.std.proofs.Common.{subst, inl, inr}
 use Rattle.std.proofs.lemmas.Bool.{false≢true}
 use Rattle.agg_values.specs.declared.error.InvalidArgument.{InvalidArgument}
-use Rattle.agg_values.specs.declared.error.InvalidArgument.TheVariants.{NoSource, ZeroSize, TooManySources, DuplicateSource, BadInterval, IntervalChoice, NullAfter, AfterType}
+use Rattle.agg_values.specs.declared.error.InvalidArgument.TheVariants.{NoSource, ZeroSize}
+use Rattle.agg_values.specs.declared.error.InvalidArgument.TheVariants.{TooManySources}
+use Rattle.agg_values.specs.declared.error.InvalidArgument.TheVariants.{DuplicateSource}
+use Rattle.agg_values.specs.declared.error.InvalidArgument.TheVariants.{BadInterval}
+use Rattle.agg_values.specs.declared.error.InvalidArgument.TheVariants.{IntervalChoice, NullAfter}
+use Rattle.agg_values.specs.declared.error.InvalidArgument.TheVariants.{AfterType}
 use Rattle.agg_engine.specs.declared.walk.error.WalkError.{WalkError}
-use Rattle.agg_engine.specs.declared.walk.error.WalkError.TheVariants.{Invalid, UnknownComposite, TooMany, OutOfMemory}
-use Rattle.agg_pages.specs.declared.input.Input.{Input}
-use Rattle.agg_pages.specs.Input.{input}
-use Rattle.agg_pages.specs.Answer.{IsPrintedWalk, IsRefusal, IsReply, IsValid, MayBeInvalid, MayRefuse}
+use Rattle.agg_engine.specs.declared.walk.error.WalkError.TheVariants.{Invalid, UnknownComposite}
+use Rattle.agg_engine.specs.declared.walk.error.WalkError.TheVariants.{TooMany, OutOfMemory}
+use Rattle.agg_pages.specs.Input.{Input, IsInput}
+use Rattle.agg_pages.specs.Answer.{IsPrintedWalk, IsRefusal, IsReply, IsValid, MayBeInvalid}
+use Rattle.agg_pages.specs.Answer.{MayRefuse}
 use Rattle.agg_pages.specs.Reading.{GivesAll}
+use Rattle.agg_pages.proofs.Inputs.{IsInput-unique}
 
 pub reply-either : (refused : Bool) (i : Input) (text : List ℕ) → IsReply refused i text
     → IsPrintedWalk i text ⊎ IsRefusal i text
@@ -32,15 +40,11 @@ may_not_refuse i UnknownComposite valid unknown = unknown valid.named
 may_not_refuse i TooMany valid many = valid.fits many.2
 may_not_refuse i OutOfMemory valid none = none
 
-same_input : (i j : Input) → Some i ≡ Some j → i ≡ j
-same_input i j e = cc
-
 -- what a source gave is the one input that it told
 pub given_input : (left left_now : Option (List ℕ)) (given told : List ℕ) (i j : Input)
-    → GivesAll left left_now given → left ≡ Some told → input given ≡ Some i → input told ≡ Some j
-    → i ≡ j
+    → GivesAll left left_now given → left ≡ Some told → IsInput given i → IsInput told j → i ≡ j
 given_input left left_now given told i j gives is reads_i reads_j =
-    same_input i j (sym reads_i ∙ ap input (gives told is).0 ∙ reads_j)
+    IsInput-unique told i j (subst (λ bytes. IsInput bytes i) (gives told is).0 reads_i) reads_j
 
 -- nothing refuses a valid input
 pub valid-not_refused : (i j : Input) (text : List ℕ) → i ≡ j → IsValid j → ¬ (IsRefusal i text)

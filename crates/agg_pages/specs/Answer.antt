@@ -1,36 +1,29 @@
 -- What answers an input, and which bytes are none.
-use Rattle.std.specs.Prelude.{◌≡◌, ◌<◌, ◌+◌, ◌⊎◌, ℕ, List, [], ◌∷◌, Bool, true, false, Option, None}
+use Rattle.std.specs.Prelude.{◌≡◌, ◌<◌, ◌+◌, ◌⊎◌, ℕ, List, [], ◌∷◌, Bool, true, false, Option}
 use Rattle.std.specs.Prelude.{Some, drop, take, length, codes}
 use Rattle.agg_values.specs.declared.error.InvalidArgument.{InvalidArgument}
 use Rattle.agg_values.specs.declared.error.InvalidArgument.TheVariants.{ZeroSize}
-use Rattle.agg_segment.specs.declared.query.QueryTree.TheVariants.{All}
 use Rattle.agg_engine.specs.declared.walk.Walk.{Walk}
 use Rattle.agg_engine.specs.declared.walk.error.WalkError.{WalkError}
 use Rattle.agg_engine.specs.declared.walk.error.WalkError.TheVariants.{Invalid, UnknownComposite}
 use Rattle.agg_engine.specs.declared.walk.error.WalkError.TheVariants.{TooMany, OutOfMemory}
-use Rattle.agg_engine.specs.Snapshot.{SnapshotDocuments, snapshots_documents}
 use Rattle.agg_engine.specs.NamedComposite.{NamesComposite}
 use Rattle.agg_engine.specs.Walk.{ReachesTooMany, has_zero_size}
 use Rattle.agg_engine.specs.ShownWalk.{IsShownWalk}
-use Rattle.agg_pages.specs.declared.input.Input.{Input}
-use Rattle.agg_pages.specs.Input.{input, max_input_bytes}
+use Rattle.agg_pages.specs.Input.{AreNoInput, Input, max_input_bytes}
 use Rattle.agg_pages.specs.Output.{refusal_text, walk_text}
 
 -- the arguments of the command
 abbrev pub walk_arguments : List (List ℕ)
 walk_arguments = codes "walk" ∷ []
 
--- the snapshots of an input, as what they stand for
-abbrev pub snapshots_in : Input → List SnapshotDocuments
-snapshots_in i = snapshots_documents i.snapshots
-
 -- a size in an input is 0
 abbrev pub HasZeroSize : Input → Type 0
-HasZeroSize i = has_zero_size i.header.request (snapshots_in i) ≡ true
+HasZeroSize i = has_zero_size i.header.request i.snapshots ≡ true
 
 -- no size in an input is 0
 abbrev pub HasSizes : Input → Type 0
-HasSizes i = has_zero_size i.header.request (snapshots_in i) ≡ false
+HasSizes i = has_zero_size i.header.request i.snapshots ≡ false
 
 -- the name of an input is a composite's
 abbrev pub IsNamed : Input → Type 0
@@ -38,7 +31,7 @@ IsNamed i = NamesComposite i.header.name i.header.request
 
 -- the walk of an input reaches a snapshot in which too many documents are counted
 abbrev pub CountsTooMany : Input → Type 0
-CountsTooMany i = ReachesTooMany i.header.name All i.header.request (snapshots_in i)
+CountsTooMany i = ReachesTooMany i.header.name i.header.query i.header.request i.snapshots
 
 -- an argument that a walk of an input may refuse: a size of 0, and no other
 abbrev pub MayBeInvalid : Input → InvalidArgument → Type 0
@@ -63,7 +56,7 @@ abbrev pub IsPrintedWalk : Input → List ℕ → Type 0
 IsPrintedWalk i text =
     (walk : Walk)
     × IsValid i
-    × IsShownWalk i.header.name All i.header.request (snapshots_in i) walk
+    × IsShownWalk i.header.name i.header.query i.header.request i.snapshots walk
     × (text ≡ walk_text walk)
 
 -- the text is a refusal that a walk of an input may answer
@@ -84,6 +77,6 @@ IsReplyPrefix i prefix =
 -- the bytes are no input: all were read, or one past the limit
 abbrev pub IsNoInput : List ℕ → Option (List ℕ) → Type 0
 IsNoInput bytes left =
-    (input bytes ≡ None)
+    AreNoInput bytes
     × ((left ≡ Some [])
     ⊎ ((max_input_bytes < length bytes) × (left ≡ Some (drop (max_input_bytes + 1) bytes))))

@@ -1,14 +1,13 @@
 -- How a run answers: the cause of each status, and what is then read and written.
 use Rattle.std.specs.Prelude.{◌≡◌, ◌≢◌, ◌+◌, ◌⊎◌, ◌↔◌, ℕ, List, Some}
 use Rattle.std.specs.Io.KnownBytes.{Appends}
-use Rattle.agg_pages.specs.declared.input.Input.{Input}
 use Rattle.agg_pages.specs.declared.status.Status.{Status}
 use Rattle.agg_pages.specs.declared.status.Status.TheVariants.{Ok, Refused, Usage}
 use Rattle.agg_pages.specs.declared.status.Status.TheVariants.{Input as NotInput, ReadFault}
 use Rattle.agg_pages.specs.declared.status.Status.TheVariants.{WriteFault, OutOfMemory}
 use Rattle.agg_pages.specs.Answer.{IsReplyPrefix, IsNoInput, IsPrintedWalk, IsRefusal, IsValid}
 use Rattle.agg_pages.specs.Answer.{walk_arguments}
-use Rattle.agg_pages.specs.Input.{input, max_input_bytes}
+use Rattle.agg_pages.specs.Input.{Input, IsInput, max_input_bytes}
 use Rattle.agg_pages.specs.Observed.{Observed, HadFault, IsUntouched, bytes_after, bytes_before}
 use Rattle.agg_pages.specs.Reading.{GivesAll, TakesAtMost}
 
@@ -26,7 +25,7 @@ abbrev pub GaveInput : {R : Type 0} → Observed R → Input → Type 0
 GaveInput source i =
     (bytes : List ℕ)
     × GivesAll (bytes_before source) (bytes_after source) bytes
-    × (input bytes ≡ Some i)
+    × IsInput bytes i
 
 -- a source gave an input, and a sink holds such a text of it behind what it held
 abbrev pub HasWritten : {R W : Type 0} → (Input → List ℕ → Type 0) → Observed R → Observed W
@@ -44,7 +43,7 @@ HadNoInput source =
 abbrev pub HadValidInput : {R : Type 0} → Observed R → Type 0
 HadValidInput source =
     (bytes : List ℕ) × (i : Input)
-    × (bytes_before source ≡ Some bytes) × (input bytes ≡ Some i) × IsValid i
+    × (bytes_before source ≡ Some bytes) × IsInput bytes i × IsValid i
 
 -- each status has its cause, in what a source gave and a sink took
 pub record IsAnswered {R W : Type 0} (command : Command) (source : Observed R) (sink : Observed W)

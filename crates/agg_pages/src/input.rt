@@ -4,22 +4,29 @@ mod document;
 mod header;
 mod line;
 mod lines;
+mod signed;
 mod snapshots;
+#[cfg(test)]
+mod tests;
+mod tokens;
 mod value;
 
-ghost use Rattle.std.specs.Prelude.{◌≡◌, Some, None, IfOk, IsErrOf};
-ghost use Rattle.agg_pages.specs.Answer.{snapshots_in};
-ghost use Rattle.agg_pages.specs.Input.{input};
+ghost use Rattle.std.specs.Prelude.{◌≡◌, IfOk, IsErrOf};
 ghost use Rattle.agg_engine.specs.Form.{IsTakenForm};
+ghost use Rattle.agg_engine.specs.Snapshot.{snapshots_documents};
+ghost use Rattle.agg_pages.specs.Input.{AreNoInput, Input as Meant, IsInput};
+ghost use Rattle.agg_pages.specs.Input.{IsInputOfLines, input_of};
 
 use crate::source::MAX_INPUT_BYTES;
 use agg_engine::Snapshot;
+use agg_request::ReadError;
 use agg_segment::BuildError;
 use agg_values::{ItemList, OutOfMemory};
 pub use header::Header;
 use header::read_header;
 use lines::Lines;
 use serde_json::Category;
+use signed::reads_signed_numbers;
 use snapshots::read_snapshots;
 use std::alloc::Global;
 use std::str::from_utf8;
@@ -59,15 +66,38 @@ impl From<serde_json::Error> for InputError {
 }
 
 impl From<BuildError> for InputError {
-    ghost use Rattle.agg_segment.specs.declared.segment.BuildError.TheVariants.{TooManyDocuments};
+    ghost use Rattle.std.specs.Prelude.{◌⊎◌};
+    ghost use Rattle.agg_segment.specs.declared.builder.BuildError.TheVariants.{MixedNumbers};
+    ghost use Rattle.agg_segment.specs.declared.builder.BuildError.TheVariants.{TooManyDocuments};
     ghost use Rattle.agg_pages.specs.declared.input.InputError.TheVariants.{NotInput};
 
-    ghost from_gives = { λ error e. e ≡ NotInput → error ≡ TooManyDocuments };
+    ghost from_gives = { λ error e.
+        e ≡ NotInput → (error ≡ TooManyDocuments) ⊎ (error ≡ MixedNumbers) };
 
     fn from(error: BuildError) -> InputError {
         match error {
-            BuildError::TooManyDocuments => InputError::NotInput,
+            BuildError::TooManyDocuments | BuildError::MixedNumbers => InputError::NotInput,
             BuildError::OutOfMemory => InputError::OutOfMemory,
+        }
+    }
+}
+
+impl From<ReadError> for InputError {
+    ghost use Rattle.std.specs.Prelude.{◌⊎◌};
+    ghost use Rattle.agg_request.specs.declared.read_error.ReadError.TheVariants.{Grammar};
+    ghost use Rattle.agg_request.specs.declared.read_error.ReadError.TheVariants.{Unsupported};
+    ghost use Rattle.agg_request.specs.declared.read_error.ReadError.TheVariants.{UnknownBuilder};
+    ghost use Rattle.agg_pages.specs.declared.input.InputError.TheVariants.{NotInput};
+
+    ghost from_gives = { λ error e. e ≡ NotInput
+        → (error ≡ Unsupported) ⊎ ((error ≡ Grammar) ⊎ (error ≡ UnknownBuilder)) };
+
+    fn from(error: ReadError) -> InputError {
+        match error {
+            ReadError::Unsupported | ReadError::Grammar | ReadError::UnknownBuilder => {
+                InputError::NotInput
+            }
+            ReadError::OutOfMemory => InputError::OutOfMemory,
         }
     }
 }
@@ -81,76 +111,35 @@ pub struct Input {
 
 /// The input that bytes stand for.
 pub fn read_input(alloc: Global, bytes: &[u8]) -> Result<Input, InputError>
-    ensures ok { IfOk result (λ i. input bytes.now ≡ Some i) }
-    ensures form { IfOk result (λ i. IsTakenForm i.header.request (snapshots_in i)) }
-    ensures not_input { IsErrOf result InputError.NotInput → input bytes.now ≡ None }
+    ensures ok { IfOk result (λ i. IsInput bytes.now (input_of i)) }
+    ensures form { IfOk result
+        (λ i. IsTakenForm i.header.request (snapshots_documents i.snapshots)) }
+    ensures not_input { IsErrOf result InputError.NotInput → AreNoInput bytes.now }
 {
     if bytes.len() > MAX_INPUT_BYTES {
         return Err(InputError::NotInput);
     }
-    let Ok(text) = from_utf8(bytes) else {
-        return Err(InputError::NotInput);
-    };
-    let mut lines = Lines::new(text);
+    match from_utf8(bytes) {
+        Ok(text) => read_lines(alloc, Lines::new(text)),
+        Err(_) => Err(InputError::NotInput),
+    }
+}
+
+// The input of lines.
+fn read_lines(alloc: Global, lines: Lines<'_>) -> Result<Input, InputError>
+    ensures ok { IfOk result (λ i. IsInputOfLines lines.entry (input_of i)) }
+    ensures form { IfOk result
+        (λ i. IsTakenForm i.header.request (snapshots_documents i.snapshots)) }
+    ensures not_input { IsErrOf result InputError.NotInput
+        → (i : Meant) → ¬ IsInputOfLines lines.entry i }
+{
+    let mut lines = lines;
     let first = lines.next().ok_or(InputError::NotInput)?;
     let header = read_header(alloc, first)?;
     let snapshots = read_snapshots(alloc, lines)?;
-    Ok(Input { header, snapshots })
-}
-
-#[cfg(test)]
-mod tests {
-    use super::*;
-    use std::test::Fail;
-
-    const HEADER: &str = "{\"request\":{\"byA\":{\"composite\":{\
-        \"sources\":[{\"a\":{\"terms\":{\"field\":\"A\"}}}],\"size\":2}}},\
-        \"name\":\"byA\",\"schema\":[\"A\"]}";
-
-    #[test]
-    fn reads(rt: HostRuntime) -> Result<(), Fail> {
-        let text = format!(in rt.alloc();
-            "\n{HEADER}\r\nsnapshot 2\n{{\"A\":1,\"B\":[2,-3]}}\n \t\n{{}}\nsnapshot 07\n"
-        )?;
-        let input = read_input(rt.alloc(), text.as_bytes())?;
-        assert_eq!(rt; input.header.request.len(), 1);
-        assert_eq!(rt; input.header.schema.fields().len(), 1);
-        let snapshots = input.snapshots.as_slice();
-        assert_eq!(rt; snapshots.len(), 2);
-        assert_eq!(rt; snapshots[0].page_size, 2);
-        assert_eq!(rt; snapshots[0].segments.as_slice().len(), 1);
-        assert_eq!(rt; snapshots[0].segments.as_slice()[0].num_docs(), 2);
-        assert_eq!(rt; snapshots[1].page_size, 7);
-        assert_eq!(rt; snapshots[1].segments.as_slice().len(), 0);
-        Ok(())
-    }
-
-    #[test]
-    fn refuses(rt: HostRuntime) -> Result<(), Fail> {
-        for behind in [
-            HEADER,
-            "segment",
-            "snapshot",
-            "snapshot ",
-            "snapshot  2",
-            "snapshot +1",
-            "snapshot -1",
-            "snapshot 4294967296",
-            "{\"A\":1}",
-            "snapshot 1\n{\"A\":1.5}",
-            "snapshot 1\n{\"A\":[1,null]}",
-            "snapshot 1\n{\"A\":[[1]]}",
-            "snapshot 1\n[1]",
-            "snapshot 1\n{",
-        ] {
-            let text = format!(in rt.alloc(); "{HEADER}\n{behind}")?;
-            let read = read_input(rt.alloc(), text.as_bytes());
-            assert_eq!(rt; read.err(), Some(InputError::NotInput), "at {behind}");
-        }
-        for text in ["", "\n", "{\"byA\"", "snapshot 1"] {
-            let read = read_input(rt.alloc(), text.as_bytes());
-            assert_eq!(rt; read.err(), Some(InputError::NotInput), "at {text}");
-        }
-        Ok(())
+    if reads_signed_numbers(&header.request, snapshots.as_slice()) {
+        Ok(Input { header, snapshots })
+    } else {
+        Err(InputError::NotInput)
     }
 }

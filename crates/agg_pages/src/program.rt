@@ -6,10 +6,10 @@ ghost use Rattle.std.specs.Prelude.{◌≡◌, ◌<◌, ◌+◌, ◌⊎◌, ◌�
 ghost use Rattle.std.specs.Prelude.{IfErr, IsTrue, string_bytes};
 ghost use Rattle.std.specs.Io.KnownBytes.{Appends};
 ghost use Rattle.agg_engine.specs.Form.{IsTakenForm};
-ghost use Rattle.agg_pages.specs.declared.input.Input.{Input as Read};
-ghost use Rattle.agg_pages.specs.Answer.{IsReply, snapshots_in, walk_arguments};
+ghost use Rattle.agg_engine.specs.Snapshot.{snapshots_documents};
+ghost use Rattle.agg_pages.specs.Answer.{IsReply, walk_arguments};
 ghost use Rattle.agg_pages.specs.Causes.{Rose};
-ghost use Rattle.agg_pages.specs.Input.{max_input_bytes};
+ghost use Rattle.agg_pages.specs.Input.{Input as Meant, input_of, max_input_bytes};
 ghost use Rattle.agg_pages.specs.Observed.{over};
 ghost use Rattle.agg_pages.specs.Reading.{TakesAtMost};
 ghost use Rattle.agg_pages.specs.Run.{GaveInput, HadNoInput, IsAnswered, command};
@@ -22,7 +22,6 @@ use crate::status::Status;
 use agg_cache::LimitsLedger;
 use agg_engine::{WalkError, walk_pages};
 use agg_request::NamedBuilder;
-use agg_segment::QueryTree;
 use agg_values::{OutOfMemory, Steps, Text};
 use std::alloc::Global;
 use std::marker::Brand;
@@ -107,7 +106,7 @@ fn answer<R: Source, L: Ledger>(
     steps: &mut Steps<L>,
 ) -> Result<Reply, Status>
     ensures ok { IfOk result
-        (λ reply. (i : Read) × GaveInput (over R.left R.faults source.old source.new) i
+        (λ reply. (i : Meant) × GaveInput (over R.left R.faults source.old source.new) i
         × IsReply reply.refused i (string_bytes reply.text)) }
     ensures kinds { IfErr result (λ status. (status ≡ Status.Input)
         ⊎ ((status ≡ Status.ReadFault) ⊎ (status ≡ Status.OutOfMemory))) }
@@ -128,8 +127,9 @@ fn reply_to<L: Ledger>(
     input: &Input,
     steps: &mut Steps<L>,
 ) -> Result<Reply, OutOfMemory>
-    requires { IsTakenForm input.now.header.request (snapshots_in input.now) }
-    ensures { IfOk result (λ reply. IsReply reply.refused input.now (string_bytes reply.text)) }
+    requires { IsTakenForm input.now.header.request (snapshots_documents input.now.snapshots) }
+    ensures { IfOk result
+        (λ reply. IsReply reply.refused (input_of input.now) (string_bytes reply.text)) }
 {
     let mut limits = LimitsLedger::new(None, None);
     let header = &input.header;
@@ -139,7 +139,7 @@ fn reply_to<L: Ledger>(
         &header.schema,
         &header.request,
         &header.name,
-        &QueryTree::All,
+        &header.query,
         &input.snapshots,
         steps,
     );

@@ -1,3 +1,6 @@
+pub mod FilterKinds
+pub mod FilterLists
+pub mod Filters
 pub mod JsonLemmas
 pub mod Lists
 pub mod OccurrencesLength
@@ -12,4 +15,6 @@ pub mod PageTuples
 pub mod PageUnique
 pub mod PageWalk
 pub mod PageWhole
+pub mod Readings
 pub mod UncutLength
+pub mod ValueTexts

@@ -1,17 +1,26 @@
 -- How many occurrences documents have, and how it is counted without walking them.
-use Rattle.std.proofs.Common.{◌≡◌, inl, inr, ℕ, zero, suc, ◌+◌, ◌*◌, ◌<◌, ◌≤◌, List, [], ◌∷◌, ◌++◌, length, length-append, min, take, drop, map, get_or, sym, ap, ◌∙◌, arith}
-use Rattle.std.proofs.Math.Nat.{mul_assoc, zero-mul, suc-mul, one-mul, mul-one, mul-zero, le-mul_of_pos_right, min-eq_left, min-eq_right, min-le_left}
+use Rattle.std.proofs.Common.{◌≡◌, inl, inr, ℕ, zero, suc, ◌+◌, ◌*◌, ◌<◌, ◌≤◌, List, [], ◌∷◌}
+use Rattle.std.proofs.Common.{Bool, true, false, cond, refl, ◌&&◌}
+use Rattle.std.proofs.Common.{◌++◌, length, length-append, min, take, drop, map, get_or, sym, ap}
+use Rattle.std.proofs.Common.{◌∙◌, arith}
+use Rattle.std.proofs.Math.Nat.{add_comm, mul_assoc, mul_comm, zero-mul, suc-mul, one-mul}
+use Rattle.std.proofs.Math.Nat.{mul-one, mul-zero}
+use Rattle.std.proofs.Math.Nat.{le-mul_of_pos_right, min-eq_left, min-eq_right, min-le_left}
+use Rattle.std.specs.Prelude.{◌==◌}
 use Rattle.std.specs.List.{flat_map}
 use Rattle.std.proofs.lemmas.Bool.{cases_lt}
+use Rattle.std.proofs.lemmas.Bool.Decides.{nat_tests}
 use Rattle.std.proofs.lemmas.List.{map-append, append-nil, length-map, take_more, take-append-drop}
 use Rattle.std.proofs.lemmas.List.Concat.{flat_map-append, flat_map-cons}
 use Rattle.std.proofs.lemmas.List.Sums.{length-filter, count_by-le-length}
 use Rattle.agg_values.specs.Tuple.{KeyTuple}
-use Rattle.agg_values.specs.declared.composite_intermediate_key.CompositeIntermediateKey.{CompositeIntermediateKey}
+use Rattle.agg_values.specs.TypedKey.{CompositeIntermediateKey, canonical_key}
 use Rattle.agg_segment.specs.Document.{Fields}
-use Rattle.agg_segment.specs.Segment.{StoredSegment, document_at, documents_at}
+use Rattle.agg_segment.specs.Columns.{StoredColumn, all_keys, column_keys, encoded_key}
+use Rattle.agg_segment.specs.Segment.{Stored, document_at, documents_at}
 use Rattle.agg_request.specs.declared.source.CompositeAggregationSource.{CompositeAggregationSource}
-use Rattle.agg_request.specs.Source.{rules_of, source_values, Sources}
+use Rattle.agg_request.specs.Source.{Sources, field_of, missing_bucket_of, or_missing, rules_of}
+use Rattle.agg_request.specs.Source.{source_values}
 use Rattle.agg_request.specs.Occurrences.{past_occurrences, is_past, occurrences, occurrences_in}
 
 -- ---- of one document: a product over the sources
@@ -22,7 +31,8 @@ length-pairs : (tuples : List KeyTuple) (keys : KeyTuple)
 length-pairs tuples [] = sym (zero-mul (length tuples))
 length-pairs tuples (k ∷ keys) =
     let with_key = λ (key : CompositeIntermediateKey). map (λ t. key ∷ t) tuples in
-    let parts = ap length (flat_map-cons with_key k keys) ∙ length-append (with_key k) (flat_map with_key keys) in
+    let parts = ap length (flat_map-cons with_key k keys) ∙ length-append (with_key k)
+    (flat_map with_key keys) in
     let first = length-map tuples (λ t. k ∷ t) in
     let rest = length-pairs tuples keys in
     let product = suc-mul (length keys) (length tuples) in
@@ -36,8 +46,10 @@ length-occurrences-append (source ∷ sources) others document =
     let keys = source_values source document in
     length-pairs (occurrences (sources ++ others) document) keys
     ∙ ap (λ n. length keys * n) (length-occurrences-append sources others document)
-    ∙ sym (mul_assoc (length keys) (length (occurrences sources document)) (length (occurrences others document)))
-    ∙ ap (λ n. n * length (occurrences others document)) (sym (length-pairs (occurrences sources document) keys))
+    ∙ sym (mul_assoc (length keys) (length (occurrences sources document))
+    (length (occurrences others document)))
+    ∙ ap (λ n. n * length (occurrences others document))
+    (sym (length-pairs (occurrences sources document) keys))
 
 length-occurrences-one : (source : CompositeAggregationSource) (document : Fields)
     → length (occurrences (source ∷ []) document) ≡ length (source_values source document)
@@ -45,13 +57,16 @@ length-occurrences-one source document =
     length-pairs ([] ∷ []) (source_values source document) ∙ mul-one _
 
 -- one source more
-length-occurrences-more : (sources : Sources) (i : ℕ) (d : CompositeAggregationSource) (document : Fields) → i < length sources
+length-occurrences-more : (sources : Sources) (i : ℕ) (d : CompositeAggregationSource)
+    (document : Fields) → i < length sources
     → length (occurrences (take (i + 1) sources) document)
-    ≡ length (occurrences (take i sources) document) * length (source_values (get_or sources i d) document)
+    ≡ length (occurrences (take i sources) document) * length (source_values (get_or sources i d)
+    document)
 length-occurrences-more sources i d document l =
     ap (λ ss. length (occurrences ss document)) (take_more sources i d l)
     ∙ length-occurrences-append (take i sources) (get_or sources i d ∷ []) document
-    ∙ ap (λ n. length (occurrences (take i sources) document) * n) (length-occurrences-one (get_or sources i d) document)
+    ∙ ap (λ n. length (occurrences (take i sources) document) * n) (length-occurrences-one
+    (get_or sources i d) document)
 
 -- a product that is cut at each step is the product, cut
 cut-product : (a b most : ℕ) → min (min a most * b) most ≡ min (a * b) most
@@ -62,56 +77,74 @@ cut-product a (suc b) most = elim (cases_lt a most) [
       let cut : min a most ≡ most = min-eq_right above in
       let positive : 0 < suc b = omega arith in
       let kept : most ≤ most * suc b = le-mul_of_pos_right most positive in
-      let greater : most ≤ a * suc b = let more = le-mul_of_pos_right a positive in omega (arith, more, above) in
+      let greater : most ≤ a * suc b = let more = le-mul_of_pos_right a positive in
+      omega (arith, more, above) in
       ap (λ n. min (n * suc b) most) cut ∙ min-eq_right kept ∙ sym (min-eq_right greater)
 ]
+
+-- and so it is where the other factor is cut, too
+cut-factors : (a b most : ℕ) → min (min a most * min b most) most ≡ min (a * b) most
+cut-factors a b most =
+    cut-product a (min b most) most
+    ∙ ap (λ n. min n most) (mul_comm a (min b most))
+    ∙ cut-product b a most
+    ∙ ap (λ n. min n most) (mul_comm b a)
 
 -- the cut product, one source more
 pub cut-occurrences-more : (sources : Sources) (i : ℕ) (d : CompositeAggregationSource)
     → (document : Fields) (product keys most : ℕ) → i < length sources
     → product ≡ min (length (occurrences (take i sources) document)) most
-    → keys ≡ length (source_values (get_or sources i d) document)
+    → keys ≡ min (length (source_values (get_or sources i d) document)) most
     → min (product * keys) most
     ≡ min (length (occurrences (take (i + 1) sources) document)) most
 cut-occurrences-more sources i d document product keys most l p k =
     let all = length (occurrences (take i sources) document) in
+    let own = length (source_values (get_or sources i d) document) in
     ap (λ n. min (n * keys) most) p
-    ∙ cut-product all keys most
-    ∙ ap (λ n. min (all * n) most) k
+    ∙ ap (λ n. min (min all most * n) most) k
+    ∙ cut-factors all own most
     ∙ ap (λ n. min n most) (sym (length-occurrences-more sources i d document l))
 
 -- ---- of documents: a sum
 
 -- how many occurrences the documents at these places have
-abbrev count_at : Sources → StoredSegment → List ℕ → ℕ
+abbrev count_at : Sources → Stored → List ℕ → ℕ
 count_at sources segment docs = length (occurrences_in sources (documents_at segment docs))
 
-count_at-append : (sources : Sources) (segment : StoredSegment) (xs ys : List ℕ)
-    → count_at sources segment (xs ++ ys) ≡ count_at sources segment xs + count_at sources segment ys
+count_at-append : (sources : Sources) (segment : Stored) (xs ys : List ℕ)
+    → count_at sources segment (xs ++ ys) ≡ count_at sources segment xs + count_at sources segment
+    ys
 count_at-append sources segment xs ys =
-    ap (λ documents. length (occurrences_in sources documents)) (map-append (document_at segment) xs ys)
-    ∙ ap length (flat_map-append (occurrences sources) (documents_at segment xs) (documents_at segment ys))
-    ∙ length-append (occurrences_in sources (documents_at segment xs)) (occurrences_in sources (documents_at segment ys))
+    ap (λ documents. length (occurrences_in sources documents)) (map-append (document_at segment) xs
+    ys)
+    ∙ ap length (flat_map-append (occurrences sources) (documents_at segment xs)
+    (documents_at segment ys))
+    ∙ length-append (occurrences_in sources (documents_at segment xs)) (occurrences_in sources
+    (documents_at segment ys))
 
 -- the document at one more place adds its occurrences
-count_at-more : (sources : Sources) (segment : StoredSegment) (docs : List ℕ) (i : ℕ) → i < length docs
+count_at-more : (sources : Sources) (segment : Stored) (docs : List ℕ) (i : ℕ)
+    → i < length docs
     → length (occurrences_in sources (documents_at segment (take (i + 1) docs)))
     ≡ length (occurrences_in sources (documents_at segment (take i docs)))
     + length (occurrences sources (document_at segment (get_or docs i 0)))
 count_at-more sources segment docs i l =
     let document = document_at segment (get_or docs i 0) in
-    let one : count_at sources segment (get_or docs i 0 ∷ []) ≡ length (occurrences sources document) =
-    ap length (flat_map-cons (occurrences sources) document [] ∙ append-nil (occurrences sources document)) in
+    let one : count_at sources segment (get_or docs i 0 ∷ [])
+    ≡ length (occurrences sources document) =
+    ap length (flat_map-cons (occurrences sources) document []
+    ∙ append-nil (occurrences sources document)) in
     ap (count_at sources segment) (take_more docs i 0 l)
     ∙ count_at-append sources segment (take i docs) (get_or docs i 0 ∷ [])
     ∙ ap (λ n. count_at sources segment (take i docs) + n) one
 
 -- the first places have no more than all
-count_at-front : (sources : Sources) (segment : StoredSegment) (n : ℕ) (docs : List ℕ)
+count_at-front : (sources : Sources) (segment : Stored) (n : ℕ) (docs : List ℕ)
     → length (occurrences_in sources (documents_at segment (take n docs)))
     ≤ length (occurrences_in sources (documents_at segment docs))
 count_at-front sources segment n docs =
-    let e = ap (count_at sources segment) (sym (take-append-drop n docs)) ∙ count_at-append sources segment (take n docs) (drop n docs) in
+    let e = ap (count_at sources segment) (sym (take-append-drop n docs)) ∙ count_at-append sources
+    segment (take n docs) (drop n docs) in
     omega (arith, e)
 
 -- a sum that is cut at each step is the sum, cut
@@ -133,7 +166,7 @@ below-cut sum most limit within below = elim (cases_lt sum most) [
 ]
 
 -- the documents at the first places and one more, by a sum that is cut
-module _ (sources : Sources) (segment : StoredSegment) (docs : List ℕ)
+module _ (sources : Sources) (segment : Stored) (docs : List ℕ)
     (i : ℕ) (l : i < length docs) (count own most : ℕ)
     (counted : count ≡ length (occurrences_in sources (documents_at segment (take i docs))))
     (one : own ≡ min (length (occurrences sources (document_at segment (get_or docs i 0)))) most)
@@ -170,4 +203,62 @@ pub past-fewer : (sources : Sources) (bound : KeyTuple) (documents : List Fields
     → length (past_occurrences sources bound documents) ≤ length (occurrences_in sources documents)
 past-fewer sources bound documents =
     let past = is_past (rules_of sources) bound in
-    omega (arith, length-filter past (occurrences_in sources documents), count_by-le-length past (occurrences_in sources documents))
+    omega (
+      arith,
+      length-filter past (occurrences_in sources documents),
+      count_by-le-length past
+          (occurrences_in sources documents),
+    )
+
+-- ---- of one source: the values in its columns
+
+-- the keys of a source are its values, or one Null
+pub length-source_values : (source : CompositeAggregationSource) (document : Fields)
+    → length (source_values source document)
+    ≡ cond (missing_bucket_of source && (length (document (field_of source)) == 0)) 1
+    (length (document (field_of source)))
+length-source_values source document =
+    length-or_missing (missing_bucket_of source) (document (field_of source))
+  where
+    not_zero : (n : ℕ) → (suc n == 0) ≡ false
+    not_zero n = grind (arith, nat_tests)
+
+    length-or_missing : (missing : Bool) (keys : KeyTuple)
+        → length (or_missing missing (map canonical_key keys))
+        ≡ cond (missing && (length keys == 0)) 1 (length keys)
+    length-or_missing true [] = refl
+    length-or_missing false [] = refl
+    length-or_missing true (k ∷ keys) =
+        ap suc (length-map keys canonical_key)
+        ∙ sym (ap (λ b. cond b 1 (suc (length keys))) (not_zero (length keys)))
+    length-or_missing false (k ∷ keys) = ap suc (length-map keys canonical_key)
+
+-- one column more
+all_keys-more : (columns : List StoredColumn) (doc i : ℕ) (d : StoredColumn)
+    → i < length columns
+    → length (all_keys (take (i + 1) columns) doc)
+    ≡ length (all_keys (take i columns) doc) + length (column_keys (get_or columns i d) doc)
+all_keys-more columns doc i d l =
+    let keys = λ (column : StoredColumn). column_keys column doc in
+    let one = get_or columns i d in
+    ap (λ cs. length (flat_map keys cs)) (take_more columns i d l)
+    ∙ ap length (flat_map-append keys (take i columns) (one ∷ []))
+    ∙ length-append (all_keys (take i columns) doc) (flat_map keys (one ∷ []))
+    ∙ ap (λ n. length (all_keys (take i columns) doc) + n)
+    (ap length (flat_map-cons keys one [] ∙ append-nil (keys one)))
+
+-- the cut number of values, one column more
+pub cut-columns-more : (columns : List StoredColumn) (doc i : ℕ) (column : StoredColumn)
+    → (count most : ℕ) (values : List ℕ) → i < length columns → column ≡ get_or columns i column
+    → count ≡ min (length (all_keys (take i columns) doc)) most
+    → map (encoded_key column.keys) values ≡ column_keys column doc
+    → min (count + length values) most ≡ min (length (all_keys (take (i + 1) columns) doc)) most
+cut-columns-more columns doc i column count most values l item c own =
+    let before = length (all_keys (take i columns) doc) in
+    let held = sym (length-map values (encoded_key column.keys)) ∙ ap length own in
+    let all = all_keys-more columns doc i column l
+    ∙ ap (λ (x : StoredColumn). before + length (column_keys x doc)) (sym item) in
+    ap (λ n. min (n + length values) most) c
+    ∙ ap (λ n. min n most) (add_comm (min before most) (length values))
+    ∙ cut-sum (length values) before most
+    ∙ ap (λ n. min n most) (add_comm (length values) before ∙ ap (λ n. before + n) held ∙ sym all)

@@ -10,13 +10,18 @@ use Rattle.agg_request.specs.Occurrences.{occurrences, occurrences_in}
 use Rattle.agg_request.specs.Uncut.{uncut}
 
 -- a composite counts a document for each of its occurrences
-pub length-uncut : (composite : CompositeAggregation) (documents : List Fields) → length (uncut (Composite composite) documents) ≡ length (occurrences_in composite.sources documents)
+pub length-uncut : (composite : CompositeAggregation) (documents : List Fields)
+    → length (uncut (Composite composite) documents)
+    ≡ length (occurrences_in composite.sources documents)
 length-uncut composite [] = refl
 length-uncut composite (d ∷ documents) =
-    let counted = λ (document : Fields). map (λ tuple. document) (occurrences composite.sources document) in
+    let counted = λ (document : Fields). map (λ tuple. document) (occurrences composite.sources
+    document) in
     let held = occurrences composite.sources in
-    let left = ap length (flat_map-cons counted d documents) ∙ length-append (counted d) (flat_map counted documents) in
-    let right = ap length (flat_map-cons held d documents) ∙ length-append (held d) (flat_map held documents) in
+    let left = ap length (flat_map-cons counted d documents) ∙ length-append (counted d)
+    (flat_map counted documents) in
+    let right = ap length (flat_map-cons held d documents) ∙ length-append (held d)
+    (flat_map held documents) in
     let one = length-map (held d) (λ tuple. d) in
     let rest = length-uncut composite documents in
     omega (arith, left, right, one, rest)

@@ -1,6 +1,6 @@
 -- Tuples by the names of their sources.
 use Rattle.std.specs.Prelude.{[], ◌∷◌}
-use Rattle.agg_values.specs.declared.composite_intermediate_key.CompositeIntermediateKey.{CompositeIntermediateKey}
+use Rattle.agg_values.specs.TypedKey.{CompositeIntermediateKey}
 use Rattle.agg_values.specs.declared.after_key.AfterKey.{AfterKey}
 use Rattle.agg_values.specs.Names.{put, Named}
 use Rattle.agg_request.specs.Source.{name_of, Sources}

@@ -3,6 +3,8 @@ pub mod Groups
 pub mod Json
 pub mod Occurrences
 pub mod Page
+pub mod Query
+pub mod Reading
 pub mod Request
 pub mod Source
 pub mod Successive

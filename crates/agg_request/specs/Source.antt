@@ -1,13 +1,14 @@
 -- Sources, and the keys that they read.
-use Rattle.std.specs.Prelude.{◌≡◌, ℕ, List, [], ◌∷◌, Bool, false, map, if◌then◌else◌}
+use Rattle.std.specs.Prelude.{◌≡◌, ℕ, List, [], ◌∷◌, Bool, true, false, map, if◌then◌else◌}
+use Rattle.std.specs.List.{list_all}
 use Rattle.agg_values.specs.KeyOrder.{SourceRules}
-use Rattle.agg_values.specs.declared.composite_intermediate_key.CompositeIntermediateKey.{CompositeIntermediateKey}
-use Rattle.agg_values.specs.declared.composite_intermediate_key.CompositeIntermediateKey.TheVariants.{Null}
+use Rattle.agg_values.specs.TypedKey.{CompositeIntermediateKey, canonical_key}
+use Rattle.agg_values.specs.declared.typed_key.CompositeIntermediateKey.TheVariants as key
 use Rattle.agg_values.specs.declared.order.Order.{Order}
 use Rattle.agg_values.specs.declared.order.Order.TheVariants.{Asc}
 use Rattle.agg_values.specs.declared.order.MissingOrder.{MissingOrder}
 use Rattle.agg_values.specs.declared.order.MissingOrder.TheVariants.{Default}
-use Rattle.agg_segment.specs.Document.{Fields, key_of}
+use Rattle.agg_segment.specs.Document.{Fields}
 use Rattle.agg_request.specs.declared.source.CompositeAggregationSource.{CompositeAggregationSource}
 use Rattle.agg_request.specs.declared.source.CompositeAggregationSource.TheVariants.{Terms}
 
@@ -41,13 +42,13 @@ rules_of sources = map (λ s. (order_of s, missing_order_of s)) sources
 
 -- the keys, or one Null where there is none and a missing value has a bucket
 abbrev pub or_missing : Bool → List CompositeIntermediateKey → List CompositeIntermediateKey
-or_missing missing [] = if missing then Null ∷ [] else []
+or_missing missing [] = if missing then key.Null ∷ [] else []
 or_missing missing (k ∷ ks) = k ∷ ks
 
--- the keys that a source reads in a document: every value of its field
+-- the keys that a source reads in a document: every value of its field, numbers by value
 abbrev pub source_values : CompositeAggregationSource → Fields → List CompositeIntermediateKey
 source_values source document =
-    or_missing (missing_bucket_of source) (map key_of (document (field_of source)))
+    or_missing (missing_bucket_of source) (map canonical_key (document (field_of source)))
 
 -- the rules of one ascending source
 abbrev pub ascending_rules : SourceRules
@@ -61,3 +62,13 @@ IsOneAscendingSource sources =
     × (order_of source ≡ Asc)
     × (missing_order_of source ≡ Default)
     × (missing_bucket_of source ≡ false)
+
+-- whether a key is a whole number that an i64 can be
+abbrev pub is_signed_number : CompositeIntermediateKey → Bool
+is_signed_number (key.I64 n) = true
+is_signed_number _ = false
+
+-- whether the fields that sources read hold nothing but such numbers: all that is read so far
+abbrev pub hold_signed_numbers : Sources → Fields → Bool
+hold_signed_numbers sources document =
+    list_all (λ source. list_all is_signed_number (document (field_of source))) sources

@@ -7,6 +7,8 @@ mod builder;
 pub mod json_value;
 mod laws;
 mod occurrences;
+mod query;
+mod read_error;
 mod source;
 
 pub use aggregation::{Aggregation, AggregationVariants, Aggregations, CompositeAggregation};
@@ -18,4 +20,6 @@ pub use laws::{
     the_lowest_groups_are_a_page,
 };
 pub use occurrences::counts_too_many;
+pub use query::read_query;
+pub use read_error::ReadError;
 pub use source::{CompositeAggregationSource, TermCompositeAggregationSource};

@@ -2,7 +2,8 @@
 #[cfg(test)]
 mod tests;
 
-ghost use Rattle.std.specs.Prelude.{◌≡◌, ◌<◌, ◌-◌, ◌^◌, ◌↔◌, IsTrue, All, length, min};
+ghost use Rattle.std.specs.Prelude.{◌≡◌, ◌-◌, ◌^◌, ◌↔◌, IsTrue, length, min};
+ghost use Rattle.agg_segment.specs.Columns.{all_keys};
 ghost use Rattle.agg_segment.specs.Segment.{document_at, documents_at};
 ghost use Rattle.agg_request.specs.declared.aggregation.AggregationVariants.TheVariants.{Composite};
 ghost use Rattle.agg_request.specs.Occurrences.{occurrences};
@@ -10,7 +11,7 @@ ghost use Rattle.agg_request.specs.Source.{source_values};
 ghost use Rattle.agg_request.specs.Uncut.{CountsTooMany};
 
 use super::{CompositeAggregation, CompositeAggregationSource};
-use agg_segment::SegmentReader;
+use agg_segment::{Column, SegmentReader};
 use agg_values::DocId;
 
 // So many occurrences are too many.
@@ -22,7 +23,6 @@ pub fn counts_too_many(
     segment: &SegmentReader,
     docs: &[DocId],
 ) -> bool
-    requires within { All (λ doc. doc < length segment.now) docs.now }
     ensures { IsTrue result
         ↔ CountsTooMany (Composite composite.now) (documents_at segment.now docs.now) }
 {
@@ -43,7 +43,6 @@ fn num_occurrences(
     segment: &SegmentReader,
     doc: DocId,
 ) -> u64
-    requires within { doc < length segment.now }
     ensures { result
         ≡ min (length (occurrences sources.now (document_at segment.now doc))) (2 ^ 64 - 1) }
 {
@@ -54,14 +53,25 @@ fn num_occurrences(
     product
 }
 
-// How many keys a source reads in a document.
+// How many keys a source reads in a document, cut to what the number holds.
 fn num_keys(source: &CompositeAggregationSource, segment: &SegmentReader, doc: DocId) -> u64
-    requires within { doc < length segment.now }
-    ensures { result ≡ length (source_values source.now (document_at segment.now doc)) }
+    ensures { result
+        ≡ min (length (source_values source.now (document_at segment.now doc))) (2 ^ 64 - 1) }
 {
-    let num_values = segment.values(doc, source.field()).len() as u64;
+    let num_values = num_values(segment.columns(source.field()), doc);
     if num_values == 0 && source.missing_bucket() {
         return 1;
     }
     num_values
+}
+
+// How many values a document has in columns, cut to what the number holds.
+fn num_values(columns: &[Column], doc: DocId) -> u64
+    ensures { result ≡ min (length (all_keys columns.now doc)) (2 ^ 64 - 1) }
+{
+    let mut count: u64 = 0;
+    for column in columns {
+        count = count.saturating_add(column.values_for_doc(doc).len() as u64);
+    }
+    count
 }

@@ -1,27 +1,41 @@
--- Documents: a map from fields to lists of values.
-use Rattle.std.specs.Prelude.{ℕ, List, [], unwrap_or}
-use Rattle.agg_values.specs.Names.{Named, value_of}
-use Rattle.agg_values.specs.TypedKey.{typed_number}
-use Rattle.agg_values.specs.declared.composite_intermediate_key.CompositeIntermediateKey.{CompositeIntermediateKey}
+-- Documents: values with the names of their fields, and the keys that they mean.
+use Rattle.std.specs.Prelude.{◌==◌, ℕ, List, [], ◌∷◌, map, filter, flat_map}
+use Rattle.std.specs.Str.{bytes_eq}
+use Rattle.agg_values.specs.TypedKey.{class_rank, canonical_key}
+use Rattle.agg_values.specs.TypedKey.{CompositeIntermediateKey}
+use Rattle.agg_values.specs.declared.typed_key.CompositeIntermediateKey.TheVariants as key
 use Rattle.agg_segment.specs.declared.document.FieldValue.{FieldValue}
-use Rattle.agg_segment.specs.declared.document.FieldValue.TheVariants.{I64}
+use Rattle.agg_segment.specs.declared.document.FieldValue.TheVariants as value
 
--- a document, by the values of each field
+-- a document, by the keys of each field
 abbrev pub Fields : Type 0
-Fields = List ℕ → List FieldValue
+Fields = List ℕ → List CompositeIntermediateKey
 
--- a document as it is stored: its fields with their values
-abbrev pub StoredDocument : Type 0
-StoredDocument = Named (List FieldValue)
-
--- the typed key of a value
+-- the canonical key of a value
 abbrev pub key_of : FieldValue → CompositeIntermediateKey
-key_of (I64 n) = typed_number n
+key_of (value.Bool b) = key.Bool b
+key_of (value.Str text) = key.Str text
+key_of (value.I64 n) = key.I64 n
+key_of (value.U64 n) = canonical_key (key.U64 n)
+key_of (value.Ip address) = key.IpAddr address
+key_of (value.Date ns) = key.DateTime ns
 
--- the values of a field, none where it isn't held
-abbrev pub values_in : StoredDocument → List ℕ → List FieldValue
-values_in document field = unwrap_or (value_of field document) []
+-- the ranks of the classes, ascending; the first one is Null's
+abbrev pub class_ranks : List ℕ
+class_ranks = 0 ∷ 1 ∷ 2 ∷ 3 ∷ 4 ∷ 5 ∷ []
 
--- the document that a stored one stands for
-abbrev pub fields_of : StoredDocument → Fields
-fields_of = values_in
+-- the keys of one class
+abbrev pub of_class : List CompositeIntermediateKey → ℕ → List CompositeIntermediateKey
+of_class keys rank = filter (λ key. class_rank key == rank) keys
+
+-- the same keys, by class ascending and in order inside a class
+unfoldable pub by_class : List CompositeIntermediateKey → List CompositeIntermediateKey
+by_class keys = flat_map (of_class keys) class_ranks
+
+-- the values of a field, in the order in which they were added
+abbrev pub values_in : List (List ℕ × FieldValue) → List ℕ → List FieldValue
+values_in document field = map (λ p. p.1) (filter (λ p. bytes_eq field p.0) document)
+
+-- what a document means
+abbrev pub meaning : List (List ℕ × FieldValue) → Fields
+meaning document field = by_class (map key_of (values_in document field))

@@ -1,19 +1,92 @@
--- Segments: lists of documents.
-use Rattle.std.specs.Prelude.{ℕ, List, [], map, slice_index_or}
-use Rattle.agg_segment.specs.Document.{Fields, StoredDocument, fields_of}
+-- What segments mean: lists of documents.
+use Rattle.std.specs.Prelude.{◌≡◌, ◌<◌, ◌≤◌, ℕ, List, [], ◌∷◌, ◌++◌, Some, if◌then◌else◌}
+use Rattle.std.specs.Prelude.{map, flat_map, length, take, drop}
+use Rattle.std.specs.Str.{bytes_eq}
+use Rattle.std.specs.List.{range_with_len, All, Contains}
+use Rattle.agg_segment.specs.Document.{Fields, by_class}
+use Rattle.agg_segment.specs.Cells.{Placed, number_of, named_keys}
+use Rattle.agg_segment.specs.Signs.{sign_of, key_mark, AreSigns}
+use Rattle.agg_segment.specs.Columns.{StoredColumn, column_cells}
+use Rattle.agg_segment.specs.declared.signs.Sign.{Sign}
+use Rattle.agg_segment.specs.declared.signs.Sign.TheVariants.{Negative, Large}
+use Rattle.agg_segment.specs.declared.builder.TheConstants.{MAX_DOCUMENTS}
+use Rattle.agg_values.specs.TypedKey.{CompositeIntermediateKey}
 
--- a segment as it is stored
-abbrev pub StoredSegment : Type 0
-StoredSegment = List StoredDocument
+-- what a builder holds: how many documents are closed, the numbers of the fields, and the keys of
+-- all documents
+pub record Gathered : Type 0 where
+  pub count : ℕ
+  pub names : List (List ℕ × ℕ)
+  pub cells : List Placed
+
+-- a document that is closed, or the open one at the count
+abbrev pub gathered_fields : Gathered → ℕ → Fields
+gathered_fields builder doc field = by_class (named_keys builder.names builder.cells doc field)
+
+-- a name is that of a field with this number
+abbrev pub IsNameOf : Gathered → ℕ → List ℕ → Type 0
+IsNameOf builder field name = number_of builder.names name ≡ Some field
+
+-- the documents that are closed
+abbrev pub gathered_documents : Gathered → List Fields
+gathered_documents builder = map (gathered_fields builder) (range_with_len 0 builder.count)
+
+-- the open document
+abbrev pub open_document : Gathered → Fields
+open_document builder = gathered_fields builder builder.count
+
+-- no keys
+abbrev pub no_fields : Fields
+no_fields name = []
+
+-- one more key in a field
+abbrev pub with_key : List ℕ → CompositeIntermediateKey → Fields → Fields
+with_key field key document name =
+    if bytes_eq field name then by_class (document name ++ key ∷ []) else document name
+
+-- no keys in a field
+abbrev pub without_field : List ℕ → Fields → Fields
+without_field field document name = if bytes_eq field name then [] else document name
+
+-- what a segment holds: how many documents, the numbers of the fields, and the columns
+pub record Stored : Type 0 where
+  pub count : ℕ
+  pub names : List (List ℕ × ℕ)
+  pub columns : List StoredColumn
+
+-- the document at a place
+abbrev pub document_at : Stored → ℕ → Fields
+document_at segment doc field =
+    named_keys segment.names (flat_map column_cells segment.columns) doc field
+
+-- the documents at places
+abbrev pub documents_at : Stored → List ℕ → List Fields
+documents_at segment docs = map (document_at segment) docs
 
 -- the documents of a segment
-abbrev pub documents_of : StoredSegment → List Fields
-documents_of segment = map fields_of segment
+abbrev pub documents_of : Stored → List Fields
+documents_of segment = documents_at segment (range_with_len 0 segment.count)
 
--- the document at a place of a segment
-abbrev pub document_at : StoredSegment → ℕ → Fields
-document_at segment doc = fields_of (slice_index_or segment doc [])
+-- some document has a number of a sign in a field
+abbrev pub HasSign : List Fields → List ℕ → Sign → Type 0
+HasSign documents field sign =
+    Contains (map sign_of (flat_map (λ document. document field) documents)) sign
 
--- the documents at these places of a segment
-abbrev pub documents_at : StoredSegment → List ℕ → List Fields
-documents_at segment docs = map (document_at segment) docs
+-- some field has a number below zero and one above those of an i64
+abbrev pub IsMixed : List Fields → Type 0
+IsMixed documents =
+    (field : List ℕ) × HasSign documents field Negative × HasSign documents field Large
+
+-- what is true of a builder: its closed documents come first, each field has one name and number,
+-- and its signs are those of the closed documents
+pub record IsGathered (builder : Gathered) (given : List Sign) (closed : ℕ) : Type 0 where
+  pub few : builder.count ≤ MAX_DOCUMENTS
+  pub within : closed ≤ length builder.cells
+  pub before : All (λ p. p.doc < builder.count) (take closed builder.cells)
+  pub behind : All (λ p. p.doc ≡ builder.count) (drop closed builder.cells)
+  pub numbered : (name : List ℕ) (field : ℕ) → IsNameOf builder field name → field < length given
+  pub apart : (name other : List ℕ) (field : ℕ)
+      → IsNameOf builder field name → IsNameOf builder field other → name ≡ other
+  pub named : (field : ℕ) → field < length given → (name : List ℕ) × IsNameOf builder field name
+  pub fields : All (λ p. p.field < length given) builder.cells
+  pub signs : AreSigns given (map key_mark (take closed builder.cells))

@@ -1,32 +1,51 @@
-ghost use Rattle.std.specs.Prelude.{◌≡◌, [], ◌∷◌, ◌++◌, OnOk, OnErr};
-ghost use Rattle.agg_values.specs.Names.{put};
-ghost use Rattle.agg_segment.specs.Document.{values_in};
+ghost use Rattle.std.specs.Prelude.{◌≡◌, [], ◌∷◌, ◌++◌, IfOk, OnOk, OnErr};
 
-use agg_values::{ItemList, OutOfMemory, Text};
+use agg_values::{Address, OutOfMemory, Text};
 use std::alloc::Global;
-use std::collections::BTreeMap;
 use std::marker::Model;
 
-/// A value of a document's field.
+/// A value of a document's field. An I64 and a U64 both mean their number. A date is in nanoseconds
+/// since 1970-01-01T00:00:00Z.
 #[derive(Debug, Drop, PartialEq)]
 pub enum FieldValue {
+    Bool(bool),
+    Str(Text),
     I64(i64),
+    U64(u64),
+    Ip(Address),
+    Date(i64),
 }
 
-/// A document, seen by contracts as its fields in the order of their names, each with its values.
+impl FieldValue {
+    /// An equal value.
+    pub fn try_clone(&self, alloc: Global) -> Result<FieldValue, OutOfMemory>
+        ensures { IfOk result (λ value. value ≡ self.now) }
+    {
+        Ok(match self {
+            FieldValue::Bool(b) => FieldValue::Bool(*b),
+            FieldValue::Str(text) => FieldValue::Str(text.try_clone(alloc)?),
+            FieldValue::I64(n) => FieldValue::I64(*n),
+            FieldValue::U64(n) => FieldValue::U64(*n),
+            FieldValue::Ip(address) => FieldValue::Ip(*address),
+            FieldValue::Date(ns) => FieldValue::Date(*ns),
+        })
+    }
+}
+
+/// A document, seen by contracts as its values with the names of their fields, in the order in
+/// which they were added.
 #[derive(Drop)]
 pub struct Document {
-    alloc: Global,
-    fields: BTreeMap<Text, ItemList<FieldValue>>,
+    values: Vec<(Text, FieldValue)>,
 }
 
 impl Model for Document {
     ghost use Rattle.std.specs.Prelude.{List, ℕ};
     ghost use Rattle.agg_segment.specs.declared.document.FieldValue.{FieldValue};
 
-    ghost Value = { List (List ℕ × List FieldValue) };
+    ghost Value = { List (List ℕ × FieldValue) };
 
-    ghost view = { λ document. document.fields.entries };
+    ghost view = { λ document. document.values.items };
 }
 
 impl Document {
@@ -35,41 +54,24 @@ impl Document {
         ensures { result ≡ [] }
     {
         Document {
-            alloc,
-            fields: BTreeMap::new(alloc),
+            values: Vec::new(alloc),
         }
     }
 
     /// Appends a value to a field's list.
     pub fn add(&mut self, field: Text, value: FieldValue) -> Result<(), OutOfMemory>
-        ensures ok { OnOk result
-            (self.new ≡ put field (values_in self.old field ++ value ∷ []) self.old) }
+        ensures ok { OnOk result (self.new ≡ self.old ++ (field, value) ∷ []) }
         ensures err { OnErr result (self.new ≡ self.old) }
     {
-        if let Some(values) = self.fields.get_mut(&field) {
-            return values.push(value);
-        }
-        let mut values = ItemList::new(self.alloc);
-        values.push(value)?;
-        self.set(field, values)
-    }
-
-    /// Sets the values of a field, in place of those that it had.
-    pub fn set(&mut self, field: Text, values: ItemList<FieldValue>) -> Result<(), OutOfMemory>
-        ensures ok { OnOk result (self.new ≡ put field values self.old) }
-        ensures err { OnErr result (self.new ≡ self.old) }
-    {
-        self.fields.insert(field, values)?;
+        self.values.push((field, value))?;
         Ok(())
     }
 
-    /// The values of a field, none where the document doesn't have it.
-    pub fn values(&self, field: &Text) -> &[FieldValue]
-        ensures { result.now ≡ values_in self.now field.now }
+    /// The values with the names of their fields, in the order in which they were added.
+    pub(crate) fn into_values(self) -> Vec<(Text, FieldValue)>
+        ensures { result.items ≡ self }
     {
-        match self.fields.get(field) {
-            Some(values) => values.as_slice(),
-            None => &[],
-        }
+        let Document { values } = self;
+        values
     }
 }

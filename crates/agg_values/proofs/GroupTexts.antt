@@ -13,26 +13,38 @@ use Rattle.agg_values.proofs.ZeroRuns.{first_run-same, longest_run-same}
 
 -- a group's digits are those that std writes
 hex_one : (n : ℕ) → n < 16 → digits 16 false n ≡ digit_glyph false (n % 16) ∷ []
-hex_one n small = sym (digits_onto-nil 16 false n) ∙ digits_onto_last 16 false n [] 64 (omega arith) (omega arith)
+hex_one n small = sym (digits_onto-nil 16 false n) ∙ digits_onto_last 16 false n [] 64 (omega arith)
+    (omega arith)
 
-hex_two : (n : ℕ) → 16 ≤ n → n < 256 → digits 16 false n ≡ digit_glyph false (n / 16 % 16) ∷ digit_glyph false (n % 16) ∷ []
+hex_two : (n : ℕ) → 16 ≤ n → n < 256 → digits 16 false n ≡ digit_glyph false (n / 16 % 16)
+    ∷ digit_glyph false (n % 16) ∷ []
 hex_two n large small =
     sym (digits_onto-nil 16 false n) ∙ digits_onto_step 16 false n [] 64 (omega arith) (omega arith)
-    ∙ digits_onto_last 16 false (n / 16) (digit_glyph false (n % 16) ∷ []) 63 (omega arith) (omega arith)
+    ∙ digits_onto_last 16 false (n / 16) (digit_glyph false (n % 16) ∷ []) 63 (omega arith)
+    (omega arith)
 
-hex_three : (n : ℕ) → 256 ≤ n → n < 4096 → digits 16 false n ≡ digit_glyph false (n / 16 / 16 % 16) ∷ digit_glyph false (n / 16 % 16) ∷ digit_glyph false (n % 16) ∷ []
+hex_three : (n : ℕ) → 256 ≤ n → n < 4096 → digits 16 false n ≡ digit_glyph false (n / 16 / 16 % 16)
+    ∷ digit_glyph false (n / 16 % 16) ∷ digit_glyph false (n % 16) ∷ []
 hex_three n large small =
     sym (digits_onto-nil 16 false n) ∙ digits_onto_step 16 false n [] 64 (omega arith) (omega arith)
-    ∙ digits_onto_step 16 false (n / 16) (digit_glyph false (n % 16) ∷ []) 63 (omega arith) (omega arith)
-    ∙ digits_onto_last 16 false (n / 16 / 16) (digit_glyph false (n / 16 % 16) ∷ digit_glyph false (n % 16) ∷ []) 62 (omega arith) (omega arith)
+    ∙ digits_onto_step 16 false (n / 16) (digit_glyph false (n % 16) ∷ []) 63 (omega arith)
+    (omega arith)
+    ∙ digits_onto_last 16 false (n / 16 / 16) (digit_glyph false (n / 16 % 16)
+    ∷ digit_glyph false (n % 16) ∷ []) 62 (omega arith) (omega arith)
 
 hex_four : (n : ℕ) → 4096 ≤ n → n < 65536
-    → digits 16 false n ≡ digit_glyph false (n / 16 / 16 / 16 % 16) ∷ digit_glyph false (n / 16 / 16 % 16) ∷ digit_glyph false (n / 16 % 16) ∷ digit_glyph false (n % 16) ∷ []
+    → digits 16 false n ≡ digit_glyph false (n / 16 / 16 / 16 % 16)
+    ∷ digit_glyph false (n / 16 / 16 % 16) ∷ digit_glyph false (n / 16 % 16)
+    ∷ digit_glyph false (n % 16) ∷ []
 hex_four n large small =
     sym (digits_onto-nil 16 false n) ∙ digits_onto_step 16 false n [] 64 (omega arith) (omega arith)
-    ∙ digits_onto_step 16 false (n / 16) (digit_glyph false (n % 16) ∷ []) 63 (omega arith) (omega arith)
-    ∙ digits_onto_step 16 false (n / 16 / 16) (digit_glyph false (n / 16 % 16) ∷ digit_glyph false (n % 16) ∷ []) 62 (omega arith) (omega arith)
-    ∙ digits_onto_last 16 false (n / 16 / 16 / 16) (digit_glyph false (n / 16 / 16 % 16) ∷ digit_glyph false (n / 16 % 16) ∷ digit_glyph false (n % 16) ∷ []) 61 (omega arith) (omega arith)
+    ∙ digits_onto_step 16 false (n / 16) (digit_glyph false (n % 16) ∷ []) 63 (omega arith)
+    (omega arith)
+    ∙ digits_onto_step 16 false (n / 16 / 16) (digit_glyph false (n / 16 % 16)
+    ∷ digit_glyph false (n % 16) ∷ []) 62 (omega arith) (omega arith)
+    ∙ digits_onto_last 16 false (n / 16 / 16 / 16) (digit_glyph false (n / 16 / 16 % 16)
+    ∷ digit_glyph false (n / 16 % 16) ∷ digit_glyph false (n % 16) ∷ []) 61 (omega arith)
+    (omega arith)
 
 hex-same : (n : ℕ) → n < 2 ^ 16 → Text.hex n ≡ radix_digits 16 false n
 unfolding Text.hex
@@ -51,7 +63,8 @@ hex-same n fits =
     ]
 
 -- groups with colons between them
-groups_text-cons : (x : ℕ) (xs : List ℕ) → x < 2 ^ 16 → AllSegments xs → Text.groups_text (x ∷ xs) ≡ hex_groups (x ∷ xs)
+groups_text-cons : (x : ℕ) (xs : List ℕ) → x < 2 ^ 16 → AllSegments xs
+    → Text.groups_text (x ∷ xs) ≡ hex_groups (x ∷ xs)
 groups_text-cons x [] first rest = append-nil (Text.hex x) ∙ hex-same x first
 groups_text-cons x (y ∷ ys) first rest =
     let others = groups_text-cons y ys (rest 0) (λ k. rest (suc k)) in
@@ -63,16 +76,21 @@ groups_text-same (x ∷ xs) fits = groups_text-cons x xs (fits 0) (λ k. fits (s
 
 -- a text of groups, with its longest run of zeros at a place
 abbrev with_run : List ℕ → ℕ → ℕ → List ℕ
-with_run groups at run = cond (ltb run 2) (hex_groups groups) (hex_groups (take at groups) ++ (58 ∷ 58 ∷ []) ++ hex_groups (drop (at + run) groups))
+with_run groups at run = cond (ltb run 2) (hex_groups groups) (hex_groups (take at groups) ++ (58
+    ∷ 58 ∷ []) ++ hex_groups (drop (at + run) groups))
 
-shown_same : (xs : List ℕ) (at run : ℕ) → AllSegments xs → Text.compressed_text xs (at, run) ≡ with_run xs at run
+shown_same : (xs : List ℕ) (at run : ℕ) → AllSegments xs → Text.compressed_text xs (at, run)
+    ≡ with_run xs at run
 shown_same xs at run fits =
     elim (cases_lt 1 run) [
-      | inl long ↦ rw (lt-ltb 1 run long, le-ltb run 2 (omega arith)) (λ i. groups_text-same (take at xs) (AllSegments-take at xs fits) i ++ (58 ∷ 58 ∷ []) ++ groups_text-same (drop (at + run) xs) (AllSegments-drop (at + run) xs fits) i)
+      | inl long ↦ rw (lt-ltb 1 run long, le-ltb run 2 (omega arith)) (λ i.
+          groups_text-same (take at xs) (AllSegments-take at xs fits) i ++ (58 ∷ 58 ∷ []) ++
+          groups_text-same (drop (at + run) xs) (AllSegments-drop (at + run) xs fits) i)
       | inr short ↦ rw (le-ltb 1 run short, lt-ltb run 2 (omega arith)) (groups_text-same xs fits)
     ]
 
-pub hex_groups_text-same : (xs : List ℕ) → length xs ≡ 8 → AllSegments xs → Text.hex_groups_text xs ≡ with_run xs (first_run xs) (longest_run xs)
+pub hex_groups_text-same : (xs : List ℕ) → length xs ≡ 8 → AllSegments xs
+    → Text.hex_groups_text xs ≡ with_run xs (first_run xs) (longest_run xs)
 unfolding Text.hex_groups_text
 hex_groups_text-same xs eight fits =
     shown_same xs (Text.longest_zero_run xs).0 (Text.longest_zero_run xs).1 fits

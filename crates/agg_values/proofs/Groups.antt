@@ -24,9 +24,12 @@ abbrev joined : ℕ → ℕ → ℕ
 joined n g = n * 65536 + g
 
 abbrev number_from : ℕ → ℕ → ℕ → ℕ → ℕ → ℕ → ℕ → ℕ → ℕ
-number_from a b c d e f g h = joined (joined (joined (joined (joined (joined (joined a b) c) d) e) f) g) h
+number_from a b c d e f g h = joined (joined (joined (joined (joined (joined (joined a b) c) d) e)
+    f) g) h
 
-from_be_bytes-octets_of : (a b c d e f g h : ℕ) → from_be_bytes w128 (octets_of (a ∷ b ∷ c ∷ d ∷ e ∷ f ∷ g ∷ h ∷ [])) ≡ number_from a b c d e f g h
+from_be_bytes-octets_of : (a b c d e f g h : ℕ)
+    → from_be_bytes w128 (octets_of (a ∷ b ∷ c ∷ d ∷ e ∷ f ∷ g ∷ h ∷ [])) ≡ number_from a b c d e f
+    g h
 from_be_bytes-octets_of a b c d e f g h = omega arith
 
 top : (n g : ℕ) → g < 65536 → joined n g / 65536 ≡ n
@@ -45,7 +48,8 @@ group_at m n g w e fits = ap (λ x. x % 65536) e ∙ last n g fits
 by_one : (m : ℕ) → m / 1 ≡ m
 by_one m = omega arith
 
-groups_of-number_from : (a b c d e f g h : ℕ) → (a < 65536) × (b < 65536) × (c < 65536) × (d < 65536) × (e < 65536) × (f < 65536) × (g < 65536) × (h < 65536)
+groups_of-number_from : (a b c d e f g h : ℕ) → (a < 65536) × (b < 65536) × (c < 65536)
+    × (d < 65536) × (e < 65536) × (f < 65536) × (g < 65536) × (h < 65536)
     → groups_of (number_from a b c d e f g h) ≡ a ∷ b ∷ c ∷ d ∷ e ∷ f ∷ g ∷ h ∷ []
 groups_of-number_from a b c d e f g h fits =
     let m = number_from a b c d e f g h in
@@ -68,7 +72,8 @@ groups_of-number_from a b c d e f g h fits =
     let g4 = group_at m three d (2 ^ 64) m4 fits.3 in
     let g5 = group_at m (joined a b) c (2 ^ 80) m5 fits.2 in
     let g6 = group_at m a b (2 ^ 96) m6 fits.1 in
-    let g7 : m / 2 ^ 112 % 65536 ≡ a = ap (λ x. x % 65536) m7 ∙ (let small : a % 65536 ≡ a = omega (arith, fits.0) in small) in
+    let g7 : m / 2 ^ 112 % 65536 ≡ a = ap (λ x. x % 65536) m7 ∙ (let small : a % 65536 ≡ a =
+    omega (arith, fits.0) in small) in
     λ i. g7 i ∷ g6 i ∷ g5 i ∷ g4 i ∷ g3 i ∷ g2 i ∷ g1 i ∷ g0 i ∷ []
 
 pub step : (a w : ℕ) → joined (a / (w * 65536)) (a / w % 65536) ≡ a / w
@@ -79,7 +84,9 @@ highest a small = omega arith
 
 -- the number of the groups of a number
 number_from-groups_of : (a : ℕ) → a < 2 ^ 128
-    → number_from (a / 2 ^ 112 % 65536) (a / 2 ^ 96 % 65536) (a / 2 ^ 80 % 65536) (a / 2 ^ 64 % 65536) (a / 2 ^ 48 % 65536) (a / 2 ^ 32 % 65536) (a / 2 ^ 16 % 65536) (a / 1 % 65536) ≡ a
+    → number_from (a / 2 ^ 112 % 65536) (a / 2 ^ 96 % 65536) (a / 2 ^ 80 % 65536)
+    (a / 2 ^ 64 % 65536) (a / 2 ^ 48 % 65536) (a / 2 ^ 32 % 65536) (a / 2 ^ 16 % 65536)
+    (a / 1 % 65536) ≡ a
 number_from-groups_of a small =
     let s0 = highest a small in
     let s1 = ap (λ n. joined n (a / 2 ^ 96 % 65536)) s0 ∙ step a (2 ^ 96) in
@@ -91,10 +98,15 @@ number_from-groups_of a small =
     ap (λ n. joined n (a / 1 % 65536)) s6 ∙ step a 1 ∙ by_one a
 
 -- the number of the address with these groups
-pub groups_of-from_be_bytes : (groups : List ℕ) → length groups ≡ 8 → ((k : ℕ) → get_or groups k 0 < 2 ^ 16) → groups_of (from_be_bytes w128 (octets_of groups)) ≡ groups
+pub groups_of-from_be_bytes : (groups : List ℕ) → length groups ≡ 8
+    → ((k : ℕ) → get_or groups k 0 < 2 ^ 16) → groups_of (from_be_bytes w128 (octets_of groups))
+    ≡ groups
 groups_of-from_be_bytes groups eight fits =
     let e = eight_items groups eight in
-    rw e (ap groups_of (from_be_bytes-octets_of _ _ _ _ _ _ _ _) ∙ groups_of-number_from _ _ _ _ _ _ _ _ (fits 0, fits 1, fits 2, fits 3, fits 4, fits 5, fits 6, fits 7))
+    rw e (ap groups_of (from_be_bytes-octets_of _ _ _ _ _ _ _ _) ∙ groups_of-number_from _ _ _ _ _ _
+    _ _ (fits 0, fits 1, fits 2, fits 3, fits 4, fits 5, fits 6, fits 7))
 
-pub from_be_bytes-groups_of : (a : ℕ) → a < 2 ^ 128 → from_be_bytes w128 (octets_of (groups_of a)) ≡ a
-from_be_bytes-groups_of a small = from_be_bytes-octets_of _ _ _ _ _ _ _ _ ∙ number_from-groups_of a small
+pub from_be_bytes-groups_of : (a : ℕ) → a < 2 ^ 128 → from_be_bytes w128 (octets_of (groups_of a))
+    ≡ a
+from_be_bytes-groups_of a small = from_be_bytes-octets_of _ _ _ _ _ _ _ _ ∙ number_from-groups_of a
+    small

@@ -1,4 +1,5 @@
--- Texts of after keys: what is written reads back, a text is of one key at most, and which refusal it gets.
+-- Texts of after keys: what is written reads back, a text is of one key at most, and which refusal
+-- it gets.
 use Rattle.std.proofs.Common.{◌≡◌, ◌≢◌, ℕ, ℤ, pos, negsuc, zero, suc, ◌+◌, ◌*◌, ◌<◌, ◌^◌, Bool}
 use Rattle.std.proofs.Common.{true, false, cond, eqb, List, [], ◌∷◌, ◌++◌, length, get_or, decimal}
 use Rattle.std.proofs.Common.{Option, Some, None, Result, Ok, Err, MatchResult, IfOk, IfErr, refl}
@@ -30,35 +31,40 @@ weight [] = 0
 weight (c ∷ cs) = c + 256 * weight cs
 
 -- a value that is none of its kind's
-pub refused_truth : (value : List ℕ) → ((b : Bool) → ¬ (IsValueText value (Truth b))) → IsValueRefusedAs (codes "bool") value BadValue
+pub refused_truth : (value : List ℕ) → ((b : Bool) → ¬ (IsValueText value (Truth b)))
+    → IsValueRefusedAs (codes "bool") value BadValue
 refused_truth value none = ((Truth true, refl), λ key e h. of key e h)
   where
     of : (key : CompositeIntermediateKey) → codes "bool" ≡ kind_text key → ¬ (IsValueText value key)
     of (Truth b) e h = none b h
     of _ e h = omega (arith, ap weight e)
 
-pub refused_signed : (value : List ℕ) → ((n : ℤ) → ¬ (IsSignedText value n)) → IsValueRefusedAs (codes "i64") value BadValue
+pub refused_signed : (value : List ℕ) → ((n : ℤ) → ¬ (IsSignedText value n))
+    → IsValueRefusedAs (codes "i64") value BadValue
 refused_signed value none = ((I64 (pos 0), refl), λ key e h. of key e h)
   where
     of : (key : CompositeIntermediateKey) → codes "i64" ≡ kind_text key → ¬ (IsValueText value key)
     of (I64 n) e h = none n h
     of _ e h = omega (arith, ap weight e)
 
-pub refused_unsigned : (value : List ℕ) → ((n : ℕ) → ¬ (IsUnsignedText value n)) → IsValueRefusedAs (codes "u64") value BadValue
+pub refused_unsigned : (value : List ℕ) → ((n : ℕ) → ¬ (IsUnsignedText value n))
+    → IsValueRefusedAs (codes "u64") value BadValue
 refused_unsigned value none = ((U64 0, refl), λ key e h. of key e h)
   where
     of : (key : CompositeIntermediateKey) → codes "u64" ≡ kind_text key → ¬ (IsValueText value key)
     of (U64 n) e h = none n h
     of _ e h = omega (arith, ap weight e)
 
-pub refused_date : (value : List ℕ) → ((n : ℤ) → ¬ (IsSignedText value n)) → IsValueRefusedAs (codes "dt") value BadValue
+pub refused_date : (value : List ℕ) → ((n : ℤ) → ¬ (IsSignedText value n))
+    → IsValueRefusedAs (codes "dt") value BadValue
 refused_date value none = ((DateTime (pos 0), refl), λ key e h. of key e h)
   where
     of : (key : CompositeIntermediateKey) → codes "dt" ≡ kind_text key → ¬ (IsValueText value key)
     of (DateTime ns) e h = none ns h
     of _ e h = omega (arith, ap weight e)
 
-pub refused_address : (value : List ℕ) → ((a : ℕ) → ¬ (IsAddressText value a)) → IsValueRefusedAs (codes "ip") value BadValue
+pub refused_address : (value : List ℕ) → ((a : ℕ) → ¬ (IsAddressText value a))
+    → IsValueRefusedAs (codes "ip") value BadValue
 refused_address value none = ((IpAddr (record { 0 = 0 }), refl), λ key e h. of key e h)
   where
     of : (key : CompositeIntermediateKey) → codes "ip" ≡ kind_text key → ¬ (IsValueText value key)
@@ -77,8 +83,10 @@ both_free false rest e = (refl, e)
 not_contained : (cs : List ℕ) → free_of_colon cs ≡ true → ¬ (Contains cs colon)
 unfolding free_of_colon
 not_contained [] e (k, below, same) = omega (arith, below)
-not_contained (c ∷ cs) e (zero, below, same) = true≢false (sym (eq-eqb c colon same) ∙ (both_free _ _ e).0)
-not_contained (c ∷ cs) e (suc k, below, same) = not_contained cs (both_free _ _ e).1 (k, omega arith, same)
+not_contained (c ∷ cs) e (zero, below, same) = true≢false (sym (eq-eqb c colon same)
+    ∙ (both_free _ _ e).0)
+not_contained (c ∷ cs) e (suc k, below, same) = not_contained cs (both_free _ _ e).1
+    (k, omega arith, same)
 
 no_colon : (key : CompositeIntermediateKey) → ¬ (Contains (kind_text key) colon)
 unfolding free_of_colon
@@ -91,37 +99,55 @@ no_colon (IpAddr address) = not_contained (codes "ip") refl
 no_colon Null = not_contained (codes "null") refl
 
 -- a text has one first colon
-cut_unique : (xs ys us vs : List ℕ) → (¬ (Contains xs colon)) → (¬ (Contains us colon)) → xs ++ colon ∷ ys ≡ us ++ colon ∷ vs → (xs ≡ us) × (ys ≡ vs)
+cut_unique : (xs ys us vs : List ℕ) → (¬ (Contains xs colon)) → (¬ (Contains us colon))
+    → xs ++ colon ∷ ys ≡ us ++ colon ∷ vs → (xs ≡ us) × (ys ≡ vs)
 cut_unique [] ys [] vs no_x no_u e = (refl, cc)
-cut_unique [] ys (u ∷ us) vs no_x no_u e = absurd (no_u (0, omega arith, (let h : u ≡ 58 = cc in h)))
-cut_unique (x ∷ xs) ys [] vs no_x no_u e = absurd (no_x (0, omega arith, (let h : x ≡ 58 = cc in h)))
+cut_unique [] ys (u ∷ us) vs no_x no_u e = absurd (no_u (
+  0,
+  omega arith,
+  (let h : u ≡ 58 = cc in
+      h),
+))
+cut_unique (x ∷ xs) ys [] vs no_x no_u e = absurd (no_x (
+  0,
+  omega arith,
+  (let h : x ≡ 58 = cc in
+      h),
+))
 cut_unique (x ∷ xs) ys (u ∷ us) vs no_x no_u e =
     let first : x ≡ u = cc in
     let others : xs ++ colon ∷ ys ≡ us ++ colon ∷ vs = cc in
-    let later = cut_unique xs ys us vs (λ h. no_x (suc h.0, omega (arith, h.1), h.2)) (λ h. no_u (suc h.0, omega (arith, h.1), h.2)) others in
+    let later = cut_unique xs ys us vs (λ h. no_x (suc h.0, omega (arith, h.1), h.2)) (λ h.
+    no_u (suc h.0, omega (arith, h.1), h.2)) others in
     ((λ i. first i ∷ later.0 i), later.1)
 
 -- a value is of one key of its kind
-same_truth : (value : List ℕ) (b c : Bool) → IsValueText value (Truth b) → IsValueText value (Truth c) → b ≡ c
+same_truth : (value : List ℕ) (b c : Bool) → IsValueText value (Truth b)
+    → IsValueText value (Truth c) → b ≡ c
 same_truth value true true h k = refl
 same_truth value true false h k = absurd (omega (arith, ap weight (sym h ∙ k)))
 same_truth value false true h k = absurd (omega (arith, ap weight (sym h ∙ k)))
 same_truth value false false h k = refl
 
-value_unique : (value : List ℕ) (key other : CompositeIntermediateKey) → kind_text key ≡ kind_text other → IsValueText value key → IsValueText value other → key ≡ other
+value_unique : (value : List ℕ) (key other : CompositeIntermediateKey)
+    → kind_text key ≡ kind_text other → IsValueText value key → IsValueText value other
+    → key ≡ other
 value_unique value (Truth b) (Truth c) e h k = ap Truth (same_truth value b c h k)
 value_unique value (Str text) (Str other) e h k = ap Str (h ∙ sym k)
 value_unique value (I64 m) (I64 n) e h k = ap I64 (h.2 ∙ sym k.2)
 value_unique value (U64 m) (U64 n) e h k = ap U64 (h.2 ∙ sym k.2)
 value_unique value (DateTime m) (DateTime n) e h k = ap DateTime (h.2 ∙ sym k.2)
-value_unique value (IpAddr a) (IpAddr b) e h k = ap (λ n. IpAddr (record { 0 = n })) (IsAddressText-unique value a.0 b.0 h k)
+value_unique value (IpAddr a) (IpAddr b) e h k = ap (λ n. IpAddr (record { 0 = n }))
+    (IsAddressText-unique value a.0 b.0 h k)
 value_unique value Null Null e h k = refl
 value_unique value _ _ e h k = absurd (omega (arith, ap weight e))
 
 -- a text is of one key at most
-pub IsKeyText-unique : (text : List ℕ) (key other : CompositeIntermediateKey) → IsKeyText text key → IsKeyText text other → key ≡ other
+pub IsKeyText-unique : (text : List ℕ) (key other : CompositeIntermediateKey) → IsKeyText text key
+    → IsKeyText text other → key ≡ other
 IsKeyText-unique text key other (v, e, h) (w, f, k) =
-    let same = cut_unique (kind_text key) v (kind_text other) w (no_colon key) (no_colon other) (sym e ∙ f) in
+    let same = cut_unique (kind_text key) v (kind_text other) w (no_colon key) (no_colon other)
+    (sym e ∙ f) in
     value_unique v key other same.0 h (subst (λ value. IsValueText value other) (sym same.1) k)
 
 -- a number's digits have no sign
@@ -131,14 +157,17 @@ not_sign ds c numeral low e = let first = digit_at ds 0 numeral.1 numeral.0 in o
 pub IsUnsignedText-decimal : (n : ℕ) → n < 2 ^ 64 → IsUnsignedText (decimal n) n
 IsUnsignedText-decimal n fits =
     let numeral = decimal_is_IsNumeral n fits in
-    let bare = without_leading_plus_none (decimal n) (not_sign (decimal n) 43 numeral.0 (omega arith)) in
+    let bare = without_leading_plus_none (decimal n) (not_sign (decimal n) 43 numeral.0
+    (omega arith)) in
     rw bare (numeral.0, fits, sym numeral.1)
 
 pub IsSignedText-signed_decimal : (n : ℤ) → FitsSigned w64 n → IsSignedText (signed_decimal n) n
 IsSignedText-signed_decimal (pos n) fits =
     let numeral = decimal_is_IsNumeral n (omega (arith, fits.sfits)) in
-    let bare = without_leading_plus_none (decimal n) (not_sign (decimal n) 43 numeral.0 (omega arith)) in
-    let unsigned = ne_eqb (get_or (decimal n) 0 0) 45 (not_sign (decimal n) 45 numeral.0 (omega arith)) in
+    let bare = without_leading_plus_none (decimal n) (not_sign (decimal n) 43 numeral.0
+    (omega arith)) in
+    let unsigned = ne_eqb (get_or (decimal n) 0 0) 45 (not_sign (decimal n) 45 numeral.0
+    (omega arith)) in
     rw (unsigned, bare) (numeral.0, fits, ap pos (sym numeral.1))
 IsSignedText-signed_decimal (negsuc n) fits =
     let numeral = decimal_is_IsNumeral (suc n) (omega (arith, fits.sfits)) in
@@ -147,7 +176,8 @@ IsSignedText-signed_decimal (negsuc n) fits =
 -- a kind and a value that a colon divides
 contains_colon : (kind value : List ℕ) → Contains (kind ++ colon ∷ value) colon
 contains_colon [] value = (0, omega arith, refl)
-contains_colon (c ∷ cs) value = let later = contains_colon cs value in (suc later.0, omega (arith, later.1), later.2)
+contains_colon (c ∷ cs) value = let later = contains_colon cs value in
+    (suc later.0, omega (arith, later.1), later.2)
 
 f64_is_none : (key : CompositeIntermediateKey) → codes "f64" ≢ kind_text key
 f64_is_none (Truth b) e = omega (arith, ap weight e)
@@ -163,23 +193,30 @@ unfolding free_of_colon
 no_colon_in_f64 = not_contained (codes "f64") refl
 
 -- where a text is a key's, a reading gives that key, or memory was wanted
-refused_key : (text : List ℕ) (key : CompositeIntermediateKey) (error : KeyTextError) → IsKeyText text key → IsRefusedAs text error → error ≡ OutOfMemory
-refused_key text key NoColon (v, e, h) none = absurd (none (subst (λ bytes. Contains bytes colon) (sym e) (contains_colon (kind_text key) v)))
+refused_key : (text : List ℕ) (key : CompositeIntermediateKey) (error : KeyTextError)
+    → IsKeyText text key → IsRefusedAs text error → error ≡ OutOfMemory
+refused_key text key NoColon (v, e, h) none =
+    absurd (none (subst (λ bytes. Contains bytes colon) (sym e) (contains_colon (kind_text key) v)))
 refused_key text key Unsupported (v, e, h) (w, f) =
-    absurd (f64_is_none key (sym (cut_unique (kind_text key) v (codes "f64") w (no_colon key) no_colon_in_f64 (sym e ∙ f)).0))
+    absurd (f64_is_none key (sym (cut_unique (kind_text key) v (codes "f64") w (no_colon key)
+    no_colon_in_f64 (sym e ∙ f)).0))
 refused_key text key UnknownType (v, e, h) (kind, w, f, bare, other, unknown) =
-    absurd (unknown key (sym (cut_unique (kind_text key) v kind w (no_colon key) bare (sym e ∙ f)).0))
+    absurd (unknown key (sym (cut_unique (kind_text key) v kind w (no_colon key) bare (sym e
+    ∙ f)).0))
 refused_key text key BadValue known (other, w, f, none) = absurd (none key known)
 refused_key text key OutOfMemory known memory = refl
 
-pub only_that_key : {A : Type 0} (of : A → CompositeIntermediateKey) (text : List ℕ) (r : Result A KeyTextError)
+pub only_that_key : {A : Type 0} (of : A → CompositeIntermediateKey) (text : List ℕ)
+    (r : Result A KeyTextError)
     → IfOk r (λ read. IsKeyText text (of read)) → IfErr r (IsRefusedAs text)
-    → (key : CompositeIntermediateKey) → IsKeyText text key → MatchResult r (λ read. of read ≡ key) (λ error. error ≡ OutOfMemory)
+    → (key : CompositeIntermediateKey) → IsKeyText text key
+    → MatchResult r (λ read. of read ≡ key) (λ error. error ≡ OutOfMemory)
 only_that_key of text (Ok read) ok err key known = IsKeyText-unique text (of read) key ok known
 only_that_key of text (Err error) ok err key known = refused_key text key error known err
 
 -- what is refused of a kind and a value is refused of their text
-pub refused_text : (text kind value : List ℕ) (error : KeyTextError) → text ≡ kind ++ colon ∷ value → (¬ (Contains kind colon)) → IsValueRefusedAs kind value error → IsRefusedAs text error
+pub refused_text : (text kind value : List ℕ) (error : KeyTextError) → text ≡ kind ++ colon ∷ value
+    → (¬ (Contains kind colon)) → IsValueRefusedAs kind value error → IsRefusedAs text error
 refused_text text kind value NoColon e bare h = absurd h
 refused_text text kind value Unsupported e bare h = (value, e ∙ ap (λ k. k ++ colon ∷ value) h)
 refused_text text kind value UnknownType e bare h = (kind, value, e, bare, h.0, h.1)
@@ -194,21 +231,27 @@ refused_text text kind value BadValue e bare h = (
 refused_text text kind value OutOfMemory e bare h = (value, e ∙ ap (λ k. k ++ colon ∷ value) h)
 
 -- where each byte is another, the byte is not contained
-pub not_contained_by_place : (c : ℕ) (bs : List ℕ) → ((i : ℕ) → i < length bs → get_or bs i 0 ≢ c) → ¬ (Contains bs c)
-not_contained_by_place c bs other (k, below, same) = other k below (get_or_default bs k 0 c below ∙ same)
+pub not_contained_by_place : (c : ℕ) (bs : List ℕ) → ((i : ℕ) → i < length bs → get_or bs i 0 ≢ c)
+    → ¬ (Contains bs c)
+not_contained_by_place c bs other (k, below, same) = other k below (get_or_default bs k 0 c below
+    ∙ same)
 
 -- a refusal that is passed on
-pub passed_on : {T E : Type 0} (r : Result T E) (e : E) (P : E → Type 0) → IsErrAnd r (λ y. y ≡ e) → P e → IfErr r P
+pub passed_on : {T E : Type 0} (r : Result T E) (e : E) (P : E → Type 0) → IsErrAnd r (λ y. y ≡ e)
+    → P e → IfErr r P
 passed_on (Ok x) e P is p = tt
 passed_on (Err y) e P is p = subst P (sym is) p
 
-pub bad_value : {T : Type 0} (r : Result T KeyTextError) (e : KeyTextError) (kind name value : List ℕ) → IsErrAnd r (λ y. y ≡ e) → e ≡ BadValue → kind ≡ name
+pub bad_value : {T : Type 0} (r : Result T KeyTextError) (e : KeyTextError) (kind name value : List
+    ℕ) → IsErrAnd r (λ y. y ≡ e) → e ≡ BadValue → kind ≡ name
     → IsValueRefusedAs name value BadValue → IfErr r (IsValueRefusedAs kind value)
 bad_value r e kind name value is bad named refused =
-    passed_on r e (IsValueRefusedAs kind value) is (subst (IsValueRefusedAs kind value) (sym bad) (subst (λ k. IsValueRefusedAs k value BadValue) (sym named) refused))
+    passed_on r e (IsValueRefusedAs kind value) is (subst (IsValueRefusedAs kind value) (sym bad)
+    (subst (λ k. IsValueRefusedAs k value BadValue) (sym named) refused))
 
 -- the error of an `ok_or` at None
-pub error_of_none : {T E : Type 0} (o : Option T) (given error : E) → o ≡ None → Err error ≡ ok_or o given → error ≡ given
+pub error_of_none : {T E : Type 0} (o : Option T) (given error : E) → o ≡ None
+    → Err error ≡ ok_or o given → error ≡ given
 error_of_none None given error none e = cc
 error_of_none (Some x) given error none e = cc
 

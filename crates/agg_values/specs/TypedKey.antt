@@ -1,7 +1,7 @@
 -- Typed keys: a value with its type, or Null.
 use Rattle.std.specs.Prelude.{ℕ, ◌^◌, ◌≤◌, ◌<ℤ◌, ℤ, pos, unsigned_abs, int_lt, List, [], nat_lt}
 use Rattle.std.specs.Prelude.{if◌then◌else◌, ⊤}
-use Rattle.agg_values.specs.declared.composite_intermediate_key.CompositeIntermediateKey as typed
+use Rattle.agg_values.specs.declared.typed_key.CompositeIntermediateKey as typed
 pub use typed.{CompositeIntermediateKey}
 pub use typed.TheVariants as key
 use key.{Bool as Truth, Str, I64, U64, DateTime, IpAddr, Null}
@@ -42,6 +42,7 @@ typed_number n = if int_lt n (pos (2 ^ 63)) then I64 n else U64 (unsigned_abs n)
 
 -- the same value, with a number as an I64 where it fits one
 abbrev pub canonical_key : CompositeIntermediateKey → CompositeIntermediateKey
+canonical_key (I64 n) = typed_number n
 canonical_key (U64 n) = if nat_lt n (2 ^ 63) then I64 (pos n) else U64 n
 canonical_key key = key
 

@@ -5,7 +5,6 @@
 mod address;
 mod after_key;
 mod column;
-mod composite_intermediate_key;
 mod composite_key;
 mod error;
 mod item_list;
@@ -23,11 +22,11 @@ mod steps;
 mod tests;
 mod text;
 mod tuple;
+mod typed_key;
 
 pub use address::Address;
 pub use after_key::AfterKey;
 pub use column::ColumnPaginationOrder;
-pub use composite_intermediate_key::{CompositeIntermediateKey, canonical};
 pub use composite_key::CompositeKey;
 pub use error::{InvalidArgument, KeyTextError, OutOfMemory, TooMany};
 pub use item_list::ItemList;
@@ -45,6 +44,7 @@ pub use request_error::{AggregationError, DateHistogramParseError, RequestError}
 pub use steps::Steps;
 pub use text::Text;
 pub use tuple::Tuple;
+pub use typed_key::{CompositeIntermediateKey, canonical};
 
 /// The place of a document in its segment.
 pub type DocId = u32;

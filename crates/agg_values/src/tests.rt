@@ -25,7 +25,7 @@ fn tuple_of(alloc: Global, key: CompositeIntermediateKey) -> Result<Tuple, Fail>
 }
 
 #[test]
-fn sets_find_equal_values(rt: HostRuntime) -> Result<(), Fail> {
+fn sets_find_equal_keys(rt: HostRuntime) -> Result<(), Fail> {
     let alloc = rt.alloc();
     for (kind, found) in [
         (
@@ -63,6 +63,16 @@ fn sets_find_equal_values(rt: HostRuntime) -> Result<(), Fail> {
                 &IntermediateKey::Bool(false),
             )?,
         ),
+    ] {
+        assert_eq!(rt; found, (true, false), "{kind}");
+    }
+    Ok(())
+}
+
+#[test]
+fn sets_find_equal_lists(rt: HostRuntime) -> Result<(), Fail> {
+    let alloc = rt.alloc();
+    for (kind, found) in [
         (
             "text",
             finds(

@@ -1,8 +1,8 @@
 //! The page of one snapshot.
-ghost use Rattle.std.specs.Prelude.{◌≤◌, filter, length};
+ghost use Rattle.std.specs.Prelude.{◌≤◌, filter, length, All, IsTrue};
 ghost use Rattle.agg_segment.specs.Query.{matches};
 ghost use Rattle.agg_segment.specs.Segment.{documents_of};
-ghost use Rattle.agg_request.specs.Source.{IsOneAscendingSource};
+ghost use Rattle.agg_request.specs.Source.{IsOneAscendingSource, hold_signed_numbers};
 ghost use Rattle.agg_engine.specs.PageAnswers.{AnswersPage};
 ghost use Rattle.agg_engine.specs.Snapshot.{snapshot_documents};
 ghost use Rattle.agg_engine.specs.Walk.{matching_documents};
@@ -28,6 +28,9 @@ pub fn snapshot_page<L: Ledger>(
 ) -> Result<ItemList<PageEntry>, CollectError>
     requires form { IsOneAscendingSource composite.now.sources }
     requires one { length snapshot.now.segments ≤ 1 }
+    requires numbers { All (λ document. IsTrue
+        (hold_signed_numbers composite.now.sources document))
+        (matching_documents query.now (snapshot_documents snapshot.now)) }
     ensures page { AnswersPage
         composite.now
         bound.now
@@ -51,6 +54,9 @@ fn segment_page<L: Ledger>(
     steps: &mut Steps<L>,
 ) -> Result<ItemList<PageEntry>, CollectError>
     requires form { IsOneAscendingSource composite.now.sources }
+    requires numbers { All (λ document. IsTrue
+        (hold_signed_numbers composite.now.sources document))
+        (filter (matches query.now) (documents_of segment.now)) }
     ensures page { AnswersPage
         composite.now
         bound.now

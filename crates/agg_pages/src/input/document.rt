@@ -1,20 +1,62 @@
-//! A document: an object from field to values.
-ghost use Rattle.std.specs.Prelude.{◌≡◌, Some, None, IfOk, IsErrOf};
-ghost use Rattle.serde_json.specs.View.{members_view, items_view, view};
-ghost use Rattle.agg_request.specs.Json.{each_item, each_member};
-ghost use Rattle.agg_pages.specs.Input.{document_of, field_values, value_of_data};
+//! A document: an object from field to a value, or to an array of values.
+ghost use Rattle.std.specs.Prelude.{◌≡◌, None, IfOk, OnOk, IfSome, IsErrOf, option_map};
+ghost use Rattle.std.specs.Prelude.{option_and_then};
+ghost use Rattle.serde_json.specs.Data.{item as one_item, no_items, object};
+ghost use Rattle.serde_json.specs.Find.{as_integer, as_number};
+ghost use Rattle.serde_json.specs.View.{items_view, members_view, view};
+ghost use Rattle.agg_segment.specs.Document.{Fields, key_of, meaning};
+ghost use Rattle.agg_values.specs.TypedKey.{CompositeIntermediateKey as Key, typed_number};
+ghost use Rattle.agg_values.specs.declared.typed_key.CompositeIntermediateKey.TheVariants as key;
+ghost use Rattle.agg_pages.specs.DocumentLine.{HasKey, IsAddressKey, IsDocument, IsDocumentLine};
+ghost use Rattle.agg_pages.specs.DocumentLine.{address_text_of, date_of, field_values, plain_key};
+ghost use Rattle.agg_pages.specs.DocumentLine.{values_among};
+ghost use Rattle.agg_pages.specs.Fields.{AddsValues, HasNoKeys};
+ghost use Rattle.agg_pages.specs.Snapshots.{HasNoDocument, HoldsLine};
+
+#[cfg(test)]
+mod tests;
 
 use super::InputError;
+use super::tokens::{LineRoom, read_document_tokens};
 use super::value::parse;
-use agg_segment::{Document, FieldValue};
-use agg_values::{ItemList, Text};
+use agg_request::json_value::only_named;
+use agg_segment::{Document, FieldValue, SegmentBuilder};
+use agg_values::{Address, OutOfMemory, Text};
 use serde_json::{Map, Value};
 use std::alloc::Global;
 
-/// The document of a line.
-pub fn read_document(alloc: Global, line: &str) -> Result<Document, InputError>
-    ensures ok { IfOk result (λ document. document_of line.now ≡ Some document) }
-    ensures not_input { IsErrOf result InputError.NotInput → document_of line.now ≡ None }
+/// Appends the document of a line to a segment. `room` is kept from line to line.
+pub fn read_document(
+    alloc: Global,
+    builder: &mut SegmentBuilder,
+    line: &str,
+    room: &mut LineRoom,
+) -> Result<(), InputError>
+    ensures ok { OnOk result (HoldsLine line.now builder.old builder.new) }
+    ensures not_input { IsErrOf result InputError.NotInput
+        → HasNoDocument line.now builder.old }
+{
+    if read_document_tokens(alloc, builder, line, room)? {
+        return Ok(());
+    }
+    read_by_value(alloc, builder, line)
+}
+
+// Appends the document of a line, read from its JSON value.
+fn read_by_value(alloc: Global, builder: &mut SegmentBuilder, line: &str) -> Result<(), InputError>
+    ensures ok { OnOk result (HoldsLine line.now builder.old builder.new) }
+    ensures not_input { IsErrOf result InputError.NotInput
+        → HasNoDocument line.now builder.old }
+{
+    let document = document_of(alloc, line)?;
+    Ok(builder.add_document(document)?)
+}
+
+// The document of a line.
+fn document_of(alloc: Global, line: &str) -> Result<Document, InputError>
+    ensures ok { IfOk result (λ document. IsDocumentLine line.now (meaning document)) }
+    ensures not_input { IsErrOf result InputError.NotInput
+        → (document : Fields) → ¬ IsDocumentLine line.now document }
 {
     match parse(alloc, line)? {
         Value::Object(members) => document_of_members(alloc, members),
@@ -22,52 +64,136 @@ pub fn read_document(alloc: Global, line: &str) -> Result<Document, InputError>
     }
 }
 
-// The names are moved into the document.
+// The names and texts are copied into the document.
 fn document_of_members(alloc: Global, members: Map<String, Value>) -> Result<Document, InputError>
     ensures ok { IfOk result
-        (λ document. each_member field_values (members_view members.entries) ≡ Some document) }
+        (λ document. IsDocument (object (members_view members.entries)) (meaning document)) }
     ensures not_input { IsErrOf result InputError.NotInput
-        → each_member field_values (members_view members.entries) ≡ None }
+        → (document : Fields) → ¬ IsDocument (object (members_view members.entries)) document }
 {
     let mut document = Document::new(alloc);
     for (name, value) in members {
-        let values = read_values(alloc, value)?;
-        document.set(Text::from_string(name), values)?;
+        add_values(alloc, &mut document, name.as_str(), &value)?;
     }
     Ok(document)
 }
 
-// The values of a field: one, or an array of them.
-fn read_values(alloc: Global, value: Value) -> Result<ItemList<FieldValue>, InputError>
-    ensures ok { IfOk result (λ values. field_values (view value) ≡ Some values) }
-    ensures not_input { IsErrOf result InputError.NotInput → field_values (view value) ≡ None }
+// Adds the values of a field: one, or those of an array.
+fn add_values(
+    alloc: Global,
+    document: &mut Document,
+    name: &str,
+    value: &Value,
+) -> Result<(), InputError>
+    ensures ok { OnOk result
+        (AddsValues name.now (field_values (view value.now)) document.old document.new) }
+    ensures not_input { IsErrOf result InputError.NotInput
+        → HasNoKeys (field_values (view value.now)) }
 {
     match value.as_array() {
-        Some(items) => values_of_items(alloc, items.as_slice()),
-        None => {
-            let mut values = ItemList::new(alloc);
-            values.push(read_value(&value).ok_or(InputError::NotInput)?)?;
-            Ok(values)
-        }
+        Some(items) => add_items(alloc, document, name, items.as_slice()),
+        None => add_item(alloc, document, name, value),
     }
 }
 
-fn values_of_items(alloc: Global, items: &[Value]) -> Result<ItemList<FieldValue>, InputError>
-    ensures ok { IfOk result
-        (λ values. each_item value_of_data (items_view items.now) ≡ Some values) }
+fn add_items(
+    alloc: Global,
+    document: &mut Document,
+    name: &str,
+    items: &[Value],
+) -> Result<(), InputError>
+    ensures ok { OnOk result
+        (AddsValues name.now (values_among (items_view items.now)) document.old document.new) }
     ensures not_input { IsErrOf result InputError.NotInput
-        → each_item value_of_data (items_view items.now) ≡ None }
+        → HasNoKeys (values_among (items_view items.now)) }
 {
-    let mut values = ItemList::new(alloc);
     for item in items {
-        values.push(read_value(item).ok_or(InputError::NotInput)?)?;
+        add_item(alloc, document, name, item)?;
     }
-    Ok(values)
+    Ok(())
 }
 
-// A whole number.
-fn read_value(value: &Value) -> Option<FieldValue>
-    ensures { result ≡ value_of_data (view value.now) }
+// Adds a value, where `null` is none.
+fn add_item(
+    alloc: Global,
+    document: &mut Document,
+    name: &str,
+    item: &Value,
+) -> Result<(), InputError>
+    ensures ok { OnOk result
+        (AddsValues name.now (values_among (one_item (view item.now) no_items))
+        document.old document.new) }
+    ensures not_input { IsErrOf result InputError.NotInput
+        → HasNoKeys (values_among (one_item (view item.now) no_items)) }
 {
-    Some(FieldValue::I64(value.as_i64()?))
+    if item.is_null() {
+        return Ok(());
+    }
+    let value = read_value(alloc, item)?;
+    document.add(Text::copy_of(alloc, name)?, value)?;
+    Ok(())
+}
+
+fn read_value(alloc: Global, value: &Value) -> Result<FieldValue, InputError>
+    ensures ok { IfOk result (λ read. HasKey (view value.now) (key_of read)) }
+    ensures not_input { IsErrOf result InputError.NotInput
+        → (key : Key) → ¬ HasKey (view value.now) key }
+{
+    match read_plain(alloc, value)? {
+        Some(plain) => Ok(plain),
+        None => match read_address(alloc, value)? {
+            Some(address) => Ok(FieldValue::Ip(address)),
+            None => Err(InputError::NotInput),
+        },
+    }
+}
+
+// A value that is no address.
+fn read_plain(alloc: Global, value: &Value) -> Result<Option<FieldValue>, OutOfMemory>
+    ensures { IfOk result (λ plain. option_map key_of plain ≡ plain_key (view value.now)) }
+{
+    match value {
+        Value::Bool(b) => Ok(Some(FieldValue::Bool(*b))),
+        Value::String(text) => Ok(Some(FieldValue::Str(Text::copy_of(alloc, text.as_str())?))),
+        Value::Number(_) => Ok(read_number(value)),
+        Value::Object(_) => Ok(read_date(value)),
+        _ => Ok(None),
+    }
+}
+
+// A whole number within i64 or u64.
+fn read_number(value: &Value) -> Option<FieldValue>
+    ensures { option_map key_of result
+        ≡ option_map typed_number (option_and_then as_integer (as_number (view value.now))) }
+{
+    if let Some(n) = value.as_i64() {
+        return Some(FieldValue::I64(n));
+    }
+    Some(FieldValue::U64(value.as_u64()?))
+}
+
+// A date, by its nanoseconds.
+fn read_date(value: &Value) -> Option<FieldValue>
+    ensures { option_map key_of result ≡ option_map key.DateTime (date_of (view value.now)) }
+{
+    Some(FieldValue::Date(only_named(value, "dt")?.as_i64()?))
+}
+
+// An address, by its text.
+fn read_address(alloc: Global, value: &Value) -> Result<Option<Address>, OutOfMemory>
+    ensures found { IfOk result
+        (λ found. IfSome found (λ address. IsAddressKey (view value.now) (key.IpAddr address))) }
+    ensures none { IfOk result
+        (λ found. found ≡ None → (key : Key) → ¬ IsAddressKey (view value.now) key) }
+{
+    match address_text(value) {
+        Some(text) => Ok(Address::read(&Text::copy_of(alloc, text)?)),
+        None => Ok(None),
+    }
+}
+
+fn address_text(value: &Value) -> Option<&str>
+    ensures { option_map (λ s. s.now) result ≡ address_text_of (view value.now) }
+{
+    only_named(value, "ip")?.as_str()
 }

@@ -1,9 +1,13 @@
 //! The header: what a walk is asked for.
-ghost use Rattle.std.specs.Prelude.{◌≡◌, Some, None, IfOk, IsErrOf, option_map};
+ghost use Rattle.std.specs.Prelude.{◌≡◌, Some, None, IfOk, IsErrOf, option_map, codes};
+ghost use Rattle.std.specs.Prelude.{option_and_then};
 ghost use Rattle.serde_json.specs.Find.{as_str, get};
 ghost use Rattle.serde_json.specs.View.{view};
-ghost use Rattle.agg_pages.specs.Input.{composite_of, header_of, header_of_data, request_of};
-ghost use Rattle.agg_pages.specs.Input.{source_of, terms_field, texts_of};
+ghost use Rattle.agg_segment.specs.declared.query.QueryTree.{QueryTree as Tree};
+ghost use Rattle.agg_pages.specs.declared.input.header.Header.{Header as Read};
+ghost use Rattle.agg_pages.specs.Header.{IsHeader, IsHeaderLine, IsQueryOf, composite_of};
+ghost use Rattle.agg_pages.specs.Header.{header_members, request_of, source_of, terms_field};
+ghost use Rattle.agg_pages.specs.Header.{texts_of};
 
 use super::InputError;
 use super::value::parse;
@@ -12,9 +16,9 @@ use agg_request::json_value::{
 };
 use agg_request::{
     Aggregation, AggregationVariants, Aggregations, CompositeAggregation,
-    CompositeAggregationSource, TermCompositeAggregationSource,
+    CompositeAggregationSource, TermCompositeAggregationSource, read_query,
 };
-use agg_segment::Schema;
+use agg_segment::{QueryTree, Schema};
 use agg_values::{ItemList, MissingOrder, NameMap, Order, Text};
 use serde_json::Value;
 use std::alloc::Global;
@@ -25,34 +29,87 @@ pub struct Header {
     pub request: Aggregations,
     pub name: Text,
     pub schema: Schema,
+    pub query: QueryTree,
 }
 
 /// The header of a line.
 pub fn read_header(alloc: Global, line: &str) -> Result<Header, InputError>
-    ensures ok { IfOk result (λ header. header_of line.now ≡ Some header) }
-    ensures not_input { IsErrOf result InputError.NotInput → header_of line.now ≡ None }
+    ensures ok { IfOk result (λ header. IsHeaderLine line.now header) }
+    ensures not_input { IsErrOf result InputError.NotInput
+        → (header : Read) → ¬ IsHeaderLine line.now header }
 {
     let value = parse(alloc, line)?;
     header_of_value(alloc, &value)
 }
 
-// Exactly a request, a name and a schema.
+// Exactly a request, a name and a schema, and a query if there is one.
 fn header_of_value(alloc: Global, value: &Value) -> Result<Header, InputError>
-    ensures ok { IfOk result (λ header. header_of_data (view value.now) ≡ Some header) }
+    ensures ok { IfOk result (λ header. IsHeader (view value.now) header) }
     ensures not_input { IsErrOf result InputError.NotInput
-        → header_of_data (view value.now) ≡ None }
+        → (header : Read) → ¬ IsHeader (view value.now) header }
 {
-    if !has_members(value, 3) {
+    if !has_members(value, header_members(value)) {
         return Err(InputError::NotInput);
     }
-    let request = read_request(alloc, member(value, "request")?)?;
-    let name = text_of(alloc, member(value, "name")?)?;
-    let schema = read_schema(alloc, member(value, "schema")?)?;
+    let request = request_in(alloc, value)?;
+    let name = name_in(alloc, value)?;
+    let schema = schema_in(alloc, value)?;
+    let query = query_of(alloc, value)?;
     Ok(Header {
         request,
         name,
         schema,
+        query,
     })
+}
+
+// The request of a header.
+fn request_in(alloc: Global, value: &Value) -> Result<Aggregations, InputError>
+    ensures ok { IfOk result (λ request.
+        option_and_then request_of (get (codes "request") (view value.now)) ≡ Some request) }
+    ensures not_input { IsErrOf result InputError.NotInput
+        → option_and_then request_of (get (codes "request") (view value.now)) ≡ None }
+{
+    read_request(alloc, member(value, "request")?)
+}
+
+// The name of a header.
+fn name_in(alloc: Global, value: &Value) -> Result<Text, InputError>
+    ensures ok { IfOk result
+        (λ name. option_and_then as_str (get (codes "name") (view value.now)) ≡ Some name) }
+    ensures not_input { IsErrOf result InputError.NotInput
+        → option_and_then as_str (get (codes "name") (view value.now)) ≡ None }
+{
+    text_of(alloc, member(value, "name")?)
+}
+
+// The schema of a header.
+fn schema_in(alloc: Global, value: &Value) -> Result<Schema, InputError>
+    ensures ok { IfOk result (λ schema.
+        option_and_then texts_of (get (codes "schema") (view value.now)) ≡ Some schema) }
+    ensures not_input { IsErrOf result InputError.NotInput
+        → option_and_then texts_of (get (codes "schema") (view value.now)) ≡ None }
+{
+    read_schema(alloc, member(value, "schema")?)
+}
+
+// How many members a header has.
+fn header_members(value: &Value) -> usize
+    ensures { result ≡ header_members (view value.now) }
+{
+    if value.get("query").is_some() { 4 } else { 3 }
+}
+
+// The query of a header, all documents where it has none.
+fn query_of(alloc: Global, value: &Value) -> Result<QueryTree, InputError>
+    ensures ok { IfOk result (λ query. IsQueryOf (get (codes "query") (view value.now)) query) }
+    ensures not_input { IsErrOf result InputError.NotInput
+        → (query : Tree) → ¬ IsQueryOf (get (codes "query") (view value.now)) query }
+{
+    match value.get("query") {
+        Some(query) => Ok(read_query(alloc, query)?),
+        None => Ok(QueryTree::All),
+    }
 }
 
 // The member of this name, which has to be there.

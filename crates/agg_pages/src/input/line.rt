@@ -1,30 +1,21 @@
-//! A line behind the header.
-ghost use Rattle.std.specs.Prelude.{◌≡◌, Some, None, IfOk, IsErrOf};
-ghost use Rattle.agg_pages.specs.Input.{line_of, page_size_of};
+//! A line on which a snapshot begins.
+ghost use Rattle.std.specs.Prelude.{◌≡◌};
+ghost use Rattle.agg_pages.specs.SnapshotLines.{begun_size, is_snapshot_line, page_size_of};
 
-use super::InputError;
-use super::document::read_document;
-use agg_segment::Document;
-use std::alloc::Global;
+const SNAPSHOT: &str = "snapshot ";
 
-/// What a line behind the header says.
-#[derive(Drop)]
-pub enum Line {
-    /// A snapshot begins, with its page size.
-    Begins(u32),
-    /// A document stands in the snapshot.
-    Holds(Document),
+/// Whether a line is one of a snapshot.
+pub fn is_snapshot_line(line: &str) -> bool
+    ensures { result ≡ is_snapshot_line line.now }
+{
+    line.starts_with(SNAPSHOT)
 }
 
-/// What a line says.
-pub fn parse_line(alloc: Global, line: &str) -> Result<Line, InputError>
-    ensures ok { IfOk result (λ said. line_of line.now ≡ Some said) }
-    ensures not_input { IsErrOf result InputError.NotInput → line_of line.now ≡ None }
+/// The page size of the snapshot that begins on a line.
+pub fn begun_size(line: &str) -> Option<u32>
+    ensures { result ≡ begun_size line.now }
 {
-    match line.strip_prefix("snapshot ") {
-        Some(digits) => Ok(Line::Begins(page_size(digits).ok_or(InputError::NotInput)?)),
-        None => Ok(Line::Holds(read_document(alloc, line)?)),
-    }
+    page_size(line.strip_prefix(SNAPSHOT)?)
 }
 
 // Digits alone, where a parse would also take a sign.

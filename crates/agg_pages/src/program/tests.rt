@@ -5,7 +5,7 @@ use crate::fault::Failed;
 use crate::sink::MemorySink;
 use crate::source::{Drip, MAX_INPUT_BYTES, MemorySource, SteadySource};
 use agg_request::{QueryBuildError, QueryBuilder};
-use agg_segment::Schema;
+use agg_segment::{QueryTree, Schema};
 use std::process::Abort;
 use std::test::Fail;
 
@@ -24,8 +24,30 @@ const NEGATIVE: &str = "{\"page\":1,\"results\":{\"g\":{\"buckets\":[\
     {\"doc_count\":2,\"key\":{\"a\":-7}},{\"doc_count\":1,\"key\":{\"a\":9}}]}}}\n\
     {\"ended\":true}\n";
 
+// A query for the documents with a value of 2 or more, two snapshots of one index, and their pages.
+const FROM_TWO: &str = r#","query":{"range":{"field":"a","gte":"i64:2"}}"#;
+
+const TWO_SNAPSHOTS: &str = "\nsnapshot 2\n{\"a\":3}\n{\"a\":1}\n{\"a\":2}\n{\"a\":1}\n\
+    snapshot 2\n{\"a\":3}\n{\"a\":1}\n{\"a\":2}\n{\"a\":1}\n";
+
+const FROM_TWO_PAGES: &str = "{\"page\":1,\"results\":{\"g\":{\"after_key\":{\"a\":\"i64:3\"},\
+    \"buckets\":[{\"doc_count\":1,\"key\":{\"a\":2}},{\"doc_count\":1,\"key\":{\"a\":3}}]}}}\n\
+    {\"page\":2,\"results\":{\"g\":{\"buckets\":[]}}}\n{\"ended\":true}\n";
+
+const FULL: &str = "{\"page\":1,\"results\":{\"g\":{\"after_key\":{\"a\":\"i64:1\"},\
+    \"buckets\":[{\"doc_count\":1,\"key\":{\"a\":1}}]}}}\n{\"ended\":false}\n";
+
+// Three snapshots, of which the last isn't reached, and the pages of the others.
+const THREE_SNAPSHOTS: &str = "\nsnapshot 2\n{}\n{\"a\":5}\n{\"a\":[9,-3,5]}\n\
+    snapshot 2\n{\"a\":9}\n{\"a\":5}\n{}\nsnapshot 1\n{\"a\":10}\n";
+
+const TWO_PAGES: &str = "{\"page\":1,\"results\":{\"g\":{\"after_key\":{\"a\":\"i64:5\"},\
+    \"buckets\":[{\"doc_count\":1,\"key\":{\"a\":-3}},{\"doc_count\":2,\"key\":{\"a\":5}}]}}}\n\
+    {\"page\":2,\"results\":{\"g\":{\"buckets\":[{\"doc_count\":1,\"key\":{\"a\":9}}]}}}\n\
+    {\"ended\":true}\n";
+
 // The name and the size of a header and what stands behind it, with the status and what is written.
-const ANSWERS: [(&str, u32, &str, Status, &str); 8] = [
+const ANSWERS: [(&str, u32, &str, Status, &str); 11] = [
     ("g", 10, "", Status::Ok, "{\"ended\":false}\n"),
     ("g", 10, TWICE, Status::Ok, PAGE),
     (
@@ -42,7 +64,16 @@ const ANSWERS: [(&str, u32, &str, Status, &str); 8] = [
         Status::Ok,
         NEGATIVE,
     ),
+    (
+        "g",
+        9,
+        "\nsnapshot 1\n{\"a\":2}\n{\"a\":1}",
+        Status::Ok,
+        FULL,
+    ),
+    ("g", 9, THREE_SNAPSHOTS, Status::Ok, TWO_PAGES),
     ("h", 10, TWICE, Status::Refused, "error: UnknownComposite\n"),
+    ("h", 10, "", Status::Refused, "error: UnknownComposite\n"),
     ("g", 0, "", Status::Refused, "error: ZeroSize\n"),
     (
         "g",
@@ -100,7 +131,20 @@ fn run_words<R: Source, W: Sink>(
 
 // The bytes of a header and what stands behind it.
 fn input(alloc: Global, name: &str, size: u32, behind: &str) -> Result<Vec<u8>, Fail> {
-    let end = format!(in alloc; "{size}}}}}}},\"name\":\"{name}\",\"schema\":[\"a\",\"b\"]}}")?;
+    input_with(alloc, name, size, "", behind)
+}
+
+// The same, with further members of the header.
+fn input_with(
+    alloc: Global,
+    name: &str,
+    size: u32,
+    members: &str,
+    behind: &str,
+) -> Result<Vec<u8>, Fail> {
+    let end = format!(in alloc;
+        "{size}}}}}}},\"name\":\"{name}\",\"schema\":[\"a\",\"b\"]{members}}}"
+    )?;
     Ok(format!(in alloc; "{COMPOSITE}{end}{behind}")?.into_bytes())
 }
 
@@ -118,6 +162,18 @@ fn answers_each_input(rt: HostRuntime) -> Result<(), Fail> {
             "at {name}, {size}: {behind}"
         );
     }
+    Ok(())
+}
+
+#[test]
+fn walks_over_what_a_query_matches(rt: HostRuntime) -> Result<(), Fail> {
+    let alloc = rt.alloc();
+    let bytes = input_with(alloc, "g", 2, FROM_TWO, TWO_SNAPSHOTS)?;
+    let mut source = SteadySource::new(bytes);
+    let mut sink = MemorySink::new(alloc, Vec::new(alloc))?;
+    let answer = run_words(alloc, &["walk"], &mut source, &mut sink)?;
+    assert_eq!(rt; answer, Status::Ok);
+    assert_eq!(rt; sink.bytes(), FROM_TWO_PAGES.as_bytes());
     Ok(())
 }
 

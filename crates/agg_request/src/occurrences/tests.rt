@@ -1,6 +1,4 @@
 //! Documents whose tuples would be too many to walk.
-ghost use Rattle.std.specs.Prelude.{◌≡◌, length, IfOk};
-
 use super::counts_too_many;
 use crate::{CompositeAggregation, CompositeAggregationSource, TermCompositeAggregationSource};
 use agg_segment::{Document, FieldValue, SegmentBuilder, SegmentReader};
@@ -22,9 +20,7 @@ fn sources_multiply_and_a_missing_value_counts_once_where_it_has_a_bucket(
 }
 
 // A document with 65,536 values of the field `a`, each held twice.
-fn one_document(alloc: Global) -> Result<SegmentReader, Fail>
-    ensures { IfOk result (λ segment. length segment ≡ 1) }
-{
+fn one_document(alloc: Global) -> Result<SegmentReader, Fail> {
     let mut document = Document::new(alloc);
     for number in 0..65_536 {
         document.add(Text::copy_of(alloc, "a")?, FieldValue::I64(number / 2))?;
@@ -40,9 +36,7 @@ fn is_refused(
     segment: &SegmentReader,
     fields: &[&str],
     missing_bucket: bool,
-) -> Result<bool, Fail>
-    requires { length segment.now ≡ 1 }
-{
+) -> Result<bool, Fail> {
     let mut sources = ItemList::new(alloc);
     for field in fields {
         sources.push(CompositeAggregationSource::Terms(TermCompositeAggregationSource {

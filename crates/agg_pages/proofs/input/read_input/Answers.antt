@@ -1,22 +1,24 @@
-use Rattle.std.proofs.Common.{◌≡◌, ◌∷◌, ap, sym, ◌∙◌, arith}
+use Rattle.std.proofs.Common.{ap, ◌∙◌, arith, subst}
+use Rattle.std.proofs.lemmas.Result.{IfOk-weaker}
+use Rattle.agg_pages.specs.Input.{IsInput, IsInputOfLines, input_of}
 use Rattle.agg_pages.specs.Lines.{lines_of}
-use Rattle.agg_pages.proofs.InputForms.{input_form, input_none, input_some}
+use Rattle.agg_pages.proofs.Inputs.{IsNoInputOf, input_some, no_lines, no_text}
 use Rattle.agg_pages.proofs.input.read_input.Goals as goal
 
-pub returns-in_default-clause-not_input : goal.returns-in_default-clause-not_input
-returns-in_default-clause-not_input c =
-    λ _. input_none c.args.bytes.now c.in_default.ensures.cases.0
+pub returns-in-Ok-clause-ok : goal.returns-in-Ok-clause-ok
+returns-in-Ok-clause-ok c =
+    let lines = c.new.ensures ∙ ap lines_of c.in-Ok.ensures.cases.0 in
+    IfOk-weaker c.read_lines.result (λ i. IsInputOfLines c.new.result (input_of i))
+    (λ i. IsInput c.args.bytes.now (input_of i))
+    (λ i reads. input_some c.args.bytes.now (input_of i) (omega arith) c.in-Ok.ensures.cases.1
+    (subst (λ l. IsInputOfLines l (input_of i)) lines reads))
+    c.read_lines.ensures.ok
 
-pub returns-clause-ok : goal.returns-clause-ok
-returns-clause-ok c =
-    let step = rw c.in_ok-first.ensures.ok_part at c.next.ensures.steps in
-    let cut : lines_of c.args.bytes.now ≡ c.in_ok-first.first.now ∷ c.next.new.self = ap lines_of
-    (sym c.in-Ok.ensures.cases.0) ∙ sym c.new-lines.ensures ∙ step in
-    input_some c.args.bytes.now c.in_ok-first.first.now c.next.new.self c.in_ok-header.header
-    c.in_ok-snapshots.snapshots (omega arith) c.in-Ok.ensures.cases.1 cut
-    c.in_ok-header.ensures.ok c.in_ok-snapshots.ensures.ok
+pub returns-in-Ok-clause-not_input : goal.returns-in-Ok-clause-not_input
+returns-in-Ok-clause-not_input c = λ refused.
+    no_lines c.args.bytes.now
+    (subst IsNoInputOf (c.new.ensures ∙ ap lines_of c.in-Ok.ensures.cases.0)
+    (c.read_lines.ensures.not_input refused))
 
-pub returns-clause-form : goal.returns-clause-form
-returns-clause-form c =
-    input_form c.in_ok-first.first.now c.next.new.self c.in_ok-header.header
-    c.in_ok-snapshots.snapshots c.in_ok-header.ensures.ok c.in_ok-snapshots.ensures.ok
+pub returns-in-Err-clause-not_input : goal.returns-in-Err-clause-not_input
+returns-in-Err-clause-not_input c = λ _. no_text c.args.bytes.now c.in-Err.ensures.cases.0

@@ -1,5 +1,6 @@
-use Rattle.std.proofs.Common.{rules, refl, subst, take, inl, inr, string_bytes}
+use Rattle.std.proofs.Common.{rules, refl, subst, take, inl, inr, string_bytes, Err, ap}
 use Rattle.agg_pages.specs.Answer.{IsReply}
+use Rattle.agg_pages.proofs.Reading.{no_ok, no_refused, no_usage, no_write_fault}
 use Rattle.agg_pages.proofs.Replies.{given_input, reply-either, valid-not_refused}
 use Rattle.agg_pages.proofs.program.run.Goals as goal
 
@@ -60,6 +61,34 @@ returns-in-Ok g c =
               | inl refused ↦ absurd (valid-not_refused i j text same valid
                   (subst (λ b. IsReply b i text) (written.refused refused).0 replied))
               | inr fault ↦ absurd (no_write_fault (written.fault fault))
+            ]
+          ];
+    }
+
+pub returns-in-Err : goal.returns-in-Err
+returns-in-Err g c =
+    let status = c.in-Err.status in
+    let kinds = c.in-Err.ensures.kinds in
+    record {
+      ok = λ is. absurd (no_ok status kinds is);
+      usage = (
+        (λ is. absurd (no_usage status kinds is)),
+        (λ other. absurd (other (c.is_walk.ensures.0 c.if-not-is_walk.false))),
+      );
+      read_fault = λ is. c.in-Err.ensures.read_fault (ap Err is);
+      no_input = λ is. c.in-Err.ensures.no_input (ap Err is);
+      refused = λ is. absurd (no_refused status kinds is);
+      write_fault = λ is. absurd (no_write_fault status kinds is);
+      prefix = λ is. absurd (no_write_fault status kinds is);
+      untouched = λ is. absurd (no_usage status kinds is);
+      quiet = λ _. refl;
+      taken = c.in-Err.ensures.taken;
+      complete = λ walk (bytes, j, told, is, valid) no_read_fault no_write_fault.
+          elim kinds [
+            | inl none ↦ absurd ((c.in-Err.ensures.no_input (ap Err none) bytes told).0 (j, is))
+            | inr other ↦ elim other [
+              | inl fault ↦ absurd (no_read_fault (c.in-Err.ensures.read_fault (ap Err fault)))
+              | inr memory ↦ inr memory
             ]
           ];
     }

@@ -10,7 +10,7 @@ pub loop-source-preserved : goal.loop-source-preserved
 loop-source-preserved c =
     let document = document_at c.args.segment.now c.args.doc in
     let keys = c.num_keys.ensures
-    ∙ ap (λ source. length (source_values source document)) c.source-item.is in
+    ∙ ap (λ source. min (length (source_values source document)) (2 ^ 64 - 1)) c.source-item.is in
     let more = cut-occurrences-more
     c.args.sources.now c.loop-source.source-index c.source-item.result document
     c.loop-source.product c.num_keys.result (2 ^ 64 - 1)

@@ -5,4 +5,5 @@ use Rattle.agg_values.proofs.after_key.written_key.Goals as goal
 
 pub returns-in-IpAddr-clause-reads_back : goal.returns-in-IpAddr-clause-reads_back
 returns-in-IpAddr-clause-reads_back c =
-    subst (λ (key : CompositeIntermediateKey). IsValueText (value_text key) key) (sym c.in-IpAddr.is) c.ip_text.ensures.reads_back
+    subst (λ (key : CompositeIntermediateKey). IsValueText (value_text key) key)
+    (sym c.in-IpAddr.is) c.ip_text.ensures.reads_back

@@ -9,7 +9,8 @@ loop-low-preserved-in-Less g c =
     let l = c.loop-low in
     let m = l.low + (l.high - l.low) / 2 in
     let inside : m < length c.args.entries.now = omega (arith, l.invariant.within) in
-    let here = at_place nat_list_cmp_total c.args.name.now Less _ m c.index-entries-mid.result inside (sym c.cmp.ensures ∙ c.in-Less.is) in
+    let here = at_place nat_list_cmp_total c.args.name.now Less _ m c.index-entries-mid.result
+    inside (sym c.cmp.ensures ∙ c.in-Less.is) in
     record {
       up = omega arith;
       within = l.invariant.within;
@@ -22,7 +23,8 @@ loop-low-preserved g c =
     let l = c.loop-low in
     let m = l.low + (l.high - l.low) / 2 in
     let inside : m < length c.args.entries.now = omega (arith, l.invariant.within) in
-    let here = at_place nat_list_cmp_total c.args.name.now Greater _ m c.index-entries-mid.result inside (sym c.cmp.ensures ∙ c.in-Greater.is) in
+    let here = at_place nat_list_cmp_total c.args.name.now Greater _ m c.index-entries-mid.result
+    inside (sym c.cmp.ensures ∙ c.in-Greater.is) in
     record {
       up = omega arith;
       within = omega arith;
@@ -35,11 +37,14 @@ returns-in-Equal g c =
     let l = c.loop-low in
     let m = l.low + (l.high - l.low) / 2 in
     let inside : m < length c.args.entries.now = omega (arith, l.invariant.within) in
-    let here = at_place nat_list_cmp_total c.args.name.now Equal _ m c.index-entries-mid.result inside (sym c.cmp.ensures ∙ c.in-Equal.is) in
+    let here = at_place nat_list_cmp_total c.args.name.now Equal _ m c.index-entries-mid.result
+    inside (sym c.cmp.ensures ∙ c.in-Equal.is) in
     sym (seek_is_Ok nat_list_cmp_total c.args.name.now _ m c.requires inside here)
 
 pub returns : goal.returns
 returns g c =
     let l = c.loop-low in
     let met : l.high ≡ l.low = omega (arith, l.invariant.up) in
-    sym (seek_is_Err nat_list_cmp_total c.args.name.now _ l.low (omega (arith, l.invariant.up, l.invariant.within)) l.invariant.lower (rw (← met) l.invariant.higher))
+    sym (seek_is_Err nat_list_cmp_total c.args.name.now _ l.low
+    (omega (arith, l.invariant.up, l.invariant.within)) l.invariant.lower
+    (rw (← met) l.invariant.higher))

@@ -5,7 +5,10 @@ use Rattle.agg_composite.specs.Counts.{numbers_held}
 use Rattle.agg_composite.specs.PageEntries.{entry_group}
 use Rattle.agg_composite.proofs.CollectorFront.{front-full, front-all}
 use Rattle.agg_composite.proofs.collector.SegmentCompositeCollector.page.Goals as goal
-use Rattle.agg_composite.proofs.collector.SegmentCompositeCollector.page.Goals.{in-None, in-Some+then-as_slice-size}
+use Rattle.agg_composite.proofs.collector.SegmentCompositeCollector.page.Goals.{in-None}
+use Rattle.agg_composite.proofs.collector.SegmentCompositeCollector.page.Goals.{
+  in-Some+then-as_slice-size,
+}
 
 pub returns : goal.returns
 returns c =
@@ -16,11 +19,21 @@ returns c =
     elim c.match-next.branch [
       | in-None w ↦
           let rest = ap (λ es. groups ++ numbers_held es) (sym w.in-None.ensures.steps.0) in
-          let l : length groups ≤ size = omega (arith, length-map entries entry_group, c.loop-number.invariant.short) in
+          let l : length groups ≤ size = omega (
+            arith,
+            length-map entries entry_group,
+            c.loop-number.invariant.short,
+          ) in
           front-all size c.args.self.now groups (rest ∙ whole) l
       | in-Some+then-as_slice-size w ↦
-          let l : length groups ≡ size = omega (arith, length-map entries entry_group, ap length w.as_slice.ensures) in
-          front-full size c.args.self.now groups (numbers_held c.loop-number.number-iterator) whole l
+          let l : length groups ≡ size = omega (
+            arith,
+            length-map entries entry_group,
+            ap length
+                w.as_slice.ensures,
+          ) in
+          front-full size c.args.self.now groups (numbers_held c.loop-number.number-iterator) whole
+          l
     ]
 
 pub loop-number-preserved : goal.loop-number-preserved

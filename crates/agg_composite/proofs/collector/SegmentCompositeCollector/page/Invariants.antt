@@ -5,6 +5,7 @@ use Rattle.agg_composite.proofs.collector.SegmentCompositeCollector.page.Given a
 
 abbrev pub invariant-loop-number : goal.invariant-loop-number
 invariant-loop-number l = record {
-  parts : map entry_group l.entries ++ numbers_held l.number-iterator ≡ numbers_held l.self-inside.counts.entries;
+  parts : map entry_group l.entries ++ numbers_held l.number-iterator
+      ≡ numbers_held l.self-inside.counts.entries;
   short : length l.entries ≤ l.composite.size;
 }

@@ -8,4 +8,5 @@ use Rattle.agg_engine.proofs.results.json_text.write_object.Given as goal
 abbrev pub invariant-loop-name : goal.invariant-loop-name
 invariant-loop-name g l =
     (done : _) × (done ++ l.name-iterator ≡ l.map)
-    × (string_bytes l.text ≡ string_bytes l.initial.text ++ join_with_byte 44 (map (λ e. member_text e.0 (g.T.JsonText.json e.1)) done)) × (l.first ≡ none_yet done)
+    × (string_bytes l.text ≡ string_bytes l.initial.text ++ join_with_byte 44
+    (map (λ e. member_text e.0 (g.T.JsonText.json e.1)) done)) × (l.first ≡ none_yet done)

@@ -5,4 +5,6 @@ use Rattle.agg_engine.proofs.walk.shown.after_keys.Goals as goal
 pub loop-i-init : goal.loop-i-init
 loop-i-init c =
     c.new-keys.ensures
-    ∙ sym (by_source-end (λ k. record { 0 = k }) c.args.sources.now c.args.tuple.now c.min-i.result (c.min-i.ensures ∙ ap (λ keys. min (length c.args.sources.now) (length keys)) c.as_slice-values.ensures))
+    ∙ sym (by_source-end (λ k. record { 0 = k }) c.args.sources.now c.args.tuple.now c.min-i.result
+    (c.min-i.ensures ∙ ap (λ keys. min (length c.args.sources.now) (length keys))
+    c.as_slice-values.ensures))

@@ -8,4 +8,5 @@ returns c =
     let entries = c.args.entries.now in
     let sources = c.args.sources.now in
     let all = take_all c.loop-entry.entry-index entries (omega arith) in
-    IsOfPage-buckets sources entries c.loop-entry.buckets (c.loop-entry.invariant ∙ ap (buckets_of sources) all)
+    IsOfPage-buckets sources entries c.loop-entry.buckets (c.loop-entry.invariant
+    ∙ ap (buckets_of sources) all)

@@ -1,7 +1,9 @@
-use Rattle.std.proofs.Common.{◌≡◌, string_bytes}
-use Rattle.agg_values.specs.Names.{put}
-use Rattle.agg_pages.specs.Input.{field_values}
-use Rattle.agg_request.proofs.JsonLemmas.{IsOnward-none, IsOnward-more}
+use Rattle.std.proofs.Common.{subst}
+use Rattle.std.proofs.lemmas.Result.{err_from_is_err_and}
+use Rattle.serde_json.specs.View.{view}
+use Rattle.agg_pages.specs.DocumentLine.{field_values}
+use Rattle.agg_pages.specs.Fields.{AddsValues}
+use Rattle.agg_pages.proofs.DocumentMembers.{HasRead-none, HasRead-more, HasRead-refused}
 use Rattle.agg_pages.proofs.input.document.document_of_members.Goals as goal
 
 pub loop-name-init : goal.loop-name-init
@@ -9,18 +11,23 @@ loop-name-init c =
     let gives = c.into_iter-name-iterator.ensures.into_iter_gives in (
       tt,
       tt,
-      rw (c.new-document.ensures, gives.0)
-          (IsOnward-none field_values c.args.members.entries gives.5),
+      rw (c.new-document.ensures, gives.0) (HasRead-none c.args.members.entries gives.5),
     )
 
+pub returns-in_err-add_values-clause-not_input : goal.returns-in_err-add_values-clause-not_input
+returns-in_err-add_values-clause-not_input c = λ refused.
+    let p = err_from_is_err_and c.from_residual.result c.from_residual.ensures.1 in
+    HasRead-refused c.args.members.entries c.loop-name.document c.loop-name.name-iterator
+    c.in-Some.name c.in-Some.value c.next.new.self c.loop-name.invariant.2 c.in-Some.ensures.steps
+    (c.in_err-add_values.ensures.not_input (cc (refused, p.1, p.2)))
+
 pub loop-name-preserved : goal.loop-name-preserved
-loop-name-preserved c =
-    let last : c.set.new.self ≡ put (string_bytes c.in-Some.name) c.in_ok-values.values
-    c.loop-name.document = cc (c.in_ok-set.ensures.ok, c.from_string.ensures) in (
-      tt,
-      tt,
-      IsOnward-more field_values _ c.loop-name.document c.set.new.self
-          c.loop-name.name-iterator c.in-Some.name c.in-Some.value c.next.new.self
-          c.in_ok-values.values c.loop-name.invariant.2 c.in-Some.ensures.steps
-          c.in_ok-values.ensures.ok last,
-    )
+loop-name-preserved c = (
+  tt,
+  tt,
+  HasRead-more c.args.members.entries c.loop-name.document c.add_values.new.document
+      c.loop-name.name-iterator c.in-Some.name c.in-Some.value c.next.new.self
+      c.loop-name.invariant.2 c.in-Some.ensures.steps
+      (subst (λ name. AddsValues name (field_values (view c.in-Some.value)) c.loop-name.document
+      c.add_values.new.document) c.as_str.ensures.value c.in_ok-add_values.ensures.ok),
+)

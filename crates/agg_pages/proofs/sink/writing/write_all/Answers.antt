@@ -1,4 +1,5 @@
-use Rattle.std.proofs.Common.{◌≡◌, ℕ, ◌-◌, List, ◌++◌, arith, take, drop, length, sym, ap, ◌∙◌, subst, append_assoc, take-append-drop}
+use Rattle.std.proofs.Common.{◌≡◌, ℕ, ◌-◌, List, ◌++◌, arith, take, drop, length, sym, ap, ◌∙◌}
+use Rattle.std.proofs.Common.{subst, append_assoc, take-append-drop}
 use Rattle.std.proofs.lemmas.List.{take_rest}
 use Rattle.std.proofs.lemmas.Result.{err_from_is_err_and}
 use Rattle.std.proofs.Math.Seq.{take-append_seam}
@@ -16,7 +17,8 @@ split-more all done rest n split =
 
 -- what is done is a prefix of all
 done_is_prefix : (all done rest : List ℕ) → all ≡ done ++ rest → done ≡ take (length done) all
-done_is_prefix all done rest split = sym (ap (take (length done)) split ∙ take-append_seam done rest)
+done_is_prefix all done rest split = sym (ap (take (length done)) split
+    ∙ take-append_seam done rest)
 
 pub loop-rest-preserved : goal.loop-rest-preserved
 loop-rest-preserved g c =

@@ -1,4 +1,5 @@
-use Rattle.std.proofs.Common.{◌≡◌, ◌≤◌, ◌+◌, arith, refl, length, take, drop, ℕ, List, ◌++◌, Option, None, Some, sym, ap, ◌∙◌, length-append}
+use Rattle.std.proofs.Common.{◌≡◌, ◌≤◌, ◌+◌, arith, refl, length, take, drop, ℕ, List, ◌++◌}
+use Rattle.std.proofs.Common.{Option, None, Some, sym, ap, ◌∙◌, length-append}
 use Rattle.std.proofs.lemmas.List.{length-take}
 use Rattle.std.proofs.Math.Seq.{drop-append_seam}
 use Rattle.std.specs.Io.KnownBytes.{Consumes}

@@ -9,7 +9,8 @@ use Rattle.agg_values.proofs.address.Address.write.Goals as goal
 written : (c : goal.After-from_string) → c.from_string.result ≡ address_text c.args.self.now.0
 written c =
     let shown : c.from_string.result ≡ ipv6_text (ipv6_segments c.ipv6_of.result) = search rules in
-    shown ∙ ap ipv6_text c.ipv6_of.ensures.groups ∙ address_text-same c.args.self.now.0 c.ipv6_of.ensures.fits
+    shown ∙ ap ipv6_text c.ipv6_of.ensures.groups ∙ address_text-same c.args.self.now.0
+    c.ipv6_of.ensures.fits
 
 pub returns-clause-text : goal.returns-clause-text
 returns-clause-text c = written c
@@ -17,4 +18,5 @@ returns-clause-text c = written c
 pub returns-clause-reads_back : goal.returns-clause-reads_back
 returns-clause-reads_back c =
     let a = c.args.self.now.0 in
-    subst (λ (text : List ℕ). IsAddressText text a) (sym (written c)) (IsAddressText-address_text a c.ipv6_of.ensures.fits)
+    subst (λ (text : List ℕ). IsAddressText text a) (sym (written c)) (IsAddressText-address_text a
+    c.ipv6_of.ensures.fits)

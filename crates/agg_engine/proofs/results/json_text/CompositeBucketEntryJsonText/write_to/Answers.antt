@@ -1,4 +1,5 @@
-use Rattle.std.proofs.Common.{◌≡◌, ◌++◌, ◌∷◌, [], List, ℕ, arith, append_assoc, ap, ◌∙◌, string_bytes}
+use Rattle.std.proofs.Common.{◌≡◌, ◌++◌, ◌∷◌, [], List, ℕ, arith, append_assoc, ap, ◌∙◌}
+use Rattle.std.proofs.Common.{string_bytes}
 use Rattle.std.specs.Prelude.{codes}
 use Rattle.json.specs.Print.{escape_byte}
 use Rattle.agg_engine.specs.ResultsText.{braced, member_text}
@@ -9,11 +10,15 @@ bucket-written : (before head keyed after count key : List ℕ)
     → head ≡ before ++ (codes "{\"doc_count\":" ++ (count ++ codes ",\"key\":"))
     → keyed ≡ head ++ key
     → after ≡ keyed ++ 125 ∷ []
-    → after ≡ before ++ braced (member_text (codes "doc_count") count ∷ member_text (codes "key") key ∷ [])
+    → after ≡ before ++ braced (member_text (codes "doc_count") count ∷ member_text (codes "key")
+    key ∷ [])
 unfolding escape_byte
-bucket-written before head keyed after count key h k a = rw (a, k, h, append_assoc count (44 ∷ member_text (codes "key") key) (125 ∷ [])) (simp append_assoc)
+bucket-written before head keyed after count key h k a =
+    rw (a, k, h, append_assoc count (44 ∷ member_text (codes "key") key) (125 ∷ []))
+    (simp append_assoc)
 
 pub returns : goal.returns
 returns c =
-    let brace = c.in_ok-push.ensures.bytes ∙ ap (λ byte. string_bytes c.write_object.new.text ++ byte) (c.in_ok-push.ensures.ascii (omega arith)) in
+    let brace = c.in_ok-push.ensures.bytes ∙ ap (λ byte. string_bytes c.write_object.new.text ++
+    byte) (c.in_ok-push.ensures.ascii (omega arith)) in
     bucket-written _ _ _ _ _ _ c.in_ok-write.ensures.bytes c.in_ok-write_object.ensures brace

@@ -1,4 +1,6 @@
-use Rattle.std.proofs.Common.{◌≡◌, ◌≤◌, ◌+◌, arith, length, take, drop, ℕ, List, ◌++◌, sym, ap, ◌∙◌, min, rules, drop-drop, drop_of_length-le, length-take-le, take_at, take-append-drop, length-append, length-drop}
+use Rattle.std.proofs.Common.{◌≡◌, ◌≤◌, ◌+◌, arith, length, take, drop, ℕ, List, ◌++◌, sym, ap}
+use Rattle.std.proofs.Common.{◌∙◌, min, rules, drop-drop, drop_of_length-le, length-take-le}
+use Rattle.std.proofs.Common.{take_at, take-append-drop, length-append, length-drop}
 use Rattle.std.proofs.lemmas.List.{take_rest}
 use Rattle.agg_pages.proofs.source.steady.SteadySourceSource.read.Goals as goal
 

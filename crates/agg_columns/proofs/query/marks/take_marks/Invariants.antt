@@ -1,9 +1,0 @@
-use Rattle.std.proofs.Common.{◌≡◌, ℕ, ◌<◌, ◌≤◌, ◌&&◌, ◌||◌, not}
-use Rattle.agg_columns.specs.Marks.{mark_at, has_key}
-use Rattle.agg_columns.proofs.query.marks.take_marks.Given as goal
-
-abbrev pub invariant-loop-doc : goal.invariant-loop-doc
-invariant-loop-doc l = record {
-  done : (k : ℕ) → k < l.doc → mark_at l.marks k ≡ (mark_at l.fn.marks k && not (mark_at l.others k));
-  rest : (k : ℕ) → l.doc ≤ k → mark_at l.marks k ≡ mark_at l.fn.marks k;
-}

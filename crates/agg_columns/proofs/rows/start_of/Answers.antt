@@ -1,9 +1,0 @@
-use Rattle.std.proofs.Common.{◌≡◌, ◌-◌, suc, ap, ◌∙◌, arith}
-use Rattle.agg_columns.specs.Rows.{start_at}
-use Rattle.agg_columns.proofs.Layouts.{start_is}
-use Rattle.agg_columns.proofs.rows.start_of.Goals as goal
-
-pub returns : goal.returns
-returns c =
-    let same : suc (c.args.at - 1) ≡ c.args.at = omega arith in
-    start_is 0 c.args.ends.now (c.args.at - 1) _ (omega (arith, c.requires)) ∙ ap (start_at 0 c.args.ends.now) same

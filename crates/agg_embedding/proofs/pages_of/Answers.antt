@@ -1,0 +1,17 @@
+use Rattle.std.proofs.Common.{◌≡◌, ◌++◌, Some, ap, sym, ◌∙◌, subst}
+use Rattle.agg_pages.specs.Answer.{IsPrintedWalk}
+use Rattle.agg_pages.specs.Input.{IsInput}
+use Rattle.agg_embedding.proofs.pages_of.Goals as goal
+
+pub returns-in-Ok : goal.returns-in-Ok
+returns-in-Ok c =
+    let (i, (given, gives, reads), (text, walk, appended)) =
+    c.run_uncounted.ensures.ok c.in-Ok.is in
+    let told : given ≡ c.args.bytes.items =
+    (gives c.args.bytes.items (ap Some c.new-source.ensures)).0 in
+    let written : c.run_uncounted.new.sink.bytes ≡ text = appended
+    ∙ ap (λ sink. sink.bytes ++ text) c.in_ok-sink.ensures in (
+      i,
+      subst (λ bytes. IsInput bytes i) told reads,
+      subst (IsPrintedWalk i) (sym written) walk,
+    )

@@ -1,0 +1,76 @@
+-- What the lines behind the header say, and the snapshots that they stand for.
+use Rattle.std.specs.Prelude.{◌≡◌, ◌≤◌, ◌^◌, ◌&&◌, ℕ, List, [], ◌∷◌, Bool, false}
+use Rattle.std.specs.Prelude.{Option, None, Some, if◌then◌else◌, length, drop, codes, nat_lt}
+use Rattle.std.specs.Prelude.{nat_eq}
+use Rattle.std.specs.List.{All, AllZip, starts_with}
+use Rattle.std.specs.Str.{all_ascii_digits}
+use Rattle.std.specs.Str.Parse.{digits_value}
+use Rattle.agg_segment.specs.Document.{Fields}
+use Rattle.agg_segment.specs.Segment.{IsMixed}
+use Rattle.agg_segment.specs.declared.builder.TheConstants.{MAX_DOCUMENTS}
+use Rattle.agg_engine.specs.Snapshot.{SnapshotDocuments}
+use Rattle.agg_pages.specs.DocumentLine.{IsDocumentLine}
+
+-- what a line behind the header says: a snapshot of a page size begins, or a document stands in it
+pub data Line : Type 0 where
+  begins : ℕ → Line
+  holds : Fields → Line
+
+-- one or more ASCII digits, with a value within u32
+abbrev pub page_size_of : List ℕ → Option ℕ
+page_size_of digits =
+    if nat_lt 0 (length digits)
+    && all_ascii_digits digits
+    && nat_lt (digits_value 10 digits) (2 ^ 32)
+    then Some (digits_value 10 digits)
+    else None
+
+-- whether a line is one of a snapshot
+abbrev pub is_snapshot_line : List ℕ → Bool
+is_snapshot_line line = starts_with nat_eq line (codes "snapshot ")
+
+-- the page size of the snapshot that begins on a line
+abbrev pub begun_size : List ℕ → Option ℕ
+begun_size line = if is_snapshot_line line then page_size_of (drop 9 line) else None
+
+-- the line says this
+abbrev pub Says : List ℕ → Line → Type 0
+Says line (begins size) = begun_size line ≡ Some size
+Says line (holds document) = (is_snapshot_line line ≡ false) × IsDocumentLine line document
+
+-- a snapshot of documents: its first opens its one segment
+abbrev pub snapshot_of : ℕ → List Fields → SnapshotDocuments
+snapshot_of size [] = record { segments = []; page_size = size }
+snapshot_of size (d ∷ ds) = record { segments = (d ∷ ds) ∷ []; page_size = size }
+
+-- the documents before the first snapshot
+abbrev pub leading_documents : List Line → List Fields
+leading_documents [] = []
+leading_documents (holds document ∷ lines) = document ∷ leading_documents lines
+leading_documents (begins size ∷ lines) = []
+
+-- the snapshots that begin in these lines, each with the documents behind its line
+abbrev pub begun_snapshots : List Line → List SnapshotDocuments
+begun_snapshots [] = []
+begun_snapshots (holds document ∷ lines) = begun_snapshots lines
+begun_snapshots (begins size ∷ lines) =
+    snapshot_of size (leading_documents lines) ∷ begun_snapshots lines
+
+-- a segment may hold these documents
+pub record FitSegment (documents : List Fields) : Type 0 where
+  pub few : length documents ≤ MAX_DOCUMENTS
+  pub unmixed : ¬ IsMixed documents
+
+-- lines that stand for snapshots: no document stands before the first, and each segment may hold
+-- its documents
+pub record StandForSnapshots (lines : List Line) : Type 0 where
+  pub none : leading_documents lines ≡ []
+  pub fit : All (λ s. All FitSegment s.segments) (begun_snapshots lines)
+
+-- the snapshots of the lines behind the header
+abbrev pub AreSnapshots : List (List ℕ) → List SnapshotDocuments → Type 0
+AreSnapshots lines snapshots =
+    (said : List Line)
+    × AllZip Says lines said
+    × StandForSnapshots said
+    × (snapshots ≡ begun_snapshots said)

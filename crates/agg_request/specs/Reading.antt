@@ -1,0 +1,27 @@
+-- What a reading answers.
+use Rattle.std.specs.Prelude.{Bool, false, Result, Ok, Err, ⊤}
+use Rattle.agg_values.specs.declared.error.KeyTextError.{KeyTextError}
+use Rattle.agg_values.specs.declared.error.KeyTextError.TheVariants as key_text
+use Rattle.agg_request.specs.declared.read_error.ReadError.{ReadError}
+use Rattle.agg_request.specs.declared.read_error.ReadError.TheVariants.{Unsupported, Grammar}
+use Rattle.agg_request.specs.declared.read_error.ReadError.TheVariants.{UnknownBuilder}
+use Rattle.agg_request.specs.declared.read_error.ReadError.TheVariants.{OutOfMemory}
+
+-- why nothing is read, where `Is` says what may be read, strictly and leniently: something that
+-- isn't supported stands there, or nothing may be read even leniently
+abbrev pub IsRefusal : {A : Type 0} → (Bool → A → Type 0) → Type 0 → ReadError → Type 0
+IsRefusal {A = A} Is HasUnsupported Unsupported = HasUnsupported × ((x : A) → ¬ (Is false x))
+IsRefusal {A = A} Is HasUnsupported Grammar = (lenient : Bool) (x : A) → ¬ (Is lenient x)
+IsRefusal Is HasUnsupported UnknownBuilder = ⊥
+IsRefusal Is HasUnsupported OutOfMemory = ⊤
+
+-- what is read, or why nothing is
+abbrev pub IsReading : {A : Type 0} → (Bool → A → Type 0) → Type 0 → Result A ReadError → Type 0
+IsReading Is HasUnsupported (Ok x) = Is false x
+IsReading Is HasUnsupported (Err error) = IsRefusal Is HasUnsupported error
+
+-- the refusal of what holds a text that is no key's
+abbrev pub refusal_of : KeyTextError → ReadError
+refusal_of key_text.Unsupported = Unsupported
+refusal_of key_text.OutOfMemory = OutOfMemory
+refusal_of _ = Grammar

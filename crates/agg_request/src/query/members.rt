@@ -1,0 +1,39 @@
+//! The members of a filter's body.
+ghost use Rattle.std.specs.Prelude.{◌≡◌, map, option_map};
+ghost use Rattle.serde_json.specs.View.{view};
+ghost use Rattle.agg_request.specs.Query.{has_only, is_among, text_at};
+
+use serde_json::Value;
+
+/// Whether a value is an object whose members all have such names.
+pub fn has_only(value: &Value, names: &[&str]) -> bool
+    ensures { result ≡ has_only (map (λ n. n.now) names.now) (view value.now) }
+{
+    let Some(members) = value.as_object() else {
+        return false;
+    };
+    for (name, _) in members.iter() {
+        if !is_among(name.as_str(), names) {
+            return false;
+        }
+    }
+    true
+}
+
+fn is_among(name: &str, names: &[&str]) -> bool
+    ensures { result ≡ is_among name.now (map (λ n. n.now) names.now) }
+{
+    for other in names {
+        if name == *other {
+            return true;
+        }
+    }
+    false
+}
+
+/// The text of a member.
+pub fn text_at<'a>(value: &'a Value, name: &str) -> Option<&'a str>
+    ensures { option_map (λ text. text.now) result ≡ text_at name.now (view value.now) }
+{
+    value.get(name)?.as_str()
+}

@@ -1,0 +1,15 @@
+use Rattle.std.proofs.Common.{length, sym, ap, ◌∙◌}
+use Rattle.agg_segment.specs.Names.{numbered_names}
+use Rattle.agg_segment.specs.Segment.{Stored, documents_of}
+use Rattle.agg_segment.proofs.Closed.{read_count}
+use Rattle.agg_segment.proofs.segment.SegmentReader.num_docs.Goals as goal
+
+pub returns-clause-count : goal.returns-clause-count
+returns-clause-count c =
+    let s = c.self.inside in
+    sym (read_count (record {
+      count = s.count;
+      names = numbered_names s.names;
+      columns =
+          s.columns.items;
+    })) ∙ ap (λ (r : Stored). length (documents_of r)) c.self.view_is

@@ -1,0 +1,13 @@
+use Rattle.std.proofs.Common.{◌≡◌, ◌<◌, ◌++◌, ℕ, List, length, take, map}
+use Rattle.std.specs.List.{All}
+use Rattle.agg_segment.specs.Signs.{cell_mark, AreSigns, without_signs}
+use Rattle.agg_segment.specs.declared.signs.Sign.{Sign}
+use Rattle.agg_segment.proofs.signs.give_signs.Given as goal
+
+abbrev pub invariant-loop-cell : goal.invariant-loop-cell
+invariant-loop-cell l = record {
+  so_far : (before : List (ℕ × Sign)) → AreSigns l.initial.signs before
+      → AreSigns l.signs (before ++ map cell_mark (take l.cell-index l.cells));
+  undone : without_signs l.given.items l.signs ≡ l.initial.signs;
+  within : All (λ f. f < length l.initial.signs) l.given.items;
+}

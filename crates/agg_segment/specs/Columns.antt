@@ -1,0 +1,124 @@
+-- Columns of numbers, and the keys that they stand for.
+use Rattle.std.specs.Prelude.{◌≡◌, ◌≢◌, ◌==◌, ◌<◌, ◌≤◌, ◌^◌, pos, ◌-ℤ◌, ℕ}
+use Rattle.std.specs.Prelude.{List, [], map, filter, length, flat_map, get_or}
+use Rattle.std.specs.List.{All, Contains}
+use Rattle.agg_values.specs.TypedKey.{class_rank, typed_number, text_of, address_of}
+use Rattle.agg_values.specs.declared.address.Address.{Address}
+use Rattle.agg_values.specs.TypedKey.{CompositeIntermediateKey}
+use Rattle.agg_values.specs.declared.typed_key.CompositeIntermediateKey.TheVariants as key
+use Rattle.agg_segment.specs.Cells.{Placed}
+use Rattle.agg_segment.specs.Signs.{sign_of}
+use Rattle.agg_segment.specs.Dictionary.{text_at, address_at}
+use Rattle.agg_segment.specs.declared.keys.ColumnKeys.{ColumnKeys}
+use Rattle.agg_segment.specs.declared.keys.ColumnKeys.TheVariants.{Bools, Texts, Signed, Unsigned}
+use Rattle.agg_segment.specs.declared.keys.ColumnKeys.TheVariants.{Addresses, Dates}
+use Rattle.agg_segment.specs.declared.hit.ColumnType.{ColumnType}
+use Rattle.agg_segment.specs.declared.hit.ColumnType.TheVariants as kind
+use Rattle.agg_segment.specs.declared.signs.Sign.TheVariants.{Negative, Large}
+
+-- a column: the number of its field, what its numbers stand for, and each document's in order
+pub record StoredColumn : Type 0 where
+  pub field : ℕ
+  pub keys : ColumnKeys
+  pub cells : List (ℕ × ℕ)
+
+-- the key that a number stands for
+abbrev pub encoded_key : ColumnKeys → ℕ → CompositeIntermediateKey
+encoded_key Bools n = key.Bool (n == 1)
+encoded_key (Texts texts) n = key.Str (text_at texts n)
+encoded_key Signed n = key.I64 (pos n -ℤ pos (2 ^ 63))
+encoded_key Unsigned n = typed_number (pos n)
+encoded_key (Addresses addresses) n = key.IpAddr (address_at addresses n)
+encoded_key Dates n = key.DateTime (pos n -ℤ pos (2 ^ 63))
+
+-- the numbers that stand for a key
+abbrev pub StandsForKey : ColumnKeys → ℕ → Type 0
+StandsForKey Bools n = n < 2
+StandsForKey (Texts texts) n = n < length texts
+StandsForKey (Addresses addresses) n = n < length addresses
+StandsForKey _ n = n < 2 ^ 64
+
+-- the rank of the class of its keys
+abbrev pub keys_rank : ColumnKeys → ℕ
+keys_rank Bools = 1
+keys_rank (Texts texts) = 2
+keys_rank Signed = 3
+keys_rank Unsigned = 3
+keys_rank (Addresses addresses) = 4
+keys_rank Dates = 5
+
+-- the type of a column
+abbrev pub type_of : ColumnKeys → ColumnType
+type_of Bools = kind.Bool
+type_of (Texts texts) = kind.Str
+type_of Signed = kind.I64
+type_of Unsigned = kind.U64
+type_of (Addresses addresses) = kind.IpAddr
+type_of Dates = kind.DateTime
+
+-- the numbers of a document
+abbrev pub numbers_at : List (ℕ × ℕ) → ℕ → List ℕ
+numbers_at cells doc = map (λ c. c.1) (filter (λ c. c.0 == doc) cells)
+
+-- the keys of a document in a column
+abbrev pub column_keys : StoredColumn → ℕ → List CompositeIntermediateKey
+column_keys column doc = map (encoded_key column.keys) (numbers_at column.cells doc)
+
+-- the keys of a document in all columns of a field
+abbrev pub all_keys : List StoredColumn → ℕ → List CompositeIntermediateKey
+all_keys columns doc = flat_map (λ column. column_keys column doc) columns
+
+-- what the numbers of a column stand for
+abbrev pub column_cells : StoredColumn → List Placed
+column_cells column =
+    map (λ c. record { field = column.field; doc = c.0; key = encoded_key column.keys c.1 })
+    column.cells
+
+-- the keys that a column may have numbers for
+abbrev pub MayTake : ColumnKeys → CompositeIntermediateKey → Type 0
+MayTake Bools k = class_rank k ≡ 1
+MayTake (Texts texts) k = (class_rank k ≡ 2) × Contains texts (text_of k)
+MayTake Signed k = (class_rank k ≡ 3) × (sign_of k ≢ Large)
+MayTake Unsigned k = (class_rank k ≡ 3) × (sign_of k ≢ Negative)
+MayTake (Addresses addresses) k =
+    (class_rank k ≡ 4) × Contains addresses (record { 0 = address_of k })
+MayTake Dates k = class_rank k ≡ 5
+
+-- the texts of a column of texts
+abbrev pub texts_of : ColumnKeys → List (List ℕ)
+texts_of (Texts texts) = texts
+texts_of _ = []
+
+-- the addresses of a column of addresses
+abbrev pub addresses_of : ColumnKeys → List Address
+addresses_of (Addresses addresses) = addresses
+addresses_of _ = []
+
+-- each number stands for a key
+abbrev pub StandForKeys : StoredColumn → Type 0
+StandForKeys column = All (λ c. StandsForKey column.keys c.1) column.cells
+
+-- a column that is unsigned has a number above those of an i64
+abbrev pub IsWideForCause : StoredColumn → Type 0
+IsWideForCause column =
+    column.keys ≡ Unsigned → Contains (map (λ p. sign_of p.key) (column_cells column)) Large
+
+-- what is true of a column: each number stands for a key, and the type is no wider than needed
+abbrev pub IsColumn : StoredColumn → Type 0
+IsColumn column = StandForKeys column × IsWideForCause column
+
+-- a column before another: of a field before, or of the same and a class before
+abbrev pub IsColumnBefore : StoredColumn → StoredColumn → Type 0
+IsColumnBefore c d = (c.field ≤ d.field) × (c.field ≡ d.field → keys_rank c.keys < keys_rank d.keys)
+
+-- columns by field and class, one for each
+abbrev pub AreInOrder : List StoredColumn → Type 0
+AreInOrder columns =
+    (i j : ℕ) (d : StoredColumn) → i < j → j < length columns
+    → IsColumnBefore (get_or columns i d) (get_or columns j d)
+
+-- columns by class, one for each
+abbrev pub ClassesAscend : List StoredColumn → Type 0
+ClassesAscend columns =
+    (i j : ℕ) (d : StoredColumn) → i < j → j < length columns
+    → keys_rank (get_or columns i d).keys < keys_rank (get_or columns j d).keys

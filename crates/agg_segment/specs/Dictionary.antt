@@ -1,0 +1,36 @@
+-- Lists of distinct values, ascending, and the places in them.
+use Rattle.std.specs.Prelude.{◌≡◌, ◌<◌, ℕ, List, [], get_or, length}
+use Rattle.std.specs.declared.cmp.Ordering.{Ordering}
+use Rattle.std.specs.declared.cmp.Ordering.TheVariants.{Less, Greater}
+use Rattle.std.specs.Ordering.{nat_cmp}
+use Rattle.std.specs.List.{HoldsAt}
+use Rattle.agg_values.specs.declared.address.Address.{Address}
+use Rattle.agg_segment.specs.declared.hit.OrdHit.{OrdHit}
+use Rattle.agg_segment.specs.declared.hit.OrdHit.TheVariants.{Exact, Next, AfterLast}
+
+-- the text at a place
+abbrev pub text_at : List (List ℕ) → ℕ → List ℕ
+text_at texts place = get_or texts place []
+
+-- the address at a place
+abbrev pub address_at : List Address → ℕ → Address
+address_at addresses place = get_or addresses place (record { 0 = 0 })
+
+-- addresses are ordered by their number
+abbrev pub address_cmp : Address → Address → Ordering
+address_cmp a b = nat_cmp a.0 b.0
+
+-- all items before a place lie below a value
+abbrev pub IsBelowUpTo : {X : Type 0} → (X → X → Ordering) → List X → X → ℕ → Type 0
+IsBelowUpTo {X} cmp items x place =
+    (i : ℕ) → i < place → HoldsAt (λ (y : X). cmp y x ≡ Less) items i
+
+-- the first place whose item isn't below a value, exact where it is that value
+abbrev pub IsHit : {X : Type 0} → (X → X → Ordering) → List X → X → OrdHit → Type 0
+IsHit {X} cmp items x (Exact place) =
+    (place < length items) × IsBelowUpTo cmp items x place
+    × HoldsAt (λ (y : X). y ≡ x) items place
+IsHit {X} cmp items x (Next place) =
+    (place < length items) × IsBelowUpTo cmp items x place
+    × HoldsAt (λ (y : X). cmp y x ≡ Greater) items place
+IsHit {X} cmp items x AfterLast = IsBelowUpTo cmp items x (length items)

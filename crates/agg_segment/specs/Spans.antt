@@ -1,0 +1,41 @@
+-- Numbers of a column that stand for the keys of a query.
+use Rattle.std.specs.Prelude.{◌≡◌, ◌<◌, ◌^◌, ◌&&◌, ℕ, Bool, false, Option, Some, None}
+use Rattle.std.specs.Prelude.{nat_le, nat_lt, if◌then◌else◌}
+use Rattle.std.specs.Ordering.{nat_cmp}
+use Rattle.std.specs.declared.cmp.Ordering.{Ordering}
+use Rattle.std.specs.declared.cmp.Ordering.TheVariants.{Less, Greater}
+use Rattle.agg_values.specs.KeyOrder.{ascending_order}
+use Rattle.agg_values.specs.TypedKey.{CompositeIntermediateKey}
+use Rattle.agg_segment.specs.Document.{key_of}
+use Rattle.agg_segment.specs.Columns.{encoded_key, StandsForKey}
+use Rattle.agg_segment.specs.declared.document.FieldValue.{FieldValue}
+use Rattle.agg_segment.specs.declared.hit.OrdHit.{OrdHit}
+use Rattle.agg_segment.specs.declared.hit.OrdHit.TheVariants.{Exact, Next, AfterLast}
+use Rattle.agg_segment.specs.declared.keys.ColumnKeys.{ColumnKeys}
+use Rattle.agg_segment.specs.declared.query.span.Span.{Span}
+
+-- how a number compares with a value that stands at a place
+abbrev pub place_cmp : OrdHit → ℕ → Ordering
+place_cmp (Exact place) n = nat_cmp n place
+place_cmp (Next place) n = if nat_lt n place then Less else Greater
+place_cmp AfterLast n = Less
+
+-- a number of a column
+abbrev pub IsNumberOf : ColumnKeys → ℕ → Type 0
+IsNumberOf keys n = (n < 2 ^ 64) × StandsForKey keys n
+
+-- the numbers of a column compare with a place as their keys do with the value
+abbrev pub IsPlaceOf : ColumnKeys → FieldValue → OrdHit → Type 0
+IsPlaceOf keys value place =
+    (n : ℕ) → IsNumberOf keys n
+    → ascending_order (encoded_key keys n) (key_of value) ≡ place_cmp place n
+
+-- whether a number is in a span
+abbrev pub is_in : Span → ℕ → Bool
+is_in span n = nat_le span.first n && nat_le n span.last
+
+-- a span has those numbers of a column whose keys are such; where there is none no key is such
+abbrev pub IsSpanOf : ColumnKeys → (CompositeIntermediateKey → Bool) → Option Span → Type 0
+IsSpanOf keys is_such None = (n : ℕ) → is_such (encoded_key keys n) ≡ false
+IsSpanOf keys is_such (Some span) =
+    (n : ℕ) → IsNumberOf keys n → is_in span n ≡ is_such (encoded_key keys n)

@@ -1,0 +1,251 @@
+ghost use Rattle.std.specs.Prelude.{◌≡◌, ◌≢◌, ◌↔◌, Err, [], ◌∷◌, ◌++◌, ℕ, List, length};
+ghost use Rattle.std.specs.Prelude.{IsTrue, IfOk, OnOk, OnErr, IsErrOf};
+ghost use Rattle.agg_segment.specs.Document.{key_of, meaning};
+ghost use Rattle.agg_segment.specs.Segment.{gathered_documents, open_document};
+ghost use Rattle.agg_segment.specs.Segment.{no_fields, with_key, without_field, documents_of};
+ghost use Rattle.agg_segment.specs.Segment.{IsNameOf, IsMixed};
+ghost use Rattle.agg_segment.specs.declared.builder.BuildError.TheVariants.{OutOfMemory as Memory};
+
+use crate::log::Log;
+use crate::names::{find_number, set_number};
+use crate::signs::{Sign, give_signs};
+use crate::{Document, FieldValue, SegmentReader};
+use agg_values::{OutOfMemory, Text};
+use std::alloc::{AllocFailed, Global};
+use std::collections::BTreeMap;
+use std::marker::Model;
+use thiserror::Error;
+
+/// How many documents a segment may hold.
+pub const MAX_DOCUMENTS: u32 = 16_777_216;
+
+/// Why a segment refused a document.
+#[derive(Clone, Copy, Debug, PartialEq, Eq, Error)]
+pub enum BuildError {
+    #[error("a field holds a negative number and one above 9223372036854775807")]
+    MixedNumbers,
+    #[error("a segment holds at most 16777216 documents")]
+    TooManyDocuments,
+    #[error("out of memory")]
+    OutOfMemory,
+}
+
+impl From<OutOfMemory> for BuildError {
+    ghost from_gives = { λ _ e. e ≡ Memory };
+
+    fn from(_error: OutOfMemory) -> BuildError {
+        BuildError::OutOfMemory
+    }
+}
+
+impl<T: Drop> From<AllocFailed<T>> for BuildError {
+    ghost from_gives = { λ _ e. e ≡ Memory };
+
+    fn from(_error: AllocFailed<T>) -> BuildError {
+        BuildError::OutOfMemory
+    }
+}
+
+/// A segment in the making, seen by contracts as the values of its documents. The last document is
+/// open until it is finished.
+#[derive(Drop)]
+pub struct SegmentBuilder {
+    alloc: Global,
+    count: u32,
+    names: BTreeMap<String, u32>,
+    signs: Vec<Sign>,
+    log: Log,
+    // How many of the values are of closed documents.
+    closed: usize,
+}
+
+impl Model for SegmentBuilder {
+    ghost use Rattle.agg_segment.specs.Segment.{Gathered, IsGathered};
+    ghost use Rattle.agg_segment.specs.Names.{numbered_names};
+
+    ghost Value = { Gathered };
+
+    ghost view = { λ b. record { count = b.count; names = numbered_names b.names; cells = b.log } };
+
+    ghost invariant = { λ b. IsGathered
+        (record { count = b.count; names = numbered_names b.names; cells = b.log })
+        b.signs.items b.closed };
+}
+
+impl SegmentBuilder {
+    /// A segment with no documents.
+    pub fn new(alloc: Global) -> SegmentBuilder
+        ensures documents { gathered_documents result ≡ [] }
+        ensures opened { open_document result ≡ no_fields }
+    {
+        SegmentBuilder {
+            alloc,
+            count: 0,
+            names: BTreeMap::new(alloc),
+            signs: Vec::new(alloc),
+            log: Log::new(alloc),
+            closed: 0,
+        }
+    }
+
+    /// The number of a field, for `push` and `clear`. A name that isn't known gets the next one.
+    pub fn field(&mut self, name: &str) -> Result<u32, OutOfMemory>
+        ensures number { IfOk result (λ field. IsNameOf self.new field name.now) }
+        ensures others { (field : ℕ) (other : List ℕ)
+            → IsNameOf self.old field other → IsNameOf self.new field other }
+        ensures documents { gathered_documents self.new ≡ gathered_documents self.old }
+        ensures opened { open_document self.new ≡ open_document self.old }
+    {
+        if let Some(field) = find_number(&self.names, name) {
+            return Ok(field);
+        }
+        let field = next_number(self.signs.len())?;
+        self.signs.reserve(1)?;
+        set_number(self.alloc, &mut self.names, name, field)?;
+        self.signs.push(Sign::Small)?;
+        Ok(field)
+    }
+
+    /// Appends a value to a field of the open document.
+    pub fn push(&mut self, field: u32, value: FieldValue) -> Result<(), OutOfMemory>
+        requires { (name : List ℕ) × IsNameOf self.old field name }
+        ensures ok { OnOk result ((name : List ℕ) → IsNameOf self.old field name
+            → open_document self.new ≡ with_key name (key_of value) (open_document self.old)) }
+        ensures err { OnErr result (open_document self.new ≡ open_document self.old) }
+        ensures documents { gathered_documents self.new ≡ gathered_documents self.old }
+        ensures names { self.new.names ≡ self.old.names }
+    {
+        self.log.push(field, self.count, value)
+    }
+
+    /// Forgets the values of a field of the open document.
+    pub fn clear(&mut self, field: u32)
+        requires { (name : List ℕ) × IsNameOf self.old field name }
+        ensures opened { (name : List ℕ) → IsNameOf self.old field name
+            → open_document self.new ≡ without_field name (open_document self.old) }
+        ensures documents { gathered_documents self.new ≡ gathered_documents self.old }
+        ensures names { self.new.names ≡ self.old.names }
+    {
+        self.log.clear_field(self.closed, field);
+    }
+
+    /// Closes the open document, which is then the last of the segment's. After an error it is
+    /// still open.
+    pub fn finish(&mut self) -> Result<(), BuildError>
+        ensures ok { OnOk result (gathered_documents self.new
+            ≡ gathered_documents self.old ++ open_document self.old ∷ []) }
+        ensures opened { OnOk result (open_document self.new ≡ no_fields) }
+        ensures fits { OnOk result (¬ IsMixed (gathered_documents self.new)) }
+        ensures full { IsErrOf result BuildError.TooManyDocuments
+            ↔ (length (gathered_documents self.old) ≡ MAX_DOCUMENTS) }
+        ensures mixed { IsErrOf result BuildError.MixedNumbers
+            → IsMixed (gathered_documents self.old ++ open_document self.old ∷ []) }
+        ensures err { OnErr result (self.new ≡ self.old) }
+        ensures names { self.new.names ≡ self.old.names }
+    {
+        if self.count == MAX_DOCUMENTS {
+            return Err(BuildError::TooManyDocuments);
+        }
+        let cells = self.log.cells_from(self.closed);
+        if let Err(error) = give_signs(self.alloc, &mut self.signs, cells) {
+            return Err(error);
+        }
+        self.closed = self.log.len();
+        self.count += 1;
+        Ok(())
+    }
+
+    /// Forgets the open document.
+    pub fn discard(&mut self)
+        ensures opened { open_document self.new ≡ no_fields }
+        ensures documents { gathered_documents self.new ≡ gathered_documents self.old }
+        ensures names { self.new.names ≡ self.old.names }
+    {
+        self.log.truncate(self.closed);
+    }
+
+    /// Appends a document. An open one is forgotten.
+    pub fn add_document(&mut self, document: Document) -> Result<(), BuildError>
+        ensures ok { OnOk result (gathered_documents self.new
+            ≡ gathered_documents self.old ++ meaning document ∷ []) }
+        ensures opened { open_document self.new ≡ no_fields }
+        ensures fits { OnOk result (¬ IsMixed (gathered_documents self.new)) }
+        ensures full { IsErrOf result BuildError.TooManyDocuments
+            ↔ (length (gathered_documents self.old) ≡ MAX_DOCUMENTS) }
+        ensures mixed { IsErrOf result BuildError.MixedNumbers
+            → IsMixed (gathered_documents self.old ++ meaning document ∷ []) }
+        ensures err { OnErr result (gathered_documents self.new ≡ gathered_documents self.old) }
+    {
+        self.discard();
+        if self.is_full() {
+            return Err(BuildError::TooManyDocuments);
+        }
+        match self.try_document(document) {
+            Ok(()) => Ok(()),
+            Err(error) => {
+                self.discard();
+                Err(error)
+            }
+        }
+    }
+
+    fn try_document(&mut self, document: Document) -> Result<(), BuildError>
+        requires opened { open_document self.old ≡ no_fields }
+        requires few { length (gathered_documents self.old) ≢ MAX_DOCUMENTS }
+        ensures ok { OnOk result (gathered_documents self.new
+            ≡ gathered_documents self.old ++ meaning document ∷ []) }
+        ensures opened { OnOk result (open_document self.new ≡ no_fields) }
+        ensures fits { OnOk result (¬ IsMixed (gathered_documents self.new)) }
+        ensures few { result ≢ Err BuildError.TooManyDocuments }
+        ensures mixed { IsErrOf result BuildError.MixedNumbers
+            → IsMixed (gathered_documents self.old ++ meaning document ∷ []) }
+        ensures err { OnErr result (gathered_documents self.new ≡ gathered_documents self.old) }
+    {
+        for (name, value) in document.into_values() {
+            if self.add_value(name.as_str(), value).is_err() {
+                return Err(BuildError::OutOfMemory);
+            }
+        }
+        self.finish()
+    }
+
+    fn add_value(&mut self, name: &str, value: FieldValue) -> Result<(), OutOfMemory>
+        ensures ok { OnOk result (open_document self.new
+            ≡ with_key name.now (key_of value) (open_document self.old)) }
+        ensures documents { gathered_documents self.new ≡ gathered_documents self.old }
+    {
+        let field = self.field(name)?;
+        self.push(field, value)
+    }
+
+    fn is_full(&self) -> bool
+        ensures { IsTrue result ↔ (length (gathered_documents self.now) ≡ MAX_DOCUMENTS) }
+    {
+        self.count == MAX_DOCUMENTS
+    }
+
+    /// The segment of the documents. An open one is forgotten.
+    pub fn build(self) -> Result<SegmentReader, BuildError>
+        ensures built { IfOk result (λ segment. documents_of segment ≡ gathered_documents self) }
+        ensures memory { OnErr result (result ≡ Err BuildError.OutOfMemory) }
+    {
+        let SegmentBuilder {
+            alloc,
+            count,
+            names,
+            mut log,
+            closed,
+            ..
+        } = self;
+        log.truncate(closed);
+        let columns = log.into_columns(alloc)?;
+        Ok(SegmentReader::from_parts(count, names, columns))
+    }
+}
+
+// The number of the next field. More take more memory than there is.
+fn next_number(count: usize) -> Result<u32, OutOfMemory>
+    ensures { IfOk result (λ number. number ≡ count) }
+{
+    u32::try_from(count).map_err(|_| OutOfMemory)
+}

@@ -1,0 +1,258 @@
+ghost use Rattle.std.specs.Prelude.{◌≡◌, ◌≢◌, ◌<◌, ◌≤◌, ℕ, length, map, get_or, IsTrue, IfOk};
+ghost use Rattle.std.specs.List.{All, zip, range_with_len};
+ghost use Rattle.std.specs.List.Sorted.{IsNonDecreasingBy};
+ghost use Rattle.agg_segment.specs.Columns.{numbers_at};
+ghost use Rattle.agg_segment.specs.Rows.{listed_docs, start_at, numbered, layout_docs};
+ghost use Rattle.agg_segment.specs.Rows.{AreEndsOf, IsLaidOut};
+
+use crate::log::Cell;
+use agg_values::{DocId, OutOfMemory};
+use std::alloc::Global;
+use std::marker::Model;
+
+/// Where the numbers of a document end.
+#[derive(Clone, Copy)]
+pub struct DocEnd {
+    doc: u32,
+    end: u32,
+}
+
+/// Whose the numbers are.
+#[derive(Drop)]
+pub enum Layout {
+    /// Each document has one number, up to the last that has any.
+    OneEach,
+    /// Where the numbers of each document end, up to the last that has any.
+    Dense(Vec<u32>),
+    /// The documents that have numbers, ascending.
+    Listed(Vec<DocEnd>),
+}
+
+/// The numbers of documents, ascending by document, seen by contracts as a list of a document and a
+/// number.
+#[derive(Drop)]
+pub struct Rows {
+    numbers: Vec<u64>,
+    layout: Layout,
+}
+
+impl Model for Rows {
+    ghost use Rattle.std.specs.Prelude.{List, ℕ, length};
+
+    ghost Value = { List (ℕ × ℕ) };
+
+    ghost use Rattle.agg_segment.specs.Rows.{rows, IsLaidOut};
+
+    ghost view = { λ r. rows r.layout r.numbers.items };
+
+    ghost invariant = { λ r. IsLaidOut r.layout (length r.numbers.items) };
+}
+
+impl Rows {
+    /// The numbers of cells, one for each.
+    pub fn of(alloc: Global, cells: &[Cell], numbers: Vec<u64>) -> Result<Rows, OutOfMemory>
+        requires ascending { IsNonDecreasingBy (λ c. c.doc) cells.now }
+        requires each { length cells.now ≡ length numbers.items }
+        ensures { IfOk result (λ rows. rows ≡ zip (map (λ c. c.doc) cells.now) numbers.items) }
+    {
+        let layout = layout_of(alloc, cells)?;
+        Ok(Rows { numbers, layout })
+    }
+
+    /// The numbers of a document.
+    pub fn row(&self, doc: DocId) -> &[u64]
+        ensures { result.now ≡ numbers_at self.now doc }
+    {
+        match &self.layout {
+            Layout::OneEach => one_number(&self.numbers, doc),
+            Layout::Dense(ends) => dense_numbers(&self.numbers, ends, doc),
+            Layout::Listed(ends) => listed_numbers(&self.numbers, ends, doc),
+        }
+    }
+}
+
+// Whose cells are.
+fn layout_of(alloc: Global, cells: &[Cell]) -> Result<Layout, OutOfMemory>
+    requires { IsNonDecreasingBy (λ c. c.doc) cells.now }
+    ensures docs { IfOk result (λ layout. layout_docs layout (length cells.now)
+        ≡ map (λ c. c.doc) cells.now) }
+    ensures all { IfOk result (λ layout. IsLaidOut layout (length cells.now)) }
+{
+    if has_one_each(cells) {
+        return Ok(Layout::OneEach);
+    }
+    let count = count_up_to_last(cells);
+    if count / 2 < count_docs(cells) {
+        return Ok(Layout::Dense(all_ends(alloc, cells, count)?));
+    }
+    Ok(Layout::Listed(doc_ends(alloc, cells)?))
+}
+
+fn one_number(numbers: &[u64], doc: DocId) -> &[u64]
+    ensures { result.now
+        ≡ numbers_at (zip (range_with_len 0 (length numbers.now)) numbers.now) doc }
+{
+    let at = doc as usize;
+    if at < numbers.len() {
+        return &numbers[at..at + 1];
+    }
+    &[]
+}
+
+fn dense_numbers<'a>(numbers: &'a [u64], ends: &[u32], doc: DocId) -> &'a [u64]
+    requires { AreEndsOf (numbered 0 ends.now) (length numbers.now) }
+    ensures { result.now
+        ≡ numbers_at (zip (listed_docs 0 (numbered 0 ends.now)) numbers.now) doc }
+{
+    let at = doc as usize;
+    if at >= ends.len() {
+        return &[];
+    }
+    let start = dense_start(ends, at) as usize;
+    &numbers[start..ends[at] as usize]
+}
+
+// Where the numbers of the document of a number begin.
+fn dense_start(ends: &[u32], doc: usize) -> u32
+    requires { doc ≤ length ends.now }
+    ensures { result ≡ start_at 0 (numbered 0 ends.now) doc }
+{
+    if doc == 0 {
+        return 0;
+    }
+    ends[doc - 1]
+}
+
+fn listed_numbers<'a>(numbers: &'a [u64], ends: &[DocEnd], doc: DocId) -> &'a [u64]
+    requires { AreEndsOf ends.now (length numbers.now) }
+    ensures { result.now ≡ numbers_at (zip (listed_docs 0 ends.now) numbers.now) doc }
+{
+    let at = ends.partition_point(|e| e.doc < doc);
+    if at == ends.len() || ends[at].doc != doc {
+        return &[];
+    }
+    let start = start_of(ends, at) as usize;
+    &numbers[start..ends[at].end as usize]
+}
+
+// Where the numbers of the document at a place begin.
+fn start_of(ends: &[DocEnd], at: usize) -> u32
+    requires { at ≤ length ends.now }
+    ensures { result ≡ start_at 0 ends.now at }
+{
+    if at == 0 {
+        return 0;
+    }
+    ends[at - 1].end
+}
+
+// Whether the documents are 0, 1, 2 and so on.
+fn has_one_each(cells: &[Cell]) -> bool
+    ensures { IsTrue result → map (λ c. c.doc) cells.now ≡ range_with_len 0 (length cells.now) }
+{
+    for (at, cell) in cells.iter().enumerate() {
+        if cell.doc as usize != at {
+            return false;
+        }
+    }
+    true
+}
+
+// How many documents there are up to the last that has cells.
+fn count_up_to_last(cells: &[Cell]) -> usize
+    requires { IsNonDecreasingBy (λ c. c.doc) cells.now }
+    ensures { All (λ c. c.doc < result) cells.now }
+{
+    if cells.is_empty() {
+        return 0;
+    }
+    cells[cells.len() - 1].doc as usize + 1
+}
+
+// Where the cells of each document end, for so many documents.
+fn all_ends(alloc: Global, cells: &[Cell], count: usize) -> Result<Vec<u32>, OutOfMemory>
+    requires ascending { IsNonDecreasingBy (λ c. c.doc) cells.now }
+    requires all { All (λ c. c.doc < count) cells.now }
+    ensures docs { IfOk result (λ ends. listed_docs 0 (numbered 0 ends.items)
+        ≡ map (λ c. c.doc) cells.now) }
+    ensures ends { IfOk result (λ ends. AreEndsOf (numbered 0 ends.items) (length cells.now)) }
+{
+    let mut ends = Vec::with_capacity(alloc, count)?;
+    let mut at = 0;
+    for doc in 0..count {
+        at = past_doc(cells, at, doc);
+        let end = narrow(at)?;
+        ends.push(end)?;
+    }
+    Ok(ends)
+}
+
+// Where the cells of a document end that may begin at a place.
+fn past_doc(cells: &[Cell], from: usize, doc: usize) -> usize
+    requires { from ≤ length cells.now }
+    ensures further { from ≤ result }
+    ensures within { result ≤ length cells.now }
+    ensures same { (k : ℕ) (d : Cell) → from ≤ k → k < result
+        → (get_or cells.now k d).doc ≡ doc }
+    ensures other { (d : Cell) → result < length cells.now
+        → (get_or cells.now result d).doc ≢ doc }
+{
+    let mut at = from;
+    while at < cells.len() && cells[at].doc as usize == doc {
+        at += 1;
+    }
+    at
+}
+
+// The documents of cells, with where their cells end.
+fn doc_ends(alloc: Global, cells: &[Cell]) -> Result<Vec<DocEnd>, OutOfMemory>
+    requires { IsNonDecreasingBy (λ c. c.doc) cells.now }
+    ensures docs { IfOk result (λ ends. listed_docs 0 ends.items ≡ map (λ c. c.doc) cells.now) }
+    ensures ends { IfOk result (λ ends. AreEndsOf ends.items (length cells.now)) }
+{
+    let mut ends = Vec::with_capacity(alloc, count_docs(cells))?;
+    let mut at = 0;
+    while at < cells.len() {
+        let doc = cells[at].doc;
+        at = doc_end(cells, at);
+        let end = narrow(at)?;
+        ends.push(DocEnd { doc, end })?;
+    }
+    Ok(ends)
+}
+
+// A count of numbers that fits 32 bits. More take more memory than there is.
+fn narrow(count: usize) -> Result<u32, OutOfMemory>
+    ensures { IfOk result (λ narrow. narrow ≡ count) }
+{
+    u32::try_from(count).map_err(|_| OutOfMemory)
+}
+
+// How many documents there are, as far as they ascend.
+fn count_docs(cells: &[Cell]) -> usize {
+    let mut count = 0;
+    let mut at = 0;
+    while at < cells.len() {
+        at = doc_end(cells, at);
+        count += 1;
+    }
+    count
+}
+
+// Where the cells of the document at a place end.
+fn doc_end(cells: &[Cell], from: usize) -> usize
+    requires { from < length cells.now }
+    ensures further { from < result }
+    ensures within { result ≤ length cells.now }
+    ensures same { (k : ℕ) (d : Cell) → from ≤ k → k < result
+        → (get_or cells.now k d).doc ≡ (get_or cells.now from d).doc }
+    ensures other { (d : Cell) → result < length cells.now
+        → (get_or cells.now result d).doc ≢ (get_or cells.now from d).doc }
+{
+    let doc = cells[from].doc;
+    let mut at = from + 1;
+    while at < cells.len() && cells[at].doc == doc {
+        at += 1;
+    }
+    at
+}

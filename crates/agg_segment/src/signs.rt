@@ -1,0 +1,93 @@
+ghost use Rattle.std.specs.Prelude.{◌≡◌, ◌≢◌, ◌<◌, ◌∷◌, ◌++◌, [], ℕ, List, Err, length, map};
+ghost use Rattle.std.specs.Prelude.{OnOk, OnErr, IsErrOf};
+ghost use Rattle.std.specs.List.{All};
+ghost use Rattle.agg_segment.specs.Signs.{cell_sign, cell_mark, AreSigns, HasBoth, without_signs};
+
+use crate::BuildError;
+use crate::log::{Cell, CellValue};
+use std::alloc::Global;
+
+/// Whether the numbers of a field have one below zero, or one above those of an i64. No field has
+/// both.
+#[derive(Clone, Copy, PartialEq, Eq)]
+pub enum Sign {
+    Small,
+    Negative,
+    Large,
+}
+
+/// The sign of what a cell keeps.
+fn sign_of(value: CellValue) -> Sign
+    ensures { result ≡ cell_sign value }
+{
+    match value {
+        CellValue::I64(n) if n < 0 => Sign::Negative,
+        CellValue::U64(_) => Sign::Large,
+        _ => Sign::Small,
+    }
+}
+
+/// Gives the fields of cells the signs of their numbers.
+pub fn give_signs(alloc: Global, signs: &mut [Sign], cells: &[Cell]) -> Result<(), BuildError>
+    requires { All (λ c. c.field < length signs.old) cells.now }
+    ensures ok { OnOk result ((before : List (ℕ × Sign)) → AreSigns signs.old before
+        → AreSigns signs.new (before ++ map cell_mark cells.now)) }
+    ensures mixed { IsErrOf result BuildError.MixedNumbers
+        → (before : List (ℕ × Sign)) → AreSigns signs.old before
+        → HasBoth (before ++ map cell_mark cells.now) }
+    ensures few { result ≢ Err BuildError.TooManyDocuments }
+    ensures err { OnErr result (signs.new ≡ signs.old) }
+{
+    let mut given = Vec::new(alloc);
+    for cell in cells {
+        if let Err(error) = give_sign(signs, &mut given, cell.field, sign_of(cell.value)) {
+            take_back(signs, given);
+            return Err(error);
+        }
+    }
+    Ok(())
+}
+
+// Gives a field a sign, and notes the field if it had none.
+fn give_sign(
+    signs: &mut [Sign],
+    given: &mut Vec<u32>,
+    field: u32,
+    sign: Sign,
+) -> Result<(), BuildError>
+    requires { field < length signs.old }
+    ensures ok { OnOk result ((before : List (ℕ × Sign)) → AreSigns signs.old before
+        → AreSigns signs.new (before ++ (field, sign) ∷ [])) }
+    ensures mixed { IsErrOf result BuildError.MixedNumbers
+        → (before : List (ℕ × Sign)) → AreSigns signs.old before
+        → HasBoth (before ++ (field, sign) ∷ []) }
+    ensures few { result ≢ Err BuildError.TooManyDocuments }
+    ensures undone { without_signs given.new.items signs.new
+        ≡ without_signs given.old.items signs.old }
+    ensures within { All (λ f. f < length signs.old) given.old.items
+        → All (λ f. f < length signs.old) given.new.items }
+{
+    let held = signs[field as usize];
+    if sign == Sign::Small {
+        return Ok(());
+    }
+    if sign == held {
+        return Ok(());
+    }
+    if held != Sign::Small {
+        return Err(BuildError::MixedNumbers);
+    }
+    given.push(field)?;
+    signs[field as usize] = sign;
+    Ok(())
+}
+
+// Takes the signs of fields away.
+fn take_back(signs: &mut [Sign], mut given: Vec<u32>)
+    requires { All (λ field. field < length signs.old) given.items }
+    ensures { signs.new ≡ without_signs given.items signs.old }
+{
+    while let Some(field) = given.pop() {
+        signs[field as usize] = Sign::Small;
+    }
+}
