@@ -1,6 +1,7 @@
--- From a map of counts to the groups of one ascending source, and back.
+-- From a list of counts to the groups of one ascending source, and back.
 use Rattle.std.proofs.Common.{◌≡◌, ℕ, ℤ, ◌+◌, ◌<◌, ◌≤◌, ◌⊎◌, zero, suc, List, [], ◌∷◌, ◌++◌}
-use Rattle.std.proofs.Common.{false, cond, Option, None, Some, IsSome, is_some, length, map}
+use Rattle.std.proofs.Common.{◌^◌, Result, Ok, Err, OnOk, IsErrOf}
+use Rattle.std.proofs.Common.{false, Option, None, Some, IsSome, is_some, length, map}
 use Rattle.std.proofs.Common.{count_by, All, Contains, refl, sym, ap, ◌∙◌, subst, inl, inr, arith}
 use Rattle.std.specs.BTreeMap.{is_at}
 use Rattle.std.specs.List.{AllByRecursion}
@@ -12,7 +13,6 @@ use Rattle.std.specs.declared.cmp.Ordering.TheVariants.{Less, Equal, Greater}
 use Rattle.std.proofs.lemmas.Bool.{false_from_ne_true, false≢true}
 use Rattle.std.proofs.lemmas.Cmp.{int_cmp_total, eq_by_cmp_equiv, tied_itself}
 use Rattle.std.proofs.lemmas.List.{map-append, length-map, get_or-map}
-use Rattle.std.proofs.lemmas.List.Sums.{sum_by-append}
 use Rattle.std.proofs.lemmas.List.Elements.{All-contains, All-cons, All-head, All-nil, All-tail}
 use Rattle.std.proofs.lemmas.List.Elements.{All-map}
 use Rattle.std.proofs.lemmas.Map.Keys.{IsDistinct-from_sorted}
@@ -25,9 +25,11 @@ use Rattle.agg_values.specs.KeyOrder.{tuple_order}
 use Rattle.agg_composite.specs.Counts.{Counts, positive, numbers_held}
 use Rattle.agg_request.specs.Source.{ascending_rules}
 use Rattle.agg_request.specs.Groups.{Groups}
-use Rattle.agg_composite.specs.Visits.{HasVisited}
+use Rattle.agg_cache.specs.declared.error.CollectError.{CollectError}
+use Rattle.agg_cache.specs.declared.error.CollectError.TheVariants.{TooMany}
+use Rattle.agg_composite.specs.Visits.{AnswersVisits, HasVisited}
 use Rattle.agg_request.specs.Occurrences.{same_tuple}
-use Rattle.agg_request.proofs.Lists.{All-from_map, All-from_Contains, Contains-map, count-step}
+use Rattle.agg_request.proofs.Lists.{All-from_map, All-from_Contains, Contains-map}
 use Rattle.agg_request.proofs.Lists.{count_by-none, count_by-some, count_by-positive}
 use Rattle.agg_request.proofs.Lists.{count_by-map, count_by-agree}
 use Rattle.agg_values.specs.Tuple.{KeyTuple}
@@ -42,7 +44,7 @@ tuples_of numbers = map (λ n. I64 n ∷ []) numbers
 
 -- ---- tuples of one number
 
-then-equal : (o : Ordering) → ordering_then (ordering_then o Equal) Equal ≡ o
+pub then-equal : (o : Ordering) → ordering_then (ordering_then o Equal) Equal ≡ o
 then-equal Less = refl
 then-equal Equal = refl
 then-equal Greater = refl
@@ -247,26 +249,72 @@ HasVisited-number es fs number step visited g =
     subst (λ vs. Holds vs fs) (sym (visited-then visited p.0 number p.1)) (Groups-from_Counts fs
     (p.0 ++ number ∷ []) (step p.0 c))
 
-count-then : (number : ℤ) (numbers : List ℤ) → count_by (is_at (int_cmp number)) (numbers ++ number
-    ∷ []) ≡ count_by (is_at (int_cmp number)) numbers + 1
-count-then number numbers =
-    let p = is_at (int_cmp number) in
-    let sum : count_by p (numbers ++ number ∷ []) ≡ count_by p numbers + count_by p (number ∷ []) =
-    sum_by-append (λ n. cond (p n) 1 0) numbers (number ∷ []) in
-    sum ∙ ap (λ n. count_by p numbers + n) (count-step p number [] ∙ ap (λ b. cond b 1 0 + 0)
-    (ap is_eq (tied_itself int_cmp_total number)))
-
 -- a number that is visited too often is a tuple that is
-pub number-too_often : (es : List (ℤ × ℕ)) (number : ℤ) (limit : ℕ) → ((numbers : List ℤ)
-    → Counts es numbers → limit ≤ count_by (is_at (int_cmp number)) numbers + 1)
+too_often-tuple : (es : List (ℤ × ℕ)) (limit : ℕ) → ((numbers : List ℤ)
+    → Counts es numbers → (q : ℤ) × (limit ≤ count_by (is_at (int_cmp q)) numbers))
     → (visited : List KeyTuple) → Holds visited es
-    → limit ≤ count_by (same_tuple ascending_rules (I64 number ∷ [])) (visited ++ (I64 number
-    ∷ []) ∷ [])
-number-too_often es number limit step visited g =
+    → (tuple : KeyTuple) × (limit ≤ count_by (same_tuple ascending_rules tuple) visited)
+too_often-tuple es limit often visited g =
     let p = numbers-visited es visited g.complete in
-    let c = Counts-from_Groups es p.0 (subst (λ vs. Holds vs es) p.1 g) in
-    let e : count_by (same_tuple ascending_rules (I64 number ∷ [])) (visited ++ (I64 number ∷ [])
-    ∷ []) ≡ count_by (is_at (int_cmp number)) (p.0 ++ number ∷ []) =
-    ap (count_by (same_tuple ascending_rules (I64 number ∷ []))) (visited-then visited p.0 number
-    p.1) ∙ count-tuples number (p.0 ++ number ∷ []) in
-    omega (arith, e, count-then number p.0, step p.0 c)
+    let m = often p.0 (Counts-from_Groups es p.0 (subst (λ vs. Holds vs es) p.1 g)) in
+    let e : count_by (same_tuple ascending_rules (I64 m.0 ∷ [])) visited
+    ≡ count_by (is_at (int_cmp m.0)) p.0 =
+    ap (count_by (same_tuple ascending_rules (I64 m.0 ∷ []))) p.1 ∙ count-tuples m.0 p.0 in
+    (I64 m.0 ∷ [], omega (arith, e, m.1))
+
+-- the same with one more visit
+pub number-too_often : (es : List (ℤ × ℕ)) (number : ℤ) (limit : ℕ) → ((numbers : List ℤ)
+    → Counts es numbers
+    → (q : ℤ) × (limit ≤ count_by (is_at (int_cmp q)) (numbers ++ number ∷ [])))
+    → (visited : List KeyTuple) → Holds visited es
+    → (tuple : KeyTuple)
+    × (limit ≤ count_by (same_tuple ascending_rules tuple) (visited ++ (I64 number ∷ []) ∷ []))
+number-too_often es number limit often visited g =
+    let p = numbers-visited es visited g.complete in
+    let m = often p.0 (Counts-from_Groups es p.0 (subst (λ vs. Holds vs es) p.1 g)) in
+    let t = I64 m.0 ∷ [] in
+    let e : count_by (same_tuple ascending_rules t) (visited ++ (I64 number ∷ []) ∷ [])
+    ≡ count_by (is_at (int_cmp m.0)) (p.0 ++ number ∷ []) =
+    ap (count_by (same_tuple ascending_rules t)) (visited-then visited p.0 number p.1)
+    ∙ count-tuples m.0 (p.0 ++ number ∷ []) in
+    (t, omega (arith, e, m.1))
+
+-- ---- what waits is settled
+
+-- entries that count what others do hold what was visited
+Holds-settled : (es fs : List (ℤ × ℕ)) → ((numbers : List ℤ) → Counts es numbers
+    → Counts fs numbers)
+    → (visited : List KeyTuple) → Holds visited es → Holds visited fs
+Holds-settled es fs settle visited g =
+    let p = numbers-visited es visited g.complete in
+    subst (λ vs. Holds vs fs) (sym p.1) (Groups-from_Counts fs p.0 (settle p.0
+    (Counts-from_Groups es p.0 (subst (λ vs. Holds vs es) p.1 g))))
+
+-- what a call that visits tuples answers, where it ends by settling what waits
+pub answers-settled : (tuples : List KeyTuple) (held es fs gs : List (ℤ × ℕ))
+    (steps steps_now : ℕ)
+    (result : Result (Unit {0}) CollectError)
+    → AnswersVisits ascending_rules tuples (numbers_held held) (numbers_held es) steps steps_now
+    (Ok tt)
+    → OnOk result ((numbers : List ℤ) → Counts es numbers → Counts fs numbers)
+    → OnOk result (fs ≡ gs)
+    → (IsErrOf result TooMany → (numbers : List ℤ) → Counts es numbers
+    → (q : ℤ) × (2 ^ 64 ≤ count_by (is_at (int_cmp q)) numbers))
+    → AnswersVisits ascending_rules tuples (numbers_held held) (numbers_held gs) steps steps_now
+    result
+answers-settled tuples held es fs gs steps steps_now (Ok x) visits ok same too_many = record {
+  ok = λ visited g. subst (Holds (visited ++ tuples)) same
+      (Holds-settled es fs ok (visited ++ tuples) (visits.ok visited g));
+  ticks = visits.ticks;
+  too_many = λ is_err. absurd (cc is_err);
+  later = visits.later;
+  bounded = visits.bounded;
+}
+answers-settled tuples held es fs gs steps steps_now (Err e) visits ok same too_many = record {
+  ok = tt;
+  ticks = tt;
+  too_many = λ is_err visited g.
+      too_often-tuple es (2 ^ 64) (too_many is_err) (visited ++ tuples) (visits.ok visited g);
+  later = visits.later;
+  bounded = visits.bounded;
+}

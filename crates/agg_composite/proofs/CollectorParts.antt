@@ -6,7 +6,7 @@ use Rattle.std.proofs.lemmas.List.{take_all, take_more, take-append-drop}
 use Rattle.std.proofs.lemmas.List.Sums.{sum_by-append}
 use Rattle.std.proofs.lemmas.Result.{err_from_is_err_and}
 use Rattle.agg_cache.specs.declared.error.CollectError.{CollectError}
-use Rattle.agg_cache.specs.declared.error.CollectError.TheVariants.{OutOfMemory, TooMany}
+use Rattle.agg_cache.specs.declared.error.CollectError.TheVariants.{TooMany}
 use Rattle.agg_request.specs.Groups.{Groups, Group}
 use Rattle.agg_composite.specs.Visits.{AnswersVisits, HasVisited, VisitsTooOften}
 use Rattle.agg_request.specs.Occurrences.{same_tuple}
@@ -103,16 +103,6 @@ module _ {X : Type 0} (f : List X → List KeyTuple) (h : Appends f) (rules : So
         later = omega (arith, ticks);
         bounded = omega (arith, ticks);
       }
-
-  -- want of memory at an element
-  pub memory-visited : (d : X) (returned : Result (Unit {0}) CollectError) → i < length xs
-      → IsErrAnd returned (λ e. e ≡ OutOfMemory)
-      → AnswersVisits rules (f xs) held now steps steps_now returned
-  memory-visited d returned l is_err =
-      let before = so_far.ticks in
-      let front = length-front f h xs i d l in
-      answers-error rules (f xs) held now steps steps_now OutOfMemory returned is_err
-      (λ too_many. absurd (cc too_many)) (omega (arith, before)) (omega (arith, before, front))
 
   module _ (d : X) (l : i < length xs) (after : List Group) (steps_after : ℕ) where
     -- one element more

@@ -1,12 +1,17 @@
 -- The tuples that lie past a bound, one value or one document more.
-use Rattle.std.proofs.Common.{◌≡◌, ℕ, ℤ, ◌^◌, pos, [], ◌∷◌, true, filter, map}
-use Rattle.std.proofs.Common.{FitsSigned, int_lt, refl, sym}
-use Rattle.std.proofs.Common.{ap, ◌∙◌, arith}
+use Rattle.std.proofs.Common.{◌≡◌, ℕ, ℤ, suc, ◌^◌, pos, [], ◌∷◌, Bool, true, false, ◌&&◌, ◌||◌}
+use Rattle.std.proofs.Common.{cond, filter, length, map, nat_lt, slice_get, Some, FitsSigned}
+use Rattle.std.proofs.Common.{int_lt, refl, sym, ap, ◌∙◌, subst, arith}
 use mir.Syntax.{w64}
+use Rattle.std.specs.Ordering.{int_cmp, is_eq, is_lt}
+use Rattle.std.specs.declared.cmp.Ordering.{Ordering}
+use Rattle.std.specs.declared.cmp.Ordering.TheVariants.{Less, Equal, Greater}
+use Rattle.std.proofs.lemmas.Bool.Decides.{nat_tests}
 use Rattle.std.proofs.lemmas.Int.{ints}
 use Rattle.std.proofs.lemmas.List.{append-nil, map-append}
 use Rattle.std.proofs.lemmas.List.Concat.{flat_map-append, flat_map-cons}
 use Rattle.std.proofs.lemmas.List.Elements.{filter-append}
+use Rattle.std.proofs.lemmas.Option.{none-some, same_Some}
 use Rattle.agg_values.specs.TypedKey.{CompositeIntermediateKey, canonical_key, typed_number}
 use Rattle.agg_values.specs.declared.typed_key.CompositeIntermediateKey.TheVariants.{I64}
 use Rattle.agg_segment.specs.Columns.{StoredColumn, all_keys, column_keys, encoded_key}
@@ -14,6 +19,7 @@ use Rattle.agg_segment.specs.declared.keys.ColumnKeys.{ColumnKeys}
 use Rattle.agg_request.specs.Source.{ascending_rules}
 use Rattle.agg_composite.specs.Counts.{past_tuples, tuples_in}
 use Rattle.agg_request.specs.Occurrences.{is_past}
+use Rattle.agg_composite.proofs.CollectorCounts.{then-equal}
 use Rattle.agg_composite.proofs.CollectorParts.{Appends}
 use Rattle.agg_values.specs.Tuple.{KeyTuple}
 
@@ -59,3 +65,34 @@ past-column bound column doc keys e =
     ap (past_tuples bound)
     (flat_map-cons (λ (c : StoredColumn). column_keys c doc) column []
     ∙ append-nil (column_keys column doc) ∙ sym e)
+
+-- ---- a bound whose first key is a number
+
+less-lower : (b n : ℤ) → is_lt (int_cmp b n) ≡ int_lt b n
+less-lower b n = decided (int_lt b n) (int_lt n b)
+  where
+    decided : (p q : Bool) → is_lt (cond p Less (cond q Greater Equal)) ≡ p
+    decided true q = refl
+    decided false true = refl
+    decided false false = refl
+
+only-less : (o : Ordering) (b : Bool) → b ≡ false → (is_lt o || (is_eq o && b)) ≡ is_lt o
+only-less Less b e = refl
+only-less Equal b e = e
+only-less Greater b e = refl
+
+past-shown : (b n : ℤ) (rest : KeyTuple)
+    → is_past ascending_rules (I64 b ∷ rest) (I64 n ∷ []) ≡ int_lt b n
+past-shown b n rest =
+    let longer : nat_lt (suc (length rest)) 1 ≡ false = grind (arith, nat_tests) in
+    ap (λ o. is_lt o || (is_eq o && nat_lt (suc (length rest)) 1)) (then-equal (int_cmp b n))
+    ∙ only-less (int_cmp b n) (nat_lt (suc (length rest)) 1) longer
+    ∙ less-lower b n
+
+-- a number lies past a bound whose first key is a number below it
+pub past-first : (bound : KeyTuple) (b n : ℤ) → slice_get bound 0 ≡ Some (I64 b)
+    → is_past ascending_rules bound (I64 n ∷ []) ≡ int_lt b n
+past-first [] b n e = absurd (none-some (I64 b) e)
+past-first (k ∷ rest) b n e =
+    subst (λ first. is_past ascending_rules (first ∷ rest) (I64 n ∷ []) ≡ int_lt b n)
+    (sym (same_Some k (I64 b) e)) (past-shown b n rest)

@@ -3,5 +3,7 @@ pub mod CollectorDocuments
 pub mod CollectorFront
 pub mod CollectorParts
 pub mod CollectorPast
+pub mod CountedAgain
 pub mod Errors
+pub mod Merging
 pub mod SignedNumbers

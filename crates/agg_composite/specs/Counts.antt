@@ -1,7 +1,7 @@
--- What a map of counts holds, and the tuples that one ascending source gives it.
-use Rattle.std.specs.Prelude.{◌≡◌, ℕ, ℤ, zero, suc, List, [], ◌∷◌, Option, None, Some}
-use Rattle.std.specs.Prelude.{count_by, filter, map}
-use Rattle.std.specs.BTreeMap.{is_at}
+-- What a list of counts holds, and the tuples that one ascending source gives it.
+use Rattle.std.specs.Prelude.{◌≡◌, ◌+◌, ℕ, ℤ, zero, suc, List, [], ◌∷◌, Option, None, Some}
+use Rattle.std.specs.Prelude.{count_by, filter, map, unwrap_or}
+use Rattle.std.specs.BTreeMap.{is_at, insert_entry}
 use Rattle.std.specs.List.Sorted.{IsStrictlySortedBy}
 use Rattle.std.specs.Map.{keys_of, lookup}
 use Rattle.std.specs.Ordering.{int_cmp}
@@ -11,8 +11,25 @@ use Rattle.agg_values.specs.declared.typed_key.CompositeIntermediateKey.TheVaria
 use Rattle.agg_request.specs.Groups.{Group}
 use Rattle.agg_request.specs.Occurrences.{is_past}
 use Rattle.agg_request.specs.Source.{ascending_rules}
+use Rattle.agg_composite.specs.declared.number_counts.NumberCount.{NumberCount}
 
--- a count that a map holds: none for zero
+-- counts as entries: each number with how often it was counted
+abbrev pub entries_of : List NumberCount → List (ℤ × ℕ)
+entries_of counts = map (λ c. (c.number, c.count)) counts
+
+-- counts by number, each number once
+abbrev pub AreAscending : List NumberCount → Type 0
+AreAscending counts = IsStrictlySortedBy int_cmp (keys_of (entries_of counts))
+
+-- how often a number was counted
+abbrev pub count_in : List (ℤ × ℕ) → ℤ → ℕ
+count_in entries q = unwrap_or (lookup (is_at (int_cmp q)) entries) 0
+
+-- the entries with a number counted once more
+abbrev pub counted_again : List (ℤ × ℕ) → ℤ → List (ℤ × ℕ)
+counted_again entries n = insert_entry int_cmp entries n (count_in entries n + 1)
+
+-- a count that entries hold: none for zero
 abbrev pub positive : ℕ → Option ℕ
 positive zero = None
 positive (suc n) = Some (suc n)
@@ -22,6 +39,19 @@ pub record Counts (entries : List (ℤ × ℕ)) (numbers : List ℤ) : Type 0 wh
   pub ascending : IsStrictlySortedBy int_cmp (keys_of entries)
   pub counted : (q : ℤ)
       → lookup (is_at (int_cmp q)) entries ≡ positive (count_by (is_at (int_cmp q)) numbers)
+
+-- a count that entries hold, with so many more
+abbrev pub raised : Option ℕ → ℕ → Option ℕ
+raised None n = positive n
+raised (Some m) n = Some (m + n)
+
+-- entries, ascending, with each of the numbers counted once more in those that come after
+pub record CountsMore (entries : List (ℤ × ℕ)) (numbers : List ℤ) (after : List (ℤ × ℕ))
+    : Type 0 where
+  pub ascending : IsStrictlySortedBy int_cmp (keys_of after)
+  pub counted : (q : ℤ)
+      → lookup (is_at (int_cmp q)) after
+      ≡ raised (lookup (is_at (int_cmp q)) entries) (count_by (is_at (int_cmp q)) numbers)
 
 -- numbers with their counts, as groups of tuples of one key
 abbrev pub numbers_held : List (ℤ × ℕ) → List Group

@@ -1,3 +1,4 @@
 pub mod Counts
 pub mod PageEntries
 pub mod Visits
+pub mod Waiting

@@ -7,13 +7,13 @@ ghost use Rattle.agg_composite.specs.PageEntries.{entry_group};
 ghost use Rattle.agg_composite.specs.Visits.{AnswersVisits};
 
 use crate::PageEntry;
+use crate::number_counts::{NumberCount, NumberCounts};
 use crate::visits::visit_documents;
 use agg_cache::{BucketId, CollectError};
 use agg_request::CompositeAggregation;
 use agg_segment::SegmentReader;
 use agg_values::{CompositeIntermediateKey, DocId, ItemList, OutOfMemory, Steps, Tuple};
 use std::alloc::Global;
-use std::collections::BTreeMap;
 use std::marker::Model;
 use std::sync::ledger::Ledger;
 
@@ -22,17 +22,18 @@ use std::sync::ledger::Ledger;
 #[derive(Drop)]
 pub struct SegmentCompositeCollector {
     alloc: Global,
-    counts: BTreeMap<i64, u64>,
+    counts: NumberCounts,
 }
 
 impl Model for SegmentCompositeCollector {
     ghost use Rattle.std.specs.Prelude.{List};
     ghost use Rattle.agg_request.specs.Groups.{Group};
     ghost use Rattle.agg_composite.specs.Counts.{numbers_held};
+    ghost use Rattle.agg_composite.specs.Waiting.{settled_counts};
 
     ghost Value = { List Group };
 
-    ghost view = { λ collector. numbers_held collector.counts.entries };
+    ghost view = { λ collector. numbers_held (settled_counts collector.counts) };
 }
 
 impl SegmentCompositeCollector {
@@ -45,7 +46,7 @@ impl SegmentCompositeCollector {
         let _ = num_sources;
         Ok(SegmentCompositeCollector {
             alloc,
-            counts: BTreeMap::new(alloc),
+            counts: NumberCounts::new(alloc),
         })
     }
 
@@ -75,15 +76,9 @@ impl SegmentCompositeCollector {
         let Some(source) = composite.sources.as_slice().first() else {
             return Ok(());
         };
-        visit_documents(
-            self.alloc,
-            &mut self.counts,
-            docs,
-            source,
-            bound,
-            segment,
-            steps,
-        )
+        self.counts.forget_waiting();
+        visit_documents(&mut self.counts, docs, source, bound, segment, steps)?;
+        self.counts.settle()
     }
 
     /// The lowest tuples that were visited, as many as the composite's size, each with its count.
@@ -101,18 +96,26 @@ impl SegmentCompositeCollector {
         let _ = bound;
         let _ = segment;
         let size = composite.size as usize;
-        let mut entries = ItemList::new(self.alloc);
-        for (number, count) in &self.counts {
-            if entries.as_slice().len() >= size {
-                break;
-            }
+        let shown = first_counts(self.counts.settled(), size);
+        let mut entries = Vec::with_capacity(self.alloc, shown.len())?;
+        for shown_count in shown {
             let mut key = Tuple::new(self.alloc);
-            key.push(CompositeIntermediateKey::I64(*number))?;
+            key.push(CompositeIntermediateKey::I64(shown_count.number))?;
             entries.push(PageEntry {
                 key,
-                doc_count: *count,
+                doc_count: shown_count.count,
             })?;
         }
-        Ok(entries)
+        Ok(ItemList::from_vec(entries))
     }
+}
+
+// So many of the counts, or all.
+fn first_counts(counts: &[NumberCount], size: usize) -> &[NumberCount]
+    ensures { result.now ≡ take size counts.now }
+{
+    if counts.len() <= size {
+        return counts;
+    }
+    &counts[..size]
 }

@@ -2,6 +2,7 @@
 #![tactic(auto)]
 
 mod collector;
+mod number_counts;
 mod page_entry;
 mod visits;
 

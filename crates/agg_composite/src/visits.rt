@@ -1,9 +1,6 @@
 //! Visits of the values of one ascending source.
-ghost use Rattle.std.specs.Prelude.{◌≡◌, ◌+◌, ◌^◌, ◌≤◌, [], ◌∷◌, ◌++◌, false};
-ghost use Rattle.std.specs.Prelude.{count_by, map, IfOk, OnOk, IsErrOf, IsTrue, All};
+ghost use Rattle.std.specs.Prelude.{◌≡◌, ◌<◌, ◌^◌, ◌-ℤ◌, pos, [], ◌∷◌, false, map, IsTrue, All};
 ghost use Rattle.std.specs.List.{list_all};
-ghost use Rattle.std.specs.BTreeMap.{is_at};
-ghost use Rattle.std.specs.Ordering.{int_cmp};
 ghost use Rattle.agg_values.specs.declared.typed_key.CompositeIntermediateKey.TheVariants as key;
 ghost use Rattle.agg_values.specs.declared.order.Order.TheVariants.{Asc};
 ghost use Rattle.agg_values.specs.declared.order.MissingOrder.TheVariants.{Default};
@@ -12,24 +9,26 @@ ghost use Rattle.agg_segment.specs.Segment.{documents_at};
 ghost use Rattle.agg_request.specs.Occurrences.{past_occurrences, is_past};
 ghost use Rattle.agg_request.specs.Source.{ascending_rules, order_of, missing_order_of};
 ghost use Rattle.agg_request.specs.Source.{field_of, is_signed_number, missing_bucket_of};
-ghost use Rattle.agg_composite.specs.Counts.{Counts, past_tuples, numbers_held};
+ghost use Rattle.agg_composite.specs.Counts.{past_tuples, numbers_held};
 ghost use Rattle.agg_composite.specs.Visits.{AnswersVisits};
+ghost use Rattle.agg_composite.specs.Waiting.{all_counts};
 
+use crate::number_counts::NumberCounts;
 use agg_cache::CollectError;
 use agg_request::CompositeAggregationSource;
-use agg_segment::{Column, SegmentReader};
+use agg_segment::{Column, ColumnType, SegmentReader};
 use agg_values::{
-    CompositeIntermediateKey, DocId, OutOfMemory, Steps, Tuple, composite_intermediate_key_ordering,
+    CompositeIntermediateKey, DocId, Steps, Tuple, composite_intermediate_key_ordering,
 };
-use std::alloc::Global;
 use std::cmp::Ordering;
-use std::collections::BTreeMap;
 use std::sync::ledger::Ledger;
+
+// How far a number in a column of signed numbers lies above the one that it stands for.
+const FROM_ZERO: u64 = 9_223_372_036_854_775_808;
 
 /// Visits the values of the documents at these places that lie past the bound.
 pub fn visit_documents<L: Ledger>(
-    alloc: Global,
-    counts: &mut BTreeMap<i64, u64>,
+    counts: &mut NumberCounts,
     docs: &[DocId],
     source: &CompositeAggregationSource,
     bound: &Tuple,
@@ -45,20 +44,19 @@ pub fn visit_documents<L: Ledger>(
     ensures { AnswersVisits
         ascending_rules
         (past_occurrences (source.now ∷ []) bound.now (documents_at segment.now docs.now))
-        (numbers_held counts.old.entries) (numbers_held counts.new.entries)
+        (numbers_held (all_counts counts.old)) (numbers_held (all_counts counts.new))
         steps.old steps.new result }
 {
     let columns = segment.columns(source.field());
     for doc in docs {
-        visit_document(alloc, counts, *doc, columns, source, bound, steps)?;
+        visit_document(counts, *doc, columns, source, bound, steps)?;
     }
     Ok(())
 }
 
 // Visits the values that a document has in columns.
 fn visit_document<L: Ledger>(
-    alloc: Global,
-    counts: &mut BTreeMap<i64, u64>,
+    counts: &mut NumberCounts,
     doc: DocId,
     columns: &[Column],
     source: &CompositeAggregationSource,
@@ -71,20 +69,19 @@ fn visit_document<L: Ledger>(
     ensures { AnswersVisits
         ascending_rules
         (past_tuples bound.now (all_keys columns.now doc))
-        (numbers_held counts.old.entries) (numbers_held counts.new.entries)
+        (numbers_held (all_counts counts.old)) (numbers_held (all_counts counts.new))
         steps.old steps.new result }
 {
     for column in columns {
         let values = column.values_for_doc(doc);
-        visit_values(alloc, counts, values, column, source, bound, steps)?;
+        visit_values(counts, values, column, source, bound, steps)?;
     }
     Ok(())
 }
 
 // Visits the values of a column.
 fn visit_values<L: Ledger>(
-    alloc: Global,
-    counts: &mut BTreeMap<i64, u64>,
+    counts: &mut NumberCounts,
     values: &[u64],
     column: &Column,
     source: &CompositeAggregationSource,
@@ -99,31 +96,47 @@ fn visit_values<L: Ledger>(
     ensures { AnswersVisits
         ascending_rules
         (past_tuples bound.now (map (encoded_key column.now.keys) values.now))
-        (numbers_held counts.old.entries) (numbers_held counts.new.entries)
+        (numbers_held (all_counts counts.old)) (numbers_held (all_counts counts.new))
         steps.old steps.new result }
 {
     for value in values {
-        let number = number_at(alloc, *value, column)?;
-        visit_number(counts, number, source, bound, steps)?;
+        visit_number(counts, number_at(*value, column), source, bound, steps)?;
     }
     Ok(())
 }
 
 // The number of a column's value, which is a signed one.
-fn number_at(alloc: Global, value: u64, column: &Column) -> Result<i64, OutOfMemory>
+fn number_at(value: u64, column: &Column) -> i64
     requires stand { StandsForKey column.now.keys value }
     requires number { IsTrue (is_signed_number (encoded_key column.now.keys value)) }
-    ensures { IfOk result (λ number. encoded_key column.now.keys value ≡ key.I64 number) }
+    ensures { encoded_key column.now.keys value ≡ key.I64 result }
 {
-    match column.decode(alloc, value)? {
-        CompositeIntermediateKey::I64(number) => Ok(number),
-        _ => Ok(0),
+    match column.column_type() {
+        ColumnType::I64 => signed(value),
+        _ => unsigned(value),
     }
+}
+
+// The number less 2^63.
+fn signed(value: u64) -> i64
+    ensures { result ≡ pos value -ℤ pos (2 ^ 63) }
+{
+    if value < FROM_ZERO {
+        return i64::MIN + value as i64;
+    }
+    (value - FROM_ZERO) as i64
+}
+
+// The number, which has to be one that an i64 can be.
+fn unsigned(value: u64) -> i64
+    ensures { value < 2 ^ 63 → result ≡ pos value }
+{
+    i64::try_from(value).unwrap_or(0)
 }
 
 // Visits a number if its tuple lies past the bound.
 fn visit_number<L: Ledger>(
-    counts: &mut BTreeMap<i64, u64>,
+    counts: &mut NumberCounts,
     number: i64,
     source: &CompositeAggregationSource,
     bound: &Tuple,
@@ -134,11 +147,11 @@ fn visit_number<L: Ledger>(
     ensures { AnswersVisits
         ascending_rules
         (past_tuples bound.now (key.I64 number ∷ []))
-        (numbers_held counts.old.entries) (numbers_held counts.new.entries)
+        (numbers_held (all_counts counts.old)) (numbers_held (all_counts counts.new))
         steps.old steps.new result }
 {
     if lies_past(number, source, bound) {
-        visit(counts, number)?;
+        counts.visit(number)?;
         steps.tick();
     }
     Ok(())
@@ -153,23 +166,10 @@ fn lies_past(number: i64, source: &CompositeAggregationSource, bound: &Tuple) ->
     let Some(first) = bound.as_slice().first() else {
         return true;
     };
+    if let CompositeIntermediateKey::I64(bound_number) = first {
+        return *bound_number < number;
+    }
     let key = CompositeIntermediateKey::I64(number);
     composite_intermediate_key_ordering(first, &key, source.order(), source.missing_order())
         == Ordering::Less
-}
-
-// Counts one more visit of a number.
-fn visit(counts: &mut BTreeMap<i64, u64>, number: i64) -> Result<(), CollectError>
-    ensures ok { OnOk result
-        ((numbers : _)
-        → Counts counts.old.entries numbers
-        → Counts counts.new.entries (numbers ++ number ∷ [])) }
-    ensures too_many { IsErrOf result CollectError.TooMany
-        → (numbers : _)
-        → Counts counts.old.entries numbers
-        → 2 ^ 64 ≤ count_by (is_at (int_cmp number)) numbers + 1 }
-{
-    let count = counts.entry(number)?.or_insert(0);
-    *count = count.checked_add(1).ok_or(CollectError::TooMany)?;
-    Ok(())
 }

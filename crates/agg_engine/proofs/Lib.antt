@@ -1,4 +1,5 @@
 pub mod BySource
+pub mod Escapes
 pub mod Joined
 pub mod OneRequest
 pub mod OneWalk

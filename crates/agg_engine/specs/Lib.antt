@@ -1,6 +1,7 @@
 pub mod Form
 pub mod NamedComposite
 pub mod PageAnswers
+pub mod PlainText
 pub mod Results
 pub mod ResultsText
 pub mod ShownResults

@@ -97,13 +97,7 @@ pub fn walk_pages<L: Ledger>(
         paged.size = snapshot.page_size;
         let entries = page::snapshot_page(alloc, &paged, &bound, query, snapshot, steps)?;
         let next = bound::next_bound(alloc, entries.as_slice(), snapshot.page_size)?;
-        pages.push(shown::page_results(
-            alloc,
-            name,
-            paged.sources.as_slice(),
-            entries.as_slice(),
-            &next,
-        )?)?;
+        pages.push(shown::page_results(alloc, name, paged.sources.as_slice(), entries, &next)?)?;
         let Some(tuple) = next else {
             return Ok(Walk { pages, ended: true });
         };

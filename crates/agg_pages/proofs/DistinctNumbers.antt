@@ -1,6 +1,6 @@
 -- Numbers of which none is there twice.
 use Rattle.std.proofs.Common.{◌≡◌, ◌==◌, ℕ, ◌≤◌, List, [], ◌∷◌, ◌++◌, length, Bool, true}
-use Rattle.std.proofs.Common.{false, cond, get_or, refl, sym, ap, ◌∙◌, subst, arith}
+use Rattle.std.proofs.Common.{◌<◌, false, cond, get_or, refl, sym, ap, ◌∙◌, subst, arith}
 use Rattle.std.proofs.lemmas.Bool.{eq-eqb, ne_eqb}
 use Rattle.std.proofs.lemmas.List.{get_or_append_left, get_or_push, length_push}
 use Rattle.std.proofs.lemmas.List.Sorted.{IsPermutation-sym, length_permutation}
@@ -15,6 +15,12 @@ use Rattle.agg_pages.specs.Tokens.{AreDistinct}
 -- whether two numbers are the same
 abbrev same : ℕ → ℕ → Bool
 same a b = a == b
+
+-- fewer than two numbers are distinct
+pub few_distinct : (numbers : List ℕ) → length numbers < 2 → AreDistinct numbers
+few_distinct numbers few =
+    IsDistinct-from_apart same numbers
+    (λ i j d before within. absurd (omega (arith, few, before, within)))
 
 -- ---- what `dedup` leaves, where it takes nothing away
 

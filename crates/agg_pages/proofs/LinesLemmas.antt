@@ -2,17 +2,19 @@
 use Rattle.std.proofs.Common.{◌≡◌, ◌≢◌, ℕ, ◌+◌, ◌-◌, ◌^◌, ◌<◌, List, [], ◌∷◌, ◌++◌, length}
 use Rattle.std.proofs.Common.{get_or, take, Bor, Option, Some, None, Result, Ok, Err, MatchOption}
 use Rattle.std.proofs.Common.{unwrap_or, eqb, eq-eqb, refl, sym, ap, ◌∙◌, arith, rules, true}
-use Rattle.std.proofs.Common.{false}
+use Rattle.std.proofs.Common.{false, suc, drop, add-one}
 use Rattle.std.specs.Result.{OkIff, result_ok}
 use Rattle.std.specs.Str.{all_ascii_digits}
 use Rattle.std.specs.Str.Parse.{digits_value}
 use Rattle.std.specs.Str.Lines.{strip_carriage_return}
-use Rattle.std.proofs.lemmas.List.{take_more, take_all, length-append}
+use Rattle.std.proofs.lemmas.List.{take_more, take_all, length-append, length-take, get_or-take}
+use Rattle.std.proofs.lemmas.Bool.{eqb-true}
 use Rattle.std.proofs.lemmas.Bool.Decides.{nat_tests}
 use Rattle.std.proofs.lemmas.List.Elements.{All-from_get_or}
 use Rattle.std.proofs.lemmas.List.Splits.{slice_split_at, slice_split_none}
 use Rattle.std.specs.List.{All}
-use Rattle.std.proofs.Math.Seq.{get_or-append_seam, take-append_seam}
+use Rattle.std.proofs.Math.Seq.{get_or-append_seam, split_at, take-append_seam}
+use Rattle.memchr.specs.Find.{NoneBefore, Nowhere, Passes, is_byte}
 use Rattle.agg_pages.specs.SnapshotLines.{page_size_of}
 use Rattle.agg_pages.specs.Lines.{all_lines_of}
 
@@ -71,6 +73,47 @@ cut_at text line left e h =
 pub cut_none : (text : List ℕ) → ((i : ℕ) → i < length text → get_or text i 0 ≢ 10)
     → all_lines_of text ≡ strip_carriage_return text ∷ []
 cut_none text h = rw (slice_split_none (λ b. eqb b 10) text (feeds_none text h))
+
+-- ---- the place of the line feed
+
+-- the first line feed of a text is at this place
+abbrev pub FeedsAt : List ℕ → ℕ → Type 0
+FeedsAt text feed =
+    NoneBefore (Passes (is_byte 10) text) 0 (length text) feed × Passes (is_byte 10) text feed
+
+-- and a line feed stands there
+pub feed_there : (text : List ℕ) (feed : ℕ) → FeedsAt text feed → get_or text feed 0 ≡ 10
+feed_there text feed found = eqb-true (get_or text feed 0) 10 found.1
+
+-- the text on both sides of a line feed
+around : (text : List ℕ) (feed : ℕ) → feed < length text → get_or text feed 0 ≡ 10
+    → text ≡ take feed text ++ 10 ∷ drop (feed + 1) text
+around text feed within here =
+    split_at text feed 0 within
+    ∙ ap (λ b. take feed text ++ b ∷ drop (suc feed) text) here
+    ∙ ap (λ n. take feed text ++ 10 ∷ drop n text) (sym (add-one feed))
+
+-- the first line ends there
+pub cut_at_place : (text : List ℕ) (feed : ℕ) → FeedsAt text feed
+    → all_lines_of text
+    ≡ strip_carriage_return (take feed text) ∷ all_lines_of (drop (feed + 1) text)
+cut_at_place text feed found =
+    cut_at text (take feed text) (drop (feed + 1) text)
+    (around text feed found.0.high (feed_there text feed found))
+    (λ i within e.
+    let before : i < feed = omega (arith, within, length-take feed text) in
+    found.0.before i (omega arith) before
+    (eq-eqb (get_or text i 0) 10 (sym (get_or-take feed text i 0 before) ∙ e)))
+
+-- a text has no line feed
+abbrev pub NoFeed : List ℕ → Type 0
+NoFeed text = Nowhere (Passes (is_byte 10) text) 0 (length text)
+
+-- and is one line
+pub cut_nowhere : (text : List ℕ) → NoFeed text
+    → all_lines_of text ≡ strip_carriage_return text ∷ []
+cut_nowhere text none =
+    cut_none text (λ i within e. none i (omega arith) within (eq-eqb (get_or text i 0) 10 e))
 
 -- ---- the page size
 

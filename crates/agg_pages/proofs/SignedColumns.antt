@@ -11,7 +11,8 @@ use Rattle.std.proofs.lemmas.Bool.{false≢true}
 use Rattle.std.proofs.lemmas.List.{length-map}
 use Rattle.agg_segment.specs.Document.{Fields}
 use Rattle.agg_segment.specs.Segment.{Stored, document_at, documents_of}
-use Rattle.agg_segment.specs.Columns.{StoredColumn, all_keys, column_keys, encoded_key, type_of}
+use Rattle.agg_segment.specs.Columns.{StoredColumn, all_keys, column_keys, encoded_key}
+use Rattle.agg_segment.specs.Columns.{numbers_at, type_of}
 use Rattle.agg_segment.specs.declared.hit.ColumnType.TheVariants as kind
 use Rattle.agg_segment.specs.declared.keys.ColumnKeys.{ColumnKeys}
 use Rattle.agg_segment.specs.declared.keys.ColumnKeys.TheVariants.{Bools, Texts, Signed, Unsigned}
@@ -19,7 +20,7 @@ use Rattle.agg_segment.specs.declared.keys.ColumnKeys.TheVariants.{Addresses, Da
 use Rattle.agg_request.specs.Source.{is_signed_number}
 use Rattle.agg_values.specs.TypedKey.{CompositeIntermediateKey}
 use Rattle.agg_values.specs.declared.typed_key.CompositeIntermediateKey.TheVariants.{I64, U64}
-use Rattle.agg_pages.specs.Signed.{column_is_signed}
+use Rattle.agg_pages.specs.Signed.{column_is_signed, has_signed_type}
 
 -- ---- the numbers of one column
 
@@ -95,11 +96,33 @@ in_columns (c ∷ columns) doc =
     ap (λ b. column_is_signed c doc && b) (in_columns columns doc)
     ∙ sym (list_all-append is_signed_number (column_keys c doc) (all_keys columns doc))
 
--- ---- the documents of a segment
-
 both : (a b : Bool) → (a && b) ≡ true → (a ≡ true) × (b ≡ true)
 both true b h = (refl, h)
 both false b h = absurd (cc h)
+
+first_and : (a b : Bool) → a ≡ true → b ≡ true → (a && b) ≡ true
+first_and a b h k = rw h k
+
+signed_type : (keys : ColumnKeys) → has_signed_type keys ≡ true → type_of keys ≡ kind.I64
+signed_type Signed e = refl
+signed_type Bools e = cc
+signed_type (Texts texts) e = cc
+signed_type Unsigned e = cc
+signed_type (Addresses addresses) e = cc
+signed_type Dates e = cc
+
+-- columns with the type of such numbers hold nothing else
+pub of_types : (columns : List StoredColumn) (doc : ℕ)
+    → list_all (λ column. has_signed_type column.keys) columns ≡ true
+    → list_all (λ column. column_is_signed column doc) columns ≡ true
+of_types [] doc e = refl
+of_types (c ∷ columns) doc e =
+    let parts = both (has_signed_type c.keys) _ e in
+    first_and (column_is_signed c doc) _
+    (sym (of_signed c.keys (numbers_at c.cells doc) (signed_type c.keys parts.0)))
+    (of_types columns doc parts.1)
+
+-- ---- the documents of a segment
 
 at_place : (p : ℕ → Bool) (first count at : ℕ) → list_all p (range_with_len first count) ≡ true
     → at < count → p (first + at) ≡ true
@@ -109,9 +132,6 @@ at_place p first (suc count) zero h within =
 at_place p first (suc count) (suc at) h within =
     ap p (omega arith)
     ∙ at_place p (first + 1) count at (both (p first) _ h).1 (omega (arith, within))
-
-first_and : (a b : Bool) → a ≡ true → b ≡ true → (a && b) ≡ true
-first_and a b h k = rw h k
 
 from_places : (p : ℕ → Bool) (first count : ℕ)
     → ((at : ℕ) → at < count → p (first + at) ≡ true)

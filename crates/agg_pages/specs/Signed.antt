@@ -1,9 +1,11 @@
 -- Whether a request reads nothing but whole numbers within i64.
-use Rattle.std.specs.Prelude.{ℕ, List, Bool}
+use Rattle.std.specs.Prelude.{ℕ, List, Bool, true, false}
 use Rattle.std.specs.List.{list_all}
 use Rattle.agg_segment.specs.Columns.{StoredColumn, column_keys}
 use Rattle.agg_segment.specs.Document.{Fields}
 use Rattle.agg_segment.specs.Segment.{Stored, documents_of}
+use Rattle.agg_segment.specs.declared.keys.ColumnKeys.{ColumnKeys}
+use Rattle.agg_segment.specs.declared.keys.ColumnKeys.TheVariants.{Signed}
 use Rattle.agg_request.specs.Request.{Request}
 use Rattle.agg_request.specs.Source.{field_of, is_signed_number}
 use Rattle.agg_request.specs.declared.aggregation.AggregationVariants.{AggregationVariants}
@@ -39,3 +41,8 @@ snapshots_are_signed request snapshots =
 -- whether a column holds nothing else in a document
 abbrev pub column_is_signed : StoredColumn → ℕ → Bool
 column_is_signed column doc = list_all is_signed_number (column_keys column doc)
+
+-- whether a column of these keys has the type of such numbers
+abbrev pub has_signed_type : ColumnKeys → Bool
+has_signed_type Signed = true
+has_signed_type _ = false

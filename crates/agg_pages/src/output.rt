@@ -35,9 +35,8 @@ fn write_page(text: &mut String, number: u64, page: &AggregationResults) -> Resu
     ensures { OnOk result
         (string_bytes text.new ≡ string_bytes text.old ++ page_line number page.now) }
 {
-    let results = page.write_json()?;
     write!(text, "{{\"page\":{number},\"results\":")?;
-    text.push_str(results.as_str())?;
+    page.append_json(text)?;
     text.push_str("}\n")?;
     Ok(())
 }

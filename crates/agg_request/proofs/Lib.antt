@@ -16,5 +16,6 @@ pub mod PageUnique
 pub mod PageWalk
 pub mod PageWhole
 pub mod Readings
+pub mod SourceColumns
 pub mod UncutLength
 pub mod ValueTexts

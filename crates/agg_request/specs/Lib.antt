@@ -7,5 +7,6 @@ pub mod Query
 pub mod Reading
 pub mod Request
 pub mod Source
+pub mod SourceColumns
 pub mod Successive
 pub mod Uncut

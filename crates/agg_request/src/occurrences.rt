@@ -2,64 +2,90 @@
 #[cfg(test)]
 mod tests;
 
-ghost use Rattle.std.specs.Prelude.{◌≡◌, ◌-◌, ◌^◌, ◌↔◌, IsTrue, length, min};
+ghost use Rattle.std.specs.Prelude.{◌≡◌, ◌-◌, ◌^◌, ◌↔◌, IfOk, IsTrue, length, min};
 ghost use Rattle.agg_segment.specs.Columns.{all_keys};
-ghost use Rattle.agg_segment.specs.Segment.{document_at, documents_at};
+ghost use Rattle.agg_segment.specs.Segment.{Stored, document_at, documents_at};
 ghost use Rattle.agg_request.specs.declared.aggregation.AggregationVariants.TheVariants.{Composite};
+ghost use Rattle.agg_request.specs.declared.source.CompositeAggregationSource as declared;
 ghost use Rattle.agg_request.specs.Occurrences.{occurrences};
-ghost use Rattle.agg_request.specs.Source.{source_values};
+ghost use Rattle.agg_request.specs.Source.{Sources, source_values};
+ghost use Rattle.agg_request.specs.SourceColumns.{AreReadBy, IsReadBy};
 ghost use Rattle.agg_request.specs.Uncut.{CountsTooMany};
 
 use super::{CompositeAggregation, CompositeAggregationSource};
 use agg_segment::{Column, SegmentReader};
-use agg_values::DocId;
+use agg_values::{DocId, OutOfMemory};
+use std::alloc::Global;
 
 // So many occurrences are too many.
 const TOO_MANY: u64 = 1 << 32;
 
+// The columns that a source reads, and whether a document without values has a bucket.
+#[derive(Clone, Copy)]
+struct SourceColumns<'a> {
+    columns: &'a [Column],
+    missing_bucket: bool,
+}
+
 /// Whether the documents at these places have too many occurrences for a composite to count.
 pub fn counts_too_many(
+    alloc: Global,
     composite: &CompositeAggregation,
     segment: &SegmentReader,
     docs: &[DocId],
-) -> bool
-    ensures { IsTrue result
-        ↔ CountsTooMany (Composite composite.now) (documents_at segment.now docs.now) }
+) -> Result<bool, OutOfMemory>
+    ensures { IfOk result (λ too_many. IsTrue too_many
+        ↔ CountsTooMany (Composite composite.now) (documents_at segment.now docs.now)) }
 {
-    let sources = composite.sources.as_slice();
+    let sources = source_columns(alloc, composite.sources.as_slice(), segment)?;
     let mut count: u64 = 0;
     for doc in docs {
-        count = count.saturating_add(num_occurrences(sources, segment, *doc));
+        count = count.saturating_add(num_occurrences(&sources, *doc));
         if count >= TOO_MANY {
-            return true;
+            return Ok(true);
         }
     }
-    false
+    Ok(false)
+}
+
+// The columns that each source reads, looked up once.
+fn source_columns<'a>(
+    alloc: Global,
+    sources: &[CompositeAggregationSource],
+    segment: &'a SegmentReader,
+) -> Result<Vec<SourceColumns<'a>>, OutOfMemory>
+    ensures { IfOk result (λ columns. AreReadBy segment.now sources.now columns.items) }
+{
+    let mut columns = Vec::with_capacity(alloc, sources.len())?;
+    for source in sources {
+        columns.push(SourceColumns {
+            columns: segment.columns(source.field()),
+            missing_bucket: source.missing_bucket(),
+        })?;
+    }
+    Ok(columns)
 }
 
 // How many occurrences a document has, cut to what the number holds.
-fn num_occurrences(
-    sources: &[CompositeAggregationSource],
-    segment: &SegmentReader,
-    doc: DocId,
-) -> u64
-    ensures { result
-        ≡ min (length (occurrences sources.now (document_at segment.now doc))) (2 ^ 64 - 1) }
+fn num_occurrences(sources: &[SourceColumns<'_>], doc: DocId) -> u64
+    ensures { (segment : Stored) (read : Sources) → AreReadBy segment read sources.now
+        → result ≡ min (length (occurrences read (document_at segment doc))) (2 ^ 64 - 1) }
 {
     let mut product: u64 = 1;
     for source in sources {
-        product = product.saturating_mul(num_keys(source, segment, doc));
+        product = product.saturating_mul(num_keys(source, doc));
     }
     product
 }
 
 // How many keys a source reads in a document, cut to what the number holds.
-fn num_keys(source: &CompositeAggregationSource, segment: &SegmentReader, doc: DocId) -> u64
-    ensures { result
-        ≡ min (length (source_values source.now (document_at segment.now doc))) (2 ^ 64 - 1) }
+fn num_keys(source: &SourceColumns<'_>, doc: DocId) -> u64
+    ensures { (segment : Stored) (read : declared.CompositeAggregationSource)
+        → IsReadBy segment read source.now
+        → result ≡ min (length (source_values read (document_at segment doc))) (2 ^ 64 - 1) }
 {
-    let num_values = num_values(segment.columns(source.field()), doc);
-    if num_values == 0 && source.missing_bucket() {
+    let num_values = num_values(source.columns, doc);
+    if num_values == 0 && source.missing_bucket {
         return 1;
     }
     num_values

@@ -252,7 +252,7 @@ module _ (texts : List (List ℕ)) (addresses : List Address) where
 
 -- ---- parts of sorted cells
 
-part_read : (cells : List Cell) (from to k : ℕ) (d : Cell) → from ≤ to → to ≤ length cells
+pub part_read : (cells : List Cell) (from to k : ℕ) (d : Cell) → from ≤ to → to ≤ length cells
     → k < length (take (to - from) (drop from cells))
     → (k < to - from) × (get_or (take (to - from) (drop from cells)) k d ≡ get_or cells (from + k)
     d)

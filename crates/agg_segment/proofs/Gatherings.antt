@@ -2,22 +2,20 @@
 use Rattle.std.proofs.Common.{◌≡◌, ◌≢◌, ◌+◌, ◌<◌, ℕ, zero, suc, List, [], ◌∷◌, ◌++◌}
 use Rattle.std.proofs.Common.{Some, None, length, take, drop, map, cond, true, false}
 use Rattle.std.proofs.Common.{refl, sym, ap, ◌∙◌, inl, inr, arith, length-append}
-use Rattle.std.specs.Prelude.{Bool, ◌⊎◌, Option, ◌==◌, ◌&&◌, not, filter}
+use Rattle.std.specs.Prelude.{Bool, Option, ◌==◌, ◌&&◌, filter}
 use Rattle.std.specs.Option.{option_map_or}
 use Rattle.std.specs.Str.{bytes_eq}
 use Rattle.std.specs.List.{All, range_with_len}
 use Rattle.std.proofs.lemmas.Bool.{cases_eq, cases_Bool, eq-eqb, ne_eqb}
 use Rattle.std.proofs.lemmas.List.{append-nil, map-append, take-append-drop}
-use Rattle.std.proofs.lemmas.List.{take-append-le, drop-append-le, take_all, drop_at}
-use Rattle.std.proofs.lemmas.List.{length-take-le}
+use Rattle.std.proofs.lemmas.List.{take-append-le, drop-append-le}
 use Rattle.std.proofs.lemmas.List.Elements.{filter-append, All-tail, All-head, All-cons, All-push}
-use Rattle.std.proofs.lemmas.List.Elements.{All-append, All-take, All-drop, All-filter}
 use Rattle.std.proofs.lemmas.List.Elements.{All-weaker}
 use Rattle.agg_values.specs.TypedKey.{CompositeIntermediateKey}
 use Rattle.agg_segment.specs.Document.{Fields, by_class}
 use Rattle.agg_segment.specs.Cells.{Placed, is_at, keys_at, number_of, named_keys}
 use Rattle.agg_segment.specs.Segment.{Gathered, IsNameOf, gathered_fields, gathered_documents}
-use Rattle.agg_segment.specs.Segment.{open_document, no_fields, with_key, without_field}
+use Rattle.agg_segment.specs.Segment.{open_document, no_fields, with_key}
 use Rattle.agg_segment.specs.Segment.{IsGathered}
 use Rattle.agg_segment.specs.declared.signs.Sign.{Sign}
 use Rattle.agg_segment.proofs.Classes.{by_class_more, by_class_nil}
@@ -56,41 +54,6 @@ keys_no_field (p ∷ cells) field doc none =
 keys_one : (p : Placed) (field doc : ℕ) → p.field ≡ field → p.doc ≡ doc
     → keys_at (p ∷ []) field doc ≡ p.key ∷ []
 keys_one p field doc f d = rw (eq-eqb p.field field f, eq-eqb p.doc doc d) refl
-
--- the cells of other fields have a field's keys but for the one that is left out
-keys_without : (cells : List Placed) (left field doc : ℕ) → field ≢ left
-    → keys_at (filter (λ p. not (p.field == left)) cells) field doc ≡ keys_at cells field doc
-keys_without [] left field doc other = refl
-keys_without (p ∷ cells) left field doc other = elim (cases_eq p.field left) [
-  | inl same ↦
-      let gone : (p.field == left) ≡ true = eq-eqb p.field left same in
-      let apart : (p.field == field) ≡ false = ne_eqb p.field field (λ is. other (sym is ∙ same)) in
-      rw (gone, apart) (keys_without cells left field doc other)
-  | inr kept ↦ rw (ne_eqb p.field left kept) (by_test (is_at field doc p) (keys_without cells left
-      field doc other))
-]
-  where
-    by_test : (b : Bool) → keys_at (filter (λ p. not (p.field == left)) cells) field doc
-        ≡ keys_at cells field doc
-        → map (λ (q : Placed). q.key) (cond b (p ∷ filter (is_at field doc)
-        (filter (λ p. not (p.field == left)) cells)) (filter (is_at field doc)
-        (filter (λ p. not (p.field == left)) cells)))
-        ≡ map (λ (q : Placed). q.key) (cond b (p ∷ filter (is_at field doc) cells)
-        (filter (is_at field doc) cells))
-    by_test true ih = ap (λ ks. p.key ∷ ks) ih
-    by_test false ih = ih
-
-left_none : (cells : List Placed) (left : ℕ)
-    → All (λ p. p.field ≢ left) (filter (λ p. not (p.field == left)) cells)
-left_none [] left i d l = absurd (omega arith)
-left_none (p ∷ cells) left i d l = step (cases_eq p.field left) (left_none cells left) i d l
-  where
-    step : (p.field ≡ left) ⊎ (p.field ≢ left)
-        → All (λ p. p.field ≢ left) (filter (λ p. not (p.field == left)) cells)
-        → All (λ p. p.field ≢ left) (filter (λ p. not (p.field == left)) (p ∷ cells))
-    step (inl same) rest = rw (eq-eqb p.field left same) rest
-    step (inr kept) rest = rw (ne_eqb p.field left kept) (All-cons (λ (q : Placed). q.field ≢ left)
-        p (filter (λ p. not (p.field == left)) cells) kept rest)
 
 -- ---- documents of equal keys
 
@@ -353,155 +316,4 @@ module _ (count : ℕ) (names : List (List ℕ × ℕ)) (cells : List Placed) (g
           named = inv.named;
           fields = All-push (λ (q : Placed). q.field < length given) cells p inv.fields within;
           signs = rw front inv.signs;
-        }
-
-  -- ---- a field of the open document left out
-
-  module _ (left : ℕ) where
-    kept : List Placed
-    kept = take closed cells ++ filter (λ p. not (p.field == left)) (drop closed cells)
-
-    kept_front : take closed (take closed cells ++ filter (λ p. not (p.field == left))
-        (drop closed cells)) ≡ take closed cells
-    kept_front = take-append-le closed (take closed cells) (filter (λ p. not (p.field == left))
-        (drop closed cells)) (omega (arith, length-take-le closed cells inv.within))
-        ∙ take_all closed (take closed cells) (omega (
-          arith,
-          length-take-le closed cells
-              inv.within,
-        ))
-
-    kept_back : drop closed (take closed cells ++ filter (λ p. not (p.field == left))
-        (drop closed cells)) ≡ filter (λ p. not (p.field == left)) (drop closed cells)
-    kept_back =
-        let len = length-take-le closed cells inv.within in
-        drop_at (take closed cells) (filter (λ p. not (p.field == left)) (drop closed cells)) closed
-        len
-
-    pub clear_documents : gathered_documents (record {
-      count = count;
-      names = names;
-      cells =
-          take closed cells ++ filter (λ p. not (p.field == left)) (drop closed cells);
-    })
-        ≡ gathered_documents (record { count = count; names = names; cells = cells })
-    clear_documents =
-        map_same (gathered_fields (record {
-          count = count;
-          names = names;
-          cells =
-              take closed cells ++ filter (λ p. not (p.field == left)) (drop closed cells);
-        }))
-        (gathered_fields (record { count = count; names = names; cells = cells })) 0 count
-        (λ d l. fields_same names (take closed cells ++ filter (λ p. not (p.field == left))
-        (drop closed cells)) cells count count d
-        (λ f.
-        let none : keys_at (filter (λ p. not (p.field == left)) (drop closed cells)) f d ≡ [] =
-        keys_none (filter (λ p. not (p.field == left)) (drop closed cells)) f d
-        (All-filter (λ p. not (p.field == left)) (λ (p : Placed). p.doc ≢ d) (drop closed cells)
-        (All-weaker (λ (p : Placed). p.doc ≡ count) (λ p. p.doc ≢ d) (λ p is same.
-        omega (arith, is, same, l)) (drop closed cells) inv.behind))
-        in
-        keys_split (take closed cells) (filter (λ p. not (p.field == left)) (drop closed cells)) f d
-        ∙ ap (λ ks. keys_at (take closed cells) f d ++ ks) none
-        ∙ append-nil (keys_at (take closed cells) f d)
-        ∙ ended_keys f d (omega (arith, l))))
-
-    cleared_keys : (f : ℕ)
-        → keys_at (take closed cells ++ filter (λ p. not (p.field == left)) (drop closed cells)) f
-        count ≡ keys_at (filter (λ p. not (p.field == left)) (drop closed cells)) f count
-    cleared_keys f = keys_split (take closed cells) (filter (λ p. not (p.field == left))
-        (drop closed cells)) f count ∙ ap (λ ks. ks ++ keys_at (filter (λ p. not (p.field == left))
-        (drop closed cells)) f count) (open_none f)
-
-    pub clear_open : (name : List ℕ)
-        → IsNameOf (record { count = count; names = names; cells = cells }) left name
-        → open_document (record {
-          count = count;
-          names = names;
-          cells = take closed cells ++ filter
-              (λ p. not (p.field == left)) (drop closed cells);
-        })
-        ≡ without_field name (open_document (record {
-          count = count;
-          names = names;
-          cells =
-              cells;
-        }))
-    clear_open name is = λ i n. each n i
-      where
-        by_number : (n : List ℕ) (o : Option ℕ) → number_of names n ≡ o
-            → by_class (option_map_or (λ f. keys_at (take closed cells ++ filter (λ p.
-            not (p.field == left)) (drop closed cells)) f count) o [])
-            ≡ cond (bytes_eq name n) [] (by_class (option_map_or (λ f. keys_at cells f count) o []))
-        by_number n None at = elim (cases_Bool (bytes_eq name n)) [
-          | inl same ↦ rw same by_class_nil
-          | inr other ↦ rw other refl
-        ]
-        by_number n (Some f) at = elim (cases_eq f left) [
-          | inl here ↦
-              let alike : n ≡ name = inv.apart n name left (at ∙ ap Some here) is in
-              let same : bytes_eq name n ≡ true = ap (λ m. bytes_eq name m) alike
-              ∙ nat_list_eq_equiv.refl name in
-              let none : keys_at (filter (λ p. not (p.field == left)) (drop closed cells)) f count
-              ≡ [] = ap (λ g. keys_at (filter (λ p. not (p.field == left)) (drop closed cells))
-              g count) here ∙ keys_no_field (filter (λ p. not (p.field == left))
-              (drop closed cells)) left count (left_none (drop closed cells) left) in
-              rw same (ap by_class (cleared_keys f ∙ none) ∙ by_class_nil)
-          | inr elsewhere ↦ elim (cases_Bool (bytes_eq name n)) [
-            | inl same ↦
-                let names-are : name ≡ n = same_texts name n same in
-                let there : Some f ≡ Some left = sym at ∙ ap (number_of names) (sym names-are)
-                ∙ is in
-                absurd (elsewhere cc)
-            | inr other ↦ rw other (ap by_class (cleared_keys f ∙ keys_without (drop closed cells)
-                left f count elsewhere ∙ sym (open_keys f)))
-          ]
-        ]
-
-        each : (n : List ℕ)
-            → open_document (record {
-              count = count;
-              names = names;
-              cells =
-                  take closed cells ++ filter (λ p. not (p.field == left)) (drop closed cells);
-            }) n
-            ≡ without_field name (open_document (record {
-              count = count;
-              names = names;
-              cells =
-                  cells;
-            })) n
-        each n = by_number n (number_of names n) refl
-
-    pub clear_inv : IsGathered (record {
-      count = count;
-      names = names;
-      cells =
-          take closed cells ++ filter (λ p. not (p.field == left)) (drop closed cells);
-    }) given closed
-    clear_inv =
-        record {
-          few = inv.few;
-          within = omega (
-            arith,
-            length-append (take closed cells)
-                (filter (λ p. not (p.field == left)) (drop closed cells)),
-            length-take-le closed cells
-                inv.within,
-          );
-          before = rw kept_front inv.before;
-          behind = rw kept_back (All-filter (λ p. not (p.field == left)) (λ (q : Placed). q.doc
-              ≡ count) (drop closed cells) inv.behind);
-          numbered = inv.numbered;
-          apart = inv.apart;
-          named = inv.named;
-          fields =
-              All-append (λ (q : Placed). q.field < length given) (take closed cells)
-              (filter (λ p. not (p.field == left)) (drop closed cells))
-              (All-take (λ (q : Placed). q.field < length given) closed cells inv.fields)
-              (All-filter (λ p. not (p.field == left)) (λ (q : Placed). q.field < length given)
-              (drop closed cells) (All-drop (λ (q : Placed). q.field < length given) closed
-              cells inv.fields));
-          signs = rw kept_front inv.signs;
         }

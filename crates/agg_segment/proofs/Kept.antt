@@ -1,8 +1,8 @@
 -- What cells keep of values.
-use Rattle.std.proofs.Common.{◌≡◌, ◌+◌, ◌<◌, ◌≤◌, ℕ, suc, List, [], ◌∷◌, ◌++◌, length}
+use Rattle.std.proofs.Common.{◌≡◌, ◌<◌, ◌≤◌, ℕ, List, [], ◌∷◌, ◌++◌, length}
 use Rattle.std.proofs.Common.{get_or, map, cond, true, false, refl, sym, ap, subst, ◌∙◌, inl, inr}
-use Rattle.std.proofs.Common.{arith, take, drop, ◌-◌, length-append, length-drop}
-use Rattle.std.specs.Prelude.{ℤ, ◌⊎◌, Bool, filter, not, set, ◌==◌, ◌≢◌}
+use Rattle.std.proofs.Common.{arith}
+use Rattle.std.specs.Prelude.{ℤ, ◌⊎◌, Bool, filter, ◌==◌}
 use Rattle.std.specs.List.{All, Contains, dedup}
 use Rattle.std.specs.List.Sorted.{IsPermutation}
 use Rattle.std.specs.Prelude.{Result, Ok, Err, OnOk, OnErr, nat_eq}
@@ -11,11 +11,7 @@ use Rattle.std.proofs.lemmas.List.Filters.{All-dedup}
 use Rattle.std.proofs.lemmas.List.Sorted.{All-permutation, Contains-permutation}
 use Rattle.agg_segment.specs.Dictionary.{text_at, address_at}
 use Rattle.std.proofs.lemmas.List.{get_or_append_left, get_or-map, get_or_default}
-use Rattle.std.proofs.lemmas.List.{length-map, length-take-le, take-append-le}
-use borrow.Rule.Slice.PartMut.{put_mid}
-use Rattle.std.proofs.lemmas.List.Filters.{FiltersInPlace, FiltersInPlace-more_no}
-use Rattle.std.proofs.lemmas.List.Filters.{FiltersInPlace-more_set}
-use Rattle.std.proofs.lemmas.Bool.{eq-eqb, ne_eqb}
+use Rattle.std.proofs.lemmas.List.{length-map}
 use Rattle.std.proofs.lemmas.List.Elements.{All-tail, All-head, All-weaker, All-map, All-filter}
 use Rattle.std.proofs.lemmas.List.Elements.{All-contains, All-contains_itself}
 use Rattle.agg_values.specs.declared.address.Address.{Address}
@@ -96,7 +92,7 @@ kept_longer n m i j cells up on kept = All-weaker (λ c. IsKept n m c.value) (λ
 
 -- ---- signs
 
-sign_is : (texts : List (List ℕ)) (addresses : List Address) (v : CellValue)
+pub sign_is : (texts : List (List ℕ)) (addresses : List Address) (v : CellValue)
     → cell_sign v ≡ sign_of (stored_key texts addresses v)
 sign_is texts addresses (cell.Bool b) = refl
 sign_is texts addresses (cell.Str place) = refl
@@ -169,20 +165,6 @@ places_only all places moved are permuted = All-dedup nat_eq (Contains all) move
     (All-permutation (Contains all) places moved permuted (subst (λ ps. All (Contains all) ps)
     (sym are) (All-contains_itself all)))
 
--- a text for each place
-pub texts_all : (cells : List Cell) (texts : List (List ℕ)) (places : List ℕ)
-    → All (λ c. Contains places (place_in c.value)) cells
-    → All (λ c. Contains (map (text_at texts) places) (text_at texts (place_in c.value))) cells
-texts_all cells texts places all k d l =
-    let (i, within, is) = all k d l in
-    let len = length-map places (text_at texts) in
-    let place : ℕ = place_in (get_or cells k d).value in (
-      i,
-      omega (arith, len, within),
-      get_or-map (text_at texts) places i place (text_at texts place)
-          within ∙ ap (text_at texts) is,
-    )
-
 pub places_within : (cells : List Cell) (n : ℕ) (places : List ℕ)
     → All (λ c. place_in c.value < n) cells
     → All (Contains (map (λ c. place_in c.value) cells)) places → All (λ p. p < n) places
@@ -198,61 +180,15 @@ addresses_all cells addresses found are k d l =
     let len = length-map cells f in
     (k, rw are (omega (arith, len, l)), rw are (get_or-map f cells k d (f (get_or cells k d)) l))
 
+-- what holds of what a list holds
+pub held_on : {X Y : Type 0} (P : Y → Type 0) (f : X → Y) (cells : List X) (found : List Y)
+    → All (λ c. Contains found (f c)) cells → All P found → All (λ c. P (f c)) cells
+held_on P f cells found held all k d l = All-contains P found (f (get_or cells k d)) all (held k d
+    l)
+
 pub on_err_given : {T E P : Type 0} (r : Result T E) → P → OnErr r P
 on_err_given (Ok x) p = tt
 on_err_given (Err e) p = p
-
--- ---- cells of one field left out, in place
-
-pub left_out : (field : ℕ) (xs ys : List Cell) (k i : ℕ) (d : Cell)
-    → FiltersInPlace (λ (c : Cell). not (c.field == field)) xs ys k i → i < length ys
-    → (get_or ys i d).field ≡ field
-    → FiltersInPlace (λ (c : Cell). not (c.field == field)) xs ys k (i + 1)
-left_out field xs ys k i d so_far l same =
-    let no : not ((get_or ys i d).field == field) ≡ false =
-    rw (eq-eqb (get_or ys i d).field field same) refl in
-    FiltersInPlace-more_no {x = get_or ys i d} so_far l no (get_or_default ys i d (get_or ys i d) l)
-
-pub moved_up : (field : ℕ) (xs ys : List Cell) (k i : ℕ) (d : Cell)
-    → FiltersInPlace (λ (c : Cell). not (c.field == field)) xs ys k i → i < length ys
-    → (get_or ys i d).field ≢ field
-    → FiltersInPlace (λ (c : Cell). not (c.field == field)) xs (set ys k (get_or ys i d)) (k + 1)
-    (i + 1)
-moved_up field xs ys k i d so_far l other =
-    let yes : not ((get_or ys i d).field == field) ≡ true =
-    rw (ne_eqb (get_or ys i d).field field other) refl in
-    FiltersInPlace-more_set {x = get_or ys i d} so_far l yes (get_or_default ys i d (get_or ys i d)
-    l)
-
--- a part written back, cut at what it kept
-pub mid_kept : (vs new : List Cell) (from kept : ℕ) → from ≤ length vs
-    → length new ≡ length vs - from → kept ≤ length new
-    → take (from + kept) (put_mid from (length vs - from) vs new) ≡ take from vs ++ take kept new
-mid_kept vs new from kept within len few =
-    let post : List Cell = drop (length vs - from) (drop from vs) in
-    let front : length (take from vs) ≡ from = length-take-le from vs within in
-    let none : (from + kept) - from ≡ kept = omega arith in
-    take_past (take from vs) (new ++ post) from kept front ∙ ap (λ r. take from vs ++ r)
-    (take-append-le kept new post few)
-  where
-    take_past : (xs ys : List Cell) (n k : ℕ) → length xs ≡ n
-        → take (n + k) (xs ++ ys) ≡ xs ++ take k ys
-    take_past [] ys n k is = let same : n + k ≡ k = omega (arith, is) in ap (λ m. take m ys) same
-    take_past (x ∷ xs) ys n k is =
-        let next : n + k ≡ suc (length xs + k) = omega (arith, is) in
-        ap (λ m. take m (x ∷ xs ++ ys)) next ∙ ap (λ r. x ∷ r) (take_past xs ys (length xs) k refl)
-
-pub length_mid : (vs new : List Cell) (from : ℕ) → from ≤ length vs → length new ≡ length vs - from
-    → length (put_mid from (length vs - from) vs new) ≡ length vs
-length_mid vs new from within len =
-    omega (
-      arith,
-      length-append (take from vs) (new ++ drop (length vs - from) (drop from vs)),
-      length-append new (drop (length vs - from) (drop from vs)),
-      length-take-le from vs within,
-      length-drop (length vs - from) (drop from vs),
-      length-drop from vs,
-    )
 
 -- ---- the keys that a column may take
 
@@ -288,28 +224,22 @@ module _ (texts : List (List ℕ)) (addresses : List Address) (cells : List Cell
       → All (λ c. class_rank (stored_key texts addresses c.value) ≡ rank) cells
   of_rank rank all k d l = rank_is texts addresses (get_or cells k d).value ∙ all k d l
 
-  pub texts_taken : (found dictionary : List (List ℕ)) → All (λ c. value_rank c.value ≡ 2) cells
-      → All (λ c. Contains found (text_at texts (place_in c.value))) cells
-      → All (Contains dictionary) found
+  pub texts_taken : (dictionary : List (List ℕ)) → All (λ c. value_rank c.value ≡ 2) cells
+      → All (λ c. Contains dictionary (text_at texts (place_in c.value))) cells
       → All (λ c. MayTake (Texts dictionary) (stored_key texts addresses c.value)) cells
-  texts_taken found dictionary all held in' k d l = (
+  texts_taken dictionary all held k d l = (
     of_rank 2 all k d l,
     subst (Contains dictionary) (sym (text_is texts addresses (get_or cells k d).value (all k d l)))
-        (All-contains (Contains dictionary) found
-        (text_at texts (place_in (get_or cells k d).value)) in' (held k d l)),
+        (held k d l),
   )
 
-  pub addresses_taken : (found : List ℕ) (list : List Address)
-      → All (λ c. value_rank c.value ≡ 4) cells
-      → All (λ c. Contains found (address_at addresses (place_in c.value)).0) cells
-      → All (λ n. Contains list (record { 0 = n })) found
+  pub addresses_taken : (list : List Address) → All (λ c. value_rank c.value ≡ 4) cells
+      → All (λ c. Contains list (address_at addresses (place_in c.value))) cells
       → All (λ c. MayTake (Addresses list) (stored_key texts addresses c.value)) cells
-  addresses_taken found list all held in' k d l = (
+  addresses_taken list all held k d l = (
     of_rank 4 all k d l,
     subst (λ (n : ℕ). Contains list (record { 0 = n }))
-        (sym (address_is texts addresses (get_or cells k d).value (all k d l)))
-        (All-contains (λ (n : ℕ). Contains list (record { 0 = n })) found (address_at addresses
-        (place_in (get_or cells k d).value)).0 in' (held k d l)),
+        (sym (address_is texts addresses (get_or cells k d).value (all k d l))) (held k d l),
   )
 
   pub signed_taken : All (λ c. value_rank c.value ≡ 3) cells

@@ -1,14 +1,15 @@
 -- Places in ascending lists.
 use Rattle.std.proofs.Common.{◌≡◌, ℕ, ◌+◌, ◌<◌, List, length, get_or, map, Ordering, Less, Equal}
+use Rattle.std.proofs.Common.{Vec, Global}
 use Rattle.std.proofs.Common.{Greater, true, refl, sym, ap, subst, ◌∙◌, inl, inr, arith, nat_eq}
 use Rattle.std.specs.Ordering.{nat_cmp, ordering_reverse, ordering_index, is_lt, is_eq}
 use Rattle.std.specs.Cmp.{IsTotalOrder}
-use Rattle.std.specs.Cmp.Lexicographic.{slice_cmp, pointwise, texts_ties, nat_list_eq_equiv}
+use Rattle.std.specs.Cmp.Lexicographic.{slice_cmp, pointwise, texts_ties}
 use mathlib.Core.Bool.{true≢false}
 use Rattle.std.specs.List.{HoldsAt, Contains, All, dedup}
 use Rattle.std.specs.List.Sorted.{IsStrictlySortedBy, IsSortedBy, IsNonDecreasingBy}
 use Rattle.std.specs.List.Sorted.{IsPartitionPoint, IsPermutation}
-use Rattle.std.proofs.lemmas.List.Kept.{Contains-dedup, Contains-dedup_nat}
+use Rattle.std.proofs.lemmas.List.Kept.{Contains-dedup_nat}
 use Rattle.std.proofs.lemmas.Bool.{cases_lt}
 use Rattle.std.proofs.lemmas.Cmp.{tied_itself, ranked, by_ranked}
 use Rattle.std.proofs.lemmas.List.{get_or_default, get_or-map, length-map}
@@ -19,6 +20,11 @@ use Rattle.agg_values.specs.declared.address.Address.{Address}
 use Rattle.agg_segment.specs.Dictionary.{address_cmp, IsHit, IsBelowUpTo}
 use Rattle.agg_segment.specs.declared.hit.OrdHit.{OrdHit}
 use Rattle.agg_segment.specs.declared.hit.OrdHit.TheVariants.{Exact, Next, AfterLast}
+
+-- a slice of what a box holds
+pub boxed_slice : {X : Type 0} {held given : Vec X Global} {slice : List X}
+    → slice ≡ given.items → given ≡ held → slice ≡ held.items
+boxed_slice {X} there here = there ∙ ap (λ (v : Vec X Global). v.items) here
 
 apart_less : (o : Ordering) → o ≡ Less → o ≡ Equal → ⊥
 apart_less o a b = omega (arith, ap ordering_index (sym a ∙ b))
@@ -33,18 +39,6 @@ same_texts x y h = exact_bytes x y (only_equal (slice_cmp nat_cmp x y) (sym (tex
     only_equal Less h = absurd (true≢false (sym h))
     only_equal Equal h = refl
     only_equal Greater h = absurd (true≢false (sym h))
-
--- each text of a list is in its sorted list without repeats
-pub keeps_texts : (values moved : List (List ℕ)) → IsPermutation values moved
-    → All (Contains (dedup (pointwise nat_eq) moved)) values
-keeps_texts values moved permuted k d l =
-    Contains-dedup nat_list_eq_equiv same_texts moved (get_or values k d)
-    (Contains-permutation values moved (get_or values k d) permuted (
-      k,
-      l,
-      get_or_default values k
-          (get_or values k d) d l,
-    ))
 
 pub keeps_numbers : (values moved : List ℕ) → IsPermutation values moved
     → All (Contains (dedup nat_eq moved)) values

@@ -1,6 +1,7 @@
 -- Cells by field, class and document.
 use Rattle.std.specs.Prelude.{◌≡◌, ◌==◌, ◌&&◌, ◌<◌, ◌≤◌}
 use Rattle.std.specs.Prelude.{ℕ, Bool, List, length, get_or}
+use Rattle.std.specs.List.{All}
 use Rattle.std.specs.Ordering.{nat_cmp, ordering_then}
 use Rattle.std.specs.declared.cmp.Ordering.{Ordering}
 use Rattle.agg_values.specs.declared.column.ColumnPaginationOrder.{ColumnPaginationOrder}
@@ -52,6 +53,10 @@ AreInOneColumn c d = (c.field ≡ d.field) × (value_rank c.value ≡ value_rank
 abbrev pub AreOneColumn : List Cell → Type 0
 AreOneColumn cells =
     (k : ℕ) (d : Cell) → k < length cells → AreInOneColumn (get_or cells k d) (get_or cells 0 d)
+
+-- all cells are of numbers
+abbrev pub AreNumbers : List Cell → Type 0
+AreNumbers cells = All (λ c. value_rank c.value ≡ 3) cells
 
 -- the rank of a class
 abbrev pub order_rank : ColumnPaginationOrder → ℕ

@@ -1,6 +1,6 @@
 -- Columns of numbers, and the keys that they stand for.
 use Rattle.std.specs.Prelude.{◌≡◌, ◌≢◌, ◌==◌, ◌<◌, ◌≤◌, ◌^◌, pos, ◌-ℤ◌, ℕ}
-use Rattle.std.specs.Prelude.{List, [], map, filter, length, flat_map, get_or}
+use Rattle.std.specs.Prelude.{⊤, List, [], map, filter, length, flat_map, get_or}
 use Rattle.std.specs.List.{All, Contains}
 use Rattle.agg_values.specs.TypedKey.{class_rank, typed_number, text_of, address_of}
 use Rattle.agg_values.specs.declared.address.Address.{Address}
@@ -8,7 +8,9 @@ use Rattle.agg_values.specs.TypedKey.{CompositeIntermediateKey}
 use Rattle.agg_values.specs.declared.typed_key.CompositeIntermediateKey.TheVariants as key
 use Rattle.agg_segment.specs.Cells.{Placed}
 use Rattle.agg_segment.specs.Signs.{sign_of}
-use Rattle.agg_segment.specs.Dictionary.{text_at, address_at}
+use Rattle.agg_segment.specs.Dictionary.{text_at, address_at, HasOrdinal}
+use Rattle.agg_segment.specs.declared.log.CellValue.{CellValue}
+use Rattle.agg_segment.specs.declared.log.CellValue.TheVariants as cell
 use Rattle.agg_segment.specs.declared.keys.ColumnKeys.{ColumnKeys}
 use Rattle.agg_segment.specs.declared.keys.ColumnKeys.TheVariants.{Bools, Texts, Signed, Unsigned}
 use Rattle.agg_segment.specs.declared.keys.ColumnKeys.TheVariants.{Addresses, Dates}
@@ -88,6 +90,15 @@ MayTake Dates k = class_rank k ≡ 5
 abbrev pub texts_of : ColumnKeys → List (List ℕ)
 texts_of (Texts texts) = texts
 texts_of _ = []
+
+-- the texts that ordinals stand for in a column of texts
+abbrev pub named_texts : ColumnKeys → List ℕ → List (List ℕ)
+named_texts keys ordinals = map (text_at (texts_of keys)) ordinals
+
+-- the text that a cell names has its ordinal in a column of texts
+abbrev pub IsNamed : List (List ℕ) → ColumnKeys → List ℕ → CellValue → Type 0
+IsNamed texts keys ordinals (cell.Str place) = HasOrdinal texts (texts_of keys) ordinals place
+IsNamed texts keys ordinals _ = ⊤
 
 -- the addresses of a column of addresses
 abbrev pub addresses_of : ColumnKeys → List Address

@@ -1,9 +1,11 @@
 -- Lists of distinct values, ascending, and the places in them.
-use Rattle.std.specs.Prelude.{◌≡◌, ◌<◌, ℕ, List, [], get_or, length}
+use Rattle.std.specs.Prelude.{◌≡◌, ◌<◌, ◌-◌, ℕ, List, [], get_or, length}
 use Rattle.std.specs.declared.cmp.Ordering.{Ordering}
 use Rattle.std.specs.declared.cmp.Ordering.TheVariants.{Less, Greater}
-use Rattle.std.specs.Ordering.{nat_cmp}
+use Rattle.std.specs.Ordering.{nat_cmp, is_lt}
 use Rattle.std.specs.List.{HoldsAt}
+use Rattle.std.specs.List.Sorted.{IsSortedBy}
+use Rattle.agg_values.specs.Names.{name_cmp}
 use Rattle.agg_values.specs.declared.address.Address.{Address}
 use Rattle.agg_segment.specs.declared.hit.OrdHit.{OrdHit}
 use Rattle.agg_segment.specs.declared.hit.OrdHit.TheVariants.{Exact, Next, AfterLast}
@@ -11,6 +13,21 @@ use Rattle.agg_segment.specs.declared.hit.OrdHit.TheVariants.{Exact, Next, After
 -- the text at a place
 abbrev pub text_at : List (List ℕ) → ℕ → List ℕ
 text_at texts place = get_or texts place []
+
+-- the last of texts
+abbrev pub last_text : List (List ℕ) → List ℕ
+last_text texts = text_at texts (length texts - 1)
+
+-- places ascend by their texts
+abbrev pub AreByText : List (List ℕ) → List ℕ → Type 0
+AreByText texts places =
+    IsSortedBy (λ a b. is_lt (name_cmp (text_at texts a) (text_at texts b))) places
+
+-- the ordinal of a place is where its text is in a dictionary
+abbrev pub HasOrdinal : List (List ℕ) → List (List ℕ) → List ℕ → ℕ → Type 0
+HasOrdinal texts dictionary ordinals place =
+    (get_or ordinals place 0 < length dictionary)
+    × (text_at dictionary (get_or ordinals place 0) ≡ text_at texts place)
 
 -- the address at a place
 abbrev pub address_at : List Address → ℕ → Address

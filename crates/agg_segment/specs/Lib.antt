@@ -3,6 +3,8 @@ pub mod Cells
 pub mod Columns
 pub mod Dictionary
 pub mod Document
+pub mod FirstNames
+pub mod Fronts
 pub mod Marks
 pub mod Names
 pub mod Query

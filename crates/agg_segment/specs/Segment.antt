@@ -44,10 +44,6 @@ abbrev pub with_key : List ℕ → CompositeIntermediateKey → Fields → Field
 with_key field key document name =
     if bytes_eq field name then by_class (document name ++ key ∷ []) else document name
 
--- no keys in a field
-abbrev pub without_field : List ℕ → Fields → Fields
-without_field field document name = if bytes_eq field name then [] else document name
-
 -- what a segment holds: how many documents, the numbers of the fields, and the columns
 pub record Stored : Type 0 where
   pub count : ℕ

@@ -2,17 +2,16 @@ ghost use Rattle.std.specs.Prelude.{◌≡◌, ◌≢◌, ◌↔◌, Err, [], �
 ghost use Rattle.std.specs.Prelude.{IsTrue, IfOk, OnOk, OnErr, IsErrOf};
 ghost use Rattle.agg_segment.specs.Document.{key_of, meaning};
 ghost use Rattle.agg_segment.specs.Segment.{gathered_documents, open_document};
-ghost use Rattle.agg_segment.specs.Segment.{no_fields, with_key, without_field, documents_of};
+ghost use Rattle.agg_segment.specs.Segment.{no_fields, with_key, documents_of};
 ghost use Rattle.agg_segment.specs.Segment.{IsNameOf, IsMixed};
 ghost use Rattle.agg_segment.specs.declared.builder.BuildError.TheVariants.{OutOfMemory as Memory};
 
+use crate::field_names::FieldNames;
 use crate::log::Log;
-use crate::names::{find_number, set_number};
 use crate::signs::{Sign, give_signs};
 use crate::{Document, FieldValue, SegmentReader};
 use agg_values::{OutOfMemory, Text};
 use std::alloc::{AllocFailed, Global};
-use std::collections::BTreeMap;
 use std::marker::Model;
 use thiserror::Error;
 
@@ -52,7 +51,7 @@ impl<T: Drop> From<AllocFailed<T>> for BuildError {
 pub struct SegmentBuilder {
     alloc: Global,
     count: u32,
-    names: BTreeMap<String, u32>,
+    names: FieldNames,
     signs: Vec<Sign>,
     log: Log,
     // How many of the values are of closed documents.
@@ -61,14 +60,13 @@ pub struct SegmentBuilder {
 
 impl Model for SegmentBuilder {
     ghost use Rattle.agg_segment.specs.Segment.{Gathered, IsGathered};
-    ghost use Rattle.agg_segment.specs.Names.{numbered_names};
 
     ghost Value = { Gathered };
 
-    ghost view = { λ b. record { count = b.count; names = numbered_names b.names; cells = b.log } };
+    ghost view = { λ b. record { count = b.count; names = b.names; cells = b.log } };
 
     ghost invariant = { λ b. IsGathered
-        (record { count = b.count; names = numbered_names b.names; cells = b.log })
+        (record { count = b.count; names = b.names; cells = b.log })
         b.signs.items b.closed };
 }
 
@@ -81,14 +79,14 @@ impl SegmentBuilder {
         SegmentBuilder {
             alloc,
             count: 0,
-            names: BTreeMap::new(alloc),
+            names: FieldNames::new(alloc),
             signs: Vec::new(alloc),
             log: Log::new(alloc),
             closed: 0,
         }
     }
 
-    /// The number of a field, for `push` and `clear`. A name that isn't known gets the next one.
+    /// The number of a field, for `push`. A name that isn't known gets the next one.
     pub fn field(&mut self, name: &str) -> Result<u32, OutOfMemory>
         ensures number { IfOk result (λ field. IsNameOf self.new field name.now) }
         ensures others { (field : ℕ) (other : List ℕ)
@@ -96,12 +94,12 @@ impl SegmentBuilder {
         ensures documents { gathered_documents self.new ≡ gathered_documents self.old }
         ensures opened { open_document self.new ≡ open_document self.old }
     {
-        if let Some(field) = find_number(&self.names, name) {
+        if let Some(field) = self.names.find(name) {
             return Ok(field);
         }
         let field = next_number(self.signs.len())?;
         self.signs.reserve(1)?;
-        set_number(self.alloc, &mut self.names, name, field)?;
+        self.names.add(self.alloc, name, field)?;
         self.signs.push(Sign::Small)?;
         Ok(field)
     }
@@ -116,17 +114,6 @@ impl SegmentBuilder {
         ensures names { self.new.names ≡ self.old.names }
     {
         self.log.push(field, self.count, value)
-    }
-
-    /// Forgets the values of a field of the open document.
-    pub fn clear(&mut self, field: u32)
-        requires { (name : List ℕ) × IsNameOf self.old field name }
-        ensures opened { (name : List ℕ) → IsNameOf self.old field name
-            → open_document self.new ≡ without_field name (open_document self.old) }
-        ensures documents { gathered_documents self.new ≡ gathered_documents self.old }
-        ensures names { self.new.names ≡ self.old.names }
-    {
-        self.log.clear_field(self.closed, field);
     }
 
     /// Closes the open document, which is then the last of the segment's. After an error it is
@@ -233,13 +220,13 @@ impl SegmentBuilder {
             alloc,
             count,
             names,
+            signs,
             mut log,
             closed,
-            ..
         } = self;
         log.truncate(closed);
-        let columns = log.into_columns(alloc)?;
-        Ok(SegmentReader::from_parts(count, names, columns))
+        let columns = log.into_columns(alloc, &signs)?;
+        Ok(SegmentReader::from_parts(count, names.into_numbers(), columns))
     }
 }
 

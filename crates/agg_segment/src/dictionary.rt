@@ -1,4 +1,4 @@
-ghost use Rattle.std.specs.Prelude.{◌≡◌, ◌<◌, ℕ, List, length, map, All, Contains};
+ghost use Rattle.std.specs.Prelude.{◌≡◌, ◌<◌, ℕ, List, length, map, All, Contains, IfOk};
 ghost use Rattle.std.specs.Ordering.{nat_cmp};
 ghost use Rattle.std.specs.List.Sorted.{IsStrictlySortedBy};
 ghost use Rattle.agg_values.specs.Names.{name_cmp};
@@ -13,7 +13,8 @@ use std::marker::Model;
 /// Distinct texts, ascending.
 #[derive(Drop)]
 pub struct Dictionary {
-    texts: Vec<Text>,
+    // The box keeps a column small.
+    texts: Box<Vec<Text>>,
 }
 
 impl Model for Dictionary {
@@ -23,19 +24,19 @@ impl Model for Dictionary {
 
     ghost Value = { List (List ℕ) };
 
-    ghost view = { λ d. d.texts.items };
+    ghost view = { λ d. d.texts.value.items };
 
-    ghost invariant = { λ d. IsStrictlySortedBy name_cmp d.texts.items };
+    ghost invariant = { λ d. IsStrictlySortedBy name_cmp d.texts.value.items };
 }
 
 impl Dictionary {
-    /// The distinct texts of a list.
-    pub fn of(mut texts: Vec<Text>) -> Dictionary
-        ensures { All (Contains result) texts.items }
+    /// Texts that ascend.
+    pub fn of(alloc: Global, texts: Vec<Text>) -> Result<Dictionary, OutOfMemory>
+        requires { IsStrictlySortedBy name_cmp texts.items }
+        ensures { IfOk result (λ dictionary. dictionary ≡ texts.items) }
     {
-        texts.sort_unstable();
-        texts.dedup();
-        Dictionary { texts }
+        let texts = Box::new(alloc, texts)?;
+        Ok(Dictionary { texts })
     }
 
     /// The text at a place.
@@ -72,24 +73,13 @@ impl Dictionary {
             }
         }
     }
-
-    /// The place of a text that is held.
-    pub fn place(&self, text: &Text) -> u64
-        requires { Contains self.now text.now }
-        ensures within { result < length self.now }
-        ensures text { text_at self.now result ≡ text.now }
-    {
-        match self.texts.binary_search(text) {
-            Ok(at) => at as u64,
-            Err(at) => at as u64,
-        }
-    }
 }
 
 /// Distinct addresses, ascending.
 #[derive(Drop)]
 pub struct AddressList {
-    addresses: Vec<u128>,
+    // The box keeps a column small.
+    addresses: Box<Vec<u128>>,
 }
 
 impl Model for AddressList {
@@ -101,19 +91,21 @@ impl Model for AddressList {
 
     ghost Value = { List Address };
 
-    ghost view = { λ list. map (λ n. record { 0 = n }) list.addresses.items };
+    ghost view = { λ list. map (λ n. record { 0 = n }) list.addresses.value.items };
 
-    ghost invariant = { λ list. IsStrictlySortedBy nat_cmp list.addresses.items };
+    ghost invariant = { λ list. IsStrictlySortedBy nat_cmp list.addresses.value.items };
 }
 
 impl AddressList {
     /// The distinct addresses of a list.
-    pub fn of(mut addresses: Vec<u128>) -> AddressList
-        ensures { All (λ n. Contains result (record { 0 = n })) addresses.items }
+    pub fn of(alloc: Global, mut addresses: Vec<u128>) -> Result<AddressList, OutOfMemory>
+        ensures { IfOk result
+            (λ list. All (λ n. Contains list (record { 0 = n })) addresses.items) }
     {
         addresses.sort_unstable();
         addresses.dedup();
-        AddressList { addresses }
+        let addresses = Box::new(alloc, addresses)?;
+        Ok(AddressList { addresses })
     }
 
     /// The address at a place.

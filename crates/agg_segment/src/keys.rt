@@ -4,11 +4,12 @@ ghost use Rattle.agg_values.specs.TypedKey.{typed_number};
 ghost use Rattle.agg_values.specs.KeyOrder.{ascending_order};
 ghost use Rattle.agg_segment.specs.Cells.{stored_key, IsKept};
 ghost use Rattle.agg_segment.specs.Columns.{encoded_key, StandsForKey, type_of, MayTake};
+ghost use Rattle.agg_segment.specs.Columns.{named_texts, IsNamed};
 
 use crate::ColumnType;
 use crate::dictionary::{AddressList, Dictionary};
 use crate::log::CellValue;
-use agg_values::{Address, CompositeIntermediateKey, OutOfMemory, Text};
+use agg_values::{Address, CompositeIntermediateKey, OutOfMemory};
 use std::alloc::Global;
 use std::cmp::Ordering;
 
@@ -78,11 +79,14 @@ impl ColumnKeys {
         }
     }
 
-    /// The number that stands for what a cell keeps.
-    pub fn encode(&self, texts: &[Text], addresses: &[Address], value: CellValue) -> u64
-        requires kept { IsKept (length texts.now) (length addresses.now) value }
-        requires taken { MayTake self.now (stored_key texts.now addresses.now value) }
-        ensures key { encoded_key self.now result ≡ stored_key texts.now addresses.now value }
+    /// The number that stands for what a cell keeps. A text's is the ordinal of its place.
+    pub fn encode(&self, ordinals: &[u64], addresses: &[Address], value: CellValue) -> u64
+        requires kept { IsKept (length ordinals.now) (length addresses.now) value }
+        requires named { IsNamed (named_texts self.now ordinals.now) self.now ordinals.now value }
+        requires taken { MayTake self.now
+            (stored_key (named_texts self.now ordinals.now) addresses.now value) }
+        ensures key { encoded_key self.now result
+            ≡ stored_key (named_texts self.now ordinals.now) addresses.now value }
         ensures stands { StandsForKey self.now result }
     {
         match self {
@@ -90,8 +94,8 @@ impl ColumnKeys {
                 CellValue::Bool(b) => b as u64,
                 _ => 0,
             },
-            ColumnKeys::Texts(list) => match value {
-                CellValue::Str(place) => list.place(&texts[place]),
+            ColumnKeys::Texts(_) => match value {
+                CellValue::Str(place) => ordinals[place],
                 _ => 0,
             },
             ColumnKeys::Signed => match value {

@@ -5,6 +5,7 @@ mod builder;
 mod column;
 mod dictionary;
 mod document;
+mod field_names;
 mod hit;
 mod keys;
 mod laws;

@@ -1,11 +1,12 @@
-ghost use Rattle.std.specs.Prelude.{◌≡◌, ◌≤◌, ◌++◌, ◌∷◌, ◌==◌, [], ℕ, List, not};
-ghost use Rattle.std.specs.Prelude.{length, take, drop, filter, map, IfOk, OnOk, OnErr};
+ghost use Rattle.std.specs.Prelude.{◌≡◌, ◌≤◌, ◌++◌, ◌∷◌, [], ℕ, List};
+ghost use Rattle.std.specs.Prelude.{length, take, drop, map, IfOk, OnOk, OnErr};
 ghost use Rattle.std.specs.List.{All};
 ghost use Rattle.agg_segment.specs.Document.{key_of};
 ghost use Rattle.agg_segment.specs.Cells.{Placed, stored_key, IsKept};
 ghost use Rattle.agg_segment.specs.CellOrder.{cell_class};
 ghost use Rattle.agg_segment.specs.Signs.{cell_mark, key_mark};
 
+mod by_text;
 mod cut;
 
 use crate::FieldValue;
@@ -115,31 +116,6 @@ impl Log {
     {
         self.cells.truncate(len);
     }
-
-    /// Forgets the values of a field from a place on.
-    pub fn clear_field(&mut self, from: usize, field: u32)
-        requires { from ≤ length self.old }
-        ensures { self.new
-            ≡ take from self.old ++ filter (λ p. not (p.field == field)) (drop from self.old) }
-    {
-        let kept = keep_others(&mut self.cells[from..], field);
-        self.cells.truncate(from + kept);
-    }
-}
-
-// Moves the cells of other fields to the front, and tells how many they are.
-fn keep_others(cells: &mut [Cell], field: u32) -> usize
-    ensures within { result ≤ length cells.old }
-    ensures front { take result cells.new ≡ filter (λ c. not (c.field == field)) cells.old }
-{
-    let mut kept = 0;
-    for at in 0..cells.len() {
-        if cells[at].field != field {
-            cells[kept] = cells[at];
-            kept += 1;
-        }
-    }
-    kept
 }
 
 // What a cell keeps of a value.

@@ -1,14 +1,17 @@
-ghost use Rattle.std.specs.Prelude.{◌≡◌, ◌≢◌, ◌<◌, ◌≤◌, ℕ, length, map, get_or, IsTrue, IfOk};
+ghost use Rattle.std.specs.Prelude.{◌≡◌, ◌≢◌, ◌<◌, ◌≤◌, ◌∷◌, [], ℕ};
+ghost use Rattle.std.specs.Prelude.{length, map, get_or, IsTrue, IfOk};
 ghost use Rattle.std.specs.List.{All, zip, range_with_len};
 ghost use Rattle.std.specs.List.Sorted.{IsNonDecreasingBy};
 ghost use Rattle.agg_segment.specs.Columns.{numbers_at};
 ghost use Rattle.agg_segment.specs.Rows.{listed_docs, start_at, numbered, layout_docs};
+ghost use Rattle.agg_segment.specs.Rows.{uneven_rows};
 ghost use Rattle.agg_segment.specs.Rows.{AreEndsOf, IsLaidOut};
 
 use crate::log::Cell;
 use agg_values::{DocId, OutOfMemory};
 use std::alloc::Global;
 use std::marker::Model;
+use std::slice;
 
 /// Where the numbers of a document end.
 #[derive(Clone, Copy)]
@@ -17,56 +20,95 @@ pub struct DocEnd {
     end: u32,
 }
 
+/// A number of a document.
+#[derive(Clone, Copy)]
+pub struct DocNumber {
+    doc: u32,
+    number: u64,
+}
+
 /// Whose the numbers are.
 #[derive(Drop)]
 pub enum Layout {
-    /// Each document has one number, up to the last that has any.
-    OneEach,
     /// Where the numbers of each document end, up to the last that has any.
     Dense(Vec<u32>),
     /// The documents that have numbers, ascending.
     Listed(Vec<DocEnd>),
 }
 
-/// The numbers of documents, ascending by document, seen by contracts as a list of a document and a
-/// number.
+/// Numbers of which a document may have none or several.
 #[derive(Drop)]
-pub struct Rows {
+pub struct UnevenNumbers {
     numbers: Vec<u64>,
     layout: Layout,
 }
 
+/// Numbers, and whose they are.
+#[derive(Drop)]
+pub enum Numbers {
+    /// One number alone.
+    One(DocNumber),
+    /// Each document has one number, up to the last that has any.
+    OneEach(Vec<u64>),
+    /// Any others. The box keeps a column small.
+    Uneven(Box<UnevenNumbers>),
+}
+
+/// The numbers of documents, ascending by document, seen by contracts as a list of a document and a
+/// number.
+#[derive(Drop)]
+pub struct Rows {
+    numbers: Numbers,
+}
+
 impl Model for Rows {
-    ghost use Rattle.std.specs.Prelude.{List, ℕ, length};
+    ghost use Rattle.std.specs.Prelude.{List, ℕ};
 
     ghost Value = { List (ℕ × ℕ) };
 
-    ghost use Rattle.agg_segment.specs.Rows.{rows, IsLaidOut};
+    ghost use Rattle.agg_segment.specs.Rows.{rows, AreLaidOut};
 
-    ghost view = { λ r. rows r.layout r.numbers.items };
+    ghost view = { λ r. rows r.numbers };
 
-    ghost invariant = { λ r. IsLaidOut r.layout (length r.numbers.items) };
+    ghost invariant = { λ r. AreLaidOut r.numbers };
 }
 
 impl Rows {
+    /// One number of a document.
+    pub fn one(doc: DocId, number: u64) -> Rows
+        ensures { result ≡ (doc, number) ∷ [] }
+    {
+        Rows {
+            numbers: Numbers::One(DocNumber { doc, number }),
+        }
+    }
+
     /// The numbers of cells, one for each.
     pub fn of(alloc: Global, cells: &[Cell], numbers: Vec<u64>) -> Result<Rows, OutOfMemory>
         requires ascending { IsNonDecreasingBy (λ c. c.doc) cells.now }
         requires each { length cells.now ≡ length numbers.items }
         ensures { IfOk result (λ rows. rows ≡ zip (map (λ c. c.doc) cells.now) numbers.items) }
     {
+        if has_one_each(cells) {
+            return Ok(Rows {
+                numbers: Numbers::OneEach(numbers),
+            });
+        }
         let layout = layout_of(alloc, cells)?;
-        Ok(Rows { numbers, layout })
+        let uneven = Box::new(alloc, UnevenNumbers { numbers, layout })?;
+        Ok(Rows {
+            numbers: Numbers::Uneven(uneven),
+        })
     }
 
     /// The numbers of a document.
     pub fn row(&self, doc: DocId) -> &[u64]
         ensures { result.now ≡ numbers_at self.now doc }
     {
-        match &self.layout {
-            Layout::OneEach => one_number(&self.numbers, doc),
-            Layout::Dense(ends) => dense_numbers(&self.numbers, ends, doc),
-            Layout::Listed(ends) => listed_numbers(&self.numbers, ends, doc),
+        match &self.numbers {
+            Numbers::One(number) => lone_number(number, doc),
+            Numbers::OneEach(numbers) => one_number(numbers, doc),
+            Numbers::Uneven(uneven) => uneven_numbers(uneven, doc),
         }
     }
 }
@@ -74,18 +116,33 @@ impl Rows {
 // Whose cells are.
 fn layout_of(alloc: Global, cells: &[Cell]) -> Result<Layout, OutOfMemory>
     requires { IsNonDecreasingBy (λ c. c.doc) cells.now }
-    ensures docs { IfOk result (λ layout. layout_docs layout (length cells.now)
-        ≡ map (λ c. c.doc) cells.now) }
+    ensures docs { IfOk result (λ layout. layout_docs layout ≡ map (λ c. c.doc) cells.now) }
     ensures all { IfOk result (λ layout. IsLaidOut layout (length cells.now)) }
 {
-    if has_one_each(cells) {
-        return Ok(Layout::OneEach);
-    }
     let count = count_up_to_last(cells);
     if count / 2 < count_docs(cells) {
         return Ok(Layout::Dense(all_ends(alloc, cells, count)?));
     }
     Ok(Layout::Listed(doc_ends(alloc, cells)?))
+}
+
+fn lone_number(number: &DocNumber, doc: DocId) -> &[u64]
+    ensures { result.now ≡ numbers_at ((number.now.doc, number.now.number) ∷ []) doc }
+{
+    if number.doc == doc {
+        return slice::from_ref(&number.number);
+    }
+    &[]
+}
+
+fn uneven_numbers(uneven: &UnevenNumbers, doc: DocId) -> &[u64]
+    requires { IsLaidOut uneven.now.layout (length uneven.now.numbers.items) }
+    ensures { result.now ≡ numbers_at (uneven_rows uneven.now) doc }
+{
+    match &uneven.layout {
+        Layout::Dense(ends) => dense_numbers(&uneven.numbers, ends, doc),
+        Layout::Listed(ends) => listed_numbers(&uneven.numbers, ends, doc),
+    }
 }
 
 fn one_number(numbers: &[u64], doc: DocId) -> &[u64]

@@ -23,12 +23,6 @@ fn push_number(builder: &mut SegmentBuilder, number: u64) -> Result<(), OutOfMem
     push(builder, "a", FieldValue::U64(number))
 }
 
-fn clear(builder: &mut SegmentBuilder, name: &str) -> Result<(), OutOfMemory> {
-    let field = builder.field(name)?;
-    builder.clear(field);
-    Ok(())
-}
-
 // The numbers of a document in the first column of a field, none where there is no column.
 fn numbers<'s>(segment: &'s SegmentReader, field: &Text, doc: u32) -> &'s [u64] {
     match segment.columns(field).first() {
@@ -138,14 +132,12 @@ fn documents_have_their_numbers(rt: HostRuntime) -> Result<(), Fail> {
 }
 
 #[test]
-fn open_documents_are_cleared_and_discarded(rt: HostRuntime) -> Result<(), Fail> {
+fn open_documents_are_discarded(rt: HostRuntime) -> Result<(), Fail> {
     let mut builder = SegmentBuilder::new(rt.alloc());
     push_number(&mut builder, 1)?;
     builder.finish()?;
-    push_number(&mut builder, 2)?;
-    push(&mut builder, "b", FieldValue::U64(3))?;
-    clear(&mut builder, "a")?;
     push_number(&mut builder, 4)?;
+    push(&mut builder, "b", FieldValue::U64(3))?;
     builder.finish()?;
     push_number(&mut builder, 5)?;
     builder.discard();

@@ -6,9 +6,10 @@ ghost use Rattle.agg_engine.specs.ResultsText.{bucket_result_text, comma_unless,
 ghost use Rattle.agg_engine.specs.ResultsText.{object_text, quoted_after_key, result_text};
 ghost use Rattle.agg_engine.specs.ResultsText.{shown_key_text};
 
+use super::quoted::write_quoted;
 use super::{AggregationResult, BucketResult, CompositeBucketEntry};
 use agg_values::{AfterKey, CompositeKey, ItemList, NameMap, OutOfMemory};
-use serde_json::Value;
+use itoa::{Buffer, Integer};
 use std::alloc::Global;
 
 /// What has a text as JSON.
@@ -70,12 +71,12 @@ fn write_comma(text: &mut String, first: bool) -> Result<(), OutOfMemory>
     Ok(())
 }
 
-// Appends a quoted text.
-fn write_quoted(alloc: Global, text: &mut String, s: &str) -> Result<(), OutOfMemory>
-    ensures { OnOk result (string_bytes text.new ≡ string_bytes text.old ++ quoted s.now) }
+// Appends a number.
+fn write_number<N: Integer>(text: &mut String, n: N) -> Result<(), OutOfMemory>
+    ensures { OnOk result (string_bytes text.new ≡ string_bytes text.old ++ N.text n) }
 {
-    let value = Value::String(String::from_str(alloc, s)?);
-    text.push_str(value.to_string(alloc)?.as_str())?;
+    let mut digits = Buffer::new();
+    text.push_str(digits.format(n))?;
     Ok(())
 }
 
@@ -133,8 +134,8 @@ impl JsonText for CompositeKey {
             CompositeKey::Bool(true) => text.push_str("true")?,
             CompositeKey::Bool(false) => text.push_str("false")?,
             CompositeKey::Str(s) => write_quoted(alloc, text, s.as_str())?,
-            CompositeKey::I64(n) => write!(text, "{n}")?,
-            CompositeKey::U64(n) => write!(text, "{n}")?,
+            CompositeKey::I64(n) => write_number(text, *n)?,
+            CompositeKey::U64(n) => write_number(text, *n)?,
             CompositeKey::Null => text.push_str("null")?,
         }
         Ok(())
@@ -154,8 +155,9 @@ impl JsonText for CompositeBucketEntry {
     ghost json = { bucket_text };
 
     fn write_to(&self, alloc: Global, text: &mut String) -> Result<(), OutOfMemory> {
-        let doc_count = self.doc_count;
-        write!(text, "{{\"doc_count\":{doc_count},\"key\":")?;
+        text.push_str("{\"doc_count\":")?;
+        write_number(text, self.doc_count)?;
+        text.push_str(",\"key\":")?;
         write_object(alloc, text, &self.key)?;
         text.push('}')?;
         Ok(())

@@ -1,4 +1,4 @@
-ghost use Rattle.std.specs.Prelude.{◌≡◌, IfOk};
+ghost use Rattle.std.specs.Prelude.{◌≡◌, ◌++◌, IfOk, OnOk, string_bytes};
 ghost use Rattle.agg_engine.specs.ResultsText.{results_text};
 
 use super::json_text;
@@ -37,9 +37,16 @@ impl AggregationResults {
     pub fn write_json(&self) -> Result<Text, OutOfMemory>
         ensures { IfOk result (λ text. text ≡ results_text self.now) }
     {
-        let alloc = self.0.allocator();
-        let mut text = String::new(alloc);
-        json_text::write_object(alloc, &mut text, &self.0)?;
+        let mut text = String::new(self.0.allocator());
+        self.append_json(&mut text)?;
         Ok(Text::from_string(text))
+    }
+
+    /// Appends the text of `write_json`. After an error a part of it may have been appended.
+    pub fn append_json(&self, text: &mut String) -> Result<(), OutOfMemory>
+        ensures { OnOk result
+            (string_bytes text.new ≡ string_bytes text.old ++ results_text self.now) }
+    {
+        json_text::write_object(self.0.allocator(), text, &self.0)
     }
 }

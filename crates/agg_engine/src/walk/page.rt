@@ -65,7 +65,7 @@ fn segment_page<L: Ledger>(
     ensures later { steps.old ≤ steps.new }
 {
     let docs = matching_docs(alloc, query, segment)?;
-    if counts_too_many(composite, segment, &docs) {
+    if counts_too_many(alloc, composite, segment, &docs)? {
         return Err(CollectError::TooMany);
     }
     let mut collector = SegmentCompositeCollector::new(alloc, composite.sources.as_slice().len())?;

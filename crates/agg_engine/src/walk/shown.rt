@@ -17,11 +17,11 @@ pub fn page_results(
     alloc: Global,
     name: &Text,
     sources: &[CompositeAggregationSource],
-    entries: &[PageEntry],
+    entries: ItemList<PageEntry>,
     next: &Option<Tuple>,
 ) -> Result<AggregationResults, OutOfMemory>
     ensures { IfOk result
-        (λ results. IsOfPage (shown_page name.now sources.now next.now) entries.now results.0) }
+        (λ results. IsOfPage (shown_page name.now sources.now next.now) entries results.0) }
 {
     let mut results = NameMap::new(alloc);
     let page = BucketResult::Composite {
@@ -35,22 +35,22 @@ pub fn page_results(
     Ok(AggregationResults(results))
 }
 
-// The buckets of the page that has these entries.
+// The buckets of the page that has these entries. Each entry is dropped once its bucket is made.
 fn shown_buckets(
     alloc: Global,
     sources: &[CompositeAggregationSource],
-    entries: &[PageEntry],
+    entries: ItemList<PageEntry>,
 ) -> Result<ItemList<CompositeBucketEntry>, OutOfMemory>
-    ensures { IfOk result (IsOfPage (map (shown_entry sources.now)) entries.now) }
+    ensures { IfOk result (IsOfPage (map (shown_entry sources.now)) entries) }
 {
-    let mut buckets = ItemList::new(alloc);
-    for entry in entries {
+    let mut buckets = Vec::with_capacity(alloc, entries.as_slice().len())?;
+    for entry in entries.into_vec() {
         buckets.push(CompositeBucketEntry {
             key: shown_keys(alloc, sources, &entry.key)?,
             doc_count: entry.doc_count,
         })?;
     }
-    Ok(buckets)
+    Ok(ItemList::from_vec(buckets))
 }
 
 // The after key of the bound of the next page, empty where there is none.

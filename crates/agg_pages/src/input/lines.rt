@@ -5,6 +5,7 @@ ghost use Rattle.std.specs.Iterator.{YieldsFirstRef, item_count};
 ghost use Rattle.std.specs.Str.Lines.{strip_carriage_return};
 ghost use Rattle.agg_pages.specs.Lines.{all_lines_of, is_blank, lines_of};
 
+use memchr::memchr;
 use std::marker::Model;
 
 /// The lines of a text that say something, seen by contracts as the list of those that are left.
@@ -57,8 +58,8 @@ fn cut_line(text: &str) -> (&str, Option<&str>)
     ensures { all_lines_of text.now
         ≡ result.0.now ∷ option_map_or (λ left. all_lines_of left.now) result.1 [] }
 {
-    match text.split_once('\n') {
-        Some((line, left)) => (without_return(line), Some(left)),
+    match memchr(b'\n', text.as_bytes()) {
+        Some(feed) => (without_return(&text[..feed]), Some(&text[feed + 1..])),
         None => (without_return(text), None),
     }
 }

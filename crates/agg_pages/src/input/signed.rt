@@ -4,7 +4,7 @@ ghost use Rattle.std.specs.Prelude.{◌≡◌, ◌^◌, nat_lt};
 ghost use Rattle.std.specs.List.{list_all};
 ghost use Rattle.agg_segment.specs.Segment.{documents_of};
 ghost use Rattle.agg_pages.specs.Signed.{aggregation_is_signed, column_is_signed};
-ghost use Rattle.agg_pages.specs.Signed.{request_is_signed, segments_are_signed};
+ghost use Rattle.agg_pages.specs.Signed.{has_signed_type, request_is_signed, segments_are_signed};
 ghost use Rattle.agg_pages.specs.Signed.{snapshots_are_signed, source_is_signed};
 
 use agg_engine::Snapshot;
@@ -55,12 +55,29 @@ fn source_is_signed(source: &CompositeAggregationSource, segment: &SegmentReader
     ensures { result ≡ source_is_signed (documents_of segment.now) source.now }
 {
     let columns = segment.columns(source.field());
+    if have_signed_types(columns) {
+        return true;
+    }
     for doc in 0..segment.num_docs() {
         if !document_is_signed(columns, doc) {
             return false;
         }
     }
     true
+}
+
+// Whether each column has the type of such numbers, so that no document has to be looked at.
+fn have_signed_types(columns: &[Column]) -> bool
+    ensures { result ≡ list_all (λ column. has_signed_type column.keys) columns.now }
+{
+    columns.iter().all(has_signed_type)
+}
+
+// Whether a column has that type.
+fn has_signed_type(column: &Column) -> bool
+    ensures { result ≡ has_signed_type column.now.keys }
+{
+    column.column_type() == ColumnType::I64
 }
 
 fn document_is_signed(columns: &[Column], doc: DocId) -> bool

@@ -111,11 +111,14 @@ fn read_members(
     }
 }
 
-// Whether no number is there twice. The numbers are sorted by it.
+// Whether no number is there twice. Two numbers or more are sorted by it.
 fn are_distinct(numbers: &mut Vec<u32>) -> bool
     ensures { IsTrue result → AreDistinct numbers.old.items }
 {
     let count = numbers.len();
+    if count < 2 {
+        return true;
+    }
     numbers.sort_unstable();
     numbers.dedup();
     numbers.len() == count

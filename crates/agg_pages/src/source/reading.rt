@@ -10,7 +10,7 @@ use std::alloc::{AllocError, Global};
 pub const MAX_INPUT_BYTES: usize = 67_108_864;
 
 // How many bytes one read asks for at most.
-const CHUNK_BYTES: usize = 8_192;
+const CHUNK_BYTES: usize = 65_536;
 
 /// Why not all bytes of a source were read.
 #[derive(Clone, Copy, Debug, PartialEq, Eq)]

@@ -52,5 +52,5 @@ fn is_refused(
         size: 1,
         after: NameMap::new(alloc),
     };
-    Ok(counts_too_many(&composite, segment, &[0]))
+    Ok(counts_too_many(alloc, &composite, segment, &[0])?)
 }

@@ -4,6 +4,7 @@ use Rattle.agg_segment.specs.Columns.{StoredColumn, all_keys, column_keys, encod
 use Rattle.agg_request.specs.Source.{ascending_rules, is_signed_number}
 use Rattle.agg_composite.specs.Counts.{past_tuples, numbers_held}
 use Rattle.agg_composite.specs.Visits.{AnswersVisits}
+use Rattle.agg_composite.specs.Waiting.{all_counts}
 use Rattle.agg_composite.proofs.CollectorParts.{all-visited, error-visited, one-visited}
 use Rattle.agg_composite.proofs.CollectorPast.{past-column, past-columns-append}
 use Rattle.agg_composite.proofs.SignedNumbers.{list_all-part}
@@ -23,15 +24,15 @@ loop-column-preserved g c =
     let bound = c.args.bound.now in
     let doc = c.args.doc in
     let column = c.column-item.result in
-    let now = numbers_held c.loop-column.counts.entries in
-    let after = numbers_held c.visit_values.new.counts.entries in
+    let now = numbers_held (all_counts c.loop-column.counts) in
+    let after = numbers_held (all_counts c.visit_values.new.counts) in
     let read = map (encoded_key column.keys) c.values_for_doc-values.result.now in
     let part = ap (λ (x : StoredColumn). past_tuples bound (all_keys (x ∷ []) doc))
     (sym c.column-item.is)
     ∙ past-column bound column doc read c.values_for_doc-values.ensures.keys in
     one-visited (λ columns. past_tuples bound (all_keys columns doc))
     (past-columns-append bound doc) ascending_rules c.args.columns.now c.loop-column.column-index
-    (numbers_held c.args.counts.now.entries) now c.args.steps.now c.loop-column.steps
+    (numbers_held (all_counts c.args.counts.now)) now c.args.steps.now c.loop-column.steps
     c.loop-column.invariant column c.loop-column-test.true after c.visit_values.new.steps
     (subst (λ ts. AnswersVisits ascending_rules ts now after
     c.loop-column.steps c.visit_values.new.steps (Ok tt)) (sym part) c.in_ok-visit_values.ensures)
@@ -41,8 +42,8 @@ returns-in_err-visit_values g c =
     let bound = c.args.bound.now in
     let doc = c.args.doc in
     let column = c.column-item.result in
-    let now = numbers_held c.loop-column.counts.entries in
-    let after = numbers_held c.visit_values.new.counts.entries in
+    let now = numbers_held (all_counts c.loop-column.counts) in
+    let after = numbers_held (all_counts c.visit_values.new.counts) in
     let error = c.in_err-visit_values.field-0.0 in
     let read = map (encoded_key column.keys) c.values_for_doc-values.result.now in
     let part = ap (λ (x : StoredColumn). past_tuples bound (all_keys (x ∷ []) doc))
@@ -50,7 +51,7 @@ returns-in_err-visit_values g c =
     ∙ past-column bound column doc read c.values_for_doc-values.ensures.keys in
     error-visited (λ columns. past_tuples bound (all_keys columns doc))
     (past-columns-append bound doc) ascending_rules c.args.columns.now c.loop-column.column-index
-    (numbers_held c.args.counts.now.entries) now c.args.steps.now c.loop-column.steps
+    (numbers_held (all_counts c.args.counts.now)) now c.args.steps.now c.loop-column.steps
     c.loop-column.invariant column c.loop-column-test.true after c.visit_values.new.steps
     error c.from_residual.result
     (subst (λ ts. AnswersVisits ascending_rules ts now after
@@ -65,5 +66,5 @@ returns g c =
     all-visited (λ columns. past_tuples bound (all_keys columns doc))
     (past-columns-append bound doc) ascending_rules
     c.args.columns.now c.loop-column.column-index
-    (numbers_held c.args.counts.now.entries) (numbers_held c.loop-column.counts.entries)
+    (numbers_held (all_counts c.args.counts.now)) (numbers_held (all_counts c.loop-column.counts))
     c.args.steps.now c.loop-column.steps c.loop-column.invariant c.loop-column-test.false

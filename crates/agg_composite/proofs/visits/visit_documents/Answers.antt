@@ -8,6 +8,7 @@ use Rattle.agg_request.specs.Occurrences.{past_occurrences}
 use Rattle.agg_request.specs.Source.{ascending_rules, field_of, is_signed_number}
 use Rattle.agg_composite.specs.Counts.{numbers_held}
 use Rattle.agg_composite.specs.Visits.{AnswersVisits}
+use Rattle.agg_composite.specs.Waiting.{all_counts}
 use Rattle.agg_composite.proofs.CollectorParts.{all-visited, error-visited, one-visited}
 use Rattle.agg_composite.proofs.CollectorDocuments.{ascending-part, past-documents-append}
 use Rattle.agg_composite.proofs.visits.visit_documents.Goals as goal
@@ -30,8 +31,8 @@ loop-doc-preserved g c =
     let segment = c.args.segment.now in
     let docs = c.args.docs.now in
     let i = c.loop-doc.doc-index in
-    let now = numbers_held c.loop-doc.counts.entries in
-    let after = numbers_held c.visit_document.new.counts.entries in
+    let now = numbers_held (all_counts c.loop-doc.counts) in
+    let after = numbers_held (all_counts c.visit_document.new.counts) in
     let doc = get_or docs i 0 in
     let part = ascending-part c.args.source.now bound segment doc
     c.requires.order c.requires.missing c.requires.bucket
@@ -39,7 +40,7 @@ loop-doc-preserved g c =
     (c.columns-columns.ensures.keys doc) in
     one-visited (λ ds. past_occurrences sources bound (documents_at segment ds))
     (past-documents-append sources bound segment) ascending_rules docs i
-    (numbers_held c.args.counts.now.entries) now c.args.steps.now c.loop-doc.steps
+    (numbers_held (all_counts c.args.counts.now)) now c.args.steps.now c.loop-doc.steps
     c.loop-doc.invariant 0 c.loop-doc-test.true after c.visit_document.new.steps
     (subst (λ ts. AnswersVisits ascending_rules ts now after c.loop-doc.steps
     c.visit_document.new.steps (Ok tt))
@@ -52,8 +53,8 @@ returns-in_err-visit_document g c =
     let segment = c.args.segment.now in
     let docs = c.args.docs.now in
     let i = c.loop-doc.doc-index in
-    let now = numbers_held c.loop-doc.counts.entries in
-    let after = numbers_held c.visit_document.new.counts.entries in
+    let now = numbers_held (all_counts c.loop-doc.counts) in
+    let after = numbers_held (all_counts c.visit_document.new.counts) in
     let doc = get_or docs i 0 in
     let part = ascending-part c.args.source.now bound segment doc
     c.requires.order c.requires.missing c.requires.bucket
@@ -61,7 +62,7 @@ returns-in_err-visit_document g c =
     (c.columns-columns.ensures.keys doc) in
     error-visited (λ ds. past_occurrences sources bound (documents_at segment ds))
     (past-documents-append sources bound segment) ascending_rules docs i
-    (numbers_held c.args.counts.now.entries) now c.args.steps.now c.loop-doc.steps
+    (numbers_held (all_counts c.args.counts.now)) now c.args.steps.now c.loop-doc.steps
     c.loop-doc.invariant 0 c.loop-doc-test.true after c.visit_document.new.steps
     c.in_err-visit_document.field-0.0 c.from_residual.result
     (subst (λ ts. AnswersVisits ascending_rules ts now after c.loop-doc.steps
@@ -77,5 +78,5 @@ returns g c =
     all-visited (λ ds. past_occurrences sources bound (documents_at segment ds))
     (past-documents-append sources bound segment) ascending_rules
     c.args.docs.now c.loop-doc.doc-index
-    (numbers_held c.args.counts.now.entries) (numbers_held c.loop-doc.counts.entries)
+    (numbers_held (all_counts c.args.counts.now)) (numbers_held (all_counts c.loop-doc.counts))
     c.args.steps.now c.loop-doc.steps c.loop-doc.invariant c.loop-doc-test.false

@@ -7,6 +7,7 @@ use Rattle.agg_request.specs.Occurrences.{is_past}
 use Rattle.agg_request.specs.Source.{ascending_rules}
 use Rattle.agg_composite.specs.Counts.{numbers_held, past_tuples}
 use Rattle.agg_composite.specs.Visits.{AnswersVisits, VisitsTooOften}
+use Rattle.agg_composite.specs.Waiting.{all_counts}
 use Rattle.agg_composite.proofs.CollectorCounts.{HasVisited-number, number-too_often}
 use Rattle.agg_composite.proofs.CollectorParts.{answers-error}
 use Rattle.agg_composite.proofs.CollectorPast.{past-number-yes}
@@ -21,8 +22,8 @@ returns-in_ok-visit g c =
     let e = past-number-yes c.args.bound.now n f p in
     let step = simp to_z-of_z at c.in_ok-visit.ensures.ok in
     let ticks = c.tick.ensures in
-    let held = c.args.counts.now.entries in
-    let now = c.visit.new.counts.entries in
+    let held = all_counts c.args.counts.now in
+    let now = all_counts c.visit.new.self in
     subst (λ ts. AnswersVisits ascending_rules ts (numbers_held held) (numbers_held now)
     c.args.steps.now c.tick.new.self (Ok tt)) (sym e) (record {
       ok = HasVisited-number held now n step;
@@ -40,10 +41,11 @@ returns-in_err-visit g c =
     simp to_z-of_z at (sym c.lies_past.ensures ∙ c.if-lies_past.true) in
     let e = past-number-yes c.args.bound.now n f p in
     let too_many = simp to_z-of_z at c.in_err-visit.ensures.too_many in
-    let held = c.args.counts.now.entries in
+    let held = all_counts c.args.counts.now in
     answers-error ascending_rules (past_tuples c.args.bound.now (I64 n ∷ []))
-    (numbers_held held) (numbers_held c.visit.new.counts.entries) c.args.steps.now c.args.steps.now
+    (numbers_held held) (numbers_held (all_counts c.visit.new.self))
+    c.args.steps.now c.args.steps.now
     c.in_err-visit.field-0.0 c.from_residual.result c.from_residual.ensures.1
     (λ was. subst (λ ts. VisitsTooOften ascending_rules ts (numbers_held held)) (sym e)
-    (λ visited h. (I64 n ∷ [], number-too_often held n (2 ^ 64) (too_many was) visited h)))
+    (number-too_often held n (2 ^ 64) (too_many was)))
     (omega arith) (omega arith)

@@ -1,7 +1,5 @@
 use Rattle.std.proofs.Common.{◌≡◌, ◌+◌, ◌<◌, List, ◌∷◌, ◌∙◌, Err, drop, get_or, length, ap, subst}
 use Rattle.std.proofs.Common.{arith}
-use Rattle.agg_composite.specs.declared.page_entry.PageEntry.{PageEntry}
-use Rattle.agg_request.specs.Source.{Sources}
 use Rattle.agg_request.specs.declared.aggregation.CompositeAggregation.{CompositeAggregation}
 use Rattle.agg_cache.specs.declared.error.CollectError.TheVariants as collect
 use Rattle.agg_engine.specs.PageAnswers.{IsOfPage}
@@ -80,13 +78,9 @@ next g c = record {
   fits = c.in_ok-entries.ensures.page.fits;
   next_is = subst (λ entries. IsOfPage (after_tuple c.snapshot-item.result.page_size) entries
       c.in_ok-next.next) c.as_slice-in-loop-snapshot.ensures c.in_ok-next.ensures;
-  results_are =
-      let Are : Sources → List PageEntry → Type 0 =
-      λ sources entries. IsOfPage (shown_page c.args.name.now sources c.in_ok-next.next) entries
-      c.in_ok-page_results.field-0.0 in
-      subst (λ sources. Are sources c.in_ok-entries.entries) c.as_slice-in-loop-snapshot-2.ensures
-      (subst (Are c.as_slice-in-loop-snapshot-2.result.now) c.as_slice-in-loop-snapshot-3.ensures
-      c.in_ok-page_results.ensures);
+  results_are = subst (λ sources. IsOfPage (shown_page c.args.name.now sources c.in_ok-next.next)
+      c.in_ok-entries.entries c.in_ok-page_results.field-0.0)
+      c.as_slice-in-loop-snapshot-2.ensures c.in_ok-page_results.ensures;
 }
 
 pub returns-in_default-next-clause-pages : goal.returns-in_default-next-clause-pages

@@ -1,7 +1,8 @@
-use Rattle.std.proofs.Common.{◌-◌, ◌^◌, length, min, get_or, ap, ◌∙◌, arith, rules}
+use Rattle.std.proofs.Common.{◌≡◌, ◌-◌, ◌^◌, length, min, get_or, sym, ap, ◌∙◌, subst, arith, rules}
 use Rattle.std.proofs.lemmas.List.{take_all}
 use Rattle.agg_segment.specs.Segment.{document_at, documents_at}
 use Rattle.agg_request.specs.Occurrences.{occurrences, occurrences_in}
+use Rattle.agg_request.specs.SourceColumns.{AreReadBy}
 use Rattle.agg_request.proofs.OccurrencesLength.{count-below, count-within}
 use Rattle.agg_request.proofs.UncutLength.{length-uncut}
 use Rattle.agg_request.proofs.occurrences.counts_too_many.Goals as goal
@@ -13,8 +14,12 @@ loop-doc-preserved c =
     let docs = c.args.docs.now in
     let i = c.loop-doc.doc-index in
     let document = document_at segment (get_or docs i 0) in
-    let own = c.num_occurrences.ensures
-    ∙ ap (λ ss. min (length (occurrences ss document)) (2 ^ 64 - 1)) c.as_slice-sources.ensures in
+    let read = subst (AreReadBy segment sources) (sym c.deref.ensures.value)
+    (subst (λ ss. AreReadBy segment ss c.in_ok-sources.sources.items) c.as_slice.ensures
+    c.in_ok-sources.ensures) in
+    let own : c.num_occurrences.result
+    ≡ min (length (occurrences sources document)) (2 ^ 64 - 1) =
+    c.num_occurrences.ensures segment sources read in
     let sum = count-below sources segment docs i c.loop-doc-test.true
     c.loop-doc.count c.num_occurrences.result (2 ^ 64 - 1)
     c.loop-doc.invariant.counted own (2 ^ 32) (omega arith) (omega arith) in
@@ -23,14 +28,19 @@ loop-doc-preserved c =
 pub returns-then-count-ge-TOO_MANY : goal.returns-then-count-ge-TOO_MANY
 returns-then-count-ge-TOO_MANY c =
     let composite = c.args.composite.now in
+    let sources = composite.sources in
     let segment = c.args.segment.now in
     let docs = c.args.docs.now in
     let i = c.loop-doc.doc-index in
     let document = document_at segment (get_or docs i 0) in
-    let own = c.num_occurrences.ensures
-    ∙ ap (λ ss. min (length (occurrences ss document)) (2 ^ 64 - 1)) c.as_slice-sources.ensures in
+    let read = subst (AreReadBy segment sources) (sym c.deref.ensures.value)
+    (subst (λ ss. AreReadBy segment ss c.in_ok-sources.sources.items) c.as_slice.ensures
+    c.in_ok-sources.ensures) in
+    let own : c.num_occurrences.result
+    ≡ min (length (occurrences sources document)) (2 ^ 64 - 1) =
+    c.num_occurrences.ensures segment sources read in
     let uncut = length-uncut composite (documents_at segment docs) in
-    let within = count-within composite.sources segment docs i c.loop-doc-test.true
+    let within = count-within sources segment docs i c.loop-doc-test.true
     c.loop-doc.count c.num_occurrences.result (2 ^ 64 - 1) c.loop-doc.invariant.counted own in
     (λ _. omega (arith, uncut, within), λ _. search rules)
 

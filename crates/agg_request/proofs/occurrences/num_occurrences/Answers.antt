@@ -1,25 +1,30 @@
-use Rattle.std.proofs.Common.{◌-◌, ◌^◌, length, min, ap, ◌∙◌}
+use Rattle.std.proofs.Common.{◌-◌, ◌^◌, ◌<◌, length, min, get_or, sym, ap, ◌∙◌, subst, arith}
 use Rattle.std.proofs.lemmas.List.{take_all}
 use Rattle.agg_segment.specs.Segment.{document_at}
 use Rattle.agg_request.specs.Occurrences.{occurrences}
-use Rattle.agg_request.specs.Source.{source_values}
+use Rattle.agg_request.specs.SourceColumns.{IsReadBy}
 use Rattle.agg_request.proofs.OccurrencesLength.{cut-occurrences-more}
+use Rattle.agg_request.proofs.SourceColumns.{first_of}
 use Rattle.agg_request.proofs.occurrences.num_occurrences.Goals as goal
 
 pub loop-source-preserved : goal.loop-source-preserved
-loop-source-preserved c =
-    let document = document_at c.args.segment.now c.args.doc in
-    let keys = c.num_keys.ensures
-    ∙ ap (λ source. min (length (source_values source document)) (2 ^ 64 - 1)) c.source-item.is in
-    let more = cut-occurrences-more
-    c.args.sources.now c.loop-source.source-index c.source-item.result document
-    c.loop-source.product c.num_keys.result (2 ^ 64 - 1)
-    c.loop-source-test.true c.loop-source.invariant keys in
-    cc more
+loop-source-preserved c segment read are =
+    let document = document_at segment c.args.doc in
+    let i = c.loop-source.source-index in
+    let within : i < length read = omega (arith, c.loop-source-test.true, are.as_many) in
+    let d = first_of read i within in
+    let source = get_or read i d in
+    let own = c.num_keys.ensures segment source
+    (subst (IsReadBy segment source) (sym c.source-item.is)
+    (are.each i d c.source-item.result within)) in
+    let more = cut-occurrences-more read i d document c.loop-source.product c.num_keys.result
+    (2 ^ 64 - 1) within (c.loop-source.invariant segment read are) own in
+    cc (more, c.saturating_mul-product.ensures)
 
 pub returns : goal.returns
-returns c =
-    let document = document_at c.args.segment.now c.args.doc in
-    c.loop-source.invariant
-    ∙ ap (λ sources. min (length (occurrences sources document)) (2 ^ 64 - 1))
-    (take_all c.loop-source.source-index c.args.sources.now c.loop-source-test.false)
+returns c segment read are =
+    c.loop-source.invariant segment read are
+    ∙ ap (λ sources. min (length (occurrences sources (document_at segment c.args.doc)))
+    (2 ^ 64 - 1))
+    (take_all c.loop-source.source-index read
+    (omega (arith, c.loop-source-test.false, are.as_many)))

@@ -1,11 +1,9 @@
-use Rattle.std.proofs.Common.{◌≡◌, ◌≤◌, ◌++◌, length, map}
-use Rattle.agg_composite.specs.Counts.{numbers_held}
+use Rattle.std.proofs.Common.{◌≡◌, map, take}
+use Rattle.agg_composite.specs.Counts.{entries_of, numbers_held}
 use Rattle.agg_composite.specs.PageEntries.{entry_group}
 use Rattle.agg_composite.proofs.collector.SegmentCompositeCollector.page.Given as goal
 
-abbrev pub invariant-loop-number : goal.invariant-loop-number
-invariant-loop-number l = record {
-  parts : map entry_group l.entries ++ numbers_held l.number-iterator
-      ≡ numbers_held l.self-inside.counts.entries;
-  short : length l.entries ≤ l.composite.size;
-}
+abbrev pub invariant-loop-shown_count : goal.invariant-loop-shown_count
+invariant-loop-shown_count l =
+    map entry_group l.entries.items
+    ≡ numbers_held (entries_of (take l.shown_count-index l.shown))

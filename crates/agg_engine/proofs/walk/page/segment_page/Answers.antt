@@ -52,6 +52,6 @@ returns-clause-page g c =
     let asked : documents_at c.args.segment.now c.deref.result.now
     ≡ filter (matches c.args.query.now) (documents_of c.args.segment.now) =
     ap (documents_at c.args.segment.now) c.deref.ensures.value ∙ c.in_ok-docs.ensures in
-    let told = c.counts_too_many.ensures.1 (subst (CountsTooMany (Composite composite)) (sym asked)
-    many) in
-    cc (told, c.if-counts_too_many.false))
+    let told = c.in_ok-counts_too_many.ensures.1 (subst (CountsTooMany (Composite composite))
+    (sym asked) many) in
+    cc (told, c.if-branch.false))

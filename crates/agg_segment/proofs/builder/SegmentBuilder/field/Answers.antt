@@ -2,42 +2,43 @@ use Rattle.std.proofs.Common.{◌≡◌, ℕ, List, Some, None, length, cond, ap
 use Rattle.std.proofs.Common.{arith}
 use Rattle.std.specs.Str.{bytes_eq}
 use Rattle.agg_segment.specs.Cells.{number_of}
-use Rattle.agg_segment.specs.Names.{numbered_names}
 use Rattle.agg_segment.specs.Segment.{gathered_documents, open_document}
 use Rattle.agg_segment.proofs.Closed.{field_fields, field_documents, field_inv}
 use Rattle.agg_segment.proofs.builder.SegmentBuilder.field.Goals as goal
 
-fresh : (c : goal.In_ok-push) → number_of (numbered_names c.self.inside.names) c.args.name.now
+fresh : (c : goal.In_ok-push) → number_of c.self.inside.names c.args.name.now
     ≡ None
-fresh c = sym c.find_number.ensures ∙ c.in_default.is
+fresh c = sym c.find.ensures.number ∙ c.in_default.is
 
-more : (c : goal.In_ok-push) (n : List ℕ) → number_of (numbered_names c.set_number.new.names) n
+more : (c : goal.In_ok-push) (n : List ℕ) → number_of c.add.new.self n
     ≡ cond (bytes_eq c.args.name.now n) (Some (length c.self.inside.signs.items))
-    (number_of (numbered_names c.self.inside.names) n)
+    (number_of c.self.inside.names n)
 more c n =
     let as_long : c.len.result ≡ length c.self.inside.signs.items =
     omega (arith, c.len.ensures, c.self.inside.signs.ok) in
-    c.in_ok-set_number.ensures.ok n
+    c.in_ok-add.ensures.ok n
     ∙ ap (λ k. cond (bytes_eq c.args.name.now n) (Some k)
-    (number_of (numbered_names c.self.inside.names) n)) (c.in_ok-field.ensures ∙ as_long)
+    (number_of c.find.new.self n)) (c.in_ok-field.ensures ∙ as_long)
+    ∙ ap (λ names. cond (bytes_eq c.args.name.now n) (Some (length c.self.inside.signs.items))
+    (number_of names n)) c.find.ensures.names
 
 pub invariant_of-self-2 : goal.invariant_of-self-2
 invariant_of-self-2 c =
     let s = c.self.inside in
     rw (c.in_ok-push.ensures.items, c.in_ok-reserve.ensures.items)
-    (field_inv s.count (numbered_names s.names) s.log s.signs.items s.closed c.self.invariant
-    c.args.name.now (numbered_names c.set_number.new.names) (fresh c) (more c))
+    (field_inv s.count s.names s.log s.signs.items s.closed c.self.invariant
+    c.args.name.now c.add.new.self (fresh c) (more c))
 
 pub returns-clause-documents : goal.returns-clause-documents
 returns-clause-documents c =
     let s = c.self.inside in
-    field_documents s.count (numbered_names s.names) s.log s.signs.items s.closed c.self.invariant
-    c.args.name.now (numbered_names c.set_number.new.names) (fresh c) (more c)
+    field_documents s.count s.names s.log s.signs.items s.closed c.self.invariant
+    c.args.name.now c.add.new.self (fresh c) (more c)
     ∙ ap gathered_documents c.self.view_is
 
 pub returns-clause-opened : goal.returns-clause-opened
 returns-clause-opened c =
     let s = c.self.inside in
-    field_fields s.count (numbered_names s.names) s.log s.signs.items s.closed c.self.invariant
-    c.args.name.now (numbered_names c.set_number.new.names) (fresh c) (more c) s.count
+    field_fields s.count s.names s.log s.signs.items s.closed c.self.invariant
+    c.args.name.now c.add.new.self (fresh c) (more c) s.count
     ∙ ap open_document c.self.view_is

@@ -4,7 +4,6 @@ use Rattle.std.proofs.lemmas.List.{with_items_is}
 use Rattle.std.proofs.lemmas.List.Elements.{All-drop}
 use Rattle.agg_segment.specs.Cells.{Placed}
 use Rattle.agg_segment.specs.Signs.{cell_mark, key_mark, AreSigns, HasBoth}
-use Rattle.agg_segment.specs.Names.{numbered_names}
 use Rattle.agg_segment.specs.Segment.{Gathered, gathered_documents, open_document, IsMixed}
 use Rattle.agg_segment.proofs.Marked.{marked_fields, marks_joined}
 use Rattle.agg_segment.proofs.Closed.{documents_count, finish_documents, finish_open, finish_inv}
@@ -39,7 +38,7 @@ returns-in-Err-clause-full c = (
 pub returns-in-Err-clause-mixed : goal.returns-in-Err-clause-mixed
 returns-in-Err-clause-mixed c is =
     let s = c.self.inside in
-    let names = numbered_names s.names in
+    let names = s.names in
     let before = map key_mark (take s.closed s.log) in
     let are : AreSigns c.deref_mut.result.now before = subst (λ signs. AreSigns signs before)
     (sym c.deref_mut.ensures.value) c.self.invariant.signs in
@@ -71,7 +70,7 @@ invariant_of-self-2 c =
     let same : length c.give_signs.new.signs ≡ length s.signs.items =
     omega (arith, c.give_signs.auto.signs, ap length c.deref_mut.ensures.value) in
     rw (with_items_is s.signs c.give_signs.new.signs as_long)
-    (finish_inv s.count (numbered_names s.names) s.log s.signs.items s.closed c.self.invariant
+    (finish_inv s.count s.names s.log s.signs.items s.closed c.self.invariant
     c.give_signs.new.signs same
     (omega (arith, c.self.invariant.few, c.if-self-eq-MAX_DOCUMENTS.false)) (signs_after c)
     c.len-self-inside.result c.len-self-inside.ensures)
@@ -79,18 +78,18 @@ invariant_of-self-2 c =
 pub returns-clause-ok : goal.returns-clause-ok
 returns-clause-ok c =
     let s = c.self.inside in
-    finish_documents s.count (numbered_names s.names) s.log s.signs.items s.closed c.self.invariant
+    finish_documents s.count s.names s.log s.signs.items s.closed c.self.invariant
     ∙ ap (λ (b : Gathered). gathered_documents b ++ open_document b ∷ []) c.self.view_is
 
 pub returns-clause-opened : goal.returns-clause-opened
 returns-clause-opened c =
     let s = c.self.inside in
-    finish_open s.count (numbered_names s.names) s.log s.signs.items s.closed c.self.invariant
+    finish_open s.count s.names s.log s.signs.items s.closed c.self.invariant
 
 pub returns-clause-fits : goal.returns-clause-fits
 returns-clause-fits c mixed =
     let s = c.self.inside in
-    not_mixed s.count (numbered_names s.names) s.log s.signs.items s.closed c.self.invariant
+    not_mixed s.count s.names s.log s.signs.items s.closed c.self.invariant
     c.give_signs.new.signs (signs_after c) mixed
 
 pub returns-clause-full : goal.returns-clause-full

@@ -1,7 +1,6 @@
 use Rattle.std.proofs.Common.{◌<◌, length, subst, sym, ap, ◌∙◌}
 use Rattle.std.proofs.lemmas.Result.{on_ok_weaker}
 use Rattle.agg_segment.specs.Document.{key_of}
-use Rattle.agg_segment.specs.Names.{numbered_names}
 use Rattle.agg_segment.specs.Segment.{Gathered, IsNameOf, with_key}
 use Rattle.agg_segment.specs.Segment.{gathered_documents, open_document}
 use Rattle.agg_segment.proofs.Kept.{on_either}
@@ -11,7 +10,7 @@ use Rattle.agg_segment.proofs.builder.SegmentBuilder.push.Goals as goal
 pub invariant_of-self : goal.invariant_of-self
 invariant_of-self c =
     let s = c.self.inside in
-    let names = numbered_names s.names in
+    let names = s.names in
     let within : c.args.field < length s.signs.items = c.self.invariant.numbered c.requires.0
     c.args.field (subst (λ (b : Gathered). IsNameOf b c.args.field c.requires.0)
     (sym c.self.view_is) c.requires.1) in
@@ -23,7 +22,7 @@ invariant_of-self c =
 pub returns-clause-ok : goal.returns-clause-ok
 returns-clause-ok c =
     let s = c.self.inside in
-    let names = numbered_names s.names in
+    let names = s.names in
     on_ok_weaker c.push.result
     (λ is name at.
     rw is (push_open s.count names s.log s.signs.items s.closed c.self.invariant c.args.field
@@ -35,7 +34,7 @@ returns-clause-ok c =
 pub returns-clause-documents : goal.returns-clause-documents
 returns-clause-documents c =
     let s = c.self.inside in
-    let names = numbered_names s.names in
+    let names = s.names in
     on_either c.push.result c.push.ensures.ok c.push.ensures.err
     (λ is. rw is (push_documents s.count names s.log s.signs.items s.closed c.self.invariant
     c.args.field (key_of c.args.value)) ∙ ap gathered_documents c.self.view_is)

@@ -11,7 +11,7 @@ use Rattle.agg_segment.proofs.dictionary.AddressList.compare.Goals as goal
 
 pub returns-clause-addresses : goal.returns-clause-addresses
 returns-clause-addresses c =
-    let ns = c.self.inside.addresses.items in
+    let ns = c.self.inside.addresses.value.items in
     let zeroth : Address = record { 0 = 0 } in
     let len = length-map ns (λ (n : ℕ). let x : Address = record { 0 = n } in x) in
     let view = ap length c.self.view_is in

@@ -6,9 +6,14 @@ use Rattle.agg_segment.proofs.Places.{keeps_numbers, address_held}
 use Rattle.agg_segment.proofs.dictionary.AddressList.of.Goals as goal
 
 pub invariant_of-result : goal.invariant_of-result
-invariant_of-result c = rw (dedup_is _ _ _ c.dedup.ensures.filtered) (IsStrictlySortedBy-dedup
+invariant_of-result c = rw (c.in_ok-addresses.ensures.ok, dedup_is _ _ _ c.dedup.ensures.filtered)
+    (IsStrictlySortedBy-dedup
     nat_cmp_total unsigned_ties _ c.sort_unstable.ensures.sorted)
 
 pub returns : goal.returns
-returns c k d l = address_held _ _ (rw (dedup_is _ _ _ c.dedup.ensures.filtered)
+returns c k d l = address_held _ _ (rw (
+  c.in_ok-addresses.ensures.ok,
+  dedup_is _ _ _
+      c.dedup.ensures.filtered,
+)
     (keeps_numbers c.args.addresses.items _ c.sort_unstable.ensures.permutation k d l))

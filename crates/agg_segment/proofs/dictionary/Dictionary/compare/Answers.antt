@@ -10,5 +10,5 @@ returns-clause-texts c =
     let len = ap length c.self.view_is in
     rw (← c.self.view_is)
     (c.cmp.ensures ∙ sym (places_ascend name_cmp nat_list_cmp_total exact_bytes
-    c.self.inside.texts.items c.self.invariant c.args.left c.args.right []
+    c.self.inside.texts.value.items c.self.invariant c.args.left c.args.right []
     (omega (arith, len, c.requires.left)) (omega (arith, len, c.requires.right))))

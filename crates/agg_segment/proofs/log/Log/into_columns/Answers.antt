@@ -1,13 +1,14 @@
 use Rattle.std.proofs.Common.{ℕ, List, length, map, sym, ap, subst, ◌∙◌}
-use Rattle.std.proofs.lemmas.List.Sorted.{All-permutation, IsPermutation-map, IsPermutation-sym}
-use Rattle.std.proofs.lemmas.List.Sorted.{Contains-permutation}
+use Rattle.std.proofs.lemmas.List.Sorted.{All-permutation}
 use Rattle.std.proofs.lemmas.Result.{IfOk-weaker}
 use Rattle.agg_values.specs.declared.address.Address.{Address}
 use Rattle.agg_segment.specs.Document.{by_class}
 use Rattle.agg_segment.specs.Cells.{placed, keys_at, IsKept}
-use Rattle.agg_segment.specs.Signs.{IsUnmixed}
+use Rattle.agg_segment.specs.Signs.{key_mark, AreSigns}
 use Rattle.agg_segment.specs.declared.log.Cell.{Cell}
 use Rattle.agg_segment.proofs.Columned.{sorted_keys}
+use Rattle.agg_segment.proofs.Kept.{marks_are}
+use Rattle.agg_segment.proofs.RunSigns.{signs_moved}
 use Rattle.agg_segment.proofs.log.Log.into_columns.Goals as goal
 
 pub cut-requires-clause-sorted : goal.cut-requires-clause-sorted
@@ -20,17 +21,13 @@ cut-requires-clause-kept c =
     (length c.self.inside.addresses.items) d.value) c.self.inside.cells.items
     c.sort.new.cells.items c.in_ok-sort.ensures.permutation c.self.invariant)
 
-pub cut-requires-clause-unmixed : goal.cut-requires-clause-unmixed
-cut-requires-clause-unmixed c =
-    let one = placed c.self.inside.texts c.self.inside.addresses.items in
+pub cut-requires-clause-signs : goal.cut-requires-clause-signs
+cut-requires-clause-signs c =
     let old = c.self.inside.cells.items in
-    let new = c.sort.new.cells.items in
-    let unmixed : IsUnmixed (map one old) = subst IsUnmixed (sym c.self.view_is) c.requires in
-    let back = IsPermutation-sym (map one old) (map one new) (IsPermutation-map one old new
-    c.in_ok-sort.ensures.permutation) in
-    rw (c.deref-2.ensures.value, c.as_slice.ensures, c.forget_places.ensures, c.deref.ensures.value)
-    (λ p q has_p has_q. unmixed p q (Contains-permutation (map one new) (map one old) p back has_p)
-    (Contains-permutation (map one new) (map one old) q back has_q))
+    let are = marks_are c.self.inside.texts c.self.inside.addresses.items old
+    ∙ ap (map key_mark) c.self.view_is in
+    rw c.deref-2.ensures.value (signs_moved c.args.signs.now old c.sort.new.cells.items
+    c.in_ok-sort.ensures.permutation (subst (AreSigns c.args.signs.now) (sym are) c.requires))
 
 pub returns-clause-keys : goal.returns-clause-keys
 returns-clause-keys c =

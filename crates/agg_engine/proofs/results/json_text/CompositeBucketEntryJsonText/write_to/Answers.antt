@@ -6,19 +6,22 @@ use Rattle.agg_engine.specs.ResultsText.{braced, member_text}
 use Rattle.agg_engine.proofs.results.json_text.CompositeBucketEntryJsonText.write_to.Goals as goal
 
 -- the number of occurrences, then the key, then the brace
-bucket-written : (before head keyed after count key : List ℕ)
-    → head ≡ before ++ (codes "{\"doc_count\":" ++ (count ++ codes ",\"key\":"))
-    → keyed ≡ head ++ key
+bucket-written : (before opened counted named keyed after count key : List ℕ)
+    → opened ≡ before ++ codes "{\"doc_count\":"
+    → counted ≡ opened ++ count
+    → named ≡ counted ++ codes ",\"key\":"
+    → keyed ≡ named ++ key
     → after ≡ keyed ++ 125 ∷ []
     → after ≡ before ++ braced (member_text (codes "doc_count") count ∷ member_text (codes "key")
     key ∷ [])
 unfolding escape_byte
-bucket-written before head keyed after count key h k a =
-    rw (a, k, h, append_assoc count (44 ∷ member_text (codes "key") key) (125 ∷ []))
+bucket-written before opened counted named keyed after count key o c n k a =
+    rw (a, k, n, c, o, append_assoc count (44 ∷ member_text (codes "key") key) (125 ∷ []))
     (simp append_assoc)
 
 pub returns : goal.returns
 returns c =
     let brace = c.in_ok-push.ensures.bytes ∙ ap (λ byte. string_bytes c.write_object.new.text ++
     byte) (c.in_ok-push.ensures.ascii (omega arith)) in
-    bucket-written _ _ _ _ _ _ c.in_ok-write.ensures.bytes c.in_ok-write_object.ensures brace
+    bucket-written _ _ _ _ _ _ _ _ c.in_ok-push_str.ensures.bytes c.in_ok-write_number.ensures
+    c.in_ok-push_str-2.ensures.bytes c.in_ok-write_object.ensures brace
