@@ -1,6 +1,9 @@
 //! How a program of one's own takes pages: the input stands in memory, and so does what is written.
 #![tactic(auto)]
 
+#[cfg(test)]
+mod tests;
+
 ghost use Rattle.std.specs.Prelude.{IfOk};
 ghost use Rattle.agg_pages.specs.Answer.{IsPrintedWalk};
 ghost use Rattle.agg_pages.specs.Input.{Input, IsInput};
