@@ -4,7 +4,7 @@
 #[cfg(test)]
 mod tests;
 
-ghost use Rattle.std.specs.Prelude.{IfOk};
+ghost use Rattle.std.specs.Prelude.{◌≢◌, IfErr, IfOk};
 ghost use Rattle.agg_pages.specs.Answer.{IsPrintedWalk};
 ghost use Rattle.agg_pages.specs.Input.{Input, IsInput};
 
@@ -40,8 +40,9 @@ fn show_sales<W: Sink>(alloc: Global, out: &mut W) -> Result<(), Status> {
 
 // The printed pages of an input, or the status where it has none.
 fn pages_of(alloc: Global, bytes: Vec<u8>) -> Result<MemorySink, Status>
-    ensures { IfOk result
+    ensures pages { IfOk result
         (λ sink. (i : Input) × IsInput bytes.items i × IsPrintedWalk i sink.bytes) }
+    ensures status { IfErr result (λ status. status ≢ Status.Ok) }
 {
     let words = [Text::copy_of(alloc, "walk")?];
     let mut source = SteadySource::new(bytes);

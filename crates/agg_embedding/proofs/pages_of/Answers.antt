@@ -3,8 +3,8 @@ use Rattle.agg_pages.specs.Answer.{IsPrintedWalk}
 use Rattle.agg_pages.specs.Input.{IsInput}
 use Rattle.agg_embedding.proofs.pages_of.Goals as goal
 
-pub returns-in-Ok : goal.returns-in-Ok
-returns-in-Ok c =
+pub returns-in-Ok-clause-pages : goal.returns-in-Ok-clause-pages
+returns-in-Ok-clause-pages c =
     let (i, (given, gives, reads), (text, walk, appended)) =
     c.run_uncounted.ensures.ok c.in-Ok.is in
     let told : given ≡ c.args.bytes.items =
