@@ -8,7 +8,7 @@ use Rattle.std.specs.Str.{bytes_eq}
 use Rattle.std.specs.List.{All, Contains, range_with_len}
 use Rattle.std.proofs.lemmas.Bool.{cases_eq, cases_lt, cases_Bool, eq-eqb}
 use Rattle.std.proofs.lemmas.Bool.Decides.{nat_tests}
-use Rattle.std.proofs.lemmas.List.{take-append-drop, take_all, drop_all, get_or_past, length-map}
+use Rattle.std.proofs.lemmas.List.{take-append-drop, get_or_past, length-map}
 use Rattle.std.proofs.lemmas.List.Elements.{All-append, All-weaker, All-contains}
 use Rattle.std.proofs.lemmas.List.FromFn.{map-range_with_len_more, length-range_with_len}
 use Rattle.std.proofs.lemmas.List.Sorted.{Contains-permutation, IsPermutation-sym}
@@ -16,20 +16,19 @@ use Rattle.std.specs.Cmp.Lexicographic.{nat_list_eq_equiv}
 use Rattle.agg_values.specs.TypedKey.{CompositeIntermediateKey}
 use Rattle.agg_segment.specs.Document.{Fields, by_class}
 use Rattle.agg_segment.specs.Cells.{Placed, is_at, keys_at, number_of}
-use Rattle.agg_segment.specs.Signs.{key_mark, sign_of, IsFieldSign, AreSigns, HasBoth, IsUnmixed}
+use Rattle.agg_segment.specs.Signs.{key_mark, sign_of, IsFieldSign, AreSigns, HasBoth}
 use Rattle.agg_segment.specs.Segment.{Stored, Gathered, IsNameOf, gathered_fields}
-use Rattle.agg_segment.specs.Segment.{gathered_documents, open_document, no_fields, document_at}
+use Rattle.agg_segment.specs.Segment.{gathered_documents, open_document, document_at}
 use Rattle.agg_segment.specs.Segment.{documents_of, IsGathered, IsMixed, HasSign}
 use Rattle.agg_segment.specs.Columns.{StoredColumn, column_cells}
 use Rattle.agg_segment.specs.declared.signs.Sign.{Sign}
 use Rattle.agg_segment.specs.declared.signs.Sign.TheVariants.{Small, Negative, Large}
-use Rattle.agg_segment.specs.declared.builder.TheConstants.{MAX_DOCUMENTS}
 use Rattle.agg_segment.proofs.Places.{same_texts}
 use Rattle.agg_segment.proofs.Classes.{by_class_nil, by_class_moves}
 use Rattle.agg_segment.proofs.Members.{contains_map, from_map, contains_flat, from_flat}
 use Rattle.agg_segment.proofs.Members.{contains_filter, from_filter, in_range, none_of}
-use Rattle.agg_segment.proofs.Gatherings.{keys_none, keys_no_field, no_keys_open, map_same}
-use Rattle.agg_segment.proofs.Gatherings.{ended_keys}
+use Rattle.agg_segment.proofs.InTheMaking.{keys_no_field, map_same}
+use Rattle.agg_segment.proofs.InTheMaking.{ended_keys}
 
 -- what a field has not is small
 pub padded : (signs : List Sign) (i : ℕ) → get_or (signs ++ Small ∷ []) i Small
@@ -43,24 +42,10 @@ pub documents_count : (b : Gathered) → length (gathered_documents b) ≡ b.cou
 documents_count b = length-map (range_with_len 0 b.count) (gathered_fields b)
     ∙ length-range_with_len 0 b.count
 
--- signs that are right for numbers are right for no field with both
-pub unmixed_marks : (signs : List Sign) (cells : List Placed) → AreSigns signs (map key_mark cells)
-    → IsUnmixed cells
-unmixed_marks signs cells are p q has_p has_q same low high =
-    let at_p : get_or signs p.field Small ≡ sign_of p.key = All-contains (IsFieldSign signs)
-    (map key_mark cells) (key_mark p) are.0 (contains_map key_mark cells p has_p) (λ small.
-    let both : Negative ≡ Small = sym low ∙ small in cc) in
-    let at_q : get_or signs q.field Small ≡ sign_of q.key = All-contains (IsFieldSign signs)
-    (map key_mark cells) (key_mark q) are.0 (contains_map key_mark cells q has_q) (λ small.
-    let both : Large ≡ Small = sym high ∙ small in cc) in
-    let both : Negative ≡ Large = sym low ∙ sym at_p ∙ ap (λ f. get_or signs f Small) same ∙ at_q
-    ∙ high in
-    cc
-
 module _ (count : ℕ) (names : List (List ℕ × ℕ)) (cells : List Placed) (given : List Sign)
     (closed : ℕ) (inv : IsGathered (record { count = count; names = names; cells = cells }) given
     closed) where
-  all_docs : All (λ p. p.doc < count + 1) cells
+  pub all_docs : All (λ p. p.doc < count + 1) cells
   all_docs =
       subst (All (λ (p : Placed). p.doc < count + 1)) (take-append-drop closed cells)
       (All-append (λ (p : Placed). p.doc < count + 1) (take closed cells) (drop closed cells)
@@ -84,30 +69,6 @@ module _ (count : ℕ) (names : List (List ℕ × ℕ)) (cells : List Placed) (g
         names;
     cells = cells;
   })) 0 count count (omega arith)
-
-  pub finish_open : open_document (record { count = count + 1; names = names; cells = cells })
-      ≡ no_fields
-  finish_open = no_keys_open names cells (count + 1) (count + 1) (λ field. keys_none cells field
-      (count + 1) (All-weaker (λ (p : Placed). p.doc < count + 1) (λ p. p.doc ≢ count + 1)
-      (λ p l same. omega (arith, l, same)) cells all_docs))
-
-  pub finish_inv : (signs : List Sign) → length signs ≡ length given → count < MAX_DOCUMENTS
-      → AreSigns signs (map key_mark cells) → (len : ℕ) → len ≡ length cells
-      → IsGathered (record { count = count + 1; names = names; cells = cells }) signs len
-  finish_inv signs as_long few are len is =
-      let whole : take len cells ≡ cells = take_all len cells (omega (arith, is)) in
-      let rest : drop len cells ≡ [] = drop_all len cells (omega (arith, is)) in
-      record {
-        few = omega (arith, few);
-        within = omega (arith, is);
-        before = rw whole all_docs;
-        behind = rw rest (λ i d l. absurd (omega (arith, l)));
-        numbered = λ name field at. omega (arith, as_long, inv.numbered name field at);
-        apart = inv.apart;
-        named = λ field l. inv.named field (omega (arith, l, as_long));
-        fields = rw as_long inv.fields;
-        signs = rw whole are;
-      }
 
   -- ---- numbers of both signs
 

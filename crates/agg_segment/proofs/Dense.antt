@@ -1,17 +1,15 @@
 -- Where the numbers of each document end, for all documents up to the last.
 use Rattle.std.proofs.Common.{◌≡◌, ◌≢◌, ◌+◌, ◌-◌, ◌<◌, ◌≤◌, ℕ, zero, suc, List, [], ◌∷◌, ◌++◌}
-use Rattle.std.proofs.Common.{length, get_or, take, map, refl, sym, ap, subst, ◌∙◌, arith}
-use Rattle.std.proofs.Common.{replicate, length-append, inl, inr, true}
-use Rattle.std.proofs.lemmas.List.{length-map, get_or-map, get_or_default}
+use Rattle.std.proofs.Common.{length, get_or, take, refl, sym, ap, subst, ◌∙◌, arith}
+use Rattle.std.proofs.Common.{replicate, length-append, inl, inr}
+use Rattle.std.proofs.lemmas.List.{get_or_default}
 use Rattle.std.proofs.lemmas.List.{take_all}
 use Rattle.std.proofs.lemmas.Bool.{cases_lt}
 use Rattle.std.specs.List.{All, zip, slice_range}
-use Rattle.std.specs.List.Sorted.{IsNonDecreasingBy}
+use Rattle.std.specs.List.Sorted.{IsNonDecreasing}
 use Rattle.agg_segment.specs.Columns.{numbers_at}
 use Rattle.agg_segment.specs.Rows.{listed_docs, last_end, start_at, numbered, AreEnds, AreEndsOf}
 use Rattle.agg_segment.specs.declared.rows.DocEnd.{DocEnd}
-use Rattle.agg_segment.specs.declared.log.Cell.{Cell}
-use Rattle.agg_segment.specs.declared.log.CellValue.TheVariants as cell
 use Rattle.agg_segment.proofs.Layouts.{listed_found, listed_absent, listed_more, last_more}
 use Rattle.agg_segment.proofs.Layouts.{ends_more, ends_within, run_more, start_is}
 
@@ -86,21 +84,21 @@ dense_none ends numbers doc l = sym (listed_absent (numbered 0 ends) numbers doc
     (λ i d in'. let below : (get_or (numbered 0 ends) i d).doc < doc =
     numbered_below 0 ends doc (omega (arith, l)) i d in' in λ same. omega (arith, below, same)))
 
--- what is true after some documents: the ends are of cells up to a place, and those behind it are
--- of later documents
-pub record AreSoFar (cells : List Cell) (doc at : ℕ) (ends : List ℕ) : Type 0 where
+-- what is true after some documents: the ends are of documents up to a place, and those behind it
+-- are of later documents
+pub record AreSoFar (docs : List ℕ) (doc at : ℕ) (ends : List ℕ) : Type 0 where
   pub each : length ends ≡ doc
-  pub within : at ≤ length cells
-  pub docs : listed_docs 0 (numbered 0 ends) ≡ take at (map (λ c. c.doc) cells)
+  pub within : at ≤ length docs
+  pub listed : listed_docs 0 (numbered 0 ends) ≡ take at docs
   pub rise : AreEnds 0 (numbered 0 ends)
   pub all : last_end 0 (numbered 0 ends) ≡ at
-  pub behind : (d : Cell) → at < length cells → doc ≤ (get_or cells at d).doc
+  pub behind : (d : ℕ) → at < length docs → doc ≤ get_or docs at d
 
-module _ (cells : List Cell) (rising : IsNonDecreasingBy (λ c. c.doc) cells) (doc from to : ℕ)
-    (ends : List ℕ) (so_far : AreSoFar cells doc from ends) (up : from ≤ to)
-    (within : to ≤ length cells)
-    (same : (k : ℕ) (d : Cell) → from ≤ k → k < to → (get_or cells k d).doc ≡ doc)
-    (other : (d : Cell) → to < length cells → (get_or cells to d).doc ≢ doc) where
+module _ (docs : List ℕ) (rising : IsNonDecreasing docs) (doc from to : ℕ)
+    (ends : List ℕ) (so_far : AreSoFar docs doc from ends) (up : from ≤ to)
+    (within : to ≤ length docs)
+    (same : (k d : ℕ) → from ≤ k → k < to → get_or docs k d ≡ doc)
+    (other : (d : ℕ) → to < length docs → get_or docs to d ≢ doc) where
   -- the end of the document
   abbrev end : DocEnd
   end = record { doc = doc; end = to }
@@ -108,71 +106,64 @@ module _ (cells : List Cell) (rising : IsNonDecreasingBy (λ c. c.doc) cells) (d
   more : numbered 0 (ends ++ to ∷ []) ≡ numbered 0 ends ++ end ∷ []
   more = numbered_more 0 ends end (omega (arith, so_far.each))
 
-  step_docs : listed_docs 0 (numbered 0 ends ++ end ∷ []) ≡ take to (map (λ c. c.doc) cells)
+  step_docs : listed_docs 0 (numbered 0 ends ++ end ∷ []) ≡ take to docs
   step_docs =
-      let ds : List ℕ = map (λ c. c.doc) cells in
-      let len : length ds ≡ length cells = length-map cells (λ c. c.doc) in
       let there : from + (to - from) ≡ to = omega (arith, up) in
-      let none : Cell = record { field = 0; doc = 0; value = cell.Bool true } in
       listed_more 0 (numbered 0 ends) end
       ∙ ap (λ s. listed_docs 0 (numbered 0 ends) ++ replicate (to - s) doc) so_far.all
-      ∙ ap (λ r. r ++ replicate (to - from) doc) so_far.docs
-      ∙ sym (run_more ds from (to - from) doc (omega (arith, len, within, up)) (λ k low high.
-      get_or-map (λ (c : Cell). c.doc) cells k none 0 (omega (arith, high, within, up))
-      ∙ same k none low (omega (arith, high, up))))
-      ∙ ap (λ k. take k ds) there
+      ∙ ap (λ r. r ++ replicate (to - from) doc) so_far.listed
+      ∙ sym (run_more docs from (to - from) doc (omega (arith, within, up)) (λ k low high.
+      same k 0 low (omega (arith, high, up))))
+      ∙ ap (λ k. take k docs) there
 
-  behind : (d : Cell) → to < length cells → doc + 1 ≤ (get_or cells to d).doc
+  behind : (d : ℕ) → to < length docs → doc + 1 ≤ get_or docs to d
   behind d l =
-      let first : doc ≤ (get_or cells from d).doc = so_far.behind d (omega (arith, l, up)) in
-      let then : (get_or cells from d).doc ≤ (get_or cells to d).doc = rising from to d up l in
-      let apart : (get_or cells to d).doc ≢ doc = other d l in
+      let first : doc ≤ get_or docs from d = so_far.behind d (omega (arith, l, up)) in
+      let then : get_or docs from d ≤ get_or docs to d = rising from to d up l in
+      let apart : get_or docs to d ≢ doc = other d l in
       omega (arith, first, then, apart)
 
-  pub next_doc : AreSoFar cells (doc + 1) to (ends ++ to ∷ [])
+  pub next_doc : AreSoFar docs (doc + 1) to (ends ++ to ∷ [])
   next_doc = record {
     each = length-append ends (to ∷ []) ∙ ap (λ k. k + 1) so_far.each;
     within = within;
-    docs = ap (listed_docs 0) more ∙ step_docs;
+    listed = ap (listed_docs 0) more ∙ step_docs;
     rise = subst (AreEnds 0) (sym more) (ends_more 0 (numbered 0 ends) end so_far.rise
         (numbered_below 0 ends doc (omega (arith, so_far.each))) (omega (arith, so_far.all, up)));
     all = ap (last_end 0) more ∙ last_more 0 (numbered 0 ends) end;
     behind = behind;
   }
 
--- at the end all cells are behind
-at_end : (cells : List Cell) (doc count at : ℕ) (ends : List ℕ) → AreSoFar cells doc at ends
-    → count ≤ doc → All (λ c. c.doc < count) cells → at ≡ length cells
-at_end cells doc count at ends so_far past all = elim (cases_lt at (length cells)) [
+-- at the end all documents are behind
+at_end : (docs : List ℕ) (doc count at : ℕ) (ends : List ℕ) → AreSoFar docs doc at ends
+    → count ≤ doc → All (λ doc. doc < count) docs → at ≡ length docs
+at_end docs doc count at ends so_far past all = elim (cases_lt at (length docs)) [
   | inl left ↦
-      let none : Cell = record { field = 0; doc = 0; value = cell.Bool true } in
-      let low : doc ≤ (get_or cells at none).doc = so_far.behind none left in
-      let high : (get_or cells at none).doc < count = all at none left in
+      let low : doc ≤ get_or docs at 0 = so_far.behind 0 left in
+      let high : get_or docs at 0 < count = all at 0 left in
       absurd (omega (arith, low, high, past))
   | inr end ↦ omega (arith, end, so_far.within)
 ]
 
-pub docs_at_end : (cells : List Cell) (doc count at : ℕ) (ends : List ℕ)
-    → AreSoFar cells doc at ends → count ≤ doc → All (λ c. c.doc < count) cells
-    → listed_docs 0 (numbered 0 ends) ≡ map (λ c. c.doc) cells
-docs_at_end cells doc count at ends so_far past all =
-    let ds : List ℕ = map (λ c. c.doc) cells in
-    let whole : at ≡ length ds = at_end cells doc count at ends so_far past all
-    ∙ sym (length-map cells (λ c. c.doc)) in
-    so_far.docs ∙ ap (λ k. take k ds) whole ∙ take_all (length ds) ds (omega arith)
+pub docs_at_end : (docs : List ℕ) (doc count at : ℕ) (ends : List ℕ)
+    → AreSoFar docs doc at ends → count ≤ doc → All (λ doc. doc < count) docs
+    → listed_docs 0 (numbered 0 ends) ≡ docs
+docs_at_end docs doc count at ends so_far past all =
+    let whole : at ≡ length docs = at_end docs doc count at ends so_far past all in
+    so_far.listed ∙ ap (λ k. take k docs) whole ∙ take_all (length docs) docs (omega arith)
 
-pub ends_at_end : (cells : List Cell) (doc count at : ℕ) (ends : List ℕ)
-    → AreSoFar cells doc at ends → count ≤ doc → All (λ c. c.doc < count) cells
-    → AreEndsOf (numbered 0 ends) (length cells)
-ends_at_end cells doc count at ends so_far past all =
-    (so_far.rise, so_far.all ∙ at_end cells doc count at ends so_far past all)
+pub ends_at_end : (docs : List ℕ) (doc count at : ℕ) (ends : List ℕ)
+    → AreSoFar docs doc at ends → count ≤ doc → All (λ doc. doc < count) docs
+    → AreEndsOf (numbered 0 ends) (length docs)
+ends_at_end docs doc count at ends so_far past all =
+    (so_far.rise, so_far.all ∙ at_end docs doc count at ends so_far past all)
 
-pub last_is_greatest : (cells : List Cell) (rising : IsNonDecreasingBy (λ c. c.doc) cells)
-    (d : Cell) → 0 < length cells
-    → All (λ c. c.doc < (get_or cells (length cells - 1) d).doc + 1) cells
-last_is_greatest cells rising d some i e l =
-    let up : (get_or cells i e).doc ≤ (get_or cells (length cells - 1) e).doc =
-    rising i (length cells - 1) e (omega (arith, l)) (omega (arith, some)) in
-    let same : (get_or cells (length cells - 1) e).doc ≡ (get_or cells (length cells - 1) d).doc =
-    ap (λ (c : Cell). c.doc) (get_or_default cells (length cells - 1) e d (omega (arith, some))) in
+pub last_is_greatest : (docs : List ℕ) (rising : IsNonDecreasing docs)
+    (d : ℕ) → 0 < length docs
+    → All (λ doc. doc < get_or docs (length docs - 1) d + 1) docs
+last_is_greatest docs rising d some i e l =
+    let up : get_or docs i e ≤ get_or docs (length docs - 1) e =
+    rising i (length docs - 1) e (omega (arith, l)) (omega (arith, some)) in
+    let same : get_or docs (length docs - 1) e ≡ get_or docs (length docs - 1) d =
+    get_or_default docs (length docs - 1) e d (omega (arith, some)) in
     omega (arith, up, same)

@@ -1,23 +1,20 @@
 -- Numbers of one buffer, and the documents that they are of.
 use Rattle.std.proofs.Common.{◌≡◌, ◌≢◌, ◌+◌, ◌-◌, ◌<◌, ◌≤◌, ℕ, zero, suc, List, [], ◌∷◌, ◌++◌}
-use Rattle.std.proofs.Common.{length, get_or, take, drop, map, true, false, refl, sym, ap}
+use Rattle.std.proofs.Common.{length, get_or, take, drop, true, false, refl, sym, ap}
 use Rattle.std.proofs.Common.{subst, ◌∙◌, inl, inr, arith}
 use Rattle.std.proofs.Common.{replicate}
 use Rattle.std.proofs.lemmas.List.{drop-drop, append-nil, append_assoc}
 use Rattle.std.proofs.lemmas.List.{take_more}
-use Rattle.std.proofs.lemmas.List.{get_or_default, map_more, replicate_more}
-use Rattle.std.proofs.lemmas.List.{length-map, get_or-map}
+use Rattle.std.proofs.lemmas.List.{get_or_default, replicate_more}
 use Rattle.std.proofs.lemmas.Bool.{eq-eqb, ne_eqb, cases_eq, cases_lt}
 use Rattle.std.proofs.lemmas.List.Elements.{All-push, All-tail, All-head}
 use Rattle.std.specs.List.{All, zip, range_with_len, slice_range}
 use Rattle.agg_segment.specs.Columns.{numbers_at}
 use Rattle.agg_segment.specs.Rows.{listed_docs, last_end, start_at, AreEnds}
-use Rattle.std.specs.List.Sorted.{IsNonDecreasingBy}
+use Rattle.std.specs.List.Sorted.{IsNonDecreasingBy, IsNonDecreasing}
 use Rattle.std.specs.Prelude.{nat_lt}
 use borrow.Author.Tests.{ltb-true, ltb-false}
 use Rattle.agg_segment.specs.declared.rows.DocEnd.{DocEnd}
-use Rattle.agg_segment.specs.declared.log.Cell.{Cell}
-use Rattle.agg_segment.specs.declared.log.CellValue.TheVariants as cell
 
 -- ---- one document's numbers in front
 
@@ -249,14 +246,6 @@ pub number_of_none : (ns : List ℕ) (doc : ℕ) → length ns ≤ doc
 number_of_none ns doc l = let same : 0 + doc ≡ doc = omega arith in sym (one_past 0 ns doc l)
     ∙ ap (numbers_at (zip (range_with_len 0 (length ns)) ns)) same
 
-pub one_each_more : (cells : List Cell) (at : ℕ) (d : Cell) → at < length cells
-    → (get_or cells at d).doc ≡ at → map (λ c. c.doc) (take at cells) ≡ range_with_len 0 at
-    → map (λ c. c.doc) (take (at + 1) cells) ≡ range_with_len 0 (at + 1)
-one_each_more cells at d l same so_far =
-    let there : (get_or cells at d).doc ≡ 0 + at = omega (arith, same) in
-    map_more (λ c. c.doc) cells at d l ∙ ap (λ r. r ++ (get_or cells at d).doc ∷ []) so_far
-    ∙ ap (λ k. range_with_len 0 at ++ k ∷ []) there ∙ sym (range_more 0 at)
-
 -- ---- steps of the loops
 
 pub docs_rise : (ends : List DocEnd) → AreEnds 0 ends → IsNonDecreasingBy (λ e. e.doc) ends
@@ -281,54 +270,39 @@ nothing_at ends doc at d are before behind other numbers =
     let apart : (get_or ends at e).doc ≢ doc = λ is. other within (sym same ∙ is) in
     omega (arith, up, apart)))
 
-module _ (cells : List Cell) (rising : IsNonDecreasingBy (λ c. c.doc) cells) (ends : List DocEnd)
-    (from to : ℕ) (x : DocEnd) (low : from < to) (within : to ≤ length cells) (end : x.end ≡ to)
-    (here : (d : Cell) → x.doc ≡ (get_or cells from d).doc)
-    (same : (k : ℕ) (d : Cell) → from ≤ k → k < to
-    → (get_or cells k d).doc ≡ (get_or cells from d).doc)
-    (other : (d : Cell) → to < length cells → (get_or cells to d).doc ≢ (get_or cells from d).doc)
-    (all : last_end 0 ends ≡ from) (below : (d : Cell) → from < length cells
-    → All (λ e. e.doc < (get_or cells from d).doc) ends) where
-  pub step_docs : listed_docs 0 ends ≡ take from (map (λ c. c.doc) cells)
-      → listed_docs 0 (ends ++ x ∷ []) ≡ take to (map (λ c. c.doc) cells)
-  step_docs docs =
-      let ds : List ℕ = map (λ c. c.doc) cells in
-      let len : length ds ≡ length cells = length-map cells (λ c. c.doc) in
+module _ (docs : List ℕ) (rising : IsNonDecreasing docs) (ends : List DocEnd)
+    (from to : ℕ) (x : DocEnd) (low : from < to) (within : to ≤ length docs) (end : x.end ≡ to)
+    (here : (d : ℕ) → x.doc ≡ get_or docs from d)
+    (same : (k d : ℕ) → from ≤ k → k < to → get_or docs k d ≡ get_or docs from d)
+    (other : (d : ℕ) → to < length docs → get_or docs to d ≢ get_or docs from d)
+    (all : last_end 0 ends ≡ from) (below : (d : ℕ) → from < length docs
+    → All (λ e. e.doc < get_or docs from d) ends) where
+  pub step_docs : listed_docs 0 ends ≡ take from docs
+      → listed_docs 0 (ends ++ x ∷ []) ≡ take to docs
+  step_docs listed =
       let there : from + (to - from) ≡ to = omega arith in
-      let none : Cell = get_or cells 0 (get_or cells 0 (record {
-        field = 0;
-        doc = 0;
-        value =
-            cell.Bool true;
-      })) in
       listed_more 0 ends x ∙ ap (λ e. listed_docs 0 ends ++ replicate (e - last_end 0 ends) x.doc)
       end ∙ ap (λ s. listed_docs 0 ends ++ replicate (to - s) x.doc) all
-      ∙ ap (λ r. r ++ replicate (to - from) x.doc) docs
-      ∙ sym (run_more ds from (to - from) x.doc (omega (arith, len)) (λ k up high.
-      get_or-map (λ (c : Cell). c.doc) cells k none 0 (omega (arith, high, within))
-      ∙ same k none up (omega (arith, high)) ∙ sym (here none)))
-      ∙ ap (λ k. take k ds) there
+      ∙ ap (λ r. r ++ replicate (to - from) x.doc) listed
+      ∙ sym (run_more docs from (to - from) x.doc (omega arith) (λ k up high.
+      same k 0 up (omega (arith, high)) ∙ sym (here 0)))
+      ∙ ap (λ k. take k docs) there
 
   pub step_rise : AreEnds 0 ends → AreEnds 0 (ends ++ x ∷ [])
   step_rise rise =
-      ends_more 0 ends x rise (λ k e l. let none : Cell = record {
-        field = 0;
-        doc = 0;
-        value =
-            cell.Bool true;
-      } in subst (λ doc. (get_or ends k e).doc < doc) (sym (here none))
-      (below none (omega arith) k e l))
+      ends_more 0 ends x rise (λ k e l. subst (λ doc. (get_or ends k e).doc < doc) (sym (here 0))
+      (below 0 (omega arith) k e l))
       (omega (arith, all, end))
 
   pub step_all : last_end 0 (ends ++ x ∷ []) ≡ to
   step_all = last_more 0 ends x ∙ end
 
-  pub step_below : (d : Cell) → to < length cells
-      → All (λ e. e.doc < (get_or cells to d).doc) (ends ++ x ∷ [])
+  pub step_below : (d : ℕ) → to < length docs
+      → All (λ e. e.doc < get_or docs to d) (ends ++ x ∷ [])
   step_below d more =
-      let up : (get_or cells from d).doc ≤ (get_or cells to d).doc = rising from to d (omega arith)
+      let up : get_or docs from d ≤ get_or docs to d = rising from to d (omega arith)
       more in
-      let apart : (get_or cells to d).doc ≢ (get_or cells from d).doc = other d more in
-      let above : (get_or cells from d).doc < (get_or cells to d).doc = omega (arith, up, apart) in
-      All-push (λ e. e.doc < (get_or cells to d).doc) ends x (λ k e l.
+      let apart : get_or docs to d ≢ get_or docs from d = other d more in
+      let above : get_or docs from d < get_or docs to d = omega (arith, up, apart) in
+      All-push (λ e. e.doc < get_or docs to d) ends x (λ k e l.
       omega (arith, below d (omega arith) k e l, above)) (omega (arith, here d, above))

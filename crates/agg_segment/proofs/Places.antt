@@ -11,13 +11,13 @@ use Rattle.std.specs.List.Sorted.{IsStrictlySortedBy, IsSortedBy, IsNonDecreasin
 use Rattle.std.specs.List.Sorted.{IsPartitionPoint, IsPermutation}
 use Rattle.std.proofs.lemmas.List.Kept.{Contains-dedup_nat}
 use Rattle.std.proofs.lemmas.Bool.{cases_lt}
-use Rattle.std.proofs.lemmas.Cmp.{tied_itself, ranked, by_ranked}
+use Rattle.std.proofs.lemmas.Cmp.{nat_cmp_total, tied_itself, ranked, by_ranked}
 use Rattle.std.proofs.lemmas.List.{get_or_default, get_or-map, length-map}
 use Rattle.std.proofs.lemmas.List.Sorted.{searchable_from_sorted, Contains-permutation}
 use Rattle.std.proofs.lemmas.Map.Keys.{Less-from_sorted}
-use Rattle.std.proofs.lemmas.Map.Lookups.{exact_bytes}
+use Rattle.std.proofs.lemmas.Map.Lookups.{exact_bytes, exact_unsigned}
 use Rattle.agg_values.specs.declared.address.Address.{Address}
-use Rattle.agg_segment.specs.Dictionary.{address_cmp, IsHit, IsBelowUpTo}
+use Rattle.agg_segment.specs.Dictionary.{address_cmp, AreInPlaceOrder, IsHit, IsBelowUpTo}
 use Rattle.agg_segment.specs.declared.hit.OrdHit.{OrdHit}
 use Rattle.agg_segment.specs.declared.hit.OrdHit.TheVariants.{Exact, Next, AfterLast}
 
@@ -150,3 +150,13 @@ number_held ns a (k, l, is) =
     let len = length-map ns (λ (n : ℕ). let x : Address = record { 0 = n } in x) in
     let in' : k < length ns = omega (arith, l, len) in
     (k, in', ap (λ (b : Address). b.0) (sym (address_read ns k a in') ∙ is))
+
+-- addresses by number are in the order of their places
+pub addresses_ascend : (ns : List ℕ) → IsStrictlySortedBy nat_cmp ns
+    → AreInPlaceOrder address_cmp (addresses ns) (record { 0 = 0 })
+addresses_ascend ns sorted left right in_left in_right =
+    let len = length-map ns (λ (n : ℕ). let x : Address = record { 0 = n } in x) in
+    let l : left < length ns = omega (arith, len, in_left) in
+    let r : right < length ns = omega (arith, len, in_right) in
+    rw (address_read ns left (record { 0 = 0 }) l, address_read ns right (record { 0 = 0 }) r)
+    (places_ascend nat_cmp nat_cmp_total exact_unsigned ns sorted left right 0 l r)

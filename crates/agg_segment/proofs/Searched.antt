@@ -16,7 +16,7 @@ use Rattle.agg_segment.specs.Cells.{Placed, is_at, keys_at}
 use Rattle.agg_segment.specs.Columns.{StoredColumn, column_cells, column_keys, all_keys}
 use Rattle.agg_segment.specs.Columns.{numbers_at, encoded_key, keys_rank, IsColumnBefore}
 use Rattle.agg_segment.specs.Columns.{AreInOrder, ClassesAscend}
-use Rattle.agg_segment.proofs.Gatherings.{keys_split}
+use Rattle.agg_segment.proofs.InTheMaking.{keys_split}
 use Rattle.agg_segment.proofs.Kept.{filter_map_is}
 
 -- ---- a part of a list that holds what passes

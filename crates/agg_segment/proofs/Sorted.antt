@@ -1,36 +1,29 @@
--- Cells that are sorted by field, class and document.
+-- Columns that are sorted by field and class.
 use Rattle.std.proofs.Common.{◌≡◌, ◌≢◌, ◌+◌, ◌≤◌, ℕ, List, get_or, Ordering}
-use Rattle.std.proofs.Common.{true, false, refl, sym, ap, ◌∙◌, cond, []}
-use Rattle.std.proofs.Common.{◌∷◌, inl, inr, arith}
-use Rattle.std.specs.Prelude.{pos}
+use Rattle.std.proofs.Common.{true, false, refl, sym, ap, ◌∙◌, [], zero, suc, map}
+use Rattle.std.proofs.Common.{◌∷◌, ◌++◌, inl, inr, arith}
 use Rattle.std.specs.Prelude.{Bool, ◌==◌, ◌&&◌, nat_lt, nat_eq, not, filter}
 use Rattle.std.specs.Ordering.{nat_cmp, ordering_then, is_lt}
 use Rattle.std.specs.Cmp.{IsStrictWeakOrder}
+use Rattle.std.specs.List.{All}
 use Rattle.std.specs.List.Sorted.{IsSortedBy, IsSortedByKey, IsStableByKey, ties}
 use Rattle.std.proofs.lemmas.List.Sorted.{sorted_far, ranks_by}
 use Rattle.std.proofs.lemmas.Cmp.{then_total, on_total, nat_cmp_total}
-use Rattle.std.proofs.lemmas.Bool.{cases_order, cases_eq, eq-eqb, ne_eqb}
+use Rattle.std.proofs.lemmas.Bool.{cases_order, cases_eq, eq-eqb, ne_eqb, cases_Bool}
 use Rattle.std.proofs.lemmas.Bool.Decides.{nat_tests}
-use Rattle.std.proofs.lemmas.List.Elements.{filter_agree}
+use Rattle.std.proofs.lemmas.List.Elements.{filter_agree, filter-append}
 use Rattle.agg_values.specs.declared.column.ColumnPaginationOrder.{ColumnPaginationOrder}
-use Rattle.agg_segment.specs.CellOrder.{cell_class, order_rank, value_rank, is_of, IsNotAfter}
-use Rattle.agg_segment.specs.CellOrder.{AreSorted, IsByRank}
-use Rattle.agg_segment.specs.declared.log.Cell.{Cell}
-use Rattle.agg_segment.specs.declared.log.CellValue.{CellValue}
-use Rattle.agg_segment.specs.declared.log.CellValue.TheVariants as cell
+use Rattle.agg_values.specs.declared.column.ColumnPaginationOrder.TheVariants as class
+use Rattle.agg_segment.specs.CellOrder.{order_rank, IsByRank}
+use Rattle.agg_segment.specs.Gatherings.{Raw, raws, column_raws, is_raw_of, is_column, AreAlike}
+use Rattle.agg_segment.specs.Gatherings.{AreSorted}
+use Rattle.agg_segment.specs.declared.gatherings.Gathering.{Gathering}
+use Rattle.agg_segment.proofs.Raws.{filter_none}
 
--- the order by field, class and document
-abbrev pub cell_cmp : Cell → Cell → Ordering
-cell_cmp c d = ordering_then (nat_cmp c.field d.field) (ordering_then (nat_cmp (value_rank c.value)
-    (value_rank d.value)) (nat_cmp c.doc d.doc))
-
-pub rank_of_class : (v : CellValue) → order_rank (cell_class v) ≡ value_rank v
-rank_of_class (cell.Bool b) = refl
-rank_of_class (cell.Str p) = refl
-rank_of_class (cell.I64 n) = refl
-rank_of_class (cell.U64 n) = refl
-rank_of_class (cell.Ip p) = refl
-rank_of_class (cell.Date n) = refl
+-- the order by field and class
+abbrev pub column_cmp : Gathering → Gathering → Ordering
+column_cmp c d = ordering_then (nat_cmp c.field d.field)
+    (nat_cmp (order_rank c.class) (order_rank d.class))
 
 -- what comes first in a comparison
 less_then : (f g : ℕ) (o : Ordering) → is_lt (ordering_then (nat_cmp g f) o) ≡ false
@@ -43,16 +36,6 @@ less_then f g o below = elim (cases_order f g) [
 
 less_last : (d e : ℕ) → is_lt (nat_cmp e d) ≡ false → d ≤ e
 less_last d e below = grind (arith, nat_tests)
-
-pub not_after : (c d : Cell) → is_lt (cell_cmp d c) ≡ false → IsNotAfter c d
-not_after c d below =
-    let first = less_then c.field d.field (ordering_then (nat_cmp (value_rank d.value)
-    (value_rank c.value)) (nat_cmp d.doc c.doc)) below in (
-      first.0,
-      λ same. let second = less_then (value_rank c.value) (value_rank d.value)
-          (nat_cmp d.doc c.doc) (first.1 same) in
-          (second.0, λ alike. less_last c.doc d.doc (second.1 alike)),
-    )
 
 tie_then : (f g : ℕ) (o p : Ordering)
     → not (is_lt (ordering_then (nat_cmp f g) o)) && not (is_lt (ordering_then (nat_cmp g f) p))
@@ -86,101 +69,131 @@ tie_last d e = elim (cases_order d e) [
     both_false true = refl
     both_false false = refl
 
-and_assoc : (a b c : Bool) → a && (b && c) ≡ a && b && c
-and_assoc true b c = refl
-and_assoc false b c = refl
-
--- cells that tie are of one field, class and document
-pub tie_is : (c d : Cell) → ties (λ x y. is_lt (cell_cmp x y)) c d
-    ≡ is_of c.field (value_rank c.value) c.doc d
+-- columns that tie are of one field and class
+tie_is : (c d : Gathering) → ties (λ x y. is_lt (column_cmp x y)) c d
+    ≡ is_column c.field (order_rank c.class) d
 tie_is c d =
-    tie_then c.field d.field (ordering_then (nat_cmp (value_rank c.value) (value_rank d.value))
-    (nat_cmp c.doc d.doc)) (ordering_then (nat_cmp (value_rank d.value) (value_rank c.value))
-    (nat_cmp d.doc c.doc))
-    ∙ ap (λ r. (d.field == c.field) && r) (tie_then (value_rank c.value) (value_rank d.value)
-    (nat_cmp c.doc d.doc) (nat_cmp d.doc c.doc)
-    ∙ ap (λ r. (value_rank d.value == value_rank c.value) && r) (tie_last c.doc d.doc))
-    ∙ and_assoc (d.field == c.field) (value_rank d.value == value_rank c.value) (d.doc == c.doc)
+    tie_then c.field d.field (nat_cmp (order_rank c.class) (order_rank d.class))
+    (nat_cmp (order_rank d.class) (order_rank c.class))
+    ∙ ap (λ r. (d.field == c.field) && r) (tie_last (order_rank c.class) (order_rank d.class))
 
-cell_order : IsStrictWeakOrder (λ x y. is_lt (cell_cmp x y))
-cell_order = ranks_by (then_total (on_total (λ (c : Cell). c.field) nat_cmp_total)
-    (then_total (on_total (λ (c : Cell). value_rank c.value) nat_cmp_total) (on_total (λ (c : Cell).
-    c.doc) nat_cmp_total))) (λ (c : Cell). c)
+column_order : IsStrictWeakOrder (λ x y. is_lt (column_cmp x y))
+column_order = ranks_by (then_total (on_total (λ (c : Gathering). c.field) nat_cmp_total)
+    (on_total (λ (c : Gathering). order_rank c.class) nat_cmp_total)) (λ (c : Gathering). c)
 
-no_value : (rank : ℕ) → rank ≢ 1 → rank ≢ 2 → rank ≢ 3 → rank ≢ 4 → rank ≢ 5 → (v : CellValue)
-    → value_rank v ≢ rank
-no_value rank a b c d e (cell.Bool x) is = a (sym is)
-no_value rank a b c d e (cell.Str x) is = b (sym is)
-no_value rank a b c d e (cell.I64 x) is = c (sym is)
-no_value rank a b c d e (cell.U64 x) is = c (sym is)
-no_value rank a b c d e (cell.Ip x) is = d (sym is)
-no_value rank a b c d e (cell.Date x) is = e (sym is)
+no_class : (rank : ℕ) → rank ≢ 1 → rank ≢ 2 → rank ≢ 3 → rank ≢ 4 → rank ≢ 5
+    → (k : ColumnPaginationOrder) → order_rank k ≢ rank
+no_class rank a b c d e class.Bool is = a (sym is)
+no_class rank a b c d e class.Str is = b (sym is)
+no_class rank a b c d e class.Numeric is = c (sym is)
+no_class rank a b c d e class.IpAddr is = d (sym is)
+no_class rank a b c d e class.DateTime is = e (sym is)
 
-module _ {R : ℕ × ColumnPaginationOrder × ℕ → ℕ × ColumnPaginationOrder × ℕ
-    → Ordering} (law : IsByRank R) where
-  by_cells : (c d : Cell)
-      → R (c.field, cell_class c.value, c.doc) (d.field, cell_class d.value, d.doc) ≡ cell_cmp c d
-  by_cells c d = law.is c.field (cell_class c.value) c.doc d.field (cell_class d.value) d.doc
-      ∙ rw (rank_of_class c.value, rank_of_class d.value) refl
+-- ---- the numbers of a field and a class are those of its columns
 
-  pub keys_sorted : (cells : List Cell)
-      → IsSortedByKey (λ (x : Cell). (x.field, cell_class x.value, x.doc)) R cells → AreSorted cells
-  keys_sorted cells sorted i j d low within =
-      let up : IsSortedBy (λ x y. is_lt (cell_cmp x y)) cells = λ k e from below.
-      ap is_lt (sym (by_cells (get_or cells (k + 1) e) (get_or cells k e)))
+one_column : (field rank doc : ℕ) (c : Gathering) → is_column field rank c ≡ false
+    → filter (is_raw_of field rank doc) (column_raws c) ≡ []
+one_column field rank doc c other = filter_none (is_raw_of field rank doc) (column_raws c)
+    (of_rows c.rows)
+  where
+    of_rows : (rows : List (ℕ × ℕ)) → All (λ r. is_raw_of field rank doc r ≡ false)
+        (map (λ s. let t : Raw = record {
+          field = c.field;
+          class = c.class;
+          doc = s.0;
+          number = s.1;
+        } in t) rows)
+    of_rows [] k d l = absurd (omega (arith, l))
+    of_rows (s ∷ rows) zero d l = rw other refl
+    of_rows (s ∷ rows) (suc k) d l = of_rows rows k d (omega (arith, l))
+
+raws_of : (field rank doc : ℕ) (columns : List Gathering)
+    → filter (is_raw_of field rank doc) (raws columns)
+    ≡ filter (is_raw_of field rank doc) (raws (filter (is_column field rank) columns))
+raws_of field rank doc [] = refl
+raws_of field rank doc (c ∷ columns) = elim (cases_Bool (is_column field rank c)) [
+  | inl here ↦
+      let p : Raw → Bool = is_raw_of field rank doc in
+      rw here (filter-append p (column_raws c) (raws columns)
+      ∙ ap (λ rs. filter p (column_raws c) ++ rs) (raws_of field rank doc columns)
+      ∙ sym (filter-append p (column_raws c) (raws (filter (is_column field rank) columns))))
+  | inr other ↦
+      let p : Raw → Bool = is_raw_of field rank doc in
+      rw other (filter-append p (column_raws c) (raws columns)
+      ∙ ap (λ rs. rs ++ filter p (raws columns)) (one_column field rank doc c other)
+      ∙ raws_of field rank doc columns)
+]
+
+module _ {R : ℕ × ColumnPaginationOrder → ℕ × ColumnPaginationOrder → Ordering}
+    (law : IsByRank R) where
+  by_columns : (c d : Gathering) → R (c.field, c.class) (d.field, d.class) ≡ column_cmp c d
+  by_columns c d = law.is c.field c.class d.field d.class
+
+  pub keys_sorted : (columns : List Gathering)
+      → IsSortedByKey (λ (x : Gathering). (x.field, x.class)) R columns → AreSorted columns
+  keys_sorted columns sorted i j d low within =
+      let up : IsSortedBy (λ x y. is_lt (column_cmp x y)) columns = λ k e from below.
+      ap is_lt (sym (by_columns (get_or columns (k + 1) e) (get_or columns k e)))
       ∙ sorted k e from below in
-      not_after (get_or cells i d) (get_or cells j d) (sorted_far (λ x y. is_lt (cell_cmp x y))
-      cell_order cells up i j d low within)
+      let c = get_or columns i d in
+      let e = get_or columns j d in
+      let first = less_then c.field e.field (nat_cmp (order_rank e.class) (order_rank c.class))
+      (sorted_far (λ x y. is_lt (column_cmp x y)) column_order columns up i j d low within) in
+      (first.0, λ same. less_last (order_rank c.class) (order_rank e.class) (first.1 same))
 
-  -- ties are those of a cell of the class
-  of_rank : (field rank doc : ℕ) (old new : List Cell)
-      → IsStableByKey (λ (x : Cell). (x.field, cell_class x.value, x.doc)) R old new
-      → (v : CellValue) → value_rank v ≡ rank
-      → filter (is_of field rank doc) new ≡ filter (is_of field rank doc) old
-  of_rank field rank doc old new stable v is =
-      let w : Cell = record { field = field; doc = doc; value = v } in
-      let same : (x : Cell)
-      → ties (λ x y. is_lt (R (x.field, cell_class x.value, x.doc) (
-        y.field,
-        cell_class y.value,
-        y.doc,
-      ))) w x ≡ is_of field rank doc x =
-      λ x. rw (by_cells w x, by_cells x w) (tie_is w x ∙ ap (λ r. is_of field r doc x) is)
+  -- ties are those of a column of the class
+  of_class : (field : ℕ) (k : ColumnPaginationOrder) (old new : List Gathering)
+      → IsStableByKey (λ (x : Gathering). (x.field, x.class)) R old new
+      → filter (is_column field (order_rank k)) new ≡ filter (is_column field (order_rank k)) old
+  of_class field k old new stable =
+      let w : Gathering = record { field = field; class = k; before = 0; rows = [] } in
+      let same : (x : Gathering)
+      → ties (λ x y. is_lt (R (x.field, x.class) (y.field, y.class))) w x
+      ≡ is_column field (order_rank k) x =
+      λ x. rw (by_columns w x, by_columns x w) (tie_is w x)
       in
-      sym (filter_agree _ (is_of field rank doc) same new) ∙ stable w
-      ∙ filter_agree _ (is_of field rank doc) same old
+      sym (filter_agree _ (is_column field (order_rank k)) same new) ∙ stable w
+      ∙ filter_agree _ (is_column field (order_rank k)) same old
 
-  no_rank : (field rank doc : ℕ) (cells : List Cell) → ((v : CellValue) → value_rank v ≢ rank)
-      → filter (is_of field rank doc) cells ≡ []
-  no_rank field rank doc [] none = refl
-  no_rank field rank doc (c ∷ cells) none = rw (ne_eqb (value_rank c.value) rank (none c.value))
-      (not_of (filter (is_of field rank doc) cells) (no_rank field rank doc cells none) (c.field ==
-      field))
+  none_of_rank : (field rank : ℕ) (columns : List Gathering)
+      → ((k : ColumnPaginationOrder) → order_rank k ≢ rank)
+      → filter (is_column field rank) columns ≡ []
+  none_of_rank field rank columns none = filter_none (is_column field rank) columns (λ k d l.
+      rw (ne_eqb (order_rank (get_or columns k d).class) rank (none (get_or columns k d).class))
+      (both_no ((get_or columns k d).field == field)))
     where
-      not_of : (rest : List Cell) → rest ≡ [] → (b : Bool)
-          → cond (b && false && (c.doc == doc)) (c ∷ rest) rest ≡ []
-      not_of rest empty true = empty
-      not_of rest empty false = empty
+      both_no : (b : Bool) → b && false ≡ false
+      both_no true = refl
+      both_no false = refl
 
-  pub keys_stable : (old new : List Cell)
-      → IsStableByKey (λ (x : Cell). (x.field, cell_class x.value, x.doc)) R old new
-      → (field rank doc : ℕ) → filter (is_of field rank doc) new ≡ filter (is_of field rank doc) old
-  keys_stable old new stable field rank doc = elim (cases_eq rank 1) [
-    | inl one ↦ of_rank field rank doc old new stable (cell.Bool true) (sym one)
+  pub columns_stable : (old new : List Gathering)
+      → IsStableByKey (λ (x : Gathering). (x.field, x.class)) R old new
+      → (field rank : ℕ) → filter (is_column field rank) new ≡ filter (is_column field rank) old
+  columns_stable old new stable field rank = elim (cases_eq rank 1) [
+    | inl one ↦ rw one (of_class field class.Bool old new stable)
     | inr not1 ↦ elim (cases_eq rank 2) [
-      | inl two ↦ of_rank field rank doc old new stable (cell.Str 0) (sym two)
+      | inl two ↦ rw two (of_class field class.Str old new stable)
       | inr not2 ↦ elim (cases_eq rank 3) [
-        | inl three ↦ of_rank field rank doc old new stable (cell.U64 0) (sym three)
+        | inl three ↦ rw three (of_class field class.Numeric old new stable)
         | inr not3 ↦ elim (cases_eq rank 4) [
-          | inl four ↦ of_rank field rank doc old new stable (cell.Ip 0) (sym four)
+          | inl four ↦ rw four (of_class field class.IpAddr old new stable)
           | inr not4 ↦ elim (cases_eq rank 5) [
-            | inl five ↦ of_rank field rank doc old new stable (cell.Date (pos 0)) (sym five)
+            | inl five ↦ rw five (of_class field class.DateTime old new stable)
             | inr not5 ↦
-                let none : (v : CellValue)
-                → value_rank v ≢ rank = no_value rank not1 not2 not3 not4 not5 in
-                no_rank field rank doc new none ∙ sym (no_rank field rank doc old none)
+                let none = no_class rank not1 not2 not3 not4 not5 in
+                none_of_rank field rank new none ∙ sym (none_of_rank field rank old none)
           ]
         ]
       ]
     ]
   ]
+
+  -- sorted columns have the same numbers of each document, in the same order
+  pub keys_alike : (old new : List Gathering)
+      → IsStableByKey (λ (x : Gathering). (x.field, x.class)) R old new
+      → AreAlike (raws new) (raws old)
+  keys_alike old new stable field rank doc =
+      raws_of field rank doc new
+      ∙ ap (λ cs. filter (is_raw_of field rank doc) (raws cs))
+      (columns_stable old new stable field rank)
+      ∙ sym (raws_of field rank doc old)

@@ -61,3 +61,9 @@ IsKept texts addresses (cell.Str place) = place < texts
 IsKept texts addresses (cell.Ip place) = place < addresses
 IsKept texts addresses (cell.U64 n) = 2 ^ 63 ≤ n
 IsKept texts addresses _ = ⊤
+
+-- values in order, and the texts and addresses that are kept beside
+pub record Logged : Type 0 where
+  pub texts : List (List ℕ)
+  pub addresses : List Address
+  pub cells : List Placed

@@ -1,22 +1,22 @@
 -- Columns of numbers, and the keys that they stand for.
-use Rattle.std.specs.Prelude.{◌≡◌, ◌≢◌, ◌==◌, ◌<◌, ◌≤◌, ◌^◌, pos, ◌-ℤ◌, ℕ}
-use Rattle.std.specs.Prelude.{⊤, List, [], map, filter, length, flat_map, get_or}
+use Rattle.std.specs.Prelude.{◌≡◌, ◌==◌, ◌<◌, ◌≤◌, ◌^◌, pos, ◌-ℤ◌, ℕ}
+use Rattle.std.specs.Prelude.{List, [], map, filter, length, flat_map, get_or}
 use Rattle.std.specs.List.{All, Contains}
-use Rattle.agg_values.specs.TypedKey.{class_rank, typed_number, text_of, address_of}
+use Rattle.std.specs.Ordering.{nat_cmp}
+use Rattle.agg_values.specs.KeyOrder.{ascending_order}
+use Rattle.agg_values.specs.TypedKey.{typed_number}
 use Rattle.agg_values.specs.declared.address.Address.{Address}
 use Rattle.agg_values.specs.TypedKey.{CompositeIntermediateKey}
 use Rattle.agg_values.specs.declared.typed_key.CompositeIntermediateKey.TheVariants as key
 use Rattle.agg_segment.specs.Cells.{Placed}
 use Rattle.agg_segment.specs.Signs.{sign_of}
-use Rattle.agg_segment.specs.Dictionary.{text_at, address_at, HasOrdinal}
-use Rattle.agg_segment.specs.declared.log.CellValue.{CellValue}
-use Rattle.agg_segment.specs.declared.log.CellValue.TheVariants as cell
+use Rattle.agg_segment.specs.Dictionary.{text_at, address_at}
 use Rattle.agg_segment.specs.declared.keys.ColumnKeys.{ColumnKeys}
 use Rattle.agg_segment.specs.declared.keys.ColumnKeys.TheVariants.{Bools, Texts, Signed, Unsigned}
 use Rattle.agg_segment.specs.declared.keys.ColumnKeys.TheVariants.{Addresses, Dates}
 use Rattle.agg_segment.specs.declared.hit.ColumnType.{ColumnType}
 use Rattle.agg_segment.specs.declared.hit.ColumnType.TheVariants as kind
-use Rattle.agg_segment.specs.declared.signs.Sign.TheVariants.{Negative, Large}
+use Rattle.agg_segment.specs.declared.signs.Sign.TheVariants.{Large}
 
 -- a column: the number of its field, what its numbers stand for, and each document's in order
 pub record StoredColumn : Type 0 where
@@ -39,6 +39,12 @@ StandsForKey Bools n = n < 2
 StandsForKey (Texts texts) n = n < length texts
 StandsForKey (Addresses addresses) n = n < length addresses
 StandsForKey _ n = n < 2 ^ 64
+
+-- the keys that numbers stand for compare as the numbers do
+abbrev pub AreInKeyOrder : ColumnKeys → Type 0
+AreInKeyOrder keys =
+    (left right : ℕ) → StandsForKey keys left → StandsForKey keys right
+    → ascending_order (encoded_key keys left) (encoded_key keys right) ≡ nat_cmp left right
 
 -- the rank of the class of its keys
 abbrev pub keys_rank : ColumnKeys → ℕ
@@ -76,16 +82,6 @@ column_cells column =
     map (λ c. record { field = column.field; doc = c.0; key = encoded_key column.keys c.1 })
     column.cells
 
--- the keys that a column may have numbers for
-abbrev pub MayTake : ColumnKeys → CompositeIntermediateKey → Type 0
-MayTake Bools k = class_rank k ≡ 1
-MayTake (Texts texts) k = (class_rank k ≡ 2) × Contains texts (text_of k)
-MayTake Signed k = (class_rank k ≡ 3) × (sign_of k ≢ Large)
-MayTake Unsigned k = (class_rank k ≡ 3) × (sign_of k ≢ Negative)
-MayTake (Addresses addresses) k =
-    (class_rank k ≡ 4) × Contains addresses (record { 0 = address_of k })
-MayTake Dates k = class_rank k ≡ 5
-
 -- the texts of a column of texts
 abbrev pub texts_of : ColumnKeys → List (List ℕ)
 texts_of (Texts texts) = texts
@@ -94,11 +90,6 @@ texts_of _ = []
 -- the texts that ordinals stand for in a column of texts
 abbrev pub named_texts : ColumnKeys → List ℕ → List (List ℕ)
 named_texts keys ordinals = map (text_at (texts_of keys)) ordinals
-
--- the text that a cell names has its ordinal in a column of texts
-abbrev pub IsNamed : List (List ℕ) → ColumnKeys → List ℕ → CellValue → Type 0
-IsNamed texts keys ordinals (cell.Str place) = HasOrdinal texts (texts_of keys) ordinals place
-IsNamed texts keys ordinals _ = ⊤
 
 -- the addresses of a column of addresses
 abbrev pub addresses_of : ColumnKeys → List Address

@@ -37,6 +37,12 @@ address_at addresses place = get_or addresses place (record { 0 = 0 })
 abbrev pub address_cmp : Address → Address → Ordering
 address_cmp a b = nat_cmp a.0 b.0
 
+-- the items at two places compare as the places do
+abbrev pub AreInPlaceOrder : {X : Type 0} → (X → X → Ordering) → List X → X → Type 0
+AreInPlaceOrder cmp items d =
+    (left right : ℕ) → left < length items → right < length items
+    → cmp (get_or items left d) (get_or items right d) ≡ nat_cmp left right
+
 -- all items before a place lie below a value
 abbrev pub IsBelowUpTo : {X : Type 0} → (X → X → Ordering) → List X → X → ℕ → Type 0
 IsBelowUpTo {X} cmp items x place =

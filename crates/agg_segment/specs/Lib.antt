@@ -5,6 +5,8 @@ pub mod Dictionary
 pub mod Document
 pub mod FirstNames
 pub mod Fronts
+pub mod Gatherings
+pub mod Growing
 pub mod Marks
 pub mod Names
 pub mod Query

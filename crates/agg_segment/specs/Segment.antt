@@ -4,7 +4,8 @@ use Rattle.std.specs.Prelude.{map, flat_map, length, take, drop}
 use Rattle.std.specs.Str.{bytes_eq}
 use Rattle.std.specs.List.{range_with_len, All, Contains}
 use Rattle.agg_segment.specs.Document.{Fields, by_class}
-use Rattle.agg_segment.specs.Cells.{Placed, number_of, named_keys}
+use Rattle.agg_segment.specs.Cells.{Placed, Logged, number_of, named_keys}
+use Rattle.agg_segment.specs.Gatherings.{Raw, raw_placed, IsRaw}
 use Rattle.agg_segment.specs.Signs.{sign_of, key_mark, AreSigns}
 use Rattle.agg_segment.specs.Columns.{StoredColumn, column_cells}
 use Rattle.agg_segment.specs.declared.signs.Sign.{Sign}
@@ -86,3 +87,17 @@ pub record IsGathered (builder : Gathered) (given : List Sign) (closed : ℕ) : 
   pub named : (field : ℕ) → field < length given → (name : List ℕ) × IsNameOf builder field name
   pub fields : All (λ p. p.field < length given) builder.cells
   pub signs : AreSigns given (map key_mark (take closed builder.cells))
+
+-- the keys of a builder: those of the closed documents, and then those of the open one
+abbrev pub builder_cells : List Sign → List Raw → Logged → List Placed
+builder_cells signs columns log =
+    map (raw_placed signs log.texts log.addresses) columns ++ log.cells
+
+-- what is true of a builder, by its parts
+abbrev pub IsBuilding
+    : ℕ → List (List ℕ × ℕ) → List Sign → List Raw → Logged → Type 0
+IsBuilding count names signs columns log =
+    IsGathered
+    (record { count = count; names = names; cells = builder_cells signs columns log })
+    signs (length columns)
+    × All (λ r. IsRaw (length log.texts) (length log.addresses) r.class r.number) columns

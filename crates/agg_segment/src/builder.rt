@@ -7,8 +7,9 @@ ghost use Rattle.agg_segment.specs.Segment.{IsNameOf, IsMixed};
 ghost use Rattle.agg_segment.specs.declared.builder.BuildError.TheVariants.{OutOfMemory as Memory};
 
 use crate::field_names::FieldNames;
+use crate::gatherings::Gatherings;
 use crate::log::Log;
-use crate::signs::{Sign, give_signs};
+use crate::signs::{Sign, give_signs, take_back};
 use crate::{Document, FieldValue, SegmentReader};
 use agg_values::{OutOfMemory, Text};
 use std::alloc::{AllocFailed, Global};
@@ -53,21 +54,24 @@ pub struct SegmentBuilder {
     count: u32,
     names: FieldNames,
     signs: Vec<Sign>,
+    // The values of the open document.
     log: Log,
-    // How many of the values are of closed documents.
-    closed: usize,
+    // Those of the closed documents.
+    columns: Gatherings,
 }
 
 impl Model for SegmentBuilder {
-    ghost use Rattle.agg_segment.specs.Segment.{Gathered, IsGathered};
+    ghost use Rattle.agg_segment.specs.Segment.{Gathered, builder_cells, IsBuilding};
 
     ghost Value = { Gathered };
 
-    ghost view = { λ b. record { count = b.count; names = b.names; cells = b.log } };
+    ghost view = { λ b. record {
+      count = b.count;
+      names = b.names;
+      cells = builder_cells b.signs.items b.columns b.log;
+    } };
 
-    ghost invariant = { λ b. IsGathered
-        (record { count = b.count; names = b.names; cells = b.log })
-        b.signs.items b.closed };
+    ghost invariant = { λ b. IsBuilding b.count b.names b.signs.items b.columns b.log };
 }
 
 impl SegmentBuilder {
@@ -82,7 +86,7 @@ impl SegmentBuilder {
             names: FieldNames::new(alloc),
             signs: Vec::new(alloc),
             log: Log::new(alloc),
-            closed: 0,
+            columns: Gatherings::new(alloc),
         }
     }
 
@@ -133,11 +137,16 @@ impl SegmentBuilder {
         if self.count == MAX_DOCUMENTS {
             return Err(BuildError::TooManyDocuments);
         }
-        let cells = self.log.cells_from(self.closed);
-        if let Err(error) = give_signs(self.alloc, &mut self.signs, cells) {
-            return Err(error);
+        let cells = self.log.cells();
+        let given = match give_signs(self.alloc, &mut self.signs, cells) {
+            Ok(given) => given,
+            Err(error) => return Err(error),
+        };
+        if let Err(_) = self.columns.add_all(self.alloc, self.count, cells) {
+            take_back(&mut self.signs, given);
+            return Err(BuildError::OutOfMemory);
         }
-        self.closed = self.log.len();
+        self.log.clear(self.alloc);
         self.count += 1;
         Ok(())
     }
@@ -148,7 +157,7 @@ impl SegmentBuilder {
         ensures documents { gathered_documents self.new ≡ gathered_documents self.old }
         ensures names { self.new.names ≡ self.old.names }
     {
-        self.log.truncate(self.closed);
+        self.log.clear(self.alloc);
     }
 
     /// Appends a document. An open one is forgotten.
@@ -221,11 +230,11 @@ impl SegmentBuilder {
             count,
             names,
             signs,
-            mut log,
-            closed,
+            log,
+            columns,
         } = self;
-        log.truncate(closed);
-        let columns = log.into_columns(alloc, &signs)?;
+        let (texts, addresses) = log.into_kept();
+        let columns = columns.into_columns(alloc, texts.as_slice(), &addresses, &signs)?;
         Ok(SegmentReader::from_parts(count, names.into_numbers(), columns))
     }
 }

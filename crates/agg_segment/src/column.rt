@@ -1,18 +1,22 @@
-ghost use Rattle.std.specs.Prelude.{◌≡◌, map, IfOk};
+ghost use Rattle.std.specs.Prelude.{◌≡◌, ℕ, Some, map, IfOk};
 ghost use Rattle.std.specs.List.{All};
 ghost use Rattle.std.specs.List.Sorted.{IsStrictlySortedBy};
 ghost use Rattle.std.specs.Ordering.{nat_cmp};
+ghost use Rattle.agg_values.specs.Column.{class_of};
 ghost use Rattle.agg_values.specs.Names.{name_cmp};
 ghost use Rattle.agg_values.specs.KeyOrder.{ascending_order};
 ghost use Rattle.agg_segment.specs.Dictionary.{address_cmp, IsHit};
 ghost use Rattle.agg_segment.specs.Columns.{encoded_key, type_of, column_keys};
 ghost use Rattle.agg_segment.specs.Columns.{texts_of, addresses_of};
 ghost use Rattle.agg_segment.specs.Columns.{StandsForKey, StandForKeys, IsWideForCause};
+ghost use Rattle.agg_segment.specs.Columns.{AreInKeyOrder};
 
 use crate::keys::ColumnKeys;
 use crate::rows::Rows;
 use crate::{ColumnType, OrdHit};
-use agg_values::{Address, CompositeIntermediateKey, DocId, OutOfMemory, Text};
+use agg_values::{
+    Address, ColumnPaginationOrder, CompositeIntermediateKey, DocId, OutOfMemory, Text,
+};
 use std::alloc::Global;
 use std::cmp::Ordering;
 use std::marker::Model;
@@ -57,6 +61,14 @@ impl Column {
         ensures wide { IsWideForCause self.now }
     {
         self.keys.column_type()
+    }
+
+    /// The class of its keys. The order of the numbers is the order of the keys.
+    pub fn column_pagination_order(&self) -> ColumnPaginationOrder
+        ensures class { (n : ℕ) → class_of (encoded_key self.now.keys n) ≡ Some result }
+        ensures order { AreInKeyOrder self.now.keys }
+    {
+        self.keys.class()
     }
 
     /// The document's values of the column's class, in order.

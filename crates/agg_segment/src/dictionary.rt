@@ -1,11 +1,12 @@
-ghost use Rattle.std.specs.Prelude.{◌≡◌, ◌<◌, ℕ, List, length, map, All, Contains, IfOk};
+ghost use Rattle.std.specs.Prelude.{◌≡◌, ◌<◌, [], ℕ, List, length, map, All, Contains, IfOk};
 ghost use Rattle.std.specs.Ordering.{nat_cmp};
 ghost use Rattle.std.specs.List.Sorted.{IsStrictlySortedBy};
 ghost use Rattle.agg_values.specs.Names.{name_cmp};
 ghost use Rattle.agg_segment.specs.Dictionary.{text_at, address_at, address_cmp, IsHit};
+ghost use Rattle.agg_segment.specs.Dictionary.{AreInPlaceOrder};
 
 use crate::OrdHit;
-use agg_values::{Address, OutOfMemory, Text};
+use agg_values::{Address, ColumnPaginationOrder, OutOfMemory, Text};
 use std::alloc::Global;
 use std::cmp::Ordering;
 use std::marker::Model;
@@ -45,6 +46,15 @@ impl Dictionary {
         ensures { result.now ≡ text_at self.now place }
     {
         &self.texts[place as usize]
+    }
+
+    /// The class of a column whose numbers are the places.
+    pub fn class(&self) -> ColumnPaginationOrder
+        ensures class { result ≡ ColumnPaginationOrder.Str }
+        ensures order { AreInPlaceOrder name_cmp self.now [] }
+    {
+        let _ = self.texts.len();
+        ColumnPaginationOrder::Str
     }
 
     /// How the texts of two places compare, which is as the places do.
@@ -114,6 +124,15 @@ impl AddressList {
         ensures { result ≡ address_at self.now place }
     {
         Address(self.addresses[place as usize])
+    }
+
+    /// The class of a column whose numbers are the places.
+    pub fn class(&self) -> ColumnPaginationOrder
+        ensures class { result ≡ ColumnPaginationOrder.IpAddr }
+        ensures order { AreInPlaceOrder address_cmp self.now (record { 0 = 0 }) }
+    {
+        let _ = self.addresses.len();
+        ColumnPaginationOrder::IpAddr
     }
 
     /// How the addresses of two places compare, which is as the places do.

@@ -1,15 +1,15 @@
-ghost use Rattle.std.specs.Prelude.{◌≡◌, ◌^◌, ◌-ℤ◌, pos, IfOk, length};
+ghost use Rattle.std.specs.Prelude.{◌≡◌, ◌<◌, ◌≤◌, ◌+◌, ◌^◌, ◌-ℤ◌, ℕ, Some, pos, IfOk};
 ghost use Rattle.std.specs.Ordering.{nat_cmp};
+ghost use Rattle.agg_values.specs.Column.{class_of};
 ghost use Rattle.agg_values.specs.TypedKey.{typed_number};
 ghost use Rattle.agg_values.specs.KeyOrder.{ascending_order};
-ghost use Rattle.agg_segment.specs.Cells.{stored_key, IsKept};
-ghost use Rattle.agg_segment.specs.Columns.{encoded_key, StandsForKey, type_of, MayTake};
-ghost use Rattle.agg_segment.specs.Columns.{named_texts, IsNamed};
+ghost use Rattle.agg_segment.specs.Columns.{encoded_key, StandsForKey, type_of, named_texts};
+ghost use Rattle.agg_segment.specs.Columns.{AreInKeyOrder};
+ghost use Rattle.agg_segment.specs.Gatherings.{raw_key, IsEncodable};
 
 use crate::ColumnType;
 use crate::dictionary::{AddressList, Dictionary};
-use crate::log::CellValue;
-use agg_values::{Address, CompositeIntermediateKey, OutOfMemory};
+use agg_values::{Address, ColumnPaginationOrder, CompositeIntermediateKey, OutOfMemory};
 use std::alloc::Global;
 use std::cmp::Ordering;
 
@@ -24,7 +24,8 @@ pub enum ColumnKeys {
     Dates,
 }
 
-const FROM_ZERO: u64 = 9_223_372_036_854_775_808;
+/// Where the numbers of an i64 have their zero.
+pub const FROM_ZERO: u64 = 9_223_372_036_854_775_808;
 
 impl ColumnKeys {
     /// The type of the column.
@@ -38,6 +39,20 @@ impl ColumnKeys {
             ColumnKeys::Unsigned => ColumnType::U64,
             ColumnKeys::Addresses(_) => ColumnType::IpAddr,
             ColumnKeys::Dates => ColumnType::DateTime,
+        }
+    }
+
+    /// The class of the keys, which are in the order of their numbers.
+    pub fn class(&self) -> ColumnPaginationOrder
+        ensures class { (n : ℕ) → class_of (encoded_key self.now n) ≡ Some result }
+        ensures order { AreInKeyOrder self.now }
+    {
+        match self {
+            ColumnKeys::Bools => ColumnPaginationOrder::Bool,
+            ColumnKeys::Texts(texts) => texts.class(),
+            ColumnKeys::Signed | ColumnKeys::Unsigned => ColumnPaginationOrder::Numeric,
+            ColumnKeys::Addresses(addresses) => addresses.class(),
+            ColumnKeys::Dates => ColumnPaginationOrder::DateTime,
         }
     }
 
@@ -79,48 +94,37 @@ impl ColumnKeys {
         }
     }
 
-    /// The number that stands for what a cell keeps. A text's is the ordinal of its place.
-    pub fn encode(&self, ordinals: &[u64], addresses: &[Address], value: CellValue) -> u64
-        requires kept { IsKept (length ordinals.now) (length addresses.now) value }
-        requires named { IsNamed (named_texts self.now ordinals.now) self.now ordinals.now value }
-        requires taken { MayTake self.now
-            (stored_key (named_texts self.now ordinals.now) addresses.now value) }
+    /// The number that stands for one that was gathered. A text's is the ordinal of its place.
+    pub fn encode(&self, ordinals: &[u64], addresses: &[Address], number: u64) -> u64
+        requires { IsEncodable (named_texts self.now ordinals.now) ordinals.now addresses.now
+            self.now number }
         ensures key { encoded_key self.now result
-            ≡ stored_key (named_texts self.now ordinals.now) addresses.now value }
+            ≡ raw_key (named_texts self.now ordinals.now) addresses.now (type_of self.now)
+            number }
         ensures stands { StandsForKey self.now result }
     {
         match self {
-            ColumnKeys::Bools => match value {
-                CellValue::Bool(b) => b as u64,
-                _ => 0,
-            },
-            ColumnKeys::Texts(_) => match value {
-                CellValue::Str(place) => ordinals[place],
-                _ => 0,
-            },
-            ColumnKeys::Signed => match value {
-                CellValue::I64(n) => from_zero(n),
-                _ => 0,
-            },
-            ColumnKeys::Unsigned => match value {
-                CellValue::I64(n) => n as u64,
-                CellValue::U64(n) => n,
-                _ => 0,
-            },
-            ColumnKeys::Addresses(list) => match value {
-                CellValue::Ip(place) => list.place(addresses[place]),
-                _ => 0,
-            },
-            ColumnKeys::Dates => match value {
-                CellValue::Date(n) => from_zero(n),
-                _ => 0,
-            },
+            ColumnKeys::Texts(_) => ordinals[number as usize],
+            ColumnKeys::Unsigned => turned(number),
+            ColumnKeys::Addresses(list) => list.place(addresses[number as usize]),
+            _ => number,
         }
     }
 }
 
-// The number plus 2^63.
-fn from_zero(n: i64) -> u64
+// The number plus 2^63, or less 2^63 where that is too much.
+fn turned(number: u64) -> u64
+    ensures low { number < 2 ^ 63 → result ≡ number + 2 ^ 63 }
+    ensures high { 2 ^ 63 ≤ number → result + 2 ^ 63 ≡ number }
+{
+    if number < FROM_ZERO {
+        return number + FROM_ZERO;
+    }
+    number - FROM_ZERO
+}
+
+/// The number plus 2^63.
+pub fn from_zero(n: i64) -> u64
     ensures { pos result -ℤ pos (2 ^ 63) ≡ n }
 {
     if n < 0 {

@@ -6,6 +6,7 @@ mod column;
 mod dictionary;
 mod document;
 mod field_names;
+mod gatherings;
 mod hit;
 mod keys;
 mod laws;

@@ -1,19 +1,18 @@
 ghost use Rattle.std.specs.Prelude.{◌≡◌, ◌≤◌, ◌++◌, ◌∷◌, [], ℕ, List};
-ghost use Rattle.std.specs.Prelude.{length, take, drop, map, IfOk, OnOk, OnErr};
+ghost use Rattle.std.specs.Prelude.{length, map, IfOk, OnOk, OnErr};
 ghost use Rattle.std.specs.List.{All};
 ghost use Rattle.agg_segment.specs.Document.{key_of};
-ghost use Rattle.agg_segment.specs.Cells.{Placed, stored_key, IsKept};
+ghost use Rattle.agg_segment.specs.Cells.{placed, stored_key, IsKept};
 ghost use Rattle.agg_segment.specs.CellOrder.{cell_class};
-ghost use Rattle.agg_segment.specs.Signs.{cell_mark, key_mark};
-
-mod by_text;
-mod cut;
 
 use crate::FieldValue;
 use crate::texts::Texts;
 use agg_values::{Address, ColumnPaginationOrder, OutOfMemory};
 use std::alloc::Global;
 use std::marker::Model;
+
+// More cells than these give their memory back.
+const MANY_CELLS: usize = 65_536;
 
 /// What a cell keeps of a value. Texts and addresses are kept beside, and are named by their place.
 #[derive(Clone, Copy)]
@@ -49,8 +48,8 @@ impl Cell {
     }
 }
 
-/// Values in the order in which they came, seen by contracts as their keys with their fields and
-/// documents.
+/// The values of the open document in the order in which they came, and the texts and addresses of
+/// all documents. Contracts see the values as their keys with their fields and documents.
 #[derive(Drop)]
 pub struct Log {
     cells: Vec<Cell>,
@@ -59,13 +58,17 @@ pub struct Log {
 }
 
 impl Model for Log {
-    ghost use Rattle.std.specs.Prelude.{List, map, length};
+    ghost use Rattle.std.specs.Prelude.{map, length};
     ghost use Rattle.std.specs.List.{All};
-    ghost use Rattle.agg_segment.specs.Cells.{Placed, placed, IsKept};
+    ghost use Rattle.agg_segment.specs.Cells.{Logged, placed, IsKept};
 
-    ghost Value = { List Placed };
+    ghost Value = { Logged };
 
-    ghost view = { λ log. map (placed log.texts log.addresses.items) log.cells.items };
+    ghost view = { λ log. record {
+      texts = log.texts;
+      addresses = log.addresses.items;
+      cells = map (placed log.texts log.addresses.items) log.cells.items;
+    } };
 
     ghost invariant = { λ log. All
         (λ c. IsKept (length log.texts) (length log.addresses.items) c.value)
@@ -75,7 +78,7 @@ impl Model for Log {
 impl Log {
     /// No values.
     pub fn new(alloc: Global) -> Log
-        ensures { result ≡ [] }
+        ensures { result ≡ record { texts = []; addresses = []; cells = [] } }
     {
         Log {
             cells: Vec::new(alloc),
@@ -84,40 +87,57 @@ impl Log {
         }
     }
 
-    /// How many values there are.
-    pub fn len(&self) -> usize
-        ensures { result ≡ length self.now }
+    /// The values.
+    pub fn cells(&self) -> &[Cell]
+        ensures cells { map (placed self.now.texts self.now.addresses) result.now
+            ≡ self.now.cells }
+        ensures kept { All
+            (λ c. IsKept (length self.now.texts) (length self.now.addresses) c.value) result.now }
     {
-        self.cells.len()
-    }
-
-    /// The cells from a place on.
-    pub fn cells_from(&self, from: usize) -> &[Cell]
-        requires { from ≤ length self.now }
-        ensures { map cell_mark result.now ≡ map key_mark (drop from self.now) }
-    {
-        &self.cells[from..]
+        &self.cells
     }
 
     /// Appends a value.
     pub fn push(&mut self, field: u32, doc: u32, value: FieldValue) -> Result<(), OutOfMemory>
-        ensures ok { OnOk result (self.new
-            ≡ self.old ++ record { field = field; doc = doc; key = key_of value } ∷ []) }
-        ensures err { OnErr result (self.new ≡ self.old) }
+        ensures ok { OnOk result (self.new.cells
+            ≡ self.old.cells ++ record { field = field; doc = doc; key = key_of value } ∷ []) }
+        ensures err { OnErr result (self.new.cells ≡ self.old.cells) }
+        ensures texts { (more : List (List ℕ)) × (self.new.texts ≡ self.old.texts ++ more) }
+        ensures addresses { (more : List Address)
+            × (self.new.addresses ≡ self.old.addresses ++ more) }
     {
         let value = keep(&mut self.texts, &mut self.addresses, value)?;
         self.cells.push(Cell { field, doc, value })?;
         Ok(())
     }
 
-    /// Forgets the values from a place on.
-    pub fn truncate(&mut self, len: usize)
-        ensures { self.new ≡ take len self.old }
+    /// Forgets the values. Many give their memory back.
+    pub fn clear(&mut self, alloc: Global)
+        ensures cells { self.new.cells ≡ [] }
+        ensures texts { self.new.texts ≡ self.old.texts }
+        ensures addresses { self.new.addresses ≡ self.old.addresses }
     {
-        self.cells.truncate(len);
+        if self.cells.len() > MANY_CELLS {
+            self.cells = Vec::new(alloc);
+            return;
+        }
+        self.cells.clear();
+    }
+
+    /// The texts and the addresses.
+    pub fn into_kept(self) -> (Texts, Vec<Address>)
+        ensures texts { result.0 ≡ self.texts }
+        ensures addresses { result.1.items ≡ self.addresses }
+    {
+        let Log {
+            mut texts,
+            addresses,
+            ..
+        } = self;
+        texts.forget_places();
+        (texts, addresses)
     }
 }
-
 // What a cell keeps of a value.
 fn keep(
     texts: &mut Texts,

@@ -1,14 +1,16 @@
 ghost use Rattle.std.specs.Prelude.{◌≡◌, ◌≢◌, ◌<◌, ◌≤◌, ◌∷◌, [], ℕ};
 ghost use Rattle.std.specs.Prelude.{length, map, get_or, IsTrue, IfOk};
 ghost use Rattle.std.specs.List.{All, zip, range_with_len};
-ghost use Rattle.std.specs.List.Sorted.{IsNonDecreasingBy};
+ghost use Rattle.std.specs.List.Sorted.{IsNonDecreasing};
 ghost use Rattle.agg_segment.specs.Columns.{numbers_at};
 ghost use Rattle.agg_segment.specs.Rows.{listed_docs, start_at, numbered, layout_docs};
 ghost use Rattle.agg_segment.specs.Rows.{uneven_rows};
 ghost use Rattle.agg_segment.specs.Rows.{AreEndsOf, IsLaidOut};
 
-use crate::log::Cell;
+mod growing;
+
 use agg_values::{DocId, OutOfMemory};
+pub use growing::GrowingRows;
 use std::alloc::Global;
 use std::marker::Model;
 use std::slice;
@@ -83,18 +85,22 @@ impl Rows {
         }
     }
 
-    /// The numbers of cells, one for each.
-    pub fn of(alloc: Global, cells: &[Cell], numbers: Vec<u64>) -> Result<Rows, OutOfMemory>
-        requires ascending { IsNonDecreasingBy (λ c. c.doc) cells.now }
-        requires each { length cells.now ≡ length numbers.items }
-        ensures { IfOk result (λ rows. rows ≡ zip (map (λ c. c.doc) cells.now) numbers.items) }
+    /// A number of each document, from the first on.
+    pub fn one_each(numbers: Vec<u64>) -> Rows
+        ensures { result ≡ zip (range_with_len 0 (length numbers.items)) numbers.items }
     {
-        if has_one_each(cells) {
-            return Ok(Rows {
-                numbers: Numbers::OneEach(numbers),
-            });
+        Rows {
+            numbers: Numbers::OneEach(numbers),
         }
-        let layout = layout_of(alloc, cells)?;
+    }
+
+    /// Numbers of documents that rise, one for each.
+    pub fn of(alloc: Global, docs: &[u32], numbers: Vec<u64>) -> Result<Rows, OutOfMemory>
+        requires rising { IsNonDecreasing docs.now }
+        requires each { length docs.now ≡ length numbers.items }
+        ensures { IfOk result (λ rows. rows ≡ zip docs.now numbers.items) }
+    {
+        let layout = layout_of(alloc, docs)?;
         let uneven = Box::new(alloc, UnevenNumbers { numbers, layout })?;
         Ok(Rows {
             numbers: Numbers::Uneven(uneven),
@@ -113,17 +119,17 @@ impl Rows {
     }
 }
 
-// Whose cells are.
-fn layout_of(alloc: Global, cells: &[Cell]) -> Result<Layout, OutOfMemory>
-    requires { IsNonDecreasingBy (λ c. c.doc) cells.now }
-    ensures docs { IfOk result (λ layout. layout_docs layout ≡ map (λ c. c.doc) cells.now) }
-    ensures all { IfOk result (λ layout. IsLaidOut layout (length cells.now)) }
+// Whose the numbers of documents are.
+fn layout_of(alloc: Global, docs: &[u32]) -> Result<Layout, OutOfMemory>
+    requires { IsNonDecreasing docs.now }
+    ensures docs { IfOk result (λ layout. layout_docs layout ≡ docs.now) }
+    ensures all { IfOk result (λ layout. IsLaidOut layout (length docs.now)) }
 {
-    let count = count_up_to_last(cells);
-    if count / 2 < count_docs(cells) {
-        return Ok(Layout::Dense(all_ends(alloc, cells, count)?));
+    let count = count_up_to_last(docs);
+    if count / 2 < count_docs(docs) {
+        return Ok(Layout::Dense(all_ends(alloc, docs, count)?));
     }
-    Ok(Layout::Listed(doc_ends(alloc, cells)?))
+    Ok(Layout::Listed(doc_ends(alloc, docs)?))
 }
 
 fn lone_number(number: &DocNumber, doc: DocId) -> &[u64]
@@ -203,75 +209,63 @@ fn start_of(ends: &[DocEnd], at: usize) -> u32
     ends[at - 1].end
 }
 
-// Whether the documents are 0, 1, 2 and so on.
-fn has_one_each(cells: &[Cell]) -> bool
-    ensures { IsTrue result → map (λ c. c.doc) cells.now ≡ range_with_len 0 (length cells.now) }
+// How many documents there are up to the last that is listed.
+fn count_up_to_last(docs: &[u32]) -> usize
+    requires { IsNonDecreasing docs.now }
+    ensures { All (λ doc. doc < result) docs.now }
 {
-    for (at, cell) in cells.iter().enumerate() {
-        if cell.doc as usize != at {
-            return false;
-        }
-    }
-    true
-}
-
-// How many documents there are up to the last that has cells.
-fn count_up_to_last(cells: &[Cell]) -> usize
-    requires { IsNonDecreasingBy (λ c. c.doc) cells.now }
-    ensures { All (λ c. c.doc < result) cells.now }
-{
-    if cells.is_empty() {
+    if docs.is_empty() {
         return 0;
     }
-    cells[cells.len() - 1].doc as usize + 1
+    docs[docs.len() - 1] as usize + 1
 }
 
-// Where the cells of each document end, for so many documents.
-fn all_ends(alloc: Global, cells: &[Cell], count: usize) -> Result<Vec<u32>, OutOfMemory>
-    requires ascending { IsNonDecreasingBy (λ c. c.doc) cells.now }
-    requires all { All (λ c. c.doc < count) cells.now }
+// Where each document ends in a list, for so many documents.
+fn all_ends(alloc: Global, docs: &[u32], count: usize) -> Result<Vec<u32>, OutOfMemory>
+    requires ascending { IsNonDecreasing docs.now }
+    requires all { All (λ doc. doc < count) docs.now }
     ensures docs { IfOk result (λ ends. listed_docs 0 (numbered 0 ends.items)
-        ≡ map (λ c. c.doc) cells.now) }
-    ensures ends { IfOk result (λ ends. AreEndsOf (numbered 0 ends.items) (length cells.now)) }
+        ≡ docs.now) }
+    ensures ends { IfOk result (λ ends. AreEndsOf (numbered 0 ends.items) (length docs.now)) }
 {
     let mut ends = Vec::with_capacity(alloc, count)?;
     let mut at = 0;
     for doc in 0..count {
-        at = past_doc(cells, at, doc);
+        at = past_doc(docs, at, doc);
         let end = narrow(at)?;
         ends.push(end)?;
     }
     Ok(ends)
 }
 
-// Where the cells of a document end that may begin at a place.
-fn past_doc(cells: &[Cell], from: usize, doc: usize) -> usize
-    requires { from ≤ length cells.now }
+// Where a document ends that may begin at a place.
+fn past_doc(docs: &[u32], from: usize, doc: usize) -> usize
+    requires { from ≤ length docs.now }
     ensures further { from ≤ result }
-    ensures within { result ≤ length cells.now }
-    ensures same { (k : ℕ) (d : Cell) → from ≤ k → k < result
-        → (get_or cells.now k d).doc ≡ doc }
-    ensures other { (d : Cell) → result < length cells.now
-        → (get_or cells.now result d).doc ≢ doc }
+    ensures within { result ≤ length docs.now }
+    ensures same { (k d : ℕ) → from ≤ k → k < result
+        → get_or docs.now k d ≡ doc }
+    ensures other { (d : ℕ) → result < length docs.now
+        → get_or docs.now result d ≢ doc }
 {
     let mut at = from;
-    while at < cells.len() && cells[at].doc as usize == doc {
+    while at < docs.len() && docs[at] as usize == doc {
         at += 1;
     }
     at
 }
 
-// The documents of cells, with where their cells end.
-fn doc_ends(alloc: Global, cells: &[Cell]) -> Result<Vec<DocEnd>, OutOfMemory>
-    requires { IsNonDecreasingBy (λ c. c.doc) cells.now }
-    ensures docs { IfOk result (λ ends. listed_docs 0 ends.items ≡ map (λ c. c.doc) cells.now) }
-    ensures ends { IfOk result (λ ends. AreEndsOf ends.items (length cells.now)) }
+// The distinct documents, with where each ends.
+fn doc_ends(alloc: Global, docs: &[u32]) -> Result<Vec<DocEnd>, OutOfMemory>
+    requires { IsNonDecreasing docs.now }
+    ensures docs { IfOk result (λ ends. listed_docs 0 ends.items ≡ docs.now) }
+    ensures ends { IfOk result (λ ends. AreEndsOf ends.items (length docs.now)) }
 {
-    let mut ends = Vec::with_capacity(alloc, count_docs(cells))?;
+    let mut ends = Vec::with_capacity(alloc, count_docs(docs))?;
     let mut at = 0;
-    while at < cells.len() {
-        let doc = cells[at].doc;
-        at = doc_end(cells, at);
+    while at < docs.len() {
+        let doc = docs[at];
+        at = doc_end(docs, at);
         let end = narrow(at)?;
         ends.push(DocEnd { doc, end })?;
     }
@@ -286,29 +280,29 @@ fn narrow(count: usize) -> Result<u32, OutOfMemory>
 }
 
 // How many documents there are, as far as they ascend.
-fn count_docs(cells: &[Cell]) -> usize {
+fn count_docs(docs: &[u32]) -> usize {
     let mut count = 0;
     let mut at = 0;
-    while at < cells.len() {
-        at = doc_end(cells, at);
+    while at < docs.len() {
+        at = doc_end(docs, at);
         count += 1;
     }
     count
 }
 
-// Where the cells of the document at a place end.
-fn doc_end(cells: &[Cell], from: usize) -> usize
-    requires { from < length cells.now }
+// Where the document at a place ends.
+fn doc_end(docs: &[u32], from: usize) -> usize
+    requires { from < length docs.now }
     ensures further { from < result }
-    ensures within { result ≤ length cells.now }
-    ensures same { (k : ℕ) (d : Cell) → from ≤ k → k < result
-        → (get_or cells.now k d).doc ≡ (get_or cells.now from d).doc }
-    ensures other { (d : Cell) → result < length cells.now
-        → (get_or cells.now result d).doc ≢ (get_or cells.now from d).doc }
+    ensures within { result ≤ length docs.now }
+    ensures same { (k d : ℕ) → from ≤ k → k < result
+        → get_or docs.now k d ≡ get_or docs.now from d }
+    ensures other { (d : ℕ) → result < length docs.now
+        → get_or docs.now result d ≢ get_or docs.now from d }
 {
-    let doc = cells[from].doc;
+    let doc = docs[from];
     let mut at = from + 1;
-    while at < cells.len() && cells[at].doc == doc {
+    while at < docs.len() && docs[at] == doc {
         at += 1;
     }
     at

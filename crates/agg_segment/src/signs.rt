@@ -1,5 +1,5 @@
 ghost use Rattle.std.specs.Prelude.{◌≡◌, ◌≢◌, ◌<◌, ◌∷◌, ◌++◌, [], ℕ, List, Err, length, map};
-ghost use Rattle.std.specs.Prelude.{OnOk, OnErr, IsErrOf};
+ghost use Rattle.std.specs.Prelude.{IfOk, OnOk, OnErr, IsErrOf};
 ghost use Rattle.std.specs.List.{All};
 ghost use Rattle.agg_segment.specs.Signs.{cell_sign, cell_mark, AreSigns, HasBoth, without_signs};
 
@@ -27,8 +27,8 @@ fn sign_of(value: CellValue) -> Sign
     }
 }
 
-/// Gives the fields of cells the signs of their numbers.
-pub fn give_signs(alloc: Global, signs: &mut [Sign], cells: &[Cell]) -> Result<(), BuildError>
+/// Gives the fields of cells the signs of their numbers. The fields that had none are returned.
+pub fn give_signs(alloc: Global, signs: &mut [Sign], cells: &[Cell]) -> Result<Vec<u32>, BuildError>
     requires { All (λ c. c.field < length signs.old) cells.now }
     ensures ok { OnOk result ((before : List (ℕ × Sign)) → AreSigns signs.old before
         → AreSigns signs.new (before ++ map cell_mark cells.now)) }
@@ -36,6 +36,10 @@ pub fn give_signs(alloc: Global, signs: &mut [Sign], cells: &[Cell]) -> Result<(
         → (before : List (ℕ × Sign)) → AreSigns signs.old before
         → HasBoth (before ++ map cell_mark cells.now) }
     ensures few { result ≢ Err BuildError.TooManyDocuments }
+    ensures undone { IfOk result
+        (λ given. without_signs given.items signs.new ≡ signs.old) }
+    ensures within { IfOk result
+        (λ given. All (λ field. field < length signs.old) given.items) }
     ensures err { OnErr result (signs.new ≡ signs.old) }
 {
     let mut given = Vec::new(alloc);
@@ -45,7 +49,7 @@ pub fn give_signs(alloc: Global, signs: &mut [Sign], cells: &[Cell]) -> Result<(
             return Err(error);
         }
     }
-    Ok(())
+    Ok(given)
 }
 
 // Gives a field a sign, and notes the field if it had none.
@@ -82,8 +86,8 @@ fn give_sign(
     Ok(())
 }
 
-// Takes the signs of fields away.
-fn take_back(signs: &mut [Sign], mut given: Vec<u32>)
+/// Takes the signs of fields away.
+pub fn take_back(signs: &mut [Sign], mut given: Vec<u32>)
     requires { All (λ field. field < length signs.old) given.items }
     ensures { signs.new ≡ without_signs given.items signs.old }
 {

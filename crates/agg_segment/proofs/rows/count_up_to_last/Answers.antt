@@ -6,6 +6,6 @@ use Rattle.agg_segment.proofs.rows.count_up_to_last.Goals as goal
 
 pub returns : goal.returns
 returns c =
-    let some : (length c.args.cells.now == 0) ≡ false =
+    let some : (length c.args.docs.now == 0) ≡ false =
     sym c.is_empty.ensures ∙ c.if-is_empty.false in
-    last_is_greatest c.args.cells.now c.requires _ (grind (arith, nat_tests))
+    last_is_greatest c.args.docs.now c.requires _ (grind (arith, nat_tests))

@@ -1,7 +1,8 @@
-use Rattle.std.proofs.Common.{◌∷◌, ◌++◌, [], ◌+◌, ℕ, List, get_or, take, drop, map}
+use Rattle.std.proofs.Common.{◌≡◌, Err, ◌∷◌, ◌++◌, [], ◌+◌, ℕ, List, get_or, take, drop, map}
 use Rattle.std.proofs.Common.{ap, subst, ◌∙◌, arith, false}
 use Rattle.std.proofs.lemmas.List.{take_all}
 use Rattle.agg_segment.specs.Signs.{cell_mark, HasBoth, AreSigns}
+use Rattle.agg_segment.specs.declared.builder.BuildError.TheVariants.{MixedNumbers}
 use Rattle.agg_segment.specs.declared.signs.Sign.{Sign}
 use Rattle.agg_segment.specs.declared.log.Cell.{Cell}
 use Rattle.agg_segment.specs.declared.log.CellValue.TheVariants as cell
@@ -17,7 +18,9 @@ returns-in-Err-clause-mixed c is before are =
     let cells = c.args.cells.now in
     let one : Cell = get_or cells l.cell-index none in
     let marks : List (ℕ × Sign) = before ++ map cell_mark (take l.cell-index cells) in
-    let both : HasBoth (marks ++ (one.field, c.sign_of.result) ∷ []) = c.in-Err.ensures.mixed is
+    let error : c.in-Err.error ≡ MixedNumbers = cc in
+    let both : HasBoth (marks ++ (one.field, c.sign_of.result) ∷ []) = c.in-Err.ensures.mixed
+    (ap Err error)
     marks (l.invariant.so_far before are) in
     let here : HasBoth (before ++ map cell_mark (take (l.cell-index + 1) cells)) =
     subst HasBoth (ap (λ s. marks ++ (one.field, s) ∷ []) c.sign_of.ensures

@@ -1,13 +1,28 @@
-use Rattle.std.proofs.Common.{ap, ◌∙◌}
-use Rattle.agg_segment.specs.Cells.{keys_at}
+use Rattle.std.proofs.Common.{List, length, ap, ◌∙◌}
+use Rattle.agg_segment.specs.Cells.{Placed, keys_at}
 use Rattle.agg_segment.specs.Document.{by_class}
-use Rattle.agg_segment.specs.Segment.{gathered_documents, documents_of}
+use Rattle.agg_segment.specs.Segment.{builder_cells, gathered_documents, documents_of}
+use Rattle.agg_segment.proofs.Building.{read_kept}
 use Rattle.agg_segment.proofs.Closed.{built_documents}
 use Rattle.agg_segment.proofs.builder.SegmentBuilder.build.Goals as goal
 
-pub into_columns-requires : goal.into_columns-requires
-into_columns-requires c =
-    rw (c.truncate.ensures, c.deref.ensures.value) c.self.invariant.signs
+pub into_columns-requires-clause-kept : goal.into_columns-requires-clause-kept
+into_columns-requires-clause-kept c =
+    rw (
+      c.as_slice.ensures,
+      c.into_kept-texts.ensures.texts,
+      c.deref.ensures.value,
+      c.into_kept-texts.ensures.addresses,
+    ) c.self.invariant.1
+
+pub into_columns-requires-clause-signs : goal.into_columns-requires-clause-signs
+into_columns-requires-clause-signs c =
+    let s = c.self.inside in
+    rw (read_kept s.signs.items c.deref-2.result.now s.columns s.log c.as_slice.result.now
+    c.deref.result.now c.deref-2.ensures.value
+    (c.as_slice.ensures ∙ c.into_kept-texts.ensures.texts)
+    (c.deref.ensures.value ∙ c.into_kept-texts.ensures.addresses))
+    (rw c.deref-2.ensures.value c.self.invariant.0.signs)
 
 pub returns-clause-built : goal.returns-clause-built
 returns-clause-built c =
@@ -18,8 +33,12 @@ returns-clause-built c =
       names = names;
       columns = c.in_ok-columns.columns.items;
     })) c.into_numbers.ensures
-    ∙ built_documents s.count s.names s.log s.signs.items s.closed c.self.invariant
-    c.in_ok-columns.columns.items
+    ∙ built_documents s.count s.names (builder_cells s.signs.items s.columns s.log) s.signs.items
+    (length s.columns) c.self.invariant.0 c.in_ok-columns.columns.items
     (λ field doc. c.in_ok-columns.ensures.keys field doc
-    ∙ ap (λ cells. by_class (keys_at cells field doc)) c.truncate.ensures)
+    ∙ ap (λ (cells : List Placed). by_class (keys_at cells field doc))
+    (read_kept s.signs.items c.deref-2.result.now s.columns s.log c.as_slice.result.now
+    c.deref.result.now c.deref-2.ensures.value
+    (c.as_slice.ensures ∙ c.into_kept-texts.ensures.texts)
+    (c.deref.ensures.value ∙ c.into_kept-texts.ensures.addresses)))
     ∙ ap gathered_documents c.self.view_is

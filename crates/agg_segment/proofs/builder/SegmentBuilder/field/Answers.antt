@@ -1,8 +1,10 @@
-use Rattle.std.proofs.Common.{◌≡◌, ℕ, List, Some, None, length, cond, ap, sym, ◌∙◌}
+use Rattle.std.proofs.Common.{◌≡◌, ◌++◌, ◌∷◌, [], ℕ, List, Some, None, length, cond, ap, sym, ◌∙◌}
 use Rattle.std.proofs.Common.{arith}
 use Rattle.std.specs.Str.{bytes_eq}
-use Rattle.agg_segment.specs.Cells.{number_of}
-use Rattle.agg_segment.specs.Segment.{gathered_documents, open_document}
+use Rattle.agg_segment.specs.Cells.{Placed, number_of}
+use Rattle.agg_segment.specs.Segment.{builder_cells, gathered_documents, open_document}
+use Rattle.agg_segment.specs.declared.signs.Sign.TheVariants.{Small}
+use Rattle.agg_segment.proofs.Building.{padded_read}
 use Rattle.agg_segment.proofs.Closed.{field_fields, field_documents, field_inv}
 use Rattle.agg_segment.proofs.builder.SegmentBuilder.field.Goals as goal
 
@@ -22,23 +24,47 @@ more c n =
     ∙ ap (λ names. cond (bytes_eq c.args.name.now n) (Some (length c.self.inside.signs.items))
     (number_of names n)) c.find.ensures.names
 
+abbrev whole : (c : goal.In_ok-push) → List Placed
+whole c = builder_cells c.self.inside.signs.items c.self.inside.columns c.self.inside.log
+
+-- the keys with one sign more
+same : (c : goal.In_ok-push)
+    → builder_cells c.push.new.self.items c.self.inside.columns c.self.inside.log ≡ whole c
+same c =
+    let s = c.self.inside in
+    ap (λ signs. builder_cells signs s.columns s.log)
+    (c.in_ok-push.ensures.items ∙ ap (λ signs. signs ++ Small ∷ []) c.in_ok-reserve.ensures.items)
+    ∙ ap (λ ps. ps ++ s.log.cells) (padded_read s.signs.items s.log.texts s.log.addresses s.columns)
+
 pub invariant_of-self-2 : goal.invariant_of-self-2
 invariant_of-self-2 c =
-    let s = c.self.inside in
-    rw (c.in_ok-push.ensures.items, c.in_ok-reserve.ensures.items)
-    (field_inv s.count s.names s.log s.signs.items s.closed c.self.invariant
-    c.args.name.now c.add.new.self (fresh c) (more c))
+    let s = c.self.inside in (
+      rw (same c) (rw (c.in_ok-push.ensures.items, c.in_ok-reserve.ensures.items)
+          (field_inv s.count s.names (whole c) s.signs.items (length s.columns) c.self.invariant.0
+          c.args.name.now c.add.new.self (fresh c) (more c))),
+      c.self.invariant.1,
+    )
 
 pub returns-clause-documents : goal.returns-clause-documents
 returns-clause-documents c =
     let s = c.self.inside in
-    field_documents s.count s.names s.log s.signs.items s.closed c.self.invariant
-    c.args.name.now c.add.new.self (fresh c) (more c)
+    ap (λ (cells : List Placed). gathered_documents (record {
+      count = s.count;
+      names = c.add.new.self;
+      cells = cells;
+    })) (same c)
+    ∙ field_documents s.count s.names (whole c) s.signs.items (length s.columns)
+    c.self.invariant.0 c.args.name.now c.add.new.self (fresh c) (more c)
     ∙ ap gathered_documents c.self.view_is
 
 pub returns-clause-opened : goal.returns-clause-opened
 returns-clause-opened c =
     let s = c.self.inside in
-    field_fields s.count s.names s.log s.signs.items s.closed c.self.invariant
+    ap (λ (cells : List Placed). open_document (record {
+      count = s.count;
+      names = c.add.new.self;
+      cells = cells;
+    })) (same c)
+    ∙ field_fields s.count s.names (whole c) s.signs.items (length s.columns) c.self.invariant.0
     c.args.name.now c.add.new.self (fresh c) (more c) s.count
     ∙ ap open_document c.self.view_is

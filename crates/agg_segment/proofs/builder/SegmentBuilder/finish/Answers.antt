@@ -1,13 +1,17 @@
 use Rattle.std.proofs.Common.{◌≡◌, ◌<◌, ◌∷◌, ◌++◌, [], length, take, drop, map}
-use Rattle.std.proofs.Common.{refl, sym, ap, subst, ◌∙◌, arith}
+use Rattle.std.proofs.Common.{Err, refl, sym, ap, subst, ◌∙◌, arith}
 use Rattle.std.proofs.lemmas.List.{with_items_is}
 use Rattle.std.proofs.lemmas.List.Elements.{All-drop}
 use Rattle.agg_segment.specs.Cells.{Placed}
-use Rattle.agg_segment.specs.Signs.{cell_mark, key_mark, AreSigns, HasBoth}
-use Rattle.agg_segment.specs.Segment.{Gathered, gathered_documents, open_document, IsMixed}
-use Rattle.agg_segment.proofs.Marked.{marked_fields, marks_joined}
-use Rattle.agg_segment.proofs.Closed.{documents_count, finish_documents, finish_open, finish_inv}
-use Rattle.agg_segment.proofs.Closed.{both_mixed, not_mixed}
+use Rattle.agg_segment.specs.Signs.{key_mark, AreSigns, HasBoth}
+use Rattle.agg_segment.specs.Segment.{Gathered, builder_cells, gathered_documents, open_document}
+use Rattle.agg_segment.specs.Segment.{IsMixed}
+use Rattle.agg_segment.specs.declared.builder.BuildError.TheVariants.{MixedNumbers}
+use Rattle.agg_segment.specs.declared.builder.BuildError.TheVariants.{TooManyDocuments}
+use Rattle.agg_segment.proofs.Marked.{marked_fields}
+use Rattle.agg_segment.proofs.Closed.{documents_count, finish_documents, both_mixed}
+use Rattle.agg_segment.proofs.Closing.{closed_inv, closed_documents, closed_open, closed_fits}
+use Rattle.agg_segment.proofs.Closing.{open_marks, all_marks, docs_closed}
 use Rattle.agg_segment.proofs.builder.SegmentBuilder.finish.Goals as goal
 
 pub returns-then-self-eq-MAX_DOCUMENTS-clause-full
@@ -20,15 +24,20 @@ returns-then-self-eq-MAX_DOCUMENTS-clause-full c = (
 
 pub give_signs-requires : goal.give_signs-requires
 give_signs-requires c =
+    let s = c.self.inside in
+    let whole = builder_cells s.signs.items s.columns s.log in
     rw c.deref_mut.ensures.value
-    (marked_fields c.cells_from-cells.result.now (drop c.self.inside.closed c.self.inside.log)
-    (length c.self.inside.signs.items) c.cells_from-cells.ensures
-    (All-drop (λ (p : Placed). p.field < length c.self.inside.signs.items) c.self.inside.closed
-    c.self.inside.log c.self.invariant.fields))
+    (marked_fields c.cells-cells.result.now (drop (length s.columns) whole)
+    (length s.signs.items) (open_marks s.signs.items s.columns s.log
+    c.cells-cells.result.now c.cells-cells.ensures.cells)
+    (All-drop (λ (p : Placed). p.field < length s.signs.items) (length s.columns) whole
+    c.self.invariant.0.fields))
 
 pub returns-in-Err-clause-full : goal.returns-in-Err-clause-full
 returns-in-Err-clause-full c = (
-  λ is. absurd (c.in-Err.ensures.few is),
+  λ is.
+      let error : c.in-Err.error ≡ TooManyDocuments = cc in
+      absurd (c.in-Err.ensures.few (ap Err error)),
   λ full.
       let count : length (gathered_documents c.args.self.now) ≡ c.self.inside.count =
       documents_count c.args.self.now ∙ ap (λ (b : Gathered). b.count) (sym c.self.view_is) in
@@ -38,59 +47,94 @@ returns-in-Err-clause-full c = (
 pub returns-in-Err-clause-mixed : goal.returns-in-Err-clause-mixed
 returns-in-Err-clause-mixed c is =
     let s = c.self.inside in
-    let names = s.names in
-    let before = map key_mark (take s.closed s.log) in
+    let whole = builder_cells s.signs.items s.columns s.log in
+    let before = map key_mark (take (length s.columns) whole) in
     let are : AreSigns c.deref_mut.result.now before = subst (λ signs. AreSigns signs before)
-    (sym c.deref_mut.ensures.value) c.self.invariant.signs in
-    let joined : before ++ map cell_mark c.cells_from-cells.result.now ≡ map key_mark s.log =
-    ap (λ ms. before ++ ms) c.cells_from-cells.ensures ∙ marks_joined s.log s.closed in
-    let both : HasBoth (map key_mark s.log) = subst HasBoth joined (c.in-Err.ensures.mixed is before
-    are) in
-    subst IsMixed (finish_documents s.count names s.log s.signs.items s.closed c.self.invariant
+    (sym c.deref_mut.ensures.value) c.self.invariant.0.signs in
+    let error : c.in-Err.error ≡ MixedNumbers = cc in
+    let both : HasBoth (map key_mark whole) = subst HasBoth (all_marks s.signs.items s.columns s.log
+    c.cells-cells.result.now c.cells-cells.ensures.cells)
+    (c.in-Err.ensures.mixed (ap Err error) before are) in
+    subst IsMixed (finish_documents s.count s.names whole s.signs.items (length s.columns)
+    c.self.invariant.0
     ∙ ap (λ (b : Gathered). gathered_documents b ++ open_document b ∷ []) c.self.view_is)
-    (both_mixed s.count names s.log s.signs.items s.closed c.self.invariant both)
+    (both_mixed s.count s.names whole s.signs.items (length s.columns) c.self.invariant.0 both)
+
+pub add_all-requires-clause-behind : goal.add_all-requires-clause-behind
+add_all-requires-clause-behind c =
+    let s = c.self.inside in
+    docs_closed s.count s.names s.signs.items s.columns s.log c.self.invariant
+
+pub returns-in-Err-add_all-clause-full : goal.returns-in-Err-add_all-clause-full
+returns-in-Err-add_all-clause-full c = (
+  λ is. cc,
+  λ full.
+      let count : length (gathered_documents c.args.self.now) ≡ c.self.inside.count =
+      documents_count c.args.self.now ∙ ap (λ (b : Gathered). b.count) (sym c.self.view_is) in
+      absurd (c.if-self-eq-MAX_DOCUMENTS.false (sym count ∙ full)),
+)
 
 -- the signs afterwards
-signs_after : (c : goal.After-self-3-1)
-    → AreSigns c.give_signs.new.signs (map key_mark c.self.inside.log)
+signs_after : (c : goal.After-drop-given) → AreSigns c.give_signs.new.signs (map key_mark
+    (builder_cells c.self.inside.signs.items c.self.inside.columns c.self.inside.log))
 signs_after c =
     let s = c.self.inside in
-    let before = map key_mark (take s.closed s.log) in
+    let before = map key_mark (take (length s.columns)
+    (builder_cells s.signs.items s.columns s.log)) in
     let are : AreSigns c.deref_mut.result.now before = subst (λ signs. AreSigns signs before)
-    (sym c.deref_mut.ensures.value) c.self.invariant.signs in
-    let joined : before ++ map cell_mark c.cells_from-cells.result.now ≡ map key_mark s.log =
-    ap (λ ms. before ++ ms) c.cells_from-cells.ensures ∙ marks_joined s.log s.closed in
-    subst (AreSigns c.give_signs.new.signs) joined (c.in_default.ensures.ok before are)
+    (sym c.deref_mut.ensures.value) c.self.invariant.0.signs in
+    subst (AreSigns c.give_signs.new.signs) (all_marks s.signs.items s.columns s.log
+    c.cells-cells.result.now c.cells-cells.ensures.cells) (c.in-Ok.ensures.ok before are)
+
+as_long : (c : goal.After-drop-given) → length c.give_signs.new.signs ≡ c.self.inside.signs.len
+as_long c = omega (arith, c.give_signs.auto.signs, c.deref_mut.ensures.len)
 
 pub invariant_of-self-2 : goal.invariant_of-self-2
 invariant_of-self-2 c =
     let s = c.self.inside in
-    let as_long : length c.give_signs.new.signs ≡ s.signs.len =
-    omega (arith, c.give_signs.auto.signs, c.deref_mut.ensures.len) in
-    let same : length c.give_signs.new.signs ≡ length s.signs.items =
-    omega (arith, c.give_signs.auto.signs, ap length c.deref_mut.ensures.value) in
-    rw (with_items_is s.signs c.give_signs.new.signs as_long)
-    (finish_inv s.count s.names s.log s.signs.items s.closed c.self.invariant
-    c.give_signs.new.signs same
-    (omega (arith, c.self.invariant.few, c.if-self-eq-MAX_DOCUMENTS.false)) (signs_after c)
-    c.len-self-inside.result c.len-self-inside.ensures)
+    let (more, rows, alike) = c.in_default.ensures.ok in
+    let e = c.clear.ensures in
+    rw (with_items_is s.signs c.give_signs.new.signs (as_long c))
+    (closed_inv s.count s.names s.signs.items s.columns s.log c.self.invariant
+    c.cells-cells.result.now c.cells-cells.ensures.cells c.cells-cells.ensures.kept
+    c.give_signs.new.signs (signs_after c) more rows c.add_all.new.self alike c.clear.new.self
+    e.texts e.addresses e.cells
+    (omega (arith, c.give_signs.auto.signs, ap length c.deref_mut.ensures.value))
+    (omega (arith, c.self.invariant.0.few, c.if-self-eq-MAX_DOCUMENTS.false)))
 
 pub returns-clause-ok : goal.returns-clause-ok
 returns-clause-ok c =
     let s = c.self.inside in
-    finish_documents s.count s.names s.log s.signs.items s.closed c.self.invariant
-    ∙ ap (λ (b : Gathered). gathered_documents b ++ open_document b ∷ []) c.self.view_is
+    let (more, rows, alike) = c.in_default.ensures.ok in
+    let e = c.clear.ensures in
+    rw (with_items_is s.signs c.give_signs.new.signs (as_long c))
+    (closed_documents s.count s.names s.signs.items s.columns s.log c.self.invariant
+    c.cells-cells.result.now c.cells-cells.ensures.cells c.cells-cells.ensures.kept
+    c.give_signs.new.signs (signs_after c) more rows c.add_all.new.self alike c.clear.new.self
+    e.texts e.addresses e.cells
+    ∙ ap (λ (b : Gathered). gathered_documents b ++ open_document b ∷ []) c.self.view_is)
 
 pub returns-clause-opened : goal.returns-clause-opened
 returns-clause-opened c =
     let s = c.self.inside in
-    finish_open s.count s.names s.log s.signs.items s.closed c.self.invariant
+    let (more, rows, alike) = c.in_default.ensures.ok in
+    let e = c.clear.ensures in
+    rw (with_items_is s.signs c.give_signs.new.signs (as_long c))
+    (closed_open s.count s.names s.signs.items s.columns s.log c.self.invariant
+    c.cells-cells.result.now c.cells-cells.ensures.cells c.cells-cells.ensures.kept
+    c.give_signs.new.signs (signs_after c) more rows c.add_all.new.self alike c.clear.new.self
+    e.texts e.addresses e.cells)
 
 pub returns-clause-fits : goal.returns-clause-fits
-returns-clause-fits c mixed =
+returns-clause-fits c =
     let s = c.self.inside in
-    not_mixed s.count s.names s.log s.signs.items s.closed c.self.invariant
-    c.give_signs.new.signs (signs_after c) mixed
+    let (more, rows, alike) = c.in_default.ensures.ok in
+    let e = c.clear.ensures in
+    rw (with_items_is s.signs c.give_signs.new.signs (as_long c))
+    (closed_fits s.count s.names s.signs.items s.columns s.log c.self.invariant
+    c.cells-cells.result.now c.cells-cells.ensures.cells c.cells-cells.ensures.kept
+    c.give_signs.new.signs (signs_after c) more rows c.add_all.new.self alike c.clear.new.self
+    e.texts e.addresses e.cells)
 
 pub returns-clause-full : goal.returns-clause-full
 returns-clause-full c = (

@@ -1,7 +1,7 @@
 use Rattle.std.proofs.Common.{◌≤◌, ◌++◌, ◌∷◌, [], length, map, ap, ◌∙◌, arith, length-append}
 use Rattle.std.proofs.lemmas.List.{map-append}
 use Rattle.std.proofs.lemmas.List.Elements.{All-push}
-use Rattle.agg_segment.specs.Cells.{placed, IsKept}
+use Rattle.agg_segment.specs.Cells.{Logged, placed, IsKept}
 use Rattle.agg_segment.specs.Document.{key_of}
 use Rattle.agg_segment.specs.declared.log.Cell.{Cell}
 use Rattle.agg_segment.proofs.Kept.{cells_longer, kept_longer, still, on_err_given}
@@ -13,7 +13,7 @@ returns-in_err-value-clause-err c =
     let a = c.in_err-value.ensures.addresses in
     on_err_given c.from_residual.result (still c.self.inside.texts t.0
     c.self.inside.addresses.items a.0 c.self.inside.cells.items _ _ t.1 a.1 c.self.invariant
-    ∙ c.self.view_is)
+    ∙ ap (λ (log : Logged). log.cells) c.self.view_is)
 
 pub returns-in_err-push-clause-err : goal.returns-in_err-push-clause-err
 returns-in_err-push-clause-err c =
@@ -22,7 +22,8 @@ returns-in_err-push-clause-err c =
     on_err_given c.from_residual-in_err-push.result
     (ap (map (placed c.keep.new.texts c.keep.new.addresses.items)) c.in_err-push.ensures.items
     ∙ still c.self.inside.texts t.0 c.self.inside.addresses.items a.0
-    c.self.inside.cells.items _ _ t.1 a.1 c.self.invariant ∙ c.self.view_is)
+    c.self.inside.cells.items _ _ t.1 a.1 c.self.invariant
+    ∙ ap (λ (log : Logged). log.cells) c.self.view_is)
 
 pub invariant_of-self-2 : goal.invariant_of-self-2
 invariant_of-self-2 c =

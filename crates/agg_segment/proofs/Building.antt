@@ -1,0 +1,303 @@
+-- A builder's keys: those of the closed documents' columns, and those of the open document.
+use Rattle.std.proofs.Common.{◌≡◌, ◌≢◌, ◌<◌, ◌≤◌, ◌^◌, ℕ, zero, suc, List, [], ◌∷◌, ◌++◌}
+use Rattle.std.proofs.Common.{length, get_or, take, drop, map, true, false, refl, sym, ap, subst}
+use Rattle.std.proofs.Common.{◌∙◌, inl, inr, arith}
+use Rattle.std.specs.Prelude.{nat_lt, int_lt, pos, ◌-ℤ◌}
+use Rattle.std.specs.List.{All}
+use Rattle.std.proofs.lemmas.Int.{ints}
+use Rattle.std.proofs.lemmas.Bool.{cases_Bool}
+use Rattle.std.proofs.lemmas.Bool.Decides.{nat_tests}
+use Rattle.std.proofs.lemmas.List.{append-nil, append_assoc, length-map}
+use Rattle.std.proofs.lemmas.List.{get_or_append_left}
+use Rattle.std.proofs.Math.Seq.{take-append_seam, drop-append_seam}
+use Rattle.std.proofs.lemmas.List.Elements.{All-head, All-tail, All-weaker}
+use Rattle.agg_values.specs.declared.address.Address.{Address}
+use Rattle.agg_values.specs.declared.column.ColumnPaginationOrder.{ColumnPaginationOrder}
+use Rattle.agg_values.specs.declared.column.ColumnPaginationOrder.TheVariants as class
+use Rattle.agg_values.specs.declared.typed_key.CompositeIntermediateKey.TheVariants as key
+use Rattle.agg_segment.specs.Cells.{Placed, Logged, placed, stored_key, IsKept}
+use Rattle.agg_segment.specs.Segment.{builder_cells}
+use Rattle.agg_segment.specs.CellOrder.{cell_class}
+use Rattle.agg_segment.specs.Gatherings.{Raw, raw_key, raw_placed, kind_of, IsRaw, AreRawsOf}
+use Rattle.agg_segment.specs.Gatherings.{IsNumberOf}
+use Rattle.agg_segment.specs.Signs.{sign_of, cell_sign, cell_mark, key_mark, IsFieldSign}
+use Rattle.agg_segment.specs.declared.hit.ColumnType.TheVariants as kind
+use Rattle.agg_segment.specs.declared.log.Cell.{Cell}
+use Rattle.agg_segment.specs.declared.log.CellValue.{CellValue}
+use Rattle.agg_segment.specs.declared.log.CellValue.TheVariants as cell
+use Rattle.agg_segment.specs.declared.signs.Sign.{Sign}
+use Rattle.agg_segment.specs.declared.signs.Sign.TheVariants.{Small, Negative, Large}
+use Rattle.agg_segment.proofs.Closed.{padded}
+
+-- ---- more texts and addresses beside numbers
+
+longer_key : (texts more : List (List ℕ)) (addresses others : List Address) (sign : Sign)
+    (c : ColumnPaginationOrder) (n : ℕ) → IsRaw (length texts) (length addresses) c n
+    → raw_key (texts ++ more) (addresses ++ others) (kind_of sign c) n
+    ≡ raw_key texts addresses (kind_of sign c) n
+longer_key texts more addresses others sign class.Bool n raw = refl
+longer_key texts more addresses others sign class.Str n raw =
+    ap (λ t. key.Str t) (get_or_append_left texts more [] n raw)
+longer_key texts more addresses others Large class.Numeric n raw = refl
+longer_key texts more addresses others Small class.Numeric n raw = refl
+longer_key texts more addresses others Negative class.Numeric n raw = refl
+longer_key texts more addresses others sign class.IpAddr n raw = ap (λ a. key.IpAddr a)
+    (get_or_append_left addresses others (record { 0 = 0 }) n raw)
+longer_key texts more addresses others sign class.DateTime n raw = refl
+
+longer_rows : (signs : List Sign) (texts more : List (List ℕ)) (addresses others : List Address)
+    (rs : List Raw) → All (λ r. IsRaw (length texts) (length addresses) r.class r.number) rs
+    → map (raw_placed signs (texts ++ more) (addresses ++ others)) rs
+    ≡ map (raw_placed signs texts addresses) rs
+longer_rows signs texts more addresses others [] all = refl
+longer_rows signs texts more addresses others (r ∷ rs) all =
+    let P : Raw → Type 0 = λ s. IsRaw (length texts) (length addresses) s.class s.number in
+    ap (λ k. let p : Placed = record { field = r.field; doc = r.doc; key = k } in
+    p ∷ map (raw_placed signs (texts ++ more) (addresses ++ others)) rs)
+    (longer_key texts more addresses others (get_or signs r.field Small) r.class r.number
+    (All-head P r rs all))
+    ∙ ap (λ ps. raw_placed signs texts addresses r ∷ ps)
+    (longer_rows signs texts more addresses others rs (All-tail P r rs all))
+
+pub still_read : (signs : List Sign) (texts more : List (List ℕ)) (addresses others : List Address)
+    (rs : List Raw) (ts : List (List ℕ)) (as' : List Address) → ts ≡ texts ++ more
+    → as' ≡ addresses ++ others
+    → All (λ r. IsRaw (length texts) (length addresses) r.class r.number) rs
+    → map (raw_placed signs ts as') rs ≡ map (raw_placed signs texts addresses) rs
+still_read signs texts more addresses others rs ts as' is are all =
+    ap (λ t. map (raw_placed signs t as') rs) is
+    ∙ ap (λ a. map (raw_placed signs (texts ++ more) a) rs) are
+    ∙ longer_rows signs texts more addresses others rs all
+
+raw_more : (n m i j : ℕ) (c : ColumnPaginationOrder) (number : ℕ) → n ≤ i → m ≤ j
+    → IsRaw n m c number → IsRaw i j c number
+raw_more n m i j class.Bool number up on raw = raw
+raw_more n m i j class.Str number up on raw = omega (arith, up, raw)
+raw_more n m i j class.Numeric number up on raw = raw
+raw_more n m i j class.IpAddr number up on raw = omega (arith, on, raw)
+raw_more n m i j class.DateTime number up on raw = raw
+
+pub raws_longer : (n m i j : ℕ) (rs : List Raw) → n ≤ i → m ≤ j
+    → All (λ r. IsRaw n m r.class r.number) rs → All (λ r. IsRaw i j r.class r.number) rs
+raws_longer n m i j rs up on all = All-weaker (λ (r : Raw). IsRaw n m r.class r.number) (λ r.
+    IsRaw i j r.class r.number) (λ r. raw_more n m i j r.class r.number up on) rs all
+
+-- ---- a field that is new has no sign
+
+pub padded_read : (signs : List Sign) (texts : List (List ℕ)) (addresses : List Address)
+    (rs : List Raw) → map (raw_placed (signs ++ Small ∷ []) texts addresses) rs
+    ≡ map (raw_placed signs texts addresses) rs
+padded_read signs texts addresses [] = refl
+padded_read signs texts addresses (r ∷ rs) =
+    ap (λ s. let p : Placed = record {
+      field = r.field;
+      doc = r.doc;
+      key = raw_key texts addresses (kind_of s r.class) r.number;
+    } in p ∷ map (raw_placed (signs ++ Small ∷ []) texts addresses) rs) (padded signs r.field)
+    ∙ ap (λ ps. raw_placed signs texts addresses r ∷ ps) (padded_read signs texts addresses rs)
+
+-- ---- numbers keep their keys when their fields get signs
+
+high_key : (texts : List (List ℕ)) (addresses : List Address) (sign : Sign) (n : ℕ)
+    → nat_lt n (2 ^ 63) ≡ false
+    → raw_key texts addresses (kind_of sign class.Numeric) n ≡ key.I64 (pos n -ℤ pos (2 ^ 63))
+high_key texts addresses Large n high = rw high refl
+high_key texts addresses Small n high = refl
+high_key texts addresses Negative n high = refl
+
+below_zero : (n : ℕ) → nat_lt n (2 ^ 63) ≡ true → int_lt (pos n -ℤ pos (2 ^ 63)) (pos 0) ≡ true
+below_zero n low = let l : n < 2 ^ 63 = grind (arith, nat_tests) in grind (arith, ints, nat_tests)
+
+signed_key : (texts : List (List ℕ)) (addresses : List Address) (old new : Sign)
+    (c : ColumnPaginationOrder) (n : ℕ)
+    → (sign_of (raw_key texts addresses (kind_of old c) n) ≢ Small
+    → new ≡ sign_of (raw_key texts addresses (kind_of old c) n))
+    → raw_key texts addresses (kind_of new c) n ≡ raw_key texts addresses (kind_of old c) n
+signed_key texts addresses old new class.Bool n says = refl
+signed_key texts addresses old new class.Str n says = refl
+signed_key texts addresses old new class.Numeric n says = elim (cases_Bool (nat_lt n (2 ^ 63))) [
+  | inl low ↦ by_sign old low says
+  | inr high ↦ high_key texts addresses new n high ∙ sym (high_key texts addresses old n high)
+]
+  where
+    signed : nat_lt n (2 ^ 63) ≡ true
+        → sign_of (key.I64 (pos n -ℤ pos (2 ^ 63))) ≡ Negative
+    signed low = rw (below_zero n low) refl
+
+    by_sign : (s : Sign) → nat_lt n (2 ^ 63) ≡ true
+        → (sign_of (raw_key texts addresses (kind_of s class.Numeric) n) ≢ Small
+        → new ≡ sign_of (raw_key texts addresses (kind_of s class.Numeric) n))
+        → raw_key texts addresses (kind_of new class.Numeric) n
+        ≡ raw_key texts addresses (kind_of s class.Numeric) n
+    by_sign Large low told =
+        let large : sign_of (raw_key texts addresses kind.U64 n) ≡ Large = rw low refl in
+        let is : new ≡ Large = told (λ small. let both : Large ≡ Small = sym large ∙ small in cc)
+        ∙ large in
+        ap (λ t. raw_key texts addresses (kind_of t class.Numeric) n) is
+    by_sign Small low told =
+        let is : new ≡ Negative = told (λ small. let both : Negative ≡ Small = sym (signed low)
+        ∙ small in cc) ∙ signed low in
+        ap (λ t. raw_key texts addresses (kind_of t class.Numeric) n) is
+    by_sign Negative low told =
+        let is : new ≡ Negative = told (λ small. let both : Negative ≡ Small = sym (signed low)
+        ∙ small in cc) ∙ signed low in
+        ap (λ t. raw_key texts addresses (kind_of t class.Numeric) n) is
+signed_key texts addresses old new class.IpAddr n says = refl
+signed_key texts addresses old new class.DateTime n says = refl
+
+pub signed_read : (old new : List Sign) (texts : List (List ℕ)) (addresses : List Address)
+    (rs : List Raw)
+    → All (IsFieldSign new) (map key_mark (map (raw_placed old texts addresses) rs))
+    → map (raw_placed new texts addresses) rs ≡ map (raw_placed old texts addresses) rs
+signed_read old new texts addresses [] all = refl
+signed_read old new texts addresses (r ∷ rs) all =
+    let read = raw_placed old texts addresses in
+    ap (λ k. let p : Placed = record { field = r.field; doc = r.doc; key = k } in
+    p ∷ map (raw_placed new texts addresses) rs)
+    (signed_key texts addresses (get_or old r.field Small) (get_or new r.field Small) r.class
+    r.number (All-head (IsFieldSign new) (key_mark (read r)) (map key_mark (map read rs)) all))
+    ∙ ap (λ ps. read r ∷ ps) (signed_read old new texts addresses rs
+    (All-tail (IsFieldSign new) (key_mark (read r)) (map key_mark (map read rs)) all))
+
+-- ---- the numbers that cells become
+
+cell_key : (texts : List (List ℕ)) (addresses : List Address) (sign : Sign) (v : CellValue) (n : ℕ)
+    → IsNumberOf v n → (cell_sign v ≢ Small → sign ≡ cell_sign v)
+    → raw_key texts addresses (kind_of sign (cell_class v)) n ≡ stored_key texts addresses v
+cell_key texts addresses sign (cell.Bool true) n is says = rw is refl
+cell_key texts addresses sign (cell.Bool false) n is says = rw is refl
+cell_key texts addresses sign (cell.Str place) n is says = rw is refl
+cell_key texts addresses sign (cell.I64 m) n is says = by_sign sign says
+  where
+    by_sign : (s : Sign) → (cell_sign (cell.I64 m) ≢ Small → s ≡ cell_sign (cell.I64 m))
+        → raw_key texts addresses (kind_of s class.Numeric) n ≡ key.I64 m
+    by_sign Large told = elim (cases_Bool (nat_lt n (2 ^ 63))) [
+      | inl low ↦
+          let negative : cell_sign (cell.I64 m) ≡ Negative =
+          rw (← is) (rw (below_zero n low) refl) in
+          let clash : Large ≡ Negative = told (λ small. let both : Negative ≡ Small =
+          sym negative ∙ small in cc) ∙ negative in
+          cc
+      | inr high ↦ high_key texts addresses Large n high ∙ ap (λ x. key.I64 x) is
+    ]
+    by_sign Small told = ap (λ x. key.I64 x) is
+    by_sign Negative told = ap (λ x. key.I64 x) is
+cell_key texts addresses sign (cell.U64 m) n is says =
+    let large : sign ≡ Large = says (λ small. let both : Large ≡ Small = small in cc) in
+    let low : nat_lt n (2 ^ 63) ≡ true = let l = is.0 in grind (arith, nat_tests) in
+    rw (large, low) (ap (λ x. key.U64 x) is.1)
+cell_key texts addresses sign (cell.Ip place) n is says = rw is refl
+cell_key texts addresses sign (cell.Date ns) n is says = ap (λ x. key.DateTime x) is
+
+pub cells_read : (signs : List Sign) (texts : List (List ℕ)) (addresses : List Address) (doc : ℕ)
+    (cells : List Cell) (rs : List Raw) → AreRawsOf doc cells rs
+    → All (λ p. p.doc ≡ doc) (map (placed texts addresses) cells)
+    → All (IsFieldSign signs) (map cell_mark cells)
+    → map (raw_placed signs texts addresses) rs ≡ map (placed texts addresses) cells
+cells_read signs texts addresses doc [] [] are docs all = refl
+cells_read signs texts addresses doc [] (r ∷ rs) are docs all = absurd are
+cells_read signs texts addresses doc (c ∷ cells) [] are docs all = absurd are
+cells_read signs texts addresses doc (c ∷ cells) (r ∷ rs) are docs all =
+    let one = are.0 in
+    let at : r.doc ≡ c.doc = one.at ∙ sym (All-head (λ (p : Placed). p.doc ≡ doc)
+    (placed texts addresses c) (map (placed texts addresses) cells) docs) in
+    let rest : map (raw_placed signs texts addresses) rs ≡ map (placed texts addresses) cells =
+    cells_read signs texts addresses doc cells rs are.1 (All-tail (λ (p : Placed). p.doc ≡ doc)
+    (placed texts addresses c) (map (placed texts addresses) cells) docs)
+    (All-tail (IsFieldSign signs) (cell_mark c) (map cell_mark cells) all) in
+    let says = All-head (IsFieldSign signs) (cell_mark c) (map cell_mark cells) all in
+    let its_key : raw_key texts addresses (kind_of (get_or signs r.field Small) r.class) r.number
+    ≡ stored_key texts addresses c.value =
+    ap (λ f. raw_key texts addresses (kind_of (get_or signs f Small) r.class) r.number) one.field
+    ∙ ap (λ k. raw_key texts addresses (kind_of (get_or signs c.field Small) k) r.number) one.class
+    ∙ cell_key texts addresses (get_or signs c.field Small) c.value r.number one.number says in
+    ap (λ f. let p : Placed = record {
+      field = f;
+      doc = r.doc;
+      key = raw_key texts addresses (kind_of (get_or signs r.field Small) r.class) r.number;
+    } in p ∷ map (raw_placed signs texts addresses) rs) one.field
+    ∙ ap (λ d. let p : Placed = record {
+      field = c.field;
+      doc = d;
+      key = raw_key texts addresses (kind_of (get_or signs r.field Small) r.class) r.number;
+    } in p ∷ map (raw_placed signs texts addresses) rs) at
+    ∙ ap (λ k. let p : Placed = record { field = c.field; doc = c.doc; key = k } in
+    p ∷ map (raw_placed signs texts addresses) rs) its_key
+    ∙ ap (λ ps. placed texts addresses c ∷ ps) rest
+
+cell_raw : (n m : ℕ) (v : CellValue) (number : ℕ) → IsKept n m v → IsNumberOf v number
+    → number < 2 ^ 64 → IsRaw n m (cell_class v) number
+cell_raw n m (cell.Bool true) number kept is fits = omega (arith, is)
+cell_raw n m (cell.Bool false) number kept is fits = omega (arith, is)
+cell_raw n m (cell.Str place) number kept is fits = omega (arith, kept, is)
+cell_raw n m (cell.I64 x) number kept is fits = fits
+cell_raw n m (cell.U64 x) number kept is fits = fits
+cell_raw n m (cell.Ip place) number kept is fits = omega (arith, kept, is)
+cell_raw n m (cell.Date x) number kept is fits = fits
+
+pub cells_raw : (n m doc : ℕ) (cells : List Cell) (rs : List Raw) → AreRawsOf doc cells rs
+    → All (λ c. IsKept n m c.value) cells → All (λ r. IsRaw n m r.class r.number) rs
+cells_raw n m doc [] [] are all k d l = absurd (omega (arith, l))
+cells_raw n m doc [] (r ∷ rs) are all k d l = absurd are
+cells_raw n m doc (c ∷ cells) [] are all k d l = absurd are
+cells_raw n m doc (c ∷ cells) (r ∷ rs) are all zero d l =
+    subst (λ k. IsRaw n m k r.number) (sym are.0.class)
+    (cell_raw n m c.value r.number (all 0 c (omega arith)) are.0.number are.0.fits)
+cells_raw n m doc (c ∷ cells) (r ∷ rs) are all (suc k) d l =
+    cells_raw n m doc cells rs are.1 (All-tail (λ (e : Cell). IsKept n m e.value) c cells all) k d
+    (omega (arith, l))
+
+-- ---- the keys of the closed documents, and of the open one
+
+pub taken : (read : Raw → Placed) (rs : List Raw) (ps : List Placed)
+    → take (length rs) (map read rs ++ ps) ≡ map read rs
+taken read rs ps = ap (λ n. take n (map read rs ++ ps)) (sym (length-map rs read))
+    ∙ take-append_seam (map read rs) ps
+
+pub dropped : (read : Raw → Placed) (rs : List Raw) (ps : List Placed)
+    → drop (length rs) (map read rs ++ ps) ≡ ps
+dropped read rs ps = ap (λ n. drop n (map read rs ++ ps)) (sym (length-map rs read))
+    ∙ drop-append_seam (map read rs) ps
+
+-- the keys of the closed documents alone
+pub read_again : (signs : List Sign) (rs : List Raw) (log new : Logged) → new.texts ≡ log.texts
+    → new.addresses ≡ log.addresses → new.cells ≡ []
+    → builder_cells signs rs new ≡ take (length rs) (builder_cells signs rs log)
+read_again signs rs log new texts addresses cells =
+    ap (λ ps. map (raw_placed signs new.texts new.addresses) rs ++ ps) cells
+    ∙ append-nil (map (raw_placed signs new.texts new.addresses) rs)
+    ∙ ap (λ ts. map (raw_placed signs ts new.addresses) rs) texts
+    ∙ ap (λ as'. map (raw_placed signs log.texts as') rs) addresses
+    ∙ sym (taken (raw_placed signs log.texts log.addresses) rs log.cells)
+
+-- the keys with other ones of the open document
+pub read_beside : (signs : List Sign) (rs : List Raw) (log new : Logged) (more : List (List ℕ))
+    (others : List Address) (ps : List Placed) → new.texts ≡ log.texts ++ more
+    → new.addresses ≡ log.addresses ++ others
+    → All (λ r. IsRaw (length log.texts) (length log.addresses) r.class r.number) rs
+    → new.cells ≡ ps
+    → builder_cells signs rs new ≡ map (raw_placed signs log.texts log.addresses) rs ++ ps
+read_beside signs rs log new more others ps texts addresses all cells =
+    ap (λ qs. map (raw_placed signs new.texts new.addresses) rs ++ qs) cells
+    ∙ ap (λ qs. qs ++ ps) (still_read signs log.texts more log.addresses others rs new.texts
+    new.addresses texts addresses all)
+
+pub read_pushed : (signs : List Sign) (rs : List Raw) (log new : Logged) (more : List (List ℕ))
+    (others : List Address) (p : Placed) → new.texts ≡ log.texts ++ more
+    → new.addresses ≡ log.addresses ++ others
+    → All (λ r. IsRaw (length log.texts) (length log.addresses) r.class r.number) rs
+    → new.cells ≡ log.cells ++ p ∷ []
+    → builder_cells signs rs new ≡ builder_cells signs rs log ++ p ∷ []
+read_pushed signs rs log new more others p texts addresses all cells =
+    read_beside signs rs log new more others (log.cells ++ p ∷ []) texts addresses all cells
+    ∙ sym (append_assoc (map (raw_placed signs log.texts log.addresses) rs) log.cells (p ∷ []))
+
+-- the keys of the closed documents, by what was kept
+pub read_kept : (signs ss : List Sign) (rs : List Raw) (log : Logged) (ts : List (List ℕ))
+    (as' : List Address) → ss ≡ signs → ts ≡ log.texts → as' ≡ log.addresses
+    → map (raw_placed ss ts as') rs ≡ take (length rs) (builder_cells signs rs log)
+read_kept signs ss rs log ts as' same texts addresses =
+    ap (λ s. map (raw_placed s ts as') rs) same
+    ∙ ap (λ t. map (raw_placed signs t as') rs) texts
+    ∙ ap (λ a. map (raw_placed signs log.texts a) rs) addresses
+    ∙ sym (taken (raw_placed signs log.texts log.addresses) rs log.cells)

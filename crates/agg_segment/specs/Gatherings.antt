@@ -1,0 +1,201 @@
+-- Numbers of fields and classes, while more may come.
+use Rattle.std.specs.Prelude.{◌≡◌, ◌≢◌, ◌==◌, ◌&&◌, ◌<◌, ◌≤◌, ◌+◌, ◌-◌, ◌^◌, ◌-ℤ◌, pos, ⊤}
+use Rattle.std.specs.Prelude.{ℕ, Bool, List, [], ◌∷◌, ◌++◌, length, get_or, map, filter, flat_map}
+use Rattle.std.specs.Prelude.{if◌then◌else◌, nat_lt}
+use Rattle.std.specs.List.{All, Contains}
+use Rattle.agg_values.specs.declared.address.Address.{Address}
+use Rattle.agg_values.specs.declared.column.ColumnPaginationOrder.{ColumnPaginationOrder}
+use Rattle.agg_values.specs.declared.column.ColumnPaginationOrder.TheVariants as class
+use Rattle.agg_values.specs.TypedKey.{CompositeIntermediateKey}
+use Rattle.agg_values.specs.declared.typed_key.CompositeIntermediateKey.TheVariants as key
+use Rattle.agg_segment.specs.Cells.{Placed}
+use Rattle.agg_segment.specs.CellOrder.{cell_class, order_rank}
+use Rattle.agg_segment.specs.Columns.{StoredColumn, keys_rank}
+use Rattle.agg_segment.specs.Dictionary.{text_at, address_at, HasOrdinal}
+use Rattle.agg_segment.specs.declared.gatherings.Gathering.{Gathering}
+use Rattle.agg_segment.specs.declared.keys.ColumnKeys.{ColumnKeys}
+use Rattle.agg_segment.specs.declared.keys.ColumnKeys.TheVariants.{Bools, Texts}
+use Rattle.agg_segment.specs.declared.keys.ColumnKeys.TheVariants.{Addresses}
+use Rattle.agg_segment.specs.declared.hit.ColumnType.{ColumnType}
+use Rattle.agg_segment.specs.declared.hit.ColumnType.TheVariants as kind
+use Rattle.agg_segment.specs.declared.log.Cell.{Cell}
+use Rattle.agg_segment.specs.declared.log.CellValue.{CellValue}
+use Rattle.agg_segment.specs.declared.log.CellValue.TheVariants as cell
+use Rattle.agg_segment.specs.declared.signs.Sign.{Sign}
+use Rattle.agg_segment.specs.declared.signs.Sign.TheVariants.{Small, Negative, Large}
+
+-- a number of a document, in the column of a field and a class
+pub record Raw : Type 0 where
+  pub field : ℕ
+  pub class : ColumnPaginationOrder
+  pub doc : ℕ
+  pub number : ℕ
+
+-- the numbers of a column
+abbrev pub column_raws : Gathering → List Raw
+column_raws column =
+    map (λ r. record { field = column.field; class = column.class; doc = r.0; number = r.1 })
+    column.rows
+
+-- the numbers of columns
+abbrev pub raws : List Gathering → List Raw
+raws columns = flat_map column_raws columns
+
+-- whether a number is of a field, a class and a document
+abbrev pub is_raw_of : ℕ → ℕ → ℕ → Raw → Bool
+is_raw_of field rank doc r = (r.field == field) && (order_rank r.class == rank) && (r.doc == doc)
+
+-- the numbers of each field, class and document are the same, and in the same order
+abbrev pub AreAlike : List Raw → List Raw → Type 0
+AreAlike xs ys =
+    (field rank doc : ℕ)
+    → filter (is_raw_of field rank doc) xs ≡ filter (is_raw_of field rank doc) ys
+
+-- a column without the numbers of a document and of those behind it
+abbrev pub forgotten : ℕ → Gathering → Gathering
+forgotten doc column = record {
+  field = column.field;
+  class = column.class;
+  before = column.before;
+  rows = filter (λ r. nat_lt r.0 doc) column.rows;
+}
+
+-- two numbers are of different columns
+abbrev pub AreApart : Raw → Raw → Type 0
+AreApart r s = r.field ≡ s.field → r.class ≡ s.class → ⊥
+
+-- a number is put behind the others of its column
+pub record IsPutInto (old : List Raw) (r : Raw) (new : List Raw) : Type 0 where
+  pub before : List Raw
+  pub after : List Raw
+  pub was : old ≡ before ++ after
+  pub is : new ≡ before ++ r ∷ after
+  pub apart : All (AreApart r) after
+
+-- the number that a cell's value becomes: a place, or a signed number plus 2 ^ 63
+abbrev pub IsNumberOf : CellValue → ℕ → Type 0
+IsNumberOf (cell.Bool b) n = n ≡ (if b then 1 else 0)
+IsNumberOf (cell.Str place) n = n ≡ place
+IsNumberOf (cell.I64 m) n = pos n -ℤ pos (2 ^ 63) ≡ m
+IsNumberOf (cell.U64 m) n = (n < 2 ^ 63) × (n + 2 ^ 63 ≡ m)
+IsNumberOf (cell.Ip place) n = n ≡ place
+IsNumberOf (cell.Date ns) n = pos n -ℤ pos (2 ^ 63) ≡ ns
+
+-- what a cell of a document becomes
+pub record IsRawOf (doc : ℕ) (c : Cell) (r : Raw) : Type 0 where
+  pub field : r.field ≡ c.field
+  pub class : r.class ≡ cell_class c.value
+  pub at : r.doc ≡ doc
+  pub fits : r.number < 2 ^ 64
+  pub number : IsNumberOf c.value r.number
+
+-- what the cells of a document become
+abbrev pub AreRawsOf : ℕ → List Cell → List Raw → Type 0
+AreRawsOf doc [] [] = ⊤
+AreRawsOf doc (c ∷ cells) (r ∷ rs) = IsRawOf doc c r × AreRawsOf doc cells rs
+AreRawsOf doc _ _ = ⊥
+
+-- the column of a field that a place names, the place after it, is its last one before a bound
+pub record IsLast (columns : List Gathering) (field head bound : ℕ) : Type 0 where
+  pub within : head ≤ bound
+  pub none : (k : ℕ) (g : Gathering) → head ≤ k → k < bound → (get_or columns k g).field ≢ field
+  pub is : (g : Gathering) → 0 < head → (get_or columns (head - 1) g).field ≡ field
+
+-- each field leads to its columns, the last one first, and no two are of one field and class
+pub record AreLinked (last : List ℕ) (columns : List Gathering) : Type 0 where
+  pub heads : (field : ℕ) → IsLast columns field (get_or last field 0) (length columns)
+  pub nexts : (k : ℕ) (g : Gathering) → k < length columns
+      → IsLast columns (get_or columns k g).field (get_or columns k g).before k
+  pub apart : (i j : ℕ) (g : Gathering) → i < j → j < length columns
+      → (get_or columns i g).field ≡ (get_or columns j g).field
+      → (get_or columns i g).class ≡ (get_or columns j g).class → ⊥
+
+-- a column is of a field and a class
+abbrev pub IsColumnOf : ℕ → ColumnPaginationOrder → Gathering → Type 0
+IsColumnOf field class column = (column.field ≡ field) × (column.class ≡ class)
+
+-- whether a column is of a field and the rank of a class
+abbrev pub is_column : ℕ → ℕ → Gathering → Bool
+is_column field rank column = (column.field == field) && (order_rank column.class == rank)
+
+-- the type of a column of a class, whose field has a sign
+abbrev pub kind_of : Sign → ColumnPaginationOrder → ColumnType
+kind_of sign class.Bool = kind.Bool
+kind_of sign class.Str = kind.Str
+kind_of Large class.Numeric = kind.U64
+kind_of Small class.Numeric = kind.I64
+kind_of Negative class.Numeric = kind.I64
+kind_of sign class.IpAddr = kind.IpAddr
+kind_of sign class.DateTime = kind.DateTime
+
+-- the key that a number stands for: a text's and an address's is its place
+abbrev pub raw_key : List (List ℕ) → List Address → ColumnType → ℕ → CompositeIntermediateKey
+raw_key texts addresses kind.Bool n = key.Bool (n == 1)
+raw_key texts addresses kind.Str n = key.Str (text_at texts n)
+raw_key texts addresses kind.I64 n = key.I64 (pos n -ℤ pos (2 ^ 63))
+raw_key texts addresses kind.U64 n =
+    if nat_lt n (2 ^ 63) then key.U64 (n + 2 ^ 63) else key.I64 (pos n -ℤ pos (2 ^ 63))
+raw_key texts addresses kind.IpAddr n = key.IpAddr (address_at addresses n)
+raw_key texts addresses kind.DateTime n = key.DateTime (pos n -ℤ pos (2 ^ 63))
+
+-- documents with the keys of their numbers
+abbrev pub keyed_rows
+    : (ℕ → CompositeIntermediateKey) → List (ℕ × ℕ) → List (ℕ × CompositeIntermediateKey)
+keyed_rows key_of rows = map {B = ℕ × CompositeIntermediateKey} (λ r. (r.0, key_of r.1)) rows
+
+-- what a number stands for
+abbrev pub raw_placed : List Sign → List (List ℕ) → List Address → Raw → Placed
+raw_placed signs texts addresses r = record {
+  field = r.field;
+  doc = r.doc;
+  key = raw_key texts addresses (kind_of (get_or signs r.field Small) r.class) r.number;
+}
+
+-- the numbers that a class may have, of so many texts and addresses
+abbrev pub IsRaw : ℕ → ℕ → ColumnPaginationOrder → ℕ → Type 0
+IsRaw texts addresses class.Bool n = n < 2
+IsRaw texts addresses class.Str n = n < texts
+IsRaw texts addresses class.Numeric n = n < 2 ^ 64
+IsRaw texts addresses class.IpAddr n = n < addresses
+IsRaw texts addresses class.DateTime n = n < 2 ^ 64
+
+-- a number of a u64 is one that no i64 can be
+abbrev pub IsWideAsUnsigned : CellValue → Type 0
+IsWideAsUnsigned (cell.U64 n) = 2 ^ 63 ≤ n
+IsWideAsUnsigned _ = ⊤
+
+-- a number that a column may have one for: a text's place has its ordinal, an address is listed
+abbrev pub IsEncodable
+    : List (List ℕ) → List ℕ → List Address → ColumnKeys → ℕ → Type 0
+IsEncodable texts ordinals addresses Bools n = n < 2
+IsEncodable texts ordinals addresses (Texts dictionary) n =
+    (n < length ordinals) × HasOrdinal texts dictionary ordinals n
+IsEncodable texts ordinals addresses (Addresses list) n =
+    (n < length addresses) × Contains list (address_at addresses n)
+IsEncodable texts ordinals addresses _ n = n < 2 ^ 64
+
+-- columns by field and class
+abbrev pub AreSorted : List Gathering → Type 0
+AreSorted columns =
+    (i j : ℕ) (d : Gathering) → i ≤ j → j < length columns
+    → ((get_or columns i d).field ≤ (get_or columns j d).field)
+    × ((get_or columns i d).field ≡ (get_or columns j d).field
+    → order_rank (get_or columns i d).class ≤ order_rank (get_or columns j d).class)
+
+-- a column of numbers whose field has one above those of an i64 has such a number: those are below
+-- 2 ^ 63, since 2 ^ 63 is taken off
+abbrev pub IsWide : Sign → Gathering → Type 0
+IsWide sign column =
+    sign ≡ Large → column.class ≡ class.Numeric
+    → (n : ℕ) × Contains (map (λ r. r.1) column.rows) n × (n < 2 ^ 63)
+
+-- so it is for all columns
+abbrev pub AreWide : List Sign → List Gathering → Type 0
+AreWide signs columns = All (λ g. IsWide (get_or signs g.field Small) g) columns
+
+-- the fields and classes of columns
+abbrev pub gathering_places : List Gathering → List (ℕ × ℕ)
+gathering_places columns = map {B = ℕ × ℕ} (λ g. (g.field, order_rank g.class)) columns
+
+abbrev pub column_places : List StoredColumn → List (ℕ × ℕ)
+column_places columns = map {B = ℕ × ℕ} (λ c. (c.field, keys_rank c.keys)) columns
