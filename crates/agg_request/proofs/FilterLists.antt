@@ -3,7 +3,6 @@ use Rattle.std.proofs.Common.{◌≡◌, ◌<◌, ◌≤◌, ◌+◌, false, ℕ
 use Rattle.std.proofs.Common.{get_or, length, take, Option, Some, Result, IsErrAnd, codes, sym}
 use Rattle.std.proofs.Common.{subst, arith, inl, inr}
 use Rattle.std.proofs.Common.{Ordering, Less, Equal, Greater, ap}
-use Rattle.std.proofs.lemmas.List.{take_more}
 use Rattle.std.specs.Ordering.{match_ordering, nat_cmp}
 use Rattle.std.specs.Cmp.Lexicographic.{slice_cmp}
 use Rattle.serde_json.specs.Data.{Data, null, boolean, number, string, array, object, Items}
@@ -16,35 +15,10 @@ use Rattle.agg_request.specs.Query.{EachIs, HasUnsupported, HasUnsupportedBody, 
 use Rattle.agg_request.specs.Query.{HasUnsupportedList, IsBoolean, IsFilter, IsList, IsListAt}
 use Rattle.agg_request.specs.Reading.{IsReading, IsRefusal}
 use Rattle.agg_request.specs.declared.read_error.ReadError.{ReadError}
+use Rattle.agg_request.proofs.Items.{each_at, each_more, some_at}
 use Rattle.agg_request.proofs.Readings.{read_as, refused_by}
 
 -- ---- items
-
--- what one item is read as
-each_at : (Is : Data → QueryTree → Type 0) (vs : List Value) (i : ℕ) (x : Value)
-    (trees : List QueryTree) → i < length vs → EachIs Is (items_view vs) trees
-    → (tree : QueryTree) × Is (view (get_or vs i x)) tree
-each_at Is [] i x trees below h = absurd (omega (arith, below))
-each_at Is (v ∷ vs) i x [] below h = absurd h
-each_at Is (v ∷ vs) zero x (tree ∷ trees) below h = (tree, h.0)
-each_at Is (v ∷ vs) (suc i) x (tree ∷ trees) below h =
-    each_at Is vs i x trees (omega (arith, below)) h.1
-
--- where one item has it, some item has
-some_at : (Has : Data → Type 0) (vs : List Value) (i : ℕ) (x : Value) → i < length vs
-    → Has (view (get_or vs i x)) → HasUnsupportedItem Has (items_view vs)
-some_at Has [] i x below h = absurd (omega (arith, below))
-some_at Has (v ∷ vs) zero x below h = inl h
-some_at Has (v ∷ vs) (suc i) x below h = inr (some_at Has vs i x (omega (arith, below)) h)
-
--- one more item
-each_put : (Is : Data → QueryTree → Type 0) (vs : List Value) (v : Value) (trees : List QueryTree)
-    (tree : QueryTree) → EachIs Is (items_view vs) trees → Is (view v) tree
-    → EachIs Is (items_view (vs ++ v ∷ [])) (trees ++ tree ∷ [])
-each_put Is [] v [] tree h is = (is, tt)
-each_put Is [] v (other ∷ trees) tree h is = absurd h
-each_put Is (w ∷ vs) v [] tree h is = absurd h
-each_put Is (w ∷ vs) v (other ∷ trees) tree h is = (h.0, each_put Is vs v trees tree h.1 is)
 
 -- an item lies no lower than the deepest
 pub item_lower : (vs : List Value) (i : ℕ) (x : Value) → i < length vs
@@ -69,12 +43,8 @@ pub read_more : (vs : List Value) (i : ℕ) (x : Value) (trees : List QueryTree)
 read_more vs i x trees tree more below at done told put n deep =
     let shallow = subst (λ y. depth (view y) ≤ items_depth (items_view vs)) (sym at)
     (item_lower vs i x below) in
-    let all = each_put (IsFilter false n) (take i vs) x trees tree (done n deep)
-    (told n (omega (arith, shallow, deep))) in
-    let taken = subst (λ y. take (i + 1) vs ≡ take i vs ++ y ∷ []) (sym at)
-    (take_more vs i x below) in
-    subst (λ ws. EachIs (IsFilter false n) (items_view ws) more) (sym taken)
-    (subst (EachIs (IsFilter false n) (items_view (take i vs ++ x ∷ []))) (sym put) all)
+    each_more (IsFilter false n) vs i x trees tree more below at (done n deep)
+    (told n (omega (arith, shallow, deep))) put
 
 -- a refused item refuses the array
 pub refused_item : (vs : List Value) (i : ℕ) (x : Value) (error : ReadError)

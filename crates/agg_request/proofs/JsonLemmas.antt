@@ -98,6 +98,19 @@ names_moved : {V : Type 0} (done : Named V) (name : List ℕ) (v : V) (more : Li
 names_moved [] name v more = refl
 names_moved (first ∷ done) name v more = ap (λ xs. first.0 ∷ xs) (names_moved done name v more)
 
+-- the name that comes next goes last
+pub put_next : {V : Type 0} (done : Named V) (name : String Global) (d : Value)
+    (later : List Entry) (v : V) → Ascends done ((name, d) ∷ later)
+    → put (string_bytes name) v done ≡ done ++ (string_bytes name, v) ∷ []
+put_next done name d later v h = put_last done (string_bytes name) v (names_in later) h.names
+
+-- the next name is done
+pub Ascends-more : {V : Type 0} (done : Named V) (name : String Global) (d : Value)
+    (later : List Entry) (v : V) → Ascends done ((name, d) ∷ later)
+    → Ascends (done ++ (string_bytes name, v) ∷ []) later
+Ascends-more done name d later v h =
+    record { names = rw (names_moved done (string_bytes name) v (names_in later)) h.names }
+
 -- the document is done, before the members that are to come
 pub record IsOnward {V : Type 0} (value : Data → Option V) (all : Option (Named V))
     (done : Named V) (left : List Entry) : Type 0 where
@@ -118,13 +131,10 @@ IsOnward-more value all done new left name d later v h e is put_is =
     let here : Ascends done ((name, d) ∷ later) = subst (λ (es : List Entry). Ascends done es) e
     h.ascends in
     let last : new ≡ done ++ (string_bytes name, v) ∷ [] = put_is
-    ∙ put_last done (string_bytes name) v (names_in later) here.names in
+    ∙ put_next done name d later v here in
     record {
       kept = h.kept
           ∙ rw (e, is, last) (onward_more done (string_bytes name, v)
           (each_member value (members_view later)));
-      ascends = record {
-        names = rw (last, names_moved done (string_bytes name) v (names_in later))
-            here.names;
-      };
+      ascends = rw last (Ascends-more done name d later v here);
     }

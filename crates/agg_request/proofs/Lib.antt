@@ -1,6 +1,10 @@
+pub mod AfterKeys
+pub mod Checks
+pub mod CompositeSources
 pub mod FilterKinds
 pub mod FilterLists
 pub mod Filters
+pub mod Items
 pub mod JsonLemmas
 pub mod Lists
 pub mod OccurrencesLength
@@ -17,5 +21,6 @@ pub mod PageWalk
 pub mod PageWhole
 pub mod Readings
 pub mod SourceColumns
+pub mod SourceKeys
 pub mod UncutLength
 pub mod ValueTexts

@@ -59,7 +59,7 @@ module _ {K X : Type 0} (R : K → K → Ordering) (total : IsTotalOrder R) wher
       v es)
 
 -- a name has the value that was put there
-value_of-put : {T : Type 0} (name : List ℕ) (value : T) (map : List (List ℕ × T))
+pub value_of-put : {T : Type 0} (name : List ℕ) (value : T) (map : List (List ℕ × T))
     → value_of name (put name value map) ≡ Some value
 value_of-put name value map =
     lookup-insert_entry name_cmp nat_list_cmp_total name name value map
@@ -74,7 +74,7 @@ other_value name other Equal x y is apart = absurd (apart (exact_bytes name othe
 other_value name other Greater x y is apart = refl
 
 -- another name keeps its value
-value_of-put_other : {T : Type 0} (name other : List ℕ) (value : T) (map : List (List ℕ × T))
+pub value_of-put_other : {T : Type 0} (name other : List ℕ) (value : T) (map : List (List ℕ × T))
     → (name ≢ other) → value_of name (put other value map) ≡ value_of name map
 value_of-put_other name other value map apart =
     lookup-insert_entry name_cmp nat_list_cmp_total name other value map ∙ other_value name other
@@ -94,7 +94,7 @@ bound_of-same (source ∷ sources) after other all = let rest = bound_of-same so
     all.1 in λ i. bound_from (all.0 i) (rest i)
 
 -- the first of different sources has another name than each behind it
-apart_first : (source : CompositeAggregationSource) (sources : Sources)
+pub apart_first : (source : CompositeAggregationSource) (sources : Sources)
     → AllPairs (λ s t. name_of s ≢ name_of t) (source ∷ sources)
     → AllByRecursion (λ s. name_of s ≢ name_of source) sources
 apart_first source sources apart = recursion_from_All (λ s. name_of s ≢ name_of source) sources

@@ -37,3 +37,12 @@ pub refused_by : {A B : Type 0} (Part : Bool → B → Type 0) (HasPart : Type 0
 refused_by Part HasPart Is Has error (Ok x) is told up part = absurd is
 refused_by Part HasPart Is Has error (Err e) is told up part =
     refused Part HasPart Is Has e (subst (IsRefusal Part HasPart) (sym is) told) up part
+
+-- the same of a part and a whole that are read strictly alone
+pub refused_part : {A B : Type 0} (Part : B → Type 0) (Is : A → Type 0) (error : ReadError)
+    (result : Result A ReadError) → IsErrAnd result (λ e. e ≡ error)
+    → IsRefusal (λ lenient. Part) ⊥ error → ((x : A) → Is x → (y : B) × Part y)
+    → IsReading (λ lenient. Is) ⊥ result
+refused_part Part Is error result is told part =
+    refused_by (λ lenient. Part) ⊥ (λ lenient. Is) ⊥ error result is told (λ h. h)
+    (λ lenient x h. part x h)

@@ -3,17 +3,21 @@ use Rattle.std.proofs.Common.{◌≡◌, ◌≢◌, ℕ, Bool, true, false, List
 use Rattle.std.proofs.Common.{◌++◌, Option, Some, None, Result, Ok, Err, IfNone, IfSome, get_or}
 use Rattle.std.proofs.Common.{codes, refl, sym, ap, ◌∙◌, subst, arith, inl, inr, IsErrAnd}
 use Rattle.std.specs.List.{Contains}
+use Rattle.std.proofs.lemmas.Bool.{false≢true}
 use Rattle.std.specs.Option.{ok_or}
 use Rattle.agg_values.specs.KeyText.{colon, kind_text, IsKeyText, IsRefusedAs}
 use Rattle.agg_values.specs.TypedKey.{CompositeIntermediateKey}
 use Rattle.agg_values.specs.declared.typed_key.CompositeIntermediateKey.TheVariants as key
 use Rattle.agg_values.specs.declared.error.KeyTextError.{KeyTextError}
 use Rattle.agg_values.specs.declared.error.KeyTextError.TheVariants as key_text
+use Rattle.agg_values.specs.declared.after_key.AfterKey.{AfterKey}
 use Rattle.agg_segment.specs.declared.document.FieldValue.{FieldValue}
+use Rattle.agg_request.specs.CompositeJson.{SaysKey}
 use Rattle.agg_request.specs.Query.{IsUnsupportedText, Says, said_key}
 use Rattle.agg_request.specs.Reading.{IsReading, IsRefusal, refusal_of}
 use Rattle.agg_request.specs.declared.read_error.ReadError.{ReadError}
 use Rattle.agg_request.specs.declared.read_error.ReadError.TheVariants.{Grammar}
+use Rattle.agg_request.proofs.Readings.{refused}
 
 -- a text that begins as a key's is not of the type that isn't supported
 supported : (text : List ℕ) (k : CompositeIntermediateKey) (rest : List ℕ)
@@ -33,13 +37,12 @@ supported text (key.IpAddr a) rest e (more, f) =
 supported text key.Null rest e (more, f) =
     omega (arith, ap (λ t. get_or t 0 0) (sym e ∙ f))
 
--- a text that is no key's and isn't supported says nothing
+-- a text that is no key's and isn't supported says no key
 says_nothing : (text : List ℕ)
     → ((k : CompositeIntermediateKey) → ¬ (IsKeyText text k)) → (¬ (IsUnsupportedText text))
-    → (lenient : Bool) (value : FieldValue) → ¬ (Says lenient text value)
-says_nothing text none supports false value h = none (said_key value) h
-says_nothing text none supports true value (inl h) = none (said_key value) h
-says_nothing text none supports true value (inr h) = supports h
+    → (lenient : Bool) (after : AfterKey) → ¬ (SaysKey lenient text after)
+says_nothing text none supports lenient after (inl h) = none after.0 h
+says_nothing text none supports lenient after (inr h) = supports h.1
 
 -- a kind without a colon before a text that isn't supported
 cut_f64 : (kind value rest : List ℕ) → kind ++ colon ∷ value ≡ codes "f64:" ++ rest
@@ -55,19 +58,42 @@ cut_f64 (a ∷ b ∷ c ∷ []) value rest e bare =
 cut_f64 (a ∷ b ∷ c ∷ d ∷ kind) value rest e bare =
     absurd (bare (3, omega arith, ap (λ t. get_or t 3 0) e))
 
--- a refusal of a text as a key's is one of it as a value's
-pub refused_text : (text : List ℕ) (error : KeyTextError) → IsRefusedAs text error
+-- what a strict reading takes as a key is a key's text
+said_strictly : (text : List ℕ) (after : AfterKey) → SaysKey false text after
+    → IsKeyText text after.0
+said_strictly text after (inl h) = h
+said_strictly text after (inr h) = absurd (false≢true h.0)
+
+-- a refusal of a text as a key's
+pub refused_key : (text : List ℕ) (error : KeyTextError) → IsRefusedAs text error
     → ((k : CompositeIntermediateKey) → IsKeyText text k → error ≡ key_text.OutOfMemory)
-    → IsRefusal (λ lenient. Says lenient text) (IsUnsupportedText text) (refusal_of error)
-refused_text text key_text.Unsupported told only = (told, λ value h. absurd (cc (only _ h)))
-refused_text text key_text.NoColon told only =
+    → IsRefusal (λ lenient. SaysKey lenient text) (IsUnsupportedText text) (refusal_of error)
+refused_key text key_text.Unsupported told only =
+    (told, λ after h. absurd (cc (only after.0 (said_strictly text after h))))
+refused_key text key_text.NoColon told only =
     says_nothing text (λ k h. cc (only k h)) (λ (rest, e). told (rw e (3, omega arith, refl)))
-refused_text text key_text.UnknownType (kind, value, e, bare, other, unknown) only =
+refused_key text key_text.UnknownType (kind, value, e, bare, other, unknown) only =
     says_nothing text (λ k h. cc (only k h))
     (λ (rest, f). other (cut_f64 kind value rest (sym e ∙ f) bare))
-refused_text text key_text.BadValue (k, value, e, none) only =
+refused_key text key_text.BadValue (k, value, e, none) only =
     says_nothing text none (supported text k value e)
-refused_text text key_text.OutOfMemory told only = tt
+refused_key text key_text.OutOfMemory told only = tt
+
+-- what says a value says a key
+said_key_of : (text : List ℕ) (lenient : Bool) (value : FieldValue) → Says lenient text value
+    → (after : AfterKey) × SaysKey lenient text after
+said_key_of text false value h = (record { 0 = said_key value }, inl h)
+said_key_of text true value (inl h) = (record { 0 = said_key value }, inl h)
+said_key_of text true value (inr h) = (record { 0 = said_key value }, inr (refl, h))
+
+-- a refusal of a text as a key's is one of it as a value's
+refused_text : (text : List ℕ) (error : KeyTextError) → IsRefusedAs text error
+    → ((k : CompositeIntermediateKey) → IsKeyText text k → error ≡ key_text.OutOfMemory)
+    → IsRefusal (λ lenient. Says lenient text) (IsUnsupportedText text) (refusal_of error)
+refused_text text error told only =
+    refused (λ lenient. SaysKey lenient text) (IsUnsupportedText text)
+    (λ lenient. Says lenient text) (IsUnsupportedText text) (refusal_of error)
+    (refused_key text error told only) (λ h. h) (said_key_of text)
 
 -- what is read of a key's text
 pub read_text : (text : List ℕ) (k : CompositeIntermediateKey) (found : Option FieldValue)

@@ -3,7 +3,7 @@ use Rattle.std.specs.Prelude.{◌==◌, ◌∷◌, [], ℕ, ℤ, List, Bool, fal
 use Rattle.std.specs.Prelude.{if◌then◌else◌, option_map, option_and_then, nat_lt, ◌^◌}
 use Rattle.std.specs.Str.{bytes_eq}
 use Rattle.agg_values.specs.Names.{Named}
-use Rattle.serde_json.specs.Data.{Data, array, object, Items, no_items, item, Members, no_members}
+use Rattle.serde_json.specs.Data.{Data, object, Items, no_items, item, Members, no_members}
 use Rattle.serde_json.specs.Data.{member}
 use Rattle.serde_json.specs.Events.{members_len}
 use Rattle.serde_json.specs.Find.{as_number, as_u64, as_i64}
@@ -22,11 +22,6 @@ only_member _ = None
 abbrev pub only_named : List ℕ → Data → Option Data
 only_named name d =
     option_and_then (λ m. if bytes_eq m.0 name then Some m.1 else None) (only_member d)
-
--- the one item of an array that has no other
-abbrev pub only_item : Data → Option Data
-only_item (array (item d no_items)) = Some d
-only_item _ = None
 
 -- a whole number within i64
 abbrev pub whole_number : Data → Option ℤ

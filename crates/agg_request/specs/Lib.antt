@@ -1,4 +1,6 @@
 pub mod BySource
+pub mod CompositeJson
+pub mod Faults
 pub mod Groups
 pub mod Json
 pub mod Occurrences

@@ -1,13 +1,10 @@
 -- Sources, and the keys that they read.
-use Rattle.std.specs.Prelude.{◌≡◌, ℕ, List, [], ◌∷◌, Bool, true, false, map, if◌then◌else◌}
-use Rattle.std.specs.List.{list_all}
+use Rattle.std.specs.Prelude.{ℕ, List, [], ◌∷◌, Bool, map, if◌then◌else◌}
 use Rattle.agg_values.specs.KeyOrder.{SourceRules}
 use Rattle.agg_values.specs.TypedKey.{CompositeIntermediateKey, canonical_key}
 use Rattle.agg_values.specs.declared.typed_key.CompositeIntermediateKey.TheVariants as key
 use Rattle.agg_values.specs.declared.order.Order.{Order}
-use Rattle.agg_values.specs.declared.order.Order.TheVariants.{Asc}
 use Rattle.agg_values.specs.declared.order.MissingOrder.{MissingOrder}
-use Rattle.agg_values.specs.declared.order.MissingOrder.TheVariants.{Default}
 use Rattle.agg_segment.specs.Document.{Fields}
 use Rattle.agg_request.specs.declared.source.CompositeAggregationSource.{CompositeAggregationSource}
 use Rattle.agg_request.specs.declared.source.CompositeAggregationSource.TheVariants.{Terms}
@@ -49,26 +46,3 @@ or_missing missing (k ∷ ks) = k ∷ ks
 abbrev pub source_values : CompositeAggregationSource → Fields → List CompositeIntermediateKey
 source_values source document =
     or_missing (missing_bucket_of source) (map canonical_key (document (field_of source)))
-
--- the rules of one ascending source
-abbrev pub ascending_rules : SourceRules
-ascending_rules = (Asc, Default) ∷ []
-
--- one ascending source, without a bucket for a missing value: all that a composite may have so far
-abbrev pub IsOneAscendingSource : Sources → Type 0
-IsOneAscendingSource sources =
-    (source : CompositeAggregationSource)
-    × (sources ≡ source ∷ [])
-    × (order_of source ≡ Asc)
-    × (missing_order_of source ≡ Default)
-    × (missing_bucket_of source ≡ false)
-
--- whether a key is a whole number that an i64 can be
-abbrev pub is_signed_number : CompositeIntermediateKey → Bool
-is_signed_number (key.I64 n) = true
-is_signed_number _ = false
-
--- whether the fields that sources read hold nothing but such numbers: all that is read so far
-abbrev pub hold_signed_numbers : Sources → Fields → Bool
-hold_signed_numbers sources document =
-    list_all (λ source. list_all is_signed_number (document (field_of source))) sources

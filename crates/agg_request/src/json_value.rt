@@ -2,7 +2,7 @@
 ghost use Rattle.std.specs.Prelude.{◌≡◌, IfOk, option_map};
 ghost use Rattle.serde_json.specs.Find.{as_str};
 ghost use Rattle.serde_json.specs.View.{view};
-ghost use Rattle.agg_request.specs.Json.{has_members, only_item, only_member, only_named};
+ghost use Rattle.agg_request.specs.Json.{has_members, only_member, only_named};
 ghost use Rattle.agg_request.specs.Json.{small_number};
 
 use agg_values::{OutOfMemory, Text};
@@ -37,18 +37,6 @@ pub fn only_named<'a>(value: &'a Value, name: &str) -> Option<&'a Value>
 {
     let (found, only) = only_member(value)?;
     if found == name { Some(only) } else { None }
-}
-
-/// The one item of an array that has no other.
-pub fn only_item(value: &Value) -> Option<&Value>
-    ensures { option_map (λ v. view v.now) result ≡ only_item (view value.now) }
-{
-    let mut items = value.as_array()?.iter();
-    let only = items.next()?;
-    if items.next().is_some() {
-        return None;
-    }
-    Some(only)
 }
 
 /// A whole number within u32.

@@ -4,8 +4,11 @@
 
 mod aggregation;
 mod builder;
+mod check;
+mod composite;
 pub mod json_value;
 mod laws;
+mod members;
 mod occurrences;
 mod query;
 mod read_error;
@@ -13,6 +16,8 @@ mod source;
 
 pub use aggregation::{Aggregation, AggregationVariants, Aggregations, CompositeAggregation};
 pub use builder::{NamedBuilder, QueryBuildError, QueryBuilder};
+pub use check::check_request;
+pub use composite::read_composite;
 pub use laws::{
     a_page_lists_each_tuple_once, a_page_with_room_is_the_last, an_after_key_is_its_tuple,
     counts_are_of_the_documents, each_request_has_one_page, successive_pages_are_one_page,

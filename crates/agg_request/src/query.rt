@@ -10,17 +10,16 @@ ghost use Rattle.agg_request.specs.Reading.{IsReading};
 ghost use Rattle.agg_segment.specs.declared.query.QueryTree.{QueryTree as Tree};
 
 mod leaves;
-mod members;
 #[cfg(test)]
 mod tests;
 mod values;
 
 use crate::ReadError;
 use crate::json_value::only_member;
+use crate::members::has_only;
 use agg_segment::QueryTree;
 use agg_values::{ItemList, OutOfMemory};
 use leaves::{read_exists, read_plain, read_range, read_term};
-use members::has_only;
 use serde_json::Value;
 use std::alloc::Global;
 

@@ -2,15 +2,14 @@
 ghost use Rattle.std.specs.Prelude.{codes};
 ghost use Rattle.serde_json.specs.View.{view};
 ghost use Rattle.agg_request.specs.Query.{HasUnsupportedAt, HasUnsupportedBound, IsBound};
-ghost use Rattle.agg_request.specs.Query.{HasUnsupportedEnd, IsExists, IsField, IsPlain};
+ghost use Rattle.agg_request.specs.Query.{HasUnsupportedEnd, IsExists, IsPlain};
 ghost use Rattle.agg_request.specs.Query.{IsRange, IsTerm};
 ghost use Rattle.agg_request.specs.Reading.{IsReading};
 
-use super::members::{has_only, text_at};
 use super::values::read_value_at;
 use crate::ReadError;
+use crate::members::{has_only, read_field};
 use agg_segment::{QueryTree, RangeBound};
-use agg_values::Text;
 use serde_json::Value;
 use std::alloc::Global;
 
@@ -65,15 +64,6 @@ pub fn read_exists(alloc: Global, body: &Value) -> Result<QueryTree, ReadError>
     Ok(QueryTree::Exists {
         field: read_field(alloc, body)?,
     })
-}
-
-fn read_field(alloc: Global, body: &Value) -> Result<Text, ReadError>
-    ensures { IsReading (λ lenient. IsField (view body.now)) ⊥ result }
-{
-    let Some(field) = text_at(body, "field") else {
-        return Err(ReadError::Grammar);
-    };
-    Ok(Text::copy_of(alloc, field)?)
 }
 
 // The bound at the one of two members that is there.

@@ -6,8 +6,8 @@ ghost use Rattle.agg_request.specs.Query.{HasUnsupportedAt, IsUnsupportedText, S
 ghost use Rattle.agg_request.specs.Query.{said_key};
 ghost use Rattle.agg_request.specs.Reading.{IsReading};
 
-use super::members::text_at;
 use crate::ReadError;
+use crate::members::text_at;
 use agg_segment::FieldValue;
 use agg_values::{AfterKey, CompositeIntermediateKey, Text};
 use serde_json::Value;

@@ -1,7 +1,5 @@
-use Rattle.std.proofs.Common.{◌∷◌, [], ◌++◌, ◌+◌, sym, ap, ◌∙◌, subst, arith}
-use Rattle.agg_segment.specs.Columns.{all_keys}
+use Rattle.std.proofs.Common.{◌+◌, sym, ap, ◌∙◌, subst, arith}
 use Rattle.agg_segment.specs.Segment.{document_at}
-use Rattle.agg_request.specs.Source.{field_of, missing_bucket_of}
 use Rattle.agg_request.proofs.SourceColumns.{AreReadUpTo, read-all, read-one_more}
 use Rattle.agg_request.proofs.occurrences.source_columns.Goals as goal
 

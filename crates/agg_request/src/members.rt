@@ -1,9 +1,13 @@
-//! The members of a filter's body.
+//! The members of bodies in JSON.
 ghost use Rattle.std.specs.Prelude.{◌≡◌, map, option_map};
 ghost use Rattle.serde_json.specs.View.{view};
-ghost use Rattle.agg_request.specs.Query.{has_only, is_among, text_at};
+ghost use Rattle.agg_request.specs.Query.{IsField, has_only, is_among, text_at};
+ghost use Rattle.agg_request.specs.Reading.{IsReading};
 
+use crate::ReadError;
+use agg_values::Text;
 use serde_json::Value;
+use std::alloc::Global;
 
 /// Whether a value is an object whose members all have such names.
 pub fn has_only(value: &Value, names: &[&str]) -> bool
@@ -36,4 +40,14 @@ pub fn text_at<'a>(value: &'a Value, name: &str) -> Option<&'a str>
     ensures { option_map (λ text. text.now) result ≡ text_at name.now (view value.now) }
 {
     value.get(name)?.as_str()
+}
+
+/// The name of the field that a body names.
+pub fn read_field(alloc: Global, body: &Value) -> Result<Text, ReadError>
+    ensures { IsReading (λ lenient. IsField (view body.now)) ⊥ result }
+{
+    let Some(field) = text_at(body, "field") else {
+        return Err(ReadError::Grammar);
+    };
+    Ok(Text::copy_of(alloc, field)?)
 }

@@ -1,0 +1,9 @@
+use Rattle.std.proofs.Common.{take}
+use Rattle.serde_json.specs.View.{items_view}
+use Rattle.agg_request.specs.CompositeJson.{IsSourceJson}
+use Rattle.agg_request.specs.Query.{EachIs}
+use Rattle.agg_request.proofs.composite.sources.read_items.Given as goal
+
+-- the items so far are read
+abbrev pub invariant-loop-item : goal.invariant-loop-item
+invariant-loop-item l = EachIs IsSourceJson (items_view (take l.item-index l.items)) l.sources

@@ -1,0 +1,93 @@
+//! The sources of a composite.
+ghost use Rattle.std.specs.Prelude.{◌≡◌, codes, option_and_then, option_map};
+ghost use Rattle.serde_json.specs.Find.{as_array, get};
+ghost use Rattle.serde_json.specs.View.{items_view, view};
+ghost use Rattle.agg_request.specs.CompositeJson.{AreSources, IsSourceJson, IsSourceOfKind};
+ghost use Rattle.agg_request.specs.CompositeJson.{IsTermsBody};
+ghost use Rattle.agg_request.specs.Query.{EachIs};
+ghost use Rattle.agg_request.specs.Reading.{IsReading};
+
+use super::words::{missing_bucket, missing_order, order};
+use crate::json_value::only_member;
+use crate::members::read_field;
+use crate::{CompositeAggregationSource, ReadError, TermCompositeAggregationSource};
+use agg_values::{ItemList, Text};
+use serde_json::Value;
+use std::alloc::Global;
+
+/// The sources of a body, which have to be there.
+pub fn read_sources(
+    alloc: Global,
+    body: &Value,
+) -> Result<ItemList<CompositeAggregationSource>, ReadError>
+    ensures { IsReading (λ lenient. AreSources (view body.now)) ⊥ result }
+{
+    let Some(items) = sources_in(body) else {
+        return Err(ReadError::Grammar);
+    };
+    read_items(alloc, items)
+}
+
+// The array of the sources.
+fn sources_in(body: &Value) -> Option<&[Value]>
+    ensures { option_map (λ items. items_view items.now) result
+        ≡ option_and_then as_array (get (codes "sources") (view body.now)) }
+{
+    Some(body.get("sources")?.as_array()?.as_slice())
+}
+
+fn read_items(
+    alloc: Global,
+    items: &[Value],
+) -> Result<ItemList<CompositeAggregationSource>, ReadError>
+    ensures { IsReading (λ lenient. EachIs IsSourceJson (items_view items.now)) ⊥ result }
+{
+    let mut sources = ItemList::new(alloc);
+    for item in items {
+        sources.push(read_source(alloc, item)?)?;
+    }
+    Ok(sources)
+}
+
+fn read_source(alloc: Global, value: &Value) -> Result<CompositeAggregationSource, ReadError>
+    ensures { IsReading (λ lenient. IsSourceJson (view value.now)) ⊥ result }
+{
+    let Some((name, named)) = only_member(value) else {
+        return Err(ReadError::Grammar);
+    };
+    let Some((kind, body)) = only_member(named) else {
+        return Err(ReadError::Grammar);
+    };
+    read_kind(alloc, name, kind, body)
+}
+
+// The source of a name, by its kind.
+fn read_kind(
+    alloc: Global,
+    name: &str,
+    kind: &str,
+    body: &Value,
+) -> Result<CompositeAggregationSource, ReadError>
+    ensures { IsReading (λ lenient. IsSourceOfKind name.now kind.now (view body.now)) ⊥ result }
+{
+    match kind {
+        "terms" => Ok(CompositeAggregationSource::Terms(read_terms(alloc, name, body)?)),
+        _ => Err(ReadError::Grammar),
+    }
+}
+
+fn read_terms(
+    alloc: Global,
+    name: &str,
+    body: &Value,
+) -> Result<TermCompositeAggregationSource, ReadError>
+    ensures { IsReading (λ lenient. IsTermsBody name.now (view body.now)) ⊥ result }
+{
+    Ok(TermCompositeAggregationSource {
+        name: Text::copy_of(alloc, name)?,
+        field: read_field(alloc, body)?,
+        order: order(body)?,
+        missing_bucket: missing_bucket(body)?,
+        missing_order: missing_order(body)?,
+    })
+}
