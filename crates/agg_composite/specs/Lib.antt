@@ -1,4 +1,14 @@
+pub mod Accessors
+pub mod AfterKey
+pub mod Answers
+pub mod Choices
+pub mod Classes
 pub mod Counts
+pub mod Decoded
+pub mod Encoding
+pub mod GroupCounts
+pub mod KeyCounts
 pub mod PageEntries
+pub mod Places
 pub mod Visits
-pub mod Waiting
+pub mod Walk

@@ -1,35 +1,41 @@
 -- What a collector has visited, and when it has visited too often.
 use Rattle.std.specs.Prelude.{◌≡◌, ◌≤◌, ◌+◌, ◌^◌, ℕ, List, ◌++◌, Result, OnOk, IsErrOf}
 use Rattle.std.specs.Prelude.{count_by, length}
-use Rattle.agg_values.specs.KeyOrder.{SourceRules}
+use Rattle.std.specs.List.{AllZip}
 use Rattle.agg_values.specs.Tuple.{KeyTuple}
 use Rattle.agg_cache.specs.declared.error.CollectError.{CollectError}
 use Rattle.agg_cache.specs.declared.error.CollectError.TheVariants.{TooMany}
-use Rattle.agg_request.specs.Groups.{Group, Groups}
 use Rattle.agg_request.specs.Occurrences.{same_tuple}
+use Rattle.agg_request.specs.Source.{rules_of}
+use Rattle.agg_composite.specs.Counts.{Counts, EncodedCounts}
+use Rattle.agg_composite.specs.Encoding.{EncodedTuple, StandFor}
+use Rattle.agg_composite.specs.declared.request_data.CompositeAggReqData.{CompositeAggReqData}
 
--- what held the groups of what was visited now holds those of it with these tuples behind
-abbrev pub HasVisited : SourceRules → List KeyTuple → List Group → List Group → Type 0
-HasVisited rules tuples held held_now =
-    (visited : List KeyTuple)
-    → Groups rules visited held
-    → Groups rules (visited ++ tuples) held_now
+-- an encoded tuple stands for a tuple of the sources of request data
+abbrev pub StandsForTuple : CompositeAggReqData → EncodedTuple → KeyTuple → Type 0
+StandsForTuple req = StandFor req.req.now.sources req.composite_accessors
 
--- with these tuples behind what was visited, some tuple is visited 2^64 times or more
-abbrev pub VisitsTooOften : SourceRules → List KeyTuple → List Group → Type 0
-VisitsTooOften rules tuples held =
-    (visited : List KeyTuple)
-    → Groups rules visited held
-    → (tuple : KeyTuple) × (2 ^ 64 ≤ count_by (same_tuple rules tuple) (visited ++ tuples))
+-- a collector has visited these tuples: it counts encoded ones that stand for them
+pub record HasVisited (req : CompositeAggReqData) (visited : List KeyTuple) (held : EncodedCounts)
+    : Type 0 where
+  pub tuples : List EncodedTuple
+  pub counts : Counts held tuples
+  pub stand : AllZip (StandsForTuple req) tuples visited
 
--- what a call that visits tuples answers: an Ok has visited them all, with a step at each; TooMany
--- comes only where some tuple is visited too often; whatever is answered, steps never fall and are
--- no more than one for each tuple
-pub record AnswersVisits (rules : SourceRules) (tuples : List KeyTuple)
-    (held held_now : List Group) (steps steps_now : ℕ)
-    (result : Result (Unit {0}) CollectError) : Type 0 where
-  pub ok : OnOk result (HasVisited rules tuples held held_now)
+-- some tuple stands 2^64 times or more in a list
+abbrev pub IsTooOften : CompositeAggReqData → List KeyTuple → Type 0
+IsTooOften req tuples =
+    (tuple : KeyTuple)
+    × (2 ^ 64 ≤ count_by (same_tuple (rules_of req.req.now.sources) tuple) tuples)
+
+-- what a call that visits tuples behind those visited answers: an Ok has visited them all, with a
+-- step at each; TooMany comes only where some tuple is visited too often; whatever is answered,
+-- steps never fall and are no more than one for each tuple
+pub record AnswersVisits (req : CompositeAggReqData) (visited tuples : List KeyTuple)
+    (held : EncodedCounts) (steps steps_now : ℕ) (result : Result (Unit {0}) CollectError)
+    : Type 0 where
+  pub ok : OnOk result (HasVisited req (visited ++ tuples) held)
   pub ticks : OnOk result (steps_now ≡ steps + length tuples)
-  pub too_many : IsErrOf result TooMany → VisitsTooOften rules tuples held
+  pub too_many : IsErrOf result TooMany → IsTooOften req (visited ++ tuples)
   pub later : steps ≤ steps_now
   pub bounded : steps_now ≤ steps + length tuples

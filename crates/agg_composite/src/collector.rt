@@ -1,121 +1,108 @@
 //! The collector that groups the documents of a segment.
-ghost use Rattle.std.specs.Prelude.{◌≡◌, ◌≤◌, [], take, map, IfOk, IsTrue, All};
-ghost use Rattle.agg_request.specs.Occurrences.{past_occurrences};
-ghost use Rattle.agg_request.specs.Source.{IsOneAscendingSource, hold_signed_numbers, rules_of};
-ghost use Rattle.agg_segment.specs.Segment.{documents_at};
+ghost use Rattle.std.specs.Prelude.{◌≡◌, ◌≤◌, [], List, take, map, IfOk};
+ghost use Rattle.agg_values.specs.Names.{Named};
+ghost use Rattle.agg_values.specs.Tuple.{KeyTuple};
+ghost use Rattle.agg_values.specs.declared.after_key.AfterKey.{AfterKey};
+ghost use Rattle.agg_segment.specs.Segment.{Stored, documents_at};
+ghost use Rattle.agg_request.specs.Groups.{Group, Groups};
+ghost use Rattle.agg_request.specs.Occurrences.{bound_of, past_occurrences};
+ghost use Rattle.agg_request.specs.Source.{rules_of};
+ghost use Rattle.agg_composite.specs.Accessors.{Fits};
 ghost use Rattle.agg_composite.specs.PageEntries.{entry_group};
-ghost use Rattle.agg_composite.specs.Visits.{AnswersVisits};
+ghost use Rattle.agg_composite.specs.Visits.{AnswersVisits, HasVisited};
+ghost use Rattle.agg_composite.specs.declared.request_data.CompositeAggReqData as declared;
 
-use crate::PageEntry;
-use crate::number_counts::{NumberCount, NumberCounts};
-use crate::visits::visit_documents;
+use crate::group_counts::GroupCounts;
+use crate::page::lowest_entries;
+use crate::walk::visit_documents;
+use crate::{CompositeAggReqData, PageEntry};
 use agg_cache::{BucketId, CollectError};
-use agg_request::CompositeAggregation;
-use agg_segment::SegmentReader;
-use agg_values::{CompositeIntermediateKey, DocId, ItemList, OutOfMemory, Steps, Tuple};
+use agg_values::{DocId, ItemList, OutOfMemory, Steps};
 use std::alloc::Global;
 use std::marker::Model;
 use std::sync::ledger::Ledger;
 
-/// Groups the documents of a segment by the tuples of a composite. Contracts see the distinct
-/// tuples that it visited, ascending, each with how often it was visited.
+/// Groups the documents of a segment by the tuples of a composite. Contracts see the encoded tuples
+/// that it counts. Each call of one collector has to get the same request data.
 #[derive(Drop)]
 pub struct SegmentCompositeCollector {
     alloc: Global,
-    counts: NumberCounts,
+    counts: GroupCounts,
 }
 
 impl Model for SegmentCompositeCollector {
-    ghost use Rattle.std.specs.Prelude.{List};
-    ghost use Rattle.agg_request.specs.Groups.{Group};
-    ghost use Rattle.agg_composite.specs.Counts.{numbers_held};
-    ghost use Rattle.agg_composite.specs.Waiting.{settled_counts};
+    ghost use Rattle.agg_composite.specs.Counts.{EncodedCounts};
+    ghost use Rattle.agg_composite.specs.GroupCounts.{settled_counts};
 
-    ghost Value = { List Group };
+    ghost Value = { EncodedCounts };
 
-    ghost view = { λ collector. numbers_held (settled_counts collector.counts) };
+    ghost view = { λ collector. settled_counts collector.counts };
 }
 
 impl SegmentCompositeCollector {
-    /// A collector for a composite of so many sources, without groups.
+    /// A collector for a composite of so many sources, which has visited nothing.
     pub fn new(alloc: Global, num_sources: usize) -> Result<SegmentCompositeCollector, OutOfMemory>
         requires some { 1 ≤ num_sources }
         requires few { num_sources ≤ 16 }
-        ensures { IfOk result (λ collector. collector ≡ []) }
+        ensures { IfOk result (λ collector. (req : declared.CompositeAggReqData)
+            → HasVisited req [] collector) }
     {
-        let _ = num_sources;
         Ok(SegmentCompositeCollector {
             alloc,
-            counts: NumberCounts::new(alloc),
+            counts: GroupCounts::new(alloc, num_sources),
         })
     }
 
-    /// Visits the tuples of the documents at these places that lie past the bound, which stands in
-    /// place of the composite's own, and takes a step at each. What is held after an error isn't
-    /// said.
+    /// Visits the tuples of the documents at these places that lie past the bound, and takes a step
+    /// at each. What is held after an error isn't said.
     pub fn collect<L: Ledger>(
         &mut self,
         parent_bucket_id: BucketId,
         docs: &[DocId],
-        composite: &CompositeAggregation,
-        bound: &Tuple,
-        segment: &SegmentReader,
+        req: &CompositeAggReqData<'_>,
         steps: &mut Steps<L>,
     ) -> Result<(), CollectError>
         requires parent { parent_bucket_id ≡ 0 }
-        requires form { IsOneAscendingSource composite.now.sources }
-        requires numbers { All (λ document. IsTrue
-            (hold_signed_numbers composite.now.sources document))
-            (documents_at segment.now docs.now) }
-        ensures { AnswersVisits
-            (rules_of composite.now.sources)
-            (past_occurrences composite.now.sources bound.now (documents_at segment.now docs.now))
-            self.old self.new steps.old steps.new result }
+        requires fits { (segment : Stored) × (after : Named AfterKey) × Fits segment after req.now }
+        ensures { (segment : Stored) (after : Named AfterKey) (visited : List KeyTuple)
+            → Fits segment after req.now
+            → HasVisited req.now visited self.old
+            → AnswersVisits req.now visited
+            (past_occurrences req.now.req.now.sources (bound_of req.now.req.now.sources after)
+            (documents_at segment docs.now))
+            self.new steps.old steps.new result }
     {
         let _ = parent_bucket_id;
-        let Some(source) = composite.sources.as_slice().first() else {
-            return Ok(());
-        };
+        let sources = req.req.sources.as_slice();
+        let accessors = req.composite_accessors.as_slice();
         self.counts.forget_waiting();
-        visit_documents(&mut self.counts, docs, source, bound, segment, steps)?;
+        visit_documents(
+            self.alloc,
+            &mut self.counts,
+            docs,
+            sources,
+            accessors,
+            steps,
+        )?;
         self.counts.settle()
     }
 
-    /// The lowest tuples that were visited, as many as the composite's size, each with its count.
+    /// The lowest tuples that were visited, as many as the page has room for, each with how often
+    /// it was visited.
     pub fn page(
         &self,
         parent_bucket_id: BucketId,
-        composite: &CompositeAggregation,
-        bound: &Tuple,
-        segment: &SegmentReader,
+        req: &CompositeAggReqData<'_>,
     ) -> Result<ItemList<PageEntry>, OutOfMemory>
         requires parent { parent_bucket_id ≡ 0 }
-        ensures { IfOk result (λ page. map entry_group page ≡ take composite.now.size self.now) }
+        requires fits { (segment : Stored) × (after : Named AfterKey) × Fits segment after req.now }
+        requires visited { (visited : List KeyTuple) × HasVisited req.now visited self.now }
+        ensures { IfOk result (λ page. (visited : List KeyTuple)
+            → HasVisited req.now visited self.now
+            → (groups : List Group) × Groups (rules_of req.now.req.now.sources) visited groups
+            × (map entry_group page ≡ take req.now.size groups)) }
     {
         let _ = parent_bucket_id;
-        let _ = bound;
-        let _ = segment;
-        let size = composite.size as usize;
-        let shown = first_counts(self.counts.settled(), size);
-        let mut entries = Vec::with_capacity(self.alloc, shown.len())?;
-        for shown_count in shown {
-            let mut key = Tuple::new(self.alloc);
-            key.push(CompositeIntermediateKey::I64(shown_count.number))?;
-            entries.push(PageEntry {
-                key,
-                doc_count: shown_count.count,
-            })?;
-        }
-        Ok(ItemList::from_vec(entries))
+        lowest_entries(self.alloc, &self.counts, req)
     }
-}
-
-// So many of the counts, or all.
-fn first_counts(counts: &[NumberCount], size: usize) -> &[NumberCount]
-    ensures { result.now ≡ take size counts.now }
-{
-    if counts.len() <= size {
-        return counts;
-    }
-    &counts[..size]
 }

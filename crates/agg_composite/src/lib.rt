@@ -1,10 +1,21 @@
 //! The collector that groups the documents of a segment.
 #![tactic(auto)]
 
+mod accessor;
+mod after_key;
 mod collector;
-mod number_counts;
+mod decoding;
+mod encoded;
+mod group_counts;
+mod laws;
+mod page;
 mod page_entry;
-mod visits;
+mod request_data;
+mod walk;
 
+pub use accessor::{CompositeAccessor, CompositeSourceAccessors};
+pub use after_key::PrecomputedAfterKey;
 pub use collector::SegmentCompositeCollector;
+pub use laws::encoded_tuples_compare_as_typed;
 pub use page_entry::PageEntry;
+pub use request_data::CompositeAggReqData;

@@ -1,0 +1,272 @@
+-- A document of one source: its columns, and Null where it has no value.
+use Rattle.std.proofs.Common.{◌≡◌, ℕ, ◌+◌, ◌<◌, ◌≤◌, List, [], ◌∷◌, ◌++◌, Bool, true, false, ◌&&◌}
+use Rattle.std.proofs.Common.{Ok, Err, IsErrAnd, length, get_or, take, map, filter, refl, sym, ap}
+use Rattle.std.proofs.Common.{◌∙◌, subst, inl}
+use Rattle.std.specs.List.{AllZip, flat_map}
+use Rattle.std.proofs.lemmas.List.{append-nil, map-append, take_all}
+use Rattle.std.proofs.lemmas.List.Concat.{flat_map-append}
+use Rattle.std.proofs.lemmas.List.Elements.{filter-append}
+use Rattle.agg_values.specs.Names.{Named}
+use Rattle.agg_values.specs.Tuple.{KeyTuple}
+use Rattle.agg_values.specs.TypedKey.{CompositeIntermediateKey, canonical_key}
+use Rattle.agg_values.specs.declared.after_key.AfterKey.{AfterKey}
+use Rattle.agg_values.specs.declared.typed_key.CompositeIntermediateKey.TheVariants.{Null}
+use Rattle.agg_cache.specs.declared.error.CollectError.{CollectError}
+use Rattle.agg_segment.specs.Columns.{StoredColumn, all_keys, column_keys}
+use Rattle.agg_segment.specs.Segment.{Stored, document_at, documents_at}
+use Rattle.agg_request.specs.Occurrences.{bound_of, is_past, occurrences, past_occurrences}
+use Rattle.agg_request.specs.Source.{missing_bucket_of, or_missing, rules_of}
+use Rattle.agg_request.specs.declared.source.CompositeAggregationSource.{CompositeAggregationSource}
+use Rattle.agg_composite.specs.Accessors.{AreAccessorsOf, after_of}
+use Rattle.agg_composite.specs.Answers.{AnswersEncoded, AnswersFor, CountsFor, TooOftenFor}
+use Rattle.agg_composite.specs.Choices.{AreChoicesOf, is_nil, keys_read, null_choice}
+use Rattle.agg_composite.specs.Counts.{EncodedCounts}
+use Rattle.agg_composite.specs.Encoding.{StandFor}
+use Rattle.agg_composite.specs.Walk.{walked}
+use Rattle.agg_composite.specs.declared.accessor.CompositeSourceAccessors.{CompositeSourceAccessors}
+use Rattle.agg_composite.specs.declared.walk.choice.Choice.{Choice}
+use Rattle.agg_composite.proofs.Appending.{Appends}
+use Rattle.agg_composite.proofs.ChoicePairs.{canonical-choices, lone_past, past-keys}
+use Rattle.agg_composite.proofs.Choosing.{all_keys-append, turn-keys}
+use Rattle.agg_composite.proofs.CountedBehind.{answers-for, typed-visits}
+use Rattle.agg_composite.proofs.VisitsInRow.{Returned, SoFar, all-visited, error-visited}
+use Rattle.agg_composite.proofs.VisitsInRow.{first-refused, none-visited, one-visited, then-visited}
+
+-- ---- whether there is a value
+
+nil-append : {A : Type 0} (xs ys : List A) → is_nil (xs ++ ys) ≡ (is_nil xs && is_nil ys)
+nil-append [] ys = refl
+nil-append (x ∷ xs) ys = refl
+
+nil-map : {A B : Type 0} (f : A → B) (xs : List A) → is_nil (map f xs) ≡ is_nil xs
+nil-map f [] = refl
+nil-map f (x ∷ xs) = refl
+
+-- whether there is none in one more column
+pub nil-more : (columns : List StoredColumn) (turn doc : ℕ) (column : StoredColumn)
+    (numbers : List ℕ) (key : ℕ → CompositeIntermediateKey) (before now : Bool)
+    → turn < length columns → get_or columns turn column ≡ column
+    → map key numbers ≡ column_keys column doc
+    → before ≡ is_nil (all_keys (take turn columns) doc)
+    → now ≡ (before && is_nil numbers)
+    → now ≡ is_nil (all_keys (take (turn + 1) columns) doc)
+nil-more columns turn doc column numbers key before now l is keys so_far e =
+    e ∙ (λ i. so_far i && (sym (nil-map key numbers) ∙ ap is_nil keys) i)
+    ∙ sym (nil-append (all_keys (take turn columns) doc) (column_keys column doc))
+    ∙ ap is_nil (sym (turn-keys columns turn doc column l is))
+
+-- Null, where there is no key and a missing value has a bucket
+abbrev null_part : Bool → List CompositeIntermediateKey → List CompositeIntermediateKey
+null_part b [] = or_missing b []
+null_part b (k ∷ keys) = []
+
+with-null : (b : Bool) (keys : List CompositeIntermediateKey)
+    → or_missing b keys ≡ keys ++ null_part b keys
+with-null b [] = refl
+with-null b (k ∷ keys) = sym (append-nil (k ∷ keys))
+
+no-null : (b : Bool) (keys : List CompositeIntermediateKey) → is_nil keys ≡ false
+    → null_part b keys ≡ []
+no-null b [] e = cc
+no-null b (k ∷ keys) e = refl
+
+no-bucket : (b : Bool) (keys : List CompositeIntermediateKey) → b ≡ false → null_part b keys ≡ []
+no-bucket b [] e = ap (λ x. or_missing x []) e
+no-bucket b (k ∷ keys) e = refl
+
+one-null : (b : Bool) (keys : List CompositeIntermediateKey) → is_nil keys ≡ true → b ≡ true
+    → null_part b keys ≡ Null ∷ []
+one-null b [] none e = ap (λ x. or_missing x []) e
+one-null b (k ∷ keys) none e = cc
+
+module _ (segment : Stored) (after : Named AfterKey) (source : CompositeAggregationSource)
+    (a : CompositeSourceAccessors) (doc : ℕ) where
+  lone-append : Appends (lone_past segment after source)
+  lone-append xs ys =
+      let past = is_past (rules_of (source ∷ [])) (bound_of (source ∷ []) after) in
+      let tuples : CompositeIntermediateKey → List KeyTuple = λ k. map (λ t. k ∷ t) ([] ∷ []) in
+      ap (filter past) (flat_map-append tuples xs ys)
+      ∙ filter-append past (flat_map tuples xs) (flat_map tuples ys)
+
+  -- the keys of columns, canonical
+  abbrev read_in : List StoredColumn → List CompositeIntermediateKey
+  read_in columns = map canonical_key (all_keys columns doc)
+
+  -- the tuples of columns that lie past the bound
+  abbrev pub lone_in : List StoredColumn → List KeyTuple
+  lone_in columns = lone_past segment after source (read_in columns)
+
+  pub lone_in-append : Appends lone_in
+  lone_in-append xs ys =
+      ap (λ ks. lone_past segment after source (map canonical_key ks)) (all_keys-append doc xs ys)
+      ∙ ap (lone_past segment after source)
+      (map-append canonical_key (all_keys xs doc) (all_keys ys doc))
+      ∙ lone-append (read_in xs) (read_in ys)
+
+  -- the tuples of a document: those of the columns, and that of Null
+  whole-document : (columns : List StoredColumn)
+      → all_keys columns doc ≡ keys_read source a doc
+      → AreAccessorsOf segment source (after_of after source) a
+      → past_occurrences (source ∷ []) (bound_of (source ∷ []) after)
+      (documents_at segment (doc ∷ []))
+      ≡ lone_in columns ++ lone_past segment after source
+      (null_part (missing_bucket_of source) (read_in columns))
+  whole-document columns read fit =
+      let past = is_past (rules_of (source ∷ [])) (bound_of (source ∷ []) after) in
+      let b = missing_bucket_of source in
+      ap (filter past) (append-nil (occurrences (source ∷ []) (document_at segment doc)))
+      ∙ ap (λ ks. lone_past segment after source (or_missing b (map canonical_key ks)))
+      (sym (read ∙ fit.columns.keys doc))
+      ∙ ap (lone_past segment after source) (with-null b (read_in columns))
+      ∙ lone-append (read_in columns) (null_part b (read_in columns))
+
+  module _ (fit : AreAccessorsOf segment source (after_of after source) a) where
+    -- what choices of a column's keys are walked with stands for its tuples
+    lone-column : (columns : List StoredColumn) (turn : ℕ) (column : StoredColumn)
+        (choices : List Choice) → get_or columns turn column ≡ column
+        → AreChoicesOf source a choices (column_keys column doc)
+        → AllZip (StandFor (source ∷ []) (a ∷ [])) (walked (choices ∷ []) [] false)
+        (lone_in (get_or columns turn column ∷ []))
+    lone-column columns turn column choices is p =
+        let keys = column_keys column doc in
+        subst (λ ks. AllZip (StandFor (source ∷ []) (a ∷ [])) (walked (choices ∷ []) [] false)
+        (lone_past segment after source ks))
+        (sym (ap (λ (x : StoredColumn). read_in (x ∷ [])) is
+        ∙ ap (map canonical_key) (append-nil keys) ∙ canonical-choices source a choices keys p))
+        (past-keys segment after source a choices keys fit p)
+
+    module _ (columns : List StoredColumn) (turn : ℕ) (held now : EncodedCounts)
+        (steps steps_now : ℕ)
+        (so_far : SoFar (CountsFor (source ∷ []) (a ∷ [])) lone_in columns turn held now steps
+        steps_now) where
+      module _ (column : StoredColumn) (choices : List Choice) (l : turn < length columns)
+          (is : get_or columns turn column ≡ column)
+          (p : AreChoicesOf source a choices (column_keys column doc)) (then : EncodedCounts)
+          (steps_then : ℕ) where
+        -- one column more
+        pub one-column : AnswersEncoded (walked (choices ∷ []) [] false) now then steps_now
+            steps_then (Ok tt)
+            → SoFar (CountsFor (source ∷ []) (a ∷ [])) lone_in columns (turn + 1) held then steps
+            steps_then
+        one-column own =
+            one-visited (CountsFor (source ∷ []) (a ∷ [])) (TooOftenFor (source ∷ []) (a ∷ []))
+            (typed-visits (source ∷ []) (a ∷ [])) lone_in lone_in-append columns turn held now
+            steps steps_now so_far column l then steps_then
+            (answers-for (source ∷ []) (a ∷ []) (walked (choices ∷ []) [] false)
+            (lone_in (get_or columns turn column ∷ [])) now then steps_now steps_then (Ok tt)
+            (lone-column columns turn column choices is p) own)
+
+        -- the error of a column is the document's
+        pub column-error : all_keys columns doc ≡ keys_read source a doc
+            → (error : CollectError) (returned : Returned)
+            → AnswersEncoded (walked (choices ∷ []) [] false) now then steps_now steps_then
+            (Err error)
+            → IsErrAnd returned (λ e. e ≡ error)
+            → AnswersFor (source ∷ []) (a ∷ [])
+            (past_occurrences (source ∷ []) (bound_of (source ∷ []) after)
+            (documents_at segment (doc ∷ [])))
+            held then steps steps_then returned
+        column-error read error returned own is_err =
+            let rest = lone_past segment after source
+            (null_part (missing_bucket_of source) (read_in columns)) in
+            subst (λ ks. AnswersFor (source ∷ []) (a ∷ []) ks held then steps steps_then returned)
+            (sym (whole-document columns read fit))
+            (first-refused (CountsFor (source ∷ []) (a ∷ [])) (TooOftenFor (source ∷ []) (a ∷ []))
+            (typed-visits (source ∷ []) (a ∷ [])) (lone_in columns) rest held then steps
+            steps_then error returned
+            (error-visited (CountsFor (source ∷ []) (a ∷ [])) (TooOftenFor (source ∷ []) (a ∷ []))
+            (typed-visits (source ∷ []) (a ∷ [])) lone_in lone_in-append columns turn held now
+            steps steps_now so_far column l then steps_then error (Err error)
+            (answers-for (source ∷ []) (a ∷ []) (walked (choices ∷ []) [] false)
+            (lone_in (get_or columns turn column ∷ [])) now then steps_now steps_then (Err error)
+            (lone-column columns turn column choices is p) own) refl)
+            is_err)
+
+      -- all columns, and what comes behind them
+      then-null : length columns ≤ turn → all_keys columns doc ≡ keys_read source a doc
+          → (tuples : List KeyTuple) (then : EncodedCounts) (steps_then : ℕ) (result : Returned)
+          → lone_past segment after source
+          (null_part (missing_bucket_of source) (read_in columns)) ≡ tuples
+          → AnswersFor (source ∷ []) (a ∷ []) tuples now then steps_now steps_then result
+          → AnswersFor (source ∷ []) (a ∷ [])
+          (past_occurrences (source ∷ []) (bound_of (source ∷ []) after)
+          (documents_at segment (doc ∷ [])))
+          held then steps steps_then result
+      then-null past read tuples then steps_then result rest answers =
+          subst (λ ks. AnswersFor (source ∷ []) (a ∷ []) ks held then steps steps_then result)
+          (sym (whole-document columns read fit ∙ ap (λ ts. lone_in columns ++ ts) rest))
+          (then-visited (CountsFor (source ∷ []) (a ∷ [])) (TooOftenFor (source ∷ []) (a ∷ []))
+          (typed-visits (source ∷ []) (a ∷ [])) (lone_in columns) tuples held now then steps
+          steps_now steps_then result
+          (all-visited (CountsFor (source ∷ []) (a ∷ [])) (TooOftenFor (source ∷ []) (a ∷ []))
+          (typed-visits (source ∷ []) (a ∷ [])) lone_in lone_in-append columns turn held now
+          steps steps_now so_far past) answers)
+
+      -- no Null behind the columns
+      pub columns-alone : length columns ≤ turn → all_keys columns doc ≡ keys_read source a doc
+          → null_part (missing_bucket_of source) (read_in columns) ≡ []
+          → AnswersFor (source ∷ []) (a ∷ [])
+          (past_occurrences (source ∷ []) (bound_of (source ∷ []) after)
+          (documents_at segment (doc ∷ [])))
+          held now steps steps_now (Ok tt)
+      columns-alone past read none =
+          then-null past read [] now steps_now (Ok tt)
+          (ap (lone_past segment after source) none)
+          (none-visited (CountsFor (source ∷ []) (a ∷ [])) (TooOftenFor (source ∷ []) (a ∷ []))
+          (typed-visits (source ∷ []) (a ∷ [])) now steps_now)
+
+      -- Null behind them
+      pub columns-and-null : length columns ≤ turn → all_keys columns doc ≡ keys_read source a doc
+          → null_part (missing_bucket_of source) (read_in columns) ≡ Null ∷ []
+          → (then : EncodedCounts) (steps_then : ℕ) (result : Returned)
+          → AnswersEncoded (walked ((null_choice source a ∷ []) ∷ []) [] false) now then steps_now
+          steps_then result
+          → AnswersFor (source ∷ []) (a ∷ [])
+          (past_occurrences (source ∷ []) (bound_of (source ∷ []) after)
+          (documents_at segment (doc ∷ [])))
+          held then steps steps_then result
+      columns-and-null past read null then steps_then result answers =
+          let tuples = lone_past segment after source (Null ∷ []) in
+          then-null past read tuples then steps_then result
+          (ap (lone_past segment after source) null)
+          (answers-for (source ∷ []) (a ∷ []) (walked ((null_choice source a ∷ []) ∷ []) [] false)
+          tuples now then steps_now steps_then result
+          (past-keys segment after source a (null_choice source a ∷ []) (Null ∷ []) fit
+          (inl (refl, refl), tt)) answers)
+
+      -- the three ways in which a document ends
+      pub ends-with-values : length columns ≤ turn → all_keys columns doc ≡ keys_read source a doc
+          → is_nil (all_keys (take turn columns) doc) ≡ false
+          → AnswersFor (source ∷ []) (a ∷ [])
+          (past_occurrences (source ∷ []) (bound_of (source ∷ []) after)
+          (documents_at segment (doc ∷ [])))
+          held now steps steps_now (Ok tt)
+      ends-with-values past read some =
+          columns-alone past read (no-null (missing_bucket_of source) (read_in columns)
+          (nil-map canonical_key (all_keys columns doc)
+          ∙ ap (λ (xs : List StoredColumn). is_nil (all_keys xs doc))
+          (sym (take_all turn columns past)) ∙ some))
+
+      pub ends-without-bucket : length columns ≤ turn
+          → all_keys columns doc ≡ keys_read source a doc → missing_bucket_of source ≡ false
+          → AnswersFor (source ∷ []) (a ∷ [])
+          (past_occurrences (source ∷ []) (bound_of (source ∷ []) after)
+          (documents_at segment (doc ∷ [])))
+          held now steps steps_now (Ok tt)
+      ends-without-bucket past read none =
+          columns-alone past read (no-bucket (missing_bucket_of source) (read_in columns) none)
+
+      pub ends-with-null : length columns ≤ turn → all_keys columns doc ≡ keys_read source a doc
+          → is_nil (all_keys (take turn columns) doc) ≡ true → missing_bucket_of source ≡ true
+          → (then : EncodedCounts) (steps_then : ℕ) (result : Returned)
+          → AnswersEncoded (walked ((null_choice source a ∷ []) ∷ []) [] false) now then steps_now
+          steps_then result
+          → AnswersFor (source ∷ []) (a ∷ [])
+          (past_occurrences (source ∷ []) (bound_of (source ∷ []) after)
+          (documents_at segment (doc ∷ [])))
+          held then steps steps_then result
+      ends-with-null past read none bucket then steps_then result answers =
+          columns-and-null past read (one-null (missing_bucket_of source) (read_in columns)
+          (nil-map canonical_key (all_keys columns doc)
+          ∙ ap (λ (xs : List StoredColumn). is_nil (all_keys xs doc))
+          (sym (take_all turn columns past)) ∙ none) bucket) then steps_then result answers

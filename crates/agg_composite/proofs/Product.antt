@@ -1,0 +1,108 @@
+-- What a walk visits is what the product has past the bound.
+use Rattle.std.proofs.Common.{◌≡◌, List, [], ◌∷◌, ◌++◌, Bool, true, false, ◌||◌, cond, map}
+use Rattle.std.proofs.Common.{filter, refl, sym, ap, ◌∙◌, append_assoc}
+use Rattle.std.specs.List.{flat_map}
+use Rattle.std.specs.declared.cmp.Ordering.{Ordering}
+use Rattle.std.specs.declared.cmp.Ordering.TheVariants.{Less, Equal, Greater}
+use Rattle.std.proofs.lemmas.List.{append-nil, map-append}
+use Rattle.std.proofs.lemmas.List.Elements.{filter-append}
+use Rattle.agg_composite.specs.Encoding.{EncodedTuple}
+use Rattle.agg_composite.specs.Walk.{product, values_of, sides_of, sides_past, past_tuples, walked}
+use Rattle.agg_composite.specs.Walk.{behind, next_standing}
+use Rattle.agg_composite.specs.declared.encoded.Encoded.{Encoded}
+use Rattle.agg_composite.specs.declared.walk.choice.Choice.{Choice}
+use Rattle.agg_composite.proofs.Walking.{walked_with}
+
+map-cond : {X Y : Type 0} (f : X → Y) (b : Bool) (x : X) (xs : List X)
+    → cond b (f x ∷ map f xs) (map f xs) ≡ map f (cond b (x ∷ xs) xs)
+map-cond f true x xs = refl
+map-cond f false x xs = refl
+
+-- a filter behind a map
+filter-map : {X Y : Type 0} (p : Y → Bool) (f : X → Y) (xs : List X)
+    → filter p (map f xs) ≡ map f (filter (λ x. p (f x)) xs)
+filter-map p f [] = refl
+filter-map p f (x ∷ xs) =
+    ap (λ ys. cond (p (f x)) (f x ∷ ys) ys) (filter-map p f xs)
+    ∙ map-cond f (p (f x)) x (filter (λ y. p (f y)) xs)
+
+-- two maps in a row
+map-twice : {X Y Z : Type 0} (g : Y → Z) (f : X → Y) (xs : List X)
+    → map g (map f xs) ≡ map (λ x. g (f x)) xs
+map-twice g f [] = refl
+map-twice g f (x ∷ xs) = ap (λ ys. g (f x) ∷ ys) (map-twice g f xs)
+
+filter-none : {X : Type 0} (xs : List X) → filter (λ x. false) xs ≡ []
+filter-none [] = refl
+filter-none (x ∷ xs) = filter-none xs
+
+-- whether the tuple of choices lies past the bound
+abbrev is_past : List Choice → Bool
+is_past t = sides_past (sides_of t)
+
+-- the tuples behind a front, where they are past the bound or the front is above it
+abbrev kept : List (List Choice) → EncodedTuple → Bool → List EncodedTuple
+kept tuples front above =
+    map (λ t. front ++ values_of t) (filter (λ t. above || is_past t) tuples)
+
+-- a key goes from the tuples to the front
+longer-front : (tuples : List (List Choice)) (front : EncodedTuple) (c : Choice)
+    → map (λ t. front ++ values_of t) (map (λ t. c ∷ t) tuples)
+    ≡ map (λ t. (front ++ c.value ∷ []) ++ values_of t) tuples
+longer-front tuples front c =
+    map-twice (λ t. front ++ values_of t) (λ t. c ∷ t) tuples
+    ∙ sym (λ i. map (λ t. append_assoc front (c.value ∷ []) (values_of t) i) tuples)
+
+with-value : (value : Encoded) (side : Ordering) (tuples : List (List Choice))
+    (front : EncodedTuple) (above : Bool)
+    → kept (map (λ t. record { value = value; side = side } ∷ t) tuples) front above
+    ≡ behind (kept tuples (front ++ value ∷ [])) (next_standing above side)
+with-value value side tuples front true =
+    ap (map (λ t. front ++ values_of t))
+    (filter-map (λ t. true || is_past t) (λ t. record { value = value; side = side } ∷ t) tuples)
+    ∙ longer-front _ front (record { value = value; side = side })
+with-value value Less tuples front false =
+    ap (map (λ t. front ++ values_of t))
+    (filter-map (λ t. false || is_past t) (λ t. record { value = value; side = Less } ∷ t) tuples
+    ∙ ap (map (λ t. record { value = value; side = Less } ∷ t)) (filter-none tuples))
+with-value value Equal tuples front false =
+    ap (map (λ t. front ++ values_of t))
+    (filter-map (λ t. false || is_past t) (λ t. record { value = value; side = Equal } ∷ t) tuples)
+    ∙ longer-front _ front (record { value = value; side = Equal })
+with-value value Greater tuples front false =
+    ap (map (λ t. front ++ values_of t))
+    (filter-map (λ t. false || is_past t) (λ t. record { value = value; side = Greater } ∷ t)
+    tuples)
+    ∙ longer-front _ front (record { value = value; side = Greater })
+
+kept-append : (ts us : List (List Choice)) (front : EncodedTuple) (above : Bool)
+    → kept (ts ++ us) front above ≡ kept ts front above ++ kept us front above
+kept-append ts us front above =
+    ap (map (λ t. front ++ values_of t)) (filter-append (λ t. above || is_past t) ts us)
+    ∙ map-append (λ t. front ++ values_of t) (filter (λ t. above || is_past t) ts)
+    (filter (λ t. above || is_past t) us)
+
+each-value : (choices : List Choice) (rest : List (List Choice)) (front : EncodedTuple)
+    (above : Bool)
+    → ((longer : EncodedTuple) (standing : Bool)
+    → walked rest longer standing ≡ kept (product rest) longer standing)
+    → flat_map (walked_with rest front above) choices
+    ≡ kept (flat_map (λ c. map (λ t. c ∷ t) (product rest)) choices) front above
+each-value [] rest front above others = refl
+each-value (c ∷ choices) rest front above others =
+    (λ i. behind (λ standing. others (front ++ c.value ∷ []) standing i)
+    (next_standing above c.side) ++ each-value choices rest front above others i)
+    ∙ ap (λ ts. ts ++ kept (flat_map (λ x. map (λ t. x ∷ t) (product rest)) choices) front above)
+    (sym (with-value c.value c.side (product rest) front above))
+    ∙ sym (kept-append (map (λ t. c ∷ t) (product rest))
+    (flat_map (λ x. map (λ t. x ∷ t) (product rest)) choices) front above)
+
+walked-is : (sources : List (List Choice)) (front : EncodedTuple) (above : Bool)
+    → walked sources front above ≡ kept (product sources) front above
+walked-is [] front true = ap (λ t. t ∷ []) (sym (append-nil front))
+walked-is [] front false = refl
+walked-is (choices ∷ rest) front above = each-value choices rest front above (walked-is rest)
+
+-- from the empty front, below nothing, the walk visits the tuples past the bound
+pub walked-past : (sources : List (List Choice)) → walked sources [] false ≡ past_tuples sources
+walked-past sources = walked-is sources [] false

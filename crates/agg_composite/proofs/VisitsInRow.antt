@@ -1,0 +1,163 @@
+-- Visits in a row: what a list gives is what its elements give, in order.
+use Rattle.std.proofs.Common.{◌≡◌, ℕ, ◌+◌, ◌<◌, ◌≤◌, List, [], ◌∷◌, ◌++◌, Result, Ok, Err}
+use Rattle.std.proofs.Common.{IsErrAnd, length, get_or, take, drop, sym, ap, ◌∙◌, length-append}
+use Rattle.std.proofs.Common.{subst, arith}
+use Rattle.std.proofs.lemmas.List.{take_all}
+use Rattle.std.proofs.lemmas.Result.{err_from_is_err_and}
+use Rattle.agg_cache.specs.declared.error.CollectError.{CollectError}
+use Rattle.agg_cache.specs.declared.error.CollectError.TheVariants.{TooMany}
+use Rattle.agg_composite.specs.Answers.{Answers}
+use Rattle.agg_composite.proofs.Appending.{Appends, gives-more, gives-all, length-more}
+use Rattle.agg_composite.proofs.Appending.{length-front}
+
+-- what call results are
+abbrev pub Returned : Type 0
+Returned = Result (Unit {0}) CollectError
+
+-- visits of what lists hold, and why they are refused
+pub record AreVisits {Y S : Type 0} (visits : List Y → S → S → Type 0)
+    (refuses : List Y → S → Type 0) : Type 0 where
+  pub none : (s : S) → visits [] s s
+  pub both : (ys zs : List Y) (s t u : S) → visits ys s t → visits zs t u → visits (ys ++ zs) s u
+  pub more : (ys zs : List Y) (s : S) → refuses ys s → refuses (ys ++ zs) s
+  pub after : (ys zs : List Y) (s t : S) → visits ys s t → refuses zs t → refuses (ys ++ zs) s
+
+-- what has come of the elements before i: what they give is visited, with a step at each
+pub record SoFar {X Y S : Type 0} (visits : List Y → S → S → Type 0) (f : List X → List Y)
+    (xs : List X) (i : ℕ) (s t : S) (steps steps_now : ℕ) : Type 0 where
+  pub visited : visits (f (take i xs)) s t
+  pub ticks : steps_now ≡ steps + length (f (take i xs))
+
+-- an error that a call passes on
+pub passed-on : (visits refuses : Type 0) (count steps steps_now : ℕ)
+    (error : CollectError) (returned : Returned)
+    → (◌≡◌ {A = Returned} (Err error) (Err TooMany) → refuses)
+    → steps ≤ steps_now → steps_now ≤ steps + count
+    → IsErrAnd returned (λ e. e ≡ error)
+    → Answers visits refuses count steps steps_now returned
+passed-on visits refuses count steps steps_now error returned too_many later bounded is_err =
+    let given = err_from_is_err_and returned is_err in
+    subst (Answers visits refuses count steps steps_now) (sym given.1) (record {
+      ok = tt;
+      ticks = tt;
+      too_many = λ e. too_many (cc (given.2, e));
+      later = later;
+      bounded = bounded;
+    })
+
+-- an error by itself, of another cause than too many
+pub refused : (visits refuses : Type 0) (count steps : ℕ) (error : CollectError)
+    (returned : Returned)
+    → (◌≡◌ {A = Returned} (Err error) (Err TooMany) → refuses)
+    → IsErrAnd returned (λ e. e ≡ error)
+    → Answers visits refuses count steps steps returned
+refused visits refuses count steps error returned too_many is_err =
+    passed-on visits refuses count steps steps error returned too_many (omega arith) (omega arith)
+    is_err
+
+module _ {Y S : Type 0} (visits : List Y → S → S → Type 0) (refuses : List Y → S → Type 0)
+    (laws : AreVisits visits refuses) where
+  -- what visits of a list answer
+  abbrev Answered : List Y → S → S → ℕ → ℕ → Returned → Type 0
+  Answered ys s t = Answers (visits ys s t) (refuses ys s) (length ys)
+
+  -- nothing to visit
+  pub none-visited : (s : S) (steps : ℕ) → Answered [] s s steps steps (Ok tt)
+  none-visited s steps = record {
+    ok = laws.none s;
+    ticks = omega arith;
+    too_many = λ e. absurd (cc e);
+    later = omega arith;
+    bounded = omega arith;
+  }
+
+  -- two lists in a row, of which the first was visited
+  pub then-visited : (ys zs : List Y) (s t u : S) (steps steps_now steps_then : ℕ)
+      (result : Returned)
+      → Answered ys s t steps steps_now (Ok tt) → Answered zs t u steps_now steps_then result
+      → Answered (ys ++ zs) s u steps steps_then result
+  then-visited ys zs s t u steps steps_now steps_then (Ok x) first second =
+      let long = length-append ys zs in
+      let before = first.ticks in
+      let behind = second.ticks in
+      let all : steps_then ≡ steps + length (ys ++ zs) = omega (arith, long, before, behind) in
+      record {
+        ok = laws.both ys zs s t u first.ok second.ok;
+        ticks = all;
+        too_many = λ e. absurd (cc e);
+        later = omega (arith, all);
+        bounded = omega (arith, all);
+      }
+  then-visited ys zs s t u steps steps_now steps_then (Err x) first second =
+      let long = length-append ys zs in
+      let before = first.ticks in
+      let later = second.later in
+      let bounded = second.bounded in
+      record {
+        ok = tt;
+        ticks = tt;
+        too_many = λ e. laws.after ys zs s t first.ok (second.too_many e);
+        later = omega (arith, before, later);
+        bounded = omega (arith, long, before, bounded);
+      }
+
+  -- two lists in a row, of which the first was refused
+  pub first-refused : (ys zs : List Y) (s t : S) (steps steps_now : ℕ) (error : CollectError)
+      (returned : Returned)
+      → Answered ys s t steps steps_now (Err error) → IsErrAnd returned (λ e. e ≡ error)
+      → Answered (ys ++ zs) s t steps steps_now returned
+  first-refused ys zs s t steps steps_now error returned first is_err =
+      let long = length-append ys zs in
+      let later = first.later in
+      let bounded = first.bounded in
+      passed-on (visits (ys ++ zs) s t) (refuses (ys ++ zs) s) (length (ys ++ zs)) steps steps_now
+      error returned
+      (λ e. laws.more ys zs s (first.too_many e)) later (omega (arith, long, bounded)) is_err
+
+  module _ {X : Type 0} (f : List X → List Y) (h : Appends f) (xs : List X) (i : ℕ) (s t : S)
+      (steps steps_now : ℕ) (so_far : SoFar visits f xs i s t steps steps_now) where
+    -- all that they give, at the end
+    pub all-visited : length xs ≤ i → Answered (f xs) s t steps steps_now (Ok tt)
+    all-visited past =
+        let e = take_all i xs past in
+        let ticks : steps_now ≡ steps + length (f xs) =
+        so_far.ticks ∙ ap (λ ys. steps + length (f ys)) e in
+        record {
+          ok = subst (λ ys. visits (f ys) s t) e so_far.visited;
+          ticks = ticks;
+          too_many = λ is_err. absurd (cc is_err);
+          later = omega (arith, ticks);
+          bounded = omega (arith, ticks);
+        }
+
+    module _ (d : X) (l : i < length xs) (u : S) (steps_after : ℕ) where
+      -- one element more
+      pub one-visited : Answered (f (get_or xs i d ∷ [])) t u steps_now steps_after (Ok tt)
+          → SoFar visits f xs (i + 1) s u steps steps_after
+      one-visited own =
+          let before = so_far.ticks in
+          let more = length-more f h xs i d l in
+          record {
+            visited = subst (λ ys. visits ys s u) (sym (gives-more f h xs i d l))
+                (laws.both (f (take i xs)) (f (get_or xs i d ∷ [])) s t u so_far.visited own.ok);
+            ticks = omega (arith, before, more, own.ticks);
+          }
+
+      -- the error of one element is the error of all
+      pub error-visited : (error : CollectError) (returned : Returned)
+          → Answered (f (get_or xs i d ∷ [])) t u steps_now steps_after (Err error)
+          → IsErrAnd returned (λ e. e ≡ error)
+          → Answered (f xs) s u steps steps_after returned
+      error-visited error returned own is_err =
+          let before = so_far.ticks in
+          let front = length-front f h xs i d l in
+          let later = own.later in
+          let bounded = own.bounded in
+          let one = f (get_or xs i d ∷ []) in
+          let rest = f (drop (i + 1) xs) in
+          passed-on (visits (f xs) s u) (refuses (f xs) s) (length (f xs)) steps steps_after error
+          returned
+          (λ e. subst (λ ys. refuses ys s) (sym (gives-all f h xs i d l))
+          (laws.more (f (take i xs) ++ one) rest s
+          (laws.after (f (take i xs)) one s t so_far.visited (own.too_many e))))
+          (omega (arith, before, later)) (omega (arith, before, bounded, front)) is_err

@@ -1,0 +1,9 @@
+use Rattle.std.proofs.Common.{◌≡◌, ◌++◌, map, take}
+use Rattle.agg_composite.specs.Choices.{choice_at}
+use Rattle.agg_composite.proofs.walk.gather.add_numbers.Given as goal
+
+abbrev pub invariant-loop-number : goal.invariant-loop-number
+invariant-loop-number l =
+    l.choices.items
+    ≡ l.fn.choices.items
+    ++ map (choice_at l.order l.accessors l.place) (take l.number-index l.numbers)

@@ -1,0 +1,28 @@
+use Rattle.std.proofs.Common.{[], ◌∷◌}
+use Rattle.agg_composite.specs.GroupCounts.{all_counts}
+use Rattle.agg_composite.proofs.DocumentsInRow.{all-documents, document-error, one-document}
+use Rattle.agg_composite.proofs.walk.lone.visit_lone_documents.Goals as goal
+
+pub loop-doc-preserved : goal.loop-doc-preserved
+loop-doc-preserved g c =
+    one-document (c.args.source.now ∷ []) (c.args.accessors.now ∷ []) c.args.docs.now
+    c.loop-doc.doc-index (all_counts c.args.counts.now) (all_counts c.loop-doc.counts)
+    c.args.steps.now c.loop-doc.steps c.loop-doc.invariant 0 c.loop-doc-test.true
+    (all_counts c.visit_lone_document.new.counts) c.visit_lone_document.new.steps
+    c.in_ok-visit_lone_document.ensures
+
+pub returns-in_err-visit_lone_document : goal.returns-in_err-visit_lone_document
+returns-in_err-visit_lone_document g c =
+    document-error (c.args.source.now ∷ []) (c.args.accessors.now ∷ []) c.args.docs.now
+    c.loop-doc.doc-index (all_counts c.args.counts.now) (all_counts c.loop-doc.counts)
+    c.args.steps.now c.loop-doc.steps c.loop-doc.invariant 0 c.loop-doc-test.true
+    (all_counts c.visit_lone_document.new.counts) c.visit_lone_document.new.steps
+    c.in_err-visit_lone_document.field-0.0 c.from_residual.result
+    c.in_err-visit_lone_document.ensures
+    c.from_residual.ensures.1
+
+pub returns : goal.returns
+returns g c =
+    all-documents (c.args.source.now ∷ []) (c.args.accessors.now ∷ []) c.args.docs.now
+    c.loop-doc.doc-index (all_counts c.args.counts.now) (all_counts c.loop-doc.counts)
+    c.args.steps.now c.loop-doc.steps c.loop-doc.invariant c.loop-doc-test.false

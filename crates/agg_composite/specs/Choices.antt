@@ -1,0 +1,97 @@
+-- The choices that a document gives for sources.
+use Rattle.std.specs.Prelude.{◌≡◌, ◌⊎◌, ◌-◌, ◌<◌, ◌^◌, ◌++◌, ℕ, List, [], ◌∷◌, Bool, true, false, ⊤}
+use Rattle.std.specs.Prelude.{length, sum, if◌then◌else◌}
+use Rattle.std.specs.List.{AllZip}
+use Rattle.std.specs.declared.cmp.Ordering.{Ordering}
+use Rattle.std.specs.declared.cmp.Ordering.TheVariants.{Less, Equal, Greater}
+use Rattle.agg_values.specs.TypedKey.{CompositeIntermediateKey}
+use Rattle.agg_values.specs.declared.typed_key.CompositeIntermediateKey.TheVariants.{Null}
+use Rattle.agg_values.specs.declared.order.Order.{Order}
+use Rattle.agg_values.specs.declared.order.Order.TheVariants.{Asc, Desc}
+use Rattle.agg_segment.specs.Columns.{StandsForKey, all_keys, encoded_key}
+use Rattle.agg_request.specs.Source.{Sources, missing_bucket_of, or_missing, order_of}
+use Rattle.agg_request.specs.declared.source.CompositeAggregationSource.{CompositeAggregationSource}
+use Rattle.agg_composite.specs.Accessors.{columns_of, in_requested, keys_at, side_at}
+use Rattle.agg_composite.specs.Encoding.{encoded_at, encoded_null}
+use Rattle.agg_composite.specs.Walk.{parts}
+use Rattle.agg_composite.specs.declared.accessor.CompositeSourceAccessors.{CompositeSourceAccessors}
+use Rattle.agg_composite.specs.declared.walk.choice.Choice.{Choice}
+
+-- ---- a choice
+
+-- how Null stands to the after value: below where it comes before, at where the value is Null
+abbrev pub missing_standing : Bool → Bool → Ordering
+missing_standing before same = if before then Less else (if same then Equal else Greater)
+
+-- Null as a choice
+abbrev pub null_choice : CompositeAggregationSource → CompositeSourceAccessors → Choice
+null_choice source a =
+    record {
+      value = encoded_null source a.accessors;
+      side = missing_standing a.skip_missing a.is_after_key_explicit_missing;
+    }
+
+-- a number of the accessor at a place as a choice
+abbrev pub choice_at : Order → CompositeSourceAccessors → ℕ → ℕ → Choice
+choice_at order a i number =
+    record { value = encoded_at order i number; side = side_at order a i number }
+
+-- a choice is that of a key: of Null, or of the key of a number of an accessor
+abbrev pub IsChoiceOf : CompositeAggregationSource → CompositeSourceAccessors → Choice
+    → CompositeIntermediateKey → Type 0
+IsChoiceOf source a c k =
+    ((c ≡ null_choice source a) × (k ≡ Null))
+    ⊎ ((i : ℕ) × (number : ℕ) × (i < length a.accessors) × (number < 2 ^ 64)
+    × StandsForKey (keys_at a.accessors i) number
+    × (c ≡ choice_at (order_of source) a i number)
+    × (k ≡ encoded_key (keys_at a.accessors i) number))
+
+-- ---- the choices of a source
+
+-- whether a list is empty
+abbrev pub is_nil : {A : Type 0} → List A → Bool
+is_nil [] = true
+is_nil (x ∷ xs) = false
+
+-- the place of the accessor that is read in a turn, of so many
+abbrev pub place_in : Order → ℕ → ℕ → ℕ
+place_in Asc accessors turn = turn
+place_in Desc accessors turn = accessors - 1 - turn
+
+-- the keys that accessors read in a document, by class ascending
+abbrev pub keys_read : CompositeAggregationSource → CompositeSourceAccessors → ℕ
+    → List CompositeIntermediateKey
+keys_read source a doc = all_keys (in_requested (order_of source) (columns_of a.accessors)) doc
+
+-- the keys, or Null where there is none and a missing value has a bucket
+abbrev pub values_read : CompositeAggregationSource → CompositeSourceAccessors → ℕ
+    → List CompositeIntermediateKey
+values_read source a doc = or_missing (missing_bucket_of source) (keys_read source a doc)
+
+-- choices of a source, of these keys in order
+abbrev pub AreChoicesOf : CompositeAggregationSource → CompositeSourceAccessors → List Choice
+    → List CompositeIntermediateKey → Type 0
+AreChoicesOf source a = AllZip (IsChoiceOf source a)
+
+-- the choices of these keys stand behind those that were there
+abbrev pub AddsChoices : CompositeAggregationSource → CompositeSourceAccessors
+    → List CompositeIntermediateKey → List Choice → List Choice → Type 0
+AddsChoices source a keys before choices =
+    (added : List Choice) × (choices ≡ before ++ added) × AreChoicesOf source a added keys
+
+-- ---- the choices of all sources
+
+-- choices of each source, of the keys that it reads in a document
+abbrev pub AreChoicesIn : Sources → List CompositeSourceAccessors → ℕ → List (List Choice) → Type 0
+AreChoicesIn [] [] doc [] = ⊤
+AreChoicesIn (source ∷ sources) (a ∷ accessors) doc (choices ∷ rows) =
+    AreChoicesOf source a choices (values_read source a doc)
+    × AreChoicesIn sources accessors doc rows
+AreChoicesIn _ _ doc _ = ⊥
+
+-- the same, as a flat list with the size of each source's part
+pub record AreGathered (sources : Sources) (accessors : List CompositeSourceAccessors) (doc : ℕ)
+    (sizes : List ℕ) (choices : List Choice) : Type 0 where
+  pub whole : sum sizes ≡ length choices
+  pub each : length sizes ≡ length sources
+  pub read : AreChoicesIn sources accessors doc (parts sizes choices)

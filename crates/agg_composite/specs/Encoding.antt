@@ -1,0 +1,68 @@
+-- Encoded keys: which keys they stand for, and how they compare.
+use Rattle.std.specs.Prelude.{◌≡◌, ◌⊎◌, ◌+◌, ◌-◌, ◌<◌, ◌^◌, ℕ, zero, suc, List, [], ◌∷◌, ⊤, length}
+use Rattle.std.specs.Ordering.{nat_cmp, on, then_cmp}
+use Rattle.std.specs.declared.cmp.Ordering.{Ordering}
+use Rattle.std.specs.Cmp.Lexicographic.{slice_cmp}
+use Rattle.agg_values.specs.KeyOrder.{null_side}
+use Rattle.agg_values.specs.Tuple.{KeyTuple}
+use Rattle.agg_values.specs.TypedKey.{CompositeIntermediateKey}
+use Rattle.agg_values.specs.declared.typed_key.CompositeIntermediateKey.TheVariants.{Null}
+use Rattle.agg_values.specs.declared.order.Order.{Order}
+use Rattle.agg_values.specs.declared.order.Order.TheVariants.{Asc, Desc}
+use Rattle.agg_segment.specs.Columns.{StandsForKey, encoded_key}
+use Rattle.agg_request.specs.Source.{Sources, missing_order_of, order_of}
+use Rattle.agg_request.specs.declared.source.CompositeAggregationSource.{CompositeAggregationSource}
+use Rattle.agg_composite.specs.Accessors.{keys_at}
+use Rattle.agg_composite.specs.declared.accessor.CompositeAccessor.{CompositeAccessor}
+use Rattle.agg_composite.specs.declared.accessor.CompositeSourceAccessors.{CompositeSourceAccessors}
+use Rattle.agg_composite.specs.declared.encoded.Encoded.{Encoded}
+
+-- a tuple of encoded keys
+abbrev pub EncodedTuple : Type 0
+EncodedTuple = List Encoded
+
+-- by place, and at one place by number
+abbrev pub encoded_order : Encoded → Encoded → Ordering
+encoded_order = then_cmp (on (λ e. e.place) nat_cmp) (on (λ e. e.raw) nat_cmp)
+
+-- the first differing key decides
+abbrev pub encoded_tuple_order : EncodedTuple → EncodedTuple → Ordering
+encoded_tuple_order = slice_cmp encoded_order
+
+-- a number, or its complement
+abbrev pub raw_of : Order → ℕ → ℕ
+raw_of Asc number = number
+raw_of Desc number = 2 ^ 64 - 1 - number
+
+-- a number of the accessor at a place
+abbrev pub encoded_at : Order → ℕ → ℕ → Encoded
+encoded_at order i number = record { place = i + 1; raw = raw_of order number }
+
+-- the place of Null, before so many accessors or behind them
+abbrev pub null_place : ℕ → ℕ → ℕ
+null_place zero accessors = 0
+null_place (suc side) accessors = accessors + 1
+
+-- Null of a source with such accessors
+abbrev pub encoded_null : CompositeAggregationSource → List CompositeAccessor → Encoded
+encoded_null source accessors =
+    record {
+      place = null_place (null_side (order_of source) (missing_order_of source)) (length accessors);
+      raw = 0;
+    }
+
+-- an encoded key stands for a key: Null, or that of a number of an accessor
+abbrev pub StandsFor : CompositeAggregationSource → List CompositeAccessor → Encoded
+    → CompositeIntermediateKey → Type 0
+StandsFor source accessors e k =
+    ((e ≡ encoded_null source accessors) × (k ≡ Null))
+    ⊎ ((i : ℕ) × (number : ℕ) × (i < length accessors) × (number < 2 ^ 64)
+    × StandsForKey (keys_at accessors i) number
+    × (e ≡ encoded_at (order_of source) i number) × (k ≡ encoded_key (keys_at accessors i) number))
+
+-- encoded keys stand for a tuple, source by source
+abbrev pub StandFor : Sources → List CompositeSourceAccessors → EncodedTuple → KeyTuple → Type 0
+StandFor [] [] [] [] = ⊤
+StandFor (source ∷ sources) (a ∷ accessors) (e ∷ es) (k ∷ ks) =
+    StandsFor source a.accessors e k × StandFor sources accessors es ks
+StandFor _ _ _ _ = ⊥

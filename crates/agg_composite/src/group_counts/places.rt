@@ -1,0 +1,20 @@
+//! Whether keys are of one accessor.
+ghost use Rattle.std.specs.Prelude.{◌≡◌, ℕ, IsTrue, All};
+
+use crate::encoded::Encoded;
+
+/// Whether all keys are at one place.
+pub fn are_at_one_place(keys: &[Encoded]) -> bool
+    ensures { IsTrue result → (place : ℕ) × All (λ k. k.place ≡ place) keys.now }
+{
+    let Some(first) = keys.first() else {
+        return false;
+    };
+    let place = first.place;
+    for key in keys {
+        if key.place != place {
+            return false;
+        }
+    }
+    true
+}

@@ -1,0 +1,116 @@
+//! The choices that a document gives.
+ghost use Rattle.std.specs.Prelude.{◌≡◌, ◌<◌, ◌++◌, ◌^◌, List, length, map, OnOk};
+ghost use Rattle.agg_composite.specs.Choices.{AddsChoices, AreGathered, choice_at};
+ghost use Rattle.agg_composite.specs.Choices.{keys_read, values_read};
+
+use super::choice::{Choice, missing_choice, side_of};
+use super::place::place_at;
+use crate::CompositeSourceAccessors;
+use crate::encoded::Encoded;
+use agg_request::CompositeAggregationSource;
+use agg_values::{DocId, Order, OutOfMemory};
+use std::alloc::Global;
+
+/// The choices of a document, source by source. The memory is kept from document to document.
+#[derive(Drop)]
+pub struct Gathered {
+    /// The choices of all sources, end to end.
+    pub choices: Vec<Choice>,
+    /// How many of them each source has.
+    pub sizes: Vec<usize>,
+}
+
+impl Gathered {
+    /// No choices.
+    pub fn new(alloc: Global) -> Gathered {
+        Gathered {
+            choices: Vec::new(alloc),
+            sizes: Vec::new(alloc),
+        }
+    }
+
+    /// Takes the choices of a document, in place of what was there.
+    pub fn gather(
+        &mut self,
+        sources: &[CompositeAggregationSource],
+        accessors: &[CompositeSourceAccessors<'_>],
+        doc: DocId,
+    ) -> Result<(), OutOfMemory>
+        requires { length sources.now ≡ length accessors.now }
+        ensures { OnOk result (AreGathered sources.now accessors.now doc
+            self.new.sizes.items self.new.choices.items) }
+    {
+        self.choices.clear();
+        self.sizes.clear();
+        for index in 0..sources.len() {
+            let before = self.choices.len();
+            add_choices(&mut self.choices, &sources[index], &accessors[index], doc)?;
+            self.sizes.push(self.choices.len() - before)?;
+        }
+        Ok(())
+    }
+}
+
+// Appends the choices of a document for a source: its values, or Null where it has none and a
+// missing value has a bucket.
+fn add_choices(
+    choices: &mut Vec<Choice>,
+    source: &CompositeAggregationSource,
+    accessors: &CompositeSourceAccessors<'_>,
+    doc: DocId,
+) -> Result<(), OutOfMemory>
+    ensures { OnOk result (AddsChoices source.now accessors.now
+        (values_read source.now accessors.now doc) choices.old.items choices.new.items) }
+{
+    let before = choices.len();
+    add_values(choices, source, accessors, doc)?;
+    if choices.len() != before {
+        return Ok(());
+    }
+    if !source.missing_bucket() {
+        return Ok(());
+    }
+    choices.push(missing_choice(source, accessors))?;
+    Ok(())
+}
+
+// Appends the values of a document, by class ascending.
+fn add_values(
+    choices: &mut Vec<Choice>,
+    source: &CompositeAggregationSource,
+    accessors: &CompositeSourceAccessors<'_>,
+    doc: DocId,
+) -> Result<(), OutOfMemory>
+    ensures { OnOk result (AddsChoices source.now accessors.now
+        (keys_read source.now accessors.now doc) choices.old.items choices.new.items) }
+{
+    let order = source.order();
+    let columns = accessors.accessors.as_slice();
+    for turn in 0..columns.len() {
+        let place = place_at(order, columns.len(), turn);
+        let numbers = columns[place].column.values_for_doc(doc);
+        add_numbers(choices, order, accessors, place, numbers)?;
+    }
+    Ok(())
+}
+
+// Appends numbers of the accessor at a place.
+fn add_numbers(
+    choices: &mut Vec<Choice>,
+    order: Order,
+    accessors: &CompositeSourceAccessors<'_>,
+    place: usize,
+    numbers: &[u64],
+) -> Result<(), OutOfMemory>
+    requires { place < 2 ^ 63 }
+    ensures { OnOk result (choices.new.items
+        ≡ choices.old.items ++ map (choice_at order accessors.now place) numbers.now) }
+{
+    for number in numbers {
+        choices.push(Choice {
+            value: Encoded::at(order, place, *number),
+            side: side_of(order, accessors, place, *number),
+        })?;
+    }
+    Ok(())
+}

@@ -1,0 +1,17 @@
+//! The order in which accessors are read.
+ghost use Rattle.std.specs.Prelude.{◌≡◌, ◌<◌};
+ghost use Rattle.agg_composite.specs.Choices.{place_in};
+
+use agg_values::Order;
+
+/// The place of the accessor that is read in a turn, so that classes ascend.
+pub fn place_at(order: Order, accessors: usize, turn: usize) -> usize
+    requires { turn < accessors }
+    ensures bound { result < accessors }
+    ensures place { result ≡ place_in order accessors turn }
+{
+    match order {
+        Order::Asc => turn,
+        Order::Desc => accessors - 1 - turn,
+    }
+}
