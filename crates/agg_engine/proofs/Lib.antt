@@ -1,6 +1,9 @@
+pub mod Accessors
+pub mod AfterKeys
 pub mod BySource
 pub mod Escapes
 pub mod Joined
+pub mod NoNull
 pub mod OneRequest
 pub mod OneWalk
 pub mod PageBound

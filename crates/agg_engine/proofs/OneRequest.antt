@@ -1,24 +1,22 @@
 -- A request of one composite, and how a walk changes it.
-use Rattle.std.proofs.Common.{◌≡◌, ◌⊎◌, ℕ, List, [], ◌∷◌, Bool, true, false, cond, Option, None}
-use Rattle.std.proofs.Common.{Some, length, refl, sym, ap, ◌∙◌, inl, inr, arith, nat_cmp}
+use Rattle.std.proofs.Common.{◌≡◌, ℕ, List, [], ◌∷◌, Bool, true, false, cond, Option, None, Some}
+use Rattle.std.proofs.Common.{refl, sym, ap, ◌∙◌, nat_cmp}
 use Rattle.std.specs.Prelude.{option_map}
 use Rattle.std.specs.Ordering.{is_eq}
 use Rattle.std.specs.BTreeMap.{is_at}
 use Rattle.std.specs.Cmp.Lexicographic.{slice_cmp}
 use Rattle.std.proofs.lemmas.Cmp.{nat_list_cmp_total, tied_itself}
 use Rattle.std.proofs.lemmas.Map.Lookups.{exact_bytes}
-use Rattle.agg_values.specs.Names.{name_cmp, value_of}
+use Rattle.agg_values.specs.Names.{Named, name_cmp, value_of}
 use Rattle.agg_values.specs.Tuple.{KeyTuple}
+use Rattle.agg_values.specs.declared.after_key.AfterKey.{AfterKey}
 use Rattle.agg_request.specs.declared.aggregation.Aggregation.{Aggregation}
 use Rattle.agg_request.specs.declared.aggregation.CompositeAggregation.{CompositeAggregation}
 use Rattle.agg_request.specs.declared.aggregation.AggregationVariants.{AggregationVariants}
 use Rattle.agg_request.specs.declared.aggregation.AggregationVariants.TheVariants.{Composite}
 use Rattle.agg_request.specs.BySource.{after_map}
-use Rattle.agg_request.specs.Occurrences.{bound_of}
 use Rattle.agg_request.specs.Request.{Request}
-use Rattle.agg_request.specs.Source.{IsOneAscendingSource}
 use Rattle.agg_request.proofs.PageFromGroups.{equal-from_is_eq}
-use Rattle.agg_request.proofs.PageAfter.{bound_of-after_map}
 use Rattle.agg_engine.specs.NamedComposite.{IsCompositeNamed, NamesComposite}
 use Rattle.agg_engine.specs.Walk.{changed, request_with, request_behind, request_at_size}
 use Rattle.agg_engine.specs.Walk.{with_after, with_size}
@@ -48,56 +46,26 @@ changed-one change name a c =
       },
     ) ∷ []) (is_itself name)
 
--- a composite with another size, and with a tuple as its after key
+-- a composite with another size, and with another after key
 abbrev pub at_size : ℕ → CompositeAggregation → CompositeAggregation
 at_size size c = record c { size = size }
 
-abbrev pub behind : KeyTuple → CompositeAggregation → CompositeAggregation
-behind tuple c = record c { after = after_map c.sources tuple }
+abbrev pub going_on : Named AfterKey → CompositeAggregation → CompositeAggregation
+going_on after c = record c { after = after }
 
--- the request as it goes on behind a tuple
-abbrev pub one_behind : List ℕ → Aggregation → CompositeAggregation → KeyTuple → Request
-one_behind name a c bound = request_behind name bound (one name a c)
+-- the request as it goes on from an after key
+abbrev pub one_from : List ℕ → Aggregation → CompositeAggregation → Named AfterKey → Request
+one_from name a c after = one name a (going_on after c)
 
-module _ (name : List ℕ) (a : Aggregation) (c : CompositeAggregation) (bound : KeyTuple) where
-  pub one_behind-is : one_behind name a c bound ≡ one name a (behind bound c)
-  one_behind-is = changed-one (with_after bound) name a c
+module _ (name : List ℕ) (a : Aggregation) (c : CompositeAggregation) (after : Named AfterKey) where
+  -- a request that went on goes on behind a later tuple
+  pub one_from-behind : (tuple : KeyTuple) → request_behind name tuple (one_from name a c after)
+      ≡ one_from name a c (after_map c.sources tuple)
+  one_from-behind tuple = changed-one (with_after tuple) name a (going_on after c)
 
-  -- a request that goes on twice goes on behind the later tuple
-  pub one_behind-later : (tuple : KeyTuple) → request_behind name tuple (one_behind name a c bound)
-      ≡ one_behind name a c tuple
-  one_behind-later tuple =
-      ap (request_behind name tuple) one_behind-is
-      ∙ changed-one (with_after tuple) name a (behind bound c)
-      ∙ sym (changed-one (with_after tuple) name a c)
-
-  pub one_behind-sized : (size : ℕ) → request_at_size name size (one_behind name a c bound)
-      ≡ one name a (at_size size (behind bound c))
-  one_behind-sized size = ap (request_at_size name size) one_behind-is
-      ∙ changed-one (with_size size) name a (behind bound c)
-
--- at the start the request stands as it is
-pub one_behind-start : (name : List ℕ) (a : Aggregation) (c : CompositeAggregation)
-    → IsOneAscendingSource c.sources → c.after ≡ []
-    → one_behind name a c [] ≡ one name a c
-one_behind-start name a c form at_start =
-    one_behind-is name a c [] ∙ ap (λ after. one name a (record c { after = after }))
-    (rw form.1 (sym at_start))
-
--- a bound has no key, or one for each source
-abbrev pub IsWhole : CompositeAggregation → KeyTuple → Type 0
-IsWhole c bound = (bound ≡ []) ⊎ (length bound ≡ length c.sources)
-
--- the bound of a composite over one source behind a tuple is the tuple
-pub bound-behind : (c : CompositeAggregation) (bound : KeyTuple) → IsOneAscendingSource c.sources
-    → IsWhole c bound
-    → bound_of c.sources (after_map c.sources bound) ≡ bound
-bound-behind c bound form whole =
-    elim whole [
-      | inl none ↦ rw (none, form.1) refl
-      | inr full ↦ bound_of-after_map c.sources bound (rw form.1 (λ i j d before within.
-          absurd (omega arith))) full
-    ]
+  pub one_from-sized : (size : ℕ) → request_at_size name size (one_from name a c after)
+      ≡ one name a (at_size size (going_on after c))
+  one_from-sized size = changed-one (with_size size) name a (going_on after c)
 
 -- ---- the composite of a name
 

@@ -12,9 +12,8 @@ use Rattle.agg_segment.specs.Document.{Fields}
 use Rattle.agg_request.specs.Groups.{Group}
 use Rattle.agg_request.specs.Occurrences.{occurrences_in}
 use Rattle.agg_request.specs.Page.{Entry, IsPage, MayList, group_of}
-use Rattle.agg_request.specs.Source.{Sources, order_of, missing_order_of}
+use Rattle.agg_request.specs.Source.{Sources}
 use Rattle.agg_request.proofs.PageKeys.{AllByRecursion-weaker}
-use Rattle.agg_request.proofs.PageTuples.{occurring-canonical}
 use Rattle.agg_composite.specs.PageEntries.{entry_group}
 use Rattle.agg_composite.specs.declared.page_entry.PageEntry.{PageEntry}
 use Rattle.agg_engine.specs.PageAnswers.{IsOfPage}
@@ -77,7 +76,7 @@ IsOfPage-full size entries entry e found =
     last_or-found (λ (e : PageEntry). e.key) entries entry found in
     IsOfPage-after size entries (Some entry.key) (grind (arith, nat_tests))
 
--- ---- a bound has a key for each source
+-- ---- the last tuple occurs
 
 last-All : {A : Type 0} (P : A → Type 0) (o : Option A) (xs : List A) → MatchOption o ⊤ P
     → AllByRecursion P xs → MatchOption (last_or o xs) ⊤ P
@@ -95,17 +94,15 @@ after-All : (P : KeyTuple → Type 0) (full : Bool) (page : List Entry)
 after-All P true page all = last-All P None (map (λ e. e.tuple) page) tt (tuples-All P page all)
 after-All P false page all = tt
 
--- the after tuple of a page has a key for each source
-pub after-whole : (sources : Sources) (size : ℕ) (bound : KeyTuple) (documents : List Fields)
+-- the after tuple of a page occurs in the documents
+pub after-occurs : (sources : Sources) (size : ℕ) (bound : KeyTuple) (documents : List Fields)
     (page : List Entry) (tuple : KeyTuple)
     → IsPage sources size bound documents page → after_tuple size page ≡ Some tuple
-    → length tuple ≡ length sources
-after-whole sources size bound documents page tuple is_page last =
+    → Contains (occurrences_in sources documents) tuple
+after-occurs sources size bound documents page tuple is_page last =
     let P : KeyTuple → Type 0 = λ t. Contains (occurrences_in sources documents) t in
     let listed = recursion_from_All (λ e. MayList sources bound documents e.tuple) page
     is_page.listed in
     let occurs = after-All P (length page == size) page (AllByRecursion-weaker (λ e.
     MayList sources bound documents e.tuple) (λ e. P e.tuple) (λ e m. m.0) page listed) in
-    let at : P tuple = subst (λ o. MatchOption o ⊤ P) last occurs in
-    (occurring-canonical sources documents tuple at).0 ∙ length-map sources (λ s.
-    (order_of s, missing_order_of s))
+    subst (λ o. MatchOption o ⊤ P) last occurs

@@ -1,34 +1,64 @@
 -- Snapshots, as what they stand for.
-use Rattle.std.proofs.Common.{◌≡◌, ◌≤◌, ◌<◌, ◌==◌, ◌||◌, ℕ, List, [], ◌∷◌, None, Some, length}
-use Rattle.std.proofs.Common.{IsTrue, get_or, map, slice_get, refl, sym, ap, ◌∙◌, subst, arith}
+use Rattle.std.proofs.Common.{◌≡◌, ◌≢◌, ◌≤◌, ◌<◌, ◌==◌, ℕ, List, [], ◌∷◌, None, Some, length}
+use Rattle.std.proofs.Common.{arith, get_or, map, slice_get, true, false, refl, sym, ap, ◌∙◌, subst}
 use Rattle.std.proofs.Common.{append-nil}
-use Rattle.std.specs.List.{All, filter, flat_map, list_any}
-use Rattle.std.proofs.lemmas.List.{length-map}
+use Rattle.std.specs.List.{All, Any, filter, flat_map, list_any}
+use Rattle.std.proofs.lemmas.Bool.Decides.{nat_tests}
+use Rattle.std.proofs.lemmas.List.{get_or-map, length-map}
 use Rattle.std.proofs.lemmas.List.Concat.{flat_map-cons}
-use Rattle.std.proofs.lemmas.List.Elements.{All-filter}
+use Rattle.std.proofs.lemmas.List.Elements.{All-map}
+use Rattle.std.proofs.lemmas.List.Folds.{Any-from_list_any, list_any_at}
 use Rattle.agg_segment.specs.Document.{Fields}
 use Rattle.agg_segment.specs.Query.{matches}
 use Rattle.agg_segment.specs.Segment.{Stored, documents_of}
 use Rattle.agg_segment.specs.declared.query.QueryTree.{QueryTree}
+use Rattle.agg_request.specs.Faults.{IsSoundRequest}
 use Rattle.agg_request.specs.Request.{Request}
-use Rattle.agg_request.specs.Source.{Sources, hold_signed_numbers}
-use Rattle.agg_request.specs.declared.aggregation.Aggregation.{Aggregation}
-use Rattle.agg_request.specs.declared.aggregation.AggregationVariants.TheVariants.{Composite}
 use Rattle.agg_request.specs.declared.aggregation.CompositeAggregation.{CompositeAggregation}
 use Rattle.agg_request.proofs.Lists.{All-from_map}
-use Rattle.agg_engine.proofs.OneRequest.{one}
+use Rattle.agg_engine.specs.NamedComposite.{IsCompositeNamed}
 use Rattle.agg_engine.specs.Snapshot.{SnapshotDocuments, snapshot_documents, snapshots_documents}
-use Rattle.agg_engine.specs.Form.{ReadsSignedNumbers, sources_in}
-use Rattle.agg_engine.specs.Walk.{documents_in, matching_documents}
+use Rattle.agg_engine.specs.Walk.{HaveRoom, MayBeAsked, matching_documents}
 use Rattle.agg_engine.specs.declared.walk.Snapshot.{Snapshot}
 
--- whether some page size is 0
-pub zero_size-snapshots : (snapshots : List Snapshot)
-    → list_any (λ (s : Snapshot). s.page_size == 0) snapshots ≡ list_any (λ (s : SnapshotDocuments).
-    s.page_size == 0) (snapshots_documents snapshots)
-zero_size-snapshots [] = refl
-zero_size-snapshots (s ∷ snapshots) = ap (λ b. (s.page_size == 0) || b)
-    (zero_size-snapshots snapshots)
+-- every page has room
+HaveRoom-none : (snapshots : List Snapshot)
+    → list_any (λ (s : Snapshot). s.page_size == 0) snapshots ≡ false
+    → HaveRoom (snapshots_documents snapshots)
+HaveRoom-none snapshots none =
+    All-map (λ (s : SnapshotDocuments). s.page_size ≢ 0) snapshot_documents snapshots
+    (λ i d within zero.
+    let some = list_any_at (λ (s : Snapshot). s.page_size == 0) snapshots i d within
+    (grind (arith, nat_tests, zero)) in
+    cc (some, none))
+
+module _ (snapshots items : List Snapshot) (same : items ≡ snapshots) where
+  -- some page has no room
+  pub no_room-some : list_any (λ (s : Snapshot). s.page_size == 0) items ≡ true
+      → Any (λ (s : SnapshotDocuments). s.page_size ≡ 0) (snapshots_documents snapshots)
+  no_room-some some =
+      let found = Any-from_list_any (λ (s : Snapshot). s.page_size == 0) snapshots
+      (ap (list_any (λ (s : Snapshot). s.page_size == 0)) (sym same) ∙ some) in (
+        found.0,
+        snapshot_documents found.1,
+        rw (length-map snapshots snapshot_documents) found.2,
+        get_or-map snapshot_documents snapshots found.0 found.1 (snapshot_documents found.1) found.2
+            ∙ ap snapshot_documents found.3,
+        grind (arith, nat_tests, found.4),
+      )
+
+  -- a sound request with a name of its own, over pages that have room
+  pub may_be_asked : (name : List ℕ) (request : Request) (composite : CompositeAggregation)
+      → IsSoundRequest request → IsCompositeNamed name request composite
+      → list_any (λ (s : Snapshot). s.page_size == 0) items ≡ false
+      → MayBeAsked name request (snapshots_documents snapshots)
+  may_be_asked name request composite sound named none =
+      record {
+        sound = sound;
+        room = HaveRoom-none snapshots
+            (ap (list_any (λ (s : Snapshot). s.page_size == 0)) (sym same) ∙ none);
+        named = (composite, named);
+      }
 
 -- a snapshot of a list has as few segments as each
 pub few_segments-at : (snapshots : List Snapshot) (at : ℕ) (s : Snapshot)
@@ -72,35 +102,3 @@ matching_documents-one query snapshot segment e few =
     ap (filter (matches query)) (sym (append-nil (documents_of segment))
     ∙ sym (flat_map-cons (λ (documents : List Fields). documents) (documents_of segment) []))
     ∙ sym (ap (documents_in-of query) (some-first snapshot.segments segment e few))
-
--- ---- whole numbers
-
--- the sources of a request of one composite read nothing but whole numbers in these documents
-reads-sources : (request : Request) (name : List ℕ) (a : Aggregation) (c : CompositeAggregation)
-    (sources : Sources) (documents : List Fields)
-    → request ≡ one name a c → sources ≡ c.sources → ReadsSignedNumbers request documents
-    → All (λ d. IsTrue (hold_signed_numbers sources d)) documents
-reads-sources request name a c sources documents one_is same reads i d l =
-    let own = subst (λ (r : Request). All (λ b. IsTrue
-    (hold_signed_numbers (sources_in b.1.agg) (get_or documents i d))) r) one_is (reads i d l) in
-    subst (λ ss. IsTrue (hold_signed_numbers ss (get_or documents i d))) (sym same)
-    (own 0 (name, record a { agg = Composite c }) (omega arith))
-
--- so they do in those that a query matches in a snapshot of a list
-pub reads-at : (snapshots : List Snapshot) (at : ℕ) (s : Snapshot) (query : QueryTree)
-    → (request : Request) (name : List ℕ) (a : Aggregation) (c : CompositeAggregation)
-    → (sources : Sources) → request ≡ one name a c → sources ≡ c.sources
-    → All (λ (d : SnapshotDocuments). ReadsSignedNumbers request (documents_in d))
-    (snapshots_documents snapshots)
-    → at < length snapshots → s ≡ get_or snapshots at s
-    → All (λ d. IsTrue (hold_signed_numbers sources d))
-    (matching_documents query (snapshot_documents s))
-reads-at snapshots at s query request name a c sources one_is same all within item =
-    let own = subst
-    (λ (x : Snapshot). ReadsSignedNumbers request (documents_in (snapshot_documents x)))
-    (sym item)
-    (All-from_map (λ (d : SnapshotDocuments). ReadsSignedNumbers request (documents_in d))
-    snapshot_documents snapshots all at s within) in
-    All-filter (matches query) (λ d. IsTrue (hold_signed_numbers sources d))
-    (documents_in (snapshot_documents s))
-    (reads-sources request name a c sources (documents_in (snapshot_documents s)) one_is same own)

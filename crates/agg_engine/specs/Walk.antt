@@ -1,10 +1,12 @@
 -- The walk of a request over snapshots.
-use Rattle.std.specs.Prelude.{◌≡◌, ◌==◌, ◌||◌, ◌⊎◌, ℕ, List, [], ◌∷◌, Bool, true, false}
-use Rattle.std.specs.Prelude.{MatchOption, if◌then◌else◌, map, filter}
-use Rattle.std.specs.List.{flat_map, list_any}
+use Rattle.std.specs.Prelude.{◌≡◌, ◌≢◌, ◌⊎◌, ℕ, List, [], ◌∷◌, Bool, true, false}
+use Rattle.std.specs.Prelude.{All, Any, MatchOption, if◌then◌else◌, map, filter}
+use Rattle.std.specs.List.{flat_map}
 use Rattle.std.specs.BTreeMap.{is_at}
 use Rattle.agg_values.specs.Names.{name_cmp}
 use Rattle.agg_values.specs.Tuple.{KeyTuple}
+use Rattle.agg_values.specs.declared.error.InvalidArgument.{InvalidArgument}
+use Rattle.agg_values.specs.declared.error.InvalidArgument.TheVariants.{ZeroSize}
 use Rattle.agg_segment.specs.Document.{Fields}
 use Rattle.agg_segment.specs.Query.{matches}
 use Rattle.agg_segment.specs.declared.query.QueryTree.{QueryTree}
@@ -12,8 +14,10 @@ use Rattle.agg_request.specs.declared.aggregation.Aggregation.{Aggregation}
 use Rattle.agg_request.specs.declared.aggregation.AggregationVariants.{AggregationVariants}
 use Rattle.agg_request.specs.declared.aggregation.AggregationVariants.TheVariants.{Composite}
 use Rattle.agg_request.specs.BySource.{after_map}
+use Rattle.agg_request.specs.Faults.{IsSoundRequest, RequestHasFault}
 use Rattle.agg_request.specs.Request.{Request}
 use Rattle.agg_request.specs.Uncut.{CountsTooMany}
+use Rattle.agg_engine.specs.NamedComposite.{NamesComposite}
 use Rattle.agg_engine.specs.Results.{IsResults, Results, after_in}
 use Rattle.agg_engine.specs.Snapshot.{SnapshotDocuments}
 
@@ -80,11 +84,18 @@ ReachesTooMany name query request (s ∷ snapshots) =
     ⊥
     (λ tuple. ReachesTooMany name query (request_behind name tuple request) snapshots))
 
--- the size of an aggregation
-abbrev pub size_of : AggregationVariants → ℕ
-size_of (Composite composite) = composite.size
+-- no page size is 0, of snapshots reached or not
+abbrev pub HaveRoom : List SnapshotDocuments → Type 0
+HaveRoom snapshots = All (λ s. s.page_size ≢ 0) snapshots
 
--- whether a size of the request is 0, or the page size of some snapshot, reached or not
-abbrev pub has_zero_size : Request → List SnapshotDocuments → Bool
-has_zero_size request snapshots =
-    list_any (λ a. size_of a.1.agg == 0) request || list_any (λ s. s.page_size == 0) snapshots
+-- the request has this fault, or some page size is 0
+abbrev pub HasFault : Request → List SnapshotDocuments → InvalidArgument → Type 0
+HasFault request snapshots fault =
+    RequestHasFault request fault ⊎ ((fault ≡ ZeroSize) × Any (λ s. s.page_size ≡ 0) snapshots)
+
+-- a walk that may be asked, whatever its snapshots hold
+pub record MayBeAsked (name : List ℕ) (request : Request) (snapshots : List SnapshotDocuments)
+    : Type 0 where
+  pub sound : IsSoundRequest request
+  pub room : HaveRoom snapshots
+  pub named : NamesComposite name request

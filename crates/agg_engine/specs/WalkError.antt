@@ -1,12 +1,25 @@
 -- Why a walk gave no pages.
-use Rattle.std.specs.Prelude.{◌≡◌, ℕ, List, ⊤, codes}
+use Rattle.std.specs.Prelude.{ℕ, List, ⊤, codes}
 use Rattle.agg_values.specs.declared.error.InvalidArgument.{InvalidArgument}
 use Rattle.agg_values.specs.declared.error.InvalidArgument.TheVariants as argument
+use Rattle.agg_values.specs.declared.request_error.AggregationError.{AggregationError}
+use Rattle.agg_values.specs.declared.request_error.AggregationError.TheVariants as aggregation
+use Rattle.agg_values.specs.declared.request_error.DateHistogramParseError as parsing
+use parsing.{DateHistogramParseError}
+use parsing.TheVariants as parse
+use Rattle.agg_values.specs.declared.request_error.RequestError.{RequestError}
+use Rattle.agg_values.specs.declared.request_error.RequestError.TheVariants as request
 use Rattle.agg_cache.specs.declared.error.CollectError.{CollectError}
 use Rattle.agg_cache.specs.declared.error.CollectError.TheVariants as collect
 use Rattle.agg_engine.specs.declared.walk.error.WalkError.{WalkError}
 use Rattle.agg_engine.specs.declared.walk.error.WalkError.TheVariants.{Invalid, UnknownComposite}
 use Rattle.agg_engine.specs.declared.walk.error.WalkError.TheVariants.{TooMany, OutOfMemory}
+use Rattle.agg_engine.specs.declared.walk.error.WalkError.TheVariants.{Aggregation}
+use Rattle.agg_segment.specs.declared.query.QueryTree.{QueryTree}
+use Rattle.agg_request.specs.Request.{Request}
+use Rattle.agg_engine.specs.NamedComposite.{NamesComposite}
+use Rattle.agg_engine.specs.Snapshot.{SnapshotDocuments}
+use Rattle.agg_engine.specs.Walk.{HasFault, MayBeAsked, ReachesTooMany}
 
 -- the name of an argument's error
 abbrev pub argument_name : InvalidArgument → List ℕ
@@ -19,11 +32,26 @@ argument_name argument.IntervalChoice = codes "IntervalChoice"
 argument_name argument.NullAfter = codes "NullAfter"
 argument_name argument.AfterType = codes "AfterType"
 
+-- the name of a refused interval or offset
+abbrev pub parse_name : DateHistogramParseError → List ℕ
+parse_name (parse.UnitNotRecognized unit) = codes "UnitNotRecognized"
+parse_name (parse.NumberMissing text) = codes "NumberMissing"
+parse_name (parse.UnitMissing text) = codes "UnitMissing"
+parse_name (parse.InvalidOffset text) = codes "InvalidOffset"
+parse_name (parse.OutOfBounds text) = codes "OutOfBounds"
+
+-- the name of an aggregation's error
+abbrev pub aggregation_name : AggregationError → List ℕ
+aggregation_name (aggregation.DateHistogramParseError part) = parse_name part
+aggregation_name (aggregation.MemoryExceeded limit current) = codes "MemoryExceeded"
+aggregation_name (aggregation.BucketLimitExceeded limit current) = codes "BucketLimitExceeded"
+
 -- the name of an error: that of the innermost
 abbrev pub error_name : WalkError → List ℕ
 error_name (Invalid given) = argument_name given
 error_name UnknownComposite = codes "UnknownComposite"
 error_name TooMany = codes "TooMany"
+error_name (Aggregation given) = aggregation_name given
 error_name OutOfMemory = codes "OutOfMemory"
 
 -- the error of a walk for that of a collector
@@ -31,9 +59,17 @@ abbrev pub error_from_collect : CollectError → WalkError
 error_from_collect collect.TooMany = TooMany
 error_from_collect collect.OutOfMemory = OutOfMemory
 
--- an error that a walk may answer so far: no invalid argument but a size of zero
-abbrev pub MayAnswer : WalkError → Type 0
-MayAnswer (Invalid given) = given ≡ argument.ZeroSize
-MayAnswer UnknownComposite = ⊤
-MayAnswer TooMany = ⊤
-MayAnswer OutOfMemory = ⊤
+-- the error of a walk for that of a request
+abbrev pub error_from_request : RequestError → WalkError
+error_from_request (request.Invalid given) = Invalid given
+error_from_request (request.Aggregation given) = Aggregation given
+error_from_request request.OutOfMemory = OutOfMemory
+
+-- an error of a walk has its cause; want of memory needs none, and aggregations have no error yet
+abbrev pub HasCause : List ℕ → QueryTree → Request → List SnapshotDocuments → WalkError → Type 0
+HasCause name query request snapshots (Invalid fault) = HasFault request snapshots fault
+HasCause name query request snapshots UnknownComposite = ¬ (NamesComposite name request)
+HasCause name query request snapshots TooMany =
+    MayBeAsked name request snapshots × ReachesTooMany name query request snapshots
+HasCause name query request snapshots (Aggregation given) = ⊥
+HasCause name query request snapshots OutOfMemory = ⊤

@@ -2,34 +2,16 @@
 ghost use Rattle.std.specs.Prelude.{◌≡◌, ◌↔◌, ◌==◌, None, IfSome};
 ghost use Rattle.std.specs.List.{list_any};
 ghost use Rattle.agg_engine.specs.NamedComposite.{IsCompositeNamed, NamesComposite};
-ghost use Rattle.agg_engine.specs.Snapshot.{snapshots_documents};
-ghost use Rattle.agg_engine.specs.Walk.{has_zero_size, size_of};
 
 use super::Snapshot;
-use agg_request::{Aggregation, AggregationVariants, Aggregations, CompositeAggregation};
+use agg_request::{AggregationVariants, Aggregations, CompositeAggregation};
 use agg_values::Text;
 
-/// Whether a size of the request or of a listed snapshot is 0.
-pub fn has_zero_size(request: &Aggregations, snapshots: &[Snapshot]) -> bool
-    ensures { result ≡ has_zero_size request.now (snapshots_documents snapshots.now) }
+/// Whether the page of some listed snapshot has no room.
+pub fn some_page_has_no_room(snapshots: &[Snapshot]) -> bool
+    ensures { result ≡ list_any (λ s. s.page_size == 0) snapshots.now }
 {
-    request_has_zero_size(request) || snapshots.iter().any(|snapshot| snapshot.page_size == 0)
-}
-
-fn request_has_zero_size(request: &Aggregations) -> bool
-    ensures { result ≡ list_any (λ a. size_of a.1.agg == 0) request.now }
-{
-    request
-        .iter()
-        .any(|(_, aggregation)| size(aggregation) == 0)
-}
-
-fn size(aggregation: &Aggregation) -> u32
-    ensures { result ≡ size_of aggregation.now.agg }
-{
-    match &aggregation.agg {
-        AggregationVariants::Composite(composite) => composite.size,
-    }
+    snapshots.iter().any(|snapshot| snapshot.page_size == 0)
 }
 
 /// The composite of a name, if it is one.

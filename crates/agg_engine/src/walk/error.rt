@@ -1,13 +1,16 @@
 ghost use Rattle.std.specs.Prelude.{◌≡◌};
-ghost use Rattle.agg_engine.specs.WalkError.{error_name, error_from_collect};
+ghost use Rattle.agg_engine.specs.WalkError.{error_from_collect, error_from_request, error_name};
+ghost use Rattle.agg_engine.specs.WalkError.{aggregation_name, argument_name, parse_name};
 ghost use Rattle.agg_engine.specs.declared.walk.error.WalkError.TheVariants.{OutOfMemory as Memory};
 
 use agg_cache::CollectError;
-use agg_values::{InvalidArgument, OutOfMemory};
+use agg_values::{
+    AggregationError, DateHistogramParseError, InvalidArgument, OutOfMemory, RequestError,
+};
 use thiserror::Error;
 
 /// Why a walk gave no pages.
-#[derive(Clone, Copy, Debug, PartialEq, Eq, Error)]
+#[derive(Debug, Drop, PartialEq, Eq, Error)]
 pub enum WalkError {
     #[error(transparent)]
     Invalid(InvalidArgument),
@@ -15,6 +18,8 @@ pub enum WalkError {
     UnknownComposite,
     #[error("too many occurrences")]
     TooMany,
+    #[error(transparent)]
+    Aggregation(AggregationError),
     #[error("out of memory")]
     OutOfMemory,
 }
@@ -25,18 +30,49 @@ impl WalkError {
         ensures { result.now ≡ error_name self.now }
     {
         match self {
-            WalkError::Invalid(InvalidArgument::NoSource) => "NoSource",
-            WalkError::Invalid(InvalidArgument::ZeroSize) => "ZeroSize",
-            WalkError::Invalid(InvalidArgument::TooManySources) => "TooManySources",
-            WalkError::Invalid(InvalidArgument::DuplicateSource) => "DuplicateSource",
-            WalkError::Invalid(InvalidArgument::BadInterval) => "BadInterval",
-            WalkError::Invalid(InvalidArgument::IntervalChoice) => "IntervalChoice",
-            WalkError::Invalid(InvalidArgument::NullAfter) => "NullAfter",
-            WalkError::Invalid(InvalidArgument::AfterType) => "AfterType",
+            WalkError::Invalid(argument) => argument_name(argument),
             WalkError::UnknownComposite => "UnknownComposite",
             WalkError::TooMany => "TooMany",
+            WalkError::Aggregation(error) => aggregation_name(error),
             WalkError::OutOfMemory => "OutOfMemory",
         }
+    }
+}
+
+fn argument_name(argument: &InvalidArgument) -> &'static str
+    ensures { result.now ≡ argument_name argument.now }
+{
+    match argument {
+        InvalidArgument::NoSource => "NoSource",
+        InvalidArgument::ZeroSize => "ZeroSize",
+        InvalidArgument::TooManySources => "TooManySources",
+        InvalidArgument::DuplicateSource => "DuplicateSource",
+        InvalidArgument::BadInterval => "BadInterval",
+        InvalidArgument::IntervalChoice => "IntervalChoice",
+        InvalidArgument::NullAfter => "NullAfter",
+        InvalidArgument::AfterType => "AfterType",
+    }
+}
+
+fn aggregation_name(error: &AggregationError) -> &'static str
+    ensures { result.now ≡ aggregation_name error.now }
+{
+    match error {
+        AggregationError::DateHistogramParseError(part) => parse_name(part),
+        AggregationError::MemoryExceeded { .. } => "MemoryExceeded",
+        AggregationError::BucketLimitExceeded { .. } => "BucketLimitExceeded",
+    }
+}
+
+fn parse_name(error: &DateHistogramParseError) -> &'static str
+    ensures { result.now ≡ parse_name error.now }
+{
+    match error {
+        DateHistogramParseError::UnitNotRecognized(_) => "UnitNotRecognized",
+        DateHistogramParseError::NumberMissing(_) => "NumberMissing",
+        DateHistogramParseError::UnitMissing(_) => "UnitMissing",
+        DateHistogramParseError::InvalidOffset(_) => "InvalidOffset",
+        DateHistogramParseError::OutOfBounds(_) => "OutOfBounds",
     }
 }
 
@@ -55,6 +91,18 @@ impl From<CollectError> for WalkError {
         match error {
             CollectError::TooMany => WalkError::TooMany,
             CollectError::OutOfMemory => WalkError::OutOfMemory,
+        }
+    }
+}
+
+impl From<RequestError> for WalkError {
+    ghost from_gives = { λ r e. e ≡ error_from_request r };
+
+    fn from(error: RequestError) -> WalkError {
+        match error {
+            RequestError::Invalid(argument) => WalkError::Invalid(argument),
+            RequestError::Aggregation(error) => WalkError::Aggregation(error),
+            RequestError::OutOfMemory => WalkError::OutOfMemory,
         }
     }
 }

@@ -84,8 +84,8 @@ fn shown_keys(
     Ok(keys)
 }
 
-// The after key of each source, by its name: of sources of one name the first's.
-fn after_keys(
+/// The after key of each source, by its name: of sources of one name the first's.
+pub fn after_keys(
     alloc: Global,
     sources: &[CompositeAggregationSource],
     tuple: &Tuple,

@@ -1,0 +1,17 @@
+use Rattle.std.proofs.Common.{subst, arith}
+use Rattle.agg_composite.specs.Accessors.{AreAccessorsOf, after_of}
+use Rattle.agg_engine.proofs.Accessors.{AllZip-one_more}
+use Rattle.agg_engine.proofs.walk.accessors.accessors_for.Goals as goal
+
+pub loop-source-preserved : goal.loop-source-preserved
+loop-source-preserved c =
+    let segment = c.args.segment.now in
+    let after = c.args.after.now in
+    let source = c.source-item.result in
+    let built = c.in_ok-built.built in
+    AllZip-one_more (λ s a. AreAccessorsOf segment s (after_of after s) a) c.args.sources.now
+    c.loop-source.source-index c.loop-source.accessors c.push.new.self source built
+    c.loop-source.invariant (omega arith) c.source-item.is
+    (subst (λ value. AreAccessorsOf segment source value built) c.after_value-value.ensures
+    c.in_ok-built.ensures.ok)
+    c.in_ok-push.ensures.ok

@@ -1,0 +1,45 @@
+//! The accessors of the sources of a composite.
+ghost use Rattle.std.specs.Prelude.{◌≡◌, option_map, IfErr, IfOk};
+ghost use Rattle.std.specs.List.{AllZip};
+ghost use Rattle.agg_composite.specs.Accessors.{AreAccessorsOf, after_of};
+ghost use Rattle.agg_engine.specs.PageAnswers.{MayGoOnFrom};
+ghost use Rattle.agg_engine.specs.declared.walk.error.WalkError.TheVariants.{OutOfMemory};
+
+use super::WalkError;
+use agg_composite::CompositeSourceAccessors;
+use agg_request::CompositeAggregationSource;
+use agg_segment::SegmentReader;
+use agg_values::{AfterKey, CompositeIntermediateKey, ItemList, NameMap};
+use std::alloc::Global;
+
+/// The accessors of each source in a segment, for its value in an after key.
+pub fn accessors_for<'s>(
+    alloc: Global,
+    segment: &'s SegmentReader,
+    sources: &[CompositeAggregationSource],
+    after: &NameMap<AfterKey>,
+) -> Result<ItemList<CompositeSourceAccessors<'s>>, WalkError>
+    requires after { MayGoOnFrom sources.now after.now }
+    ensures ok { IfOk result (AllZip
+        (λ source a. AreAccessorsOf segment.now source (after_of after.now source) a)
+        sources.now) }
+    ensures err { IfErr result (λ error. error ≡ OutOfMemory) }
+{
+    let mut accessors = ItemList::new(alloc);
+    for source in sources {
+        let value = after_value(after, source);
+        let built = CompositeSourceAccessors::build_for_source(alloc, segment, source, value)?;
+        accessors.push(built)?;
+    }
+    Ok(accessors)
+}
+
+// The after value of a source, by its name.
+fn after_value<'a>(
+    after: &'a NameMap<AfterKey>,
+    source: &CompositeAggregationSource,
+) -> Option<&'a CompositeIntermediateKey>
+    ensures { option_map (λ k. k.now) result ≡ after_of after.now source.now }
+{
+    Some(&after.get(source.name())?.0)
+}
