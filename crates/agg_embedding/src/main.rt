@@ -4,7 +4,8 @@
 #[cfg(test)]
 mod tests;
 
-ghost use Rattle.std.specs.Prelude.{◌≢◌, IfErr, IfOk};
+ghost use Rattle.std.specs.Prelude.{IfErr, IfOk};
+ghost use Rattle.agg_embedding.specs.NoPages.{HaveNoPages};
 ghost use Rattle.agg_pages.specs.Answer.{IsPrintedWalk};
 ghost use Rattle.agg_pages.specs.Input.{Input, IsInput};
 
@@ -38,11 +39,11 @@ fn show_sales<W: Sink>(alloc: Global, out: &mut W) -> Result<(), Status> {
     write_all(out, pages.bytes()).map_err(|_| Status::WriteFault)
 }
 
-// The printed pages of an input, or the status where it has none.
+// The printed pages of bytes, or the status that says why they have none.
 fn pages_of(alloc: Global, bytes: Vec<u8>) -> Result<MemorySink, Status>
     ensures pages { IfOk result
         (λ sink. (i : Input) × IsInput bytes.items i × IsPrintedWalk i sink.bytes) }
-    ensures status { IfErr result (λ status. status ≢ Status.Ok) }
+    ensures cause { IfErr result (HaveNoPages bytes.items) }
 {
     let words = [Text::copy_of(alloc, "walk")?];
     let mut source = SteadySource::new(bytes);

@@ -1,31 +1,37 @@
 -- A line is of one header at most, and a header's request has the form that a walk takes.
-use Rattle.std.proofs.Common.{◌≡◌, ℕ, List, [], ◌∷◌, Bool, true, false, cond, Option, Some, None}
-use Rattle.std.proofs.Common.{IfSome, option_and_then, option_map, codes, refl, sym, ◌∙◌, subst}
+use Rattle.std.proofs.Common.{◌≡◌, ℕ, List, false, Option, Some, None}
+use Rattle.std.proofs.Common.{option_and_then, codes, refl, sym, ap, ◌∙◌, subst}
 use Rattle.std.proofs.lemmas.Bool.{false≢true}
-use Rattle.std.proofs.lemmas.Option.{MatchOption-at_some}
 use Rattle.serde_json.specs.Data.{Data}
 use Rattle.serde_json.specs.Find.{as_str, get}
 use Rattle.serde_json.specs.Read.{read}
-use Rattle.agg_values.specs.declared.order.Order.TheVariants.{Asc}
-use Rattle.agg_values.specs.declared.order.MissingOrder.TheVariants.{Default}
 use Rattle.agg_segment.specs.declared.query.QueryTree.{QueryTree}
-use Rattle.agg_request.specs.Json.{has_members, only_item, only_member, only_named}
-use Rattle.agg_request.specs.Source.{IsOneAscendingSource, order_of, missing_order_of}
-use Rattle.agg_request.specs.Source.{missing_bucket_of}
-use Rattle.agg_request.specs.declared.aggregation.AggregationVariants.{AggregationVariants}
+use Rattle.agg_request.specs.CompositeJson.{IsCompositeJson}
+use Rattle.agg_request.specs.Json.{has_members, only_member, only_named}
+use Rattle.agg_request.specs.Request.{Request}
 use Rattle.agg_request.specs.declared.aggregation.AggregationVariants.TheVariants.{Composite}
-use Rattle.agg_request.specs.declared.aggregation.CompositeAggregation.{CompositeAggregation}
-use Rattle.agg_request.specs.declared.source.CompositeAggregationSource.{CompositeAggregationSource}
 use Rattle.agg_engine.specs.Form.{IsOneComposite}
 use Rattle.agg_pages.specs.declared.input.header.Header.{Header}
-use Rattle.agg_pages.specs.Header.{IsHeader, IsHeaderLine, IsQueryOf, composite_of, composite_over}
-use Rattle.agg_pages.specs.Header.{header_members, one_source, request_of, size_of, source_of}
-use Rattle.agg_pages.specs.Header.{terms_field}
-use Rattle.agg_pages.specs.Header.{terms_source, texts_of}
+use Rattle.agg_pages.specs.Header.{IsHeader, IsHeaderLine, IsQueryOf, IsRequest, IsRequestAt}
+use Rattle.agg_pages.specs.Header.{IsNoComposite, header_members, request_of, texts_of}
+use Rattle.agg_pages.proofs.Composites.{IsCompositeJson-unique, named_body-unique}
 use Rattle.agg_pages.proofs.Documents.{none_is_some, same_value}
 use Rattle.agg_pages.proofs.Queries.{IsQuery-unique}
 
 -- ---- one header at most
+
+IsRequest-unique : (d : Data) (a b : Request) → IsRequest d a → IsRequest d b → a ≡ b
+IsRequest-unique d a b (name, kind, body, composite, only, named, is, a_is)
+    (other, kind_too, body_too, composite_too, only_too, named_too, is_too, b_is) =
+    let same = named_body-unique (codes "composite") d name other kind kind_too body body_too only
+    only_too named named_too in
+    let composites : composite ≡ composite_too = IsCompositeJson-unique body composite composite_too
+    is (subst (λ e. IsCompositeJson false e composite_too) (sym same.1) is_too) in
+    a_is ∙ ap (λ n. request_of n composite) same.0 ∙ ap (request_of other) composites ∙ sym b_is
+
+IsRequestAt-unique : (o : Option Data) (a b : Request) → IsRequestAt o a → IsRequestAt o b → a ≡ b
+IsRequestAt-unique None a b h k = absurd h
+IsRequestAt-unique (Some d) a b h k = IsRequest-unique d a b h k
 
 IsQueryOf-unique : (o : Option Data) (a b : QueryTree) → IsQueryOf o a → IsQueryOf o b → a ≡ b
 IsQueryOf-unique None a b h k = h ∙ sym k
@@ -33,7 +39,7 @@ IsQueryOf-unique (Some d) a b h k = IsQuery-unique d a b h k
 
 IsHeader-unique : (d : Data) (a b : Header) → IsHeader d a → IsHeader d b → a ≡ b
 IsHeader-unique d a b h k = λ i. record {
-  request = same_value a.request b.request (sym h.request ∙ k.request) i;
+  request = IsRequestAt-unique (get (codes "request") d) a.request b.request h.request k.request i;
   name = same_value a.name b.name (sym h.name ∙ k.name) i;
   schema = same_value a.schema b.schema (sym h.schema ∙ k.schema) i;
   query = IsQueryOf-unique (get (codes "query") d) a.query b.query h.query k.query i;
@@ -53,9 +59,10 @@ no_header line d is none header (found, is_too, stands) =
 
 -- ---- what is no header
 
-pub no_request : (d : Data) → option_and_then request_of (get (codes "request") d) ≡ None
+pub no_request : (d : Data)
+    → ((request : Request) → ¬ IsRequestAt (get (codes "request") d) request)
     → (header : Header) → ¬ IsHeader d header
-no_request d none header h = none_is_some header.request (sym none ∙ h.request)
+no_request d none header h = none header.request h.request
 
 pub no_name : (d : Data) → option_and_then as_str (get (codes "name") d) ≡ None
     → (header : Header) → ¬ IsHeader d header
@@ -73,75 +80,39 @@ pub other_members : (d : Data) → has_members (header_members d) d ≡ false
     → (header : Header) → ¬ IsHeader d header
 other_members d other header h = false≢true (sym other ∙ h.members)
 
--- ---- what holds of each value that a step gives
+-- ---- what is no request
 
-then_all : {A B : Type 0} (Q : A → Type 0) (P : B → Type 0) (f : A → Option B) (o : Option A)
-    → IfSome o Q → ((x : A) → Q x → IfSome (f x) P) → IfSome (option_and_then f o) P
-then_all Q P f None h k = tt
-then_all Q P f (Some x) h k = k x h
+pub no_member : (d : Data) → only_member d ≡ None → (request : Request) → ¬ IsRequest d request
+no_member d none request (name, kind, body, composite, only, named, is, request_is) =
+    none_is_some (name, kind) (sym none ∙ only)
 
-then_any : {A B : Type 0} (P : B → Type 0) (f : A → Option B) (o : Option A)
-    → ((x : A) → IfSome (f x) P) → IfSome (option_and_then f o) P
-then_any P f None k = tt
-then_any P f (Some x) k = k x
+pub no_kind : (d : Data) (name : List ℕ) (kind : Data) → only_member d ≡ Some (name, kind)
+    → only_named (codes "composite") kind ≡ None → (request : Request) → ¬ IsRequest d request
+no_kind d name kind only none request
+    (other, kind_too, body, composite, only_too, named, is, request_is) =
+    let kinds : kind_too ≡ kind = ap (λ (m : List ℕ × Data). m.1)
+    (same_value (other, kind_too) (name, kind) (sym only_too ∙ only)) in
+    none_is_some body (sym none ∙ sym (ap (only_named (codes "composite")) kinds) ∙ named)
 
-map_all : {A B : Type 0} (Q : A → Type 0) (P : B → Type 0) (f : A → B) (o : Option A) → IfSome o Q
-    → ((x : A) → Q x → P (f x)) → IfSome (option_map f o) P
-map_all Q P f None h k = tt
-map_all Q P f (Some x) h k = k x h
-
-map_any : {A B : Type 0} (P : B → Type 0) (f : A → B) (o : Option A) → ((x : A) → P (f x))
-    → IfSome (option_map f o) P
-map_any P f None k = tt
-map_any P f (Some x) k = k x
-
-cond_all : {A : Type 0} (P : A → Type 0) (b : Bool) (o : Option A) → IfSome o P
-    → IfSome (cond b o None) P
-cond_all P true o h = h
-cond_all P false o h = tt
+pub no_composite : (d : Data) (name : List ℕ) (kind body : Data)
+    → only_member d ≡ Some (name, kind) → only_named (codes "composite") kind ≡ Some body
+    → IsNoComposite body → (request : Request) → ¬ IsRequest d request
+no_composite d name kind body only named none request
+    (other, kind_too, body_too, composite, only_too, named_too, is, request_is) =
+    let same = named_body-unique (codes "composite") d name other kind kind_too body body_too only
+    only_too named named_too in
+    none composite (subst (λ e. IsCompositeJson false e composite) (sym same.1) is)
 
 -- ---- the form of the request
 
-abbrev IsPlainSource : CompositeAggregationSource → Type 0
-IsPlainSource source =
-    (order_of source ≡ Asc) × (missing_order_of source ≡ Default)
-    × (missing_bucket_of source ≡ false)
-
-abbrev IsPlainComposite : AggregationVariants → Type 0
-IsPlainComposite agg =
-    (composite : CompositeAggregation) × (agg ≡ Composite composite) × IsOneAscendingSource
-    composite.sources × (composite.after ≡ [])
-
-source_form : (d : Data) → IfSome (source_of d) IsPlainSource
-source_form d =
-    then_any IsPlainSource _ (only_member d)
-    (λ m. map_any IsPlainSource (terms_source m.0) (terms_field m.1) (λ field. (refl, refl, refl)))
-
-composite_form : (d : Data) → IfSome (composite_of d) IsPlainComposite
-composite_form d =
-    cond_all IsPlainComposite (has_members 2 d) _
-    (then_all IsPlainSource IsPlainComposite _ (one_source d)
-    (then_any IsPlainSource source_of (option_and_then only_item (get (codes "sources") d))
-    source_form)
-    (λ source plain. map_any IsPlainComposite (composite_over source) (size_of d)
-    (λ size. (
-      record { sources = source ∷ []; size = size; after = [] },
-      refl,
-      (source, refl, plain.0, plain.1, plain.2),
-      refl,
-    ))))
-
-request_form : (d : Data) → IfSome (request_of d) IsOneComposite
-request_form d =
-    then_any IsOneComposite _ (only_member d)
-    (λ m. map_all IsPlainComposite IsOneComposite _
-    (option_and_then composite_of (only_named (codes "composite") m.1))
-    (then_any IsPlainComposite composite_of (only_named (codes "composite") m.1) composite_form)
-    (λ agg h. (m.0, record { agg = agg }, h.0, refl, h.1, h.2, h.3)))
+request_form : (o : Option Data) (request : Request) → IsRequestAt o request
+    → IsOneComposite request
+request_form None request h = absurd h
+request_form (Some d) request (name, kind, body, composite, only, named, is, request_is) =
+    (name, record { agg = Composite composite }, composite, request_is, refl)
 
 -- the request of a header has the form that a walk takes
 pub header_form : (line : List ℕ) (header : Header) → IsHeaderLine line header
     → IsOneComposite header.request
 header_form line header (d, is, h) =
-    MatchOption-at_some _ IsOneComposite header.request h.request
-    (then_any IsOneComposite request_of (get (codes "request") d) request_form)
+    request_form (get (codes "request") d) header.request h.request

@@ -1,24 +1,20 @@
 -- Bytes stand for one input at most, which has the form that a walk takes.
-use Rattle.std.proofs.Common.{◌≡◌, ◌≤◌, ◌<◌, ℕ, List, [], ◌∷◌, length, false, sym, ap}
+use Rattle.std.proofs.Common.{◌≡◌, ◌≤◌, ◌<◌, ℕ, List, [], ◌∷◌, length, sym, ap}
 use Rattle.std.proofs.Common.{◌∙◌, subst, arith, All}
 use Rattle.std.specs.Str.{IsUtf8}
-use Rattle.std.proofs.lemmas.Bool.{false≢true}
 use Rattle.std.proofs.lemmas.List.Elements.{All-cons, All-nil, All-same}
 use Rattle.std.proofs.lemmas.Str.{IsUtf8-from_is_utf8, is_utf8-from_IsUtf8}
 use Rattle.agg_segment.specs.Document.{Fields}
 use Rattle.agg_engine.specs.Form.{IsTakenForm}
-use Rattle.agg_engine.specs.Snapshot.{SnapshotDocuments, snapshots_documents}
-use Rattle.agg_engine.specs.declared.walk.Snapshot.{Snapshot}
+use Rattle.agg_engine.specs.Snapshot.{SnapshotDocuments}
 use Rattle.agg_pages.specs.declared.input.header.Header.{Header}
 use Rattle.agg_pages.specs.Header.{IsHeaderLine}
-use Rattle.agg_pages.specs.Input.{AreNoInput, Input, IsInput, IsInputOfLines, ReadsSigned}
+use Rattle.agg_pages.specs.Input.{AreNoInput, Input, IsInput, IsInputOfLines}
 use Rattle.agg_pages.specs.Lines.{lines_of}
-use Rattle.agg_pages.specs.Signed.{snapshots_are_signed}
 use Rattle.agg_pages.specs.SnapshotLines.{AreSnapshots, Line, Says, begins, begun_snapshots, holds}
 use Rattle.agg_pages.specs.SnapshotLines.{leading_documents, snapshot_of}
 use Rattle.agg_pages.proofs.Beside.{AllZip-unique}
 use Rattle.agg_pages.proofs.Headers.{IsHeaderLine-unique, header_form}
-use Rattle.agg_pages.proofs.SignedNumbers.{ReadsIn, snapshots-from_reads}
 use Rattle.agg_pages.proofs.SnapshotSteps.{Says-unique}
 
 -- ---- one input at most
@@ -58,12 +54,11 @@ begun_small (begins size ∷ lines) =
 
 -- an input has the form that a walk takes
 pub input_form : (first : List ℕ) (lines : List (List ℕ)) (i : Input)
-    → IsHeaderLine first i.header → AreSnapshots lines i.snapshots → ReadsSigned i
+    → IsHeaderLine first i.header → AreSnapshots lines i.snapshots
     → IsTakenForm i.header.request i.snapshots
-input_form first lines i head (said, say, stand, is) reads = record {
+input_form first lines i head (said, say, stand, is) = record {
   one = header_form first i.header head;
   few = All-same IsSmall i.snapshots (begun_snapshots said) is (begun_small said);
-  numbers = reads;
 }
 
 -- ---- the bytes of an input
@@ -101,17 +96,3 @@ pub no_snapshot_lines : (lines : List (List ℕ)) (first : List ℕ) (rest : Lis
     → ((snapshots : List SnapshotDocuments) → ¬ AreSnapshots rest snapshots) → IsNoInputOf lines
 no_snapshot_lines lines first rest cut none =
     subst IsNoInputOf (sym cut) (λ i h. none i.snapshots h.1)
-
--- the source's field holds something else
-pub unsigned_lines : (lines : List (List ℕ)) (first : List ℕ) (rest : List (List ℕ))
-    (header : Header) (snapshots : List Snapshot) → lines ≡ first ∷ rest
-    → IsHeaderLine first header → AreSnapshots rest (snapshots_documents snapshots)
-    → snapshots_are_signed header.request snapshots ≡ false → IsNoInputOf lines
-unsigned_lines lines first rest header snapshots cut head tail unsigned =
-    subst IsNoInputOf (sym cut) (λ i h.
-    let headers : i.header ≡ header = IsHeaderLine-unique first i.header header h.0 head in
-    let lists : i.snapshots ≡ snapshots_documents snapshots =
-    AreSnapshots-unique rest i.snapshots (snapshots_documents snapshots) h.1 tail in
-    let reads = subst (λ l. All (ReadsIn header.request) l) lists
-    (subst (λ e. All (ReadsIn e.request) i.snapshots) headers h.2) in
-    false≢true (sym unsigned ∙ snapshots-from_reads header.request snapshots reads))

@@ -1,4 +1,5 @@
 pub mod Beside
+pub mod Composites
 pub mod DistinctNumbers
 pub mod DocumentMembers
 pub mod Documents
@@ -10,8 +11,6 @@ pub mod PageLines
 pub mod Queries
 pub mod Reading
 pub mod Replies
-pub mod SignedColumns
-pub mod SignedNumbers
 pub mod SnapshotLists
 pub mod SnapshotSteps
 pub mod TokenFields

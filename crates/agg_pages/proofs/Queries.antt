@@ -112,34 +112,39 @@ kind_of name =
     (cond (bytes_eq name (codes "range")) of_range
     (cond (bytes_eq name (codes "exists")) of_exists of_bool))))
 
+-- ---- lists
+
+pub EachIs-unique : {A : Type 0} (Is : Data → A → Type 0)
+    → ((d : Data) (a b : A) → Is d a → Is d b → a ≡ b) → (items : Items) (xs ys : List A)
+    → EachIs Is items xs → EachIs Is items ys → xs ≡ ys
+EachIs-unique Is one no_items [] [] h k = refl
+EachIs-unique Is one no_items [] (y ∷ ys) h k = absurd k
+EachIs-unique Is one no_items (x ∷ xs) ys h k = absurd h
+EachIs-unique Is one (item d items) [] ys h k = absurd h
+EachIs-unique Is one (item d items) (x ∷ xs) [] h k = absurd k
+EachIs-unique Is one (item d items) (x ∷ xs) (y ∷ ys) h k =
+    ap (λ l. l ∷ xs) (one d x y h.0 k.0)
+    ∙ ap (λ l. y ∷ l) (EachIs-unique Is one items xs ys h.1 k.1)
+
+IsList-unique : {A : Type 0} (Is : Data → A → Type 0)
+    → ((d : Data) (a b : A) → Is d a → Is d b → a ≡ b) → (o : Option Data) (xs ys : List A)
+    → IsList Is o xs → IsList Is o ys → xs ≡ ys
+IsList-unique Is one None xs ys h k = h ∙ sym k
+IsList-unique Is one (Some d) xs ys (items, is, each) (items_too, is_too, each_too) =
+    let same : items_too ≡ items = same_value items_too items (sym is_too ∙ is) in
+    EachIs-unique Is one items xs ys each (subst (λ l. EachIs Is l ys) same each_too)
+
 module _ (Is : Data → QueryTree → Type 0)
     (one : (d : Data) (a b : QueryTree) → Is d a → Is d b → a ≡ b) where
-  EachIs-unique : (items : Items) (xs ys : List QueryTree) → EachIs Is items xs
-      → EachIs Is items ys → xs ≡ ys
-  EachIs-unique no_items [] [] h k = refl
-  EachIs-unique no_items [] (y ∷ ys) h k = absurd k
-  EachIs-unique no_items (x ∷ xs) ys h k = absurd h
-  EachIs-unique (item d items) [] ys h k = absurd h
-  EachIs-unique (item d items) (x ∷ xs) [] h k = absurd k
-  EachIs-unique (item d items) (x ∷ xs) (y ∷ ys) h k =
-      ap (λ l. l ∷ xs) (one d x y h.0 k.0)
-      ∙ ap (λ l. y ∷ l) (EachIs-unique items xs ys h.1 k.1)
-
-  IsList-unique : (o : Option Data) (xs ys : List QueryTree) → IsList Is o xs → IsList Is o ys
-      → xs ≡ ys
-  IsList-unique None xs ys h k = h ∙ sym k
-  IsList-unique (Some d) xs ys (items, is, each) (items_too, is_too, each_too) =
-      let same : items_too ≡ items = same_value items_too items (sym is_too ∙ is) in
-      EachIs-unique items xs ys each (subst (λ l. EachIs Is l ys) same each_too)
-
   IsBoolean-unique : (body : Data) (a b : QueryTree) → IsBoolean Is body a → IsBoolean Is body b
       → a ≡ b
   IsBoolean-unique body a b (m, s, n, a_is, only, must, should, must_not)
       (m_too, s_too, n_too, b_is, _, must_too, should_too, must_not_too) =
-      let ms : m ≡ m_too = IsList-unique (get (codes "must") body) m m_too must must_too in
-      let ss : s ≡ s_too = IsList-unique (get (codes "should") body) s s_too should should_too in
+      let ms : m ≡ m_too = IsList-unique Is one (get (codes "must") body) m m_too must must_too in
+      let ss : s ≡ s_too =
+      IsList-unique Is one (get (codes "should") body) s s_too should should_too in
       let ns : n ≡ n_too =
-      IsList-unique (get (codes "must_not") body) n n_too must_not must_not_too in
+      IsList-unique Is one (get (codes "must_not") body) n n_too must_not must_not_too in
       a_is ∙ ap (λ l. Boolean l s n) ms ∙ ap (λ l. Boolean m_too l n) ss
       ∙ ap (Boolean m_too s_too) ns ∙ sym b_is
 

@@ -1,20 +1,20 @@
 -- Replies to inputs, and what bytes and an input say of one another.
-use Rattle.std.proofs.Common.{◌≡◌, ◌⊎◌, ℕ, List, Bool, true, false, Option, Some, sym, ◌∙◌}
-use Rattle.std.proofs.Common.{subst, inl, inr}
-use Rattle.std.proofs.lemmas.Bool.{false≢true}
+use Rattle.std.proofs.Common.{◌≡◌, ◌≢◌, ◌⊎◌, ℕ, List, Bool, true, false, Option, Some, refl}
+use Rattle.std.proofs.Common.{subst, inl, inr, All, arith}
+use Rattle.std.specs.List.{Any}
 use Rattle.agg_values.specs.declared.error.InvalidArgument.{InvalidArgument}
-use Rattle.agg_values.specs.declared.error.InvalidArgument.TheVariants.{NoSource, ZeroSize}
-use Rattle.agg_values.specs.declared.error.InvalidArgument.TheVariants.{TooManySources}
-use Rattle.agg_values.specs.declared.error.InvalidArgument.TheVariants.{DuplicateSource}
-use Rattle.agg_values.specs.declared.error.InvalidArgument.TheVariants.{BadInterval}
-use Rattle.agg_values.specs.declared.error.InvalidArgument.TheVariants.{IntervalChoice, NullAfter}
-use Rattle.agg_values.specs.declared.error.InvalidArgument.TheVariants.{AfterType}
+use Rattle.agg_values.specs.declared.error.InvalidArgument.TheVariants as argument
+use Rattle.agg_request.specs.Faults.{AggregationHasFault, HasFault, IsBehindNoBucket, IsSound}
+use Rattle.agg_request.specs.Faults.{IsSoundAggregation}
+use Rattle.agg_request.specs.declared.aggregation.AggregationVariants.{AggregationVariants}
+use Rattle.agg_request.specs.declared.aggregation.AggregationVariants.TheVariants.{Composite}
+use Rattle.agg_request.specs.declared.aggregation.CompositeAggregation.{CompositeAggregation}
 use Rattle.agg_engine.specs.declared.walk.error.WalkError.{WalkError}
 use Rattle.agg_engine.specs.declared.walk.error.WalkError.TheVariants.{Invalid, UnknownComposite}
 use Rattle.agg_engine.specs.declared.walk.error.WalkError.TheVariants.{TooMany, OutOfMemory}
+use Rattle.agg_engine.specs.declared.walk.error.WalkError.TheVariants.{Aggregation}
 use Rattle.agg_pages.specs.Input.{Input, IsInput}
-use Rattle.agg_pages.specs.Answer.{IsPrintedWalk, IsRefusal, IsReply, IsValid, MayBeInvalid}
-use Rattle.agg_pages.specs.Answer.{MayRefuse}
+use Rattle.agg_pages.specs.Answer.{IsPrintedWalk, IsRefusal, IsReply, IsValid, MayRefuse}
 use Rattle.agg_pages.specs.Reading.{GivesAll}
 use Rattle.agg_pages.proofs.Inputs.{IsInput-unique}
 
@@ -23,22 +23,40 @@ pub reply-either : (refused : Bool) (i : Input) (text : List ℕ) → IsReply re
 reply-either true i text reply = inr reply
 reply-either false i text reply = inl reply
 
-may_not_be_invalid : (i : Input) (argument : InvalidArgument) → IsValid i
-    → ¬ (MayBeInvalid i argument)
-may_not_be_invalid i ZeroSize valid zero = false≢true (sym valid.sizes ∙ zero)
-may_not_be_invalid i NoSource valid none = none
-may_not_be_invalid i TooManySources valid none = none
-may_not_be_invalid i DuplicateSource valid none = none
-may_not_be_invalid i BadInterval valid none = none
-may_not_be_invalid i IntervalChoice valid none = none
-may_not_be_invalid i NullAfter valid none = none
-may_not_be_invalid i AfterType valid none = none
+-- ---- nothing refuses a valid input
+
+none_of_all : {X : Type 0} (P Q : X → Type 0) → ((x : X) → P x → Q x → ⊥) → (xs : List X)
+    → Any P xs → All Q xs → ⊥
+none_of_all P Q apart xs (k, x, below, at, h) all = apart x h (subst Q at (all k x below))
+
+sound_composite : (composite : CompositeAggregation) (fault : InvalidArgument)
+    → HasFault composite fault → IsSound composite → ⊥
+sound_composite composite argument.NoSource h sound = sound.some h
+sound_composite composite argument.ZeroSize h sound = sound.room h
+sound_composite composite argument.TooManySources h sound = omega (arith, sound.few, h)
+sound_composite composite argument.DuplicateSource h sound = h sound.names
+sound_composite composite argument.NullAfter h sound =
+    none_of_all (IsBehindNoBucket composite) (λ source. ¬ (IsBehindNoBucket composite source))
+    (λ source is is_not. is_not is) composite.sources h sound.after
+sound_composite composite argument.BadInterval h sound = h
+sound_composite composite argument.IntervalChoice h sound = h
+sound_composite composite argument.AfterType h sound = h
+
+sound_aggregation : (agg : AggregationVariants) (fault : InvalidArgument)
+    → AggregationHasFault agg fault → IsSoundAggregation agg → ⊥
+sound_aggregation (Composite composite) fault h sound = sound_composite composite fault h sound
 
 may_not_refuse : (i : Input) (error : WalkError) → IsValid i → ¬ (MayRefuse i error)
-may_not_refuse i (Invalid argument) valid may = may_not_be_invalid i argument valid may
-may_not_refuse i UnknownComposite valid unknown = unknown valid.named
-may_not_refuse i TooMany valid many = valid.fits many.2
-may_not_refuse i OutOfMemory valid none = none
+may_not_refuse i (Invalid fault) valid (other, inl asked) =
+    none_of_all (λ a. AggregationHasFault a.1.agg fault) (λ a. IsSoundAggregation a.1.agg)
+    (λ a. sound_aggregation a.1.agg fault) i.header.request asked valid.asked.sound
+may_not_refuse i (Invalid fault) valid (other, inr (is, some)) =
+    none_of_all (λ s. s.page_size ≡ 0) (λ s. s.page_size ≢ 0) (λ s zero room. room zero)
+    i.snapshots some valid.asked.room
+may_not_refuse i UnknownComposite valid (other, unknown) = unknown valid.asked.named
+may_not_refuse i TooMany valid (other, many) = valid.fits many.1
+may_not_refuse i (Aggregation given) valid (other, none) = none
+may_not_refuse i OutOfMemory valid (other, any) = other refl
 
 -- what a source gave is the one input that it told
 pub given_input : (left left_now : Option (List ℕ)) (given told : List ℕ) (i j : Input)

@@ -1,15 +1,12 @@
 -- What answers an input, and which bytes are none.
-use Rattle.std.specs.Prelude.{◌≡◌, ◌<◌, ◌+◌, ◌⊎◌, ℕ, List, [], ◌∷◌, Bool, true, false, Option}
-use Rattle.std.specs.Prelude.{Some, drop, take, length, codes}
-use Rattle.agg_values.specs.declared.error.InvalidArgument.{InvalidArgument}
-use Rattle.agg_values.specs.declared.error.InvalidArgument.TheVariants.{ZeroSize}
+use Rattle.std.specs.Prelude.{◌≡◌, ◌≢◌, ◌<◌, ◌+◌, ◌⊎◌, ℕ, List, [], ◌∷◌, Bool, true, false}
+use Rattle.std.specs.Prelude.{Option, Some, drop, take, length, codes}
 use Rattle.agg_engine.specs.declared.walk.Walk.{Walk}
 use Rattle.agg_engine.specs.declared.walk.error.WalkError.{WalkError}
-use Rattle.agg_engine.specs.declared.walk.error.WalkError.TheVariants.{Invalid, UnknownComposite}
-use Rattle.agg_engine.specs.declared.walk.error.WalkError.TheVariants.{TooMany, OutOfMemory}
-use Rattle.agg_engine.specs.NamedComposite.{NamesComposite}
-use Rattle.agg_engine.specs.Walk.{ReachesTooMany, has_zero_size}
+use Rattle.agg_engine.specs.declared.walk.error.WalkError.TheVariants.{OutOfMemory}
 use Rattle.agg_engine.specs.ShownWalk.{IsShownWalk}
+use Rattle.agg_engine.specs.Walk.{MayBeAsked, ReachesTooMany}
+use Rattle.agg_engine.specs.WalkError.{HasCause}
 use Rattle.agg_pages.specs.Input.{AreNoInput, Input, max_input_bytes}
 use Rattle.agg_pages.specs.Output.{refusal_text, walk_text}
 
@@ -17,38 +14,19 @@ use Rattle.agg_pages.specs.Output.{refusal_text, walk_text}
 abbrev pub walk_arguments : List (List ℕ)
 walk_arguments = codes "walk" ∷ []
 
--- a size in an input is 0
-abbrev pub HasZeroSize : Input → Type 0
-HasZeroSize i = has_zero_size i.header.request i.snapshots ≡ true
-
--- no size in an input is 0
-abbrev pub HasSizes : Input → Type 0
-HasSizes i = has_zero_size i.header.request i.snapshots ≡ false
-
--- the name of an input is a composite's
-abbrev pub IsNamed : Input → Type 0
-IsNamed i = NamesComposite i.header.name i.header.request
-
 -- the walk of an input reaches a snapshot in which too many documents are counted
 abbrev pub CountsTooMany : Input → Type 0
 CountsTooMany i = ReachesTooMany i.header.name i.header.query i.header.request i.snapshots
 
--- an argument that a walk of an input may refuse: a size of 0, and no other
-abbrev pub MayBeInvalid : Input → InvalidArgument → Type 0
-MayBeInvalid i ZeroSize = HasZeroSize i
-MayBeInvalid i _ = ⊥
-
--- an error that a walk of an input may answer
+-- an error that a walk of an input may answer, want of memory aside
 abbrev pub MayRefuse : Input → WalkError → Type 0
-MayRefuse i (Invalid argument) = MayBeInvalid i argument
-MayRefuse i UnknownComposite = ¬ (IsNamed i)
-MayRefuse i TooMany = HasSizes i × IsNamed i × CountsTooMany i
-MayRefuse i OutOfMemory = ⊥
+MayRefuse i error =
+    (error ≢ OutOfMemory)
+    × HasCause i.header.name i.header.query i.header.request i.snapshots error
 
 -- a walk of an input that nothing refuses
 pub record IsValid (i : Input) : Type 0 where
-  pub sizes : HasSizes i
-  pub named : IsNamed i
+  pub asked : MayBeAsked i.header.name i.header.request i.snapshots
   pub fits : ¬ (CountsTooMany i)
 
 -- the text is the printed walk of an input that nothing refuses

@@ -1,9 +1,7 @@
 -- What the bytes of an input stand for.
-use Rattle.std.specs.Prelude.{◌≤◌, ℕ, List, [], ◌∷◌, IsTrue, length, All}
+use Rattle.std.specs.Prelude.{◌≤◌, ℕ, List, [], ◌∷◌, IsTrue, length}
 use Rattle.std.specs.Str.{is_utf8}
-use Rattle.agg_engine.specs.Form.{ReadsSignedNumbers}
 use Rattle.agg_engine.specs.Snapshot.{SnapshotDocuments, snapshots_documents}
-use Rattle.agg_engine.specs.Walk.{documents_in}
 use Rattle.agg_pages.specs.declared.input.Input as stored
 use Rattle.agg_pages.specs.declared.input.header.Header.{Header}
 use Rattle.agg_pages.specs.Header.{IsHeaderLine}
@@ -19,15 +17,10 @@ pub record Input : Type 0 where
 abbrev pub input_of : stored.Input → Input
 input_of i = record { header = i.header; snapshots = snapshots_documents i.snapshots }
 
--- the request of an input reads nothing but whole numbers within i64
-abbrev pub ReadsSigned : Input → Type 0
-ReadsSigned i = All (λ s. ReadsSignedNumbers i.header.request (documents_in s)) i.snapshots
-
 -- the input of lines: a header, and then snapshots
 abbrev pub IsInputOfLines : List (List ℕ) → Input → Type 0
 IsInputOfLines [] i = ⊥
-IsInputOfLines (first ∷ lines) i =
-    IsHeaderLine first i.header × AreSnapshots lines i.snapshots × ReadsSigned i
+IsInputOfLines (first ∷ lines) i = IsHeaderLine first i.header × AreSnapshots lines i.snapshots
 
 -- how many bytes an input has at most
 abbrev pub max_input_bytes : ℕ

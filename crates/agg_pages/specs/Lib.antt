@@ -10,7 +10,6 @@ pub mod Observed
 pub mod Output
 pub mod Reading
 pub mod Run
-pub mod Signed
 pub mod SnapshotLines
 pub mod Snapshots
 pub mod Status

@@ -4,7 +4,6 @@ mod document;
 mod header;
 mod line;
 mod lines;
-mod signed;
 mod snapshots;
 #[cfg(test)]
 mod tests;
@@ -26,7 +25,6 @@ pub use header::Header;
 use header::read_header;
 use lines::Lines;
 use serde_json::Category;
-use signed::reads_signed_numbers;
 use snapshots::read_snapshots;
 use std::alloc::Global;
 use std::str::from_utf8;
@@ -137,9 +135,5 @@ fn read_lines(alloc: Global, lines: Lines<'_>) -> Result<Input, InputError>
     let first = lines.next().ok_or(InputError::NotInput)?;
     let header = read_header(alloc, first)?;
     let snapshots = read_snapshots(alloc, lines)?;
-    if reads_signed_numbers(&header.request, snapshots.as_slice()) {
-        Ok(Input { header, snapshots })
-    } else {
-        Err(InputError::NotInput)
-    }
+    Ok(Input { header, snapshots })
 }

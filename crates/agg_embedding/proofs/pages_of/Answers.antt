@@ -1,6 +1,8 @@
-use Rattle.std.proofs.Common.{◌≡◌, ◌++◌, Some, ap, sym, ◌∙◌, subst}
+use Rattle.std.proofs.Common.{◌≡◌, ◌++◌, ◌∷◌, [], Some, ap, sym, ◌∙◌, subst}
 use Rattle.agg_pages.specs.Answer.{IsPrintedWalk}
 use Rattle.agg_pages.specs.Input.{IsInput}
+use Rattle.agg_embedding.specs.NoPages.{HaveNoPages}
+use Rattle.agg_embedding.proofs.NoPages.{no_pages}
 use Rattle.agg_embedding.proofs.pages_of.Goals as goal
 
 pub returns-in-Ok-clause-pages : goal.returns-in-Ok-clause-pages
@@ -15,3 +17,13 @@ returns-in-Ok-clause-pages c =
       subst (λ bytes. IsInput bytes i) told reads,
       subst (IsPrintedWalk i) (sym written) walk,
     )
+
+pub returns : goal.returns
+returns c =
+    record {
+      pages = tt;
+      cause = subst (λ bytes. HaveNoPages bytes c.run_uncounted.result) c.new-source.ensures
+          (no_pages _ c.new-source.result _ _ c.run_uncounted.result
+          (ap (λ word. word ∷ []) c.in_ok-copy_of.ensures) c.in_default.not-Ok
+          c.run_uncounted.ensures);
+    }

@@ -1,25 +1,24 @@
 //! The header: what a walk is asked for.
-ghost use Rattle.std.specs.Prelude.{◌≡◌, Some, None, IfOk, IsErrOf, option_map, codes};
+ghost use Rattle.std.specs.Prelude.{◌≡◌, Some, None, IfOk, IsErrOf, codes, false};
 ghost use Rattle.std.specs.Prelude.{option_and_then};
 ghost use Rattle.serde_json.specs.Find.{as_str, get};
 ghost use Rattle.serde_json.specs.View.{view};
 ghost use Rattle.agg_segment.specs.declared.query.QueryTree.{QueryTree as Tree};
+ghost use Rattle.agg_request.specs.CompositeJson.{IsCompositeJson};
+ghost use Rattle.agg_request.specs.Request.{Request};
 ghost use Rattle.agg_pages.specs.declared.input.header.Header.{Header as Read};
-ghost use Rattle.agg_pages.specs.Header.{IsHeader, IsHeaderLine, IsQueryOf, composite_of};
-ghost use Rattle.agg_pages.specs.Header.{header_members, request_of, source_of, terms_field};
-ghost use Rattle.agg_pages.specs.Header.{texts_of};
+ghost use Rattle.agg_pages.specs.Header.{IsHeader, IsHeaderLine, IsQueryOf, IsRequest, IsRequestAt};
+ghost use Rattle.agg_pages.specs.Header.{IsNoComposite, header_members, texts_of};
 
 use super::InputError;
 use super::value::parse;
-use agg_request::json_value::{
-    has_members, only_item, only_member, only_named, read_text, small_number,
-};
+use agg_request::json_value::{has_members, only_member, only_named, read_text};
 use agg_request::{
-    Aggregation, AggregationVariants, Aggregations, CompositeAggregation,
-    CompositeAggregationSource, TermCompositeAggregationSource, read_query,
+    Aggregation, AggregationVariants, Aggregations, CompositeAggregation, read_composite,
+    read_query,
 };
 use agg_segment::{QueryTree, Schema};
-use agg_values::{ItemList, MissingOrder, NameMap, Order, Text};
+use agg_values::{NameMap, Text};
 use serde_json::Value;
 use std::alloc::Global;
 
@@ -65,10 +64,10 @@ fn header_of_value(alloc: Global, value: &Value) -> Result<Header, InputError>
 
 // The request of a header.
 fn request_in(alloc: Global, value: &Value) -> Result<Aggregations, InputError>
-    ensures ok { IfOk result (λ request.
-        option_and_then request_of (get (codes "request") (view value.now)) ≡ Some request) }
+    ensures ok { IfOk result
+        (λ request. IsRequestAt (get (codes "request") (view value.now)) request) }
     ensures not_input { IsErrOf result InputError.NotInput
-        → option_and_then request_of (get (codes "request") (view value.now)) ≡ None }
+        → (request : Request) → ¬ IsRequestAt (get (codes "request") (view value.now)) request }
 {
     read_request(alloc, member(value, "request")?)
 }
@@ -128,60 +127,27 @@ fn text_of(alloc: Global, value: &Value) -> Result<Text, InputError>
     read_text(alloc, value)?.ok_or(InputError::NotInput)
 }
 
-// One name with a composite.
+// One name, whose one member is a composite.
 fn read_request(alloc: Global, value: &Value) -> Result<Aggregations, InputError>
-    ensures ok { IfOk result (λ request. request_of (view value.now) ≡ Some request) }
-    ensures not_input { IsErrOf result InputError.NotInput → request_of (view value.now) ≡ None }
+    ensures ok { IfOk result (λ request. IsRequest (view value.now) request) }
+    ensures not_input { IsErrOf result InputError.NotInput
+        → (request : Request) → ¬ IsRequest (view value.now) request }
 {
     let (name, kind) = only_member(value).ok_or(InputError::NotInput)?;
-    let composite = only_named(kind, "composite").ok_or(InputError::NotInput)?;
-    let agg = read_composite(alloc, composite)?;
+    let body = only_named(kind, "composite").ok_or(InputError::NotInput)?;
+    let composite = composite_of(alloc, body)?;
+    let agg = AggregationVariants::Composite(composite);
     let mut request = NameMap::new(alloc);
     request.insert(Text::copy_of(alloc, name)?, Aggregation { agg })?;
     Ok(request)
 }
 
-// Exactly its sources, of which there is one, and its size.
-fn read_composite(alloc: Global, value: &Value) -> Result<AggregationVariants, InputError>
-    ensures ok { IfOk result (λ composite. composite_of (view value.now) ≡ Some composite) }
-    ensures not_input { IsErrOf result InputError.NotInput → composite_of (view value.now) ≡ None }
+// The composite of a body.
+fn composite_of(alloc: Global, body: &Value) -> Result<CompositeAggregation, InputError>
+    ensures ok { IfOk result (λ composite. IsCompositeJson false (view body.now) composite) }
+    ensures not_input { IsErrOf result InputError.NotInput → IsNoComposite (view body.now) }
 {
-    if !has_members(value, 2) {
-        return Err(InputError::NotInput);
-    }
-    let only = only_item(member(value, "sources")?).ok_or(InputError::NotInput)?;
-    let source = read_source(alloc, only)?;
-    let size = small_number(member(value, "size")?).ok_or(InputError::NotInput)?;
-    let mut sources = ItemList::new(alloc);
-    sources.push(source)?;
-    Ok(AggregationVariants::Composite(CompositeAggregation {
-        sources,
-        size,
-        after: NameMap::new(alloc),
-    }))
-}
-
-// A name with a terms source.
-fn read_source(alloc: Global, value: &Value) -> Result<CompositeAggregationSource, InputError>
-    ensures ok { IfOk result (λ source. source_of (view value.now) ≡ Some source) }
-    ensures not_input { IsErrOf result InputError.NotInput → source_of (view value.now) ≡ None }
-{
-    let (name, kind) = only_member(value).ok_or(InputError::NotInput)?;
-    let field = terms_field(kind).ok_or(InputError::NotInput)?;
-    Ok(CompositeAggregationSource::Terms(TermCompositeAggregationSource {
-        name: Text::copy_of(alloc, name)?,
-        field: Text::copy_of(alloc, field)?,
-        order: Order::Asc,
-        missing_bucket: false,
-        missing_order: MissingOrder::Default,
-    }))
-}
-
-// The field of a terms source.
-fn terms_field(value: &Value) -> Option<&str>
-    ensures { option_map (λ s. s.now) result ≡ terms_field (view value.now) }
-{
-    only_named(only_named(value, "terms")?, "field")?.as_str()
+    Ok(read_composite(alloc, body)?)
 }
 
 // An array of texts.

@@ -16,6 +16,9 @@ use json::{Reader, Scratch, Token};
 use std::alloc::Global;
 use values::read_values;
 
+// A line of more bytes than these gives back the room that it took.
+const LONGEST_KEPT: usize = 65_536;
+
 /// Room that is kept from line to line, so that reading one takes no new memory.
 #[derive(Drop)]
 pub struct LineRoom {
@@ -30,6 +33,13 @@ impl LineRoom {
         LineRoom {
             tokens: Scratch::new(alloc),
             fields: Vec::new(alloc),
+        }
+    }
+
+    // Gives back the room that a long line took.
+    fn give_back(&mut self, alloc: Global, line: &str) {
+        if line.len() > LONGEST_KEPT {
+            self.tokens = Scratch::new(alloc);
         }
     }
 }
@@ -49,7 +59,9 @@ pub fn read_document_tokens(
         → gathered_documents builder.new ≡ gathered_documents builder.old) }
     ensures not_input { IsErrOf result InputError.NotInput → HasNoDocument line.now builder.old }
 {
-    if !open_line(alloc, builder, line, room)? {
+    let taken = open_line(alloc, builder, line, room)?;
+    room.give_back(alloc, line);
+    if !taken {
         return Ok(false);
     }
     builder.finish()?;

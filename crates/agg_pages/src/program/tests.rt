@@ -1,3 +1,5 @@
+mod sources;
+
 ghost use Rattle.std.specs.Prelude.{None, Some};
 
 use super::*;

@@ -1,10 +1,8 @@
-use Rattle.std.proofs.Common.{sym, ap, ◌∙◌, subst}
+use Rattle.std.proofs.Common.{sym, subst}
 use Rattle.std.proofs.lemmas.Result.{err_from_is_err_and}
 use Rattle.agg_pages.specs.declared.input.Input.{Input as Stored}
 use Rattle.agg_pages.specs.Input.{IsInputOfLines, input_of}
-use Rattle.agg_pages.specs.Signed.{snapshots_are_signed}
-use Rattle.agg_pages.proofs.Inputs.{input_form, no_header_lines, no_snapshot_lines, unsigned_lines}
-use Rattle.agg_pages.proofs.SignedNumbers.{reads-from_snapshots}
+use Rattle.agg_pages.proofs.Inputs.{input_form, no_header_lines, no_snapshot_lines}
 use Rattle.agg_pages.proofs.input.read_lines.Goals as goal
 
 pub returns-in_err-header-clause-not_input : goal.returns-in_err-header-clause-not_input
@@ -23,39 +21,18 @@ returns-in_err-snapshots-clause-not_input c = λ refused.
     no_snapshot_lines c.args.lines c.in_ok-first.first.now c.next.new.self step
     (c.in_err-snapshots.ensures.not_input (cc (refused, p.1, p.2)))
 
-pub returns-then-reads_signed_numbers-clause-ok : goal.returns-then-reads_signed_numbers-clause-ok
-returns-then-reads_signed_numbers-clause-ok c =
+pub returns-clause-ok : goal.returns-clause-ok
+returns-clause-ok c =
     let step = rw c.in_ok-first.ensures.ok_part at c.next.ensures.steps in
     let i : Stored = record {
       header = c.in_ok-header.header;
       snapshots = c.in_ok-snapshots.snapshots;
     } in
-    subst (λ lines. IsInputOfLines lines (input_of i)) (sym step) (
-      c.in_ok-header.ensures.ok,
-      c.in_ok-snapshots.ensures.ok,
-      reads-from_snapshots c.in_ok-header.header.request c.in_ok-snapshots.snapshots
-          (sym (c.reads_signed_numbers.ensures
-          ∙ ap (snapshots_are_signed c.in_ok-header.header.request) c.as_slice.ensures)
-          ∙ c.if-reads_signed_numbers.true),
-    )
+    subst (λ lines. IsInputOfLines lines (input_of i)) (sym step)
+    (c.in_ok-header.ensures.ok, c.in_ok-snapshots.ensures.ok)
 
-pub returns-then-reads_signed_numbers-clause-form
-    : goal.returns-then-reads_signed_numbers-clause-form
-returns-then-reads_signed_numbers-clause-form c =
+pub returns-clause-form : goal.returns-clause-form
+returns-clause-form c =
     input_form c.in_ok-first.first.now c.next.new.self
     (input_of (record { header = c.in_ok-header.header; snapshots = c.in_ok-snapshots.snapshots }))
     c.in_ok-header.ensures.ok c.in_ok-snapshots.ensures.ok
-    (reads-from_snapshots c.in_ok-header.header.request c.in_ok-snapshots.snapshots
-    (sym (c.reads_signed_numbers.ensures
-    ∙ ap (snapshots_are_signed c.in_ok-header.header.request) c.as_slice.ensures)
-    ∙ c.if-reads_signed_numbers.true))
-
-pub returns-else-reads_signed_numbers-clause-not_input
-    : goal.returns-else-reads_signed_numbers-clause-not_input
-returns-else-reads_signed_numbers-clause-not_input c = λ _.
-    let step = rw c.in_ok-first.ensures.ok_part at c.next.ensures.steps in
-    unsigned_lines c.args.lines c.in_ok-first.first.now c.next.new.self c.in_ok-header.header
-    c.in_ok-snapshots.snapshots step c.in_ok-header.ensures.ok c.in_ok-snapshots.ensures.ok
-    (sym (c.reads_signed_numbers.ensures
-    ∙ ap (snapshots_are_signed c.in_ok-header.header.request) c.as_slice.ensures)
-    ∙ c.if-reads_signed_numbers.false)

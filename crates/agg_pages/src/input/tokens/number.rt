@@ -41,6 +41,7 @@ impl WholeNumber {
 }
 
 /// The whole number that the text of a number token writes. None where it writes another number.
+#[inline(always)]
 pub fn whole_number(text: &str) -> Option<WholeNumber>
     ensures { IfSome result (λ n. number_of text.now ≡ Some (num_of n)) }
 {
@@ -53,6 +54,7 @@ pub fn whole_number(text: &str) -> Option<WholeNumber>
 }
 
 // A number with no minus sign.
+#[inline(always)]
 fn unsigned(numeral: &Numeral<'_>) -> Option<WholeNumber>
     ensures { IfSome result (λ n. number_from false numeral.now ≡ Some (num_of n)) }
 {
@@ -72,6 +74,7 @@ fn negative(numeral: &Numeral<'_>) -> Option<WholeNumber>
 }
 
 // Whether a minus sign comes first.
+#[inline(always)]
 fn has_minus(bytes: &[u8]) -> bool
     ensures value { result ≡ (slice_index bytes.now 0 == 45) }
     ensures some { IsTrue result → 0 < length bytes.now }

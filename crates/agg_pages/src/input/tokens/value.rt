@@ -16,6 +16,7 @@ use json::{Reader, Token};
 use std::alloc::Global;
 
 /// The value that begins with a token. None where there is none, or one of another form.
+#[inline(always)]
 pub fn read_value(
     alloc: Global,
     token: Token<'_>,
@@ -34,6 +35,7 @@ pub fn read_value(
 }
 
 // A whole number.
+#[inline(always)]
 fn read_number(text: &str) -> Option<FieldValue>
     ensures { IfSome result (λ value. (n : Num)
         × (number_of text.now ≡ Some n)

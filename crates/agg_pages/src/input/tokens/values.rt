@@ -12,6 +12,7 @@ use std::alloc::Global;
 
 /// Appends the values of a field to the open document: one, those of an array, or none for `null`.
 /// False where they are of another form.
+#[inline(always)]
 pub fn read_values(
     alloc: Global,
     builder: &mut SegmentBuilder,
@@ -54,6 +55,7 @@ fn read_items(
 }
 
 // The item that begins with a token: a value, or `null`, which is none.
+#[inline(always)]
 fn read_item(
     alloc: Global,
     builder: &mut SegmentBuilder,

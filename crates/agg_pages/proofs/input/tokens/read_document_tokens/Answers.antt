@@ -11,12 +11,12 @@ returns-in_err-finish-clause-not_input c = λ refused document stands.
     c.from_residual-in_err-finish.ensures.1 in
     let opened = c.open_line.new.builder in
     let kept : gathered_documents opened ≡ gathered_documents c.args.builder.now =
-    c.in_ok-open_line.ensures.documents in
+    c.in_ok-taken.ensures.documents in
     elim (p.2 (cc (refused, p.1))) [
       | inl many ↦ inl (sym (ap length kept) ∙ c.in_err-finish.ensures.full.0 (ap Err many))
       | inr both ↦
           let read : IsDocumentLine c.args.line.now (open_document opened) =
-          c.in_ok-open_line.ensures.taken (search rules) in
+          c.in_ok-taken.ensures.taken (search rules) in
           let same = IsDocumentLine-unique c.args.line.now (open_document opened) document read
           stands in
           inr (subst (λ d. IsMixed (gathered_documents c.args.builder.now ++ d ∷ [])) same

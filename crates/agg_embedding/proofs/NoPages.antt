@@ -1,0 +1,35 @@
+-- Why a run over bytes in memory gave no pages.
+use Rattle.std.proofs.Common.{◌≡◌, ◌≢◌, ℕ, List, Some, refl, subst, arith}
+use Rattle.agg_pages.specs.declared.status.Status.{Status}
+use Rattle.agg_pages.specs.declared.status.Status.TheVariants.{Ok, Refused, Usage}
+use Rattle.agg_pages.specs.declared.status.Status.TheVariants.{Input as NotInput, ReadFault}
+use Rattle.agg_pages.specs.declared.status.Status.TheVariants.{WriteFault, OutOfMemory}
+use Rattle.agg_pages.specs.Answer.{walk_arguments}
+use Rattle.agg_pages.specs.Input.{Input, IsInput}
+use Rattle.agg_pages.specs.Observed.{Observed, over}
+use Rattle.agg_pages.specs.Run.{GaveInput, IsAnswered, command}
+use Rattle.agg_embedding.specs.NoPages.{HaveNoPages}
+
+-- bytes in memory, read without a fault
+abbrev steady : List ℕ → List ℕ → Observed (List ℕ)
+steady bytes left = over (λ source. Some source) (λ _. 0) bytes left
+
+reads_input : (bytes left : List ℕ) (i : Input) → GaveInput (steady bytes left) i
+    → IsInput bytes i
+reads_input bytes left i (given, gives, is) =
+    subst (λ all. IsInput all i) (gives bytes refl).0 is
+
+pub no_pages : {W : Type 0} (sink : Observed W) (bytes left : List ℕ) (words : List (List ℕ))
+    (status : Status) → words ≡ walk_arguments → status ≢ Ok
+    → IsAnswered (command words status) (steady bytes left) sink → HaveNoPages bytes status
+no_pages sink bytes left words Ok walk other answered = absurd (other refl)
+no_pages sink bytes left words Refused walk other answered =
+    let (i, gave, (text, refusal, appended)) = answered.refused refl in
+    (i, reads_input bytes left i gave, (text, refusal))
+no_pages sink bytes left words Usage walk other answered = absurd (answered.usage.0 refl walk)
+no_pages sink bytes left words NotInput walk other answered = (answered.no_input refl bytes refl).0
+no_pages sink bytes left words ReadFault walk other answered =
+    absurd (omega (arith, answered.read_fault refl))
+no_pages sink bytes left words WriteFault walk other answered =
+    let (i, gave, written) = answered.prefix refl in (i, reads_input bytes left i gave)
+no_pages sink bytes left words OutOfMemory walk other answered = tt

@@ -1,0 +1,181 @@
+-- A body is that of one composite at most.
+use Rattle.std.proofs.Common.{◌≡◌, ◌⊎◌, inl, inr, ℕ, List, [], ◌∷◌, Bool, false, IsTrue}
+use Rattle.std.proofs.Common.{Option, Some, None, refl, sym, ap, ◌∙◌, subst, codes, arith, get_or}
+use Rattle.std.proofs.lemmas.Bool.{false≢true}
+use Rattle.serde_json.specs.Data.{Data, Members, no_members, member}
+use Rattle.serde_json.specs.Find.{get}
+use Rattle.agg_values.proofs.KeyTexts.{IsKeyText-unique}
+use Rattle.agg_values.specs.KeyText.{IsKeyText}
+use Rattle.agg_values.specs.Names.{Named}
+use Rattle.agg_values.specs.TypedKey.{CompositeIntermediateKey}
+use Rattle.agg_values.specs.declared.after_key.AfterKey.{AfterKey}
+use Rattle.agg_values.specs.declared.order.Order.{Order}
+use Rattle.agg_values.specs.declared.order.Order.TheVariants.{Asc, Desc}
+use Rattle.agg_values.specs.declared.order.MissingOrder.{MissingOrder}
+use Rattle.agg_values.specs.declared.order.MissingOrder.TheVariants.{Default, First, Last}
+use Rattle.agg_request.specs.CompositeJson.{AreSources, EachNamedIs, IsAfter, IsCompositeJson}
+use Rattle.agg_request.specs.CompositeJson.{IsFlag, IsKeyJson, IsSize, IsSourceJson, IsTermsBody}
+use Rattle.agg_request.specs.CompositeJson.{IsWordOr}
+use Rattle.agg_request.specs.CompositeJson.{missing_order_word, order_word}
+use Rattle.agg_request.specs.Json.{only_member, only_named, small_number}
+use Rattle.agg_request.specs.Query.{EachIs, IsUnsupportedText}
+use Rattle.agg_request.specs.declared.aggregation.CompositeAggregation.{CompositeAggregation}
+use Rattle.agg_request.specs.declared.source.CompositeAggregationSource.{CompositeAggregationSource}
+use Rattle.agg_request.specs.declared.source.CompositeAggregationSource.TheVariants.{Terms}
+use Rattle.agg_request.specs.declared.source.TermCompositeAggregationSource as term
+use term.{TermCompositeAggregationSource as Term}
+use Rattle.agg_pages.proofs.Documents.{same_value}
+use Rattle.agg_pages.proofs.Queries.{EachIs-unique}
+
+-- ---- a name, and the body under the one word inside
+
+pub named_body-unique : (word : List ℕ) (d : Data) (name other : List ℕ)
+    (kind kind_too body body_too : Data) → only_member d ≡ Some (name, kind)
+    → only_member d ≡ Some (other, kind_too) → only_named word kind ≡ Some body
+    → only_named word kind_too ≡ Some body_too → (name ≡ other) × (body ≡ body_too)
+named_body-unique word d name other kind kind_too body body_too only only_too is is_too =
+    let same : (name, kind) ≡ (other, kind_too) =
+    same_value (name, kind) (other, kind_too) (sym only ∙ only_too) in
+    let kinds : kind ≡ kind_too = ap (λ (m : List ℕ × Data). m.1) same in (
+      ap (λ (m : List ℕ × Data). m.0) same,
+      same_value body body_too (sym is ∙ ap (only_named word) kinds ∙ is_too),
+    )
+
+-- ---- words
+
+by_letter : {A : Type 0} (text other : List ℕ) → text ≡ other
+    → (get_or text 0 0 ≡ get_or other 0 0 → ⊥) → A
+by_letter text other same apart = absurd (apart (ap (λ l. get_or l 0 0) same))
+
+order_word-one : (a b : Order) → order_word a ≡ order_word b → a ≡ b
+order_word-one Asc Asc e = refl
+order_word-one Asc Desc e = by_letter (codes "asc") (codes "desc") e (λ l. omega (arith, l))
+order_word-one Desc Asc e = by_letter (codes "desc") (codes "asc") e (λ l. omega (arith, l))
+order_word-one Desc Desc e = refl
+
+missing_order_word-one : (a b : MissingOrder) → missing_order_word a ≡ missing_order_word b → a ≡ b
+missing_order_word-one Default Default e = refl
+missing_order_word-one Default First e =
+    by_letter (codes "default") (codes "first") e (λ l. omega (arith, l))
+missing_order_word-one Default Last e =
+    by_letter (codes "default") (codes "last") e (λ l. omega (arith, l))
+missing_order_word-one First Default e =
+    by_letter (codes "first") (codes "default") e (λ l. omega (arith, l))
+missing_order_word-one First First e = refl
+missing_order_word-one First Last e =
+    by_letter (codes "first") (codes "last") e (λ l. omega (arith, l))
+missing_order_word-one Last Default e =
+    by_letter (codes "last") (codes "default") e (λ l. omega (arith, l))
+missing_order_word-one Last First e =
+    by_letter (codes "last") (codes "first") e (λ l. omega (arith, l))
+missing_order_word-one Last Last e = refl
+
+IsWordOr-unique : {A : Type 0} (given : A) (word : A → List ℕ)
+    → ((a b : A) → word a ≡ word b → a ≡ b) → (o : Option Data) (a b : A)
+    → IsWordOr given word o a → IsWordOr given word o b → a ≡ b
+IsWordOr-unique given word one None a b h k = h ∙ sym k
+IsWordOr-unique given word one (Some d) a b h k =
+    one a b (same_value (word a) (word b) (sym h ∙ k))
+
+IsFlag-unique : (o : Option Data) (a b : Bool) → IsFlag o a → IsFlag o b → a ≡ b
+IsFlag-unique None a b h k = h ∙ sym k
+IsFlag-unique (Some d) a b h k = same_value a b (sym h ∙ k)
+
+-- ---- sources
+
+IsTermsBody-unique : (name : List ℕ) (body : Data) (a b : Term) → IsTermsBody name body a
+    → IsTermsBody name body b → a ≡ b
+IsTermsBody-unique name body a b (named, field, order, bucket, missing)
+    (named_too, field_too, order_too, bucket_too, missing_too) =
+    let orders : a.order ≡ b.order = IsWordOr-unique Asc order_word order_word-one
+    (get (codes "order") body) a.order b.order order order_too in
+    let buckets : a.missing_bucket ≡ b.missing_bucket = IsFlag-unique
+    (get (codes "missing_bucket") body) a.missing_bucket b.missing_bucket bucket bucket_too in
+    let places : a.missing_order ≡ b.missing_order =
+    IsWordOr-unique Default missing_order_word missing_order_word-one
+    (get (codes "missing_order") body) a.missing_order b.missing_order missing missing_too in
+    λ i. record {
+      name = (named ∙ sym named_too) i;
+      field = same_value a.field b.field (sym field ∙ field_too) i;
+      order = orders i;
+      missing_bucket = buckets i;
+      missing_order = places i;
+    }
+
+IsSourceJson-unique : (d : Data) (a b : CompositeAggregationSource) → IsSourceJson d a
+    → IsSourceJson d b → a ≡ b
+IsSourceJson-unique d (Terms a) (Terms b) (name, kind, named, body, only, inner, is)
+    (other, kind_too, named_too, body_too, only_too, inner_too, is_too) =
+    let outside : (name, named) ≡ (other, named_too) =
+    same_value (name, named) (other, named_too) (sym only ∙ only_too) in
+    let inside : (kind, body) ≡ (kind_too, body_too) =
+    same_value (kind, body) (kind_too, body_too)
+    (sym inner ∙ ap only_member (ap (λ (m : List ℕ × Data). m.1) outside) ∙ inner_too) in
+    let there : IsTermsBody other body b = subst (λ e. IsTermsBody other e b)
+    (sym (ap (λ (m : List ℕ × Data). m.1) inside)) is_too.1 in
+    let here : IsTermsBody name body b = subst (λ n. IsTermsBody n body b)
+    (sym (ap (λ (m : List ℕ × Data). m.0) outside)) there in
+    ap Terms (IsTermsBody-unique name body a b is.1 here)
+
+AreSources-unique : (body : Data) (a b : List CompositeAggregationSource) → AreSources body a
+    → AreSources body b → a ≡ b
+AreSources-unique body a b (items, is, each) (items_too, is_too, each_too) =
+    let same : items_too ≡ items = same_value items_too items (sym is_too ∙ is) in
+    EachIs-unique IsSourceJson IsSourceJson-unique items a b each
+    (subst (λ l. EachIs IsSourceJson l b) same each_too)
+
+-- ---- the size and the after key
+
+IsSize-unique : (o : Option Data) (a b : ℕ) → (d : Data) × (o ≡ Some d) × IsSize false d a
+    → (d : Data) × (o ≡ Some d) × IsSize false d b → a ≡ b
+IsSize-unique o a b (d, is, h) (d_too, is_too, k) =
+    let same : d_too ≡ d = same_value d_too d (sym is_too ∙ is) in
+    same_value a b (sym h ∙ sym (ap small_number same) ∙ k)
+
+strictly : (text : List ℕ) (key : CompositeIntermediateKey)
+    → IsKeyText text key ⊎ (IsTrue false × IsUnsupportedText text) → IsKeyText text key
+strictly text key (inl says) = says
+strictly text key (inr lenient) = absurd (false≢true lenient.0)
+
+IsKeyJson-unique : (d : Data) (a b : AfterKey) → IsKeyJson false d a → IsKeyJson false d b
+    → a ≡ b
+IsKeyJson-unique d a b (text, is, says) (text_too, is_too, says_too) =
+    let same : text_too ≡ text = same_value text_too text (sym is_too ∙ is) in
+    let there : IsKeyText text b.0 =
+    subst (λ t. IsKeyText t b.0) same (strictly text_too b.0 says_too) in
+    let keys : a.0 ≡ b.0 = IsKeyText-unique text a.0 b.0 (strictly text a.0 says) there in
+    λ i. record { 0 = keys i }
+
+EachNamedIs-unique : {A : Type 0} (Is : Data → A → Type 0)
+    → ((d : Data) (a b : A) → Is d a → Is d b → a ≡ b) → (members : Members) (xs ys : Named A)
+    → EachNamedIs Is members xs → EachNamedIs Is members ys → xs ≡ ys
+EachNamedIs-unique Is one no_members [] [] h k = refl
+EachNamedIs-unique Is one no_members [] (y ∷ ys) h k = absurd k
+EachNamedIs-unique Is one no_members (x ∷ xs) ys h k = absurd h
+EachNamedIs-unique Is one (member name d rest) [] ys h k = absurd h
+EachNamedIs-unique Is one (member name d rest) (x ∷ xs) [] h k = absurd k
+EachNamedIs-unique Is one (member name d rest) (x ∷ xs) (y ∷ ys) h k =
+    let firsts : x ≡ y = λ i. ((h.0 ∙ sym k.0) i, one d x.1 y.1 h.1 k.1 i) in
+    ap (λ l. l ∷ xs) firsts
+    ∙ ap (λ l. y ∷ l) (EachNamedIs-unique Is one rest xs ys h.2 k.2)
+
+IsAfter-unique : (o : Option Data) (a b : Named AfterKey) → IsAfter false o a → IsAfter false o b
+    → a ≡ b
+IsAfter-unique None a b h k = h ∙ sym k
+IsAfter-unique (Some d) a b (named, is, each) (named_too, is_too, each_too) =
+    let same : named_too ≡ named = same_value named_too named (sym is_too ∙ is) in
+    EachNamedIs-unique (IsKeyJson false) IsKeyJson-unique named a b each
+    (subst (λ m. EachNamedIs (IsKeyJson false) m b) same each_too)
+
+-- ---- composites
+
+pub IsCompositeJson-unique : (body : Data) (a b : CompositeAggregation)
+    → IsCompositeJson false body a → IsCompositeJson false body b → a ≡ b
+IsCompositeJson-unique body a b h k =
+    let sources : a.sources ≡ b.sources =
+    AreSources-unique body a.sources b.sources h.sources k.sources in
+    let sizes : a.size ≡ b.size =
+    IsSize-unique (get (codes "size") body) a.size b.size h.size k.size in
+    let afters : a.after ≡ b.after =
+    IsAfter-unique (get (codes "after") body) a.after b.after h.after k.after in
+    λ i. record { sources = sources i; size = sizes i; after = afters i }
