@@ -2,6 +2,42 @@
 import json
 import sys
 from collections import Counter
+from itertools import product
+
+
+class Descending:
+    """A value that comes before those below it."""
+
+    def __init__(self, value):
+        self.value = value
+
+    def __lt__(self, other):
+        return other.value < self.value
+
+    def __eq__(self, other):
+        return other.value == self.value
+
+
+class Source:
+    """Where keys come from: numbers or texts of a field, and None where a document has none."""
+
+    def __init__(self, source):
+        [(self.name, body)] = source.items()
+        terms = body["terms"]
+        self.field, self.descends = terms["field"], terms.get("order") == "desc"
+        self.has_missing = terms.get("missing_bucket", False)
+
+    def values(self, document):
+        held = document.get(self.field, [])
+        return (held if isinstance(held, list) else [held]) or ([None] if self.has_missing else [])
+
+    def rank(self, value):
+        """What sorts as the value does, None first, or last in descending order."""
+        if not self.has_missing:
+            return Descending(value) if self.descends else value
+        if self.descends:
+            return (value is None, value is not None and Descending(value))
+        return (value is not None, value)
 
 
 def snapshots(lines):
@@ -18,27 +54,28 @@ def snapshots(lines):
         yield size, documents
 
 
-def values(document, field):
-    held = document.get(field, [])
-    return held if isinstance(held, list) else [held]
+def after_text(value):
+    kind = "null" if value is None else "str" if isinstance(value, str) else "i64"
+    return f"{kind}:{'' if value is None else value}"
 
 
 def walk(lines):
     header = json.loads(next(lines))
     name = header["name"]
-    [source] = header["request"][name]["composite"]["sources"]
-    [(key, body)] = source.items()
-    field, bound, number, ended = body["terms"]["field"], None, 0, False
+    sources = [Source(source) for source in header["request"][name]["composite"]["sources"]]
+    bound, number, ended = None, 0, False
     for size, documents in snapshots(lines):
         counts = Counter(
-            value for document in documents for value in values(document, field) if bound is None or value > bound
+            values for document in documents for values in product(*(source.values(document) for source in sources))
         )
-        page = sorted(counts.items())[:size]
+        ranked = ((tuple(s.rank(v) for s, v in zip(sources, values)), values) for values in counts)
+        page = sorted(entry for entry in ranked if bound is None or bound < entry[0])[:size]
         number, ended = number + 1, len(page) < size
-        results = {"buckets": [{"doc_count": count, "key": {key: value}} for value, count in page]}
+        names = [source.name for source in sources]
+        results = {"buckets": [{"doc_count": counts[values], "key": dict(zip(names, values))} for _, values in page]}
         if not ended:
             bound = page[-1][0]
-            results = {"after_key": {key: f"i64:{bound}"}, **results}
+            results = {"after_key": dict(zip(names, map(after_text, page[-1][1]))), **results}
         yield {"page": number, "results": {name: results}}
         if ended:
             break
