@@ -1,16 +1,16 @@
 -- How many occurrences documents have, and how it is counted without walking them.
 use Rattle.std.proofs.Common.{◌≡◌, inl, inr, ℕ, zero, suc, ◌+◌, ◌*◌, ◌<◌, ◌≤◌, List, [], ◌∷◌}
 use Rattle.std.proofs.Common.{Bool, true, false, cond, refl, ◌&&◌}
-use Rattle.std.proofs.Common.{◌++◌, length, length-append, min, take, drop, map, get_or, sym, ap}
+use Rattle.std.proofs.Common.{◌++◌, length, length-append, min, take, map, get_or, sym, ap}
 use Rattle.std.proofs.Common.{◌∙◌, arith}
 use Rattle.std.proofs.Math.Nat.{add_comm, mul_assoc, mul_comm, zero-mul, suc-mul, one-mul}
 use Rattle.std.proofs.Math.Nat.{mul-one, mul-zero}
-use Rattle.std.proofs.Math.Nat.{le-mul_of_pos_right, min-eq_left, min-eq_right, min-le_left}
+use Rattle.std.proofs.Math.Nat.{le-mul_of_pos_right, min-eq_left, min-eq_right}
 use Rattle.std.specs.Prelude.{◌==◌}
 use Rattle.std.specs.List.{flat_map}
 use Rattle.std.proofs.lemmas.Bool.{cases_lt}
 use Rattle.std.proofs.lemmas.Bool.Decides.{nat_tests}
-use Rattle.std.proofs.lemmas.List.{map-append, append-nil, length-map, take_more, take-append-drop}
+use Rattle.std.proofs.lemmas.List.{map-append, append-nil, length-map, take_more}
 use Rattle.std.proofs.lemmas.List.Concat.{flat_map-append, flat_map-cons}
 use Rattle.std.proofs.lemmas.List.Sums.{length-filter, count_by-le-length}
 use Rattle.agg_values.specs.Tuple.{KeyTuple}
@@ -138,15 +138,6 @@ count_at-more sources segment docs i l =
     ∙ count_at-append sources segment (take i docs) (get_or docs i 0 ∷ [])
     ∙ ap (λ n. count_at sources segment (take i docs) + n) one
 
--- the first places have no more than all
-count_at-front : (sources : Sources) (segment : Stored) (n : ℕ) (docs : List ℕ)
-    → length (occurrences_in sources (documents_at segment (take n docs)))
-    ≤ length (occurrences_in sources (documents_at segment docs))
-count_at-front sources segment n docs =
-    let e = ap (count_at sources segment) (sym (take-append-drop n docs)) ∙ count_at-append sources
-    segment (take n docs) (drop n docs) in
-    omega (arith, e)
-
 -- a sum that is cut at each step is the sum, cut
 cut-sum : (count more most : ℕ) → min (count + min more most) most ≡ min (count + more) most
 cut-sum count more most = elim (cases_lt more most) [
@@ -158,43 +149,29 @@ cut-sum count more most = elim (cases_lt more most) [
       ap (λ n. min (count + n) most) cut ∙ min-eq_right kept ∙ sym (min-eq_right greater)
 ]
 
--- a cut sum is below a limit where the sum is
-below-cut : (sum most limit : ℕ) → limit ≤ most → min sum most < limit → min sum most ≡ sum
-below-cut sum most limit within below = elim (cases_lt sum most) [
-  | inl less ↦ let l : sum ≤ most = omega arith in min-eq_left l
-  | inr past ↦ let cut = min-eq_right past in absurd (omega (arith, cut, below, within))
-]
+-- and so it is where both parts are cut
+cut-sums : (sum more most : ℕ)
+    → min (min sum most + min more most) most ≡ min (sum + more) most
+cut-sums sum more most =
+    cut-sum (min sum most) more most
+    ∙ ap (λ n. min n most) (add_comm (min sum most) more)
+    ∙ cut-sum more sum most
+    ∙ ap (λ n. min n most) (add_comm more sum)
 
--- the documents at the first places and one more, by a sum that is cut
-module _ (sources : Sources) (segment : Stored) (docs : List ℕ)
-    (i : ℕ) (l : i < length docs) (count own most : ℕ)
-    (counted : count ≡ length (occurrences_in sources (documents_at segment (take i docs))))
-    (one : own ≡ min (length (occurrences sources (document_at segment (get_or docs i 0)))) most)
-  where
-    cut-count : min (count + own) most ≡ min (count_at sources segment (take (i + 1) docs)) most
-    cut-count =
-        let document = document_at segment (get_or docs i 0) in
-        ap (λ n. min (count + n) most) one
-        ∙ cut-sum count (length (occurrences sources document)) most
-        ∙ ap (λ n. min (n + length (occurrences sources document)) most) counted
-        ∙ ap (λ n. min n most) (sym (count_at-more sources segment docs i l))
-
-    -- below a limit it is the sum
-    pub count-below : (limit : ℕ) → limit ≤ most → min (count + own) most < limit
-        → min (count + own) most
-        ≡ length (occurrences_in sources (documents_at segment (take (i + 1) docs)))
-    count-below limit within below =
-        let all = count_at sources segment (take (i + 1) docs) in
-        let few : min all most < limit = omega (arith, cut-count, below) in
-        cut-count ∙ below-cut all most limit within few
-
-    -- it is no more than the occurrences of all
-    pub count-within : min (count + own) most
-        ≤ length (occurrences_in sources (documents_at segment docs))
-    count-within =
-        let cut = min-le_left (count_at sources segment (take (i + 1) docs)) most in
-        let front = count_at-front sources segment (i + 1) docs in
-        omega (arith, cut-count, cut, front)
+-- the documents at the first places and one more, by a sum that is cut at each step
+pub cut-count : (sources : Sources) (segment : Stored) (docs : List ℕ) (i count own most : ℕ)
+    → i < length docs
+    → count ≡ min (length (occurrences_in sources (documents_at segment (take i docs)))) most
+    → own ≡ min (length (occurrences sources (document_at segment (get_or docs i 0)))) most
+    → min (count + own) most
+    ≡ min (length (occurrences_in sources (documents_at segment (take (i + 1) docs)))) most
+cut-count sources segment docs i count own most l counted one =
+    let before = count_at sources segment (take i docs) in
+    let more = length (occurrences sources (document_at segment (get_or docs i 0))) in
+    ap (λ n. min (n + own) most) counted
+    ∙ ap (λ n. min (min before most + n) most) one
+    ∙ cut-sums before more most
+    ∙ ap (λ n. min n most) (sym (count_at-more sources segment docs i l))
 
 -- ---- past a bound
 

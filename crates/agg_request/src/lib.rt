@@ -24,7 +24,7 @@ pub use laws::{
     successive_pages_end_with_every_tuple, successive_pages_list_each_tuple_once,
     the_lowest_groups_are_a_page,
 };
-pub use occurrences::counts_too_many;
+pub use occurrences::count_uncut;
 pub use query::read_query;
 pub use read_error::ReadError;
 pub use source::{CompositeAggregationSource, TermCompositeAggregationSource};

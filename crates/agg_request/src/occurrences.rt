@@ -2,7 +2,7 @@
 #[cfg(test)]
 mod tests;
 
-ghost use Rattle.std.specs.Prelude.{◌≡◌, ◌-◌, ◌^◌, ◌↔◌, IfOk, IsTrue, length, min};
+ghost use Rattle.std.specs.Prelude.{◌≡◌, ◌-◌, ◌^◌, IfOk, length, min};
 ghost use Rattle.agg_segment.specs.Columns.{all_keys};
 ghost use Rattle.agg_segment.specs.Segment.{Stored, document_at, documents_at};
 ghost use Rattle.agg_request.specs.declared.aggregation.AggregationVariants.TheVariants.{Composite};
@@ -10,15 +10,12 @@ ghost use Rattle.agg_request.specs.declared.source.CompositeAggregationSource as
 ghost use Rattle.agg_request.specs.Occurrences.{occurrences};
 ghost use Rattle.agg_request.specs.Source.{Sources, source_values};
 ghost use Rattle.agg_request.specs.SourceColumns.{AreReadBy, IsReadBy};
-ghost use Rattle.agg_request.specs.Uncut.{CountsTooMany};
+ghost use Rattle.agg_request.specs.Uncut.{uncut};
 
 use super::{CompositeAggregation, CompositeAggregationSource};
 use agg_segment::{Column, SegmentReader};
 use agg_values::{DocId, OutOfMemory};
 use std::alloc::Global;
-
-// So many occurrences are too many.
-const TOO_MANY: u64 = 1 << 32;
 
 // The columns that a source reads, and whether a document without values has a bucket.
 #[derive(Clone, Copy)]
@@ -27,25 +24,24 @@ struct SourceColumns<'a> {
     missing_bucket: bool,
 }
 
-/// Whether the documents at these places have too many occurrences for a composite to count.
-pub fn counts_too_many(
+/// How many documents a composite counts at these places, without bound or size: each once for each
+/// of its occurrences. The count ends at the greatest u64.
+pub fn count_uncut(
     alloc: Global,
     composite: &CompositeAggregation,
     segment: &SegmentReader,
     docs: &[DocId],
-) -> Result<bool, OutOfMemory>
-    ensures { IfOk result (λ too_many. IsTrue too_many
-        ↔ CountsTooMany (Composite composite.now) (documents_at segment.now docs.now)) }
+) -> Result<u64, OutOfMemory>
+    ensures { IfOk result (λ count. count ≡ min
+        (length (uncut (Composite composite.now) (documents_at segment.now docs.now)))
+        (2 ^ 64 - 1)) }
 {
     let sources = source_columns(alloc, composite.sources.as_slice(), segment)?;
     let mut count: u64 = 0;
     for doc in docs {
         count = count.saturating_add(num_occurrences(&sources, *doc));
-        if count >= TOO_MANY {
-            return Ok(true);
-        }
     }
-    Ok(false)
+    Ok(count)
 }
 
 // The columns that each source reads, looked up once.

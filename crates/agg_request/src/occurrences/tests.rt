@@ -1,5 +1,5 @@
 //! Documents whose tuples would be too many to walk.
-use super::counts_too_many;
+use super::count_uncut;
 use crate::{CompositeAggregation, CompositeAggregationSource, TermCompositeAggregationSource};
 use agg_segment::{Document, FieldValue, SegmentBuilder, SegmentReader};
 use agg_values::{ItemList, MissingOrder, NameMap, Order, Text};
@@ -12,10 +12,16 @@ fn sources_multiply_and_a_missing_value_counts_once_where_it_has_a_bucket(
 ) -> Result<(), Fail> {
     let alloc = rt.alloc();
     let segment = one_document(alloc)?;
-    assert!(rt; !is_refused(alloc, &segment, &["a"], false)?);
-    assert!(rt; is_refused(alloc, &segment, &["a", "a"], false)?);
-    assert!(rt; !is_refused(alloc, &segment, &["a", "a", "b"], false)?);
-    assert!(rt; is_refused(alloc, &segment, &["a", "b", "a"], true)?);
+    for (fields, missing_bucket, expected) in [
+        (["a"].as_slice(), false, 1 << 16),
+        (["a", "a"].as_slice(), false, 1 << 32),
+        (["a", "a", "b"].as_slice(), false, 0),
+        (["a", "b", "a"].as_slice(), true, 1 << 32),
+        (["a", "a", "a", "a"].as_slice(), false, u64::MAX),
+    ] {
+        let count = count_of(alloc, &segment, fields, missing_bucket)?;
+        assert_eq!(rt; count, expected);
+    }
     Ok(())
 }
 
@@ -30,13 +36,13 @@ fn one_document(alloc: Global) -> Result<SegmentReader, Fail> {
     Ok(builder.build()?)
 }
 
-// Whether a composite over these fields counts too many of the one document.
-fn is_refused(
+// How often a composite over these fields counts the one document.
+fn count_of(
     alloc: Global,
     segment: &SegmentReader,
     fields: &[&str],
     missing_bucket: bool,
-) -> Result<bool, Fail> {
+) -> Result<u64, Fail> {
     let mut sources = ItemList::new(alloc);
     for field in fields {
         sources.push(CompositeAggregationSource::Terms(TermCompositeAggregationSource {
@@ -52,5 +58,5 @@ fn is_refused(
         size: 1,
         after: NameMap::new(alloc),
     };
-    Ok(counts_too_many(alloc, &composite, segment, &[0])?)
+    Ok(count_uncut(alloc, &composite, segment, &[0])?)
 }
