@@ -1,0 +1,176 @@
+-- The final result of each name of a request: first of the last name, and then under the names.
+use Rattle.std.proofs.Common.{◌≡◌, ◌≢◌, ◌++◌, ℕ, List, [], ◌∷◌, Option, length, map, reverse}
+use Rattle.std.proofs.Common.{refl, sym, ap, ◌∙◌, subst, append_assoc, append-nil, arith}
+use Rattle.std.specs.declared.cmp.Ordering.TheVariants.{Less}
+use Rattle.std.specs.List.{AllByRecursion}
+use Rattle.std.specs.List.Sorted.{IsStrictlySortedBy}
+use Rattle.std.specs.Map.{keys_of}
+use Rattle.std.proofs.lemmas.List.{map-append, reverse-append}
+use Rattle.std.proofs.lemmas.Map.Keys.{sorted_head, sorted_tail}
+use Rattle.agg_values.specs.Names.{Named, name_cmp, put, value_of, without}
+use Rattle.agg_request.specs.Request.{Request}
+use Rattle.agg_request.specs.declared.aggregation.Aggregation.{Aggregation}
+use Rattle.agg_results.specs.Final.{final_result}
+use Rattle.agg_results.specs.Intermediate.{Held}
+use Rattle.agg_results.specs.declared.intermediate.results.IntermediateAggregationResult as declared
+use declared.{IntermediateAggregationResult}
+use Rattle.agg_results.specs.declared.results.types.AggregationResult.{AggregationResult}
+use Rattle.agg_results.proofs.MadeByName.{by_name, by_name-all, by_name-more}
+use Rattle.agg_results.proofs.NameOrder.{Ascends, apart, between, value-without}
+
+-- the final result of a name
+abbrev pub final_of : Held → List ℕ × Aggregation → AggregationResult
+final_of held a = final_result a.1.agg (value_of a.0 held)
+
+-- ---- the names in front of a last one
+
+-- what holds of each name holds of those in front
+front_all : {K : Type 0} (P : K → Type 0) (front rest : List K) → AllByRecursion P (front ++ rest)
+    → AllByRecursion P front
+front_all P [] rest all = tt
+front_all P (k ∷ front) rest all = (all.0, front_all P front rest all.1)
+
+front_sorted : (front rest : List (List ℕ)) → IsStrictlySortedBy name_cmp (front ++ rest)
+    → IsStrictlySortedBy name_cmp front
+unfolding IsStrictlySortedBy
+front_sorted [] rest sorted = tt
+front_sorted (k ∷ front) rest sorted =
+    (front_all (λ n. name_cmp k n ≡ Less) front rest sorted.0, front_sorted front rest sorted.1)
+
+front_ascends : (front rest : Request) → Ascends (front ++ rest) → Ascends front
+front_ascends front rest ascends =
+    front_sorted (keys_of front) (keys_of rest)
+    (subst (IsStrictlySortedBy name_cmp) (map-append (λ (e : List ℕ × Aggregation). e.0) front rest)
+    ascends)
+
+-- names hold what they held
+abbrev AreKept : Held → Held → Request → Type 0
+AreKept held now left = AllByRecursion (λ a. value_of a.0 now ≡ value_of a.0 held) left
+
+last_kept : (held now : Held) (front : Request) (name : List ℕ) (a : Aggregation)
+    → AreKept held now (front ++ (name, a) ∷ []) → value_of name now ≡ value_of name held
+last_kept held now [] name a kept = kept.0
+last_kept held now (b ∷ front) name a kept = last_kept held now front name a kept.1
+
+-- those in front still do when the last is taken out
+front_kept : (held now : Held) (front : Request) (name : List ℕ) (a : Aggregation)
+    → Ascends (front ++ (name, a) ∷ []) → AreKept held now (front ++ (name, a) ∷ [])
+    → AreKept held (without name now) front
+front_kept held now [] name a ascends kept = tt
+front_kept held now (b ∷ front) name a ascends kept =
+    let later = keys_of (front ++ (name, a) ∷ []) in
+    let below : name_cmp b.0 name ≡ Less = between (λ n. name_cmp b.0 n ≡ Less) front name a []
+    (sorted_head name_cmp b.0 later ascends) in
+    let differs : name ≢ b.0 = λ same. apart b.0 name below (sym same) in (
+      value-without b.0 name now differs ∙ kept.0,
+      front_kept held now front name a (sorted_tail name_cmp b.0 later ascends) kept.1,
+    )
+
+-- ---- the last name first
+
+-- the final results of the names behind those that are left, which hold what they held
+pub record AreShownBehind (request : Request) (held now : Held) (left : Request)
+    (last_first : List AggregationResult) : Type 0 where
+  pub made : map (final_of held) left ++ reverse last_first ≡ map (final_of held) request
+  pub ascends : Ascends left
+  pub kept : AreKept held now left
+
+-- at first all names are left
+pub AreShownBehind-none : (request left : Request) (held : Held)
+    (last_first : List AggregationResult) → left ≡ request → last_first ≡ [] → Ascends request
+    → AreShownBehind request held held left last_first
+AreShownBehind-none request left held last_first e none ascends =
+    rw (e, none) (record {
+      made = append-nil (map (final_of held) request);
+      ascends = ascends;
+      kept = each request;
+    })
+  where
+    each : (names : Request) → AreKept held held names
+    each [] = tt
+    each (a ∷ names) = (refl, each names)
+
+-- the last name that is left is taken out and shown
+pub AreShownBehind-more : (request : Request) (held now then : Held) (left front : Request)
+    (last_first more : List AggregationResult) (name : List ℕ) (a : Aggregation)
+    (found : Option IntermediateAggregationResult) (shown : AggregationResult)
+    → AreShownBehind request held now left last_first → left ≡ front ++ (name, a) ∷ []
+    → found ≡ value_of name now → then ≡ without name now → shown ≡ final_result a.agg found
+    → more ≡ last_first ++ shown ∷ [] → AreShownBehind request held then front more
+AreShownBehind-more request held now then left front last_first more name a found shown h e value
+    taken is behind =
+    let f = final_of held in
+    let here : AreShownBehind request held now (front ++ (name, a) ∷ []) last_first =
+    subst (λ l. AreShownBehind request held now l last_first) e h in
+    let own : shown ≡ f (name, a) =
+    is ∙ ap (final_result a.agg) (value ∙ last_kept held now front name a here.kept) in
+    let reversed : reverse more ≡ f (name, a) ∷ reverse last_first =
+    ap reverse behind ∙ reverse-append last_first (shown ∷ [])
+    ∙ ap (λ s. s ∷ reverse last_first) own in
+    rw taken (record {
+      made = ap (λ rest. map f front ++ rest) reversed
+          ∙ sym (append_assoc (map f front) (f (name, a) ∷ []) (reverse last_first))
+          ∙ ap (λ all. all ++ reverse last_first) (sym (map-append f front ((name, a) ∷ [])))
+          ∙ here.made;
+      ascends = front_ascends front ((name, a) ∷ []) here.ascends;
+      kept = front_kept held now front name a here.ascends here.kept;
+    })
+
+-- the names that are left, when one is taken off the end or none is left
+pub popped : {A B : Type 0} (f : A → B) (old new : List A) (x : A) → old ≡ new ++ x ∷ []
+    → map f old ≡ map f new ++ f x ∷ []
+popped f old new x e = ap (map f) e ∙ map-append f new (x ∷ [])
+
+pub none_left : {A B : Type 0} (f : A → B) (xs : List A) → length xs ≡ 0 → map f xs ≡ []
+none_left f [] e = refl
+none_left f (x ∷ xs) e = absurd (omega arith)
+
+-- no name is left
+pub AreShownBehind-all : (request : Request) (held now : Held) (left : Request)
+    (last_first : List AggregationResult) → AreShownBehind request held now left last_first
+    → left ≡ [] → reverse last_first ≡ map (final_of held) request
+AreShownBehind-all request held now left last_first h e =
+    subst (λ l. map (final_of held) l ++ reverse last_first ≡ map (final_of held) request) e h.made
+
+-- ---- under the names
+
+-- the final results so far, and those of the names that are left
+pub record AreNamedBefore (request : Request) (held : Held) (left : Request)
+    (last_first : List AggregationResult) (results : Named AggregationResult) : Type 0 where
+  pub made : results ++ by_name (final_of held) left ≡ by_name (final_of held) request
+  pub rest : reverse last_first ≡ map (final_of held) left
+
+-- at first all names are left
+pub AreNamedBefore-none : (request left : Request) (held : Held)
+    (last_first : List AggregationResult) (results : Named AggregationResult) → left ≡ request
+    → reverse last_first ≡ map (final_of held) request → results ≡ []
+    → AreNamedBefore request held left last_first results
+AreNamedBefore-none request left held last_first results e shown none =
+    rw (e, none) (record { made = refl; rest = shown })
+
+-- the first name that is left gets its result
+pub AreNamedBefore-more : (request : Request) (held : Held) (left later : Request)
+    (last_first fewer : List AggregationResult) (results more : Named AggregationResult)
+    (name : List ℕ) (a : Aggregation) (shown : AggregationResult) → Ascends request
+    → AreNamedBefore request held left last_first results → left ≡ (name, a) ∷ later
+    → last_first ≡ fewer ++ shown ∷ [] → more ≡ put name shown results
+    → AreNamedBefore request held later fewer more
+AreNamedBefore-more request held left later last_first fewer results more name a shown ascends h e
+    last put_in =
+    let f = final_of held in
+    let both : shown ∷ reverse fewer ≡ f (name, a) ∷ map f later =
+    sym (ap reverse last ∙ reverse-append fewer (shown ∷ [])) ∙ h.rest ∙ ap (map f) e in
+    let own : shown ≡ f (name, a) = cc in
+    record {
+      made = by_name-more f request left results more name a later shown ascends h.made e put_in
+          own;
+      rest = cc;
+    }
+
+-- no name is left
+pub AreNamedBefore-all : (request : Request) (held : Held) (left : Request)
+    (last_first : List AggregationResult) (results : Named AggregationResult)
+    → AreNamedBefore request held left last_first results → left ≡ []
+    → results ≡ by_name (final_of held) request
+AreNamedBefore-all request held left last_first results h e =
+    by_name-all (final_of held) request left results h.made e

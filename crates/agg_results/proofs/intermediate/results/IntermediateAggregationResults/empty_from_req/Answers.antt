@@ -1,0 +1,36 @@
+use Rattle.std.proofs.Common.{ap, ◌++◌, ◌∙◌}
+use Rattle.agg_values.specs.Names.{put}
+use Rattle.agg_results.specs.Empty.{empty_result}
+use Rattle.agg_results.proofs.MadeByName.{by_name, by_name-all, by_name-more}
+use Rattle.agg_results.proofs.intermediate.results.IntermediateAggregationResults.empty_from_req.Goals as goal
+
+pub loop-name-init : goal.loop-name-init
+loop-name-init c =
+    let left = c.into_iter-name-iterator.ensures.into_iter_gives
+    ∙ c.iter-name-items.ensures.entries in
+    λ i. c.new-results.ensures i ++ by_name (λ a. empty_result a.1.agg) (left i)
+
+pub loop-name-preserved-in_ok-insert : goal.loop-name-preserved-in_ok-insert
+loop-name-preserved-in_ok-insert c =
+    by_name-more (λ a. empty_result a.1.agg) c.args.req.now c.loop-name.name-iterator
+    c.loop-name.results c.insert.new.self c.in-Some.name.now c.in-Some.aggregation.now
+    c.next.new.self c.in_ok-empty.empty c.iter-name-items.ensures.ascending c.loop-name.invariant
+    c.in-Some.ensures.steps
+    (c.in_ok-insert.ensures.ok
+    ∙ ap (λ n. put n c.in_ok-empty.empty c.loop-name.results) c.in_ok-try_clone.ensures)
+    c.in_ok-empty.ensures
+
+pub loop-name-preserved : goal.loop-name-preserved
+loop-name-preserved c =
+    by_name-more (λ a. empty_result a.1.agg) c.args.req.now c.loop-name.name-iterator
+    c.loop-name.results c.insert.new.self c.in-Some.name.now c.in-Some.aggregation.now
+    c.next.new.self c.in_ok-empty.empty c.iter-name-items.ensures.ascending c.loop-name.invariant
+    c.in-Some.ensures.steps
+    (c.in_ok-insert.ensures.ok
+    ∙ ap (λ n. put n c.in_ok-empty.empty c.loop-name.results) c.in_ok-try_clone.ensures)
+    c.in_ok-empty.ensures
+
+pub returns : goal.returns
+returns c =
+    by_name-all (λ a. empty_result a.1.agg) c.args.req.now c.loop-name.name-iterator
+    c.loop-name.results c.loop-name.invariant c.in-None.ensures.steps.0

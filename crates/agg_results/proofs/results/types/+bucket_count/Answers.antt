@@ -1,0 +1,25 @@
+use Rattle.std.proofs.Common.{ap, map, arith}
+use Rattle.std.specs.Prelude.{sum}
+use Rattle.std.proofs.lemmas.List.{at_drop_all}
+use Rattle.agg_results.specs.BucketCount.{entry_buckets, result_buckets}
+use Rattle.agg_results.proofs.results.types.+bucket_count.Goals as goal
+
+pub AggregationResults::get_bucket_count-returns :
+    goal.AggregationResults::get_bucket_count-returns
+AggregationResults::get_bucket_count-returns t c =
+    omega (
+      arith,
+      c.loop-result.invariant.0,
+      c.loop-result.invariant.1,
+      ap (λ left. sum (map (λ r. result_buckets r.1) left)) c.in-None.ensures.steps.0,
+    )
+
+pub BucketResult::get_bucket_count-returns : goal.BucketResult::get_bucket_count-returns
+BucketResult::get_bucket_count-returns t c =
+    omega (
+      arith,
+      c.loop-bucket.invariant.0,
+      c.loop-bucket.invariant.1,
+      at_drop_all (λ left. sum (map entry_buckets left)) c.as_slice-bucket-items.result.now
+          c.loop-bucket.bucket-index (omega arith),
+    )

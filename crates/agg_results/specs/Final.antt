@@ -1,0 +1,93 @@
+-- The final results of what is held, and when there are none.
+use Rattle.std.specs.Prelude.{◌≡◌, ◌≢◌, ◌==◌, ◌<◌, ◌⊎◌, ℕ, List, [], Option, None, Some, Any, ⊤}
+use Rattle.std.specs.Prelude.{if◌then◌else◌, length, map, take}
+use Rattle.std.specs.List.{last_or}
+use Rattle.std.specs.Map.{keys_of}
+use Rattle.agg_values.specs.Names.{value_of}
+use Rattle.agg_values.specs.Tuple.{KeyTuple}
+use Rattle.agg_values.specs.declared.request_error.AggregationError.TheVariants as aggregation
+use Rattle.agg_request.specs.Groups.{Group}
+use Rattle.agg_request.specs.Request.{Request}
+use Rattle.agg_request.specs.Source.{rules_of}
+use Rattle.agg_request.specs.declared.aggregation.Aggregation.{Aggregation}
+use Rattle.agg_request.specs.declared.aggregation.AggregationVariants.{AggregationVariants}
+use Rattle.agg_request.specs.declared.aggregation.AggregationVariants.TheVariants.{Composite}
+use Rattle.agg_results.specs.BucketCount.{results_buckets}
+use Rattle.agg_results.specs.Intermediate.{Held, IsPlain, counts_of, entries_of, held_composite}
+use Rattle.agg_results.specs.Intermediate.{orders_of, target_size_of}
+use Rattle.agg_results.specs.ShownResults.{shown_group, shown_page}
+use Rattle.agg_results.specs.declared.error.FinalError.{FinalError}
+use Rattle.agg_results.specs.declared.error.FinalError.TheVariants as error
+use Rattle.agg_results.specs.declared.intermediate.results.IntermediateAggregationResult as declared
+use declared.{IntermediateAggregationResult}
+use Rattle.agg_results.specs.declared.intermediate.composite.IntermediateCompositeBucketResult as c
+use c.{IntermediateCompositeBucketResult}
+use Rattle.agg_results.specs.declared.results.types.AggregationResult.{AggregationResult}
+use Rattle.agg_results.specs.declared.results.types.AggregationResults.{AggregationResults}
+
+-- ---- the final results
+
+-- the lowest of what is held, as many as the page has room for
+abbrev pub lowest_of : IntermediateCompositeBucketResult → List Group
+lowest_of composite = take (target_size_of composite) (counts_of (entries_of composite))
+
+-- the last tuple of a page that is full; a page without room has none
+abbrev pub last_tuple : ℕ → List Group → Option KeyTuple
+last_tuple size page = if length page == size then last_or None (keys_of page) else None
+
+-- the final result of an aggregation: the lowest groups, and none where its name isn't held
+abbrev pub final_result : AggregationVariants → Option IntermediateAggregationResult
+    → AggregationResult
+final_result (Composite composite) None = shown_page composite.sources [] None
+final_result (Composite composite) (Some held) =
+    let lowest = lowest_of (held_composite held) in
+    shown_page composite.sources (map (shown_group composite.sources) lowest)
+    (last_tuple (target_size_of (held_composite held)) lowest)
+
+-- the final results of a request
+abbrev pub final_results : Request → Held → AggregationResults
+final_results request held =
+    record { 0 = map (λ a. (a.0, final_result a.1.agg (value_of a.0 held))) request }
+
+-- ---- when there are none
+
+-- a name is held that isn't asked for: one of a request, or one below an entry, since no request
+-- asks for sub-results yet
+abbrev pub HoldsUnknown : Request → Held → Type 0
+HoldsUnknown request held =
+    Any (λ r. (value_of r.0 request ≡ None)
+    ⊎ Any (λ e. ¬ (IsPlain e.1)) (entries_of (held_composite r.1))) held
+
+-- entries are held in other orders than those of the sources
+abbrev pub IsInOtherOrders : AggregationVariants → IntermediateAggregationResult → Type 0
+IsInOtherOrders (Composite composite) held =
+    (entries_of (held_composite held) ≢ [])
+    × (orders_of (held_composite held) ≢ rules_of composite.sources)
+
+-- a result is held that isn't of the shape that the request asks for
+abbrev pub HoldsOther : Request → Held → Type 0
+HoldsOther request held =
+    (name : List ℕ) × (a : Aggregation) × (r : IntermediateAggregationResult)
+    × (value_of name request ≡ Some a) × (value_of name held ≡ Some r) × IsInOtherOrders a.agg r
+
+-- the final results have more buckets than the limit
+abbrev pub HaveTooMany : ℕ → Request → Held → Type 0
+HaveTooMany limit request held = limit < results_buckets (final_results request held)
+
+-- why there are no final results; want of memory needs no cause
+abbrev pub IsNotFinal : ℕ → Request → Held → FinalError → Type 0
+IsNotFinal limit request held error.UnknownAggregation = HoldsUnknown request held
+IsNotFinal limit request held error.Mismatch =
+    (¬ (HoldsUnknown request held)) × HoldsOther request held
+IsNotFinal limit request held (error.Aggregation (aggregation.BucketLimitExceeded given current)) =
+    (¬ (HoldsUnknown request held)) × (¬ (HoldsOther request held))
+    × (given ≡ limit) × (current ≡ results_buckets (final_results request held))
+    × HaveTooMany limit request held
+IsNotFinal limit request held error.OutOfMemory = ⊤
+IsNotFinal limit request held _ = ⊥
+
+-- what may be final
+pub record MayBeFinal (limit : ℕ) (request : Request) (held : Held) : Type 0 where
+  pub known : ¬ (HoldsUnknown request held)
+  pub alike : ¬ (HoldsOther request held)
+  pub few : ¬ (HaveTooMany limit request held)

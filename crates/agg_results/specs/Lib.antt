@@ -1,0 +1,15 @@
+pub mod Appending
+pub mod BucketCount
+pub mod Counts
+pub mod Empty
+pub mod Final
+pub mod Intermediate
+pub mod Merging
+pub mod OwnMembers
+pub mod PlainText
+pub mod Results
+pub mod ResultsText
+pub mod ShownResults
+pub mod StandsFor
+pub mod TupleMap
+pub mod formers

@@ -1,0 +1,87 @@
+-- What merging makes of two intermediate results, and when it is refused.
+use Rattle.std.specs.Prelude.{◌≡◌, ◌≢◌, ◌<◌, ◌==◌, ◌⊎◌, ℕ, List, Option, None, Some}
+use Rattle.std.specs.Prelude.{if◌then◌else◌}
+use Rattle.agg_values.specs.KeyOrder.{tuple_order}
+use Rattle.agg_values.specs.Names.{value_of}
+use Rattle.agg_results.specs.Counts.{PassesCount, merged, trimmed}
+use Rattle.agg_results.specs.Intermediate.{Held, as_result, composite_of, counts_of, entries_of}
+use Rattle.agg_results.specs.Intermediate.{held_composite, orders_of, plain_entries, target_size_of}
+use Rattle.agg_results.specs.declared.intermediate.results.IntermediateAggregationResult as declared
+use declared.{IntermediateAggregationResult}
+use Rattle.agg_results.specs.declared.intermediate.composite.IntermediateCompositeBucketResult as composite
+use composite.{IntermediateCompositeBucketResult}
+
+-- ---- composites
+
+-- both have room for a page, of another size or in another order
+abbrev pub CompositesDiffer : IntermediateCompositeBucketResult → IntermediateCompositeBucketResult
+    → Type 0
+CompositesDiffer c d =
+    (0 < target_size_of c) × (0 < target_size_of d)
+    × ((target_size_of c ≢ target_size_of d) ⊎ (orders_of c ≢ orders_of d))
+
+-- a composite's result that holds more than twice its size is cut to its lowest entries
+abbrev pub trimmed_composite : IntermediateCompositeBucketResult → IntermediateCompositeBucketResult
+trimmed_composite c =
+    composite_of (orders_of c) (target_size_of c) (trimmed (target_size_of c) (entries_of c))
+
+-- two as one, with the counts added by tuple; of one without a size the other
+abbrev pub joined_composite : IntermediateCompositeBucketResult → IntermediateCompositeBucketResult
+    → IntermediateCompositeBucketResult
+joined_composite c d =
+    if target_size_of c == 0 then d else
+    (if target_size_of d == 0 then c else
+    composite_of (orders_of c) (target_size_of c)
+    (plain_entries
+    (merged (tuple_order (orders_of c)) (counts_of (entries_of c)) (counts_of (entries_of d)))))
+
+-- the sum of two counts of one tuple is 2^64 or more
+abbrev pub CompositesPass : IntermediateCompositeBucketResult → IntermediateCompositeBucketResult
+    → Type 0
+CompositesPass c d =
+    (0 < target_size_of c) × (0 < target_size_of d)
+    × PassesCount
+    (merged (tuple_order (orders_of c)) (counts_of (entries_of c)) (counts_of (entries_of d)))
+
+-- ---- results of an aggregation
+
+-- the shapes of two results differ
+abbrev pub ShapesDiffer : IntermediateAggregationResult → IntermediateAggregationResult → Type 0
+ShapesDiffer r o = CompositesDiffer (held_composite r) (held_composite o)
+
+-- some count of the two as one is 2^64 or more
+abbrev pub CountsPass : IntermediateAggregationResult → IntermediateAggregationResult → Type 0
+CountsPass r o = CompositesPass (held_composite r) (held_composite o)
+
+-- two results as one, trimmed
+abbrev pub merged_result : IntermediateAggregationResult → IntermediateAggregationResult
+    → IntermediateAggregationResult
+merged_result r o =
+    as_result (trimmed_composite (joined_composite (held_composite r) (held_composite o)))
+
+-- ---- results by name
+
+-- a result behind another, if there is one
+abbrev pub behind : Option IntermediateAggregationResult → IntermediateAggregationResult
+    → IntermediateAggregationResult
+behind None o = o
+behind (Some r) o = merged_result r o
+
+-- what either side holds, and the two as one where both hold it
+abbrev pub either_or_both : Option IntermediateAggregationResult
+    → Option IntermediateAggregationResult → Option IntermediateAggregationResult
+either_or_both r None = r
+either_or_both r (Some o) = Some (behind r o)
+
+-- the results of two sides, name by name
+abbrev pub AreMerged : Held → Held → Held → Type 0
+AreMerged held others whole =
+    (name : List ℕ)
+    → value_of name whole ≡ either_or_both (value_of name held) (value_of name others)
+
+-- both sides hold a name, with results of which this is told
+abbrev pub SomeOfBoth : (IntermediateAggregationResult → IntermediateAggregationResult → Type 0)
+    → Held → Held → Type 0
+SomeOfBoth Told held others =
+    (name : List ℕ) × (r : IntermediateAggregationResult) × (o : IntermediateAggregationResult)
+    × (value_of name held ≡ Some r) × (value_of name others ≡ Some o) × Told r o

@@ -1,0 +1,55 @@
+-- The results of a request over documents.
+use Rattle.std.specs.Prelude.{◌≡◌, ◌==◌, ◌+◌, ℕ, List, [], ◌∷◌, Option, None, if◌then◌else◌, length}
+use Rattle.std.specs.Prelude.{option_and_then, ⊤}
+use Rattle.std.specs.List.{last_or}
+use Rattle.agg_values.specs.Names.{value_of, Named}
+use Rattle.agg_values.specs.Tuple.{KeyTuple}
+use Rattle.agg_segment.specs.Document.{Fields}
+use Rattle.agg_request.specs.declared.aggregation.CompositeAggregation.{CompositeAggregation}
+use Rattle.agg_request.specs.declared.aggregation.AggregationVariants.{AggregationVariants}
+use Rattle.agg_request.specs.declared.aggregation.AggregationVariants.TheVariants.{Composite}
+use Rattle.agg_request.specs.Occurrences.{bound_of}
+use Rattle.agg_request.specs.Page.{Entry, IsPage, tuples_of}
+use Rattle.agg_request.specs.Request.{Request}
+
+-- the result of a composite: the entries of its page, and the last tuple of a full one
+pub record CompositeResult : Type 0 where
+  pub entries : List Entry
+  pub after : Option KeyTuple
+
+-- the results of a request, by the names of its aggregations
+abbrev pub Results : Type 0
+Results = Named CompositeResult
+
+-- the last tuple of a page that has as many entries as it has room for
+abbrev pub after_tuple : ℕ → List Entry → Option KeyTuple
+after_tuple size entries =
+    if length entries == size then last_or None (tuples_of entries) else None
+
+-- the result of a composite over documents
+pub record IsCompositeResult (composite : CompositeAggregation) (documents : List Fields)
+    (result : CompositeResult) : Type 0 where
+  pub page : IsPage composite.sources composite.size (bound_of composite.sources composite.after)
+      documents result.entries
+  pub after : result.after ≡ after_tuple composite.size result.entries
+
+-- the result of an aggregation over documents
+abbrev pub IsResult : AggregationVariants → List Fields → CompositeResult → Type 0
+IsResult (Composite composite) documents result = IsCompositeResult composite documents result
+
+-- the results of a request over documents: one for each name
+abbrev pub IsResults : Request → List Fields → Results → Type 0
+IsResults [] documents [] = ⊤
+IsResults [] documents (r ∷ rs) = ⊥
+IsResults (a ∷ request) documents [] = ⊥
+IsResults (a ∷ request) documents (r ∷ rs) =
+    (r.0 ≡ a.0) × IsResult a.1.agg documents r.1 × IsResults request documents rs
+
+-- the last tuple of a name's page, where that is full
+abbrev pub after_in : List ℕ → Results → Option KeyTuple
+after_in name results = option_and_then (λ r. r.after) (value_of name results)
+
+-- the buckets of results: one for each entry
+abbrev pub buckets_in : Results → ℕ
+buckets_in [] = 0
+buckets_in (r ∷ results) = length r.1.entries + buckets_in results
