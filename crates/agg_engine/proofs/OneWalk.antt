@@ -10,8 +10,8 @@ use Rattle.agg_request.specs.Occurrences.{bound_of}
 use Rattle.agg_request.proofs.PageExists.{page_exists}
 use Rattle.agg_request.proofs.PageUnique.{IsPage-same}
 use Rattle.agg_request.specs.Request.{Request}
-use Rattle.agg_engine.specs.Results.{CompositeResult, IsResult, IsResults, Results, after_in}
-use Rattle.agg_engine.specs.Results.{after_tuple}
+use Rattle.agg_results.specs.Results.{CompositeResult, IsResult, IsResults, Results, after_in}
+use Rattle.agg_results.specs.Results.{after_tuple}
 use Rattle.agg_engine.specs.Snapshot.{SnapshotDocuments}
 use Rattle.agg_engine.specs.Walk.{IsWalk, matching_documents, request_behind, request_at_size}
 use Rattle.agg_values.specs.Tuple.{KeyTuple}

@@ -1,80 +1,30 @@
--- The last tuple of a page that has as many entries as it has room for.
-use Rattle.std.proofs.Common.{◌≡◌, ◌-◌, ◌==◌, ℕ, List, [], ◌∷◌, Bool, true, false, cond, Option}
-use Rattle.std.proofs.Common.{None, Some, length, map, option_map, slice_get, refl, sym, ap, ◌∙◌}
-use Rattle.std.proofs.Common.{subst, arith}
-use Rattle.std.specs.Prelude.{MatchOption, Contains, ⊤}
-use Rattle.std.specs.List.{AllByRecursion, last_or}
-use Rattle.std.proofs.lemmas.Bool.Decides.{nat_tests}
-use Rattle.std.proofs.lemmas.List.{length-map}
+-- The last tuple of a full page, and the after key that is shown for it.
+use Rattle.std.proofs.Common.{◌≡◌, ◌≢◌, ◌≤◌, ◌==◌, ℕ, List, [], ◌∷◌, Bool, true, false, cond, Option}
+use Rattle.std.proofs.Common.{None, Some, length, map, refl, sym, ap, ◌∙◌, subst, arith, Ordering}
+use Rattle.std.proofs.Common.{Less, Equal, Greater, rules}
+use Rattle.std.specs.Prelude.{MatchOption, Contains, ⊤, unwrap_or}
+use Rattle.std.specs.Option.{is_some}
+use Rattle.std.specs.List.{AllByRecursion, flat_map, last_or}
+use Rattle.std.specs.Ordering.{match_ordering}
 use Rattle.std.proofs.lemmas.List.Elements.{recursion_from_All}
+use Rattle.agg_values.specs.Names.{Named, name_cmp, put, value_of}
 use Rattle.agg_values.specs.Tuple.{KeyTuple}
+use Rattle.agg_values.specs.declared.after_key.AfterKey.{AfterKey}
 use Rattle.agg_segment.specs.Document.{Fields}
-use Rattle.agg_request.specs.Groups.{Group}
-use Rattle.agg_request.specs.Occurrences.{occurrences_in}
-use Rattle.agg_request.specs.Page.{Entry, IsPage, MayList, group_of}
-use Rattle.agg_request.specs.Source.{Sources}
+use Rattle.agg_request.specs.BySource.{after_map}
+use Rattle.agg_request.specs.Occurrences.{occurrences, occurrences_in}
+use Rattle.agg_request.specs.Page.{Entry, IsPage, MayList}
+use Rattle.agg_request.specs.Source.{Sources, name_of, source_values}
+use Rattle.agg_request.proofs.Lists.{AllByRecursion-Has, AllByRecursion-flat_map}
+use Rattle.agg_request.proofs.Lists.{AllByRecursion-map, AllByRecursion-always, Has-from_Contains}
 use Rattle.agg_request.proofs.PageKeys.{AllByRecursion-weaker}
-use Rattle.agg_composite.specs.PageEntries.{entry_group}
-use Rattle.agg_composite.specs.declared.page_entry.PageEntry.{PageEntry}
-use Rattle.agg_engine.specs.PageAnswers.{IsOfPage}
-use Rattle.agg_engine.specs.Results.{after_tuple}
-
--- the last tuple of groups that are as many as there is room for
-abbrev last_in : ℕ → List Group → Option KeyTuple
-last_in size groups = cond (length groups == size) (last_or None (map (λ (g : Group). g.0) groups))
-    None
-
-tuples-page : (page : List Entry) → map (λ (g : Group). g.0) (map group_of page)
-    ≡ map (λ e. e.tuple) page
-tuples-page [] = refl
-tuples-page (e ∷ page) = ap (λ ts. e.tuple ∷ ts) (tuples-page page)
-
--- the last tuple of a page, by its groups
-after_tuple-groups : (size : ℕ) (page : List Entry)
-    → last_in size (map group_of page) ≡ after_tuple size page
-after_tuple-groups size page = rw (length-map page group_of, tuples-page page) refl
-
--- ---- of the entries that a collector gives
-
--- the last item is the one at the last place
-last_or-at : {X Y : Type 0} (f : X → Y) (o : Option Y) (x : X) (xs : List X)
-    → last_or o (map f (x ∷ xs)) ≡ option_map f (slice_get (x ∷ xs) (length xs))
-last_or-at f o x [] = refl
-last_or-at f o x (y ∷ xs) = last_or-at f (Some (f x)) y xs
-
-last_or-found : {X Y : Type 0} (f : X → Y) (xs : List X) (x : X)
-    → slice_get xs (length xs - 1) ≡ Some x → last_or None (map f xs) ≡ Some (f x)
-last_or-found f [] x e = cc
-last_or-found f (y ∷ xs) x e =
-    let place : length xs ≡ length (y ∷ xs) - 1 = omega arith in
-    last_or-at f None y xs ∙ ap (λ n. option_map f (slice_get (y ∷ xs) n)) place
-    ∙ ap (option_map f) e
-
-keys-entries : (entries : List PageEntry) → map (λ (g : Group). g.0) (map entry_group entries)
-    ≡ map (λ (e : PageEntry). e.key) entries
-keys-entries [] = refl
-keys-entries (e ∷ entries) = ap (λ ts. e.key ∷ ts) (keys-entries entries)
-
--- the last tuple of a page, by its entries
-pub IsOfPage-after : (size : ℕ) (entries : List PageEntry) (next : Option KeyTuple)
-    → next ≡ cond (length entries == size) (last_or None (map (λ (e : PageEntry). e.key) entries))
-    None
-    → IsOfPage (after_tuple size) entries next
-IsOfPage-after size entries next e page own =
-    let counted : last_in size (map entry_group entries) ≡ cond (length entries == size)
-    (last_or None (map (λ (e : PageEntry). e.key) entries)) None =
-    rw (length-map entries entry_group, keys-entries entries) refl in
-    e ∙ sym counted ∙ ap (last_in size) own ∙ after_tuple-groups size page
-
--- a full page has the tuple of its last entry
-pub IsOfPage-full : (size : ℕ) (entries : List PageEntry) (entry : PageEntry)
-    → length entries ≡ size
-    → slice_get entries (length entries - 1) ≡ Some entry
-    → IsOfPage (after_tuple size) entries (Some entry.key)
-IsOfPage-full size entries entry e found =
-    let last : last_or None (map (λ (e : PageEntry). e.key) entries) ≡ Some entry.key =
-    last_or-found (λ (e : PageEntry). e.key) entries entry found in
-    IsOfPage-after size entries (Some entry.key) (grind (arith, nat_tests))
+use Rattle.agg_results.specs.Results.{after_tuple}
+use Rattle.agg_results.specs.ShownResults.{shown_after, shown_page}
+use Rattle.agg_results.specs.declared.results.types.AggregationResult as result
+use result.{the_lemmas}
+use Rattle.agg_results.specs.declared.results.types.CompositeBucketEntry.{CompositeBucketEntry}
+use Rattle.agg_engine.specs.PageAnswers.{shown_after_of}
+use Rattle.agg_engine.proofs.OneRequest.{value-own}
 
 -- ---- the last tuple occurs
 
@@ -106,3 +56,80 @@ after-occurs sources size bound documents page tuple is_page last =
     let occurs = after-All P (length page == size) page (AllByRecursion-weaker (λ e.
     MayList sources bound documents e.tuple) (λ e. P e.tuple) (λ e m. m.0) page listed) in
     subst (λ o. MatchOption o ⊤ P) last occurs
+
+-- ---- the after key of a tuple isn't empty
+
+put-some : {T : Type 0} (name : List ℕ) (value : T) (named : Named T) → put name value named ≢ []
+put-some name value [] none = cc none
+put-some name value (e ∷ named) none = by (name_cmp name e.0) none
+  where
+    by : (o : Ordering)
+        → match_ordering o ((name, value) ∷ e ∷ named) ((e.0, value) ∷ named)
+        (e ∷ put name value named) ≢ []
+    by Less none = cc none
+    by Equal none = cc none
+    by Greater none = cc none
+
+-- of as many keys as sources
+HasKey : Sources → KeyTuple → Type 0
+HasKey sources tuple = after_map sources tuple ≢ []
+
+occurrences-key : (sources : Sources) (document : Fields) → 1 ≤ length sources
+    → AllByRecursion (HasKey sources) (occurrences sources document)
+unfolding HasKey
+occurrences-key [] document some = absurd (omega arith)
+occurrences-key (source ∷ sources) document some =
+    AllByRecursion-flat_map (HasKey (source ∷ sources))
+    (λ k. map (λ t. k ∷ t) (occurrences sources document)) (source_values source document)
+    (AllByRecursion-always
+    (λ k. AllByRecursion (HasKey (source ∷ sources))
+    (map (λ t. k ∷ t) (occurrences sources document)))
+    (λ k. AllByRecursion-map (HasKey (source ∷ sources)) (λ t. k ∷ t)
+    (occurrences sources document)
+    (AllByRecursion-always (λ t. HasKey (source ∷ sources) (k ∷ t))
+    (λ t. put-some (name_of source) (record { 0 = k }) (after_map sources t))
+    (occurrences sources document)))
+    (source_values source document))
+
+-- of a tuple of some sources that occurs
+pub after_map-some : (sources : Sources) (documents : List Fields) (tuple : KeyTuple)
+    → 1 ≤ length sources → Contains (occurrences_in sources documents) tuple
+    → after_map sources tuple ≢ []
+unfolding HasKey
+after_map-some sources documents tuple some occurs =
+    AllByRecursion-Has (HasKey sources) (occurrences_in sources documents) tuple
+    (AllByRecursion-flat_map (HasKey sources) (occurrences sources) documents
+    (AllByRecursion-always (λ d. AllByRecursion (HasKey sources) (occurrences sources d))
+    (λ d. occurrences-key sources d some) documents))
+    (Has-from_Contains (occurrences_in sources documents) tuple occurs)
+
+-- ---- what is shown
+
+-- the after key that a page shows under its name
+pub shown_after-page : (name : List ℕ) (sources : Sources) (entries : List CompositeBucketEntry)
+    (last : Option KeyTuple)
+    → shown_after_of name (record { 0 = (name, shown_page sources entries last) ∷ [] })
+    ≡ shown_after sources last
+shown_after-page name sources entries last =
+    rw (value-own name (shown_page sources entries last)) (search (rules, the_lemmas))
+
+-- whether there is a next after key, and that it is the one that is shown
+abbrev pub IsShown : Option (Named AfterKey) → Named AfterKey → Type 0
+IsShown next shown = MatchOption next (shown ≡ []) (λ after. (after ≡ shown) × (after ≢ []))
+
+-- where none is shown there is no last tuple
+pub shown-none : (sources : Sources) (next : Option (Named AfterKey)) (last : Option KeyTuple)
+    → IsShown next (shown_after sources last)
+    → ((tuple : KeyTuple) → last ≡ Some tuple → after_map sources tuple ≢ [])
+    → is_some next ≡ false → last ≡ None
+shown-none sources next None is some none = refl
+shown-none sources None (Some tuple) is some none = absurd (some tuple refl is)
+shown-none sources (Some after) (Some tuple) is some none = cc none
+
+-- where one is shown it is that of the last tuple
+pub shown-some : (sources : Sources) (next : Option (Named AfterKey)) (last : Option KeyTuple)
+    (own : Named AfterKey) → IsShown next (shown_after sources last) → is_some next ≡ true
+    → (tuple : KeyTuple) × (last ≡ Some tuple) × (unwrap_or next own ≡ after_map sources tuple)
+shown-some sources None last own is some = cc some
+shown-some sources (Some after) None own is some = absurd (is.1 is.0)
+shown-some sources (Some after) (Some tuple) own is some = (tuple, refl, is.0)

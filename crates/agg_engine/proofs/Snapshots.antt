@@ -1,13 +1,11 @@
 -- Snapshots, as what they stand for.
-use Rattle.std.proofs.Common.{◌≡◌, ◌≢◌, ◌≤◌, ◌<◌, ◌==◌, ℕ, List, [], ◌∷◌, None, Some, length}
-use Rattle.std.proofs.Common.{arith, get_or, map, slice_get, true, false, refl, sym, ap, ◌∙◌, subst}
-use Rattle.std.proofs.Common.{append-nil}
+use Rattle.std.proofs.Common.{◌≡◌, ◌≢◌, ◌<◌, ◌==◌, ℕ, List, [], ◌∷◌, length}
+use Rattle.std.proofs.Common.{arith, get_or, map, true, false, refl, sym, ap, ◌∙◌, subst}
 use Rattle.std.specs.List.{All, Any, filter, flat_map, list_any}
 use Rattle.std.proofs.lemmas.Bool.Decides.{nat_tests}
 use Rattle.std.proofs.lemmas.List.{get_or-map, length-map}
-use Rattle.std.proofs.lemmas.List.Concat.{flat_map-cons}
 use Rattle.std.proofs.lemmas.List.Elements.{All-map}
-use Rattle.std.proofs.lemmas.List.Folds.{Any-from_list_any, list_any_at}
+use Rattle.std.proofs.lemmas.List.Folds.{Any-from_list_any, flat_map-map, list_any_at}
 use Rattle.agg_segment.specs.Document.{Fields}
 use Rattle.agg_segment.specs.Query.{matches}
 use Rattle.agg_segment.specs.Segment.{Stored, documents_of}
@@ -60,45 +58,23 @@ module _ (snapshots items : List Snapshot) (same : items ≡ snapshots) where
         named = (composite, named);
       }
 
--- a snapshot of a list has as few segments as each
-pub few_segments-at : (snapshots : List Snapshot) (at : ℕ) (s : Snapshot)
-    → All (λ (d : SnapshotDocuments). length d.segments ≤ 1) (snapshots_documents snapshots)
-    → at < length snapshots → s ≡ get_or snapshots at s → length s.segments ≤ 1
-few_segments-at snapshots at s all within item =
-    let few = All-from_map (λ (d : SnapshotDocuments). length d.segments ≤ 1) snapshot_documents
-    snapshots all at s within in
-    subst (λ n. n ≤ 1) (length-map s.segments documents_of) (subst (λ (x : Snapshot).
-    length (map documents_of x.segments) ≤ 1) (sym item) few)
+-- the page of a snapshot of a list has room
+pub room-at : (snapshots items : List Snapshot) (others : List Snapshot) → items ≡ snapshots
+    → others ≡ snapshots
+    → list_any (λ (s : Snapshot). s.page_size == 0) items ≡ false
+    → (at : ℕ) (s : Snapshot) → at < length others → s ≡ get_or others at s → s.page_size ≢ 0
+room-at snapshots items others same same_others none at s within item =
+    let all = All-from_map (λ (d : SnapshotDocuments). d.page_size ≢ 0) snapshot_documents others
+    (HaveRoom-none others
+    (ap (list_any (λ (x : Snapshot). x.page_size == 0)) (same_others ∙ sym same) ∙ none)) in
+    subst (λ (x : Snapshot). x.page_size ≢ 0) (sym item) (all at s within)
 
-none-first : {X : Type 0} (xs : List X) → None ≡ slice_get xs 0 → xs ≡ []
-none-first [] e = refl
-none-first (x ∷ xs) e = cc
-
-some-first : {X : Type 0} (xs : List X) (x : X) → Some x ≡ slice_get xs 0 → length xs ≤ 1
-    → xs ≡ x ∷ []
-some-first [] x e few = cc e
-some-first (y ∷ []) x e few = cc
-some-first (y ∷ z ∷ xs) x e few = absurd (omega (arith, few))
-
-documents_in-of : QueryTree → List Stored → List Fields
-documents_in-of query segments = filter (matches query) (flat_map (λ (documents : List Fields).
-    documents) (map documents_of segments))
-
--- a snapshot without a segment has no documents
-pub matching_documents-none : (query : QueryTree) (snapshot : Snapshot)
-    → None ≡ slice_get snapshot.segments 0 → matching_documents query (snapshot_documents snapshot)
-    ≡ []
-unfolding documents_in-of
-matching_documents-none query snapshot n = ap (documents_in-of query) (none-first snapshot.segments
-    n)
-
--- a snapshot of one segment has the documents of that
-pub matching_documents-one : (query : QueryTree) (snapshot : Snapshot) (segment : Stored)
-    → Some segment ≡ slice_get snapshot.segments 0 → length snapshot.segments ≤ 1
-    → filter (matches query) (documents_of segment) ≡ matching_documents query
-    (snapshot_documents snapshot)
-unfolding documents_in-of
-matching_documents-one query snapshot segment e few =
-    ap (filter (matches query)) (sym (append-nil (documents_of segment))
-    ∙ sym (flat_map-cons (λ (documents : List Fields). documents) (documents_of segment) []))
-    ∙ sym (ap (documents_in-of query) (some-first snapshot.segments segment e few))
+-- the documents of a snapshot that match are those of its segments
+pub matching_documents-segments : (query : QueryTree) (snapshot : Snapshot)
+    (segments : List Stored) → segments ≡ snapshot.segments
+    → filter (matches query) (flat_map documents_of segments)
+    ≡ matching_documents query (snapshot_documents snapshot)
+matching_documents-segments query snapshot segments same =
+    ap (filter (matches query))
+    (ap (flat_map documents_of) same
+    ∙ sym (flat_map-map (λ (documents : List Fields). documents) documents_of snapshot.segments))

@@ -1,48 +1,66 @@
 -- The loop over the snapshots, for a request of one composite.
-use Rattle.std.proofs.Common.{◌≡◌, ◌≢◌, ◌≤◌, ◌<◌, ℕ, List, [], ◌∷◌, ◌++◌, true, false, Option}
+use Rattle.std.proofs.Common.{◌≡◌, ◌≢◌, ◌≤◌, ◌<◌, ◌^◌, ℕ, List, [], ◌∷◌, ◌++◌, true, false, Option}
 use Rattle.std.proofs.Common.{None, Some, ◌+◌, get_or, length, map, drop, refl, sym, ap, ◌∙◌, subst}
-use Rattle.std.proofs.Common.{arith}
+use Rattle.std.proofs.Common.{arith, Ok}
 use Rattle.std.specs.List.{All}
-use Rattle.std.proofs.lemmas.List.{map-append, drop_more, drop_all}
+use Rattle.std.specs.Option.{is_some}
+use Rattle.std.specs.Prelude.{unwrap_or}
+use Rattle.std.proofs.lemmas.List.{drop_more, drop_all}
 use Rattle.agg_values.specs.Names.{Named}
 use Rattle.agg_values.specs.Tuple.{KeyTuple}
 use Rattle.agg_values.specs.declared.after_key.AfterKey.{AfterKey}
+use Rattle.agg_values.specs.declared.request_error.AggregationError.{AggregationError}
+use Rattle.agg_values.specs.declared.request_error.AggregationError.TheVariants as aggregation
+use Rattle.agg_segment.specs.Document.{Fields}
 use Rattle.agg_segment.specs.declared.query.QueryTree.{QueryTree}
-use Rattle.agg_request.specs.declared.aggregation.Aggregation.{Aggregation}
-use Rattle.agg_request.specs.declared.aggregation.CompositeAggregation.{CompositeAggregation}
-use Rattle.agg_request.specs.declared.aggregation.AggregationVariants.{AggregationVariants}
-use Rattle.agg_request.specs.declared.aggregation.AggregationVariants.TheVariants.{Composite}
 use Rattle.agg_request.specs.BySource.{after_map}
 use Rattle.agg_request.specs.Faults.{IsSound, IsSoundRequest}
 use Rattle.agg_request.specs.Occurrences.{bound_of}
+use Rattle.agg_request.specs.Page.{Entry}
 use Rattle.agg_request.specs.Request.{Request}
-use Rattle.agg_request.specs.Uncut.{CountsTooMany}
-use Rattle.agg_composite.specs.PageEntries.{ArePageEntries}
-use Rattle.agg_composite.specs.declared.page_entry.PageEntry.{PageEntry}
+use Rattle.agg_request.specs.Uncut.{CountsTooMany, uncut}
+use Rattle.agg_request.specs.declared.aggregation.Aggregation.{Aggregation}
+use Rattle.agg_request.specs.declared.aggregation.AggregationVariants.{AggregationVariants}
+use Rattle.agg_request.specs.declared.aggregation.AggregationVariants.TheVariants.{Composite}
+use Rattle.agg_request.specs.declared.aggregation.CompositeAggregation.{CompositeAggregation}
+use Rattle.agg_results.specs.BucketCount.{results_buckets}
+use Rattle.agg_results.specs.Final.{HaveTooMany, HoldsOther, HoldsUnknown, final_results}
+use Rattle.agg_results.specs.Intermediate.{AreFlat, Held}
+use Rattle.agg_results.specs.Results.{Results, after_tuple, buckets_in}
+use Rattle.agg_results.specs.ShownResults.{shown_after, shown_entry, shown_results}
+use Rattle.agg_results.specs.StandsFor.{StandsFor}
+use Rattle.agg_results.specs.declared.intermediate.results.IntermediateAggregationResults as held
+use held.{IntermediateAggregationResults}
+use Rattle.agg_results.specs.declared.results.types.AggregationResults.{AggregationResults}
 use Rattle.agg_engine.specs.Form.{IsOneComposite}
 use Rattle.agg_engine.specs.NamedComposite.{IsCompositeNamed}
-use Rattle.agg_engine.specs.PageAnswers.{AreFew, IsOfPage}
-use Rattle.agg_engine.specs.Results.{Results, after_tuple}
-use Rattle.agg_engine.specs.ShownResults.{shown_page, shown_results}
+use Rattle.agg_engine.specs.PageAnswers.{AnswersHeld, AreFew, IsFinalRefusal, IsHeldRefusal, asked}
+use Rattle.agg_engine.specs.PageAnswers.{shown_after_of}
+use Rattle.agg_engine.specs.Refusals.{HasCause, IsRefused}
 use Rattle.agg_engine.specs.Snapshot.{SnapshotDocuments, snapshot_documents, snapshots_documents}
-use Rattle.agg_engine.specs.Walk.{IsWalk, ReachesTooMany, matching_documents}
-use Rattle.agg_engine.specs.declared.results.types.AggregationResults.{AggregationResults}
+use Rattle.agg_engine.specs.Walk.{IsWalk, MayBeAsked, matching_documents}
 use Rattle.agg_engine.specs.declared.walk.Snapshot.{Snapshot}
+use Rattle.agg_engine.specs.declared.walk.error.WalkError.{WalkError}
+use Rattle.agg_engine.specs.declared.walk.error.WalkError.TheVariants as error
 use Rattle.agg_engine.proofs.AfterKeys.{HasNoNull, MayGoOnFrom-own}
+use Rattle.agg_engine.proofs.HeldHere.{held-alike, held-buckets, held-final, held-known, page_here}
 use Rattle.agg_engine.proofs.OneRequest.{named-one, one}
-use Rattle.agg_engine.proofs.WalkState.{WalkState, one_result, result_of, state-ended}
-use Rattle.agg_engine.proofs.WalkState.{state-ended-fits, state-more, state-out, state-start}
-use Rattle.agg_engine.proofs.WalkState.{state-too_many}
+use Rattle.agg_engine.proofs.PageBound.{IsShown, after-occurs, after_map-some, shown-none}
+use Rattle.agg_engine.proofs.PageBound.{shown-some, shown_after-page}
+use Rattle.agg_engine.proofs.PageHere.{AreRefusedHere, IsPageHere, refused-buckets}
+use Rattle.agg_engine.proofs.PageHere.{refused-too_many, results_of}
+use Rattle.agg_engine.proofs.WalkState.{WalkState, few-more, state-ended, state-ended-fits}
+use Rattle.agg_engine.proofs.WalkState.{state-more, state-out, state-refused, state-start}
 
 -- the request is one sound composite, and the walk has come so far and goes on from an after key
-pub record IsWalking (name : List ℕ) (query : QueryTree) (request : Request)
+pub record IsWalking (limit : ℕ) (name : List ℕ) (query : QueryTree) (request : Request)
     (snapshots : List SnapshotDocuments) (composite : CompositeAggregation)
     (after : Named AfterKey) (rest : List SnapshotDocuments) (pages : List AggregationResults)
     : Type 0 where
   pub aggregation : Aggregation
   pub request_is : request ≡ one name aggregation composite
   pub sound : IsSound composite
-  pub state : WalkState name query aggregation composite snapshots after rest pages
+  pub state : WalkState limit name query aggregation composite snapshots after rest pages
 
 -- the one composite of a sound request is sound
 sound-one : (name : List ℕ) (a : Aggregation) (c : CompositeAggregation)
@@ -50,11 +68,12 @@ sound-one : (name : List ℕ) (a : Aggregation) (c : CompositeAggregation)
 sound-one name a c sound = sound 0 (name, record a { agg = Composite c }) (omega arith)
 
 -- before the first snapshot
-pub walking-start : (name : List ℕ) (query : QueryTree) (request : Request)
+pub walking-start : (limit : ℕ) (name : List ℕ) (query : QueryTree) (request : Request)
     (snapshots : List SnapshotDocuments) (composite : CompositeAggregation)
     → IsOneComposite request → IsCompositeNamed name request composite → IsSoundRequest request
-    → IsWalking name query request snapshots composite composite.after snapshots []
-walking-start name query request snapshots composite (given, a, c, request_is, is) found sound =
+    → IsWalking limit name query request snapshots composite composite.after snapshots []
+walking-start limit name query request snapshots composite (given, a, c, request_is, is) found
+    sound =
     let own = named-one name given a c composite is (subst (λ r. IsCompositeNamed name r composite)
     request_is found) in
     let one_is : request ≡ one name a composite =
@@ -66,7 +85,7 @@ walking-start name query request snapshots composite (given, a, c, request_is, i
       aggregation = a;
       request_is = one_is;
       sound = sound_one;
-      state = state-start name query a composite snapshots (MayGoOnFrom-own composite
+      state = state-start limit name query a composite snapshots (MayGoOnFrom-own composite
           sound_one.after);
     }
 
@@ -79,129 +98,235 @@ AreFew-sound composite sound =
     not_none [] some = absurd (some refl)
     not_none (x ∷ xs) some = omega arith
 
--- what the page of a snapshot gives: its entries, the tuple to go on behind, and its results as
--- they are shown
-pub record IsNext (name : List ℕ) (query : QueryTree) (s : SnapshotDocuments)
-    (composite : CompositeAggregation) (after : Named AfterKey) (entries : List PageEntry)
-    (next : Option KeyTuple) (results : AggregationResults) : Type 0 where
-  pub page : ArePageEntries composite.sources s.page_size (bound_of composite.sources after)
-      (matching_documents query s) entries
-  pub fits : ¬ (CountsTooMany (Composite composite) (matching_documents query s))
-  pub next_is : IsOfPage (after_tuple s.page_size) entries next
-  pub results_are : IsOfPage (shown_page name composite.sources next) entries results.0
+-- what is held of a snapshot
+pub record IsHeldHere (name : List ℕ) (query : QueryTree) (composite : CompositeAggregation)
+    (after : Named AfterKey) (s : SnapshotDocuments) (held : Held) : Type 0 where
+  pub stands : StandsFor (asked name composite s.page_size after) (matching_documents query s) held
+  pub flat : AreFlat held
+  pub few : ¬ (CountsTooMany (Composite composite) (matching_documents query s))
 
--- at a snapshot in which the composite counts too many documents
-pub walking-too_many : (name : List ℕ) (query : QueryTree) (request : Request)
-    (snapshots : List SnapshotDocuments) (composite : CompositeAggregation)
-    (after : Named AfterKey) (s : SnapshotDocuments) (rest : List SnapshotDocuments)
-    (pages : List AggregationResults)
-    → IsWalking name query request snapshots composite after (s ∷ rest) pages
-    → CountsTooMany (Composite composite) (matching_documents query s)
-    → ReachesTooMany name query request snapshots
-walking-too_many name query request snapshots composite after s rest pages w many =
-    subst (λ r. ReachesTooMany name query r snapshots) (sym w.request_is)
-    (state-too_many name query w.aggregation composite snapshots after s rest pages w.state many)
+-- what a call for the results of its segments holds
+pub held-here : (name : List ℕ) (query : QueryTree) (composite : CompositeAggregation)
+    (after own : Named AfterKey) (s : SnapshotDocuments) (documents : List Fields) (counted : ℕ)
+    (held : IntermediateAggregationResults)
+    → AnswersHeld name composite s.page_size own documents 0 counted (Ok held)
+    → AreFlat held.results → own ≡ after → documents ≡ matching_documents query s
+    → IsHeldHere name query composite after s held.results
+held-here name query composite after own s documents counted held answer flat own_is are = record {
+  stands = subst (λ ds. StandsFor (asked name composite s.page_size after) ds held.results) are
+      (subst (λ k. StandsFor (asked name composite s.page_size k) documents held.results) own_is
+      answer.held);
+  flat = flat;
+  few = λ many.
+      let own_many : CountsTooMany (Composite composite) documents =
+      subst (CountsTooMany (Composite composite)) (sym are) many in
+      let counted_is = answer.counted_is in
+      let few = answer.few in
+      omega arith;
+}
 
--- at a snapshot, with what its page gives
-module _ {name : List ℕ} {query : QueryTree} {request : Request}
+-- at a snapshot
+module _ {limit : ℕ} {name : List ℕ} {query : QueryTree} {request : Request}
     {snapshots : List SnapshotDocuments} {composite : CompositeAggregation}
     {after : Named AfterKey} {s : SnapshotDocuments} {rest : List SnapshotDocuments}
     {pages : List AggregationResults}
-    (w : IsWalking name query request snapshots composite after (s ∷ rest) pages)
-    {entries : List PageEntry} {next : Option KeyTuple} {results : AggregationResults}
-    (n : IsNext name query s composite after entries next results) where
-  own_next : next ≡ after_tuple s.page_size n.page.0
-  own_next = n.next_is n.page.0 n.page.2
+    (w : IsWalking limit name query request snapshots composite after (s ∷ rest) pages) where
+  walking-refused : (given : WalkError)
+      → AreRefusedHere name query w.aggregation composite after s limit given
+      → IsRefused limit name query request snapshots given
+  walking-refused given refused =
+      subst (λ r. IsRefused limit name query r snapshots given) (sym w.request_is)
+      (state-refused limit name query w.aggregation composite snapshots after s rest pages w.state
+      given refused)
 
-  own_results : results ≡ shown_results (one name w.aggregation composite)
-      (one_result name (result_of s.page_size n.page.0))
-  own_results =
-      ap (λ r. record { 0 = r }) (n.results_are n.page.0 n.page.2)
-      ∙ ap (λ o. record { 0 = shown_page name composite.sources o n.page.0 }) own_next
+  -- a refusal of what its segments hold
+  pub cause-held : MayBeAsked name request snapshots → (given : WalkError)
+      → IsHeldRefusal composite (matching_documents query s) 0 given
+      → HasCause limit name query request snapshots given
+  cause-held asked (error.Invalid fault) refused = absurd refused
+  cause-held asked error.UnknownComposite refused = absurd refused
+  cause-held asked error.TooMany refused = (
+    asked,
+    walking-refused error.TooMany (refused-too_many name query w.aggregation composite after s limit
+        (omega arith)),
+  )
+  cause-held asked (error.Aggregation part) refused = absurd refused
+  cause-held asked error.OutOfMemory refused = tt
 
-  pub walking-ended : next ≡ None → (x : List Results) × IsWalk name query request snapshots x true
-      × (pages ++ results ∷ [] ≡ map (shown_results request) x)
-  walking-ended none =
-      let last = sym own_next ∙ none in
-      let this = one_result name (result_of s.page_size n.page.0) in
-      let walk = state-ended name query w.aggregation composite snapshots after s rest pages w.state
-      n.page.0 n.page.1 n.fits last in
-      let shown = shown_results (one name w.aggregation composite) in
-      let listed : pages ++ results ∷ [] ≡ map shown (w.state.results ++ this ∷ []) =
-      ap (λ p. p ++ results ∷ []) w.state.pages_shown ∙ ap (λ r. map shown w.state.results ++ r
-      ∷ []) own_results
-      ∙ sym (map-append shown w.state.results (this ∷ [])) in (
-        w.state.results ++ this ∷ [],
-        subst (λ r. IsWalk name query r snapshots (w.state.results ++ this ∷ []) true)
-            (sym w.request_is) walk,
-        subst (λ r. pages ++ results ∷ [] ≡ map (shown_results r) (w.state.results ++ this ∷ []))
-            (sym w.request_is) listed,
-      )
+  -- with what its segments hold
+  module _ {held : Held} (h : IsHeldHere name query composite after s held) where
+    -- no name is unknown
+    pub known-here : ¬ (HoldsUnknown request held)
+    known-here unknown =
+        held-known name query w.aggregation composite after s held h.stands h.flat
+        (subst (λ r. HoldsUnknown r held) w.request_is unknown)
 
-  pub walking-ended-fits : next ≡ None → ¬ (ReachesTooMany name query request snapshots)
-  walking-ended-fits none too_many =
-      state-ended-fits name query w.aggregation composite snapshots after s rest pages w.state
-      n.page.0 n.page.1 n.fits (sym own_next ∙ none)
-      (subst (λ r. ReachesTooMany name query r snapshots) w.request_is too_many)
+    -- no result has another shape
+    pub alike-here : ¬ (HoldsOther request held)
+    alike-here other =
+        held-alike name query w.aggregation composite after s held h.stands
+        (subst (λ r. HoldsOther r held) w.request_is other)
 
-  pub walking-more : All HasNoNull (matching_documents query s) → (tuple : KeyTuple)
-      → next ≡ Some tuple → (later : Named AfterKey) → later ≡ after_map composite.sources tuple
-      → IsWalking name query request snapshots composite later rest (pages ++ results ∷ [])
-  walking-more no_null tuple some later later_is =
-      let more = state-more name query w.aggregation composite snapshots after s rest pages w.state
-      n.page.0 n.page.1 n.fits w.sound.names no_null tuple (sym own_next ∙ some) in
-      record {
-        aggregation = w.aggregation;
-        request_is = w.request_is;
-        sound = w.sound;
-        state = subst (λ r. WalkState name query w.aggregation composite snapshots later rest
-            (pages ++ r ∷ [])) (sym own_results)
-            (subst (λ k. WalkState name query w.aggregation composite snapshots k rest
-            (pages ++ shown_results (one name w.aggregation composite)
-            (one_result name (result_of s.page_size n.page.0)) ∷ [])) (sym later_is) more);
-      }
+    -- the page
+    abbrev page : List Entry
+    page = (page_here name query w.aggregation composite after s held h.stands).0
+
+    is_page : IsPageHere name query w.aggregation composite after s page
+    is_page = (page_here name query w.aggregation composite after s held h.stands).1
+
+    final : final_results request held ≡ shown_results (one name w.aggregation composite)
+        (results_of name query w.aggregation composite after s page)
+    final =
+        ap (λ r. final_results r held) w.request_is
+        ∙ held-final name query w.aggregation composite after s held h.stands page is_page
+
+    buckets : results_buckets (final_results request held)
+        ≡ buckets_in (results_of name query w.aggregation composite after s page)
+    buckets =
+        ap (λ r. results_buckets (final_results r held)) w.request_is
+        ∙ held-buckets name query w.aggregation composite after s held h.stands page is_page
+
+    -- a refusal of its final results
+    pub cause-final : MayBeAsked name request snapshots → (given : WalkError)
+        → IsFinalRefusal limit request held given
+        → HasCause limit name query request snapshots given
+    cause-final asked (error.Aggregation (aggregation.BucketLimitExceeded given n)) refused =
+        let number = refused.1 in
+        let more = refused.2 in (
+          asked,
+          walking-refused (error.Aggregation (aggregation.BucketLimitExceeded given n))
+              (refused-buckets name query w.aggregation composite after s limit page is_page h.few
+              given n refused.0 (refused.1 ∙ buckets) (omega arith)),
+        )
+    cause-final asked (error.Aggregation (aggregation.MemoryExceeded given n)) refused =
+        absurd refused
+    cause-final asked (error.Aggregation (aggregation.DateHistogramParseError part)) refused =
+        absurd refused
+    cause-final asked (error.Invalid fault) refused = absurd refused
+    cause-final asked error.UnknownComposite refused = absurd refused
+    cause-final asked error.TooMany refused = absurd refused
+    cause-final asked error.OutOfMemory refused = tt
+
+    -- with its final results, and the after key that they show
+    module _ (results : AggregationResults) (next : Option (Named AfterKey))
+        (is : results ≡ final_results request held) (fit : ¬ (HaveTooMany limit request held))
+        (next_is : IsShown next (shown_after_of name results)) where
+      few_buckets : buckets_in (results_of name query w.aggregation composite after s page) ≤ limit
+      few_buckets = let counted = buckets in let few = fit in omega arith
+
+      shown_next : IsShown next (shown_after composite.sources (after_tuple s.page_size page))
+      shown_next =
+          subst (IsShown next)
+          (ap (shown_after_of name) (is ∙ final)
+          ∙ shown_after-page name composite.sources (map (shown_entry composite.sources) page)
+          (after_tuple s.page_size page))
+          next_is
+
+      some_key : (tuple : KeyTuple) → after_tuple s.page_size page ≡ Some tuple
+          → after_map composite.sources tuple ≢ []
+      some_key tuple last =
+          after_map-some composite.sources (matching_documents query s) tuple
+          (AreFew-sound composite w.sound).some
+          (after-occurs composite.sources s.page_size (bound_of composite.sources after)
+          (matching_documents query s) page tuple is_page last)
+
+      no_more : is_some next ≡ false → after_tuple s.page_size page ≡ None
+      no_more none =
+          shown-none composite.sources next (after_tuple s.page_size page) shown_next some_key none
+
+      -- the last page
+      pub walking-ended : is_some next ≡ false
+          → (x : List Results) × IsWalk name query request snapshots x true
+          × (pages ++ results ∷ [] ≡ map (shown_results request) x)
+      walking-ended none =
+          let out =
+          state-ended limit name query w.aggregation composite snapshots after s rest pages w.state
+          page is_page h.few few_buckets (no_more none) in (
+            out.0,
+            subst (λ r. IsWalk name query r snapshots out.0 true) (sym w.request_is) out.1,
+            subst (λ r. pages ++ results ∷ [] ≡ map (shown_results r) out.0) (sym w.request_is)
+                (ap (λ r. pages ++ r ∷ []) (is ∙ final) ∙ out.2),
+          )
+
+      pub walking-ended-fits : is_some next ≡ false → (given : WalkError)
+          → ¬ (IsRefused limit name query request snapshots given)
+      walking-ended-fits none given refused =
+          state-ended-fits limit name query w.aggregation composite snapshots after s rest pages
+          w.state page is_page h.few few_buckets (no_more none) given
+          (subst (λ r. IsRefused limit name query r snapshots given) w.request_is refused)
+
+      pub walking-few : All (λ p. results_buckets p ≤ limit) (pages ++ results ∷ [])
+      walking-few =
+          subst (λ r. All (λ p. results_buckets p ≤ limit) (pages ++ r ∷ [])) (sym (is ∙ final))
+          (few-more limit name query w.aggregation composite snapshots after s rest pages w.state
+          page is_page h.few few_buckets)
+
+      -- a full page
+      pub walking-more : All HasNoNull (matching_documents query s) → (own : Named AfterKey)
+          → is_some next ≡ true
+          → IsWalking limit name query request snapshots composite (unwrap_or next own) rest
+          (pages ++ results ∷ [])
+      walking-more no_null own some =
+          let last =
+          shown-some composite.sources next (after_tuple s.page_size page) own shown_next some in
+          let more =
+          state-more limit name query w.aggregation composite snapshots after s rest pages w.state
+          page is_page h.few few_buckets w.sound.names no_null last.0 last.1 in
+          record {
+            aggregation = w.aggregation;
+            request_is = w.request_is;
+            sound = w.sound;
+            state = subst (λ r. WalkState limit name query w.aggregation composite snapshots
+                (unwrap_or next own) rest (pages ++ r ∷ [])) (sym (is ∙ final))
+                (subst (λ k. WalkState limit name query w.aggregation composite snapshots k rest
+                (pages ++ shown_results (one name w.aggregation composite)
+                (results_of name query w.aggregation composite after s page) ∷ []))
+                (sym last.2) more);
+          }
 
 -- behind the last snapshot
-module _ (name : List ℕ) (query : QueryTree) (request : Request)
-    (snapshots : List SnapshotDocuments) (composite : CompositeAggregation)
-    (after : Named AfterKey) (pages : List AggregationResults)
-    (w : IsWalking name query request snapshots composite after [] pages) where
+module _ {limit : ℕ} {name : List ℕ} {query : QueryTree} {request : Request}
+    {snapshots : List SnapshotDocuments} {composite : CompositeAggregation}
+    {after : Named AfterKey} {pages : List AggregationResults}
+    (w : IsWalking limit name query request snapshots composite after [] pages) where
   pub walking-out : (x : List Results) × IsWalk name query request snapshots x false
       × (pages ≡ map (shown_results request) x)
   walking-out =
-      let out = state-out name query w.aggregation composite snapshots after pages w.state
+      let out = state-out limit name query w.aggregation composite snapshots after pages w.state
       in (
         out.0,
         subst (λ r. IsWalk name query r snapshots out.0 false) (sym w.request_is) out.1,
         subst (λ r. pages ≡ map (shown_results r) out.0) (sym w.request_is) out.2,
       )
 
-  pub walking-out-fits : ¬ (ReachesTooMany name query request snapshots)
-  walking-out-fits too_many = w.state.fits (subst (λ r. ReachesTooMany name query r snapshots)
-      w.request_is too_many)
+  pub walking-out-fits : (given : WalkError)
+      → ¬ (IsRefused limit name query request snapshots given)
+  walking-out-fits given refused =
+      w.state.fits given
+      (subst (λ r. IsRefused limit name query r snapshots given) w.request_is refused)
 
 -- ---- the places of the list of snapshots
 
-module _ (name : List ℕ) (query : QueryTree) (request : Request) (snapshots items : List Snapshot)
-    (composite : CompositeAggregation) (after : Named AfterKey) (at : ℕ)
-    (pages : List AggregationResults)
-    (w : IsWalking name query request (snapshots_documents snapshots) composite after
+module _ (limit : ℕ) (name : List ℕ) (query : QueryTree) (request : Request)
+    (snapshots items : List Snapshot) (composite : CompositeAggregation) (after : Named AfterKey)
+    (at : ℕ) (pages : List AggregationResults)
+    (w : IsWalking limit name query request (snapshots_documents snapshots) composite after
     (snapshots_documents (drop at snapshots)) pages) (same : items ≡ snapshots) where
   -- at a snapshot of the list
   pub walking-at : (s : Snapshot) → at < length items → s ≡ get_or items at s
-      → IsWalking name query request (snapshots_documents snapshots) composite after
+      → IsWalking limit name query request (snapshots_documents snapshots) composite after
       (snapshot_documents s ∷ snapshots_documents (drop (at + 1) snapshots)) pages
   walking-at s within item =
       let cut : drop at snapshots ≡ s ∷ drop (at + 1) snapshots =
       drop_more snapshots at s (subst (λ (l : List Snapshot). at < length l) same within)
       ∙ ap (λ x. x ∷ drop (at + 1) snapshots) (ap (λ l. get_or l at s) (sym same) ∙ sym item) in
-      subst (λ (rest : List Snapshot). IsWalking name query request (snapshots_documents snapshots)
-      composite after (snapshots_documents rest) pages) cut w
+      subst (λ (rest : List Snapshot). IsWalking limit name query request
+      (snapshots_documents snapshots) composite after (snapshots_documents rest) pages) cut w
 
   -- behind the last snapshot of the list
-  pub walking-end : length items ≤ at → IsWalking name query request (snapshots_documents snapshots)
-      composite after [] pages
+  pub walking-end : length items ≤ at → IsWalking limit name query request
+      (snapshots_documents snapshots) composite after [] pages
   walking-end past =
-      subst (λ (rest : List Snapshot). IsWalking name query request (snapshots_documents snapshots)
-      composite after (snapshots_documents rest) pages)
+      subst (λ (rest : List Snapshot). IsWalking limit name query request
+      (snapshots_documents snapshots) composite after (snapshots_documents rest) pages)
       (drop_all at snapshots (subst (λ (l : List Snapshot). length l ≤ at) same past)) w

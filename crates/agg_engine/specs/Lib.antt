@@ -1,10 +1,7 @@
 pub mod Form
 pub mod NamedComposite
 pub mod PageAnswers
-pub mod PlainText
-pub mod Results
-pub mod ResultsText
-pub mod ShownResults
+pub mod Refusals
 pub mod ShownWalk
 pub mod Snapshot
 pub mod Walk

@@ -1,20 +1,33 @@
 -- What calls answer of a page.
-use Rattle.std.specs.Prelude.{◌≡◌, ◌≤◌, ℕ, List, Result, All, IfErr, IfOk, OnOk, length, ⊤}
-use Rattle.agg_values.specs.Names.{Named}
+use Rattle.std.specs.Prelude.{◌≡◌, ◌≤◌, ◌<◌, ◌+◌, ◌^◌, ℕ, List, [], ◌∷◌, Option, None, Some}
+use Rattle.std.specs.Prelude.{Result, All, IfErr, IfOk, OnOk, length, ⊤}
+use Rattle.agg_values.specs.Names.{Named, value_of}
 use Rattle.agg_values.specs.declared.after_key.AfterKey.{AfterKey}
+use Rattle.agg_values.specs.declared.request_error.AggregationError.TheVariants as aggregation
 use Rattle.agg_segment.specs.Document.{Fields}
 use Rattle.agg_request.specs.Faults.{max_sources}
-use Rattle.agg_request.specs.Occurrences.{bound_of}
 use Rattle.agg_request.specs.Source.{Sources}
 use Rattle.agg_request.specs.declared.aggregation.CompositeAggregation.{CompositeAggregation}
 use Rattle.agg_request.specs.declared.aggregation.AggregationVariants.TheVariants.{Composite}
-use Rattle.agg_request.specs.Page.{Entry}
-use Rattle.agg_request.specs.Uncut.{CountsTooMany}
+use Rattle.agg_request.specs.Request.{Request}
+use Rattle.agg_request.specs.Uncut.{uncut}
 use Rattle.agg_composite.specs.Accessors.{IsNullAfter, after_of}
-use Rattle.agg_composite.specs.PageEntries.{AreEntriesOf, ArePageEntries}
-use Rattle.agg_composite.specs.declared.page_entry.PageEntry.{PageEntry}
+use Rattle.agg_results.specs.BucketCount.{results_buckets}
+use Rattle.agg_results.specs.Final.{HaveTooMany, final_results}
+use Rattle.agg_results.specs.Intermediate.{Held}
+use Rattle.agg_results.specs.StandsFor.{StandsFor}
+use Rattle.agg_results.specs.declared.intermediate.results.IntermediateAggregationResults as held
+use held.{IntermediateAggregationResults}
+use Rattle.agg_results.specs.declared.results.types.AggregationResult.{AggregationResult}
+use Rattle.agg_results.specs.declared.results.types.AggregationResult.TheOpen as opened
+use opened.{BucketResult-F}
+use Rattle.agg_results.specs.declared.results.types.AggregationResult.TheVariants as kind
+use Rattle.agg_results.specs.declared.results.types.AggregationResults.{AggregationResults}
+use Rattle.agg_results.specs.declared.results.types.BucketResult.{BucketResult, out-BucketResult}
+use Rattle.agg_results.specs.declared.results.types.CompositeBucketEntry.{CompositeBucketEntry}
 use Rattle.agg_engine.specs.declared.walk.error.WalkError.{WalkError}
-use Rattle.agg_engine.specs.declared.walk.error.WalkError.TheVariants.{OutOfMemory, TooMany}
+use Rattle.agg_engine.specs.declared.walk.error.WalkError.TheVariants.{Aggregation, OutOfMemory}
+use Rattle.agg_engine.specs.declared.walk.error.WalkError.TheVariants.{TooMany}
 
 -- as many sources as a composite may have
 pub record AreFew (sources : Sources) : Type 0 where
@@ -25,22 +38,48 @@ pub record AreFew (sources : Sources) : Type 0 where
 abbrev pub MayGoOnFrom : Sources → Named AfterKey → Type 0
 MayGoOnFrom sources after = All (λ source. ¬ (IsNullAfter source (after_of after source))) sources
 
--- why a page isn't given: the composite counts too many documents; want of memory needs no cause
-abbrev pub IsPageRefusal : CompositeAggregation → List Fields → WalkError → Type 0
-IsPageRefusal composite documents TooMany = CountsTooMany (Composite composite) documents
-IsPageRefusal composite documents OutOfMemory = ⊤
-IsPageRefusal composite documents _ = ⊥
+-- why there are no results: with so many counted before, the composite counts too many documents;
+-- want of memory needs no cause
+abbrev pub IsHeldRefusal : CompositeAggregation → List Fields → ℕ → WalkError → Type 0
+IsHeldRefusal composite documents counted TooMany =
+    2 ^ 32 ≤ counted + length (uncut (Composite composite) documents)
+IsHeldRefusal composite documents counted OutOfMemory = ⊤
+IsHeldRefusal composite documents counted _ = ⊥
 
--- what a call for the page of a size behind an after key answers: an Ok has the entries of the
--- page, and then the composite doesn't count too many documents; each other answer has its cause
-pub record AnswersPage (composite : CompositeAggregation) (size : ℕ) (after : Named AfterKey)
-    (documents : List Fields) (result : Result (List PageEntry) WalkError) : Type 0 where
-  pub page : IfOk result
-      (ArePageEntries composite.sources size (bound_of composite.sources after) documents)
-  pub fits : OnOk result (¬ (CountsTooMany (Composite composite) documents))
-  pub cause : IfErr result (IsPageRefusal composite documents)
+-- the request of one composite under a name, of a size and behind an after key
+abbrev pub asked : List ℕ → CompositeAggregation → ℕ → Named AfterKey → Request
+asked name composite size after =
+    (name, record { agg = Composite (record composite { size = size; after = after }) }) ∷ []
 
--- a value is what a function gives for the page that has these entries
-abbrev pub IsOfPage : {T : Type 0} → (List Entry → T) → List PageEntry → T → Type 0
-IsOfPage of_page entries value =
-    (page : List Entry) → AreEntriesOf page entries → value ≡ of_page page
+-- what a call for the results of a composite over documents answers, where so many documents were
+-- counted before: an Ok has results that stand for the documents, and has counted these too, and
+-- they are not too many with those before; each other answer has its cause
+pub record AnswersHeld (name : List ℕ) (composite : CompositeAggregation) (size : ℕ)
+    (after : Named AfterKey) (documents : List Fields) (counted counted_now : ℕ)
+    (result : Result IntermediateAggregationResults WalkError) : Type 0 where
+  pub held : IfOk result (λ held. StandsFor (asked name composite size after) documents held.results)
+  pub counted_is : OnOk result
+      (counted_now ≡ counted + length (uncut (Composite composite) documents))
+  pub few : OnOk result (counted_now < 2 ^ 32)
+  pub cause : IfErr result (IsHeldRefusal composite documents counted)
+
+-- the after key that the results of a name show
+abbrev pub shown_after_of : List ℕ → AggregationResults → Named AfterKey
+shown_after_of name results = after_shown (value_of name results.0)
+  where
+    of_buckets : BucketResult-F AggregationResult BucketResult AggregationResults CompositeBucketEntry
+        → Named AfterKey
+    of_buckets (opened.Composite buckets after_key) = after_key
+
+    after_shown : Option AggregationResult → Named AfterKey
+    after_shown None = []
+    after_shown (Some (kind.BucketResult buckets)) = of_buckets (out-BucketResult buckets)
+
+-- why held results have no final ones: these have more buckets than the limit; want of memory needs
+-- no cause
+abbrev pub IsFinalRefusal : ℕ → Request → Held → WalkError → Type 0
+IsFinalRefusal limit request held (Aggregation (aggregation.BucketLimitExceeded given n)) =
+    (given ≡ limit) × (n ≡ results_buckets (final_results request held))
+    × HaveTooMany limit request held
+IsFinalRefusal limit request held OutOfMemory = ⊤
+IsFinalRefusal limit request held _ = ⊥

@@ -3,8 +3,8 @@ use Rattle.std.specs.Prelude.{◌≡◌, ℕ, List, map}
 use Rattle.agg_segment.specs.declared.query.QueryTree.{QueryTree}
 use Rattle.agg_request.specs.Request.{Request}
 use Rattle.agg_engine.specs.declared.walk.Walk.{Walk}
-use Rattle.agg_engine.specs.Results.{Results}
-use Rattle.agg_engine.specs.ShownResults.{shown_results}
+use Rattle.agg_results.specs.Results.{Results}
+use Rattle.agg_results.specs.ShownResults.{shown_results}
 use Rattle.agg_engine.specs.Snapshot.{SnapshotDocuments}
 use Rattle.agg_engine.specs.Walk.{IsWalk}
 

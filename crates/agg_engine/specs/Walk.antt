@@ -18,7 +18,7 @@ use Rattle.agg_request.specs.Faults.{IsSoundRequest, RequestHasFault}
 use Rattle.agg_request.specs.Request.{Request}
 use Rattle.agg_request.specs.Uncut.{CountsTooMany}
 use Rattle.agg_engine.specs.NamedComposite.{NamesComposite}
-use Rattle.agg_engine.specs.Results.{IsResults, Results, after_in}
+use Rattle.agg_results.specs.Results.{IsResults, Results, after_in}
 use Rattle.agg_engine.specs.Snapshot.{SnapshotDocuments}
 
 -- the documents of a snapshot: those of its segments, joined
@@ -72,17 +72,6 @@ IsWalk name query request (s ∷ snapshots) (r ∷ rs) ended =
 abbrev pub HasTooMany : Request → List Fields → Type 0
 HasTooMany [] documents = ⊥
 HasTooMany (a ∷ request) documents = CountsTooMany a.1.agg documents ⊎ HasTooMany request documents
-
--- the walk reaches a snapshot in which the request counts too many documents
-abbrev pub ReachesTooMany : List ℕ → QueryTree → Request → List SnapshotDocuments → Type 0
-ReachesTooMany name query request [] = ⊥
-ReachesTooMany name query request (s ∷ snapshots) =
-    HasTooMany request (matching_documents query s)
-    ⊎ ((r : Results)
-    × IsResults (request_at_size name s.page_size request) (matching_documents query s) r
-    × MatchOption (after_in name r)
-    ⊥
-    (λ tuple. ReachesTooMany name query (request_behind name tuple request) snapshots))
 
 -- no page size is 0, of snapshots reached or not
 abbrev pub HaveRoom : List SnapshotDocuments → Type 0

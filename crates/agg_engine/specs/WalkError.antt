@@ -1,5 +1,5 @@
 -- Why a walk gave no pages.
-use Rattle.std.specs.Prelude.{ℕ, List, ⊤, codes}
+use Rattle.std.specs.Prelude.{ℕ, List, codes}
 use Rattle.agg_values.specs.declared.error.InvalidArgument.{InvalidArgument}
 use Rattle.agg_values.specs.declared.error.InvalidArgument.TheVariants as argument
 use Rattle.agg_values.specs.declared.request_error.AggregationError.{AggregationError}
@@ -15,11 +15,6 @@ use Rattle.agg_engine.specs.declared.walk.error.WalkError.{WalkError}
 use Rattle.agg_engine.specs.declared.walk.error.WalkError.TheVariants.{Invalid, UnknownComposite}
 use Rattle.agg_engine.specs.declared.walk.error.WalkError.TheVariants.{TooMany, OutOfMemory}
 use Rattle.agg_engine.specs.declared.walk.error.WalkError.TheVariants.{Aggregation}
-use Rattle.agg_segment.specs.declared.query.QueryTree.{QueryTree}
-use Rattle.agg_request.specs.Request.{Request}
-use Rattle.agg_engine.specs.NamedComposite.{NamesComposite}
-use Rattle.agg_engine.specs.Snapshot.{SnapshotDocuments}
-use Rattle.agg_engine.specs.Walk.{HasFault, MayBeAsked, ReachesTooMany}
 
 -- the name of an argument's error
 abbrev pub argument_name : InvalidArgument → List ℕ
@@ -64,12 +59,3 @@ abbrev pub error_from_request : RequestError → WalkError
 error_from_request (request.Invalid given) = Invalid given
 error_from_request (request.Aggregation given) = Aggregation given
 error_from_request request.OutOfMemory = OutOfMemory
-
--- an error of a walk has its cause; want of memory needs none, and aggregations have no error yet
-abbrev pub HasCause : List ℕ → QueryTree → Request → List SnapshotDocuments → WalkError → Type 0
-HasCause name query request snapshots (Invalid fault) = HasFault request snapshots fault
-HasCause name query request snapshots UnknownComposite = ¬ (NamesComposite name request)
-HasCause name query request snapshots TooMany =
-    MayBeAsked name request snapshots × ReachesTooMany name query request snapshots
-HasCause name query request snapshots (Aggregation given) = ⊥
-HasCause name query request snapshots OutOfMemory = ⊤

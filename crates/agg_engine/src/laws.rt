@@ -1,7 +1,7 @@
 //! What holds of walks, as their definition says it.
 ghost use Rattle.std.specs.Prelude.{◌≡◌, ℕ, List, [], Bool, false};
 ghost use Rattle.agg_segment.specs.declared.query.QueryTree.{QueryTree};
-ghost use Rattle.agg_engine.specs.Results.{Results};
+ghost use Rattle.agg_results.specs.Results.{Results};
 ghost use Rattle.agg_engine.specs.Snapshot.{SnapshotDocuments};
 ghost use Rattle.agg_engine.specs.Walk.{IsWalk};
 ghost use Rattle.agg_request.specs.Request.{Request};

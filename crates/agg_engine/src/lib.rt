@@ -1,8 +1,7 @@
-//! Results, and the walk that pages over snapshots.
+//! The walk that pages over snapshots.
 #![tactic(auto)]
 
 mod laws;
-pub mod results;
 mod walk;
 
 pub use laws::{a_walk_over_no_snapshot_has_no_page, each_request_has_one_walk};

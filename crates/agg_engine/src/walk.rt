@@ -3,24 +3,30 @@ mod accessors;
 mod bound;
 mod checks;
 mod error;
+mod finish;
+mod held;
 mod matching;
 mod page;
-mod shown;
+mod segment;
 
-ghost use Rattle.std.specs.Prelude.{◌≡◌, ◌≤◌, IfErr, IfOk, OnOk, IsErrOf};
+ghost use Rattle.std.specs.Prelude.{◌≡◌, ◌≤◌, All, IfErr, IfOk, OnOk, IsErrOf};
 ghost use Rattle.agg_values.specs.declared.error.InvalidArgument.{InvalidArgument as Fault};
-ghost use Rattle.agg_engine.specs.Form.{IsTakenForm};
+ghost use Rattle.agg_results.specs.BucketCount.{results_buckets};
+ghost use Rattle.agg_engine.specs.Form.{IsOneComposite};
+ghost use Rattle.agg_engine.specs.Refusals.{HasCause, IsRefused};
 ghost use Rattle.agg_engine.specs.ShownWalk.{IsShownWalk};
 ghost use Rattle.agg_engine.specs.Snapshot.{snapshots_documents};
-ghost use Rattle.agg_engine.specs.Walk.{MayBeAsked, ReachesTooMany};
-ghost use Rattle.agg_engine.specs.WalkError.{HasCause};
+ghost use Rattle.agg_engine.specs.Walk.{MayBeAsked};
+ghost use Rattle.agg_engine.specs.declared.walk.error.WalkError.{WalkError as Refusal};
 
-use crate::results::AggregationResults;
 use agg_cache::LimitsLedger;
 use agg_request::{Aggregations, check_request};
+use agg_results::AggregationResults;
 use agg_segment::{QueryTree, Schema, SegmentReader};
 use agg_values::{InvalidArgument, ItemList, Steps, Text};
 pub use error::WalkError;
+use finish::page_results;
+use page::{PageRequest, segments_results};
 use std::alloc::Global;
 use std::sync::ledger::Ledger;
 
@@ -52,19 +58,22 @@ pub fn walk_pages<L: Ledger>(
     snapshots: &ItemList<Snapshot>,
     steps: &mut Steps<L>,
 ) -> Result<Walk, WalkError>
-    requires form { IsTakenForm request.now (snapshots_documents snapshots.now) }
+    requires form { IsOneComposite request.now }
 
-    // An Ok is the walk, as it is shown, of a request that may be asked.
+    // An Ok is the walk, as it is shown, of a request that may be asked. No page of it is refused.
     ensures pages { IfOk result
         (IsShownWalk name.now query.now request.now (snapshots_documents snapshots.now)) }
     ensures asked { OnOk result
         (MayBeAsked name.now request.now (snapshots_documents snapshots.now)) }
-    ensures fits { OnOk result
-        (¬ (ReachesTooMany name.now query.now request.now (snapshots_documents snapshots.now))) }
+    ensures fits { OnOk result ((error : Refusal)
+        → ¬ (IsRefused limits.old.bucket_limit name.now query.now request.now
+        (snapshots_documents snapshots.now) error)) }
+    ensures buckets { IfOk result (λ walk.
+        All (λ page. results_buckets page ≤ limits.old.bucket_limit) walk.pages) }
 
     // Each other answer has its cause.
-    ensures cause { IfErr result
-        (HasCause name.now query.now request.now (snapshots_documents snapshots.now)) }
+    ensures cause { IfErr result (HasCause limits.old.bucket_limit name.now query.now request.now
+        (snapshots_documents snapshots.now)) }
 
     // No byte is charged. Steps never fall, and a refusal before any snapshot takes none.
     ensures limits { limits.new ≡ limits.old }
@@ -73,7 +82,6 @@ pub fn walk_pages<L: Ledger>(
         → steps.new ≡ steps.old }
     ensures name_first { IsErrOf result WalkError.UnknownComposite → steps.new ≡ steps.old }
 {
-    let _ = limits;
     let _ = schema;
     check_request(alloc, request)?;
     if checks::some_page_has_no_room(snapshots.as_slice()) {
@@ -82,18 +90,25 @@ pub fn walk_pages<L: Ledger>(
     let Some(composite) = checks::named_composite(request, name) else {
         return Err(WalkError::UnknownComposite);
     };
-    let sources = composite.sources.as_slice();
     let mut before = None;
     let mut pages = ItemList::new(alloc);
     for snapshot in snapshots.as_slice() {
-        let after = bound::after_key(&before, &composite.after);
-        let entries = page::snapshot_page(alloc, name, composite, after, query, snapshot, steps)?;
-        let next = bound::next_bound(alloc, entries.as_slice(), snapshot.page_size)?;
-        pages.push(shown::page_results(alloc, name, sources, entries, &next)?)?;
-        let Some(tuple) = next else {
-            return Ok(Walk { pages, ended: true });
+        let page = PageRequest {
+            name,
+            composite,
+            size: snapshot.page_size,
+            after: bound::after_key(&before, &composite.after),
+            query,
         };
-        before = Some(shown::after_keys(alloc, sources, &tuple)?);
+        let mut counted = 0;
+        let segments = snapshot.segments.as_slice();
+        let held = segments_results(alloc, &page, segments, &mut counted, steps)?;
+        let results = page_results(held, request, limits)?;
+        before = bound::next_after(alloc, &results, name)?;
+        pages.push(results)?;
+        if before.is_none() {
+            return Ok(Walk { pages, ended: true });
+        }
     }
     Ok(Walk {
         pages,

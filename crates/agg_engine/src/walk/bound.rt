@@ -1,10 +1,9 @@
 //! Where the next page begins.
-ghost use Rattle.std.specs.Prelude.{◌≡◌, IfOk, unwrap_or};
-ghost use Rattle.agg_engine.specs.PageAnswers.{IsOfPage};
-ghost use Rattle.agg_engine.specs.Results.{after_tuple};
+ghost use Rattle.std.specs.Prelude.{◌≡◌, ◌≢◌, [], IfOk, MatchOption, unwrap_or};
+ghost use Rattle.agg_engine.specs.PageAnswers.{shown_after_of};
 
-use agg_composite::PageEntry;
-use agg_values::{AfterKey, NameMap, OutOfMemory, Tuple};
+use agg_results::{AggregationResult, AggregationResults, BucketResult};
+use agg_values::{AfterKey, NameMap, OutOfMemory, Text};
 use std::alloc::Global;
 
 /// The after key of a page: that of the page before, or at first the request's own.
@@ -20,19 +19,35 @@ pub fn after_key<'a>(
     }
 }
 
-/// The last tuple of a page that has as many entries as it has room for.
-pub fn next_bound(
+/// The after key that the results of a name show, if they show one.
+pub fn next_after(
     alloc: Global,
-    entries: &[PageEntry],
-    size: u32,
-) -> Result<Option<Tuple>, OutOfMemory>
-    ensures { IfOk result (IsOfPage (after_tuple size) entries.now) }
+    results: &AggregationResults,
+    name: &Text,
+) -> Result<Option<NameMap<AfterKey>>, OutOfMemory>
+    ensures { IfOk result (λ next. MatchOption next
+        (shown_after_of name.now results.now ≡ [])
+        (λ after. (after ≡ shown_after_of name.now results.now) × (after ≢ []))) }
 {
-    if entries.len() != size as usize {
+    let Some(AggregationResult::BucketResult(BucketResult::Composite { after_key, .. })) = results
+        .0
+        .get(name)
+    else {
+        return Ok(None);
+    };
+    if after_key.is_empty() {
         return Ok(None);
     }
-    match entries.last() {
-        Some(entry) => Ok(Some(entry.key.try_clone(alloc)?)),
-        None => Ok(None),
+    Ok(Some(copied(alloc, after_key)?))
+}
+
+// An equal after key.
+fn copied(alloc: Global, after: &NameMap<AfterKey>) -> Result<NameMap<AfterKey>, OutOfMemory>
+    ensures { IfOk result (λ copy. copy ≡ after.now) }
+{
+    let mut copy = NameMap::new(alloc);
+    for (source, key) in after.iter() {
+        copy.insert(source.try_clone(alloc)?, AfterKey(key.0.try_clone(alloc)?))?;
     }
+    Ok(copy)
 }

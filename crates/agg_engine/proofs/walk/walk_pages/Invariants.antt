@@ -6,7 +6,8 @@ use Rattle.agg_engine.proofs.walk.walk_pages.Given as goal
 -- the pages so far are those of the walk, which goes on from the after key, and steps didn't fall
 abbrev pub invariant-loop-snapshot : goal.invariant-loop-snapshot
 invariant-loop-snapshot g l = record {
-  walking : IsWalking l.name l.query l.request (snapshots_documents l.snapshots) l.composite
+  walking : IsWalking l.limits.bucket_limit l.name l.query l.request
+      (snapshots_documents l.snapshots) l.composite
       (unwrap_or l.before l.composite.after) (snapshots_documents
       (drop l.snapshot-index l.snapshots))
       l.pages;

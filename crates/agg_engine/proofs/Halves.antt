@@ -1,0 +1,95 @@
+-- What two lists of segments hold for a page is held for both as one.
+use Rattle.std.proofs.Common.{◌≡◌, ℕ, ◌+◌, ◌<◌, ◌≤◌, ◌^◌, List, [], ◌∷◌, ◌++◌, Ok, length, take}
+use Rattle.std.proofs.Common.{drop, length-append, sym, ap, ◌∙◌, subst, arith}
+use Rattle.std.specs.List.{All, Any, filter, flat_map}
+use Rattle.std.proofs.lemmas.List.{take-append-drop}
+use Rattle.std.proofs.lemmas.List.Concat.{flat_map-append}
+use Rattle.std.proofs.lemmas.List.Elements.{All-contains, All-from_recursion, filter-append}
+use Rattle.agg_values.specs.Names.{Named}
+use Rattle.agg_values.specs.declared.after_key.AfterKey.{AfterKey}
+use Rattle.agg_segment.specs.Document.{Fields}
+use Rattle.agg_segment.specs.Query.{matches}
+use Rattle.agg_segment.specs.Segment.{Stored, documents_of}
+use Rattle.agg_segment.specs.declared.query.QueryTree.{QueryTree}
+use Rattle.agg_request.specs.declared.aggregation.Aggregation.{Aggregation}
+use Rattle.agg_request.specs.Uncut.{uncut}
+use Rattle.agg_request.specs.declared.aggregation.AggregationVariants.TheVariants.{Composite}
+use Rattle.agg_request.specs.declared.aggregation.CompositeAggregation.{CompositeAggregation}
+use Rattle.agg_results.specs.Merging.{AreMerged, CountsPass, ShapesDiffer, SomeOfBoth}
+use Rattle.agg_results.specs.declared.intermediate.results.IntermediateAggregationResults as held
+use held.{IntermediateAggregationResults}
+use Rattle.agg_results.proofs.StandingResults.{StandsFor-alike, StandsFor-few, StandsFor-joined}
+use Rattle.agg_engine.specs.PageAnswers.{AnswersHeld, asked}
+
+-- the documents of segments that match
+abbrev pub matching_in : QueryTree → List Stored → List Fields
+matching_in query segments = filter (matches query) (flat_map documents_of segments)
+
+-- those of two lists of segments
+matching-append : (query : QueryTree) (first second : List Stored)
+    → matching_in query (first ++ second) ≡ matching_in query first ++ matching_in query second
+matching-append query first second =
+    ap (filter (matches query)) (flat_map-append documents_of first second)
+    ∙ filter-append (matches query) (flat_map documents_of first) (flat_map documents_of second)
+
+-- how many documents a composite counts in two lists of them
+counted-append : (composite : CompositeAggregation) (documents others : List Fields)
+    → length (uncut (Composite composite) (documents ++ others))
+    ≡ length (uncut (Composite composite) documents) + length (uncut (Composite composite) others)
+counted-append composite documents others =
+    ap length (flat_map-append _ documents others)
+    ∙ length-append (uncut (Composite composite) documents) (uncut (Composite composite) others)
+
+module _ (name : List ℕ) (composite : CompositeAggregation) (size : ℕ) (after : Named AfterKey)
+    (query : QueryTree) (first second : List Stored) (counted between counted_now : ℕ)
+    (held more : IntermediateAggregationResults)
+    (a : AnswersHeld name composite size after (matching_in query first) counted between (Ok held))
+    (b : AnswersHeld name composite size after (matching_in query second) between counted_now
+    (Ok more)) where
+  -- their shapes never differ
+  pub halves-alike : ¬ (SomeOfBoth ShapesDiffer held.results more.results)
+  halves-alike =
+      StandsFor-alike (asked name composite size after) (matching_in query first)
+      (matching_in query second) held.results more.results a.held b.held
+
+  -- no count passes, since few documents are counted
+  pub halves-few : ¬ (SomeOfBoth CountsPass held.results more.results)
+  halves-few pass =
+      let documents = matching_in query first in
+      let others = matching_in query second in
+      let many = StandsFor-few (asked name composite size after) documents others held.results
+      more.results a.held b.held pass in
+      let counts = counted-append composite documents others in
+      let first_is = a.counted_is in
+      let second_is = b.counted_is in
+      let least = b.few in
+      let few : ¬ (2 ^ 64 ≤ length (uncut (Composite composite) (documents ++ others))) =
+      λ passes. omega arith in
+      let P = λ (e : List ℕ × Aggregation).
+      ¬ (2 ^ 64 ≤ length (uncut e.1.agg (documents ++ others))) in
+      All-contains P (asked name composite size after) many.1
+      (All-from_recursion P (asked name composite size after) (few, tt))
+      (many.0, many.2, many.3) many.4
+
+  -- the two as one are held for all segments
+  pub halves-joined : (segments : List Stored) (at : ℕ) → first ≡ take at segments
+      → second ≡ drop at segments → (whole : IntermediateAggregationResults)
+      → AreMerged held.results more.results whole.results
+      → AnswersHeld name composite size after (matching_in query segments) counted counted_now
+      (Ok whole)
+  halves-joined segments at front back whole merged =
+      let split : segments ≡ first ++ second =
+      sym (take-append-drop at segments) ∙ (λ i. sym front i ++ sym back i) in
+      let documents = matching_in query first in
+      let others = matching_in query second in
+      let counts = counted-append composite documents others in
+      let first_is = a.counted_is in
+      let second_is = b.counted_is in
+      subst (λ ds. AnswersHeld name composite size after ds counted counted_now (Ok whole))
+      (sym (ap (matching_in query) split ∙ matching-append query first second)) (record {
+        held = StandsFor-joined (asked name composite size after) documents others held.results
+            more.results a.held b.held whole.results merged;
+        counted_is = omega arith;
+        few = b.few;
+        cause = tt;
+      })

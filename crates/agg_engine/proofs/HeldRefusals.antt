@@ -1,0 +1,61 @@
+-- Why there are no results of a composite over documents.
+use Rattle.std.proofs.Common.{◌≡◌, ◌^◌, ◌+◌, ◌≤◌, ℕ, List, ◌++◌, Result, Ok, Err, IfErr, IsErrAnd}
+use Rattle.std.proofs.Common.{length, refl, sym, subst, arith}
+use Rattle.std.specs.Prelude.{count_by}
+use Rattle.std.proofs.lemmas.List.Sums.{count_by-le-length}
+use Rattle.std.proofs.lemmas.Result.{err_from_is_err_and}
+use Rattle.agg_values.specs.Tuple.{KeyTuple}
+use Rattle.agg_cache.specs.declared.error.CollectError.{CollectError}
+use Rattle.agg_cache.specs.declared.error.CollectError.TheVariants as collect
+use Rattle.agg_segment.specs.Document.{Fields}
+use Rattle.agg_request.specs.Occurrences.{past_occurrences, same_tuple}
+use Rattle.agg_request.specs.Source.{rules_of}
+use Rattle.agg_request.specs.Uncut.{uncut}
+use Rattle.agg_request.specs.declared.aggregation.AggregationVariants.TheVariants.{Composite}
+use Rattle.agg_request.specs.declared.aggregation.CompositeAggregation.{CompositeAggregation}
+use Rattle.agg_request.proofs.OccurrencesLength.{past-fewer}
+use Rattle.agg_request.proofs.UncutLength.{length-uncut}
+use Rattle.agg_engine.specs.PageAnswers.{IsHeldRefusal}
+use Rattle.agg_engine.specs.WalkError.{error_from_collect}
+use Rattle.agg_engine.specs.declared.walk.error.WalkError.{WalkError}
+use Rattle.agg_engine.specs.declared.walk.error.WalkError.TheVariants as error
+
+-- an error that is handed on has the cause of the error that is given
+pub caused-by : {T : Type 0} (P : WalkError → Type 0) (result : Result T WalkError)
+    (given : WalkError) → IsErrAnd result (λ e. e ≡ given) → P given → IfErr result P
+caused-by P result given kept cause =
+    let found = err_from_is_err_and result kept in
+    subst (λ r. IfErr r P) (sym found.1) (subst P (sym found.2) cause)
+
+module _ (composite : CompositeAggregation) where
+  -- a tuple that stands 2^64 times past a bound is one of too many documents
+  pub too_many-often : (bound tuple : KeyTuple) (documents : List Fields)
+      → 2 ^ 64 ≤ count_by (same_tuple (rules_of composite.sources) tuple)
+      (past_occurrences composite.sources bound documents)
+      → IsHeldRefusal composite documents 0 error.TooMany
+  too_many-often bound tuple documents often =
+      omega (
+        arith,
+        often,
+        count_by-le-length (same_tuple (rules_of composite.sources) tuple)
+            (past_occurrences composite.sources bound documents),
+        past-fewer composite.sources bound documents,
+        length-uncut composite documents,
+      )
+
+  -- the error of a collector
+  pub collected-refusal : (documents : List Fields) (given : CollectError)
+      → (given ≡ collect.TooMany → IsHeldRefusal composite documents 0 error.TooMany)
+      → IsHeldRefusal composite documents 0 (error_from_collect given)
+  collected-refusal documents collect.TooMany many = many refl
+  collected-refusal documents collect.OutOfMemory many = tt
+
+  -- with more counted before, the same refusal
+  pub refusal-later : (documents : List Fields) (counted later : ℕ) (given : WalkError)
+      → counted ≤ later → IsHeldRefusal composite documents counted given
+      → IsHeldRefusal composite documents later given
+  refusal-later documents counted later error.TooMany more many = omega arith
+  refusal-later documents counted later error.OutOfMemory more many = tt
+  refusal-later documents counted later (error.Invalid fault) more refused = refused
+  refusal-later documents counted later error.UnknownComposite more refused = refused
+  refusal-later documents counted later (error.Aggregation part) more refused = refused

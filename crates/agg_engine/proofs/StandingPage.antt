@@ -1,0 +1,115 @@
+-- A page that is held under a name stands for its documents.
+use Rattle.std.proofs.Common.{◌≡◌, ◌<◌, ◌+◌, ◌^◌, ℕ, List, [], ◌∷◌, Option, Some, Result, Ok, Err, IfErr}
+use Rattle.std.proofs.Common.{IfOk, IsErrAnd, length, refl, sym, ap, subst, inl}
+use Rattle.std.specs.List.{All, AllByRecursion, Contains}
+use Rattle.std.proofs.lemmas.List.Elements.{All-from_recursion}
+use Rattle.std.proofs.lemmas.Result.{IfOk-weaker, err_from_is_err_and}
+use Rattle.agg_values.specs.Names.{Named, value_of}
+use Rattle.agg_values.specs.declared.after_key.AfterKey.{AfterKey}
+use Rattle.agg_segment.specs.Document.{Fields}
+use Rattle.agg_request.specs.Groups.{Group}
+use Rattle.agg_request.specs.Occurrences.{bound_of}
+use Rattle.agg_request.specs.Source.{rules_of}
+use Rattle.agg_request.specs.Uncut.{uncut}
+use Rattle.agg_request.specs.declared.aggregation.AggregationVariants.TheVariants.{Composite}
+use Rattle.agg_request.specs.declared.aggregation.CompositeAggregation.{CompositeAggregation}
+use Rattle.agg_request.proofs.Lists.{Contains-here}
+use Rattle.agg_results.specs.Intermediate.{AreFlat, Held, IsFlat, as_result, composite_of}
+use Rattle.agg_results.specs.Intermediate.{counts_of, held_composite, plain_entries}
+use Rattle.agg_results.specs.StandsFor.{CompositeStandsFor, GroupsStandFor, ResultStandsFor}
+use Rattle.agg_results.specs.StandsFor.{StandsFor}
+use Rattle.agg_results.specs.declared.intermediate.results.IntermediateAggregationResult as declared
+use declared.{IntermediateAggregationResult}
+use Rattle.agg_results.specs.declared.intermediate.results.IntermediateAggregationResults as held
+use held.{IntermediateAggregationResults}
+use Rattle.agg_results.proofs.StandingComposites.{counts-plain, entries-plain, stands-made}
+use Rattle.agg_engine.specs.PageAnswers.{AnswersHeld, IsHeldRefusal, asked}
+use Rattle.agg_engine.specs.declared.walk.error.WalkError.{WalkError}
+use Rattle.agg_engine.specs.declared.walk.error.WalkError.TheVariants.{OutOfMemory}
+use Rattle.agg_engine.proofs.OneRequest.{at_size, going_on, value-own}
+
+module _ (name : List ℕ) (composite : CompositeAggregation) (size : ℕ) (after : Named AfterKey)
+    (documents : List Fields) where
+  -- the page of these groups, under the name
+  abbrev pub page_held : List Group → Held
+  page_held groups =
+      (name, as_result (composite_of (rules_of composite.sources) size (plain_entries groups)))
+      ∷ []
+
+  -- what the groups of a page stand for
+  abbrev pub Stand : List Group → Type 0
+  Stand = GroupsStandFor composite.sources size (bound_of composite.sources after) documents
+
+  module _ (groups : List Group) (stand : Stand groups) where
+    composite-stands : CompositeStandsFor (at_size size (going_on after composite)) documents
+        (composite_of (rules_of composite.sources) size (plain_entries groups))
+    composite-stands =
+        stands-made (at_size size (going_on after composite)) documents
+        (rules_of composite.sources) size (plain_entries groups) (inl (refl, refl))
+        (subst Stand (sym (counts-plain groups)) stand) (entries-plain groups)
+
+    -- it stands for the documents
+    pub page-stands : StandsFor (asked name composite size after) documents (page_held groups)
+    page-stands =
+        let result = as_result (composite_of (rules_of composite.sources) size
+        (plain_entries groups)) in
+        record {
+          each = All-from_recursion
+              (λ a. ResultStandsFor a.1.agg documents (value_of a.0 (page_held groups)))
+              (asked name composite size after) (
+                subst (ResultStandsFor (Composite (at_size size (going_on after composite))) documents)
+                    (sym (value-own name result)) composite-stands,
+                tt,
+              );
+          known = All-from_recursion (Contains (name ∷ [])) (name ∷ [])
+              (Contains-here name [], tt);
+        }
+
+    -- it has no sub-results
+    pub flat-page : (result : Result IntermediateAggregationResults WalkError)
+        → IfOk result (λ held. held.results ≡ page_held groups)
+        → IfOk result (λ held. AreFlat held.results)
+    flat-page result is =
+        IfOk-weaker result (λ held. held.results ≡ page_held groups) (λ held. AreFlat held.results)
+        (λ held e. subst AreFlat (sym e)
+        (All-from_recursion (λ r. IsFlat (held_composite r.1)) (page_held groups)
+        (composite-stands.flat, tt))) is
+
+  -- ---- what a call answers
+
+  module _ (counted counted_now : ℕ) where
+    abbrev Answers : Result IntermediateAggregationResults WalkError → Type 0
+    Answers = AnswersHeld name composite size after documents counted counted_now
+
+    -- a refusal that has its cause
+    pub answers-refused : (result : Result IntermediateAggregationResults WalkError)
+        (given : WalkError) → IsErrAnd result (λ e. e ≡ given)
+        → IsHeldRefusal composite documents counted given → Answers result
+    answers-refused result given kept cause =
+        let found = err_from_is_err_and result kept in
+        subst Answers (sym found.1) (record {
+          held = tt;
+          counted_is = tt;
+          few = tt;
+          cause = subst (IsHeldRefusal composite documents counted) (sym found.2) cause;
+        })
+
+    -- the page of these groups, unless memory is wanting
+    pub answers-page : (groups : List Group) → Stand groups
+        → counted_now ≡ counted + length (uncut (Composite composite) documents)
+        → counted_now < 2 ^ 32 → (result : Result IntermediateAggregationResults WalkError)
+        → IfOk result (λ held. held.results ≡ page_held groups)
+        → IfErr result (λ error. error ≡ OutOfMemory) → Answers result
+    answers-page groups stand counted_is few (Ok held) is err = record {
+      held = subst (StandsFor (asked name composite size after) documents) (sym is)
+          (page-stands groups stand);
+      counted_is = counted_is;
+      few = few;
+      cause = tt;
+    }
+    answers-page groups stand counted_is few (Err error) ok is = record {
+      held = tt;
+      counted_is = tt;
+      few = tt;
+      cause = subst (IsHeldRefusal composite documents counted) (sym is) tt;
+    }

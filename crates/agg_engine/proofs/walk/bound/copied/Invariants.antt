@@ -1,0 +1,7 @@
+use Rattle.std.proofs.Common.{◌≡◌, ◌++◌, map}
+use Rattle.agg_engine.proofs.walk.bound.copied.Given as goal
+
+-- the entries so far are copied
+abbrev pub invariant-loop-source : goal.invariant-loop-source
+invariant-loop-source l =
+    l.after ≡ l.copy ++ l.source-iterator

@@ -1,0 +1,84 @@
+use Rattle.std.proofs.Common.{◌≡◌, ◌+◌, length, map, ap, ◌∙◌, subst, arith}
+use Rattle.std.specs.List.{AllZip, filter}
+use Rattle.agg_segment.specs.Query.{matches}
+use Rattle.agg_segment.specs.Segment.{documents_at, documents_of}
+use Rattle.agg_request.specs.Uncut.{uncut}
+use Rattle.agg_request.specs.declared.aggregation.AggregationVariants.TheVariants.{Composite}
+use Rattle.agg_composite.specs.Accessors.{AreAccessorsOf, after_of}
+use Rattle.agg_composite.specs.PageEntries.{entry_group}
+use Rattle.agg_engine.specs.PageAnswers.{IsHeldRefusal}
+use Rattle.agg_engine.proofs.HeldRefusals.{refusal-later}
+use Rattle.agg_engine.proofs.StandingPage.{Stand, answers-page, answers-refused, flat-page}
+use Rattle.agg_engine.proofs.walk.segment.segment_results.Given as given
+use Rattle.agg_engine.proofs.walk.segment.segment_results.Goals as goal
+use Rattle.agg_engine.proofs.walk.segment.segment_results.Goals.{In_ok-entries}
+
+pub docs_page-requires-clause-fits : goal.docs_page-requires-clause-fits
+docs_page-requires-clause-fits g c = (
+  c.args.segment.now,
+  c.args.page.now.after.now,
+  subst (λ sources. AllZip
+      (λ s a. AreAccessorsOf c.args.segment.now s (after_of c.args.page.now.after.now s) a) sources
+      c.in_ok-accessors_for.field-0) c.as_slice-sources.ensures c.in_ok-accessors_for.ensures.ok,
+)
+
+pub returns-in_err-entries-clause-held : goal.returns-in_err-entries-clause-held
+returns-in_err-entries-clause-held g c =
+    let page = c.args.page.now in
+    let segment = c.args.segment.now in
+    let documents = filter (matches page.query.now) (documents_of segment) in
+    let fits = subst (λ sources. AllZip
+    (λ s a. AreAccessorsOf segment s (after_of page.after.now s) a) sources
+    c.in_ok-accessors_for.field-0) c.as_slice-sources.ensures c.in_ok-accessors_for.ensures.ok in
+    let given = c.in_err-entries.field-0.0 in
+    let listed = ap (documents_at segment) c.deref-2.ensures.value ∙ c.in_ok-docs.ensures in
+    answers-refused page.name.now page.composite.now page.size page.after.now documents
+    c.args.counted.now c.count_docs.new.counted c.from_residual-in_err-entries.result given
+    c.from_residual-in_err-entries.ensures.1
+    (refusal-later page.composite.now documents 0 c.args.counted.now given (omega arith)
+    (subst (λ ds. IsHeldRefusal page.composite.now ds 0 given) listed
+    (c.in_err-entries.ensures.cause segment page.after.now fits)))
+
+-- the entries stand for the documents that match
+stand : (g : given.Over) (c : In_ok-entries g)
+    → Stand c.args.page.now.name.now c.args.page.now.composite.now c.args.page.now.size
+    c.args.page.now.after.now
+    (filter (matches c.args.page.now.query.now) (documents_of c.args.segment.now))
+    (map entry_group c.in_ok-entries.entries)
+stand g c =
+    let page = c.args.page.now in
+    let segment = c.args.segment.now in
+    let fits = subst (λ sources. AllZip
+    (λ s a. AreAccessorsOf segment s (after_of page.after.now s) a) sources
+    c.in_ok-accessors_for.field-0) c.as_slice-sources.ensures c.in_ok-accessors_for.ensures.ok in
+    subst (λ ds. Stand page.name.now page.composite.now page.size page.after.now ds
+    (map entry_group c.in_ok-entries.entries))
+    (ap (documents_at segment) c.deref-2.ensures.value ∙ c.in_ok-docs.ensures)
+    (c.in_ok-entries.ensures.page segment page.after.now fits)
+
+pub held_page-requires-clause-ascending : goal.held_page-requires-clause-ascending
+held_page-requires-clause-ascending g c = (stand g c).ascending
+
+pub returns-clause-held : goal.returns-clause-held
+returns-clause-held g c =
+    let turn = (goal.at.returns-clause-held g c).In_ok-entries in
+    let page = c.args.page.now in
+    let segment = c.args.segment.now in
+    let documents = filter (matches page.query.now) (documents_of segment) in
+    let counted = subst (λ ds. c.count_docs.new.counted
+    ≡ c.args.counted.now + length (uncut (Composite page.composite.now) ds))
+    (ap (documents_at segment) c.deref.ensures.value ∙ c.in_ok-docs.ensures)
+    c.in_ok-count_docs.ensures.counted in
+    answers-page page.name.now page.composite.now page.size page.after.now documents
+    c.args.counted.now c.count_docs.new.counted (map entry_group c.in_ok-entries.entries)
+    (stand g turn) counted c.in_ok-count_docs.ensures.few c.held_page.result
+    c.held_page.ensures.held c.held_page.ensures.err
+
+pub returns-clause-flat : goal.returns-clause-flat
+returns-clause-flat g c =
+    let turn = (goal.at.returns-clause-flat g c).In_ok-entries in
+    let page = c.args.page.now in
+    flat-page page.name.now page.composite.now page.size page.after.now
+    (filter (matches page.query.now) (documents_of c.args.segment.now))
+    (map entry_group c.in_ok-entries.entries) (stand g turn) c.held_page.result
+    c.held_page.ensures.held

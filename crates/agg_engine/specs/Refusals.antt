@@ -1,0 +1,46 @@
+-- Why a walk gave no pages.
+use Rattle.std.specs.Prelude.{◌≡◌, ◌<◌, ◌⊎◌, ℕ, List, [], ◌∷◌, MatchOption, ⊤}
+use Rattle.agg_values.specs.declared.request_error.AggregationError.TheVariants as aggregation
+use Rattle.agg_segment.specs.Document.{Fields}
+use Rattle.agg_segment.specs.declared.query.QueryTree.{QueryTree}
+use Rattle.agg_request.specs.Request.{Request}
+use Rattle.agg_results.specs.Results.{IsResults, Results, after_in, buckets_in}
+use Rattle.agg_engine.specs.NamedComposite.{NamesComposite}
+use Rattle.agg_engine.specs.Snapshot.{SnapshotDocuments}
+use Rattle.agg_engine.specs.Walk.{HasFault, HasTooMany, MayBeAsked, matching_documents}
+use Rattle.agg_engine.specs.Walk.{request_at_size, request_behind}
+use Rattle.agg_engine.specs.declared.walk.error.WalkError.{WalkError}
+use Rattle.agg_engine.specs.declared.walk.error.WalkError.TheVariants as error
+
+-- why the results of a request over documents are refused: too many documents are counted, or,
+-- where not, there are more buckets than the limit
+abbrev pub AreRefused : ℕ → Request → List Fields → WalkError → Type 0
+AreRefused limit request documents error.TooMany = HasTooMany request documents
+AreRefused limit request documents (error.Aggregation (aggregation.BucketLimitExceeded given n)) =
+    (¬ (HasTooMany request documents)) × (given ≡ limit) × (limit < n)
+    × ((results : Results) × IsResults request documents results × (n ≡ buckets_in results))
+AreRefused limit request documents _ = ⊥
+
+-- the walk reaches a snapshot whose results are refused, and those before it are not
+abbrev pub IsRefused : ℕ → List ℕ → QueryTree → Request → List SnapshotDocuments → WalkError
+    → Type 0
+IsRefused limit name query request [] error = ⊥
+IsRefused limit name query request (s ∷ snapshots) error =
+    AreRefused limit (request_at_size name s.page_size request) (matching_documents query s) error
+    ⊎ (((other : WalkError) → ¬ (AreRefused limit (request_at_size name s.page_size request)
+    (matching_documents query s) other))
+    × ((r : Results)
+    × IsResults (request_at_size name s.page_size request) (matching_documents query s) r
+    × MatchOption (after_in name r)
+    ⊥
+    (λ tuple. IsRefused limit name query (request_behind name tuple request) snapshots error)))
+
+-- an error of a walk has its cause; want of memory needs none
+abbrev pub HasCause : ℕ → List ℕ → QueryTree → Request → List SnapshotDocuments → WalkError
+    → Type 0
+HasCause limit name query request snapshots (error.Invalid fault) = HasFault request snapshots fault
+HasCause limit name query request snapshots error.UnknownComposite =
+    ¬ (NamesComposite name request)
+HasCause limit name query request snapshots error.OutOfMemory = ⊤
+HasCause limit name query request snapshots error =
+    MayBeAsked name request snapshots × IsRefused limit name query request snapshots error

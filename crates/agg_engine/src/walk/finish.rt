@@ -1,0 +1,34 @@
+//! The results of a page.
+ghost use Rattle.std.specs.Prelude.{◌≡◌, IfErr, IfOk, OnOk};
+ghost use Rattle.agg_results.specs.Final.{HaveTooMany, HoldsOther, HoldsUnknown, final_results};
+ghost use Rattle.agg_engine.specs.PageAnswers.{IsFinalRefusal};
+
+use super::WalkError;
+use agg_cache::LimitsLedger;
+use agg_request::Aggregations;
+use agg_results::{AggregationResults, FinalError, IntermediateAggregationResults};
+
+/// The final results of a request, from what is held of a page, unless they have more buckets than
+/// the limit.
+pub fn page_results(
+    held: IntermediateAggregationResults,
+    request: &Aggregations,
+    limits: &LimitsLedger,
+) -> Result<AggregationResults, WalkError>
+    requires known { ¬ (HoldsUnknown request.now held.results) }
+    requires alike { ¬ (HoldsOther request.now held.results) }
+    ensures ok { IfOk result (λ results. results ≡ final_results request.now held.results) }
+    ensures few { OnOk result
+        (¬ (HaveTooMany limits.now.bucket_limit request.now held.results)) }
+    ensures cause { IfErr result
+        (IsFinalRefusal limits.now.bucket_limit request.now held.results) }
+{
+    match held.into_final_result(request, limits) {
+        Ok(results) => Ok(results),
+        Err(FinalError::Aggregation(error)) => Err(WalkError::Aggregation(error)),
+        Err(FinalError::OutOfMemory) => Err(WalkError::OutOfMemory),
+        Err(FinalError::Mismatch | FinalError::TooMany | FinalError::UnknownAggregation) => {
+            unreachable!()
+        }
+    }
+}

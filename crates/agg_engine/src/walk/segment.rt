@@ -1,0 +1,111 @@
+//! What one segment holds for a page.
+ghost use Rattle.std.specs.Prelude.{◌≡◌, ◌≢◌, ◌≤◌, ◌<◌, ◌+◌, ◌^◌, filter, length, map};
+ghost use Rattle.std.specs.Prelude.{IfErr, IfOk, OnOk};
+ghost use Rattle.agg_values.specs.Names.{Named};
+ghost use Rattle.agg_values.specs.declared.after_key.AfterKey.{AfterKey as After};
+ghost use Rattle.agg_segment.specs.Query.{matches};
+ghost use Rattle.agg_segment.specs.Segment.{Stored, documents_at, documents_of};
+ghost use Rattle.agg_request.specs.Occurrences.{bound_of};
+ghost use Rattle.agg_request.specs.Uncut.{uncut};
+ghost use Rattle.agg_request.specs.declared.aggregation.AggregationVariants.TheVariants.{Composite};
+ghost use Rattle.agg_composite.specs.Accessors.{Fits};
+ghost use Rattle.agg_composite.specs.PageEntries.{entry_group};
+ghost use Rattle.agg_results.specs.Intermediate.{AreFlat};
+ghost use Rattle.agg_results.specs.StandsFor.{GroupsStandFor};
+ghost use Rattle.agg_engine.specs.PageAnswers.{AnswersHeld, AreFew, IsHeldRefusal, MayGoOnFrom};
+
+use super::WalkError;
+use super::accessors::accessors_for;
+use super::held::held_page;
+use super::matching::matching_docs;
+use super::page::PageRequest;
+use agg_composite::{CompositeAggReqData, PageEntry, SegmentCompositeCollector};
+use agg_request::{CompositeAggregation, count_uncut};
+use agg_results::IntermediateAggregationResults;
+use agg_segment::SegmentReader;
+use agg_values::{DocId, ItemList, Steps};
+use std::alloc::Global;
+use std::sync::ledger::Ledger;
+
+/// So many documents are too many for a page to count.
+const TOO_MANY: u64 = 1 << 32;
+
+/// What a segment holds for a page, and in `counted` how many documents it counts besides those
+/// counted before.
+pub fn segment_results<L: Ledger>(
+    alloc: Global,
+    page: &PageRequest<'_>,
+    segment: &SegmentReader,
+    counted: &mut u64,
+    steps: &mut Steps<L>,
+) -> Result<IntermediateAggregationResults, WalkError>
+    requires sources { AreFew page.now.composite.now.sources }
+    requires after { MayGoOnFrom page.now.composite.now.sources page.now.after.now }
+    requires room { page.now.size ≢ 0 }
+    ensures held { AnswersHeld page.now.name.now page.now.composite.now page.now.size
+        page.now.after.now
+        (filter (matches page.now.query.now) (documents_of segment.now))
+        counted.old counted.new result }
+    ensures flat { IfOk result (λ held. AreFlat held.results) }
+    ensures later { steps.old ≤ steps.new }
+{
+    let docs = matching_docs(alloc, page.query, segment)?;
+    count_docs(alloc, page.composite, segment, &docs, counted)?;
+    let sources = page.composite.sources.as_slice();
+    let req = CompositeAggReqData {
+        name: page.name.try_clone(alloc)?,
+        req: page.composite,
+        size: page.size,
+        composite_accessors: accessors_for(alloc, segment, sources, page.after)?,
+    };
+    let entries = docs_page(alloc, &docs, &req, steps)?;
+    held_page(alloc, page, entries)
+}
+
+// Adds to the counted documents those that a composite counts at these places of a segment, unless
+// they are then too many.
+fn count_docs(
+    alloc: Global,
+    composite: &CompositeAggregation,
+    segment: &SegmentReader,
+    docs: &[DocId],
+    counted: &mut u64,
+) -> Result<(), WalkError>
+    ensures counted { OnOk result (counted.new ≡ counted.old
+        + length (uncut (Composite composite.now) (documents_at segment.now docs.now))) }
+    ensures few { OnOk result (counted.new < 2 ^ 32) }
+    ensures cause { IfErr result
+        (IsHeldRefusal composite.now (documents_at segment.now docs.now) counted.old) }
+{
+    let more = count_uncut(alloc, composite, segment, docs)?;
+    *counted = counted.saturating_add(more);
+    if *counted >= TOO_MANY {
+        return Err(WalkError::TooMany);
+    }
+    Ok(())
+}
+
+// The lowest groups of the documents at these places of a segment. The collector is let go before
+// they are held.
+fn docs_page<L: Ledger>(
+    alloc: Global,
+    docs: &[DocId],
+    req: &CompositeAggReqData<'_>,
+    steps: &mut Steps<L>,
+) -> Result<ItemList<PageEntry>, WalkError>
+    requires sources { AreFew req.now.req.now.sources }
+    requires fits { (segment : Stored) × (after : Named After) × Fits segment after req.now }
+    ensures page { (segment : Stored) (after : Named After)
+        → Fits segment after req.now
+        → IfOk result (λ entries. GroupsStandFor req.now.req.now.sources req.now.size
+        (bound_of req.now.req.now.sources after) (documents_at segment docs.now)
+        (map entry_group entries)) }
+    ensures cause { (segment : Stored) (after : Named After)
+        → Fits segment after req.now
+        → IfErr result (IsHeldRefusal req.now.req.now (documents_at segment docs.now) 0) }
+    ensures later { steps.old ≤ steps.new }
+{
+    let mut collector = SegmentCompositeCollector::new(alloc, req.req.sources.as_slice().len())?;
+    collector.collect(0, docs, req, steps)?;
+    Ok(collector.page(0, req)?)
+}
