@@ -13,7 +13,8 @@ use Rattle.agg_request.specs.declared.aggregation.AggregationVariants.TheVariant
 use Rattle.agg_engine.specs.Form.{IsOneComposite}
 use Rattle.agg_pages.specs.declared.input.header.Header.{Header}
 use Rattle.agg_pages.specs.Header.{IsHeader, IsHeaderLine, IsQueryOf, IsRequest, IsRequestAt}
-use Rattle.agg_pages.specs.Header.{IsNoComposite, header_members, request_of, texts_of}
+use Rattle.agg_pages.specs.Header.{IsBucketLimitOf, IsNoComposite, header_members, request_of}
+use Rattle.agg_pages.specs.Header.{texts_of}
 use Rattle.agg_pages.proofs.Composites.{IsCompositeJson-unique, named_body-unique}
 use Rattle.agg_pages.proofs.Documents.{none_is_some, same_value}
 use Rattle.agg_pages.proofs.Queries.{IsQuery-unique}
@@ -37,12 +38,20 @@ IsQueryOf-unique : (o : Option Data) (a b : QueryTree) → IsQueryOf o a → IsQ
 IsQueryOf-unique None a b h k = h ∙ sym k
 IsQueryOf-unique (Some d) a b h k = IsQuery-unique d a b h k
 
+IsBucketLimitOf-unique : (o : Option Data) (a b : Option ℕ) → IsBucketLimitOf o a
+    → IsBucketLimitOf o b → a ≡ b
+IsBucketLimitOf-unique None a b h k = h ∙ sym k
+IsBucketLimitOf-unique (Some d) a b (n, is, a_is) (m, is_too, b_is) =
+    a_is ∙ sym is ∙ is_too ∙ sym b_is
+
 IsHeader-unique : (d : Data) (a b : Header) → IsHeader d a → IsHeader d b → a ≡ b
 IsHeader-unique d a b h k = λ i. record {
   request = IsRequestAt-unique (get (codes "request") d) a.request b.request h.request k.request i;
   name = same_value a.name b.name (sym h.name ∙ k.name) i;
   schema = same_value a.schema b.schema (sym h.schema ∙ k.schema) i;
   query = IsQueryOf-unique (get (codes "query") d) a.query b.query h.query k.query i;
+  bucket_limit = IsBucketLimitOf-unique (get (codes "bucket_limit") d) a.bucket_limit
+      b.bucket_limit h.bucket_limit k.bucket_limit i;
 }
 
 pub IsHeaderLine-unique : (line : List ℕ) (a b : Header) → IsHeaderLine line a
@@ -75,6 +84,11 @@ no_schema d none header h = none_is_some header.schema (sym none ∙ h.schema)
 pub no_query : (d : Data) → ((query : QueryTree) → ¬ IsQueryOf (get (codes "query") d) query)
     → (header : Header) → ¬ IsHeader d header
 no_query d none header h = none header.query h.query
+
+pub no_bucket_limit : (d : Data)
+    → ((limit : Option ℕ) → ¬ IsBucketLimitOf (get (codes "bucket_limit") d) limit)
+    → (header : Header) → ¬ IsHeader d header
+no_bucket_limit d none header h = none header.bucket_limit h.bucket_limit
 
 pub other_members : (d : Data) → has_members (header_members d) d ≡ false
     → (header : Header) → ¬ IsHeader d header

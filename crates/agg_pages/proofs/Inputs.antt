@@ -1,20 +1,16 @@
--- Bytes stand for one input at most, which has the form that a walk takes.
+-- Bytes stand for one input at most.
 use Rattle.std.proofs.Common.{◌≡◌, ◌≤◌, ◌<◌, ℕ, List, [], ◌∷◌, length, sym, ap}
-use Rattle.std.proofs.Common.{◌∙◌, subst, arith, All}
+use Rattle.std.proofs.Common.{◌∙◌, subst, arith}
 use Rattle.std.specs.Str.{IsUtf8}
-use Rattle.std.proofs.lemmas.List.Elements.{All-cons, All-nil, All-same}
 use Rattle.std.proofs.lemmas.Str.{IsUtf8-from_is_utf8, is_utf8-from_IsUtf8}
-use Rattle.agg_segment.specs.Document.{Fields}
-use Rattle.agg_engine.specs.Form.{IsTakenForm}
 use Rattle.agg_engine.specs.Snapshot.{SnapshotDocuments}
 use Rattle.agg_pages.specs.declared.input.header.Header.{Header}
 use Rattle.agg_pages.specs.Header.{IsHeaderLine}
 use Rattle.agg_pages.specs.Input.{AreNoInput, Input, IsInput, IsInputOfLines}
 use Rattle.agg_pages.specs.Lines.{lines_of}
-use Rattle.agg_pages.specs.SnapshotLines.{AreSnapshots, Line, Says, begins, begun_snapshots, holds}
-use Rattle.agg_pages.specs.SnapshotLines.{leading_documents, snapshot_of}
+use Rattle.agg_pages.specs.SnapshotLines.{AreSnapshots, Says, begun_snapshots}
 use Rattle.agg_pages.proofs.Beside.{AllZip-unique}
-use Rattle.agg_pages.proofs.Headers.{IsHeaderLine-unique, header_form}
+use Rattle.agg_pages.proofs.Headers.{IsHeaderLine-unique}
 use Rattle.agg_pages.proofs.SnapshotSteps.{Says-unique}
 
 -- ---- one input at most
@@ -35,31 +31,6 @@ IsInputOfLines-unique (first ∷ lines) i j h k = λ at. record {
 
 pub IsInput-unique : (bytes : List ℕ) (i j : Input) → IsInput bytes i → IsInput bytes j → i ≡ j
 IsInput-unique bytes i j h k = IsInputOfLines-unique (lines_of bytes) i j h.lines k.lines
-
--- ---- the form of the snapshots
-
-abbrev IsSmall : SnapshotDocuments → Type 0
-IsSmall s = length s.segments ≤ 1
-
-snapshot_small : (size : ℕ) (documents : List Fields) → IsSmall (snapshot_of size documents)
-snapshot_small size [] = omega arith
-snapshot_small size (d ∷ ds) = omega arith
-
-begun_small : (lines : List Line) → All IsSmall (begun_snapshots lines)
-begun_small [] = All-nil IsSmall
-begun_small (holds document ∷ lines) = begun_small lines
-begun_small (begins size ∷ lines) =
-    All-cons IsSmall (snapshot_of size (leading_documents lines)) (begun_snapshots lines)
-    (snapshot_small size (leading_documents lines)) (begun_small lines)
-
--- an input has the form that a walk takes
-pub input_form : (first : List ℕ) (lines : List (List ℕ)) (i : Input)
-    → IsHeaderLine first i.header → AreSnapshots lines i.snapshots
-    → IsTakenForm i.header.request i.snapshots
-input_form first lines i head (said, say, stand, is) = record {
-  one = header_form first i.header head;
-  few = All-same IsSmall i.snapshots (begun_snapshots said) is (begun_small said);
-}
 
 -- ---- the bytes of an input
 

@@ -54,8 +54,8 @@ may_not_refuse i (Invalid fault) valid (other, inr (is, some)) =
     none_of_all (λ s. s.page_size ≡ 0) (λ s. s.page_size ≢ 0) (λ s zero room. room zero)
     i.snapshots some valid.asked.room
 may_not_refuse i UnknownComposite valid (other, unknown) = unknown valid.asked.named
-may_not_refuse i TooMany valid (other, many) = valid.fits many.1
-may_not_refuse i (Aggregation given) valid (other, none) = none
+may_not_refuse i TooMany valid (other, many) = valid.fits TooMany many.1
+may_not_refuse i (Aggregation given) valid (other, many) = valid.fits (Aggregation given) many.1
 may_not_refuse i OutOfMemory valid (other, any) = other refl
 
 -- what a source gave is the one input that it told

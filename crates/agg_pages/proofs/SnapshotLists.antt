@@ -1,20 +1,20 @@
 -- Lines and the snapshots that they stand for.
-use Rattle.std.proofs.Common.{◌≡◌, ℕ, List, [], ◌∷◌, ◌++◌, map, refl, sym, ap}
-use Rattle.std.proofs.Common.{◌∙◌, subst, append-nil, append_assoc, arith, All, inl, inr}
+use Rattle.std.proofs.Common.{◌≡◌, ℕ, List, [], ◌∷◌, ◌++◌, Bool, true, false, map, refl, sym, ap}
+use Rattle.std.proofs.Common.{◌∙◌, subst, append-nil, append_assoc, arith, All}
 use Rattle.std.proofs.lemmas.Grind.{flat_map-append}
 use Rattle.std.proofs.lemmas.List.{length-append}
-use Rattle.std.proofs.lemmas.List.Elements.{All-cons, All-head, All-nil, All-tail}
-use Rattle.std.proofs.lemmas.List.Elements.{All-push, All-weaker, Contains-append_left}
+use Rattle.std.proofs.lemmas.List.Elements.{All-append, All-cons, All-head, All-nil, All-tail}
+use Rattle.std.proofs.lemmas.List.Elements.{All-push, Contains-append_left}
 use Rattle.std.specs.List.{Contains, flat_map}
 use Rattle.agg_segment.specs.Document.{Fields}
 use Rattle.agg_segment.specs.Segment.{HasSign, IsMixed}
 use Rattle.agg_segment.specs.Signs.{sign_of}
 use Rattle.agg_segment.specs.declared.signs.Sign.{Sign}
 use Rattle.agg_engine.specs.Snapshot.{SnapshotDocuments}
-use Rattle.agg_engine.specs.Walk.{documents_in}
-use Rattle.agg_pages.specs.SnapshotLines.{FitSegment, Line, StandForSnapshots, begins, holds}
-use Rattle.agg_pages.specs.SnapshotLines.{begun_snapshots, leading_documents, snapshot_of}
-use Rattle.agg_pages.specs.Snapshots.{IsRefused, IsWhole, lines_in}
+use Rattle.agg_pages.specs.SnapshotLines.{FitSegment, Line, StandForSnapshots, begins, holds, opens}
+use Rattle.agg_pages.specs.SnapshotLines.{begun_snapshots, leading_documents, opened_segments}
+use Rattle.agg_pages.specs.Snapshots.{AreFit, Made, Open, all_segments, begun, last_segment}
+use Rattle.agg_pages.specs.Snapshots.{snapshots_made, whole_snapshot, with_line}
 use Rattle.agg_pages.proofs.Beside.{map-append}
 
 -- ---- segments of fewer documents
@@ -35,7 +35,7 @@ mixed_more : (documents more : List Fields) → IsMixed documents → IsMixed (d
 mixed_more documents more (field, negative, large) =
     (field, sign_more documents more field _ negative, sign_more documents more field _ large)
 
-FitSegment-first : (documents more : List Fields) → FitSegment (documents ++ more)
+pub FitSegment-first : (documents more : List Fields) → FitSegment (documents ++ more)
     → FitSegment documents
 FitSegment-first documents more h = record {
   few = omega (arith, h.few, length-append documents more);
@@ -48,202 +48,193 @@ FitSegment-none = record {
   unmixed = λ (field, (k, within, is), large). absurd (omega (arith, within));
 }
 
--- ---- snapshots of documents
+-- ---- what lines make of snapshots
 
-pub documents_in-snapshot_of : (size : ℕ) (documents : List Fields)
-    → documents_in (snapshot_of size documents) ≡ documents
-documents_in-snapshot_of size [] = refl
-documents_in-snapshot_of size (d ∷ ds) = append-nil (d ∷ ds)
+-- the snapshots before a line, with those that it begins and all lines behind it
+abbrev pub with_lines : List Line → Made → Made
+with_lines [] made = made
+with_lines (line ∷ lines) made = with_lines lines (with_line line made)
 
-page_size-snapshot_of : (size : ℕ) (documents : List Fields)
-    → (snapshot_of size documents).page_size ≡ size
-page_size-snapshot_of size [] = refl
-page_size-snapshot_of size (d ∷ ds) = refl
+pub with_lines-append : (xs ys : List Line) (made : Made)
+    → with_lines (xs ++ ys) made ≡ with_lines ys (with_lines xs made)
+with_lines-append [] ys made = refl
+with_lines-append (line ∷ xs) ys made = with_lines-append xs ys (with_line line made)
 
-pub lines_in-snapshot_of : (size : ℕ) (documents : List Fields)
-    → lines_in (snapshot_of size documents) ≡ begins size ∷ map holds documents
-lines_in-snapshot_of size documents =
-    ap (λ n. begins n ∷ map holds (documents_in (snapshot_of size documents)))
-    (page_size-snapshot_of size documents)
-    ∙ ap (λ ds. begins size ∷ map holds ds) (documents_in-snapshot_of size documents)
+-- where the first snapshot of this page size begins
+abbrev pub first : ℕ → Made
+first size = record { closed = []; current = begun size }
 
-abbrev IsPlain : SnapshotDocuments → Type 0
-IsPlain s = s ≡ snapshot_of s.page_size (documents_in s)
+-- the segments of a snapshot in the making, where these lines follow
+abbrev segments_before : List Line → Open → List (List Fields)
+segments_before lines one =
+    one.segments
+    ++ (last_segment one.opened (one.documents ++ leading_documents lines) ++ opened_segments lines)
 
-plain : (size : ℕ) (documents : List Fields) → IsPlain (snapshot_of size documents)
-plain size [] = refl
-plain size (d ∷ ds) = ap (λ l. snapshot_of size l) (sym (append-nil (d ∷ ds)))
+-- the snapshot of a page size and segments
+abbrev snapshot : ℕ → List (List Fields) → SnapshotDocuments
+snapshot size segments = record { segments = segments; page_size = size }
 
-pub IsWhole-snapshot_of : (size : ℕ) (documents : List Fields) → FitSegment documents
-    → IsWhole (snapshot_of size documents)
-IsWhole-snapshot_of size documents fits = record {
-  one = plain size documents;
-  fits = subst FitSegment (sym (documents_in-snapshot_of size documents)) fits;
-}
+-- the snapshots, where these lines follow
+abbrev snapshots_before : List Line → Made → List SnapshotDocuments
+snapshots_before lines made =
+    made.closed
+    ++ snapshot made.current.page_size (segments_before lines made.current) ∷ begun_snapshots lines
 
--- ---- the documents of a snapshot's lines
+-- no lines add nothing
+nothing_follows : (one : Open) → all_segments one ≡ segments_before [] one
+nothing_follows one =
+    ap (λ documents. one.segments ++ last_segment one.opened documents)
+    (sym (append-nil one.documents))
+    ∙ ap (λ segments. one.segments ++ segments)
+    (sym (append-nil (last_segment one.opened (one.documents ++ []))))
 
-leading-holds : (documents : List Fields) (lines : List Line) → leading_documents lines ≡ []
-    → leading_documents (map holds documents ++ lines) ≡ documents
-leading-holds [] lines h = h
-leading-holds (d ∷ ds) lines h = ap (λ l. d ∷ l) (leading-holds ds lines h)
+line_follows : (line : Line) (lines : List Line) (made : Made)
+    → snapshots_before lines (with_line line made) ≡ snapshots_before (line ∷ lines) made
+line_follows (holds document) lines made =
+    let one = made.current in
+    ap (λ documents. made.closed
+    ++ snapshot one.page_size
+    (one.segments ++ (last_segment one.opened documents ++ opened_segments lines))
+    ∷ begun_snapshots lines)
+    (append_assoc one.documents (document ∷ []) (leading_documents lines))
+line_follows opens lines made =
+    let one = made.current in
+    let behind = leading_documents lines ∷ opened_segments lines in
+    ap (λ segments. made.closed ++ snapshot one.page_size segments ∷ begun_snapshots lines)
+    (append_assoc one.segments (last_segment one.opened one.documents) behind
+    ∙ ap (λ documents. one.segments ++ (last_segment one.opened documents ++ behind))
+    (sym (append-nil one.documents)))
+line_follows (begins size) lines made =
+    let behind = begun_snapshots (begins size ∷ lines) in
+    append_assoc made.closed (whole_snapshot made.current ∷ []) behind
+    ∙ ap (λ segments. made.closed ++ snapshot made.current.page_size segments ∷ behind)
+    (nothing_follows made.current)
 
-begun-holds : (documents : List Fields) (lines : List Line)
-    → begun_snapshots (map holds documents ++ lines) ≡ begun_snapshots lines
-begun-holds [] lines = refl
-begun-holds (d ∷ ds) lines = begun-holds ds lines
+lines_follow : (lines : List Line) (made : Made)
+    → snapshots_made (with_lines lines made) ≡ snapshots_before lines made
+lines_follow [] made =
+    ap (λ segments. made.closed ++ snapshot made.current.page_size segments ∷ [])
+    (nothing_follows made.current)
+lines_follow (line ∷ lines) made =
+    lines_follow lines (with_line line made) ∙ line_follows line lines made
 
-pub leading-lines : (snapshots : List SnapshotDocuments)
-    → leading_documents (flat_map lines_in snapshots) ≡ []
-leading-lines [] = refl
-leading-lines (s ∷ snapshots) = refl
-
-begun-first : (s : SnapshotDocuments) (lines : List Line) → leading_documents lines ≡ []
-    → IsPlain s → begun_snapshots (lines_in s ++ lines) ≡ s ∷ begun_snapshots lines
-begun-first s lines h is =
-    ap (λ ds. snapshot_of s.page_size ds ∷ begun_snapshots (map holds (documents_in s) ++ lines))
-    (leading-holds (documents_in s) lines h)
-    ∙ ap (λ l. snapshot_of s.page_size (documents_in s) ∷ l) (begun-holds (documents_in s) lines)
-    ∙ ap (λ first. first ∷ begun_snapshots lines) (sym is)
-
-begun-lines : (snapshots : List SnapshotDocuments) → All IsPlain snapshots
-    → begun_snapshots (flat_map lines_in snapshots) ≡ snapshots
-begun-lines [] h = refl
-begun-lines (s ∷ snapshots) h =
-    begun-first s (flat_map lines_in snapshots) (leading-lines snapshots)
-    (All-head IsPlain s snapshots h)
-    ∙ ap (λ l. s ∷ l) (begun-lines snapshots (All-tail IsPlain s snapshots h))
-
-whole_is_plain : (snapshots : List SnapshotDocuments) → All IsWhole snapshots
-    → All IsPlain snapshots
-whole_is_plain snapshots h = All-weaker IsWhole IsPlain (λ s whole. whole.one) snapshots h
-
--- whole snapshots are those of their lines
-pub begun-whole : (snapshots : List SnapshotDocuments) → All IsWhole snapshots
-    → begun_snapshots (flat_map lines_in snapshots) ≡ snapshots
-begun-whole snapshots h = begun-lines snapshots (whole_is_plain snapshots h)
+-- the snapshots that begin in lines are made line by line
+pub begun-made : (size : ℕ) (lines : List Line)
+    → begun_snapshots (begins size ∷ lines) ≡ snapshots_made (with_lines lines (first size))
+begun-made size lines = sym (lines_follow lines (first size))
 
 -- ---- snapshots whose segments may hold their documents
-
-segments_fit : (size : ℕ) (documents : List Fields) → FitSegment documents
-    → All FitSegment (snapshot_of size documents).segments
-segments_fit size [] h = All-nil FitSegment
-segments_fit size (d ∷ ds) h = All-cons FitSegment (d ∷ ds) [] h (All-nil FitSegment)
-
-fit_from_segments : (size : ℕ) (documents : List Fields)
-    → All FitSegment (snapshot_of size documents).segments → FitSegment documents
-fit_from_segments size [] h = FitSegment-none
-fit_from_segments size (d ∷ ds) h = All-head FitSegment (d ∷ ds) [] h
 
 abbrev SegmentsFit : SnapshotDocuments → Type 0
 SegmentsFit s = All FitSegment s.segments
 
-whole_fits : (s : SnapshotDocuments) → IsWhole s → SegmentsFit s
-whole_fits s h = subst SegmentsFit (sym h.one) (segments_fit s.page_size (documents_in s) h.fits)
+last_fits : (opened : Bool) (documents : List Fields) → FitSegment documents
+    → All FitSegment (last_segment opened documents)
+last_fits true documents h = All-cons FitSegment documents [] h (All-nil FitSegment)
+last_fits false [] h = All-nil FitSegment
+last_fits false (d ∷ ds) h = All-cons FitSegment (d ∷ ds) [] h (All-nil FitSegment)
 
--- the lines of whole snapshots stand for them
-pub StandForSnapshots-whole : (snapshots : List SnapshotDocuments) → All IsWhole snapshots
-    → StandForSnapshots (flat_map lines_in snapshots)
-StandForSnapshots-whole snapshots h = record {
-  none = leading-lines snapshots;
-  fit = subst (All SegmentsFit) (sym (begun-whole snapshots h))
-      (All-weaker IsWhole SegmentsFit whole_fits snapshots h);
-}
+fit_from_last : (opened : Bool) (documents : List Fields)
+    → All FitSegment (last_segment opened documents) → FitSegment documents
+fit_from_last true documents h = All-head FitSegment documents [] h
+fit_from_last false [] h = FitSegment-none
+fit_from_last false (d ∷ ds) h = All-head FitSegment (d ∷ ds) [] h
 
--- ---- fewer lines
+all_before : {A : Type 0} (P : A → Type 0) (xs ys : List A) → All P (xs ++ ys) → All P xs
+all_before P [] ys h = All-nil P
+all_before P (x ∷ xs) ys h =
+    All-cons P x xs (All-head P x (xs ++ ys) h) (all_before P xs ys (All-tail P x (xs ++ ys) h))
 
-leading_first : (xs ys : List Line)
-    → (rest : List Fields) × (leading_documents (xs ++ ys) ≡ leading_documents xs ++ rest)
-leading_first [] ys = (leading_documents ys, refl)
-leading_first (begins size ∷ xs) ys = ([], refl)
-leading_first (holds d ∷ xs) ys =
-    let (rest, is) = leading_first xs ys in (rest, ap (λ l. d ∷ l) is)
+all_behind : {A : Type 0} (P : A → Type 0) (xs ys : List A) → All P (xs ++ ys) → All P ys
+all_behind P [] ys h = h
+all_behind P (x ∷ xs) ys h = all_behind P xs ys (All-tail P x (xs ++ ys) h)
 
-segments_first : (size : ℕ) (documents more : List Fields)
-    → SegmentsFit (snapshot_of size (documents ++ more)) → SegmentsFit (snapshot_of size documents)
-segments_first size documents more h =
-    segments_fit size documents
-    (FitSegment-first documents more (fit_from_segments size (documents ++ more) h))
+all_segments_fit : (made : Made) → AreFit made → All FitSegment (all_segments made.current)
+all_segments_fit made fit =
+    All-append FitSegment made.current.segments
+    (last_segment made.current.opened made.current.documents) fit.segments
+    (last_fits made.current.opened made.current.documents fit.documents)
 
-fit_first : (xs ys : List Line) → All SegmentsFit (begun_snapshots (xs ++ ys))
-    → All SegmentsFit (begun_snapshots xs)
-fit_first [] ys h = All-nil SegmentsFit
-fit_first (holds d ∷ xs) ys h = fit_first xs ys h
-fit_first (begins size ∷ xs) ys h =
-    let (rest, is) = leading_first xs ys in
-    let first = snapshot_of size (leading_documents (xs ++ ys)) in
-    All-cons SegmentsFit (snapshot_of size (leading_documents xs)) (begun_snapshots xs)
-    (segments_first size (leading_documents xs) rest
-    (subst (λ ds. SegmentsFit (snapshot_of size ds)) is
-    (All-head SegmentsFit first (begun_snapshots (xs ++ ys)) h)))
-    (fit_first xs ys (All-tail SegmentsFit first (begun_snapshots (xs ++ ys)) h))
+snapshots_fit : (made : Made) → AreFit made → All SegmentsFit (snapshots_made made)
+snapshots_fit made fit =
+    All-push SegmentsFit made.closed (whole_snapshot made.current) fit.closed
+    (all_segments_fit made fit)
 
-nothing_first : (xs ys : List Fields) → xs ++ ys ≡ [] → xs ≡ []
-nothing_first [] ys h = refl
-nothing_first (x ∷ xs) ys h = cc
-
-pub StandForSnapshots-first : (xs ys : List Line) → StandForSnapshots (xs ++ ys)
-    → StandForSnapshots xs
-StandForSnapshots-first xs ys h =
-    let (rest, is) = leading_first xs ys in
+fit_from_snapshots : (made : Made) → All SegmentsFit (snapshots_made made) → AreFit made
+fit_from_snapshots made h =
+    let one = made.current in
+    let last = All-head SegmentsFit (whole_snapshot one) []
+    (all_behind SegmentsFit made.closed (whole_snapshot one ∷ []) h) in
     record {
-      none = nothing_first (leading_documents xs) rest (sym is ∙ h.none);
-      fit = fit_first xs ys h.fit;
+      closed = all_before SegmentsFit made.closed (whole_snapshot one ∷ []) h;
+      segments = all_before FitSegment one.segments (last_segment one.opened one.documents) last;
+      documents = fit_from_last one.opened one.documents
+          (all_behind FitSegment one.segments (last_segment one.opened one.documents) last);
     }
 
--- ---- one line more
+pub AreFit-first : (size : ℕ) → AreFit (first size)
+AreFit-first size = record {
+  closed = All-nil SegmentsFit;
+  segments = All-nil FitSegment;
+  documents = FitSegment-none;
+}
 
--- the lines after one more document
-pub lines-held : (closed : List SnapshotDocuments) (size : ℕ) (documents : List Fields)
-    (document : Fields)
-    → flat_map lines_in (closed ++ snapshot_of size (documents ++ document ∷ []) ∷ [])
-    ≡ flat_map lines_in (closed ++ snapshot_of size documents ∷ []) ++ holds document ∷ []
-lines-held closed size documents document =
-    let all = λ (ds : List Fields). flat_map lines_in (closed ++ snapshot_of size ds ∷ []) in
-    let open_lines = λ (ds : List Fields).
-    flat_map-append lines_in closed (snapshot_of size ds ∷ [])
-    ∙ ap (λ l. flat_map lines_in closed ++ l)
-    (append-nil (lines_in (snapshot_of size ds)) ∙ lines_in-snapshot_of size ds) in
-    let before = flat_map lines_in closed in
-    open_lines (documents ++ document ∷ [])
-    ∙ ap (λ l. before ++ begins size ∷ l) (map-append holds documents (document ∷ []))
-    ∙ sym (append_assoc before (begins size ∷ map holds documents) (holds document ∷ []))
-    ∙ ap (λ l. l ++ holds document ∷ []) (sym (open_lines documents))
+-- a snapshot that begins fits, and so does a segment
+pub AreFit-begins : (size : ℕ) (made : Made) → AreFit made → AreFit (with_line (begins size) made)
+AreFit-begins size made fit = record {
+  closed = snapshots_fit made fit;
+  segments = All-nil FitSegment;
+  documents = FitSegment-none;
+}
 
--- the lines after one on which a snapshot begins
-pub lines-begun : (snapshots : List SnapshotDocuments) (size : ℕ)
-    → flat_map lines_in (snapshots ++ snapshot_of size [] ∷ [])
-    ≡ flat_map lines_in snapshots ++ begins size ∷ []
-lines-begun snapshots size = flat_map-append lines_in snapshots (snapshot_of size [] ∷ [])
+pub AreFit-opens : (made : Made) → AreFit made → AreFit (with_line opens made)
+AreFit-opens made fit = record {
+  closed = fit.closed;
+  segments = all_segments_fit made fit;
+  documents = FitSegment-none;
+}
 
--- no document follows that its segment refuses
-pub refused_line : (closed : List SnapshotDocuments) (size : ℕ) (documents : List Fields)
-    (document : Fields) → All IsWhole (closed ++ snapshot_of size documents ∷ [])
-    → IsRefused documents document
-    → ¬ StandForSnapshots (flat_map lines_in (closed ++ snapshot_of size documents ∷ [])
-    ++ holds document ∷ [])
-refused_line closed size documents document whole refused stand =
-    let more = documents ++ document ∷ [] in
-    let closed_plain : All IsPlain closed = all_before closed _ (whole_is_plain _ whole) in
-    let all_plain : All IsPlain (closed ++ snapshot_of size more ∷ []) =
-    All-push IsPlain closed (snapshot_of size more) closed_plain (plain size more) in
-    let begun = ap begun_snapshots (sym (lines-held closed size documents document))
-    ∙ begun-lines (closed ++ snapshot_of size more ∷ []) all_plain in
-    let fit : All SegmentsFit (closed ++ snapshot_of size more ∷ []) =
-    subst (All SegmentsFit) begun stand.fit in
-    let last = fit_from_segments size more (last_of closed (snapshot_of size more) fit) in
-    elim refused [
-      | inl full ↦ absurd (omega (arith, last.few, full, length-append documents (document ∷ [])))
-      | inr mixed ↦ last.unmixed mixed
-    ]
-  where
-    all_before : (xs ys : List SnapshotDocuments) → All IsPlain (xs ++ ys) → All IsPlain xs
-    all_before [] ys h = All-nil IsPlain
-    all_before (x ∷ xs) ys h =
-        All-cons IsPlain x xs (All-head IsPlain x (xs ++ ys) h)
-        (all_before xs ys (All-tail IsPlain x (xs ++ ys) h))
+-- what fits with one more line fits without it
+fit_before : (line : Line) (made : Made) → AreFit (with_line line made) → AreFit made
+fit_before (begins size) made fit = fit_from_snapshots made fit.closed
+fit_before opens made fit =
+    let one = made.current in
+    record {
+      closed = fit.closed;
+      segments = all_before FitSegment one.segments (last_segment one.opened one.documents)
+          fit.segments;
+      documents = fit_from_last one.opened one.documents
+          (all_behind FitSegment one.segments (last_segment one.opened one.documents)
+          fit.segments);
+    }
+fit_before (holds document) made fit = record {
+  closed = fit.closed;
+  segments = fit.segments;
+  documents = FitSegment-first made.current.documents (document ∷ []) fit.documents;
+}
 
-    last_of : (xs : List SnapshotDocuments) (y : SnapshotDocuments)
-        → All SegmentsFit (xs ++ y ∷ []) → SegmentsFit y
-    last_of [] y h = All-head SegmentsFit y [] h
-    last_of (x ∷ xs) y h = last_of xs y (All-tail SegmentsFit x (xs ++ y ∷ []) h)
+pub AreFit-before : (lines : List Line) (made : Made) → AreFit (with_lines lines made)
+    → AreFit made
+AreFit-before [] made fit = fit
+AreFit-before (line ∷ lines) made fit =
+    fit_before line made (AreFit-before lines (with_line line made) fit)
+
+-- ---- lines that stand for snapshots
+
+pub StandForSnapshots-made : (size : ℕ) (lines : List Line)
+    → AreFit (with_lines lines (first size)) → StandForSnapshots (begins size ∷ lines)
+StandForSnapshots-made size lines fit = record {
+  none = refl;
+  fit = subst (All SegmentsFit) (sym (begun-made size lines))
+      (snapshots_fit (with_lines lines (first size)) fit);
+}
+
+pub AreFit-made : (size : ℕ) (lines : List Line) → StandForSnapshots (begins size ∷ lines)
+    → AreFit (with_lines lines (first size))
+AreFit-made size lines stand =
+    fit_from_snapshots (with_lines lines (first size))
+    (subst (All SegmentsFit) (begun-made size lines) stand.fit)
+
+-- no lines stand for no snapshots
+pub StandForSnapshots-none : StandForSnapshots []
+StandForSnapshots-none = record { none = refl; fit = All-nil SegmentsFit }

@@ -1,12 +1,12 @@
 -- What answers an input, and which bytes are none.
 use Rattle.std.specs.Prelude.{◌≡◌, ◌≢◌, ◌<◌, ◌+◌, ◌⊎◌, ℕ, List, [], ◌∷◌, Bool, true, false}
-use Rattle.std.specs.Prelude.{Option, Some, drop, take, length, codes}
+use Rattle.std.specs.Prelude.{Option, Some, drop, take, length, codes, unwrap_or}
 use Rattle.agg_engine.specs.declared.walk.Walk.{Walk}
 use Rattle.agg_engine.specs.declared.walk.error.WalkError.{WalkError}
 use Rattle.agg_engine.specs.declared.walk.error.WalkError.TheVariants.{OutOfMemory}
 use Rattle.agg_engine.specs.ShownWalk.{IsShownWalk}
-use Rattle.agg_engine.specs.Walk.{MayBeAsked, ReachesTooMany}
-use Rattle.agg_engine.specs.WalkError.{HasCause}
+use Rattle.agg_engine.specs.Refusals.{HasCause, IsRefused}
+use Rattle.agg_engine.specs.Walk.{MayBeAsked}
 use Rattle.agg_pages.specs.Input.{AreNoInput, Input, max_input_bytes}
 use Rattle.agg_pages.specs.Output.{refusal_text, walk_text}
 
@@ -14,20 +14,22 @@ use Rattle.agg_pages.specs.Output.{refusal_text, walk_text}
 abbrev pub walk_arguments : List (List ℕ)
 walk_arguments = codes "walk" ∷ []
 
--- the walk of an input reaches a snapshot in which too many documents are counted
-abbrev pub CountsTooMany : Input → Type 0
-CountsTooMany i = ReachesTooMany i.header.name i.header.query i.header.request i.snapshots
+-- the bucket limit of an input: its own, or 65,000
+abbrev pub bucket_limit_of : Input → ℕ
+bucket_limit_of i = unwrap_or i.header.bucket_limit 65000
 
 -- an error that a walk of an input may answer, want of memory aside
 abbrev pub MayRefuse : Input → WalkError → Type 0
 MayRefuse i error =
     (error ≢ OutOfMemory)
-    × HasCause i.header.name i.header.query i.header.request i.snapshots error
+    × HasCause (bucket_limit_of i) i.header.name i.header.query i.header.request i.snapshots error
 
 -- a walk of an input that nothing refuses
 pub record IsValid (i : Input) : Type 0 where
   pub asked : MayBeAsked i.header.name i.header.request i.snapshots
-  pub fits : ¬ (CountsTooMany i)
+  pub fits : (error : WalkError)
+      → ¬ (IsRefused (bucket_limit_of i) i.header.name i.header.query i.header.request i.snapshots
+      error)
 
 -- the text is the printed walk of an input that nothing refuses
 abbrev pub IsPrintedWalk : Input → List ℕ → Type 0

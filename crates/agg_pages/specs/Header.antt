@@ -1,5 +1,5 @@
 -- The header: what a walk is asked for.
-use Rattle.std.specs.Prelude.{◌≡◌, ℕ, List, [], ◌∷◌, false, Option, None, Some, IsTrue}
+use Rattle.std.specs.Prelude.{◌≡◌, ◌+◌, ℕ, List, [], ◌∷◌, false, Option, None, Some, IsTrue}
 use Rattle.std.specs.Prelude.{if◌then◌else◌, is_some, option_and_then, codes}
 use Rattle.serde_json.specs.Data.{Data}
 use Rattle.serde_json.specs.Find.{as_array, as_str, get}
@@ -8,6 +8,7 @@ use Rattle.agg_segment.specs.declared.query.QueryTree.{QueryTree}
 use Rattle.agg_segment.specs.declared.query.QueryTree.TheVariants.{All}
 use Rattle.agg_request.specs.CompositeJson.{IsCompositeJson}
 use Rattle.agg_request.specs.Json.{each_item, has_members, only_member, only_named}
+use Rattle.agg_request.specs.Json.{small_number}
 use Rattle.agg_request.specs.Query.{IsQuery}
 use Rattle.agg_request.specs.Request.{Request}
 use Rattle.agg_request.specs.declared.aggregation.AggregationVariants.TheVariants.{Composite}
@@ -38,22 +39,34 @@ IsRequestAt (Some d) request = IsRequest d request
 abbrev pub texts_of : Data → Option (List (List ℕ))
 texts_of d = option_and_then (each_item as_str) (as_array d)
 
--- how many members a header has: its request, its name and its schema, and its query if it has one
+-- one, where there is a member of this name
+abbrev pub counted_member : List ℕ → Data → ℕ
+counted_member name d = if is_some (get name d) then 1 else 0
+
+-- how many members a header has: its request, its name and its schema, and its query and its bucket
+-- limit if it has them
 abbrev pub header_members : Data → ℕ
-header_members d = if is_some (get (codes "query") d) then 4 else 3
+header_members d = 3 + counted_member (codes "query") d + counted_member (codes "bucket_limit") d
 
 -- the query of this member: all documents, where there is no member
 abbrev pub IsQueryOf : Option Data → QueryTree → Type 0
 IsQueryOf None query = query ≡ All
 IsQueryOf (Some d) query = IsQuery d query
 
--- a header: exactly its request, its name and its schema, and a query if there is one
+-- the bucket limit of this member, a whole number within u32: none, where there is no member
+abbrev pub IsBucketLimitOf : Option Data → Option ℕ → Type 0
+IsBucketLimitOf None limit = limit ≡ None
+IsBucketLimitOf (Some d) limit = (n : ℕ) × (small_number d ≡ Some n) × (limit ≡ Some n)
+
+-- a header: exactly its request, its name and its schema, and a query and a bucket limit if there
+-- are any
 pub record IsHeader (d : Data) (header : Header) : Type 0 where
   pub members : IsTrue (has_members (header_members d) d)
   pub request : IsRequestAt (get (codes "request") d) header.request
   pub name : option_and_then as_str (get (codes "name") d) ≡ Some header.name
   pub schema : option_and_then texts_of (get (codes "schema") d) ≡ Some header.schema
   pub query : IsQueryOf (get (codes "query") d) header.query
+  pub bucket_limit : IsBucketLimitOf (get (codes "bucket_limit") d) header.bucket_limit
 
 -- the header of a line
 abbrev pub IsHeaderLine : List ℕ → Header → Type 0

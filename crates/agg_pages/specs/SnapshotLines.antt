@@ -1,5 +1,5 @@
 -- What the lines behind the header say, and the snapshots that they stand for.
-use Rattle.std.specs.Prelude.{◌≡◌, ◌≤◌, ◌^◌, ◌&&◌, ℕ, List, [], ◌∷◌, Bool, false}
+use Rattle.std.specs.Prelude.{◌≡◌, ◌≤◌, ◌^◌, ◌&&◌, ℕ, List, [], ◌∷◌, ◌++◌, Bool, false}
 use Rattle.std.specs.Prelude.{Option, None, Some, if◌then◌else◌, length, drop, codes, nat_lt}
 use Rattle.std.specs.Prelude.{nat_eq}
 use Rattle.std.specs.List.{All, AllZip, starts_with}
@@ -11,9 +11,11 @@ use Rattle.agg_segment.specs.declared.builder.TheConstants.{MAX_DOCUMENTS}
 use Rattle.agg_engine.specs.Snapshot.{SnapshotDocuments}
 use Rattle.agg_pages.specs.DocumentLine.{IsDocumentLine}
 
--- what a line behind the header says: a snapshot of a page size begins, or a document stands in it
+-- what a line behind the header says: a snapshot of a page size begins, a segment begins in it, or a
+-- document stands there
 pub data Line : Type 0 where
   begins : ℕ → Line
+  opens : Line
   holds : Fields → Line
 
 -- one or more ASCII digits, with a value within u32
@@ -33,38 +35,56 @@ is_snapshot_line line = starts_with nat_eq line (codes "snapshot ")
 abbrev pub begun_size : List ℕ → Option ℕ
 begun_size line = if is_snapshot_line line then page_size_of (drop 9 line) else None
 
+-- the line at which a segment begins
+abbrev pub segment_line : List ℕ
+segment_line = codes "segment"
+
 -- the line says this
 abbrev pub Says : List ℕ → Line → Type 0
 Says line (begins size) = begun_size line ≡ Some size
+Says line opens = line ≡ segment_line
 Says line (holds document) = (is_snapshot_line line ≡ false) × IsDocumentLine line document
 
--- a snapshot of documents: its first opens its one segment
-abbrev pub snapshot_of : ℕ → List Fields → SnapshotDocuments
-snapshot_of size [] = record { segments = []; page_size = size }
-snapshot_of size (d ∷ ds) = record { segments = (d ∷ ds) ∷ []; page_size = size }
-
--- the documents before the first snapshot
+-- the documents before the next line that begins something
 abbrev pub leading_documents : List Line → List Fields
 leading_documents [] = []
 leading_documents (holds document ∷ lines) = document ∷ leading_documents lines
+leading_documents (opens ∷ lines) = []
 leading_documents (begins size ∷ lines) = []
 
--- the snapshots that begin in these lines, each with the documents behind its line
+-- documents that no line of a segment stands before are a segment
+abbrev pub unopened_segment : List Fields → List (List Fields)
+unopened_segment [] = []
+unopened_segment (d ∷ ds) = (d ∷ ds) ∷ []
+
+-- the segments that begin before the next snapshot, each with the documents behind its line
+abbrev pub opened_segments : List Line → List (List Fields)
+opened_segments [] = []
+opened_segments (holds document ∷ lines) = opened_segments lines
+opened_segments (opens ∷ lines) = leading_documents lines ∷ opened_segments lines
+opened_segments (begins size ∷ lines) = []
+
+-- the segments before the next snapshot
+abbrev pub leading_segments : List Line → List (List Fields)
+leading_segments lines = unopened_segment (leading_documents lines) ++ opened_segments lines
+
+-- the snapshots that begin in these lines, each with the segments behind its line
 abbrev pub begun_snapshots : List Line → List SnapshotDocuments
 begun_snapshots [] = []
 begun_snapshots (holds document ∷ lines) = begun_snapshots lines
+begun_snapshots (opens ∷ lines) = begun_snapshots lines
 begun_snapshots (begins size ∷ lines) =
-    snapshot_of size (leading_documents lines) ∷ begun_snapshots lines
+    record { segments = leading_segments lines; page_size = size } ∷ begun_snapshots lines
 
 -- a segment may hold these documents
 pub record FitSegment (documents : List Fields) : Type 0 where
   pub few : length documents ≤ MAX_DOCUMENTS
   pub unmixed : ¬ IsMixed documents
 
--- lines that stand for snapshots: no document stands before the first, and each segment may hold
--- its documents
+-- lines that stand for snapshots: no segment begins before the first, and each segment may hold its
+-- documents
 pub record StandForSnapshots (lines : List Line) : Type 0 where
-  pub none : leading_documents lines ≡ []
+  pub none : leading_segments lines ≡ []
   pub fit : All (λ s. All FitSegment s.segments) (begun_snapshots lines)
 
 -- the snapshots of the lines behind the header

@@ -11,7 +11,7 @@ mod tokens;
 mod value;
 
 ghost use Rattle.std.specs.Prelude.{◌≡◌, IfOk, IsErrOf};
-ghost use Rattle.agg_engine.specs.Form.{IsTakenForm};
+ghost use Rattle.agg_engine.specs.Form.{IsOneComposite};
 ghost use Rattle.agg_engine.specs.Snapshot.{snapshots_documents};
 ghost use Rattle.agg_pages.specs.Input.{AreNoInput, Input as Meant, IsInput};
 ghost use Rattle.agg_pages.specs.Input.{IsInputOfLines, input_of};
@@ -111,7 +111,7 @@ pub struct Input {
 pub fn read_input(alloc: Global, bytes: &[u8]) -> Result<Input, InputError>
     ensures ok { IfOk result (λ i. IsInput bytes.now (input_of i)) }
     ensures form { IfOk result
-        (λ i. IsTakenForm i.header.request (snapshots_documents i.snapshots)) }
+        (λ i. IsOneComposite i.header.request) }
     ensures not_input { IsErrOf result InputError.NotInput → AreNoInput bytes.now }
 {
     if bytes.len() > MAX_INPUT_BYTES {
@@ -127,7 +127,7 @@ pub fn read_input(alloc: Global, bytes: &[u8]) -> Result<Input, InputError>
 fn read_lines(alloc: Global, lines: Lines<'_>) -> Result<Input, InputError>
     ensures ok { IfOk result (λ i. IsInputOfLines lines.entry (input_of i)) }
     ensures form { IfOk result
-        (λ i. IsTakenForm i.header.request (snapshots_documents i.snapshots)) }
+        (λ i. IsOneComposite i.header.request) }
     ensures not_input { IsErrOf result InputError.NotInput
         → (i : Meant) → ¬ IsInputOfLines lines.entry i }
 {

@@ -2,8 +2,8 @@
 ghost use Rattle.std.specs.Prelude.{◌≡◌, ◌++◌, IfOk, OnOk, string_bytes};
 ghost use Rattle.agg_pages.specs.Output.{ended_line, page_line, refusal_text, walk_text};
 
-use agg_engine::results::AggregationResults;
 use agg_engine::{Walk, WalkError};
+use agg_results::AggregationResults;
 use agg_values::OutOfMemory;
 use std::alloc::Global;
 

@@ -5,7 +5,7 @@ mod tests;
 ghost use Rattle.std.specs.Prelude.{◌≡◌, ◌<◌, ◌+◌, ◌⊎◌, ◌↔◌, ℕ, Err, take, true, false, IfOk};
 ghost use Rattle.std.specs.Prelude.{IfErr, IsTrue, string_bytes};
 ghost use Rattle.std.specs.Io.KnownBytes.{Appends};
-ghost use Rattle.agg_engine.specs.Form.{IsTakenForm};
+ghost use Rattle.agg_engine.specs.Form.{IsOneComposite};
 ghost use Rattle.agg_engine.specs.Snapshot.{snapshots_documents};
 ghost use Rattle.agg_pages.specs.Answer.{IsReply, walk_arguments};
 ghost use Rattle.agg_pages.specs.Causes.{Rose};
@@ -127,11 +127,11 @@ fn reply_to<L: Ledger>(
     input: &Input,
     steps: &mut Steps<L>,
 ) -> Result<Reply, OutOfMemory>
-    requires { IsTakenForm input.now.header.request (snapshots_documents input.now.snapshots) }
+    requires { IsOneComposite input.now.header.request }
     ensures { IfOk result
         (λ reply. IsReply reply.refused (input_of input.now) (string_bytes reply.text)) }
 {
-    let mut limits = LimitsLedger::new(None, None);
+    let mut limits = LimitsLedger::new(None, input.header.bucket_limit);
     let header = &input.header;
     let walked = walk_pages(
         alloc,

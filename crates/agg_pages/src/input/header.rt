@@ -1,5 +1,5 @@
 //! The header: what a walk is asked for.
-ghost use Rattle.std.specs.Prelude.{◌≡◌, Some, None, IfOk, IsErrOf, codes, false};
+ghost use Rattle.std.specs.Prelude.{◌≡◌, ◌≤◌, ℕ, Option, Some, None, IfOk, IsErrOf, codes, false};
 ghost use Rattle.std.specs.Prelude.{option_and_then};
 ghost use Rattle.serde_json.specs.Find.{as_str, get};
 ghost use Rattle.serde_json.specs.View.{view};
@@ -8,11 +8,12 @@ ghost use Rattle.agg_request.specs.CompositeJson.{IsCompositeJson};
 ghost use Rattle.agg_request.specs.Request.{Request};
 ghost use Rattle.agg_pages.specs.declared.input.header.Header.{Header as Read};
 ghost use Rattle.agg_pages.specs.Header.{IsHeader, IsHeaderLine, IsQueryOf, IsRequest, IsRequestAt};
-ghost use Rattle.agg_pages.specs.Header.{IsNoComposite, header_members, texts_of};
+ghost use Rattle.agg_pages.specs.Header.{IsBucketLimitOf, IsNoComposite, counted_member};
+ghost use Rattle.agg_pages.specs.Header.{header_members, texts_of};
 
 use super::InputError;
 use super::value::parse;
-use agg_request::json_value::{has_members, only_member, only_named, read_text};
+use agg_request::json_value::{has_members, only_member, only_named, read_text, small_number};
 use agg_request::{
     Aggregation, AggregationVariants, Aggregations, CompositeAggregation, read_composite,
     read_query,
@@ -29,6 +30,7 @@ pub struct Header {
     pub name: Text,
     pub schema: Schema,
     pub query: QueryTree,
+    pub bucket_limit: Option<u32>,
 }
 
 /// The header of a line.
@@ -41,7 +43,7 @@ pub fn read_header(alloc: Global, line: &str) -> Result<Header, InputError>
     header_of_value(alloc, &value)
 }
 
-// Exactly a request, a name and a schema, and a query if there is one.
+// Exactly a request, a name and a schema, and a query and a bucket limit if there are any.
 fn header_of_value(alloc: Global, value: &Value) -> Result<Header, InputError>
     ensures ok { IfOk result (λ header. IsHeader (view value.now) header) }
     ensures not_input { IsErrOf result InputError.NotInput
@@ -54,11 +56,13 @@ fn header_of_value(alloc: Global, value: &Value) -> Result<Header, InputError>
     let name = name_in(alloc, value)?;
     let schema = schema_in(alloc, value)?;
     let query = query_of(alloc, value)?;
+    let bucket_limit = bucket_limit_of(value)?;
     Ok(Header {
         request,
         name,
         schema,
         query,
+        bucket_limit,
     })
 }
 
@@ -96,7 +100,15 @@ fn schema_in(alloc: Global, value: &Value) -> Result<Schema, InputError>
 fn header_members(value: &Value) -> usize
     ensures { result ≡ header_members (view value.now) }
 {
-    if value.get("query").is_some() { 4 } else { 3 }
+    3 + counted_member(value, "query") + counted_member(value, "bucket_limit")
+}
+
+// One, where there is a member of this name.
+fn counted_member(value: &Value, name: &str) -> usize
+    ensures counted { result ≡ counted_member name.now (view value.now) }
+    ensures few { result ≤ 1 }
+{
+    usize::from(value.get(name).is_some())
 }
 
 // The query of a header, all documents where it has none.
@@ -108,6 +120,19 @@ fn query_of(alloc: Global, value: &Value) -> Result<QueryTree, InputError>
     match value.get("query") {
         Some(query) => Ok(read_query(alloc, query)?),
         None => Ok(QueryTree::All),
+    }
+}
+
+// The bucket limit of a header, if it has one.
+fn bucket_limit_of(value: &Value) -> Result<Option<u32>, InputError>
+    ensures ok { IfOk result
+        (IsBucketLimitOf (get (codes "bucket_limit") (view value.now))) }
+    ensures not_input { IsErrOf result InputError.NotInput → (limit : Option ℕ)
+        → ¬ IsBucketLimitOf (get (codes "bucket_limit") (view value.now)) limit }
+{
+    match value.get("bucket_limit") {
+        Some(limit) => Ok(Some(small_number(limit).ok_or(InputError::NotInput)?)),
+        None => Ok(None),
     }
 }
 

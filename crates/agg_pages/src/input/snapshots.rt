@@ -1,18 +1,21 @@
 //! Snapshots, from their lines.
-ghost use Rattle.std.specs.Prelude.{◌≡◌, ◌≢◌, ◌∷◌, [], ◌++◌, List, Err, IfOk, OnOk, IsErrOf};
+ghost use Rattle.std.specs.Prelude.{◌≡◌, ◌≢◌, ◌∷◌, ◌++◌, [], List, Err, IfOk, OnOk, IsErrOf};
+ghost use Rattle.std.specs.Prelude.{map};
+ghost use Rattle.agg_segment.specs.Segment.{documents_of, gathered_documents};
 ghost use Rattle.agg_engine.specs.Snapshot.{SnapshotDocuments, snapshot_documents};
 ghost use Rattle.agg_engine.specs.Snapshot.{snapshots_documents};
-ghost use Rattle.agg_pages.specs.SnapshotLines.{AreSnapshots, snapshot_of};
-ghost use Rattle.agg_pages.specs.Snapshots.{AreWhole, CannotFollow, TakesLine, open_documents};
-ghost use Rattle.agg_pages.specs.Snapshots.{snapshots_so_far};
+ghost use Rattle.agg_pages.specs.SnapshotLines.{AreSnapshots, begins};
+ghost use Rattle.agg_pages.specs.Snapshots.{AreFit, CannotFollow, TakesLine, begun, made_by};
+ghost use Rattle.agg_pages.specs.Snapshots.{last_segment, open_of, snapshots_made};
+ghost use Rattle.agg_pages.specs.Snapshots.{whole_snapshot, with_line, with_segment};
 
 use super::InputError;
 use super::document::read_document;
-use super::line::{begun_size, is_snapshot_line};
+use super::line::{begun_size, is_segment_line, is_snapshot_line};
 use super::lines::Lines;
 use super::tokens::LineRoom;
 use agg_engine::Snapshot;
-use agg_segment::SegmentBuilder;
+use agg_segment::{SegmentBuilder, SegmentReader};
 use agg_values::ItemList;
 use std::alloc::Global;
 use std::mem;
@@ -51,38 +54,75 @@ fn read_from(alloc: Global, first: &str, lines: Lines<'_>) -> Result<ItemList<Sn
 #[derive(Drop)]
 pub struct OpenSnapshot {
     pub page_size: u32,
+    /// The closed segments.
+    pub segments: ItemList<SegmentReader>,
+    /// The documents behind them.
     pub documents: SegmentBuilder,
+    /// Whether a line opened a segment for these documents. Else they are one where there are some.
+    pub opened: bool,
 }
 
 impl OpenSnapshot {
-    // A snapshot with no documents.
+    // A snapshot with no segment.
     fn new(alloc: Global, page_size: u32) -> OpenSnapshot
-        ensures { open_documents result ≡ snapshot_of page_size [] }
+        ensures { open_of result ≡ begun page_size }
     {
         OpenSnapshot {
             page_size,
+            segments: ItemList::new(alloc),
             documents: SegmentBuilder::new(alloc),
+            opened: false,
         }
     }
 
-    // The snapshot of these documents.
-    fn close(self, alloc: Global) -> Result<Snapshot, InputError>
-        ensures ok { IfOk result (λ s. snapshot_documents s ≡ open_documents self) }
+    // Opens a segment, which closes the one before, if there is one.
+    fn open_segment(&mut self, alloc: Global) -> Result<(), InputError>
+        ensures ok { OnOk result (open_of self.new ≡ with_segment (open_of self.old)) }
         ensures memory { result ≢ Err InputError.NotInput }
     {
-        let segment = self.documents.build()?;
-        let mut segments = ItemList::new(alloc);
-        if segment.num_docs() > 0 {
-            segments.push(segment)?;
-        }
+        let documents = mem::replace(&mut self.documents, SegmentBuilder::new(alloc));
+        push_segment(&mut self.segments, documents, self.opened)?;
+        self.opened = true;
+        Ok(())
+    }
+
+    // The snapshot of these segments.
+    fn close(self) -> Result<Snapshot, InputError>
+        ensures ok { IfOk result (λ s. snapshot_documents s ≡ whole_snapshot (open_of self)) }
+        ensures memory { result ≢ Err InputError.NotInput }
+    {
+        let OpenSnapshot {
+            page_size,
+            mut segments,
+            documents,
+            opened,
+        } = self;
+        push_segment(&mut segments, documents, opened)?;
         Ok(Snapshot {
             segments,
-            page_size: self.page_size,
+            page_size,
         })
     }
 }
 
-/// The snapshots of the lines so far. The last one is open for more documents.
+// Appends the segment of documents. One that no line opened has some.
+fn push_segment(
+    segments: &mut ItemList<SegmentReader>,
+    documents: SegmentBuilder,
+    opened: bool,
+) -> Result<(), InputError>
+    ensures ok { OnOk result (map documents_of segments.new
+        ≡ map documents_of segments.old ++ last_segment opened (gathered_documents documents)) }
+    ensures memory { result ≢ Err InputError.NotInput }
+{
+    let segment = documents.build()?;
+    if opened || segment.num_docs() > 0 {
+        segments.push(segment)?;
+    }
+    Ok(())
+}
+
+/// The snapshots of the lines so far. The last one is open for more segments and documents.
 #[derive(Drop)]
 pub struct SnapshotsBuilder {
     alloc: Global,
@@ -94,7 +134,8 @@ pub struct SnapshotsBuilder {
 impl SnapshotsBuilder {
     // The builder at the first snapshot.
     fn new(alloc: Global, page_size: u32) -> SnapshotsBuilder
-        ensures { snapshots_so_far result ≡ snapshot_of page_size [] ∷ [] }
+        ensures closed { result.closed ≡ [] }
+        ensures current { open_of result.current ≡ begun page_size }
     {
         SnapshotsBuilder {
             alloc,
@@ -106,13 +147,16 @@ impl SnapshotsBuilder {
 
     // Takes the next line.
     fn add_line(&mut self, line: &str) -> Result<(), InputError>
-        requires { AreWhole self.old }
+        requires { AreFit (made_by self.old) }
         ensures ok { OnOk result (TakesLine line.now self.old self.new) }
         ensures not_input { IsErrOf result InputError.NotInput → CannotFollow line.now self.old }
     {
         if is_snapshot_line(line) {
             let page_size = begun_size(line).ok_or(InputError::NotInput)?;
             return self.begin(page_size);
+        }
+        if is_segment_line(line) {
+            return self.current.open_segment(self.alloc);
         }
         read_document(
             self.alloc,
@@ -125,29 +169,27 @@ impl SnapshotsBuilder {
     // Begins a snapshot, which closes the one before.
     fn begin(&mut self, page_size: u32) -> Result<(), InputError>
         ensures ok { OnOk result
-            (snapshots_so_far self.new
-            ≡ snapshots_so_far self.old ++ snapshot_of page_size [] ∷ []) }
+            (made_by self.new ≡ with_line (begins page_size) (made_by self.old)) }
         ensures memory { result ≢ Err InputError.NotInput }
     {
         let next = OpenSnapshot::new(self.alloc, page_size);
         let done = mem::replace(&mut self.current, next);
-        self.closed.push(done.close(self.alloc)?)?;
+        self.closed.push(done.close()?)?;
         Ok(())
     }
 
     // The snapshots, where no line follows.
     fn finish(self) -> Result<ItemList<Snapshot>, InputError>
         ensures ok { IfOk result
-            (λ snapshots. snapshots_documents snapshots ≡ snapshots_so_far self) }
+            (λ snapshots. snapshots_documents snapshots ≡ snapshots_made (made_by self)) }
         ensures memory { result ≢ Err InputError.NotInput }
     {
         let SnapshotsBuilder {
-            alloc,
             mut closed,
             current,
             ..
         } = self;
-        closed.push(current.close(alloc)?)?;
+        closed.push(current.close()?)?;
         Ok(closed)
     }
 }

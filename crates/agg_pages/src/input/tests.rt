@@ -10,8 +10,18 @@ const REQUEST: &str = "{\"request\":{\"byA\":{\"composite\":{\
 const SCHEMA: &str = ",\"schema\":[\"A\"]}";
 
 // Headers from their schema on, and whether they are such.
-const HEADERS: [(&str, bool); 9] = [
+const HEADERS: [(&str, bool); 16] = [
     (SCHEMA, true),
+    (r#","schema":["A"],"bucket_limit":0}"#, true),
+    (
+        r#","schema":["A"],"bucket_limit":4294967295,"query":{"all":{}}}"#,
+        true,
+    ),
+    (r#","schema":["A"],"bucket_limit":4294967296}"#, false),
+    (r#","schema":["A"],"bucket_limit":-1}"#, false),
+    (r#","schema":["A"],"bucket_limit":1.5}"#, false),
+    (r#","schema":["A"],"bucket_limit":"1"}"#, false),
+    (r#","schema":["A"],"bucket_limit":null}"#, false),
     (r#","schema":["A"],"query":{"all":{}}}"#, true),
     (
         r#","schema":[],"query":{"term":{"field":"B","value":"str:x"}}}"#,
@@ -54,7 +64,7 @@ const REQUESTS: [(&str, bool); 9] = [
 ];
 
 // Documents, and whether they are such.
-const DOCUMENTS: [(&str, bool); 39] = [
+const DOCUMENTS: [(&str, bool); 43] = [
     ("{}", true),
     (r#"{"A":1}"#, true),
     (r#"{"A":[1,-2,null,9223372036854775807]}"#, true),
@@ -92,12 +102,25 @@ const DOCUMENTS: [(&str, bool); 39] = [
     ("[1]", false),
     ("{", false),
     ("1", false),
-    ("segment", false),
+    ("segment", true),
+    ("{\"B\":-1}\nsegment\n{\"B\":9223372036854775808}", true),
+    ("segment\n{\"B\":-1}\n{\"B\":9223372036854775808}", false),
+    ("segment ", false),
+    ("segment 1", false),
     ("snapshot x", false),
 ];
 
+// Lines of a snapshot, and the numbers of documents in its segments.
+const SEGMENTS: [(&str, &[u32]); 5] = [
+    ("", &[]),
+    ("segment", &[0]),
+    ("{}\nsegment", &[1, 0]),
+    ("segment\n{}\n{}\nsegment\nsegment\n{}", &[2, 0, 1]),
+    ("{}\n{}\nsegment\n{}\n{}\n{}", &[2, 3]),
+];
+
 // What stands behind a header, and is no list of snapshots.
-const BEHIND: [&str; 9] = [
+const BEHIND: [&str; 10] = [
     "{\"A\":1}",
     "{}",
     "snapshot",
@@ -107,6 +130,7 @@ const BEHIND: [&str; 9] = [
     "snapshot -1",
     "snapshot 4294967296",
     "segment",
+    "segment\nsnapshot 1",
 ];
 
 fn expected(is_input: bool) -> Option<InputError> {
@@ -132,6 +156,23 @@ fn reads(rt: HostRuntime) -> Result<(), Fail> {
     assert_eq!(rt; snapshots[0].segments.as_slice()[0].num_docs(), 2);
     assert_eq!(rt; snapshots[1].page_size, 7);
     assert_eq!(rt; snapshots[1].segments.as_slice().len(), 0);
+    Ok(())
+}
+
+#[test]
+fn reads_segments(rt: HostRuntime) -> Result<(), Fail> {
+    let alloc = rt.alloc();
+    for (lines, counts) in SEGMENTS {
+        let text = format!(in alloc; "{REQUEST}{SCHEMA}\nsnapshot 1\n{lines}")?;
+        let input = read_input(alloc, text.as_bytes())?;
+        let snapshots = input.snapshots.as_slice();
+        assert_eq!(rt; snapshots.len(), 1, "at {lines}");
+        let mut found = Vec::new(alloc);
+        for segment in snapshots[0].segments.as_slice() {
+            found.push(segment.num_docs())?;
+        }
+        assert_eq!(rt; found.as_slice(), counts, "at {lines}");
+    }
     Ok(())
 }
 

@@ -1,3 +1,4 @@
+mod segments;
 mod sources;
 
 ghost use Rattle.std.specs.Prelude.{None, Some};
@@ -48,8 +49,59 @@ const TWO_PAGES: &str = "{\"page\":1,\"results\":{\"g\":{\"after_key\":{\"a\":\"
     {\"page\":2,\"results\":{\"g\":{\"buckets\":[{\"doc_count\":1,\"key\":{\"a\":9}}]}}}\n\
     {\"ended\":true}\n";
 
+// Two snapshots of two segments, and their pages.
+const TWO_SEGMENTS: &str = "\nsnapshot 2\nsegment\n{\"a\":3}\n{\"a\":1}\nsegment\n{\"a\":2}\n\
+    {\"a\":1}\nsnapshot 2\nsegment\n{\"a\":3}\n{\"a\":1}\nsegment\n{\"a\":2}\n{\"a\":1}\n";
+
+const TWO_SEGMENTS_PAGES: &str = "{\"page\":1,\"results\":{\"g\":{\
+    \"after_key\":{\"a\":\"i64:2\"},\
+    \"buckets\":[{\"doc_count\":2,\"key\":{\"a\":1}},{\"doc_count\":1,\"key\":{\"a\":2}}]}}}\n\
+    {\"page\":2,\"results\":{\"g\":{\"buckets\":[{\"doc_count\":1,\"key\":{\"a\":3}}]}}}\n\
+    {\"ended\":true}\n";
+
+// Segments whose numbers are of two kinds, and their pages.
+const TWO_KINDS: &str = "\nsnapshot 1\nsegment\n{\"a\":1}\nsegment\n\
+    {\"a\":18446744073709551615}\n{\"a\":1}\nsnapshot 1\nsegment\n{\"a\":1}\nsegment\n\
+    {\"a\":18446744073709551615}\n{\"a\":1}";
+
+const TWO_KINDS_PAGES: &str = "{\"page\":1,\"results\":{\"g\":{\
+    \"after_key\":{\"a\":\"i64:1\"},\
+    \"buckets\":[{\"doc_count\":2,\"key\":{\"a\":1}}]}}}\n\
+    {\"page\":2,\"results\":{\"g\":{\"after_key\":{\"a\":\"u64:18446744073709551615\"},\
+    \"buckets\":[{\"doc_count\":1,\"key\":{\"a\":18446744073709551615}}]}}}\n\
+    {\"ended\":false}\n";
+
+const ONE_TWO: &str = "{\"page\":1,\"results\":{\"g\":{\"buckets\":[\
+    {\"doc_count\":1,\"key\":{\"a\":1}},{\"doc_count\":1,\"key\":{\"a\":2}}]}}}\n\
+    {\"ended\":true}\n";
+
+// Segments of three keys, and their page where it may have three buckets.
+const THREE_KEYS: &str = "\nsnapshot 3\nsegment\n{\"a\":1}\n{\"a\":2}\nsegment\n{\"a\":3}";
+
+const THREE_KEYS_PAGE: &str = "{\"page\":1,\"results\":{\"g\":{\
+    \"after_key\":{\"a\":\"i64:3\"},\"buckets\":[{\"doc_count\":1,\"key\":{\"a\":1}},\
+    {\"doc_count\":1,\"key\":{\"a\":2}},{\"doc_count\":1,\"key\":{\"a\":3}}]}}}\n\
+    {\"ended\":false}\n";
+
+// Members of a header and what stands behind it, with the status and what is written.
+const MEMBERS: [(&str, &str, Status, &str); 3] = [
+    (FROM_TWO, TWO_SNAPSHOTS, Status::Ok, FROM_TWO_PAGES),
+    (
+        r#","bucket_limit":3"#,
+        THREE_KEYS,
+        Status::Ok,
+        THREE_KEYS_PAGE,
+    ),
+    (
+        r#","bucket_limit":2"#,
+        THREE_KEYS,
+        Status::Refused,
+        "error: BucketLimitExceeded\n",
+    ),
+];
+
 // The name and the size of a header and what stands behind it, with the status and what is written.
-const ANSWERS: [(&str, u32, &str, Status, &str); 11] = [
+const ANSWERS: [(&str, u32, &str, Status, &str); 14] = [
     ("g", 10, "", Status::Ok, "{\"ended\":false}\n"),
     ("g", 10, TWICE, Status::Ok, PAGE),
     (
@@ -74,6 +126,15 @@ const ANSWERS: [(&str, u32, &str, Status, &str); 11] = [
         FULL,
     ),
     ("g", 9, THREE_SNAPSHOTS, Status::Ok, TWO_PAGES),
+    ("g", 2, TWO_SEGMENTS, Status::Ok, TWO_SEGMENTS_PAGES),
+    ("g", 1, TWO_KINDS, Status::Ok, TWO_KINDS_PAGES),
+    (
+        "g",
+        4_294_967_295,
+        "\nsnapshot 4294967295\nsegment\n{\"a\":1}\nsegment\n{\"a\":2}\n",
+        Status::Ok,
+        ONE_TWO,
+    ),
     ("h", 10, TWICE, Status::Refused, "error: UnknownComposite\n"),
     ("h", 10, "", Status::Refused, "error: UnknownComposite\n"),
     ("g", 0, "", Status::Refused, "error: ZeroSize\n"),
@@ -168,14 +229,15 @@ fn answers_each_input(rt: HostRuntime) -> Result<(), Fail> {
 }
 
 #[test]
-fn walks_over_what_a_query_matches(rt: HostRuntime) -> Result<(), Fail> {
+fn heeds_each_member_of_a_header(rt: HostRuntime) -> Result<(), Fail> {
     let alloc = rt.alloc();
-    let bytes = input_with(alloc, "g", 2, FROM_TWO, TWO_SNAPSHOTS)?;
-    let mut source = SteadySource::new(bytes);
-    let mut sink = MemorySink::new(alloc, Vec::new(alloc))?;
-    let answer = run_words(alloc, &["walk"], &mut source, &mut sink)?;
-    assert_eq!(rt; answer, Status::Ok);
-    assert_eq!(rt; sink.bytes(), FROM_TWO_PAGES.as_bytes());
+    for (members, behind, status, output) in MEMBERS {
+        let mut source = SteadySource::new(input_with(alloc, "g", 2, members, behind)?);
+        let mut sink = MemorySink::new(alloc, Vec::new(alloc))?;
+        let answer = run_words(alloc, &["walk"], &mut source, &mut sink)?;
+        assert_eq!(rt; answer, status, "at {members}");
+        assert_eq!(rt; sink.bytes(), output.as_bytes(), "at {members}");
+    }
     Ok(())
 }
 

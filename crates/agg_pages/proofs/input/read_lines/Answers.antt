@@ -2,7 +2,8 @@ use Rattle.std.proofs.Common.{sym, subst}
 use Rattle.std.proofs.lemmas.Result.{err_from_is_err_and}
 use Rattle.agg_pages.specs.declared.input.Input.{Input as Stored}
 use Rattle.agg_pages.specs.Input.{IsInputOfLines, input_of}
-use Rattle.agg_pages.proofs.Inputs.{input_form, no_header_lines, no_snapshot_lines}
+use Rattle.agg_pages.proofs.Headers.{header_form}
+use Rattle.agg_pages.proofs.Inputs.{no_header_lines, no_snapshot_lines}
 use Rattle.agg_pages.proofs.input.read_lines.Goals as goal
 
 pub returns-in_err-header-clause-not_input : goal.returns-in_err-header-clause-not_input
@@ -33,6 +34,4 @@ returns-clause-ok c =
 
 pub returns-clause-form : goal.returns-clause-form
 returns-clause-form c =
-    input_form c.in_ok-first.first.now c.next.new.self
-    (input_of (record { header = c.in_ok-header.header; snapshots = c.in_ok-snapshots.snapshots }))
-    c.in_ok-header.ensures.ok c.in_ok-snapshots.ensures.ok
+    header_form c.in_ok-first.first.now c.in_ok-header.header c.in_ok-header.ensures.ok

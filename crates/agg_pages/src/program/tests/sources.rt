@@ -18,9 +18,9 @@ const FROM_TWO: &str = "{\"doc_count\":1,\"key\":{\"a\":2,\"b\":1}},\
     {\"doc_count\":1,\"key\":{\"a\":2,\"b\":2}}";
 
 // A source over values of every class, its reverse, and such values.
-const ASCENDING: &str = r#"{"a":{"terms":{"field":"a"}}}"#;
+pub(super) const ASCENDING: &str = r#"{"a":{"terms":{"field":"a"}}}"#;
 
-const DESCENDING: &str = r#"{"a":{"terms":{"field":"a","order":"desc"}}}"#;
+pub(super) const DESCENDING: &str = r#"{"a":{"terms":{"field":"a","order":"desc"}}}"#;
 
 const EACH_CLASS: &str = "{\"a\":{\"dt\":1000000}}\n{\"a\":{\"ip\":\"1.2.3.4\"}}\n\
     {\"a\":[5,\"x\"]}\n{\"a\":true}";
@@ -138,7 +138,7 @@ const FAULTS: [(&str, &str, &str); 4] = [
 ];
 
 // Runs a composite of ten groups a page over what stands behind its header.
-fn expect(
+pub(super) fn expect(
     rt: &(impl Abort + AllocGlobal),
     sources: &str,
     after: &str,

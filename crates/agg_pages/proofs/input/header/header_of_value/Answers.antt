@@ -2,7 +2,8 @@ use Rattle.std.proofs.Common.{sym, ap, ◌∙◌}
 use Rattle.std.proofs.lemmas.Result.{err_from_is_err_and}
 use Rattle.serde_json.specs.View.{view}
 use Rattle.agg_request.specs.Json.{has_members}
-use Rattle.agg_pages.proofs.Headers.{no_name, no_query, no_request, no_schema, other_members}
+use Rattle.agg_pages.proofs.Headers.{no_bucket_limit, no_name, no_query, no_request, no_schema}
+use Rattle.agg_pages.proofs.Headers.{other_members}
 use Rattle.agg_pages.proofs.input.header.header_of_value.Goals as goal
 
 pub returns-then-not-has_members-clause-not_input
@@ -35,6 +36,13 @@ returns-in_err-query-clause-not_input c = λ refused.
     c.from_residual-in_err-query.ensures.1 in
     no_query (view c.args.value.now) (c.in_err-query.ensures.not_input (cc (refused, p.1, p.2)))
 
+pub returns-in_err-bucket_limit-clause-not_input : goal.returns-in_err-bucket_limit-clause-not_input
+returns-in_err-bucket_limit-clause-not_input c = λ refused.
+    let p = err_from_is_err_and c.from_residual-in_err-bucket_limit.result
+    c.from_residual-in_err-bucket_limit.ensures.1 in
+    no_bucket_limit (view c.args.value.now)
+    (c.in_err-bucket_limit.ensures.not_input (cc (refused, p.1, p.2)))
+
 pub returns-clause-ok : goal.returns-clause-ok
 returns-clause-ok c = record {
   members = sym (c.has_members.ensures ∙ ap (λ n. has_members n (view c.args.value.now))
@@ -43,4 +51,5 @@ returns-clause-ok c = record {
   name = c.in_ok-name.ensures.ok;
   schema = c.in_ok-schema.ensures.ok;
   query = c.in_ok-query.ensures.ok;
+  bucket_limit = c.in_ok-bucket_limit.ensures.ok;
 }

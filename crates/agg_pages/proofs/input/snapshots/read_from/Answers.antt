@@ -2,7 +2,7 @@ use Rattle.std.proofs.Common.{◌≡◌, ◌∷◌, sym, ◌∙◌, subst}
 use Rattle.std.proofs.lemmas.Result.{err_from_is_err_and, IfOk-weaker}
 use Rattle.agg_engine.specs.Snapshot.{snapshots_documents}
 use Rattle.agg_pages.specs.SnapshotLines.{AreSnapshots}
-use Rattle.agg_pages.specs.Snapshots.{snapshots_so_far}
+use Rattle.agg_pages.specs.Snapshots.{made_by, snapshots_made}
 use Rattle.agg_pages.proofs.SnapshotSteps.{HasTaken, HasTaken-all, HasTaken-first, HasTaken-more}
 use Rattle.agg_pages.proofs.SnapshotSteps.{HasTaken-refused}
 use Rattle.agg_pages.proofs.input.snapshots.read_from.Goals as goal
@@ -15,7 +15,7 @@ loop-line-init c = (
       (sym c.into_iter-line-iterator.ensures.into_iter_gives)
       (HasTaken-first c.args.first.now c.args.lines c.in_ok-page_size.page_size
       c.new-builder.result (sym c.begun_size.ensures ∙ c.in_ok-page_size.ensures.ok_part)
-      c.new-builder.ensures),
+      c.new-builder.ensures.closed c.new-builder.ensures.current),
 )
 
 pub loop-line-preserved : goal.loop-line-preserved
@@ -40,7 +40,7 @@ returns-in_err-add_line-clause-not_input c = λ refused.
 pub returns-clause-ok : goal.returns-clause-ok
 returns-clause-ok c =
     IfOk-weaker c.finish.result
-    (λ snapshots. snapshots_documents snapshots ≡ snapshots_so_far c.loop-line.builder)
+    (λ snapshots. snapshots_documents snapshots ≡ snapshots_made (made_by c.loop-line.builder))
     (λ snapshots. AreSnapshots (c.args.first.now ∷ c.args.lines) (snapshots_documents snapshots))
     (λ snapshots. HasTaken-all (c.args.first.now ∷ c.args.lines) c.loop-line.builder
     c.loop-line.line-iterator (snapshots_documents snapshots) c.loop-line.invariant.2
