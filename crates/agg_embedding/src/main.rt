@@ -20,7 +20,7 @@ const SALES: &str = concat!(
     "{\"request\":{\"by_shop\":{\"composite\":{\"sources\":[{\"shop\":{\"terms\":",
     "{\"field\":\"shop\"}}}],\"size\":2}}},\"name\":\"by_shop\",\"schema\":[\"shop\"]}\n",
     "snapshot 2\n{\"shop\":12}\n{\"shop\":3}\n{\"shop\":12}\n",
-    "snapshot 2\n{\"shop\":12}\n{\"shop\":3}\n{\"shop\":12}\n{\"shop\":41}\n",
+    "snapshot 2\nsegment\n{\"shop\":12}\n{\"shop\":3}\n{\"shop\":12}\nsegment\n{\"shop\":41}\n",
 );
 
 fn main(rt: HostRuntime) -> ExitCode {
