@@ -12,7 +12,7 @@ from (
     from (
         select json_extract(text, '$.a') as a, json_extract(text, '$.b') as b, count(*) as number
         from line
-        where rowid > 2
+        where rowid > 2 and text <> 'segment'
         group by 1, 2
     )
     order by a, b is null, b desc

@@ -48,7 +48,7 @@ def snapshots(lines):
             if size is not None:
                 yield size, documents
             size, documents = int(line.split()[1]), []
-        elif line.strip():
+        elif line.strip() not in ("", "segment"):
             documents.append(json.loads(line))
     if size is not None:
         yield size, documents
