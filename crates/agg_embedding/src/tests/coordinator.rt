@@ -3,7 +3,7 @@ use agg_cache::LimitsLedger;
 use agg_request::{Aggregation, AggregationVariants, Aggregations, CompositeAggregation};
 use agg_results::{
     FinalError, IntermediateAggregationResults, IntermediateTermBucketEntry,
-    IntermediateTermBucketResult, MergeError,
+    IntermediateTermBucketResult,
 };
 use agg_values::{IntermediateKey, ItemList, NameMap, Text};
 use std::alloc::Global;
@@ -24,20 +24,6 @@ fn request_of(alloc: Global, name: &str, size: u32) -> Result<Aggregations, Fail
 }
 
 #[test]
-fn results_of_other_sizes_leave_no_name(rt: HostRuntime) -> Result<(), Fail> {
-    let alloc = rt.alloc();
-    let request = request_of(alloc, "g", 2)?;
-    let mut held = IntermediateAggregationResults::empty_from_req(alloc, &request)?;
-    held.merge_fruits(IntermediateAggregationResults::empty_from_req(alloc, &request)?)?;
-    assert!(rt; held.get(&Text::copy_of(alloc, "g")?).is_some());
-    let other = request_of(alloc, "g", 3)?;
-    let other = IntermediateAggregationResults::empty_from_req(alloc, &other)?;
-    assert_eq!(rt; held.merge_fruits(other), Err(MergeError::Mismatch));
-    assert_eq!(rt; held.keys().count(), 0);
-    Ok(())
-}
-
-#[test]
 fn results_are_final_by_their_names(rt: HostRuntime) -> Result<(), Fail> {
     let alloc = rt.alloc();
     let request = request_of(alloc, "g", 2)?;
@@ -51,20 +37,6 @@ fn results_are_final_by_their_names(rt: HostRuntime) -> Result<(), Fail> {
     assert!(rt; held.remove(&Text::copy_of(alloc, "h")?).is_none());
     let refused = held.into_final_result(&request_of(alloc, "h", 2)?, &limits);
     assert!(rt; matches!(&refused, Err(FinalError::UnknownAggregation)));
-    Ok(())
-}
-
-#[test]
-fn entries_add_their_counts(rt: HostRuntime) -> Result<(), Fail> {
-    let alloc = rt.alloc();
-    for (count, more, sum) in [
-        (4_294_967_195, 4_294_967_195, Ok(8_589_934_390)),
-        (u64::MAX, 1, Err(MergeError::TooMany)),
-    ] {
-        let mut entry = entry_of(alloc, count);
-        let merged = entry.merge_fruits(entry_of(alloc, more));
-        assert_eq!(rt; merged.map(|()| entry.doc_count), sum);
-    }
     Ok(())
 }
 
