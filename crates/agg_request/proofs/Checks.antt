@@ -1,21 +1,47 @@
 -- Faults of requests: what is found so far, source by source and aggregation by aggregation.
-use Rattle.std.proofs.Common.{◌≡◌, ◌≢◌, ◌<◌, ◌≤◌, ◌+◌, ℕ, suc, List, [], ◌∷◌, ◌++◌, get_or, length}
-use Rattle.std.proofs.Common.{take, false, bytes_eq}
-use Rattle.std.proofs.Common.{refl, sym, ap, ◌∙◌, subst, arith}
+use Rattle.std.proofs.Common.{◌≡◌, ◌≢◌, ◌<◌, ◌≤◌, ◌+◌, ℕ, suc, ℤ, pos, ◌*ℤ◌, List, [], ◌∷◌, ◌++◌}
+use Rattle.std.proofs.Common.{get_or, length, take, Bool, true, false, cond, bytes_eq}
+use Rattle.std.proofs.Common.{Option, None, Some, Result, Ok, Err, IfErr, IsErr, IsErrAnd, IsOk}
+use Rattle.std.proofs.Common.{◌⊎◌, ⊎_elim, inl, inr, refl, sym, ap, ◌∙◌, subst, arith}
 use Rattle.std.specs.List.{All, Any}
+use Rattle.std.specs.Ordering.{int_eq}
 use Rattle.std.proofs.lemmas.Bool.{false≢true}
 use Rattle.std.proofs.lemmas.Slice.Eq.{bytes_eq-Decides}
 use Rattle.std.proofs.lemmas.List.{get_or-take, get_or_read, length-take, take_all}
 use Rattle.std.proofs.lemmas.List.{take_more}
-use Rattle.std.proofs.lemmas.List.Elements.{All-cons, All-more, All-nil}
+use Rattle.std.proofs.lemmas.List.Elements.{All-cons, All-head, All-more, All-nil, All-tail}
 use Rattle.std.proofs.lemmas.List.Quantifiers.{all_pairs_push}
 use Rattle.agg_values.specs.declared.error.InvalidArgument.{InvalidArgument}
-use Rattle.agg_request.specs.Faults.{AggregationHasFault, HaveOwnNames, IsSoundAggregation}
-use Rattle.agg_request.specs.Faults.{IsSoundRequest, RequestHasFault}
+use Rattle.agg_values.specs.declared.error.InvalidArgument.TheVariants as argument
+use Rattle.agg_values.specs.declared.request_error.AggregationError.{AggregationError}
+use Rattle.agg_values.specs.declared.request_error.AggregationError.TheVariants as aggregation
+use Rattle.agg_values.specs.declared.request_error.DateHistogramParseError as parsing
+use parsing.{DateHistogramParseError}
+use Rattle.agg_values.specs.declared.request_error.RequestError.{RequestError}
+use Rattle.agg_values.specs.declared.request_error.RequestError.TheVariants as error
+use Rattle.agg_calendar.specs.Interval.{chosen, fixed}
+use Rattle.agg_calendar.specs.IntervalText.{read_interval}
+use Rattle.agg_calendar.specs.Refusal.{in_request, HasText, IsAnswer}
+use Rattle.agg_calendar.specs.declared.interval.CalendarInterval.{CalendarInterval}
+use Rattle.agg_calendar.specs.declared.interval.PrecomputedDateInterval as interval
+use interval.{PrecomputedDateInterval}
+use interval.TheVariants.{FixedNanoseconds}
+use Rattle.agg_request.specs.Faults.{AggregationHasCause, AggregationHasFault}
+use Rattle.agg_request.specs.Faults.{AggregationHasTextFault, CompositeHasCause, HasCause}
+use Rattle.agg_request.specs.Faults.{HasInterval, HaveOwnNames, IsIntervalCause, IsIntervalFault}
+use Rattle.agg_request.specs.Faults.{IsSoundAggregation, IsSoundRequest, RequestHasFault}
+use Rattle.agg_request.specs.Faults.{RequestHasTextFault}
 use Rattle.agg_request.specs.Request.{Request}
-use Rattle.agg_request.specs.Source.{Sources, name_of}
+use Rattle.agg_request.specs.Source.{Sources, interval_of, name_of}
 use Rattle.agg_request.specs.declared.aggregation.Aggregation.{Aggregation}
-use Rattle.agg_request.specs.declared.source.CompositeAggregationSource.{CompositeAggregationSource}
+use Rattle.agg_request.specs.declared.aggregation.AggregationVariants.{AggregationVariants}
+use Rattle.agg_request.specs.declared.aggregation.AggregationVariants.TheVariants.{Composite}
+use Rattle.agg_request.specs.declared.aggregation.CompositeAggregation.{CompositeAggregation}
+use Rattle.agg_request.specs.declared.source.CompositeAggregationSource as kind
+use kind.{CompositeAggregationSource}
+use kind.TheVariants.{Terms, Histogram, DateHistogram}
+use Rattle.agg_request.specs.declared.source.DateHistogramCompositeAggregationSource as dates
+use dates.{DateHistogramCompositeAggregationSource as Dates}
 
 -- ---- sources so far
 
@@ -60,17 +86,117 @@ HaveOwnNames-not sources i source below at (k, other, within, found, same) own =
     let here : source ≡ get_or sources i other = get_or_read sources i source below at other in
     own k i other before below (ap name_of (sym there) ∙ same ∙ ap name_of here)
 
+-- ---- intervals
+
+-- a refusal of one of two
+fixed_by : (zero : Bool) (interval : PrecomputedDateInterval) (fault : InvalidArgument)
+    → cond zero (Err (error.Invalid argument.BadInterval)) (Ok interval)
+    ≡ Err (error.Invalid fault) → fault ≡ argument.BadInterval
+fixed_by true interval fault is = cc
+fixed_by false interval fault is = absurd cc
+
+-- a fixed interval is refused as too small, or for its text
+fixed-fault : (read : Result ℤ DateHistogramParseError) (fault : InvalidArgument)
+    → fixed (in_request read) ≡ Err (error.Invalid fault) → fault ≡ argument.BadInterval
+fixed-fault (Ok ms) fault is =
+    fixed_by (int_eq ms (pos 0)) (FixedNanoseconds (ms *ℤ pos 1_000_000)) fault is
+fixed-fault (Err part) fault is = absurd cc
+
+-- the intervals of a date source are refused as too small, as not one, or for a text
+chosen-fault : (text : Option (List ℕ)) (unit : Option CalendarInterval) (fault : InvalidArgument)
+    → chosen text unit ≡ Err (error.Invalid fault)
+    → (fault ≡ argument.BadInterval) ⊎ (fault ≡ argument.IntervalChoice)
+chosen-fault (Some text) None fault is = inl (fixed-fault (read_interval text) fault is)
+chosen-fault None (Some unit) fault is = absurd cc
+chosen-fault (Some text) (Some unit) fault is = inr cc
+chosen-fault None None fault is = inr cc
+
+-- no interval is refused for another fault
+no_interval_fault : (source : CompositeAggregationSource) (fault : InvalidArgument)
+    → fault ≢ argument.BadInterval → fault ≢ argument.IntervalChoice
+    → ¬ (IsIntervalFault source (error.Invalid fault))
+no_interval_fault (Terms s) fault large one is = is
+no_interval_fault (Histogram s) fault large one is = let same = is.0 in large cc
+no_interval_fault (DateHistogram s) fault large one is =
+    ⊎_elim large one (chosen-fault s.fixed_interval s.calendar_interval fault is)
+
+no_interval_faults : (sources : Sources) (fault : InvalidArgument)
+    → fault ≢ argument.BadInterval → fault ≢ argument.IntervalChoice
+    → ¬ (Any (λ s. IsIntervalFault s (error.Invalid fault)) sources)
+no_interval_faults sources fault large one (k, s, within, at, is) =
+    no_interval_fault s fault large one is
+
+-- an interval that is refused refuses the composite
+pub interval-cause : (composite : CompositeAggregation) (refusal : RequestError)
+    → Any (λ s. IsIntervalCause s refusal) composite.sources → CompositeHasCause composite refusal
+interval-cause composite (error.Invalid argument.BadInterval) some = some
+interval-cause composite (error.Invalid argument.IntervalChoice) some = some
+interval-cause composite (error.Invalid argument.NoSource) some =
+    absurd (no_interval_faults composite.sources argument.NoSource (λ e. cc) (λ e. cc) some)
+interval-cause composite (error.Invalid argument.ZeroSize) some =
+    absurd (no_interval_faults composite.sources argument.ZeroSize (λ e. cc) (λ e. cc) some)
+interval-cause composite (error.Invalid argument.TooManySources) some =
+    absurd (no_interval_faults composite.sources argument.TooManySources (λ e. cc) (λ e. cc) some)
+interval-cause composite (error.Invalid argument.DuplicateSource) some =
+    absurd (no_interval_faults composite.sources argument.DuplicateSource (λ e. cc) (λ e. cc) some)
+interval-cause composite (error.Invalid argument.NullAfter) some =
+    absurd (no_interval_faults composite.sources argument.NullAfter (λ e. cc) (λ e. cc) some)
+interval-cause composite (error.Invalid argument.AfterType) some =
+    absurd (no_interval_faults composite.sources argument.AfterType (λ e. cc) (λ e. cc) some)
+interval-cause composite (error.Aggregation part) some = some
+interval-cause composite error.OutOfMemory (k, s, within, at, some) =
+    (some.0, (k, s, within, at, some.1))
+
+-- a refusal that holds a text is that of a text
+text-of : (right : Result PrecomputedDateInterval RequestError) → HasText right
+    → (part : AggregationError) × (right ≡ Err (error.Aggregation part))
+text-of (Ok interval) has = absurd has
+text-of (Err (error.Invalid fault)) has = absurd has
+text-of (Err (error.Aggregation (aggregation.DateHistogramParseError part))) has =
+    (aggregation.DateHistogramParseError part, refl)
+text-of (Err (error.Aggregation (aggregation.MemoryExceeded limit current))) has = absurd has
+text-of (Err (error.Aggregation (aggregation.BucketLimitExceeded limit current))) has = absurd has
+text-of (Err error.OutOfMemory) has = absurd has
+
+-- the answer of a date source's intervals is the cause of its refusal
+pub dates-cause : (s : Dates) (refusal : RequestError) → IsAnswer (interval_of s) (Err refusal)
+    → (refusal ≡ error.OutOfMemory → HasText (interval_of s))
+    → IsIntervalCause (DateHistogram s) refusal
+dates-cause s (error.Invalid fault) is memory = is
+dates-cause s (error.Aggregation part) is memory = is
+dates-cause s error.OutOfMemory is memory = text-of (interval_of s) (memory refl)
+
 -- ---- aggregations
+
+-- the cause of a refusal, by its kind
+fault-from_cause : (aggregation : AggregationVariants) (fault : InvalidArgument)
+    → AggregationHasCause aggregation (error.Invalid fault) → AggregationHasFault aggregation fault
+fault-from_cause (Composite composite) fault has = has
+
+text-from_cause : (aggregation : AggregationVariants) (part : AggregationError)
+    → AggregationHasCause aggregation (error.Aggregation part)
+    → AggregationHasTextFault aggregation part
+text-from_cause (Composite composite) part has = has
+
+memory-from_cause : (aggregation : AggregationVariants)
+    → AggregationHasCause aggregation error.OutOfMemory
+    → (part : AggregationError) × AggregationHasTextFault aggregation part
+memory-from_cause (Composite composite) has = has
 
 -- no fault is found before the aggregations that are left
 pub record IsCheckedUpTo (all left : Request) : Type 0 where
   pub sound : IsSoundRequest left → IsSoundRequest all
   pub fault : (fault : InvalidArgument) → RequestHasFault left fault → RequestHasFault all fault
+  pub text : (part : AggregationError) → RequestHasTextFault left part
+      → RequestHasTextFault all part
 
 -- none is checked yet
 pub IsCheckedUpTo-none : (all left : Request) → left ≡ all → IsCheckedUpTo all left
-IsCheckedUpTo-none all left e =
-    record { sound = subst IsSoundRequest e; fault = λ f. subst (λ r. RequestHasFault r f) e }
+IsCheckedUpTo-none all left e = record {
+  sound = subst IsSoundRequest e;
+  fault = λ f. subst (λ r. RequestHasFault r f) e;
+  text = λ p. subst (λ r. RequestHasTextFault r p) e;
+}
 
 -- one more has no fault
 pub IsCheckedUpTo-more : (all left : Request) (name : List ℕ) (aggregation : Aggregation)
@@ -82,16 +208,45 @@ IsCheckedUpTo-more all left name aggregation later h e is =
       sound = λ rest.
           here.sound (All-cons (λ a. IsSoundAggregation a.1.agg) (name, aggregation) later is rest);
       fault = λ f (k, a, within, at, has). here.fault f (suc k, a, omega arith, at, has);
+      text = λ p (k, a, within, at, has). here.text p (suc k, a, omega arith, at, has);
     }
 
--- one has a fault
-pub IsCheckedUpTo-fault : (all left : Request) (name : List ℕ) (aggregation : Aggregation)
-    (later : Request) (fault : InvalidArgument) → IsCheckedUpTo all left
-    → left ≡ (name, aggregation) ∷ later → AggregationHasFault aggregation.agg fault
-    → RequestHasFault all fault
-IsCheckedUpTo-fault all left name aggregation later fault h e has =
-    let here : IsCheckedUpTo all ((name, aggregation) ∷ later) = subst (IsCheckedUpTo all) e h in
-    here.fault fault (0, (name, aggregation), omega arith, refl, has)
+-- the refusal of one refuses the request
+pub IsCheckedUpTo-refused : (all left : Request) (name : List ℕ) (aggregation : Aggregation)
+    (later : Request) (refusal : RequestError) → IsCheckedUpTo all left
+    → left ≡ (name, aggregation) ∷ later → AggregationHasCause aggregation.agg refusal
+    → HasCause all refusal
+IsCheckedUpTo-refused all left name aggregation later refusal h e has =
+    by_kind refusal (subst (IsCheckedUpTo all) e h) has
+  where
+    by_kind : (given : RequestError) → IsCheckedUpTo all ((name, aggregation) ∷ later)
+        → AggregationHasCause aggregation.agg given → HasCause all given
+    by_kind (error.Invalid fault) here has =
+        here.fault fault (
+          0,
+          (name, aggregation),
+          omega arith,
+          refl,
+          fault-from_cause aggregation.agg fault has,
+        )
+    by_kind (error.Aggregation part) here has =
+        here.text part (
+          0,
+          (name, aggregation),
+          omega arith,
+          refl,
+          text-from_cause aggregation.agg part has,
+        )
+    by_kind error.OutOfMemory here has =
+        let cause = memory-from_cause aggregation.agg has in
+        (cause.0, here.text cause.0 (0, (name, aggregation), omega arith, refl, cause.1))
+
+-- what holds of a refusal holds where it is passed on
+pub passed_on : {A : Type 0} (P : RequestError → Type 0) (refusal : RequestError)
+    (result : Result A RequestError) → IsErrAnd result (λ e. e ≡ refusal) → P refusal
+    → IfErr result P
+passed_on P refusal (Ok x) is told = tt
+passed_on P refusal (Err e) is told = subst P (sym is) told
 
 -- all are checked
 pub IsCheckedUpTo-all : (all left : Request) → IsCheckedUpTo all left → left ≡ []

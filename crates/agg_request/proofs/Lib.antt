@@ -19,6 +19,7 @@ pub mod PageTuples
 pub mod PageUnique
 pub mod PageWalk
 pub mod PageWhole
+pub mod ReadColumns
 pub mod Readings
 pub mod SourceColumns
 pub mod SourceKeys

@@ -14,13 +14,13 @@ use Rattle.std.proofs.lemmas.List.{map-append, append-nil, length-map, take_more
 use Rattle.std.proofs.lemmas.List.Concat.{flat_map-append, flat_map-cons}
 use Rattle.std.proofs.lemmas.List.Sums.{length-filter, count_by-le-length}
 use Rattle.agg_values.specs.Tuple.{KeyTuple}
-use Rattle.agg_values.specs.TypedKey.{CompositeIntermediateKey, canonical_key}
+use Rattle.agg_values.specs.TypedKey.{CompositeIntermediateKey}
 use Rattle.agg_segment.specs.Document.{Fields}
 use Rattle.agg_segment.specs.Columns.{StoredColumn, all_keys, column_keys, encoded_key}
 use Rattle.agg_segment.specs.Segment.{Stored, document_at, documents_at}
 use Rattle.agg_request.specs.declared.source.CompositeAggregationSource.{CompositeAggregationSource}
-use Rattle.agg_request.specs.Source.{Sources, field_of, missing_bucket_of, or_missing, rules_of}
-use Rattle.agg_request.specs.Source.{source_values}
+use Rattle.agg_request.specs.Source.{Sources, field_of, keys_in, missing_bucket_of, or_missing}
+use Rattle.agg_request.specs.Source.{rules_of, source_values, values_at}
 use Rattle.agg_request.specs.Occurrences.{past_occurrences, is_past, occurrences, occurrences_in}
 
 -- ---- of one document: a product over the sources
@@ -189,26 +189,27 @@ past-fewer sources bound documents =
 
 -- ---- of one source: the values in its columns
 
--- the keys of a source are its values, or one Null
+-- the keys of a source are those that it gives for the values, or one Null
 pub length-source_values : (source : CompositeAggregationSource) (document : Fields)
     → length (source_values source document)
-    ≡ cond (missing_bucket_of source && (length (document (field_of source)) == 0)) 1
-    (length (document (field_of source)))
+    ≡ cond (missing_bucket_of source
+    && (length (keys_in source (values_at (field_of source) document)) == 0)) 1
+    (length (keys_in source (values_at (field_of source) document)))
 length-source_values source document =
-    length-or_missing (missing_bucket_of source) (document (field_of source))
+    length-or_missing (missing_bucket_of source)
+    (keys_in source (values_at (field_of source) document))
   where
     not_zero : (n : ℕ) → (suc n == 0) ≡ false
     not_zero n = grind (arith, nat_tests)
 
     length-or_missing : (missing : Bool) (keys : KeyTuple)
-        → length (or_missing missing (map canonical_key keys))
+        → length (or_missing missing keys)
         ≡ cond (missing && (length keys == 0)) 1 (length keys)
     length-or_missing true [] = refl
     length-or_missing false [] = refl
     length-or_missing true (k ∷ keys) =
-        ap suc (length-map keys canonical_key)
-        ∙ sym (ap (λ b. cond b 1 (suc (length keys))) (not_zero (length keys)))
-    length-or_missing false (k ∷ keys) = ap suc (length-map keys canonical_key)
+        sym (ap (λ b. cond b 1 (suc (length keys))) (not_zero (length keys)))
+    length-or_missing false (k ∷ keys) = refl
 
 -- one column more
 all_keys-more : (columns : List StoredColumn) (doc i : ℕ) (d : StoredColumn)

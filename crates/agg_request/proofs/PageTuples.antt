@@ -2,7 +2,7 @@
 use Rattle.std.proofs.Common.{◌≡◌, ◌^◌, ◌≤◌, ◌<◌, ◌<ℤ◌, ℤ, pos, Bool, true, false, List, [], ◌∷◌}
 use Rattle.std.proofs.Common.{map}
 use Rattle.std.proofs.Common.{refl, arith, Equal}
-use Rattle.std.specs.Prelude.{int_lt, nat_lt, unsigned_abs}
+use Rattle.std.specs.Prelude.{filter_map, int_lt, nat_lt, unsigned_abs}
 use Rattle.std.specs.List.{All, AllByRecursion, Contains}
 use Rattle.std.proofs.lemmas.Bool.{cond_both}
 use Rattle.std.proofs.lemmas.Bool.Decides.{nat_tests}
@@ -23,9 +23,11 @@ use Rattle.agg_values.specs.KeyOrder.{tuple_order}
 use Rattle.agg_values.specs.Laws.{IsCanonicalTuple}
 use Rattle.agg_values.proofs.TupleOrder.{tuple_order-exact}
 use Rattle.agg_segment.specs.Document.{Fields}
-use Rattle.agg_request.specs.declared.source.CompositeAggregationSource.{CompositeAggregationSource}
+use Rattle.agg_request.specs.declared.source.CompositeAggregationSource as kind
+use kind.{CompositeAggregationSource}
+use kind.TheVariants.{Terms, Histogram, DateHistogram}
 use Rattle.agg_request.specs.Source.{rules_of, or_missing, source_values, missing_bucket_of}
-use Rattle.agg_request.specs.Source.{field_of, Sources}
+use Rattle.agg_request.specs.Source.{field_of, keys_in, start_in, values_at, Sources}
 use Rattle.agg_request.specs.Occurrences.{occurrences, occurrences_in}
 use Rattle.agg_request.proofs.Lists.{AllByRecursion-always, AllByRecursion-flat_map}
 use Rattle.agg_request.proofs.Lists.{AllByRecursion-map, AllByRecursion-weaker}
@@ -58,14 +60,28 @@ or_missing-all true [] all = (tt, tt)
 or_missing-all false [] all = tt
 or_missing-all missing (k ∷ keys) all = all
 
+-- the keys that a source gives for canonical values are canonical
+keys_in-canonical : (source : CompositeAggregationSource) (values : KeyTuple)
+    → AllByRecursion IsCanonical values → AllByRecursion IsCanonical (keys_in source values)
+keys_in-canonical (Terms s) values all = all
+keys_in-canonical (Histogram s) values all =
+    let starts = filter_map (start_in (Histogram s)) values in
+    AllByRecursion-map IsCanonical typed_number starts
+    (AllByRecursion-always (λ n. IsCanonical (typed_number n)) typed_number-canonical starts)
+keys_in-canonical (DateHistogram s) values all =
+    let starts = filter_map (start_in (DateHistogram s)) values in
+    AllByRecursion-map IsCanonical DateTime starts
+    (AllByRecursion-always (λ ns. IsCanonical (DateTime ns)) (λ ns. tt) starts)
+
 -- the keys that a source reads are canonical
 pub source_values-canonical : (source : CompositeAggregationSource) (document : Fields)
     → AllByRecursion IsCanonical (source_values source document)
 source_values-canonical source document =
     or_missing-all (missing_bucket_of source) _
+    (keys_in-canonical source (values_at (field_of source) document)
     (AllByRecursion-map IsCanonical canonical_key (document (field_of source))
     (AllByRecursion-always (λ k. IsCanonical (canonical_key k)) canonical_key-canonical
-    (document (field_of source))))
+    (document (field_of source)))))
 
 -- one more key before a tuple
 longer : (source : CompositeAggregationSource) (sources : Sources) (k : CompositeIntermediateKey)

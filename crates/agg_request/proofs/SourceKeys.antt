@@ -1,14 +1,14 @@
 -- The keys of a tuple beside the sources that they are of.
-use Rattle.std.proofs.Common.{◌≡◌, ◌≢◌, ◌^◌, ℕ, suc, pos, Bool, true, false, Some}
+use Rattle.std.proofs.Common.{◌≡◌, ◌≢◌, ◌^◌, ℕ, suc, ℤ, pos, Bool, true, false, Some}
 use Rattle.std.proofs.Common.{List, [], ◌∷◌, Option, length, map, refl, sym, ap, ◌∙◌, subst, arith}
-use Rattle.std.specs.Prelude.{int_lt, nat_lt, unsigned_abs}
+use Rattle.std.specs.Prelude.{filter_map, int_lt, nat_lt, unsigned_abs}
 use Rattle.std.specs.List.{All, AllByRecursion, AllZip, Contains}
 use Rattle.std.specs.Option.{unwrap_or}
 use Rattle.std.proofs.lemmas.Bool.{cond_both, false≢true}
 use Rattle.std.proofs.lemmas.List.Elements.{All-from_recursion, recursion_from_All}
 use Rattle.agg_values.specs.Names.{Named, put, value_of}
 use Rattle.agg_values.specs.Tuple.{KeyTuple}
-use Rattle.agg_values.specs.TypedKey.{CompositeIntermediateKey, canonical_key}
+use Rattle.agg_values.specs.TypedKey.{CompositeIntermediateKey, canonical_key, typed_number}
 use Rattle.agg_values.specs.declared.after_key.AfterKey.{AfterKey}
 use Rattle.agg_values.specs.declared.typed_key.CompositeIntermediateKey.TheVariants.{
   Bool as Truth,
@@ -21,13 +21,17 @@ use Rattle.agg_values.specs.declared.typed_key.CompositeIntermediateKey.TheVaria
 }
 use Rattle.agg_segment.specs.Document.{Fields}
 use Rattle.agg_request.specs.declared.aggregation.CompositeAggregation.{CompositeAggregation}
-use Rattle.agg_request.specs.declared.source.CompositeAggregationSource.{CompositeAggregationSource}
+use Rattle.agg_request.specs.declared.source.CompositeAggregationSource as kind
+use kind.{CompositeAggregationSource}
+use kind.TheVariants.{Terms, Histogram, DateHistogram}
 use Rattle.agg_request.specs.BySource.{after_map}
-use Rattle.agg_request.specs.Faults.{HaveOwnNames, IsBehindNoBucket}
+use Rattle.agg_request.specs.Faults.{HasAfterOfOtherType, HaveOwnNames, IsBehindNoBucket}
+use Rattle.agg_request.specs.Faults.{IsOfOtherType}
 use Rattle.agg_request.specs.Occurrences.{occurrences}
-use Rattle.agg_request.specs.Source.{Sources, field_of, missing_bucket_of, name_of, or_missing}
-use Rattle.agg_request.specs.Source.{source_values}
-use Rattle.agg_request.proofs.Lists.{AllByRecursion-Has, AllByRecursion-flat_map}
+use Rattle.agg_request.specs.Source.{Sources, field_of, keys_in, missing_bucket_of, name_of}
+use Rattle.agg_request.specs.Source.{or_missing, source_values, start_in, values_at}
+use Rattle.agg_request.proofs.Lists.{AllByRecursion-Has, AllByRecursion-always}
+use Rattle.agg_request.proofs.Lists.{AllByRecursion-flat_map}
 use Rattle.agg_request.proofs.Lists.{AllByRecursion-map, AllByRecursion-weaker, Has-from_Contains}
 use Rattle.agg_request.proofs.PageAfter.{apart_first, value_of-put, value_of-put_other}
 
@@ -90,6 +94,25 @@ canonical_key-not_Null (DateTime ns) other = other
 canonical_key-not_Null (IpAddr address) other = other
 canonical_key-not_Null Null other = other
 
+-- a typed number isn't Null
+typed_number-not_Null : (n : ℤ) → typed_number n ≢ Null
+typed_number-not_Null n =
+    cond_both (int_lt n (pos (2 ^ 63))) (I64 n) (U64 (unsigned_abs n)) (λ k. k ≢ Null)
+    (λ _ same. cc same) (λ _ same. cc same)
+
+-- the keys that a source gives for values that aren't Null aren't
+keys_in-not_Null : (source : CompositeAggregationSource) (values : KeyTuple)
+    → AllByRecursion (λ k. k ≢ Null) values → AllByRecursion (λ k. k ≢ Null) (keys_in source values)
+keys_in-not_Null (Terms s) values others = others
+keys_in-not_Null (Histogram s) values others =
+    let starts = filter_map (start_in (Histogram s)) values in
+    AllByRecursion-map (λ k. k ≢ Null) typed_number starts
+    (AllByRecursion-always (λ n. typed_number n ≢ Null) typed_number-not_Null starts)
+keys_in-not_Null (DateHistogram s) values others =
+    let starts = filter_map (start_in (DateHistogram s)) values in
+    AllByRecursion-map (λ k. k ≢ Null) DateTime starts
+    (AllByRecursion-always (λ ns. DateTime ns ≢ Null) (λ ns same. cc same) starts)
+
 -- Null is among the keys or Null only where a missing value has a bucket
 or_missing-Null : (missing : Bool) (keys : KeyTuple) → AllByRecursion (λ k. k ≢ Null) keys
     → AllByRecursion (λ k. k ≡ Null → missing ≡ true) (or_missing missing keys)
@@ -104,27 +127,30 @@ source_values-Null : (source : CompositeAggregationSource) (document : Fields)
     → All (λ k. k ≢ Null) (document (field_of source))
     → AllByRecursion (IsNullByBucket source) (source_values source document)
 source_values-Null source document others =
-    or_missing-Null (missing_bucket_of source) (map canonical_key (document (field_of source)))
+    or_missing-Null (missing_bucket_of source) _
+    (keys_in-not_Null source (values_at (field_of source) document)
     (AllByRecursion-map (λ k. k ≢ Null) canonical_key (document (field_of source))
     (AllByRecursion-weaker (λ k. k ≢ Null) (λ k. canonical_key k ≢ Null) canonical_key-not_Null
     (document (field_of source))
-    (recursion_from_All (λ k. k ≢ Null) (document (field_of source)) others)))
+    (recursion_from_All (λ k. k ≢ Null) (document (field_of source)) others))))
 
--- the tuples of a document
-occurrences-Null : (sources : Sources) (document : Fields)
-    → ((field : List ℕ) → All (λ k. k ≢ Null) (document field))
-    → AllByRecursion (AllZip IsNullByBucket sources) (occurrences sources document)
-occurrences-Null [] document others = (tt, tt)
-occurrences-Null (source ∷ sources) document others =
-    AllByRecursion-flat_map (AllZip IsNullByBucket (source ∷ sources))
+-- what holds of the keys that each source reads in a document holds place by place of its tuples
+occurrences-zip : (R : CompositeAggregationSource → CompositeIntermediateKey → Type 0)
+    (document : Fields)
+    → ((source : CompositeAggregationSource)
+    → AllByRecursion (R source) (source_values source document))
+    → (sources : Sources) → AllByRecursion (AllZip R sources) (occurrences sources document)
+occurrences-zip R document each [] = (tt, tt)
+occurrences-zip R document each (source ∷ sources) =
+    AllByRecursion-flat_map (AllZip R (source ∷ sources))
     (λ k. map (λ t. k ∷ t) (occurrences sources document)) (source_values source document)
-    (AllByRecursion-weaker (IsNullByBucket source) _
-    (λ k key. AllByRecursion-map (AllZip IsNullByBucket (source ∷ sources)) (λ t. k ∷ t)
+    (AllByRecursion-weaker (R source) _
+    (λ k key. AllByRecursion-map (AllZip R (source ∷ sources)) (λ t. k ∷ t)
     (occurrences sources document)
-    (AllByRecursion-weaker (AllZip IsNullByBucket sources) _ (λ t rest. (key, rest))
-    (occurrences sources document) (occurrences-Null sources document others)))
+    (AllByRecursion-weaker (AllZip R sources) _ (λ t rest. (key, rest))
+    (occurrences sources document) (occurrences-zip R document each sources)))
     (source_values source document)
-    (source_values-Null source document (others (field_of source))))
+    (each source))
 
 -- in a tuple of a document without Null, a key is Null only where its source has such a bucket
 pub occurrence-Null : (sources : Sources) (document : Fields) (tuple : KeyTuple)
@@ -132,7 +158,8 @@ pub occurrence-Null : (sources : Sources) (document : Fields) (tuple : KeyTuple)
     → Contains (occurrences sources document) tuple → AllZip IsNullByBucket sources tuple
 occurrence-Null sources document tuple others held =
     AllByRecursion-Has (AllZip IsNullByBucket sources) (occurrences sources document) tuple
-    (occurrences-Null sources document others)
+    (occurrences-zip IsNullByBucket document
+    (λ source. source_values-Null source document (others (field_of source))) sources)
     (Has-from_Contains (occurrences sources document) tuple held)
 
 -- where each after value is its key of such a tuple, Null stands only where it may
@@ -164,3 +191,76 @@ after_map-sound composite document tuple is apart whole others held =
     (subst (λ after. AllZip (IsAfterValue after) sources tuple) (sym is)
     (after_map-values sources tuple apart whole))
     (occurrence-Null sources document tuple others held))
+
+-- ---- types
+
+-- a key isn't of another type than those of a source
+abbrev pub IsOfOwnType : CompositeAggregationSource → CompositeIntermediateKey → Type 0
+IsOfOwnType source k = ¬ (IsOfOtherType source k)
+
+-- the keys that a source gives are of its type
+keys_in-own : (source : CompositeAggregationSource) (values : KeyTuple)
+    → AllByRecursion (IsOfOwnType source) (keys_in source values)
+keys_in-own (Terms s) values = AllByRecursion-always (IsOfOwnType (Terms s)) (λ k h. h) values
+keys_in-own (Histogram s) values =
+    let starts = filter_map (start_in (Histogram s)) values in
+    AllByRecursion-map (IsOfOwnType (Histogram s)) typed_number starts
+    (AllByRecursion-always (λ n. IsOfOwnType (Histogram s) (typed_number n))
+    (λ n. cond_both (int_lt n (pos (2 ^ 63))) (I64 n) (U64 (unsigned_abs n))
+    (IsOfOwnType (Histogram s)) (λ _ h. h) (λ _ h. h)) starts)
+keys_in-own (DateHistogram s) values =
+    let starts = filter_map (start_in (DateHistogram s)) values in
+    AllByRecursion-map (IsOfOwnType (DateHistogram s)) DateTime starts
+    (AllByRecursion-always (λ ns. IsOfOwnType (DateHistogram s) (DateTime ns)) (λ ns h. h) starts)
+
+-- Null is of no other type
+Null-own : (source : CompositeAggregationSource) → IsOfOwnType source Null
+Null-own (Terms s) h = h
+Null-own (Histogram s) h = h
+Null-own (DateHistogram s) h = h
+
+or_missing-own : (source : CompositeAggregationSource) (missing : Bool) (keys : KeyTuple)
+    → AllByRecursion (IsOfOwnType source) keys
+    → AllByRecursion (IsOfOwnType source) (or_missing missing keys)
+or_missing-own source true [] own = (Null-own source, tt)
+or_missing-own source false [] own = tt
+or_missing-own source missing (k ∷ keys) own = own
+
+-- the keys of a tuple of a document are of their sources' types
+pub occurrence-own : (sources : Sources) (document : Fields) (tuple : KeyTuple)
+    → Contains (occurrences sources document) tuple → AllZip IsOfOwnType sources tuple
+occurrence-own sources document tuple held =
+    AllByRecursion-Has (AllZip IsOfOwnType sources) (occurrences sources document) tuple
+    (occurrences-zip IsOfOwnType document
+    (λ source. or_missing-own source (missing_bucket_of source) _
+    (keys_in-own source (values_at (field_of source) document))) sources)
+    (Has-from_Contains (occurrences sources document) tuple held)
+
+-- where each after value is its key of such a tuple, none is of another type
+after_value-own : (after : Named AfterKey) (sources : Sources) (tuple : KeyTuple)
+    → AllZip (IsAfterValue after) sources tuple → AllZip IsOfOwnType sources tuple
+    → AllByRecursion (λ source. ¬ ((k : CompositeIntermediateKey)
+    × IsAfterValue after source k × IsOfOtherType source k)) sources
+after_value-own after [] [] values own = tt
+after_value-own after [] (k ∷ keys) values own = tt
+after_value-own after (source ∷ sources) [] values own = absurd values
+after_value-own after (source ∷ sources) (k ∷ keys) values own =
+    let null : AfterKey = record { 0 = Null } in
+    let key_in : Option AfterKey → CompositeIntermediateKey = λ o. (unwrap_or o null).0 in (
+      λ h. own.0 (subst (IsOfOtherType source) (ap key_in (sym h.1 ∙ values.0)) h.2),
+      after_value-own after sources keys values.1 own.1,
+    )
+
+-- a composite that goes on past a tuple of a document has after values of its sources' types
+pub after_map-own : (composite : CompositeAggregation) (document : Fields) (tuple : KeyTuple)
+    → composite.after ≡ after_map composite.sources tuple → HaveOwnNames composite.sources
+    → length tuple ≡ length composite.sources
+    → Contains (occurrences composite.sources document) tuple
+    → All (λ source. ¬ (HasAfterOfOtherType composite source)) composite.sources
+after_map-own composite document tuple is apart whole held =
+    let sources = composite.sources in
+    All-from_recursion (λ source. ¬ (HasAfterOfOtherType composite source)) sources
+    (after_value-own composite.after sources tuple
+    (subst (λ after. AllZip (IsAfterValue after) sources tuple) (sym is)
+    (after_map-values sources tuple apart whole))
+    (occurrence-own sources document tuple held))

@@ -1,5 +1,5 @@
 -- Composites as JSON: their sources, their size and their after key.
-use Rattle.std.specs.Prelude.{◌≡◌, ◌⊎◌, ◌∷◌, [], ℕ, List, Bool, true, false, Option, None, Some}
+use Rattle.std.specs.Prelude.{◌≡◌, ◌⊎◌, ◌∷◌, [], ℕ, ℤ, List, Bool, true, false, Option, None, Some}
 use Rattle.std.specs.Prelude.{codes, option_and_then, Float, IsTrue, ⊤}
 use Rattle.serde_json.specs.Data.{Data, number, float, Items, Members, no_members, member}
 use Rattle.serde_json.specs.Find.{as_array, as_bool, as_object, as_str, get}
@@ -10,14 +10,21 @@ use Rattle.agg_values.specs.declared.order.Order.{Order}
 use Rattle.agg_values.specs.declared.order.Order.TheVariants.{Asc, Desc}
 use Rattle.agg_values.specs.declared.order.MissingOrder.{MissingOrder}
 use Rattle.agg_values.specs.declared.order.MissingOrder.TheVariants.{Default, First, Last}
-use Rattle.agg_request.specs.Json.{only_member, small_number}
-use Rattle.agg_request.specs.Query.{EachIs, IsField, IsUnsupportedText}
+use Rattle.agg_calendar.specs.declared.interval.CalendarInterval.{CalendarInterval}
+use Rattle.agg_calendar.specs.declared.interval.CalendarInterval.TheVariants.{Year, Month, Week}
+use Rattle.agg_request.specs.Json.{only_member, present, small_number, whole_number}
+use Rattle.agg_request.specs.Query.{EachIs, HasUnsupportedList, IsField, IsUnsupportedText}
 use Rattle.agg_request.specs.Source.{Sources}
 use Rattle.agg_request.specs.declared.aggregation.CompositeAggregation.{CompositeAggregation}
-use Rattle.agg_request.specs.declared.source.CompositeAggregationSource.{CompositeAggregationSource}
-use Rattle.agg_request.specs.declared.source.CompositeAggregationSource.TheVariants.{Terms}
+use Rattle.agg_request.specs.declared.source.CompositeAggregationSource as any_source
+use any_source.{CompositeAggregationSource}
+use any_source.TheVariants.{Terms, Histogram, DateHistogram}
 use Rattle.agg_request.specs.declared.source.TermCompositeAggregationSource as term
 use term.{TermCompositeAggregationSource as Term}
+use Rattle.agg_request.specs.declared.source.HistogramCompositeAggregationSource as numbers
+use numbers.{HistogramCompositeAggregationSource as Numbers}
+use Rattle.agg_request.specs.declared.source.DateHistogramCompositeAggregationSource as dates
+use dates.{DateHistogramCompositeAggregationSource as Dates}
 
 -- ---- sources
 
@@ -42,6 +49,32 @@ abbrev pub IsFlag : Option Data → Bool → Type 0
 IsFlag None flag = flag ≡ false
 IsFlag (Some d) flag = as_bool d ≡ Some flag
 
+-- the word for a unit of the calendar
+abbrev pub unit_word : CalendarInterval → List ℕ
+unit_word Year = codes "year"
+unit_word Month = codes "month"
+unit_word Week = codes "week"
+
+-- what stands there is such a value, or nothing stands there and there is none
+abbrev pub IsGiven : {A : Type 0} → (Data → A → Type 0) → Option Data → Option A → Type 0
+IsGiven Is None None = ⊤
+IsGiven Is (Some d) (Some x) = Is d x
+IsGiven Is _ _ = ⊥
+
+-- a number that isn't whole, or lies outside 64 bits
+abbrev pub IsFloat : Data → Type 0
+IsFloat d = (x : Float) × (d ≡ number (float x))
+
+-- an interval, a whole number within i64; leniently, a number that isn't whole is any
+abbrev pub IsInterval : Bool → Data → ℤ → Type 0
+IsInterval false d interval = whole_number d ≡ Some interval
+IsInterval true d interval = (whole_number d ≡ Some interval) ⊎ IsFloat d
+
+-- the interval of a body
+abbrev pub IsIntervalOf : Bool → Data → ℤ → Type 0
+IsIntervalOf lenient body interval =
+    (d : Data) × (get (codes "interval") body ≡ Some d) × IsInterval lenient d interval
+
 -- the body of a terms source of a name; other members don't count
 abbrev pub IsTermsBody : List ℕ → Data → Term → Type 0
 IsTermsBody name body source =
@@ -50,29 +83,52 @@ IsTermsBody name body source =
     × IsFlag (get (codes "missing_bucket") body) source.missing_bucket
     × IsWordOr Default missing_order_word (get (codes "missing_order") body) source.missing_order
 
+-- the body of a histogram source of a name; other members don't count
+abbrev pub IsHistogramBody : Bool → List ℕ → Data → Numbers → Type 0
+IsHistogramBody lenient name body source =
+    (source.name ≡ name) × IsField body source.field
+    × IsIntervalOf lenient body source.interval
+    × IsWordOr Asc order_word (get (codes "order") body) source.order
+    × IsFlag (get (codes "missing_bucket") body) source.missing_bucket
+    × IsWordOr Default missing_order_word (get (codes "missing_order") body) source.missing_order
+
+-- the body of a date source of a name: each interval may stand there, and null stands for none;
+-- other members don't count
+abbrev pub IsDateHistogramBody : List ℕ → Data → Dates → Type 0
+IsDateHistogramBody name body source =
+    (source.name ≡ name) × IsField body source.field
+    × IsGiven (λ d text. as_str d ≡ Some text)
+    (present (codes "fixed_interval") body) source.fixed_interval
+    × IsGiven (λ d unit. as_str d ≡ Some (unit_word unit))
+    (present (codes "calendar_interval") body) source.calendar_interval
+    × IsWordOr Asc order_word (get (codes "order") body) source.order
+    × IsFlag (get (codes "missing_bucket") body) source.missing_bucket
+    × IsWordOr Default missing_order_word (get (codes "missing_order") body) source.missing_order
+
 -- the body of a source of a name, by the name of its kind
-abbrev pub IsSourceOfKind : List ℕ → List ℕ → Data → CompositeAggregationSource → Type 0
-IsSourceOfKind name kind body (Terms source) =
+abbrev pub IsSourceOfKind
+    : Bool → List ℕ → List ℕ → Data → CompositeAggregationSource → Type 0
+IsSourceOfKind lenient name kind body (Terms source) =
     (kind ≡ codes "terms") × IsTermsBody name body source
+IsSourceOfKind lenient name kind body (Histogram source) =
+    (kind ≡ codes "histogram") × IsHistogramBody lenient name body source
+IsSourceOfKind lenient name kind body (DateHistogram source) =
+    (kind ≡ codes "date_histogram") × IsDateHistogramBody name body source
 
 -- a source: its name with its kind, of which there is one
-abbrev pub IsSourceJson : Data → CompositeAggregationSource → Type 0
-IsSourceJson d source =
+abbrev pub IsSourceJson : Bool → Data → CompositeAggregationSource → Type 0
+IsSourceJson lenient d source =
     (name : List ℕ) × (kind : List ℕ) × (named : Data) × (body : Data)
     × (only_member d ≡ Some (name, named)) × (only_member named ≡ Some (kind, body))
-    × IsSourceOfKind name kind body source
+    × IsSourceOfKind lenient name kind body source
 
 -- the sources of a body, in an array
-abbrev pub AreSources : Data → Sources → Type 0
-AreSources body sources =
+abbrev pub AreSources : Bool → Data → Sources → Type 0
+AreSources lenient body sources =
     (items : Items) × (option_and_then as_array (get (codes "sources") body) ≡ Some items)
-    × EachIs IsSourceJson items sources
+    × EachIs (IsSourceJson lenient) items sources
 
 -- ---- the size
-
--- a number that isn't whole, or lies outside 64 bits
-abbrev pub IsFloat : Data → Type 0
-IsFloat d = (x : Float) × (d ≡ number (float x))
 
 -- a size; leniently, a number that isn't whole is any
 abbrev pub IsSize : Bool → Data → ℕ → Type 0
@@ -115,7 +171,7 @@ IsAfter lenient (Some d) after =
 -- the body of a composite; other members don't count
 pub record IsCompositeJson (lenient : Bool) (body : Data) (composite : CompositeAggregation)
     : Type 0 where
-  pub sources : AreSources body composite.sources
+  pub sources : AreSources lenient body composite.sources
   pub size : IsSizeOf lenient body composite.size
   pub after : IsAfter lenient (get (codes "after") body) composite.after
 
@@ -124,6 +180,25 @@ pub record IsCompositeJson (lenient : Bool) (body : Data) (composite : Composite
 -- a body has a size that isn't whole
 abbrev pub HasFloatSize : Data → Type 0
 HasFloatSize body = (d : Data) × (get (codes "size") body ≡ Some d) × IsFloat d
+
+-- a body has an interval that isn't whole
+abbrev pub HasFloatInterval : Data → Type 0
+HasFloatInterval body = (d : Data) × (get (codes "interval") body ≡ Some d) × IsFloat d
+
+-- so has the body of a source of this kind, where it is a histogram
+abbrev pub HasUnsupportedInterval : List ℕ → Data → Type 0
+HasUnsupportedInterval kind body = (kind ≡ codes "histogram") × HasFloatInterval body
+
+-- so has a source
+abbrev pub HasUnsupportedKind : Data → Type 0
+HasUnsupportedKind d =
+    (name : List ℕ) × (kind : List ℕ) × (named : Data) × (body : Data)
+    × (only_member d ≡ Some (name, named)) × (only_member named ≡ Some (kind, body))
+    × HasUnsupportedInterval kind body
+
+-- so has some source of a body
+abbrev pub HasUnsupportedSource : Data → Type 0
+HasUnsupportedSource = HasUnsupportedList HasUnsupportedKind (codes "sources")
 
 -- a text of the type that isn't supported
 abbrev pub IsUnsupportedKey : Data → Type 0
@@ -140,7 +215,7 @@ HasUnsupportedAfter d =
     (members : Members) × (option_and_then as_object d ≡ Some members)
     × HasUnsupportedMember members
 
--- a size that isn't whole, or a text of that type in the after key
+-- a size or an interval that isn't whole, or a text of that type in the after key
 abbrev pub HasUnsupportedComposite : Data → Type 0
 HasUnsupportedComposite body =
-    HasFloatSize body ⊎ HasUnsupportedAfter (get (codes "after") body)
+    HasFloatSize body ⊎ HasUnsupportedSource body ⊎ HasUnsupportedAfter (get (codes "after") body)

@@ -1,18 +1,23 @@
 -- What a request may not ask.
-use Rattle.std.specs.Prelude.{◌≡◌, ◌≢◌, ◌≤◌, ◌<◌, ℕ, [], false, Some, length}
-use Rattle.std.specs.Prelude.{All, AllPairs, Any, ⊤}
+use Rattle.std.specs.Prelude.{◌≡◌, ◌≢◌, ◌≤◌, ◌<◌, ◌≤ℤ◌, ◌<ℤ◌, ℕ, pos, [], false, Some, length}
+use Rattle.std.specs.Prelude.{All, AllPairs, Any, Err, IsOk, ⊤}
 use Rattle.agg_values.specs.Names.{value_of}
-use Rattle.agg_values.specs.declared.typed_key.CompositeIntermediateKey.TheVariants.{Null}
+use Rattle.agg_values.specs.TypedKey.{CompositeIntermediateKey}
+use Rattle.agg_values.specs.declared.typed_key.CompositeIntermediateKey.TheVariants as key
+use key.{Null}
+use Rattle.agg_values.specs.declared.request_error.AggregationError.{AggregationError}
 use Rattle.agg_values.specs.declared.error.InvalidArgument.{InvalidArgument}
 use Rattle.agg_values.specs.declared.error.InvalidArgument.TheVariants as argument
 use Rattle.agg_values.specs.declared.request_error.RequestError.{RequestError}
 use Rattle.agg_values.specs.declared.request_error.RequestError.TheVariants as error
 use Rattle.agg_request.specs.Request.{Request}
-use Rattle.agg_request.specs.Source.{Sources, missing_bucket_of, name_of}
+use Rattle.agg_request.specs.Source.{Sources, interval_of, missing_bucket_of, name_of}
 use Rattle.agg_request.specs.declared.aggregation.AggregationVariants.{AggregationVariants}
 use Rattle.agg_request.specs.declared.aggregation.AggregationVariants.TheVariants.{Composite}
 use Rattle.agg_request.specs.declared.aggregation.CompositeAggregation.{CompositeAggregation}
-use Rattle.agg_request.specs.declared.source.CompositeAggregationSource.{CompositeAggregationSource}
+use Rattle.agg_request.specs.declared.source.CompositeAggregationSource as kind
+use kind.{CompositeAggregationSource}
+use kind.TheVariants.{Terms, Histogram, DateHistogram}
 
 -- the most sources of a composite
 abbrev pub max_sources : ℕ
@@ -28,14 +33,63 @@ IsBehindNoBucket composite source =
     (value_of (name_of source) composite.after ≡ Some (record { 0 = Null }))
     × (missing_bucket_of source ≡ false)
 
--- a composite has this fault; those of intervals and of other sources' after values come to none
+-- a source's interval is refused so: a number below one, or the intervals of a date source
+abbrev pub IsIntervalFault : CompositeAggregationSource → RequestError → Type 0
+IsIntervalFault (Terms s) refusal = ⊥
+IsIntervalFault (Histogram s) refusal =
+    (refusal ≡ error.Invalid argument.BadInterval) × (s.interval <ℤ pos 1)
+IsIntervalFault (DateHistogram s) refusal = interval_of s ≡ Err refusal
+
+-- a source has what it divides values by, if it divides them
+abbrev pub HasInterval : CompositeAggregationSource → Type 0
+HasInterval (Terms s) = ⊤
+HasInterval (Histogram s) = pos 1 ≤ℤ s.interval
+HasInterval (DateHistogram s) = IsOk (interval_of s)
+
+-- why a source's interval is refused; memory is wanted only for the refusal of a text
+abbrev pub IsIntervalCause : CompositeAggregationSource → RequestError → Type 0
+IsIntervalCause source error.OutOfMemory =
+    (part : AggregationError) × IsIntervalFault source (error.Aggregation part)
+IsIntervalCause source refusal = IsIntervalFault source refusal
+
+-- an after value is none of the source's keys: neither Null nor a whole number where they are
+-- numbers, neither Null nor a date where they are dates
+abbrev pub IsOfOtherType : CompositeAggregationSource → CompositeIntermediateKey → Type 0
+IsOfOtherType (Histogram s) (key.Bool b) = ⊤
+IsOfOtherType (Histogram s) (key.Str text) = ⊤
+IsOfOtherType (Histogram s) (key.IpAddr address) = ⊤
+IsOfOtherType (Histogram s) (key.DateTime ns) = ⊤
+IsOfOtherType (DateHistogram s) (key.Bool b) = ⊤
+IsOfOtherType (DateHistogram s) (key.Str text) = ⊤
+IsOfOtherType (DateHistogram s) (key.I64 n) = ⊤
+IsOfOtherType (DateHistogram s) (key.U64 n) = ⊤
+IsOfOtherType (DateHistogram s) (key.IpAddr address) = ⊤
+IsOfOtherType _ _ = ⊥
+
+-- the after value of a source is of another type
+abbrev pub HasAfterOfOtherType : CompositeAggregation → CompositeAggregationSource → Type 0
+HasAfterOfOtherType composite source =
+    (k : CompositeIntermediateKey)
+    × (value_of (name_of source) composite.after ≡ Some (record { 0 = k }))
+    × IsOfOtherType source k
+
+-- a composite has this fault
 abbrev pub HasFault : CompositeAggregation → InvalidArgument → Type 0
 HasFault composite argument.NoSource = composite.sources ≡ []
 HasFault composite argument.ZeroSize = composite.size ≡ 0
 HasFault composite argument.TooManySources = max_sources < length composite.sources
 HasFault composite argument.DuplicateSource = ¬ (HaveOwnNames composite.sources)
 HasFault composite argument.NullAfter = Any (IsBehindNoBucket composite) composite.sources
-HasFault composite _ = ⊥
+HasFault composite argument.BadInterval =
+    Any (λ s. IsIntervalFault s (error.Invalid argument.BadInterval)) composite.sources
+HasFault composite argument.IntervalChoice =
+    Any (λ s. IsIntervalFault s (error.Invalid argument.IntervalChoice)) composite.sources
+HasFault composite argument.AfterType = Any (HasAfterOfOtherType composite) composite.sources
+
+-- the text of a source's interval is refused so
+abbrev pub HasTextFault : CompositeAggregation → AggregationError → Type 0
+HasTextFault composite part =
+    Any (λ s. IsIntervalFault s (error.Aggregation part)) composite.sources
 
 -- a composite has no fault
 pub record IsSound (composite : CompositeAggregation) : Type 0 where
@@ -44,25 +98,47 @@ pub record IsSound (composite : CompositeAggregation) : Type 0 where
   pub room : composite.size ≢ 0
   pub names : HaveOwnNames composite.sources
   pub after : All (λ source. ¬ (IsBehindNoBucket composite source)) composite.sources
+  pub intervals : All HasInterval composite.sources
+  pub types : All (λ source. ¬ (HasAfterOfOtherType composite source)) composite.sources
+
+-- why a composite is refused; memory is wanted only for the refusal of a text
+abbrev pub CompositeHasCause : CompositeAggregation → RequestError → Type 0
+CompositeHasCause composite (error.Invalid fault) = HasFault composite fault
+CompositeHasCause composite (error.Aggregation part) = HasTextFault composite part
+CompositeHasCause composite error.OutOfMemory =
+    (part : AggregationError) × HasTextFault composite part
 
 -- an aggregation has this fault
 abbrev pub AggregationHasFault : AggregationVariants → InvalidArgument → Type 0
 AggregationHasFault (Composite composite) = HasFault composite
 
+-- an aggregation has an interval whose text is refused so
+abbrev pub AggregationHasTextFault : AggregationVariants → AggregationError → Type 0
+AggregationHasTextFault (Composite composite) = HasTextFault composite
+
 -- an aggregation has no fault
 abbrev pub IsSoundAggregation : AggregationVariants → Type 0
 IsSoundAggregation (Composite composite) = IsSound composite
+
+-- why an aggregation is refused
+abbrev pub AggregationHasCause : AggregationVariants → RequestError → Type 0
+AggregationHasCause (Composite composite) = CompositeHasCause composite
 
 -- some aggregation of a request has this fault
 abbrev pub RequestHasFault : Request → InvalidArgument → Type 0
 RequestHasFault request fault = Any (λ a. AggregationHasFault a.1.agg fault) request
 
+-- some aggregation of a request has an interval whose text is refused so
+abbrev pub RequestHasTextFault : Request → AggregationError → Type 0
+RequestHasTextFault request part = Any (λ a. AggregationHasTextFault a.1.agg part) request
+
 -- no aggregation of a request has a fault
 abbrev pub IsSoundRequest : Request → Type 0
 IsSoundRequest request = All (λ a. IsSoundAggregation a.1.agg) request
 
--- a refusal of a request has its cause
+-- a refusal of a request has its cause; memory is wanted only for the refusal of a text
 abbrev pub HasCause : Request → RequestError → Type 0
 HasCause request (error.Invalid fault) = RequestHasFault request fault
-HasCause request (error.Aggregation part) = ⊥
-HasCause request error.OutOfMemory = ⊤
+HasCause request (error.Aggregation part) = RequestHasTextFault request part
+HasCause request error.OutOfMemory =
+    (part : AggregationError) × RequestHasTextFault request part

@@ -1,12 +1,13 @@
 -- Looking into JSON values.
 use Rattle.std.specs.Prelude.{◌==◌, ◌∷◌, [], ℕ, ℤ, List, Bool, false, Option, None, Some}
-use Rattle.std.specs.Prelude.{if◌then◌else◌, option_map, option_and_then, nat_lt, ◌^◌}
+use Rattle.std.specs.Prelude.{if◌then◌else◌, is_some, option_map, option_and_then, nat_lt}
+use Rattle.std.specs.Prelude.{◌^◌}
 use Rattle.std.specs.Str.{bytes_eq}
 use Rattle.agg_values.specs.Names.{Named}
 use Rattle.serde_json.specs.Data.{Data, object, Items, no_items, item, Members, no_members}
 use Rattle.serde_json.specs.Data.{member}
 use Rattle.serde_json.specs.Events.{members_len}
-use Rattle.serde_json.specs.Find.{as_number, as_u64, as_i64}
+use Rattle.serde_json.specs.Find.{as_i64, as_null, as_number, as_u64, get}
 
 -- whether it is an object of so many members
 abbrev pub has_members : ℕ → Data → Bool
@@ -22,6 +23,10 @@ only_member _ = None
 abbrev pub only_named : List ℕ → Data → Option Data
 only_named name d =
     option_and_then (λ m. if bytes_eq m.0 name then Some m.1 else None) (only_member d)
+
+-- the value of a member, where it isn't null
+abbrev pub present : List ℕ → Data → Option Data
+present name d = option_and_then (λ v. if is_some (as_null v) then None else Some v) (get name d)
 
 -- a whole number within i64
 abbrev pub whole_number : Data → Option ℤ

@@ -6,6 +6,7 @@ pub mod Json
 pub mod Occurrences
 pub mod Page
 pub mod Query
+pub mod Ranges
 pub mod Reading
 pub mod Request
 pub mod Source

@@ -1,16 +1,19 @@
 //! What a request may not ask.
-ghost use Rattle.std.specs.Prelude.{◌≡◌, ◌≢◌, ◌↔◌, All, Any, IfErr, IfNone, IfSome, IsTrue};
-ghost use Rattle.std.specs.Prelude.{MatchBool, OnOk};
-ghost use Rattle.agg_request.specs.Faults.{AggregationHasFault, HasCause, HasFault, HaveOwnNames};
-ghost use Rattle.agg_request.specs.Faults.{IsBehindNoBucket, IsSound, IsSoundAggregation};
-ghost use Rattle.agg_request.specs.Faults.{IsSoundRequest};
+ghost use Rattle.std.specs.Prelude.{◌≡◌, ◌≢◌, All, Any, IfErr, IfNone, IfSome, MatchBool, OnOk};
+ghost use Rattle.agg_request.specs.Faults.{AggregationHasCause, CompositeHasCause, HasCause};
+ghost use Rattle.agg_request.specs.Faults.{HasFault, HasInterval, HaveOwnNames, IsSound};
+ghost use Rattle.agg_request.specs.Faults.{IsSoundAggregation, IsSoundRequest};
 ghost use Rattle.agg_request.specs.Source.{name_of};
 
+mod after;
+mod intervals;
 #[cfg(test)]
 mod tests;
 
 use crate::{AggregationVariants, Aggregations, CompositeAggregation, CompositeAggregationSource};
-use agg_values::{AfterKey, CompositeIntermediateKey, InvalidArgument, RequestError, Text};
+use after::{has_null_after, has_other_after};
+use agg_values::{InvalidArgument, RequestError, Text};
+use intervals::check_intervals;
 use std::alloc::Global;
 
 // The most sources that a composite may have.
@@ -22,29 +25,38 @@ pub fn check_request(alloc: Global, request: &Aggregations) -> Result<(), Reques
     ensures ok { OnOk result (IsSoundRequest request.now) }
     ensures err { IfErr result (HasCause request.now) }
 {
-    let _ = alloc;
     for (_, aggregation) in request.iter() {
-        if let Some(fault) = fault_of(&aggregation.agg) {
-            return Err(RequestError::Invalid(fault));
-        }
+        check_aggregation(alloc, &aggregation.agg)?;
     }
     Ok(())
 }
 
-// A fault of an aggregation, if it has any.
-fn fault_of(aggregation: &AggregationVariants) -> Option<InvalidArgument>
-    ensures some { IfSome result (AggregationHasFault aggregation.now) }
-    ensures none { IfNone result (IsSoundAggregation aggregation.now) }
+// The same of an aggregation.
+fn check_aggregation(alloc: Global, aggregation: &AggregationVariants) -> Result<(), RequestError>
+    ensures ok { OnOk result (IsSoundAggregation aggregation.now) }
+    ensures err { IfErr result (AggregationHasCause aggregation.now) }
 {
     match aggregation {
-        AggregationVariants::Composite(composite) => find_fault(composite),
+        AggregationVariants::Composite(composite) => check_composite(alloc, composite),
     }
 }
 
-// A fault of a composite, if it has any. Names are compared only where there are few.
+// The same of a composite. Intervals are read only where there are few.
+fn check_composite(alloc: Global, composite: &CompositeAggregation) -> Result<(), RequestError>
+    ensures ok { OnOk result (IsSound composite.now) }
+    ensures err { IfErr result (CompositeHasCause composite.now) }
+{
+    if let Some(fault) = find_fault(composite) {
+        return Err(RequestError::Invalid(fault));
+    }
+    check_intervals(alloc, composite.sources.as_slice())
+}
+
+// A fault of a composite besides those of its intervals, if it has any. Names are compared only
+// where there are few.
 fn find_fault(composite: &CompositeAggregation) -> Option<InvalidArgument>
     ensures some { IfSome result (HasFault composite.now) }
-    ensures none { IfNone result (IsSound composite.now) }
+    ensures none { IfNone result (All HasInterval composite.now.sources → IsSound composite.now) }
 {
     let sources = composite.sources.as_slice();
     if sources.is_empty() {
@@ -61,6 +73,9 @@ fn find_fault(composite: &CompositeAggregation) -> Option<InvalidArgument>
     }
     if has_null_after(composite) {
         return Some(InvalidArgument::NullAfter);
+    }
+    if has_other_after(composite) {
+        return Some(InvalidArgument::AfterType);
     }
     None
 }
@@ -88,37 +103,4 @@ fn has_name(sources: &[CompositeAggregationSource], name: &Text) -> bool
         }
     }
     false
-}
-
-// Whether the after value of a source is Null where documents without a value have no bucket.
-fn has_null_after(composite: &CompositeAggregation) -> bool
-    ensures { MatchBool result (Any (IsBehindNoBucket composite.now) composite.now.sources)
-        (All (λ source. ¬ (IsBehindNoBucket composite.now source)) composite.now.sources) }
-{
-    for source in composite.sources.as_slice() {
-        if is_behind_no_bucket(composite, source) {
-            return true;
-        }
-    }
-    false
-}
-
-// The same of one source.
-fn is_behind_no_bucket(
-    composite: &CompositeAggregation,
-    source: &CompositeAggregationSource,
-) -> bool
-    ensures { MatchBool result (IsBehindNoBucket composite.now source.now)
-        (¬ (IsBehindNoBucket composite.now source.now)) }
-{
-    match composite.after.get(source.name()) {
-        Some(after) => is_null(after) && !source.missing_bucket(),
-        None => false,
-    }
-}
-
-fn is_null(after: &AfterKey) -> bool
-    ensures { IsTrue result ↔ after.now.0 ≡ CompositeIntermediateKey.Null }
-{
-    matches!(after.0, CompositeIntermediateKey::Null)
 }

@@ -2,7 +2,7 @@
 ghost use Rattle.std.specs.Prelude.{◌≡◌, IfOk, option_map};
 ghost use Rattle.serde_json.specs.Find.{as_str};
 ghost use Rattle.serde_json.specs.View.{view};
-ghost use Rattle.agg_request.specs.Json.{has_members, only_member, only_named};
+ghost use Rattle.agg_request.specs.Json.{has_members, only_member, only_named, present};
 ghost use Rattle.agg_request.specs.Json.{small_number};
 
 use agg_values::{OutOfMemory, Text};
@@ -37,6 +37,14 @@ pub fn only_named<'a>(value: &'a Value, name: &str) -> Option<&'a Value>
 {
     let (found, only) = only_member(value)?;
     if found == name { Some(only) } else { None }
+}
+
+/// The value of a member, where it isn't null.
+pub fn present<'a>(value: &'a Value, name: &str) -> Option<&'a Value>
+    ensures { option_map (λ v. view v.now) result ≡ present name.now (view value.now) }
+{
+    let found = value.get(name)?;
+    if found.is_null() { None } else { Some(found) }
 }
 
 /// A whole number within u32.

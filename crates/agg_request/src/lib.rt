@@ -27,4 +27,7 @@ pub use laws::{
 pub use occurrences::count_uncut;
 pub use query::read_query;
 pub use read_error::ReadError;
-pub use source::{CompositeAggregationSource, TermCompositeAggregationSource};
+pub use source::{
+    CompositeAggregationSource, DateHistogramCompositeAggregationSource,
+    HistogramCompositeAggregationSource, TermCompositeAggregationSource,
+};

@@ -2,14 +2,14 @@
 #[cfg(test)]
 mod tests;
 
-ghost use Rattle.std.specs.Prelude.{◌≡◌, ◌-◌, ◌^◌, IfOk, length, min};
-ghost use Rattle.agg_segment.specs.Columns.{all_keys};
+ghost use Rattle.std.specs.Prelude.{◌≡◌, ◌-◌, ◌^◌, IfOk, filter, length, map, min};
+ghost use Rattle.agg_segment.specs.Columns.{all_keys, type_of};
 ghost use Rattle.agg_segment.specs.Segment.{Stored, document_at, documents_at};
 ghost use Rattle.agg_request.specs.declared.aggregation.AggregationVariants.TheVariants.{Composite};
 ghost use Rattle.agg_request.specs.declared.source.CompositeAggregationSource as declared;
 ghost use Rattle.agg_request.specs.Occurrences.{occurrences};
 ghost use Rattle.agg_request.specs.Source.{Sources, source_values};
-ghost use Rattle.agg_request.specs.SourceColumns.{AreReadBy, IsReadBy};
+ghost use Rattle.agg_request.specs.SourceColumns.{AreReadBy, IsReadBy, reads_type};
 ghost use Rattle.agg_request.specs.Uncut.{uncut};
 
 use super::{CompositeAggregation, CompositeAggregationSource};
@@ -17,10 +17,10 @@ use agg_segment::{Column, SegmentReader};
 use agg_values::{DocId, OutOfMemory};
 use std::alloc::Global;
 
-// The columns that a source reads, and whether a document without values has a bucket.
-#[derive(Clone, Copy)]
+// The columns that a source reads, and whether a document without a value in them has a bucket.
+#[derive(Drop)]
 struct SourceColumns<'a> {
-    columns: &'a [Column],
+    columns: Vec<&'a Column>,
     missing_bucket: bool,
 }
 
@@ -55,11 +55,29 @@ fn source_columns<'a>(
     let mut columns = Vec::with_capacity(alloc, sources.len())?;
     for source in sources {
         columns.push(SourceColumns {
-            columns: segment.columns(source.field()),
+            columns: read_columns(alloc, source, segment.columns(source.field()))?,
             missing_bucket: source.missing_bucket(),
         })?;
     }
     Ok(columns)
+}
+
+// The columns whose type a source reads.
+fn read_columns<'a>(
+    alloc: Global,
+    source: &CompositeAggregationSource,
+    columns: &'a [Column],
+) -> Result<Vec<&'a Column>, OutOfMemory>
+    ensures { IfOk result (λ read. map (λ c. c.now) read.items
+        ≡ filter (λ c. reads_type source.now (type_of c.keys)) columns.now) }
+{
+    let mut read = Vec::new(alloc);
+    for column in columns {
+        if source.reads(column.column_type()) {
+            read.push(column)?;
+        }
+    }
+    Ok(read)
 }
 
 // How many occurrences a document has, cut to what the number holds.
@@ -80,7 +98,7 @@ fn num_keys(source: &SourceColumns<'_>, doc: DocId) -> u64
         → IsReadBy segment read source.now
         → result ≡ min (length (source_values read (document_at segment doc))) (2 ^ 64 - 1) }
 {
-    let num_values = num_values(source.columns, doc);
+    let num_values = num_values(&source.columns, doc);
     if num_values == 0 && source.missing_bucket {
         return 1;
     }
@@ -88,8 +106,9 @@ fn num_keys(source: &SourceColumns<'_>, doc: DocId) -> u64
 }
 
 // How many values a document has in columns, cut to what the number holds.
-fn num_values(columns: &[Column], doc: DocId) -> u64
-    ensures { result ≡ min (length (all_keys columns.now doc)) (2 ^ 64 - 1) }
+fn num_values(columns: &[&Column], doc: DocId) -> u64
+    ensures { result
+        ≡ min (length (all_keys (map (λ c. c.now) columns.now) doc)) (2 ^ 64 - 1) }
 {
     let mut count: u64 = 0;
     for column in columns {

@@ -1,7 +1,10 @@
-ghost use Rattle.std.specs.Prelude.{◌≡◌, IfOk};
+ghost use Rattle.std.specs.Prelude.{◌≡◌, IfOk, option_map};
 ghost use Rattle.agg_request.specs.Source.{field_of, name_of, order_of};
 ghost use Rattle.agg_request.specs.Source.{missing_order_of, missing_bucket_of};
+ghost use Rattle.agg_request.specs.SourceColumns.{reads_type};
 
+use agg_calendar::CalendarInterval;
+use agg_segment::ColumnType;
 use agg_values::{MissingOrder, Order, OutOfMemory, Text};
 use std::alloc::Global;
 
@@ -31,10 +34,89 @@ impl TermCompositeAggregationSource {
     }
 }
 
+/// A source whose keys are the starts of the buckets of a field's numbers and dates, as numbers.
+#[derive(Debug, Drop)]
+pub struct HistogramCompositeAggregationSource {
+    pub name: Text,
+    pub field: Text,
+    /// The width of a bucket. Dates count in milliseconds.
+    pub interval: i64,
+    pub order: Order,
+    /// Whether a document without a number or date has the key Null.
+    pub missing_bucket: bool,
+    pub missing_order: MissingOrder,
+}
+
+impl HistogramCompositeAggregationSource {
+    /// An equal source.
+    pub fn try_clone(
+        &self,
+        alloc: Global,
+    ) -> Result<HistogramCompositeAggregationSource, OutOfMemory>
+        ensures { IfOk result (λ source. source ≡ self.now) }
+    {
+        Ok(HistogramCompositeAggregationSource {
+            name: self.name.try_clone(alloc)?,
+            field: self.field.try_clone(alloc)?,
+            interval: self.interval,
+            order: self.order,
+            missing_bucket: self.missing_bucket,
+            missing_order: self.missing_order,
+        })
+    }
+}
+
+/// A source whose keys are the starts of the buckets of a field's dates, as dates. One of its two
+/// intervals is set.
+#[derive(Debug, Drop)]
+pub struct DateHistogramCompositeAggregationSource {
+    pub name: Text,
+    pub field: Text,
+    /// The text of a number of days, hours, minutes, seconds or milliseconds.
+    pub fixed_interval: Option<Text>,
+    pub calendar_interval: Option<CalendarInterval>,
+    pub order: Order,
+    /// Whether a document without a date has the key Null.
+    pub missing_bucket: bool,
+    pub missing_order: MissingOrder,
+}
+
+impl DateHistogramCompositeAggregationSource {
+    /// An equal source.
+    pub fn try_clone(
+        &self,
+        alloc: Global,
+    ) -> Result<DateHistogramCompositeAggregationSource, OutOfMemory>
+        ensures { IfOk result (λ source. source ≡ self.now) }
+    {
+        Ok(DateHistogramCompositeAggregationSource {
+            name: self.name.try_clone(alloc)?,
+            field: self.field.try_clone(alloc)?,
+            fixed_interval: copy_of(alloc, self.fixed_interval.as_ref())?,
+            calendar_interval: self.calendar_interval,
+            order: self.order,
+            missing_bucket: self.missing_bucket,
+            missing_order: self.missing_order,
+        })
+    }
+}
+
+// The same text, where there is one.
+fn copy_of(alloc: Global, text: Option<&Text>) -> Result<Option<Text>, OutOfMemory>
+    ensures { IfOk result (λ copy. copy ≡ option_map (λ t. t.now) text.entry) }
+{
+    match text {
+        Some(text) => Ok(Some(text.try_clone(alloc)?)),
+        None => Ok(None),
+    }
+}
+
 /// A source of keys.
 #[derive(Debug, Drop)]
 pub enum CompositeAggregationSource {
     Terms(TermCompositeAggregationSource),
+    Histogram(HistogramCompositeAggregationSource),
+    DateHistogram(DateHistogramCompositeAggregationSource),
 }
 
 impl CompositeAggregationSource {
@@ -46,6 +128,12 @@ impl CompositeAggregationSource {
             CompositeAggregationSource::Terms(terms) => {
                 Ok(CompositeAggregationSource::Terms(terms.try_clone(alloc)?))
             }
+            CompositeAggregationSource::Histogram(histogram) => {
+                Ok(CompositeAggregationSource::Histogram(histogram.try_clone(alloc)?))
+            }
+            CompositeAggregationSource::DateHistogram(dates) => {
+                Ok(CompositeAggregationSource::DateHistogram(dates.try_clone(alloc)?))
+            }
         }
     }
 
@@ -55,6 +143,8 @@ impl CompositeAggregationSource {
     {
         match self {
             CompositeAggregationSource::Terms(terms) => &terms.field,
+            CompositeAggregationSource::Histogram(histogram) => &histogram.field,
+            CompositeAggregationSource::DateHistogram(dates) => &dates.field,
         }
     }
 
@@ -64,6 +154,8 @@ impl CompositeAggregationSource {
     {
         match self {
             CompositeAggregationSource::Terms(terms) => &terms.name,
+            CompositeAggregationSource::Histogram(histogram) => &histogram.name,
+            CompositeAggregationSource::DateHistogram(dates) => &dates.name,
         }
     }
 
@@ -73,6 +165,8 @@ impl CompositeAggregationSource {
     {
         match self {
             CompositeAggregationSource::Terms(terms) => terms.order,
+            CompositeAggregationSource::Histogram(histogram) => histogram.order,
+            CompositeAggregationSource::DateHistogram(dates) => dates.order,
         }
     }
 
@@ -82,43 +176,38 @@ impl CompositeAggregationSource {
     {
         match self {
             CompositeAggregationSource::Terms(terms) => terms.missing_order,
+            CompositeAggregationSource::Histogram(histogram) => histogram.missing_order,
+            CompositeAggregationSource::DateHistogram(dates) => dates.missing_order,
         }
     }
 
-    /// Whether a document without a value has the key Null.
+    /// Whether a document without a value that the source reads has the key Null.
     pub fn missing_bucket(&self) -> bool
         ensures { result ≡ missing_bucket_of self.now }
     {
         match self {
             CompositeAggregationSource::Terms(terms) => terms.missing_bucket,
+            CompositeAggregationSource::Histogram(histogram) => histogram.missing_bucket,
+            CompositeAggregationSource::DateHistogram(dates) => dates.missing_bucket,
+        }
+    }
+
+    /// Whether the values in columns of a type are read.
+    pub fn reads(&self, column_type: ColumnType) -> bool
+        ensures { result ≡ reads_type self.now column_type }
+    {
+        match self {
+            CompositeAggregationSource::Terms(_) => true,
+            CompositeAggregationSource::Histogram(_) => matches!(
+                column_type,
+                ColumnType::I64 | ColumnType::U64 | ColumnType::DateTime
+            ),
+            CompositeAggregationSource::DateHistogram(_) => {
+                matches!(column_type, ColumnType::DateTime)
+            }
         }
     }
 }
 
 #[cfg(test)]
-mod tests {
-    use super::{CompositeAggregationSource, TermCompositeAggregationSource};
-    use agg_values::{MissingOrder, Order, Text};
-    use std::test::Fail;
-
-    #[test]
-    fn a_source_gives_its_parts(rt: HostRuntime) -> Result<(), Fail> {
-        let alloc = rt.alloc();
-        let source = CompositeAggregationSource::Terms(TermCompositeAggregationSource {
-            name: Text::copy_of(alloc, "by_a")?,
-            field: Text::copy_of(alloc, "a")?,
-            order: Order::Desc,
-            missing_bucket: true,
-            missing_order: MissingOrder::Last,
-        });
-        let copy = source.try_clone(alloc)?;
-        for given in [&source, &copy] {
-            assert_eq!(rt; given.name().as_str(), "by_a");
-            assert_eq!(rt; given.field().as_str(), "a");
-            assert_eq!(rt; given.order(), Order::Desc);
-            assert!(rt; given.missing_bucket());
-            assert_eq!(rt; given.missing_order(), MissingOrder::Last);
-        }
-        Ok(())
-    }
-}
+mod tests;

@@ -1,9 +1,10 @@
 use super::check_request;
 use crate::{
     Aggregation, AggregationVariants, Aggregations, CompositeAggregation,
-    CompositeAggregationSource, TermCompositeAggregationSource,
+    CompositeAggregationSource, TermCompositeAggregationSource, read_composite,
 };
 use agg_values::{AfterKey, ItemList, MissingOrder, NameMap, Order, Text};
+use serde_json::Value;
 use std::alloc::Global;
 use std::test::Fail;
 
@@ -41,6 +42,139 @@ const COMPOSITES: [(&str, u32, &str, &str, &str); 19] = [
         "",
         "Err(Invalid(TooManySources))",
     ),
+];
+
+// The body of a source, and what is answered.
+const INTERVALS: [(&str, &str); 27] = [
+    (r#""histogram":{"field":"f","interval":1}"#, "Ok(())"),
+    (
+        r#""histogram":{"field":"f","interval":9223372036854775807}"#,
+        "Ok(())",
+    ),
+    (
+        r#""histogram":{"field":"f","interval":0}"#,
+        "Err(Invalid(BadInterval))",
+    ),
+    (
+        r#""histogram":{"field":"f","interval":-1}"#,
+        "Err(Invalid(BadInterval))",
+    ),
+    (
+        r#""histogram":{"field":"f","interval":-9223372036854775808}"#,
+        "Err(Invalid(BadInterval))",
+    ),
+    (
+        r#""date_histogram":{"field":"f","calendar_interval":"year"}"#,
+        "Ok(())",
+    ),
+    (
+        r#""date_histogram":{"field":"f","calendar_interval":"month"}"#,
+        "Ok(())",
+    ),
+    (
+        r#""date_histogram":{"field":"f","calendar_interval":"week"}"#,
+        "Ok(())",
+    ),
+    (
+        r#""date_histogram":{"field":"f","fixed_interval":"1ms"}"#,
+        "Ok(())",
+    ),
+    (
+        r#""date_histogram":{"field":"f","fixed_interval":"007minutes"}"#,
+        "Ok(())",
+    ),
+    (
+        r#""date_histogram":{"field":"f","fixed_interval":"106751d"}"#,
+        "Ok(())",
+    ),
+    (
+        r#""date_histogram":{"field":"f"}"#,
+        "Err(Invalid(IntervalChoice))",
+    ),
+    (
+        r#""date_histogram":{"field":"f","fixed_interval":null,"calendar_interval":null}"#,
+        "Err(Invalid(IntervalChoice))",
+    ),
+    (
+        r#""date_histogram":{"field":"f","fixed_interval":"1d","calendar_interval":"week"}"#,
+        "Err(Invalid(IntervalChoice))",
+    ),
+    (
+        r#""date_histogram":{"field":"f","fixed_interval":"","calendar_interval":"week"}"#,
+        "Err(Invalid(IntervalChoice))",
+    ),
+    (
+        r#""date_histogram":{"field":"f","fixed_interval":"0d"}"#,
+        "Err(Invalid(BadInterval))",
+    ),
+    (
+        r#""date_histogram":{"field":"f","fixed_interval":""}"#,
+        r#"Err(Aggregation(DateHistogramParseError(NumberMissing(Text { inner: "" }))))"#,
+    ),
+    (
+        r#""date_histogram":{"field":"f","fixed_interval":"day"}"#,
+        r#"Err(Aggregation(DateHistogramParseError(NumberMissing(Text { inner: "day" }))))"#,
+    ),
+    (
+        r#""date_histogram":{"field":"f","fixed_interval":"-1d"}"#,
+        r#"Err(Aggregation(DateHistogramParseError(NumberMissing(Text { inner: "-1d" }))))"#,
+    ),
+    (
+        r#""date_histogram":{"field":"f","fixed_interval":" 1d"}"#,
+        r#"Err(Aggregation(DateHistogramParseError(NumberMissing(Text { inner: " 1d" }))))"#,
+    ),
+    (
+        r#""date_histogram":{"field":"f","fixed_interval":"9223372036854775808d"}"#,
+        "Err(Aggregation(DateHistogramParseError(NumberMissing(\
+         Text { inner: \"9223372036854775808d\" }))))",
+    ),
+    (
+        r#""date_histogram":{"field":"f","fixed_interval":"30"}"#,
+        r#"Err(Aggregation(DateHistogramParseError(UnitMissing(Text { inner: "30" }))))"#,
+    ),
+    (
+        r#""date_histogram":{"field":"f","fixed_interval":"1y"}"#,
+        r#"Err(Aggregation(DateHistogramParseError(UnitNotRecognized(Text { inner: "y" }))))"#,
+    ),
+    (
+        r#""date_histogram":{"field":"f","fixed_interval":"1 d"}"#,
+        r#"Err(Aggregation(DateHistogramParseError(UnitNotRecognized(Text { inner: " d" }))))"#,
+    ),
+    (
+        r#""date_histogram":{"field":"f","fixed_interval":"0y"}"#,
+        r#"Err(Aggregation(DateHistogramParseError(UnitNotRecognized(Text { inner: "y" }))))"#,
+    ),
+    (
+        r#""date_histogram":{"field":"f","fixed_interval":"106752d"}"#,
+        r#"Err(Aggregation(DateHistogramParseError(OutOfBounds(Text { inner: "106752d" }))))"#,
+    ),
+    (
+        r#""date_histogram":{"field":"f","fixed_interval":"9223372036854775807ms"}"#,
+        "Err(Aggregation(DateHistogramParseError(OutOfBounds(\
+         Text { inner: \"9223372036854775807ms\" }))))",
+    ),
+];
+
+// A source of each kind, with a bucket for a missing value.
+const KINDS: [&str; 3] = [
+    r#""terms":{"field":"f","missing_bucket":true}"#,
+    r#""histogram":{"field":"f","interval":1,"missing_bucket":true}"#,
+    r#""date_histogram":{"field":"f","fixed_interval":"1d","missing_bucket":true}"#,
+];
+
+// An after value, and whether it may be one of a source of each kind.
+const AFTER_VALUES: [(&str, [bool; 3]); 11] = [
+    ("null:", [true, true, true]),
+    ("i64:-9223372036854775808", [true, true, false]),
+    ("i64:7", [true, true, false]),
+    ("u64:7", [true, true, false]),
+    ("u64:18446744073709551615", [true, true, false]),
+    ("dt:0", [true, false, true]),
+    ("dt:-7", [true, false, true]),
+    ("str:1970-01-01", [true, false, false]),
+    ("str:7", [true, false, false]),
+    ("bool:true", [true, false, false]),
+    ("ip:::7", [true, false, false]),
 ];
 
 fn source(alloc: Global, name: char) -> Result<CompositeAggregationSource, Fail> {
@@ -99,6 +233,53 @@ fn finds_faults(rt: HostRuntime) -> Result<(), Fail> {
             let answer = check_request(alloc, &request(alloc, name, checked)?);
             let shown = format!(in alloc; "{answer:?}")?;
             assert_eq!(rt; shown.as_str(), expected, "{names}");
+        }
+    }
+    Ok(())
+}
+
+// What is answered to the composite that a body is, beside a sound one.
+fn answer(alloc: Global, body: &str) -> Result<String, Fail> {
+    let composite = read_composite(alloc, &Value::from_str(alloc, body)?)?;
+    let checked = Aggregation {
+        agg: AggregationVariants::Composite(composite),
+    };
+    let answer = check_request(alloc, &request(alloc, "c", checked)?);
+    Ok(format!(in alloc; "{answer:?}")?)
+}
+
+#[test]
+fn finds_faults_of_intervals(rt: HostRuntime) -> Result<(), Fail> {
+    let alloc = rt.alloc();
+    for (source, expected) in INTERVALS {
+        let body = format!(in alloc;
+            r#"{{"sources":[{{"a":{{"terms":{{"field":"f"}}}}}},{{"b":{{{source}}}}}],"size":1}}"#
+        )?;
+        assert_eq!(rt;
+            answer(alloc, body.as_str())?.as_str(),
+            expected,
+            "{source}"
+        );
+    }
+    Ok(())
+}
+
+#[test]
+fn finds_after_values_of_other_types(rt: HostRuntime) -> Result<(), Fail> {
+    let alloc = rt.alloc();
+    for (key, sound) in AFTER_VALUES {
+        for (source, is_sound) in KINDS.iter().zip(sound) {
+            for (name, is_sound) in [("a", is_sound), ("b", true)] {
+                let body = format!(in alloc;
+                    r#"{{"sources":[{{"a":{{{source}}}}}],"size":1,"after":{{"{name}":"{key}"}}}}"#
+                )?;
+                let expected = if is_sound {
+                    "Ok(())"
+                } else {
+                    "Err(Invalid(AfterType))"
+                };
+                assert_eq!(rt; answer(alloc, body.as_str())?.as_str(), expected, "{body}");
+            }
         }
     }
     Ok(())

@@ -2,25 +2,32 @@
 ghost use Rattle.std.specs.Prelude.{◌≡◌, codes, option_and_then, option_map};
 ghost use Rattle.serde_json.specs.Find.{as_array, get};
 ghost use Rattle.serde_json.specs.View.{items_view, view};
-ghost use Rattle.agg_request.specs.CompositeJson.{AreSources, IsSourceJson, IsSourceOfKind};
-ghost use Rattle.agg_request.specs.CompositeJson.{IsTermsBody};
-ghost use Rattle.agg_request.specs.Query.{EachIs};
+ghost use Rattle.agg_request.specs.CompositeJson.{AreSources, HasUnsupportedInterval};
+ghost use Rattle.agg_request.specs.CompositeJson.{HasUnsupportedKind, HasUnsupportedSource};
+ghost use Rattle.agg_request.specs.CompositeJson.{IsSourceJson, IsSourceOfKind};
+ghost use Rattle.agg_request.specs.Query.{EachIs, HasUnsupportedItem};
 ghost use Rattle.agg_request.specs.Reading.{IsReading};
 
-use super::words::{missing_bucket, missing_order, order};
+mod date_histogram;
+mod histogram;
+mod terms;
+
 use crate::json_value::only_member;
-use crate::members::read_field;
-use crate::{CompositeAggregationSource, ReadError, TermCompositeAggregationSource};
-use agg_values::{ItemList, Text};
+use crate::{CompositeAggregationSource, ReadError};
+use agg_values::ItemList;
+use date_histogram::read_date_histogram;
+use histogram::read_histogram;
 use serde_json::Value;
 use std::alloc::Global;
+use terms::read_terms;
 
 /// The sources of a body, which have to be there.
 pub fn read_sources(
     alloc: Global,
     body: &Value,
 ) -> Result<ItemList<CompositeAggregationSource>, ReadError>
-    ensures { IsReading (λ lenient. AreSources (view body.now)) ⊥ result }
+    ensures { IsReading (λ lenient. AreSources lenient (view body.now))
+        (HasUnsupportedSource (view body.now)) result }
 {
     let Some(items) = sources_in(body) else {
         return Err(ReadError::Grammar);
@@ -40,7 +47,8 @@ fn read_items(
     alloc: Global,
     items: &[Value],
 ) -> Result<ItemList<CompositeAggregationSource>, ReadError>
-    ensures { IsReading (λ lenient. EachIs IsSourceJson (items_view items.now)) ⊥ result }
+    ensures { IsReading (λ lenient. EachIs (IsSourceJson lenient) (items_view items.now))
+        (HasUnsupportedItem HasUnsupportedKind (items_view items.now)) result }
 {
     let mut sources = ItemList::new(alloc);
     for item in items {
@@ -50,7 +58,8 @@ fn read_items(
 }
 
 fn read_source(alloc: Global, value: &Value) -> Result<CompositeAggregationSource, ReadError>
-    ensures { IsReading (λ lenient. IsSourceJson (view value.now)) ⊥ result }
+    ensures { IsReading (λ lenient. IsSourceJson lenient (view value.now))
+        (HasUnsupportedKind (view value.now)) result }
 {
     let Some((name, named)) = only_member(value) else {
         return Err(ReadError::Grammar);
@@ -68,26 +77,17 @@ fn read_kind(
     kind: &str,
     body: &Value,
 ) -> Result<CompositeAggregationSource, ReadError>
-    ensures { IsReading (λ lenient. IsSourceOfKind name.now kind.now (view body.now)) ⊥ result }
+    ensures { IsReading (λ lenient. IsSourceOfKind lenient name.now kind.now (view body.now))
+        (HasUnsupportedInterval kind.now (view body.now)) result }
 {
     match kind {
         "terms" => Ok(CompositeAggregationSource::Terms(read_terms(alloc, name, body)?)),
+        "histogram" => Ok(CompositeAggregationSource::Histogram(read_histogram(
+            alloc, name, body,
+        )?)),
+        "date_histogram" => Ok(CompositeAggregationSource::DateHistogram(read_date_histogram(
+            alloc, name, body,
+        )?)),
         _ => Err(ReadError::Grammar),
     }
-}
-
-fn read_terms(
-    alloc: Global,
-    name: &str,
-    body: &Value,
-) -> Result<TermCompositeAggregationSource, ReadError>
-    ensures { IsReading (λ lenient. IsTermsBody name.now (view body.now)) ⊥ result }
-{
-    Ok(TermCompositeAggregationSource {
-        name: Text::copy_of(alloc, name)?,
-        field: read_field(alloc, body)?,
-        order: order(body)?,
-        missing_bucket: missing_bucket(body)?,
-        missing_order: missing_order(body)?,
-    })
 }

@@ -1,16 +1,17 @@
-use Rattle.std.proofs.Common.{inl}
+use Rattle.std.proofs.Common.{inl, inr}
 use Rattle.serde_json.specs.View.{view}
 use Rattle.agg_request.specs.CompositeJson.{AreSources, HasFloatSize, HasUnsupportedComposite}
-use Rattle.agg_request.specs.CompositeJson.{IsCompositeJson, IsSizeOf}
+use Rattle.agg_request.specs.CompositeJson.{HasUnsupportedSource, IsCompositeJson, IsSizeOf}
 use Rattle.agg_request.proofs.Readings.{refused_by}
 use Rattle.agg_request.proofs.composite.read_composite.Goals as goal
 
 pub returns-in_err-sources : goal.returns-in_err-sources
 returns-in_err-sources c =
     let body = view c.args.body.now in
-    refused_by (λ lenient. AreSources body) ⊥ (λ lenient. IsCompositeJson lenient body)
-    (HasUnsupportedComposite body) c.in_err-sources.field-0.0 c.from_residual.result
-    c.from_residual.ensures.1 c.in_err-sources.ensures (λ h. absurd h)
+    refused_by (λ lenient. AreSources lenient body) (HasUnsupportedSource body)
+    (λ lenient. IsCompositeJson lenient body) (HasUnsupportedComposite body)
+    c.in_err-sources.field-0.0 c.from_residual.result
+    c.from_residual.ensures.1 c.in_err-sources.ensures (λ h. inr (inl h))
     (λ lenient composite h. (composite.sources, h.sources))
 
 pub returns-in_err-size : goal.returns-in_err-size

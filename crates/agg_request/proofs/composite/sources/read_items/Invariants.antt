@@ -1,4 +1,4 @@
-use Rattle.std.proofs.Common.{take}
+use Rattle.std.proofs.Common.{false, take}
 use Rattle.serde_json.specs.View.{items_view}
 use Rattle.agg_request.specs.CompositeJson.{IsSourceJson}
 use Rattle.agg_request.specs.Query.{EachIs}
@@ -6,4 +6,5 @@ use Rattle.agg_request.proofs.composite.sources.read_items.Given as goal
 
 -- the items so far are read
 abbrev pub invariant-loop-item : goal.invariant-loop-item
-invariant-loop-item l = EachIs IsSourceJson (items_view (take l.item-index l.items)) l.sources
+invariant-loop-item l =
+    EachIs (IsSourceJson false) (items_view (take l.item-index l.items)) l.sources

@@ -1,13 +1,45 @@
+use Rattle.std.proofs.Common.{codes}
 use Rattle.serde_json.specs.View.{view}
-use Rattle.agg_request.specs.CompositeJson.{IsSourceOfKind, IsTermsBody}
-use Rattle.agg_request.proofs.CompositeSources.{terms_of}
-use Rattle.agg_request.proofs.Readings.{refused_part}
+use Rattle.agg_request.specs.CompositeJson.{HasFloatInterval, HasUnsupportedInterval}
+use Rattle.agg_request.specs.CompositeJson.{IsDateHistogramBody, IsHistogramBody, IsSourceOfKind}
+use Rattle.agg_request.specs.CompositeJson.{IsTermsBody}
+use Rattle.agg_request.proofs.CompositeSources.{dates_of, numbers_of, terms_of}
+use Rattle.agg_request.proofs.Readings.{refused_by}
 use Rattle.agg_request.proofs.composite.sources.read_kind.Goals as goal
 
 pub returns-in_err-read_terms-in-terms : goal.returns-in_err-read_terms-in-terms
 returns-in_err-read_terms-in-terms c =
+    let name = c.args.name.now in
+    let kind = c.args.kind.now in
     let body = view c.args.body.now in
-    refused_part (IsTermsBody c.args.name.now body)
-    (IsSourceOfKind c.args.name.now c.args.kind.now body)
+    refused_by (λ lenient. IsTermsBody name body) ⊥
+    (λ lenient. IsSourceOfKind lenient name kind body) (HasUnsupportedInterval kind body)
     c.in_err-read_terms-in-terms.field-0.0 c.from_residual.result c.from_residual.ensures.1
-    c.in_err-read_terms-in-terms.ensures (terms_of c.args.name.now c.args.kind.now body)
+    c.in_err-read_terms-in-terms.ensures (λ h. absurd h) (terms_of name kind body c.in-terms.is)
+
+pub returns-in_err-read_histogram-in-histogram : goal.returns-in_err-read_histogram-in-histogram
+returns-in_err-read_histogram-in-histogram c =
+    let name = c.args.name.now in
+    let kind = c.args.kind.now in
+    let body = view c.args.body.now in
+    refused_by (λ lenient. IsHistogramBody lenient name body) (HasFloatInterval body)
+    (λ lenient. IsSourceOfKind lenient name kind body) (HasUnsupportedInterval kind body)
+    c.in_err-read_histogram-in-histogram.field-0.0
+    c.from_residual-in_err-read_histogram-in-histogram.result
+    c.from_residual-in_err-read_histogram-in-histogram.ensures.1
+    c.in_err-read_histogram-in-histogram.ensures (λ h. (c.in-histogram.is, h))
+    (numbers_of name kind body c.in-histogram.is)
+
+pub returns-in_err-read_date_histogram-in-date_histogram
+    : goal.returns-in_err-read_date_histogram-in-date_histogram
+returns-in_err-read_date_histogram-in-date_histogram c =
+    let name = c.args.name.now in
+    let kind = c.args.kind.now in
+    let body = view c.args.body.now in
+    refused_by (λ lenient. IsDateHistogramBody name body) ⊥
+    (λ lenient. IsSourceOfKind lenient name kind body) (HasUnsupportedInterval kind body)
+    c.in_err-read_date_histogram-in-date_histogram.field-0.0
+    c.from_residual-in_err-read_date_histogram-in-date_histogram.result
+    c.from_residual-in_err-read_date_histogram-in-date_histogram.ensures.1
+    c.in_err-read_date_histogram-in-date_histogram.ensures (λ h. absurd h)
+    (dates_of name kind body c.in-date_histogram.is)

@@ -6,7 +6,7 @@ use Rattle.agg_values.specs.declared.order.Order.TheVariants.{Asc}
 use Rattle.agg_request.specs.CompositeJson.{IsTermsBody, IsWordOr, missing_order_word, order_word}
 use Rattle.agg_request.specs.Query.{IsField}
 use Rattle.agg_request.proofs.Readings.{refused_part}
-use Rattle.agg_request.proofs.composite.sources.read_terms.Goals as goal
+use Rattle.agg_request.proofs.composite.sources.terms.read_terms.Goals as goal
 
 pub returns-in_err-read_field : goal.returns-in_err-read_field
 returns-in_err-read_field c =

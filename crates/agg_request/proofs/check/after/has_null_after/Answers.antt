@@ -1,6 +1,6 @@
 use Rattle.agg_request.specs.Faults.{IsBehindNoBucket}
 use Rattle.agg_request.proofs.Checks.{All-next}
-use Rattle.agg_request.proofs.check.has_null_after.Goals as goal
+use Rattle.agg_request.proofs.check.after.has_null_after.Goals as goal
 
 pub loop-source-preserved : goal.loop-source-preserved
 loop-source-preserved c =

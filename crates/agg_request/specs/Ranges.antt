@@ -1,0 +1,23 @@
+-- Starts of buckets that lie within i64, and documents for which they do.
+use Rattle.std.specs.Prelude.{FitsSigned, List, All, MatchOption, ⊤}
+use Rattle.std.specs.Int.{w64}
+use Rattle.agg_values.specs.TypedKey.{CompositeIntermediateKey}
+use Rattle.agg_segment.specs.Document.{Fields}
+use Rattle.agg_request.specs.Source.{Sources, field_of, start_in, values_at}
+use Rattle.agg_request.specs.declared.aggregation.AggregationVariants.{AggregationVariants}
+use Rattle.agg_request.specs.declared.aggregation.AggregationVariants.TheVariants.{Composite}
+use Rattle.agg_request.specs.declared.source.CompositeAggregationSource.{CompositeAggregationSource}
+
+-- the start of a value's bucket, if it has one, lies within i64
+abbrev pub IsInRange : CompositeAggregationSource → CompositeIntermediateKey → Type 0
+IsInRange source k = MatchOption (start_in source k) ⊤ (λ start. FitsSigned w64 start)
+
+-- so do the starts of all values that sources read in a document
+abbrev pub AreInRange : Sources → Fields → Type 0
+AreInRange sources document =
+    All (λ source. All (IsInRange source) (values_at (field_of source) document)) sources
+
+-- some start of a bucket of an aggregation lies outside i64
+abbrev pub HasStartOutOfRange : AggregationVariants → List Fields → Type 0
+HasStartOutOfRange (Composite composite) documents =
+    ¬ (All (AreInRange composite.sources) documents)

@@ -1,0 +1,44 @@
+//! Histogram sources.
+ghost use Rattle.serde_json.specs.View.{view};
+ghost use Rattle.agg_request.specs.CompositeJson.{HasFloatInterval, IsHistogramBody, IsIntervalOf};
+ghost use Rattle.agg_request.specs.Reading.{IsReading};
+
+use crate::composite::words::{missing_bucket, missing_order, order};
+use crate::members::read_field;
+use crate::{HistogramCompositeAggregationSource, ReadError};
+use agg_values::Text;
+use serde_json::Value;
+use std::alloc::Global;
+
+/// The histogram source of a name.
+pub fn read_histogram(
+    alloc: Global,
+    name: &str,
+    body: &Value,
+) -> Result<HistogramCompositeAggregationSource, ReadError>
+    ensures { IsReading (λ lenient. IsHistogramBody lenient name.now (view body.now))
+        (HasFloatInterval (view body.now)) result }
+{
+    Ok(HistogramCompositeAggregationSource {
+        name: Text::copy_of(alloc, name)?,
+        field: read_field(alloc, body)?,
+        interval: read_interval(body)?,
+        order: order(body)?,
+        missing_bucket: missing_bucket(body)?,
+        missing_order: missing_order(body)?,
+    })
+}
+
+// The interval of a body, which has to be there.
+fn read_interval(body: &Value) -> Result<i64, ReadError>
+    ensures { IsReading (λ lenient. IsIntervalOf lenient (view body.now))
+        (HasFloatInterval (view body.now)) result }
+{
+    let Some(interval) = body.get("interval") else {
+        return Err(ReadError::Grammar);
+    };
+    if interval.is_f64() {
+        return Err(ReadError::Unsupported);
+    }
+    interval.as_i64().ok_or(ReadError::Grammar)
+}

@@ -1,0 +1,28 @@
+//! Terms sources.
+ghost use Rattle.serde_json.specs.View.{view};
+ghost use Rattle.agg_request.specs.CompositeJson.{IsTermsBody};
+ghost use Rattle.agg_request.specs.Reading.{IsReading};
+
+use crate::composite::words::{missing_bucket, missing_order, order};
+use crate::members::read_field;
+use crate::{ReadError, TermCompositeAggregationSource};
+use agg_values::Text;
+use serde_json::Value;
+use std::alloc::Global;
+
+/// The terms source of a name.
+pub fn read_terms(
+    alloc: Global,
+    name: &str,
+    body: &Value,
+) -> Result<TermCompositeAggregationSource, ReadError>
+    ensures { IsReading (λ lenient. IsTermsBody name.now (view body.now)) ⊥ result }
+{
+    Ok(TermCompositeAggregationSource {
+        name: Text::copy_of(alloc, name)?,
+        field: read_field(alloc, body)?,
+        order: order(body)?,
+        missing_bucket: missing_bucket(body)?,
+        missing_order: missing_order(body)?,
+    })
+}
