@@ -10,6 +10,8 @@ use thiserror::Error;
 pub enum CollectError {
     #[error("too many occurrences")]
     TooMany,
+    #[error("a bucket starts outside 64 bits")]
+    BucketOutOfRange,
     #[error("out of memory")]
     OutOfMemory,
 }

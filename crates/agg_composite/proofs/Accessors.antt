@@ -6,6 +6,7 @@ use mathlib.Core.Bool.{true≢false}
 use Rattle.std.proofs.lemmas.Cmp.{back_total, by_ranked, nat_cmp_total, ranked}
 use Rattle.std.proofs.lemmas.List.{get_or-map, map-append, reverse-append}
 use Rattle.std.proofs.lemmas.List.{reverse-reverse, take_more}
+use Rattle.std.proofs.lemmas.List.Elements.{filter-append}
 use Rattle.std.proofs.lemmas.List.Sums.{sum_by-cons}
 use Rattle.std.specs.Cmp.{IsTotalOrder}
 use Rattle.std.specs.List.{All}
@@ -21,20 +22,28 @@ use Rattle.agg_values.specs.declared.order.Order.{Order}
 use Rattle.agg_values.specs.declared.order.Order.TheVariants.{Asc, Desc}
 use Rattle.agg_values.proofs.KeyOrder.{key_order-total}
 use Rattle.agg_segment.specs.Columns.{ClassesAscend, StandsForKey, StoredColumn, encoded_key}
-use Rattle.agg_segment.specs.Columns.{AreInKeyOrder, all_keys, keys_rank}
+use Rattle.agg_segment.specs.Columns.{all_keys, keys_rank, type_of}
 use Rattle.agg_segment.specs.Segment.{Stored, document_at}
 use Rattle.agg_segment.specs.declared.keys.ColumnKeys.{ColumnKeys}
 use Rattle.agg_segment.specs.declared.keys.ColumnKeys.TheVariants.{Bools}
-use Rattle.agg_request.specs.Source.{field_of, missing_order_of, order_of}
-use Rattle.agg_request.specs.declared.source.CompositeAggregationSource.{CompositeAggregationSource}
-use Rattle.agg_composite.specs.Accessors.{AreAccessorsOf, AreOfField, accessors_before, class_order}
-use Rattle.agg_composite.specs.Accessors.{columns_of, in_requested, is_null, keys_at, side_at}
-use Rattle.agg_composite.specs.Accessors.{side_to}
+use Rattle.agg_request.specs.Faults.{HasInterval}
+use Rattle.agg_request.specs.Source.{field_of, keys_in, missing_order_of, order_of}
+use Rattle.agg_request.specs.SourceColumns.{reads_type}
+use Rattle.agg_request.specs.declared.source.CompositeAggregationSource as kind
+use kind.{CompositeAggregationSource}
+use kind.TheVariants.{DateHistogram, Histogram, Terms}
+use Rattle.agg_composite.specs.Accessors.{AreAccessorsOf, AreOfField, IsAccessorOf}
+use Rattle.agg_composite.specs.Accessors.{accessors_before, columns_read, is_null, side_at, side_to}
+use Rattle.agg_composite.specs.Accessors.{starts_in}
 use Rattle.agg_composite.specs.AfterKey.{projected_side}
 use Rattle.agg_composite.specs.Classes.{is_of_class_before}
+use Rattle.agg_composite.specs.Lanes.{class_order, column_at, columns_of, in_requested}
+use Rattle.agg_composite.specs.Lanes.{keys_at, lane_of, lane_of_numbers, lanes}
 use Rattle.agg_composite.specs.declared.accessor.CompositeAccessor.{CompositeAccessor}
 use Rattle.agg_composite.specs.declared.accessor.CompositeSourceAccessors.{CompositeSourceAccessors}
+use Rattle.agg_composite.proofs.LaneKeys.{columns-many, numbers-one}
 use Rattle.agg_composite.proofs.NullSides.{null_key}
+use Rattle.agg_composite.proofs.ReadColumns.{classes-read, keys-read, starts-read}
 use Rattle.agg_composite.proofs.TypedOrder.{by_class, classes-in_order, encoded-rank, less}
 use Rattle.agg_composite.proofs.TypedOrder.{null_sides, some_rank, values-order}
 
@@ -153,13 +162,13 @@ module _ (order : Order) (accessors : List CompositeAccessor)
   is_before a = is_of_class_before order k a.column.now.keys
 
   at_place : (i : ℕ) (d : CompositeAccessor) → i < length accessors
-      → is_before (get_or accessors i d) ≡ is_of_class_before order k (keys_at accessors i)
+      → is_before (get_or accessors i d) ≡ is_of_class_before order k (column_at accessors i)
   at_place i d l =
       ap (is_of_class_before order k)
       (sym (get_or-map (λ a. a.column.now.keys) accessors i d Bools l))
 
   later : (i j : ℕ) → i < j → j < length accessors
-      → class_order order (keys_rank (keys_at accessors i)) (keys_rank (keys_at accessors j))
+      → class_order order (keys_rank (column_at accessors i)) (keys_rank (column_at accessors j))
       ≡ Less
   later i j l m =
       classes-in_order order accessors classes i j (omega (arith, l, m)) m ∙ less i j l
@@ -167,14 +176,14 @@ module _ (order : Order) (accessors : List CompositeAccessor)
   front : (i j : ℕ) (d : CompositeAccessor) → i < j → j < length accessors
       → is_before (get_or accessors j d) ≡ true → is_before (get_or accessors i d) ≡ true
   front i j d l m passes =
-      let there : class_order order (keys_rank (keys_at accessors j)) (class_rank k) ≡ Less =
+      let there : class_order order (keys_rank (column_at accessors j)) (class_rank k) ≡ Less =
       less_by_test _ (sym (at_place j d m) ∙ passes) in
       at_place i d (omega (arith, l, m))
       ∙ ap is_lt ((class_order-total order).trans _ _ _ (later i j l m) there)
 
   -- accessors before the count are of classes before
   before_index : (i : ℕ) → i < count_by is_before accessors → i < length accessors
-      → class_order order (keys_rank (keys_at accessors i)) (class_rank k) ≡ Less
+      → class_order order (keys_rank (column_at accessors i)) (class_rank k) ≡ Less
   before_index i below l =
       let d : CompositeAccessor = some_accessor accessors i l in
       less_by_test _ (sym (at_place i d l)
@@ -182,13 +191,13 @@ module _ (order : Order) (accessors : List CompositeAccessor)
 
   -- and those behind it are of classes behind
   behind_index : (i : ℕ) → count_by is_before accessors < i → i < length accessors
-      → class_order order (keys_rank (keys_at accessors i)) (class_rank k) ≡ Greater
+      → class_order order (keys_rank (column_at accessors i)) (class_rank k) ≡ Greater
   behind_index i above l =
       let index : ℕ = count_by is_before accessors in
       let d : CompositeAccessor = some_accessor accessors i l in
       let within : index < length accessors = omega (arith, above, l) in
-      behind_rank order (keys_rank (keys_at accessors index)) (class_rank k)
-      (keys_rank (keys_at accessors i)) _ (later index i above l) refl
+      behind_rank order (keys_rank (column_at accessors index)) (class_rank k)
+      (keys_rank (column_at accessors i)) _ (later index i above l) refl
       (sym (at_place index d within)
       ∙ (count_front is_before accessors front index d within).1 (omega arith))
 
@@ -221,7 +230,7 @@ module _ (segment : Stored) (source : CompositeAggregationSource)
     (accessors : List CompositeAccessor) (of_field : AreOfField segment source accessors) where
   -- how a number of the accessor at a place stands to an after value
   abbrev number_side : CompositeIntermediateKey → ℕ → ℕ → Ordering
-  number_side k i number = side_to source (Some k) (encoded_key (keys_at accessors i) number)
+  number_side k i number = side_to source (Some k) (encoded_key (column_at accessors i) number)
 
   -- beside a value
   value_sides : (k : CompositeIntermediateKey) → 0 < class_rank k → (index : ℕ)
@@ -231,17 +240,17 @@ module _ (segment : Stored) (source : CompositeAggregationSource)
       → match_ordering (nat_cmp i index) Less at Greater ≡ number_side k i number
   value_sides k some index is i number at l same =
       by_index i index at (number_side k i number)
-      (λ below. class_side (order_of source) (missing_order_of source) (keys_at accessors i) number
-      k Less some (before_index (order_of source) accessors of_field.classes k i
+      (λ below. class_side (order_of source) (missing_order_of source) (column_at accessors i)
+      number k Less some (before_index (order_of source) accessors of_field.classes k i
       (omega (arith, below, is)) l) (λ x. cc))
       same
-      (λ above. class_side (order_of source) (missing_order_of source) (keys_at accessors i) number
-      k Greater some (behind_index (order_of source) accessors of_field.classes k i
+      (λ above. class_side (order_of source) (missing_order_of source) (column_at accessors i)
+      number k Greater some (behind_index (order_of source) accessors of_field.classes k i
       (omega (arith, above, is)) l) (λ x. cc))
 
-  has_class : (i number : ℕ) → 0 < class_rank (encoded_key (keys_at accessors i) number)
+  has_class : (i number : ℕ) → 0 < class_rank (encoded_key (column_at accessors i) number)
   has_class i number =
-      rw (encoded-rank (keys_at accessors i) number) (some_rank (keys_at accessors i))
+      rw (encoded-rank (column_at accessors i) number) (some_rank (column_at accessors i))
 
   -- beside Null
   null_accessor_sides : (index : ℕ) → index ≡ accessors_before source Null accessors
@@ -277,35 +286,80 @@ module _ (segment : Stored) (source : CompositeAggregationSource)
   sides_by_key k index is i number at l same =
       value_sides k (omega arith) index is i number at l same
 
+  -- beside any key, in the columns of the accessors
+  column_sides : (k : CompositeIntermediateKey) (index : ℕ)
+      → index ≡ accessors_before source k accessors → (side : ℕ → Ordering)
+      → ((number : ℕ) → index < length accessors → StandsForKey (column_at accessors index) number
+      → side number ≡ number_side k index number)
+      → (i number : ℕ) → i < length accessors → StandsForKey (column_at accessors i) number
+      → match_ordering (nat_cmp i index) Less (side number) Greater ≡ number_side k i number
+  column_sides k index is side at i number l stands =
+      sides_by_key k index is i number (side number) l
+      (λ same. subst (λ j. j < length accessors → StandsForKey (column_at accessors j) number
+      → side number ≡ number_side k j number)
+      (sym same) (at number) l stands)
+
+-- beside any key, in the lanes of a source
+lane_sides : (segment : Stored) (source : CompositeAggregationSource)
+    (accessors : List CompositeAccessor) → AreOfField segment source accessors
+    → (k : CompositeIntermediateKey) (index : ℕ)
+    → index ≡ lane_of source (accessors_before source k accessors) → (side : ℕ → Ordering)
+    → ((number : ℕ) → index < length (lanes source accessors)
+    → StandsForKey (keys_at source accessors index) number
+    → side number ≡ side_to source (Some k) (encoded_key (keys_at source accessors index) number))
+    → (i number : ℕ) → i < length (lanes source accessors)
+    → StandsForKey (keys_at source accessors i) number
+    → match_ordering (nat_cmp i index) Less (side number) Greater
+    ≡ side_to source (Some k) (encoded_key (keys_at source accessors i) number)
+lane_sides segment (Terms s) accessors of_field k index is side at i number l stands =
+    let long = columns-many accessors in
+    column_sides segment (Terms s) accessors of_field k index is side
+    (λ n within here. at n (omega (arith, within, long)) here) i number (omega (arith, l, long))
+    stands
+lane_sides segment (DateHistogram s) accessors of_field k index is side at i number l stands =
+    let long = columns-many accessors in
+    column_sides segment (DateHistogram s) accessors of_field k index is side
+    (λ n within here. at n (omega (arith, within, long)) here) i number (omega (arith, l, long))
+    stands
+lane_sides segment (Histogram s) accessors of_field k index is side at i number l stands =
+    let one = numbers-one accessors in
+    by_index i index (side number) _
+    (λ below. absurd (omega (arith, below, is)))
+    (λ same. subst (λ j. j < length (lane_of_numbers accessors)
+    → StandsForKey (keys_at (Histogram s) accessors j) number
+    → side number
+    ≡ side_to (Histogram s) (Some k) (encoded_key (keys_at (Histogram s) accessors j) number))
+    (sym same) (at number) l stands)
+    (λ above. absurd (omega (arith, above, l, one)))
+
+module _ (segment : Stored) (source : CompositeAggregationSource)
+    (accessors : List CompositeAccessor) (of_field : AreOfField segment source accessors) where
   -- accessors that go on behind an after value
   pub after_accessors : (k : CompositeIntermediateKey) (a : CompositeSourceAccessors)
       → a.accessors ≡ accessors
-      → a.after_key_accessor_idx ≡ accessors_before source k accessors
+      → a.after_key_accessor_idx ≡ lane_of source (accessors_before source k accessors)
       → a.skip_missing ≡ is_lt (side_to source (Some k) Null)
       → a.is_after_key_explicit_missing ≡ is_null (Some k)
-      → ((number : ℕ) → a.after_key_accessor_idx < length accessors
-      → StandsForKey (keys_at accessors a.after_key_accessor_idx) number
+      → ((number : ℕ) → a.after_key_accessor_idx < length (lanes source accessors)
+      → StandsForKey (keys_at source accessors a.after_key_accessor_idx) number
       → projected_side (order_of source) a.after_key number
-      ≡ number_side k a.after_key_accessor_idx number)
+      ≡ side_to source (Some k)
+      (encoded_key (keys_at source accessors a.after_key_accessor_idx) number))
       → AreAccessorsOf segment source (Some k) a
   after_accessors k a is index skip explicit at = record {
     columns = subst (AreOfField segment source) (sym is) of_field;
     explicit = explicit;
     skip = skip;
-    index = subst (λ xs. a.after_key_accessor_idx ≡ accessors_before source k xs) (sym is) index;
-    sides = subst (λ xs. (i number : ℕ) → i < length xs → StandsForKey (keys_at xs i) number
+    index = subst
+        (λ xs. a.after_key_accessor_idx ≡ lane_of source (accessors_before source k xs)) (sym is)
+        index;
+    sides = subst (λ xs. (i number : ℕ) → i < length (lanes source xs)
+        → StandsForKey (keys_at source xs i) number
         → side_at (order_of source) a i number
-        ≡ side_to source (Some k) (encoded_key (keys_at xs i) number)) (sym is) sides;
+        ≡ side_to source (Some k) (encoded_key (keys_at source xs i) number)) (sym is)
+        (lane_sides segment source accessors of_field k a.after_key_accessor_idx index
+        (projected_side (order_of source) a.after_key) at);
   }
-    where
-      sides : (i number : ℕ) → i < length accessors → StandsForKey (keys_at accessors i) number
-          → side_at (order_of source) a i number ≡ number_side k i number
-      sides i number l stands =
-          sides_by_key k a.after_key_accessor_idx index i number
-          (projected_side (order_of source) a.after_key number) l
-          (λ same. subst (λ j. j < length accessors → StandsForKey (keys_at accessors j) number
-          → projected_side (order_of source) a.after_key number ≡ number_side k j number)
-          (sym same) (at number) l stands)
 
 -- no class is that of Null
 pub null_by_class : (k : CompositeIntermediateKey) (b : Bool) → is_some (class_of k) ≡ not b
@@ -322,14 +376,17 @@ null_by_class k b is = twice b ∙ ap not (sym is) ∙ classless k
 
 -- ---- the columns of accessors
 
--- one accessor more
-pub columns_push : (xs : List CompositeAccessor) (a : CompositeAccessor)
+-- one column more
+pub read_more : (source : CompositeAggregationSource) (xs : List CompositeAccessor)
     (columns : List StoredColumn) (i : ℕ) (d : StoredColumn) → i < length columns
-    → columns_of xs ≡ take i columns → a.column.now ≡ get_or columns i d
-    → columns_of (xs ++ a ∷ []) ≡ take (i + 1) columns
-columns_push xs a columns i d l before is =
-    map-append (λ a. a.column.now) xs (a ∷ []) ∙ (λ x. before x ++ is x ∷ [])
-    ∙ sym (take_more columns i d l)
+    → get_or columns i d ≡ d → columns_of xs ≡ columns_read source (take i columns)
+    → columns_of xs ++ columns_read source (d ∷ [])
+    ≡ columns_read source (take (i + 1) columns)
+read_more source xs columns i d l is before =
+    (λ x. before x ++ columns_read source (d ∷ []))
+    ∙ sym (filter-append (λ c. reads_type source (type_of c.keys)) (take i columns) (d ∷ []))
+    ∙ ap (columns_read source) (sym (take_more columns i d l
+    ∙ ap (λ c. take i columns ++ c ∷ []) is))
 
 map-reverse : {X Y : Type 0} (f : X → Y) (xs : List X) → map f (reverse xs) ≡ reverse (map f xs)
 map-reverse f [] = refl
@@ -344,20 +401,23 @@ pub columns-reversed : (xs : List CompositeAccessor)
 columns-reversed xs =
     ap reverse (map-reverse (λ a. a.column.now) xs) ∙ reverse-reverse (columns_of xs)
 
--- accessors of the columns of a source's field
-pub field_accessors : (segment : Stored) (source : CompositeAggregationSource) (order : Order)
+-- accessors of the columns of a source's field that the source reads
+pub field_accessors : (segment : Stored) (source : CompositeAggregationSource)
     (field : List ℕ) (accessors : List CompositeAccessor) (columns : List StoredColumn)
-    → order ≡ order_of source → field ≡ field_of source
-    → in_requested order (columns_of accessors) ≡ columns
+    → HasInterval source → field ≡ field_of source
+    → in_requested (order_of source) (columns_of accessors) ≡ columns_read source columns
     → ((doc : ℕ) → all_keys columns doc ≡ document_at segment doc field)
-    → ClassesAscend columns → All (λ a. AreInKeyOrder a.column.now.keys) accessors
+    → ClassesAscend columns → All (IsAccessorOf source) accessors
     → AreOfField segment source accessors
-field_accessors segment source order field accessors columns order_is field_is is keys classes
-    ordered =
-    let requested : in_requested (order_of source) (columns_of accessors) ≡ columns =
-    ap (λ o. in_requested o (columns_of accessors)) (sym order_is) ∙ is in record {
-      keys = λ doc. ap (λ cs. all_keys cs doc) requested ∙ keys doc
-          ∙ ap (document_at segment doc) field_is;
-      classes = subst ClassesAscend (sym requested) classes;
-      order = ordered;
+field_accessors segment source field accessors columns interval field_is is keys classes each =
+    record {
+      interval = interval;
+      each = each;
+      keys = λ doc. ap (λ cs. keys_in source (all_keys cs doc)) is
+          ∙ keys-read source columns doc
+          ∙ ap (keys_in source) (keys doc ∙ ap (document_at segment doc) field_is);
+      starts = λ doc. ap (λ cs. starts_in source (all_keys cs doc)) is
+          ∙ starts-read source columns doc
+          ∙ ap (starts_in source) (keys doc ∙ ap (document_at segment doc) field_is);
+      classes = subst ClassesAscend (sym is) (classes-read source columns classes);
     }

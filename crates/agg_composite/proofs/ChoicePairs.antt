@@ -1,26 +1,31 @@
 -- The choices of a document stand for its tuples, and say which of them lie past the bound.
 use Rattle.std.proofs.Common.{◌≡◌, ℕ, suc, List, [], ◌∷◌, Bool, false, length, map, filter}
-use Rattle.std.proofs.Common.{refl, sym, ap, ◌∙◌, subst, inl, inr}
+use Rattle.std.proofs.Common.{All, refl, sym, ap, ◌∙◌, subst, inl, inr, arith}
 use Rattle.std.specs.List.{AllZip, flat_map}
 use Rattle.std.proofs.lemmas.List.{append-nil, map-id}
+use Rattle.std.proofs.lemmas.List.Elements.{All-from_recursion, recursion_from_All}
 use Rattle.agg_values.specs.Names.{Named}
 use Rattle.agg_values.specs.Tuple.{KeyTuple}
 use Rattle.agg_values.specs.TypedKey.{CompositeIntermediateKey, canonical_key}
 use Rattle.agg_values.specs.declared.after_key.AfterKey.{AfterKey}
+use Rattle.agg_segment.specs.Columns.{all_keys}
 use Rattle.agg_segment.specs.Segment.{Stored, document_at, documents_at}
 use Rattle.agg_request.specs.Occurrences.{bound_of, is_past, occurrences, past_occurrences}
-use Rattle.agg_request.specs.Source.{Sources, missing_bucket_of, or_missing, rules_of}
-use Rattle.agg_request.specs.Source.{source_values}
+use Rattle.agg_request.specs.Ranges.{AreInRange, IsInRange}
+use Rattle.agg_request.specs.Source.{Sources, field_of, missing_bucket_of, or_missing, order_of}
+use Rattle.agg_request.specs.Source.{rules_of, source_values, values_at}
 use Rattle.agg_request.specs.declared.source.CompositeAggregationSource.{CompositeAggregationSource}
-use Rattle.agg_composite.specs.Accessors.{AreAccessorsOf, after_of, keys_at, side_to}
+use Rattle.agg_composite.specs.Accessors.{AreAccessorsOf, after_of, side_to}
 use Rattle.agg_composite.specs.Answers.{AllFit}
-use Rattle.agg_composite.specs.Choices.{AreChoicesIn, AreChoicesOf, IsChoiceOf, keys_read}
-use Rattle.agg_composite.specs.Choices.{values_read}
+use Rattle.agg_composite.specs.Choices.{AreChoicesIn, AreChoicesOf, CanRead, IsChoiceOf}
+use Rattle.agg_composite.specs.Choices.{keys_read, values_read}
 use Rattle.agg_composite.specs.Encoding.{EncodedTuple, StandFor, StandsFor}
+use Rattle.agg_composite.specs.Lanes.{columns_of, in_requested, keys_at}
 use Rattle.agg_composite.specs.Walk.{product, sides_of, sides_past, values_of, walked}
 use Rattle.agg_composite.specs.declared.accessor.CompositeSourceAccessors.{CompositeSourceAccessors}
 use Rattle.agg_composite.specs.declared.walk.choice.Choice.{Choice}
 use Rattle.agg_composite.proofs.CanonicalKeys.{canonical}
+use Rattle.agg_composite.proofs.KeysGiven.{keys_in-canonical, range-alike, starts-canonical}
 use Rattle.agg_composite.proofs.NullStanding.{null-standing}
 use Rattle.agg_composite.proofs.Pairs.{AllZip-filter, AllZip-flat_map, AllZip-map, AllZip-weaker}
 use Rattle.agg_composite.proofs.PastSides.{is_past-sides, sides_to}
@@ -32,7 +37,7 @@ canonical-choice : (source : CompositeAggregationSource) (a : CompositeSourceAcc
     (k : CompositeIntermediateKey) → IsChoiceOf source a c k → canonical_key k ≡ k
 canonical-choice source a c k (inl p) = ap canonical_key p.1 ∙ sym p.1
 canonical-choice source a c k (inr (i, n, l, fits, in_n, c_is, k_is)) =
-    ap canonical_key k_is ∙ canonical (keys_at a.accessors i) n fits ∙ sym k_is
+    ap canonical_key k_is ∙ canonical (keys_at source a.accessors i) n fits ∙ sym k_is
 
 -- the keys that choices are of are canonical
 pub canonical-choices : (source : CompositeAggregationSource) (a : CompositeSourceAccessors)
@@ -63,7 +68,8 @@ module _ (segment : Stored) (after : Named AfterKey) where
       let same = without-missing (missing_bucket_of source) keys
       (canonical-choices source a choices (values_read source a doc) p) in
       ap (or_missing (missing_bucket_of source))
-      (sym same ∙ ap (map canonical_key) (fit.columns.keys doc))
+      (sym same ∙ ap (map canonical_key) (fit.columns.keys doc)
+      ∙ sym (keys_in-canonical source (document_at segment doc (field_of source))))
 
   -- ---- a choice
 
@@ -123,25 +129,45 @@ module _ (segment : Stored) (after : Named AfterKey) where
       (λ t us s. ((r.0, s.0), (λ i. r.1 i ∷ s.1 i))) tuples others q)
       choices keys p
 
+  -- accessors can be read where the starts of the values of their field lie within i64
+  pub can-read : (source : CompositeAggregationSource) (a : CompositeSourceAccessors) (doc : ℕ)
+      → AreAccessorsOf segment source (after_of after source) a
+      → All (IsInRange source) (values_at (field_of source) (document_at segment doc))
+      → CanRead source a doc
+  can-read source a doc fit range =
+      let held = all_keys (in_requested (order_of source) (columns_of a.accessors)) doc in
+      let values = document_at segment doc (field_of source) in
+      record {
+        interval = fit.columns.interval;
+        each = fit.columns.each;
+        range = All-from_recursion (IsInRange source) held
+            (range-alike source held (map canonical_key values)
+            (fit.columns.starts doc ∙ sym (starts-canonical source values))
+            (recursion_from_All (IsInRange source) (map canonical_key values) range));
+      }
+
   product-reads : (sources : Sources) (accessors : List CompositeSourceAccessors) (doc : ℕ)
       (rows : List (List Choice))
-      → AllFit segment after sources accessors → AreChoicesIn sources accessors doc rows
+      → AllFit segment after sources accessors
+      → AreInRange sources (document_at segment doc) → AreChoicesIn sources accessors doc rows
       → AllZip (TupleReads sources accessors) (product rows)
       (occurrences sources (document_at segment doc))
-  product-reads [] [] doc [] fit p = ((tt, refl), tt)
-  product-reads [] [] doc (choices ∷ rows) fit p = absurd p
-  product-reads [] (a ∷ accessors) doc rows fit p = absurd fit
-  product-reads (source ∷ sources) [] doc rows fit p = absurd fit
-  product-reads (source ∷ sources) (a ∷ accessors) doc [] fit p = absurd p
-  product-reads (source ∷ sources) (a ∷ accessors) doc (choices ∷ rows) fit p =
+  product-reads [] [] doc [] fit range p = ((tt, refl), tt)
+  product-reads [] [] doc (choices ∷ rows) fit range p = absurd p
+  product-reads [] (a ∷ accessors) doc rows fit range p = absurd fit
+  product-reads (source ∷ sources) [] doc rows fit range p = absurd fit
+  product-reads (source ∷ sources) (a ∷ accessors) doc [] fit range p = absurd p
+  product-reads (source ∷ sources) (a ∷ accessors) doc (choices ∷ rows) fit range p =
+      let own = p.0 (can-read source a doc fit.0 (range 0 source (omega arith))) in
       let others = occurrences sources (document_at segment doc) in
       subst (λ (keys : List CompositeIntermediateKey).
       AllZip (TupleReads (source ∷ sources) (a ∷ accessors)) (product (choices ∷ rows))
       (flat_map (λ k. map (λ t. k ∷ t) others) keys))
-      (values-are source a doc choices fit.0 p.0)
+      (values-are source a doc choices fit.0 own)
       (more-source source sources a accessors choices (values_read source a doc) (product rows)
-      others (choices-sided source a choices (values_read source a doc) fit.0 p.0)
-      (product-reads sources accessors doc rows fit.1 p.1))
+      others (choices-sided source a choices (values_read source a doc) fit.0 own)
+      (product-reads sources accessors doc rows fit.1
+      (λ i s l. range (suc i) s (omega (arith, l))) p.1))
 
   keys-long : (sources : Sources) (accessors : List CompositeSourceAccessors) (es : EncodedTuple)
       (ks : KeyTuple) → StandFor sources accessors es ks → length ks ≡ length sources
@@ -179,10 +205,11 @@ module _ (segment : Stored) (after : Named AfterKey) where
   -- bound
   pub past-document : (sources : Sources) (accessors : List CompositeSourceAccessors) (doc : ℕ)
       (rows : List (List Choice))
-      → AllFit segment after sources accessors → AreChoicesIn sources accessors doc rows
+      → AllFit segment after sources accessors
+      → AreInRange sources (document_at segment doc) → AreChoicesIn sources accessors doc rows
       → AllZip (StandFor sources accessors) (walked rows [] false)
       (past_occurrences sources (bound_of sources after) (documents_at segment (doc ∷ [])))
-  past-document sources accessors doc rows fit p =
+  past-document sources accessors doc rows fit range p =
       let past = is_past (rules_of sources) (bound_of sources after) in
       let all = occurrences sources (document_at segment doc) in
       subst (AllZip (StandFor sources accessors) (walked rows [] false))
@@ -190,7 +217,7 @@ module _ (segment : Stored) (after : Named AfterKey) where
       (subst (λ ts. AllZip (StandFor sources accessors) ts (filter past all))
       (sym (walked-past rows))
       (reads-past sources accessors (product rows) all
-      (product-reads sources accessors doc rows fit p)))
+      (product-reads sources accessors doc rows fit range p)))
 
   -- ---- one source
 

@@ -8,7 +8,7 @@ use Rattle.std.proofs.lemmas.List.Sums.{sum_by-append}
 use Rattle.std.proofs.lemmas.Result.{on_ok_weaker}
 use Rattle.std.proofs.lemmas.Slice.Zip.{AllZip-long}
 use Rattle.agg_values.specs.Tuple.{KeyTuple}
-use Rattle.agg_cache.specs.declared.error.CollectError.{CollectError}
+use Rattle.agg_composite.specs.declared.visit_error.VisitError.{VisitError}
 use Rattle.agg_request.specs.Source.{Sources}
 use Rattle.agg_composite.specs.Answers.{AnswersEncoded, AnswersFor, CountsFor, TooOftenFor}
 use Rattle.agg_composite.specs.Counts.{Counts, EncodedCounts}
@@ -80,7 +80,7 @@ module _ (sources : Sources) (accessors : List CompositeSourceAccessors) where
   -- what visits of encoded tuples answer, they answer for the tuples that these stand for
   pub answers-for : (tuples : List EncodedTuple) (keys : List KeyTuple)
       (held held_now : EncodedCounts) (steps steps_now : ℕ)
-      (result : Result (Unit {0}) CollectError)
+      (result : Result (Unit {0}) VisitError)
       → AllZip (StandFor sources accessors) tuples keys
       → AnswersEncoded tuples held held_now steps steps_now result
       → AnswersFor sources accessors keys held held_now steps steps_now result

@@ -13,10 +13,10 @@ use Rattle.agg_values.specs.declared.typed_key.CompositeIntermediateKey.TheVaria
 use Rattle.agg_segment.specs.Columns.{StandsForKey, encoded_key}
 use Rattle.agg_request.specs.Source.{Sources, missing_order_of, order_of}
 use Rattle.agg_request.specs.declared.source.CompositeAggregationSource.{CompositeAggregationSource}
-use Rattle.agg_composite.specs.Accessors.{keys_at}
 use Rattle.agg_composite.specs.Decoded.{decoded, decoded_key, decoded_keys, is_outside}
 use Rattle.agg_composite.specs.Encoding.{EncodedTuple, StandFor, StandsFor}
 use Rattle.agg_composite.specs.Encoding.{encoded_null, null_place, raw_of}
+use Rattle.agg_composite.specs.Lanes.{keys_at, lanes}
 use Rattle.agg_composite.specs.Visits.{StandsForTuple}
 use Rattle.agg_composite.specs.declared.accessor.CompositeAccessor.{CompositeAccessor}
 use Rattle.agg_composite.specs.declared.accessor.CompositeSourceAccessors.{CompositeSourceAccessors}
@@ -31,12 +31,12 @@ pub raw-twice : (order : Order) (number : ℕ) → number < 2 ^ 64
 raw-twice Asc number fits = refl
 raw-twice Desc number fits = omega arith
 
--- Null is outside the accessors
+-- Null is outside the lanes
 null-outside : (side accessors : ℕ) → is_outside (null_place side accessors) accessors ≡ true
 null-outside zero accessors = refl
 null-outside (suc side) accessors = grind (arith, nat_tests)
 
--- the place of an accessor is inside
+-- the place of a lane is inside
 pub number-inside : (i accessors : ℕ) → i < accessors → is_outside (i + 1) accessors ≡ false
 number-inside i accessors l = grind (arith, nat_tests)
 
@@ -47,33 +47,36 @@ pub decoded_key-is : (source : CompositeAggregationSource) (accessors : List Com
 decoded_key-is source accessors e k (inl p) =
     ap (decoded_key source accessors) p.0
     ∙ (λ x. if null-outside (null_side (order_of source) (missing_order_of source))
-    (length accessors) x then Null
-    else encoded_key (keys_at accessors ((encoded_null source accessors).place - 1))
+    (length (lanes source accessors)) x then Null
+    else encoded_key (keys_at source accessors ((encoded_null source accessors).place - 1))
     (raw_of (order_of source) 0))
     ∙ sym p.1
 decoded_key-is source accessors e k (inr (i, n, l, fits, stands, e_is, k_is)) =
     let place : i + 1 - 1 ≡ i = omega arith in
     ap (decoded_key source accessors) e_is
-    ∙ (λ x. if number-inside i (length accessors) l x then Null
-    else encoded_key (keys_at accessors (place x)) (raw-twice (order_of source) n fits x))
+    ∙ (λ x. if number-inside i (length (lanes source accessors)) l x then Null
+    else encoded_key (keys_at source accessors (place x)) (raw-twice (order_of source) n fits x))
     ∙ sym k_is
 
 -- the number of an encoded key that isn't outside stands for a key
 pub number-stands : (source : CompositeAggregationSource) (accessors : List CompositeAccessor)
     (e : Encoded) (k : CompositeIntermediateKey) → StandsFor source accessors e k
-    → is_outside e.place (length accessors) ≡ false
-    → StandsForKey (keys_at accessors (e.place - 1)) (raw_of (order_of source) e.raw)
+    → is_outside e.place (length (lanes source accessors)) ≡ false
+    → StandsForKey (keys_at source accessors (e.place - 1)) (raw_of (order_of source) e.raw)
 number-stands source accessors e k (inl p) inside =
-    let outside = ap (λ f. is_outside f.place (length accessors)) p.0
-    ∙ null-outside (null_side (order_of source) (missing_order_of source)) (length accessors) in
+    let outside = ap (λ f. is_outside f.place (length (lanes source accessors))) p.0
+    ∙ null-outside (null_side (order_of source) (missing_order_of source))
+    (length (lanes source accessors)) in
     absurd (cc (inside, outside))
 number-stands source accessors e k (inr (i, n, l, fits, stands, e_is, k_is)) inside =
     let place : i + 1 - 1 ≡ i = omega arith in
-    subst (λ f. StandsForKey (keys_at accessors (f.place - 1)) (raw_of (order_of source) f.raw))
+    subst (λ f. StandsForKey (keys_at source accessors (f.place - 1))
+    (raw_of (order_of source) f.raw))
     (sym e_is)
-    (subst (λ j. StandsForKey (keys_at accessors j)
+    (subst (λ j. StandsForKey (keys_at source accessors j)
     (raw_of (order_of source) (raw_of (order_of source) n))) (sym place)
-    (subst (StandsForKey (keys_at accessors i)) (sym (raw-twice (order_of source) n fits)) stands))
+    (subst (StandsForKey (keys_at source accessors i))
+    (sym (raw-twice (order_of source) n fits)) stands))
 
 -- ---- tuples
 

@@ -3,6 +3,7 @@ pub mod Appending
 pub mod CanonicalKeys
 pub mod ChoicePairs
 pub mod Choosing
+pub mod ChosenStarts
 pub mod ClassRanks
 pub mod CountLaws
 pub mod CountedAgain
@@ -13,7 +14,9 @@ pub mod EncodedOrder
 pub mod Errors
 pub mod KeyMerging
 pub mod KeyTuples
+pub mod KeysGiven
 pub mod KeysInMap
+pub mod LaneKeys
 pub mod LoneDocument
 pub mod NullSides
 pub mod NullStanding
@@ -22,9 +25,11 @@ pub mod Pairs
 pub mod PastSides
 pub mod Places
 pub mod Product
+pub mod ReadColumns
 pub mod SameTuples
 pub mod Settled
 pub mod SortedKeys
+pub mod StartRanges
 pub mod TupleCounts
 pub mod TypedGroups
 pub mod TypedOrder

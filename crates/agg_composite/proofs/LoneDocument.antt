@@ -1,7 +1,7 @@
 -- A document of one source: its columns, and Null where it has no value.
 use Rattle.std.proofs.Common.{◌≡◌, ℕ, ◌+◌, ◌<◌, ◌≤◌, List, [], ◌∷◌, ◌++◌, Bool, true, false, ◌&&◌}
 use Rattle.std.proofs.Common.{Ok, Err, IsErrAnd, length, get_or, take, map, filter, refl, sym, ap}
-use Rattle.std.proofs.Common.{◌∙◌, subst, inl}
+use Rattle.std.proofs.Common.{◌∙◌, subst, inl, arith}
 use Rattle.std.specs.List.{AllZip, flat_map}
 use Rattle.std.proofs.lemmas.List.{append-nil, map-append, take_all}
 use Rattle.std.proofs.lemmas.List.Concat.{flat_map-append}
@@ -11,24 +11,27 @@ use Rattle.agg_values.specs.Tuple.{KeyTuple}
 use Rattle.agg_values.specs.TypedKey.{CompositeIntermediateKey, canonical_key}
 use Rattle.agg_values.specs.declared.after_key.AfterKey.{AfterKey}
 use Rattle.agg_values.specs.declared.typed_key.CompositeIntermediateKey.TheVariants.{Null}
-use Rattle.agg_cache.specs.declared.error.CollectError.{CollectError}
+use Rattle.agg_composite.specs.declared.visit_error.VisitError.{VisitError}
 use Rattle.agg_segment.specs.Columns.{StoredColumn, all_keys, column_keys}
 use Rattle.agg_segment.specs.Segment.{Stored, document_at, documents_at}
 use Rattle.agg_request.specs.Occurrences.{bound_of, is_past, occurrences, past_occurrences}
-use Rattle.agg_request.specs.Source.{missing_bucket_of, or_missing, rules_of}
+use Rattle.agg_request.specs.Source.{field_of, keys_in, missing_bucket_of, or_missing, rules_of}
 use Rattle.agg_request.specs.declared.source.CompositeAggregationSource.{CompositeAggregationSource}
 use Rattle.agg_composite.specs.Accessors.{AreAccessorsOf, after_of}
-use Rattle.agg_composite.specs.Answers.{AnswersEncoded, AnswersFor, CountsFor, TooOftenFor}
-use Rattle.agg_composite.specs.Choices.{AreChoicesOf, is_nil, keys_read, null_choice}
+use Rattle.agg_composite.specs.Answers.{AllFit, AnswersEncoded, AnswersFor, AreAllInRange}
+use Rattle.agg_composite.specs.Answers.{CountsFor, TooOftenFor}
+use Rattle.agg_composite.specs.Choices.{AreChoicesOf, CanRead, IsChoiceOf, is_nil, keys_read}
+use Rattle.agg_composite.specs.Choices.{null_choice}
 use Rattle.agg_composite.specs.Counts.{EncodedCounts}
 use Rattle.agg_composite.specs.Encoding.{StandFor}
 use Rattle.agg_composite.specs.Walk.{walked}
 use Rattle.agg_composite.specs.declared.accessor.CompositeSourceAccessors.{CompositeSourceAccessors}
 use Rattle.agg_composite.specs.declared.walk.choice.Choice.{Choice}
 use Rattle.agg_composite.proofs.Appending.{Appends}
-use Rattle.agg_composite.proofs.ChoicePairs.{canonical-choices, lone_past, past-keys}
+use Rattle.agg_composite.proofs.ChoicePairs.{can-read, canonical-choices, lone_past, past-keys}
 use Rattle.agg_composite.proofs.Choosing.{all_keys-append, turn-keys}
 use Rattle.agg_composite.proofs.CountedBehind.{answers-for, typed-visits}
+use Rattle.agg_composite.proofs.KeysGiven.{keys_in-append, keys_in-canonical}
 use Rattle.agg_composite.proofs.VisitsInRow.{Returned, SoFar, all-visited, error-visited}
 use Rattle.agg_composite.proofs.VisitsInRow.{first-refused, none-visited, one-visited, then-visited}
 
@@ -42,18 +45,32 @@ nil-map : {A B : Type 0} (f : A → B) (xs : List A) → is_nil (map f xs) ≡ i
 nil-map f [] = refl
 nil-map f (x ∷ xs) = refl
 
+nil-alike : {A B : Type 0} (R : A → B → Type 0) (xs : List A) (ys : List B) → AllZip R xs ys
+    → is_nil ys ≡ is_nil xs
+nil-alike R [] [] p = refl
+nil-alike R [] (y ∷ ys) p = absurd p
+nil-alike R (x ∷ xs) [] p = absurd p
+nil-alike R (x ∷ xs) (y ∷ ys) p = refl
+
 -- whether there is none in one more column
-pub nil-more : (columns : List StoredColumn) (turn doc : ℕ) (column : StoredColumn)
-    (numbers : List ℕ) (key : ℕ → CompositeIntermediateKey) (before now : Bool)
+pub nil-more : (source : CompositeAggregationSource) (a : CompositeSourceAccessors)
+    (columns : List StoredColumn) (turn doc : ℕ) (column : StoredColumn) (numbers : List ℕ)
+    (choice : ℕ → Choice) (before now : Bool)
     → turn < length columns → get_or columns turn column ≡ column
-    → map key numbers ≡ column_keys column doc
-    → before ≡ is_nil (all_keys (take turn columns) doc)
+    → AreChoicesOf source a (map choice numbers) (keys_in source (column_keys column doc))
+    → before ≡ is_nil (keys_in source (all_keys (take turn columns) doc))
     → now ≡ (before && is_nil numbers)
-    → now ≡ is_nil (all_keys (take (turn + 1) columns) doc)
-nil-more columns turn doc column numbers key before now l is keys so_far e =
-    e ∙ (λ i. so_far i && (sym (nil-map key numbers) ∙ ap is_nil keys) i)
-    ∙ sym (nil-append (all_keys (take turn columns) doc) (column_keys column doc))
-    ∙ ap is_nil (sym (turn-keys columns turn doc column l is))
+    → now ≡ is_nil (keys_in source (all_keys (take (turn + 1) columns) doc))
+nil-more source a columns turn doc column numbers choice before now l is chosen so_far e =
+    let front = all_keys (take turn columns) doc in
+    let here = column_keys column doc in
+    let none : is_nil (keys_in source here) ≡ is_nil numbers =
+    nil-alike (IsChoiceOf source a) (map choice numbers) (keys_in source here) chosen
+    ∙ nil-map choice numbers in
+    e ∙ (λ i. so_far i && sym none i)
+    ∙ sym (nil-append (keys_in source front) (keys_in source here))
+    ∙ ap is_nil (sym (ap (keys_in source) (turn-keys columns turn doc column l is)
+    ∙ keys_in-append source front here))
 
 -- Null, where there is no key and a missing value has a bucket
 abbrev null_part : Bool → List CompositeIntermediateKey → List CompositeIntermediateKey
@@ -81,6 +98,13 @@ one-null b (k ∷ keys) none e = cc
 
 module _ (segment : Stored) (after : Named AfterKey) (source : CompositeAggregationSource)
     (a : CompositeSourceAccessors) (doc : ℕ) where
+  -- the accessors of the one source can be read
+  pub lone-can : AllFit segment after (source ∷ []) (a ∷ [])
+      → AreAllInRange segment (source ∷ []) (doc ∷ []) → CanRead source a doc
+  lone-can fit range =
+      can-read segment after source a doc fit.0
+      (range 0 (document_at segment doc) (omega arith) 0 source (omega arith))
+
   lone-append : Appends (lone_past segment after source)
   lone-append xs ys =
       let past = is_past (rules_of (source ∷ [])) (bound_of (source ∷ []) after) in
@@ -88,9 +112,13 @@ module _ (segment : Stored) (after : Named AfterKey) (source : CompositeAggregat
       ap (filter past) (flat_map-append tuples xs ys)
       ∙ filter-append past (flat_map tuples xs) (flat_map tuples ys)
 
-  -- the keys of columns, canonical
+  -- the keys that the source gives for those of columns
+  abbrev given_in : List StoredColumn → List CompositeIntermediateKey
+  given_in columns = keys_in source (all_keys columns doc)
+
+  -- the same, canonical
   abbrev read_in : List StoredColumn → List CompositeIntermediateKey
-  read_in columns = map canonical_key (all_keys columns doc)
+  read_in columns = map canonical_key (given_in columns)
 
   -- the tuples of columns that lie past the bound
   abbrev pub lone_in : List StoredColumn → List KeyTuple
@@ -98,14 +126,16 @@ module _ (segment : Stored) (after : Named AfterKey) (source : CompositeAggregat
 
   pub lone_in-append : Appends lone_in
   lone_in-append xs ys =
-      ap (λ ks. lone_past segment after source (map canonical_key ks)) (all_keys-append doc xs ys)
+      ap (λ ks. lone_past segment after source (map canonical_key ks))
+      (ap (keys_in source) (all_keys-append doc xs ys)
+      ∙ keys_in-append source (all_keys xs doc) (all_keys ys doc))
       ∙ ap (lone_past segment after source)
-      (map-append canonical_key (all_keys xs doc) (all_keys ys doc))
+      (map-append canonical_key (given_in xs) (given_in ys))
       ∙ lone-append (read_in xs) (read_in ys)
 
   -- the tuples of a document: those of the columns, and that of Null
   whole-document : (columns : List StoredColumn)
-      → all_keys columns doc ≡ keys_read source a doc
+      → given_in columns ≡ keys_read source a doc
       → AreAccessorsOf segment source (after_of after source) a
       → past_occurrences (source ∷ []) (bound_of (source ∷ []) after)
       (documents_at segment (doc ∷ []))
@@ -115,8 +145,9 @@ module _ (segment : Stored) (after : Named AfterKey) (source : CompositeAggregat
       let past = is_past (rules_of (source ∷ [])) (bound_of (source ∷ []) after) in
       let b = missing_bucket_of source in
       ap (filter past) (append-nil (occurrences (source ∷ []) (document_at segment doc)))
-      ∙ ap (λ ks. lone_past segment after source (or_missing b (map canonical_key ks)))
-      (sym (read ∙ fit.columns.keys doc))
+      ∙ ap (λ ks. lone_past segment after source (or_missing b ks))
+      (keys_in-canonical source (document_at segment doc (field_of source))
+      ∙ ap (map canonical_key) (sym (read ∙ fit.columns.keys doc)))
       ∙ ap (lone_past segment after source) (with-null b (read_in columns))
       ∙ lone-append (read_in columns) (null_part b (read_in columns))
 
@@ -124,15 +155,16 @@ module _ (segment : Stored) (after : Named AfterKey) (source : CompositeAggregat
     -- what choices of a column's keys are walked with stands for its tuples
     lone-column : (columns : List StoredColumn) (turn : ℕ) (column : StoredColumn)
         (choices : List Choice) → get_or columns turn column ≡ column
-        → AreChoicesOf source a choices (column_keys column doc)
+        → AreChoicesOf source a choices (keys_in source (column_keys column doc))
         → AllZip (StandFor (source ∷ []) (a ∷ [])) (walked (choices ∷ []) [] false)
         (lone_in (get_or columns turn column ∷ []))
     lone-column columns turn column choices is p =
-        let keys = column_keys column doc in
+        let keys = keys_in source (column_keys column doc) in
         subst (λ ks. AllZip (StandFor (source ∷ []) (a ∷ [])) (walked (choices ∷ []) [] false)
         (lone_past segment after source ks))
         (sym (ap (λ (x : StoredColumn). read_in (x ∷ [])) is
-        ∙ ap (map canonical_key) (append-nil keys) ∙ canonical-choices source a choices keys p))
+        ∙ ap (λ ks. map canonical_key (keys_in source ks)) (append-nil (column_keys column doc))
+        ∙ canonical-choices source a choices keys p))
         (past-keys segment after source a choices keys fit p)
 
     module _ (columns : List StoredColumn) (turn : ℕ) (held now : EncodedCounts)
@@ -141,7 +173,8 @@ module _ (segment : Stored) (after : Named AfterKey) (source : CompositeAggregat
         steps_now) where
       module _ (column : StoredColumn) (choices : List Choice) (l : turn < length columns)
           (is : get_or columns turn column ≡ column)
-          (p : AreChoicesOf source a choices (column_keys column doc)) (then : EncodedCounts)
+          (p : AreChoicesOf source a choices (keys_in source (column_keys column doc)))
+          (then : EncodedCounts)
           (steps_then : ℕ) where
         -- one column more
         pub one-column : AnswersEncoded (walked (choices ∷ []) [] false) now then steps_now
@@ -157,8 +190,8 @@ module _ (segment : Stored) (after : Named AfterKey) (source : CompositeAggregat
             (lone-column columns turn column choices is p) own)
 
         -- the error of a column is the document's
-        pub column-error : all_keys columns doc ≡ keys_read source a doc
-            → (error : CollectError) (returned : Returned)
+        pub column-error : given_in columns ≡ keys_read source a doc
+            → (error : VisitError) (returned : Returned)
             → AnswersEncoded (walked (choices ∷ []) [] false) now then steps_now steps_then
             (Err error)
             → IsErrAnd returned (λ e. e ≡ error)
@@ -183,7 +216,7 @@ module _ (segment : Stored) (after : Named AfterKey) (source : CompositeAggregat
             is_err)
 
       -- all columns, and what comes behind them
-      then-null : length columns ≤ turn → all_keys columns doc ≡ keys_read source a doc
+      then-null : length columns ≤ turn → given_in columns ≡ keys_read source a doc
           → (tuples : List KeyTuple) (then : EncodedCounts) (steps_then : ℕ) (result : Returned)
           → lone_past segment after source
           (null_part (missing_bucket_of source) (read_in columns)) ≡ tuples
@@ -203,7 +236,7 @@ module _ (segment : Stored) (after : Named AfterKey) (source : CompositeAggregat
           steps steps_now so_far past) answers)
 
       -- no Null behind the columns
-      pub columns-alone : length columns ≤ turn → all_keys columns doc ≡ keys_read source a doc
+      pub columns-alone : length columns ≤ turn → given_in columns ≡ keys_read source a doc
           → null_part (missing_bucket_of source) (read_in columns) ≡ []
           → AnswersFor (source ∷ []) (a ∷ [])
           (past_occurrences (source ∷ []) (bound_of (source ∷ []) after)
@@ -216,7 +249,7 @@ module _ (segment : Stored) (after : Named AfterKey) (source : CompositeAggregat
           (typed-visits (source ∷ []) (a ∷ [])) now steps_now)
 
       -- Null behind them
-      pub columns-and-null : length columns ≤ turn → all_keys columns doc ≡ keys_read source a doc
+      pub columns-and-null : length columns ≤ turn → given_in columns ≡ keys_read source a doc
           → null_part (missing_bucket_of source) (read_in columns) ≡ Null ∷ []
           → (then : EncodedCounts) (steps_then : ℕ) (result : Returned)
           → AnswersEncoded (walked ((null_choice source a ∷ []) ∷ []) [] false) now then steps_now
@@ -235,20 +268,20 @@ module _ (segment : Stored) (after : Named AfterKey) (source : CompositeAggregat
           (inl (refl, refl), tt)) answers)
 
       -- the three ways in which a document ends
-      pub ends-with-values : length columns ≤ turn → all_keys columns doc ≡ keys_read source a doc
-          → is_nil (all_keys (take turn columns) doc) ≡ false
+      pub ends-with-values : length columns ≤ turn → given_in columns ≡ keys_read source a doc
+          → is_nil (given_in (take turn columns)) ≡ false
           → AnswersFor (source ∷ []) (a ∷ [])
           (past_occurrences (source ∷ []) (bound_of (source ∷ []) after)
           (documents_at segment (doc ∷ [])))
           held now steps steps_now (Ok tt)
       ends-with-values past read some =
           columns-alone past read (no-null (missing_bucket_of source) (read_in columns)
-          (nil-map canonical_key (all_keys columns doc)
-          ∙ ap (λ (xs : List StoredColumn). is_nil (all_keys xs doc))
+          (nil-map canonical_key (given_in columns)
+          ∙ ap (λ (xs : List StoredColumn). is_nil (given_in xs))
           (sym (take_all turn columns past)) ∙ some))
 
       pub ends-without-bucket : length columns ≤ turn
-          → all_keys columns doc ≡ keys_read source a doc → missing_bucket_of source ≡ false
+          → given_in columns ≡ keys_read source a doc → missing_bucket_of source ≡ false
           → AnswersFor (source ∷ []) (a ∷ [])
           (past_occurrences (source ∷ []) (bound_of (source ∷ []) after)
           (documents_at segment (doc ∷ [])))
@@ -256,8 +289,8 @@ module _ (segment : Stored) (after : Named AfterKey) (source : CompositeAggregat
       ends-without-bucket past read none =
           columns-alone past read (no-bucket (missing_bucket_of source) (read_in columns) none)
 
-      pub ends-with-null : length columns ≤ turn → all_keys columns doc ≡ keys_read source a doc
-          → is_nil (all_keys (take turn columns) doc) ≡ true → missing_bucket_of source ≡ true
+      pub ends-with-null : length columns ≤ turn → given_in columns ≡ keys_read source a doc
+          → is_nil (given_in (take turn columns)) ≡ true → missing_bucket_of source ≡ true
           → (then : EncodedCounts) (steps_then : ℕ) (result : Returned)
           → AnswersEncoded (walked ((null_choice source a ∷ []) ∷ []) [] false) now then steps_now
           steps_then result
@@ -267,6 +300,6 @@ module _ (segment : Stored) (after : Named AfterKey) (source : CompositeAggregat
           held then steps steps_then result
       ends-with-null past read none bucket then steps_then result answers =
           columns-and-null past read (one-null (missing_bucket_of source) (read_in columns)
-          (nil-map canonical_key (all_keys columns doc)
-          ∙ ap (λ (xs : List StoredColumn). is_nil (all_keys xs doc))
+          (nil-map canonical_key (given_in columns)
+          ∙ ap (λ (xs : List StoredColumn). is_nil (given_in xs))
           (sym (take_all turn columns past)) ∙ none) bucket) then steps_then result answers

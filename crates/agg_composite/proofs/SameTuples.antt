@@ -18,9 +18,9 @@ use Rattle.agg_request.specs.Occurrences.{same_tuple}
 use Rattle.agg_request.specs.Source.{Sources, order_of, rules_of}
 use Rattle.agg_request.specs.declared.source.CompositeAggregationSource.{CompositeAggregationSource}
 use Rattle.agg_request.proofs.Lists.{count-step}
-use Rattle.agg_composite.specs.Accessors.{keys_at}
 use Rattle.agg_composite.specs.Encoding.{EncodedTuple, StandFor, StandsFor, encoded_order}
 use Rattle.agg_composite.specs.Encoding.{encoded_tuple_order, null_place, raw_of}
+use Rattle.agg_composite.specs.Lanes.{keys_at, lanes}
 use Rattle.agg_composite.specs.declared.accessor.CompositeAccessor.{CompositeAccessor}
 use Rattle.agg_composite.specs.declared.accessor.CompositeSourceAccessors.{CompositeSourceAccessors}
 use Rattle.agg_composite.specs.declared.encoded.Encoded.{Encoded}
@@ -46,7 +46,7 @@ same-encoded (e ∷ es) (f ∷ fs) same =
 
 -- ---- an encoded tuple stands for one tuple
 
--- Null has no place of an accessor
+-- Null has no place of a lane
 null-apart : (side accessors i : ℕ) → i < accessors → null_place side accessors ≡ i + 1 → ⊥
 null-apart zero accessors i l e = omega arith
 null-apart (suc side) accessors i l e = omega arith
@@ -61,16 +61,18 @@ stands-one : (source : CompositeAggregationSource) (accessors : List CompositeAc
     → StandsFor source accessors e k → StandsFor source accessors e l → k ≡ l
 stands-one source accessors e k l (inl p) (inl q) = p.1 ∙ sym q.1
 stands-one source accessors e k l (inl p) (inr (j, m, l_j, fits_m, in_m, e_is, l_is)) =
-    absurd (null-apart _ (length accessors) j l_j (ap (λ x. x.place) (sym p.0 ∙ e_is)))
+    absurd (null-apart _ (length (lanes source accessors)) j l_j
+    (ap (λ x. x.place) (sym p.0 ∙ e_is)))
 stands-one source accessors e k l (inr (i, n, l_i, fits_n, in_n, e_is, k_is)) (inl q) =
-    absurd (null-apart _ (length accessors) i l_i (ap (λ x. x.place) (sym q.0 ∙ e_is)))
+    absurd (null-apart _ (length (lanes source accessors)) i l_i
+    (ap (λ x. x.place) (sym q.0 ∙ e_is)))
 stands-one source accessors e k l (inr (i, n, l_i, fits_n, in_n, e_is, k_is))
     (inr (j, m, l_j, fits_m, in_m, f_is, l_is)) =
     let both = sym e_is ∙ f_is in
     let places : i + 1 ≡ j + 1 = ap (λ x. x.place) both in
     let place : i ≡ j = omega (arith, places) in
     let number = same-number (order_of source) n m fits_n fits_m (ap (λ x. x.raw) both) in
-    k_is ∙ (λ t. encoded_key (keys_at accessors (place t)) (number t)) ∙ sym l_is
+    k_is ∙ (λ t. encoded_key (keys_at source accessors (place t)) (number t)) ∙ sym l_is
 
 stand-one : (sources : Sources) (accessors : List CompositeSourceAccessors) (es : EncodedTuple)
     (ks ls : KeyTuple)

@@ -1,24 +1,31 @@
 -- What a collector has visited once its counts are settled, or when it visits too often.
 use Rattle.std.proofs.Common.{◌≡◌, ℕ, ◌≤◌, ◌^◌, List, [], ◌++◌, Ok, Err, OnOk}
-use Rattle.std.proofs.Common.{IsErrOf, IsErrAnd, cond, count_by, sym, ap, ◌∙◌, append_assoc}
+use Rattle.std.proofs.Common.{IsErrOf, IsErrAnd, Bool, true, false, Result, cond, count_by, refl}
+use Rattle.std.proofs.Common.{sym, ap, ◌∙◌}
+use Rattle.std.proofs.Common.{append_assoc}
 use Rattle.std.proofs.Common.{subst, arith}
 use Rattle.std.specs.BTreeMap.{is_at}
 use Rattle.std.specs.List.{AllZip}
+use Rattle.std.specs.Prelude.{MatchBool}
 use Rattle.std.proofs.lemmas.List.{append-nil}
 use Rattle.std.proofs.lemmas.List.Sums.{sum_by-append}
 use Rattle.std.proofs.lemmas.Result.{err_from_is_err_and}
 use Rattle.agg_values.specs.Tuple.{KeyTuple}
-use Rattle.agg_cache.specs.declared.error.CollectError.{CollectError}
-use Rattle.agg_cache.specs.declared.error.CollectError.TheVariants.{TooMany}
+use Rattle.agg_composite.specs.declared.visit_error.VisitError.{VisitError}
+use Rattle.agg_composite.specs.declared.visit_error.VisitError.TheVariants.{TooMany}
 use Rattle.agg_request.specs.Occurrences.{same_tuple}
 use Rattle.agg_request.specs.Source.{Sources, rules_of}
 use Rattle.agg_composite.specs.Answers.{AnswersFor}
 use Rattle.agg_composite.specs.Counts.{Counts, EncodedCounts}
 use Rattle.agg_composite.specs.Encoding.{EncodedTuple, StandFor, encoded_tuple_order}
 use Rattle.agg_composite.specs.GroupCounts.{CountsBehind, CountsTooOften}
-use Rattle.agg_composite.specs.Visits.{AnswersVisits, HasVisited, StandsForTuple}
+use Rattle.agg_composite.specs.Visits.{AnswersKeys, AnswersVisits, HasVisited, StandsForTuple}
+use Rattle.agg_composite.specs.Visits.{collected}
 use Rattle.agg_composite.specs.declared.accessor.CompositeSourceAccessors.{CompositeSourceAccessors}
 use Rattle.agg_composite.specs.declared.request_data.CompositeAggReqData.{CompositeAggReqData}
+use Rattle.agg_composite.specs.declared.visit_error.VisitError.TheVariants.{OutOfMemory}
+use Rattle.agg_cache.specs.declared.error.CollectError.{CollectError}
+use Rattle.agg_cache.specs.declared.error.CollectError.TheVariants as refusal
 use Rattle.agg_composite.proofs.Pairs.{AllZip-append}
 use Rattle.agg_composite.proofs.SameTuples.{counted-more, counted-stands}
 use Rattle.agg_composite.proofs.VisitsInRow.{Returned}
@@ -40,7 +47,7 @@ module _ (req : CompositeAggReqData) (visited keys : List KeyTuple) (held mid : 
       → AnswersFor req.req.now.sources req.composite_accessors keys held mid steps steps_now (Ok tt)
       → OnOk result (CountsBehind mid [] settled)
       → (IsErrOf result TooMany → CountsTooOften mid [])
-      → AnswersVisits req visited keys settled steps steps_now result
+      → AnswersKeys req visited keys settled steps steps_now result
   settled-visits settled (Ok x) walked ok too_many =
       let own = walked.ok in
       let tuples = before.tuples ++ own.0 in
@@ -74,15 +81,15 @@ module _ (req : CompositeAggReqData) (visited keys : List KeyTuple) (held mid : 
       }
 
   -- the error of a walk is the collector's
-  pub refused-visits : (settled : EncodedCounts) (error : CollectError) (returned : Returned)
+  pub refused-visits : (settled : EncodedCounts) (error : VisitError) (returned : Returned)
       → AnswersFor req.req.now.sources req.composite_accessors keys held mid steps steps_now
       (Err error)
       → IsErrAnd returned (λ e. e ≡ error)
-      → AnswersVisits req visited keys settled steps steps_now returned
+      → AnswersKeys req visited keys settled steps steps_now returned
   refused-visits settled error returned walked is_err =
       let given = err_from_is_err_and returned is_err in
       let same : returned ≡ Err error = given.1 ∙ ap (λ e. Err e) given.2 in
-      subst (AnswersVisits req visited keys settled steps steps_now) (sym same) (record {
+      subst (AnswersKeys req visited keys settled steps steps_now) (sym same) (record {
         ok = tt;
         ticks = tt;
         too_many = λ e.
@@ -100,3 +107,45 @@ module _ (req : CompositeAggReqData) (visited keys : List KeyTuple) (held mid : 
         later = walked.later;
         bounded = walked.bounded;
       })
+
+-- visits end early for too many where their collector says so
+collected-too_many : (error : VisitError) → collected error ≡ refusal.TooMany → error ≡ TooMany
+collected-too_many TooMany is = refl
+collected-too_many OutOfMemory is = absurd (cc is)
+
+-- what is found to be so
+pub found : (b : Bool) (fact other : Type 0) → b ≡ true → MatchBool b fact other → fact
+found true fact other is holds = holds
+found false fact other is holds = absurd (cc is)
+
+-- what is visited, the collector has visited
+pub visited-all : (req : CompositeAggReqData) (visited keys : List KeyTuple)
+    (held : EncodedCounts) (steps steps_now : ℕ)
+    → AnswersKeys req visited keys held steps steps_now (Ok tt)
+    → AnswersVisits req visited keys held steps steps_now (Ok tt)
+visited-all req visited keys held steps steps_now walked = record {
+  ok = walked.ok;
+  ticks = walked.ticks;
+  too_many = λ e. absurd (cc e);
+  later = walked.later;
+  bounded = walked.bounded;
+}
+
+-- what visits answer, the collector answers
+pub collected-visits : (req : CompositeAggReqData) (visited keys : List KeyTuple)
+    (held : EncodedCounts) (steps steps_now : ℕ) (error : VisitError)
+    (returned : Result (Unit {0}) CollectError)
+    → AnswersKeys req visited keys held steps steps_now (Err error)
+    → IsErrAnd returned (λ e. e ≡ collected error)
+    → AnswersVisits req visited keys held steps steps_now returned
+collected-visits req visited keys held steps steps_now error returned walked is_err =
+    let given = err_from_is_err_and returned is_err in
+    let same : returned ≡ Err (collected error) = given.1 ∙ ap (λ e. Err e) given.2 in
+    subst (AnswersVisits req visited keys held steps steps_now) (sym same) (record {
+      ok = tt;
+      ticks = tt;
+      too_many = λ e.
+          walked.too_many (ap (λ x. Err x) (collected-too_many error (cc e)));
+      later = walked.later;
+      bounded = walked.bounded;
+    })

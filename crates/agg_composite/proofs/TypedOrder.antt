@@ -32,17 +32,21 @@ use Rattle.agg_segment.specs.declared.keys.ColumnKeys.{ColumnKeys}
 use Rattle.agg_segment.specs.declared.keys.ColumnKeys.TheVariants.{Bools, Texts, Signed, Unsigned}
 use Rattle.agg_segment.specs.declared.keys.ColumnKeys.TheVariants.{Addresses, Dates}
 use Rattle.agg_request.specs.Source.{Sources, missing_order_of, order_of, rules_of}
-use Rattle.agg_request.specs.declared.source.CompositeAggregationSource.{CompositeAggregationSource}
-use Rattle.agg_composite.specs.Accessors.{AreAccessorsOf, Fits, after_of, class_order, columns_of}
-use Rattle.agg_composite.specs.Accessors.{in_requested, keys_at}
+use Rattle.agg_request.specs.declared.source.CompositeAggregationSource as kind
+use kind.{CompositeAggregationSource}
+use kind.TheVariants.{DateHistogram, Histogram, Terms}
+use Rattle.agg_composite.specs.Accessors.{AreAccessorsOf, AreOfField, Fits, after_of}
 use Rattle.agg_composite.specs.Encoding.{EncodedTuple, StandFor, StandsFor, encoded_at}
 use Rattle.agg_composite.specs.Encoding.{encoded_null, encoded_order, encoded_tuple_order}
 use Rattle.agg_composite.specs.Encoding.{null_place, raw_of}
+use Rattle.agg_composite.specs.Lanes.{AreLanesInOrder, class_order, column_at, columns_of}
+use Rattle.agg_composite.specs.Lanes.{in_requested, keys_at, lanes}
 use Rattle.agg_composite.specs.Visits.{StandsForTuple}
 use Rattle.agg_composite.specs.declared.accessor.CompositeAccessor.{CompositeAccessor}
 use Rattle.agg_composite.specs.declared.accessor.CompositeSourceAccessors.{CompositeSourceAccessors}
 use Rattle.agg_composite.specs.declared.encoded.Encoded.{Encoded}
 use Rattle.agg_composite.specs.declared.request_data.CompositeAggReqData.{CompositeAggReqData}
+use Rattle.agg_composite.proofs.LaneKeys.{columns-many, numbers-at, numbers-classes, signed-order}
 
 pub encoded_order-total : IsTotalOrder encoded_order
 encoded_order-total =
@@ -93,16 +97,16 @@ encoded-canonical Dates n l = tt
 abbrev no_column : StoredColumn
 no_column = record { field = 0; keys = Bools; cells = [] }
 
-keys_at-column : (accessors : List CompositeAccessor) (i : ℕ)
-    → keys_at accessors i ≡ (get_or (columns_of accessors) i no_column).keys
-keys_at-column [] i = refl
-keys_at-column (a ∷ accessors) zero = refl
-keys_at-column (a ∷ accessors) (suc i) = keys_at-column accessors i
+column_at-column : (accessors : List CompositeAccessor) (i : ℕ)
+    → column_at accessors i ≡ (get_or (columns_of accessors) i no_column).keys
+column_at-column [] i = refl
+column_at-column (a ∷ accessors) zero = refl
+column_at-column (a ∷ accessors) (suc i) = column_at-column accessors i
 
 -- what holds of each accessor's keys holds of those at a place
 pub each_keys : (P : ColumnKeys → Type 0) (accessors : List CompositeAccessor)
     → All (λ a. P a.column.now.keys) accessors → (i : ℕ) → i < length accessors
-    → P (keys_at accessors i)
+    → P (column_at accessors i)
 each_keys P [] all i l = absurd (omega arith)
 each_keys P (a ∷ accessors) all i l =
     subst P (sym (get_or-map (λ a. a.column.now.keys) (a ∷ accessors) i a Bools l)) (all i a l)
@@ -156,15 +160,45 @@ requested-ranks Desc columns ascend d i j l_i l_j =
 pub classes-in_order : (order : Order) (accessors : List CompositeAccessor)
     → ClassesAscend (in_requested order (columns_of accessors)) → (i j : ℕ)
     → i < length accessors → j < length accessors
-    → class_order order (keys_rank (keys_at accessors i)) (keys_rank (keys_at accessors j))
+    → class_order order (keys_rank (column_at accessors i))
+    (keys_rank (column_at accessors j))
     ≡ nat_cmp i j
 classes-in_order order accessors ascend i j l_i l_j =
     let long : length (columns_of accessors) ≡ length accessors =
     length-map accessors (λ a. a.column.now) in
-    (λ x. class_order order (keys_rank (keys_at-column accessors i x))
-    (keys_rank (keys_at-column accessors j x)))
+    (λ x. class_order order (keys_rank (column_at-column accessors i x))
+    (keys_rank (column_at-column accessors j x)))
     ∙ requested-ranks order (columns_of accessors) ascend no_column i j (omega (arith, l_i, long))
     (omega (arith, l_j, long))
+
+-- so do those of lanes, whose numbers are in the order of their keys
+pub lanes-in_order : (segment : Stored) (source : CompositeAggregationSource)
+    (accessors : List CompositeAccessor) → AreOfField segment source accessors
+    → AreLanesInOrder source accessors
+lanes-in_order segment (Terms s) accessors of_field =
+    let long = columns-many accessors in
+    record {
+      classes = λ i j l_i l_j.
+          classes-in_order s.order accessors of_field.classes i j (omega (arith, l_i, long))
+          (omega (arith, l_j, long));
+      order = λ i l.
+          each_keys AreInKeyOrder accessors (λ j d within. (of_field.each j d within).order) i
+          (omega (arith, l, long));
+    }
+lanes-in_order segment (Histogram s) accessors of_field = record {
+  classes = numbers-classes s.order accessors;
+  order = λ i l. subst AreInKeyOrder (sym (numbers-at accessors i l)) signed-order;
+}
+lanes-in_order segment (DateHistogram s) accessors of_field =
+    let long = columns-many accessors in
+    record {
+      classes = λ i j l_i l_j.
+          classes-in_order s.order accessors of_field.classes i j (omega (arith, l_i, long))
+          (omega (arith, l_j, long));
+      order = λ i l.
+          each_keys AreInKeyOrder accessors (λ j d within. (of_field.each j d within).order) i
+          (omega (arith, l, long));
+    }
 
 -- ---- keys of columns
 
@@ -216,83 +250,84 @@ in_column Desc keys ascend n m fits_n fits_m in_n in_m =
 
 -- ---- what encoded keys stand for
 
--- a number of an accessor and its key
-abbrev IsNumber : List CompositeAccessor → ℕ → ℕ → Type 0
-IsNumber accessors i n =
-    (i < length accessors) × (n < 2 ^ 64) × StandsForKey (keys_at accessors i) n
+-- a number of a lane and its key
+abbrev IsNumber : CompositeAggregationSource → List CompositeAccessor → ℕ → ℕ → Type 0
+IsNumber source accessors i n =
+    (i < length (lanes source accessors)) × (n < 2 ^ 64)
+    × StandsForKey (keys_at source accessors i) n
 
 module _ (source : CompositeAggregationSource) (accessors : List CompositeAccessor)
-    (classes : ClassesAscend (in_requested (order_of source) (columns_of accessors)))
-    (order : All (λ a. AreInKeyOrder a.column.now.keys) accessors) where
-  same_place : (i n m : ℕ) → IsNumber accessors i n → IsNumber accessors i m
-      → directed (order_of source) ascending_order (encoded_key (keys_at accessors i) n)
-      (encoded_key (keys_at accessors i) m)
+    (in_order : AreLanesInOrder source accessors) where
+  same_place : (i n m : ℕ) → IsNumber source accessors i n → IsNumber source accessors i m
+      → directed (order_of source) ascending_order (encoded_key (keys_at source accessors i) n)
+      (encoded_key (keys_at source accessors i) m)
       ≡ encoded_order (encoded_at (order_of source) i n) (encoded_at (order_of source) i m)
   same_place i n m is_n is_m =
-      in_column (order_of source) (keys_at accessors i)
-      (each_keys AreInKeyOrder accessors order i is_n.0) n m is_n.1 is_m.1 is_n.2 is_m.2
+      in_column (order_of source) (keys_at source accessors i)
+      (in_order.order i is_n.0) n m is_n.1 is_m.1 is_n.2 is_m.2
       ∙ sym (ap (λ o. ordering_then o (nat_cmp (raw_of (order_of source) n)
       (raw_of (order_of source) m))) (tied_itself nat_cmp_total (i + 1)))
 
-  values-compare : (i j n m : ℕ) → IsNumber accessors i n → IsNumber accessors j m
-      → directed (order_of source) ascending_order (encoded_key (keys_at accessors i) n)
-      (encoded_key (keys_at accessors j) m)
+  values-compare : (i j n m : ℕ) → IsNumber source accessors i n → IsNumber source accessors j m
+      → directed (order_of source) ascending_order (encoded_key (keys_at source accessors i) n)
+      (encoded_key (keys_at source accessors j) m)
       ≡ encoded_order (encoded_at (order_of source) i n) (encoded_at (order_of source) j m)
   values-compare i j n m is_n is_m =
       let classes_are : class_order (order_of source)
-      (class_rank (encoded_key (keys_at accessors i) n))
-      (class_rank (encoded_key (keys_at accessors j) m)) ≡ nat_cmp i j =
-      (λ x. class_order (order_of source) (encoded-rank (keys_at accessors i) n x)
-      (encoded-rank (keys_at accessors j) m x))
-      ∙ classes-in_order (order_of source) accessors classes i j is_n.0 is_m.0 in
+      (class_rank (encoded_key (keys_at source accessors i) n))
+      (class_rank (encoded_key (keys_at source accessors j) m)) ≡ nat_cmp i j =
+      (λ x. class_order (order_of source) (encoded-rank (keys_at source accessors i) n x)
+      (encoded-rank (keys_at source accessors j) m x))
+      ∙ in_order.classes i j is_n.0 is_m.0 in
       let raws : Ordering = nat_cmp (raw_of (order_of source) n) (raw_of (order_of source) m) in
       by_ranked (i < j) (i ≡ j) (j < i) (nat_cmp i j) (ranked i j (nat_cmp i j) refl)
       (λ o l. by_class (order_of source) _ _ Less (classes_are ∙ o) (λ x. cc)
       ∙ ap (λ p. ordering_then p raws) (sym (less (i + 1) (j + 1) (omega arith))))
-      (λ o e. subst (λ x. IsNumber accessors x m
-      → directed (order_of source) ascending_order (encoded_key (keys_at accessors i) n)
-      (encoded_key (keys_at accessors x) m)
+      (λ o e. subst (λ x. IsNumber source accessors x m
+      → directed (order_of source) ascending_order (encoded_key (keys_at source accessors i) n)
+      (encoded_key (keys_at source accessors x) m)
       ≡ encoded_order (encoded_at (order_of source) i n) (encoded_at (order_of source) x m)) e
       (same_place i n m is_n) is_m)
       (λ o l. by_class (order_of source) _ _ Greater (classes_are ∙ o) (λ x. cc)
       ∙ ap (λ p. ordering_then p raws) (sym (greater (i + 1) (j + 1) (omega arith))))
 
-  has_class : (i n : ℕ) → 0 < class_rank (encoded_key (keys_at accessors i) n)
-  has_class i n = rw (encoded-rank (keys_at accessors i) n) (some_rank (keys_at accessors i))
+  has_class : (i n : ℕ) → 0 < class_rank (encoded_key (keys_at source accessors i) n)
+  has_class i n =
+      rw (encoded-rank (keys_at source accessors i) n) (some_rank (keys_at source accessors i))
 
   -- ---- Null
 
-  null_value : (i n : ℕ) → i < length accessors
+  null_value : (i n : ℕ) → i < length (lanes source accessors)
       → key_order (order_of source) (missing_order_of source) Null
-      (encoded_key (keys_at accessors i) n)
+      (encoded_key (keys_at source accessors i) n)
       ≡ encoded_order (encoded_null source accessors) (encoded_at (order_of source) i n)
   null_value i n l =
       let o : Order = order_of source in
       let missing : MissingOrder = missing_order_of source in
-      let k : CompositeIntermediateKey = encoded_key (keys_at accessors i) n in
+      let k : CompositeIntermediateKey = encoded_key (keys_at source accessors i) n in
       let rank : null_rank o missing k ≡ 1 = null_rank-of_class o missing k (has_class i n) in
       elim (null_sides o missing) [
         | inl e ↦ decided (nat_cmp (null_side o missing) (null_rank o missing k)) _ Less
             ((λ x. nat_cmp (e x) (rank x)) ∙ refl) (λ x. cc)
             ∙ sym (decided (nat_cmp (encoded_null source accessors).place (i + 1))
             (nat_cmp 0 (raw_of o n)) Less
-            ((λ x. nat_cmp (null_place (e x) (length accessors)) (i + 1))
+            ((λ x. nat_cmp (null_place (e x) (length (lanes source accessors))) (i + 1))
             ∙ less 0 (i + 1) (omega arith)) (λ x. cc))
         | inr e ↦ decided (nat_cmp (null_side o missing) (null_rank o missing k)) _ Greater
             ((λ x. nat_cmp (e x) (rank x)) ∙ refl) (λ x. cc)
             ∙ sym (decided (nat_cmp (encoded_null source accessors).place (i + 1))
             (nat_cmp 0 (raw_of o n)) Greater
-            ((λ x. nat_cmp (null_place (e x) (length accessors)) (i + 1))
-            ∙ greater (length accessors + 1) (i + 1) (omega arith)) (λ x. cc))
+            ((λ x. nat_cmp (null_place (e x) (length (lanes source accessors))) (i + 1))
+            ∙ greater (length (lanes source accessors) + 1) (i + 1) (omega arith)) (λ x. cc))
       ]
 
-  value_null : (i n : ℕ) → i < length accessors
+  value_null : (i n : ℕ) → i < length (lanes source accessors)
       → key_order (order_of source) (missing_order_of source)
-      (encoded_key (keys_at accessors i) n) Null
+      (encoded_key (keys_at source accessors i) n) Null
       ≡ encoded_order (encoded_at (order_of source) i n) (encoded_null source accessors)
   value_null i n l =
       (key_order-total (order_of source) (missing_order_of source)).antisymm
-      (encoded_key (keys_at accessors i) n) Null
+      (encoded_key (keys_at source accessors i) n) Null
       ∙ ap ordering_reverse (null_value i n l)
       ∙ sym (encoded_order-total.antisymm (encoded_at (order_of source) i n)
       (encoded_null source accessors))
@@ -325,7 +360,7 @@ pub canonical_key : (source : CompositeAggregationSource) (accessors : List Comp
     (e : Encoded) (k : CompositeIntermediateKey) → StandsFor source accessors e k → IsCanonical k
 canonical_key source accessors e k (inl p) = subst IsCanonical (sym p.1) tt
 canonical_key source accessors e k (inr (i, n, l_i, fits_n, in_n, e_is, k_is)) =
-    subst IsCanonical (sym k_is) (encoded-canonical (keys_at accessors i) n fits_n)
+    subst IsCanonical (sym k_is) (encoded-canonical (keys_at source accessors i) n fits_n)
 
 -- ---- tuples
 
@@ -352,9 +387,9 @@ module _ (segment : Stored) (after : Named AfterKey) where
   by_source (source ∷ sources) (a ∷ accessors) fits (e ∷ es) (f ∷ fs) [] ls p q = absurd p
   by_source (source ∷ sources) (a ∷ accessors) fits (e ∷ es) (f ∷ fs) (k ∷ ks) [] p q = absurd q
   by_source (source ∷ sources) (a ∷ accessors) fits (e ∷ es) (f ∷ fs) (k ∷ ks) (l ∷ ls) p q =
-      let columns = fits.0.columns in
       let first : key_order (order_of source) (missing_order_of source) k l ≡ encoded_order e f =
-      keys-compare source a.accessors columns.classes columns.order e f k l p.0 q.0 in
+      keys-compare source a.accessors (lanes-in_order segment source a.accessors fits.0.columns)
+      e f k l p.0 q.0 in
       let rest = by_source sources accessors fits.1 es fs ks ls p.1 q.1 in (
         λ x. ordering_then (first x) (rest.0 x),
         λ same.

@@ -4,15 +4,15 @@ use Rattle.std.proofs.Common.{IsErrAnd, length, get_or, take, drop, sym, ap, ◌
 use Rattle.std.proofs.Common.{subst, arith}
 use Rattle.std.proofs.lemmas.List.{take_all}
 use Rattle.std.proofs.lemmas.Result.{err_from_is_err_and}
-use Rattle.agg_cache.specs.declared.error.CollectError.{CollectError}
-use Rattle.agg_cache.specs.declared.error.CollectError.TheVariants.{TooMany}
+use Rattle.agg_composite.specs.declared.visit_error.VisitError.{VisitError}
+use Rattle.agg_composite.specs.declared.visit_error.VisitError.TheVariants.{TooMany}
 use Rattle.agg_composite.specs.Answers.{Answers}
 use Rattle.agg_composite.proofs.Appending.{Appends, gives-more, gives-all, length-more}
 use Rattle.agg_composite.proofs.Appending.{length-front}
 
 -- what call results are
 abbrev pub Returned : Type 0
-Returned = Result (Unit {0}) CollectError
+Returned = Result (Unit {0}) VisitError
 
 -- visits of what lists hold, and why they are refused
 pub record AreVisits {Y S : Type 0} (visits : List Y → S → S → Type 0)
@@ -30,7 +30,7 @@ pub record SoFar {X Y S : Type 0} (visits : List Y → S → S → Type 0) (f : 
 
 -- an error that a call passes on
 pub passed-on : (visits refuses : Type 0) (count steps steps_now : ℕ)
-    (error : CollectError) (returned : Returned)
+    (error : VisitError) (returned : Returned)
     → (◌≡◌ {A = Returned} (Err error) (Err TooMany) → refuses)
     → steps ≤ steps_now → steps_now ≤ steps + count
     → IsErrAnd returned (λ e. e ≡ error)
@@ -46,7 +46,7 @@ passed-on visits refuses count steps steps_now error returned too_many later bou
     })
 
 -- an error by itself, of another cause than too many
-pub refused : (visits refuses : Type 0) (count steps : ℕ) (error : CollectError)
+pub refused : (visits refuses : Type 0) (count steps : ℕ) (error : VisitError)
     (returned : Returned)
     → (◌≡◌ {A = Returned} (Err error) (Err TooMany) → refuses)
     → IsErrAnd returned (λ e. e ≡ error)
@@ -102,7 +102,7 @@ module _ {Y S : Type 0} (visits : List Y → S → S → Type 0) (refuses : List
       }
 
   -- two lists in a row, of which the first was refused
-  pub first-refused : (ys zs : List Y) (s t : S) (steps steps_now : ℕ) (error : CollectError)
+  pub first-refused : (ys zs : List Y) (s t : S) (steps steps_now : ℕ) (error : VisitError)
       (returned : Returned)
       → Answered ys s t steps steps_now (Err error) → IsErrAnd returned (λ e. e ≡ error)
       → Answered (ys ++ zs) s t steps steps_now returned
@@ -144,7 +144,7 @@ module _ {Y S : Type 0} (visits : List Y → S → S → Type 0) (refuses : List
           }
 
       -- the error of one element is the error of all
-      pub error-visited : (error : CollectError) (returned : Returned)
+      pub error-visited : (error : VisitError) (returned : Returned)
           → Answered (f (get_or xs i d ∷ [])) t u steps_now steps_after (Err error)
           → IsErrAnd returned (λ e. e ≡ error)
           → Answered (f xs) s u steps steps_after returned

@@ -9,7 +9,7 @@ use Rattle.std.proofs.lemmas.List.Concat.{flat_map-append}
 use Rattle.agg_values.specs.declared.order.Order.{Order}
 use Rattle.std.specs.declared.cmp.Ordering.{Ordering}
 use Rattle.std.specs.declared.cmp.Ordering.TheVariants.{Less, Greater}
-use Rattle.agg_cache.specs.declared.error.CollectError.{CollectError}
+use Rattle.agg_composite.specs.declared.visit_error.VisitError.{VisitError}
 use Rattle.agg_composite.specs.Answers.{AnswersEncoded}
 use Rattle.agg_composite.specs.Counts.{EncodedCounts}
 use Rattle.agg_composite.specs.Encoding.{EncodedTuple, encoded_at}
@@ -35,6 +35,33 @@ numbers-append order i side xs ys =
     let choice : ℕ → Choice = λ n. record { value = encoded_at order i n; side = side n } in
     ap (λ (cs : List Choice). walked (cs ∷ []) [] false) (map-append choice xs ys)
     ∙ flat_map-append (walked_with [] [] false) (map choice xs) (map choice ys)
+
+-- the tuples for numbers of a column, each with its number of the lane
+abbrev pub start_tuples : Order → ℕ → (ℕ → Ordering) → (ℕ → ℕ) → List ℕ → List EncodedTuple
+start_tuples order i side number numbers = number_tuples order i side (map number numbers)
+
+-- the same in two parts
+pub starts-append : (order : Order) (i : ℕ) (side : ℕ → Ordering) (number : ℕ → ℕ)
+    → Appends (start_tuples order i side number)
+starts-append order i side number xs ys =
+    ap (number_tuples order i side) (map-append number xs ys)
+    ∙ numbers-append order i side (map number xs) (map number ys)
+
+map-twice : {X Y Z : Type 0} (g : Y → Z) (f : X → Y) (xs : List X)
+    → map g (map f xs) ≡ map (λ x. g (f x)) xs
+map-twice g f [] = refl
+map-twice g f (x ∷ xs) = ap (λ ys. g (f x) ∷ ys) (map-twice g f xs)
+
+-- they are those of the numbers' choices
+pub starts-walked : (order : Order) (i : ℕ) (side : ℕ → Ordering) (number : ℕ → ℕ)
+    (numbers : List ℕ)
+    → start_tuples order i side number numbers
+    ≡ walked
+    (map (λ n. record { value = encoded_at order i (number n); side = side (number n) }) numbers
+    ∷ []) [] false
+starts-walked order i side number numbers =
+    let choice : ℕ → Choice = λ n. record { value = encoded_at order i n; side = side n } in
+    ap (λ (cs : List Choice). walked (cs ∷ []) [] false) (map-twice choice number numbers)
 
 -- the first places of a buffer with one more key
 front-more : (tuple front : EncodedTuple) (level : ℕ) (v : Encoded) → level < length tuple
@@ -74,7 +101,7 @@ front-kept tuple tuple_then level v e =
 -- the visit of a choice that is above
 pub visited-one : (found x : Choice) → found ≡ x → found.side ≡ Greater
     → (held held_now : EncodedCounts) (steps steps_now : ℕ)
-    (result : Result (Unit {0}) CollectError)
+    (result : Result (Unit {0}) VisitError)
     → AnswersEncoded ((found.value ∷ []) ∷ []) held held_now steps steps_now result
     → AnswersEncoded (walked ((x ∷ []) ∷ []) [] false) held held_now steps steps_now result
 visited-one found x is above held held_now steps steps_now result answers =

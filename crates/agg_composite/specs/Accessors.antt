@@ -1,6 +1,7 @@
 -- What sources read in a segment, and where their after values stand there.
 use Rattle.std.specs.Prelude.{◌≡◌, ◌==◌, ◌<◌, ℕ, List, Bool, true, false, Option, None, Some, ⊤}
-use Rattle.std.specs.Prelude.{count_by, get_or, length, map, option_map, reverse, All}
+use Rattle.std.specs.Prelude.{◌⊎◌, ℤ, Ok, MatchOption, count_by, filter, filter_map, length}
+use Rattle.std.specs.Prelude.{option_map, All}
 use Rattle.std.specs.Prelude.{if◌then◌else◌}
 use Rattle.std.specs.List.{AllZip}
 use Rattle.std.specs.Ordering.{nat_cmp, is_lt, match_ordering}
@@ -11,46 +12,67 @@ use Rattle.agg_values.specs.Names.{Named, value_of}
 use Rattle.agg_values.specs.TypedKey.{CompositeIntermediateKey, class_rank}
 use Rattle.agg_values.specs.declared.typed_key.CompositeIntermediateKey.TheVariants.{Null}
 use Rattle.agg_values.specs.declared.after_key.AfterKey.{AfterKey}
-use Rattle.agg_values.specs.declared.error.InvalidArgument.TheVariants.{NullAfter}
+use Rattle.agg_values.specs.declared.error.InvalidArgument.TheVariants.{AfterType, NullAfter}
 use Rattle.agg_values.specs.declared.order.Order.{Order}
-use Rattle.agg_values.specs.declared.order.Order.TheVariants.{Asc, Desc}
 use Rattle.agg_values.specs.declared.request_error.RequestError.{RequestError}
 use Rattle.agg_values.specs.declared.request_error.RequestError.TheVariants as refusal
+use Rattle.agg_calendar.specs.Start.{IsUsable}
+use Rattle.agg_calendar.specs.declared.interval.PrecomputedDateInterval as interval
+use interval.{PrecomputedDateInterval}
+use interval.TheVariants.{NotApplicable}
 use Rattle.agg_segment.specs.Columns.{AreInKeyOrder, ClassesAscend, StandsForKey, StoredColumn}
-use Rattle.agg_segment.specs.Columns.{all_keys, encoded_key, keys_rank}
+use Rattle.agg_segment.specs.Columns.{all_keys, encoded_key, keys_rank, type_of}
 use Rattle.agg_segment.specs.Segment.{Stored, document_at}
-use Rattle.agg_segment.specs.declared.keys.ColumnKeys.{ColumnKeys}
-use Rattle.agg_segment.specs.declared.keys.ColumnKeys.TheVariants.{Bools}
-use Rattle.agg_request.specs.Source.{field_of, missing_bucket_of, missing_order_of}
-use Rattle.agg_request.specs.Source.{name_of, order_of}
-use Rattle.agg_request.specs.declared.source.CompositeAggregationSource.{CompositeAggregationSource}
+use Rattle.agg_request.specs.Faults.{HasInterval, IsIntervalFault, IsOfOtherType}
+use Rattle.agg_request.specs.Source.{field_of, interval_of, keys_in, missing_bucket_of}
+use Rattle.agg_request.specs.Source.{missing_order_of, name_of, order_of, start_in}
+use Rattle.agg_request.specs.SourceColumns.{reads_type}
+use Rattle.agg_request.specs.declared.source.CompositeAggregationSource as kind
+use kind.{CompositeAggregationSource}
+use kind.TheVariants.{DateHistogram, Histogram, Terms}
 use Rattle.agg_composite.specs.AfterKey.{projected_side}
+use Rattle.agg_composite.specs.Lanes.{class_order, columns_of, in_requested, keys_at, lane_of}
+use Rattle.agg_composite.specs.Lanes.{lanes}
 use Rattle.agg_composite.specs.declared.accessor.CompositeAccessor.{CompositeAccessor}
 use Rattle.agg_composite.specs.declared.accessor.CompositeSourceAccessors.{CompositeSourceAccessors}
 use Rattle.agg_composite.specs.declared.request_data.CompositeAggReqData.{CompositeAggReqData}
 
 -- ---- columns
 
--- what ascends, in the requested order
-abbrev pub in_requested : {A : Type 0} → Order → List A → List A
-in_requested Asc xs = xs
-in_requested Desc xs = reverse xs
+-- what a source divides its dates by
+abbrev pub IsIntervalOf : CompositeAggregationSource → PrecomputedDateInterval → Type 0
+IsIntervalOf (Terms s) interval = interval ≡ NotApplicable
+IsIntervalOf (Histogram s) interval = interval ≡ NotApplicable
+IsIntervalOf (DateHistogram s) interval = (interval_of s ≡ Ok interval) × IsUsable interval
 
--- the columns of accessors
-abbrev pub columns_of : List CompositeAccessor → List StoredColumn
-columns_of accessors = map (λ a. a.column.now) accessors
+-- an accessor of a source has the interval of its dates, and a column that the source reads, whose
+-- numbers are in the order of its keys
+pub record IsAccessorOf (source : CompositeAggregationSource) (a : CompositeAccessor) : Type 0 where
+  pub interval : IsIntervalOf source a.date_histogram_interval
+  pub reads : reads_type source (type_of a.column.now.keys) ≡ true
+  pub order : AreInKeyOrder a.column.now.keys
 
--- what the numbers of the accessor at a place stand for
-abbrev pub keys_at : List CompositeAccessor → ℕ → ColumnKeys
-keys_at accessors i = get_or (map (λ a. a.column.now.keys) accessors) i Bools
+-- the columns that a source reads
+abbrev pub columns_read : CompositeAggregationSource → List StoredColumn → List StoredColumn
+columns_read source columns = filter (λ c. reads_type source (type_of c.keys)) columns
 
--- the accessors are one for each column of the source's field, in the requested order of classes
+-- the starts of the buckets of values, where a source divides them
+abbrev pub starts_in : CompositeAggregationSource → List CompositeIntermediateKey → List ℤ
+starts_in source values = filter_map (start_in source) values
+
+-- the accessors are one for each column of the source's field that the source reads, in the
+-- requested order of classes, and it has what it divides values by
 pub record AreOfField (segment : Stored) (source : CompositeAggregationSource)
     (accessors : List CompositeAccessor) : Type 0 where
-  pub keys : (doc : ℕ) → all_keys (in_requested (order_of source) (columns_of accessors)) doc
-      ≡ document_at segment doc (field_of source)
+  pub interval : HasInterval source
+  pub each : All (IsAccessorOf source) accessors
+  pub keys : (doc : ℕ)
+      → keys_in source (all_keys (in_requested (order_of source) (columns_of accessors)) doc)
+      ≡ keys_in source (document_at segment doc (field_of source))
+  pub starts : (doc : ℕ)
+      → starts_in source (all_keys (in_requested (order_of source) (columns_of accessors)) doc)
+      ≡ starts_in source (document_at segment doc (field_of source))
   pub classes : ClassesAscend (in_requested (order_of source) (columns_of accessors))
-  pub order : All (λ a. AreInKeyOrder a.column.now.keys) accessors
 
 -- ---- after values
 
@@ -69,11 +91,6 @@ abbrev pub is_null : Option CompositeIntermediateKey → Bool
 is_null (Some Null) = true
 is_null _ = false
 
--- how ranks of classes compare in an order
-abbrev pub class_order : Order → ℕ → ℕ → Ordering
-class_order Asc rank other = nat_cmp rank other
-class_order Desc rank other = nat_cmp other rank
-
 -- how many accessors have only keys that come before a key: by class, and before Null all or none
 abbrev pub accessors_before : CompositeAggregationSource → CompositeIntermediateKey
     → List CompositeAccessor → ℕ
@@ -84,13 +101,14 @@ accessors_before source k accessors =
     (λ a. is_lt (class_order (order_of source) (keys_rank a.column.now.keys) (class_rank k)))
     accessors
 
--- the same of an after value, none where there is none
+-- the lane behind those before an after value, the first where there is none
 abbrev pub index_of : CompositeAggregationSource → Option CompositeIntermediateKey
     → List CompositeAccessor → ℕ
 index_of source None accessors = 0
-index_of source (Some after) accessors = accessors_before source after accessors
+index_of source (Some after) accessors =
+    lane_of source (accessors_before source after accessors)
 
--- how a number of the accessor at a place stands to the after value: below before its index, above
+-- how a number of the lane at a place stands to the after value: below before its index, above
 -- behind it
 abbrev pub side_at : Order → CompositeSourceAccessors → ℕ → ℕ → Ordering
 side_at order a i number =
@@ -106,22 +124,44 @@ pub record AreAccessorsOf (segment : Stored) (source : CompositeAggregationSourc
   pub explicit : a.is_after_key_explicit_missing ≡ is_null after
   pub skip : a.skip_missing ≡ is_lt (side_to source after Null)
   pub index : a.after_key_accessor_idx ≡ index_of source after a.accessors
-  pub sides : (i number : ℕ) → i < length a.accessors
-      → StandsForKey (keys_at a.accessors i) number
+  pub sides : (i number : ℕ) → i < length (lanes source a.accessors)
+      → StandsForKey (keys_at source a.accessors i) number
       → side_at (order_of source) a i number
-      ≡ side_to source after (encoded_key (keys_at a.accessors i) number)
+      ≡ side_to source after (encoded_key (keys_at source a.accessors i) number)
 
 -- a Null to go on from, where documents without a value have no bucket
 abbrev pub IsNullAfter : CompositeAggregationSource → Option CompositeIntermediateKey → Type 0
 IsNullAfter source after = (after ≡ Some Null) × (missing_bucket_of source ≡ false)
 
+-- an after value that is none of the source's keys
+abbrev pub IsOtherAfter : CompositeAggregationSource → Option CompositeIntermediateKey → Type 0
+IsOtherAfter source after = MatchOption after ⊥ (IsOfOtherType source)
+
+-- the first fault of a source and its after value: the Null, then the interval, then the type
+abbrev pub IsFirstFault : CompositeAggregationSource → Option CompositeIntermediateKey
+    → RequestError → Type 0
+IsFirstFault source after error =
+    ((error ≡ refusal.Invalid NullAfter) × IsNullAfter source after)
+    ⊎ (¬ (IsNullAfter source after) × IsIntervalFault source error)
+    ⊎ (¬ (IsNullAfter source after) × HasInterval source
+    × (error ≡ refusal.Invalid AfterType) × IsOtherAfter source after)
+
+-- a fact of an error that isn't want of memory
+abbrev pub OrNoMemory : RequestError → Type 0 → Type 0
+OrNoMemory refusal.OutOfMemory fact = ⊤
+OrNoMemory error fact = fact
+
 -- why a source has no accessors
 abbrev pub HasNoAccessors : CompositeAggregationSource → Option CompositeIntermediateKey
     → RequestError → Type 0
-HasNoAccessors source after (refusal.Invalid fault) =
-    (fault ≡ NullAfter) × IsNullAfter source after
-HasNoAccessors source after (refusal.Aggregation part) = ⊥
-HasNoAccessors source after refusal.OutOfMemory = ⊤
+HasNoAccessors source after error = OrNoMemory error (IsFirstFault source after error)
+
+-- a source and its after value have no fault
+pub record HasAccessors (source : CompositeAggregationSource)
+    (after : Option CompositeIntermediateKey) : Type 0 where
+  pub missing : ¬ (IsNullAfter source after)
+  pub interval : HasInterval source
+  pub same_type : ¬ (IsOtherAfter source after)
 
 -- request data has the accessors of each source in a segment, for its value in an after key
 abbrev pub Fits : Stored → Named AfterKey → CompositeAggReqData → Type 0

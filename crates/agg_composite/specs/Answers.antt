@@ -1,13 +1,14 @@
 -- What the parts of a walk answer.
 use Rattle.std.specs.Prelude.{◌≡◌, ◌≤◌, ◌+◌, ◌++◌, ℕ, List, Result, OnOk, IsErrOf, length}
-use Rattle.std.specs.List.{AllZip}
+use Rattle.std.specs.List.{All, AllZip}
 use Rattle.agg_values.specs.Names.{Named}
 use Rattle.agg_values.specs.Tuple.{KeyTuple}
 use Rattle.agg_values.specs.declared.after_key.AfterKey.{AfterKey}
-use Rattle.agg_cache.specs.declared.error.CollectError.{CollectError}
-use Rattle.agg_cache.specs.declared.error.CollectError.TheVariants.{TooMany}
+use Rattle.agg_composite.specs.declared.visit_error.VisitError.{VisitError}
+use Rattle.agg_composite.specs.declared.visit_error.VisitError.TheVariants.{TooMany}
 use Rattle.agg_segment.specs.Segment.{Stored, documents_at}
 use Rattle.agg_request.specs.Occurrences.{bound_of, past_occurrences}
+use Rattle.agg_request.specs.Ranges.{AreInRange}
 use Rattle.agg_request.specs.Source.{Sources}
 use Rattle.agg_composite.specs.Accessors.{AreAccessorsOf, after_of}
 use Rattle.agg_composite.specs.Counts.{EncodedCounts}
@@ -18,7 +19,7 @@ use Rattle.agg_composite.specs.declared.accessor.CompositeSourceAccessors.{Compo
 -- an Ok has visited so many tuples, with a step at each; TooMany has its cause; whatever is
 -- answered, steps never fall and are no more than one for each tuple
 pub record Answers (visits refuses : Type 0) (count steps steps_now : ℕ)
-    (result : Result (Unit {0}) CollectError) : Type 0 where
+    (result : Result (Unit {0}) VisitError) : Type 0 where
   pub ok : OnOk result visits
   pub ticks : OnOk result (steps_now ≡ steps + count)
   pub too_many : IsErrOf result TooMany → refuses
@@ -27,7 +28,7 @@ pub record Answers (visits refuses : Type 0) (count steps steps_now : ℕ)
 
 -- what visits of encoded tuples answer
 abbrev pub AnswersEncoded : List EncodedTuple → EncodedCounts → EncodedCounts → ℕ → ℕ
-    → Result (Unit {0}) CollectError → Type 0
+    → Result (Unit {0}) VisitError → Type 0
 AnswersEncoded tuples held held_now =
     Answers (CountsBehind held tuples held_now) (CountsTooOften held tuples) (length tuples)
 
@@ -48,7 +49,7 @@ TooOftenFor sources accessors keys held =
 
 -- what visits of encoded tuples that stand for these answer
 abbrev pub AnswersFor : Sources → List CompositeSourceAccessors → List KeyTuple → EncodedCounts
-    → EncodedCounts → ℕ → ℕ → Result (Unit {0}) CollectError → Type 0
+    → EncodedCounts → ℕ → ℕ → Result (Unit {0}) VisitError → Type 0
 AnswersFor sources accessors keys held held_now =
     Answers (CountsFor sources accessors keys held held_now)
     (TooOftenFor sources accessors keys held) (length keys)
@@ -58,11 +59,17 @@ abbrev pub AllFit : Stored → Named AfterKey → Sources → List CompositeSour
 AllFit segment after =
     AllZip (λ source a. AreAccessorsOf segment source (after_of after source) a)
 
--- what a walk over documents answers, in each segment and for each after key that has the accessors
+-- the starts that sources read in documents at places lie within i64
+abbrev pub AreAllInRange : Stored → Sources → List ℕ → Type 0
+AreAllInRange segment sources docs = All (AreInRange sources) (documents_at segment docs)
+
+-- what a walk over documents answers, in each segment where all starts lie within i64 and for each
+-- after key that has the accessors
 abbrev pub AnswersDocuments : Sources → List CompositeSourceAccessors → List ℕ → EncodedCounts
-    → EncodedCounts → ℕ → ℕ → Result (Unit {0}) CollectError → Type 0
+    → EncodedCounts → ℕ → ℕ → Result (Unit {0}) VisitError → Type 0
 AnswersDocuments sources accessors docs held held_now steps steps_now result =
     (segment : Stored) (after : Named AfterKey) → AllFit segment after sources accessors
+    → AreAllInRange segment sources docs
     → AnswersFor sources accessors
     (past_occurrences sources (bound_of sources after) (documents_at segment docs))
     held held_now steps steps_now result

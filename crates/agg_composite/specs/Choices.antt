@@ -1,7 +1,7 @@
 -- The choices that a document gives for sources.
 use Rattle.std.specs.Prelude.{◌≡◌, ◌⊎◌, ◌-◌, ◌<◌, ◌^◌, ◌++◌, ℕ, List, [], ◌∷◌, Bool, true, false, ⊤}
-use Rattle.std.specs.Prelude.{length, sum, if◌then◌else◌}
-use Rattle.std.specs.List.{AllZip}
+use Rattle.std.specs.Prelude.{length, map, sum, if◌then◌else◌}
+use Rattle.std.specs.List.{All, AllZip}
 use Rattle.std.specs.declared.cmp.Ordering.{Ordering}
 use Rattle.std.specs.declared.cmp.Ordering.TheVariants.{Less, Equal, Greater}
 use Rattle.agg_values.specs.TypedKey.{CompositeIntermediateKey}
@@ -9,11 +9,16 @@ use Rattle.agg_values.specs.declared.typed_key.CompositeIntermediateKey.TheVaria
 use Rattle.agg_values.specs.declared.order.Order.{Order}
 use Rattle.agg_values.specs.declared.order.Order.TheVariants.{Asc, Desc}
 use Rattle.agg_segment.specs.Columns.{StandsForKey, all_keys, encoded_key}
-use Rattle.agg_request.specs.Source.{Sources, missing_bucket_of, or_missing, order_of}
+use Rattle.agg_request.specs.Faults.{HasInterval}
+use Rattle.agg_request.specs.Ranges.{IsInRange}
+use Rattle.agg_request.specs.Source.{Sources, keys_in, missing_bucket_of, or_missing, order_of}
 use Rattle.agg_request.specs.declared.source.CompositeAggregationSource.{CompositeAggregationSource}
-use Rattle.agg_composite.specs.Accessors.{columns_of, in_requested, keys_at, side_at}
+use Rattle.agg_composite.specs.Accessors.{IsAccessorOf, side_at}
 use Rattle.agg_composite.specs.Encoding.{encoded_at, encoded_null}
+use Rattle.agg_composite.specs.Lanes.{columns_of, in_requested, keys_at, lane_of, lanes}
+use Rattle.agg_composite.specs.Starts.{divisor_of, lane_number}
 use Rattle.agg_composite.specs.Walk.{parts}
+use Rattle.agg_composite.specs.declared.accessor.CompositeAccessor.{CompositeAccessor}
 use Rattle.agg_composite.specs.declared.accessor.CompositeSourceAccessors.{CompositeSourceAccessors}
 use Rattle.agg_composite.specs.declared.walk.choice.Choice.{Choice}
 
@@ -31,20 +36,20 @@ null_choice source a =
       side = missing_standing a.skip_missing a.is_after_key_explicit_missing;
     }
 
--- a number of the accessor at a place as a choice
+-- a number of the lane at a place as a choice
 abbrev pub choice_at : Order → CompositeSourceAccessors → ℕ → ℕ → Choice
 choice_at order a i number =
     record { value = encoded_at order i number; side = side_at order a i number }
 
--- a choice is that of a key: of Null, or of the key of a number of an accessor
+-- a choice is that of a key: of Null, or of the key of a number of a lane
 abbrev pub IsChoiceOf : CompositeAggregationSource → CompositeSourceAccessors → Choice
     → CompositeIntermediateKey → Type 0
 IsChoiceOf source a c k =
     ((c ≡ null_choice source a) × (k ≡ Null))
-    ⊎ ((i : ℕ) × (number : ℕ) × (i < length a.accessors) × (number < 2 ^ 64)
-    × StandsForKey (keys_at a.accessors i) number
+    ⊎ ((i : ℕ) × (number : ℕ) × (i < length (lanes source a.accessors)) × (number < 2 ^ 64)
+    × StandsForKey (keys_at source a.accessors i) number
     × (c ≡ choice_at (order_of source) a i number)
-    × (k ≡ encoded_key (keys_at a.accessors i) number))
+    × (k ≡ encoded_key (keys_at source a.accessors i) number))
 
 -- ---- the choices of a source
 
@@ -58,10 +63,20 @@ abbrev pub place_in : Order → ℕ → ℕ → ℕ
 place_in Asc accessors turn = turn
 place_in Desc accessors turn = accessors - 1 - turn
 
--- the keys that accessors read in a document, by class ascending
+-- the keys that a source gives for what accessors read in a document, by class ascending
 abbrev pub keys_read : CompositeAggregationSource → CompositeSourceAccessors → ℕ
     → List CompositeIntermediateKey
-keys_read source a doc = all_keys (in_requested (order_of source) (columns_of a.accessors)) doc
+keys_read source a doc =
+    keys_in source (all_keys (in_requested (order_of source) (columns_of a.accessors)) doc)
+
+-- accessors can be read in a document: they are those of a source that has what it divides values
+-- by, and the starts of the keys that they hold lie within i64
+pub record CanRead (source : CompositeAggregationSource) (a : CompositeSourceAccessors) (doc : ℕ)
+    : Type 0 where
+  pub interval : HasInterval source
+  pub each : All (IsAccessorOf source) a.accessors
+  pub range : All (IsInRange source)
+      (all_keys (in_requested (order_of source) (columns_of a.accessors)) doc)
 
 -- the keys, or Null where there is none and a missing value has a bucket
 abbrev pub values_read : CompositeAggregationSource → CompositeSourceAccessors → ℕ
@@ -73,19 +88,29 @@ abbrev pub AreChoicesOf : CompositeAggregationSource → CompositeSourceAccessor
     → List CompositeIntermediateKey → Type 0
 AreChoicesOf source a = AllZip (IsChoiceOf source a)
 
--- the choices of these keys stand behind those that were there
-abbrev pub AddsChoices : CompositeAggregationSource → CompositeSourceAccessors
+-- choices stand behind those that were there, of these keys where the document can be read
+abbrev pub AddsChoices : CompositeAggregationSource → CompositeSourceAccessors → ℕ
     → List CompositeIntermediateKey → List Choice → List Choice → Type 0
-AddsChoices source a keys before choices =
-    (added : List Choice) × (choices ≡ before ++ added) × AreChoicesOf source a added keys
+AddsChoices source a doc keys before choices =
+    (added : List Choice) × (choices ≡ before ++ added)
+    × (CanRead source a doc → AreChoicesOf source a added keys)
+
+-- the numbers of a column of the accessor at a place as choices, divided
+abbrev pub divided_choices : CompositeAggregationSource → CompositeSourceAccessors
+    → CompositeAccessor → ℕ → List ℕ → List Choice
+divided_choices source a accessor place numbers =
+    map
+    (λ n. choice_at (order_of source) a (lane_of source place)
+    (lane_number (divisor_of source accessor.date_histogram_interval) accessor.column.now.keys n))
+    numbers
 
 -- ---- the choices of all sources
 
--- choices of each source, of the keys that it reads in a document
+-- choices of each source, of the keys that it reads in a document where it can be read
 abbrev pub AreChoicesIn : Sources → List CompositeSourceAccessors → ℕ → List (List Choice) → Type 0
 AreChoicesIn [] [] doc [] = ⊤
 AreChoicesIn (source ∷ sources) (a ∷ accessors) doc (choices ∷ rows) =
-    AreChoicesOf source a choices (values_read source a doc)
+    (CanRead source a doc → AreChoicesOf source a choices (values_read source a doc))
     × AreChoicesIn sources accessors doc rows
 AreChoicesIn _ _ doc _ = ⊥
 

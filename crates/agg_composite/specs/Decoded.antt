@@ -8,7 +8,7 @@ use Rattle.agg_segment.specs.Columns.{encoded_key}
 use Rattle.agg_request.specs.Groups.{Group}
 use Rattle.agg_request.specs.Source.{Sources, order_of}
 use Rattle.agg_request.specs.declared.source.CompositeAggregationSource.{CompositeAggregationSource}
-use Rattle.agg_composite.specs.Accessors.{keys_at}
+use Rattle.agg_composite.specs.Lanes.{keys_at, lanes}
 use Rattle.agg_composite.specs.Counts.{EncodedCounts}
 use Rattle.agg_composite.specs.Encoding.{EncodedTuple, raw_of}
 use Rattle.agg_composite.specs.Visits.{StandsForTuple}
@@ -17,16 +17,16 @@ use Rattle.agg_composite.specs.declared.accessor.CompositeSourceAccessors.{Compo
 use Rattle.agg_composite.specs.declared.encoded.Encoded.{Encoded}
 use Rattle.agg_composite.specs.declared.request_data.CompositeAggReqData.{CompositeAggReqData}
 
--- whether a place is before or behind so many accessors, which are at the places from 1 on
+-- whether a place is before or behind so many lanes, which are at the places from 1 on
 abbrev pub is_outside : ℕ → ℕ → Bool
-is_outside place accessors = (place == 0) || nat_lt accessors place
+is_outside place lanes = (place == 0) || nat_lt lanes place
 
--- the key that an encoded key stands for: Null outside the accessors, else that of a number
+-- the key that an encoded key stands for: Null outside the lanes, else that of a number
 abbrev pub decoded_key : CompositeAggregationSource → List CompositeAccessor → Encoded
     → CompositeIntermediateKey
 decoded_key source accessors e =
-    if is_outside e.place (length accessors) then Null
-    else encoded_key (keys_at accessors (e.place - 1)) (raw_of (order_of source) e.raw)
+    if is_outside e.place (length (lanes source accessors)) then Null
+    else encoded_key (keys_at source accessors (e.place - 1)) (raw_of (order_of source) e.raw)
 
 -- the keys that encoded keys stand for, source by source
 abbrev pub decoded_keys : Sources → List CompositeSourceAccessors → EncodedTuple → KeyTuple

@@ -12,7 +12,7 @@ use Rattle.agg_values.specs.declared.order.Order.TheVariants.{Asc, Desc}
 use Rattle.agg_segment.specs.Columns.{StandsForKey, encoded_key}
 use Rattle.agg_request.specs.Source.{Sources, missing_order_of, order_of}
 use Rattle.agg_request.specs.declared.source.CompositeAggregationSource.{CompositeAggregationSource}
-use Rattle.agg_composite.specs.Accessors.{keys_at}
+use Rattle.agg_composite.specs.Lanes.{keys_at, lanes}
 use Rattle.agg_composite.specs.declared.accessor.CompositeAccessor.{CompositeAccessor}
 use Rattle.agg_composite.specs.declared.accessor.CompositeSourceAccessors.{CompositeSourceAccessors}
 use Rattle.agg_composite.specs.declared.encoded.Encoded.{Encoded}
@@ -34,31 +34,33 @@ abbrev pub raw_of : Order → ℕ → ℕ
 raw_of Asc number = number
 raw_of Desc number = 2 ^ 64 - 1 - number
 
--- a number of the accessor at a place
+-- a number of the lane at a place
 abbrev pub encoded_at : Order → ℕ → ℕ → Encoded
 encoded_at order i number = record { place = i + 1; raw = raw_of order number }
 
--- the place of Null, before so many accessors or behind them
+-- the place of Null, before so many lanes or behind them
 abbrev pub null_place : ℕ → ℕ → ℕ
-null_place zero accessors = 0
-null_place (suc side) accessors = accessors + 1
+null_place zero lanes = 0
+null_place (suc side) lanes = lanes + 1
 
 -- Null of a source with such accessors
 abbrev pub encoded_null : CompositeAggregationSource → List CompositeAccessor → Encoded
 encoded_null source accessors =
     record {
-      place = null_place (null_side (order_of source) (missing_order_of source)) (length accessors);
+      place = null_place (null_side (order_of source) (missing_order_of source))
+          (length (lanes source accessors));
       raw = 0;
     }
 
--- an encoded key stands for a key: Null, or that of a number of an accessor
+-- an encoded key stands for a key: Null, or that of a number of a lane
 abbrev pub StandsFor : CompositeAggregationSource → List CompositeAccessor → Encoded
     → CompositeIntermediateKey → Type 0
 StandsFor source accessors e k =
     ((e ≡ encoded_null source accessors) × (k ≡ Null))
-    ⊎ ((i : ℕ) × (number : ℕ) × (i < length accessors) × (number < 2 ^ 64)
-    × StandsForKey (keys_at accessors i) number
-    × (e ≡ encoded_at (order_of source) i number) × (k ≡ encoded_key (keys_at accessors i) number))
+    ⊎ ((i : ℕ) × (number : ℕ) × (i < length (lanes source accessors)) × (number < 2 ^ 64)
+    × StandsForKey (keys_at source accessors i) number
+    × (e ≡ encoded_at (order_of source) i number)
+    × (k ≡ encoded_key (keys_at source accessors i) number))
 
 -- encoded keys stand for a tuple, source by source
 abbrev pub StandFor : Sources → List CompositeSourceAccessors → EncodedTuple → KeyTuple → Type 0

@@ -8,7 +8,10 @@ pub mod Decoded
 pub mod Encoding
 pub mod GroupCounts
 pub mod KeyCounts
+pub mod Lanes
 pub mod PageEntries
 pub mod Places
+pub mod Ranges
+pub mod Starts
 pub mod Visits
 pub mod Walk

@@ -1,15 +1,19 @@
 -- What a collector has visited, and when it has visited too often.
 use Rattle.std.specs.Prelude.{◌≡◌, ◌≤◌, ◌+◌, ◌^◌, ℕ, List, ◌++◌, Result, OnOk, IsErrOf}
-use Rattle.std.specs.Prelude.{count_by, length}
+use Rattle.std.specs.Prelude.{Err, count_by, length}
 use Rattle.std.specs.List.{AllZip}
 use Rattle.agg_values.specs.Tuple.{KeyTuple}
 use Rattle.agg_cache.specs.declared.error.CollectError.{CollectError}
-use Rattle.agg_cache.specs.declared.error.CollectError.TheVariants.{TooMany}
+use Rattle.agg_cache.specs.declared.error.CollectError.TheVariants as refusal
+use refusal.{TooMany}
 use Rattle.agg_request.specs.Occurrences.{same_tuple}
 use Rattle.agg_request.specs.Source.{rules_of}
+use Rattle.agg_composite.specs.Answers.{Answers}
 use Rattle.agg_composite.specs.Counts.{Counts, EncodedCounts}
 use Rattle.agg_composite.specs.Encoding.{EncodedTuple, StandFor}
 use Rattle.agg_composite.specs.declared.request_data.CompositeAggReqData.{CompositeAggReqData}
+use Rattle.agg_composite.specs.declared.visit_error.VisitError.{VisitError}
+use Rattle.agg_composite.specs.declared.visit_error.VisitError.TheVariants as early
 
 -- an encoded tuple stands for a tuple of the sources of request data
 abbrev pub StandsForTuple : CompositeAggReqData → EncodedTuple → KeyTuple → Type 0
@@ -39,3 +43,20 @@ pub record AnswersVisits (req : CompositeAggReqData) (visited tuples : List KeyT
   pub too_many : IsErrOf result TooMany → IsTooOften req (visited ++ tuples)
   pub later : steps ≤ steps_now
   pub bounded : steps_now ≤ steps + length tuples
+
+-- what visits of tuples behind those visited answer, of documents whose starts lie within i64
+abbrev pub AnswersKeys : CompositeAggReqData → List KeyTuple → List KeyTuple → EncodedCounts → ℕ → ℕ
+    → Result (Unit {0}) VisitError → Type 0
+AnswersKeys req visited tuples held =
+    Answers (HasVisited req (visited ++ tuples) held) (IsTooOften req (visited ++ tuples))
+    (length tuples)
+
+-- why a collector refuses documents, where visits of their tuples end early
+abbrev pub collected : VisitError → CollectError
+collected early.TooMany = refusal.TooMany
+collected early.OutOfMemory = refusal.OutOfMemory
+
+-- a call is refused for its range exactly where not all is in range
+abbrev pub AnswersRange : Type 0 → Result (Unit {0}) CollectError → Type 0
+AnswersRange in_range (Err refusal.BucketOutOfRange) = ¬ in_range
+AnswersRange in_range _ = in_range

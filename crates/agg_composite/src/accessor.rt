@@ -4,19 +4,24 @@ ghost use Rattle.std.specs.Ordering.{nat_cmp};
 ghost use Rattle.agg_values.specs.Column.{class_of};
 ghost use Rattle.agg_values.specs.TypedKey.{CompositeIntermediateKey, class_rank};
 ghost use Rattle.agg_segment.specs.Columns.{keys_rank};
-ghost use Rattle.agg_composite.specs.Accessors.{AreAccessorsOf, HasNoAccessors, IsNullAfter};
+ghost use Rattle.agg_composite.specs.Accessors.{AreAccessorsOf, HasAccessors, HasNoAccessors};
 
 mod build;
+#[cfg(test)]
+mod divided_tests;
+mod faults;
 #[cfg(test)]
 mod tests;
 
 use crate::PrecomputedAfterKey;
+use agg_calendar::PrecomputedDateInterval;
 use agg_request::CompositeAggregationSource;
 use agg_segment::{Column, SegmentReader};
 use agg_values::{
     ColumnPaginationOrder, CompositeIntermediateKey, InvalidArgument, ItemList, RequestError,
 };
-use build::{from_the_start, going_on, in_requested_order, is_null_after};
+use build::{from_the_start, going_on, in_requested_order};
+use faults::{date_interval, is_null_after, is_other_after};
 use std::alloc::Global;
 use std::cmp::Ordering;
 
@@ -24,16 +29,20 @@ use std::cmp::Ordering;
 #[derive(Clone, Copy)]
 pub struct CompositeAccessor<'s> {
     pub column: &'s Column,
+    /// What a date source divides the dates by; not applicable for other sources.
+    pub date_histogram_interval: PrecomputedDateInterval,
 }
 
 /// The columns that a source reads in a segment, and where its after value stands among their keys.
 #[derive(Drop)]
 pub struct CompositeSourceAccessors<'s> {
-    /// One for each column of the source's field, in the requested order of their classes.
+    /// One for each column of the source's field that the source reads, in the requested order of
+    /// their classes.
     pub accessors: ItemList<CompositeAccessor<'s>>,
-    /// Where the after value stands in the accessor at its index, if there is one.
+    /// Where the after value stands in the accessor at its index, if there is one; of a histogram
+    /// among the starts, which are encoded as numbers of an I64 column.
     pub after_key: PrecomputedAfterKey,
-    /// How many accessors have only keys that come before the after value.
+    /// How many accessors have only keys that come before the after value; 0 of a histogram.
     pub after_key_accessor_idx: usize,
     /// Whether Null comes before the after value.
     pub skip_missing: bool,
@@ -52,7 +61,9 @@ impl CompositeAccessor<'_> {
 }
 
 impl<'s> CompositeSourceAccessors<'s> {
-    /// The accessors of a source in a segment, for its after value if there is one.
+    /// The accessors of a source in a segment, for its after value if there is one. Of several
+    /// faults the first is named: a Null that the source never has, its interval, an after value
+    /// of another type.
     pub fn build_for_source(
         alloc: Global,
         reader: &'s SegmentReader,
@@ -62,18 +73,22 @@ impl<'s> CompositeSourceAccessors<'s> {
         ensures ok { IfOk result (AreAccessorsOf
             reader.now source.now (option_map (λ k. k.now) source_after_key_opt.entry)) }
         ensures allowed { OnOk result
-            (¬ (IsNullAfter source.now (option_map (λ k. k.now) source_after_key_opt.entry))) }
+            (HasAccessors source.now (option_map (λ k. k.now) source_after_key_opt.entry)) }
         ensures err { IfErr result
             (HasNoAccessors source.now (option_map (λ k. k.now) source_after_key_opt.entry)) }
     {
         if is_null_after(source, source_after_key_opt) {
             return Err(RequestError::Invalid(InvalidArgument::NullAfter));
         }
-        let order = source.order();
-        let accessors = in_requested_order(alloc, reader.columns(source.field()), order)?;
+        let interval = date_interval(alloc, source)?;
+        if is_other_after(source, source_after_key_opt) {
+            return Err(RequestError::Invalid(InvalidArgument::AfterType));
+        }
+        let columns = reader.columns(source.field());
+        let accessors = in_requested_order(alloc, columns, source, interval)?;
         match source_after_key_opt {
             Some(key) => Ok(going_on(accessors, source, key)),
-            None => Ok(from_the_start(accessors, order)),
+            None => Ok(from_the_start(accessors, source.order())),
         }
     }
 }

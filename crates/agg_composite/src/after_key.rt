@@ -10,9 +10,11 @@ mod precompute;
 mod tests;
 
 use crate::CompositeAccessor;
+use crate::numbers::moved_up;
 use agg_segment::OrdHit;
 use agg_values::{CompositeIntermediateKey, MissingOrder, Order, ProjectedNumber};
-use precompute::{moved_up, precompute_in_class, precompute_null};
+pub(crate) use precompute::precompute_among_starts;
+use precompute::{precompute_in_class, precompute_null};
 use std::cmp::Ordering;
 
 /// Where an after key stands among the numbers of a column.

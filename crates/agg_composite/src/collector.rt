@@ -8,12 +8,15 @@ ghost use Rattle.agg_request.specs.Groups.{Group, Groups};
 ghost use Rattle.agg_request.specs.Occurrences.{bound_of, past_occurrences};
 ghost use Rattle.agg_request.specs.Source.{rules_of};
 ghost use Rattle.agg_composite.specs.Accessors.{Fits};
+ghost use Rattle.agg_composite.specs.Answers.{AreAllInRange};
 ghost use Rattle.agg_composite.specs.PageEntries.{entry_group};
-ghost use Rattle.agg_composite.specs.Visits.{AnswersVisits, HasVisited};
+ghost use Rattle.agg_composite.specs.Visits.{AnswersKeys, AnswersRange, AnswersVisits};
+ghost use Rattle.agg_composite.specs.Visits.{HasVisited};
 ghost use Rattle.agg_composite.specs.declared.request_data.CompositeAggReqData as declared;
 
 use crate::group_counts::GroupCounts;
 use crate::page::lowest_entries;
+use crate::visit_error::VisitError;
 use crate::walk::visit_documents;
 use crate::{CompositeAggReqData, PageEntry};
 use agg_cache::{BucketId, CollectError};
@@ -54,7 +57,8 @@ impl SegmentCompositeCollector {
     }
 
     /// Visits the tuples of the documents at these places that lie past the bound, and takes a step
-    /// at each. What is held after an error isn't said.
+    /// at each. It is refused where a bucket of what the sources read starts outside 64 bits. What
+    /// is held after an error isn't said.
     pub fn collect<L: Ledger>(
         &mut self,
         parent_bucket_id: BucketId,
@@ -64,15 +68,41 @@ impl SegmentCompositeCollector {
     ) -> Result<(), CollectError>
         requires parent { parent_bucket_id ≡ 0 }
         requires fits { (segment : Stored) × (after : Named AfterKey) × Fits segment after req.now }
-        ensures { (segment : Stored) (after : Named AfterKey) (visited : List KeyTuple)
+        ensures visits { (segment : Stored) (after : Named AfterKey) (visited : List KeyTuple)
             → Fits segment after req.now
             → HasVisited req.now visited self.old
             → AnswersVisits req.now visited
             (past_occurrences req.now.req.now.sources (bound_of req.now.req.now.sources after)
             (documents_at segment docs.now))
             self.new steps.old steps.new result }
+        ensures range { (segment : Stored) (after : Named AfterKey) → Fits segment after req.now
+            → AnswersRange (AreAllInRange segment req.now.req.now.sources docs.now) result }
     {
         let _ = parent_bucket_id;
+        if !req.are_starts_in_range(docs) {
+            return Err(CollectError::BucketOutOfRange);
+        }
+        self.visit(docs, req, steps)?;
+        Ok(())
+    }
+
+    // Visits the tuples of documents whose starts lie within 64 bits.
+    fn visit<L: Ledger>(
+        &mut self,
+        docs: &[DocId],
+        req: &CompositeAggReqData<'_>,
+        steps: &mut Steps<L>,
+    ) -> Result<(), VisitError>
+        requires { (segment : Stored) × (after : Named AfterKey) × Fits segment after req.now }
+        ensures { (segment : Stored) (after : Named AfterKey) (visited : List KeyTuple)
+            → Fits segment after req.now
+            → AreAllInRange segment req.now.req.now.sources docs.now
+            → HasVisited req.now visited self.old
+            → AnswersKeys req.now visited
+            (past_occurrences req.now.req.now.sources (bound_of req.now.req.now.sources after)
+            (documents_at segment docs.now))
+            self.new steps.old steps.new result }
+    {
         let sources = req.req.sources.as_slice();
         let accessors = req.composite_accessors.as_slice();
         self.counts.forget_waiting();

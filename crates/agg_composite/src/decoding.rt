@@ -1,10 +1,14 @@
 //! Encoded tuples, back as the tuples that they stand for.
-ghost use Rattle.std.specs.Prelude.{◌≡◌, ◌<◌, IfOk};
+ghost use Rattle.std.specs.Prelude.{◌≡◌, ◌<◌, IfOk, length};
 ghost use Rattle.agg_values.specs.TypedKey.{CompositeIntermediateKey as Key};
+ghost use Rattle.agg_segment.specs.Columns.{StandsForKey, encoded_key};
 ghost use Rattle.agg_composite.specs.Decoded.{IsEncoded, decoded, decoded_key};
 ghost use Rattle.agg_composite.specs.Encoding.{StandsFor, raw_of};
+ghost use Rattle.agg_composite.specs.Lanes.{keys_at, lanes};
 
 use crate::encoded::Encoded;
+use crate::lanes::count_of_lanes;
+use crate::numbers::moved_down;
 use crate::{CompositeAccessor, CompositeAggReqData};
 use agg_request::CompositeAggregationSource;
 use agg_values::{CompositeIntermediateKey, Order, OutOfMemory, Tuple};
@@ -39,11 +43,34 @@ fn decode_key(
     requires { (key : Key) × StandsFor source.now accessors.now encoded key }
     ensures { IfOk result (λ key. key ≡ decoded_key source.now accessors.now encoded) }
 {
-    if encoded.place == 0 || encoded.place > accessors.len() {
+    if encoded.place == 0 || encoded.place > count_of_lanes(source, accessors) {
         return Ok(CompositeIntermediateKey::Null);
     }
     let number = number_of(source.order(), encoded.raw);
-    accessors[encoded.place - 1].column.decode(alloc, number)
+    decode_number(alloc, source, accessors, encoded.place - 1, number)
+}
+
+// The key that a number of the lane at a place stands for.
+fn decode_number(
+    alloc: Global,
+    source: &CompositeAggregationSource,
+    accessors: &[CompositeAccessor<'_>],
+    lane: usize,
+    number: u64,
+) -> Result<CompositeIntermediateKey, OutOfMemory>
+    requires lane { lane < length (lanes source.now accessors.now) }
+    requires number { StandsForKey (keys_at source.now accessors.now lane) number }
+    ensures { IfOk result (λ key.
+        key ≡ encoded_key (keys_at source.now accessors.now lane) number) }
+{
+    match source {
+        CompositeAggregationSource::Histogram(_) => {
+            Ok(CompositeIntermediateKey::I64(moved_down(number)))
+        }
+        CompositeAggregationSource::Terms(_) | CompositeAggregationSource::DateHistogram(_) => {
+            accessors[lane].column.decode(alloc, number)
+        }
+    }
 }
 
 // The number that stands in an encoded key, as it is or as its complement.

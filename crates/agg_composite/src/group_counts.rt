@@ -10,7 +10,7 @@ ghost use Rattle.agg_composite.specs.GroupCounts.{all_counts, all_keys, held, se
 ghost use Rattle.agg_composite.specs.KeyCounts.{as_tuples};
 
 use crate::encoded::Encoded;
-use agg_cache::CollectError;
+use crate::visit_error::VisitError;
 pub use several::SeveralCounts;
 pub use single::{KeyCount, SingleCounts};
 use std::alloc::Global;
@@ -46,10 +46,10 @@ impl GroupCounts {
     }
 
     /// Visits a tuple once more.
-    pub fn visit(&mut self, tuple: &[Encoded]) -> Result<(), CollectError>
+    pub fn visit(&mut self, tuple: &[Encoded]) -> Result<(), VisitError>
         ensures ok { OnOk result
             (CountsBehind (all_counts self.old) (tuple.now ∷ []) (all_counts self.new)) }
-        ensures too_many { IsErrOf result CollectError.TooMany
+        ensures too_many { IsErrOf result VisitError.TooMany
             → CountsTooOften (all_counts self.old) (tuple.now ∷ []) }
     {
         match self {
@@ -65,10 +65,10 @@ impl GroupCounts {
     }
 
     /// Visits the tuple of one key once more.
-    pub fn visit_key(&mut self, key: Encoded) -> Result<(), CollectError>
+    pub fn visit_key(&mut self, key: Encoded) -> Result<(), VisitError>
         ensures ok { OnOk result
             (CountsBehind (all_counts self.old) ((key ∷ []) ∷ []) (all_counts self.new)) }
-        ensures too_many { IsErrOf result CollectError.TooMany
+        ensures too_many { IsErrOf result VisitError.TooMany
             → CountsTooOften (all_counts self.old) ((key ∷ []) ∷ []) }
     {
         match self {
@@ -78,10 +78,10 @@ impl GroupCounts {
     }
 
     /// Counts what waits.
-    pub fn settle(&mut self) -> Result<(), CollectError>
+    pub fn settle(&mut self) -> Result<(), VisitError>
         ensures ok { OnOk result
             (CountsBehind (all_counts self.old) [] (settled_counts self.new)) }
-        ensures too_many { IsErrOf result CollectError.TooMany
+        ensures too_many { IsErrOf result VisitError.TooMany
             → CountsTooOften (all_counts self.old) [] }
     {
         match self {
@@ -92,10 +92,10 @@ impl GroupCounts {
 }
 
 // The counts of the tuples of one key, with a tuple of another length visited once.
-fn with_other(single: &mut SingleCounts, tuple: &[Encoded]) -> Result<SeveralCounts, CollectError>
+fn with_other(single: &mut SingleCounts, tuple: &[Encoded]) -> Result<SeveralCounts, VisitError>
     ensures ok { IfOk result (λ several. CountsBehind
         (as_tuples (all_keys single.old)) (tuple.now ∷ []) (held several.tuples.entries)) }
-    ensures too_many { IsErrOf result CollectError.TooMany
+    ensures too_many { IsErrOf result VisitError.TooMany
         → CountsTooOften (as_tuples (all_keys single.old)) (tuple.now ∷ []) }
 {
     single.settle()?;

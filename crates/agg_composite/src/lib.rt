@@ -5,12 +5,17 @@ mod accessor;
 mod after_key;
 mod collector;
 mod decoding;
+mod divisor;
 mod encoded;
 mod group_counts;
+mod lanes;
 mod laws;
+mod numbers;
 mod page;
 mod page_entry;
+mod ranges;
 mod request_data;
+mod visit_error;
 mod walk;
 
 pub use accessor::{CompositeAccessor, CompositeSourceAccessors};

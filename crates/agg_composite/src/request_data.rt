@@ -1,9 +1,15 @@
 //! What a collector is asked in a segment.
-ghost use Rattle.std.specs.Prelude.{◌≡◌, ◌+◌, ◌*◌, ◌-◌, ◌^◌, length, min};
+ghost use Rattle.std.specs.Prelude.{◌≡◌, ◌+◌, ◌*◌, ◌-◌, ◌^◌, All, MatchBool, length, min};
+ghost use Rattle.agg_values.specs.Names.{Named};
+ghost use Rattle.agg_values.specs.declared.after_key.AfterKey.{AfterKey};
+ghost use Rattle.agg_segment.specs.Segment.{Stored, documents_at};
+ghost use Rattle.agg_request.specs.Ranges.{AreInRange};
+ghost use Rattle.agg_composite.specs.Accessors.{Fits};
 
 use crate::CompositeSourceAccessors;
+use crate::ranges::are_sources_in_range;
 use agg_request::CompositeAggregation;
-use agg_values::{ItemList, Text};
+use agg_values::{DocId, ItemList, Text};
 
 /// A composite in a segment: how many groups its page has room for, and the accessors of each of
 /// its sources. They say where the page begins, in place of the composite's own after key.
@@ -23,5 +29,18 @@ impl<'s> CompositeAggReqData<'s> {
     {
         let parts = (self.req.sources.as_slice().len() as u64).saturating_add(1);
         parts.saturating_mul(256)
+    }
+
+    /// Whether the starts of all values that the sources read in the documents at these places lie
+    /// within 64 bits.
+    pub fn are_starts_in_range(&self, docs: &[DocId]) -> bool
+        requires { (segment : Stored) × (after : Named AfterKey) × Fits segment after self.now }
+        ensures { (segment : Stored) (after : Named AfterKey) → Fits segment after self.now
+            → MatchBool result
+            (All (AreInRange self.now.req.now.sources) (documents_at segment docs.now))
+            (¬ (All (AreInRange self.now.req.now.sources) (documents_at segment docs.now))) }
+    {
+        let sources = self.req.sources.as_slice();
+        are_sources_in_range(sources, self.composite_accessors.as_slice(), docs)
     }
 }

@@ -12,7 +12,7 @@ mod visit;
 
 use crate::CompositeSourceAccessors;
 use crate::group_counts::GroupCounts;
-use agg_cache::CollectError;
+use crate::visit_error::VisitError;
 use agg_request::CompositeAggregationSource;
 use agg_values::{DocId, Steps};
 use std::alloc::Global;
@@ -27,7 +27,7 @@ pub fn visit_documents<L: Ledger>(
     sources: &[CompositeAggregationSource],
     accessors: &[CompositeSourceAccessors<'_>],
     steps: &mut Steps<L>,
-) -> Result<(), CollectError>
+) -> Result<(), VisitError>
     requires { length sources.now ≡ length accessors.now }
     ensures { AnswersDocuments sources.now accessors.now docs.now
         (all_counts counts.old) (all_counts counts.new) steps.old steps.new result }

@@ -1,20 +1,25 @@
 //! The parts of a source's accessors: its columns in order, and its after value's place.
-ghost use Rattle.std.specs.Prelude.{◌≡◌, ◌==◌, ◌<◌, ◌↔◌, ℕ, Some, None, IsTrue, All, IfOk};
-ghost use Rattle.std.specs.Prelude.{count_by, length, option_map};
+ghost use Rattle.std.specs.Prelude.{◌≡◌, ◌==◌, ◌<◌, ◌++◌, ℕ, [], ◌∷◌, Some, None, All, IfOk, OnOk};
+ghost use Rattle.std.specs.Prelude.{count_by, length};
 ghost use Rattle.std.specs.Ordering.{is_lt};
 ghost use Rattle.agg_values.specs.Column.{class_of};
-ghost use Rattle.agg_values.specs.KeyOrder.{null_side};
+ghost use Rattle.agg_values.specs.KeyOrder.{key_order, null_side};
 ghost use Rattle.agg_segment.specs.Columns.{AreInKeyOrder, StandsForKey, encoded_key};
 ghost use Rattle.agg_segment.specs.Segment.{Stored};
+ghost use Rattle.agg_request.specs.Faults.{IsOfOtherType};
 ghost use Rattle.agg_request.specs.Source.{order_of};
-ghost use Rattle.agg_composite.specs.Accessors.{AreAccessorsOf, AreOfField, IsNullAfter};
-ghost use Rattle.agg_composite.specs.Accessors.{accessors_before, columns_of, in_requested};
-ghost use Rattle.agg_composite.specs.Accessors.{keys_at, side_to};
+ghost use Rattle.agg_composite.specs.Accessors.{AreAccessorsOf, AreOfField, IsAccessorOf};
+ghost use Rattle.agg_composite.specs.Accessors.{IsIntervalOf, accessors_before, columns_read};
+ghost use Rattle.agg_composite.specs.Accessors.{side_to};
 ghost use Rattle.agg_composite.specs.AfterKey.{projected_side};
 ghost use Rattle.agg_composite.specs.Classes.{is_of_class_before};
+ghost use Rattle.agg_composite.specs.Lanes.{column_at, columns_of, in_requested, keys_at, lanes};
 
 use super::{CompositeAccessor, CompositeSourceAccessors};
 use crate::PrecomputedAfterKey;
+use crate::after_key::precompute_among_starts;
+use crate::lanes::lane_of;
+use agg_calendar::PrecomputedDateInterval;
 use agg_request::CompositeAggregationSource;
 use agg_segment::Column;
 use agg_values::{
@@ -24,32 +29,22 @@ use agg_values::{
 use std::alloc::Global;
 use std::cmp::Ordering;
 
-/// Whether a source is to go on from a Null that it never has.
-pub fn is_null_after(
-    source: &CompositeAggregationSource,
-    after_opt: Option<&CompositeIntermediateKey>,
-) -> bool
-    ensures { IsTrue result ↔ IsNullAfter source.now (option_map (λ k. k.now) after_opt.entry) }
-{
-    match after_opt {
-        Some(CompositeIntermediateKey::Null) => !source.missing_bucket(),
-        _ => false,
-    }
-}
-
-/// An accessor for each column, in the requested order of the columns, which ascend.
+/// An accessor for each column that a source reads, in the requested order of the columns, which
+/// ascend.
 pub fn in_requested_order<'s>(
     alloc: Global,
     columns: &'s [Column],
-    order: Order,
+    source: &CompositeAggregationSource,
+    interval: PrecomputedDateInterval,
 ) -> Result<ItemList<CompositeAccessor<'s>>, OutOfMemory>
+    requires { IsIntervalOf source.now interval }
     ensures columns { IfOk result (λ accessors.
-        in_requested order (columns_of accessors) ≡ columns.now) }
-    ensures order { IfOk result (λ accessors.
-        All (λ a. AreInKeyOrder a.column.now.keys) accessors) }
+        in_requested (order_of source.now) (columns_of accessors)
+        ≡ columns_read source.now columns.now) }
+    ensures each { IfOk result (λ accessors. All (IsAccessorOf source.now) accessors) }
 {
-    let mut accessors = accessors_of(alloc, columns)?;
-    match order {
+    let mut accessors = accessors_of(alloc, columns, source, interval)?;
+    match source.order() {
         Order::Asc => Ok(ItemList::from_vec(accessors)),
         Order::Desc => {
             accessors.reverse();
@@ -58,29 +53,56 @@ pub fn in_requested_order<'s>(
     }
 }
 
-// An accessor for each column.
-fn accessors_of(
+// An accessor for each column that a source reads.
+fn accessors_of<'s>(
     alloc: Global,
-    columns: &[Column],
-) -> Result<Vec<CompositeAccessor<'_>>, OutOfMemory>
-    ensures columns { IfOk result (λ accessors. columns_of accessors.items ≡ columns.now) }
-    ensures order { IfOk result (λ accessors.
-        All (λ a. AreInKeyOrder a.column.now.keys) accessors.items) }
+    columns: &'s [Column],
+    source: &CompositeAggregationSource,
+    interval: PrecomputedDateInterval,
+) -> Result<Vec<CompositeAccessor<'s>>, OutOfMemory>
+    requires { IsIntervalOf source.now interval }
+    ensures columns { IfOk result (λ accessors.
+        columns_of accessors.items ≡ columns_read source.now columns.now) }
+    ensures each { IfOk result (λ accessors. All (IsAccessorOf source.now) accessors.items) }
 {
     let mut accessors = Vec::with_capacity(alloc, columns.len())?;
     for column in columns {
-        accessors.push(accessor_of(column))?;
+        push_if_read(&mut accessors, column, source, interval)?;
     }
     Ok(accessors)
 }
 
+// Appends the accessor of a column if a source reads it.
+fn push_if_read<'s>(
+    accessors: &mut Vec<CompositeAccessor<'s>>,
+    column: &'s Column,
+    source: &CompositeAggregationSource,
+    interval: PrecomputedDateInterval,
+) -> Result<(), OutOfMemory>
+    requires interval { IsIntervalOf source.now interval }
+    requires each { All (IsAccessorOf source.now) accessors.old.items }
+    ensures columns { OnOk result (columns_of accessors.new.items
+        ≡ columns_of accessors.old.items ++ columns_read source.now (column.now ∷ [])) }
+    ensures each { OnOk result (All (IsAccessorOf source.now) accessors.new.items) }
+{
+    if !source.reads(column.column_type()) {
+        return Ok(());
+    }
+    accessors.push(accessor_of(column, interval))?;
+    Ok(())
+}
+
 // The accessor of a column, whose numbers are in the order of its keys.
-fn accessor_of(column: &Column) -> CompositeAccessor<'_>
+fn accessor_of(column: &Column, interval: PrecomputedDateInterval) -> CompositeAccessor<'_>
     ensures column { result.column.now ≡ column.now }
+    ensures interval { result.date_histogram_interval ≡ interval }
     ensures order { AreInKeyOrder result.column.now.keys }
 {
     let _class = column.column_pagination_order();
-    CompositeAccessor { column }
+    CompositeAccessor {
+        column,
+        date_histogram_interval: interval,
+    }
 }
 
 /// Accessors without an after value: every key comes behind the start.
@@ -110,10 +132,12 @@ pub fn going_on<'s>(
     source: &CompositeAggregationSource,
     after: &CompositeIntermediateKey,
 ) -> CompositeSourceAccessors<'s>
+    requires { ¬ (IsOfOtherType source.now after.now) }
     ensures { (segment : Stored) → AreOfField segment source.now accessors.entry
         → AreAccessorsOf segment source.now (Some after.now) result }
 {
-    let after_key_accessor_idx = count_before(accessors.as_slice(), source, after);
+    let before = count_before(accessors.as_slice(), source, after);
+    let after_key_accessor_idx = lane_of(source, before);
     let after_key = after_key_at(accessors.as_slice(), after_key_accessor_idx, source, after);
     CompositeSourceAccessors {
         accessors,
@@ -191,19 +215,45 @@ fn comes_before(
     }
 }
 
-// Where an after value stands in the accessor at an index, if there is one.
+// Where an after value stands in the lane at an index, if there is one.
 fn after_key_at(
     accessors: &[CompositeAccessor<'_>],
     index: usize,
     source: &CompositeAggregationSource,
     after: &CompositeIntermediateKey,
 ) -> PrecomputedAfterKey
-    ensures { (number : ℕ) → index < length accessors.now
-        → StandsForKey (keys_at accessors.now index) number
+    requires { ¬ (IsOfOtherType source.now after.now) }
+    ensures { (number : ℕ) → index < length (lanes source.now accessors.now)
+        → StandsForKey (keys_at source.now accessors.now index) number
         → projected_side (order_of source.now) result number
-        ≡ side_to source.now (Some after.now) (encoded_key (keys_at accessors.now index) number) }
+        ≡ side_to source.now (Some after.now)
+        (encoded_key (keys_at source.now accessors.now index) number) }
 {
     let (order, missing_order) = (source.order(), source.missing_order());
+    match source {
+        CompositeAggregationSource::Histogram(_) => {
+            precompute_among_starts(after, missing_order, order)
+        }
+        CompositeAggregationSource::Terms(_) | CompositeAggregationSource::DateHistogram(_) => {
+            after_key_in_column(accessors, index, after, missing_order, order)
+        }
+    }
+}
+
+// Where an after value stands in the column of the accessor at an index, if there is one.
+fn after_key_in_column(
+    accessors: &[CompositeAccessor<'_>],
+    index: usize,
+    after: &CompositeIntermediateKey,
+    missing_order: MissingOrder,
+    order: Order,
+) -> PrecomputedAfterKey
+    ensures { (number : ℕ) → index < length accessors.now
+        → StandsForKey (column_at accessors.now index) number
+        → projected_side order result number
+        ≡ key_order order missing_order (encoded_key (column_at accessors.now index) number)
+        after.now }
+{
     match accessors.get(index) {
         Some(accessor) => PrecomputedAfterKey::precompute(accessor, after, missing_order, order),
         None => PrecomputedAfterKey::AfterLast,

@@ -1,11 +1,12 @@
 //! After keys on the numbers of columns of their own class, and Null on those of any column.
 ghost use Rattle.std.specs.Prelude.{◌≡◌, ◌<◌, ◌^◌, ℕ};
 ghost use Rattle.agg_values.specs.KeyOrder.{key_order};
-ghost use Rattle.agg_segment.specs.Columns.{encoded_key};
+ghost use Rattle.agg_segment.specs.Columns.{StandsForKey, encoded_key};
 ghost use Rattle.agg_segment.specs.declared.keys.ColumnKeys.{ColumnKeys};
+ghost use Rattle.agg_segment.specs.declared.keys.ColumnKeys.TheVariants.{Signed};
 ghost use Rattle.agg_composite.specs.AfterKey.{projected_side};
-ghost use Rattle.agg_composite.specs.Classes.{HasClassOf};
-ghost use Rattle.agg_composite.specs.Places.{IsPlaceOf, moved_up};
+ghost use Rattle.agg_composite.specs.Classes.{HasClassOf, IsNumberOrNull};
+ghost use Rattle.agg_composite.specs.Places.{IsPlaceOf};
 
 use super::PrecomputedAfterKey;
 use agg_segment::{Column, ColumnType};
@@ -13,8 +14,6 @@ use agg_values::{
     Address, CompositeIntermediateKey, MissingOrder, Order, ProjectedNumber, Text, i64_to_u64,
     u64_to_i64,
 };
-
-const FROM_ZERO: u64 = 9_223_372_036_854_775_808;
 
 /// A place above or below all numbers, so that each comes before Null or behind it.
 pub fn precompute_null(missing_order: MissingOrder, order: Order) -> PrecomputedAfterKey
@@ -29,6 +28,28 @@ pub fn precompute_null(missing_order: MissingOrder, order: Order) -> Precomputed
         (MissingOrder::First, Order::Asc)
         | (MissingOrder::Last, Order::Desc)
         | (MissingOrder::Default, _) => PrecomputedAfterKey::Next(0),
+    }
+}
+
+/// The place of a number or Null among the starts of a histogram, which are encoded as numbers of
+/// an I64 column.
+pub fn precompute_among_starts(
+    key: &CompositeIntermediateKey,
+    missing_order: MissingOrder,
+    order: Order,
+) -> PrecomputedAfterKey
+    requires { IsNumberOrNull key.now }
+    ensures { (number : ℕ) → StandsForKey Signed number
+        → projected_side order result number
+        ≡ key_order order missing_order (encoded_key Signed number) key.now }
+{
+    match key {
+        CompositeIntermediateKey::I64(number) => {
+            PrecomputedAfterKey::from(ProjectedNumber::Exact(*number))
+        }
+        CompositeIntermediateKey::U64(number) => PrecomputedAfterKey::from(u64_to_i64(*number)),
+        CompositeIntermediateKey::Null => precompute_null(missing_order, order),
+        _ => unreachable!(),
     }
 }
 
@@ -92,14 +113,4 @@ fn precompute_date(time: i64) -> PrecomputedAfterKey
         → IsPlaceOf keys (CompositeIntermediateKey.DateTime time) result }
 {
     PrecomputedAfterKey::from(ProjectedNumber::Exact(time))
-}
-
-/// The number plus 2^63, as columns of signed numbers and dates have it.
-pub fn moved_up(number: i64) -> u64
-    ensures { result ≡ moved_up number }
-{
-    if number < 0 {
-        return (number - i64::MIN) as u64;
-    }
-    number as u64 + FROM_ZERO
 }

@@ -1,5 +1,6 @@
 //! Where after keys stand among the numbers of small columns.
 use crate::{CompositeAccessor, PrecomputedAfterKey};
+use agg_calendar::PrecomputedDateInterval;
 use agg_segment::{Document, FieldValue, SegmentBuilder, SegmentReader};
 use agg_values::{Address, CompositeIntermediateKey, MissingOrder, Order, Text};
 use std::alloc::Global;
@@ -53,7 +54,10 @@ fn after_keys_have_their_places(rt: HostRuntime) -> Result<(), Fail> {
         let columns = segment.columns(&Text::copy_of(alloc, name)?);
         assert_eq!(rt; columns.len(), 1, "{name}");
         for column in columns {
-            let accessor = CompositeAccessor { column };
+            let accessor = CompositeAccessor {
+                column,
+                date_histogram_interval: PrecomputedDateInterval::NotApplicable,
+            };
             let found = PrecomputedAfterKey::precompute(
                 &accessor,
                 &key,

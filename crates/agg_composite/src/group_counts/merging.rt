@@ -13,7 +13,7 @@ ghost use Rattle.agg_composite.specs.declared.encoded.Encoded.{Encoded as Key};
 
 use crate::encoded::Encoded;
 use crate::group_counts::single::KeyCount;
-use agg_cache::CollectError;
+use crate::visit_error::VisitError;
 use agg_values::OutOfMemory;
 use std::alloc::Global;
 
@@ -22,12 +22,12 @@ pub fn merge(
     alloc: Global,
     counts: &[KeyCount],
     keys: &[Encoded],
-) -> Result<Vec<KeyCount>, CollectError>
+) -> Result<Vec<KeyCount>, VisitError>
     requires ascending { AreAscending counts.now }
     requires sorted { IsSorted encoded_order keys.now }
     ensures ok { IfOk result (λ merged.
         CountsMore (entries_of counts.now) keys.now (entries_of merged.items)) }
-    ensures too_many { IsErrOf result CollectError.TooMany
+    ensures too_many { IsErrOf result VisitError.TooMany
         → (q : Key)
         × (2 ^ 64 ≤ count_in (entries_of counts.now) q
         + count_by (is_at (encoded_order q)) keys.now) }
@@ -82,7 +82,7 @@ fn push_run<'a>(
     counts: &'a [KeyCount],
     key: Encoded,
     times: u64,
-) -> Result<&'a [KeyCount], CollectError>
+) -> Result<&'a [KeyCount], VisitError>
     requires below { All (λ c. IsBelow c.key key) merged.old.items }
     requires ascending { AreAscending counts.now }
     ensures ok { IfOk result (λ rest.
@@ -91,13 +91,13 @@ fn push_run<'a>(
         (count_in (entries_of (merged.old.items ++ counts.now)) key + times)) }
     ensures upto { OnOk result (All (λ c. IsUpTo c.key key) merged.new.items) }
     ensures ascending { IfOk result (λ rest. AreAscending rest.now) }
-    ensures too_many { IsErrOf result CollectError.TooMany
+    ensures too_many { IsErrOf result VisitError.TooMany
         → 2 ^ 64 ≤ count_in (entries_of (merged.old.items ++ counts.now)) key + times }
 {
     let (below, others) = counts.split_at(length_below(counts, key));
     push_all(merged, below)?;
     let (count, rest) = split_count(others, key);
-    let count = count.checked_add(times).ok_or(CollectError::TooMany)?;
+    let count = count.checked_add(times).ok_or(VisitError::TooMany)?;
     merged.push(KeyCount { key, count })?;
     Ok(rest)
 }

@@ -5,7 +5,7 @@ ghost use Rattle.agg_composite.specs.KeyCounts.{AreAscending, as_tuples, entries
 
 use crate::encoded::Encoded;
 use crate::group_counts::single::KeyCount;
-use agg_cache::CollectError;
+use crate::visit_error::VisitError;
 use agg_values::OutOfMemory;
 use std::alloc::Global;
 use std::collections::BTreeMap;
@@ -49,14 +49,14 @@ impl SeveralCounts {
     }
 
     /// Visits a tuple once more. It is copied only at its first visit.
-    pub fn visit(&mut self, tuple: &[Encoded]) -> Result<(), CollectError>
+    pub fn visit(&mut self, tuple: &[Encoded]) -> Result<(), VisitError>
         ensures ok { OnOk result (CountsBehind
             (held self.old.tuples.entries) (tuple.now ∷ []) (held self.new.tuples.entries)) }
-        ensures too_many { IsErrOf result CollectError.TooMany
+        ensures too_many { IsErrOf result VisitError.TooMany
             → CountsTooOften (held self.old.tuples.entries) (tuple.now ∷ []) }
     {
         if let Some(count) = self.tuples.get_mut(tuple) {
-            *count = count.checked_add(1).ok_or(CollectError::TooMany)?;
+            *count = count.checked_add(1).ok_or(VisitError::TooMany)?;
             return Ok(());
         }
         self.tuples.insert(copied(self.alloc, tuple)?, 1)?;

@@ -5,7 +5,7 @@ ghost use Rattle.agg_composite.specs.KeyCounts.{AreAscending};
 use crate::encoded::Encoded;
 use crate::group_counts::merging::merge;
 use crate::group_counts::places::are_at_one_place;
-use agg_cache::CollectError;
+use crate::visit_error::VisitError;
 use std::alloc::Global;
 
 // How many keys wait at least before they are counted.
@@ -67,10 +67,10 @@ impl SingleCounts {
     }
 
     /// Visits a key once more. It waits, and where enough keys do they are settled.
-    pub fn visit(&mut self, key: Encoded) -> Result<(), CollectError>
+    pub fn visit(&mut self, key: Encoded) -> Result<(), VisitError>
         ensures ok { OnOk result (CountsBehind
             (as_tuples (all_keys self.old)) ((key ∷ []) ∷ []) (as_tuples (all_keys self.new))) }
-        ensures too_many { IsErrOf result CollectError.TooMany
+        ensures too_many { IsErrOf result VisitError.TooMany
             → CountsTooOften (as_tuples (all_keys self.old)) ((key ∷ []) ∷ []) }
     {
         self.waiting.push(key)?;
@@ -81,11 +81,11 @@ impl SingleCounts {
     }
 
     /// Counts what waits.
-    pub fn settle(&mut self) -> Result<(), CollectError>
+    pub fn settle(&mut self) -> Result<(), VisitError>
         ensures ok { OnOk result (CountsBehind
             (as_tuples (all_keys self.old)) [] (as_tuples (settled_keys self.new))) }
         ensures settled { OnOk result (all_keys self.new ≡ settled_keys self.new) }
-        ensures too_many { IsErrOf result CollectError.TooMany
+        ensures too_many { IsErrOf result VisitError.TooMany
             → CountsTooOften (as_tuples (all_keys self.old)) [] }
     {
         self.sort_waiting();

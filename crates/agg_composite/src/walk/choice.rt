@@ -5,6 +5,7 @@ ghost use Rattle.agg_composite.specs.AfterKey.{projected_side};
 ghost use Rattle.agg_composite.specs.Choices.{missing_standing, null_choice};
 
 use crate::encoded::Encoded;
+use crate::lanes::count_of_lanes;
 use crate::{CompositeSourceAccessors, PrecomputedAfterKey};
 use agg_request::CompositeAggregationSource;
 use agg_values::Order;
@@ -59,9 +60,9 @@ pub fn missing_choice(
 ) -> Choice
     ensures { result ≡ null_choice source.now accessors.now }
 {
-    let columns = accessors.accessors.as_slice().len();
+    let lanes = count_of_lanes(source, accessors.accessors.as_slice());
     Choice {
-        value: Encoded::null(source.order(), source.missing_order(), columns),
+        value: Encoded::null(source.order(), source.missing_order(), lanes),
         side: missing_side(
             accessors.skip_missing,
             accessors.is_after_key_explicit_missing,

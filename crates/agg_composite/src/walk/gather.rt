@@ -1,12 +1,15 @@
 //! The choices that a document gives.
 ghost use Rattle.std.specs.Prelude.{◌≡◌, ◌<◌, ◌++◌, ◌^◌, List, length, map, OnOk};
 ghost use Rattle.agg_composite.specs.Choices.{AddsChoices, AreGathered, choice_at};
-ghost use Rattle.agg_composite.specs.Choices.{keys_read, values_read};
+ghost use Rattle.agg_composite.specs.Choices.{divided_choices, keys_read, values_read};
+ghost use Rattle.agg_composite.specs.Starts.{CanDivide, lane_number};
 
 use super::choice::{Choice, missing_choice, side_of};
 use super::place::place_at;
-use crate::CompositeSourceAccessors;
+use crate::divisor::{DividedColumn, Divisor};
 use crate::encoded::Encoded;
+use crate::lanes::lane_of;
+use crate::{CompositeAccessor, CompositeSourceAccessors};
 use agg_request::CompositeAggregationSource;
 use agg_values::{DocId, Order, OutOfMemory};
 use std::alloc::Global;
@@ -59,7 +62,7 @@ fn add_choices(
     accessors: &CompositeSourceAccessors<'_>,
     doc: DocId,
 ) -> Result<(), OutOfMemory>
-    ensures { OnOk result (AddsChoices source.now accessors.now
+    ensures { OnOk result (AddsChoices source.now accessors.now doc
         (values_read source.now accessors.now doc) choices.old.items choices.new.items) }
 {
     let before = choices.len();
@@ -81,36 +84,93 @@ fn add_values(
     accessors: &CompositeSourceAccessors<'_>,
     doc: DocId,
 ) -> Result<(), OutOfMemory>
-    ensures { OnOk result (AddsChoices source.now accessors.now
+    ensures { OnOk result (AddsChoices source.now accessors.now doc
         (keys_read source.now accessors.now doc) choices.old.items choices.new.items) }
 {
     let order = source.order();
     let columns = accessors.accessors.as_slice();
     for turn in 0..columns.len() {
         let place = place_at(order, columns.len(), turn);
-        let numbers = columns[place].column.values_for_doc(doc);
-        add_numbers(choices, order, accessors, place, numbers)?;
+        let accessor = &columns[place];
+        let numbers = accessor.column.values_for_doc(doc);
+        add_column(choices, source, accessors, accessor, place, numbers)?;
     }
     Ok(())
 }
 
-// Appends numbers of the accessor at a place.
-fn add_numbers(
+// Appends numbers of the accessor at a place, divided where the source divides them.
+fn add_column(
     choices: &mut Vec<Choice>,
-    order: Order,
+    source: &CompositeAggregationSource,
     accessors: &CompositeSourceAccessors<'_>,
+    accessor: &CompositeAccessor<'_>,
     place: usize,
     numbers: &[u64],
 ) -> Result<(), OutOfMemory>
     requires { place < 2 ^ 63 }
+    ensures { OnOk result (choices.new.items ≡ choices.old.items
+        ++ divided_choices source.now accessors.now accessor.now place numbers.now) }
+{
+    let (order, lane) = (source.order(), lane_of(source, place));
+    let column = DividedColumn::new(source, accessor);
+    match column.divisor {
+        Divisor::Nothing => add_numbers(choices, order, accessors, lane, numbers),
+        _ => add_starts(choices, order, accessors, lane, &column, numbers),
+    }
+}
+
+// Appends numbers of the lane at a place.
+fn add_numbers(
+    choices: &mut Vec<Choice>,
+    order: Order,
+    accessors: &CompositeSourceAccessors<'_>,
+    lane: usize,
+    numbers: &[u64],
+) -> Result<(), OutOfMemory>
+    requires { lane < 2 ^ 63 }
     ensures { OnOk result (choices.new.items
-        ≡ choices.old.items ++ map (choice_at order accessors.now place) numbers.now) }
+        ≡ choices.old.items ++ map (choice_at order accessors.now lane) numbers.now) }
 {
     for number in numbers {
-        choices.push(Choice {
-            value: Encoded::at(order, place, *number),
-            side: side_of(order, accessors, place, *number),
-        })?;
+        choices.push(choice_of(order, accessors, lane, *number))?;
     }
     Ok(())
+}
+
+// Appends the starts of numbers of a column, in the lane at a place.
+fn add_starts(
+    choices: &mut Vec<Choice>,
+    order: Order,
+    accessors: &CompositeSourceAccessors<'_>,
+    lane: usize,
+    column: &DividedColumn<'_>,
+    numbers: &[u64],
+) -> Result<(), OutOfMemory>
+    requires lane { lane < 2 ^ 63 }
+    requires can { CanDivide column.now.divisor }
+    ensures { OnOk result (choices.new.items ≡ choices.old.items
+        ++ map (λ n. choice_at order accessors.now lane
+        (lane_number column.now.divisor column.now.column.now.keys n)) numbers.now) }
+{
+    for number in numbers {
+        let start = column.lane_number(*number);
+        choices.push(choice_of(order, accessors, lane, start))?;
+    }
+    Ok(())
+}
+
+// A number of the lane at a place as a choice.
+fn choice_of(
+    order: Order,
+    accessors: &CompositeSourceAccessors<'_>,
+    lane: usize,
+    number: u64,
+) -> Choice
+    requires { lane < 2 ^ 63 }
+    ensures { result ≡ choice_at order accessors.now lane number }
+{
+    Choice {
+        value: Encoded::at(order, lane, number),
+        side: side_of(order, accessors, lane, number),
+    }
 }

@@ -1,20 +1,23 @@
 //! The walk over documents of one source, which needs no choices and no tuple beside the key.
-ghost use Rattle.std.specs.Prelude.{◌≡◌, ◌&&◌, ◌<◌, ◌^◌, [], ◌∷◌, false};
+ghost use Rattle.std.specs.Prelude.{◌≡◌, ◌&&◌, ◌<◌, ◌^◌, [], ◌∷◌, false, map};
 ghost use Rattle.std.specs.declared.cmp.Ordering.TheVariants.{Greater};
 ghost use Rattle.agg_composite.specs.Accessors.{side_at};
 ghost use Rattle.agg_composite.specs.AfterKey.{projected_side};
 ghost use Rattle.agg_composite.specs.Answers.{AnswersDocuments, AnswersEncoded};
-ghost use Rattle.agg_composite.specs.Choices.{is_nil, null_choice};
+ghost use Rattle.agg_composite.specs.Choices.{divided_choices, is_nil, null_choice};
 ghost use Rattle.agg_composite.specs.GroupCounts.{all_counts};
+ghost use Rattle.agg_composite.specs.Starts.{CanDivide, lane_number};
 ghost use Rattle.agg_composite.specs.Walk.{number_tuples, walked};
 
 use super::choice::{missing_choice, side_in};
 use super::place::place_at;
 use super::visit::visit_one;
+use crate::divisor::{DividedColumn, Divisor};
 use crate::encoded::Encoded;
 use crate::group_counts::GroupCounts;
-use crate::{CompositeSourceAccessors, PrecomputedAfterKey};
-use agg_cache::CollectError;
+use crate::lanes::lane_of;
+use crate::visit_error::VisitError;
+use crate::{CompositeAccessor, CompositeSourceAccessors, PrecomputedAfterKey};
 use agg_request::CompositeAggregationSource;
 use agg_values::{DocId, Order, Steps};
 use std::cmp::Ordering;
@@ -27,7 +30,7 @@ pub fn visit_lone_documents<L: Ledger>(
     source: &CompositeAggregationSource,
     accessors: &CompositeSourceAccessors<'_>,
     steps: &mut Steps<L>,
-) -> Result<(), CollectError>
+) -> Result<(), VisitError>
     ensures { AnswersDocuments (source.now ∷ []) (accessors.now ∷ []) docs.now
         (all_counts counts.old) (all_counts counts.new) steps.old steps.new result }
 {
@@ -44,7 +47,7 @@ fn visit_lone_document<L: Ledger>(
     source: &CompositeAggregationSource,
     accessors: &CompositeSourceAccessors<'_>,
     steps: &mut Steps<L>,
-) -> Result<(), CollectError>
+) -> Result<(), VisitError>
     ensures { AnswersDocuments (source.now ∷ []) (accessors.now ∷ []) (doc ∷ [])
         (all_counts counts.old) (all_counts counts.new) steps.old steps.new result }
 {
@@ -53,9 +56,10 @@ fn visit_lone_document<L: Ledger>(
     let mut is_missing = true;
     for turn in 0..columns.len() {
         let place = place_at(order, columns.len(), turn);
-        let numbers = columns[place].column.values_for_doc(doc);
+        let accessor = &columns[place];
+        let numbers = accessor.column.values_for_doc(doc);
         is_missing = is_still_missing(is_missing, numbers);
-        visit_numbers(counts, order, accessors, place, numbers, steps)?;
+        visit_column(counts, source, accessors, accessor, place, numbers, steps)?;
     }
     if !is_missing {
         return Ok(());
@@ -73,26 +77,75 @@ fn is_still_missing(is_missing: bool, numbers: &[u64]) -> bool
     is_missing && numbers.is_empty()
 }
 
-// Visits the numbers of the accessor at a place that lie past the bound.
+// Visits the numbers of the accessor at a place, divided where the source divides them, that lie
+// past the bound.
+fn visit_column<L: Ledger>(
+    counts: &mut GroupCounts,
+    source: &CompositeAggregationSource,
+    accessors: &CompositeSourceAccessors<'_>,
+    accessor: &CompositeAccessor<'_>,
+    place: usize,
+    numbers: &[u64],
+    steps: &mut Steps<L>,
+) -> Result<(), VisitError>
+    requires { place < 2 ^ 63 }
+    ensures { AnswersEncoded
+        (walked (divided_choices source.now accessors.now accessor.now place numbers.now ∷ []) []
+        false)
+        (all_counts counts.old) (all_counts counts.new) steps.old steps.new result }
+{
+    let (order, lane) = (source.order(), lane_of(source, place));
+    let column = DividedColumn::new(source, accessor);
+    match column.divisor {
+        Divisor::Nothing => visit_numbers(counts, order, accessors, lane, numbers, steps),
+        _ => visit_starts(counts, order, accessors, lane, &column, numbers, steps),
+    }
+}
+
+// Visits the starts of numbers of a column, in the lane at a place, that lie past the bound.
+fn visit_starts<L: Ledger>(
+    counts: &mut GroupCounts,
+    order: Order,
+    accessors: &CompositeSourceAccessors<'_>,
+    lane: usize,
+    column: &DividedColumn<'_>,
+    numbers: &[u64],
+    steps: &mut Steps<L>,
+) -> Result<(), VisitError>
+    requires lane { lane < 2 ^ 63 }
+    requires can { CanDivide column.now.divisor }
+    ensures { AnswersEncoded
+        (number_tuples order lane (side_at order accessors.now lane)
+        (map (lane_number column.now.divisor column.now.column.now.keys) numbers.now))
+        (all_counts counts.old) (all_counts counts.new) steps.old steps.new result }
+{
+    for number in numbers {
+        let start = column.lane_number(*number);
+        visit_numbers(counts, order, accessors, lane, &[start], steps)?;
+    }
+    Ok(())
+}
+
+// Visits the numbers of the lane at a place that lie past the bound.
 fn visit_numbers<L: Ledger>(
     counts: &mut GroupCounts,
     order: Order,
     accessors: &CompositeSourceAccessors<'_>,
-    place: usize,
+    lane: usize,
     numbers: &[u64],
     steps: &mut Steps<L>,
-) -> Result<(), CollectError>
-    requires { place < 2 ^ 63 }
+) -> Result<(), VisitError>
+    requires { lane < 2 ^ 63 }
     ensures { AnswersEncoded
-        (number_tuples order place (side_at order accessors.now place) numbers.now)
+        (number_tuples order lane (side_at order accessors.now lane) numbers.now)
         (all_counts counts.old) (all_counts counts.new) steps.old steps.new result }
 {
-    match place.cmp(&accessors.after_key_accessor_idx) {
+    match lane.cmp(&accessors.after_key_accessor_idx) {
         Ordering::Less => Ok(()),
         Ordering::Equal => {
-            visit_numbers_behind(counts, order, &accessors.after_key, place, numbers, steps)
+            visit_numbers_behind(counts, order, &accessors.after_key, lane, numbers, steps)
         }
-        Ordering::Greater => visit_all_numbers(counts, order, place, numbers, steps),
+        Ordering::Greater => visit_all_numbers(counts, order, lane, numbers, steps),
     }
 }
 
@@ -104,7 +157,7 @@ fn visit_numbers_behind<L: Ledger>(
     place: usize,
     numbers: &[u64],
     steps: &mut Steps<L>,
-) -> Result<(), CollectError>
+) -> Result<(), VisitError>
     requires { place < 2 ^ 63 }
     ensures { AnswersEncoded
         (number_tuples order place (projected_side order after_key.now) numbers.now)
@@ -124,7 +177,7 @@ fn visit_number_behind<L: Ledger>(
     place: usize,
     number: u64,
     steps: &mut Steps<L>,
-) -> Result<(), CollectError>
+) -> Result<(), VisitError>
     requires { place < 2 ^ 63 }
     ensures { AnswersEncoded
         (number_tuples order place (projected_side order after_key.now) (number ∷ []))
@@ -143,7 +196,7 @@ fn visit_all_numbers<L: Ledger>(
     place: usize,
     numbers: &[u64],
     steps: &mut Steps<L>,
-) -> Result<(), CollectError>
+) -> Result<(), VisitError>
     requires { place < 2 ^ 63 }
     ensures { AnswersEncoded (number_tuples order place (λ number. Greater) numbers.now)
         (all_counts counts.old) (all_counts counts.new) steps.old steps.new result }
@@ -160,7 +213,7 @@ fn visit_missing<L: Ledger>(
     source: &CompositeAggregationSource,
     accessors: &CompositeSourceAccessors<'_>,
     steps: &mut Steps<L>,
-) -> Result<(), CollectError>
+) -> Result<(), VisitError>
     ensures { AnswersEncoded (walked ((null_choice source.now accessors.now ∷ []) ∷ []) [] false)
         (all_counts counts.old) (all_counts counts.new) steps.old steps.new result }
 {

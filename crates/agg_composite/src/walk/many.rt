@@ -10,7 +10,7 @@ use super::visit::visit_tuple;
 use crate::CompositeSourceAccessors;
 use crate::encoded::Encoded;
 use crate::group_counts::GroupCounts;
-use agg_cache::CollectError;
+use crate::visit_error::VisitError;
 use agg_request::CompositeAggregationSource;
 use agg_values::{DocId, Steps};
 use std::alloc::Global;
@@ -25,14 +25,14 @@ pub fn visit_many_documents<L: Ledger>(
     sources: &[CompositeAggregationSource],
     accessors: &[CompositeSourceAccessors<'_>],
     steps: &mut Steps<L>,
-) -> Result<(), CollectError>
+) -> Result<(), VisitError>
     requires { length sources.now ≡ length accessors.now }
     ensures { AnswersDocuments sources.now accessors.now docs.now
         (all_counts counts.old) (all_counts counts.new) steps.old steps.new result }
 {
     let no_key = Encoded { place: 0, raw: 0 };
     let Ok(mut tuple) = Vec::from_elem(alloc, no_key, sources.len()) else {
-        return Err(CollectError::OutOfMemory);
+        return Err(VisitError::OutOfMemory);
     };
     let mut gathered = Gathered::new(alloc);
     walk_documents(
@@ -55,7 +55,7 @@ fn walk_documents<L: Ledger>(
     gathered: &mut Gathered,
     tuple: &mut [Encoded],
     steps: &mut Steps<L>,
-) -> Result<(), CollectError>
+) -> Result<(), VisitError>
     requires accessors { length sources.now ≡ length accessors.now }
     requires tuple { length tuple.old ≡ length sources.now }
     ensures { AnswersDocuments sources.now accessors.now docs.now
@@ -76,7 +76,7 @@ fn walk_document<L: Ledger>(
     gathered: &mut Gathered,
     tuple: &mut [Encoded],
     steps: &mut Steps<L>,
-) -> Result<(), CollectError>
+) -> Result<(), VisitError>
     requires accessors { length sources.now ≡ length accessors.now }
     requires tuple { length tuple.old ≡ length sources.now }
     ensures { AnswersDocuments sources.now accessors.now (doc ∷ [])
@@ -98,7 +98,7 @@ fn walk_from<L: Ledger>(
     is_above: bool,
     tuple: &mut [Encoded],
     steps: &mut Steps<L>,
-) -> Result<(), CollectError>
+) -> Result<(), VisitError>
     requires sizes { sum sizes.now ≤ length choices.now }
     requires level { level + length sizes.now ≡ length tuple.old }
     ensures answers { AnswersEncoded

@@ -5,7 +5,7 @@ ghost use Rattle.agg_composite.specs.GroupCounts.{all_counts};
 
 use crate::encoded::Encoded;
 use crate::group_counts::GroupCounts;
-use agg_cache::CollectError;
+use crate::visit_error::VisitError;
 use agg_values::Steps;
 use std::sync::ledger::Ledger;
 
@@ -14,7 +14,7 @@ pub fn visit_tuple<L: Ledger>(
     counts: &mut GroupCounts,
     tuple: &[Encoded],
     steps: &mut Steps<L>,
-) -> Result<(), CollectError>
+) -> Result<(), VisitError>
     ensures { AnswersEncoded (tuple.now ∷ [])
         (all_counts counts.old) (all_counts counts.new) steps.old steps.new result }
 {
@@ -28,7 +28,7 @@ pub fn visit_one<L: Ledger>(
     counts: &mut GroupCounts,
     key: Encoded,
     steps: &mut Steps<L>,
-) -> Result<(), CollectError>
+) -> Result<(), VisitError>
     ensures { AnswersEncoded ((key ∷ []) ∷ [])
         (all_counts counts.old) (all_counts counts.new) steps.old steps.new result }
 {

@@ -1,5 +1,5 @@
 use Rattle.std.proofs.Common.{[], ◌∷◌, ap, sym, ◌∙◌, subst}
-use Rattle.agg_cache.specs.declared.error.CollectError.TheVariants.{TooMany}
+use Rattle.agg_composite.specs.declared.visit_error.VisitError.TheVariants.{TooMany}
 use Rattle.agg_composite.specs.GroupCounts.{CountsBehind, all_keys, held}
 use Rattle.agg_composite.specs.KeyCounts.{as_tuples}
 use Rattle.agg_composite.proofs.CountLaws.{behind-both, too_often-after, too_often-more}

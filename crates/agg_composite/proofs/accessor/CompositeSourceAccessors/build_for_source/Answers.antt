@@ -8,17 +8,17 @@ pub returns-in-Some-clause-ok : goal.returns-in-Some-clause-ok
 returns-in-Some-clause-ok c =
     subst (λ opt. AreAccessorsOf c.args.reader.now c.args.source.now (option_map (λ k. k.now) opt)
     c.going_on.result) (sym c.in-Some.is) (c.going_on.ensures c.args.reader.now
-    (field_accessors c.args.reader.now c.args.source.now c.order-order.result c.field.result.now
-    c.in_ok-accessors.accessors c.columns.result.now c.order-order.ensures c.field.ensures
-    c.in_ok-accessors.ensures.columns c.columns.ensures.keys
-    c.columns.ensures.classes c.in_ok-accessors.ensures.order))
+    (field_accessors c.args.reader.now c.args.source.now c.field.result.now
+    c.in_ok-accessors.accessors c.columns-columns.result.now c.in_ok-interval.ensures.interval
+    c.field.ensures c.in_ok-accessors.ensures.columns c.columns-columns.ensures.keys
+    c.columns-columns.ensures.classes c.in_ok-accessors.ensures.each))
 
 pub returns-in-None-clause-ok : goal.returns-in-None-clause-ok
 returns-in-None-clause-ok c =
     subst (λ opt. AreAccessorsOf c.args.reader.now c.args.source.now (option_map (λ k. k.now) opt)
     c.from_the_start.result) (sym c.in-None.is) (c.from_the_start.ensures c.args.reader.now
-    c.args.source.now (sym c.order-order.ensures)
-    (field_accessors c.args.reader.now c.args.source.now c.order-order.result c.field.result.now
-    c.in_ok-accessors.accessors c.columns.result.now c.order-order.ensures c.field.ensures
-    c.in_ok-accessors.ensures.columns c.columns.ensures.keys
-    c.columns.ensures.classes c.in_ok-accessors.ensures.order))
+    c.args.source.now (sym c.order.ensures)
+    (field_accessors c.args.reader.now c.args.source.now c.field.result.now
+    c.in_ok-accessors.accessors c.columns-columns.result.now c.in_ok-interval.ensures.interval
+    c.field.ensures c.in_ok-accessors.ensures.columns c.columns-columns.ensures.keys
+    c.columns-columns.ensures.classes c.in_ok-accessors.ensures.each))

@@ -1,6 +1,6 @@
 use Rattle.std.proofs.Common.{[], ◌∷◌, subst}
 use Rattle.std.proofs.lemmas.Result.{on_ok_weaker}
-use Rattle.agg_cache.specs.declared.error.CollectError.TheVariants.{TooMany}
+use Rattle.agg_composite.specs.declared.visit_error.VisitError.TheVariants.{TooMany}
 use Rattle.agg_composite.specs.GroupCounts.{CountsBehind, CountsTooOften, all_keys}
 use Rattle.agg_composite.specs.KeyCounts.{as_tuples}
 use Rattle.agg_composite.proofs.Errors.{error-kept}

@@ -1,7 +1,7 @@
 use Rattle.std.proofs.Common.{rules, ◌<◌, ◌+◌, ◌^◌, ◌++◌, length, get_or, drop}
 use Rattle.std.proofs.Common.{refl, sym, ap, ◌∙◌, subst, arith}
 use Rattle.std.specs.BTreeMap.{insert_entry}
-use Rattle.agg_cache.specs.declared.error.CollectError.TheVariants.{TooMany}
+use Rattle.agg_composite.specs.declared.visit_error.VisitError.TheVariants.{TooMany}
 use Rattle.agg_composite.specs.Encoding.{encoded_order}
 use Rattle.agg_composite.specs.KeyCounts.{count_in, entries_of}
 use Rattle.agg_composite.proofs.Errors.{error-kept}

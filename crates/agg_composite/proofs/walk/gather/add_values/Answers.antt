@@ -1,6 +1,6 @@
-use Rattle.std.proofs.Common.{rules, ℕ, ◌<◌, ◌^◌, get_or, map}
-use Rattle.agg_composite.specs.Accessors.{columns_of, in_requested}
-use Rattle.agg_composite.specs.Choices.{choice_at}
+use Rattle.std.proofs.Common.{rules, ℕ, ◌<◌, ◌^◌, get_or}
+use Rattle.agg_composite.specs.Choices.{divided_choices}
+use Rattle.agg_composite.specs.Lanes.{columns_of, in_requested}
 use Rattle.agg_composite.proofs.Choosing.{turn-chosen, turn-read}
 use Rattle.agg_composite.proofs.walk.gather.add_values.Goals as goal
 
@@ -13,15 +13,15 @@ loop-turn-preserved c =
     let columns = c.as_slice-columns.result.now in
     let turn = c.loop-turn.turn in
     let place = c.place_at-place.result in
-    let column = (get_or columns place c.index-columns-place.result).column.now in
+    let accessor = c.index-columns-place.result in
     let numbers = c.values_for_doc-numbers.result.now in
-    let choices = map (choice_at order a place) numbers in
+    let choices = divided_choices source a accessor place numbers in
     let xs = in_requested order (columns_of columns) in
     let fits : (j : ℕ) → get_or numbers j 0 < 2 ^ 64 = search rules in
     let read = turn-read source a order columns turn place doc c.index-columns-place.result numbers
     c.order-order.ensures c.as_slice-columns.ensures c.loop-turn-test.true
     c.place_at-place.ensures.bound c.place_at-place.ensures.place c.index-columns-place.is fits
     c.values_for_doc-numbers.ensures.stand c.values_for_doc-numbers.ensures.keys in
-    turn-chosen source a xs turn doc column c.args.choices.now.items c.loop-turn.choices.items
-    c.add_numbers.new.choices.items choices read.within read.next c.loop-turn.invariant
-    c.in_ok-add_numbers.ensures read.chosen
+    turn-chosen source a xs turn doc accessor.column.now c.args.choices.now.items
+    c.loop-turn.choices.items c.add_column.new.choices.items choices read.within read.next
+    c.loop-turn.invariant c.in_ok-add_column.ensures read.chosen

@@ -1,12 +1,13 @@
-use Rattle.std.proofs.Common.{rules, ◌≡◌, ℕ, ◌<◌, ◌≤◌, ◌^◌, length, get_or, map, sym, ◌∙◌, arith}
+use Rattle.std.proofs.Common.{rules, ◌≡◌, ℕ, ◌<◌, ◌≤◌, ◌^◌, length, get_or, sym, ◌∙◌, arith}
 use Rattle.std.proofs.lemmas.List.{length-map}
-use Rattle.agg_segment.specs.Columns.{all_keys, encoded_key}
-use Rattle.agg_composite.specs.Accessors.{columns_of, in_requested}
-use Rattle.agg_composite.specs.Choices.{choice_at, keys_read}
+use Rattle.agg_segment.specs.Columns.{all_keys}
+use Rattle.agg_request.specs.Source.{keys_in}
+use Rattle.agg_composite.specs.Choices.{divided_choices, keys_read}
 use Rattle.agg_composite.specs.GroupCounts.{all_counts}
+use Rattle.agg_composite.specs.Lanes.{columns_of, in_requested}
 use Rattle.agg_composite.proofs.Choosing.{length-requested, turn-read}
 use Rattle.agg_composite.proofs.LoneDocument.{column-error, ends-with-null, ends-with-values}
-use Rattle.agg_composite.proofs.LoneDocument.{ends-without-bucket, nil-more, one-column}
+use Rattle.agg_composite.proofs.LoneDocument.{ends-without-bucket, lone-can, nil-more, one-column}
 use Rattle.agg_composite.proofs.walk.lone.visit_lone_document.Goals as goal
 
 pub loop-turn-preserved : goal.loop-turn-preserved
@@ -18,9 +19,9 @@ loop-turn-preserved g c =
     let columns = c.as_slice-columns.result.now in
     let turn = c.loop-turn.turn in
     let place = c.place_at-place.result in
-    let column = (get_or columns place c.index-columns-place.result).column.now in
+    let accessor = c.index-columns-place.result in
     let numbers = c.values_for_doc-numbers.result.now in
-    let choices = map (choice_at order a place) numbers in
+    let choices = divided_choices source a accessor place numbers in
     let xs = in_requested order (columns_of columns) in
     let fits : (j : ℕ) → get_or numbers j 0 < 2 ^ 64 = search rules in
     let read = turn-read source a order columns turn place doc c.index-columns-place.result numbers
@@ -28,20 +29,21 @@ loop-turn-preserved g c =
     c.place_at-place.ensures.bound c.place_at-place.ensures.place c.index-columns-place.is fits
     c.values_for_doc-numbers.ensures.stand c.values_for_doc-numbers.ensures.keys in
     record {
-      visited = λ segment after fit.
+      visited = λ segment after fit can.
           one-column segment after source a doc fit xs turn (all_counts c.args.counts.now)
           (all_counts c.loop-turn.counts) c.args.steps.now c.loop-turn.steps
-          (c.loop-turn.invariant.visited segment after fit) column choices read.within read.next
-          read.chosen (all_counts c.visit_numbers.new.counts) c.visit_numbers.new.steps
-          c.in_ok-visit_numbers.ensures;
-      missing = nil-more xs turn doc column numbers (encoded_key column.keys)
+          (c.loop-turn.invariant.visited segment after fit can) accessor.column.now choices
+          read.within read.next (read.chosen can) (all_counts c.visit_column.new.counts)
+          c.visit_column.new.steps c.in_ok-visit_column.ensures;
+      missing = λ can.
+          nil-more source a xs turn doc accessor.column.now numbers _
           c.loop-turn.is_missing c.is_still_missing-is_missing.result read.within read.next
-          c.values_for_doc-numbers.ensures.keys c.loop-turn.invariant.missing
+          (read.chosen can) (c.loop-turn.invariant.missing can)
           c.is_still_missing-is_missing.ensures;
     }
 
-pub returns-in_err-visit_numbers : goal.returns-in_err-visit_numbers
-returns-in_err-visit_numbers g c = λ segment after fit.
+pub returns-in_err-visit_column : goal.returns-in_err-visit_column
+returns-in_err-visit_column g c = λ segment after fit range.
     let source = c.args.source.now in
     let a = c.args.accessors.now in
     let doc = c.args.doc in
@@ -49,27 +51,28 @@ returns-in_err-visit_numbers g c = λ segment after fit.
     let columns = c.as_slice-columns.result.now in
     let turn = c.loop-turn.turn in
     let place = c.place_at-place.result in
-    let column = (get_or columns place c.index-columns-place.result).column.now in
+    let accessor = c.index-columns-place.result in
     let numbers = c.values_for_doc-numbers.result.now in
-    let choices = map (choice_at order a place) numbers in
+    let choices = divided_choices source a accessor place numbers in
     let xs = in_requested order (columns_of columns) in
     let fits : (j : ℕ) → get_or numbers j 0 < 2 ^ 64 = search rules in
     let read = turn-read source a order columns turn place doc c.index-columns-place.result numbers
     c.order-order.ensures c.as_slice-columns.ensures c.loop-turn-test.true
     c.place_at-place.ensures.bound c.place_at-place.ensures.place c.index-columns-place.is fits
     c.values_for_doc-numbers.ensures.stand c.values_for_doc-numbers.ensures.keys in
-    let all : all_keys xs doc ≡ keys_read source a doc =
-    λ j. all_keys (in_requested (c.order-order.ensures j)
-    (columns_of (c.as_slice-columns.ensures j))) doc in
+    let all : keys_in source (all_keys xs doc) ≡ keys_read source a doc =
+    λ j. keys_in source (all_keys (in_requested (c.order-order.ensures j)
+    (columns_of (c.as_slice-columns.ensures j))) doc) in
+    let can = lone-can segment after source a doc fit range in
     column-error segment after source a doc fit.0 xs turn (all_counts c.args.counts.now)
     (all_counts c.loop-turn.counts) c.args.steps.now c.loop-turn.steps
-    (c.loop-turn.invariant.visited segment after fit.0) column choices read.within read.next
-    read.chosen (all_counts c.visit_numbers.new.counts) c.visit_numbers.new.steps all
-    c.in_err-visit_numbers.field-0.0 c.from_residual.result c.in_err-visit_numbers.ensures
-    c.from_residual.ensures.1
+    (c.loop-turn.invariant.visited segment after fit.0 can) accessor.column.now choices
+    read.within read.next (read.chosen can) (all_counts c.visit_column.new.counts)
+    c.visit_column.new.steps all c.in_err-visit_column.field-0.0 c.from_residual.result
+    c.in_err-visit_column.ensures c.from_residual.ensures.1
 
 pub returns-then-not-is_missing : goal.returns-then-not-is_missing
-returns-then-not-is_missing g c = λ segment after fit.
+returns-then-not-is_missing g c = λ segment after fit range.
     let source = c.args.source.now in
     let a = c.args.accessors.now in
     let doc = c.args.doc in
@@ -79,16 +82,17 @@ returns-then-not-is_missing g c = λ segment after fit.
     let long = length-requested c.order-order.result (columns_of columns)
     ∙ length-map columns (λ x. x.column.now) in
     let past : length xs ≤ turn = omega (arith, long, c.loop-turn-test.false) in
-    let all : all_keys xs doc ≡ keys_read source a doc =
-    λ j. all_keys (in_requested (c.order-order.ensures j)
-    (columns_of (c.as_slice-columns.ensures j))) doc in
+    let all : keys_in source (all_keys xs doc) ≡ keys_read source a doc =
+    λ j. keys_in source (all_keys (in_requested (c.order-order.ensures j)
+    (columns_of (c.as_slice-columns.ensures j))) doc) in
+    let can = lone-can segment after source a doc fit range in
     ends-with-values segment after source a doc fit.0 xs turn (all_counts c.args.counts.now)
     (all_counts c.loop-turn.counts) c.args.steps.now c.loop-turn.steps
-    (c.loop-turn.invariant.visited segment after fit.0) past all
-    (sym c.loop-turn.invariant.missing ∙ c.if-not-is_missing.true)
+    (c.loop-turn.invariant.visited segment after fit.0 can) past all
+    (sym (c.loop-turn.invariant.missing can) ∙ c.if-not-is_missing.true)
 
 pub returns-then-not-missing_bucket : goal.returns-then-not-missing_bucket
-returns-then-not-missing_bucket g c = λ segment after fit.
+returns-then-not-missing_bucket g c = λ segment after fit range.
     let source = c.args.source.now in
     let a = c.args.accessors.now in
     let doc = c.args.doc in
@@ -98,16 +102,17 @@ returns-then-not-missing_bucket g c = λ segment after fit.
     let long = length-requested c.order-order.result (columns_of columns)
     ∙ length-map columns (λ x. x.column.now) in
     let past : length xs ≤ turn = omega (arith, long, c.loop-turn-test.false) in
-    let all : all_keys xs doc ≡ keys_read source a doc =
-    λ j. all_keys (in_requested (c.order-order.ensures j)
-    (columns_of (c.as_slice-columns.ensures j))) doc in
+    let all : keys_in source (all_keys xs doc) ≡ keys_read source a doc =
+    λ j. keys_in source (all_keys (in_requested (c.order-order.ensures j)
+    (columns_of (c.as_slice-columns.ensures j))) doc) in
+    let can = lone-can segment after source a doc fit range in
     ends-without-bucket segment after source a doc fit.0 xs turn (all_counts c.args.counts.now)
     (all_counts c.loop-turn.counts) c.args.steps.now c.loop-turn.steps
-    (c.loop-turn.invariant.visited segment after fit.0) past all
+    (c.loop-turn.invariant.visited segment after fit.0 can) past all
     (sym c.missing_bucket.ensures ∙ c.if-not-missing_bucket.true)
 
 pub returns : goal.returns
-returns g c = λ segment after fit.
+returns g c = λ segment after fit range.
     let source = c.args.source.now in
     let a = c.args.accessors.now in
     let doc = c.args.doc in
@@ -117,13 +122,14 @@ returns g c = λ segment after fit.
     let long = length-requested c.order-order.result (columns_of columns)
     ∙ length-map columns (λ x. x.column.now) in
     let past : length xs ≤ turn = omega (arith, long, c.loop-turn-test.false) in
-    let all : all_keys xs doc ≡ keys_read source a doc =
-    λ j. all_keys (in_requested (c.order-order.ensures j)
-    (columns_of (c.as_slice-columns.ensures j))) doc in
+    let all : keys_in source (all_keys xs doc) ≡ keys_read source a doc =
+    λ j. keys_in source (all_keys (in_requested (c.order-order.ensures j)
+    (columns_of (c.as_slice-columns.ensures j))) doc) in
+    let can = lone-can segment after source a doc fit range in
     ends-with-null segment after source a doc fit.0 xs turn (all_counts c.args.counts.now)
     (all_counts c.loop-turn.counts) c.args.steps.now c.loop-turn.steps
-    (c.loop-turn.invariant.visited segment after fit.0) past all
-    (sym c.loop-turn.invariant.missing ∙ c.if-not-is_missing.false)
+    (c.loop-turn.invariant.visited segment after fit.0 can) past all
+    (sym (c.loop-turn.invariant.missing can) ∙ c.if-not-is_missing.false)
     (sym c.missing_bucket.ensures ∙ c.if-not-missing_bucket.false)
     (all_counts c.visit_missing.new.counts) c.visit_missing.new.steps c.visit_missing.result
     c.visit_missing.ensures

@@ -3,10 +3,12 @@ use Rattle.agg_values.specs.Names.{Named}
 use Rattle.agg_values.specs.declared.after_key.AfterKey.{AfterKey}
 use Rattle.agg_segment.specs.Columns.{all_keys}
 use Rattle.agg_segment.specs.Segment.{Stored}
-use Rattle.agg_composite.specs.Accessors.{AreAccessorsOf, after_of, columns_of, in_requested}
+use Rattle.agg_request.specs.Source.{keys_in}
+use Rattle.agg_composite.specs.Accessors.{AreAccessorsOf, after_of}
 use Rattle.agg_composite.specs.Answers.{CountsFor}
-use Rattle.agg_composite.specs.Choices.{is_nil}
+use Rattle.agg_composite.specs.Choices.{CanRead, is_nil}
 use Rattle.agg_composite.specs.GroupCounts.{all_counts}
+use Rattle.agg_composite.specs.Lanes.{columns_of, in_requested}
 use Rattle.agg_composite.proofs.LoneDocument.{lone_in}
 use Rattle.agg_composite.proofs.VisitsInRow.{SoFar}
 use Rattle.agg_composite.proofs.walk.lone.visit_lone_document.Given as goal
@@ -15,10 +17,12 @@ abbrev pub invariant-loop-turn : goal.invariant-loop-turn
 invariant-loop-turn g l = record {
   visited : (segment : Stored) (after : Named AfterKey)
       → AreAccessorsOf segment l.source (after_of after l.source) l.accessors
+      → CanRead l.source l.accessors l.doc
       → SoFar (CountsFor (l.source ∷ []) (l.accessors ∷ []))
       (lone_in segment after l.source l.accessors l.doc)
       (in_requested l.order (columns_of l.columns)) l.turn (all_counts l.fn.counts)
       (all_counts l.counts) l.fn.steps l.steps;
-  missing : l.is_missing
-      ≡ is_nil (all_keys (take l.turn (in_requested l.order (columns_of l.columns))) l.doc);
+  missing : CanRead l.source l.accessors l.doc
+      → l.is_missing ≡ is_nil (keys_in l.source
+      (all_keys (take l.turn (in_requested l.order (columns_of l.columns))) l.doc));
 }

@@ -16,12 +16,12 @@ returns-in-Less g c =
     let order = c.args.order in
     let after = c.args.accessors.now.after_key in
     let numbers = c.args.numbers.now in
-    let tuples : Ordering → List EncodedTuple = λ o. number_tuples order c.args.place
+    let tuples : Ordering → List EncodedTuple = λ o. number_tuples order c.args.lane
     (λ n. match_ordering o Less (projected_side order after n) Greater) numbers in
     let held = all_counts c.args.counts.now in
     let steps = c.args.steps.now in
     subst (λ ts. AnswersEncoded ts held held steps steps (Ok tt))
-    (sym (numbers-below order c.args.place numbers)
+    (sym (numbers-below order c.args.lane numbers)
     ∙ ap tuples (sym c.in-Less.is ∙ c.cmp.ensures))
     (none-visited Counted TooOften encoded-visits held steps)
 
@@ -29,7 +29,7 @@ pub returns-in-Equal : goal.returns-in-Equal
 returns-in-Equal g c =
     let order = c.args.order in
     let after = c.args.accessors.now.after_key in
-    let tuples : Ordering → List EncodedTuple = λ o. number_tuples order c.args.place
+    let tuples : Ordering → List EncodedTuple = λ o. number_tuples order c.args.lane
     (λ n. match_ordering o Less (projected_side order after n) Greater) c.args.numbers.now in
     subst (λ ts. AnswersEncoded ts (all_counts c.args.counts.now)
     (all_counts c.visit_numbers_behind.new.counts) c.args.steps.now
@@ -40,7 +40,7 @@ pub returns-in-Greater : goal.returns-in-Greater
 returns-in-Greater g c =
     let order = c.args.order in
     let after = c.args.accessors.now.after_key in
-    let tuples : Ordering → List EncodedTuple = λ o. number_tuples order c.args.place
+    let tuples : Ordering → List EncodedTuple = λ o. number_tuples order c.args.lane
     (λ n. match_ordering o Less (projected_side order after n) Greater) c.args.numbers.now in
     subst (λ ts. AnswersEncoded ts (all_counts c.args.counts.now)
     (all_counts c.visit_all_numbers.new.counts) c.args.steps.now

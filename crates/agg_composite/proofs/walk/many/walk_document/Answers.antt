@@ -1,5 +1,5 @@
-use Rattle.std.proofs.Common.{[], ◌∷◌, false, List, sym, subst}
-use Rattle.agg_segment.specs.Segment.{documents_at}
+use Rattle.std.proofs.Common.{[], ◌∷◌, false, List, sym, subst, arith}
+use Rattle.agg_segment.specs.Segment.{document_at, documents_at}
 use Rattle.agg_request.specs.Occurrences.{bound_of, past_occurrences}
 use Rattle.agg_composite.specs.Choices.{AreChoicesIn}
 use Rattle.agg_composite.specs.GroupCounts.{all_counts}
@@ -10,7 +10,7 @@ use Rattle.agg_composite.proofs.CountedBehind.{answers-for}
 use Rattle.agg_composite.proofs.walk.many.walk_document.Goals as goal
 
 pub returns : goal.returns
-returns g c = λ segment after fit.
+returns g c = λ segment after fit range.
     let sources = c.args.sources.now in
     let accessors = c.args.accessors.now in
     let doc = c.args.doc in
@@ -22,5 +22,6 @@ returns g c = λ segment after fit.
     (past_occurrences sources (bound_of sources after) (documents_at segment (doc ∷ [])))
     (all_counts c.args.counts.now) (all_counts c.walk_from.new.counts) c.args.steps.now
     c.walk_from.new.steps c.walk_from.result
-    (past-document segment after sources accessors doc rows fit read)
+    (past-document segment after sources accessors doc rows fit
+    (range 0 (document_at segment doc) (omega arith)) read)
     c.walk_from.ensures.answers

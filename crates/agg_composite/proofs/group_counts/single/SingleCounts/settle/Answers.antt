@@ -1,5 +1,5 @@
 use Rattle.std.proofs.Common.{◌+◌, ◌≤◌, ◌^◌, count_by, ap, ◌∙◌, subst}
-use Rattle.agg_cache.specs.declared.error.CollectError.TheVariants.{TooMany}
+use Rattle.agg_composite.specs.declared.visit_error.VisitError.TheVariants.{TooMany}
 use Rattle.agg_composite.specs.GroupCounts.{settled_keys}
 use Rattle.agg_composite.specs.KeyCounts.{CountsMore, count_in, entries_of}
 use Rattle.agg_composite.proofs.CountedAgain.{at}

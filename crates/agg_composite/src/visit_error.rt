@@ -1,0 +1,45 @@
+//! Why visits of tuples end early.
+ghost use Rattle.std.specs.Prelude.{◌≡◌};
+ghost use Rattle.agg_composite.specs.Visits.{collected};
+ghost use Rattle.agg_composite.specs.declared.visit_error.VisitError.TheVariants.{
+  OutOfMemory as NoMemory,
+};
+
+use agg_cache::CollectError;
+use agg_values::OutOfMemory;
+use std::alloc::AllocFailed;
+
+/// Why the visits of tuples ended before the last.
+#[derive(Clone, Copy, Debug, PartialEq, Eq)]
+pub enum VisitError {
+    TooMany,
+    OutOfMemory,
+}
+
+impl From<OutOfMemory> for VisitError {
+    ghost from_gives = { λ _ e. e ≡ NoMemory };
+
+    fn from(_error: OutOfMemory) -> VisitError {
+        VisitError::OutOfMemory
+    }
+}
+
+impl<T: Drop> From<AllocFailed<T>> for VisitError {
+    ghost from_gives = { λ _ e. e ≡ NoMemory };
+
+    fn from(_error: AllocFailed<T>) -> VisitError {
+        VisitError::OutOfMemory
+    }
+}
+
+impl From<VisitError> for CollectError {
+    ghost from_gives = { λ error e. e ≡ collected error };
+
+    /// The same, as a collector says it.
+    fn from(error: VisitError) -> CollectError {
+        match error {
+            VisitError::TooMany => CollectError::TooMany,
+            VisitError::OutOfMemory => CollectError::OutOfMemory,
+        }
+    }
+}
