@@ -1,13 +1,14 @@
 -- Composites without sub-results, as counts.
 use Rattle.std.proofs.Common.{◌≡◌, ℕ, zero, suc, ◌+◌, List, [], ◌∷◌, Some, Ok, Err, refl, sym}
 use Rattle.std.proofs.Common.{ap, ◌∙◌, subst, Ordering, ◌*◌, ◌<◌, ◌≤◌, Bool, true, false, cond}
-use Rattle.std.proofs.Common.{eqb, ltb, length, take, arith}
+use Rattle.std.proofs.Common.{eqb, ltb, length, take, drop, arith}
 use Rattle.std.specs.List.{All, AllByRecursion, insert, remove, slice_get}
 use Rattle.std.specs.Map.{values_of}
 use Rattle.std_collections.specs.Layout.BTreeMap.{one_further, seek}
 use Rattle.std_collections.specs.Layout.Columns.{set_value_at, length-set_value_at}
 use Rattle.std_collections.proofs.Seek.{found_at, seek-Ok}
-use Rattle.std.proofs.lemmas.List.Elements.{All-from_recursion, All-take, recursion_from_All}
+use Rattle.std.proofs.lemmas.List.Elements.{All-append, All-cons, All-drop, All-from_recursion}
+use Rattle.std.proofs.lemmas.List.Elements.{All-take, recursion_from_All}
 use Rattle.std.proofs.lemmas.Map.Entries.{length-values_of}
 use Rattle.std.proofs.lemmas.Option.{same_Some, slice_get-get_or}
 use Rattle.std.specs.Ordering.{match_ordering}
@@ -184,10 +185,39 @@ plain-counts : (counts : List Group) → AllByRecursion (λ e. IsPlain e.1) (pla
 plain-counts [] = tt
 plain-counts (g ∷ counts) = (refl, plain-counts counts)
 
-flat-of : (orders : SourceRules) (size : ℕ) (es : Entries) → All (λ e. IsPlain e.1) es
+-- a composite of entries without sub-results has none
+pub flat-of : (orders : SourceRules) (size : ℕ) (es : Entries) → All (λ e. IsPlain e.1) es
     → IsFlat (composite_of orders size es)
 flat-of orders size es plain =
     subst (λ c. All (λ e. IsPlain e.1) c.entries.1) (sym (opened orders size es)) plain
+
+-- with one more entry, with one fewer, and with another in a place
+pub plain-inserted : (es : Entries) (i : ℕ) (k : KeyTuple) (e : IntermediateTermBucketEntry)
+    → All (λ e. IsPlain e.1) es → IsPlain e → All (λ e. IsPlain e.1) (insert es i (k, e))
+plain-inserted es i k e plain own =
+    All-append (λ e. IsPlain e.1) (take i es) ((k, e) ∷ drop i es)
+    (All-take (λ e. IsPlain e.1) i es plain)
+    (All-cons (λ e. IsPlain e.1) (k, e) (drop i es) own
+    (All-drop (λ e. IsPlain e.1) i es plain))
+
+pub plain-removed : (es : Entries) (i : ℕ) → All (λ e. IsPlain e.1) es
+    → All (λ e. IsPlain e.1) (remove es i)
+plain-removed es i plain =
+    All-append (λ e. IsPlain e.1) (take i es) (drop (suc i) es)
+    (All-take (λ e. IsPlain e.1) i es plain) (All-drop (λ e. IsPlain e.1) (suc i) es plain)
+
+plain-written : (es : Entries) (i : ℕ) (e : IntermediateTermBucketEntry) → IsPlain e
+    → AllByRecursion (λ e. IsPlain e.1) es
+    → AllByRecursion (λ e. IsPlain e.1) (set_value_at es i e)
+plain-written [] i e own plain = tt
+plain-written (f ∷ es) zero e own plain = (own, plain.1)
+plain-written (f ∷ es) (suc i) e own plain = (plain.0, plain-written es i e own plain.1)
+
+pub plain-replaced : (es : Entries) (i : ℕ) (e : IntermediateTermBucketEntry) → IsPlain e
+    → All (λ e. IsPlain e.1) es → All (λ e. IsPlain e.1) (set_value_at es i e)
+plain-replaced es i e own plain =
+    All-from_recursion (λ e. IsPlain e.1) (set_value_at es i e)
+    (plain-written es i e own (recursion_from_All (λ e. IsPlain e.1) es plain))
 
 trimmed-plain : (b : Bool) (size : ℕ) (es : Entries) → All (λ e. IsPlain e.1) es
     → All (λ e. IsPlain e.1) (cond b (take size es) es)

@@ -1,6 +1,6 @@
 -- Intermediate results by name.
 use Rattle.std.proofs.Common.{◌≡◌, ℕ, Bool, true, false, cond, List, [], ◌∷◌, Option, None, Some}
-use Rattle.std.proofs.Common.{◌⊎◌, sym, ap, ◌∙◌, subst, inl, inr}
+use Rattle.std.proofs.Common.{◌⊎◌, refl, sym, ap, ◌∙◌, subst, inl, inr}
 use Rattle.std.specs.BTreeMap.{is_at}
 use Rattle.std.specs.List.{AllByRecursion}
 use Rattle.std.specs.List.Sorted.{IsStrictlySortedBy}
@@ -69,6 +69,21 @@ flat_without held name flat =
     All-from_map Flat (λ e. e.1) (without name held)
     (All-map-remove_entry (is_at (name_cmp name)) (λ e. e.1) Flat held
     (All-map Flat (λ e. e.1) held flat))
+
+-- what is left without a name has none
+pub flat_left : (held left : Held) (name : List ℕ) → left ≡ without name held → AreFlat held
+    → AreFlat left
+flat_left held left name is flat = subst AreFlat (sym is) (flat_without held name flat)
+
+-- nor what has one more result, behind that of its name
+pub flat_pushed : (held pushed : Held) (name : List ℕ) (value : Result)
+    → pushed ≡ put name (behind (value_of name held) value) held → AreFlat held
+    → IsFlat (held_composite value) → AreFlat pushed
+flat_pushed held pushed name value is flat value_flat =
+    subst AreFlat (sym is)
+    (flat_put held name (behind (value_of name held) value) flat
+    (flat_behind (value_of name held) value
+    (flat_found held name (value_of name held) refl flat) value_flat))
 
 -- ---- results of both sides
 

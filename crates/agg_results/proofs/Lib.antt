@@ -1,3 +1,4 @@
+pub mod Apart
 pub mod Appended
 pub mod BySource
 pub mod CompositeAppended

@@ -14,9 +14,13 @@ use composite.{roll-IntermediateCompositeBucketResult}
 use Rattle.agg_results.specs.declared.intermediate.entry.IntermediateTermBucketEntry as entry
 use entry.{IntermediateTermBucketEntry}
 
+-- a tuple, and what is held of it
+abbrev pub TupleEntry : Type 0
+TupleEntry = KeyTuple × IntermediateTermBucketEntry
+
 -- what a composite's result holds: entries by tuple
 abbrev pub Entries : Type 0
-Entries = List (KeyTuple × IntermediateTermBucketEntry)
+Entries = List TupleEntry
 
 -- intermediate results by name
 abbrev pub Held : Type 0

@@ -77,6 +77,7 @@ impl IntermediateCompositeBucketResult {
             ≡ composite_of (orders_of self.old) (target_size_of self.old)
             (remove_entry (same_key (tuple_order (orders_of self.old)) key)
             (entries_of self.old))) }
+        ensures flat { IsFlat self.new }
     {
         match self.entries.search(&key) {
             Ok(at) => self.merge_at(at, entry),
@@ -107,6 +108,7 @@ impl IntermediateCompositeBucketResult {
         ensures left { OnErr result (self.new
             ≡ composite_of (orders_of self.old) (target_size_of self.old)
             (remove (entries_of self.old) at)) }
+        ensures flat { IsFlat self.new }
     {
         if let Err(error) = self.entries.value_mut(at).merge_fruits(entry) {
             self.entries.remove(at);

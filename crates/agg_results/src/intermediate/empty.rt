@@ -2,7 +2,7 @@
 ghost use Rattle.std.specs.Prelude.{◌≡◌, [], IfOk};
 ghost use Rattle.agg_request.specs.Source.{rules_of};
 ghost use Rattle.agg_results.specs.Empty.{empty_result, empty_results};
-ghost use Rattle.agg_results.specs.Intermediate.{composite_of};
+ghost use Rattle.agg_results.specs.Intermediate.{AreFlat, composite_of};
 
 use super::{
     IntermediateAggregationResult, IntermediateAggregationResults, IntermediateBucketResult,
@@ -19,7 +19,8 @@ impl IntermediateAggregationResults {
         alloc: Global,
         req: &Aggregations,
     ) -> Result<IntermediateAggregationResults, OutOfMemory>
-        ensures { IfOk result (λ empty. empty.results ≡ empty_results req.now) }
+        ensures empty { IfOk result (λ empty. empty.results ≡ empty_results req.now) }
+        ensures flat { IfOk result (λ empty. AreFlat empty.results) }
     {
         let mut results = NameMap::new(alloc);
         for (name, aggregation) in req.iter() {

@@ -1,12 +1,13 @@
 //! Two ascending lists of entries as one.
-ghost use Rattle.std.specs.Prelude.{◌≡◌, ◌≤◌, ◌<◌, ◌+◌, ◌^◌, ◌++◌, [], All, IfNone, IfOk, IfSome};
-ghost use Rattle.std.specs.Prelude.{IsErrOf, OnOk, length};
+ghost use Rattle.std.specs.Prelude.{◌≡◌, ◌≤◌, ◌<◌, ◌+◌, ◌^◌, ◌++◌, ◌∷◌, ◌⊎◌, [], All, IfNone, IfOk};
+ghost use Rattle.std.specs.Prelude.{IfSome, IsErrOf, IsTrue, OnOk};
+ghost use Rattle.std.specs.declared.cmp.Ordering.TheVariants.{Less};
 ghost use Rattle.std.specs.List.Sorted.{IsStrictlySortedBy};
 ghost use Rattle.std.specs.Map.{keys_of};
-ghost use Rattle.std.specs.Option.{option_to_list};
 ghost use Rattle.agg_values.specs.KeyOrder.{tuple_order};
 ghost use Rattle.agg_results.specs.Counts.{PassesCount, merged};
-ghost use Rattle.agg_results.specs.Intermediate.{IsPlain, counts_of, plain_entries, plain_entry};
+ghost use Rattle.agg_results.specs.Intermediate.{Entries, IsPlain, TupleEntry, counts_of};
+ghost use Rattle.agg_results.specs.Intermediate.{plain_entries, plain_entry};
 
 use super::IntermediateTermBucketEntry;
 use crate::MergeError;
@@ -41,16 +42,95 @@ pub(super) fn merge_entries(
     let alloc = left.allocator();
     let (orders, left) = left.into_parts();
     let (_, right) = right.into_parts();
-    let entries = merge_ascending(
-        alloc,
-        &orders,
-        VecDeque::from_vec(left),
-        VecDeque::from_vec(right),
-    )?;
+    let entries = merge_lists(alloc, &orders, left, right)?;
     Ok(TupleMap::from_parts(orders, entries))
 }
 
-// Two ascending lists of entries as one, with those of one tuple merged.
+// Two ascending lists of entries as one, with those of one tuple merged. Of lists that don't
+// overlap the higher is moved as a whole.
+fn merge_lists(
+    alloc: Global,
+    orders: &[(Order, MissingOrder)],
+    left: Vec<HeldEntry>,
+    right: Vec<HeldEntry>,
+) -> Result<Vec<HeldEntry>, MergeError>
+    requires ascending { IsStrictlySortedBy (tuple_order orders.now) (keys_of left.items) }
+    requires other_ascending { IsStrictlySortedBy (tuple_order orders.now) (keys_of right.items) }
+    requires plain { All (λ e. IsPlain e.1) left.items }
+    requires other_plain { All (λ e. IsPlain e.1) right.items }
+    ensures counts { IfOk result (λ whole. counts_of whole.items
+        ≡ merged (tuple_order orders.now) (counts_of left.items) (counts_of right.items)) }
+    ensures plain { IfOk result (λ whole. All (λ e. IsPlain e.1) whole.items) }
+    ensures few { OnOk result (¬ (PassesCount
+        (merged (tuple_order orders.now) (counts_of left.items) (counts_of right.items)))) }
+    ensures mismatch { ¬ (IsErrOf result MergeError.Mismatch) }
+    ensures too_many { IsErrOf result MergeError.TooMany → PassesCount
+        (merged (tuple_order orders.now) (counts_of left.items) (counts_of right.items)) }
+{
+    if is_below(orders, &left, &right) {
+        return Ok(joined(left, right)?);
+    }
+    if is_below(orders, &right, &left) {
+        return Ok(joined(right, left)?);
+    }
+    merge_ascending(
+        alloc,
+        orders,
+        VecDeque::from_vec(left),
+        VecDeque::from_vec(right),
+    )
+}
+
+// Whether each entry of a list is below each of another. Their ends tell it.
+fn is_below(orders: &[(Order, MissingOrder)], lower: &[HeldEntry], upper: &[HeldEntry]) -> bool
+    requires ascending { IsStrictlySortedBy (tuple_order orders.now) (keys_of lower.now) }
+    requires other_ascending { IsStrictlySortedBy (tuple_order orders.now) (keys_of upper.now) }
+    ensures { IsTrue result
+        → All (λ f. All (λ e. tuple_order orders.now e.0 f.0 ≡ Less) lower.now) upper.now }
+{
+    let Some(last) = lower.last() else {
+        return true;
+    };
+    let Some(first) = upper.first() else {
+        return true;
+    };
+    tuple_ordering(orders, last.0.as_slice(), first.0.as_slice()).is_lt()
+}
+
+// A list behind another.
+fn joined(
+    mut lower: Vec<HeldEntry>,
+    mut upper: Vec<HeldEntry>,
+) -> Result<Vec<HeldEntry>, OutOfMemory>
+    ensures joined { IfOk result (λ whole. whole.items ≡ lower.items ++ upper.items) }
+    ensures few { IfOk result (λ whole. All (λ e. e.1.doc_count < 2 ^ 64) whole.items) }
+{
+    read_counts(&lower);
+    read_counts(&upper);
+    if lower.is_empty() {
+        return Ok(upper);
+    }
+    lower.append(&mut upper)?;
+    Ok(lower)
+}
+
+// Reads each count, since contracts know the range of a number that is read. Nothing of it is left
+// to run.
+fn read_counts(entries: &[HeldEntry])
+    ensures { All (λ e. e.1.doc_count < 2 ^ 64) entries.now }
+{
+    for (_, entry) in entries {
+        read_count(entry);
+    }
+}
+
+fn read_count(entry: &IntermediateTermBucketEntry)
+    ensures { entry.now.doc_count < 2 ^ 64 }
+{
+    let _count = entry.doc_count;
+}
+
+// Two ascending lists of entries as one, entry by entry.
 fn merge_ascending(
     alloc: Global,
     orders: &[(Order, MissingOrder)],
@@ -70,9 +150,21 @@ fn merge_ascending(
         (merged (tuple_order orders.now) (counts_of left.items) (counts_of right.items)) }
 {
     let mut whole = with_room(alloc, left.len().saturating_add(right.len()))?;
-    while let Some(entry) = next_entry(orders, &mut left, &mut right)? {
-        whole.push(entry)?;
+    while let Some(order) = order_of_first(orders, &left, &right) {
+        match order {
+            Ordering::Less => {
+                move_first(&mut left, &mut whole)?;
+            }
+            Ordering::Greater => {
+                move_first(&mut right, &mut whole)?;
+            }
+            Ordering::Equal => {
+                move_both(&mut left, &mut right, &mut whole)?;
+            }
+        }
     }
+    move_all(left, &mut whole)?;
+    move_all(right, &mut whole)?;
     Ok(whole)
 }
 
@@ -83,53 +175,78 @@ fn with_room(alloc: Global, len: usize) -> Result<Vec<HeldEntry>, OutOfMemory>
     Ok(Vec::with_capacity(alloc, len)?)
 }
 
-// Takes the lower of the first entries, or both as one where they have one tuple.
-fn next_entry(
+// How the first entries compare, None where one list has ended.
+fn order_of_first(
     orders: &[(Order, MissingOrder)],
+    left: &VecDeque<HeldEntry>,
+    right: &VecDeque<HeldEntry>,
+) -> Option<Ordering>
+    ensures some { IfSome result (λ order.
+        (e : TupleEntry) × (f : TupleEntry) × (es : Entries) × (fs : Entries)
+        × (left.now.items ≡ e ∷ es) × (right.now.items ≡ f ∷ fs)
+        × (tuple_order orders.now e.0 f.0 ≡ order)) }
+    ensures none { IfNone result ((left.now.items ≡ []) ⊎ (right.now.items ≡ [])) }
+{
+    let first = left.front()?;
+    let other = right.front()?;
+    Some(tuple_ordering(orders, first.0.as_slice(), other.0.as_slice()))
+}
+
+// Moves the first entry, if there is one, behind others.
+fn move_first(from: &mut VecDeque<HeldEntry>, whole: &mut Vec<HeldEntry>) -> Result<(), OutOfMemory>
+    ensures { OnOk result ((e : TupleEntry) (es : Entries)
+        → from.old.items ≡ e ∷ es
+        → (whole.new.items ≡ whole.old.items ++ e ∷ []) × (from.new.items ≡ es)
+        × (e.1.doc_count < 2 ^ 64)) }
+{
+    let Some(entry) = from.pop_front() else {
+        return Ok(());
+    };
+    whole.push(entry)?;
+    Ok(())
+}
+
+// Moves the first entries of both lists, which have one tuple, behind others as one.
+fn move_both(
     left: &mut VecDeque<HeldEntry>,
     right: &mut VecDeque<HeldEntry>,
-) -> Result<Option<HeldEntry>, MergeError>
-    requires ascending { IsStrictlySortedBy (tuple_order orders.now) (keys_of right.now.items) }
+    whole: &mut Vec<HeldEntry>,
+) -> Result<(), MergeError>
     requires plain { All (λ e. IsPlain e.1) left.now.items }
     requires other_plain { All (λ e. IsPlain e.1) right.now.items }
-    ensures next { IfOk result (λ next.
-        merged (tuple_order orders.now) (counts_of left.old.items) (counts_of right.old.items)
-        ≡ counts_of (option_to_list next)
-        ++ merged (tuple_order orders.now) (counts_of left.new.items)
-        (counts_of right.new.items)) }
-    ensures entry { IfOk result (λ next. IfSome next (λ e.
-        IsPlain e.1 × (e.1.doc_count < 2 ^ 64))) }
-    ensures end { IfOk result (λ next. IfNone next
-        (merged (tuple_order orders.now) (counts_of left.old.items) (counts_of right.old.items)
-        ≡ [])) }
-    ensures fewer { IfOk result (λ next. IfSome next (λ _.
-        length left.new.items + length right.new.items
-        < length left.old.items + length right.old.items)) }
-    ensures ascending { OnOk result
-        (IsStrictlySortedBy (tuple_order orders.now) (keys_of right.new.items)) }
-    ensures plain { OnOk result (All (λ e. IsPlain e.1) left.new.items) }
-    ensures other_plain { OnOk result (All (λ e. IsPlain e.1) right.new.items) }
+    ensures ok { OnOk result ((e : TupleEntry) (f : TupleEntry) (es : Entries) (fs : Entries)
+        → left.old.items ≡ e ∷ es
+        → right.old.items ≡ f ∷ fs
+        → (whole.new.items
+        ≡ whole.old.items ++ (e.0, plain_entry (e.1.doc_count + f.1.doc_count)) ∷ [])
+        × (left.new.items ≡ es) × (right.new.items ≡ fs)
+        × (e.1.doc_count + f.1.doc_count < 2 ^ 64)) }
     ensures mismatch { ¬ (IsErrOf result MergeError.Mismatch) }
-    ensures too_many { IsErrOf result MergeError.TooMany → PassesCount
-        (merged (tuple_order orders.now) (counts_of left.old.items)
-        (counts_of right.old.items)) }
+    ensures too_many { IsErrOf result MergeError.TooMany
+        → (e : TupleEntry) (f : TupleEntry) (es : Entries) (fs : Entries)
+        → left.old.items ≡ e ∷ es
+        → right.old.items ≡ f ∷ fs
+        → 2 ^ 64 ≤ e.1.doc_count + f.1.doc_count }
 {
-    let Some(first) = left.front() else {
-        return Ok(right.pop_front());
+    let Some(held) = left.pop_front() else {
+        return Ok(());
     };
-    let Some(other) = right.front() else {
-        return Ok(left.pop_front());
+    let Some((_, other)) = right.pop_front() else {
+        return Ok(());
     };
-    match tuple_ordering(orders, first.0.as_slice(), other.0.as_slice()) {
-        Ordering::Less => Ok(left.pop_front()),
-        Ordering::Greater => Ok(right.pop_front()),
-        Ordering::Equal => {
-            let (Some(entry), Some((_, other))) = (left.pop_front(), right.pop_front()) else {
-                return Ok(None);
-            };
-            Ok(Some(merged_entry(entry, other)?))
-        }
+    whole.push(merged_entry(held, other)?)?;
+    Ok(())
+}
+
+// Moves all entries behind others.
+fn move_all(mut from: VecDeque<HeldEntry>, whole: &mut Vec<HeldEntry>) -> Result<(), OutOfMemory>
+    ensures moved { OnOk result (whole.new.items ≡ whole.old.items ++ from.items) }
+    ensures few { OnOk result (All (λ e. e.1.doc_count < 2 ^ 64) from.items) }
+{
+    while let Some(entry) = from.pop_front() {
+        whole.push(entry)?;
     }
+    Ok(())
 }
 
 // An entry with what another of its tuple holds.

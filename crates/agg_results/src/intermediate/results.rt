@@ -90,6 +90,7 @@ impl IntermediateAggregationResults {
             → ¬ (SomeOfBoth ShapesDiffer self.old.results ((key, value) ∷ []))
             × SomeOfBoth CountsPass self.old.results ((key, value) ∷ []) }
         ensures left { OnErr result (self.new.results ≡ without key self.old.results) }
+        ensures flat { AreFlat self.new.results }
     {
         let _ = self.results.len();
         let value = behind(self.results.remove(&key), value)?;

@@ -1,51 +1,126 @@
-use Rattle.std.proofs.Common.{◌^◌, ◌<◌, ◌∙◌, subst}
-use Rattle.std.specs.Option.{IfSome}
-use Rattle.std.proofs.lemmas.List.Elements.{All-push}
+use Rattle.std.proofs.Common.{◌≡◌, ◌++◌, ap, ◌∙◌, subst, arith, length}
 use Rattle.agg_values.specs.KeyOrder.{tuple_order}
+use Rattle.agg_values.proofs.TupleOrder.{tuple_order-total}
 use Rattle.agg_results.specs.Counts.{PassesCount, merged}
-use Rattle.agg_results.specs.Intermediate.{IsPlain, counts_of}
+use Rattle.agg_results.specs.Intermediate.{counts_of}
 use Rattle.agg_results.specs.declared.error.MergeError.TheVariants.{TooMany}
 use Rattle.agg_results.proofs.Exits.{error-kept}
-use Rattle.agg_results.proofs.TwoWay.{finished, moved, none_passes, passes_behind}
+use Rattle.agg_results.proofs.TwoWay.{all-counted, all-few, all-plain, both_pass, next_both}
+use Rattle.agg_results.proofs.TwoWay.{next_left, next_right, none_passes}
 use Rattle.agg_results.proofs.intermediate.merging.merge_ascending.Goals as goal
+use Rattle.agg_results.proofs.intermediate.merging.merge_ascending.Goals.{In_ok-move_all-2}
 
-pub returns-in_err-entry-clause-too_many : goal.returns-in_err-entry-clause-too_many
-returns-in_err-entry-clause-too_many c = λ is.
-    let was = error-kept c.from_residual-in_err-entry.result c.in_err-entry.field-0.0 TooMany
-    c.from_residual-in_err-entry.ensures.1 is in
-    subst PassesCount c.loop-whole.invariant.same
-    (passes_behind (counts_of c.loop-whole.whole.items) _ (c.in_err-entry.ensures.too_many was))
+-- ---- the first of the left is below
 
-pub loop-whole-preserved : goal.loop-whole-preserved
-loop-whole-preserved c =
-    let R = tuple_order c.args.orders.now in
-    let before = c.loop-whole in
-    let entry = c.in-Some.entry in
-    let after = c.next_entry.new in
-    let next = c.in_ok-entry.ensures in
-    let own = subst (λ n. IfSome n (λ e. IsPlain e.1 × (e.1.doc_count < 2 ^ 64))) c.in-Some.is
-    next.entry in
-    record {
-      ascending = next.ascending;
-      plain = next.plain;
-      other_plain = next.other_plain;
-      whole_plain = rw c.in_ok-push.ensures.items
-          (All-push (λ e. IsPlain e.1) before.whole.items entry before.invariant.whole_plain own.0);
-      few = rw c.in_ok-push.ensures.items
-          (All-push (λ e. e.1.doc_count < 2 ^ 64) before.whole.items entry before.invariant.few
-          own.1);
-      same = moved before.whole.items c.push.new.self.items entry c.in_ok-entry.field-0
-          (merged R (counts_of before.left.items) (counts_of before.right.items))
-          (merged R (counts_of after.left.items) (counts_of after.right.items))
-          c.in_ok-push.ensures.items c.in-Some.is next.next ∙ before.invariant.same;
-    }
+pub loop-order-smaller-in-Continue-branch-2 : goal.loop-order-smaller-in-Continue-branch-2
+loop-order-smaller-in-Continue-branch-2 c =
+    let at = c.in-Some.ensures.some in
+    let moved = c.in_ok-move_first-in-Less.ensures at.0 at.2 at.4 in
+    omega (arith, ap length at.4, ap length moved.1)
+
+pub loop-order-preserved-in-Continue-branch-2 : goal.loop-order-preserved-in-Continue-branch-2
+loop-order-preserved-in-Continue-branch-2 c =
+    let rules = c.args.orders.now in
+    let at = c.in-Some.ensures.some in
+    let moved = c.in_ok-move_first-in-Less.ensures at.0 at.2 at.4 in
+    next_left (tuple_order rules)
+    (merged (tuple_order rules) (counts_of c.args.left.items) (counts_of c.args.right.items))
+    (tuple_order-total rules) at.0 at.1 at.2 at.3 c.loop-order.whole.items c.loop-order.left.items
+    c.loop-order.right.items at.4 at.5 c.loop-order.invariant c.move_first.new.from.items
+    c.move_first.new.whole.items moved.1 moved.0 (at.6 ∙ c.in-Less.is) moved.2
+
+-- ---- the first of the right is below
+
+pub loop-order-smaller-in-Continue-branch-3 : goal.loop-order-smaller-in-Continue-branch-3
+loop-order-smaller-in-Continue-branch-3 c =
+    let at = c.in-Some.ensures.some in
+    let moved = c.in_ok-move_first-in-Greater.ensures at.1 at.3 at.5 in
+    omega (arith, ap length at.5, ap length moved.1)
+
+pub loop-order-preserved-in-Continue-branch-3 : goal.loop-order-preserved-in-Continue-branch-3
+loop-order-preserved-in-Continue-branch-3 c =
+    let rules = c.args.orders.now in
+    let at = c.in-Some.ensures.some in
+    let moved = c.in_ok-move_first-in-Greater.ensures at.1 at.3 at.5 in
+    next_right (tuple_order rules)
+    (merged (tuple_order rules) (counts_of c.args.left.items) (counts_of c.args.right.items))
+    (tuple_order-total rules) at.0 at.1 at.2 at.3 c.loop-order.whole.items c.loop-order.left.items
+    c.loop-order.right.items at.4 at.5 c.loop-order.invariant
+    c.move_first-in-Greater.new.from.items c.move_first-in-Greater.new.whole.items moved.1 moved.0
+    (at.6 ∙ c.in-Greater.is) moved.2
+
+-- ---- both first ones have one tuple
+
+pub loop-order-smaller : goal.loop-order-smaller
+loop-order-smaller c =
+    let at = c.in-Some.ensures.some in
+    let moved = c.in_ok-move_both-in-Equal.ensures.ok at.0 at.1 at.2 at.3 at.4 at.5 in
+    omega (arith, ap length at.4, ap length at.5, ap length moved.1, ap length moved.2)
+
+pub loop-order-preserved : goal.loop-order-preserved
+loop-order-preserved c =
+    let rules = c.args.orders.now in
+    let at = c.in-Some.ensures.some in
+    let moved = c.in_ok-move_both-in-Equal.ensures.ok at.0 at.1 at.2 at.3 at.4 at.5 in
+    next_both (tuple_order rules)
+    (merged (tuple_order rules) (counts_of c.args.left.items) (counts_of c.args.right.items))
+    (tuple_order-total rules) at.0 at.1 at.2 at.3 c.loop-order.whole.items c.loop-order.left.items
+    c.loop-order.right.items at.4 at.5 c.loop-order.invariant c.move_both.new.left.items
+    c.move_both.new.right.items c.move_both.new.whole.items moved.1 moved.2 moved.0
+    (at.6 ∙ c.in-Equal.is) moved.3
+
+pub returns-in_err-move_both-in-Equal-clause-too_many :
+    goal.returns-in_err-move_both-in-Equal-clause-too_many
+returns-in_err-move_both-in-Equal-clause-too_many c = λ is.
+    let rules = c.args.orders.now in
+    let at = c.in-Some.ensures.some in
+    let was = error-kept c.from_residual-in_err-move_both-in-Equal.result
+    c.in_err-move_both-in-Equal.field-0.0 TooMany
+    c.from_residual-in_err-move_both-in-Equal.ensures.1 is in
+    both_pass (tuple_order rules)
+    (merged (tuple_order rules) (counts_of c.args.left.items) (counts_of c.args.right.items))
+    (tuple_order-total rules) at.0 at.1 at.2 at.3 c.loop-order.whole.items c.loop-order.left.items
+    c.loop-order.right.items at.4 at.5 c.loop-order.invariant (at.6 ∙ c.in-Equal.is)
+    (c.in_err-move_both-in-Equal.ensures.too_many was at.0 at.1 at.2 at.3 at.4 at.5)
+
+-- ---- one has ended
+
+moved : (c : In_ok-move_all-2) → c.move_all-2.new.whole.items
+    ≡ (c.loop-order.whole.items ++ c.loop-order.left.items) ++ c.loop-order.right.items
+moved c =
+    c.in_ok-move_all-2.ensures.moved
+    ∙ ap (λ es. es ++ c.loop-order.right.items) c.in_ok-move_all.ensures.moved
+
+pub returns-clause-counts : goal.returns-clause-counts
+returns-clause-counts c =
+    let rules = c.args.orders.now in
+    all-counted (tuple_order rules)
+    (merged (tuple_order rules) (counts_of c.args.left.items) (counts_of c.args.right.items))
+    (tuple_order-total rules) c.loop-order.left.items c.loop-order.right.items
+    c.loop-order.whole.items c.move_all-2.new.whole.items (moved c) c.loop-order.invariant
+    c.in_default.ensures.none
+
+pub returns-clause-plain : goal.returns-clause-plain
+returns-clause-plain c =
+    let rules = c.args.orders.now in
+    all-plain (tuple_order rules)
+    (merged (tuple_order rules) (counts_of c.args.left.items) (counts_of c.args.right.items))
+    (tuple_order-total rules) c.loop-order.left.items c.loop-order.right.items
+    c.loop-order.whole.items c.move_all-2.new.whole.items (moved c) c.loop-order.invariant
 
 pub returns-clause-few : goal.returns-clause-few
 returns-clause-few c =
-    let R = tuple_order c.args.orders.now in
-    let at_end = c.loop-whole in
-    let whole = finished at_end.whole.items c.in_ok-entry.field-0
-    (merged R (counts_of at_end.left.items) (counts_of at_end.right.items)) c.in_default.is
-    c.in_ok-entry.ensures.end ∙ at_end.invariant.same in
-    subst (λ counts. ¬ (PassesCount counts)) whole
-    (none_passes at_end.whole.items at_end.invariant.few)
+    let rules = c.args.orders.now in
+    let counts = merged (tuple_order rules) (counts_of c.args.left.items)
+    (counts_of c.args.right.items) in
+    let left = c.loop-order.left.items in
+    let right = c.loop-order.right.items in
+    let whole = c.loop-order.whole.items in
+    let all = c.move_all-2.new.whole.items in
+    let now = c.loop-order.invariant in
+    subst (λ counts. ¬ (PassesCount counts))
+    (all-counted (tuple_order rules) counts (tuple_order-total rules) left right whole all (moved c)
+    now c.in_default.ensures.none)
+    (none_passes all
+    (all-few (tuple_order rules) counts (tuple_order-total rules) left right whole all (moved c) now
+    c.in_ok-move_all.ensures.few c.in_ok-move_all-2.ensures.few))

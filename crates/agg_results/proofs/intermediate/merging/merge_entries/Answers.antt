@@ -14,8 +14,8 @@ same_counts : (c : In_ok-entries) → counts_of c.in_ok-entries.entries.items
     ≡ merged (tuple_order c.args.left.0) (counts_of c.args.left.1) (counts_of c.args.right.1)
 same_counts c =
     let rules = c.deref.ensures.value ∙ c.into_parts-orders.ensures.orders in
-    let left = c.from_vec.ensures.items ∙ c.into_parts-orders.ensures.entries in
-    let right = c.from_vec-2.ensures.items ∙ c.into_parts-right.ensures.entries in
+    let left = c.into_parts-orders.ensures.entries in
+    let right = c.into_parts-right.ensures.entries in
     c.in_ok-entries.ensures.counts
     ∙ (λ i. merged (tuple_order (rules i)) (counts_of (left i)) (counts_of (right i)))
 

@@ -1,13 +1,15 @@
-use Rattle.std.proofs.Common.{◌≡◌, Ok, Err, refl, sym, ap, ◌∙◌}
+use Rattle.std.proofs.Common.{◌≡◌, Ok, Err, refl, sym, ap, ◌∙◌, subst}
+use Rattle.std.specs.List.{insert}
 use Rattle.std.proofs.lemmas.Result.{on_ok_weaker, on_err_weaker}
 use Rattle.std_collections.specs.Layout.BTreeMap.{seek}
 use Rattle.std_collections.proofs.Seek.{found_at}
 use Rattle.agg_values.specs.KeyOrder.{tuple_order}
 use Rattle.agg_values.proofs.NamePlaces.{missing_stays}
 use Rattle.agg_values.proofs.TupleOrder.{tuple_order-total}
-use Rattle.agg_results.specs.Intermediate.{composite_of, entries_of, orders_of, target_size_of}
-use Rattle.agg_results.proofs.Composites.{counted, put_entry, raised_entry, value-counted}
-use Rattle.agg_results.proofs.Composites.{within}
+use Rattle.agg_results.specs.Intermediate.{IsFlat, composite_of, entries_of, orders_of}
+use Rattle.agg_results.specs.Intermediate.{target_size_of}
+use Rattle.agg_results.proofs.Composites.{counted, flat-of, plain-inserted, put_entry}
+use Rattle.agg_results.proofs.Composites.{raised_entry, value-counted, within}
 use Rattle.agg_results.proofs.Exits.{on_err}
 use Rattle.agg_results.proofs.intermediate.composite.IntermediateCompositeBucketResult.add_entry.Goals as goal
 use Rattle.agg_results.proofs.intermediate.composite.IntermediateCompositeBucketResult.add_entry.Goals.{In-Ok, In-Err}
@@ -78,3 +80,13 @@ returns-in_ok-insert-in-Err-clause-ok c =
     ∙ ap (composite_of (orders_of held) (target_size_of held))
     (put_entry (orders_of held) (entries_of held) c.requires.flat c.args.key c.in-Err.at
     c.args.entry.doc_count c.args.entry c.requires.plain refl at)
+
+pub returns-in_ok-insert-in-Err-clause-flat : goal.returns-in_ok-insert-in-Err-clause-flat
+returns-in_ok-insert-in-Err-clause-flat c =
+    let held = c.args.self.now in
+    subst (λ m. IsFlat (composite_of m.0 (target_size_of held) m.1))
+    (sym c.in_ok-insert-in-Err.ensures.ok)
+    (flat-of (orders_of held) (target_size_of held)
+    (insert (entries_of held) c.in-Err.at (c.args.key, c.args.entry))
+    (plain-inserted (entries_of held) c.in-Err.at c.args.key c.args.entry c.requires.flat
+    c.requires.plain))

@@ -1,9 +1,11 @@
-use Rattle.std.proofs.Common.{◌≡◌, ◌+◌, sym, ap, ◌∙◌}
+use Rattle.std.proofs.Common.{◌≡◌, ◌+◌, sym, ap, ◌∙◌, subst}
+use Rattle.std.specs.List.{remove}
 use Rattle.std.proofs.lemmas.Option.{same_Some}
 use Rattle.std_collections.specs.Layout.Columns.{set_value_at}
-use Rattle.agg_results.specs.Intermediate.{composite_of, entries_of, orders_of, plain_entry}
-use Rattle.agg_results.specs.Intermediate.{target_size_of}
-use Rattle.agg_results.proofs.Composites.{count-at, gone, plain-at, still_there}
+use Rattle.agg_results.specs.Intermediate.{IsFlat, composite_of, entries_of, orders_of}
+use Rattle.agg_results.specs.Intermediate.{plain_entry, target_size_of}
+use Rattle.agg_results.proofs.Composites.{count-at, flat-of, gone, plain-at, plain-removed}
+use Rattle.agg_results.proofs.Composites.{plain-replaced, still_there}
 use Rattle.agg_results.proofs.intermediate.composite.IntermediateCompositeBucketResult.merge_at.Goals as goal
 
 pub merge_fruits-requires-clause-plain : goal.merge_fruits-requires-clause-plain
@@ -31,6 +33,15 @@ returns-in-Err-clause-left c =
     gone (orders_of held) (target_size_of held) (entries_of held) c.args.at c.merge_fruits.new.self
     c.remove.new.self c.remove.ensures
 
+pub returns-in-Err-clause-flat : goal.returns-in-Err-clause-flat
+returns-in-Err-clause-flat c =
+    let held = c.args.self.now in
+    let left = gone (orders_of held) (target_size_of held) (entries_of held) c.args.at
+    c.merge_fruits.new.self c.remove.new.self c.remove.ensures in
+    subst IsFlat (sym left)
+    (flat-of (orders_of held) (target_size_of held) (remove (entries_of held) c.args.at)
+    (plain-removed (entries_of held) c.args.at c.requires.flat))
+
 pub returns-clause-ok : goal.returns-clause-ok
 returns-clause-ok c =
     let held = c.args.self.now in
@@ -41,3 +52,11 @@ returns-clause-ok c =
     = same_Some _ _ (sym (count-at es c.args.at entry c.value_mut.ensures.value) ∙ at) in
     ap (λ e. composite_of (orders_of held) (target_size_of held) (set_value_at es c.args.at e))
     (c.in_default.ensures.ok ∙ ap (λ n. plain_entry (n + c.args.entry.doc_count)) same)
+
+pub returns-clause-flat : goal.returns-clause-flat
+returns-clause-flat c =
+    let held = c.args.self.now in
+    let entry = c.merge_fruits.new.self in
+    flat-of (orders_of held) (target_size_of held) (set_value_at (entries_of held) c.args.at entry)
+    (plain-replaced (entries_of held) c.args.at entry
+    (ap (λ e. e.sub_aggregation.results) c.in_default.ensures.ok) c.requires.flat)

@@ -1,8 +1,11 @@
-use Rattle.std.proofs.Common.{ap, ◌++◌, ◌∙◌}
+use Rattle.std.proofs.Common.{◌≡◌, ap, ◌++◌, ◌∙◌, subst, sym}
 use Rattle.agg_values.specs.Names.{put}
-use Rattle.agg_results.specs.Empty.{empty_result}
+use Rattle.agg_results.specs.Empty.{empty_result, empty_results}
+use Rattle.agg_results.specs.Intermediate.{AreFlat}
+use Rattle.agg_results.proofs.FlatResults.{empty_results-flat}
 use Rattle.agg_results.proofs.MadeByName.{by_name, by_name-all, by_name-more}
 use Rattle.agg_results.proofs.intermediate.results.IntermediateAggregationResults.empty_from_req.Goals as goal
+use Rattle.agg_results.proofs.intermediate.results.IntermediateAggregationResults.empty_from_req.Goals.{In-None}
 
 pub loop-name-init : goal.loop-name-init
 loop-name-init c =
@@ -30,7 +33,16 @@ loop-name-preserved c =
     ∙ ap (λ n. put n c.in_ok-empty.empty c.loop-name.results) c.in_ok-try_clone.ensures)
     c.in_ok-empty.ensures
 
-pub returns : goal.returns
-returns c =
+-- the results of all names
+made : (c : In-None) → c.loop-name.results ≡ empty_results c.args.req.now
+made c =
     by_name-all (λ a. empty_result a.1.agg) c.args.req.now c.loop-name.name-iterator
     c.loop-name.results c.loop-name.invariant c.in-None.ensures.steps.0
+
+pub returns-clause-empty : goal.returns-clause-empty
+returns-clause-empty c = made (goal.at.returns-clause-empty c).In-None
+
+pub returns-clause-flat : goal.returns-clause-flat
+returns-clause-flat c =
+    subst AreFlat (sym (made (goal.at.returns-clause-flat c).In-None))
+    (empty_results-flat c.args.req.now)

@@ -6,10 +6,10 @@ use Rattle.std.proofs.lemmas.Map.Lookups.{exact_bytes}
 use Rattle.std.proofs.lemmas.Option.{none-some, same_Some}
 use Rattle.agg_values.specs.Names.{name_cmp, value_of}
 use Rattle.agg_results.specs.Intermediate.{AreFlat}
-use Rattle.agg_results.specs.Merging.{CountsPass, ShapesDiffer, SomeOfBoth, behind}
+use Rattle.agg_results.specs.Merging.{CountsPass, ShapesDiffer, SomeOfBoth}
 use Rattle.agg_results.specs.declared.error.MergeError.TheVariants.{Mismatch, TooMany}
 use Rattle.agg_results.proofs.Exits.{ended, error-kept}
-use Rattle.agg_results.proofs.HeldResults.{flat_behind, flat_found, flat_put, flat_without}
+use Rattle.agg_results.proofs.HeldResults.{flat_found, flat_without}
 use Rattle.agg_results.proofs.NameValues.{Among, among_keys, sorted-gone}
 use Rattle.agg_results.proofs.PushedResults.{AreNamed, all_merged, named_on, none_told}
 use Rattle.agg_results.proofs.PushedResults.{pushed_none, pushed_some, same_on, told_first}
@@ -47,11 +47,7 @@ loop-name-preserved-in-Continue-branch-2 c =
     let pushed = pushed_some name value held others new rest before.invariant.ascending at
     c.in-Some-remove.ensures.rest c.in_ok-push.ensures.ok in
     record {
-      flat = subst AreFlat (sym c.in_ok-push.ensures.ok)
-          (flat_put held name (behind (value_of name held) value) before.invariant.flat
-          (flat_behind (value_of name held) value
-          (flat_found held name (value_of name held) refl before.invariant.flat)
-          (flat_found others name (Some value) at before.invariant.other_flat)));
+      flat = c.in_ok-push.ensures.flat;
       other_flat = subst AreFlat (sym c.in-Some-remove.ensures.rest)
           (flat_without others name before.invariant.other_flat);
       ascending = subst (λ es. IsStrictlySortedBy name_cmp (keys_of es))

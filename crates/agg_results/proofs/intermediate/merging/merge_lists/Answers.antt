@@ -1,0 +1,48 @@
+use Rattle.std.proofs.Common.{◌≡◌, subst}
+use Rattle.agg_values.specs.KeyOrder.{tuple_order}
+use Rattle.agg_values.proofs.TupleOrder.{tuple_order-total}
+use Rattle.agg_results.specs.Counts.{PassesCount, merged}
+use Rattle.agg_results.specs.Intermediate.{counts_of}
+use Rattle.agg_results.proofs.Apart.{whole_left, whole_right}
+use Rattle.agg_results.proofs.TwoWay.{none_passes}
+use Rattle.agg_results.proofs.intermediate.merging.merge_lists.Goals as goal
+use Rattle.agg_results.proofs.intermediate.merging.merge_lists.Goals.{In_ok-joined, In_ok-joined-2}
+
+-- the right is behind the left
+right_behind : (c : In_ok-joined) → counts_of c.in_ok-joined.field-0.items
+    ≡ merged (tuple_order c.args.orders.now) (counts_of c.args.left.items)
+    (counts_of c.args.right.items)
+right_behind c =
+    let rules = c.args.orders.now in
+    whole_right (tuple_order rules) (tuple_order-total rules) c.args.left.items c.args.right.items
+    c.deref.result.now c.deref-2.result.now c.in_ok-joined.field-0.items c.deref.ensures.value
+    c.deref-2.ensures.value (c.is_below.ensures c.if-is_below.true) c.requires.other_ascending
+    c.in_ok-joined.ensures.joined
+
+-- the left is behind the right
+left_behind : (c : In_ok-joined-2) → counts_of c.in_ok-joined-2.field-0.items
+    ≡ merged (tuple_order c.args.orders.now) (counts_of c.args.left.items)
+    (counts_of c.args.right.items)
+left_behind c =
+    let rules = c.args.orders.now in
+    whole_left (tuple_order rules) (tuple_order-total rules) c.args.right.items c.args.left.items
+    c.deref-3.result.now c.deref-4.result.now c.in_ok-joined-2.field-0.items
+    c.deref-3.ensures.value c.deref-4.ensures.value
+    (c.is_below-2.ensures c.if-is_below-2.true) c.requires.other_ascending
+    c.in_ok-joined-2.ensures.joined
+
+pub returns-then-is_below-clause-counts : goal.returns-then-is_below-clause-counts
+returns-then-is_below-clause-counts c = right_behind c
+
+pub returns-then-is_below-clause-few : goal.returns-then-is_below-clause-few
+returns-then-is_below-clause-few c =
+    subst (λ counts. ¬ (PassesCount counts)) (right_behind c)
+    (none_passes c.in_ok-joined.field-0.items c.in_ok-joined.ensures.few)
+
+pub returns-then-is_below-2-clause-counts : goal.returns-then-is_below-2-clause-counts
+returns-then-is_below-2-clause-counts c = left_behind c
+
+pub returns-then-is_below-2-clause-few : goal.returns-then-is_below-2-clause-few
+returns-then-is_below-2-clause-few c =
+    subst (λ counts. ¬ (PassesCount counts)) (left_behind c)
+    (none_passes c.in_ok-joined-2.field-0.items c.in_ok-joined-2.ensures.few)
