@@ -1,21 +1,26 @@
--- After keys from which no source goes on behind a Null that has no bucket.
+-- After keys from which each source goes on.
 use Rattle.std.proofs.Common.{◌≡◌, ◌≢◌, ℕ, List, Option, None, Some, refl}
 use Rattle.std.specs.Prelude.{option_map}
 use Rattle.std.specs.List.{All, Contains}
 use Rattle.std.proofs.lemmas.List.Elements.{recursion_from_All}
 use Rattle.std.proofs.lemmas.Slice.Zip.{AllZip-long}
 use Rattle.agg_values.specs.Tuple.{KeyTuple}
+use Rattle.agg_values.specs.TypedKey.{CompositeIntermediateKey}
 use Rattle.agg_values.specs.declared.after_key.AfterKey.{AfterKey}
 use Rattle.agg_values.specs.declared.typed_key.CompositeIntermediateKey.TheVariants.{Null}
 use Rattle.agg_segment.specs.Document.{Fields}
 use Rattle.agg_request.specs.BySource.{after_map}
-use Rattle.agg_request.specs.Faults.{HaveOwnNames, IsBehindNoBucket}
+use Rattle.agg_request.specs.Faults.{HasAfterOfOtherType, HasInterval, HaveOwnNames}
+use Rattle.agg_request.specs.Faults.{IsBehindNoBucket, IsOfOtherType}
 use Rattle.agg_request.specs.Occurrences.{occurrences, occurrences_in}
 use Rattle.agg_request.specs.Source.{Sources}
 use Rattle.agg_request.specs.declared.aggregation.CompositeAggregation.{CompositeAggregation}
+use Rattle.agg_request.specs.declared.source.CompositeAggregationSource.{CompositeAggregationSource}
 use Rattle.agg_request.proofs.Lists.{AllByRecursion-Has, Contains-from_Has, Has-from_Contains}
 use Rattle.agg_request.proofs.Lists.{Has-from_flat_map}
-use Rattle.agg_request.proofs.SourceKeys.{IsNullByBucket, after_map-sound, occurrence-Null}
+use Rattle.agg_request.proofs.SourceKeys.{IsNullByBucket, after_map-own, after_map-sound}
+use Rattle.agg_request.proofs.SourceKeys.{occurrence-Null}
+use Rattle.agg_composite.specs.Accessors.{IsOtherAfter}
 use Rattle.agg_engine.specs.PageAnswers.{MayGoOnFrom}
 
 -- no field of a document holds Null
@@ -27,18 +32,29 @@ null-value : (o : Option AfterKey) → option_map (λ k. k.0) o ≡ Some Null
 null-value None e = cc e
 null-value (Some k) e = let inner : k.0 ≡ Null = cc e in λ i. Some (record { 0 = inner i })
 
+-- an after value that is of another type is some value
+other-value : (source : CompositeAggregationSource) (o : Option AfterKey)
+    → IsOtherAfter source (option_map (λ k. k.0) o)
+    → (k : CompositeIntermediateKey) × (o ≡ Some (record { 0 = k })) × IsOfOtherType source k
+other-value source None other = absurd other
+other-value source (Some k) other = (k.0, refl, other)
+
 -- a composite that may be asked goes on from its own after key
 pub MayGoOnFrom-own : (c : CompositeAggregation)
-    → All (λ source. ¬ (IsBehindNoBucket c source)) c.sources → MayGoOnFrom c.sources c.after
-MayGoOnFrom-own c allowed i d within null =
-    allowed i d within (null-value _ null.0, null.1)
+    → All (λ source. ¬ (IsBehindNoBucket c source)) c.sources → All HasInterval c.sources
+    → All (λ source. ¬ (HasAfterOfOtherType c source)) c.sources → MayGoOnFrom c.sources c.after
+MayGoOnFrom-own c allowed intervals types i d within = record {
+  missing = λ null. allowed i d within (null-value _ null.0, null.1);
+  interval = intervals i d within;
+  same_type = λ other. types i d within (other-value _ _ other);
+}
 
 -- a composite goes on from the after key of a tuple of documents without Null
 pub MayGoOnFrom-behind : (sources : Sources) (documents : List Fields) (tuple : KeyTuple)
-    → HaveOwnNames sources → All HasNoNull documents
+    → HaveOwnNames sources → All HasInterval sources → All HasNoNull documents
     → Contains (occurrences_in sources documents) tuple
     → MayGoOnFrom sources (after_map sources tuple)
-MayGoOnFrom-behind sources documents tuple own_names no_null occurs =
+MayGoOnFrom-behind sources documents tuple own_names intervals no_null occurs =
     let from = Has-from_flat_map (occurrences sources) documents tuple
     (Has-from_Contains (occurrences_in sources documents) tuple occurs) in
     let document = AllByRecursion-Has HasNoNull documents from.0
@@ -52,3 +68,4 @@ MayGoOnFrom-behind sources documents tuple own_names no_null occurs =
       after = after_map sources tuple;
     } in
     MayGoOnFrom-own behind (after_map-sound behind from.0 tuple refl own_names long document held)
+    intervals (after_map-own behind from.0 tuple refl own_names long held)

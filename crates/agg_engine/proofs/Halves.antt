@@ -11,6 +11,7 @@ use Rattle.agg_segment.specs.Document.{Fields}
 use Rattle.agg_segment.specs.Query.{matches}
 use Rattle.agg_segment.specs.Segment.{Stored, documents_of}
 use Rattle.agg_segment.specs.declared.query.QueryTree.{QueryTree}
+use Rattle.agg_segment.proofs.Encoded.{back_all, front_all}
 use Rattle.agg_request.specs.declared.aggregation.Aggregation.{Aggregation}
 use Rattle.agg_request.specs.Uncut.{uncut}
 use Rattle.agg_request.specs.declared.aggregation.AggregationVariants.TheVariants.{Composite}
@@ -26,11 +27,25 @@ abbrev pub matching_in : QueryTree → List Stored → List Fields
 matching_in query segments = filter (matches query) (flat_map documents_of segments)
 
 -- those of two lists of segments
-matching-append : (query : QueryTree) (first second : List Stored)
+pub matching-append : (query : QueryTree) (first second : List Stored)
     → matching_in query (first ++ second) ≡ matching_in query first ++ matching_in query second
 matching-append query first second =
     ap (filter (matches query)) (flat_map-append documents_of first second)
     ∙ filter-append (matches query) (flat_map documents_of first) (flat_map documents_of second)
+
+-- what holds of what matches in all segments holds of it in each of two parts
+pub matching-parts : (P : Fields → Type 0) (query : QueryTree) (segments first second : List Stored)
+    (at : ℕ) → first ≡ take at segments → second ≡ drop at segments
+    → All P (matching_in query segments)
+    → All P (matching_in query first) × All P (matching_in query second)
+matching-parts P query segments first second at front back all =
+    let split : segments ≡ first ++ second =
+    sym (take-append-drop at segments) ∙ (λ i. sym front i ++ sym back i) in
+    let whole = subst (All P)
+    (ap (matching_in query) split ∙ matching-append query first second) all in (
+      front_all P (matching_in query first) (matching_in query second) whole,
+      back_all P (matching_in query first) (matching_in query second) whole,
+    )
 
 -- how many documents a composite counts in two lists of them
 counted-append : (composite : CompositeAggregation) (documents others : List Fields)

@@ -45,10 +45,12 @@ module _ (composite : CompositeAggregation) where
 
   -- the error of a collector
   pub collected-refusal : (documents : List Fields) (given : CollectError)
+      → ¬ (given ≡ collect.BucketOutOfRange)
       → (given ≡ collect.TooMany → IsHeldRefusal composite documents 0 error.TooMany)
       → IsHeldRefusal composite documents 0 (error_from_collect given)
-  collected-refusal documents collect.TooMany many = many refl
-  collected-refusal documents collect.OutOfMemory many = tt
+  collected-refusal documents collect.BucketOutOfRange in_range many = in_range refl
+  collected-refusal documents collect.TooMany in_range many = many refl
+  collected-refusal documents collect.OutOfMemory in_range many = tt
 
   -- with more counted before, the same refusal
   pub refusal-later : (documents : List Fields) (counted later : ℕ) (given : WalkError)
@@ -58,4 +60,5 @@ module _ (composite : CompositeAggregation) where
   refusal-later documents counted later error.OutOfMemory more many = tt
   refusal-later documents counted later (error.Invalid fault) more refused = refused
   refusal-later documents counted later error.UnknownComposite more refused = refused
+  refusal-later documents counted later error.BucketOutOfRange more refused = refused
   refusal-later documents counted later (error.Aggregation part) more refused = refused

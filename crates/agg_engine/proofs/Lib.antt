@@ -10,6 +10,8 @@ pub mod OneRequest
 pub mod OneWalk
 pub mod PageBound
 pub mod PageHere
+pub mod Ranges
+pub mod RequestFaults
 pub mod Snapshots
 pub mod StandingPage
 pub mod WalkState

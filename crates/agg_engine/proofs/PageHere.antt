@@ -12,6 +12,7 @@ use Rattle.agg_segment.specs.declared.query.QueryTree.{QueryTree}
 use Rattle.agg_request.specs.Occurrences.{bound_of}
 use Rattle.agg_request.specs.Page.{Entry, IsPage}
 use Rattle.agg_request.specs.Request.{Request}
+use Rattle.agg_request.specs.Ranges.{HasStartOutOfRange}
 use Rattle.agg_request.specs.Uncut.{CountsTooMany}
 use Rattle.agg_request.specs.declared.aggregation.Aggregation.{Aggregation}
 use Rattle.agg_request.specs.declared.aggregation.AggregationVariants.TheVariants.{Composite}
@@ -22,7 +23,7 @@ use Rattle.agg_results.specs.Results.{buckets_in}
 use Rattle.agg_engine.specs.PageAnswers.{asked}
 use Rattle.agg_engine.specs.Refusals.{AreRefused}
 use Rattle.agg_engine.specs.Snapshot.{SnapshotDocuments}
-use Rattle.agg_engine.specs.Walk.{HasTooMany, matching_documents, request_at_size}
+use Rattle.agg_engine.specs.Walk.{HasOutOfRange, HasTooMany, matching_documents, request_at_size}
 use Rattle.agg_engine.specs.declared.walk.error.WalkError.{WalkError}
 use Rattle.agg_engine.specs.declared.walk.error.WalkError.TheVariants as error
 use Rattle.agg_engine.proofs.OneRequest.{one_from, one_from-sized, value-own}
@@ -89,6 +90,15 @@ module _ (name : List ℕ) (query : QueryTree) (a : Aggregation) (c : CompositeA
     abbrev pub AreRefusedHere : WalkError → Type 0
     AreRefusedHere = AreRefused limit request_here (matching_documents query s)
 
+    out_of_range-here : HasOutOfRange request_here (matching_documents query s)
+        → HasStartOutOfRange (Composite c) (matching_documents query s)
+    out_of_range-here out =
+        elim (subst (λ request. HasOutOfRange request (matching_documents query s))
+        (one_from-sized name a c after s.page_size) out) [
+          | inl h ↦ h
+          | inr h ↦ absurd h
+        ]
+
     too_many-here : HasTooMany request_here (matching_documents query s)
         → CountsTooMany (Composite c) (matching_documents query s)
     too_many-here many =
@@ -98,19 +108,31 @@ module _ (name : List ℕ) (query : QueryTree) (a : Aggregation) (c : CompositeA
           | inr h ↦ absurd h
         ]
 
+    -- a bucket starts out of range
+    pub refused-out_of_range : HasStartOutOfRange (Composite c) (matching_documents query s)
+        → AreRefusedHere error.BucketOutOfRange
+    refused-out_of_range out =
+        subst (λ request. HasOutOfRange request (matching_documents query s))
+        (sym (one_from-sized name a c after s.page_size)) (inl out)
+
     -- too many documents are counted
-    pub refused-too_many : CountsTooMany (Composite c) (matching_documents query s)
+    pub refused-too_many : ¬ (HasStartOutOfRange (Composite c) (matching_documents query s))
+        → CountsTooMany (Composite c) (matching_documents query s)
         → AreRefusedHere error.TooMany
-    refused-too_many many =
-        subst (λ request. HasTooMany request (matching_documents query s))
-        (sym (one_from-sized name a c after s.page_size)) (inl many)
+    refused-too_many in_range many = (
+      λ out. in_range (out_of_range-here out),
+      subst (λ request. HasTooMany request (matching_documents query s))
+          (sym (one_from-sized name a c after s.page_size)) (inl many),
+    )
 
     module _ (page : List Entry) (is_page : IsPageHere page)
+        (in_range : ¬ (HasStartOutOfRange (Composite c) (matching_documents query s)))
         (few : ¬ (CountsTooMany (Composite c) (matching_documents query s))) where
       -- the page has more buckets than the limit
       pub refused-buckets : (given n : ℕ) → given ≡ limit → n ≡ buckets_in (results_of page)
           → limit < n → AreRefusedHere (error.Aggregation (aggregation.BucketLimitExceeded given n))
       refused-buckets given n given_is n_is more = (
+        λ out. in_range (out_of_range-here out),
         λ many. few (too_many-here many),
         given_is,
         more,
@@ -120,10 +142,11 @@ module _ (name : List ℕ) (query : QueryTree) (a : Aggregation) (c : CompositeA
       -- or no more, and then it isn't refused
       pub not-refused : buckets_in (results_of page) ≤ limit → (other : WalkError)
           → ¬ (AreRefusedHere other)
-      not-refused fit error.TooMany many = few (too_many-here many)
+      not-refused fit error.BucketOutOfRange out = in_range (out_of_range-here out)
+      not-refused fit error.TooMany refused = few (too_many-here refused.1)
       not-refused fit (error.Aggregation (aggregation.BucketLimitExceeded given n)) refused =
-          let more = refused.2 in
-          let others = refused.3 in
+          let more = refused.3 in
+          let others = refused.4 in
           let counted = others.2
           ∙ ap buckets_in (results-own others.0 others.1 page is_page) in
           omega arith

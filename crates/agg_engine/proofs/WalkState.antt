@@ -10,9 +10,10 @@ use Rattle.agg_values.specs.Tuple.{KeyTuple}
 use Rattle.agg_values.specs.declared.after_key.AfterKey.{AfterKey}
 use Rattle.agg_segment.specs.declared.query.QueryTree.{QueryTree}
 use Rattle.agg_request.specs.BySource.{after_map}
-use Rattle.agg_request.specs.Faults.{HaveOwnNames}
+use Rattle.agg_request.specs.Faults.{HasInterval, HaveOwnNames}
 use Rattle.agg_request.specs.Occurrences.{bound_of}
 use Rattle.agg_request.specs.Page.{Entry}
+use Rattle.agg_request.specs.Ranges.{HasStartOutOfRange}
 use Rattle.agg_request.specs.Uncut.{CountsTooMany}
 use Rattle.agg_request.specs.declared.aggregation.Aggregation.{Aggregation}
 use Rattle.agg_request.specs.declared.aggregation.AggregationVariants.TheVariants.{Composite}
@@ -85,6 +86,7 @@ module _ (limit : ℕ) (name : List ℕ) (query : QueryTree) (a : Aggregation)
     state-refused error refused = state.reaches error (inl refused)
 
     module _ (page : List Entry) (is_page : IsPageHere name query a c after s page)
+        (in_range : ¬ (HasStartOutOfRange (Composite c) (matching_documents query s)))
         (few : ¬ (CountsTooMany (Composite c) (matching_documents query s)))
         (fit : buckets_in (results_of name query a c after s page) ≤ limit) where
       -- the results of the page
@@ -112,7 +114,7 @@ module _ (limit : ℕ) (name : List ℕ) (query : QueryTree) (a : Aggregation)
       refused-goes_on error refused =
           elim refused [
             | inl h ↦
-                absurd (not-refused name query a c after s limit page is_page few fit error h)
+                absurd (not-refused name query a c after s limit page is_page in_range few fit error h)
             | inr h ↦ subst (λ o. MatchOption o ⊥ (RefusedBehind error))
                 (after-page name query a c after s h.1.0 h.1.1 page is_page) h.1.2
           ]
@@ -155,11 +157,12 @@ module _ (limit : ℕ) (name : List ℕ) (query : QueryTree) (a : Aggregation)
           (refused-goes_on error (state.fits error refused))
 
       -- a full page goes on behind its last tuple
-      pub state-more : HaveOwnNames c.sources → All HasNoNull (matching_documents query s)
+      pub state-more : HaveOwnNames c.sources → All HasInterval c.sources
+          → All HasNoNull (matching_documents query s)
           → (tuple : KeyTuple) → after_tuple s.page_size page ≡ Some tuple
           → WalkState limit name query a c snapshots (after_map c.sources tuple) rest
           (pages ++ shown ∷ [])
-      state-more own_names no_null tuple last = record {
+      state-more own_names intervals no_null tuple last = record {
         results = state.results ++ this ∷ [];
         pages_shown = pages-more;
         few = few-more;
@@ -177,7 +180,7 @@ module _ (limit : ℕ) (name : List ℕ) (query : QueryTree) (a : Aggregation)
             (subst (λ o. MatchOption o ⊥ (RefusedBehind error)) last
             (refused-goes_on error (state.fits error refused)));
         reaches = λ error refused. state.reaches error (inr (
-          not-refused name query a c after s limit page is_page few fit,
+          not-refused name query a c after s limit page is_page in_range few fit,
           (
             this,
             results-page name query a c after s page is_page,
@@ -187,7 +190,7 @@ module _ (limit : ℕ) (name : List ℕ) (query : QueryTree) (a : Aggregation)
           ),
         ));
         may_go_on = MayGoOnFrom-behind c.sources
-            (matching_documents query s) tuple own_names no_null
+            (matching_documents query s) tuple own_names intervals no_null
             (after-occurs c.sources s.page_size (bound_of c.sources after)
             (matching_documents query s) page tuple is_page last);
       }

@@ -17,6 +17,7 @@ use Rattle.agg_request.specs.BySource.{after_map}
 use Rattle.agg_request.specs.Faults.{IsSound, IsSoundRequest}
 use Rattle.agg_request.specs.Occurrences.{bound_of}
 use Rattle.agg_request.specs.Page.{Entry}
+use Rattle.agg_request.specs.Ranges.{AreInRange, HasStartOutOfRange}
 use Rattle.agg_request.specs.Request.{Request}
 use Rattle.agg_request.specs.Uncut.{CountsTooMany, uncut}
 use Rattle.agg_request.specs.declared.aggregation.Aggregation.{Aggregation}
@@ -35,6 +36,7 @@ use Rattle.agg_results.specs.declared.results.types.AggregationResults.{Aggregat
 use Rattle.agg_engine.specs.Form.{IsOneComposite}
 use Rattle.agg_engine.specs.NamedComposite.{IsCompositeNamed}
 use Rattle.agg_engine.specs.PageAnswers.{AnswersHeld, AreFew, IsFinalRefusal, IsHeldRefusal, asked}
+use Rattle.agg_engine.specs.PageAnswers.{IsStartRefusal}
 use Rattle.agg_engine.specs.PageAnswers.{shown_after_of}
 use Rattle.agg_engine.specs.Refusals.{HasCause, IsRefused}
 use Rattle.agg_engine.specs.Snapshot.{SnapshotDocuments, snapshot_documents, snapshots_documents}
@@ -48,7 +50,7 @@ use Rattle.agg_engine.proofs.OneRequest.{named-one, one}
 use Rattle.agg_engine.proofs.PageBound.{IsShown, after-occurs, after_map-some, shown-none}
 use Rattle.agg_engine.proofs.PageBound.{shown-some, shown_after-page}
 use Rattle.agg_engine.proofs.PageHere.{AreRefusedHere, IsPageHere, refused-buckets}
-use Rattle.agg_engine.proofs.PageHere.{refused-too_many, results_of}
+use Rattle.agg_engine.proofs.PageHere.{refused-out_of_range, refused-too_many, results_of}
 use Rattle.agg_engine.proofs.WalkState.{WalkState, few-more, state-ended, state-ended-fits}
 use Rattle.agg_engine.proofs.WalkState.{state-more, state-out, state-refused, state-start}
 
@@ -86,7 +88,7 @@ walking-start limit name query request snapshots composite (given, a, c, request
       request_is = one_is;
       sound = sound_one;
       state = state-start limit name query a composite snapshots (MayGoOnFrom-own composite
-          sound_one.after);
+          sound_one.after sound_one.intervals sound_one.types);
     }
 
 -- a sound composite has as many sources as it may have
@@ -103,6 +105,7 @@ pub record IsHeldHere (name : List ℕ) (query : QueryTree) (composite : Composi
     (after : Named AfterKey) (s : SnapshotDocuments) (held : Held) : Type 0 where
   pub stands : StandsFor (asked name composite s.page_size after) (matching_documents query s) held
   pub flat : AreFlat held
+  pub range : ¬ (HasStartOutOfRange (Composite composite) (matching_documents query s))
   pub few : ¬ (CountsTooMany (Composite composite) (matching_documents query s))
 
 -- what a call for the results of its segments holds
@@ -110,20 +113,23 @@ pub held-here : (name : List ℕ) (query : QueryTree) (composite : CompositeAggr
     (after own : Named AfterKey) (s : SnapshotDocuments) (documents : List Fields) (counted : ℕ)
     (held : IntermediateAggregationResults)
     → AnswersHeld name composite s.page_size own documents 0 counted (Ok held)
-    → AreFlat held.results → own ≡ after → documents ≡ matching_documents query s
+    → AreFlat held.results → All (AreInRange composite.sources) documents
+    → own ≡ after → documents ≡ matching_documents query s
     → IsHeldHere name query composite after s held.results
-held-here name query composite after own s documents counted held answer flat own_is are = record {
-  stands = subst (λ ds. StandsFor (asked name composite s.page_size after) ds held.results) are
-      (subst (λ k. StandsFor (asked name composite s.page_size k) documents held.results) own_is
-      answer.held);
-  flat = flat;
-  few = λ many.
-      let own_many : CountsTooMany (Composite composite) documents =
-      subst (CountsTooMany (Composite composite)) (sym are) many in
-      let counted_is = answer.counted_is in
-      let few = answer.few in
-      omega arith;
-}
+held-here name query composite after own s documents counted held answer flat in_range own_is are =
+    record {
+      stands = subst (λ ds. StandsFor (asked name composite s.page_size after) ds held.results) are
+          (subst (λ k. StandsFor (asked name composite s.page_size k) documents held.results) own_is
+          answer.held);
+      flat = flat;
+      range = λ out. out (subst (All (AreInRange composite.sources)) are in_range);
+      few = λ many.
+          let own_many : CountsTooMany (Composite composite) documents =
+          subst (CountsTooMany (Composite composite)) (sym are) many in
+          let counted_is = answer.counted_is in
+          let few = answer.few in
+          omega arith;
+    }
 
 -- at a snapshot
 module _ {limit : ℕ} {name : List ℕ} {query : QueryTree} {request : Request}
@@ -140,18 +146,35 @@ module _ {limit : ℕ} {name : List ℕ} {query : QueryTree} {request : Request}
       given refused)
 
   -- a refusal of what its segments hold
-  pub cause-held : MayBeAsked name request snapshots → (given : WalkError)
+  pub cause-held : MayBeAsked name request snapshots
+      → All (AreInRange composite.sources) (matching_documents query s) → (given : WalkError)
       → IsHeldRefusal composite (matching_documents query s) 0 given
       → HasCause limit name query request snapshots given
-  cause-held asked (error.Invalid fault) refused = absurd refused
-  cause-held asked error.UnknownComposite refused = absurd refused
-  cause-held asked error.TooMany refused = (
+  cause-held asked in_range (error.Invalid fault) refused = absurd refused
+  cause-held asked in_range error.UnknownComposite refused = absurd refused
+  cause-held asked in_range error.BucketOutOfRange refused = absurd refused
+  cause-held asked in_range error.TooMany refused = (
     asked,
     walking-refused error.TooMany (refused-too_many name query w.aggregation composite after s limit
-        (omega arith)),
+        (λ out. out in_range) (omega arith)),
   )
-  cause-held asked (error.Aggregation part) refused = absurd refused
-  cause-held asked error.OutOfMemory refused = tt
+  cause-held asked in_range (error.Aggregation part) refused = absurd refused
+  cause-held asked in_range error.OutOfMemory refused = tt
+
+  -- a refusal before its documents are counted
+  pub cause-starts : MayBeAsked name request snapshots → (given : WalkError)
+      → IsStartRefusal composite (matching_documents query s) given
+      → HasCause limit name query request snapshots given
+  cause-starts asked (error.Invalid fault) refused = absurd refused
+  cause-starts asked error.UnknownComposite refused = absurd refused
+  cause-starts asked error.BucketOutOfRange refused = (
+    asked,
+    walking-refused error.BucketOutOfRange (refused-out_of_range name query w.aggregation composite
+        after s limit refused),
+  )
+  cause-starts asked error.TooMany refused = absurd refused
+  cause-starts asked (error.Aggregation part) refused = absurd refused
+  cause-starts asked error.OutOfMemory refused = tt
 
   -- with what its segments hold
   module _ {held : Held} (h : IsHeldHere name query composite after s held) where
@@ -195,8 +218,8 @@ module _ {limit : ℕ} {name : List ℕ} {query : QueryTree} {request : Request}
         let more = refused.2 in (
           asked,
           walking-refused (error.Aggregation (aggregation.BucketLimitExceeded given n))
-              (refused-buckets name query w.aggregation composite after s limit page is_page h.few
-              given n refused.0 (refused.1 ∙ buckets) (omega arith)),
+              (refused-buckets name query w.aggregation composite after s limit page is_page
+              h.range h.few given n refused.0 (refused.1 ∙ buckets) (omega arith)),
         )
     cause-final asked (error.Aggregation (aggregation.MemoryExceeded given n)) refused =
         absurd refused
@@ -204,6 +227,7 @@ module _ {limit : ℕ} {name : List ℕ} {query : QueryTree} {request : Request}
         absurd refused
     cause-final asked (error.Invalid fault) refused = absurd refused
     cause-final asked error.UnknownComposite refused = absurd refused
+    cause-final asked error.BucketOutOfRange refused = absurd refused
     cause-final asked error.TooMany refused = absurd refused
     cause-final asked error.OutOfMemory refused = tt
 
@@ -241,7 +265,7 @@ module _ {limit : ℕ} {name : List ℕ} {query : QueryTree} {request : Request}
       walking-ended none =
           let out =
           state-ended limit name query w.aggregation composite snapshots after s rest pages w.state
-          page is_page h.few few_buckets (no_more none) in (
+          page is_page h.range h.few few_buckets (no_more none) in (
             out.0,
             subst (λ r. IsWalk name query r snapshots out.0 true) (sym w.request_is) out.1,
             subst (λ r. pages ++ results ∷ [] ≡ map (shown_results r) out.0) (sym w.request_is)
@@ -252,14 +276,14 @@ module _ {limit : ℕ} {name : List ℕ} {query : QueryTree} {request : Request}
           → ¬ (IsRefused limit name query request snapshots given)
       walking-ended-fits none given refused =
           state-ended-fits limit name query w.aggregation composite snapshots after s rest pages
-          w.state page is_page h.few few_buckets (no_more none) given
+          w.state page is_page h.range h.few few_buckets (no_more none) given
           (subst (λ r. IsRefused limit name query r snapshots given) w.request_is refused)
 
       pub walking-few : All (λ p. results_buckets p ≤ limit) (pages ++ results ∷ [])
       walking-few =
           subst (λ r. All (λ p. results_buckets p ≤ limit) (pages ++ r ∷ [])) (sym (is ∙ final))
           (few-more limit name query w.aggregation composite snapshots after s rest pages w.state
-          page is_page h.few few_buckets)
+          page is_page h.range h.few few_buckets)
 
       -- a full page
       pub walking-more : All HasNoNull (matching_documents query s) → (own : Named AfterKey)
@@ -271,7 +295,8 @@ module _ {limit : ℕ} {name : List ℕ} {query : QueryTree} {request : Request}
           shown-some composite.sources next (after_tuple s.page_size page) own shown_next some in
           let more =
           state-more limit name query w.aggregation composite snapshots after s rest pages w.state
-          page is_page h.few few_buckets w.sound.names no_null last.0 last.1 in
+          page is_page h.range h.few few_buckets w.sound.names w.sound.intervals no_null last.0
+          last.1 in
           record {
             aggregation = w.aggregation;
             request_is = w.request_is;

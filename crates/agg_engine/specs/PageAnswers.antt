@@ -9,9 +9,10 @@ use Rattle.agg_request.specs.Faults.{max_sources}
 use Rattle.agg_request.specs.Source.{Sources}
 use Rattle.agg_request.specs.declared.aggregation.CompositeAggregation.{CompositeAggregation}
 use Rattle.agg_request.specs.declared.aggregation.AggregationVariants.TheVariants.{Composite}
+use Rattle.agg_request.specs.Ranges.{HasStartOutOfRange}
 use Rattle.agg_request.specs.Request.{Request}
 use Rattle.agg_request.specs.Uncut.{uncut}
-use Rattle.agg_composite.specs.Accessors.{IsNullAfter, after_of}
+use Rattle.agg_composite.specs.Accessors.{HasAccessors, after_of}
 use Rattle.agg_results.specs.BucketCount.{results_buckets}
 use Rattle.agg_results.specs.Final.{HaveTooMany, final_results}
 use Rattle.agg_results.specs.Intermediate.{Held}
@@ -27,16 +28,25 @@ use Rattle.agg_results.specs.declared.results.types.BucketResult.{BucketResult, 
 use Rattle.agg_results.specs.declared.results.types.CompositeBucketEntry.{CompositeBucketEntry}
 use Rattle.agg_engine.specs.declared.walk.error.WalkError.{WalkError}
 use Rattle.agg_engine.specs.declared.walk.error.WalkError.TheVariants.{Aggregation, OutOfMemory}
-use Rattle.agg_engine.specs.declared.walk.error.WalkError.TheVariants.{TooMany}
+use Rattle.agg_engine.specs.declared.walk.error.WalkError.TheVariants.{BucketOutOfRange, TooMany}
 
 -- as many sources as a composite may have
 pub record AreFew (sources : Sources) : Type 0 where
   pub some : 1 ≤ length sources
   pub few : length sources ≤ max_sources
 
--- no source is to go on from a Null that has no bucket
+-- each source has accessors for its value in an after key: it has what it divides values by, and
+-- the value is one of its keys, Null only where that has a bucket
 abbrev pub MayGoOnFrom : Sources → Named AfterKey → Type 0
-MayGoOnFrom sources after = All (λ source. ¬ (IsNullAfter source (after_of after source))) sources
+MayGoOnFrom sources after = All (λ source. HasAccessors source (after_of after source)) sources
+
+-- why a page is refused before its documents are counted: a bucket starts outside i64; want of
+-- memory needs no cause
+abbrev pub IsStartRefusal : CompositeAggregation → List Fields → WalkError → Type 0
+IsStartRefusal composite documents BucketOutOfRange =
+    HasStartOutOfRange (Composite composite) documents
+IsStartRefusal composite documents OutOfMemory = ⊤
+IsStartRefusal composite documents _ = ⊥
 
 -- why there are no results: with so many counted before, the composite counts too many documents;
 -- want of memory needs no cause

@@ -3,21 +3,26 @@ use Rattle.std.specs.Prelude.{◌≡◌, ◌<◌, ◌⊎◌, ℕ, List, [], ◌�
 use Rattle.agg_values.specs.declared.request_error.AggregationError.TheVariants as aggregation
 use Rattle.agg_segment.specs.Document.{Fields}
 use Rattle.agg_segment.specs.declared.query.QueryTree.{QueryTree}
+use Rattle.agg_request.specs.Faults.{RequestHasTextFault}
 use Rattle.agg_request.specs.Request.{Request}
 use Rattle.agg_results.specs.Results.{IsResults, Results, after_in, buckets_in}
 use Rattle.agg_engine.specs.NamedComposite.{NamesComposite}
 use Rattle.agg_engine.specs.Snapshot.{SnapshotDocuments}
-use Rattle.agg_engine.specs.Walk.{HasFault, HasTooMany, MayBeAsked, matching_documents}
+use Rattle.agg_engine.specs.Walk.{HasFault, HasOutOfRange, HasTooMany, MayBeAsked}
+use Rattle.agg_engine.specs.Walk.{matching_documents}
 use Rattle.agg_engine.specs.Walk.{request_at_size, request_behind}
 use Rattle.agg_engine.specs.declared.walk.error.WalkError.{WalkError}
 use Rattle.agg_engine.specs.declared.walk.error.WalkError.TheVariants as error
 
--- why the results of a request over documents are refused: too many documents are counted, or,
--- where not, there are more buckets than the limit
+-- why the results of a request over documents are refused: a bucket starts outside i64, or, where
+-- none does, too many documents are counted, or, where not, there are more buckets than the limit
 abbrev pub AreRefused : ℕ → Request → List Fields → WalkError → Type 0
-AreRefused limit request documents error.TooMany = HasTooMany request documents
+AreRefused limit request documents error.BucketOutOfRange = HasOutOfRange request documents
+AreRefused limit request documents error.TooMany =
+    (¬ (HasOutOfRange request documents)) × HasTooMany request documents
 AreRefused limit request documents (error.Aggregation (aggregation.BucketLimitExceeded given n)) =
-    (¬ (HasTooMany request documents)) × (given ≡ limit) × (limit < n)
+    (¬ (HasOutOfRange request documents)) × (¬ (HasTooMany request documents))
+    × (given ≡ limit) × (limit < n)
     × ((results : Results) × IsResults request documents results × (n ≡ buckets_in results))
 AreRefused limit request documents _ = ⊥
 
@@ -41,6 +46,9 @@ abbrev pub HasCause : ℕ → List ℕ → QueryTree → Request → List Snapsh
 HasCause limit name query request snapshots (error.Invalid fault) = HasFault request snapshots fault
 HasCause limit name query request snapshots error.UnknownComposite =
     ¬ (NamesComposite name request)
+HasCause limit name query request snapshots
+    (error.Aggregation (aggregation.DateHistogramParseError part)) =
+    RequestHasTextFault request (aggregation.DateHistogramParseError part)
 HasCause limit name query request snapshots error.OutOfMemory = ⊤
 HasCause limit name query request snapshots error =
     MayBeAsked name request snapshots × IsRefused limit name query request snapshots error

@@ -15,6 +15,7 @@ use Rattle.agg_request.specs.declared.aggregation.AggregationVariants.{Aggregati
 use Rattle.agg_request.specs.declared.aggregation.AggregationVariants.TheVariants.{Composite}
 use Rattle.agg_request.specs.BySource.{after_map}
 use Rattle.agg_request.specs.Faults.{IsSoundRequest, RequestHasFault}
+use Rattle.agg_request.specs.Ranges.{HasStartOutOfRange}
 use Rattle.agg_request.specs.Request.{Request}
 use Rattle.agg_request.specs.Uncut.{CountsTooMany}
 use Rattle.agg_engine.specs.NamedComposite.{NamesComposite}
@@ -67,6 +68,12 @@ IsWalk name query request (s ∷ snapshots) (r ∷ rs) ended =
     × MatchOption (after_in name r)
     ((rs ≡ []) × (ended ≡ true))
     (λ tuple. IsWalk name query (request_behind name tuple request) snapshots rs ended)
+
+-- some start of a bucket of a request lies outside i64
+abbrev pub HasOutOfRange : Request → List Fields → Type 0
+HasOutOfRange [] documents = ⊥
+HasOutOfRange (a ∷ request) documents =
+    HasStartOutOfRange a.1.agg documents ⊎ HasOutOfRange request documents
 
 -- some aggregation of a request counts too many documents
 abbrev pub HasTooMany : Request → List Fields → Type 0

@@ -14,7 +14,7 @@ use Rattle.agg_cache.specs.declared.error.CollectError.TheVariants as collect
 use Rattle.agg_engine.specs.declared.walk.error.WalkError.{WalkError}
 use Rattle.agg_engine.specs.declared.walk.error.WalkError.TheVariants.{Invalid, UnknownComposite}
 use Rattle.agg_engine.specs.declared.walk.error.WalkError.TheVariants.{TooMany, OutOfMemory}
-use Rattle.agg_engine.specs.declared.walk.error.WalkError.TheVariants.{Aggregation}
+use Rattle.agg_engine.specs.declared.walk.error.WalkError.TheVariants.{Aggregation, BucketOutOfRange}
 
 -- the name of an argument's error
 abbrev pub argument_name : InvalidArgument → List ℕ
@@ -45,12 +45,14 @@ aggregation_name (aggregation.BucketLimitExceeded limit current) = codes "Bucket
 abbrev pub error_name : WalkError → List ℕ
 error_name (Invalid given) = argument_name given
 error_name UnknownComposite = codes "UnknownComposite"
+error_name BucketOutOfRange = codes "BucketOutOfRange"
 error_name TooMany = codes "TooMany"
 error_name (Aggregation given) = aggregation_name given
 error_name OutOfMemory = codes "OutOfMemory"
 
 -- the error of a walk for that of a collector
 abbrev pub error_from_collect : CollectError → WalkError
+error_from_collect collect.BucketOutOfRange = BucketOutOfRange
 error_from_collect collect.TooMany = TooMany
 error_from_collect collect.OutOfMemory = OutOfMemory
 

@@ -7,6 +7,7 @@ mod finish;
 mod held;
 mod matching;
 mod page;
+mod ranges;
 mod segment;
 
 ghost use Rattle.std.specs.Prelude.{◌≡◌, ◌≤◌, All, IfErr, IfOk, OnOk, IsErrOf};
@@ -100,8 +101,9 @@ pub fn walk_pages<L: Ledger>(
             after: bound::after_key(&before, &composite.after),
             query,
         };
-        let mut counted = 0;
         let segments = snapshot.segments.as_slice();
+        ranges::check_starts(alloc, &page, segments)?;
+        let mut counted = 0;
         let held = segments_results(alloc, &page, segments, &mut counted, steps)?;
         let results = page_results(held, request, limits)?;
         before = bound::next_after(alloc, &results, name)?;

@@ -16,6 +16,8 @@ pub enum WalkError {
     Invalid(InvalidArgument),
     #[error("the name is that of no composite of the request")]
     UnknownComposite,
+    #[error("a bucket starts outside 64 bits")]
+    BucketOutOfRange,
     #[error("too many occurrences")]
     TooMany,
     #[error(transparent)]
@@ -32,6 +34,7 @@ impl WalkError {
         match self {
             WalkError::Invalid(argument) => argument_name(argument),
             WalkError::UnknownComposite => "UnknownComposite",
+            WalkError::BucketOutOfRange => "BucketOutOfRange",
             WalkError::TooMany => "TooMany",
             WalkError::Aggregation(error) => aggregation_name(error),
             WalkError::OutOfMemory => "OutOfMemory",
@@ -89,6 +92,7 @@ impl From<CollectError> for WalkError {
 
     fn from(error: CollectError) -> WalkError {
         match error {
+            CollectError::BucketOutOfRange => WalkError::BucketOutOfRange,
             CollectError::TooMany => WalkError::TooMany,
             CollectError::OutOfMemory => WalkError::OutOfMemory,
         }

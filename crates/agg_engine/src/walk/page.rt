@@ -1,8 +1,9 @@
 //! What the segments of a snapshot hold for a page.
-ghost use Rattle.std.specs.Prelude.{◌≢◌, ◌≤◌, ◌<◌, ◌^◌, IfOk, filter};
+ghost use Rattle.std.specs.Prelude.{◌≢◌, ◌≤◌, ◌<◌, ◌^◌, All, IfOk, filter};
 ghost use Rattle.std.specs.List.{flat_map};
 ghost use Rattle.agg_segment.specs.Segment.{documents_of};
 ghost use Rattle.agg_segment.specs.Query.{matches};
+ghost use Rattle.agg_request.specs.Ranges.{AreInRange};
 ghost use Rattle.agg_results.specs.Intermediate.{AreFlat};
 ghost use Rattle.agg_engine.specs.PageAnswers.{AnswersHeld, AreFew, MayGoOnFrom};
 
@@ -41,6 +42,8 @@ pub fn segments_results<L: Ledger>(
     requires after { MayGoOnFrom page.now.composite.now.sources page.now.after.now }
     requires room { page.now.size ≢ 0 }
     requires few { counted.now < 2 ^ 32 }
+    requires range { All (AreInRange page.now.composite.now.sources)
+        (filter (matches page.now.query.now) (flat_map documents_of segments.now)) }
     ensures held { AnswersHeld page.now.name.now page.now.composite.now page.now.size
         page.now.after.now
         (filter (matches page.now.query.now) (flat_map documents_of segments.now))

@@ -1,11 +1,12 @@
 //! What one segment holds for a page.
 ghost use Rattle.std.specs.Prelude.{◌≡◌, ◌≢◌, ◌≤◌, ◌<◌, ◌+◌, ◌^◌, filter, length, map};
-ghost use Rattle.std.specs.Prelude.{IfErr, IfOk, OnOk};
+ghost use Rattle.std.specs.Prelude.{All, IfErr, IfOk, OnOk};
 ghost use Rattle.agg_values.specs.Names.{Named};
 ghost use Rattle.agg_values.specs.declared.after_key.AfterKey.{AfterKey as After};
 ghost use Rattle.agg_segment.specs.Query.{matches};
 ghost use Rattle.agg_segment.specs.Segment.{Stored, documents_at, documents_of};
 ghost use Rattle.agg_request.specs.Occurrences.{bound_of};
+ghost use Rattle.agg_request.specs.Ranges.{AreInRange};
 ghost use Rattle.agg_request.specs.Uncut.{uncut};
 ghost use Rattle.agg_request.specs.declared.aggregation.AggregationVariants.TheVariants.{Composite};
 ghost use Rattle.agg_composite.specs.Accessors.{Fits};
@@ -13,6 +14,7 @@ ghost use Rattle.agg_composite.specs.PageEntries.{entry_group};
 ghost use Rattle.agg_results.specs.Intermediate.{AreFlat};
 ghost use Rattle.agg_results.specs.StandsFor.{GroupsStandFor};
 ghost use Rattle.agg_engine.specs.PageAnswers.{AnswersHeld, AreFew, IsHeldRefusal, MayGoOnFrom};
+ghost use Rattle.agg_engine.specs.declared.walk.error.WalkError.TheVariants.{OutOfMemory};
 
 use super::WalkError;
 use super::accessors::accessors_for;
@@ -42,6 +44,8 @@ pub fn segment_results<L: Ledger>(
     requires sources { AreFew page.now.composite.now.sources }
     requires after { MayGoOnFrom page.now.composite.now.sources page.now.after.now }
     requires room { page.now.size ≢ 0 }
+    requires range { All (AreInRange page.now.composite.now.sources)
+        (filter (matches page.now.query.now) (documents_of segment.now)) }
     ensures held { AnswersHeld page.now.name.now page.now.composite.now page.now.size
         page.now.after.now
         (filter (matches page.now.query.now) (documents_of segment.now))
@@ -51,15 +55,30 @@ pub fn segment_results<L: Ledger>(
 {
     let docs = matching_docs(alloc, page.query, segment)?;
     count_docs(alloc, page.composite, segment, &docs, counted)?;
+    let req = request_data(alloc, page, segment)?;
+    let entries = docs_page(alloc, &docs, &req, steps)?;
+    held_page(alloc, page, entries)
+}
+
+/// What a collector is asked in a segment for a page.
+pub fn request_data<'a>(
+    alloc: Global,
+    page: &PageRequest<'a>,
+    segment: &'a SegmentReader,
+) -> Result<CompositeAggReqData<'a>, WalkError>
+    requires after { MayGoOnFrom page.now.composite.now.sources page.now.after.now }
+    ensures fits { IfOk result (λ req. Fits segment.now page.now.after.now req) }
+    ensures composite { IfOk result (λ req. req.req.now ≡ page.now.composite.now) }
+    ensures size { IfOk result (λ req. req.size ≡ page.now.size) }
+    ensures err { IfErr result (λ error. error ≡ OutOfMemory) }
+{
     let sources = page.composite.sources.as_slice();
-    let req = CompositeAggReqData {
+    Ok(CompositeAggReqData {
         name: page.name.try_clone(alloc)?,
         req: page.composite,
         size: page.size,
         composite_accessors: accessors_for(alloc, segment, sources, page.after)?,
-    };
-    let entries = docs_page(alloc, &docs, &req, steps)?;
-    held_page(alloc, page, entries)
+    })
 }
 
 // Adds to the counted documents those that a composite counts at these places of a segment, unless
@@ -94,7 +113,8 @@ fn docs_page<L: Ledger>(
     steps: &mut Steps<L>,
 ) -> Result<ItemList<PageEntry>, WalkError>
     requires sources { AreFew req.now.req.now.sources }
-    requires fits { (segment : Stored) × (after : Named After) × Fits segment after req.now }
+    requires fits { (segment : Stored) × (after : Named After) × Fits segment after req.now
+        × All (AreInRange req.now.req.now.sources) (documents_at segment docs.now) }
     ensures page { (segment : Stored) (after : Named After)
         → Fits segment after req.now
         → IfOk result (λ entries. GroupsStandFor req.now.req.now.sources req.now.size

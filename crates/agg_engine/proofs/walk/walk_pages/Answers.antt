@@ -1,6 +1,8 @@
 use Rattle.std.proofs.Common.{◌≡◌, ◌+◌, ◌<◌, List, ◌∷◌, ◌∙◌, drop, get_or, length, unwrap_or, refl}
 use Rattle.std.proofs.Common.{sym, ap, subst, arith, inr}
-use Rattle.agg_engine.specs.PageAnswers.{IsHeldRefusal, MayGoOnFrom}
+use Rattle.std.specs.List.{All}
+use Rattle.agg_request.specs.Ranges.{AreInRange}
+use Rattle.agg_engine.specs.PageAnswers.{IsHeldRefusal, IsStartRefusal}
 use Rattle.agg_engine.specs.Refusals.{HasCause}
 use Rattle.agg_engine.specs.Snapshot.{snapshot_documents, snapshots_documents}
 use Rattle.agg_engine.specs.Walk.{MayBeAsked, matching_documents}
@@ -11,12 +13,13 @@ use Rattle.agg_engine.proofs.NoNull.{matching-no_Null}
 use Rattle.agg_engine.proofs.Snapshots.{matching_documents-segments, may_be_asked, no_room-some}
 use Rattle.agg_engine.proofs.Snapshots.{room-at}
 use Rattle.agg_engine.proofs.Walking.{AreFew-sound, IsHeldHere, IsWalking, alike-here, cause-final}
-use Rattle.agg_engine.proofs.Walking.{cause-held, held-here, known-here, walking-at, walking-end}
+use Rattle.agg_engine.proofs.Walking.{cause-held, cause-starts, held-here, known-here, walking-at}
+use Rattle.agg_engine.proofs.Walking.{walking-end}
 use Rattle.agg_engine.proofs.Walking.{walking-ended, walking-ended-fits, walking-few, walking-more}
 use Rattle.agg_engine.proofs.Walking.{walking-out, walking-out-fits, walking-start}
 use Rattle.agg_engine.proofs.walk.walk_pages.Given as given
 use Rattle.agg_engine.proofs.walk.walk_pages.Goals as goal
-use Rattle.agg_engine.proofs.walk.walk_pages.Goals.{After-segments_results, In_ok-held}
+use Rattle.agg_engine.proofs.walk.walk_pages.Goals.{After-check_starts, In_ok-held}
 
 -- ---- before the first snapshot
 
@@ -39,7 +42,7 @@ loop-snapshot-init g c =
 -- ---- at a snapshot
 
 -- the walk has come to this snapshot
-here : (g : given.Over) (c : After-segments_results g)
+here : (g : given.Over) (c : After-check_starts g)
     → IsWalking c.args.limits.now.bucket_limit c.args.name.now c.args.query.now c.args.request.now
     (snapshots_documents c.args.snapshots.now) c.in-Some.composite.now
     (unwrap_or c.loop-snapshot.before c.in-Some.composite.now.after)
@@ -52,7 +55,7 @@ here g c =
     c.snapshot-item.result (omega arith) c.snapshot-item.is
 
 -- the walk may be asked
-asked : (g : given.Over) (c : After-segments_results g)
+asked : (g : given.Over) (c : After-check_starts g)
     → MayBeAsked c.args.name.now c.args.request.now (snapshots_documents c.args.snapshots.now)
 asked g c =
     may_be_asked c.args.snapshots.now _ c.as_slice.ensures c.args.name.now c.args.request.now
@@ -60,7 +63,7 @@ asked g c =
     (sym c.if-some_page_has_no_room.ensures)
 
 -- the documents of its segments that match are those of the snapshot
-documents : (g : given.Over) (c : After-segments_results g)
+documents : (g : given.Over) (c : After-check_starts g)
     → matching_in c.args.query.now c.as_slice-segments.result.now
     ≡ matching_documents c.args.query.now (snapshot_documents c.snapshot-item.result)
 documents g c =
@@ -78,34 +81,48 @@ held g c =
     (snapshot_documents c.snapshot-item.result)
     (matching_in c.args.query.now c.as_slice-segments.result.now)
     c.segments_results.new.counted c.in_ok-held.held c.in_ok-held.ensures.held
-    c.in_ok-held.ensures.flat c.after_key.ensures
-    (documents g ((goal.at.In_ok-held g c).After-segments_results))
+    c.in_ok-held.ensures.flat c.in_ok-check_starts.ensures.ok
+    c.after_key.ensures
+    (documents g ((goal.at.In_ok-held g c).After-check_starts))
+
+pub returns-in_err-check_starts-clause-cause : goal.returns-in_err-check_starts-clause-cause
+returns-in_err-check_starts-clause-cause g c =
+    let turn = (goal.at.returns-in_err-check_starts-clause-cause g c).After-check_starts in
+    let given = c.in_err-check_starts.field-0.0 in
+    caused-by (HasCause c.args.limits.now.bucket_limit c.args.name.now c.args.query.now
+    c.args.request.now (snapshots_documents c.args.snapshots.now))
+    c.from_residual-in_err-check_starts.result given c.from_residual-in_err-check_starts.ensures.1
+    (cause-starts (here g turn) (asked g turn) given
+    (subst (λ ds. IsStartRefusal c.in-Some.composite.now ds given) (documents g turn)
+    c.in_err-check_starts.ensures.err))
 
 pub returns-in_err-held-clause-cause : goal.returns-in_err-held-clause-cause
 returns-in_err-held-clause-cause g c =
-    let turn = (goal.at.returns-in_err-held-clause-cause g c).After-segments_results in
+    let turn = (goal.at.returns-in_err-held-clause-cause g c).After-check_starts in
     caused-by (HasCause c.args.limits.now.bucket_limit c.args.name.now c.args.query.now
     c.args.request.now (snapshots_documents c.args.snapshots.now))
     c.from_residual-in_err-held.result c.in_err-held.field-0.0
     c.from_residual-in_err-held.ensures.1
-    (cause-held (here g turn) (asked g turn) c.in_err-held.field-0.0
+    (cause-held (here g turn) (asked g turn)
+    (subst (All (AreInRange c.in-Some.composite.now.sources)) (documents g turn)
+    c.in_ok-check_starts.ensures.ok) c.in_err-held.field-0.0
     (subst (λ ds. IsHeldRefusal c.in-Some.composite.now ds 0 c.in_err-held.field-0.0)
     (documents g turn) c.in_err-held.ensures.held.cause))
 
 pub page_results-requires-clause-known : goal.page_results-requires-clause-known
 page_results-requires-clause-known g c =
-    known-here (here g (goal.at.page_results-requires-clause-known g c).After-segments_results)
+    known-here (here g (goal.at.page_results-requires-clause-known g c).After-check_starts)
     (held g c)
 
 pub page_results-requires-clause-alike : goal.page_results-requires-clause-alike
 page_results-requires-clause-alike g c =
-    alike-here (here g (goal.at.page_results-requires-clause-alike g c).After-segments_results)
+    alike-here (here g (goal.at.page_results-requires-clause-alike g c).After-check_starts)
     (held g c)
 
 pub returns-in_err-results-clause-cause : goal.returns-in_err-results-clause-cause
 returns-in_err-results-clause-cause g c =
     let turn = (goal.at.returns-in_err-results-clause-cause g c).In_ok-held in
-    let before = (goal.at.returns-in_err-results-clause-cause g c).After-segments_results in
+    let before = (goal.at.returns-in_err-results-clause-cause g c).After-check_starts in
     caused-by (HasCause c.args.limits.now.bucket_limit c.args.name.now c.args.query.now
     c.args.request.now (snapshots_documents c.args.snapshots.now))
     c.from_residual-in_err-results.result c.in_err-results.field-0.0
@@ -118,7 +135,7 @@ returns-in_err-results-clause-cause g c =
 pub returns-then-is_none-clause-pages : goal.returns-then-is_none-clause-pages
 returns-then-is_none-clause-pages g c =
     let turn = (goal.at.returns-then-is_none-clause-pages g c).In_ok-held in
-    let before = (goal.at.returns-then-is_none-clause-pages g c).After-segments_results in
+    let before = (goal.at.returns-then-is_none-clause-pages g c).After-check_starts in
     let out = walking-ended (here g before) (held g turn) c.in_ok-results.results
     c.in_ok-before.before c.in_ok-results.ensures.ok c.in_ok-results.ensures.few
     c.in_ok-before.ensures c.if-is_none.ensures in
@@ -126,12 +143,12 @@ returns-then-is_none-clause-pages g c =
 
 pub returns-then-is_none-clause-asked : goal.returns-then-is_none-clause-asked
 returns-then-is_none-clause-asked g c =
-    asked g (goal.at.returns-then-is_none-clause-asked g c).After-segments_results
+    asked g (goal.at.returns-then-is_none-clause-asked g c).After-check_starts
 
 pub returns-then-is_none-clause-fits : goal.returns-then-is_none-clause-fits
 returns-then-is_none-clause-fits g c =
     let turn = (goal.at.returns-then-is_none-clause-fits g c).In_ok-held in
-    let before = (goal.at.returns-then-is_none-clause-fits g c).After-segments_results in
+    let before = (goal.at.returns-then-is_none-clause-fits g c).After-check_starts in
     walking-ended-fits (here g before) (held g turn) c.in_ok-results.results
     c.in_ok-before.before c.in_ok-results.ensures.ok c.in_ok-results.ensures.few
     c.in_ok-before.ensures c.if-is_none.ensures
@@ -139,7 +156,7 @@ returns-then-is_none-clause-fits g c =
 pub returns-then-is_none-clause-buckets : goal.returns-then-is_none-clause-buckets
 returns-then-is_none-clause-buckets g c =
     let turn = (goal.at.returns-then-is_none-clause-buckets g c).In_ok-held in
-    let before = (goal.at.returns-then-is_none-clause-buckets g c).After-segments_results in
+    let before = (goal.at.returns-then-is_none-clause-buckets g c).After-check_starts in
     rw c.in_ok-push.ensures.ok
     (walking-few (here g before) (held g turn) c.in_ok-results.results
     c.in_ok-before.before c.in_ok-results.ensures.ok c.in_ok-results.ensures.few
@@ -148,7 +165,7 @@ returns-then-is_none-clause-buckets g c =
 pub loop-snapshot-preserved : goal.loop-snapshot-preserved
 loop-snapshot-preserved g c =
     let turn = (goal.at.loop-snapshot-preserved g c).In_ok-held in
-    let before = (goal.at.loop-snapshot-preserved g c).After-segments_results in
+    let before = (goal.at.loop-snapshot-preserved g c).After-check_starts in
     let more = walking-more (here g before) (held g turn) c.in_ok-results.results
     c.in_ok-before.before c.in_ok-results.ensures.ok c.in_ok-results.ensures.few
     c.in_ok-before.ensures (matching-no_Null c.args.query.now c.snapshot-item.result)

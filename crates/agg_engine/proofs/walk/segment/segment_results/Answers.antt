@@ -1,35 +1,44 @@
-use Rattle.std.proofs.Common.{◌≡◌, ◌+◌, length, map, ap, ◌∙◌, subst, arith}
-use Rattle.std.specs.List.{AllZip, filter}
+use Rattle.std.proofs.Common.{◌≡◌, ◌+◌, length, map, sym, ap, ◌∙◌, subst, arith}
+use Rattle.std.specs.List.{All, filter}
 use Rattle.agg_segment.specs.Query.{matches}
 use Rattle.agg_segment.specs.Segment.{documents_at, documents_of}
+use Rattle.agg_request.specs.Ranges.{AreInRange}
 use Rattle.agg_request.specs.Uncut.{uncut}
 use Rattle.agg_request.specs.declared.aggregation.AggregationVariants.TheVariants.{Composite}
-use Rattle.agg_composite.specs.Accessors.{AreAccessorsOf, after_of}
+use Rattle.agg_request.specs.declared.aggregation.CompositeAggregation.{CompositeAggregation}
 use Rattle.agg_composite.specs.PageEntries.{entry_group}
-use Rattle.agg_engine.specs.PageAnswers.{IsHeldRefusal}
+use Rattle.agg_engine.specs.PageAnswers.{AreFew, IsHeldRefusal}
 use Rattle.agg_engine.proofs.HeldRefusals.{refusal-later}
 use Rattle.agg_engine.proofs.StandingPage.{Stand, answers-page, answers-refused, flat-page}
 use Rattle.agg_engine.proofs.walk.segment.segment_results.Given as given
 use Rattle.agg_engine.proofs.walk.segment.segment_results.Goals as goal
 use Rattle.agg_engine.proofs.walk.segment.segment_results.Goals.{In_ok-entries}
 
+pub docs_page-requires-clause-sources : goal.docs_page-requires-clause-sources
+docs_page-requires-clause-sources g c =
+    subst (λ (composite : CompositeAggregation). AreFew composite.sources)
+    (sym c.in_ok-req.ensures.composite) c.requires.sources
+
 pub docs_page-requires-clause-fits : goal.docs_page-requires-clause-fits
-docs_page-requires-clause-fits g c = (
-  c.args.segment.now,
-  c.args.page.now.after.now,
-  subst (λ sources. AllZip
-      (λ s a. AreAccessorsOf c.args.segment.now s (after_of c.args.page.now.after.now s) a) sources
-      c.in_ok-accessors_for.field-0) c.as_slice-sources.ensures c.in_ok-accessors_for.ensures.ok,
-)
+docs_page-requires-clause-fits g c =
+    let page = c.args.page.now in
+    let segment = c.args.segment.now in (
+      segment,
+      page.after.now,
+      c.in_ok-req.ensures.fits,
+      subst (λ (composite : CompositeAggregation).
+          All (AreInRange composite.sources) (documents_at segment c.deref-2.result.now))
+          (sym c.in_ok-req.ensures.composite)
+          (subst (All (AreInRange page.composite.now.sources))
+          (sym (ap (documents_at segment) c.deref-2.ensures.value ∙ c.in_ok-docs.ensures))
+          c.requires.range),
+    )
 
 pub returns-in_err-entries-clause-held : goal.returns-in_err-entries-clause-held
 returns-in_err-entries-clause-held g c =
     let page = c.args.page.now in
     let segment = c.args.segment.now in
     let documents = filter (matches page.query.now) (documents_of segment) in
-    let fits = subst (λ sources. AllZip
-    (λ s a. AreAccessorsOf segment s (after_of page.after.now s) a) sources
-    c.in_ok-accessors_for.field-0) c.as_slice-sources.ensures c.in_ok-accessors_for.ensures.ok in
     let given = c.in_err-entries.field-0.0 in
     let listed = ap (documents_at segment) c.deref-2.ensures.value ∙ c.in_ok-docs.ensures in
     answers-refused page.name.now page.composite.now page.size page.after.now documents
@@ -37,7 +46,10 @@ returns-in_err-entries-clause-held g c =
     c.from_residual-in_err-entries.ensures.1
     (refusal-later page.composite.now documents 0 c.args.counted.now given (omega arith)
     (subst (λ ds. IsHeldRefusal page.composite.now ds 0 given) listed
-    (c.in_err-entries.ensures.cause segment page.after.now fits)))
+    (subst (λ (composite : CompositeAggregation).
+    IsHeldRefusal composite (documents_at segment c.deref-2.result.now) 0 given)
+    c.in_ok-req.ensures.composite
+    (c.in_err-entries.ensures.cause segment page.after.now c.in_ok-req.ensures.fits))))
 
 -- the entries stand for the documents that match
 stand : (g : given.Over) (c : In_ok-entries g)
@@ -48,13 +60,15 @@ stand : (g : given.Over) (c : In_ok-entries g)
 stand g c =
     let page = c.args.page.now in
     let segment = c.args.segment.now in
-    let fits = subst (λ sources. AllZip
-    (λ s a. AreAccessorsOf segment s (after_of page.after.now s) a) sources
-    c.in_ok-accessors_for.field-0) c.as_slice-sources.ensures c.in_ok-accessors_for.ensures.ok in
-    subst (λ ds. Stand page.name.now page.composite.now page.size page.after.now ds
-    (map entry_group c.in_ok-entries.entries))
+    let entries = map entry_group c.in_ok-entries.entries in
+    subst (λ ds. Stand page.name.now page.composite.now page.size page.after.now ds entries)
     (ap (documents_at segment) c.deref-2.ensures.value ∙ c.in_ok-docs.ensures)
-    (c.in_ok-entries.ensures.page segment page.after.now fits)
+    (subst (λ (composite : CompositeAggregation). Stand page.name.now composite page.size
+    page.after.now (documents_at segment c.deref-2.result.now) entries)
+    c.in_ok-req.ensures.composite
+    (subst (λ size. Stand page.name.now c.in_ok-req.req.req.now size page.after.now
+    (documents_at segment c.deref-2.result.now) entries) c.in_ok-req.ensures.size
+    (c.in_ok-entries.ensures.page segment page.after.now c.in_ok-req.ensures.fits)))
 
 pub held_page-requires-clause-ascending : goal.held_page-requires-clause-ascending
 held_page-requires-clause-ascending g c = (stand g c).ascending

@@ -1,0 +1,122 @@
+-- Why a request is refused, and why a source has no accessors.
+use Rattle.std.proofs.Common.{◌≡◌, ◌*ℤ◌, ◌⊎◌, inl, inr, ℕ, ℤ, pos, List, Bool, true, false, cond}
+use Rattle.std.proofs.Common.{Option, None, Some, Result, Ok, Err, IsOk, refl, subst, arith}
+use Rattle.std.proofs.lemmas.Int.{ints}
+use Rattle.std.specs.Ordering.{int_eq}
+use Rattle.std.specs.List.{Any}
+use Rattle.agg_values.specs.declared.error.InvalidArgument.TheVariants.{BadInterval}
+use Rattle.agg_values.specs.declared.request_error.AggregationError.{AggregationError}
+use Rattle.agg_values.specs.declared.request_error.AggregationError.TheVariants as aggregation
+use Rattle.agg_values.specs.declared.request_error.DateHistogramParseError as parsing
+use parsing.{DateHistogramParseError}
+use Rattle.agg_values.specs.declared.request_error.RequestError.{RequestError}
+use Rattle.agg_values.specs.declared.request_error.RequestError.TheVariants.{Aggregation, Invalid}
+use Rattle.agg_values.specs.declared.request_error.RequestError.TheVariants.{OutOfMemory}
+use Rattle.agg_values.specs.TypedKey.{CompositeIntermediateKey}
+use Rattle.agg_segment.specs.declared.query.QueryTree.{QueryTree}
+use Rattle.agg_calendar.specs.Interval.{chosen, fixed}
+use Rattle.agg_calendar.specs.IntervalText.{read_interval}
+use Rattle.agg_calendar.specs.Refusal.{in_request}
+use Rattle.agg_calendar.specs.declared.interval.CalendarInterval.{CalendarInterval}
+use Rattle.agg_calendar.specs.declared.interval.PrecomputedDateInterval as interval
+use interval.{PrecomputedDateInterval}
+use interval.TheVariants.{FixedNanoseconds}
+use Rattle.agg_request.specs.Faults.{AggregationHasTextFault, HasCause as IsCause, HasInterval}
+use Rattle.agg_request.specs.Faults.{IsIntervalFault, RequestHasTextFault}
+use Rattle.agg_request.specs.Request.{Request}
+use Rattle.agg_request.specs.declared.aggregation.AggregationVariants.{AggregationVariants}
+use Rattle.agg_request.specs.declared.aggregation.AggregationVariants.TheVariants.{Composite}
+use Rattle.agg_request.specs.declared.source.CompositeAggregationSource as kind
+use kind.{CompositeAggregationSource}
+use kind.TheVariants.{DateHistogram, Histogram, Terms}
+use Rattle.agg_composite.specs.Accessors.{HasAccessors, HasNoAccessors, IsFirstFault}
+use Rattle.agg_engine.specs.Refusals.{HasCause}
+use Rattle.agg_engine.specs.Snapshot.{SnapshotDocuments}
+use Rattle.agg_engine.specs.WalkError.{error_from_request}
+use Rattle.agg_engine.specs.declared.walk.error.WalkError.TheVariants as error
+
+-- a part of an error is that of a text
+abbrev pub IsOfText : AggregationError → Type 0
+IsOfText part = (e : DateHistogramParseError) × (part ≡ aggregation.DateHistogramParseError e)
+
+module _ (part : AggregationError) where
+  fixed-text : (read : Result ℤ DateHistogramParseError)
+      → fixed (in_request read) ≡ Err (Aggregation part) → IsOfText part
+  fixed-text (Ok ms) e = by_test (int_eq ms (pos 0)) e
+    where
+      by_test : (b : Bool)
+          → cond b (Err (Invalid BadInterval)) (Ok (FixedNanoseconds (ms *ℤ pos 1_000_000)))
+          ≡ Err (Aggregation part) → IsOfText part
+      by_test true h = cc h
+      by_test false h = cc h
+  fixed-text (Err error) e =
+      (error, let same : part ≡ aggregation.DateHistogramParseError error = cc e in same)
+
+  chosen-text : (text : Option (List ℕ)) (calendar : Option CalendarInterval)
+      → chosen text calendar ≡ Err (Aggregation part) → IsOfText part
+  chosen-text (Some text) None e = fixed-text (read_interval text) e
+  chosen-text (Some text) (Some interval) e = cc e
+  chosen-text None None e = cc e
+  chosen-text None (Some interval) e = cc e
+
+  source-text : (source : CompositeAggregationSource) → IsIntervalFault source (Aggregation part)
+      → IsOfText part
+  source-text (Terms s) fault = absurd fault
+  source-text (Histogram s) fault = cc (fault.0)
+  source-text (DateHistogram s) fault = chosen-text s.fixed_interval s.calendar_interval fault
+
+  -- the part of an error that a request has is that of a text
+  pub request-text : (request : Request) → RequestHasTextFault request part → IsOfText part
+  request-text request (i, a, within, at, fault) = of_aggregation a.1.agg fault
+    where
+      of_aggregation : (aggregation : AggregationVariants)
+          → AggregationHasTextFault aggregation part → IsOfText part
+      of_aggregation (Composite composite) (j, source, below, there, refused) =
+          source-text source refused
+
+-- a refusal of the request has its cause in the walk
+pub cause-checked : (limit : ℕ) (name : List ℕ) (query : QueryTree) (request : Request)
+    (snapshots : List SnapshotDocuments) (given : RequestError) → IsCause request given
+    → HasCause limit name query request snapshots (error_from_request given)
+cause-checked limit name query request snapshots (Invalid fault) cause = inl cause
+cause-checked limit name query request snapshots
+    (Aggregation (aggregation.DateHistogramParseError part)) cause = cause
+cause-checked limit name query request snapshots (Aggregation (aggregation.MemoryExceeded l n))
+    cause =
+    let text = request-text (aggregation.MemoryExceeded l n) request cause in
+    let other = text.1 in cc other
+cause-checked limit name query request snapshots (Aggregation (aggregation.BucketLimitExceeded l n))
+    cause =
+    let text = request-text (aggregation.BucketLimitExceeded l n) request cause in
+    let other = text.1 in cc other
+cause-checked limit name query request snapshots OutOfMemory cause = tt
+
+-- ---- accessors
+
+-- a source with what it divides values by isn't refused for it
+pub no-fault : (source : CompositeAggregationSource) (given : RequestError) → HasInterval source
+    → ¬ (IsIntervalFault source given)
+no-fault (Terms s) given has fault = fault
+no-fault (Histogram s) given has fault = let below = fault.1 in omega (arith, ints)
+no-fault (DateHistogram s) given has fault =
+    let none : false ≡ true = subst IsOk fault has in cc none
+
+no-first : (source : CompositeAggregationSource) (after : Option CompositeIntermediateKey)
+    → HasAccessors source after → (given : RequestError) → ¬ (IsFirstFault source after given)
+no-first source after has given fault =
+    elim fault [
+      | inl null ↦ has.missing null.1
+      | inr later ↦ elim later [
+        | inl interval ↦ no-fault source given has.interval interval.1
+        | inr other ↦ has.same_type other.3
+      ]
+    ]
+
+-- where a source has accessors, only memory is wanting
+pub wants-memory : (source : CompositeAggregationSource) (after : Option CompositeIntermediateKey)
+    → HasAccessors source after → (given : RequestError) → HasNoAccessors source after given
+    → error_from_request given ≡ error.OutOfMemory
+wants-memory source after has OutOfMemory none = refl
+wants-memory source after has (Invalid fault) none = absurd (no-first source after has _ none)
+wants-memory source after has (Aggregation part) none =
+    absurd (no-first source after has _ none)
