@@ -1,9 +1,9 @@
 -- A body is that of one composite at most.
-use Rattle.std.proofs.Common.{◌≡◌, ◌⊎◌, inl, inr, ℕ, List, [], ◌∷◌, Bool, false, IsTrue}
+use Rattle.std.proofs.Common.{◌≡◌, ◌⊎◌, inl, inr, ℕ, ℤ, List, [], ◌∷◌, Bool, false, IsTrue}
 use Rattle.std.proofs.Common.{Option, Some, None, refl, sym, ap, ◌∙◌, subst, codes, arith, get_or}
 use Rattle.std.proofs.lemmas.Bool.{false≢true}
 use Rattle.serde_json.specs.Data.{Data, Members, no_members, member}
-use Rattle.serde_json.specs.Find.{get}
+use Rattle.serde_json.specs.Find.{as_str, get}
 use Rattle.agg_values.proofs.KeyTexts.{IsKeyText-unique}
 use Rattle.agg_values.specs.KeyText.{IsKeyText}
 use Rattle.agg_values.specs.Names.{Named}
@@ -14,16 +14,23 @@ use Rattle.agg_values.specs.declared.order.Order.TheVariants.{Asc, Desc}
 use Rattle.agg_values.specs.declared.order.MissingOrder.{MissingOrder}
 use Rattle.agg_values.specs.declared.order.MissingOrder.TheVariants.{Default, First, Last}
 use Rattle.agg_request.specs.CompositeJson.{AreSources, EachNamedIs, IsAfter, IsCompositeJson}
-use Rattle.agg_request.specs.CompositeJson.{IsFlag, IsKeyJson, IsSize, IsSourceJson, IsTermsBody}
-use Rattle.agg_request.specs.CompositeJson.{IsWordOr}
-use Rattle.agg_request.specs.CompositeJson.{missing_order_word, order_word}
-use Rattle.agg_request.specs.Json.{only_member, only_named, small_number}
+use Rattle.agg_request.specs.CompositeJson.{IsDateHistogramBody, IsFlag, IsGiven, IsHistogramBody}
+use Rattle.agg_request.specs.CompositeJson.{IsInterval, IsKeyJson, IsSize, IsSourceJson}
+use Rattle.agg_request.specs.CompositeJson.{IsSourceOfKind, IsTermsBody, IsWordOr}
+use Rattle.agg_request.specs.CompositeJson.{missing_order_word, order_word, unit_word}
+use Rattle.agg_request.specs.Json.{only_member, only_named, present, small_number, whole_number}
 use Rattle.agg_request.specs.Query.{EachIs, IsUnsupportedText}
 use Rattle.agg_request.specs.declared.aggregation.CompositeAggregation.{CompositeAggregation}
-use Rattle.agg_request.specs.declared.source.CompositeAggregationSource.{CompositeAggregationSource}
-use Rattle.agg_request.specs.declared.source.CompositeAggregationSource.TheVariants.{Terms}
+use Rattle.agg_request.specs.declared.source.CompositeAggregationSource as any_source
+use any_source.{CompositeAggregationSource}
+use any_source.TheVariants.{Terms, Histogram, DateHistogram}
 use Rattle.agg_request.specs.declared.source.TermCompositeAggregationSource as term
 use term.{TermCompositeAggregationSource as Term}
+use Rattle.agg_request.specs.declared.source.HistogramCompositeAggregationSource as numbers
+use numbers.{HistogramCompositeAggregationSource as Numbers}
+use Rattle.agg_request.specs.declared.source.DateHistogramCompositeAggregationSource as dates
+use dates.{DateHistogramCompositeAggregationSource as Dates}
+use Rattle.agg_request.proofs.CompositeSources.{unit_word-one}
 use Rattle.agg_pages.proofs.Documents.{same_value}
 use Rattle.agg_pages.proofs.Queries.{EachIs-unique}
 
@@ -102,27 +109,116 @@ IsTermsBody-unique name body a b (named, field, order, bucket, missing)
       missing_order = places i;
     }
 
-IsSourceJson-unique : (d : Data) (a b : CompositeAggregationSource) → IsSourceJson d a
-    → IsSourceJson d b → a ≡ b
-IsSourceJson-unique d (Terms a) (Terms b) (name, kind, named, body, only, inner, is)
+IsInterval-unique : (o : Option Data) (a b : ℤ) → (d : Data) × (o ≡ Some d) × IsInterval false d a
+    → (d : Data) × (o ≡ Some d) × IsInterval false d b → a ≡ b
+IsInterval-unique o a b (d, is, h) (d_too, is_too, k) =
+    let same : d_too ≡ d = same_value d_too d (sym is_too ∙ is) in
+    same_value a b (sym h ∙ sym (ap whole_number same) ∙ k)
+
+IsHistogramBody-unique : (name : List ℕ) (body : Data) (a b : Numbers)
+    → IsHistogramBody false name body a → IsHistogramBody false name body b → a ≡ b
+IsHistogramBody-unique name body a b (named, field, every, order, bucket, missing)
+    (named_too, field_too, every_too, order_too, bucket_too, missing_too) =
+    let intervals : a.interval ≡ b.interval =
+    IsInterval-unique (get (codes "interval") body) a.interval b.interval every every_too in
+    let orders : a.order ≡ b.order = IsWordOr-unique Asc order_word order_word-one
+    (get (codes "order") body) a.order b.order order order_too in
+    let buckets : a.missing_bucket ≡ b.missing_bucket = IsFlag-unique
+    (get (codes "missing_bucket") body) a.missing_bucket b.missing_bucket bucket bucket_too in
+    let places : a.missing_order ≡ b.missing_order =
+    IsWordOr-unique Default missing_order_word missing_order_word-one
+    (get (codes "missing_order") body) a.missing_order b.missing_order missing missing_too in
+    λ i. record {
+      name = (named ∙ sym named_too) i;
+      field = same_value a.field b.field (sym field ∙ field_too) i;
+      interval = intervals i;
+      order = orders i;
+      missing_bucket = buckets i;
+      missing_order = places i;
+    }
+
+IsGiven-unique : {A : Type 0} (Is : Data → A → Type 0)
+    → ((d : Data) (a b : A) → Is d a → Is d b → a ≡ b) → (o : Option Data) (a b : Option A)
+    → IsGiven Is o a → IsGiven Is o b → a ≡ b
+IsGiven-unique Is one None None None h k = refl
+IsGiven-unique Is one None None (Some b) h k = absurd k
+IsGiven-unique Is one None (Some a) b h k = absurd h
+IsGiven-unique Is one (Some d) None b h k = absurd h
+IsGiven-unique Is one (Some d) (Some a) None h k = absurd k
+IsGiven-unique Is one (Some d) (Some a) (Some b) h k = ap Some (one d a b h k)
+
+IsDateHistogramBody-unique : (name : List ℕ) (body : Data) (a b : Dates)
+    → IsDateHistogramBody name body a → IsDateHistogramBody name body b → a ≡ b
+IsDateHistogramBody-unique name body a b (named, field, fixed, unit, order, bucket, missing)
+    (named_too, field_too, fixed_too, unit_too, order_too, bucket_too, missing_too) =
+    let texts : a.fixed_interval ≡ b.fixed_interval =
+    IsGiven-unique (λ d text. as_str d ≡ Some text) (λ d s t h k. same_value s t (sym h ∙ k))
+    (present (codes "fixed_interval") body) a.fixed_interval b.fixed_interval fixed fixed_too in
+    let units : a.calendar_interval ≡ b.calendar_interval =
+    IsGiven-unique (λ d unit. as_str d ≡ Some (unit_word unit))
+    (λ d u v h k. unit_word-one u v (same_value (unit_word u) (unit_word v) (sym h ∙ k)))
+    (present (codes "calendar_interval") body) a.calendar_interval b.calendar_interval unit
+    unit_too in
+    let orders : a.order ≡ b.order = IsWordOr-unique Asc order_word order_word-one
+    (get (codes "order") body) a.order b.order order order_too in
+    let buckets : a.missing_bucket ≡ b.missing_bucket = IsFlag-unique
+    (get (codes "missing_bucket") body) a.missing_bucket b.missing_bucket bucket bucket_too in
+    let places : a.missing_order ≡ b.missing_order =
+    IsWordOr-unique Default missing_order_word missing_order_word-one
+    (get (codes "missing_order") body) a.missing_order b.missing_order missing missing_too in
+    λ i. record {
+      name = (named ∙ sym named_too) i;
+      field = same_value a.field b.field (sym field ∙ field_too) i;
+      fixed_interval = texts i;
+      calendar_interval = units i;
+      order = orders i;
+      missing_bucket = buckets i;
+      missing_order = places i;
+    }
+
+IsSourceOfKind-unique : (name kind : List ℕ) (body : Data) (a b : CompositeAggregationSource)
+    → IsSourceOfKind false name kind body a → IsSourceOfKind false name kind body b → a ≡ b
+IsSourceOfKind-unique name kind body (Terms a) (Terms b) h k =
+    ap Terms (IsTermsBody-unique name body a b h.1 k.1)
+IsSourceOfKind-unique name kind body (Terms a) (Histogram b) h k =
+    by_letter (codes "terms") (codes "histogram") (sym h.0 ∙ k.0) (λ l. omega (arith, l))
+IsSourceOfKind-unique name kind body (Terms a) (DateHistogram b) h k =
+    by_letter (codes "terms") (codes "date_histogram") (sym h.0 ∙ k.0) (λ l. omega (arith, l))
+IsSourceOfKind-unique name kind body (Histogram a) (Terms b) h k =
+    by_letter (codes "histogram") (codes "terms") (sym h.0 ∙ k.0) (λ l. omega (arith, l))
+IsSourceOfKind-unique name kind body (Histogram a) (Histogram b) h k =
+    ap Histogram (IsHistogramBody-unique name body a b h.1 k.1)
+IsSourceOfKind-unique name kind body (Histogram a) (DateHistogram b) h k =
+    by_letter (codes "histogram") (codes "date_histogram") (sym h.0 ∙ k.0) (λ l. omega (arith, l))
+IsSourceOfKind-unique name kind body (DateHistogram a) (Terms b) h k =
+    by_letter (codes "date_histogram") (codes "terms") (sym h.0 ∙ k.0) (λ l. omega (arith, l))
+IsSourceOfKind-unique name kind body (DateHistogram a) (Histogram b) h k =
+    by_letter (codes "date_histogram") (codes "histogram") (sym h.0 ∙ k.0) (λ l. omega (arith, l))
+IsSourceOfKind-unique name kind body (DateHistogram a) (DateHistogram b) h k =
+    ap DateHistogram (IsDateHistogramBody-unique name body a b h.1 k.1)
+
+IsSourceJson-unique : (d : Data) (a b : CompositeAggregationSource) → IsSourceJson false d a
+    → IsSourceJson false d b → a ≡ b
+IsSourceJson-unique d a b (name, kind, named, body, only, inner, is)
     (other, kind_too, named_too, body_too, only_too, inner_too, is_too) =
     let outside : (name, named) ≡ (other, named_too) =
     same_value (name, named) (other, named_too) (sym only ∙ only_too) in
     let inside : (kind, body) ≡ (kind_too, body_too) =
     same_value (kind, body) (kind_too, body_too)
     (sym inner ∙ ap only_member (ap (λ (m : List ℕ × Data). m.1) outside) ∙ inner_too) in
-    let there : IsTermsBody other body b = subst (λ e. IsTermsBody other e b)
-    (sym (ap (λ (m : List ℕ × Data). m.1) inside)) is_too.1 in
-    let here : IsTermsBody name body b = subst (λ n. IsTermsBody n body b)
+    let there : IsSourceOfKind false other kind body b =
+    subst (λ (m : List ℕ × Data). IsSourceOfKind false other m.0 m.1 b) (sym inside) is_too in
+    let here : IsSourceOfKind false name kind body b =
+    subst (λ n. IsSourceOfKind false n kind body b)
     (sym (ap (λ (m : List ℕ × Data). m.0) outside)) there in
-    ap Terms (IsTermsBody-unique name body a b is.1 here)
+    IsSourceOfKind-unique name kind body a b is here
 
-AreSources-unique : (body : Data) (a b : List CompositeAggregationSource) → AreSources body a
-    → AreSources body b → a ≡ b
+AreSources-unique : (body : Data) (a b : List CompositeAggregationSource)
+    → AreSources false body a → AreSources false body b → a ≡ b
 AreSources-unique body a b (items, is, each) (items_too, is_too, each_too) =
     let same : items_too ≡ items = same_value items_too items (sym is_too ∙ is) in
-    EachIs-unique IsSourceJson IsSourceJson-unique items a b each
-    (subst (λ l. EachIs IsSourceJson l b) same each_too)
+    EachIs-unique (IsSourceJson false) IsSourceJson-unique items a b each
+    (subst (λ l. EachIs (IsSourceJson false) l b) same each_too)
 
 -- ---- the size and the after key
 

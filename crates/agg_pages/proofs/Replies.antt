@@ -4,15 +4,21 @@ use Rattle.std.proofs.Common.{subst, inl, inr, All, arith}
 use Rattle.std.specs.List.{Any}
 use Rattle.agg_values.specs.declared.error.InvalidArgument.{InvalidArgument}
 use Rattle.agg_values.specs.declared.error.InvalidArgument.TheVariants as argument
-use Rattle.agg_request.specs.Faults.{AggregationHasFault, HasFault, IsBehindNoBucket, IsSound}
-use Rattle.agg_request.specs.Faults.{IsSoundAggregation}
+use Rattle.agg_values.specs.declared.request_error.AggregationError.{AggregationError}
+use Rattle.agg_values.specs.declared.request_error.AggregationError.TheVariants as aggregation
+use Rattle.agg_values.specs.declared.request_error.RequestError.{RequestError}
+use Rattle.agg_values.specs.declared.request_error.RequestError.TheVariants as error
+use Rattle.agg_request.specs.Faults.{AggregationHasFault, AggregationHasTextFault, HasFault}
+use Rattle.agg_request.specs.Faults.{HasAfterOfOtherType, HasInterval, IsBehindNoBucket}
+use Rattle.agg_request.specs.Faults.{IsIntervalFault, IsSound, IsSoundAggregation}
 use Rattle.agg_request.specs.declared.aggregation.AggregationVariants.{AggregationVariants}
 use Rattle.agg_request.specs.declared.aggregation.AggregationVariants.TheVariants.{Composite}
 use Rattle.agg_request.specs.declared.aggregation.CompositeAggregation.{CompositeAggregation}
 use Rattle.agg_engine.specs.declared.walk.error.WalkError.{WalkError}
 use Rattle.agg_engine.specs.declared.walk.error.WalkError.TheVariants.{Invalid, UnknownComposite}
 use Rattle.agg_engine.specs.declared.walk.error.WalkError.TheVariants.{TooMany, OutOfMemory}
-use Rattle.agg_engine.specs.declared.walk.error.WalkError.TheVariants.{Aggregation}
+use Rattle.agg_engine.specs.declared.walk.error.WalkError.TheVariants.{Aggregation, BucketOutOfRange}
+use Rattle.agg_engine.proofs.RequestFaults.{no-fault}
 use Rattle.agg_pages.specs.Input.{Input, IsInput}
 use Rattle.agg_pages.specs.Answer.{IsPrintedWalk, IsRefusal, IsReply, IsValid, MayRefuse}
 use Rattle.agg_pages.specs.Reading.{GivesAll}
@@ -29,6 +35,12 @@ none_of_all : {X : Type 0} (P Q : X → Type 0) → ((x : X) → P x → Q x →
     → Any P xs → All Q xs → ⊥
 none_of_all P Q apart xs (k, x, below, at, h) all = apart x h (subst Q at (all k x below))
 
+sound_intervals : (composite : CompositeAggregation) (refusal : RequestError)
+    → Any (λ s. IsIntervalFault s refusal) composite.sources → IsSound composite → ⊥
+sound_intervals composite refusal h sound =
+    none_of_all (λ s. IsIntervalFault s refusal) HasInterval
+    (λ source fault has. no-fault source refusal has fault) composite.sources h sound.intervals
+
 sound_composite : (composite : CompositeAggregation) (fault : InvalidArgument)
     → HasFault composite fault → IsSound composite → ⊥
 sound_composite composite argument.NoSource h sound = sound.some h
@@ -38,13 +50,22 @@ sound_composite composite argument.DuplicateSource h sound = h sound.names
 sound_composite composite argument.NullAfter h sound =
     none_of_all (IsBehindNoBucket composite) (λ source. ¬ (IsBehindNoBucket composite source))
     (λ source is is_not. is_not is) composite.sources h sound.after
-sound_composite composite argument.BadInterval h sound = h
-sound_composite composite argument.IntervalChoice h sound = h
-sound_composite composite argument.AfterType h sound = h
+sound_composite composite argument.BadInterval h sound =
+    sound_intervals composite (error.Invalid argument.BadInterval) h sound
+sound_composite composite argument.IntervalChoice h sound =
+    sound_intervals composite (error.Invalid argument.IntervalChoice) h sound
+sound_composite composite argument.AfterType h sound =
+    none_of_all (HasAfterOfOtherType composite) (λ source. ¬ (HasAfterOfOtherType composite source))
+    (λ source is is_not. is_not is) composite.sources h sound.types
 
 sound_aggregation : (agg : AggregationVariants) (fault : InvalidArgument)
     → AggregationHasFault agg fault → IsSoundAggregation agg → ⊥
 sound_aggregation (Composite composite) fault h sound = sound_composite composite fault h sound
+
+sound_text : (agg : AggregationVariants) (part : AggregationError)
+    → AggregationHasTextFault agg part → IsSoundAggregation agg → ⊥
+sound_text (Composite composite) part h sound =
+    sound_intervals composite (error.Aggregation part) h sound
 
 may_not_refuse : (i : Input) (error : WalkError) → IsValid i → ¬ (MayRefuse i error)
 may_not_refuse i (Invalid fault) valid (other, inl asked) =
@@ -55,7 +76,17 @@ may_not_refuse i (Invalid fault) valid (other, inr (is, some)) =
     i.snapshots some valid.asked.room
 may_not_refuse i UnknownComposite valid (other, unknown) = unknown valid.asked.named
 may_not_refuse i TooMany valid (other, many) = valid.fits TooMany many.1
-may_not_refuse i (Aggregation given) valid (other, many) = valid.fits (Aggregation given) many.1
+may_not_refuse i BucketOutOfRange valid (other, out) = valid.fits BucketOutOfRange out.1
+may_not_refuse i (Aggregation (aggregation.DateHistogramParseError part)) valid (other, text) =
+    none_of_all
+    (λ a. AggregationHasTextFault a.1.agg (aggregation.DateHistogramParseError part))
+    (λ a. IsSoundAggregation a.1.agg)
+    (λ a. sound_text a.1.agg (aggregation.DateHistogramParseError part)) i.header.request text
+    valid.asked.sound
+may_not_refuse i (Aggregation (aggregation.BucketLimitExceeded limit n)) valid (other, many) =
+    valid.fits (Aggregation (aggregation.BucketLimitExceeded limit n)) many.1
+may_not_refuse i (Aggregation (aggregation.MemoryExceeded limit n)) valid (other, many) =
+    valid.fits (Aggregation (aggregation.MemoryExceeded limit n)) many.1
 may_not_refuse i OutOfMemory valid (other, any) = other refl
 
 -- what a source gave is the one input that it told

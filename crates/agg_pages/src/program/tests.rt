@@ -1,5 +1,6 @@
 mod segments;
 mod sources;
+mod starts;
 
 ghost use Rattle.std.specs.Prelude.{None, Some};
 
