@@ -2,7 +2,10 @@
 import json
 import sys
 from collections import Counter
+from datetime import datetime, timezone
 from itertools import product
+
+SECOND, DAY = 10**9, 86_400 * 10**9
 
 
 class Descending:
@@ -18,18 +21,36 @@ class Descending:
         return other.value == self.value
 
 
+class Date(int):
+    """A date in nanoseconds."""
+
+
+def start(interval, nanoseconds):
+    """The start of the week or the month that a date lies in."""
+    day = nanoseconds // DAY
+    if interval == "month":
+        day -= datetime.fromtimestamp(nanoseconds // SECOND, timezone.utc).day - 1
+    elif interval == "week":
+        day -= (day + 3) % 7
+    return Date(day * DAY if interval else nanoseconds)
+
+
 class Source:
-    """Where keys come from: numbers or texts of a field, and None where a document has none."""
+    """Where keys come from: the numbers, texts and dates of a field, or the starts of its dates; and
+    None where a document has no value."""
 
     def __init__(self, source):
-        [(self.name, body)] = source.items()
-        terms = body["terms"]
-        self.field, self.descends = terms["field"], terms.get("order") == "desc"
-        self.has_missing = terms.get("missing_bucket", False)
+        [(self.name, kind)] = source.items()
+        [body] = kind.values()
+        self.field, self.descends = body["field"], body.get("order") == "desc"
+        self.has_missing = body.get("missing_bucket", False)
+        self.interval = body.get("calendar_interval")
 
     def values(self, document):
         held = document.get(self.field, [])
-        return (held if isinstance(held, list) else [held]) or ([None] if self.has_missing else [])
+        held = held if isinstance(held, list) else [held]
+        keys = [start(self.interval, value["dt"]) if isinstance(value, dict) else value for value in held]
+        return keys or ([None] if self.has_missing else [])
 
     def rank(self, value):
         """What sorts as the value does, None first, or last in descending order."""
@@ -55,8 +76,13 @@ def snapshots(lines):
 
 
 def after_text(value):
-    kind = "null" if value is None else "str" if isinstance(value, str) else "i64"
-    return f"{kind}:{'' if value is None else value}"
+    kinds = {type(None): "null", str: "str", Date: "dt", int: "i64"}
+    return f"{kinds[type(value)]}:{'' if value is None else value}"
+
+
+def shown(value):
+    """A date as milliseconds, rounded toward zero, and any other value as it is."""
+    return int(value / 10**6) if isinstance(value, Date) else value
 
 
 def walk(lines):
@@ -72,7 +98,7 @@ def walk(lines):
         page = sorted(entry for entry in ranked if bound is None or bound < entry[0])[:size]
         number, ended = number + 1, len(page) < size
         names = [source.name for source in sources]
-        results = {"buckets": [{"doc_count": counts[values], "key": dict(zip(names, values))} for _, values in page]}
+        results = {"buckets": [{"doc_count": counts[values], "key": dict(zip(names, map(shown, values)))} for _, values in page]}
         if not ended:
             bound = page[-1][0]
             results = {"after_key": dict(zip(names, map(after_text, page[-1][1]))), **results}
