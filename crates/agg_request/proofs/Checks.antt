@@ -1,7 +1,7 @@
--- Faults of requests: what is found so far, source by source and aggregation by aggregation.
-use Rattle.std.proofs.Common.{◌≡◌, ◌≢◌, ◌<◌, ◌≤◌, ◌+◌, ℕ, suc, ℤ, pos, ◌*ℤ◌, List, [], ◌∷◌, ◌++◌}
+-- Faults of composites: what is found so far, source by source.
+use Rattle.std.proofs.Common.{◌≡◌, ◌≢◌, ◌<◌, ◌≤◌, ◌+◌, ℕ, ℤ, pos, ◌*ℤ◌, List, [], ◌∷◌, ◌++◌}
 use Rattle.std.proofs.Common.{get_or, length, take, Bool, true, false, cond, bytes_eq}
-use Rattle.std.proofs.Common.{Option, None, Some, Result, Ok, Err, IfErr, IsErr, IsErrAnd, IsOk}
+use Rattle.std.proofs.Common.{Option, None, Some, Result, Ok, Err, IfErr, IsErrAnd}
 use Rattle.std.proofs.Common.{◌⊎◌, ⊎_elim, inl, inr, refl, sym, ap, ◌∙◌, subst, arith}
 use Rattle.std.specs.List.{All, Any}
 use Rattle.std.specs.Ordering.{int_eq}
@@ -9,7 +9,7 @@ use Rattle.std.proofs.lemmas.Bool.{false≢true}
 use Rattle.std.proofs.lemmas.Slice.Eq.{bytes_eq-Decides}
 use Rattle.std.proofs.lemmas.List.{get_or-take, get_or_read, length-take, take_all}
 use Rattle.std.proofs.lemmas.List.{take_more}
-use Rattle.std.proofs.lemmas.List.Elements.{All-cons, All-head, All-more, All-nil, All-tail}
+use Rattle.std.proofs.lemmas.List.Elements.{All-more}
 use Rattle.std.proofs.lemmas.List.Quantifiers.{all_pairs_push}
 use Rattle.agg_values.specs.declared.error.InvalidArgument.{InvalidArgument}
 use Rattle.agg_values.specs.declared.error.InvalidArgument.TheVariants as argument
@@ -26,16 +26,9 @@ use Rattle.agg_calendar.specs.declared.interval.CalendarInterval.{CalendarInterv
 use Rattle.agg_calendar.specs.declared.interval.PrecomputedDateInterval as interval
 use interval.{PrecomputedDateInterval}
 use interval.TheVariants.{FixedNanoseconds}
-use Rattle.agg_request.specs.Faults.{AggregationHasCause, AggregationHasFault}
-use Rattle.agg_request.specs.Faults.{AggregationHasTextFault, CompositeHasCause, HasCause}
-use Rattle.agg_request.specs.Faults.{HasInterval, HaveOwnNames, IsIntervalCause, IsIntervalFault}
-use Rattle.agg_request.specs.Faults.{IsSoundAggregation, IsSoundRequest, RequestHasFault}
-use Rattle.agg_request.specs.Faults.{RequestHasTextFault}
-use Rattle.agg_request.specs.Request.{Request}
+use Rattle.agg_request.specs.Faults.{CompositeHasCause}
+use Rattle.agg_request.specs.Faults.{HaveOwnNames, IsIntervalCause, IsIntervalFault}
 use Rattle.agg_request.specs.Source.{Sources, interval_of, name_of}
-use Rattle.agg_request.specs.declared.aggregation.Aggregation.{Aggregation}
-use Rattle.agg_request.specs.declared.aggregation.AggregationVariants.{AggregationVariants}
-use Rattle.agg_request.specs.declared.aggregation.AggregationVariants.TheVariants.{Composite}
 use Rattle.agg_request.specs.declared.aggregation.CompositeAggregation.{CompositeAggregation}
 use Rattle.agg_request.specs.declared.source.CompositeAggregationSource as kind
 use kind.{CompositeAggregationSource}
@@ -166,80 +159,7 @@ dates-cause s (error.Invalid fault) is memory = is
 dates-cause s (error.Aggregation part) is memory = is
 dates-cause s error.OutOfMemory is memory = text-of (interval_of s) (memory refl)
 
--- ---- aggregations
-
--- the cause of a refusal, by its kind
-fault-from_cause : (aggregation : AggregationVariants) (fault : InvalidArgument)
-    → AggregationHasCause aggregation (error.Invalid fault) → AggregationHasFault aggregation fault
-fault-from_cause (Composite composite) fault has = has
-
-text-from_cause : (aggregation : AggregationVariants) (part : AggregationError)
-    → AggregationHasCause aggregation (error.Aggregation part)
-    → AggregationHasTextFault aggregation part
-text-from_cause (Composite composite) part has = has
-
-memory-from_cause : (aggregation : AggregationVariants)
-    → AggregationHasCause aggregation error.OutOfMemory
-    → (part : AggregationError) × AggregationHasTextFault aggregation part
-memory-from_cause (Composite composite) has = has
-
--- no fault is found before the aggregations that are left
-pub record IsCheckedUpTo (all left : Request) : Type 0 where
-  pub sound : IsSoundRequest left → IsSoundRequest all
-  pub fault : (fault : InvalidArgument) → RequestHasFault left fault → RequestHasFault all fault
-  pub text : (part : AggregationError) → RequestHasTextFault left part
-      → RequestHasTextFault all part
-
--- none is checked yet
-pub IsCheckedUpTo-none : (all left : Request) → left ≡ all → IsCheckedUpTo all left
-IsCheckedUpTo-none all left e = record {
-  sound = subst IsSoundRequest e;
-  fault = λ f. subst (λ r. RequestHasFault r f) e;
-  text = λ p. subst (λ r. RequestHasTextFault r p) e;
-}
-
--- one more has no fault
-pub IsCheckedUpTo-more : (all left : Request) (name : List ℕ) (aggregation : Aggregation)
-    (later : Request) → IsCheckedUpTo all left → left ≡ (name, aggregation) ∷ later
-    → IsSoundAggregation aggregation.agg → IsCheckedUpTo all later
-IsCheckedUpTo-more all left name aggregation later h e is =
-    let here : IsCheckedUpTo all ((name, aggregation) ∷ later) = subst (IsCheckedUpTo all) e h in
-    record {
-      sound = λ rest.
-          here.sound (All-cons (λ a. IsSoundAggregation a.1.agg) (name, aggregation) later is rest);
-      fault = λ f (k, a, within, at, has). here.fault f (suc k, a, omega arith, at, has);
-      text = λ p (k, a, within, at, has). here.text p (suc k, a, omega arith, at, has);
-    }
-
--- the refusal of one refuses the request
-pub IsCheckedUpTo-refused : (all left : Request) (name : List ℕ) (aggregation : Aggregation)
-    (later : Request) (refusal : RequestError) → IsCheckedUpTo all left
-    → left ≡ (name, aggregation) ∷ later → AggregationHasCause aggregation.agg refusal
-    → HasCause all refusal
-IsCheckedUpTo-refused all left name aggregation later refusal h e has =
-    by_kind refusal (subst (IsCheckedUpTo all) e h) has
-  where
-    by_kind : (given : RequestError) → IsCheckedUpTo all ((name, aggregation) ∷ later)
-        → AggregationHasCause aggregation.agg given → HasCause all given
-    by_kind (error.Invalid fault) here has =
-        here.fault fault (
-          0,
-          (name, aggregation),
-          omega arith,
-          refl,
-          fault-from_cause aggregation.agg fault has,
-        )
-    by_kind (error.Aggregation part) here has =
-        here.text part (
-          0,
-          (name, aggregation),
-          omega arith,
-          refl,
-          text-from_cause aggregation.agg part has,
-        )
-    by_kind error.OutOfMemory here has =
-        let cause = memory-from_cause aggregation.agg has in
-        (cause.0, here.text cause.0 (0, (name, aggregation), omega arith, refl, cause.1))
+-- ---- requests
 
 -- what holds of a refusal holds where it is passed on
 pub passed_on : {A : Type 0} (P : RequestError → Type 0) (refusal : RequestError)
@@ -247,9 +167,3 @@ pub passed_on : {A : Type 0} (P : RequestError → Type 0) (refusal : RequestErr
     → IfErr result P
 passed_on P refusal (Ok x) is told = tt
 passed_on P refusal (Err e) is told = subst P (sym is) told
-
--- all are checked
-pub IsCheckedUpTo-all : (all left : Request) → IsCheckedUpTo all left → left ≡ []
-    → IsSoundRequest all
-IsCheckedUpTo-all all left h e =
-    h.sound (subst IsSoundRequest (sym e) (All-nil (λ a. IsSoundAggregation a.1.agg)))

@@ -24,7 +24,8 @@ some_at Has (w ∷ vs) zero v below h = inl h
 some_at Has (w ∷ vs) (suc i) v below h = inr (some_at Has vs i v (omega (arith, below)) h)
 
 -- one more item
-each_put : {A : Type 0} (Is : Data → A → Type 0) (vs : List Value) (v : Value) (xs : List A) (x : A)
+pub each_put : {A : Type 0} (Is : Data → A → Type 0) (vs : List Value) (v : Value) (xs : List A)
+    (x : A)
     → EachIs Is (items_view vs) xs → Is (view v) x
     → EachIs Is (items_view (vs ++ v ∷ [])) (xs ++ x ∷ [])
 each_put Is [] v [] x h is = (is, tt)

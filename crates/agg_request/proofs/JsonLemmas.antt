@@ -1,7 +1,7 @@
 -- JSON values beside what they stand for, and a document that grows by the members of an object.
 use Rattle.std.proofs.Common.{◌≡◌, ℕ, List, [], ◌∷◌, ◌++◌, length, map, Option, Some, None}
 use Rattle.std.proofs.Common.{String, Global, string_bytes, string_cmp, option_map, refl, sym, ap}
-use Rattle.std.proofs.Common.{◌∙◌, subst, append_assoc, eqb, Less, Greater}
+use Rattle.std.proofs.Common.{◌∙◌, subst, append_assoc, eqb, is_some, Less, Greater}
 use Rattle.std.proofs.lemmas.Cmp.{nat_list_cmp_total}
 use Rattle.std.specs.List.{AllByRecursion}
 use Rattle.std.specs.List.Sorted.{IsStrictlySortedBy}
@@ -28,6 +28,11 @@ object_from (object ns) ms e = cc
 pub has_members_from : (d : Data) (es : List Entry) (n count : ℕ)
     → Some (members_view es) ≡ as_object d → n ≡ length es → eqb n count ≡ has_members count d
 has_members_from d es n count e same = rw (object_from d _ e, members_len-members_view es, same)
+
+-- what is there is there under a function too
+pub is_some_map : {A C : Type 0} (f : A → C) (o : Option A) → is_some o ≡ is_some (option_map f o)
+is_some_map f None = refl
+is_some_map f (Some x) = refl
 
 -- ---- lists that grow at their end
 

@@ -3,7 +3,7 @@ use Rattle.std.proofs.Common.{◌≡◌, ℕ, suc, ◌+◌, ◌^◌, ℤ, pos, �
 use Rattle.std.proofs.Common.{Option, None, Some, is_some, List, [], ◌∷◌, ◌++◌, length, map}
 use Rattle.std.proofs.Common.{length-append, filter, refl, sym, ap, ◌∙◌, arith}
 use Rattle.std.specs.Prelude.{filter_map, int_lt, nat_lt, unsigned_abs}
-use Rattle.std.specs.List.{cons_option, flat_map}
+use Rattle.std.specs.List.{cons_option}
 use Rattle.std.proofs.lemmas.Bool.{cond_both}
 use Rattle.std.proofs.lemmas.List.{length-map, map-append}
 use Rattle.std.proofs.lemmas.List.Concat.{flat_map-cons}

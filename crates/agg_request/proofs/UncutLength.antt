@@ -5,16 +5,15 @@ use Rattle.std.proofs.lemmas.List.{length-map}
 use Rattle.std.proofs.lemmas.List.Concat.{flat_map-cons}
 use Rattle.agg_segment.specs.Document.{Fields}
 use Rattle.agg_request.specs.declared.aggregation.CompositeAggregation.{CompositeAggregation}
-use Rattle.agg_request.specs.declared.aggregation.AggregationVariants.TheVariants.{Composite}
 use Rattle.agg_request.specs.Occurrences.{occurrences, occurrences_in}
-use Rattle.agg_request.specs.Uncut.{uncut}
+use Rattle.agg_request.specs.Uncut.{counted}
 
 -- a composite counts a document for each of its occurrences
-pub length-uncut : (composite : CompositeAggregation) (documents : List Fields)
-    → length (uncut (Composite composite) documents)
+pub length-counted : (composite : CompositeAggregation) (documents : List Fields)
+    → length (counted composite documents)
     ≡ length (occurrences_in composite.sources documents)
-length-uncut composite [] = refl
-length-uncut composite (d ∷ documents) =
+length-counted composite [] = refl
+length-counted composite (d ∷ documents) =
     let counted = λ (document : Fields). map (λ tuple. document) (occurrences composite.sources
     document) in
     let held = occurrences composite.sources in
@@ -23,5 +22,5 @@ length-uncut composite (d ∷ documents) =
     let right = ap length (flat_map-cons held d documents) ∙ length-append (held d)
     (flat_map held documents) in
     let one = length-map (held d) (λ tuple. d) in
-    let rest = length-uncut composite documents in
+    let rest = length-counted composite documents in
     omega (arith, left, right, one, rest)

@@ -10,10 +10,8 @@ use Rattle.agg_values.specs.declared.error.InvalidArgument.{InvalidArgument}
 use Rattle.agg_values.specs.declared.error.InvalidArgument.TheVariants as argument
 use Rattle.agg_values.specs.declared.request_error.RequestError.{RequestError}
 use Rattle.agg_values.specs.declared.request_error.RequestError.TheVariants as error
-use Rattle.agg_request.specs.Request.{Request}
+use Rattle.agg_request.specs.Request.{Request, composites_of}
 use Rattle.agg_request.specs.Source.{Sources, interval_of, missing_bucket_of, name_of}
-use Rattle.agg_request.specs.declared.aggregation.AggregationVariants.{AggregationVariants}
-use Rattle.agg_request.specs.declared.aggregation.AggregationVariants.TheVariants.{Composite}
 use Rattle.agg_request.specs.declared.aggregation.CompositeAggregation.{CompositeAggregation}
 use Rattle.agg_request.specs.declared.source.CompositeAggregationSource as kind
 use kind.{CompositeAggregationSource}
@@ -108,37 +106,18 @@ CompositeHasCause composite (error.Aggregation part) = HasTextFault composite pa
 CompositeHasCause composite error.OutOfMemory =
     (part : AggregationError) × HasTextFault composite part
 
--- an aggregation has this fault
-abbrev pub AggregationHasFault : AggregationVariants → InvalidArgument → Type 0
-AggregationHasFault (Composite composite) = HasFault composite
+-- some composite of a request, at any depth, has this fault
+abbrev pub RequestHasFault : {B : Type 0} → Request B → InvalidArgument → Type 0
+RequestHasFault request fault = Any (λ c. HasFault c fault) (composites_of request)
 
--- an aggregation has an interval whose text is refused so
-abbrev pub AggregationHasTextFault : AggregationVariants → AggregationError → Type 0
-AggregationHasTextFault (Composite composite) = HasTextFault composite
+-- some composite of a request, at any depth, has an interval whose text is refused so
+abbrev pub RequestHasTextFault : {B : Type 0} → Request B → AggregationError → Type 0
+RequestHasTextFault request part = Any (λ c. HasTextFault c part) (composites_of request)
 
--- an aggregation has no fault
-abbrev pub IsSoundAggregation : AggregationVariants → Type 0
-IsSoundAggregation (Composite composite) = IsSound composite
+-- no composite of a request, at any depth, has a fault
+abbrev pub IsSoundRequest : {B : Type 0} → Request B → Type 0
+IsSoundRequest request = All IsSound (composites_of request)
 
--- why an aggregation is refused
-abbrev pub AggregationHasCause : AggregationVariants → RequestError → Type 0
-AggregationHasCause (Composite composite) = CompositeHasCause composite
-
--- some aggregation of a request has this fault
-abbrev pub RequestHasFault : Request → InvalidArgument → Type 0
-RequestHasFault request fault = Any (λ a. AggregationHasFault a.1.agg fault) request
-
--- some aggregation of a request has an interval whose text is refused so
-abbrev pub RequestHasTextFault : Request → AggregationError → Type 0
-RequestHasTextFault request part = Any (λ a. AggregationHasTextFault a.1.agg part) request
-
--- no aggregation of a request has a fault
-abbrev pub IsSoundRequest : Request → Type 0
-IsSoundRequest request = All (λ a. IsSoundAggregation a.1.agg) request
-
--- a refusal of a request has its cause; memory is wanted only for the refusal of a text
-abbrev pub HasCause : Request → RequestError → Type 0
-HasCause request (error.Invalid fault) = RequestHasFault request fault
-HasCause request (error.Aggregation part) = RequestHasTextFault request part
-HasCause request error.OutOfMemory =
-    (part : AggregationError) × RequestHasTextFault request part
+-- a refusal of a request has its cause in a composite of it, at any depth
+abbrev pub HasCause : {B : Type 0} → Request B → RequestError → Type 0
+HasCause request refusal = Any (λ c. CompositeHasCause c refusal) (composites_of request)

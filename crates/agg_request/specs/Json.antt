@@ -7,7 +7,7 @@ use Rattle.agg_values.specs.Names.{Named}
 use Rattle.serde_json.specs.Data.{Data, object, Items, no_items, item, Members, no_members}
 use Rattle.serde_json.specs.Data.{member}
 use Rattle.serde_json.specs.Events.{members_len}
-use Rattle.serde_json.specs.Find.{as_i64, as_null, as_number, as_u64, get}
+use Rattle.serde_json.specs.Find.{as_array, as_i64, as_null, as_number, as_u64, get, get_member}
 
 -- whether it is an object of so many members
 abbrev pub has_members : ℕ → Data → Bool
@@ -50,3 +50,32 @@ abbrev pub each_member : {A : Type 0} → (Data → Option A) → Members → Op
 each_member value no_members = Some []
 each_member value (member name d members) =
     option_and_then (λ x. option_map (λ xs. (name, x) ∷ xs) (each_member value members)) (value d)
+
+-- the members of other names
+abbrev pub others : List ℕ → Members → Named Data
+others name no_members = []
+others name (member other d members) =
+    if bytes_eq other name then others name members else (other, d) ∷ others name members
+
+-- the only one of a list
+abbrev pub the_only : {A : Type 0} → List A → Option A
+the_only (x ∷ []) = Some x
+the_only _ = None
+
+-- the one member of an object that has another name
+abbrev pub only_other : List ℕ → Data → Option (List ℕ × Data)
+only_other name (object members) = the_only (others name members)
+only_other name _ = None
+
+-- whether an object has a member of this name
+abbrev pub has_member : List ℕ → Members → Bool
+has_member name members = is_some (get_member name members)
+
+-- the only item
+abbrev pub one_item : Items → Option Data
+one_item (item d no_items) = Some d
+one_item _ = None
+
+-- the one item of an array that has no other
+abbrev pub only_item : Data → Option Data
+only_item d = option_and_then one_item (as_array d)

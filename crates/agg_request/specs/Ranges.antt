@@ -6,6 +6,7 @@ use Rattle.agg_segment.specs.Document.{Fields}
 use Rattle.agg_request.specs.Source.{Sources, field_of, start_in, values_at}
 use Rattle.agg_request.specs.declared.aggregation.AggregationVariants.{AggregationVariants}
 use Rattle.agg_request.specs.declared.aggregation.AggregationVariants.TheVariants.{Composite}
+use Rattle.agg_request.specs.declared.aggregation.CompositeAggregation.{CompositeAggregation}
 use Rattle.agg_request.specs.declared.source.CompositeAggregationSource.{CompositeAggregationSource}
 
 -- the start of a value's bucket, if it has one, lies within i64
@@ -17,7 +18,11 @@ abbrev pub AreInRange : Sources → Fields → Type 0
 AreInRange sources document =
     All (λ source. All (IsInRange source) (values_at (field_of source) document)) sources
 
--- some start of a bucket of an aggregation lies outside i64
-abbrev pub HasStartOutOfRange : AggregationVariants → List Fields → Type 0
-HasStartOutOfRange (Composite composite) documents =
-    ¬ (All (AreInRange composite.sources) documents)
+-- some start of a bucket of a composite lies outside i64
+abbrev pub HasOwnStartOutOfRange : CompositeAggregation → List Fields → Type 0
+HasOwnStartOutOfRange composite documents = ¬ (All (AreInRange composite.sources) documents)
+
+-- some start of a bucket of an aggregation lies outside i64; only composites have starts
+abbrev pub HasStartOutOfRange : {B : Type 0} → AggregationVariants B → List Fields → Type 0
+HasStartOutOfRange (Composite composite) documents = HasOwnStartOutOfRange composite documents
+HasStartOutOfRange _ documents = ⊥

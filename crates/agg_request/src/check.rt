@@ -1,8 +1,8 @@
 //! What a request may not ask.
 ghost use Rattle.std.specs.Prelude.{◌≡◌, ◌≢◌, All, Any, IfErr, IfNone, IfSome, MatchBool, OnOk};
-ghost use Rattle.agg_request.specs.Faults.{AggregationHasCause, CompositeHasCause, HasCause};
-ghost use Rattle.agg_request.specs.Faults.{HasFault, HasInterval, HaveOwnNames, IsSound};
-ghost use Rattle.agg_request.specs.Faults.{IsSoundAggregation, IsSoundRequest};
+ghost use Rattle.agg_request.specs.Faults.{CompositeHasCause, HasCause, HasFault, HasInterval};
+ghost use Rattle.agg_request.specs.Faults.{HaveOwnNames, IsSound, IsSoundRequest};
+ghost use Rattle.agg_request.specs.Request.{composites_in, own_composite};
 ghost use Rattle.agg_request.specs.Source.{name_of};
 
 mod after;
@@ -10,34 +10,64 @@ mod intervals;
 #[cfg(test)]
 mod tests;
 
-use crate::{AggregationVariants, Aggregations, CompositeAggregation, CompositeAggregationSource};
+use crate::{
+    Aggregation, AggregationVariants, Aggregations, CompositeAggregation,
+    CompositeAggregationSource,
+};
 use after::{has_null_after, has_other_after};
-use agg_values::{InvalidArgument, RequestError, Text};
+use agg_values::{InvalidArgument, NameMap, RequestError, Text};
 use intervals::check_intervals;
 use std::alloc::Global;
 
 // The most sources that a composite may have.
 const MAX_SOURCES: usize = 16;
 
-/// Whether a request may be asked. Which of several faults is named is free. Memory is taken only
-/// for the text of an error.
+/// Whether a request may be asked: whether no composite of it, at any depth, has a fault. Which of
+/// several faults is named is free. Memory is taken only for the text of an error.
 pub fn check_request(alloc: Global, request: &Aggregations) -> Result<(), RequestError>
     ensures ok { OnOk result (IsSoundRequest request.now) }
     ensures err { IfErr result (HasCause request.now) }
 {
+    check_aggregations(alloc, request)
+}
+
+#[cycle(checks)]
+fn check_aggregations<B: Drop>(
+    alloc: Global,
+    request: &NameMap<Aggregation<B>>,
+) -> Result<(), RequestError>
+    ensures ok { OnOk result (IsSoundRequest request.now) }
+    ensures err { IfErr result (HasCause request.now) }
+{
     for (_, aggregation) in request.iter() {
-        check_aggregation(alloc, &aggregation.agg)?;
+        check_aggregation(alloc, aggregation)?;
     }
     Ok(())
 }
 
-// The same of an aggregation.
-fn check_aggregation(alloc: Global, aggregation: &AggregationVariants) -> Result<(), RequestError>
-    ensures ok { OnOk result (IsSoundAggregation aggregation.now) }
-    ensures err { IfErr result (AggregationHasCause aggregation.now) }
+// The same of an aggregation and those below it.
+#[cycle(checks)]
+fn check_aggregation<B: Drop>(
+    alloc: Global,
+    aggregation: &Aggregation<B>,
+) -> Result<(), RequestError>
+    ensures ok { OnOk result (All IsSound (composites_in aggregation.now)) }
+    ensures err { IfErr result
+        (λ error. Any (λ c. CompositeHasCause c error) (composites_in aggregation.now)) }
 {
-    match aggregation {
+    check_own(alloc, &aggregation.agg)?;
+    check_aggregations(alloc, &aggregation.sub_aggregation)
+}
+
+// The same of what an aggregation asks by itself.
+fn check_own<B: Drop>(alloc: Global, agg: &AggregationVariants<B>) -> Result<(), RequestError>
+    ensures ok { OnOk result (All IsSound (own_composite agg.now)) }
+    ensures err { IfErr result
+        (λ error. Any (λ c. CompositeHasCause c error) (own_composite agg.now)) }
+{
+    match agg {
         AggregationVariants::Composite(composite) => check_composite(alloc, composite),
+        _ => Ok(()),
     }
 }
 

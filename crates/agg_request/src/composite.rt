@@ -16,6 +16,7 @@ use serde_json::Value;
 use size::read_size;
 use sources::read_sources;
 use std::alloc::Global;
+pub(crate) use words::order_of;
 
 /// The composite of a body.
 pub fn read_composite(alloc: Global, body: &Value) -> Result<CompositeAggregation, ReadError>

@@ -24,7 +24,8 @@ pub fn has_only(value: &Value, names: &[&str]) -> bool
     true
 }
 
-fn is_among(name: &str, names: &[&str]) -> bool
+/// Whether a name is one of these.
+pub fn is_among(name: &str, names: &[&str]) -> bool
     ensures { result ≡ is_among name.now (map (λ n. n.now) names.now) }
 {
     for other in names {

@@ -5,12 +5,11 @@ mod tests;
 ghost use Rattle.std.specs.Prelude.{◌≡◌, ◌-◌, ◌^◌, IfOk, filter, length, map, min};
 ghost use Rattle.agg_segment.specs.Columns.{all_keys, type_of};
 ghost use Rattle.agg_segment.specs.Segment.{Stored, document_at, documents_at};
-ghost use Rattle.agg_request.specs.declared.aggregation.AggregationVariants.TheVariants.{Composite};
 ghost use Rattle.agg_request.specs.declared.source.CompositeAggregationSource as declared;
 ghost use Rattle.agg_request.specs.Occurrences.{occurrences};
 ghost use Rattle.agg_request.specs.Source.{Sources, source_values};
 ghost use Rattle.agg_request.specs.SourceColumns.{AreReadBy, IsReadBy, reads_type};
-ghost use Rattle.agg_request.specs.Uncut.{uncut};
+ghost use Rattle.agg_request.specs.Uncut.{counted};
 
 use super::{CompositeAggregation, CompositeAggregationSource};
 use agg_segment::{Column, SegmentReader};
@@ -33,7 +32,7 @@ pub fn count_uncut(
     docs: &[DocId],
 ) -> Result<u64, OutOfMemory>
     ensures { IfOk result (λ count. count ≡ min
-        (length (uncut (Composite composite.now) (documents_at segment.now docs.now)))
+        (length (counted composite.now (documents_at segment.now docs.now)))
         (2 ^ 64 - 1)) }
 {
     let sources = source_columns(alloc, composite.sources.as_slice(), segment)?;

@@ -1,9 +1,5 @@
 use super::check_request;
-use crate::{
-    Aggregation, AggregationVariants, Aggregations, CompositeAggregation,
-    CompositeAggregationSource, TermCompositeAggregationSource, read_composite,
-};
-use agg_values::{AfterKey, ItemList, MissingOrder, NameMap, Order, Text};
+use crate::read_aggregations;
 use serde_json::Value;
 use std::alloc::Global;
 use std::test::Fail;
@@ -177,75 +173,70 @@ const AFTER_VALUES: [(&str, [bool; 3]); 11] = [
     ("ip:::7", [true, false, false]),
 ];
 
-fn source(alloc: Global, name: char) -> Result<CompositeAggregationSource, Fail> {
-    Ok(CompositeAggregationSource::Terms(TermCompositeAggregationSource {
-        name: Text::from_string(format!(in alloc; "{name}")?),
-        field: Text::copy_of(alloc, "f")?,
-        order: Order::Asc,
-        missing_bucket: name.is_ascii_uppercase(),
-        missing_order: MissingOrder::Default,
-    }))
+// A composite without a fault.
+const SOUND: &str = r#"{"sources":[{"x":{"terms":{"field":"f"}}}],"size":1}"#;
+
+// Where a composite stands beside a sound one, or below it or a filter.
+const PLACES: [&str; 4] = ["before", "behind", "below", "below a filter"];
+
+// The text of a request with a composite of this body at a place.
+fn request_at(alloc: Global, place: &str, body: &str) -> Result<String, Fail> {
+    let checked = format!(in alloc; r#"{{"composite":{body}}}"#)?;
+    let sound = format!(in alloc; r#""b":{{"composite":{SOUND}}}"#)?;
+    Ok(match place {
+        "before" => format!(in alloc; r#"{{"a":{checked},{sound}}}"#)?,
+        "behind" => format!(in alloc; r#"{{{sound},"c":{checked}}}"#)?,
+        "below" => format!(in alloc;
+            r#"{{"b":{{"composite":{SOUND},"aggs":{{"x":{checked}}}}}}}"#
+        )?,
+        _ => format!(in alloc; r#"{{"b":{{"filter":{{"all":{{}}}},"aggs":{{"x":{checked}}}}}}}"#)?,
+    })
 }
 
+// What is answered to the request of a text.
+fn answer(alloc: Global, text: &str) -> Result<String, Fail> {
+    let request = read_aggregations(alloc, &Value::from_str(alloc, text)?, Vec::new(alloc))?;
+    let answer = check_request(alloc, &request);
+    Ok(format!(in alloc; "{answer:?}")?)
+}
+
+// The body of a composite.
 fn composite(
     alloc: Global,
     names: &str,
     size: u32,
     after_names: &str,
     key: &str,
-) -> Result<Aggregation, Fail> {
-    let mut sources = ItemList::new(alloc);
+) -> Result<String, Fail> {
+    let mut sources = String::new(alloc);
     for name in names.chars() {
-        sources.push(source(alloc, name)?)?;
+        let comma = if sources.is_empty() { "" } else { "," };
+        let missing = name.is_ascii_uppercase();
+        let body = format!(in alloc; r#"{{"field":"f","missing_bucket":{missing}}}"#)?;
+        let source = format!(in alloc; r#"{comma}{{"{name}":{{"terms":{body}}}}}"#)?;
+        sources.push_str(source.as_str())?;
     }
-    let mut after = NameMap::new(alloc);
+    let mut after = String::new(alloc);
     for name in after_names.chars() {
-        let name = Text::from_string(format!(in alloc; "{name}")?);
-        after.insert(name, AfterKey::read(alloc, &Text::copy_of(alloc, key)?)?)?;
+        let comma = if after.is_empty() { "" } else { "," };
+        let value = format!(in alloc; r#"{comma}"{name}":"{key}""#)?;
+        after.push_str(value.as_str())?;
     }
-    Ok(Aggregation {
-        agg: AggregationVariants::Composite(CompositeAggregation {
-            sources,
-            size,
-            after,
-        }),
-    })
-}
-
-// A request with a sound composite and this one.
-fn request(alloc: Global, name: &str, checked: Aggregation) -> Result<Aggregations, Fail> {
-    let mut request = NameMap::new(alloc);
-    request.insert(
-        Text::copy_of(alloc, "b")?,
-        composite(alloc, "x", 1, "", "")?,
-    )?;
-    request.insert(Text::copy_of(alloc, name)?, checked)?;
-    Ok(request)
+    Ok(format!(in alloc; r#"{{"sources":[{sources}],"size":{size},"after":{{{after}}}}}"#)?)
 }
 
 #[test]
 fn finds_faults(rt: HostRuntime) -> Result<(), Fail> {
     let alloc = rt.alloc();
-    assert!(rt; check_request(alloc, &NameMap::new(alloc)).is_ok());
+    assert_eq!(rt; answer(alloc, "{}")?.as_str(), "Ok(())");
     for (names, size, after_names, key, expected) in COMPOSITES {
-        for name in ["a", "c"] {
-            let checked = composite(alloc, names, size, after_names, key)?;
-            let answer = check_request(alloc, &request(alloc, name, checked)?);
-            let shown = format!(in alloc; "{answer:?}")?;
-            assert_eq!(rt; shown.as_str(), expected, "{names}");
+        let body = composite(alloc, names, size, after_names, key)?;
+        for place in PLACES {
+            let text = request_at(alloc, place, body.as_str())?;
+            assert_eq!(rt; answer(alloc, text.as_str())?.as_str(), expected, "{text}");
         }
     }
     Ok(())
-}
-
-// What is answered to the composite that a body is, beside a sound one.
-fn answer(alloc: Global, body: &str) -> Result<String, Fail> {
-    let composite = read_composite(alloc, &Value::from_str(alloc, body)?)?;
-    let checked = Aggregation {
-        agg: AggregationVariants::Composite(composite),
-    };
-    let answer = check_request(alloc, &request(alloc, "c", checked)?);
-    Ok(format!(in alloc; "{answer:?}")?)
 }
 
 #[test]
@@ -255,8 +246,9 @@ fn finds_faults_of_intervals(rt: HostRuntime) -> Result<(), Fail> {
         let body = format!(in alloc;
             r#"{{"sources":[{{"a":{{"terms":{{"field":"f"}}}}}},{{"b":{{{source}}}}}],"size":1}}"#
         )?;
+        let text = request_at(alloc, "behind", body.as_str())?;
         assert_eq!(rt;
-            answer(alloc, body.as_str())?.as_str(),
+            answer(alloc, text.as_str())?.as_str(),
             expected,
             "{source}"
         );
@@ -278,7 +270,8 @@ fn finds_after_values_of_other_types(rt: HostRuntime) -> Result<(), Fail> {
                 } else {
                     "Err(Invalid(AfterType))"
                 };
-                assert_eq!(rt; answer(alloc, body.as_str())?.as_str(), expected, "{body}");
+                let text = request_at(alloc, "behind", body.as_str())?;
+                assert_eq!(rt; answer(alloc, text.as_str())?.as_str(), expected, "{text}");
             }
         }
     }

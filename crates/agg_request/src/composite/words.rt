@@ -28,8 +28,8 @@ pub fn order(body: &Value) -> Result<Order, ReadError>
     order_of(word).ok_or(ReadError::Grammar)
 }
 
-// The order of a word.
-fn order_of(word: &str) -> Option<Order>
+/// The order of a word.
+pub fn order_of(word: &str) -> Option<Order>
     ensures some { IfSome result (λ order. order_word order ≡ word.now) }
     ensures none { IfNone result ((order : Directed) → order_word order ≢ word.now) }
 {

@@ -4,7 +4,7 @@ use Rattle.agg_segment.specs.Segment.{document_at, documents_at}
 use Rattle.agg_request.specs.Occurrences.{occurrences, occurrences_in}
 use Rattle.agg_request.specs.SourceColumns.{AreReadBy}
 use Rattle.agg_request.proofs.OccurrencesLength.{cut-count}
-use Rattle.agg_request.proofs.UncutLength.{length-uncut}
+use Rattle.agg_request.proofs.UncutLength.{length-counted}
 use Rattle.agg_request.proofs.occurrences.count_uncut.Goals as goal
 
 pub loop-doc-preserved : goal.loop-doc-preserved
@@ -33,4 +33,4 @@ returns c =
     let all = ap (λ ds. cut (length (occurrences_in composite.sources (documents_at segment ds))))
     (take_all c.loop-doc.doc-index docs c.loop-doc-test.false) in
     c.loop-doc.invariant ∙ all
-    ∙ sym (ap cut (length-uncut composite (documents_at segment docs)))
+    ∙ sym (ap cut (length-counted composite (documents_at segment docs)))

@@ -1,4 +1,3 @@
-use Rattle.std.proofs.Common.{codes}
 use Rattle.serde_json.specs.View.{view}
 use Rattle.agg_request.specs.CompositeJson.{HasFloatInterval, HasUnsupportedInterval}
 use Rattle.agg_request.specs.CompositeJson.{IsDateHistogramBody, IsHistogramBody, IsSourceOfKind}

@@ -1,0 +1,38 @@
+-- Orders of buckets as JSON: an object of one pair, a target's text with the word for a direction.
+use Rattle.std.specs.Prelude.{◌≡◌, ◌⊎◌, ℕ, List, Option, None, Some, if◌then◌else◌, codes}
+use Rattle.std.specs.Str.{bytes_eq}
+use Rattle.serde_json.specs.Data.{Data, string, object, no_members, member}
+use Rattle.serde_json.specs.Find.{as_str}
+use Rattle.agg_values.specs.OrderTarget.{target_text}
+use Rattle.agg_values.specs.declared.order_target.OrderTarget.{OrderTarget}
+use Rattle.agg_values.specs.declared.order_target.OrderTarget.TheVariants as target
+use Rattle.agg_request.specs.CompositeJson.{order_word}
+use Rattle.agg_request.specs.Json.{only_item, only_member}
+use Rattle.agg_request.specs.declared.custom_order.CustomOrder.{CustomOrder}
+
+-- the target of a text: the key, the count, or the sub-aggregation of this name
+abbrev pub target_of : List ℕ → OrderTarget
+target_of text =
+    if bytes_eq text (codes "_key") then target.Key
+    else (if bytes_eq text (codes "_count") then target.Count else target.SubAggregation text)
+
+-- an object of one pair says an order
+abbrev pub IsPair : Data → CustomOrder → Type 0
+IsPair d order =
+    (text : List ℕ) × (value : Data) × (only_member d ≡ Some (text, value))
+    × (as_str value ≡ Some (order_word order.order)) × (order.target ≡ target_of text)
+
+-- so does an array of one such object
+abbrev pub IsOrderJson : Data → CustomOrder → Type 0
+IsOrderJson d order =
+    IsPair d order ⊎ ((item : Data) × (only_item d ≡ Some item) × IsPair item order)
+
+-- the object that is written for an order
+abbrev pub data_of_order : CustomOrder → Data
+data_of_order order =
+    object (member (target_text order.target) (string (order_word order.order)) no_members)
+
+-- the order as it is read back: a sub-aggregation of the name `_key` or `_count` is the key or the
+-- count
+abbrev pub read_back : CustomOrder → CustomOrder
+read_back order = record order { target = target_of (target_text order.target) }

@@ -1,0 +1,93 @@
+//! Requests to JSON.
+ghost use Rattle.std.specs.Prelude.{◌≡◌, IfOk, OnOk, true};
+ghost use Rattle.serde_json.specs.View.{members_view, view};
+ghost use Rattle.agg_request.specs.CompositeJson.{EachNamedIs};
+ghost use Rattle.agg_request.specs.Request.{builders_of};
+ghost use Rattle.agg_request.specs.RequestJson.{IsRequestJson};
+ghost use Rattle.agg_request.specs.Written.{all_may_be_written, may_be_written};
+ghost use Rattle.agg_request.specs.WrittenJson.{SaysAggregation, with_below};
+
+mod composite;
+mod kind;
+mod objects;
+mod query;
+mod sources;
+#[cfg(test)]
+mod tests;
+mod words;
+mod writable;
+
+use crate::request::Named;
+use crate::{Aggregation, Aggregations};
+use agg_values::{NameMap, OutOfMemory};
+use kind::{kind_word, write_kind};
+use serde_json::{Map, Value, put};
+use std::alloc::Global;
+pub use writable::may_be_written;
+
+/// The JSON value that says a request: read with the request's own builders, in the order in which
+/// it lists them, it is the same request.
+pub fn write_aggregations(alloc: Global, request: &Aggregations) -> Result<Value, OutOfMemory>
+    requires { all_may_be_written request.now ≡ true }
+    ensures back { IfOk result (λ value. IsRequestJson (λ b. b.name) (view value)
+        (builders_of request.now) request.now) }
+{
+    Ok(Value::from(write_request(alloc, request)?))
+}
+
+// The aggregations by their names.
+#[cycle(written)]
+fn write_request<B: Named>(
+    alloc: Global,
+    request: &NameMap<Aggregation<B>>,
+) -> Result<Map<String, Value>, OutOfMemory>
+    requires { all_may_be_written request.now ≡ true }
+    ensures { IfOk result (λ members. EachNamedIs (SaysAggregation B.name_of)
+        (members_view members.entries) request.now) }
+{
+    let mut members = Map::new(alloc);
+    for (name, aggregation) in request.iter() {
+        put(
+            &mut members,
+            alloc,
+            name.as_str(),
+            write_aggregation(alloc, aggregation)?,
+        )?;
+    }
+    Ok(members)
+}
+
+// Its kind, and those below it.
+#[cycle(written)]
+fn write_aggregation<B: Named>(
+    alloc: Global,
+    aggregation: &Aggregation<B>,
+) -> Result<Value, OutOfMemory>
+    requires { may_be_written aggregation.now ≡ true }
+    ensures { IfOk result (λ value. SaysAggregation B.name_of (view value) aggregation.now) }
+{
+    let body = write_kind(alloc, &aggregation.agg)?;
+    let mut members = Map::new(alloc);
+    put(&mut members, alloc, kind_word(&aggregation.agg), body)?;
+    put_below(
+        alloc,
+        &mut members,
+        write_request(alloc, &aggregation.sub_aggregation)?,
+    )?;
+    Ok(Value::from(members))
+}
+
+// Adds the aggregations below, where there are any.
+fn put_below(
+    alloc: Global,
+    members: &mut Map<String, Value>,
+    below: Map<String, Value>,
+) -> Result<(), OutOfMemory>
+    ensures { OnOk result (members_view members.new.entries
+        ≡ with_below (members_view below.entries) (members_view members.old.entries)) }
+{
+    if !below.is_empty() {
+        put(members, alloc, "aggs", Value::from(below))?;
+    }
+    Ok(())
+}

@@ -1,0 +1,188 @@
+//! Sources of composites to JSON.
+ghost use Rattle.std.specs.Prelude.{◌≡◌, codes, false, IfOk, OnOk, option_map};
+ghost use Rattle.serde_json.specs.Data.{object, member, no_members};
+ghost use Rattle.serde_json.specs.View.{items_view, members_view, view};
+ghost use Rattle.agg_request.specs.CompositeJson.{IsDateHistogramBody, IsHistogramBody};
+ghost use Rattle.agg_request.specs.CompositeJson.{IsSourceJson, IsTermsBody, unit_word};
+ghost use Rattle.agg_request.specs.Query.{EachIs};
+ghost use Rattle.agg_request.specs.WrittenJson.{shared_members, with_text};
+
+use super::objects::object_of;
+use super::words::{missing_order_word, order_word, unit_word, write_interval};
+use crate::{
+    CompositeAggregationSource, DateHistogramCompositeAggregationSource,
+    HistogramCompositeAggregationSource, TermCompositeAggregationSource,
+};
+use agg_calendar::CalendarInterval;
+use agg_values::{MissingOrder, Order, OutOfMemory, Text};
+use serde_json::{Map, Value, put};
+use std::alloc::Global;
+
+/// The array of sources, in their order.
+pub fn write_sources(
+    alloc: Global,
+    sources: &[CompositeAggregationSource],
+) -> Result<Vec<Value>, OutOfMemory>
+    ensures { IfOk result
+        (λ items. EachIs (IsSourceJson false) (items_view items.items) sources.now) }
+{
+    let mut items = Vec::new(alloc);
+    for source in sources {
+        items.push(write_source(alloc, source)?)?;
+    }
+    Ok(items)
+}
+
+// A source under its name.
+fn write_source(alloc: Global, source: &CompositeAggregationSource) -> Result<Value, OutOfMemory>
+    ensures { IfOk result (λ value. IsSourceJson false (view value) source.now) }
+{
+    match source {
+        CompositeAggregationSource::Terms(terms) => {
+            named(alloc, &terms.name, "terms", write_terms(alloc, terms)?)
+        }
+        CompositeAggregationSource::Histogram(histogram) => named(
+            alloc,
+            &histogram.name,
+            "histogram",
+            write_histogram(alloc, histogram)?,
+        ),
+        CompositeAggregationSource::DateHistogram(dates) => named(
+            alloc,
+            &dates.name,
+            "date_histogram",
+            write_date_histogram(alloc, dates)?,
+        ),
+    }
+}
+
+// A body under its kind, under a name.
+fn named(alloc: Global, name: &Text, kind: &str, body: Value) -> Result<Value, OutOfMemory>
+    ensures { IfOk result (λ value. view value ≡ object (member name.now
+        (object (member kind.now (view body) no_members)) no_members)) }
+{
+    object_of(alloc, name.as_str(), object_of(alloc, kind, body)?)
+}
+
+// The body of a terms source.
+fn write_terms(alloc: Global, source: &TermCompositeAggregationSource) -> Result<Value, OutOfMemory>
+    ensures { IfOk result (λ value. IsTermsBody source.now.name (view value) source.now) }
+{
+    let (order, place) = (source.order, source.missing_order);
+    let body = shared_members(alloc, &source.field, order, source.missing_bucket, place)?;
+    Ok(Value::from(body))
+}
+
+// The body of a histogram source.
+fn write_histogram(
+    alloc: Global,
+    source: &HistogramCompositeAggregationSource,
+) -> Result<Value, OutOfMemory>
+    ensures { IfOk result
+        (λ value. IsHistogramBody false source.now.name (view value) source.now) }
+{
+    let (order, place) = (source.order, source.missing_order);
+    let mut body = shared_members(alloc, &source.field, order, source.missing_bucket, place)?;
+    put(
+        &mut body,
+        alloc,
+        "interval",
+        write_interval(source.interval),
+    )?;
+    Ok(Value::from(body))
+}
+
+// The body of a date source, with the intervals that there are.
+fn write_date_histogram(
+    alloc: Global,
+    source: &DateHistogramCompositeAggregationSource,
+) -> Result<Value, OutOfMemory>
+    ensures { IfOk result
+        (λ value. IsDateHistogramBody source.now.name (view value) source.now) }
+{
+    let (order, place) = (source.order, source.missing_order);
+    let mut body = shared_members(alloc, &source.field, order, source.missing_bucket, place)?;
+    put_fixed(alloc, &mut body, &source.fixed_interval)?;
+    put_calendar(alloc, &mut body, source.calendar_interval)?;
+    Ok(Value::from(body))
+}
+
+// The members of the body of any source.
+fn shared_members(
+    alloc: Global,
+    field: &Text,
+    order: Order,
+    missing_bucket: bool,
+    missing_order: MissingOrder,
+) -> Result<Map<String, Value>, OutOfMemory>
+    ensures { IfOk result (λ body. members_view body.entries
+        ≡ shared_members field.now order missing_bucket missing_order) }
+{
+    let mut body = Map::new(alloc);
+    let place = missing_order_word(missing_order);
+    put(
+        &mut body,
+        alloc,
+        "field",
+        Value::try_from_str(alloc, field.as_str())?,
+    )?;
+    put(
+        &mut body,
+        alloc,
+        "missing_bucket",
+        Value::from(missing_bucket),
+    )?;
+    put(
+        &mut body,
+        alloc,
+        "missing_order",
+        Value::try_from_str(alloc, place)?,
+    )?;
+    put(
+        &mut body,
+        alloc,
+        "order",
+        Value::try_from_str(alloc, order_word(order))?,
+    )?;
+    Ok(body)
+}
+
+// Adds the fixed interval, where there is one.
+fn put_fixed(
+    alloc: Global,
+    body: &mut Map<String, Value>,
+    text: &Option<Text>,
+) -> Result<(), OutOfMemory>
+    ensures { OnOk result (members_view body.new.entries ≡ with_text (codes "fixed_interval")
+        text.now (members_view body.old.entries)) }
+{
+    if let Some(text) = text {
+        put(
+            body,
+            alloc,
+            "fixed_interval",
+            Value::try_from_str(alloc, text.as_str())?,
+        )?;
+    }
+    Ok(())
+}
+
+// Adds the calendar interval, where there is one.
+fn put_calendar(
+    alloc: Global,
+    body: &mut Map<String, Value>,
+    unit: Option<CalendarInterval>,
+) -> Result<(), OutOfMemory>
+    ensures { OnOk result (members_view body.new.entries ≡ with_text (codes "calendar_interval")
+        (option_map unit_word unit) (members_view body.old.entries)) }
+{
+    if let Some(unit) = unit {
+        put(
+            body,
+            alloc,
+            "calendar_interval",
+            Value::try_from_str(alloc, unit_word(unit))?,
+        )?;
+    }
+    Ok(())
+}

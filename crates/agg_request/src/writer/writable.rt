@@ -1,0 +1,74 @@
+//! Which requests may be written.
+ghost use Rattle.std.specs.Prelude.{◌≡◌, ◌==◌, ◌&&◌, ◌||◌, codes, length};
+ghost use Rattle.std.specs.Map.{keys_of};
+ghost use Rattle.std.specs.Str.{bytes_eq};
+ghost use Rattle.agg_request.specs.Written.{all_may_be_written, are_free, may_be_written};
+ghost use Rattle.agg_request.specs.Written.{may_hold_some};
+
+use crate::{Aggregation, AggregationVariants, Aggregations};
+use agg_values::NameMap;
+
+/// Whether a request may be written: a metric has no aggregations below it, and no aggregation
+/// below another has the name of a member of a bucket.
+pub fn may_be_written(request: &Aggregations) -> bool
+    ensures { result ≡ all_may_be_written request.now }
+{
+    all_may_be_written(request)
+}
+
+#[cycle(writable)]
+fn all_may_be_written<B: Drop>(request: &NameMap<Aggregation<B>>) -> bool
+    ensures { result ≡ all_may_be_written request.now }
+{
+    for (_, aggregation) in request.iter() {
+        if !is_writable(aggregation) {
+            return false;
+        }
+    }
+    true
+}
+
+#[cycle(writable)]
+fn is_writable<B: Drop>(aggregation: &Aggregation<B>) -> bool
+    ensures { result ≡ may_be_written aggregation.now }
+{
+    may_hold(&aggregation.agg, &aggregation.sub_aggregation)
+        && all_may_be_written(&aggregation.sub_aggregation)
+}
+
+// Whether an aggregation may have aggregations of these names below it.
+fn may_hold<B: Drop>(agg: &AggregationVariants<B>, below: &NameMap<Aggregation<B>>) -> bool
+    ensures { result ≡ (may_hold_some agg.now || (length below.now == 0))
+        && are_free (keys_of below.now) }
+{
+    (may_hold_some(agg) || below.is_empty()) && are_free(below)
+}
+
+// Whether an aggregation may have any below it.
+fn may_hold_some<B>(agg: &AggregationVariants<B>) -> bool
+    ensures { result ≡ may_hold_some agg.now }
+{
+    matches!(
+        agg,
+        AggregationVariants::Filter(_) | AggregationVariants::Composite(_)
+    )
+}
+
+// Whether names are those of no member of a bucket.
+fn are_free<B: Drop>(below: &NameMap<Aggregation<B>>) -> bool
+    ensures { result ≡ are_free (keys_of below.now) }
+{
+    for name in below.keys() {
+        if is_taken(name.as_str()) {
+            return false;
+        }
+    }
+    true
+}
+
+// Whether a name is that of a member of a bucket.
+fn is_taken(name: &str) -> bool
+    ensures { result ≡ bytes_eq name.now (codes "key") || bytes_eq name.now (codes "doc_count") }
+{
+    name == "key" || name == "doc_count"
+}
