@@ -1,5 +1,5 @@
 -- Ascending keys, and what is put behind them.
-use Rattle.std.proofs.Common.{◌≡◌, ℕ, List, [], ◌∷◌, ◌++◌, Option, None, map, refl, sym, ap, ◌∙◌, subst}
+use Rattle.std.proofs.Common.{◌≡◌, ℕ, List, [], ◌∷◌, ◌++◌, None, map, refl, sym, ap, ◌∙◌, subst}
 use Rattle.std.proofs.Common.{Ordering, Less, Greater, append_assoc}
 use Rattle.std.specs.BTreeMap.{insert_entry, is_at}
 use Rattle.std.specs.Cmp.{IsTotalOrder}
@@ -46,7 +46,8 @@ module _ {K : Type 0} (R : K → K → Ordering) where
 
     -- an entry above others is put behind them
     pub insert-end : {X : Type 0} (es : List (K × X)) (k : K) (x : X)
-        → AllByRecursion (λ l. R l k ≡ Less) (keys_of es) → insert_entry R es k x ≡ es ++ (k, x) ∷ []
+        → AllByRecursion (λ l. R l k ≡ Less) (keys_of es)
+        → insert_entry R es k x ≡ es ++ (k, x) ∷ []
     insert-end [] k x below = refl
     insert-end (e ∷ es) k x below =
         rw (above e.0 k below.0) (ap (λ fs. e ∷ fs) (insert-end es k x below.1))

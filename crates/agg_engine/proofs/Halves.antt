@@ -1,7 +1,8 @@
 -- What two lists of segments hold for a page is held for both as one.
-use Rattle.std.proofs.Common.{◌≡◌, ℕ, ◌+◌, ◌<◌, ◌≤◌, ◌^◌, List, [], ◌∷◌, ◌++◌, Ok, length, take}
+use Rattle.std.proofs.Common.{◌≡◌, ℕ, ◌+◌, ◌≤◌, ◌^◌, List, [], ◌++◌, Ok, length, take}
 use Rattle.std.proofs.Common.{drop, length-append, sym, ap, ◌∙◌, subst, arith}
-use Rattle.std.specs.List.{All, Any, filter, flat_map}
+use Rattle.std.specs.List.{All, filter, flat_map}
+use Rattle.std.specs.Prelude.{⊤}
 use Rattle.std.proofs.lemmas.List.{take-append-drop}
 use Rattle.std.proofs.lemmas.List.Concat.{flat_map-append}
 use Rattle.std.proofs.lemmas.List.Elements.{All-contains, All-from_recursion, filter-append}
@@ -12,8 +13,10 @@ use Rattle.agg_segment.specs.Query.{matches}
 use Rattle.agg_segment.specs.Segment.{Stored, documents_of}
 use Rattle.agg_segment.specs.declared.query.QueryTree.{QueryTree}
 use Rattle.agg_segment.proofs.Encoded.{back_all, front_all}
+use Rattle.agg_request.specs.Request.{agg_of}
+use Rattle.agg_request.specs.Uncut.{counted as counted_by, uncut}
 use Rattle.agg_request.specs.declared.aggregation.Aggregation.{Aggregation}
-use Rattle.agg_request.specs.Uncut.{uncut}
+use Rattle.agg_request.specs.declared.aggregation.AggregationVariants.{AggregationVariants}
 use Rattle.agg_request.specs.declared.aggregation.AggregationVariants.TheVariants.{Composite}
 use Rattle.agg_request.specs.declared.aggregation.CompositeAggregation.{CompositeAggregation}
 use Rattle.agg_results.specs.Merging.{AreMerged, CountsPass, ShapesDiffer, SomeOfBoth}
@@ -21,6 +24,7 @@ use Rattle.agg_results.specs.declared.intermediate.results.IntermediateAggregati
 use held.{IntermediateAggregationResults}
 use Rattle.agg_results.proofs.StandingResults.{StandsFor-alike, StandsFor-few, StandsFor-joined}
 use Rattle.agg_engine.specs.PageAnswers.{AnswersHeld, asked}
+use Rattle.agg_engine.proofs.OneRequest.{agg-made, at_size, going_on}
 
 -- the documents of segments that match
 abbrev pub matching_in : QueryTree → List Stored → List Fields
@@ -49,11 +53,11 @@ matching-parts P query segments first second at front back all =
 
 -- how many documents a composite counts in two lists of them
 counted-append : (composite : CompositeAggregation) (documents others : List Fields)
-    → length (uncut (Composite composite) (documents ++ others))
-    ≡ length (uncut (Composite composite) documents) + length (uncut (Composite composite) others)
+    → length (counted_by composite (documents ++ others))
+    ≡ length (counted_by composite documents) + length (counted_by composite others)
 counted-append composite documents others =
     ap length (flat_map-append _ documents others)
-    ∙ length-append (uncut (Composite composite) documents) (uncut (Composite composite) others)
+    ∙ length-append (counted_by composite documents) (counted_by composite others)
 
 module _ (name : List ℕ) (composite : CompositeAggregation) (size : ℕ) (after : Named AfterKey)
     (query : QueryTree) (first second : List Stored) (counted between counted_now : ℕ)
@@ -78,12 +82,18 @@ module _ (name : List ℕ) (composite : CompositeAggregation) (size : ℕ) (afte
       let first_is = a.counted_is in
       let second_is = b.counted_is in
       let least = b.few in
-      let few : ¬ (2 ^ 64 ≤ length (uncut (Composite composite) (documents ++ others))) =
+      let few : ¬ (2 ^ 64 ≤ length (uncut {B = ⊤} (Composite composite) (documents ++ others))) =
       λ passes. omega arith in
-      let P = λ (e : List ℕ × Aggregation).
-      ¬ (2 ^ 64 ≤ length (uncut e.1.agg (documents ++ others))) in
+      let own = at_size size (going_on after composite) in
+      let P = λ (e : List ℕ × Aggregation ⊤).
+      ¬ (2 ^ 64 ≤ length (uncut (agg_of e.1) (documents ++ others))) in
       All-contains P (asked name composite size after) many.1
-      (All-from_recursion P (asked name composite size after) (few, tt))
+      (All-from_recursion P (asked name composite size after) (
+        subst (λ (agg : AggregationVariants ⊤).
+            ¬ (2 ^ 64 ≤ length (uncut agg (documents ++ others))))
+            (sym (agg-made (Composite own) [])) few,
+        tt,
+      ))
       (many.0, many.2, many.3) many.4
 
   -- the two as one are held for all segments

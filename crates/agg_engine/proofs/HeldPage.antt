@@ -1,12 +1,11 @@
 -- A page as it is held: entries added one by one, each above those before.
-use Rattle.std.proofs.Common.{◌≡◌, ◌≢◌, ℕ, ◌+◌, ◌≤◌, ◌^◌, List, [], ◌∷◌, ◌++◌, Option, None, Some}
+use Rattle.std.proofs.Common.{◌≡◌, ◌≢◌, ℕ, List, [], ◌∷◌, ◌++◌, Some}
 use Rattle.std.proofs.Common.{map, sym, ap, ◌∙◌, subst, Less}
 use Rattle.std.specs.List.{All, AllByRecursion}
 use Rattle.std.specs.List.Sorted.{IsStrictlySortedBy}
 use Rattle.std.specs.Map.{keys_of}
 use Rattle.std.proofs.lemmas.List.{map-append}
 use Rattle.agg_values.specs.KeyOrder.{SourceRules, tuple_order}
-use Rattle.agg_values.specs.Tuple.{KeyTuple}
 use Rattle.agg_values.proofs.TupleOrder.{tuple_order-total}
 use Rattle.agg_request.specs.Groups.{Group}
 use Rattle.agg_composite.specs.PageEntries.{entry_group}
@@ -16,7 +15,8 @@ use Rattle.agg_results.specs.Intermediate.{Entries, IsFlat, IsPlain, composite_o
 use Rattle.agg_results.specs.Intermediate.{entries_of, orders_of, plain_entries, target_size_of}
 use Rattle.agg_results.specs.declared.error.MergeError.{MergeError}
 use Rattle.agg_results.specs.declared.error.MergeError.TheVariants as merge
-use Rattle.agg_results.specs.declared.intermediate.composite.IntermediateCompositeBucketResult as held
+use Rattle.agg_results.specs.declared.intermediate.composite as declared
+use declared.IntermediateCompositeBucketResult as held
 use held.{IntermediateCompositeBucketResult, out-IntermediateCompositeBucketResult}
 use held.{out-roll-IntermediateCompositeBucketResult}
 use Rattle.agg_results.proofs.Counts.{add-end}

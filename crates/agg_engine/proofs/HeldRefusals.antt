@@ -1,6 +1,6 @@
 -- Why there are no results of a composite over documents.
-use Rattle.std.proofs.Common.{◌≡◌, ◌^◌, ◌+◌, ◌≤◌, ℕ, List, ◌++◌, Result, Ok, Err, IfErr, IsErrAnd}
-use Rattle.std.proofs.Common.{length, refl, sym, subst, arith}
+use Rattle.std.proofs.Common.{◌≡◌, ◌^◌, ◌≤◌, ℕ, List, Result, IfErr, IsErrAnd}
+use Rattle.std.proofs.Common.{refl, sym, subst, arith}
 use Rattle.std.specs.Prelude.{count_by}
 use Rattle.std.proofs.lemmas.List.Sums.{count_by-le-length}
 use Rattle.std.proofs.lemmas.Result.{err_from_is_err_and}
@@ -10,11 +10,9 @@ use Rattle.agg_cache.specs.declared.error.CollectError.TheVariants as collect
 use Rattle.agg_segment.specs.Document.{Fields}
 use Rattle.agg_request.specs.Occurrences.{past_occurrences, same_tuple}
 use Rattle.agg_request.specs.Source.{rules_of}
-use Rattle.agg_request.specs.Uncut.{uncut}
-use Rattle.agg_request.specs.declared.aggregation.AggregationVariants.TheVariants.{Composite}
 use Rattle.agg_request.specs.declared.aggregation.CompositeAggregation.{CompositeAggregation}
 use Rattle.agg_request.proofs.OccurrencesLength.{past-fewer}
-use Rattle.agg_request.proofs.UncutLength.{length-uncut}
+use Rattle.agg_request.proofs.UncutLength.{length-counted}
 use Rattle.agg_engine.specs.PageAnswers.{IsHeldRefusal}
 use Rattle.agg_engine.specs.WalkError.{error_from_collect}
 use Rattle.agg_engine.specs.declared.walk.error.WalkError.{WalkError}
@@ -40,7 +38,7 @@ module _ (composite : CompositeAggregation) where
         count_by-le-length (same_tuple (rules_of composite.sources) tuple)
             (past_occurrences composite.sources bound documents),
         past-fewer composite.sources bound documents,
-        length-uncut composite documents,
+        length-counted composite documents,
       )
 
   -- the error of a collector

@@ -1,25 +1,35 @@
 -- A request has one walk over the same snapshots.
 use Rattle.std.proofs.Common.{◌≡◌, ℕ, List, [], ◌∷◌, Bool, true, false, Option, None, Some, refl}
-use Rattle.std.proofs.Common.{sym, ap, ◌∙◌, subst}
+use Rattle.std.proofs.Common.{sym, ap, ◌∙◌, subst, cond}
+use Rattle.std.specs.BTreeMap.{is_at}
+use Rattle.std.specs.List.{AllByRecursion}
 use Rattle.std.specs.Prelude.{MatchOption}
+use Rattle.std.proofs.lemmas.List.Elements.{recursion_from_All}
 use Rattle.agg_segment.specs.Document.{Fields}
 use Rattle.agg_segment.specs.declared.query.QueryTree.{QueryTree}
+use Rattle.agg_request.specs.declared.aggregation.Aggregation.{Aggregation}
 use Rattle.agg_request.specs.declared.aggregation.AggregationVariants.{AggregationVariants}
 use Rattle.agg_request.specs.declared.aggregation.AggregationVariants.TheVariants.{Composite}
+use Rattle.agg_request.specs.declared.aggregation.CompositeAggregation.{CompositeAggregation}
+use Rattle.agg_request.specs.BySource.{after_map}
 use Rattle.agg_request.specs.Occurrences.{bound_of}
+use Rattle.agg_request.specs.Request.{ArePlainComposites, IsPlainComposite, Request, agg_of}
+use Rattle.agg_request.specs.Request.{below_of}
 use Rattle.agg_request.proofs.PageExists.{page_exists}
 use Rattle.agg_request.proofs.PageUnique.{IsPage-same}
-use Rattle.agg_request.specs.Request.{Request}
-use Rattle.agg_results.specs.Results.{CompositeResult, IsResult, IsResults, Results, after_in}
-use Rattle.agg_results.specs.Results.{after_tuple}
+use Rattle.agg_results.specs.Results.{CompositeResult, IsCompositeResult, IsResult, IsResults}
+use Rattle.agg_results.specs.Results.{Results, after_in, after_tuple}
 use Rattle.agg_engine.specs.Snapshot.{SnapshotDocuments}
-use Rattle.agg_engine.specs.Walk.{IsWalk, matching_documents, request_behind, request_at_size}
+use Rattle.agg_engine.specs.Walk.{IsWalk, changed, matching_documents, request_at_size}
+use Rattle.agg_engine.specs.Walk.{request_behind, request_with, with_after, with_size}
+use Rattle.agg_engine.proofs.OneRequest.{agg-made, below-made}
+use Rattle.agg_values.specs.Names.{name_cmp}
 use Rattle.agg_values.specs.Tuple.{KeyTuple}
 
 -- ---- the results of a request over documents
 
 -- an aggregation has one result
-result-same : (aggregation : AggregationVariants) (documents : List Fields)
+result-same : {B : Type 0} (aggregation : AggregationVariants B) (documents : List Fields)
     (result other : CompositeResult) → IsResult aggregation documents result
     → IsResult aggregation documents other → result ≡ other
 result-same (Composite c) documents result other h k =
@@ -27,9 +37,11 @@ result-same (Composite c) documents result other h k =
     other.entries h.page k.page in
     let after = h.after ∙ ap (after_tuple c.size) entries ∙ sym k.after in
     λ i. record { entries = entries i; after = after i }
+result-same _ documents result other h k = absurd h
 
-pub results-same : (request : Request) (documents : List Fields) (results others : Results)
-    → IsResults request documents results → IsResults request documents others → results ≡ others
+pub results-same : {B : Type 0} (request : Request B) (documents : List Fields)
+    (results others : Results) → IsResults request documents results
+    → IsResults request documents others → results ≡ others
 results-same [] documents [] [] h k = refl
 results-same [] documents [] (q ∷ others) h k = absurd k
 results-same [] documents (r ∷ results) others h k = absurd h
@@ -37,40 +49,78 @@ results-same (a ∷ request) documents [] others h k = absurd h
 results-same (a ∷ request) documents (r ∷ results) [] h k = absurd k
 results-same (a ∷ request) documents (r ∷ results) (q ∷ others) h k =
     let name = h.0 ∙ sym k.0 in
-    let result = result-same a.1.agg documents r.1 q.1 h.1 k.1 in
+    let result = result-same (agg_of a.1) documents r.1 q.1 h.1 k.1 in
     let rest = results-same request documents results others h.2 k.2 in
     λ i. (name i, result i) ∷ rest i
 
-result-exists : (aggregation : AggregationVariants) (documents : List Fields)
-    → (result : CompositeResult) × IsResult aggregation documents result
-result-exists (Composite c) documents =
+-- each aggregation of a request is a composite with none below it
+abbrev AllPlain : {B : Type 0} → Request B → Type 0
+AllPlain request = AllByRecursion (λ a. IsPlainComposite a.1) request
+
+composite-result : (c : CompositeAggregation) (documents : List Fields)
+    → (result : CompositeResult) × IsCompositeResult c documents result
+composite-result c documents =
     let page = page_exists c.sources c.size (bound_of c.sources c.after) documents in (
       record { entries = page.0; after = after_tuple c.size page.0 },
-      record {
-        page = page.1;
-        after =
-            refl;
-      },
+      record { page = page.1; after = refl },
     )
 
-pub results-exist : (request : Request) (documents : List Fields)
+result-exists : {B : Type 0} (a : Aggregation B) (documents : List Fields) → IsPlainComposite a
+    → (result : CompositeResult) × IsResult (agg_of a) documents result
+result-exists {B = B} a documents plain =
+    let own = composite-result plain.0 documents in (
+      own.0,
+      subst (λ (agg : AggregationVariants B). IsResult agg documents own.0) (sym plain.1) own.1,
+    )
+
+results-exist : {B : Type 0} (request : Request B) (documents : List Fields) → AllPlain request
     → (results : Results) × IsResults request documents results
-results-exist [] documents = ([], tt)
-results-exist (a ∷ request) documents =
-    let result = result-exists a.1.agg documents in
-    let rest = results-exist request documents in
+results-exist [] documents plain = ([], tt)
+results-exist (a ∷ request) documents plain =
+    let result = result-exists a.1 documents plain.0 in
+    let rest = results-exist request documents plain.1 in
     ((a.0, result.0) ∷ rest.0, (refl, result.1, rest.1))
+
+-- ---- a request that is changed
+
+-- what an aggregation asks is changed so that a composite stays one
+abbrev KeepsComposites : {B : Type 0} → (AggregationVariants B → AggregationVariants B) → Type 0
+KeepsComposites change =
+    (c : CompositeAggregation) → (d : CompositeAggregation) × (change (Composite c) ≡ Composite d)
+
+plain-changed : {B : Type 0} (change : AggregationVariants B → AggregationVariants B)
+    → KeepsComposites change → (a : Aggregation B) → IsPlainComposite a
+    → IsPlainComposite (changed change a)
+plain-changed change keeps a plain =
+    let kept = keeps plain.0 in (
+      kept.0,
+      agg-made (change (agg_of a)) (below_of a) ∙ ap change plain.1 ∙ kept.1,
+      below-made (change (agg_of a)) (below_of a) ∙ plain.2,
+    )
+
+-- a request of composites with none below them stays one
+plain-with : {B : Type 0} (change : AggregationVariants B → AggregationVariants B)
+    → KeepsComposites change → (name : List ℕ) (request : Request B) → AllPlain request
+    → AllPlain (request_with change name request)
+plain-with change keeps name [] plain = tt
+plain-with {B = B} change keeps name (a ∷ request) plain =
+    (by (is_at (name_cmp name) a.0), plain-with change keeps name request plain.1)
+  where
+    by : (b : Bool) → IsPlainComposite {B = B} (cond b (a.0, changed change a.1) a).1
+    by true = plain-changed change keeps a.1 plain.0
+    by false = plain.0
 
 -- ---- the walk
 
 module _ (name : List ℕ) (query : QueryTree) where
   -- how the walk goes on behind a page with this last tuple, if it is full
-  abbrev GoesOn : Request → List SnapshotDocuments → List Results → Bool → Option KeyTuple → Type 0
+  abbrev GoesOn : {B : Type 0} → Request B → List SnapshotDocuments → List Results → Bool
+      → Option KeyTuple → Type 0
   GoesOn request snapshots results ended last = MatchOption last ((results ≡ []) × (ended ≡ true))
       (λ tuple. IsWalk name query (request_behind name tuple request) snapshots results ended)
 
-  behind-same : (request : Request) (snapshots : List SnapshotDocuments) (results others : List
-      Results) (ended other : Bool) (last : Option KeyTuple)
+  behind-same : {B : Type 0} (request : Request B) (snapshots : List SnapshotDocuments)
+      (results others : List Results) (ended other : Bool) (last : Option KeyTuple)
       → ((tuple : KeyTuple) → IsWalk name query (request_behind name tuple request) snapshots
       results ended → IsWalk name query (request_behind name tuple request) snapshots others
       other → (results ≡ others) × (ended ≡ other))
@@ -82,8 +132,8 @@ module _ (name : List ℕ) (query : QueryTree) where
   behind-same request snapshots results others ended other (Some tuple) later h k = later tuple h k
 
   -- two walks are the same
-  pub walk-same : (request : Request) (snapshots : List SnapshotDocuments) (results others : List
-      Results) (ended other : Bool)
+  pub walk-same : {B : Type 0} (request : Request B) (snapshots : List SnapshotDocuments)
+      (results others : List Results) (ended other : Bool)
       → IsWalk name query request snapshots results ended
       → IsWalk name query request snapshots others other
       → (results ≡ others) × (ended ≡ other)
@@ -102,27 +152,42 @@ module _ (name : List ℕ) (query : QueryTree) where
       h.1 (subst (λ p. GoesOn request snapshots others other (after_in name p)) (sym page) k.1) in
       (λ i. page i ∷ rest.0 i, rest.1)
 
-  behind-exists : (request : Request) (snapshots : List SnapshotDocuments) (last : Option KeyTuple)
+  behind-exists : {B : Type 0} (request : Request B) (snapshots : List SnapshotDocuments)
+      (last : Option KeyTuple)
       → ((tuple : KeyTuple) → (results : List Results) × (ended : Bool)
       × IsWalk name query (request_behind name tuple request) snapshots results ended)
       → (results : List Results) × (ended : Bool) × GoesOn request snapshots results ended last
   behind-exists request snapshots None later = ([], true, (refl, refl))
   behind-exists request snapshots (Some tuple) later = later tuple
 
-  -- there is a walk
-  pub walk-exists : (request : Request) (snapshots : List SnapshotDocuments)
+  plain-exists : {B : Type 0} (request : Request B) (snapshots : List SnapshotDocuments)
+      → AllPlain request
       → (results : List Results) × (ended : Bool) × IsWalk name query request snapshots results
       ended
-  walk-exists request [] = ([], false, refl)
-  walk-exists request (s ∷ snapshots) =
+  plain-exists request [] plain = ([], false, refl)
+  plain-exists {B = B} request (s ∷ snapshots) plain =
+      let sized : AllPlain (request_at_size name s.page_size request) =
+      plain-with (with_size {B = B} s.page_size) (λ c. (record c { size = s.page_size }, refl)) name
+      request plain in
       let page = results-exist (request_at_size name s.page_size request) (matching_documents query
-      s) in
+      s) sized in
       let rest = behind-exists request snapshots (after_in name page.0) (λ tuple.
-      walk-exists (request_behind name tuple request) snapshots) in
+      plain-exists (request_behind name tuple request) snapshots
+      (plain-with (with_after {B = B} tuple)
+      (λ c. (record c { after = after_map c.sources tuple }, refl)) name request plain)) in
       (page.0 ∷ rest.0, rest.1, (page.1, rest.2))
 
+  -- there is a walk of composites with none below them
+  pub walk-exists : {B : Type 0} (request : Request B) (snapshots : List SnapshotDocuments)
+      → ArePlainComposites request
+      → (results : List Results) × (ended : Bool) × IsWalk name query request snapshots results
+      ended
+  walk-exists {B = B} request snapshots plain =
+      plain-exists request snapshots
+      (recursion_from_All (λ (a : List ℕ × Aggregation B). IsPlainComposite a.1) request plain)
+
   -- over no snapshot there is no page
-  pub walk-nothing : (request : Request) (results : List Results) (ended : Bool)
+  pub walk-nothing : {B : Type 0} (request : Request B) (results : List Results) (ended : Bool)
       → IsWalk name query request [] results ended → (results ≡ []) × (ended ≡ false)
   walk-nothing request [] ended h = (refl, h)
   walk-nothing request (r ∷ results) ended h = absurd h

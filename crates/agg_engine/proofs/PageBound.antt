@@ -1,13 +1,13 @@
 -- The last tuple of a full page, and the after key that is shown for it.
-use Rattle.std.proofs.Common.{◌≡◌, ◌≢◌, ◌≤◌, ◌==◌, ℕ, List, [], ◌∷◌, Bool, true, false, cond, Option}
-use Rattle.std.proofs.Common.{None, Some, length, map, refl, sym, ap, ◌∙◌, subst, arith, Ordering}
+use Rattle.std.proofs.Common.{◌≡◌, ◌≢◌, ◌≤◌, ◌==◌, ℕ, List, [], ◌∷◌, Bool, true, false, cond}
+use Rattle.std.proofs.Common.{Option, None, Some, length, map, refl, subst, arith, Ordering}
 use Rattle.std.proofs.Common.{Less, Equal, Greater, rules}
 use Rattle.std.specs.Prelude.{MatchOption, Contains, ⊤, unwrap_or}
 use Rattle.std.specs.Option.{is_some}
-use Rattle.std.specs.List.{AllByRecursion, flat_map, last_or}
+use Rattle.std.specs.List.{AllByRecursion, last_or}
 use Rattle.std.specs.Ordering.{match_ordering}
 use Rattle.std.proofs.lemmas.List.Elements.{recursion_from_All}
-use Rattle.agg_values.specs.Names.{Named, name_cmp, put, value_of}
+use Rattle.agg_values.specs.Names.{Named, name_cmp, put}
 use Rattle.agg_values.specs.Tuple.{KeyTuple}
 use Rattle.agg_values.specs.declared.after_key.AfterKey.{AfterKey}
 use Rattle.agg_segment.specs.Document.{Fields}

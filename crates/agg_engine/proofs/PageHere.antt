@@ -1,55 +1,74 @@
 -- The page of a snapshot as the results of a request of one composite, and when these are refused.
-use Rattle.std.proofs.Common.{◌≡◌, ◌≤◌, ◌<◌, ℕ, List, [], ◌∷◌, cond, None, Some, length, refl, sym}
+use Rattle.std.proofs.Common.{◌≡◌, ◌≤◌, ◌<◌, ◌^◌, ℕ, List, [], ◌∷◌, length, refl, sym}
 use Rattle.std.proofs.Common.{ap, ◌∙◌, subst, inl, inr, arith}
-use Rattle.std.specs.BTreeMap.{is_at}
 use Rattle.std.specs.Prelude.{option_and_then}
-use Rattle.agg_values.specs.Names.{Named, name_cmp, value_of}
+use Rattle.agg_values.specs.Names.{Named}
 use Rattle.agg_values.specs.declared.after_key.AfterKey.{AfterKey}
-use Rattle.agg_values.specs.declared.request_error.AggregationError.{AggregationError}
 use Rattle.agg_values.specs.declared.request_error.AggregationError.TheVariants as aggregation
 use Rattle.agg_segment.specs.Document.{Fields}
 use Rattle.agg_segment.specs.declared.query.QueryTree.{QueryTree}
 use Rattle.agg_request.specs.Occurrences.{bound_of}
 use Rattle.agg_request.specs.Page.{Entry, IsPage}
-use Rattle.agg_request.specs.Request.{Request}
-use Rattle.agg_request.specs.Ranges.{HasStartOutOfRange}
-use Rattle.agg_request.specs.Uncut.{CountsTooMany}
-use Rattle.agg_request.specs.declared.aggregation.Aggregation.{Aggregation}
+use Rattle.agg_request.specs.Request.{Request, agg_of, aggregation_of}
+use Rattle.agg_request.specs.Ranges.{HasOwnStartOutOfRange, HasStartOutOfRange}
+use Rattle.agg_request.specs.Uncut.{CountsTooMany, counted}
+use Rattle.agg_request.specs.declared.aggregation.AggregationVariants.{AggregationVariants}
 use Rattle.agg_request.specs.declared.aggregation.AggregationVariants.TheVariants.{Composite}
 use Rattle.agg_request.specs.declared.aggregation.CompositeAggregation.{CompositeAggregation}
-use Rattle.agg_request.proofs.PageUnique.{IsPage-same}
-use Rattle.agg_results.specs.Results.{CompositeResult, IsResults, Results, after_in, after_tuple}
-use Rattle.agg_results.specs.Results.{buckets_in}
-use Rattle.agg_engine.specs.PageAnswers.{asked}
+use Rattle.agg_results.specs.Results.{CompositeResult, IsCompositeResult, IsResult, IsResults}
+use Rattle.agg_results.specs.Results.{Results, after_in, after_tuple, buckets_in}
+use Rattle.agg_results.specs.ShownResults.{shown_composite, shown_result, shown_results}
+use Rattle.agg_engine.specs.PageAnswers.{asked_with}
 use Rattle.agg_engine.specs.Refusals.{AreRefused}
 use Rattle.agg_engine.specs.Snapshot.{SnapshotDocuments}
 use Rattle.agg_engine.specs.Walk.{HasOutOfRange, HasTooMany, matching_documents, request_at_size}
 use Rattle.agg_engine.specs.declared.walk.error.WalkError.{WalkError}
 use Rattle.agg_engine.specs.declared.walk.error.WalkError.TheVariants as error
-use Rattle.agg_engine.proofs.OneRequest.{one_from, one_from-sized, value-own}
+use Rattle.agg_engine.proofs.OneRequest.{agg-made, at_size, going_on, one, one_from}
+use Rattle.agg_engine.proofs.OneRequest.{one_from-sized, value-own}
 use Rattle.agg_engine.proofs.OneWalk.{results-same}
-
--- the results of a request of one composite
-abbrev pub one_result : List ℕ → CompositeResult → Results
-one_result name result = (name, result) ∷ []
 
 -- the result that a page is
 abbrev pub result_of : ℕ → List Entry → CompositeResult
 result_of size page = record { entries = page; after = after_tuple size page }
 
-module _ (name : List ℕ) (query : QueryTree) (a : Aggregation) (c : CompositeAggregation)
+-- the results of a request of one composite
+abbrev pub one_result : List ℕ → CompositeResult → Results
+one_result name result = (name, result) ∷ []
+
+-- they are shown as the composite's result under its name
+pub shown-one : (B : Type 0) (name : List ℕ) (c : CompositeAggregation) (result : CompositeResult)
+    → shown_results (one B name c) (one_result name result)
+    ≡ record { 0 = (name, shown_composite c.sources result) ∷ [] }
+shown-one B name c result =
+    ap (λ shown. record { 0 = (name, shown) ∷ [] })
+    (ap (λ (agg : AggregationVariants B). shown_result agg result) (agg-made (Composite c) []))
+
+-- a composite counts 2^32 documents or more
+abbrev pub HasOwnTooMany : CompositeAggregation → List Fields → Type 0
+HasOwnTooMany c documents = 2 ^ 32 ≤ length (counted c documents)
+
+module _ (B : Type 0) (name : List ℕ) (query : QueryTree) (c : CompositeAggregation)
     (after : Named AfterKey) (s : SnapshotDocuments) where
   -- the page of the snapshot behind the after key
   abbrev pub IsPageHere : List Entry → Type 0
   IsPageHere = IsPage c.sources s.page_size (bound_of c.sources after) (matching_documents query s)
 
   -- the request as it stands at the snapshot
-  abbrev pub request_here : Request
-  request_here = request_at_size name s.page_size (one_from name a c after)
+  abbrev pub request_here : Request B
+  request_here = request_at_size name s.page_size (one_from B name c after)
+
+  -- the composite that is asked
+  abbrev sized : CompositeAggregation
+  sized = at_size s.page_size (going_on after c)
 
   -- the same, of the composite that is asked
-  abbrev pub asked_here : Request
-  asked_here = asked name c s.page_size after
+  abbrev pub asked_here : Request B
+  asked_here = asked_with B name c s.page_size after
+
+  -- what the only aggregation asks
+  agg_here : agg_of (aggregation_of {B = B} (Composite sized) []) ≡ Composite sized
+  agg_here = agg-made (Composite sized) []
 
   -- ---- results
 
@@ -60,14 +79,29 @@ module _ (name : List ℕ) (query : QueryTree) (a : Aggregation) (c : CompositeA
   -- a page of the snapshot is the results of the composite that is asked
   pub asked-page : (page : List Entry) → IsPageHere page
       → IsResults asked_here (matching_documents query s) (results_of page)
-  asked-page page is_page = (refl, record { page = is_page; after = refl }, tt)
+  asked-page page is_page =
+      let own : IsCompositeResult sized (matching_documents query s) (result_of s.page_size page) =
+      record { page = is_page; after = refl } in (
+        refl,
+        subst (λ (agg : AggregationVariants B). IsResult agg (matching_documents query s)
+            (result_of s.page_size page)) (sym agg_here) own,
+        tt,
+      )
 
   -- and of the request as it stands
   pub results-page : (page : List Entry) → IsPageHere page
       → IsResults request_here (matching_documents query s) (results_of page)
   results-page page is_page =
-      subst (λ request. IsResults request (matching_documents query s) (results_of page))
-      (sym (one_from-sized name a c after s.page_size)) (asked-page page is_page)
+      subst (λ (request : Request B). IsResults request (matching_documents query s)
+      (results_of page))
+      (sym (one_from-sized B name c after s.page_size)) (asked-page page is_page)
+
+  -- both are shown alike
+  pub shown-here : (page : List Entry)
+      → shown_results asked_here (results_of page) ≡ shown_results (one B name c) (results_of page)
+  shown-here page =
+      let result = result_of s.page_size page in
+      shown-one B name sized result ∙ sym (shown-one B name c result)
 
   results-own : (results : Results) → IsResults request_here (matching_documents query s) results
       → (page : List Entry) → IsPageHere page → results ≡ results_of page
@@ -91,43 +125,49 @@ module _ (name : List ℕ) (query : QueryTree) (a : Aggregation) (c : CompositeA
     AreRefusedHere = AreRefused limit request_here (matching_documents query s)
 
     out_of_range-here : HasOutOfRange request_here (matching_documents query s)
-        → HasStartOutOfRange (Composite c) (matching_documents query s)
+        → HasOwnStartOutOfRange c (matching_documents query s)
     out_of_range-here out =
-        elim (subst (λ request. HasOutOfRange request (matching_documents query s))
-        (one_from-sized name a c after s.page_size) out) [
-          | inl h ↦ h
+        elim (subst (λ (request : Request B). HasOutOfRange request (matching_documents query s))
+        (one_from-sized B name c after s.page_size) out) [
+          | inl h ↦ subst (λ (agg : AggregationVariants B). HasStartOutOfRange agg
+              (matching_documents query s)) agg_here h
           | inr h ↦ absurd h
         ]
 
     too_many-here : HasTooMany request_here (matching_documents query s)
-        → CountsTooMany (Composite c) (matching_documents query s)
+        → HasOwnTooMany c (matching_documents query s)
     too_many-here many =
-        elim (subst (λ request. HasTooMany request (matching_documents query s))
-        (one_from-sized name a c after s.page_size) many) [
-          | inl h ↦ h
+        elim (subst (λ (request : Request B). HasTooMany request (matching_documents query s))
+        (one_from-sized B name c after s.page_size) many) [
+          | inl h ↦ subst (λ (agg : AggregationVariants B). CountsTooMany agg
+              (matching_documents query s)) agg_here h
           | inr h ↦ absurd h
         ]
 
     -- a bucket starts out of range
-    pub refused-out_of_range : HasStartOutOfRange (Composite c) (matching_documents query s)
+    pub refused-out_of_range : HasOwnStartOutOfRange c (matching_documents query s)
         → AreRefusedHere error.BucketOutOfRange
     refused-out_of_range out =
-        subst (λ request. HasOutOfRange request (matching_documents query s))
-        (sym (one_from-sized name a c after s.page_size)) (inl out)
+        subst (λ (request : Request B). HasOutOfRange request (matching_documents query s))
+        (sym (one_from-sized B name c after s.page_size))
+        (inl (subst (λ (agg : AggregationVariants B). HasStartOutOfRange agg
+        (matching_documents query s)) (sym agg_here) out))
 
     -- too many documents are counted
-    pub refused-too_many : ¬ (HasStartOutOfRange (Composite c) (matching_documents query s))
-        → CountsTooMany (Composite c) (matching_documents query s)
+    pub refused-too_many : ¬ (HasOwnStartOutOfRange c (matching_documents query s))
+        → HasOwnTooMany c (matching_documents query s)
         → AreRefusedHere error.TooMany
     refused-too_many in_range many = (
       λ out. in_range (out_of_range-here out),
-      subst (λ request. HasTooMany request (matching_documents query s))
-          (sym (one_from-sized name a c after s.page_size)) (inl many),
+      subst (λ (request : Request B). HasTooMany request (matching_documents query s))
+          (sym (one_from-sized B name c after s.page_size))
+          (inl (subst (λ (agg : AggregationVariants B). CountsTooMany agg
+          (matching_documents query s)) (sym agg_here) many)),
     )
 
     module _ (page : List Entry) (is_page : IsPageHere page)
-        (in_range : ¬ (HasStartOutOfRange (Composite c) (matching_documents query s)))
-        (few : ¬ (CountsTooMany (Composite c) (matching_documents query s))) where
+        (in_range : ¬ (HasOwnStartOutOfRange c (matching_documents query s)))
+        (few : ¬ (HasOwnTooMany c (matching_documents query s))) where
       -- the page has more buckets than the limit
       pub refused-buckets : (given n : ℕ) → given ≡ limit → n ≡ buckets_in (results_of page)
           → limit < n → AreRefusedHere (error.Aggregation (aggregation.BucketLimitExceeded given n))

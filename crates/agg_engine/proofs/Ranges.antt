@@ -4,7 +4,6 @@ use Rattle.std.proofs.Common.{◌∙◌, subst}
 use Rattle.std.specs.List.{All}
 use Rattle.std.proofs.lemmas.List.{take_more}
 use Rattle.std.proofs.lemmas.List.Elements.{All-from_recursion, All-nil, All-push}
-use Rattle.agg_values.specs.TypedKey.{CompositeIntermediateKey}
 use Rattle.agg_segment.specs.Document.{Fields}
 use Rattle.agg_request.specs.Ranges.{AreInRange, IsInRange}
 use Rattle.agg_request.specs.Source.{Sources, field_of, values_at}
@@ -70,7 +69,8 @@ module _ (query : QueryTree) (segments : List Stored) (i : ℕ) (segment : Store
   pub ranges-more : (P : Fields → Type 0) → All P (matching_in query (take i segments))
       → All P here → All P (matching_in query (take (i + 1) segments))
   ranges-more P before all =
-      subst (All P) (sym one_more) (All-append P (matching_in query (take i segments)) here before all)
+      subst (All P) (sym one_more)
+      (All-append P (matching_in query (take i segments)) here before all)
 
   -- what holds in all segments holds in this one
   pub ranges-here : (P : Fields → Type 0) → All P (matching_in query segments) → All P here

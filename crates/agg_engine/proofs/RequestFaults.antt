@@ -1,9 +1,8 @@
 -- Why a request is refused, and why a source has no accessors.
-use Rattle.std.proofs.Common.{◌≡◌, ◌*ℤ◌, ◌⊎◌, inl, inr, ℕ, ℤ, pos, List, Bool, true, false, cond}
+use Rattle.std.proofs.Common.{◌≡◌, ◌*ℤ◌, inl, inr, ℕ, ℤ, pos, List, Bool, true, false, cond}
 use Rattle.std.proofs.Common.{Option, None, Some, Result, Ok, Err, IsOk, refl, subst, arith}
 use Rattle.std.proofs.lemmas.Int.{ints}
 use Rattle.std.specs.Ordering.{int_eq}
-use Rattle.std.specs.List.{Any}
 use Rattle.agg_values.specs.declared.error.InvalidArgument.TheVariants.{BadInterval}
 use Rattle.agg_values.specs.declared.request_error.AggregationError.{AggregationError}
 use Rattle.agg_values.specs.declared.request_error.AggregationError.TheVariants as aggregation
@@ -19,13 +18,10 @@ use Rattle.agg_calendar.specs.IntervalText.{read_interval}
 use Rattle.agg_calendar.specs.Refusal.{in_request}
 use Rattle.agg_calendar.specs.declared.interval.CalendarInterval.{CalendarInterval}
 use Rattle.agg_calendar.specs.declared.interval.PrecomputedDateInterval as interval
-use interval.{PrecomputedDateInterval}
 use interval.TheVariants.{FixedNanoseconds}
-use Rattle.agg_request.specs.Faults.{AggregationHasTextFault, HasCause as IsCause, HasInterval}
+use Rattle.agg_request.specs.Faults.{HasCause as IsCause, HasInterval}
 use Rattle.agg_request.specs.Faults.{IsIntervalFault, RequestHasTextFault}
 use Rattle.agg_request.specs.Request.{Request}
-use Rattle.agg_request.specs.declared.aggregation.AggregationVariants.{AggregationVariants}
-use Rattle.agg_request.specs.declared.aggregation.AggregationVariants.TheVariants.{Composite}
 use Rattle.agg_request.specs.declared.source.CompositeAggregationSource as kind
 use kind.{CompositeAggregationSource}
 use kind.TheVariants.{DateHistogram, Histogram, Terms}
@@ -66,17 +62,15 @@ module _ (part : AggregationError) where
   source-text (DateHistogram s) fault = chosen-text s.fixed_interval s.calendar_interval fault
 
   -- the part of an error that a request has is that of a text
-  pub request-text : (request : Request) → RequestHasTextFault request part → IsOfText part
-  request-text request (i, a, within, at, fault) = of_aggregation a.1.agg fault
-    where
-      of_aggregation : (aggregation : AggregationVariants)
-          → AggregationHasTextFault aggregation part → IsOfText part
-      of_aggregation (Composite composite) (j, source, below, there, refused) =
-          source-text source refused
+  pub request-text : {B : Type 0} (request : Request B) → RequestHasTextFault request part
+      → IsOfText part
+  request-text request (i, c, within, at, (j, source, below, there, refused)) =
+      source-text source refused
 
 -- a refusal of the request has its cause in the walk
-pub cause-checked : (limit : ℕ) (name : List ℕ) (query : QueryTree) (request : Request)
-    (snapshots : List SnapshotDocuments) (given : RequestError) → IsCause request given
+pub cause-checked : {B : Type 0} (limit : ℕ) (name : List ℕ) (query : QueryTree)
+    (request : Request B) (snapshots : List SnapshotDocuments) (given : RequestError)
+    → IsCause request given
     → HasCause limit name query request snapshots (error_from_request given)
 cause-checked limit name query request snapshots (Invalid fault) cause = inl cause
 cause-checked limit name query request snapshots

@@ -1,7 +1,7 @@
 -- Snapshots, as what they stand for.
-use Rattle.std.proofs.Common.{◌≡◌, ◌≢◌, ◌<◌, ◌==◌, ℕ, List, [], ◌∷◌, length}
-use Rattle.std.proofs.Common.{arith, get_or, map, true, false, refl, sym, ap, ◌∙◌, subst}
-use Rattle.std.specs.List.{All, Any, filter, flat_map, list_any}
+use Rattle.std.proofs.Common.{◌≡◌, ◌≢◌, ◌<◌, ◌==◌, ℕ, List, length}
+use Rattle.std.proofs.Common.{arith, get_or, true, false, sym, ap, ◌∙◌, subst}
+use Rattle.std.specs.List.{Any, filter, flat_map, list_any}
 use Rattle.std.proofs.lemmas.Bool.Decides.{nat_tests}
 use Rattle.std.proofs.lemmas.List.{get_or-map, length-map}
 use Rattle.std.proofs.lemmas.List.Elements.{All-map}
@@ -13,7 +13,6 @@ use Rattle.agg_segment.specs.declared.query.QueryTree.{QueryTree}
 use Rattle.agg_request.specs.Faults.{IsSoundRequest}
 use Rattle.agg_request.specs.Request.{Request}
 use Rattle.agg_request.specs.declared.aggregation.CompositeAggregation.{CompositeAggregation}
-use Rattle.agg_request.proofs.Lists.{All-from_map}
 use Rattle.agg_engine.specs.NamedComposite.{IsCompositeNamed}
 use Rattle.agg_engine.specs.Snapshot.{SnapshotDocuments, snapshot_documents, snapshots_documents}
 use Rattle.agg_engine.specs.Walk.{HaveRoom, MayBeAsked, matching_documents}
@@ -46,8 +45,9 @@ module _ (snapshots items : List Snapshot) (same : items ≡ snapshots) where
       )
 
   -- a sound request with a name of its own, over pages that have room
-  pub may_be_asked : (name : List ℕ) (request : Request) (composite : CompositeAggregation)
-      → IsSoundRequest request → IsCompositeNamed name request composite
+  pub may_be_asked : {B : Type 0} (name : List ℕ) (request : Request B)
+      (composite : CompositeAggregation) → IsSoundRequest request
+      → IsCompositeNamed name request composite
       → list_any (λ (s : Snapshot). s.page_size == 0) items ≡ false
       → MayBeAsked name request (snapshots_documents snapshots)
   may_be_asked name request composite sound named none =
@@ -57,17 +57,6 @@ module _ (snapshots items : List Snapshot) (same : items ≡ snapshots) where
             (ap (list_any (λ (s : Snapshot). s.page_size == 0)) (sym same) ∙ none);
         named = (composite, named);
       }
-
--- the page of a snapshot of a list has room
-pub room-at : (snapshots items : List Snapshot) (others : List Snapshot) → items ≡ snapshots
-    → others ≡ snapshots
-    → list_any (λ (s : Snapshot). s.page_size == 0) items ≡ false
-    → (at : ℕ) (s : Snapshot) → at < length others → s ≡ get_or others at s → s.page_size ≢ 0
-room-at snapshots items others same same_others none at s within item =
-    let all = All-from_map (λ (d : SnapshotDocuments). d.page_size ≢ 0) snapshot_documents others
-    (HaveRoom-none others
-    (ap (list_any (λ (x : Snapshot). x.page_size == 0)) (same_others ∙ sym same) ∙ none)) in
-    subst (λ (x : Snapshot). x.page_size ≢ 0) (sym item) (all at s within)
 
 -- the documents of a snapshot that match are those of its segments
 pub matching_documents-segments : (query : QueryTree) (snapshot : Snapshot)

@@ -1,7 +1,8 @@
 -- A page that is held under a name stands for its documents.
-use Rattle.std.proofs.Common.{◌≡◌, ◌<◌, ◌+◌, ◌^◌, ℕ, List, [], ◌∷◌, Option, Some, Result, Ok, Err, IfErr}
-use Rattle.std.proofs.Common.{IfOk, IsErrAnd, length, refl, sym, ap, subst, inl}
-use Rattle.std.specs.List.{All, AllByRecursion, Contains}
+use Rattle.std.proofs.Common.{◌≡◌, ◌<◌, ◌+◌, ◌^◌, ℕ, List, [], ◌∷◌, Result, Ok, Err, IfErr}
+use Rattle.std.proofs.Common.{IfOk, IsErrAnd, length, refl, sym, subst, inl}
+use Rattle.std.specs.List.{Contains}
+use Rattle.std.specs.Prelude.{⊤}
 use Rattle.std.proofs.lemmas.List.Elements.{All-from_recursion}
 use Rattle.std.proofs.lemmas.Result.{IfOk-weaker, err_from_is_err_and}
 use Rattle.agg_values.specs.Names.{Named, value_of}
@@ -9,24 +10,25 @@ use Rattle.agg_values.specs.declared.after_key.AfterKey.{AfterKey}
 use Rattle.agg_segment.specs.Document.{Fields}
 use Rattle.agg_request.specs.Groups.{Group}
 use Rattle.agg_request.specs.Occurrences.{bound_of}
+use Rattle.agg_request.specs.Request.{agg_of}
 use Rattle.agg_request.specs.Source.{rules_of}
-use Rattle.agg_request.specs.Uncut.{uncut}
+use Rattle.agg_request.specs.Uncut.{counted as counted_by}
+use Rattle.agg_request.specs.declared.aggregation.Aggregation.{Aggregation}
+use Rattle.agg_request.specs.declared.aggregation.AggregationVariants.{AggregationVariants}
 use Rattle.agg_request.specs.declared.aggregation.AggregationVariants.TheVariants.{Composite}
 use Rattle.agg_request.specs.declared.aggregation.CompositeAggregation.{CompositeAggregation}
 use Rattle.agg_request.proofs.Lists.{Contains-here}
 use Rattle.agg_results.specs.Intermediate.{AreFlat, Held, IsFlat, as_result, composite_of}
-use Rattle.agg_results.specs.Intermediate.{counts_of, held_composite, plain_entries}
+use Rattle.agg_results.specs.Intermediate.{held_composite, plain_entries}
 use Rattle.agg_results.specs.StandsFor.{CompositeStandsFor, GroupsStandFor, ResultStandsFor}
 use Rattle.agg_results.specs.StandsFor.{StandsFor}
-use Rattle.agg_results.specs.declared.intermediate.results.IntermediateAggregationResult as declared
-use declared.{IntermediateAggregationResult}
 use Rattle.agg_results.specs.declared.intermediate.results.IntermediateAggregationResults as held
 use held.{IntermediateAggregationResults}
 use Rattle.agg_results.proofs.StandingComposites.{counts-plain, entries-plain, stands-made}
 use Rattle.agg_engine.specs.PageAnswers.{AnswersHeld, IsHeldRefusal, asked}
 use Rattle.agg_engine.specs.declared.walk.error.WalkError.{WalkError}
 use Rattle.agg_engine.specs.declared.walk.error.WalkError.TheVariants.{OutOfMemory}
-use Rattle.agg_engine.proofs.OneRequest.{at_size, going_on, value-own}
+use Rattle.agg_engine.proofs.OneRequest.{agg-made, at_size, going_on, value-own}
 
 module _ (name : List ℕ) (composite : CompositeAggregation) (size : ℕ) (after : Named AfterKey)
     (documents : List Fields) where
@@ -51,14 +53,18 @@ module _ (name : List ℕ) (composite : CompositeAggregation) (size : ℕ) (afte
     -- it stands for the documents
     pub page-stands : StandsFor (asked name composite size after) documents (page_held groups)
     page-stands =
+        let own = at_size size (going_on after composite) in
         let result = as_result (composite_of (rules_of composite.sources) size
         (plain_entries groups)) in
         record {
-          each = All-from_recursion
-              (λ a. ResultStandsFor a.1.agg documents (value_of a.0 (page_held groups)))
+          each = All-from_recursion (λ (a : List ℕ × Aggregation ⊤).
+              ResultStandsFor (agg_of a.1) documents (value_of a.0 (page_held groups)))
               (asked name composite size after) (
-                subst (ResultStandsFor (Composite (at_size size (going_on after composite))) documents)
-                    (sym (value-own name result)) composite-stands,
+                subst (λ (agg : AggregationVariants ⊤).
+                    ResultStandsFor agg documents (value_of name (page_held groups)))
+                    (sym (agg-made (Composite own) []))
+                    (subst (ResultStandsFor {B = ⊤} (Composite own) documents)
+                    (sym (value-own name result)) composite-stands),
                 tt,
               );
           known = All-from_recursion (Contains (name ∷ [])) (name ∷ [])
@@ -96,7 +102,7 @@ module _ (name : List ℕ) (composite : CompositeAggregation) (size : ℕ) (afte
 
     -- the page of these groups, unless memory is wanting
     pub answers-page : (groups : List Group) → Stand groups
-        → counted_now ≡ counted + length (uncut (Composite composite) documents)
+        → counted_now ≡ counted + length (counted_by composite documents)
         → counted_now < 2 ^ 32 → (result : Result IntermediateAggregationResults WalkError)
         → IfOk result (λ held. held.results ≡ page_held groups)
         → IfErr result (λ error. error ≡ OutOfMemory) → Answers result

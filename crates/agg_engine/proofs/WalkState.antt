@@ -13,10 +13,8 @@ use Rattle.agg_request.specs.BySource.{after_map}
 use Rattle.agg_request.specs.Faults.{HasInterval, HaveOwnNames}
 use Rattle.agg_request.specs.Occurrences.{bound_of}
 use Rattle.agg_request.specs.Page.{Entry}
-use Rattle.agg_request.specs.Ranges.{HasStartOutOfRange}
-use Rattle.agg_request.specs.Uncut.{CountsTooMany}
-use Rattle.agg_request.specs.declared.aggregation.Aggregation.{Aggregation}
-use Rattle.agg_request.specs.declared.aggregation.AggregationVariants.TheVariants.{Composite}
+use Rattle.agg_request.specs.Ranges.{HasOwnStartOutOfRange}
+use Rattle.agg_request.specs.Request.{Request}
 use Rattle.agg_request.specs.declared.aggregation.CompositeAggregation.{CompositeAggregation}
 use Rattle.agg_results.specs.BucketCount.{results_buckets}
 use Rattle.agg_results.specs.Results.{Results, after_in, after_tuple, buckets_in}
@@ -31,30 +29,31 @@ use Rattle.agg_engine.specs.declared.walk.error.WalkError.{WalkError}
 use Rattle.agg_engine.proofs.AfterKeys.{HasNoNull, MayGoOnFrom-behind}
 use Rattle.agg_engine.proofs.OneRequest.{one, one_from, one_from-behind}
 use Rattle.agg_engine.proofs.PageBound.{after-occurs}
-use Rattle.agg_engine.proofs.PageHere.{AreRefusedHere, IsPageHere, after-page, asked-page}
-use Rattle.agg_engine.proofs.PageHere.{asked_here, not-refused, results-page, results_of}
+use Rattle.agg_engine.proofs.PageHere.{AreRefusedHere, HasOwnTooMany, IsPageHere, after-page}
+use Rattle.agg_engine.proofs.PageHere.{asked-page, asked_here, not-refused, results-page}
+use Rattle.agg_engine.proofs.PageHere.{results_of, shown-here}
 
 -- the results so far, and how the walk of the snapshots that are left goes on from an after key
-pub record WalkState (limit : ℕ) (name : List ℕ) (query : QueryTree) (a : Aggregation)
+pub record WalkState (B : Type 0) (limit : ℕ) (name : List ℕ) (query : QueryTree)
     (c : CompositeAggregation) (snapshots : List SnapshotDocuments) (after : Named AfterKey)
     (rest : List SnapshotDocuments) (pages : List AggregationResults) : Type 0 where
   pub results : List Results
-  pub pages_shown : pages ≡ map (shown_results (one name a c)) results
+  pub pages_shown : pages ≡ map (shown_results (one B name c)) results
   pub few : All (λ page. results_buckets page ≤ limit) pages
   pub goes_on : (more : List Results) (ended : Bool)
-      → IsWalk name query (one_from name a c after) rest more ended
-      → IsWalk name query (one name a c) snapshots (results ++ more) ended
-  pub fits : (error : WalkError) → IsRefused limit name query (one name a c) snapshots error
-      → IsRefused limit name query (one_from name a c after) rest error
+      → IsWalk name query (one_from B name c after) rest more ended
+      → IsWalk name query (one B name c) snapshots (results ++ more) ended
+  pub fits : (error : WalkError) → IsRefused limit name query (one B name c) snapshots error
+      → IsRefused limit name query (one_from B name c after) rest error
   pub reaches : (error : WalkError)
-      → IsRefused limit name query (one_from name a c after) rest error
-      → IsRefused limit name query (one name a c) snapshots error
+      → IsRefused limit name query (one_from B name c after) rest error
+      → IsRefused limit name query (one B name c) snapshots error
   pub may_go_on : MayGoOnFrom c.sources after
 
-module _ (limit : ℕ) (name : List ℕ) (query : QueryTree) (a : Aggregation)
+module _ (B : Type 0) (limit : ℕ) (name : List ℕ) (query : QueryTree)
     (c : CompositeAggregation) (snapshots : List SnapshotDocuments) where
   pub state-start : MayGoOnFrom c.sources c.after
-      → WalkState limit name query a c snapshots c.after snapshots []
+      → WalkState B limit name query c snapshots c.after snapshots []
   state-start may_go_on = record {
     results = [];
     pages_shown = refl;
@@ -67,91 +66,93 @@ module _ (limit : ℕ) (name : List ℕ) (query : QueryTree) (a : Aggregation)
 
   -- the walk has come to its last snapshot
   pub state-out : (after : Named AfterKey) (pages : List AggregationResults)
-      → WalkState limit name query a c snapshots after [] pages
-      → (results : List Results) × IsWalk name query (one name a c) snapshots results false
-      × (pages ≡ map (shown_results (one name a c)) results)
+      → WalkState B limit name query c snapshots after [] pages
+      → (results : List Results) × IsWalk name query (one B name c) snapshots results false
+      × (pages ≡ map (shown_results (one B name c)) results)
   state-out after pages state = (
     state.results,
-    subst (λ rs. IsWalk name query (one name a c) snapshots rs false)
+    subst (λ rs. IsWalk name query (one B name c) snapshots rs false)
         (append-nil state.results) (state.goes_on [] false refl),
     state.pages_shown,
   )
 
   module _ (after : Named AfterKey) (s : SnapshotDocuments) (rest : List SnapshotDocuments)
       (pages : List AggregationResults)
-      (state : WalkState limit name query a c snapshots after (s ∷ rest) pages) where
+      (state : WalkState B limit name query c snapshots after (s ∷ rest) pages) where
     -- the results of the next snapshot are refused
-    pub state-refused : (error : WalkError) → AreRefusedHere name query a c after s limit error
-        → IsRefused limit name query (one name a c) snapshots error
+    pub state-refused : (error : WalkError) → AreRefusedHere B name query c after s limit error
+        → IsRefused limit name query (one B name c) snapshots error
     state-refused error refused = state.reaches error (inl refused)
 
-    module _ (page : List Entry) (is_page : IsPageHere name query a c after s page)
-        (in_range : ¬ (HasStartOutOfRange (Composite c) (matching_documents query s)))
-        (few : ¬ (CountsTooMany (Composite c) (matching_documents query s)))
-        (fit : buckets_in (results_of name query a c after s page) ≤ limit) where
+    module _ (page : List Entry) (is_page : IsPageHere B name query c after s page)
+        (in_range : ¬ (HasOwnStartOutOfRange c (matching_documents query s)))
+        (few : ¬ (HasOwnTooMany c (matching_documents query s)))
+        (fit : buckets_in (results_of B name query c after s page) ≤ limit) where
       -- the results of the page
       abbrev pub this : Results
-      this = results_of name query a c after s page
+      this = results_of B name query c after s page
 
       -- the results of the page as they are shown
       abbrev pub shown : AggregationResults
-      shown = shown_results (one name a c) this
+      shown = shown_results (one B name c) this
 
       -- how the walk's refusal goes on behind a page with this last tuple
       abbrev RefusedBehind : WalkError → KeyTuple → Type 0
       RefusedBehind error tuple =
-          IsRefused limit name query (request_behind name tuple (one_from name a c after)) rest
+          IsRefused limit name query (request_behind name tuple (one_from B name c after)) rest
           error
 
       this-after : after_in name this ≡ after_tuple s.page_size page
       this-after =
-          after-page name query a c after s this (results-page name query a c after s page is_page)
+          after-page B name query c after s this (results-page B name query c after s page is_page)
           page is_page
 
       refused-goes_on : (error : WalkError)
-          → IsRefused limit name query (one_from name a c after) (s ∷ rest) error
+          → IsRefused limit name query (one_from B name c after) (s ∷ rest) error
           → MatchOption (after_tuple s.page_size page) ⊥ (RefusedBehind error)
       refused-goes_on error refused =
           elim refused [
             | inl h ↦
-                absurd (not-refused name query a c after s limit page is_page in_range few fit error h)
+                absurd (not-refused B name query c after s limit page is_page in_range few fit error
+                h)
             | inr h ↦ subst (λ o. MatchOption o ⊥ (RefusedBehind error))
-                (after-page name query a c after s h.1.0 h.1.1 page is_page) h.1.2
+                (after-page B name query c after s h.1.0 h.1.1 page is_page) h.1.2
           ]
 
       -- the pages with this one are shown, and have no more buckets than the limit
       pages-more : pages ++ shown ∷ []
-          ≡ map (shown_results (one name a c)) (state.results ++ this ∷ [])
+          ≡ map (shown_results (one B name c)) (state.results ++ this ∷ [])
       pages-more =
           ap (λ p. p ++ shown ∷ []) state.pages_shown
-          ∙ sym (map-append (shown_results (one name a c)) state.results (this ∷ []))
+          ∙ sym (map-append (shown_results (one B name c)) state.results (this ∷ []))
 
       pub few-more : All (λ p. results_buckets p ≤ limit) (pages ++ shown ∷ [])
       few-more =
           All-push (λ p. results_buckets p ≤ limit) pages shown state.few
           (subst (λ n. n ≤ limit)
-          (sym (shown-buckets (asked_here name query a c after s) (matching_documents query s) this
-          (asked-page name query a c after s page is_page)))
+          (sym (ap results_buckets (sym (shown-here B name query c after s page))
+          ∙ shown-buckets (asked_here B name query c after s) (matching_documents query s) this
+          (asked-page B name query c after s page is_page)))
           fit)
 
       -- a page that isn't full ends the walk
       pub state-ended : after_tuple s.page_size page ≡ None
-          → (results : List Results) × IsWalk name query (one name a c) snapshots results true
-          × (pages ++ shown ∷ [] ≡ map (shown_results (one name a c)) results)
+          → (results : List Results) × IsWalk name query (one B name c) snapshots results true
+          × (pages ++ shown ∷ [] ≡ map (shown_results (one B name c)) results)
       state-ended last =
           let nothing : List Results = [] in (
             state.results ++ this ∷ [],
             state.goes_on (this ∷ nothing) true (
-              results-page name query a c after s page is_page,
+              results-page B name query c after s page is_page,
               subst (λ o. MatchOption o ((nothing ≡ []) × (true ≡ true)) (λ tuple.
-                  IsWalk name query (request_behind name tuple (one_from name a c after)) rest
+                  IsWalk name query (request_behind name tuple (one_from B name c after)) rest
                   nothing true)) (sym (this-after ∙ last)) (refl, refl),
             ),
             pages-more,
           )
 
       pub state-ended-fits : after_tuple s.page_size page ≡ None
-          → (error : WalkError) → ¬ (IsRefused limit name query (one name a c) snapshots error)
+          → (error : WalkError) → ¬ (IsRefused limit name query (one B name c) snapshots error)
       state-ended-fits last error refused =
           subst (λ o. MatchOption o ⊥ (RefusedBehind error)) last
           (refused-goes_on error (state.fits error refused))
@@ -160,7 +161,7 @@ module _ (limit : ℕ) (name : List ℕ) (query : QueryTree) (a : Aggregation)
       pub state-more : HaveOwnNames c.sources → All HasInterval c.sources
           → All HasNoNull (matching_documents query s)
           → (tuple : KeyTuple) → after_tuple s.page_size page ≡ Some tuple
-          → WalkState limit name query a c snapshots (after_map c.sources tuple) rest
+          → WalkState B limit name query c snapshots (after_map c.sources tuple) rest
           (pages ++ shown ∷ [])
       state-more own_names intervals no_null tuple last = record {
         results = state.results ++ this ∷ [];
@@ -168,25 +169,26 @@ module _ (limit : ℕ) (name : List ℕ) (query : QueryTree) (a : Aggregation)
         few = few-more;
         goes_on = λ more ended walk. rw (append_assoc state.results (this ∷ []) more)
             (state.goes_on (this ∷ more) ended (
-              results-page name query a c after s page is_page,
+              results-page B name query c after s page is_page,
               subst (λ o. MatchOption o ((more ≡ []) × (ended ≡ true)) (λ t.
-                  IsWalk name query (request_behind name t (one_from name a c after)) rest more
+                  IsWalk name query (request_behind name t (one_from B name c after)) rest more
                   ended)) (sym (this-after ∙ last))
-                  (subst (λ request. IsWalk name query request rest more ended)
-                  (sym (one_from-behind name a c after tuple)) walk),
+                  (subst (λ (request : Request B). IsWalk name query request rest more ended)
+                  (sym (one_from-behind B name c after tuple)) walk),
             ));
-        fits = λ error refused. subst (λ request. IsRefused limit name query request rest error)
-            (one_from-behind name a c after tuple)
+        fits = λ error refused. subst (λ (request : Request B).
+            IsRefused limit name query request rest error)
+            (one_from-behind B name c after tuple)
             (subst (λ o. MatchOption o ⊥ (RefusedBehind error)) last
             (refused-goes_on error (state.fits error refused)));
         reaches = λ error refused. state.reaches error (inr (
-          not-refused name query a c after s limit page is_page in_range few fit,
+          not-refused B name query c after s limit page is_page in_range few fit,
           (
             this,
-            results-page name query a c after s page is_page,
+            results-page B name query c after s page is_page,
             subst (λ o. MatchOption o ⊥ (RefusedBehind error)) (sym (this-after ∙ last))
-                (subst (λ request. IsRefused limit name query request rest error)
-                (sym (one_from-behind name a c after tuple)) refused),
+                (subst (λ (request : Request B). IsRefused limit name query request rest error)
+                (sym (one_from-behind B name c after tuple)) refused),
           ),
         ));
         may_go_on = MayGoOnFrom-behind c.sources

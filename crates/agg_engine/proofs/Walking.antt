@@ -1,5 +1,5 @@
 -- The loop over the snapshots, for a request of one composite.
-use Rattle.std.proofs.Common.{◌≡◌, ◌≢◌, ◌≤◌, ◌<◌, ◌^◌, ℕ, List, [], ◌∷◌, ◌++◌, true, false, Option}
+use Rattle.std.proofs.Common.{◌≡◌, ◌≢◌, ◌≤◌, ◌<◌, ℕ, List, [], ◌∷◌, ◌++◌, true, false, Option}
 use Rattle.std.proofs.Common.{None, Some, ◌+◌, get_or, length, map, drop, refl, sym, ap, ◌∙◌, subst}
 use Rattle.std.proofs.Common.{arith, Ok}
 use Rattle.std.specs.List.{All}
@@ -9,7 +9,6 @@ use Rattle.std.proofs.lemmas.List.{drop_more, drop_all}
 use Rattle.agg_values.specs.Names.{Named}
 use Rattle.agg_values.specs.Tuple.{KeyTuple}
 use Rattle.agg_values.specs.declared.after_key.AfterKey.{AfterKey}
-use Rattle.agg_values.specs.declared.request_error.AggregationError.{AggregationError}
 use Rattle.agg_values.specs.declared.request_error.AggregationError.TheVariants as aggregation
 use Rattle.agg_segment.specs.Document.{Fields}
 use Rattle.agg_segment.specs.declared.query.QueryTree.{QueryTree}
@@ -17,11 +16,9 @@ use Rattle.agg_request.specs.BySource.{after_map}
 use Rattle.agg_request.specs.Faults.{IsSound, IsSoundRequest}
 use Rattle.agg_request.specs.Occurrences.{bound_of}
 use Rattle.agg_request.specs.Page.{Entry}
-use Rattle.agg_request.specs.Ranges.{AreInRange, HasStartOutOfRange}
+use Rattle.agg_request.specs.Ranges.{AreInRange, HasOwnStartOutOfRange}
 use Rattle.agg_request.specs.Request.{Request}
-use Rattle.agg_request.specs.Uncut.{CountsTooMany, uncut}
 use Rattle.agg_request.specs.declared.aggregation.Aggregation.{Aggregation}
-use Rattle.agg_request.specs.declared.aggregation.AggregationVariants.{AggregationVariants}
 use Rattle.agg_request.specs.declared.aggregation.AggregationVariants.TheVariants.{Composite}
 use Rattle.agg_request.specs.declared.aggregation.CompositeAggregation.{CompositeAggregation}
 use Rattle.agg_results.specs.BucketCount.{results_buckets}
@@ -46,48 +43,43 @@ use Rattle.agg_engine.specs.declared.walk.error.WalkError.{WalkError}
 use Rattle.agg_engine.specs.declared.walk.error.WalkError.TheVariants as error
 use Rattle.agg_engine.proofs.AfterKeys.{HasNoNull, MayGoOnFrom-own}
 use Rattle.agg_engine.proofs.HeldHere.{held-alike, held-buckets, held-final, held-known, page_here}
-use Rattle.agg_engine.proofs.OneRequest.{named-one, one}
+use Rattle.agg_engine.proofs.OneRequest.{made-of_parts, named-one, one, sound-one}
 use Rattle.agg_engine.proofs.PageBound.{IsShown, after-occurs, after_map-some, shown-none}
 use Rattle.agg_engine.proofs.PageBound.{shown-some, shown_after-page}
-use Rattle.agg_engine.proofs.PageHere.{AreRefusedHere, IsPageHere, refused-buckets}
-use Rattle.agg_engine.proofs.PageHere.{refused-out_of_range, refused-too_many, results_of}
+use Rattle.agg_engine.proofs.PageHere.{AreRefusedHere, HasOwnTooMany, IsPageHere, refused-buckets}
+use Rattle.agg_engine.proofs.PageHere.{refused-out_of_range, refused-too_many, result_of}
+use Rattle.agg_engine.proofs.PageHere.{results_of, shown-one}
 use Rattle.agg_engine.proofs.WalkState.{WalkState, few-more, state-ended, state-ended-fits}
 use Rattle.agg_engine.proofs.WalkState.{state-more, state-out, state-refused, state-start}
 
 -- the request is one sound composite, and the walk has come so far and goes on from an after key
-pub record IsWalking (limit : ℕ) (name : List ℕ) (query : QueryTree) (request : Request)
-    (snapshots : List SnapshotDocuments) (composite : CompositeAggregation)
+pub record IsWalking {B : Type 0} (limit : ℕ) (name : List ℕ) (query : QueryTree)
+    (request : Request B) (snapshots : List SnapshotDocuments) (composite : CompositeAggregation)
     (after : Named AfterKey) (rest : List SnapshotDocuments) (pages : List AggregationResults)
     : Type 0 where
-  pub aggregation : Aggregation
-  pub request_is : request ≡ one name aggregation composite
+  pub request_is : request ≡ one B name composite
   pub sound : IsSound composite
-  pub state : WalkState limit name query aggregation composite snapshots after rest pages
-
--- the one composite of a sound request is sound
-sound-one : (name : List ℕ) (a : Aggregation) (c : CompositeAggregation)
-    → IsSoundRequest (one name a c) → IsSound c
-sound-one name a c sound = sound 0 (name, record a { agg = Composite c }) (omega arith)
+  pub state : WalkState B limit name query composite snapshots after rest pages
 
 -- before the first snapshot
-pub walking-start : (limit : ℕ) (name : List ℕ) (query : QueryTree) (request : Request)
-    (snapshots : List SnapshotDocuments) (composite : CompositeAggregation)
+pub walking-start : {B : Type 0} (limit : ℕ) (name : List ℕ) (query : QueryTree)
+    (request : Request B) (snapshots : List SnapshotDocuments) (composite : CompositeAggregation)
     → IsOneComposite request → IsCompositeNamed name request composite → IsSoundRequest request
     → IsWalking limit name query request snapshots composite composite.after snapshots []
-walking-start limit name query request snapshots composite (given, a, c, request_is, is) found
-    sound =
-    let own = named-one name given a c composite is (subst (λ r. IsCompositeNamed name r composite)
-    request_is found) in
-    let one_is : request ≡ one name a composite =
+walking-start {B = B} limit name query request snapshots composite
+    (given, a, c, request_is, is, none) found sound =
+    let own = named-one name given a c composite is
+    (subst (λ (r : Request B). IsCompositeNamed name r composite) request_is found) in
+    let one_is : request ≡ one B name composite =
     request_is ∙ ap (λ n. (n, a) ∷ []) (sym own.0)
-    ∙ ap (λ (agg : AggregationVariants). (name, record a { agg = agg }) ∷ [])
-    (is ∙ ap Composite (sym own.1)) in
-    let sound_one = sound-one name a composite (subst IsSoundRequest one_is sound) in
+    ∙ ap (λ (x : Aggregation B). (name, x) ∷ [])
+    (made-of_parts a (Composite composite) [] (is ∙ ap Composite (sym own.1)) none) in
+    let sound_one = sound-one B name composite
+    (subst (λ (r : Request B). IsSoundRequest r) one_is sound) in
     record {
-      aggregation = a;
       request_is = one_is;
       sound = sound_one;
-      state = state-start limit name query a composite snapshots (MayGoOnFrom-own composite
+      state = state-start B limit name query composite snapshots (MayGoOnFrom-own composite
           sound_one.after sound_one.intervals sound_one.types);
     }
 
@@ -105,8 +97,8 @@ pub record IsHeldHere (name : List ℕ) (query : QueryTree) (composite : Composi
     (after : Named AfterKey) (s : SnapshotDocuments) (held : Held) : Type 0 where
   pub stands : StandsFor (asked name composite s.page_size after) (matching_documents query s) held
   pub flat : AreFlat held
-  pub range : ¬ (HasStartOutOfRange (Composite composite) (matching_documents query s))
-  pub few : ¬ (CountsTooMany (Composite composite) (matching_documents query s))
+  pub range : ¬ (HasOwnStartOutOfRange composite (matching_documents query s))
+  pub few : ¬ (HasOwnTooMany composite (matching_documents query s))
 
 -- what a call for the results of its segments holds
 pub held-here : (name : List ℕ) (query : QueryTree) (composite : CompositeAggregation)
@@ -124,25 +116,25 @@ held-here name query composite after own s documents counted held answer flat in
       flat = flat;
       range = λ out. out (subst (All (AreInRange composite.sources)) are in_range);
       few = λ many.
-          let own_many : CountsTooMany (Composite composite) documents =
-          subst (CountsTooMany (Composite composite)) (sym are) many in
+          let own_many : HasOwnTooMany composite documents =
+          subst (HasOwnTooMany composite) (sym are) many in
           let counted_is = answer.counted_is in
           let few = answer.few in
           omega arith;
     }
 
 -- at a snapshot
-module _ {limit : ℕ} {name : List ℕ} {query : QueryTree} {request : Request}
+module _ {B : Type 0} {limit : ℕ} {name : List ℕ} {query : QueryTree} {request : Request B}
     {snapshots : List SnapshotDocuments} {composite : CompositeAggregation}
     {after : Named AfterKey} {s : SnapshotDocuments} {rest : List SnapshotDocuments}
     {pages : List AggregationResults}
     (w : IsWalking limit name query request snapshots composite after (s ∷ rest) pages) where
   walking-refused : (given : WalkError)
-      → AreRefusedHere name query w.aggregation composite after s limit given
+      → AreRefusedHere B name query composite after s limit given
       → IsRefused limit name query request snapshots given
   walking-refused given refused =
-      subst (λ r. IsRefused limit name query r snapshots given) (sym w.request_is)
-      (state-refused limit name query w.aggregation composite snapshots after s rest pages w.state
+      subst (λ (r : Request B). IsRefused limit name query r snapshots given) (sym w.request_is)
+      (state-refused B limit name query composite snapshots after s rest pages w.state
       given refused)
 
   -- a refusal of what its segments hold
@@ -155,7 +147,7 @@ module _ {limit : ℕ} {name : List ℕ} {query : QueryTree} {request : Request}
   cause-held asked in_range error.BucketOutOfRange refused = absurd refused
   cause-held asked in_range error.TooMany refused = (
     asked,
-    walking-refused error.TooMany (refused-too_many name query w.aggregation composite after s limit
+    walking-refused error.TooMany (refused-too_many B name query composite after s limit
         (λ out. out in_range) (omega arith)),
   )
   cause-held asked in_range (error.Aggregation part) refused = absurd refused
@@ -169,7 +161,7 @@ module _ {limit : ℕ} {name : List ℕ} {query : QueryTree} {request : Request}
   cause-starts asked error.UnknownComposite refused = absurd refused
   cause-starts asked error.BucketOutOfRange refused = (
     asked,
-    walking-refused error.BucketOutOfRange (refused-out_of_range name query w.aggregation composite
+    walking-refused error.BucketOutOfRange (refused-out_of_range B name query composite
         after s limit refused),
   )
   cause-starts asked error.TooMany refused = absurd refused
@@ -181,33 +173,33 @@ module _ {limit : ℕ} {name : List ℕ} {query : QueryTree} {request : Request}
     -- no name is unknown
     pub known-here : ¬ (HoldsUnknown request held)
     known-here unknown =
-        held-known name query w.aggregation composite after s held h.stands h.flat
-        (subst (λ r. HoldsUnknown r held) w.request_is unknown)
+        held-known B name query composite after s held h.stands h.flat
+        (subst (λ (r : Request B). HoldsUnknown r held) w.request_is unknown)
 
     -- no result has another shape
     pub alike-here : ¬ (HoldsOther request held)
     alike-here other =
-        held-alike name query w.aggregation composite after s held h.stands
-        (subst (λ r. HoldsOther r held) w.request_is other)
+        held-alike B name query composite after s held h.stands
+        (subst (λ (r : Request B). HoldsOther r held) w.request_is other)
 
     -- the page
     abbrev page : List Entry
-    page = (page_here name query w.aggregation composite after s held h.stands).0
+    page = (page_here B name query composite after s held h.stands).0
 
-    is_page : IsPageHere name query w.aggregation composite after s page
-    is_page = (page_here name query w.aggregation composite after s held h.stands).1
+    is_page : IsPageHere B name query composite after s page
+    is_page = (page_here B name query composite after s held h.stands).1
 
-    final : final_results request held ≡ shown_results (one name w.aggregation composite)
-        (results_of name query w.aggregation composite after s page)
+    final : final_results request held ≡ shown_results (one B name composite)
+        (results_of B name query composite after s page)
     final =
-        ap (λ r. final_results r held) w.request_is
-        ∙ held-final name query w.aggregation composite after s held h.stands page is_page
+        ap (λ (r : Request B). final_results r held) w.request_is
+        ∙ held-final B name query composite after s held h.stands page is_page
 
     buckets : results_buckets (final_results request held)
-        ≡ buckets_in (results_of name query w.aggregation composite after s page)
+        ≡ buckets_in (results_of B name query composite after s page)
     buckets =
-        ap (λ r. results_buckets (final_results r held)) w.request_is
-        ∙ held-buckets name query w.aggregation composite after s held h.stands page is_page
+        ap (λ (r : Request B). results_buckets (final_results r held)) w.request_is
+        ∙ held-buckets B name query composite after s held h.stands page is_page
 
     -- a refusal of its final results
     pub cause-final : MayBeAsked name request snapshots → (given : WalkError)
@@ -218,7 +210,7 @@ module _ {limit : ℕ} {name : List ℕ} {query : QueryTree} {request : Request}
         let more = refused.2 in (
           asked,
           walking-refused (error.Aggregation (aggregation.BucketLimitExceeded given n))
-              (refused-buckets name query w.aggregation composite after s limit page is_page
+              (refused-buckets B name query composite after s limit page is_page
               h.range h.few given n refused.0 (refused.1 ∙ buckets) (omega arith)),
         )
     cause-final asked (error.Aggregation (aggregation.MemoryExceeded given n)) refused =
@@ -235,13 +227,14 @@ module _ {limit : ℕ} {name : List ℕ} {query : QueryTree} {request : Request}
     module _ (results : AggregationResults) (next : Option (Named AfterKey))
         (is : results ≡ final_results request held) (fit : ¬ (HaveTooMany limit request held))
         (next_is : IsShown next (shown_after_of name results)) where
-      few_buckets : buckets_in (results_of name query w.aggregation composite after s page) ≤ limit
+      few_buckets : buckets_in (results_of B name query composite after s page) ≤ limit
       few_buckets = let counted = buckets in let few = fit in omega arith
 
       shown_next : IsShown next (shown_after composite.sources (after_tuple s.page_size page))
       shown_next =
           subst (IsShown next)
-          (ap (shown_after_of name) (is ∙ final)
+          (ap (shown_after_of name)
+          (is ∙ final ∙ shown-one B name composite (result_of s.page_size page))
           ∙ shown_after-page name composite.sources (map (shown_entry composite.sources) page)
           (after_tuple s.page_size page))
           next_is
@@ -264,25 +257,27 @@ module _ {limit : ℕ} {name : List ℕ} {query : QueryTree} {request : Request}
           × (pages ++ results ∷ [] ≡ map (shown_results request) x)
       walking-ended none =
           let out =
-          state-ended limit name query w.aggregation composite snapshots after s rest pages w.state
+          state-ended B limit name query composite snapshots after s rest pages w.state
           page is_page h.range h.few few_buckets (no_more none) in (
             out.0,
-            subst (λ r. IsWalk name query r snapshots out.0 true) (sym w.request_is) out.1,
-            subst (λ r. pages ++ results ∷ [] ≡ map (shown_results r) out.0) (sym w.request_is)
-                (ap (λ r. pages ++ r ∷ []) (is ∙ final) ∙ out.2),
+            subst (λ (r : Request B). IsWalk name query r snapshots out.0 true) (sym w.request_is)
+                out.1,
+            subst (λ (r : Request B). pages ++ results ∷ [] ≡ map (shown_results r) out.0)
+                (sym w.request_is) (ap (λ r. pages ++ r ∷ []) (is ∙ final) ∙ out.2),
           )
 
       pub walking-ended-fits : is_some next ≡ false → (given : WalkError)
           → ¬ (IsRefused limit name query request snapshots given)
       walking-ended-fits none given refused =
-          state-ended-fits limit name query w.aggregation composite snapshots after s rest pages
+          state-ended-fits B limit name query composite snapshots after s rest pages
           w.state page is_page h.range h.few few_buckets (no_more none) given
-          (subst (λ r. IsRefused limit name query r snapshots given) w.request_is refused)
+          (subst (λ (r : Request B). IsRefused limit name query r snapshots given) w.request_is
+          refused)
 
       pub walking-few : All (λ p. results_buckets p ≤ limit) (pages ++ results ∷ [])
       walking-few =
           subst (λ r. All (λ p. results_buckets p ≤ limit) (pages ++ r ∷ [])) (sym (is ∙ final))
-          (few-more limit name query w.aggregation composite snapshots after s rest pages w.state
+          (few-more B limit name query composite snapshots after s rest pages w.state
           page is_page h.range h.few few_buckets)
 
       -- a full page
@@ -294,45 +289,39 @@ module _ {limit : ℕ} {name : List ℕ} {query : QueryTree} {request : Request}
           let last =
           shown-some composite.sources next (after_tuple s.page_size page) own shown_next some in
           let more =
-          state-more limit name query w.aggregation composite snapshots after s rest pages w.state
+          state-more B limit name query composite snapshots after s rest pages w.state
           page is_page h.range h.few few_buckets w.sound.names w.sound.intervals no_null last.0
           last.1 in
           record {
-            aggregation = w.aggregation;
             request_is = w.request_is;
             sound = w.sound;
-            state = subst (λ r. WalkState limit name query w.aggregation composite snapshots
+            state = subst (λ r. WalkState B limit name query composite snapshots
                 (unwrap_or next own) rest (pages ++ r ∷ [])) (sym (is ∙ final))
-                (subst (λ k. WalkState limit name query w.aggregation composite snapshots k rest
-                (pages ++ shown_results (one name w.aggregation composite)
-                (results_of name query w.aggregation composite after s page) ∷ []))
+                (subst (λ k. WalkState B limit name query composite snapshots k rest
+                (pages ++ shown_results (one B name composite)
+                (results_of B name query composite after s page) ∷ []))
                 (sym last.2) more);
           }
 
 -- behind the last snapshot
-module _ {limit : ℕ} {name : List ℕ} {query : QueryTree} {request : Request}
+module _ {B : Type 0} {limit : ℕ} {name : List ℕ} {query : QueryTree} {request : Request B}
     {snapshots : List SnapshotDocuments} {composite : CompositeAggregation}
     {after : Named AfterKey} {pages : List AggregationResults}
     (w : IsWalking limit name query request snapshots composite after [] pages) where
   pub walking-out : (x : List Results) × IsWalk name query request snapshots x false
       × (pages ≡ map (shown_results request) x)
   walking-out =
-      let out = state-out limit name query w.aggregation composite snapshots after pages w.state
+      let out = state-out B limit name query composite snapshots after pages w.state
       in (
         out.0,
-        subst (λ r. IsWalk name query r snapshots out.0 false) (sym w.request_is) out.1,
-        subst (λ r. pages ≡ map (shown_results r) out.0) (sym w.request_is) out.2,
+        subst (λ (r : Request B). IsWalk name query r snapshots out.0 false) (sym w.request_is)
+            out.1,
+        subst (λ (r : Request B). pages ≡ map (shown_results r) out.0) (sym w.request_is) out.2,
       )
-
-  pub walking-out-fits : (given : WalkError)
-      → ¬ (IsRefused limit name query request snapshots given)
-  walking-out-fits given refused =
-      w.state.fits given
-      (subst (λ r. IsRefused limit name query r snapshots given) w.request_is refused)
 
 -- ---- the places of the list of snapshots
 
-module _ (limit : ℕ) (name : List ℕ) (query : QueryTree) (request : Request)
+module _ {B : Type 0} (limit : ℕ) (name : List ℕ) (query : QueryTree) (request : Request B)
     (snapshots items : List Snapshot) (composite : CompositeAggregation) (after : Named AfterKey)
     (at : ℕ) (pages : List AggregationResults)
     (w : IsWalking limit name query request (snapshots_documents snapshots) composite after

@@ -3,10 +3,11 @@ use Rattle.std.specs.Prelude.{◌≡◌, ℕ, List, [], ◌∷◌}
 use Rattle.agg_request.specs.declared.aggregation.Aggregation.{Aggregation}
 use Rattle.agg_request.specs.declared.aggregation.CompositeAggregation.{CompositeAggregation}
 use Rattle.agg_request.specs.declared.aggregation.AggregationVariants.TheVariants.{Composite}
-use Rattle.agg_request.specs.Request.{Request}
+use Rattle.agg_request.specs.Request.{Request, agg_of, below_of}
 
--- one aggregation, which is a composite
-abbrev pub IsOneComposite : Request → Type 0
-IsOneComposite request =
-    (name : List ℕ) × (aggregation : Aggregation) × (composite : CompositeAggregation)
-    × (request ≡ (name, aggregation) ∷ []) × (aggregation.agg ≡ Composite composite)
+-- one aggregation, which is a composite with none below it
+abbrev pub IsOneComposite : {B : Type 0} → Request B → Type 0
+IsOneComposite {B = B} request =
+    (name : List ℕ) × (aggregation : Aggregation B) × (composite : CompositeAggregation)
+    × (request ≡ (name, aggregation) ∷ []) × (agg_of aggregation ≡ Composite composite)
+    × (below_of aggregation ≡ [])

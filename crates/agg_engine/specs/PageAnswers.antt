@@ -9,9 +9,9 @@ use Rattle.agg_request.specs.Faults.{max_sources}
 use Rattle.agg_request.specs.Source.{Sources}
 use Rattle.agg_request.specs.declared.aggregation.CompositeAggregation.{CompositeAggregation}
 use Rattle.agg_request.specs.declared.aggregation.AggregationVariants.TheVariants.{Composite}
-use Rattle.agg_request.specs.Ranges.{HasStartOutOfRange}
-use Rattle.agg_request.specs.Request.{Request}
-use Rattle.agg_request.specs.Uncut.{uncut}
+use Rattle.agg_request.specs.Ranges.{HasOwnStartOutOfRange}
+use Rattle.agg_request.specs.Request.{Request, aggregation_of}
+use Rattle.agg_request.specs.Uncut.{counted as counted_by}
 use Rattle.agg_composite.specs.Accessors.{HasAccessors, after_of}
 use Rattle.agg_results.specs.BucketCount.{results_buckets}
 use Rattle.agg_results.specs.Final.{HaveTooMany, final_results}
@@ -44,7 +44,7 @@ MayGoOnFrom sources after = All (λ source. HasAccessors source (after_of after 
 -- memory needs no cause
 abbrev pub IsStartRefusal : CompositeAggregation → List Fields → WalkError → Type 0
 IsStartRefusal composite documents BucketOutOfRange =
-    HasStartOutOfRange (Composite composite) documents
+    HasOwnStartOutOfRange composite documents
 IsStartRefusal composite documents OutOfMemory = ⊤
 IsStartRefusal composite documents _ = ⊥
 
@@ -52,14 +52,21 @@ IsStartRefusal composite documents _ = ⊥
 -- want of memory needs no cause
 abbrev pub IsHeldRefusal : CompositeAggregation → List Fields → ℕ → WalkError → Type 0
 IsHeldRefusal composite documents counted TooMany =
-    2 ^ 32 ≤ counted + length (uncut (Composite composite) documents)
+    2 ^ 32 ≤ counted + length (counted_by composite documents)
 IsHeldRefusal composite documents counted OutOfMemory = ⊤
 IsHeldRefusal composite documents counted _ = ⊥
 
--- the request of one composite under a name, of a size and behind an after key
-abbrev pub asked : List ℕ → CompositeAggregation → ℕ → Named AfterKey → Request
-asked name composite size after =
-    (name, record { agg = Composite (record composite { size = size; after = after }) }) ∷ []
+-- the request of one composite under a name, of a size and behind an after key, with such builders
+abbrev pub asked_with : (B : Type 0) → List ℕ → CompositeAggregation → ℕ → Named AfterKey
+    → Request B
+asked_with B name composite size after = (
+  name,
+  aggregation_of (Composite (record composite { size = size; after = after })) [],
+) ∷ []
+
+-- the same, without builders
+abbrev pub asked : List ℕ → CompositeAggregation → ℕ → Named AfterKey → Request ⊤
+asked = asked_with ⊤
 
 -- what a call for the results of a composite over documents answers, where so many documents were
 -- counted before: an Ok has results that stand for the documents, and has counted these too, and
@@ -67,9 +74,10 @@ asked name composite size after =
 pub record AnswersHeld (name : List ℕ) (composite : CompositeAggregation) (size : ℕ)
     (after : Named AfterKey) (documents : List Fields) (counted counted_now : ℕ)
     (result : Result IntermediateAggregationResults WalkError) : Type 0 where
-  pub held : IfOk result (λ held. StandsFor (asked name composite size after) documents held.results)
+  pub held : IfOk result
+      (λ held. StandsFor (asked name composite size after) documents held.results)
   pub counted_is : OnOk result
-      (counted_now ≡ counted + length (uncut (Composite composite) documents))
+      (counted_now ≡ counted + length (counted_by composite documents))
   pub few : OnOk result (counted_now < 2 ^ 32)
   pub cause : IfErr result (IsHeldRefusal composite documents counted)
 
@@ -77,8 +85,8 @@ pub record AnswersHeld (name : List ℕ) (composite : CompositeAggregation) (siz
 abbrev pub shown_after_of : List ℕ → AggregationResults → Named AfterKey
 shown_after_of name results = after_shown (value_of name results.0)
   where
-    of_buckets : BucketResult-F AggregationResult BucketResult AggregationResults CompositeBucketEntry
-        → Named AfterKey
+    of_buckets : BucketResult-F AggregationResult BucketResult AggregationResults
+        CompositeBucketEntry → Named AfterKey
     of_buckets (opened.Composite buckets after_key) = after_key
 
     after_shown : Option AggregationResult → Named AfterKey
@@ -87,7 +95,7 @@ shown_after_of name results = after_shown (value_of name results.0)
 
 -- why held results have no final ones: these have more buckets than the limit; want of memory needs
 -- no cause
-abbrev pub IsFinalRefusal : ℕ → Request → Held → WalkError → Type 0
+abbrev pub IsFinalRefusal : {B : Type 0} → ℕ → Request B → Held → WalkError → Type 0
 IsFinalRefusal limit request held (Aggregation (aggregation.BucketLimitExceeded given n)) =
     (given ≡ limit) × (n ≡ results_buckets (final_results request held))
     × HaveTooMany limit request held

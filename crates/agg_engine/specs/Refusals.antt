@@ -16,7 +16,7 @@ use Rattle.agg_engine.specs.declared.walk.error.WalkError.TheVariants as error
 
 -- why the results of a request over documents are refused: a bucket starts outside i64, or, where
 -- none does, too many documents are counted, or, where not, there are more buckets than the limit
-abbrev pub AreRefused : ℕ → Request → List Fields → WalkError → Type 0
+abbrev pub AreRefused : {B : Type 0} → ℕ → Request B → List Fields → WalkError → Type 0
 AreRefused limit request documents error.BucketOutOfRange = HasOutOfRange request documents
 AreRefused limit request documents error.TooMany =
     (¬ (HasOutOfRange request documents)) × HasTooMany request documents
@@ -27,8 +27,8 @@ AreRefused limit request documents (error.Aggregation (aggregation.BucketLimitEx
 AreRefused limit request documents _ = ⊥
 
 -- the walk reaches a snapshot whose results are refused, and those before it are not
-abbrev pub IsRefused : ℕ → List ℕ → QueryTree → Request → List SnapshotDocuments → WalkError
-    → Type 0
+abbrev pub IsRefused : {B : Type 0} → ℕ → List ℕ → QueryTree → Request B
+    → List SnapshotDocuments → WalkError → Type 0
 IsRefused limit name query request [] error = ⊥
 IsRefused limit name query request (s ∷ snapshots) error =
     AreRefused limit (request_at_size name s.page_size request) (matching_documents query s) error
@@ -41,8 +41,8 @@ IsRefused limit name query request (s ∷ snapshots) error =
     (λ tuple. IsRefused limit name query (request_behind name tuple request) snapshots error)))
 
 -- an error of a walk has its cause; want of memory needs none
-abbrev pub HasCause : ℕ → List ℕ → QueryTree → Request → List SnapshotDocuments → WalkError
-    → Type 0
+abbrev pub HasCause : {B : Type 0} → ℕ → List ℕ → QueryTree → Request B
+    → List SnapshotDocuments → WalkError → Type 0
 HasCause limit name query request snapshots (error.Invalid fault) = HasFault request snapshots fault
 HasCause limit name query request snapshots error.UnknownComposite =
     ¬ (NamesComposite name request)

@@ -9,7 +9,8 @@ use Rattle.agg_engine.specs.Snapshot.{SnapshotDocuments}
 use Rattle.agg_engine.specs.Walk.{IsWalk}
 
 -- pages that show the results of the walk, and whether it has ended
-abbrev pub IsShownWalk : List ℕ → QueryTree → Request → List SnapshotDocuments → Walk → Type 0
+abbrev pub IsShownWalk : {B : Type 0} → List ℕ → QueryTree → Request B
+    → List SnapshotDocuments → Walk → Type 0
 IsShownWalk name query request snapshots walk =
     (results : List Results)
     × IsWalk name query request snapshots results walk.ended

@@ -16,7 +16,7 @@ use Rattle.agg_request.specs.declared.aggregation.AggregationVariants.TheVariant
 use Rattle.agg_request.specs.BySource.{after_map}
 use Rattle.agg_request.specs.Faults.{IsSoundRequest, RequestHasFault}
 use Rattle.agg_request.specs.Ranges.{HasStartOutOfRange}
-use Rattle.agg_request.specs.Request.{Request}
+use Rattle.agg_request.specs.Request.{Request, agg_of, aggregation_of, below_of}
 use Rattle.agg_request.specs.Uncut.{CountsTooMany}
 use Rattle.agg_engine.specs.NamedComposite.{NamesComposite}
 use Rattle.agg_results.specs.Results.{IsResults, Results, after_in}
@@ -30,35 +30,39 @@ documents_in snapshot = flat_map (λ documents. documents) snapshot.segments
 abbrev pub matching_documents : QueryTree → SnapshotDocuments → List Fields
 matching_documents query snapshot = filter (matches query) (documents_in snapshot)
 
--- an aggregation with another size
-abbrev pub with_size : ℕ → AggregationVariants → AggregationVariants
+-- an aggregation with another size, if it is a composite
+abbrev pub with_size : {B : Type 0} → ℕ → AggregationVariants B → AggregationVariants B
 with_size size (Composite composite) = Composite (record composite { size = size })
+with_size size other = other
 
--- an aggregation with a tuple as its after key
-abbrev pub with_after : KeyTuple → AggregationVariants → AggregationVariants
+-- an aggregation with a tuple as its after key, if it is a composite
+abbrev pub with_after : {B : Type 0} → KeyTuple → AggregationVariants B → AggregationVariants B
 with_after tuple (Composite composite) =
     Composite (record composite { after = after_map composite.sources tuple })
+with_after tuple other = other
 
 -- an aggregation in which what it asks is changed
-abbrev pub changed : (AggregationVariants → AggregationVariants) → Aggregation → Aggregation
-changed change aggregation = record aggregation { agg = change aggregation.agg }
+abbrev pub changed : {B : Type 0} → (AggregationVariants B → AggregationVariants B)
+    → Aggregation B → Aggregation B
+changed change a = aggregation_of (change (agg_of a)) (below_of a)
 
 -- a request in which the aggregation of a name is changed
-abbrev pub request_with : (AggregationVariants → AggregationVariants) → List ℕ → Request → Request
+abbrev pub request_with : {B : Type 0} → (AggregationVariants B → AggregationVariants B)
+    → List ℕ → Request B → Request B
 request_with change name request =
     map (λ a. if is_at (name_cmp name) a.0 then (a.0, changed change a.1) else a) request
 
 -- the request of a snapshot: its page size stands in place of the named composite's size
-abbrev pub request_at_size : List ℕ → ℕ → Request → Request
+abbrev pub request_at_size : {B : Type 0} → List ℕ → ℕ → Request B → Request B
 request_at_size name size = request_with (with_size size) name
 
 -- the request that goes on behind a tuple
-abbrev pub request_behind : List ℕ → KeyTuple → Request → Request
+abbrev pub request_behind : {B : Type 0} → List ℕ → KeyTuple → Request B → Request B
 request_behind name tuple = request_with (with_after tuple) name
 
 -- the walk: each snapshot's results, as long as the page before is full; it has ended where a page
 -- isn't full
-abbrev pub IsWalk : List ℕ → QueryTree → Request
+abbrev pub IsWalk : {B : Type 0} → List ℕ → QueryTree → Request B
     → List SnapshotDocuments → List Results → Bool → Type 0
 IsWalk name query request [] [] ended = ended ≡ false
 IsWalk name query request [] (r ∷ rs) ended = ⊥
@@ -70,28 +74,29 @@ IsWalk name query request (s ∷ snapshots) (r ∷ rs) ended =
     (λ tuple. IsWalk name query (request_behind name tuple request) snapshots rs ended)
 
 -- some start of a bucket of a request lies outside i64
-abbrev pub HasOutOfRange : Request → List Fields → Type 0
+abbrev pub HasOutOfRange : {B : Type 0} → Request B → List Fields → Type 0
 HasOutOfRange [] documents = ⊥
 HasOutOfRange (a ∷ request) documents =
-    HasStartOutOfRange a.1.agg documents ⊎ HasOutOfRange request documents
+    HasStartOutOfRange (agg_of a.1) documents ⊎ HasOutOfRange request documents
 
 -- some aggregation of a request counts too many documents
-abbrev pub HasTooMany : Request → List Fields → Type 0
+abbrev pub HasTooMany : {B : Type 0} → Request B → List Fields → Type 0
 HasTooMany [] documents = ⊥
-HasTooMany (a ∷ request) documents = CountsTooMany a.1.agg documents ⊎ HasTooMany request documents
+HasTooMany (a ∷ request) documents =
+    CountsTooMany (agg_of a.1) documents ⊎ HasTooMany request documents
 
 -- no page size is 0, of snapshots reached or not
 abbrev pub HaveRoom : List SnapshotDocuments → Type 0
 HaveRoom snapshots = All (λ s. s.page_size ≢ 0) snapshots
 
 -- the request has this fault, or some page size is 0
-abbrev pub HasFault : Request → List SnapshotDocuments → InvalidArgument → Type 0
+abbrev pub HasFault : {B : Type 0} → Request B → List SnapshotDocuments → InvalidArgument → Type 0
 HasFault request snapshots fault =
     RequestHasFault request fault ⊎ ((fault ≡ ZeroSize) × Any (λ s. s.page_size ≡ 0) snapshots)
 
 -- a walk that may be asked, whatever its snapshots hold
-pub record MayBeAsked (name : List ℕ) (request : Request) (snapshots : List SnapshotDocuments)
-    : Type 0 where
+pub record MayBeAsked {B : Type 0} (name : List ℕ) (request : Request B)
+    (snapshots : List SnapshotDocuments) : Type 0 where
   pub sound : IsSoundRequest request
   pub room : HaveRoom snapshots
   pub named : NamesComposite name request

@@ -14,7 +14,8 @@ use Rattle.agg_cache.specs.declared.error.CollectError.TheVariants as collect
 use Rattle.agg_engine.specs.declared.walk.error.WalkError.{WalkError}
 use Rattle.agg_engine.specs.declared.walk.error.WalkError.TheVariants.{Invalid, UnknownComposite}
 use Rattle.agg_engine.specs.declared.walk.error.WalkError.TheVariants.{TooMany, OutOfMemory}
-use Rattle.agg_engine.specs.declared.walk.error.WalkError.TheVariants.{Aggregation, BucketOutOfRange}
+use Rattle.agg_engine.specs.declared.walk.error.WalkError.TheVariants.{Aggregation}
+use Rattle.agg_engine.specs.declared.walk.error.WalkError.TheVariants.{BucketOutOfRange}
 
 -- the name of an argument's error
 abbrev pub argument_name : InvalidArgument → List ℕ

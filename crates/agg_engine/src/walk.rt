@@ -48,7 +48,7 @@ pub struct Walk {
 
 /// Pages over the groups of a named composite. The first snapshot is reached with the request as it
 /// is, and a later one where the page before is full, with that page's last tuple as its bound.
-/// The schema is for builders of queries, which no request has yet.
+/// The schema is for builders of queries, which no walk asks yet.
 pub fn walk_pages<L: Ledger>(
     alloc: Global,
     limits: &mut LimitsLedger,

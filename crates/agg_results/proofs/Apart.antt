@@ -1,7 +1,7 @@
 -- Two ascending lists of entries, one below the other, as one.
 use Rattle.std.proofs.Common.{◌≡◌, ℕ, ◌<◌, ◌≤◌, ◌-◌, List, [], ◌∷◌, ◌++◌, None, Some, get_or}
 use Rattle.std.proofs.Common.{inl, inr}
-use Rattle.std.proofs.Common.{length, refl, sym, ap, ◌∙◌, subst, arith, Ordering, Less, Greater}
+use Rattle.std.proofs.Common.{length, sym, ap, ◌∙◌, subst, arith, Ordering, Less, Greater}
 use Rattle.std.specs.Cmp.{IsTotalOrder}
 use Rattle.std.specs.List.{All, AllByRecursion, slice_get}
 use Rattle.std.specs.List.Sorted.{IsStrictlySortedBy}
@@ -16,7 +16,7 @@ use Rattle.agg_results.specs.Counts.{merged}
 use Rattle.agg_results.specs.Intermediate.{Entries, TupleEntry, counts_of}
 use Rattle.agg_results.proofs.Counts.{Below, merged-end, reversed}
 use Rattle.agg_results.proofs.Merged.{merge, merge-nothing, merge_first, merged-is_merge}
-use Rattle.agg_results.proofs.TwoWay.{counts-up, keys-counts}
+use Rattle.agg_results.proofs.TwoWay.{counts-up}
 
 module _ (R : KeyTuple → KeyTuple → Ordering) (total : IsTotalOrder R) where
   -- each of a list is below each of another

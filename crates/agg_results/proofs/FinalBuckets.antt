@@ -9,11 +9,12 @@ use Rattle.agg_values.specs.Shown.{shown_key}
 use Rattle.agg_values.specs.Tuple.{KeyTuple}
 use Rattle.agg_request.specs.BySource.{by_source}
 use Rattle.agg_request.specs.Groups.{Group}
-use Rattle.agg_request.specs.Request.{Request}
+use Rattle.agg_request.specs.Request.{Request, agg_of}
 use Rattle.agg_request.specs.Source.{Sources}
 use Rattle.agg_request.specs.declared.aggregation.Aggregation.{Aggregation}
 use Rattle.agg_request.specs.declared.aggregation.AggregationVariants.{AggregationVariants}
 use Rattle.agg_request.specs.declared.aggregation.AggregationVariants.TheVariants.{Composite}
+use Rattle.agg_request.specs.declared.aggregation.CompositeAggregation.{CompositeAggregation}
 use Rattle.agg_results.specs.BucketCount.{entry_buckets, result_buckets, results_buckets}
 use Rattle.agg_results.specs.Final.{final_result, final_results, last_tuple, lowest_of}
 use Rattle.agg_results.specs.Intermediate.{Held, held_composite, target_size_of}
@@ -51,45 +52,56 @@ page-buckets sources groups after =
 -- ---- a name
 
 -- a name that isn't held has no buckets
-pub none-buckets : (aggregation : AggregationVariants)
+pub none-buckets : {B : Type 0} (aggregation : AggregationVariants B)
     (held : Option IntermediateAggregationResult) → held ≡ None
     → 0 ≡ result_buckets (final_result aggregation held)
 none-buckets (Composite composite) held none =
     rw none (sym (page-buckets composite.sources [] None))
+none-buckets _ held none = sym (page-buckets [] [] None)
+
+-- kinds that aren't collected yet have none
+pub other-buckets : {B : Type 0} (aggregation : AggregationVariants B)
+    (held : Option IntermediateAggregationResult)
+    → ((composite : CompositeAggregation) → ¬ (aggregation ≡ Composite composite))
+    → 0 ≡ result_buckets (final_result aggregation held)
+other-buckets (Composite composite) held other = absurd (other composite refl)
+other-buckets _ held other = sym (page-buckets [] [] None)
 
 -- one that is held has as many as entries are shown
-pub some-buckets : (aggregation : AggregationVariants)
+pub some-buckets : {B : Type 0} (aggregation : AggregationVariants B) (asked : CompositeAggregation)
     (held : Option IntermediateAggregationResult) (found : IntermediateAggregationResult)
-    (composite : IntermediateCompositeBucketResult) (count : ℕ) → held ≡ Some found
+    (composite : IntermediateCompositeBucketResult) (count : ℕ)
+    → aggregation ≡ Composite asked → held ≡ Some found
     → composite ≡ held_composite found → count ≡ length (lowest_of composite)
     → count ≡ result_buckets (final_result aggregation held)
-some-buckets (Composite composite) held found own count some is shown =
+some-buckets (Composite composite) asked held found own count kind some is shown =
     let lowest = lowest_of (held_composite found) in
     shown ∙ ap (λ c. length (lowest_of c)) is
     ∙ rw some (sym (page-buckets composite.sources lowest
     (last_tuple (target_size_of (held_composite found)) lowest)))
+some-buckets _ asked held found own count kind some is shown = cc
 
 -- ---- all names
 
 -- the buckets of a name's final result
-abbrev pub name_buckets : Held → List ℕ × Aggregation → ℕ
-name_buckets held a = result_buckets (final_result a.1.agg (value_of a.0 held))
+abbrev pub name_buckets : {B : Type 0} → Held → List ℕ × Aggregation B → ℕ
+name_buckets held a = result_buckets (final_result (agg_of a.1) (value_of a.0 held))
 
 -- the buckets of the names that are left
-abbrev pub left_buckets : Held → Request → ℕ
+abbrev pub left_buckets : {B : Type 0} → Held → Request B → ℕ
 left_buckets held left = sum (map (name_buckets held) left)
 
 -- all are those of each name
-pub final-buckets : (request : Request) (held : Held)
+pub final-buckets : {B : Type 0} (request : Request B) (held : Held)
     → results_buckets (final_results request held) ≡ left_buckets held request
 final-buckets request held =
     results_buckets-sum (final_results request held)
     ∙ ap sum (map-map (λ r. result_buckets r.1)
-    (λ a. (a.0, final_result a.1.agg (value_of a.0 held))) request)
+    (λ a. (a.0, final_result (agg_of a.1) (value_of a.0 held))) request)
 
 -- the first name that is left is counted
-pub count-more : (held : Held) (left : Request) (name : List ℕ) (a : Aggregation)
-    (later : Request) (before more after total : ℕ) → before + left_buckets held left ≡ total
+pub count-more : {B : Type 0} (held : Held) (left : Request B) (name : List ℕ) (a : Aggregation B)
+    (later : Request B) (before more after total : ℕ) → before + left_buckets held left ≡ total
     → left ≡ (name, a) ∷ later → more ≡ name_buckets held (name, a) → after ≡ before + more
     → after + left_buckets held later ≡ total
 count-more held left name a later before more after total so_far e own is =
@@ -98,7 +110,7 @@ count-more held left name a later before more after total so_far e own is =
     omega (arith, so_far, first, own, is)
 
 -- no name is left
-pub count-all : (held : Held) (left : Request) (count total : ℕ)
+pub count-all : {B : Type 0} (held : Held) (left : Request B) (count total : ℕ)
     → count + left_buckets held left ≡ total → left ≡ [] → count ≡ total
 count-all held left count total so_far e =
     let none = ap (left_buckets held) e in

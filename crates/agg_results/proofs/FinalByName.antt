@@ -8,7 +8,7 @@ use Rattle.std.specs.Map.{keys_of}
 use Rattle.std.proofs.lemmas.List.{map-append, reverse-append}
 use Rattle.std.proofs.lemmas.Map.Keys.{sorted_head, sorted_tail}
 use Rattle.agg_values.specs.Names.{Named, name_cmp, put, value_of, without}
-use Rattle.agg_request.specs.Request.{Request}
+use Rattle.agg_request.specs.Request.{Request, agg_of}
 use Rattle.agg_request.specs.declared.aggregation.Aggregation.{Aggregation}
 use Rattle.agg_results.specs.Final.{final_result}
 use Rattle.agg_results.specs.Intermediate.{Held}
@@ -19,8 +19,8 @@ use Rattle.agg_results.proofs.MadeByName.{by_name, by_name-all, by_name-more}
 use Rattle.agg_results.proofs.NameOrder.{Ascends, apart, between, value-without}
 
 -- the final result of a name
-abbrev pub final_of : Held → List ℕ × Aggregation → AggregationResult
-final_of held a = final_result a.1.agg (value_of a.0 held)
+abbrev pub final_of : {B : Type 0} → Held → List ℕ × Aggregation B → AggregationResult
+final_of held a = final_result (agg_of a.1) (value_of a.0 held)
 
 -- ---- the names in front of a last one
 
@@ -37,23 +37,23 @@ front_sorted [] rest sorted = tt
 front_sorted (k ∷ front) rest sorted =
     (front_all (λ n. name_cmp k n ≡ Less) front rest sorted.0, front_sorted front rest sorted.1)
 
-front_ascends : (front rest : Request) → Ascends (front ++ rest) → Ascends front
-front_ascends front rest ascends =
+front_ascends : {B : Type 0} (front rest : Request B) → Ascends (front ++ rest) → Ascends front
+front_ascends {B = B} front rest ascends =
     front_sorted (keys_of front) (keys_of rest)
-    (subst (IsStrictlySortedBy name_cmp) (map-append (λ (e : List ℕ × Aggregation). e.0) front rest)
-    ascends)
+    (subst (IsStrictlySortedBy name_cmp)
+    (map-append (λ (e : List ℕ × Aggregation B). e.0) front rest) ascends)
 
 -- names hold what they held
-abbrev AreKept : Held → Held → Request → Type 0
+abbrev AreKept : {B : Type 0} → Held → Held → Request B → Type 0
 AreKept held now left = AllByRecursion (λ a. value_of a.0 now ≡ value_of a.0 held) left
 
-last_kept : (held now : Held) (front : Request) (name : List ℕ) (a : Aggregation)
+last_kept : {B : Type 0} (held now : Held) (front : Request B) (name : List ℕ) (a : Aggregation B)
     → AreKept held now (front ++ (name, a) ∷ []) → value_of name now ≡ value_of name held
 last_kept held now [] name a kept = kept.0
 last_kept held now (b ∷ front) name a kept = last_kept held now front name a kept.1
 
 -- those in front still do when the last is taken out
-front_kept : (held now : Held) (front : Request) (name : List ℕ) (a : Aggregation)
+front_kept : {B : Type 0} (held now : Held) (front : Request B) (name : List ℕ) (a : Aggregation B)
     → Ascends (front ++ (name, a) ∷ []) → AreKept held now (front ++ (name, a) ∷ [])
     → AreKept held (without name now) front
 front_kept held now [] name a ascends kept = tt
@@ -69,33 +69,33 @@ front_kept held now (b ∷ front) name a ascends kept =
 -- ---- the last name first
 
 -- the final results of the names behind those that are left, which hold what they held
-pub record AreShownBehind (request : Request) (held now : Held) (left : Request)
+pub record AreShownBehind {B : Type 0} (request : Request B) (held now : Held) (left : Request B)
     (last_first : List AggregationResult) : Type 0 where
   pub made : map (final_of held) left ++ reverse last_first ≡ map (final_of held) request
   pub ascends : Ascends left
   pub kept : AreKept held now left
 
 -- at first all names are left
-pub AreShownBehind-none : (request left : Request) (held : Held)
+pub AreShownBehind-none : {B : Type 0} (request left : Request B) (held : Held)
     (last_first : List AggregationResult) → left ≡ request → last_first ≡ [] → Ascends request
     → AreShownBehind request held held left last_first
-AreShownBehind-none request left held last_first e none ascends =
+AreShownBehind-none {B = B} request left held last_first e none ascends =
     rw (e, none) (record {
       made = append-nil (map (final_of held) request);
       ascends = ascends;
       kept = each request;
     })
   where
-    each : (names : Request) → AreKept held held names
+    each : (names : Request B) → AreKept held held names
     each [] = tt
     each (a ∷ names) = (refl, each names)
 
 -- the last name that is left is taken out and shown
-pub AreShownBehind-more : (request : Request) (held now then : Held) (left front : Request)
-    (last_first more : List AggregationResult) (name : List ℕ) (a : Aggregation)
-    (found : Option IntermediateAggregationResult) (shown : AggregationResult)
+pub AreShownBehind-more : {B : Type 0} (request : Request B) (held now then : Held)
+    (left front : Request B) (last_first more : List AggregationResult) (name : List ℕ)
+    (a : Aggregation B) (found : Option IntermediateAggregationResult) (shown : AggregationResult)
     → AreShownBehind request held now left last_first → left ≡ front ++ (name, a) ∷ []
-    → found ≡ value_of name now → then ≡ without name now → shown ≡ final_result a.agg found
+    → found ≡ value_of name now → then ≡ without name now → shown ≡ final_result (agg_of a) found
     → more ≡ last_first ++ shown ∷ [] → AreShownBehind request held then front more
 AreShownBehind-more request held now then left front last_first more name a found shown h e value
     taken is behind =
@@ -103,7 +103,7 @@ AreShownBehind-more request held now then left front last_first more name a foun
     let here : AreShownBehind request held now (front ++ (name, a) ∷ []) last_first =
     subst (λ l. AreShownBehind request held now l last_first) e h in
     let own : shown ≡ f (name, a) =
-    is ∙ ap (final_result a.agg) (value ∙ last_kept held now front name a here.kept) in
+    is ∙ ap (final_result (agg_of a)) (value ∙ last_kept held now front name a here.kept) in
     let reversed : reverse more ≡ f (name, a) ∷ reverse last_first =
     ap reverse behind ∙ reverse-append last_first (shown ∷ [])
     ∙ ap (λ s. s ∷ reverse last_first) own in
@@ -126,7 +126,7 @@ none_left f [] e = refl
 none_left f (x ∷ xs) e = absurd (omega arith)
 
 -- no name is left
-pub AreShownBehind-all : (request : Request) (held now : Held) (left : Request)
+pub AreShownBehind-all : {B : Type 0} (request : Request B) (held now : Held) (left : Request B)
     (last_first : List AggregationResult) → AreShownBehind request held now left last_first
     → left ≡ [] → reverse last_first ≡ map (final_of held) request
 AreShownBehind-all request held now left last_first h e =
@@ -135,13 +135,13 @@ AreShownBehind-all request held now left last_first h e =
 -- ---- under the names
 
 -- the final results so far, and those of the names that are left
-pub record AreNamedBefore (request : Request) (held : Held) (left : Request)
+pub record AreNamedBefore {B : Type 0} (request : Request B) (held : Held) (left : Request B)
     (last_first : List AggregationResult) (results : Named AggregationResult) : Type 0 where
   pub made : results ++ by_name (final_of held) left ≡ by_name (final_of held) request
   pub rest : reverse last_first ≡ map (final_of held) left
 
 -- at first all names are left
-pub AreNamedBefore-none : (request left : Request) (held : Held)
+pub AreNamedBefore-none : {B : Type 0} (request left : Request B) (held : Held)
     (last_first : List AggregationResult) (results : Named AggregationResult) → left ≡ request
     → reverse last_first ≡ map (final_of held) request → results ≡ []
     → AreNamedBefore request held left last_first results
@@ -149,9 +149,9 @@ AreNamedBefore-none request left held last_first results e shown none =
     rw (e, none) (record { made = refl; rest = shown })
 
 -- the first name that is left gets its result
-pub AreNamedBefore-more : (request : Request) (held : Held) (left later : Request)
+pub AreNamedBefore-more : {B : Type 0} (request : Request B) (held : Held) (left later : Request B)
     (last_first fewer : List AggregationResult) (results more : Named AggregationResult)
-    (name : List ℕ) (a : Aggregation) (shown : AggregationResult) → Ascends request
+    (name : List ℕ) (a : Aggregation B) (shown : AggregationResult) → Ascends request
     → AreNamedBefore request held left last_first results → left ≡ (name, a) ∷ later
     → last_first ≡ fewer ++ shown ∷ [] → more ≡ put name shown results
     → AreNamedBefore request held later fewer more
@@ -168,7 +168,7 @@ AreNamedBefore-more request held left later last_first fewer results more name a
     }
 
 -- no name is left
-pub AreNamedBefore-all : (request : Request) (held : Held) (left : Request)
+pub AreNamedBefore-all : {B : Type 0} (request : Request B) (held : Held) (left : Request B)
     (last_first : List AggregationResult) (results : Named AggregationResult)
     → AreNamedBefore request held left last_first results → left ≡ []
     → results ≡ by_name (final_of held) request

@@ -13,7 +13,7 @@ use Rattle.agg_segment.specs.Document.{Fields}
 use Rattle.agg_request.specs.Groups.{Group}
 use Rattle.agg_request.specs.Occurrences.{bound_of}
 use Rattle.agg_request.specs.Page.{Entry, entry_of, group_of, tuples_of}
-use Rattle.agg_request.specs.Request.{Request}
+use Rattle.agg_request.specs.Request.{Request, agg_of}
 use Rattle.agg_request.specs.Source.{Sources}
 use Rattle.agg_request.specs.declared.aggregation.AggregationVariants.{AggregationVariants}
 use Rattle.agg_request.specs.declared.aggregation.AggregationVariants.TheVariants.{Composite}
@@ -80,9 +80,10 @@ shown_lowest composite size groups =
     (last_tuple size groups)
 
 -- the page of an aggregation over documents, as it is shown
-abbrev final_page : AggregationVariants → List Fields → AggregationResult
+abbrev final_page : {B : Type 0} → AggregationVariants B → List Fields → AggregationResult
 final_page (Composite composite) documents =
     shown_lowest composite composite.size (lowest_in composite documents)
+final_page _ documents = shown_page [] [] None
 
 module _ (composite : CompositeAggregation) (documents : List Fields) where
   held-lowest : (c : IntermediateCompositeBucketResult)
@@ -96,7 +97,7 @@ module _ (composite : CompositeAggregation) (documents : List Fields) where
       → take composite.size (counts_of (entries_of c)) ≡ lowest_in composite documents
       → shown_lowest composite (target_size_of c)
       (take (target_size_of c) (counts_of (entries_of c)))
-      ≡ final_page (Composite composite) documents
+      ≡ shown_lowest composite composite.size (lowest_in composite documents)
   final-lowest c (inl is) lowest =
       ap (λ n. shown_lowest composite n (take n (counts_of (entries_of c)))) is.0
       ∙ ap (shown_lowest composite composite.size) lowest
@@ -112,7 +113,7 @@ module _ (composite : CompositeAggregation) (documents : List Fields) where
       ∙ (λ i. shown_lowest composite composite.size (sym lowest_nothing i))
 
 -- what stands for documents is final as their page
-final-stands : (aggregation : AggregationVariants) (documents : List Fields)
+final-stands : {B : Type 0} (aggregation : AggregationVariants B) (documents : List Fields)
     (r : Option IntermediateAggregationResult) → ResultStandsFor aggregation documents r
     → final_result aggregation r ≡ final_page aggregation documents
 final-stands (Composite composite) documents None none =
@@ -123,9 +124,11 @@ final-stands (Composite composite) documents None none =
 final-stands (Composite composite) documents (Some r) stand =
     final-lowest composite documents (held_composite r) stand.shape
     (held-lowest composite documents (held_composite r) stand)
+final-stands _ documents None none = refl
+final-stands _ documents (Some r) stand = absurd stand
 
 -- a result over documents is shown as their page
-shown-page : (aggregation : AggregationVariants) (documents : List Fields)
+shown-page : {B : Type 0} (aggregation : AggregationVariants B) (documents : List Fields)
     (result : CompositeResult) → IsResult aggregation documents result
     → shown_result aggregation result ≡ final_page aggregation documents
 shown-page (Composite composite) documents result is =
@@ -136,10 +139,11 @@ shown-page (Composite composite) documents result is =
     (sym (shown-groups composite.sources result.entries) i)
     ((is.after ∙ sym (last-groups composite.size result.entries)) i))
     ∙ ap (shown_lowest composite composite.size) groups
+shown-page _ documents result is = absurd is
 
 -- the page of documents is the same in any order
-page-permutation : (aggregation : AggregationVariants) (documents others : List Fields)
-    → IsPermutation documents others
+page-permutation : {B : Type 0} (aggregation : AggregationVariants B)
+    (documents others : List Fields) → IsPermutation documents others
     → final_page aggregation documents ≡ final_page aggregation others
 page-permutation (Composite composite) documents others moved =
     let sources = composite.sources in
@@ -153,63 +157,64 @@ page-permutation (Composite composite) documents others moved =
     ap (shown_lowest composite composite.size)
     (sym (groups-entries sources documents (lowest_in composite documents))
     ∙ groups ∙ groups-entries sources others (lowest_in composite others))
+page-permutation _ documents others moved = refl
 
 -- ---- of a request
 
 -- the pages of a request over documents, as they are shown, by name
-abbrev pages_by_name : Request → List Fields → Named AggregationResult
-pages_by_name request documents = map (λ a. (a.0, final_page a.1.agg documents)) request
+abbrev pages_by_name : {B : Type 0} → Request B → List Fields → Named AggregationResult
+pages_by_name request documents = map (λ a. (a.0, final_page (agg_of a.1) documents)) request
 
 -- the final results of what is held, by name
-abbrev final_by_name : Request → Held → Named AggregationResult
+abbrev final_by_name : {B : Type 0} → Request B → Held → Named AggregationResult
 final_by_name request held =
-    map (λ a. (a.0, final_result a.1.agg (value_of a.0 held))) request
+    map (λ a. (a.0, final_result (agg_of a.1) (value_of a.0 held))) request
 
-final-each : (request : Request) (documents : List Fields) (held : Held)
-    → AllByRecursion (λ a. ResultStandsFor a.1.agg documents (value_of a.0 held)) request
+final-each : {B : Type 0} (request : Request B) (documents : List Fields) (held : Held)
+    → AllByRecursion (λ a. ResultStandsFor (agg_of a.1) documents (value_of a.0 held)) request
     → final_by_name request held ≡ pages_by_name request documents
 final-each [] documents held each = refl
 final-each (a ∷ request) documents held each =
-    λ i. (a.0, final-stands a.1.agg documents (value_of a.0 held) each.0 i)
+    λ i. (a.0, final-stands (agg_of a.1) documents (value_of a.0 held) each.0 i)
     ∷ final-each request documents held each.1 i
 
 -- what stands for documents is final as their pages
-pub final-pages : (request : Request) (documents : List Fields) (held : Held)
+pub final-pages : {B : Type 0} (request : Request B) (documents : List Fields) (held : Held)
     → StandsFor request documents held
     → final_results request held ≡ record { 0 = pages_by_name request documents }
 final-pages request documents held stand =
     λ i. record {
       0 = final-each request documents held
-          (recursion_from_All (λ a. ResultStandsFor a.1.agg documents (value_of a.0 held)) request
-          stand.each) i;
+          (recursion_from_All (λ a. ResultStandsFor (agg_of a.1) documents (value_of a.0 held))
+          request stand.each) i;
     }
 
-shown-each : (request : Request) (documents : List Fields) (results : Results)
+shown-each : {B : Type 0} (request : Request B) (documents : List Fields) (results : Results)
     → IsResults request documents results
     → shown_by_name request results ≡ pages_by_name request documents
 shown-each [] documents [] is = refl
 shown-each [] documents (r ∷ results) is = absurd is
 shown-each (a ∷ request) documents [] is = absurd is
 shown-each (a ∷ request) documents (r ∷ results) is =
-    λ i. (is.0 i, shown-page a.1.agg documents r.1 is.1 i)
+    λ i. (is.0 i, shown-page (agg_of a.1) documents r.1 is.1 i)
     ∷ shown-each request documents results is.2 i
 
 -- what stands for documents is final as their results, as these are shown
-pub final-shown : (request : Request) (documents : List Fields) (held : Held) (results : Results)
-    → StandsFor request documents held → IsResults request documents results
+pub final-shown : {B : Type 0} (request : Request B) (documents : List Fields) (held : Held)
+    (results : Results) → StandsFor request documents held → IsResults request documents results
     → final_results request held ≡ shown_results request results
 final-shown request documents held results stand is =
     final-pages request documents held stand
     ∙ (λ i. record { 0 = sym (shown-each request documents results is) i })
 
 -- what stands for the same documents, in any order, is final alike
-pub final-permutation : (request : Request) (documents others : List Fields) (held more : Held)
-    → IsPermutation documents others → StandsFor request documents held
+pub final-permutation : {B : Type 0} (request : Request B) (documents others : List Fields)
+    (held more : Held) → IsPermutation documents others → StandsFor request documents held
     → StandsFor request others more
     → final_results request held ≡ final_results request more
 final-permutation request documents others held more moved a b =
     final-pages request documents held a
     ∙ (λ i. record {
-      0 = map (λ c. (c.0, page-permutation c.1.agg documents others moved i)) request;
+      0 = map (λ c. (c.0, page-permutation (agg_of c.1) documents others moved i)) request;
     })
     ∙ sym (final-pages request others more b)

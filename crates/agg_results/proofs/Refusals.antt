@@ -6,7 +6,7 @@ use Rattle.std.specs.Option.{is_some, option_map}
 use Rattle.std.specs.Map.{keys_of}
 use Rattle.std.proofs.lemmas.Map.Keys.{sorted_tail}
 use Rattle.agg_values.specs.Names.{name_cmp, value_of}
-use Rattle.agg_request.specs.Request.{Request}
+use Rattle.agg_request.specs.Request.{Request, agg_of}
 use Rattle.agg_request.specs.declared.aggregation.Aggregation.{Aggregation}
 use Rattle.agg_results.specs.Final.{HoldsOther, IsInOtherOrders}
 use Rattle.agg_results.specs.Intermediate.{Held, IsPlain, entries_of, held_composite}
@@ -23,7 +23,7 @@ abbrev pub HasSubResults : IntermediateCompositeBucketResult → Type 0
 HasSubResults composite = Any (λ e. ¬ (IsPlain e.1)) (entries_of composite)
 
 -- a result has a name that isn't asked for, its own or one below it
-abbrev pub IsUnknown : Request → List ℕ × IntermediateAggregationResult → Type 0
+abbrev pub IsUnknown : {B : Type 0} → Request B → List ℕ × IntermediateAggregationResult → Type 0
 IsUnknown request r = (value_of r.0 request ≡ None) ⊎ HasSubResults (held_composite r.1)
 
 module _ {A B : Type 0} (f : B → A) where
@@ -38,7 +38,8 @@ module _ {A B : Type 0} (f : B → A) where
   some_found (Some b) value e is none = let both = e ∙ none in cc
 
 -- a name that is asked for, without names below it
-pub IsUnknown-not : (request : Request) (name : List ℕ) (r : IntermediateAggregationResult)
+pub IsUnknown-not : {B : Type 0} (request : Request B) (name : List ℕ)
+    (r : IntermediateAggregationResult)
     → ¬ (value_of name request ≡ None) → ¬ (HasSubResults (held_composite r))
     → ¬ (IsUnknown request (name, r))
 IsUnknown-not request name r asked plain (inl none) = asked none
@@ -47,23 +48,23 @@ IsUnknown-not request name r asked plain (inr has) = plain has
 -- ---- results of another shape
 
 -- none is held before the names that are left
-pub record AreAlikeBefore (all left : Request) (held : Held) : Type 0 where
+pub record AreAlikeBefore {B : Type 0} (all left : Request B) (held : Held) : Type 0 where
   pub ascends : Ascends left
-  pub whole : (name : List ℕ) (a : Aggregation) → value_of name left ≡ Some a
+  pub whole : (name : List ℕ) (a : Aggregation B) → value_of name left ≡ Some a
       → value_of name all ≡ Some a
   pub rest : HoldsOther all held → HoldsOther left held
 
 -- at first all names are left
-pub AreAlikeBefore-all : (all left : Request) (held : Held) → left ≡ all → Ascends all
-    → AreAlikeBefore all left held
+pub AreAlikeBefore-all : {B : Type 0} (all left : Request B) (held : Held) → left ≡ all
+    → Ascends all → AreAlikeBefore all left held
 AreAlikeBefore-all all left held e ascends =
     rw e (record { ascends = ascends; whole = λ name a value. value; rest = λ other. other })
 
 -- the first name that is left has no result of another shape
-pub AreAlikeBefore-more : (all left : Request) (held : Held) (name : List ℕ) (a : Aggregation)
-    (later : Request) → AreAlikeBefore all left held → left ≡ (name, a) ∷ later
-    → ((r : IntermediateAggregationResult) → value_of name held ≡ Some r
-    → ¬ (IsInOtherOrders a.agg r)) → AreAlikeBefore all later held
+pub AreAlikeBefore-more : {B : Type 0} (all left : Request B) (held : Held) (name : List ℕ)
+    (a : Aggregation B) (later : Request B) → AreAlikeBefore all left held
+    → left ≡ (name, a) ∷ later → ((r : IntermediateAggregationResult) → value_of name held ≡ Some r
+    → ¬ (IsInOtherOrders (agg_of a) r)) → AreAlikeBefore all later held
 AreAlikeBefore-more all left held name a later h e alike =
     let here : AreAlikeBefore all ((name, a) ∷ later) held =
     subst (λ l. AreAlikeBefore all l held) e h in
@@ -74,47 +75,49 @@ AreAlikeBefore-more all left held name a later h e alike =
       rest = λ any. later_other name a later held alike (here.rest any);
     }
   where
-    later_other : (name : List ℕ) (a : Aggregation) (later : Request) (held : Held)
+    later_other : {B : Type 0} (name : List ℕ) (a : Aggregation B) (later : Request B) (held : Held)
         → ((r : IntermediateAggregationResult) → value_of name held ≡ Some r
-        → ¬ (IsInOtherOrders a.agg r))
+        → ¬ (IsInOtherOrders (agg_of a) r))
         → HoldsOther ((name, a) ∷ later) held → HoldsOther later held
-    later_other name a later held alike (other, b, r, asked, found, differs) =
+    later_other {B = B} name a later held alike (other, b, r, asked, found, differs) =
         elim (value-cases other (name, a) later b asked) [
           | inl first ↦
               let here : value_of name held ≡ Some r =
               subst (λ n. value_of n held ≡ Some r) first.0 found in
-              let same : IsInOtherOrders a.agg r =
-              subst (λ (b : Aggregation). IsInOtherOrders b.agg r) (sym first.1) differs in
+              let same : IsInOtherOrders (agg_of a) r =
+              subst (λ (b : Aggregation B). IsInOtherOrders (agg_of b) r) (sym first.1) differs in
               absurd (alike r here same)
           | inr behind ↦ (other, b, r, behind, found, differs)
         ]
 
 -- a look-up that found nothing, or something that isn't of another shape
-pub none_differs : (held : Option IntermediateAggregationResult) (a : Aggregation) → None ≡ held
-    → (r : IntermediateAggregationResult) → held ≡ Some r → ¬ (IsInOtherOrders a.agg r)
+pub none_differs : {B : Type 0} (held : Option IntermediateAggregationResult) (a : Aggregation B)
+    → None ≡ held → (r : IntermediateAggregationResult) → held ≡ Some r
+    → ¬ (IsInOtherOrders (agg_of a) r)
 none_differs held a none r some differs = let both = none ∙ some in cc
 
-pub found_alike : (held : Option IntermediateAggregationResult) (a : Aggregation)
+pub found_alike : {B : Type 0} (held : Option IntermediateAggregationResult) (a : Aggregation B)
     (found : IntermediateAggregationResult) → Some found ≡ held
-    → ¬ (IsInOtherOrders a.agg found)
-    → (r : IntermediateAggregationResult) → held ≡ Some r → ¬ (IsInOtherOrders a.agg r)
+    → ¬ (IsInOtherOrders (agg_of a) found)
+    → (r : IntermediateAggregationResult) → held ≡ Some r → ¬ (IsInOtherOrders (agg_of a) r)
 found_alike held a found is alike r some differs =
     let same : r ≡ found = let both = is ∙ some in cc in
-    alike (subst (IsInOtherOrders a.agg) same differs)
+    alike (subst (IsInOtherOrders (agg_of a)) same differs)
 
 -- the first name that is left has one
-pub AreAlikeBefore-found : (all left : Request) (held : Held) (name : List ℕ) (a : Aggregation)
-    (later : Request) (r : IntermediateAggregationResult) → AreAlikeBefore all left held
-    → left ≡ (name, a) ∷ later → value_of name held ≡ Some r → IsInOtherOrders a.agg r
-    → HoldsOther all held
+pub AreAlikeBefore-found : {B : Type 0} (all left : Request B) (held : Held) (name : List ℕ)
+    (a : Aggregation B) (later : Request B) (r : IntermediateAggregationResult)
+    → AreAlikeBefore all left held → left ≡ (name, a) ∷ later → value_of name held ≡ Some r
+    → IsInOtherOrders (agg_of a) r → HoldsOther all held
 AreAlikeBefore-found all left held name a later r h e found differs =
     let asked : value_of name left ≡ Some a = rw e (value-first name a later) in
     (name, a, r, h.whole name a asked, found, differs)
 
 -- no name is left
-pub AreAlikeBefore-none : (all left : Request) (held : Held) → AreAlikeBefore all left held
-    → left ≡ [] → ¬ (HoldsOther all held)
-AreAlikeBefore-none all left held h e any = none (subst (λ l. HoldsOther l held) e (h.rest any))
+pub AreAlikeBefore-none : {B : Type 0} (all left : Request B) (held : Held)
+    → AreAlikeBefore all left held → left ≡ [] → ¬ (HoldsOther all held)
+AreAlikeBefore-none {B = B} all left held h e any =
+    none (subst (λ l. HoldsOther l held) e (h.rest any))
   where
-    none : HoldsOther [] held → ⊥
+    none : HoldsOther {B = B} [] held → ⊥
     none (name, a, r, asked, found, differs) = cc

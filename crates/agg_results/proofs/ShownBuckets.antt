@@ -9,12 +9,12 @@ use Rattle.agg_values.specs.declared.after_key.AfterKey.{AfterKey}
 use Rattle.agg_segment.specs.Document.{Fields}
 use Rattle.agg_request.specs.Groups.{Group}
 use Rattle.agg_request.specs.Page.{Entry, group_of}
-use Rattle.agg_request.specs.Request.{Request}
+use Rattle.agg_request.specs.Request.{Request, agg_of}
 use Rattle.agg_request.specs.Source.{Sources}
 use Rattle.agg_request.specs.declared.aggregation.AggregationVariants.{AggregationVariants}
 use Rattle.agg_request.specs.declared.aggregation.AggregationVariants.TheVariants.{Composite}
 use Rattle.agg_results.specs.BucketCount.{entry_buckets, result_buckets, results_buckets}
-use Rattle.agg_results.specs.Results.{CompositeResult, IsResults, Results, buckets_in}
+use Rattle.agg_results.specs.Results.{CompositeResult, IsResult, IsResults, Results, buckets_in}
 use Rattle.agg_results.specs.ShownResults.{shown_after, shown_by_name, shown_entry, shown_group}
 use Rattle.agg_results.specs.ShownResults.{shown_result, shown_results}
 use Rattle.agg_results.specs.declared.results.types.AggregationResult as result
@@ -60,26 +60,29 @@ buckets-entries sources (e ∷ entries) =
     (map entry_buckets (map (shown_entry sources) entries))
     ∙ omega arith
 
-buckets-shown : (aggregation : AggregationVariants) (result : CompositeResult)
+buckets-shown : {B : Type 0} (aggregation : AggregationVariants B) (documents : List Fields)
+    (result : CompositeResult) → IsResult aggregation documents result
     → result_buckets (shown_result aggregation result) ≡ length result.entries
-buckets-shown (Composite composite) result =
+buckets-shown (Composite composite) documents result is =
     buckets-page (map (shown_entry composite.sources) result.entries)
     (shown_after composite.sources result.after)
     ∙ buckets-entries composite.sources result.entries
+buckets-shown _ documents result is = absurd is
 
-buckets-each : (request : Request) (documents : List Fields) (results : Results)
+buckets-each : {B : Type 0} (request : Request B) (documents : List Fields) (results : Results)
     → IsResults request documents results
     → sum (map result_buckets (values_of (shown_by_name request results))) ≡ buckets_in results
 buckets-each [] documents [] is = refl
 buckets-each [] documents (r ∷ results) is = absurd is
 buckets-each (a ∷ request) documents [] is = absurd is
 buckets-each (a ∷ request) documents (r ∷ results) is =
-    sum-cons (result_buckets (shown_result a.1.agg r.1))
+    sum-cons (result_buckets (shown_result (agg_of a.1) r.1))
     (map result_buckets (values_of (shown_by_name request results)))
-    ∙ (λ i. buckets-shown a.1.agg r.1 i + buckets-each request documents results is.2 i)
+    ∙ (λ i. buckets-shown (agg_of a.1) documents r.1 is.1 i
+    + buckets-each request documents results is.2 i)
 
 -- the results of a request are shown as one bucket for each of their entries
-pub shown-buckets : (request : Request) (documents : List Fields) (results : Results)
+pub shown-buckets : {B : Type 0} (request : Request B) (documents : List Fields) (results : Results)
     → IsResults request documents results
     → results_buckets (shown_results request results) ≡ buckets_in results
 shown-buckets request documents results is =

@@ -7,7 +7,7 @@ use Rattle.std.specs.Prelude.{IsSome}
 use Rattle.std.proofs.lemmas.List.Elements.{All-contains}
 use Rattle.agg_values.specs.Names.{value_of}
 use Rattle.agg_segment.specs.Document.{Fields}
-use Rattle.agg_request.specs.Request.{Request}
+use Rattle.agg_request.specs.Request.{Request, agg_of}
 use Rattle.agg_request.specs.declared.aggregation.AggregationVariants.{AggregationVariants}
 use Rattle.agg_request.specs.declared.aggregation.AggregationVariants.TheVariants.{Composite}
 use Rattle.agg_request.proofs.Lists.{Contains-map}
@@ -24,7 +24,7 @@ some-not-none : {X : Type 0} (o : Option X) → o ≡ None → IsSome o → ⊥
 some-not-none o none some = let is = subst IsSome none some in cc
 
 -- what stands for documents is in the orders of the sources, or holds nothing
-in-its-orders : (aggregation : AggregationVariants) (documents : List Fields)
+in-its-orders : {B : Type 0} (aggregation : AggregationVariants B) (documents : List Fields)
     (r : IntermediateAggregationResult) → ResultStandsFor aggregation documents (Some r)
     → ¬ (IsInOtherOrders aggregation r)
 in-its-orders (Composite composite) documents r stand other = by stand.shape
@@ -32,8 +32,9 @@ in-its-orders (Composite composite) documents r stand other = by stand.shape
     by : HasShapeOf composite (held_composite r) → ⊥
     by (inl is) = other.1 is.1
     by (inr none) = other.0 none.1
+in-its-orders _ documents r stand other = absurd stand
 
-module _ (request : Request) (documents : List Fields) (held : Held)
+module _ {B : Type 0} (request : Request B) (documents : List Fields) (held : Held)
     (stand : StandsFor request documents held) where
   -- no result has another shape
   pub StandsFor-shapes : ¬ (HoldsOther request held)
@@ -41,7 +42,7 @@ module _ (request : Request) (documents : List Fields) (held : Held)
       let name = other.0 in
       let a = other.1 in
       let r = other.2 in
-      in-its-orders a.agg documents r
+      in-its-orders (agg_of a) documents r
       (held-stands request documents held stand (name, a) name r
       (entry-found request name a other.3) (λ i. name) other.4)
       other.5

@@ -7,7 +7,7 @@ use Rattle.agg_values.specs.Names.{value_of}
 use Rattle.agg_values.specs.Tuple.{KeyTuple}
 use Rattle.agg_values.specs.declared.request_error.AggregationError.TheVariants as aggregation
 use Rattle.agg_request.specs.Groups.{Group}
-use Rattle.agg_request.specs.Request.{Request}
+use Rattle.agg_request.specs.Request.{Request, agg_of}
 use Rattle.agg_request.specs.Source.{rules_of}
 use Rattle.agg_request.specs.declared.aggregation.Aggregation.{Aggregation}
 use Rattle.agg_request.specs.declared.aggregation.AggregationVariants.{AggregationVariants}
@@ -35,47 +35,52 @@ lowest_of composite = take (target_size_of composite) (counts_of (entries_of com
 abbrev pub last_tuple : ℕ → List Group → Option KeyTuple
 last_tuple size page = if length page == size then last_or None (keys_of page) else None
 
--- the final result of an aggregation: the lowest groups, and none where its name isn't held
-abbrev pub final_result : AggregationVariants → Option IntermediateAggregationResult
-    → AggregationResult
+-- the final result of an aggregation: the lowest groups, and none where its name isn't held; other
+-- kinds aren't collected yet
+abbrev pub final_result : {B : Type 0} → AggregationVariants B
+    → Option IntermediateAggregationResult → AggregationResult
 final_result (Composite composite) None = shown_page composite.sources [] None
 final_result (Composite composite) (Some held) =
     let lowest = lowest_of (held_composite held) in
     shown_page composite.sources (map (shown_group composite.sources) lowest)
     (last_tuple (target_size_of (held_composite held)) lowest)
+final_result _ held = shown_page [] [] None
 
 -- the final results of a request
-abbrev pub final_results : Request → Held → AggregationResults
+abbrev pub final_results : {B : Type 0} → Request B → Held → AggregationResults
 final_results request held =
-    record { 0 = map (λ a. (a.0, final_result a.1.agg (value_of a.0 held))) request }
+    record { 0 = map (λ a. (a.0, final_result (agg_of a.1) (value_of a.0 held))) request }
 
 -- ---- when there are none
 
--- a name is held that isn't asked for: one of a request, or one below an entry, since no request
--- asks for sub-results yet
-abbrev pub HoldsUnknown : Request → Held → Type 0
+-- a name is held that isn't asked for: one of a request, or one below an entry, since sub-results
+-- aren't collected yet
+abbrev pub HoldsUnknown : {B : Type 0} → Request B → Held → Type 0
 HoldsUnknown request held =
     Any (λ r. (value_of r.0 request ≡ None)
     ⊎ Any (λ e. ¬ (IsPlain e.1)) (entries_of (held_composite r.1))) held
 
 -- entries are held in other orders than those of the sources
-abbrev pub IsInOtherOrders : AggregationVariants → IntermediateAggregationResult → Type 0
+abbrev pub IsInOtherOrders : {B : Type 0} → AggregationVariants B
+    → IntermediateAggregationResult → Type 0
 IsInOtherOrders (Composite composite) held =
     (entries_of (held_composite held) ≢ [])
     × (orders_of (held_composite held) ≢ rules_of composite.sources)
+IsInOtherOrders _ held = ⊥
 
 -- a result is held that isn't of the shape that the request asks for
-abbrev pub HoldsOther : Request → Held → Type 0
-HoldsOther request held =
-    (name : List ℕ) × (a : Aggregation) × (r : IntermediateAggregationResult)
-    × (value_of name request ≡ Some a) × (value_of name held ≡ Some r) × IsInOtherOrders a.agg r
+abbrev pub HoldsOther : {B : Type 0} → Request B → Held → Type 0
+HoldsOther {B = B} request held =
+    (name : List ℕ) × (a : Aggregation B) × (r : IntermediateAggregationResult)
+    × (value_of name request ≡ Some a) × (value_of name held ≡ Some r)
+    × IsInOtherOrders (agg_of a) r
 
 -- the final results have more buckets than the limit
-abbrev pub HaveTooMany : ℕ → Request → Held → Type 0
+abbrev pub HaveTooMany : {B : Type 0} → ℕ → Request B → Held → Type 0
 HaveTooMany limit request held = limit < results_buckets (final_results request held)
 
 -- why there are no final results; want of memory needs no cause
-abbrev pub IsNotFinal : ℕ → Request → Held → FinalError → Type 0
+abbrev pub IsNotFinal : {B : Type 0} → ℕ → Request B → Held → FinalError → Type 0
 IsNotFinal limit request held error.UnknownAggregation = HoldsUnknown request held
 IsNotFinal limit request held error.Mismatch =
     (¬ (HoldsUnknown request held)) × HoldsOther request held
@@ -87,7 +92,7 @@ IsNotFinal limit request held error.OutOfMemory = ⊤
 IsNotFinal limit request held _ = ⊥
 
 -- what may be final
-pub record MayBeFinal (limit : ℕ) (request : Request) (held : Held) : Type 0 where
+pub record MayBeFinal {B : Type 0} (limit : ℕ) (request : Request B) (held : Held) : Type 0 where
   pub known : ¬ (HoldsUnknown request held)
   pub alike : ¬ (HoldsOther request held)
   pub few : ¬ (HaveTooMany limit request held)

@@ -10,7 +10,7 @@ use Rattle.agg_request.specs.declared.aggregation.AggregationVariants.{Aggregati
 use Rattle.agg_request.specs.declared.aggregation.AggregationVariants.TheVariants.{Composite}
 use Rattle.agg_request.specs.Occurrences.{bound_of}
 use Rattle.agg_request.specs.Page.{Entry, IsPage, tuples_of}
-use Rattle.agg_request.specs.Request.{Request}
+use Rattle.agg_request.specs.Request.{Request, agg_of}
 
 -- the result of a composite: the entries of its page, and the last tuple of a full one
 pub record CompositeResult : Type 0 where
@@ -33,17 +33,18 @@ pub record IsCompositeResult (composite : CompositeAggregation) (documents : Lis
       documents result.entries
   pub after : result.after ≡ after_tuple composite.size result.entries
 
--- the result of an aggregation over documents
-abbrev pub IsResult : AggregationVariants → List Fields → CompositeResult → Type 0
+-- the result of an aggregation over documents; other kinds have none yet
+abbrev pub IsResult : {B : Type 0} → AggregationVariants B → List Fields → CompositeResult → Type 0
 IsResult (Composite composite) documents result = IsCompositeResult composite documents result
+IsResult _ documents result = ⊥
 
 -- the results of a request over documents: one for each name
-abbrev pub IsResults : Request → List Fields → Results → Type 0
+abbrev pub IsResults : {B : Type 0} → Request B → List Fields → Results → Type 0
 IsResults [] documents [] = ⊤
 IsResults [] documents (r ∷ rs) = ⊥
 IsResults (a ∷ request) documents [] = ⊥
 IsResults (a ∷ request) documents (r ∷ rs) =
-    (r.0 ≡ a.0) × IsResult a.1.agg documents r.1 × IsResults request documents rs
+    (r.0 ≡ a.0) × IsResult (agg_of a.1) documents r.1 × IsResults request documents rs
 
 -- the last tuple of a name's page, where that is full
 abbrev pub after_in : List ℕ → Results → Option KeyTuple

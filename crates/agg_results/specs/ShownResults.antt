@@ -9,7 +9,7 @@ use Rattle.agg_request.specs.declared.aggregation.AggregationVariants.TheVariant
 use Rattle.agg_request.specs.BySource.{after_map, by_source}
 use Rattle.agg_request.specs.Groups.{Group}
 use Rattle.agg_request.specs.Page.{Entry, group_of}
-use Rattle.agg_request.specs.Request.{Request}
+use Rattle.agg_request.specs.Request.{Request, agg_of}
 use Rattle.agg_request.specs.Source.{Sources}
 use Rattle.agg_results.specs.Results.{CompositeResult, Results}
 use Rattle.agg_results.specs.declared.results.types.AggregationResult.{AggregationResult}
@@ -46,17 +46,18 @@ abbrev pub shown_composite : Sources → CompositeResult → AggregationResult
 shown_composite sources result =
     shown_page sources (map (shown_entry sources) result.entries) result.after
 
--- the result of an aggregation as it is shown
-abbrev pub shown_result : AggregationVariants → CompositeResult → AggregationResult
+-- the result of an aggregation as it is shown; other kinds have none yet
+abbrev pub shown_result : {B : Type 0} → AggregationVariants B → CompositeResult → AggregationResult
 shown_result (Composite composite) result = shown_composite composite.sources result
+shown_result _ result = shown_page [] [] None
 
 -- each result by its name
-abbrev pub shown_by_name : Request → Results → Named AggregationResult
+abbrev pub shown_by_name : {B : Type 0} → Request B → Results → Named AggregationResult
 shown_by_name [] results = []
 shown_by_name (a ∷ request) [] = []
 shown_by_name (a ∷ request) (r ∷ results) =
-    (r.0, shown_result a.1.agg r.1) ∷ shown_by_name request results
+    (r.0, shown_result (agg_of a.1) r.1) ∷ shown_by_name request results
 
 -- the results of a request as they are shown
-abbrev pub shown_results : Request → Results → AggregationResults
+abbrev pub shown_results : {B : Type 0} → Request B → Results → AggregationResults
 shown_results request results = record { 0 = shown_by_name request results }

@@ -10,7 +10,7 @@ use Rattle.agg_segment.specs.Document.{Fields}
 use Rattle.agg_request.specs.Groups.{Group}
 use Rattle.agg_request.specs.Occurrences.{bound_of, is_past}
 use Rattle.agg_request.specs.Page.{IsPage, count_in, entry_of}
-use Rattle.agg_request.specs.Request.{Request}
+use Rattle.agg_request.specs.Request.{Request, agg_of}
 use Rattle.agg_request.specs.Source.{Sources, rules_of}
 use Rattle.agg_request.specs.declared.aggregation.AggregationVariants.{AggregationVariants}
 use Rattle.agg_request.specs.declared.aggregation.AggregationVariants.TheVariants.{Composite}
@@ -38,7 +38,7 @@ HasShapeOf composite c =
     ((target_size_of c ≡ composite.size) × (orders_of c ≡ rules_of composite.sources))
     ⊎ ((target_size_of c ≡ 0) × (entries_of c ≡ []))
 
--- a composite's result stands for documents; it has no sub-results, since no request asks for any
+-- a composite's result stands for documents; it has no sub-results, which aren't collected yet
 pub record CompositeStandsFor (composite : CompositeAggregation) (documents : List Fields)
     (c : IntermediateCompositeBucketResult) : Type 0 where
   pub shape : HasShapeOf composite c
@@ -46,15 +46,17 @@ pub record CompositeStandsFor (composite : CompositeAggregation) (documents : Li
       (bound_of composite.sources composite.after) documents (counts_of (entries_of c))
   pub flat : IsFlat c
 
--- the result of an aggregation stands for documents; an absent one for none
-abbrev pub ResultStandsFor : AggregationVariants → List Fields
+-- the result of an aggregation stands for documents; an absent one for none, and one of a kind that
+-- isn't collected yet for nothing
+abbrev pub ResultStandsFor : {B : Type 0} → AggregationVariants B → List Fields
     → Option IntermediateAggregationResult → Type 0
 ResultStandsFor aggregation documents None = documents ≡ []
 ResultStandsFor (Composite composite) documents (Some result) =
     CompositeStandsFor composite documents (held_composite result)
+ResultStandsFor _ documents (Some result) = ⊥
 
 -- results stand for documents under a request, name by name, and no other name is held
-pub record StandsFor (request : Request) (documents : List Fields) (results : Held)
+pub record StandsFor {B : Type 0} (request : Request B) (documents : List Fields) (results : Held)
     : Type 0 where
-  pub each : All (λ a. ResultStandsFor a.1.agg documents (value_of a.0 results)) request
+  pub each : All (λ a. ResultStandsFor (agg_of a.1) documents (value_of a.0 results)) request
   pub known : All (λ name. Contains (keys_of request) name) (keys_of results)

@@ -11,7 +11,7 @@ ghost use Rattle.agg_segment.specs.Document.{Fields};
 ghost use Rattle.agg_request.specs.Groups.{Group, Groups};
 ghost use Rattle.agg_request.specs.Occurrences.{past_occurrences};
 ghost use Rattle.agg_request.specs.Page.{Entry, IsPage, group_of};
-ghost use Rattle.agg_request.specs.Request.{Request};
+ghost use Rattle.agg_request.specs.Request.{ArePlainComposites, Request, agg_of};
 ghost use Rattle.agg_request.specs.Source.{Sources, rules_of};
 ghost use Rattle.agg_request.specs.Uncut.{uncut};
 ghost use Rattle.agg_results.specs.Empty.{empty_results};
@@ -41,30 +41,31 @@ pub fn a_page_stands_for_its_documents()
         (drop size groups) }
 {}
 
-/// The empty result stands for no documents.
-pub fn the_empty_result_stands_for_none()
-    ensures { (request : Request) → IsStrictlySortedBy name_cmp (keys_of request)
+/// The empty result of composites stands for no documents.
+pub fn the_empty_result_stands_for_none<B>()
+    ensures { (request : Request B) → IsStrictlySortedBy name_cmp (keys_of request)
+        → ArePlainComposites request
         → StandsFor request [] (empty_results request) }
 {}
 
 /// What stands for documents merges: the shapes never differ, a count passes only where documents
 /// are counted 2^64 times, and the two as one, trimmed or not, stand for the documents of both.
-pub fn merging_joins_the_documents()
-    ensures alike { (request : Request) (documents others : List Fields) (held more : Held)
+pub fn merging_joins_the_documents<B>()
+    ensures alike { (request : Request B) (documents others : List Fields) (held more : Held)
         → StandsFor request documents held
         → StandsFor request others more
         → ¬ (SomeOfBoth ShapesDiffer held more) }
-    ensures few { (request : Request) (documents others : List Fields) (held more : Held)
+    ensures few { (request : Request B) (documents others : List Fields) (held more : Held)
         → StandsFor request documents held
         → StandsFor request others more
         → SomeOfBoth CountsPass held more
-        → Any (λ a. 2 ^ 64 ≤ length (uncut a.1.agg (documents ++ others))) request }
-    ensures joined { (request : Request) (documents others : List Fields) (held more whole : Held)
+        → Any (λ a. 2 ^ 64 ≤ length (uncut (agg_of a.1) (documents ++ others))) request }
+    ensures joined { (request : Request B) (documents others : List Fields) (held more whole : Held)
         → StandsFor request documents held
         → StandsFor request others more
         → AreMerged held more whole
         → StandsFor request (documents ++ others) whole }
-    ensures flat { (request : Request) (documents : List Fields) (held : Held)
+    ensures flat { (request : Request B) (documents : List Fields) (held : Held)
         → IsStrictlySortedBy name_cmp (keys_of held)
         → StandsFor request documents held
         → AreFlat held }
@@ -72,39 +73,41 @@ pub fn merging_joins_the_documents()
 
 /// What stands for documents is final as their results, as these are shown: no name is unknown, and
 /// none has another shape. Each entry of a result is one bucket.
-pub fn final_results_are_those_of_the_documents()
-    ensures shown { (request : Request) (documents : List Fields) (held : Held) (results : Results)
+pub fn final_results_are_those_of_the_documents<B>()
+    ensures shown { (request : Request B) (documents : List Fields) (held : Held)
+        (results : Results)
         → StandsFor request documents held
         → IsResults request documents results
         → final_results request held ≡ shown_results request results }
-    ensures buckets { (request : Request) (documents : List Fields) (results : Results)
+    ensures buckets { (request : Request B) (documents : List Fields) (results : Results)
         → IsResults request documents results
         → results_buckets (shown_results request results) ≡ buckets_in results }
-    ensures known { (request : Request) (documents : List Fields) (held : Held)
+    ensures known { (request : Request B) (documents : List Fields) (held : Held)
         → StandsFor request documents held
         → AreFlat held
         → ¬ (HoldsUnknown request held) }
-    ensures alike { (request : Request) (documents : List Fields) (held : Held)
+    ensures alike { (request : Request B) (documents : List Fields) (held : Held)
         → StandsFor request documents held
         → ¬ (HoldsOther request held) }
 {}
 
 /// As far as final results tell, the empty result is neutral, and merging is associative and
 /// commutative.
-pub fn merging_in_any_order_is_final_alike()
-    ensures neutral { (request : Request) (documents : List Fields) (held whole : Held)
+pub fn merging_in_any_order_is_final_alike<B>()
+    ensures neutral { (request : Request B) (documents : List Fields) (held whole : Held)
         → IsStrictlySortedBy name_cmp (keys_of request)
+        → ArePlainComposites request
         → StandsFor request documents held
         → AreMerged (empty_results request) held whole
         → final_results request whole ≡ final_results request held }
-    ensures commutative { (request : Request) (documents others : List Fields)
+    ensures commutative { (request : Request B) (documents others : List Fields)
         (held more whole turned : Held)
         → StandsFor request documents held
         → StandsFor request others more
         → AreMerged held more whole
         → AreMerged more held turned
         → final_results request turned ≡ final_results request whole }
-    ensures associative { (request : Request) (documents others last : List Fields)
+    ensures associative { (request : Request B) (documents others last : List Fields)
         (held more most first whole second turned : Held)
         → StandsFor request documents held
         → StandsFor request others more

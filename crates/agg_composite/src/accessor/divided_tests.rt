@@ -100,6 +100,23 @@ fn sources_read_what_they_divide(rt: HostRuntime) -> Result<(), Fail> {
     assert_types(&rt, alloc, &by_days, [date, None, None])
 }
 
+// An after key of the first accessor has this place, and missing documents stand before it or
+// don't.
+fn assert_place(
+    rt: &impl Abort,
+    alloc: Global,
+    segment: &SegmentReader,
+    source: &CompositeAggregationSource,
+    after: &CompositeIntermediateKey,
+    expected: (PrecomputedAfterKey, bool),
+) -> Result<(), Fail> {
+    let built = CompositeSourceAccessors::build_for_source(alloc, segment, source, Some(after))?;
+    assert_eq!(rt; built.after_key_accessor_idx, 0, "{source:?} {after:?}");
+    let place = (built.after_key, built.skip_missing);
+    assert_eq!(rt; place, expected, "{source:?} {after:?}");
+    Ok(())
+}
+
 #[test]
 fn after_numbers_stand_among_starts(rt: HostRuntime) -> Result<(), Fail> {
     let alloc = rt.alloc();
@@ -149,21 +166,14 @@ fn after_numbers_stand_among_starts(rt: HostRuntime) -> Result<(), Fail> {
             (Order::Desc, default, &null, none, false),
         ] {
             let source = histogram(alloc, field, 5, order, missing_order)?;
-            let built = CompositeSourceAccessors::build_for_source(
+            assert_place(
+                &rt,
                 alloc,
                 &segment,
                 &source,
-                Some(after),
+                after,
+                (place, is_missing_before),
             )?;
-            assert_eq!(rt;
-                (
-                    built.after_key,
-                    built.after_key_accessor_idx,
-                    built.skip_missing
-                ),
-                (place, 0, is_missing_before),
-                "{field} {order:?} {missing_order:?} {after:?}"
-            );
         }
     }
     Ok(())

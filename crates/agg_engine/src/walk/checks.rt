@@ -25,5 +25,6 @@ pub fn named_composite<'a>(
 {
     match &request.get(name)?.agg {
         AggregationVariants::Composite(composite) => Some(composite),
+        _ => None,
     }
 }

@@ -17,8 +17,8 @@ use agg_values::{AfterKey, NameMap, Steps, Text};
 use std::alloc::Global;
 use std::sync::ledger::Ledger;
 
-/// What a page is asked with: a composite under its name, how many groups the page has room for, the
-/// key behind which it begins, and which documents are counted.
+/// What a page is asked with: a composite under its name, how many groups the page has room for,
+/// the key behind which it begins, and which documents are counted.
 #[derive(Clone, Copy)]
 pub struct PageRequest<'a> {
     pub name: &'a Text,

@@ -7,8 +7,7 @@ ghost use Rattle.agg_segment.specs.Query.{matches};
 ghost use Rattle.agg_segment.specs.Segment.{Stored, documents_at, documents_of};
 ghost use Rattle.agg_request.specs.Occurrences.{bound_of};
 ghost use Rattle.agg_request.specs.Ranges.{AreInRange};
-ghost use Rattle.agg_request.specs.Uncut.{uncut};
-ghost use Rattle.agg_request.specs.declared.aggregation.AggregationVariants.TheVariants.{Composite};
+ghost use Rattle.agg_request.specs.Uncut.{counted as counted_by};
 ghost use Rattle.agg_composite.specs.Accessors.{Fits};
 ghost use Rattle.agg_composite.specs.PageEntries.{entry_group};
 ghost use Rattle.agg_results.specs.Intermediate.{AreFlat};
@@ -91,7 +90,7 @@ fn count_docs(
     counted: &mut u64,
 ) -> Result<(), WalkError>
     ensures counted { OnOk result (counted.new ≡ counted.old
-        + length (uncut (Composite composite.now) (documents_at segment.now docs.now))) }
+        + length (counted_by composite.now (documents_at segment.now docs.now))) }
     ensures few { OnOk result (counted.new < 2 ^ 32) }
     ensures cause { IfErr result
         (IsHeldRefusal composite.now (documents_at segment.now docs.now) counted.old) }

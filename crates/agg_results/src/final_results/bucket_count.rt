@@ -1,6 +1,5 @@
 //! How many buckets final results have, before anything is shown.
 ghost use Rattle.std.specs.Prelude.{◌≡◌, IfOk, length, option_map};
-ghost use Rattle.agg_request.specs.declared.aggregation.AggregationVariants.{AggregationVariants};
 ghost use Rattle.agg_results.specs.BucketCount.{result_buckets, results_buckets};
 ghost use Rattle.agg_results.specs.Final.{final_result, final_results, lowest_of};
 
@@ -8,7 +7,7 @@ use crate::{
     IntermediateAggregationResult, IntermediateAggregationResults,
     IntermediateCompositeBucketResult,
 };
-use agg_request::Aggregations;
+use agg_request::{AggregationVariants, Aggregations};
 use agg_values::OutOfMemory;
 
 /// The number of buckets of a request's final results. No memory has room for more than u64 counts.
@@ -20,19 +19,25 @@ pub fn bucket_count(
         (λ count. count ≡ results_buckets (final_results req.now held.now.results)) }
 {
     let mut count: u64 = 0;
-    for (name, _) in req.iter() {
+    for (name, aggregation) in req.iter() {
         count = count
-            .checked_add(shown_count(held.get(name)))
+            .checked_add(shown_count(&aggregation.agg, held.get(name)))
             .ok_or(OutOfMemory)?;
     }
     Ok(count)
 }
 
 // The number of buckets of the final result of an aggregation that holds this.
-fn shown_count(held: Option<&IntermediateAggregationResult>) -> u64
-    ensures { (aggregation : AggregationVariants) → result
-        ≡ result_buckets (final_result aggregation (option_map (λ r. r.now) held.entry)) }
+fn shown_count(
+    aggregation: &AggregationVariants,
+    held: Option<&IntermediateAggregationResult>,
+) -> u64
+    ensures { result
+        ≡ result_buckets (final_result aggregation.now (option_map (λ r. r.now) held.entry)) }
 {
+    let AggregationVariants::Composite(_) = aggregation else {
+        return 0;
+    };
     match held {
         Some(found) => page_count(found.composite()),
         None => 0,

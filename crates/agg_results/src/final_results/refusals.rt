@@ -57,7 +57,9 @@ fn is_in_other_orders(
     ensures { MatchBool result (IsInOtherOrders aggregation.now found.now)
         (¬ (IsInOtherOrders aggregation.now found.now)) }
 {
-    let AggregationVariants::Composite(composite) = aggregation;
+    let AggregationVariants::Composite(composite) = aggregation else {
+        return false;
+    };
     let held = found.composite();
     !held.entries().is_empty() && !are_orders_of(held.orders(), composite.sources.as_slice())
 }

@@ -21,10 +21,11 @@ pub fn shown_result(
 ) -> Result<AggregationResult, OutOfMemory>
     ensures { IfOk result (λ shown. shown ≡ final_result aggregation.now held) }
 {
-    let AggregationVariants::Composite(composite) = aggregation;
-    match held {
-        Some(found) => shown_page(alloc, composite.sources.as_slice(), found.into_composite()),
-        None => Ok(AggregationResult::BucketResult(BucketResult::Composite {
+    match (aggregation, held) {
+        (AggregationVariants::Composite(composite), Some(found)) => {
+            shown_page(alloc, composite.sources.as_slice(), found.into_composite())
+        }
+        _ => Ok(AggregationResult::BucketResult(BucketResult::Composite {
             buckets: ItemList::new(alloc),
             after_key: NameMap::new(alloc),
         })),

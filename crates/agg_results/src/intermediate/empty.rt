@@ -14,7 +14,7 @@ use std::alloc::Global;
 
 impl IntermediateAggregationResults {
     /// The empty result of each name of a request: of a composite a page without entries, with the
-    /// request's size and orders.
+    /// request's size and orders. Other kinds aren't collected yet: theirs has no size.
     pub fn empty_from_req(
         alloc: Global,
         req: &Aggregations,
@@ -45,6 +45,9 @@ fn empty_result(
                 buckets,
             }))
         }
+        _ => Ok(IntermediateAggregationResult::Bucket(IntermediateBucketResult::Composite {
+            buckets: IntermediateCompositeBucketResult::new(alloc, 0),
+        })),
     }
 }
 

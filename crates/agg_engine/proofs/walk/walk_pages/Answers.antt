@@ -1,22 +1,20 @@
-use Rattle.std.proofs.Common.{◌≡◌, ◌+◌, ◌<◌, List, ◌∷◌, ◌∙◌, drop, get_or, length, unwrap_or, refl}
-use Rattle.std.proofs.Common.{sym, ap, subst, arith, inr}
+use Rattle.std.proofs.Common.{◌≡◌, ◌+◌, ◌∷◌, ◌∙◌, drop, unwrap_or, refl}
+use Rattle.std.proofs.Common.{sym, subst, arith, inr}
 use Rattle.std.specs.List.{All}
 use Rattle.agg_request.specs.Ranges.{AreInRange}
 use Rattle.agg_engine.specs.PageAnswers.{IsHeldRefusal, IsStartRefusal}
 use Rattle.agg_engine.specs.Refusals.{HasCause}
 use Rattle.agg_engine.specs.Snapshot.{snapshot_documents, snapshots_documents}
 use Rattle.agg_engine.specs.Walk.{MayBeAsked, matching_documents}
-use Rattle.agg_engine.specs.declared.walk.Snapshot.{Snapshot}
 use Rattle.agg_engine.proofs.Halves.{matching_in}
 use Rattle.agg_engine.proofs.HeldRefusals.{caused-by}
 use Rattle.agg_engine.proofs.NoNull.{matching-no_Null}
 use Rattle.agg_engine.proofs.Snapshots.{matching_documents-segments, may_be_asked, no_room-some}
-use Rattle.agg_engine.proofs.Snapshots.{room-at}
-use Rattle.agg_engine.proofs.Walking.{AreFew-sound, IsHeldHere, IsWalking, alike-here, cause-final}
+use Rattle.agg_engine.proofs.Walking.{IsHeldHere, IsWalking, alike-here, cause-final}
 use Rattle.agg_engine.proofs.Walking.{cause-held, cause-starts, held-here, known-here, walking-at}
 use Rattle.agg_engine.proofs.Walking.{walking-end}
 use Rattle.agg_engine.proofs.Walking.{walking-ended, walking-ended-fits, walking-few, walking-more}
-use Rattle.agg_engine.proofs.Walking.{walking-out, walking-out-fits, walking-start}
+use Rattle.agg_engine.proofs.Walking.{walking-out, walking-start}
 use Rattle.agg_engine.proofs.walk.walk_pages.Given as given
 use Rattle.agg_engine.proofs.walk.walk_pages.Goals as goal
 use Rattle.agg_engine.proofs.walk.walk_pages.Goals.{After-check_starts, In_ok-held}

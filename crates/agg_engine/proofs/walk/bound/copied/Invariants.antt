@@ -1,4 +1,4 @@
-use Rattle.std.proofs.Common.{◌≡◌, ◌++◌, map}
+use Rattle.std.proofs.Common.{◌≡◌, ◌++◌}
 use Rattle.agg_engine.proofs.walk.bound.copied.Given as goal
 
 -- the entries so far are copied

@@ -1,5 +1,4 @@
 use Rattle.std.proofs.Common.{[], Err, ap, subst, sym}
-use Rattle.std.proofs.Common.{IfOk}
 use Rattle.agg_segment.specs.Segment.{documents_at}
 use Rattle.agg_request.specs.Occurrences.{bound_of, past_occurrences}
 use Rattle.agg_results.specs.StandsFor.{GroupsStandFor}

@@ -3,8 +3,7 @@ use Rattle.std.specs.List.{All, filter}
 use Rattle.agg_segment.specs.Query.{matches}
 use Rattle.agg_segment.specs.Segment.{documents_at, documents_of}
 use Rattle.agg_request.specs.Ranges.{AreInRange}
-use Rattle.agg_request.specs.Uncut.{uncut}
-use Rattle.agg_request.specs.declared.aggregation.AggregationVariants.TheVariants.{Composite}
+use Rattle.agg_request.specs.Uncut.{counted as counted_by}
 use Rattle.agg_request.specs.declared.aggregation.CompositeAggregation.{CompositeAggregation}
 use Rattle.agg_composite.specs.PageEntries.{entry_group}
 use Rattle.agg_engine.specs.PageAnswers.{AreFew, IsHeldRefusal}
@@ -80,7 +79,7 @@ returns-clause-held g c =
     let segment = c.args.segment.now in
     let documents = filter (matches page.query.now) (documents_of segment) in
     let counted = subst (λ ds. c.count_docs.new.counted
-    ≡ c.args.counted.now + length (uncut (Composite page.composite.now) ds))
+    ≡ c.args.counted.now + length (counted_by page.composite.now ds))
     (ap (documents_at segment) c.deref.ensures.value ∙ c.in_ok-docs.ensures)
     c.in_ok-count_docs.ensures.counted in
     answers-page page.name.now page.composite.now page.size page.after.now documents

@@ -4,12 +4,12 @@ use Rattle.agg_results.proofs.FinalByName.{AreShownBehind-none, none_left, poppe
 use Rattle.agg_results.proofs.final_results.by_name.shown_last_first.Goals as goal
 
 pub loop-name-init : goal.loop-name-init
-loop-name-init c =
+loop-name-init g c =
     AreShownBehind-none c.args.req.now _ c.args.held.results c.in_ok-last_first.last_first.items
     c.in_ok-wanted.ensures.entries c.in_ok-last_first.ensures.items c.in_ok-wanted.ensures.ascending
 
 pub loop-name-preserved : goal.loop-name-preserved
-loop-name-preserved c =
+loop-name-preserved g c =
     AreShownBehind-more c.args.req.now c.args.held.results c.loop-name.held.results
     c.remove.new.self.results _ _ c.loop-name.last_first.items c.push.new.self.items
     c.in-Some.name.now c.in-Some.aggregation.now c.remove.result c.in_ok-shown_result.field-0
@@ -20,7 +20,7 @@ loop-name-preserved c =
     c.in_ok-push.ensures.items
 
 pub returns : goal.returns
-returns c =
+returns g c =
     AreShownBehind-all c.args.req.now c.args.held.results c.loop-name.held.results _
     c.loop-name.last_first.items c.loop-name.invariant
     (none_left _ c.loop-name.wanted.items

@@ -6,12 +6,12 @@ use Rattle.agg_results.proofs.final_results.refusals.holds_unknown.Goals as goal
 use goal.{then-is_none-via-then-is_none, then-is_none-via-else-is_none+then-has_sub_results}
 
 pub loop-name-init : goal.loop-name-init
-loop-name-init c =
+loop-name-init g c =
     IsLeft-all (IsUnknown c.args.req.now) c.args.held.now.results c.into_iter-name-iterator.result
     (c.into_iter-name-iterator.ensures.into_iter_gives ∙ c.iter-name-items.ensures)
 
 pub returns-then-is_none : goal.returns-then-is_none
-returns-then-is_none c =
+returns-then-is_none g c =
     IsLeft-found (IsUnknown c.args.req.now) c.args.held.now.results c.loop-name.name-iterator
     (c.in-Some.name.now, c.in-Some.found.now) c.next.new.self c.loop-name.invariant
     c.in-Some.ensures.steps
@@ -23,7 +23,7 @@ returns-then-is_none c =
     ])
 
 pub loop-name-preserved : goal.loop-name-preserved
-loop-name-preserved c =
+loop-name-preserved g c =
     IsLeft-more (IsUnknown c.args.req.now) c.args.held.now.results c.loop-name.name-iterator
     (c.in-Some.name.now, c.in-Some.found.now) c.next.new.self c.loop-name.invariant
     c.in-Some.ensures.steps
@@ -33,6 +33,6 @@ loop-name-preserved c =
     c.if-has_sub_results.ensures))
 
 pub returns : goal.returns
-returns c =
+returns g c =
     IsLeft-none (IsUnknown c.args.req.now) c.args.held.now.results c.loop-name.name-iterator
     c.loop-name.invariant c.in-None.ensures.steps.0

@@ -4,4 +4,4 @@ use Rattle.agg_results.proofs.final_results.refusals.holds_unknown.Given as goal
 
 -- no name so far is unknown
 abbrev pub invariant-loop-name : goal.invariant-loop-name
-invariant-loop-name l = IsLeft (IsUnknown l.req) l.held.results l.name-iterator
+invariant-loop-name g l = IsLeft (IsUnknown l.req) l.held.results l.name-iterator

@@ -1,4 +1,4 @@
-use Rattle.std.proofs.Common.{◌≡◌, IsTrue, Ordering, Less, Equal, Greater, refl, sym, ◌∙◌, subst}
+use Rattle.std.proofs.Common.{◌≡◌, IsTrue, Ordering, Less, Equal, Greater, refl, sym, subst}
 use Rattle.std.specs.Ordering.{is_lt}
 use Rattle.std.proofs.lemmas.Bool.{false≢true}
 use Rattle.agg_values.specs.KeyOrder.{tuple_order}
