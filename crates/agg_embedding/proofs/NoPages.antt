@@ -14,22 +14,28 @@ use Rattle.agg_embedding.specs.NoPages.{HaveNoPages}
 abbrev steady : List ℕ → List ℕ → Observed (List ℕ)
 steady bytes left = over (λ source. Some source) (λ _. 0) bytes left
 
-reads_input : (bytes left : List ℕ) (i : Input) → GaveInput (steady bytes left) i
-    → IsInput bytes i
-reads_input bytes left i (given, gives, is) =
-    subst (λ all. IsInput all i) (gives bytes refl).0 is
+reads_input : {B : Type 0} (builders : List B) (name_of : B → List ℕ) (bytes left : List ℕ)
+    (i : Input B)
+    → GaveInput builders name_of (steady bytes left) i → IsInput builders name_of bytes i
+reads_input builders name_of bytes left i (given, gives, is) =
+    subst (λ all. IsInput builders name_of all i) (gives bytes refl).0 is
 
-pub no_pages : {W : Type 0} (sink : Observed W) (bytes left : List ℕ) (words : List (List ℕ))
-    (status : Status) → words ≡ walk_arguments → status ≢ Ok
-    → IsAnswered (command words status) (steady bytes left) sink → HaveNoPages bytes status
-no_pages sink bytes left words Ok walk other answered = absurd (other refl)
-no_pages sink bytes left words Refused walk other answered =
+pub no_pages : {W B : Type 0} (builders : List B) (name_of : B → List ℕ) (sink : Observed W)
+    (bytes left : List ℕ)
+    (words : List (List ℕ)) (status : Status) → words ≡ walk_arguments → status ≢ Ok
+    → IsAnswered builders name_of (command words status) (steady bytes left) sink
+    → HaveNoPages builders name_of bytes status
+no_pages builders name_of sink bytes left words Ok walk other answered = absurd (other refl)
+no_pages builders name_of sink bytes left words Refused walk other answered =
     let (i, gave, (text, refusal, appended)) = answered.refused refl in
-    (i, reads_input bytes left i gave, (text, refusal))
-no_pages sink bytes left words Usage walk other answered = absurd (answered.usage.0 refl walk)
-no_pages sink bytes left words NotInput walk other answered = (answered.no_input refl bytes refl).0
-no_pages sink bytes left words ReadFault walk other answered =
+    (i, reads_input builders name_of bytes left i gave, (text, refusal))
+no_pages builders name_of sink bytes left words Usage walk other answered =
+    absurd (answered.usage.0 refl walk)
+no_pages builders name_of sink bytes left words NotInput walk other answered =
+    (answered.no_input refl bytes refl).0
+no_pages builders name_of sink bytes left words ReadFault walk other answered =
     absurd (omega (arith, answered.read_fault refl))
-no_pages sink bytes left words WriteFault walk other answered =
-    let (i, gave, written) = answered.prefix refl in (i, reads_input bytes left i gave)
-no_pages sink bytes left words OutOfMemory walk other answered = tt
+no_pages builders name_of sink bytes left words WriteFault walk other answered =
+    let (i, gave, written) = answered.prefix refl in
+    (i, reads_input builders name_of bytes left i gave)
+no_pages builders name_of sink bytes left words OutOfMemory walk other answered = tt

@@ -9,11 +9,13 @@ use Rattle.agg_pages.specs.Input.{AreNoInput, Input, IsInput}
 
 -- bytes have no pages, and a status says why: they are no input, or one whose walk may be refused,
 -- or one whose answer the sink didn't take; want of memory is free, and no other status comes
-abbrev pub HaveNoPages : List ℕ → Status → Type 0
-HaveNoPages bytes NotInput = AreNoInput bytes
-HaveNoPages bytes Refused = (i : Input) × IsInput bytes i × ((text : List ℕ) × IsRefusal i text)
-HaveNoPages bytes WriteFault = (i : Input) × IsInput bytes i
-HaveNoPages bytes OutOfMemory = ⊤
-HaveNoPages bytes Ok = ⊥
-HaveNoPages bytes Usage = ⊥
-HaveNoPages bytes ReadFault = ⊥
+abbrev pub HaveNoPages : {B : Type 0} → List B → (B → List ℕ) → List ℕ → Status → Type 0
+HaveNoPages builders name_of bytes NotInput = AreNoInput builders name_of bytes
+HaveNoPages {B = B} builders name_of bytes Refused =
+    (i : Input B) × IsInput builders name_of bytes i × ((text : List ℕ) × IsRefusal i text)
+HaveNoPages {B = B} builders name_of bytes WriteFault =
+    (i : Input B) × IsInput builders name_of bytes i
+HaveNoPages builders name_of bytes OutOfMemory = ⊤
+HaveNoPages builders name_of bytes Ok = ⊥
+HaveNoPages builders name_of bytes Usage = ⊥
+HaveNoPages builders name_of bytes ReadFault = ⊥

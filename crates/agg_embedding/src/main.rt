@@ -12,6 +12,7 @@ ghost use Rattle.agg_pages.specs.Input.{Input, IsInput};
 use agg_pages::sink::{MemorySink, Sink, StdSink, write_all};
 use agg_pages::source::SteadySource;
 use agg_pages::{Status, run_uncounted};
+use agg_request::NamedBuilder;
 use agg_values::Text;
 use std::alloc::Global;
 use std::process::ExitCode;
@@ -35,20 +36,26 @@ fn show_sales<W: Sink>(alloc: Global, out: &mut W) -> Result<(), Status> {
         .as_bytes()
         .to_vec(alloc)
         .map_err(|_| Status::OutOfMemory)?;
-    let pages = pages_of(alloc, bytes)?;
+    let pages = pages_of(alloc, Vec::new(alloc), bytes)?;
     write_all(out, pages.bytes()).map_err(|_| Status::WriteFault)
 }
 
-// The printed pages of bytes, or the status that says why they have none.
-fn pages_of(alloc: Global, bytes: Vec<u8>) -> Result<MemorySink, Status>
+// The printed pages of bytes, or the status that says why they have none. The builders are those
+// that filters of a request may ask for.
+fn pages_of(
+    alloc: Global,
+    builders: Vec<NamedBuilder>,
+    bytes: Vec<u8>,
+) -> Result<MemorySink, Status>
     ensures pages { IfOk result
-        (λ sink. (i : Input) × IsInput bytes.items i × IsPrintedWalk i sink.bytes) }
-    ensures cause { IfErr result (HaveNoPages bytes.items) }
+        (λ sink. (i : Input _) × IsInput builders.items (λ b. b.name) bytes.items i
+        × IsPrintedWalk i sink.bytes) }
+    ensures cause { IfErr result (HaveNoPages builders.items (λ b. b.name) bytes.items) }
 {
     let words = [Text::copy_of(alloc, "walk")?];
     let mut source = SteadySource::new(bytes);
     let mut sink = MemorySink::new(alloc, Vec::new(alloc))?;
-    match run_uncounted(alloc, &words, Vec::new(alloc), &mut source, &mut sink) {
+    match run_uncounted(alloc, &words, builders, &mut source, &mut sink) {
         Status::Ok => Ok(sink),
         status => Err(status),
     }

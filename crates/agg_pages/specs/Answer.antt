@@ -15,24 +15,24 @@ abbrev pub walk_arguments : List (List ℕ)
 walk_arguments = codes "walk" ∷ []
 
 -- the bucket limit of an input: its own, or 65,000
-abbrev pub bucket_limit_of : Input → ℕ
+abbrev pub bucket_limit_of : {B : Type 0} → Input B → ℕ
 bucket_limit_of i = unwrap_or i.header.bucket_limit 65000
 
 -- an error that a walk of an input may answer, want of memory aside
-abbrev pub MayRefuse : Input → WalkError → Type 0
+abbrev pub MayRefuse : {B : Type 0} → Input B → WalkError → Type 0
 MayRefuse i error =
     (error ≢ OutOfMemory)
     × HasCause (bucket_limit_of i) i.header.name i.header.query i.header.request i.snapshots error
 
 -- a walk of an input that nothing refuses
-pub record IsValid (i : Input) : Type 0 where
+pub record IsValid {B : Type 0} (i : Input B) : Type 0 where
   pub asked : MayBeAsked i.header.name i.header.request i.snapshots
   pub fits : (error : WalkError)
       → ¬ (IsRefused (bucket_limit_of i) i.header.name i.header.query i.header.request i.snapshots
       error)
 
 -- the text is the printed walk of an input that nothing refuses
-abbrev pub IsPrintedWalk : Input → List ℕ → Type 0
+abbrev pub IsPrintedWalk : {B : Type 0} → Input B → List ℕ → Type 0
 IsPrintedWalk i text =
     (walk : Walk)
     × IsValid i
@@ -40,23 +40,23 @@ IsPrintedWalk i text =
     × (text ≡ walk_text walk)
 
 -- the text is a refusal that a walk of an input may answer
-abbrev pub IsRefusal : Input → List ℕ → Type 0
+abbrev pub IsRefusal : {B : Type 0} → Input B → List ℕ → Type 0
 IsRefusal i text = (error : WalkError) × MayRefuse i error × (text ≡ refusal_text error)
 
 -- the text answers an input, by a refusal or by the printed walk
-abbrev pub IsReply : Bool → Input → List ℕ → Type 0
+abbrev pub IsReply : {B : Type 0} → Bool → Input B → List ℕ → Type 0
 IsReply true i text = IsRefusal i text
 IsReply false i text = IsPrintedWalk i text
 
 -- the text is a prefix of an answer to an input
-abbrev pub IsReplyPrefix : Input → List ℕ → Type 0
+abbrev pub IsReplyPrefix : {B : Type 0} → Input B → List ℕ → Type 0
 IsReplyPrefix i prefix =
     (text : List ℕ) × (IsPrintedWalk i text ⊎ IsRefusal i text)
     × ((count : ℕ) × (prefix ≡ take count text))
 
 -- the bytes are no input: all were read, or one past the limit
-abbrev pub IsNoInput : List ℕ → Option (List ℕ) → Type 0
-IsNoInput bytes left =
-    AreNoInput bytes
+abbrev pub IsNoInput : {B : Type 0} → List B → (B → List ℕ) → List ℕ → Option (List ℕ) → Type 0
+IsNoInput builders name_of bytes left =
+    AreNoInput builders name_of bytes
     × ((left ≡ Some [])
     ⊎ ((max_input_bytes < length bytes) × (left ≡ Some (drop (max_input_bytes + 1) bytes))))

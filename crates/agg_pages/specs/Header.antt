@@ -6,34 +6,34 @@ use Rattle.serde_json.specs.Find.{as_array, as_str, get}
 use Rattle.serde_json.specs.Read.{read}
 use Rattle.agg_segment.specs.declared.query.QueryTree.{QueryTree}
 use Rattle.agg_segment.specs.declared.query.QueryTree.TheVariants.{All}
-use Rattle.agg_request.specs.CompositeJson.{IsCompositeJson}
-use Rattle.agg_request.specs.Json.{each_item, has_members, only_member, only_named}
-use Rattle.agg_request.specs.Json.{small_number}
+use Rattle.agg_request.specs.Json.{each_item, has_members, small_number}
 use Rattle.agg_request.specs.Query.{IsQuery}
 use Rattle.agg_request.specs.Request.{Request}
-use Rattle.agg_request.specs.declared.aggregation.AggregationVariants.TheVariants.{Composite}
-use Rattle.agg_request.specs.declared.aggregation.CompositeAggregation.{CompositeAggregation}
+use Rattle.agg_request.specs.RequestJson.{IsRequestJson}
+use Rattle.agg_engine.specs.Form.{IsOneComposite}
 use Rattle.agg_pages.specs.declared.input.header.Header.{Header}
 
--- the body is that of no composite
-abbrev pub IsNoComposite : Data → Type 0
-IsNoComposite body = (composite : CompositeAggregation) → ¬ IsCompositeJson false body composite
-
--- a request of one composite
-abbrev pub request_of : List ℕ → CompositeAggregation → Request
-request_of name composite = (name, record { agg = Composite composite }) ∷ []
-
--- a request: one name, whose one member is a composite
-abbrev pub IsRequest : Data → Request → Type 0
-IsRequest d request =
-    (name : List ℕ) × (kind : Data) × (body : Data) × (composite : CompositeAggregation)
-    × (only_member d ≡ Some (name, kind)) × (only_named (codes "composite") kind ≡ Some body)
-    × IsCompositeJson false body composite × (request ≡ request_of name composite)
+-- a request: a value says it where these builders are handed in, and it has the form that a walk
+-- takes
+pub record IsRequest {B : Type 0} (builders : List B) (name_of : B → List ℕ) (d : Data)
+    (request : Request B) : Type 0 where
+  pub said : IsRequestJson name_of d builders request
+  pub form : IsOneComposite request
 
 -- the request of this member, which has to be there
-abbrev pub IsRequestAt : Option Data → Request → Type 0
-IsRequestAt None request = ⊥
-IsRequestAt (Some d) request = IsRequest d request
+abbrev pub IsRequestAt : {B : Type 0} → List B → (B → List ℕ) → Option Data → Request B → Type 0
+IsRequestAt builders name_of None request = ⊥
+IsRequestAt builders name_of (Some d) request = IsRequest builders name_of d request
+
+-- a value is no request
+abbrev pub IsNoRequestOf : {B : Type 0} → List B → (B → List ℕ) → Data → Type 0
+IsNoRequestOf {B = B} builders name_of d =
+    (request : Request B) → ¬ (IsRequest builders name_of d request)
+
+-- nor is what may stand at a member
+abbrev pub IsNoRequestAt : {B : Type 0} → List B → (B → List ℕ) → Option Data → Type 0
+IsNoRequestAt {B = B} builders name_of d =
+    (request : Request B) → ¬ (IsRequestAt builders name_of d request)
 
 -- an array of texts
 abbrev pub texts_of : Data → Option (List (List ℕ))
@@ -60,14 +60,25 @@ IsBucketLimitOf (Some d) limit = (n : ℕ) × (small_number d ≡ Some n) × (li
 
 -- a header: exactly its request, its name and its schema, and a query and a bucket limit if there
 -- are any
-pub record IsHeader (d : Data) (header : Header) : Type 0 where
+pub record IsHeader {B : Type 0} (builders : List B) (name_of : B → List ℕ) (d : Data)
+    (header : Header B) : Type 0 where
   pub members : IsTrue (has_members (header_members d) d)
-  pub request : IsRequestAt (get (codes "request") d) header.request
+  pub request : IsRequestAt builders name_of (get (codes "request") d) header.request
   pub name : option_and_then as_str (get (codes "name") d) ≡ Some header.name
   pub schema : option_and_then texts_of (get (codes "schema") d) ≡ Some header.schema
   pub query : IsQueryOf (get (codes "query") d) header.query
   pub bucket_limit : IsBucketLimitOf (get (codes "bucket_limit") d) header.bucket_limit
 
 -- the header of a line
-abbrev pub IsHeaderLine : List ℕ → Header → Type 0
-IsHeaderLine line header = (d : Data) × (read line ≡ Some d) × IsHeader d header
+abbrev pub IsHeaderLine : {B : Type 0} → List B → (B → List ℕ) → List ℕ → Header B → Type 0
+IsHeaderLine builders name_of line header =
+    (d : Data) × (read line ≡ Some d) × IsHeader builders name_of d header
+
+-- a value is no header
+abbrev pub IsNoHeader : {B : Type 0} → List B → (B → List ℕ) → Data → Type 0
+IsNoHeader {B = B} builders name_of d = (header : Header B) → ¬ (IsHeader builders name_of d header)
+
+-- nor is that of a line
+abbrev pub IsNoHeaderLine : {B : Type 0} → List B → (B → List ℕ) → List ℕ → Type 0
+IsNoHeaderLine {B = B} builders name_of line =
+    (header : Header B) → ¬ (IsHeaderLine builders name_of line header)

@@ -8,30 +8,39 @@ use Rattle.agg_pages.specs.Header.{IsHeaderLine}
 use Rattle.agg_pages.specs.Lines.{lines_of}
 use Rattle.agg_pages.specs.SnapshotLines.{AreSnapshots}
 
--- an input: what a walk is asked for, and over what
-pub record Input : Type 0 where
-  pub header : Header
+-- an input: what a walk is asked for, with such builders of queries, and over what
+pub record Input (B : Type 0) : Type 0 where
+  pub header : Header B
   pub snapshots : List SnapshotDocuments
 
 -- what an input in memory stands for
-abbrev pub input_of : stored.Input → Input
+abbrev pub input_of : {B : Type 0} → stored.Input B → Input B
 input_of i = record { header = i.header; snapshots = snapshots_documents i.snapshots }
 
 -- the input of lines: a header, and then snapshots
-abbrev pub IsInputOfLines : List (List ℕ) → Input → Type 0
-IsInputOfLines [] i = ⊥
-IsInputOfLines (first ∷ lines) i = IsHeaderLine first i.header × AreSnapshots lines i.snapshots
+abbrev pub IsInputOfLines : {B : Type 0} → List B → (B → List ℕ) → List (List ℕ) → Input B
+    → Type 0
+IsInputOfLines builders name_of [] i = ⊥
+IsInputOfLines builders name_of (first ∷ lines) i =
+    IsHeaderLine builders name_of first i.header × AreSnapshots lines i.snapshots
+
+-- lines are no input
+abbrev pub IsNoInputOf : {B : Type 0} → List B → (B → List ℕ) → List (List ℕ) → Type 0
+IsNoInputOf {B = B} builders name_of lines =
+    (i : Input B) → ¬ (IsInputOfLines builders name_of lines i)
 
 -- how many bytes an input has at most
 abbrev pub max_input_bytes : ℕ
 max_input_bytes = 67108864
 
--- the bytes are an input: UTF-8, no more than the limit, and its lines
-pub record IsInput (bytes : List ℕ) (i : Input) : Type 0 where
+-- the bytes are an input for a program with these builders: UTF-8, no more than the limit, and its
+-- lines
+pub record IsInput {B : Type 0} (builders : List B) (name_of : B → List ℕ) (bytes : List ℕ)
+    (i : Input B) : Type 0 where
   pub few : length bytes ≤ max_input_bytes
   pub text : IsTrue (is_utf8 bytes)
-  pub lines : IsInputOfLines (lines_of bytes) i
+  pub lines : IsInputOfLines builders name_of (lines_of bytes) i
 
 -- the bytes are no input
-abbrev pub AreNoInput : List ℕ → Type 0
-AreNoInput bytes = ¬ ((i : Input) × IsInput bytes i)
+abbrev pub AreNoInput : {B : Type 0} → List B → (B → List ℕ) → List ℕ → Type 0
+AreNoInput {B = B} builders name_of bytes = ¬ ((i : Input B) × IsInput builders name_of bytes i)

@@ -21,42 +21,46 @@ abbrev pub command : List (List ℕ) → Status → Command
 command arguments status = record { arguments = arguments; status = status }
 
 -- a source gave bytes of this input, which are all that it had left, where it told them
-abbrev pub GaveInput : {R : Type 0} → Observed R → Input → Type 0
-GaveInput source i =
+abbrev pub GaveInput : {R B : Type 0} → List B → (B → List ℕ) → Observed R → Input B → Type 0
+GaveInput builders name_of source i =
     (bytes : List ℕ)
     × GivesAll (bytes_before source) (bytes_after source) bytes
-    × IsInput bytes i
+    × IsInput builders name_of bytes i
 
 -- a source gave an input, and a sink holds such a text of it behind what it held
-abbrev pub HasWritten : {R W : Type 0} → (Input → List ℕ → Type 0) → Observed R → Observed W
-    → Type 0
-HasWritten IsText source sink =
-    (i : Input) × GaveInput source i
+abbrev pub HasWritten : {R W B : Type 0} → List B → (B → List ℕ) → (Input B → List ℕ → Type 0)
+    → Observed R
+    → Observed W → Type 0
+HasWritten {B = B} builders name_of IsText source sink =
+    (i : Input B) × GaveInput builders name_of source i
     × ((text : List ℕ) × IsText i text × Appends (bytes_before sink) (bytes_after sink) text)
 
 -- the bytes that a source told it had left are no input
-abbrev pub HadNoInput : {R : Type 0} → Observed R → Type 0
-HadNoInput source =
-    (bytes : List ℕ) → bytes_before source ≡ Some bytes → IsNoInput bytes (bytes_after source)
+abbrev pub HadNoInput : {R B : Type 0} → List B → (B → List ℕ) → Observed R → Type 0
+HadNoInput builders name_of source =
+    (bytes : List ℕ) → bytes_before source ≡ Some bytes
+    → IsNoInput builders name_of bytes (bytes_after source)
 
 -- a source told that it had a valid input left
-abbrev pub HadValidInput : {R : Type 0} → Observed R → Type 0
-HadValidInput source =
-    (bytes : List ℕ) × (i : Input)
-    × (bytes_before source ≡ Some bytes) × IsInput bytes i × IsValid i
+abbrev pub HadValidInput : {R B : Type 0} → List B → (B → List ℕ) → Observed R → Type 0
+HadValidInput {B = B} builders name_of source =
+    (bytes : List ℕ) × (i : Input B)
+    × (bytes_before source ≡ Some bytes) × IsInput builders name_of bytes i × IsValid i
 
--- each status has its cause, in what a source gave and a sink took
-pub record IsAnswered {R W : Type 0} (command : Command) (source : Observed R) (sink : Observed W)
-    : Type 0 where
+-- each status has its cause, in what a source gave and a sink took, where a program has these
+-- builders
+pub record IsAnswered {R W B : Type 0} (builders : List B) (name_of : B → List ℕ)
+    (command : Command)
+    (source : Observed R) (sink : Observed W) : Type 0 where
   -- status 0: the bytes read are a valid input, and the printed walk of it is written
-  pub ok : command.status ≡ Ok → HasWritten IsPrintedWalk source sink
+  pub ok : command.status ≡ Ok → HasWritten builders name_of IsPrintedWalk source sink
   -- each other status has its cause
   pub usage : command.status ≡ Usage ↔ (command.arguments ≢ walk_arguments)
   pub read_fault : command.status ≡ ReadFault → HadFault source
-  pub no_input : command.status ≡ NotInput → HadNoInput source
-  pub refused : command.status ≡ Refused → HasWritten IsRefusal source sink
+  pub no_input : command.status ≡ NotInput → HadNoInput builders name_of source
+  pub refused : command.status ≡ Refused → HasWritten builders name_of IsRefusal source sink
   pub write_fault : command.status ≡ WriteFault → HadFault sink
-  pub prefix : command.status ≡ WriteFault → HasWritten IsReplyPrefix source sink
+  pub prefix : command.status ≡ WriteFault → HasWritten builders name_of IsReplyPrefix source sink
   -- a usage touches nothing, and these write nothing
   pub untouched : command.status ≡ Usage → IsUntouched source × IsUntouched sink
   pub quiet : (command.status ≡ NotInput)
@@ -64,6 +68,6 @@ pub record IsAnswered {R W : Type 0} (command : Command) (source : Observed R) (
   -- whatever the status, no more than one byte past the limit is gone
   pub taken : TakesAtMost (max_input_bytes + 1) (bytes_before source) (bytes_after source)
   -- a valid call without a fault is answered, unless memory is refused
-  pub complete : command.arguments ≡ walk_arguments → HadValidInput source
+  pub complete : command.arguments ≡ walk_arguments → HadValidInput builders name_of source
       → ¬ (HadFault source) → ¬ (HadFault sink)
       → (command.status ≡ Ok) ⊎ (command.status ≡ OutOfMemory)

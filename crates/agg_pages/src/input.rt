@@ -13,12 +13,12 @@ mod value;
 ghost use Rattle.std.specs.Prelude.{◌≡◌, IfOk, IsErrOf};
 ghost use Rattle.agg_engine.specs.Form.{IsOneComposite};
 ghost use Rattle.agg_engine.specs.Snapshot.{snapshots_documents};
-ghost use Rattle.agg_pages.specs.Input.{AreNoInput, Input as Meant, IsInput};
-ghost use Rattle.agg_pages.specs.Input.{IsInputOfLines, input_of};
+ghost use Rattle.agg_pages.specs.Input.{AreNoInput, IsInput, IsInputOfLines, IsNoInputOf};
+ghost use Rattle.agg_pages.specs.Input.{input_of};
 
 use crate::source::MAX_INPUT_BYTES;
 use agg_engine::Snapshot;
-use agg_request::ReadError;
+use agg_request::{Named, NamedBuilder, ReadError};
 use agg_segment::BuildError;
 use agg_values::{ItemList, OutOfMemory};
 pub use header::Header;
@@ -102,38 +102,48 @@ impl From<ReadError> for InputError {
 
 /// A request over snapshots.
 #[derive(Drop)]
-pub struct Input {
-    pub header: Header,
+pub struct Input<B = NamedBuilder> {
+    pub header: Header<B>,
     pub snapshots: ItemList<Snapshot>,
 }
 
-/// The input that bytes stand for.
-pub fn read_input(alloc: Global, bytes: &[u8]) -> Result<Input, InputError>
-    ensures ok { IfOk result (λ i. IsInput bytes.now (input_of i)) }
+/// The input that bytes stand for. The builders are those that a header may ask for.
+pub fn read_input<B: Named>(
+    alloc: Global,
+    builders: Vec<B>,
+    bytes: &[u8],
+) -> Result<Input<B>, InputError>
+    ensures ok { IfOk result (λ i. IsInput builders.items B.name_of bytes.now (input_of i)) }
     ensures form { IfOk result
         (λ i. IsOneComposite i.header.request) }
-    ensures not_input { IsErrOf result InputError.NotInput → AreNoInput bytes.now }
+    ensures not_input { IsErrOf result InputError.NotInput
+        → AreNoInput builders.items B.name_of bytes.now }
 {
     if bytes.len() > MAX_INPUT_BYTES {
         return Err(InputError::NotInput);
     }
     match from_utf8(bytes) {
-        Ok(text) => read_lines(alloc, Lines::new(text)),
+        Ok(text) => read_lines(alloc, builders, Lines::new(text)),
         Err(_) => Err(InputError::NotInput),
     }
 }
 
 // The input of lines.
-fn read_lines(alloc: Global, lines: Lines<'_>) -> Result<Input, InputError>
-    ensures ok { IfOk result (λ i. IsInputOfLines lines.entry (input_of i)) }
+fn read_lines<B: Named>(
+    alloc: Global,
+    builders: Vec<B>,
+    lines: Lines<'_>,
+) -> Result<Input<B>, InputError>
+    ensures ok { IfOk result
+        (λ i. IsInputOfLines builders.items B.name_of lines.entry (input_of i)) }
     ensures form { IfOk result
         (λ i. IsOneComposite i.header.request) }
     ensures not_input { IsErrOf result InputError.NotInput
-        → (i : Meant) → ¬ IsInputOfLines lines.entry i }
+        → IsNoInputOf builders.items B.name_of lines.entry }
 {
     let mut lines = lines;
     let first = lines.next().ok_or(InputError::NotInput)?;
-    let header = read_header(alloc, first)?;
+    let header = read_header(alloc, builders, first)?;
     let snapshots = read_snapshots(alloc, lines)?;
     Ok(Input { header, snapshots })
 }

@@ -28,7 +28,7 @@ use std::marker::Brand;
 use std::sync::ledger::{Blank, Ledger};
 
 /// Does all that the program does. `words` are its arguments without its name; the builders are
-/// given up unasked, since no request asks for one yet.
+/// those that filters of a request may ask for.
 pub fn run<R: Source, W: Sink, L: Ledger>(
     alloc: Global,
     words: &[Text],
@@ -37,14 +37,13 @@ pub fn run<R: Source, W: Sink, L: Ledger>(
     sink: &mut W,
     steps: &mut Steps<L>,
 ) -> Status
-    ensures { IsAnswered (command words.now result)
+    ensures { IsAnswered builders.items (λ b. b.name) (command words.now result)
         (over R.left R.faults source.old source.new) (over W.held W.faults sink.old sink.new) }
 {
-    drop(builders);
     if !is_walk(words) {
         return Status::Usage;
     }
-    match answer(alloc, source, steps) {
+    match answer(alloc, builders, source, steps) {
         Ok(reply) => deliver(sink, &reply),
         Err(status) => status,
     }
@@ -58,7 +57,7 @@ pub fn run_uncounted<R: Source, W: Sink>(
     source: &mut R,
     sink: &mut W,
 ) -> Status
-    ensures { IsAnswered (command words.now result)
+    ensures { IsAnswered builders.items (λ b. b.name) (command words.now result)
         (over R.left R.faults source.old source.new) (over W.held W.faults sink.old sink.new) }
 {
     run_over::<R, W, Brand>(alloc, words, builders, source, sink, Blank::new(1))
@@ -76,7 +75,7 @@ fn run_over<R: Source, W: Sink, L: Ledger>(
     requires name { blank.name ≡ L.name }
     requires parts { blank.parts ≡ L.parts }
     requires shared { 0 < L.parts }
-    ensures { IsAnswered (command words.now result)
+    ensures { IsAnswered builders.items (λ b. b.name) (command words.now result)
         (over R.left R.faults source.old source.new) (over W.held W.faults sink.old sink.new) }
 {
     let mut steps: Steps<L> = Steps::new(blank);
@@ -102,22 +101,24 @@ fn is_walk(words: &[Text]) -> bool
 // The answer to the bytes that a source has left, or the status where there is none.
 fn answer<R: Source, L: Ledger>(
     alloc: Global,
+    builders: Vec<NamedBuilder>,
     source: &mut R,
     steps: &mut Steps<L>,
 ) -> Result<Reply, Status>
     ensures ok { IfOk result
-        (λ reply. (i : Meant) × GaveInput (over R.left R.faults source.old source.new) i
+        (λ reply. (i : Meant _)
+        × GaveInput builders.items (λ b. b.name) (over R.left R.faults source.old source.new) i
         × IsReply reply.refused i (string_bytes reply.text)) }
     ensures kinds { IfErr result (λ status. (status ≡ Status.Input)
         ⊎ ((status ≡ Status.ReadFault) ⊎ (status ≡ Status.OutOfMemory))) }
     ensures no_input { result ≡ Err Status.Input
-        → HadNoInput (over R.left R.faults source.old source.new) }
+        → HadNoInput builders.items (λ b. b.name) (over R.left R.faults source.old source.new) }
     ensures read_fault { result ≡ Err Status.ReadFault
         → Rose (R.faults source.old) (R.faults source.new) }
     ensures taken { TakesAtMost (max_input_bytes + 1) (R.left source.old) (R.left source.new) }
 {
     let bytes = read_all(alloc, source)?;
-    let input = read_input(alloc, &bytes)?;
+    let input = read_input(alloc, builders, &bytes)?;
     Ok(reply_to(alloc, &input, steps)?)
 }
 

@@ -6,7 +6,7 @@ use Rattle.agg_embedding.proofs.NoPages.{no_pages}
 use Rattle.agg_embedding.proofs.pages_of.Goals as goal
 
 pub returns-in-Ok-clause-pages : goal.returns-in-Ok-clause-pages
-returns-in-Ok-clause-pages c =
+returns-in-Ok-clause-pages g c =
     let (i, (given, gives, reads), (text, walk, appended)) =
     c.run_uncounted.ensures.ok c.in-Ok.is in
     let told : given ≡ c.args.bytes.items =
@@ -14,16 +14,19 @@ returns-in-Ok-clause-pages c =
     let written : c.run_uncounted.new.sink.bytes ≡ text = appended
     ∙ ap (λ sink. sink.bytes ++ text) c.in_ok-sink.ensures in (
       i,
-      subst (λ bytes. IsInput bytes i) told reads,
+      subst (λ bytes. IsInput c.args.builders.items (λ b. b.name) bytes i) told reads,
       subst (IsPrintedWalk i) (sym written) walk,
     )
 
 pub returns : goal.returns
-returns c =
+returns g c =
     record {
       pages = tt;
-      cause = subst (λ bytes. HaveNoPages bytes c.run_uncounted.result) c.new-source.ensures
-          (no_pages _ c.new-source.result _ _ c.run_uncounted.result
+      cause = subst (λ bytes. HaveNoPages c.args.builders.items (λ b. b.name) bytes
+          c.run_uncounted.result)
+          c.new-source.ensures
+          (no_pages c.args.builders.items (λ b. b.name) _ c.new-source.result _ _
+              c.run_uncounted.result
           (ap (λ word. word ∷ []) c.in_ok-copy_of.ensures) c.in_default.not-Ok
           c.run_uncounted.ensures);
     }

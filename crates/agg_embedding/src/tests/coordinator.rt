@@ -35,8 +35,11 @@ fn request_of(alloc: Global, name: &str, size: u32) -> Result<Aggregations, Fail
         size,
         after: NameMap::new(alloc),
     };
-    let agg = AggregationVariants::Composite(composite);
-    request.insert(Text::copy_of(alloc, name)?, Aggregation { agg })?;
+    let aggregation = Aggregation {
+        agg: AggregationVariants::Composite(composite),
+        sub_aggregation: NameMap::new(alloc),
+    };
+    request.insert(Text::copy_of(alloc, name)?, aggregation)?;
     Ok(request)
 }
 

@@ -1,58 +1,69 @@
 //! The header: what a walk is asked for.
-ghost use Rattle.std.specs.Prelude.{◌≡◌, ◌≤◌, ℕ, Option, Some, None, IfOk, IsErrOf, codes, false};
+ghost use Rattle.std.specs.Prelude.{◌≡◌, ◌≤◌, ℕ, Option, Some, None, IfOk, IsErrOf, MatchBool};
+ghost use Rattle.std.specs.Prelude.{codes};
 ghost use Rattle.std.specs.Prelude.{option_and_then};
 ghost use Rattle.serde_json.specs.Find.{as_str, get};
 ghost use Rattle.serde_json.specs.View.{view};
 ghost use Rattle.agg_segment.specs.declared.query.QueryTree.{QueryTree as Tree};
-ghost use Rattle.agg_request.specs.CompositeJson.{IsCompositeJson};
-ghost use Rattle.agg_request.specs.Request.{Request};
-ghost use Rattle.agg_pages.specs.declared.input.header.Header.{Header as Read};
-ghost use Rattle.agg_pages.specs.Header.{IsHeader, IsHeaderLine, IsQueryOf, IsRequest, IsRequestAt};
-ghost use Rattle.agg_pages.specs.Header.{IsBucketLimitOf, IsNoComposite, counted_member};
-ghost use Rattle.agg_pages.specs.Header.{header_members, texts_of};
+ghost use Rattle.agg_request.specs.Request.{IsPlainComposite};
+ghost use Rattle.agg_engine.specs.Form.{IsOneComposite};
+ghost use Rattle.agg_pages.specs.Header.{IsBucketLimitOf, IsHeader, IsHeaderLine, IsNoHeader};
+ghost use Rattle.agg_pages.specs.Header.{IsNoHeaderLine, IsNoRequestAt, IsNoRequestOf, IsQueryOf};
+ghost use Rattle.agg_pages.specs.Header.{IsRequest, IsRequestAt, counted_member, header_members};
+ghost use Rattle.agg_pages.specs.Header.{texts_of};
 
 use super::InputError;
 use super::value::parse;
-use agg_request::json_value::{has_members, only_member, only_named, read_text, small_number};
+use agg_request::json_value::{has_members, read_text, small_number};
 use agg_request::{
-    Aggregation, AggregationVariants, Aggregations, CompositeAggregation, read_composite,
-    read_query,
+    Aggregation, AggregationVariants, Named, NamedBuilder, read_query, read_request,
 };
 use agg_segment::{QueryTree, Schema};
 use agg_values::{NameMap, Text};
 use serde_json::Value;
 use std::alloc::Global;
 
-/// What a walk is asked for.
+/// What a walk is asked for. `B` makes the queries of filters that have none of their own.
 #[derive(Drop)]
-pub struct Header {
-    pub request: Aggregations,
+pub struct Header<B = NamedBuilder> {
+    pub request: NameMap<Aggregation<B>>,
     pub name: Text,
     pub schema: Schema,
     pub query: QueryTree,
     pub bucket_limit: Option<u32>,
 }
 
-/// The header of a line.
-pub fn read_header(alloc: Global, line: &str) -> Result<Header, InputError>
-    ensures ok { IfOk result (λ header. IsHeaderLine line.now header) }
+/// The header of a line. A filter of its request takes the first unused builder of the name that it
+/// asks for.
+pub fn read_header<B: Named>(
+    alloc: Global,
+    builders: Vec<B>,
+    line: &str,
+) -> Result<Header<B>, InputError>
+    ensures ok { IfOk result
+        (λ header. IsHeaderLine builders.items B.name_of line.now header) }
     ensures not_input { IsErrOf result InputError.NotInput
-        → (header : Read) → ¬ IsHeaderLine line.now header }
+        → IsNoHeaderLine builders.items B.name_of line.now }
 {
     let value = parse(alloc, line)?;
-    header_of_value(alloc, &value)
+    header_of_value(alloc, builders, &value)
 }
 
 // Exactly a request, a name and a schema, and a query and a bucket limit if there are any.
-fn header_of_value(alloc: Global, value: &Value) -> Result<Header, InputError>
-    ensures ok { IfOk result (λ header. IsHeader (view value.now) header) }
+fn header_of_value<B: Named>(
+    alloc: Global,
+    builders: Vec<B>,
+    value: &Value,
+) -> Result<Header<B>, InputError>
+    ensures ok { IfOk result
+        (λ header. IsHeader builders.items B.name_of (view value.now) header) }
     ensures not_input { IsErrOf result InputError.NotInput
-        → (header : Read) → ¬ IsHeader (view value.now) header }
+        → IsNoHeader builders.items B.name_of (view value.now) }
 {
     if !has_members(value, header_members(value)) {
         return Err(InputError::NotInput);
     }
-    let request = request_in(alloc, value)?;
+    let request = request_in(alloc, builders, value)?;
     let name = name_in(alloc, value)?;
     let schema = schema_in(alloc, value)?;
     let query = query_of(alloc, value)?;
@@ -67,13 +78,17 @@ fn header_of_value(alloc: Global, value: &Value) -> Result<Header, InputError>
 }
 
 // The request of a header.
-fn request_in(alloc: Global, value: &Value) -> Result<Aggregations, InputError>
-    ensures ok { IfOk result
-        (λ request. IsRequestAt (get (codes "request") (view value.now)) request) }
+fn request_in<B: Named>(
+    alloc: Global,
+    builders: Vec<B>,
+    value: &Value,
+) -> Result<NameMap<Aggregation<B>>, InputError>
+    ensures ok { IfOk result (λ request. IsRequestAt builders.items B.name_of
+        (get (codes "request") (view value.now)) request) }
     ensures not_input { IsErrOf result InputError.NotInput
-        → (request : Request) → ¬ IsRequestAt (get (codes "request") (view value.now)) request }
+        → IsNoRequestAt builders.items B.name_of (get (codes "request") (view value.now)) }
 {
-    read_request(alloc, member(value, "request")?)
+    request_of(alloc, builders, member(value, "request")?)
 }
 
 // The name of a header.
@@ -152,27 +167,44 @@ fn text_of(alloc: Global, value: &Value) -> Result<Text, InputError>
     read_text(alloc, value)?.ok_or(InputError::NotInput)
 }
 
-// One name, whose one member is a composite.
-fn read_request(alloc: Global, value: &Value) -> Result<Aggregations, InputError>
-    ensures ok { IfOk result (λ request. IsRequest (view value.now) request) }
+// A request of the form that a walk takes.
+fn request_of<B: Named>(
+    alloc: Global,
+    builders: Vec<B>,
+    value: &Value,
+) -> Result<NameMap<Aggregation<B>>, InputError>
+    ensures ok { IfOk result (IsRequest builders.items B.name_of (view value.now)) }
     ensures not_input { IsErrOf result InputError.NotInput
-        → (request : Request) → ¬ IsRequest (view value.now) request }
+        → IsNoRequestOf builders.items B.name_of (view value.now) }
 {
-    let (name, kind) = only_member(value).ok_or(InputError::NotInput)?;
-    let body = only_named(kind, "composite").ok_or(InputError::NotInput)?;
-    let composite = composite_of(alloc, body)?;
-    let agg = AggregationVariants::Composite(composite);
-    let mut request = NameMap::new(alloc);
-    request.insert(Text::copy_of(alloc, name)?, Aggregation { agg })?;
+    let request = read_request(alloc, value, builders)?;
+    if !is_one_composite(&request) {
+        return Err(InputError::NotInput);
+    }
     Ok(request)
 }
 
-// The composite of a body.
-fn composite_of(alloc: Global, body: &Value) -> Result<CompositeAggregation, InputError>
-    ensures ok { IfOk result (λ composite. IsCompositeJson false (view body.now) composite) }
-    ensures not_input { IsErrOf result InputError.NotInput → IsNoComposite (view body.now) }
+// Whether a request has the form that a walk takes: one composite, with none below it.
+fn is_one_composite<B>(request: &NameMap<Aggregation<B>>) -> bool
+    ensures { MatchBool result (IsOneComposite request.now) (¬ (IsOneComposite request.now)) }
 {
-    Ok(read_composite(alloc, body)?)
+    let mut aggregations = request.iter();
+    let Some((_, first)) = aggregations.next() else {
+        return false;
+    };
+    if aggregations.next().is_some() {
+        return false;
+    }
+    is_plain(first)
+}
+
+// Whether an aggregation is a composite with none below it.
+fn is_plain<B>(aggregation: &Aggregation<B>) -> bool
+    ensures { MatchBool result (IsPlainComposite aggregation.now)
+        (¬ (IsPlainComposite aggregation.now)) }
+{
+    matches!(aggregation.agg, AggregationVariants::Composite(_))
+        && aggregation.sub_aggregation.is_empty()
 }
 
 // An array of texts.

@@ -36,7 +36,7 @@ const HEADERS: [(&str, bool); 16] = [
 ];
 
 // Requests, and whether they are such.
-const REQUESTS: [(&str, bool); 9] = [
+const REQUESTS: [(&str, bool); 12] = [
     (r#"{"a":{"composite":{"sources":[],"size":0}}}"#, true),
     (
         r#"{"a":{"composite":{"sources":[],"size":1,"after":{"b":"bool:true"},"more":1}}}"#,
@@ -53,9 +53,15 @@ const REQUESTS: [(&str, bool); 9] = [
     (r#"{"a":{"composite":{"sources":[]}}}"#, false),
     (
         r#"{"a":{"composite":{"sources":[],"size":1},"aggs":{}}}"#,
+        true,
+    ),
+    (
+        r#"{"a":{"composite":{"sources":[],"size":1},"aggs":{"n":{"max":{"field":"b"}}}}}"#,
         false,
     ),
     (r#"{"a":{"filter":{"all":{}}}}"#, false),
+    (r#"{"a":{"filter":{"builder":"any_field"}}}"#, false),
+    (r#"{"a":{"value_count":{"field":"b"}}}"#, false),
     (
         r#"{"a":{"composite":{"sources":[],"size":1}},"b":{}}"#,
         false,
@@ -141,12 +147,18 @@ fn expected(is_input: bool) -> Option<InputError> {
     }
 }
 
+// The input of a text, for a program without builders.
+fn read_text(alloc: Global, text: &str) -> Result<Input, InputError> {
+    let builders: Vec<NamedBuilder> = Vec::new(alloc);
+    read_input(alloc, builders, text.as_bytes())
+}
+
 #[test]
 fn reads(rt: HostRuntime) -> Result<(), Fail> {
     let text = format!(in rt.alloc();
         "\n{REQUEST}{SCHEMA}\r\nsnapshot 2\n{{\"A\":1,\"B\":[2,-3]}}\n \t\n{{}}\nsnapshot 07\n"
     )?;
-    let input = read_input(rt.alloc(), text.as_bytes())?;
+    let input = read_text(rt.alloc(), &text)?;
     assert_eq!(rt; input.header.request.len(), 1);
     assert_eq!(rt; input.header.schema.fields().len(), 1);
     let snapshots = input.snapshots.as_slice();
@@ -164,7 +176,7 @@ fn reads_segments(rt: HostRuntime) -> Result<(), Fail> {
     let alloc = rt.alloc();
     for (lines, counts) in SEGMENTS {
         let text = format!(in alloc; "{REQUEST}{SCHEMA}\nsnapshot 1\n{lines}")?;
-        let input = read_input(alloc, text.as_bytes())?;
+        let input = read_text(alloc, &text)?;
         let snapshots = input.snapshots.as_slice();
         assert_eq!(rt; snapshots.len(), 1, "at {lines}");
         let mut found = Vec::new(alloc);
@@ -181,7 +193,7 @@ fn reads_every_kind_of_value(rt: HostRuntime) -> Result<(), Fail> {
     let alloc = rt.alloc();
     let document = r#"{"B":[{"dt":1},{"ip":"::"},1,"a",null,true]}"#;
     let text = format!(in alloc; "{REQUEST}{SCHEMA}\nsnapshot 1\n{document}")?;
-    let input = read_input(alloc, text.as_bytes())?;
+    let input = read_text(alloc, &text)?;
     let snapshots = input.snapshots.as_slice();
     assert_eq!(rt; snapshots.len(), 1);
     let segments = snapshots[0].segments.as_slice();
@@ -207,26 +219,26 @@ fn tells_what_is_an_input(rt: HostRuntime) -> Result<(), Fail> {
     let alloc = rt.alloc();
     for (behind, is_input) in HEADERS {
         let text = format!(in alloc; "{REQUEST}{behind}")?;
-        let read = read_input(alloc, text.as_bytes());
+        let read = read_text(alloc, &text);
         assert_eq!(rt; read.err(), expected(is_input), "at {behind}");
     }
     for (request, is_input) in REQUESTS {
         let text = format!(in alloc; "{{\"request\":{request},\"name\":\"a\"{SCHEMA}")?;
-        let read = read_input(alloc, text.as_bytes());
+        let read = read_text(alloc, &text);
         assert_eq!(rt; read.err(), expected(is_input), "at {request}");
     }
     for (behind, is_input) in DOCUMENTS {
         let text = format!(in alloc; "{REQUEST}{SCHEMA}\nsnapshot 1\n{behind}")?;
-        let read = read_input(alloc, text.as_bytes());
+        let read = read_text(alloc, &text);
         assert_eq!(rt; read.err(), expected(is_input), "at {behind}");
     }
     for behind in BEHIND {
         let text = format!(in alloc; "{REQUEST}{SCHEMA}\n{behind}")?;
-        let read = read_input(alloc, text.as_bytes());
+        let read = read_text(alloc, &text);
         assert_eq!(rt; read.err(), Some(InputError::NotInput), "at {behind}");
     }
     for text in ["", "\n", "{\"byA\"", "snapshot 1"] {
-        let read = read_input(alloc, text.as_bytes());
+        let read = read_text(alloc, text);
         assert_eq!(rt; read.err(), Some(InputError::NotInput), "at {text}");
     }
     Ok(())

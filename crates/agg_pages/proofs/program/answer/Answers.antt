@@ -16,7 +16,7 @@ returns-in_err-bytes-clause-no_input g c =
     let error : c.in_err-bytes.field-0.0 ≡ TooLong = too_long-from_status c.in_err-bytes.field-0.0
     (sym p.2 ∙ status) in
     let long = c.in_err-bytes.ensures.too_long (ap Err error) bytes told in
-    (too_long bytes long.0, inr long)
+    (too_long c.args.builders.items (λ b. b.name) bytes long.0, inr long)
 
 pub returns-in_err-input-clause-no_input : goal.returns-in_err-input-clause-no_input
 returns-in_err-input-clause-no_input g c =
@@ -27,7 +27,7 @@ returns-in_err-input-clause-no_input g c =
     let error : c.in_err-input.field-0.0 ≡ NotInput = not_input-from_status
     c.in_err-input.field-0.0 (sym p.2 ∙ status) in
     let gave = c.in_ok-bytes.ensures.ok bytes told in (
-      subst AreNoInput (c.deref.ensures.value ∙ gave.0)
+      subst (AreNoInput c.args.builders.items (λ b. b.name)) (c.deref.ensures.value ∙ gave.0)
           (c.in_err-input.ensures.not_input (ap Err error)),
       inl gave.1,
     )
@@ -39,7 +39,8 @@ returns-clause-ok g c =
       (
         c.in_ok-bytes.bytes.items,
         c.in_ok-bytes.ensures.ok,
-        subst (λ bytes. IsInput bytes i) c.deref.ensures.value c.in_ok-input.ensures.ok,
+        subst (λ bytes. IsInput c.args.builders.items (λ b. b.name) bytes i) c.deref.ensures.value
+            c.in_ok-input.ensures.ok,
       ),
       c.in_ok-reply_to.ensures,
     )

@@ -8,12 +8,12 @@ pub returns-in-Ok : goal.returns-in-Ok
 returns-in-Ok g c =
     let reply = c.in-Ok.reply in
     let text = string_bytes reply.text in
-    let (i, gave, replied) = c.in-Ok.ensures.ok in
+    let (i, (given, gives, reads), replied) = c.in-Ok.ensures.ok in
     let written = c.deliver.ensures in
     record {
       ok = λ is. (
         i,
-        gave,
+        (given, gives, reads),
         (
           text,
           subst (λ refused. IsReply refused i text) (written.ok is).0
@@ -26,7 +26,7 @@ returns-in-Ok g c =
       no_input = search rules;
       refused = λ is. (
         i,
-        gave,
+        (given, gives, reads),
         (
           text,
           subst (λ refused. IsReply refused i text)
@@ -38,7 +38,7 @@ returns-in-Ok g c =
       prefix = λ is.
           let count = (written.prefix is).0 in (
             i,
-            gave,
+            (given, gives, reads),
             (
               take count text,
               (
@@ -53,8 +53,8 @@ returns-in-Ok g c =
       quiet = search rules;
       taken = c.in-Ok.ensures.taken;
       complete = λ walk (bytes, j, told, is, valid) no_read_fault no_write_fault.
-          let (given, gives, reads) = gave in
-          let same = given_input _ _ given bytes i j gives told reads is in
+          let same =
+          given_input c.args.builders.items (λ b. b.name) _ _ given bytes i j gives told reads is in
           elim written.kinds [
             | inl ok ↦ inl ok
             | inr other ↦ elim other [
