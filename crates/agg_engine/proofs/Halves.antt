@@ -23,8 +23,9 @@ use Rattle.agg_results.specs.Merging.{AreMerged, CountsPass, ShapesDiffer, SomeO
 use Rattle.agg_results.specs.declared.intermediate.results.IntermediateAggregationResults as held
 use held.{IntermediateAggregationResults}
 use Rattle.agg_results.proofs.StandingResults.{StandsFor-alike, StandsFor-few, StandsFor-joined}
+use Rattle.agg_request.proofs.RequestTrees.{agg-made}
 use Rattle.agg_engine.specs.PageAnswers.{AnswersHeld, asked}
-use Rattle.agg_engine.proofs.OneRequest.{agg-made, at_size, going_on}
+use Rattle.agg_engine.proofs.OneRequest.{at_size, going_on}
 
 -- the documents of segments that match
 abbrev pub matching_in : QueryTree → List Stored → List Fields

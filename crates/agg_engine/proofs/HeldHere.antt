@@ -33,10 +33,11 @@ use Rattle.agg_results.proofs.FinalPages.{final-shown}
 use Rattle.agg_results.proofs.NameLookups.{found-name}
 use Rattle.agg_results.proofs.ShownBuckets.{shown-buckets}
 use Rattle.agg_results.proofs.StandingFinal.{StandsFor-shapes}
+use Rattle.agg_request.proofs.RequestTrees.{agg-made}
 use Rattle.agg_engine.specs.PageAnswers.{asked}
 use Rattle.agg_engine.specs.Snapshot.{SnapshotDocuments}
 use Rattle.agg_engine.specs.Walk.{matching_documents}
-use Rattle.agg_engine.proofs.OneRequest.{agg-made, at_size, going_on, one}
+use Rattle.agg_engine.proofs.OneRequest.{at_size, going_on, one}
 use Rattle.agg_engine.proofs.PageHere.{IsPageHere, asked-page, asked_here, results_of}
 use Rattle.agg_engine.proofs.PageHere.{shown-here}
 

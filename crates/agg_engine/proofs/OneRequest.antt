@@ -13,8 +13,6 @@ use Rattle.agg_values.specs.Names.{Named, name_cmp, value_of}
 use Rattle.agg_values.specs.Tuple.{KeyTuple}
 use Rattle.agg_values.specs.declared.after_key.AfterKey.{AfterKey}
 use Rattle.agg_request.specs.declared.aggregation.Aggregation.{Aggregation}
-use Rattle.agg_request.specs.declared.aggregation.Aggregation.TheViews as views
-use views.{out-roll-Aggregation, roll-out-Aggregation}
 use Rattle.agg_request.specs.declared.aggregation.CompositeAggregation.{CompositeAggregation}
 use Rattle.agg_request.specs.declared.aggregation.AggregationVariants.{AggregationVariants}
 use Rattle.agg_request.specs.declared.aggregation.AggregationVariants.TheVariants.{Composite}
@@ -23,32 +21,11 @@ use Rattle.agg_request.specs.Faults.{IsSound, IsSoundRequest}
 use Rattle.agg_request.specs.Request.{Request, agg_of, aggregation_of, below_of, composites_in}
 use Rattle.agg_request.specs.Request.{composites_of}
 use Rattle.agg_request.proofs.PageFromGroups.{equal-from_is_eq}
-use Rattle.agg_request.proofs.RequestTrees.{composites-plain}
+use Rattle.agg_request.proofs.RequestTrees.{agg-made, below-made, composites-plain}
+use Rattle.agg_request.proofs.RequestTrees.{made-of_parts}
 use Rattle.agg_engine.specs.NamedComposite.{IsCompositeNamed}
 use Rattle.agg_engine.specs.Walk.{changed, request_with, request_behind, request_at_size}
 use Rattle.agg_engine.specs.Walk.{with_after, with_size}
-
--- ---- the parts of an aggregation
-
-module _ {B : Type 0} where
-  -- what an aggregation of these parts asks
-  pub agg-made : (agg : AggregationVariants B) (below : Request B)
-      → agg_of (aggregation_of agg below) ≡ agg
-  agg-made agg below =
-      ap (λ a. a.agg) (out-roll-Aggregation B (record { agg = agg; sub_aggregation = below }))
-
-  -- and what is below it
-  pub below-made : (agg : AggregationVariants B) (below : Request B)
-      → below_of (aggregation_of agg below) ≡ below
-  below-made agg below =
-      ap (λ a. a.sub_aggregation)
-      (out-roll-Aggregation B (record { agg = agg; sub_aggregation = below }))
-
-  -- an aggregation is that of its parts
-  pub made-of_parts : (a : Aggregation B) (agg : AggregationVariants B) (below : Request B)
-      → agg_of a ≡ agg → below_of a ≡ below → a ≡ aggregation_of agg below
-  made-of_parts a agg below is none =
-      sym (roll-out-Aggregation B a) ∙ (λ i. aggregation_of (is i) (none i))
 
 -- ---- a request of one composite
 

@@ -19,10 +19,10 @@ use Rattle.agg_request.proofs.PageExists.{page_exists}
 use Rattle.agg_request.proofs.PageUnique.{IsPage-same}
 use Rattle.agg_results.specs.Results.{CompositeResult, IsCompositeResult, IsResult, IsResults}
 use Rattle.agg_results.specs.Results.{Results, after_in, after_tuple}
+use Rattle.agg_request.proofs.RequestTrees.{agg-made, below-made}
 use Rattle.agg_engine.specs.Snapshot.{SnapshotDocuments}
 use Rattle.agg_engine.specs.Walk.{IsWalk, changed, matching_documents, request_at_size}
 use Rattle.agg_engine.specs.Walk.{request_behind, request_with, with_after, with_size}
-use Rattle.agg_engine.proofs.OneRequest.{agg-made, below-made}
 use Rattle.agg_values.specs.Names.{name_cmp}
 use Rattle.agg_values.specs.Tuple.{KeyTuple}
 

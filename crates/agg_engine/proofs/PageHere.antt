@@ -18,13 +18,14 @@ use Rattle.agg_request.specs.declared.aggregation.CompositeAggregation.{Composit
 use Rattle.agg_results.specs.Results.{CompositeResult, IsCompositeResult, IsResult, IsResults}
 use Rattle.agg_results.specs.Results.{Results, after_in, after_tuple, buckets_in}
 use Rattle.agg_results.specs.ShownResults.{shown_composite, shown_result, shown_results}
+use Rattle.agg_request.proofs.RequestTrees.{agg-made}
 use Rattle.agg_engine.specs.PageAnswers.{asked_with}
 use Rattle.agg_engine.specs.Refusals.{AreRefused}
 use Rattle.agg_engine.specs.Snapshot.{SnapshotDocuments}
 use Rattle.agg_engine.specs.Walk.{HasOutOfRange, HasTooMany, matching_documents, request_at_size}
 use Rattle.agg_engine.specs.declared.walk.error.WalkError.{WalkError}
 use Rattle.agg_engine.specs.declared.walk.error.WalkError.TheVariants as error
-use Rattle.agg_engine.proofs.OneRequest.{agg-made, at_size, going_on, one, one_from}
+use Rattle.agg_engine.proofs.OneRequest.{at_size, going_on, one, one_from}
 use Rattle.agg_engine.proofs.OneRequest.{one_from-sized, value-own}
 use Rattle.agg_engine.proofs.OneWalk.{results-same}
 

@@ -25,10 +25,11 @@ use Rattle.agg_results.specs.StandsFor.{StandsFor}
 use Rattle.agg_results.specs.declared.intermediate.results.IntermediateAggregationResults as held
 use held.{IntermediateAggregationResults}
 use Rattle.agg_results.proofs.StandingComposites.{counts-plain, entries-plain, stands-made}
+use Rattle.agg_request.proofs.RequestTrees.{agg-made}
 use Rattle.agg_engine.specs.PageAnswers.{AnswersHeld, IsHeldRefusal, asked}
 use Rattle.agg_engine.specs.declared.walk.error.WalkError.{WalkError}
 use Rattle.agg_engine.specs.declared.walk.error.WalkError.TheVariants.{OutOfMemory}
-use Rattle.agg_engine.proofs.OneRequest.{agg-made, at_size, going_on, value-own}
+use Rattle.agg_engine.proofs.OneRequest.{at_size, going_on, value-own}
 
 module _ (name : List ℕ) (composite : CompositeAggregation) (size : ℕ) (after : Named AfterKey)
     (documents : List Fields) where

@@ -30,6 +30,7 @@ use Rattle.agg_results.specs.StandsFor.{StandsFor}
 use Rattle.agg_results.specs.declared.intermediate.results.IntermediateAggregationResults as held
 use held.{IntermediateAggregationResults}
 use Rattle.agg_results.specs.declared.results.types.AggregationResults.{AggregationResults}
+use Rattle.agg_request.proofs.RequestTrees.{made-of_parts}
 use Rattle.agg_engine.specs.Form.{IsOneComposite}
 use Rattle.agg_engine.specs.NamedComposite.{IsCompositeNamed}
 use Rattle.agg_engine.specs.PageAnswers.{AnswersHeld, AreFew, IsFinalRefusal, IsHeldRefusal, asked}
@@ -43,7 +44,7 @@ use Rattle.agg_engine.specs.declared.walk.error.WalkError.{WalkError}
 use Rattle.agg_engine.specs.declared.walk.error.WalkError.TheVariants as error
 use Rattle.agg_engine.proofs.AfterKeys.{HasNoNull, MayGoOnFrom-own}
 use Rattle.agg_engine.proofs.HeldHere.{held-alike, held-buckets, held-final, held-known, page_here}
-use Rattle.agg_engine.proofs.OneRequest.{made-of_parts, named-one, one, sound-one}
+use Rattle.agg_engine.proofs.OneRequest.{named-one, one, sound-one}
 use Rattle.agg_engine.proofs.PageBound.{IsShown, after-occurs, after_map-some, shown-none}
 use Rattle.agg_engine.proofs.PageBound.{shown-some, shown_after-page}
 use Rattle.agg_engine.proofs.PageHere.{AreRefusedHere, HasOwnTooMany, IsPageHere, refused-buckets}

@@ -13,13 +13,14 @@ use Rattle.agg_values.specs.declared.order.Order.{Order}
 use Rattle.agg_values.specs.declared.order.Order.TheVariants.{Asc, Desc}
 use Rattle.agg_values.specs.declared.order.MissingOrder.{MissingOrder}
 use Rattle.agg_values.specs.declared.order.MissingOrder.TheVariants.{Default, First, Last}
-use Rattle.agg_request.specs.CompositeJson.{AreSources, EachNamedIs, IsAfter, IsCompositeJson}
-use Rattle.agg_request.specs.CompositeJson.{IsDateHistogramBody, IsFlag, IsGiven, IsHistogramBody}
+use Rattle.agg_request.specs.CompositeJson.{AreSources, IsAfter, IsCompositeJson}
+use Rattle.agg_request.specs.CompositeJson.{IsDateHistogramBody, IsFlag, IsHistogramBody}
 use Rattle.agg_request.specs.CompositeJson.{IsInterval, IsKeyJson, IsSize, IsSourceJson}
 use Rattle.agg_request.specs.CompositeJson.{IsSourceOfKind, IsTermsBody, IsWordOr}
 use Rattle.agg_request.specs.CompositeJson.{missing_order_word, order_word, unit_word}
-use Rattle.agg_request.specs.Json.{only_member, only_named, present, small_number, whole_number}
-use Rattle.agg_request.specs.Query.{EachIs, IsUnsupportedText}
+use Rattle.agg_request.specs.Json.{EachIs, EachNamedIs, IsGiven, only_member, only_named, present}
+use Rattle.agg_request.specs.Json.{small_number, whole_number}
+use Rattle.agg_request.specs.Query.{IsUnsupportedText}
 use Rattle.agg_request.specs.declared.aggregation.CompositeAggregation.{CompositeAggregation}
 use Rattle.agg_request.specs.declared.source.CompositeAggregationSource as any_source
 use any_source.{CompositeAggregationSource}

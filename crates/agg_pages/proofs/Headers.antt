@@ -39,8 +39,7 @@ module _ {B : Type 0} (builders : List B) (name_of : B → List ℕ) where
       made-of_parts made (Composite composite) [] (a_asks ∙ ap (λ c. Composite c) composites)
       a_none in
       let own : first ≡ aggregation_of (Composite composite) [] =
-      made-of_parts first (Composite composite) [] asks none in
-      (
+      made-of_parts first (Composite composite) [] asks none in (
         (name, made, found, a_is, a_asks, a_none),
         a_is ∙ ap (λ x. (name, x) ∷ []) (mine ∙ sym own) ∙ sym is,
       )

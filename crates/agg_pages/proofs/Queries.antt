@@ -15,8 +15,9 @@ use Rattle.agg_segment.specs.declared.query.RangeBound.TheVariants.{Unbounded, I
 use Rattle.agg_segment.specs.declared.query.QueryTree.{QueryTree}
 use Rattle.agg_segment.specs.declared.query.QueryTree.TheVariants.{Term, Range, Exists, Boolean}
 use Rattle.agg_segment.specs.declared.query.QueryTree.TheVariants.{All, Empty}
-use Rattle.agg_request.specs.Query.{EachIs, IsBoolean, IsBound, IsExists, IsFilter, IsList}
-use Rattle.agg_request.specs.Query.{IsOfKind, IsPlain, IsQuery, IsRange, IsTerm, SaysAt, said_key}
+use Rattle.agg_request.specs.Json.{EachIs, IsList}
+use Rattle.agg_request.specs.Query.{IsBoolean, IsBound, IsExists, IsFilter, IsOfKind, IsPlain}
+use Rattle.agg_request.specs.Query.{IsQuery, IsRange, IsTerm, SaysAt, said_key}
 use Rattle.agg_pages.proofs.Documents.{none_is_some, same_value}
 
 -- ---- values

@@ -108,7 +108,7 @@ pub struct Input<B = NamedBuilder> {
 }
 
 /// The input that bytes stand for. The builders are those that a header may ask for.
-pub fn read_input<B: Named>(
+pub fn read_input<B: HasName>(
     alloc: Global,
     builders: Vec<B>,
     bytes: &[u8],
@@ -129,7 +129,7 @@ pub fn read_input<B: Named>(
 }
 
 // The input of lines.
-fn read_lines<B: Named>(
+fn read_lines<B: HasName>(
     alloc: Global,
     builders: Vec<B>,
     lines: Lines<'_>,

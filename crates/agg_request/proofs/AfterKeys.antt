@@ -15,8 +15,8 @@ use Rattle.agg_values.specs.TypedKey.{CompositeIntermediateKey}
 use Rattle.agg_values.specs.declared.after_key.AfterKey.{AfterKey}
 use Rattle.agg_values.specs.declared.error.KeyTextError.{KeyTextError}
 use Rattle.agg_values.specs.declared.error.KeyTextError.TheVariants.{OutOfMemory}
-use Rattle.agg_request.specs.CompositeJson.{EachNamedIs, HasUnsupportedMember, IsKeyJson}
-use Rattle.agg_request.specs.CompositeJson.{IsUnsupportedKey, SaysKey}
+use Rattle.agg_request.specs.CompositeJson.{IsKeyJson, IsUnsupportedKey, SaysKey}
+use Rattle.agg_request.specs.Json.{EachNamedIs, HasUnsupportedMember}
 use Rattle.agg_request.specs.Query.{IsUnsupportedText}
 use Rattle.agg_request.specs.Reading.{IsReading, IsRefusal, refusal_of}
 use Rattle.agg_request.specs.declared.read_error.ReadError.{ReadError}
@@ -50,7 +50,8 @@ pub record IsReadUpTo (all : Members) (done : Named AfterKey) (left : List Entry
       → EachNamedIs (IsKeyJson false) all (done ++ more)
   pub part : (lenient : Bool) (after : Named AfterKey) → EachNamedIs (IsKeyJson lenient) all after
       → (more : Named AfterKey) × EachNamedIs (IsKeyJson lenient) (members_view left) more
-  pub up : HasUnsupportedMember (members_view left) → HasUnsupportedMember all
+  pub up : HasUnsupportedMember IsUnsupportedKey (members_view left)
+      → HasUnsupportedMember IsUnsupportedKey all
   pub ascends : Ascends done left
 
 -- no member is read yet
@@ -104,11 +105,13 @@ pub IsReadUpTo-refused : (all : Members) (done : Named AfterKey) (left : List En
     (result : Result (Named AfterKey) ReadError) → IsReadUpTo all done left
     → left ≡ (name, d) ∷ later → IsErrAnd result (λ e. e ≡ error)
     → IsRefusal (λ lenient. IsKeyJson lenient (view d)) (IsUnsupportedKey (view d)) error
-    → IsReading (λ lenient. EachNamedIs (IsKeyJson lenient) all) (HasUnsupportedMember all) result
+    → IsReading (λ lenient. EachNamedIs (IsKeyJson lenient) all)
+    (HasUnsupportedMember IsUnsupportedKey all) result
 IsReadUpTo-refused all done left name d later error result h e is told =
     let here : IsReadUpTo all done ((name, d) ∷ later) = subst (IsReadUpTo all done) e h in
     refused_by (λ lenient. IsKeyJson lenient (view d)) (IsUnsupportedKey (view d))
-    (λ lenient. EachNamedIs (IsKeyJson lenient) all) (HasUnsupportedMember all) error result is told
+    (λ lenient. EachNamedIs (IsKeyJson lenient) all)
+    (HasUnsupportedMember IsUnsupportedKey all) error result is told
     (λ some. here.up (inl some))
     (λ lenient after all_are.
     let found = here.part lenient after all_are in

@@ -7,12 +7,12 @@ use Rattle.serde_json.specs.Data.{depth, members_depth}
 use Rattle.serde_json.specs.Find.{as_object, get}
 use Rattle.agg_request.specs.Builders.{left_behind, left_below, left_by_each, left_by_kind}
 use Rattle.agg_request.specs.Builders.{left_by_object, left_by_own}
-use Rattle.agg_request.specs.Json.{only_other}
+use Rattle.agg_request.specs.Json.{HasUnsupportedMember, only_other}
+use Rattle.agg_request.specs.RequestJson.{HasUnsupportedAggregation, HasUnsupportedAsked}
+use Rattle.agg_request.specs.RequestJson.{HasUnsupportedBelow, IsAggregation, IsBelow, IsKind}
+use Rattle.agg_request.specs.RequestJson.{IsRequestWithin, may_not_hold}
 use Rattle.agg_request.specs.Reading.{IsReadingWith}
 use Rattle.agg_request.specs.Request.{Request, agg_of, aggregation_of, below_of}
-use Rattle.agg_request.specs.RequestJson.{HasUnsupportedAggregation, HasUnsupportedAsked}
-use Rattle.agg_request.specs.RequestJson.{HasUnsupportedBelow, HasUnsupportedNamed, IsAggregation}
-use Rattle.agg_request.specs.RequestJson.{IsBelow, IsKind, IsRequestWithin, may_not_hold}
 use Rattle.agg_request.specs.declared.aggregation.Aggregation.{Aggregation}
 use Rattle.agg_request.specs.declared.aggregation.Aggregation.TheViews.{out-roll-Aggregation}
 use Rattle.agg_request.specs.declared.aggregation.AggregationVariants.{AggregationVariants}
@@ -194,7 +194,7 @@ module _ {B : Type 0} (name_of : B → List ℕ) (kind : List ℕ) (d : Data) wh
           (result : Result (Request B) ReadError) → depth d ≤ n
           → ((m : ℕ) → members_depth members < m
           → IsReadingWith (λ lenient. IsRequestWithin lenient name_of m members)
-          (HasUnsupportedNamed (HasUnsupportedAggregation m) members)
+          (HasUnsupportedMember (HasUnsupportedAggregation m) members)
           (λ some. left_by_each (left_behind name_of m) members some ≡ None) pool result)
           → IsReadingWith (λ lenient. IsBelow lenient (left_behind name_of n)
           (IsAggregation lenient name_of n) kind (get (codes "aggs") d))
@@ -202,7 +202,7 @@ module _ {B : Type 0} (name_of : B → List ℕ) (kind : List ℕ) (d : Data) wh
           (λ some. left_below name_of n d some ≡ None) pool result
       read_there good n pool result deep told =
           read_with (λ lenient. IsRequestWithin lenient name_of n members)
-          (HasUnsupportedNamed (HasUnsupportedAggregation n) members)
+          (HasUnsupportedMember (HasUnsupportedAggregation n) members)
           (λ some. left_by_each (left_behind name_of n) members some ≡ None)
           (λ lenient. IsBelow lenient (left_behind name_of n) (IsAggregation lenient name_of n) kind
           (get (codes "aggs") d))

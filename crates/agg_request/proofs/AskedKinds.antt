@@ -5,11 +5,11 @@ use Rattle.std.proofs.Common.{is_some, inl, inr}
 use Rattle.serde_json.specs.Data.{Data}
 use Rattle.agg_segment.specs.declared.query.QueryTree.{QueryTree}
 use Rattle.agg_request.specs.Builders.{builder_name, left_by_filter, left_by_kind}
-use Rattle.agg_request.specs.Json.{present}
-use Rattle.agg_request.specs.Query.{HasUnsupportedQuery, IsNoQueryAtAll, IsQuery, is_among}
-use Rattle.agg_request.specs.Reading.{IsReadingWith, IsRefusal}
+use Rattle.agg_request.specs.Json.{is_among, present}
+use Rattle.agg_request.specs.Query.{HasUnsupportedQuery, IsNoQueryAtAll, IsQuery}
 use Rattle.agg_request.specs.RequestJson.{HasUnsupportedAsked, IsKind, IsMetric, IsQueryOf}
 use Rattle.agg_request.specs.RequestJson.{metric_kinds, unsupported_kinds}
+use Rattle.agg_request.specs.Reading.{IsReadingWith, IsRefusal}
 use Rattle.agg_request.specs.declared.aggregation.AggregationVariants as variants
 use variants.{AggregationVariants}
 use variants.TheVariants.{Filter, Composite, Count, Max, Min, Sum}

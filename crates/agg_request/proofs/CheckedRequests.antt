@@ -1,6 +1,6 @@
 -- Faults of requests: what is found so far, aggregation by aggregation.
 use Rattle.std.proofs.Common.{◌≡◌, ◌≤◌, ◌+◌, ℕ, List, [], ◌∷◌, ◌++◌, length}
-use Rattle.std.proofs.Common.{Result, Ok, Err, IfErr, OnOk}
+use Rattle.std.proofs.Common.{Result, Ok, Err, IfErr}
 use Rattle.std.proofs.Common.{sym, ◌∙◌, subst, arith}
 use Rattle.std.specs.List.{All, Any}
 use Rattle.std.proofs.lemmas.List.{get_or-append-add, get_or_append_left, length-append}
@@ -14,14 +14,13 @@ use Rattle.agg_request.proofs.RequestTrees.{composites-out, levels}
 
 -- what holds of one of the first holds of one of all
 pub Any-front : {X : Type 0} (P : X → Type 0) (xs ys : List X) → Any P xs → Any P (xs ++ ys)
-Any-front P xs ys (k, x, within, at, has) =
-    (
-      k,
-      x,
-      omega (arith, length-append xs ys, within),
-      get_or_append_left xs ys x k within ∙ at,
-      has,
-    )
+Any-front P xs ys (k, x, within, at, has) = (
+  k,
+  x,
+  omega (arith, length-append xs ys, within),
+  get_or_append_left xs ys x k within ∙ at,
+  has,
+)
 
 -- so does what holds of one of the last
 pub Any-back : {X : Type 0} (P : X → Type 0) (xs ys : List X) → Any P ys → Any P (xs ++ ys)

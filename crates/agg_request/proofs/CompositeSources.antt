@@ -10,8 +10,7 @@ use Rattle.agg_request.specs.CompositeJson.{AreSources, HasUnsupportedInterval, 
 use Rattle.agg_request.specs.CompositeJson.{HasUnsupportedSource, IsDateHistogramBody}
 use Rattle.agg_request.specs.CompositeJson.{IsHistogramBody, IsSourceJson, IsSourceOfKind}
 use Rattle.agg_request.specs.CompositeJson.{IsTermsBody, unit_word}
-use Rattle.agg_request.specs.Json.{only_member}
-use Rattle.agg_request.specs.Query.{EachIs, HasUnsupportedItem}
+use Rattle.agg_request.specs.Json.{EachIs, HasUnsupportedItem, only_member}
 use Rattle.agg_request.specs.Reading.{IsReading}
 use Rattle.agg_request.specs.Source.{Sources}
 use Rattle.agg_request.specs.declared.read_error.ReadError.{ReadError}

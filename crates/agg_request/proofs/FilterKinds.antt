@@ -8,7 +8,7 @@ use Rattle.serde_json.specs.Find.{as_str}
 use Rattle.agg_segment.specs.declared.query.QueryTree.{QueryTree}
 use Rattle.agg_segment.specs.declared.query.QueryTree.TheVariants.{All, Empty}
 use Rattle.agg_request.specs.Json.{only_member}
-use Rattle.agg_request.specs.Query.{HasUnsupported, HasUnsupportedAt, HasUnsupportedBody}
+use Rattle.agg_request.specs.Query.{HasUnsupportedFilter, HasUnsupportedAt, HasUnsupportedBody}
 use Rattle.agg_request.specs.Query.{HasUnsupportedBound, HasUnsupportedIn, IsBoolean, IsExists}
 use Rattle.agg_request.specs.Query.{IsFilter, IsFilterOf, IsNoQueryAtAll, IsOfKind, IsPlain}
 use Rattle.agg_request.specs.Query.{IsQuery, IsRange, IsTerm}
@@ -49,11 +49,11 @@ pub read_all : (n : ℕ) (kind : List ℕ) (body : Data) (result : Result QueryT
     → kind ≡ codes "all"
     → IsReading (λ lenient. IsPlain All body) ⊥ result
     → IsReading (λ lenient. IsOfKind lenient (IsFilter lenient n) kind body)
-    (HasUnsupportedIn (HasUnsupported n) kind body) result
+    (HasUnsupportedIn (HasUnsupportedFilter n) kind body) result
 read_all n kind body result is told =
     read_as (λ lenient. IsPlain All body) ⊥
     (λ lenient. IsOfKind lenient (IsFilter lenient n) kind body)
-    (HasUnsupportedIn (HasUnsupported n) kind body) result told
+    (HasUnsupportedIn (HasUnsupportedFilter n) kind body) result told
     (λ tree h. inl (is, h))
     (λ h. absurd h)
     (λ lenient tree h. only_all lenient (IsFilter lenient n) kind body tree is h)
@@ -79,11 +79,11 @@ pub read_empty : (n : ℕ) (kind : List ℕ) (body : Data) (result : Result Quer
     → kind ≡ codes "empty"
     → IsReading (λ lenient. IsPlain Empty body) ⊥ result
     → IsReading (λ lenient. IsOfKind lenient (IsFilter lenient n) kind body)
-    (HasUnsupportedIn (HasUnsupported n) kind body) result
+    (HasUnsupportedIn (HasUnsupportedFilter n) kind body) result
 read_empty n kind body result is told =
     read_as (λ lenient. IsPlain Empty body) ⊥
     (λ lenient. IsOfKind lenient (IsFilter lenient n) kind body)
-    (HasUnsupportedIn (HasUnsupported n) kind body) result told
+    (HasUnsupportedIn (HasUnsupportedFilter n) kind body) result told
     (λ tree h. inr (inl (is, h)))
     (λ h. absurd h)
     (λ lenient tree h. only_empty lenient (IsFilter lenient n) kind body tree is h)
@@ -109,11 +109,11 @@ pub read_term : (n : ℕ) (kind : List ℕ) (body : Data) (result : Result Query
     → kind ≡ codes "term"
     → IsReading (λ lenient. IsTerm lenient body) (HasUnsupportedAt (codes "value") body) result
     → IsReading (λ lenient. IsOfKind lenient (IsFilter lenient n) kind body)
-    (HasUnsupportedIn (HasUnsupported n) kind body) result
+    (HasUnsupportedIn (HasUnsupportedFilter n) kind body) result
 read_term n kind body result is told =
     read_as (λ lenient. IsTerm lenient body) (HasUnsupportedAt (codes "value") body)
     (λ lenient. IsOfKind lenient (IsFilter lenient n) kind body)
-    (HasUnsupportedIn (HasUnsupported n) kind body) result told
+    (HasUnsupportedIn (HasUnsupportedFilter n) kind body) result told
     (λ tree h. inr (inr (inl (is, h))))
     (λ h. inl (is, h))
     (λ lenient tree h. only_term lenient (IsFilter lenient n) kind body tree is h)
@@ -139,11 +139,11 @@ pub read_range : (n : ℕ) (kind : List ℕ) (body : Data) (result : Result Quer
     → kind ≡ codes "range"
     → IsReading (λ lenient. IsRange lenient body) (HasUnsupportedBound body) result
     → IsReading (λ lenient. IsOfKind lenient (IsFilter lenient n) kind body)
-    (HasUnsupportedIn (HasUnsupported n) kind body) result
+    (HasUnsupportedIn (HasUnsupportedFilter n) kind body) result
 read_range n kind body result is told =
     read_as (λ lenient. IsRange lenient body) (HasUnsupportedBound body)
     (λ lenient. IsOfKind lenient (IsFilter lenient n) kind body)
-    (HasUnsupportedIn (HasUnsupported n) kind body) result told
+    (HasUnsupportedIn (HasUnsupportedFilter n) kind body) result told
     (λ tree h. inr (inr (inr (inl (is, h)))))
     (λ h. inr (inl (is, h)))
     (λ lenient tree h. only_range lenient (IsFilter lenient n) kind body tree is h)
@@ -169,11 +169,11 @@ pub read_exists : (n : ℕ) (kind : List ℕ) (body : Data) (result : Result Que
     → kind ≡ codes "exists"
     → IsReading (λ lenient. IsExists body) ⊥ result
     → IsReading (λ lenient. IsOfKind lenient (IsFilter lenient n) kind body)
-    (HasUnsupportedIn (HasUnsupported n) kind body) result
+    (HasUnsupportedIn (HasUnsupportedFilter n) kind body) result
 read_exists n kind body result is told =
     read_as (λ lenient. IsExists body) ⊥
     (λ lenient. IsOfKind lenient (IsFilter lenient n) kind body)
-    (HasUnsupportedIn (HasUnsupported n) kind body) result told
+    (HasUnsupportedIn (HasUnsupportedFilter n) kind body) result told
     (λ tree h. inr (inr (inr (inr (inl (is, h))))))
     (λ h. absurd h)
     (λ lenient tree h. only_exists lenient (IsFilter lenient n) kind body tree is h)
@@ -198,14 +198,14 @@ only_bool lenient IsInner kind body tree is = of
 pub read_bool : (n : ℕ) (kind : List ℕ) (body : Data) (result : Result QueryTree ReadError)
     → kind ≡ codes "bool"
     → IsReading (λ lenient. IsBoolean (IsFilter lenient n) body)
-    (HasUnsupportedBody (HasUnsupported n) body) result
+    (HasUnsupportedBody (HasUnsupportedFilter n) body) result
     → IsReading (λ lenient. IsOfKind lenient (IsFilter lenient n) kind body)
-    (HasUnsupportedIn (HasUnsupported n) kind body) result
+    (HasUnsupportedIn (HasUnsupportedFilter n) kind body) result
 read_bool n kind body result is told =
     read_as (λ lenient. IsBoolean (IsFilter lenient n) body)
-    (HasUnsupportedBody (HasUnsupported n) body)
+    (HasUnsupportedBody (HasUnsupportedFilter n) body)
     (λ lenient. IsOfKind lenient (IsFilter lenient n) kind body)
-    (HasUnsupportedIn (HasUnsupported n) kind body) result told
+    (HasUnsupportedIn (HasUnsupportedFilter n) kind body) result told
     (λ tree h. inr (inr (inr (inr (inr (is, h))))))
     (λ h. inr (inr (is, h)))
     (λ lenient tree h. only_bool lenient (IsFilter lenient n) kind body tree is h)
@@ -251,14 +251,14 @@ pub read_member : (d : Data) (kind : List ℕ) (body : Data) (result : Result Qu
     → only_member d ≡ Some (kind, body)
     → ((n : ℕ) → depth body < n
     → IsReading (λ lenient. IsOfKind lenient (IsFilter lenient n) kind body)
-    (HasUnsupportedIn (HasUnsupported n) kind body) result)
+    (HasUnsupportedIn (HasUnsupportedFilter n) kind body) result)
     → (n : ℕ) → depth d < n
-    → IsReading (λ lenient. IsFilter lenient n d) (HasUnsupported n d) result
+    → IsReading (λ lenient. IsFilter lenient n d) (HasUnsupportedFilter n d) result
 read_member d kind body result there told zero below = absurd (omega (arith, below))
 read_member d kind body result there told (suc n) below =
     read_as (λ lenient. IsOfKind lenient (IsFilter lenient n) kind body)
-    (HasUnsupportedIn (HasUnsupported n) kind body) (λ lenient. IsFilter lenient (suc n) d)
-    (HasUnsupported (suc n) d) result
+    (HasUnsupportedIn (HasUnsupportedFilter n) kind body) (λ lenient. IsFilter lenient (suc n) d)
+    (HasUnsupportedFilter (suc n) d) result
     (told n (omega (arith, below, body_lower d kind body there)))
     (λ tree h. (kind, body, there, h)) (λ h. (kind, body, there, h))
     (λ lenient tree h. of_member lenient n d kind body tree there h)
@@ -267,21 +267,21 @@ read_member d kind body result there told (suc n) below =
 
 -- where it is refused as such, it is no query
 pub read_none : (d : Data) (result : Result QueryTree ReadError)
-    → IsReading (λ lenient. IsFilterOf lenient d) (HasUnsupported (suc (depth d)) d) result
+    → IsReading (λ lenient. IsFilterOf lenient d) (HasUnsupportedFilter (suc (depth d)) d) result
     → IsErrOf result Unsupported ⊎ IsErrOf result Grammar → (tree : QueryTree) → ¬ (IsQuery d tree)
 read_none d result told (inl e) =
-    (subst (IsReading (λ lenient. IsFilterOf lenient d) (HasUnsupported (suc (depth d)) d)) e
+    (subst (IsReading (λ lenient. IsFilterOf lenient d) (HasUnsupportedFilter (suc (depth d)) d)) e
     told).1
 read_none d result told (inr e) =
-    subst (IsReading (λ lenient. IsFilterOf lenient d) (HasUnsupported (suc (depth d)) d)) e told
+    subst (IsReading (λ lenient. IsFilterOf lenient d) (HasUnsupportedFilter (suc (depth d)) d)) e told
     false
 
 -- where it is refused as outside the grammar, it is no query at all
 pub read_nothing : (d : Data) (result : Result QueryTree ReadError)
-    → IsReading (λ lenient. IsFilterOf lenient d) (HasUnsupported (suc (depth d)) d) result
+    → IsReading (λ lenient. IsFilterOf lenient d) (HasUnsupportedFilter (suc (depth d)) d) result
     → as_str d ≡ None → IsErrOf result Grammar → IsNoQueryAtAll d
 read_nothing d result told no_text e = (
   no_text,
-  subst (IsReading (λ lenient. IsFilterOf lenient d) (HasUnsupported (suc (depth d)) d)) e told
+  subst (IsReading (λ lenient. IsFilterOf lenient d) (HasUnsupportedFilter (suc (depth d)) d)) e told
       true,
 )

@@ -11,8 +11,8 @@ use Rattle.serde_json.specs.Find.{as_array, get, get_member}
 use Rattle.serde_json.specs.View.{view, items_view}
 use Rattle.serde_json.specs.declared.value.Value.{Value}
 use Rattle.agg_segment.specs.declared.query.QueryTree.{QueryTree}
-use Rattle.agg_request.specs.Query.{EachIs, HasUnsupported, HasUnsupportedBody, HasUnsupportedItem}
-use Rattle.agg_request.specs.Query.{HasUnsupportedList, IsBoolean, IsFilter, IsList, IsListAt}
+use Rattle.agg_request.specs.Json.{EachIs, HasUnsupportedItem, HasUnsupportedList, IsList, IsListAt}
+use Rattle.agg_request.specs.Query.{HasUnsupportedFilter, HasUnsupportedBody, IsBoolean, IsFilter}
 use Rattle.agg_request.specs.Reading.{IsReading, IsRefusal}
 use Rattle.agg_request.specs.declared.read_error.ReadError.{ReadError}
 use Rattle.agg_request.proofs.Items.{each_at, each_more, some_at}
@@ -51,18 +51,18 @@ pub refused_item : (vs : List Value) (i : ℕ) (x : Value) (error : ReadError)
     (result : Result (List QueryTree) ReadError) → i < length vs → x ≡ get_or vs i x
     → IsErrAnd result (λ e. e ≡ error)
     → ((n : ℕ) → depth (view x) < n → IsRefusal (λ lenient. IsFilter lenient n (view x))
-    (HasUnsupported n (view x)) error)
+    (HasUnsupportedFilter n (view x)) error)
     → (n : ℕ) → items_depth (items_view vs) < n
     → IsReading (λ lenient. EachIs (IsFilter lenient n) (items_view vs))
-    (HasUnsupportedItem (HasUnsupported n) (items_view vs)) result
+    (HasUnsupportedItem (HasUnsupportedFilter n) (items_view vs)) result
 refused_item vs i x error result below at is told n deep =
     let shallow = subst (λ y. depth (view y) ≤ items_depth (items_view vs)) (sym at)
     (item_lower vs i x below) in
-    refused_by (λ lenient. IsFilter lenient n (view x)) (HasUnsupported n (view x))
+    refused_by (λ lenient. IsFilter lenient n (view x)) (HasUnsupportedFilter n (view x))
     (λ lenient. EachIs (IsFilter lenient n) (items_view vs))
-    (HasUnsupportedItem (HasUnsupported n) (items_view vs)) error result is
+    (HasUnsupportedItem (HasUnsupportedFilter n) (items_view vs)) error result is
     (told n (omega (arith, shallow, deep)))
-    (λ h. some_at (HasUnsupported n) vs i x below (subst (λ y. HasUnsupported n (view y)) at h))
+    (λ h. some_at (HasUnsupportedFilter n) vs i x below (subst (λ y. HasUnsupportedFilter n (view y)) at h))
     (λ lenient trees h. let one = each_at (IsFilter lenient n) vs i x trees below h in
     (one.0, subst (λ y. IsFilter lenient n (view y) one.0) (sym at) one.1))
 
@@ -116,15 +116,15 @@ pub read_found : (name : List ℕ) (body found : Data) (items : Items)
     (result : Result (List QueryTree) ReadError) → get name body ≡ Some found
     → as_array found ≡ Some items
     → ((n : ℕ) → items_depth items < n → IsReading (λ lenient. EachIs (IsFilter lenient n) items)
-    (HasUnsupportedItem (HasUnsupported n) items) result)
+    (HasUnsupportedItem (HasUnsupportedFilter n) items) result)
     → (n : ℕ) → depth body < n
     → IsReading (λ lenient. IsListAt (IsFilter lenient n) name body)
-    (HasUnsupportedList (HasUnsupported n) name body) result
+    (HasUnsupportedList (HasUnsupportedFilter n) name body) result
 read_found name body found items result there inner told n deep =
     read_as (λ lenient. EachIs (IsFilter lenient n) items)
-    (HasUnsupportedItem (HasUnsupported n) items)
+    (HasUnsupportedItem (HasUnsupportedFilter n) items)
     (λ lenient. IsListAt (IsFilter lenient n) name body)
-    (HasUnsupportedList (HasUnsupported n) name body) result
+    (HasUnsupportedList (HasUnsupportedFilter n) name body) result
     (told n (omega (arith, get_lower name body found there, array_lower found items inner, deep)))
     (λ trees h. subst (λ o. IsList (IsFilter false n) o trees) (sym there) (items, inner, h))
     (λ h. (items, rw there inner, h))
@@ -136,37 +136,37 @@ read_found name body found items result there inner told n deep =
 pub refused_must : (n : ℕ) (body : Data) (error : ReadError) (result : Result QueryTree ReadError)
     → IsErrAnd result (λ e. e ≡ error)
     → IsRefusal (λ lenient. IsListAt (IsFilter lenient n) (codes "must") body)
-    (HasUnsupportedList (HasUnsupported n) (codes "must") body) error
+    (HasUnsupportedList (HasUnsupportedFilter n) (codes "must") body) error
     → IsReading (λ lenient. IsBoolean (IsFilter lenient n) body)
-    (HasUnsupportedBody (HasUnsupported n) body) result
+    (HasUnsupportedBody (HasUnsupportedFilter n) body) result
 refused_must n body error result is told =
     refused_by (λ lenient. IsListAt (IsFilter lenient n) (codes "must") body)
-    (HasUnsupportedList (HasUnsupported n) (codes "must") body)
-    (λ lenient. IsBoolean (IsFilter lenient n) body) (HasUnsupportedBody (HasUnsupported n) body)
+    (HasUnsupportedList (HasUnsupportedFilter n) (codes "must") body)
+    (λ lenient. IsBoolean (IsFilter lenient n) body) (HasUnsupportedBody (HasUnsupportedFilter n) body)
     error result is told (λ h. inl h) (λ lenient tree h. (h.0, h.5))
 
 -- the same of the second list
 pub refused_should : (n : ℕ) (body : Data) (error : ReadError)
     (result : Result QueryTree ReadError) → IsErrAnd result (λ e. e ≡ error)
     → IsRefusal (λ lenient. IsListAt (IsFilter lenient n) (codes "should") body)
-    (HasUnsupportedList (HasUnsupported n) (codes "should") body) error
+    (HasUnsupportedList (HasUnsupportedFilter n) (codes "should") body) error
     → IsReading (λ lenient. IsBoolean (IsFilter lenient n) body)
-    (HasUnsupportedBody (HasUnsupported n) body) result
+    (HasUnsupportedBody (HasUnsupportedFilter n) body) result
 refused_should n body error result is told =
     refused_by (λ lenient. IsListAt (IsFilter lenient n) (codes "should") body)
-    (HasUnsupportedList (HasUnsupported n) (codes "should") body)
-    (λ lenient. IsBoolean (IsFilter lenient n) body) (HasUnsupportedBody (HasUnsupported n) body)
+    (HasUnsupportedList (HasUnsupportedFilter n) (codes "should") body)
+    (λ lenient. IsBoolean (IsFilter lenient n) body) (HasUnsupportedBody (HasUnsupportedFilter n) body)
     error result is told (λ h. inr (inl h)) (λ lenient tree h. (h.1, h.6))
 
 -- the same of the third list
 pub refused_must_not : (n : ℕ) (body : Data) (error : ReadError)
     (result : Result QueryTree ReadError) → IsErrAnd result (λ e. e ≡ error)
     → IsRefusal (λ lenient. IsListAt (IsFilter lenient n) (codes "must_not") body)
-    (HasUnsupportedList (HasUnsupported n) (codes "must_not") body) error
+    (HasUnsupportedList (HasUnsupportedFilter n) (codes "must_not") body) error
     → IsReading (λ lenient. IsBoolean (IsFilter lenient n) body)
-    (HasUnsupportedBody (HasUnsupported n) body) result
+    (HasUnsupportedBody (HasUnsupportedFilter n) body) result
 refused_must_not n body error result is told =
     refused_by (λ lenient. IsListAt (IsFilter lenient n) (codes "must_not") body)
-    (HasUnsupportedList (HasUnsupported n) (codes "must_not") body)
-    (λ lenient. IsBoolean (IsFilter lenient n) body) (HasUnsupportedBody (HasUnsupported n) body)
+    (HasUnsupportedList (HasUnsupportedFilter n) (codes "must_not") body)
+    (λ lenient. IsBoolean (IsFilter lenient n) body) (HasUnsupportedBody (HasUnsupportedFilter n) body)
     error result is told (λ h. inr (inr h)) (λ lenient tree h. (h.2, h.7))

@@ -8,9 +8,10 @@ use Rattle.agg_segment.specs.declared.document.FieldValue.{FieldValue}
 use Rattle.agg_segment.specs.declared.query.RangeBound.{RangeBound}
 use Rattle.agg_segment.specs.declared.query.RangeBound.TheVariants.{Unbounded, Included, Excluded}
 use Rattle.agg_segment.specs.declared.query.QueryTree.{QueryTree}
+use Rattle.agg_request.specs.Json.{IsField, text_at}
 use Rattle.agg_request.specs.Query.{HasUnsupportedAt, HasUnsupportedBound, HasUnsupportedEnd}
-use Rattle.agg_request.specs.Query.{IsBound, IsExists, IsField, IsRange, IsTerm, IsUnsupportedText}
-use Rattle.agg_request.specs.Query.{Says, SaysAt, text_at}
+use Rattle.agg_request.specs.Query.{IsBound, IsExists, IsRange, IsTerm, IsUnsupportedText, Says}
+use Rattle.agg_request.specs.Query.{SaysAt}
 use Rattle.agg_request.specs.Reading.{IsReading, IsRefusal}
 use Rattle.agg_request.specs.declared.read_error.ReadError.{ReadError}
 use Rattle.agg_request.proofs.Readings.{read_as, refused_by}

@@ -1,7 +1,7 @@
 -- JSON values beside what they stand for, and a document that grows by the members of an object.
 use Rattle.std.proofs.Common.{◌≡◌, ℕ, List, [], ◌∷◌, ◌++◌, length, map, Option, Some, None}
 use Rattle.std.proofs.Common.{String, Global, string_bytes, string_cmp, option_map, refl, sym, ap}
-use Rattle.std.proofs.Common.{◌∙◌, subst, append_assoc, eqb, is_some, Less, Greater}
+use Rattle.std.proofs.Common.{◌∙◌, append_assoc, eqb, is_some, Less, Greater}
 use Rattle.std.proofs.lemmas.Cmp.{nat_list_cmp_total}
 use Rattle.std.specs.List.{AllByRecursion}
 use Rattle.std.specs.List.Sorted.{IsStrictlySortedBy}
@@ -10,10 +10,10 @@ use Rattle.std.specs.Ordering.{ordering_reverse}
 use Rattle.agg_values.specs.Names.{Named, name_cmp, put}
 use Rattle.serde_json.specs.Data.{Data, null, boolean, number, string, array, object, Members}
 use Rattle.serde_json.specs.Find.{as_object}
-use Rattle.serde_json.specs.View.{view, members_view}
+use Rattle.serde_json.specs.View.{members_view}
 use Rattle.serde_json.specs.declared.value.Value.{Value}
 use Rattle.serde_json.proofs.Views.{Entry, members_len-members_view}
-use Rattle.agg_request.specs.Json.{each_member, has_members}
+use Rattle.agg_request.specs.Json.{has_members}
 
 -- ---- objects
 
@@ -115,31 +115,3 @@ pub Ascends-more : {V : Type 0} (done : Named V) (name : String Global) (d : Val
     → Ascends (done ++ (string_bytes name, v) ∷ []) later
 Ascends-more done name d later v h =
     record { names = rw (names_moved done (string_bytes name) v (names_in later)) h.names }
-
--- the document is done, before the members that are to come
-pub record IsOnward {V : Type 0} (value : Data → Option V) (all : Option (Named V))
-    (done : Named V) (left : List Entry) : Type 0 where
-  pub kept : all ≡ onward done (each_member value (members_view left))
-  pub ascends : Ascends done left
-
-pub IsOnward-none : {V : Type 0} (value : Data → Option V) (es : List Entry)
-    → IsStrictlySortedBy string_cmp (keys_of es)
-    → IsOnward value (each_member value (members_view es)) [] es
-IsOnward-none value es h = record { kept = onward_none _; ascends = Ascends-none es h }
-
-pub IsOnward-more : {V : Type 0} (value : Data → Option V) (all : Option (Named V))
-    (done new : Named V) (left : List Entry)
-    (name : String Global) (d : Value) (later : List Entry) (v : V)
-    → IsOnward value all done left → left ≡ (name, d) ∷ later → value (view d) ≡ Some v
-    → new ≡ put (string_bytes name) v done → IsOnward value all new later
-IsOnward-more value all done new left name d later v h e is put_is =
-    let here : Ascends done ((name, d) ∷ later) = subst (λ (es : List Entry). Ascends done es) e
-    h.ascends in
-    let last : new ≡ done ++ (string_bytes name, v) ∷ [] = put_is
-    ∙ put_next done name d later v here in
-    record {
-      kept = h.kept
-          ∙ rw (e, is, last) (onward_more done (string_bytes name, v)
-          (each_member value (members_view later)));
-      ascends = rw last (Ascends-more done name d later v here);
-    }

@@ -14,6 +14,7 @@ pub mod JsonLemmas
 pub mod Lists
 pub mod OccurrencesLength
 pub mod Orders
+pub mod OtherBuilders
 pub mod Others
 pub mod PageAfter
 pub mod PageCounts
@@ -26,6 +27,7 @@ pub mod PageTuples
 pub mod PageUnique
 pub mod PageWalk
 pub mod PageWhole
+pub mod Pairs
 pub mod PlainRequests
 pub mod PoolMembers
 pub mod PoolReadings
@@ -33,7 +35,9 @@ pub mod ReadColumns
 pub mod Readings
 pub mod RequestReadings
 pub mod RequestTrees
+pub mod SameRequests
 pub mod SourceColumns
+pub mod SourceEquality
 pub mod SourceKeys
 pub mod UncutLength
 pub mod ValueTexts

@@ -1,5 +1,5 @@
 -- Orders of buckets as JSON.
-use Rattle.std.proofs.Common.{◌≡◌, Option, None, Some, Result, inl, inr, refl, subst, sym, ◌∙◌}
+use Rattle.std.proofs.Common.{◌≡◌, None, Some, Result, inl, inr, refl, subst, sym}
 use Rattle.serde_json.specs.Data.{Data, null, boolean, number, string, array, object}
 use Rattle.agg_request.specs.Json.{only_item, only_member}
 use Rattle.agg_request.specs.OrderJson.{IsOrderJson, IsPair, data_of_order, read_back}

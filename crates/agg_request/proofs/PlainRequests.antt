@@ -1,15 +1,15 @@
 -- Requests of one composite with none below it, as JSON.
-use Rattle.std.proofs.Common.{◌≡◌, ◌⊎◌, ℕ, suc, List, [], ◌∷◌, Bool, true, false, true≢false}
+use Rattle.std.proofs.Common.{◌≡◌, ◌⊎◌, ℕ, suc, List, [], ◌∷◌, true, false, true≢false}
 use Rattle.std.proofs.Common.{Option, None}
 use Rattle.std.proofs.Common.{Some, codes, inl, inr, refl, sym, ap, ◌∙◌, subst, bytes_eq}
 use Rattle.serde_json.specs.Data.{Data, Members, no_members, member, depth}
 use Rattle.serde_json.specs.Find.{as_object, get}
-use Rattle.agg_request.specs.Builders.{left_behind, left_by_kind}
+use Rattle.agg_request.specs.Builders.{left_behind}
 use Rattle.agg_request.specs.CompositeJson.{IsCompositeJson}
 use Rattle.agg_request.specs.Json.{only_other}
-use Rattle.agg_request.specs.Request.{IsPlainComposite, Request, agg_of, below_of}
+use Rattle.agg_request.specs.Request.{Request, agg_of, below_of}
 use Rattle.agg_request.specs.RequestJson.{AreAggregations, IsAggregation, IsBelow, IsKind}
-use Rattle.agg_request.specs.RequestJson.{IsLeft, IsRequestJson}
+use Rattle.agg_request.specs.RequestJson.{IsRequestJson}
 use Rattle.agg_request.specs.declared.aggregation.Aggregation.{Aggregation}
 use Rattle.agg_request.specs.declared.aggregation.AggregationVariants as variants
 use variants.{AggregationVariants}
@@ -174,9 +174,8 @@ module _ {B : Type 0} (name_of : B → List ℕ) where
 
           pair_same : only_other (codes "aggs") says.said ≡ Some (kind, other)
               → (kind ≡ codes "composite") × (other ≡ body)
-          pair_same e =
-              (
-                sym (ap first_of e) ∙ ap first_of says.kind,
-                sym (ap second_of e) ∙ ap second_of says.kind,
-              )
+          pair_same e = (
+            sym (ap first_of e) ∙ ap first_of says.kind,
+            sym (ap second_of e) ∙ ap second_of says.kind,
+          )
       read (a ∷ b ∷ r) (named, one, (mid, left, later)) = absurd later

@@ -14,7 +14,8 @@ use Rattle.agg_values.specs.Names.{put}
 use Rattle.agg_request.specs.Builders.{left_by_each}
 use Rattle.agg_request.specs.Reading.{IsReadingWith}
 use Rattle.agg_request.specs.Request.{Request}
-use Rattle.agg_request.specs.RequestJson.{AreAggregations, HasUnsupportedNamed}
+use Rattle.agg_request.specs.Json.{HasUnsupportedMember}
+use Rattle.agg_request.specs.RequestJson.{AreAggregations}
 use Rattle.agg_request.specs.declared.aggregation.Aggregation.{Aggregation}
 use Rattle.agg_request.specs.declared.read_error.ReadError.{ReadError}
 use Rattle.agg_request.proofs.JsonLemmas.{Ascends, Ascends-none, Ascends-more, put_next}
@@ -78,7 +79,7 @@ module _ {B : Type 0} (left : Data → List B → Option (List B))
         → AreAggregations lenient left (Is lenient) all some request
         → (mid : List B) × (more : Request B)
         × AreAggregations lenient left (Is lenient) (members_view rest) mid more
-    pub up : HasUnsupportedNamed Has (members_view rest) → HasUnsupportedNamed Has all
+    pub up : HasUnsupportedMember Has (members_view rest) → HasUnsupportedMember Has all
     pub onward : left_by_each left all pool ≡ left_by_each left (members_view rest) now
 
   -- no member is read yet
@@ -144,13 +145,13 @@ module _ {B : Type 0} (left : Data → List B → Option (List B))
         → IsReadingWith (λ lenient. Is lenient (view d)) (Has (view d))
         (λ some. left (view d) some ≡ None) now (Err error)
         → IsReadingWith (λ lenient. AreAggregations lenient left (Is lenient) all)
-        (HasUnsupportedNamed Has all) (λ some. left_by_each left all some ≡ None) pool result
+        (HasUnsupportedMember Has all) (λ some. left_by_each left all some ≡ None) pool result
     IsPartRead-refused error result told refusal =
         let here = next_read in
         passed_with (λ lenient. Is lenient (view d)) (Has (view d))
         (λ some. left (view d) some ≡ None)
         (λ lenient. AreAggregations lenient left (Is lenient) all)
-        (HasUnsupportedNamed Has all) (λ some. left_by_each left all some ≡ None) now pool error
+        (HasUnsupportedMember Has all) (λ some. left_by_each left all some ≡ None) now pool error
         result told refusal (λ some. here.up (inl some))
         (λ lenient some request all_are.
         let found = here.part lenient some request all_are in

@@ -6,10 +6,11 @@ use Rattle.serde_json.specs.Find.{as_object}
 use Rattle.agg_request.specs.Builders.{left_behind, left_by_each}
 use Rattle.agg_request.specs.Reading.{IsReadingWith}
 use Rattle.agg_request.specs.Request.{Request}
+use Rattle.agg_request.specs.Json.{HasUnsupportedMember}
 use Rattle.agg_request.specs.RequestJson.{HasUnknownBuilder, HasUnsupportedAggregation}
-use Rattle.agg_request.specs.RequestJson.{HasUnsupportedNamed, HasUnsupportedRequest}
-use Rattle.agg_request.specs.RequestJson.{IsAggregation, IsNoRequest, IsNoRequestAtAll}
-use Rattle.agg_request.specs.RequestJson.{IsRequestJson, IsRequestOf, IsRequestWithin}
+use Rattle.agg_request.specs.RequestJson.{HasUnsupportedRequest, IsAggregation, IsNoRequest}
+use Rattle.agg_request.specs.RequestJson.{IsNoRequestAtAll, IsRequestJson, IsRequestOf}
+use Rattle.agg_request.specs.RequestJson.{IsRequestWithin}
 use Rattle.agg_request.specs.declared.read_error.ReadError.{ReadError}
 use Rattle.agg_request.specs.declared.read_error.ReadError.TheVariants.{Unsupported, Grammar}
 use Rattle.agg_request.specs.declared.read_error.ReadError.TheVariants.{UnknownBuilder}
@@ -37,7 +38,7 @@ module _ {B : Type 0} (pool : List B) (name_of : B → List ℕ) (d : Data) wher
   module _ (all : Members) (is : as_object d ≡ Some all) (result : Result (Request B) ReadError)
       (each : (n : ℕ) → members_depth all < n
       → IsReadingWith (λ lenient. IsRequestWithin lenient name_of n all)
-      (HasUnsupportedNamed (HasUnsupportedAggregation n) all)
+      (HasUnsupportedMember (HasUnsupportedAggregation n) all)
       (λ some. left_by_each (left_behind name_of n) all some ≡ None) pool result) where
     -- the members of a request are those of the object
     members_are : (lenient : Bool) (some : List B) (request : Request B)
@@ -51,7 +52,7 @@ module _ {B : Type 0} (pool : List B) (name_of : B → List ℕ) (d : Data) wher
     told : IsRequestReading result
     told =
         read_with (λ lenient. IsRequestWithin lenient name_of (suc (depth d)) all)
-        (HasUnsupportedNamed (HasUnsupportedAggregation (suc (depth d))) all)
+        (HasUnsupportedMember (HasUnsupportedAggregation (suc (depth d))) all)
         (λ some. left_by_each (left_behind name_of (suc (depth d))) all some ≡ None)
         (λ lenient. IsRequestOf lenient name_of d) (HasUnsupportedRequest d)
         (HasUnknownBuilder name_of d) pool result

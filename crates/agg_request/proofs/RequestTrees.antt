@@ -1,17 +1,42 @@
 -- Requests level by level: an aggregation and those below it.
-use Rattle.std.proofs.Common.{◌≡◌, ◌≤◌, ℕ, suc, List, [], ◌∷◌, ◌++◌, map, ap, ◌∙◌, arith, subst}
+use Rattle.std.proofs.Common.{◌≡◌, ℕ, suc, List, [], ◌∷◌, ◌++◌, map, ap, ◌∙◌}
 use Rattle.std.proofs.Common.{sym}
 use Rattle.std.specs.Prelude.{max}
 use Rattle.std.proofs.lemmas.List.Folds.{flat_map-map}
-use Rattle.agg_request.specs.Request.{Request, agg_of, below_of, composites_in, composites_of}
+use Rattle.agg_request.specs.Request.{Request, agg_of, aggregation_of, below_of, composites_in}
+use Rattle.agg_request.specs.Request.{composites_of}
 use Rattle.agg_request.specs.Request.{listed_in, listed_of, listed_step, own_composite}
 use Rattle.agg_request.specs.declared.aggregation.Aggregation.{Aggregation}
 use Rattle.agg_request.specs.declared.aggregation.Aggregation.TheOpen.{Aggregation-F}
+use Rattle.agg_request.specs.declared.aggregation.Aggregation.TheViews as views
+use views.{out-roll-Aggregation, roll-out-Aggregation}
 use Rattle.agg_request.specs.declared.aggregation.Aggregation.TheFolds as folds
 use folds.{fold-Aggregation, fold_out-Aggregation}
 use Rattle.agg_request.specs.declared.aggregation.AggregationVariants.{AggregationVariants}
 use Rattle.agg_request.specs.declared.aggregation.AggregationVariants.TheVariants.{Composite}
 use Rattle.agg_request.specs.declared.aggregation.CompositeAggregation.{CompositeAggregation}
+
+-- ---- the parts of an aggregation
+
+module _ {B : Type 0} where
+  -- what an aggregation of these parts asks
+  pub agg-made : (agg : AggregationVariants B) (below : Request B)
+      → agg_of (aggregation_of agg below) ≡ agg
+  agg-made agg below =
+      ap (λ a. a.agg) (out-roll-Aggregation B (record { agg = agg; sub_aggregation = below }))
+
+  -- and what is below it
+  pub below-made : (agg : AggregationVariants B) (below : Request B)
+      → below_of (aggregation_of agg below) ≡ below
+  below-made agg below =
+      ap (λ a. a.sub_aggregation)
+      (out-roll-Aggregation B (record { agg = agg; sub_aggregation = below }))
+
+  -- an aggregation is that of its parts
+  pub made-of_parts : (a : Aggregation B) (agg : AggregationVariants B) (below : Request B)
+      → agg_of a ≡ agg → below_of a ≡ below → a ≡ aggregation_of agg below
+  made-of_parts a agg below is none =
+      sym (roll-out-Aggregation B a) ∙ (λ i. aggregation_of (is i) (none i))
 
 -- ---- what is listed at any depth
 

@@ -15,11 +15,9 @@ use Rattle.std.proofs.lemmas.Slice.Eq.{bytes_eq-Decides}
 use Rattle.agg_values.specs.Names.{Named, name_cmp}
 use Rattle.serde_json.specs.Data.{Data, Members, no_members, member}
 use Rattle.serde_json.specs.Events.{members_len}
-use Rattle.agg_request.specs.CompositeJson.{EachNamedIs}
-use Rattle.agg_request.specs.Json.{has_member}
-use Rattle.agg_request.specs.Query.{is_among}
-use Rattle.agg_request.specs.Request.{Request, agg_of, below_of}
+use Rattle.agg_request.specs.Json.{EachNamedIs, has_member, is_among}
 use Rattle.agg_request.specs.RequestJson.{may_not_hold, metric_kinds}
+use Rattle.agg_request.specs.Request.{Request, agg_of, below_of}
 use Rattle.agg_request.specs.Written.{all_may_be_written, are_free, may_be_written}
 use Rattle.agg_request.specs.Written.{may_be_written_step, may_hold_some}
 use Rattle.agg_request.specs.WrittenJson.{kind_word}
@@ -63,11 +61,10 @@ free-parts false c e = (refl, e)
 
 -- ---- what an aggregation may have below it
 
--- an aggregation of this kind may have these below it, and each of them may be written
+-- an aggregation of this kind may have these below it
 pub record MayHold {B : Type 0} (agg : AggregationVariants B) (below : Request B) : Type 0 where
   pub some : (may_hold_some agg ≡ true) ⊎ (below ≡ [])
   pub free : are_free (keys_of below) ≡ true
-  pub each : all_may_be_written below ≡ true
 
 -- an aggregation may be written where it may have what is below it, which may be written
 pub writable-out : {B : Type 0} (a : Aggregation B)
@@ -95,15 +92,15 @@ writable-out {B = B} a =
         (λ (e : List ℕ × Aggregation B). (e.0, may_be_written e.1)) (x ∷ below) in
         λ i. (may_hold_some agg || some i) && names i && each i
 
--- what may be written may have what is below it
-pub may-hold : {B : Type 0} (a : Aggregation B) → may_be_written a ≡ true
-    → MayHold (agg_of a) (below_of a)
-may-hold {B = B} a may =
+-- what may be written may have what is below it, which may be written
+may-both : {B : Type 0} (a : Aggregation B) → may_be_written a ≡ true
+    → MayHold (agg_of a) (below_of a) × (all_may_be_written (below_of a) ≡ true)
+may-both {B = B} a may =
     let some = may_hold_some (agg_of a) || (length (below_of a) == 0) in
     let parts = both (some && are_free (keys_of (below_of a))) (all_may_be_written (below_of a))
     (sym (writable-out a) ∙ may) in
     let own = both some (are_free (keys_of (below_of a))) parts.0 in
-    record { some = by_below (agg_of a) (below_of a) own.0; free = own.1; each = parts.1 }
+    (record { some = by_below (agg_of a) (below_of a) own.0; free = own.1 }, parts.1)
   where
     by_below : (agg : AggregationVariants B) (below : Request B)
         → (may_hold_some agg || (length below == 0)) ≡ true
@@ -112,6 +109,16 @@ may-hold {B = B} a may =
     by_below agg (x ∷ below) may =
         let none : (length (x ∷ below) == 0) ≡ false = filled (length below) in
         inl (first (may_hold_some agg) (ap (λ b. may_hold_some agg || b) (sym none) ∙ may))
+
+-- what may be written may have what is below it
+pub may-hold : {B : Type 0} (a : Aggregation B) → may_be_written a ≡ true
+    → MayHold (agg_of a) (below_of a)
+may-hold a may = (may-both a may).0
+
+-- what is below it may be written
+pub may-below : {B : Type 0} (a : Aggregation B) → may_be_written a ≡ true
+    → all_may_be_written (below_of a) ≡ true
+may-below a may = (may-both a may).1
 
 -- ---- names
 

@@ -2,7 +2,7 @@
 use Rattle.std.proofs.Common.{◌≡◌, Option, None, Some, codes, false, refl, sym, subst}
 use Rattle.serde_json.specs.Data.{Data, object, array, Items, no_members, member}
 use Rattle.agg_request.specs.CompositeJson.{IsAfter, IsCompositeJson, IsSize, IsSourceJson}
-use Rattle.agg_request.specs.Query.{EachIs}
+use Rattle.agg_request.specs.Json.{EachIs}
 use Rattle.agg_request.specs.WrittenJson.{with_some}
 use Rattle.agg_request.specs.declared.aggregation.CompositeAggregation.{CompositeAggregation}
 

@@ -11,8 +11,8 @@ use Rattle.agg_segment.specs.declared.query.RangeBound.{RangeBound}
 use Rattle.agg_segment.specs.declared.query.RangeBound.TheVariants.{Unbounded, Included, Excluded}
 use Rattle.agg_segment.specs.declared.query.QueryTree.{QueryTree}
 use Rattle.agg_segment.specs.declared.query.QueryTree.TheVariants.{Term, Range, Boolean}
-use Rattle.agg_request.specs.Query.{EachIs, IsBoolean, IsFilter, IsOfKind, IsRange, IsTerm}
-use Rattle.agg_request.specs.Query.{said_key}
+use Rattle.agg_request.specs.Json.{EachIs}
+use Rattle.agg_request.specs.Query.{IsBoolean, IsFilter, IsOfKind, IsRange, IsTerm, said_key}
 use Rattle.agg_request.specs.WrittenJson.{SaysBound, SaysFilter, with_bound}
 
 -- ---- leaves

@@ -8,7 +8,7 @@ use Rattle.std.specs.Map.{keys_of}
 use Rattle.std.specs.Ordering.{ordering_reverse}
 use Rattle.agg_values.specs.Names.{Named, name_cmp}
 use Rattle.serde_json.specs.Data.{Data, Members, no_members, member, put}
-use Rattle.agg_request.specs.CompositeJson.{EachNamedIs}
+use Rattle.agg_request.specs.Json.{EachNamedIs}
 
 -- what is below all names is below the one in the middle
 below-middle : {A : Type 0} (first : List ℕ) (done : Named A) (e : List ℕ × A) (later : Named A)

@@ -1,25 +1,27 @@
 -- Requests as they are written.
 use Rattle.std.proofs.Common.{◌≡◌, ◌<◌, ◌∷◌, ◌++◌, [], ℕ, zero, suc, List, true, false, codes}
 use Rattle.std.proofs.Common.{Option, None, Some, option_and_then, inl, inr, refl, sym, subst, ap}
-use Rattle.std.proofs.Common.{◌∙◌, append_assoc, append-nil, arith}
+use Rattle.std.proofs.Common.{◌∙◌, append_assoc, arith}
 use Rattle.serde_json.specs.Data.{Data, object, Members, no_members, member, depth, members_depth}
 use Rattle.serde_json.specs.Find.{as_object, get}
 use Rattle.agg_request.specs.Builders.{left_behind, left_by_each, left_by_object, left_by_own}
-use Rattle.agg_request.specs.CompositeJson.{EachNamedIs}
-use Rattle.agg_request.specs.Json.{only_other}
-use Rattle.agg_request.specs.Request.{Request, agg_of, below_of, builders_of, listed_in}
-use Rattle.agg_request.specs.Request.{own_builder}
+use Rattle.agg_request.specs.Json.{EachNamedIs, only_other}
 use Rattle.agg_request.specs.RequestJson.{AreAggregations, IsAggregation, IsBelow, IsRequestJson}
 use Rattle.agg_request.specs.RequestJson.{may_not_hold}
+use Rattle.agg_request.specs.Request.{Request, agg_of, with_builders_in, below_of, builders_of}
+use Rattle.agg_request.specs.Request.{listed_in, own_builder, with_builders}
 use Rattle.agg_request.specs.Written.{may_be_written}
-use Rattle.agg_request.specs.WrittenJson.{SaysAggregation, SaysKind, kind_word, with_below}
+use Rattle.agg_request.specs.WrittenJson.{ReadsBack, SaysAggregation, SaysItself, SaysKind}
+use Rattle.agg_request.specs.WrittenJson.{kind_word, with_below}
 use Rattle.agg_request.specs.declared.aggregation.Aggregation.{Aggregation}
 use Rattle.agg_request.specs.declared.aggregation.AggregationVariants as variants
 use variants.{AggregationVariants}
 use variants.TheVariants.{Filter, Composite, Count, Max, Min, Sum}
 use Rattle.agg_request.proofs.FilterLists.{get_lower}
 use Rattle.agg_request.proofs.RequestTrees.{listed-out}
-use Rattle.agg_request.proofs.Writable.{may-hold, not-forbidden}
+use Rattle.agg_request.proofs.OtherBuilders.{alike-holds, alike-says, alike-word, same-below}
+use Rattle.agg_request.proofs.OtherBuilders.{same-kind}
+use Rattle.agg_request.proofs.Writable.{MayHold, may-hold, not-forbidden}
 
 -- ---- where the parts of an aggregation stand
 
@@ -66,7 +68,7 @@ pub record SayWithin {B : Type 0} (name_of : B → List ℕ) (levels : ℕ) (ms 
 
 -- members that say aggregations say the request
 say-within : {B : Type 0} (name_of : B → List ℕ) (levels : ℕ) (ms : Members)
-    (request : Request B) (rest : List B) → EachNamedIs (SaysAggregation name_of) ms request
+    (request : Request B) (rest : List B) → EachNamedIs (SaysItself name_of) ms request
     → members_depth ms < levels → SayWithin name_of levels ms request rest
 say-within name_of levels no_members [] rest each under = record { are = tt; left = refl }
 say-within name_of levels no_members (x ∷ xs) rest each under = absurd each
@@ -89,22 +91,15 @@ say-within {B = B} name_of levels (member name d ms) (x ∷ xs) rest each under 
           ∙ ap (option_and_then (left_by_each left ms)) told.1 ∙ later.left;
     }
 
--- a value says the request that its members say
-pub says-request : {B : Type 0} (name_of : B → List ℕ) (d : Data) (ms : Members)
-    (request : Request B) → d ≡ object ms
-    → EachNamedIs (SaysAggregation name_of) ms request
-    → IsRequestJson name_of d (builders_of request) request
-says-request {B = B} name_of d ms request is each =
-    let said = say-within name_of (suc (suc (members_depth ms))) ms request [] each
+-- a value says the request that its members say, with its own builders first
+says-own : {B : Type 0} (name_of : B → List ℕ) (d : Data) (ms : Members) (request : Request B)
+    (rest : List B) → d ≡ object ms → EachNamedIs (SaysItself name_of) ms request
+    → IsRequestJson name_of d (builders_of request ++ rest) request
+says-own name_of d ms request rest is each =
+    let said = say-within name_of (suc (suc (members_depth ms))) ms request rest each
     (omega arith) in
-    subst (λ e. IsRequestJson name_of e (builders_of request) request) (sym is) (
-      ms,
-      refl,
-      subst (λ (pool : List B). AreAggregations false
-          (left_behind name_of (suc (suc (members_depth ms))))
-          (IsAggregation false name_of (suc (suc (members_depth ms)))) ms pool request)
-          (append-nil (builders_of request)) said.are,
-    )
+    subst (λ e. IsRequestJson name_of e (builders_of request ++ rest) request) (sym is)
+    (ms, refl, said.are)
 
 -- ---- an aggregation
 
@@ -119,7 +114,7 @@ record SaysBelow {B : Type 0} (name_of : B → List ℕ) (levels : ℕ) (kind : 
 -- what is written of those below an aggregation says them
 says-below : {B : Type 0} (name_of : B → List ℕ) (levels : ℕ) (kind : List ℕ) (o : Option Data)
     (below : Members) (request : Request B) (rest : List B) → o ≡ stands below
-    → EachNamedIs (SaysAggregation name_of) below request → may_not_hold kind below ≡ false
+    → EachNamedIs (SaysItself name_of) below request → may_not_hold kind below ≡ false
     → ((d : Data) → o ≡ Some d → depth d < levels) → SaysBelow name_of levels kind o request rest
 says-below name_of levels kind None no_members [] rest is each free under =
     record { is = refl; left = refl }
@@ -140,13 +135,13 @@ says-below name_of levels kind (Some e) (member name d below) request rest is ea
           found ∙ said.left;
     }
 
--- what is written of an aggregation says it
-pub says-aggregation : {B : Type 0} (name_of : B → List ℕ) (d body : Data) (below : Members)
+-- what is written of an aggregation that may be written says it
+says-itself : {B : Type 0} (name_of : B → List ℕ) (d body : Data) (below : Members)
     (a : Aggregation B) → d ≡ written (kind_word (agg_of a)) body below
     → SaysKind name_of body (agg_of a)
-    → EachNamedIs (SaysAggregation name_of) below (below_of a) → may_be_written a ≡ true
-    → SaysAggregation name_of d a
-says-aggregation {B = B} name_of d body below a is told each may = says
+    → EachNamedIs (SaysItself name_of) below (below_of a) → MayHold (agg_of a) (below_of a)
+    → SaysItself name_of d a
+says-itself {B = B} name_of d body below a is told each may = says
   where
     kind : List ℕ
     kind = kind_word (agg_of a)
@@ -154,7 +149,7 @@ says-aggregation {B = B} name_of d body below a is told each may = says
     parts : HasParts kind body below d
     parts = subst (HasParts kind body below) (sym is) (has-parts (agg_of a) body below)
 
-    says : SaysAggregation name_of d a
+    says : SaysItself name_of d a
     says zero under rest = absurd (omega arith)
     says (suc levels) under rest =
         let mid = builders_of (below_of a) ++ rest in
@@ -164,8 +159,7 @@ says-aggregation {B = B} name_of d body below a is told each may = says
         let own = told mid in
         let beneath = says-below name_of levels kind (get (codes "aggs") d) below (below_of a) rest
         parts.beneath each
-        (not-forbidden (SaysAggregation name_of) (agg_of a) below (below_of a) (may-hold a may)
-        each)
+        (not-forbidden (SaysItself name_of) (agg_of a) below (below_of a) may each)
         (λ e found. omega (arith, under, get_lower (codes "aggs") d e found)) in
         let left = left_by_object (left_behind name_of levels)
         (option_and_then as_object (get (codes "aggs") d)) in
@@ -176,3 +170,47 @@ says-aggregation {B = B} name_of d body below a is told each may = says
               parts.own
               ∙ ap (option_and_then left) own.1 ∙ beneath.left,
         )
+
+-- ---- builders of the same names
+
+-- members that say aggregations say those that are the same but for their builders
+each-alike : {B : Type 0} (name_of : B → List ℕ) (ms : Members) (request other : Request B)
+    → EachNamedIs (SaysAggregation name_of) ms request
+    → with_builders name_of other ≡ with_builders name_of request
+    → EachNamedIs (SaysItself name_of) ms other
+each-alike name_of no_members [] [] each same = tt
+each-alike name_of no_members [] (y ∷ other) each same = absurd (cc)
+each-alike name_of no_members (x ∷ request) other each same = absurd each
+each-alike name_of (member name d ms) [] other each same = absurd each
+each-alike name_of (member name d ms) (x ∷ request) [] each same = absurd (cc)
+each-alike name_of (member name d ms) (x ∷ request) (y ∷ other) each same =
+    let first : ◌≡◌ {A = List ℕ × Aggregation (List ℕ)} (y.0, with_builders_in name_of y.1)
+    (x.0, with_builders_in name_of x.1) = cc in
+    let later : with_builders name_of other ≡ with_builders name_of request = cc in (
+      ap (λ e. e.0) first ∙ each.0,
+      each.1 y.1 (ap (λ e. e.1) first),
+      each-alike name_of ms request other each.2 later,
+    )
+
+-- what is written of a request says each that is the same but for its builders
+pub says-request : {B : Type 0} (name_of : B → List ℕ) (d : Data) (ms : Members)
+    (request : Request B) → d ≡ object ms
+    → EachNamedIs (SaysAggregation name_of) ms request → ReadsBack name_of d request
+says-request name_of d ms request is each other rest same =
+    says-own name_of d ms other rest is (each-alike name_of ms request other each same)
+
+-- what is written of an aggregation says each that is the same but for its builders
+pub says-aggregation : {B : Type 0} (name_of : B → List ℕ) (d body : Data) (below : Members)
+    (a : Aggregation B) → d ≡ written (kind_word (agg_of a)) body below
+    → SaysKind name_of body (agg_of a)
+    → EachNamedIs (SaysAggregation name_of) below (below_of a) → may_be_written a ≡ true
+    → SaysAggregation name_of d a
+says-aggregation name_of d body below a is told each may other same =
+    let kind = same-kind name_of a other same in
+    let beneath = same-below name_of a other same in
+    says-itself name_of d body below other
+    (is ∙ ap (λ word. written word body below) (sym (alike-word name_of (agg_of a) (agg_of other) kind)))
+    (alike-says name_of body (agg_of a) (agg_of other) kind told)
+    (each-alike name_of below (below_of a) (below_of other) each beneath)
+    (alike-holds name_of (agg_of a) (agg_of other) (below_of a) (below_of other) kind beneath
+    (may-hold a may))

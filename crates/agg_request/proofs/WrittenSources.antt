@@ -6,7 +6,7 @@ use Rattle.serde_json.specs.Data.{Data, object, member, no_members}
 use Rattle.serde_json.specs.View.{view, items_view}
 use Rattle.serde_json.specs.declared.value.Value.{Value}
 use Rattle.agg_request.specs.CompositeJson.{IsSourceJson, IsSourceOfKind}
-use Rattle.agg_request.specs.Query.{EachIs}
+use Rattle.agg_request.specs.Json.{EachIs}
 use Rattle.agg_request.specs.declared.source.CompositeAggregationSource as any_source
 use any_source.{CompositeAggregationSource}
 use Rattle.agg_request.proofs.Items.{each_put}

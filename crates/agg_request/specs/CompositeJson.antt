@@ -1,7 +1,7 @@
 -- Composites as JSON: their sources, their size and their after key.
-use Rattle.std.specs.Prelude.{◌≡◌, ◌⊎◌, ◌∷◌, [], ℕ, ℤ, List, Bool, true, false, Option, None, Some}
-use Rattle.std.specs.Prelude.{codes, option_and_then, Float, IsTrue, ⊤}
-use Rattle.serde_json.specs.Data.{Data, number, float, Items, Members, no_members, member}
+use Rattle.std.specs.Prelude.{◌≡◌, ◌⊎◌, [], ℕ, ℤ, List, Bool, true, false, Option, None, Some}
+use Rattle.std.specs.Prelude.{codes, option_and_then, IsTrue}
+use Rattle.serde_json.specs.Data.{Data, Items, Members}
 use Rattle.serde_json.specs.Find.{as_array, as_bool, as_object, as_str, get}
 use Rattle.agg_values.specs.KeyText.{IsKeyText}
 use Rattle.agg_values.specs.Names.{Named}
@@ -12,8 +12,10 @@ use Rattle.agg_values.specs.declared.order.MissingOrder.{MissingOrder}
 use Rattle.agg_values.specs.declared.order.MissingOrder.TheVariants.{Default, First, Last}
 use Rattle.agg_calendar.specs.declared.interval.CalendarInterval.{CalendarInterval}
 use Rattle.agg_calendar.specs.declared.interval.CalendarInterval.TheVariants.{Year, Month, Week}
-use Rattle.agg_request.specs.Json.{only_member, present, small_number, whole_number}
-use Rattle.agg_request.specs.Query.{EachIs, HasUnsupportedList, IsField, IsUnsupportedText}
+use Rattle.agg_request.specs.Json.{EachIs, EachNamedIs, HasFloatAt, HasUnsupportedList}
+use Rattle.agg_request.specs.Json.{HasUnsupportedMember, IsField, IsFloat, IsGiven, only_member}
+use Rattle.agg_request.specs.Json.{present, small_number, whole_number}
+use Rattle.agg_request.specs.Query.{IsUnsupportedText}
 use Rattle.agg_request.specs.Source.{Sources}
 use Rattle.agg_request.specs.declared.aggregation.CompositeAggregation.{CompositeAggregation}
 use Rattle.agg_request.specs.declared.source.CompositeAggregationSource as any_source
@@ -54,16 +56,6 @@ abbrev pub unit_word : CalendarInterval → List ℕ
 unit_word Year = codes "year"
 unit_word Month = codes "month"
 unit_word Week = codes "week"
-
--- what stands there is such a value, or nothing stands there and there is none
-abbrev pub IsGiven : {A : Type 0} → (Data → A → Type 0) → Option Data → Option A → Type 0
-IsGiven Is None None = ⊤
-IsGiven Is (Some d) (Some x) = Is d x
-IsGiven Is _ _ = ⊥
-
--- a number that isn't whole, or lies outside 64 bits
-abbrev pub IsFloat : Data → Type 0
-IsFloat d = (x : Float) × (d ≡ number (float x))
 
 -- an interval, a whole number within i64; leniently, a number that isn't whole is any
 abbrev pub IsInterval : Bool → Data → ℤ → Type 0
@@ -151,13 +143,6 @@ abbrev pub IsKeyJson : Bool → Data → AfterKey → Type 0
 IsKeyJson lenient d after =
     (text : List ℕ) × (as_str d ≡ Some text) × SaysKey lenient text after
 
--- each member has its name and such a value, one by one
-abbrev pub EachNamedIs : {A : Type 0} → (Data → A → Type 0) → Members → Named A → Type 0
-EachNamedIs Is no_members [] = ⊤
-EachNamedIs Is (member name d members) (x ∷ xs) =
-    (x.0 ≡ name) × Is d x.1 × EachNamedIs Is members xs
-EachNamedIs Is _ _ = ⊥
-
 -- what may stand at a member is an object of keys by the names of sources; where it is absent there
 -- are none
 abbrev pub IsAfter : Bool → Option Data → Named AfterKey → Type 0
@@ -177,26 +162,18 @@ pub record IsCompositeJson (lenient : Bool) (body : Data) (composite : Composite
 
 -- ---- what isn't supported
 
--- a body has a size that isn't whole
-abbrev pub HasFloatSize : Data → Type 0
-HasFloatSize body = (d : Data) × (get (codes "size") body ≡ Some d) × IsFloat d
-
--- a body has an interval that isn't whole
-abbrev pub HasFloatInterval : Data → Type 0
-HasFloatInterval body = (d : Data) × (get (codes "interval") body ≡ Some d) × IsFloat d
-
--- so has the body of a source of this kind, where it is a histogram
+-- the body of a histogram has an interval that isn't whole
 abbrev pub HasUnsupportedInterval : List ℕ → Data → Type 0
-HasUnsupportedInterval kind body = (kind ≡ codes "histogram") × HasFloatInterval body
+HasUnsupportedInterval kind body = (kind ≡ codes "histogram") × HasFloatAt (codes "interval") body
 
--- so has a source
+-- a source is such a histogram
 abbrev pub HasUnsupportedKind : Data → Type 0
 HasUnsupportedKind d =
     (name : List ℕ) × (kind : List ℕ) × (named : Data) × (body : Data)
     × (only_member d ≡ Some (name, named)) × (only_member named ≡ Some (kind, body))
     × HasUnsupportedInterval kind body
 
--- so has some source of a body
+-- some source of a body is
 abbrev pub HasUnsupportedSource : Data → Type 0
 HasUnsupportedSource = HasUnsupportedList HasUnsupportedKind (codes "sources")
 
@@ -204,18 +181,13 @@ HasUnsupportedSource = HasUnsupportedList HasUnsupportedKind (codes "sources")
 abbrev pub IsUnsupportedKey : Data → Type 0
 IsUnsupportedKey d = (text : List ℕ) × (as_str d ≡ Some text) × IsUnsupportedText text
 
--- some member is one
-abbrev pub HasUnsupportedMember : Members → Type 0
-HasUnsupportedMember no_members = ⊥
-HasUnsupportedMember (member name d members) = IsUnsupportedKey d ⊎ HasUnsupportedMember members
-
 -- some member of an after key is one
 abbrev pub HasUnsupportedAfter : Option Data → Type 0
 HasUnsupportedAfter d =
     (members : Members) × (option_and_then as_object d ≡ Some members)
-    × HasUnsupportedMember members
+    × HasUnsupportedMember IsUnsupportedKey members
 
 -- a size or an interval that isn't whole, or a text of that type in the after key
 abbrev pub HasUnsupportedComposite : Data → Type 0
 HasUnsupportedComposite body =
-    HasFloatSize body ⊎ HasUnsupportedSource body ⊎ HasUnsupportedAfter (get (codes "after") body)
+    HasFloatAt (codes "size") body ⊎ HasUnsupportedSource body ⊎ HasUnsupportedAfter (get (codes "after") body)

@@ -1,13 +1,14 @@
 -- Looking into JSON values.
-use Rattle.std.specs.Prelude.{◌==◌, ◌∷◌, [], ℕ, ℤ, List, Bool, false, Option, None, Some}
-use Rattle.std.specs.Prelude.{if◌then◌else◌, is_some, option_map, option_and_then, nat_lt}
-use Rattle.std.specs.Prelude.{◌^◌}
+use Rattle.std.specs.Prelude.{◌≡◌, ◌⊎◌, ◌==◌, ◌∷◌, ◌&&◌, ◌||◌, ◌^◌, [], ℕ, ℤ, List, Bool, true}
+use Rattle.std.specs.Prelude.{false, Float, Option, None, Some, if◌then◌else◌, is_some, option_map}
+use Rattle.std.specs.Prelude.{option_and_then, nat_lt, codes, ⊤}
 use Rattle.std.specs.Str.{bytes_eq}
 use Rattle.agg_values.specs.Names.{Named}
-use Rattle.serde_json.specs.Data.{Data, object, Items, no_items, item, Members, no_members}
-use Rattle.serde_json.specs.Data.{member}
+use Rattle.serde_json.specs.Data.{Data, number, float, object, Items, no_items, item, Members}
+use Rattle.serde_json.specs.Data.{no_members, member}
 use Rattle.serde_json.specs.Events.{members_len}
-use Rattle.serde_json.specs.Find.{as_array, as_i64, as_null, as_number, as_u64, get, get_member}
+use Rattle.serde_json.specs.Find.{as_array, as_i64, as_null, as_number, as_str, as_u64, get}
+use Rattle.serde_json.specs.Find.{get_member}
 
 -- whether it is an object of so many members
 abbrev pub has_members : ℕ → Data → Bool
@@ -45,12 +46,6 @@ each_item value no_items = Some []
 each_item value (item d items) =
     option_and_then (λ x. option_map (λ xs. x ∷ xs) (each_item value items)) (value d)
 
--- the same for the members of an object, each with its name
-abbrev pub each_member : {A : Type 0} → (Data → Option A) → Members → Option (Named A)
-each_member value no_members = Some []
-each_member value (member name d members) =
-    option_and_then (λ x. option_map (λ xs. (name, x) ∷ xs) (each_member value members)) (value d)
-
 -- the members of other names
 abbrev pub others : List ℕ → Members → Named Data
 others name no_members = []
@@ -79,3 +74,84 @@ one_item _ = None
 -- the one item of an array that has no other
 abbrev pub only_item : Data → Option Data
 only_item d = option_and_then one_item (as_array d)
+
+-- ---- members by their names
+
+-- whether a name is one of these
+abbrev pub is_among : List ℕ → List (List ℕ) → Bool
+is_among name [] = false
+is_among name (other ∷ names) = bytes_eq name other || is_among name names
+
+-- whether each member has one of these names
+abbrev pub all_among : List (List ℕ) → Members → Bool
+all_among names no_members = true
+all_among names (member name d members) = is_among name names && all_among names members
+
+-- whether it is an object with no other members than these
+abbrev pub has_only : List (List ℕ) → Data → Bool
+has_only names (object members) = all_among names members
+has_only names _ = false
+
+-- the text at a member
+abbrev pub text_at : List ℕ → Data → Option (List ℕ)
+text_at name d = option_and_then as_str (get name d)
+
+-- the name of a field
+abbrev pub IsField : Data → List ℕ → Type 0
+IsField body field = text_at (codes "field") body ≡ Some field
+
+-- ---- what each says
+
+-- each item is such, one by one
+abbrev pub EachIs : {A : Type 0} → (Data → A → Type 0) → Items → List A → Type 0
+EachIs Is no_items [] = ⊤
+EachIs Is (item d items) (x ∷ xs) = Is d x × EachIs Is items xs
+EachIs Is _ _ = ⊥
+
+-- what may stand at a member is an array of such items; where it is absent there are none
+abbrev pub IsList : {A : Type 0} → (Data → A → Type 0) → Option Data → List A → Type 0
+IsList Is None xs = xs ≡ []
+IsList Is (Some d) xs = (items : Items) × (as_array d ≡ Some items) × EachIs Is items xs
+
+-- the same of the member of a name
+abbrev pub IsListAt : {A : Type 0} → (Data → A → Type 0) → List ℕ → Data → List A → Type 0
+IsListAt Is name d = IsList Is (get name d)
+
+-- each member has its name and such a value, one by one
+abbrev pub EachNamedIs : {A : Type 0} → (Data → A → Type 0) → Members → Named A → Type 0
+EachNamedIs Is no_members [] = ⊤
+EachNamedIs Is (member name d members) (x ∷ xs) =
+    (x.0 ≡ name) × Is d x.1 × EachNamedIs Is members xs
+EachNamedIs Is _ _ = ⊥
+
+-- what stands there is such a value, or nothing stands there and there is none
+abbrev pub IsGiven : {A : Type 0} → (Data → A → Type 0) → Option Data → Option A → Type 0
+IsGiven Is None None = ⊤
+IsGiven Is (Some d) (Some x) = Is d x
+IsGiven Is _ _ = ⊥
+
+-- ---- what isn't supported
+
+-- a number that isn't whole, or lies outside 64 bits
+abbrev pub IsFloat : Data → Type 0
+IsFloat d = (x : Float) × (d ≡ number (float x))
+
+-- a number that isn't whole stands at a member
+abbrev pub HasFloatAt : List ℕ → Data → Type 0
+HasFloatAt name body = (d : Data) × (get name body ≡ Some d) × IsFloat d
+
+-- some item has it
+abbrev pub HasUnsupportedItem : (Data → Type 0) → Items → Type 0
+HasUnsupportedItem Has no_items = ⊥
+HasUnsupportedItem Has (item d items) = Has d ⊎ HasUnsupportedItem Has items
+
+-- some item of a list has it
+abbrev pub HasUnsupportedList : (Data → Type 0) → List ℕ → Data → Type 0
+HasUnsupportedList Has name body =
+    (items : Items) × (option_and_then as_array (get name body) ≡ Some items)
+    × HasUnsupportedItem Has items
+
+-- some member has it
+abbrev pub HasUnsupportedMember : (Data → Type 0) → Members → Type 0
+HasUnsupportedMember Has no_members = ⊥
+HasUnsupportedMember Has (member name d members) = Has d ⊎ HasUnsupportedMember Has members

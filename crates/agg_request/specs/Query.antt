@@ -1,11 +1,10 @@
 -- Queries as JSON: the value that stands for a query is a filter, an object with one member, whose
 -- name is the filter's kind and whose value is its body.
-use Rattle.std.specs.Prelude.{◌≡◌, ◌⊎◌, ◌&&◌, ◌||◌, ◌∷◌, ◌++◌, [], ℕ, zero, suc, List, Bool, true}
-use Rattle.std.specs.Prelude.{false, Option, None, Some, option_and_then, codes, IsSome, ⊤}
-use Rattle.std.specs.Str.{bytes_eq}
-use Rattle.serde_json.specs.Data.{Data, object, Items, no_items, item, Members, no_members, member}
+use Rattle.std.specs.Prelude.{◌≡◌, ◌⊎◌, ◌∷◌, ◌++◌, [], ℕ, zero, suc, List, Bool, true}
+use Rattle.std.specs.Prelude.{false, None, Some, codes, IsSome}
+use Rattle.serde_json.specs.Data.{Data}
 use Rattle.serde_json.specs.Data.{depth}
-use Rattle.serde_json.specs.Find.{as_array, as_str, get}
+use Rattle.serde_json.specs.Find.{as_str, get}
 use Rattle.agg_values.specs.KeyText.{IsKeyText}
 use Rattle.agg_values.specs.TypedKey.{CompositeIntermediateKey}
 use Rattle.agg_values.specs.declared.typed_key.CompositeIntermediateKey.TheVariants as key
@@ -16,7 +15,8 @@ use Rattle.agg_segment.specs.declared.query.RangeBound.TheVariants.{Unbounded, I
 use Rattle.agg_segment.specs.declared.query.QueryTree.{QueryTree}
 use Rattle.agg_segment.specs.declared.query.QueryTree.TheVariants.{All, Empty, Term, Range, Exists}
 use Rattle.agg_segment.specs.declared.query.QueryTree.TheVariants.{Boolean}
-use Rattle.agg_request.specs.Json.{only_member}
+use Rattle.agg_request.specs.Json.{HasUnsupportedList, IsField, IsListAt, has_only, only_member}
+use Rattle.agg_request.specs.Json.{text_at}
 
 -- ---- values
 
@@ -40,54 +40,16 @@ Says true text value = IsKeyText text (said_key value) ⊎ IsUnsupportedText tex
 
 -- ---- members
 
--- whether a name is one of these
-abbrev pub is_among : List ℕ → List (List ℕ) → Bool
-is_among name [] = false
-is_among name (other ∷ names) = bytes_eq name other || is_among name names
-
--- whether each member has one of these names
-abbrev pub all_among : List (List ℕ) → Members → Bool
-all_among names no_members = true
-all_among names (member name d members) = is_among name names && all_among names members
-
--- whether it is an object with no other members than these
-abbrev pub has_only : List (List ℕ) → Data → Bool
-has_only names (object members) = all_among names members
-has_only names _ = false
-
--- the text at a member
-abbrev pub text_at : List ℕ → Data → Option (List ℕ)
-text_at name d = option_and_then as_str (get name d)
-
 -- the text at a member says a value
 abbrev pub SaysAt : Bool → List ℕ → Data → FieldValue → Type 0
 SaysAt lenient name d value =
     (text : List ℕ) × (text_at name d ≡ Some text) × Says lenient text value
-
--- each item is such, one by one
-abbrev pub EachIs : {A : Type 0} → (Data → A → Type 0) → Items → List A → Type 0
-EachIs Is no_items [] = ⊤
-EachIs Is (item d items) (x ∷ xs) = Is d x × EachIs Is items xs
-EachIs Is _ _ = ⊥
-
--- what may stand at a member is an array of such items; where it is absent there are none
-abbrev pub IsList : {A : Type 0} → (Data → A → Type 0) → Option Data → List A → Type 0
-IsList Is None xs = xs ≡ []
-IsList Is (Some d) xs = (items : Items) × (as_array d ≡ Some items) × EachIs Is items xs
-
--- the same of the member of a name
-abbrev pub IsListAt : {A : Type 0} → (Data → A → Type 0) → List ℕ → Data → List A → Type 0
-IsListAt Is name d = IsList Is (get name d)
 
 -- ---- filters by their bodies
 
 -- a body with no members
 abbrev pub IsPlain : QueryTree → Data → QueryTree → Type 0
 IsPlain plain body tree = (has_only [] body ≡ true) × (tree ≡ plain)
-
--- the name of a field
-abbrev pub IsField : Data → List ℕ → Type 0
-IsField body field = text_at (codes "field") body ≡ Some field
 
 -- a field and a value
 abbrev pub IsTerm : Bool → Data → QueryTree → Type 0
@@ -145,7 +107,7 @@ IsOfKind lenient IsInner kind body tree =
     ⊎ ((kind ≡ codes "exists") × IsExists body tree)
     ⊎ ((kind ≡ codes "bool") × IsBoolean IsInner body tree)
 
--- a filter that stands for a query, with less than so many levels
+-- a filter that stands for a query, with at most so many filters, one inside another
 abbrev pub IsFilter : Bool → ℕ → Data → QueryTree → Type 0
 IsFilter lenient zero d tree = ⊥
 IsFilter lenient (suc levels) d tree =
@@ -181,17 +143,6 @@ HasUnsupportedBound body =
     HasUnsupportedEnd (codes "gte") (codes "gt") body
     ⊎ HasUnsupportedEnd (codes "lte") (codes "lt") body
 
--- some item has it
-abbrev pub HasUnsupportedItem : (Data → Type 0) → Items → Type 0
-HasUnsupportedItem Has no_items = ⊥
-HasUnsupportedItem Has (item d items) = Has d ⊎ HasUnsupportedItem Has items
-
--- some item of a list has it
-abbrev pub HasUnsupportedList : (Data → Type 0) → List ℕ → Data → Type 0
-HasUnsupportedList Has name body =
-    (items : Items) × (option_and_then as_array (get name body) ≡ Some items)
-    × HasUnsupportedItem Has items
-
 -- some filter in one of the three lists has it
 abbrev pub HasUnsupportedBody : (Data → Type 0) → Data → Type 0
 HasUnsupportedBody Has body =
@@ -206,12 +157,12 @@ HasUnsupportedIn Has kind body =
     ⊎ ((kind ≡ codes "bool") × HasUnsupportedBody Has body)
 
 -- it stands at the place of a value in a filter, within so many levels
-abbrev pub HasUnsupported : ℕ → Data → Type 0
-HasUnsupported zero d = ⊥
-HasUnsupported (suc levels) d =
+abbrev pub HasUnsupportedFilter : ℕ → Data → Type 0
+HasUnsupportedFilter zero d = ⊥
+HasUnsupportedFilter (suc levels) d =
     (kind : List ℕ) × (body : Data) × (only_member d ≡ Some (kind, body))
-    × HasUnsupportedIn (HasUnsupported levels) kind body
+    × HasUnsupportedIn (HasUnsupportedFilter levels) kind body
 
 -- a text in place of a query, or a value's text of the type that isn't supported
 abbrev pub HasUnsupportedQuery : Data → Type 0
-HasUnsupportedQuery d = IsSome (as_str d) ⊎ HasUnsupported (suc (depth d)) d
+HasUnsupportedQuery d = IsSome (as_str d) ⊎ HasUnsupportedFilter (suc (depth d)) d

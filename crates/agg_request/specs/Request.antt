@@ -73,18 +73,47 @@ own_fields (Sum metric) = metric.field ∷ []
 abbrev pub fields_of : {B : Type 0} → Request B → List (List ℕ)
 fields_of = listed_of own_fields
 
+-- the builder of a query that has one
+abbrev pub query_builder : {B : Type 0} → FilterQuery B → List B
+query_builder (Tree tree) = []
+query_builder (CustomBuilder builder) = builder ∷ []
+
 -- the builder of a filter that has one
 abbrev pub own_builder : {B : Type 0} → AggregationVariants B → List B
-own_builder (Filter filter) = builder_in filter.query
-  where
-    builder_in : {B : Type 0} → FilterQuery B → List B
-    builder_in (Tree tree) = []
-    builder_in (CustomBuilder builder) = builder ∷ []
+own_builder (Filter filter) = query_builder filter.query
 own_builder _ = []
 
 -- the builders of a request, at any depth
 abbrev pub builders_of : {B : Type 0} → Request B → List B
 builders_of = listed_of own_builder
+
+-- a query with something else in place of its builder
+abbrev pub with_query_builder : {B C : Type 0} → (B → C) → FilterQuery B → FilterQuery C
+with_query_builder of (Tree tree) = Tree tree
+with_query_builder of (CustomBuilder builder) = CustomBuilder (of builder)
+
+-- what an aggregation asks, with something else in place of its builder
+abbrev pub with_own_builder : {B C : Type 0} → (B → C) → AggregationVariants B → AggregationVariants C
+with_own_builder of (Filter filter) = Filter (record { query = with_query_builder of filter.query })
+with_own_builder of (Composite composite) = Composite composite
+with_own_builder of (Count metric) = Count metric
+with_own_builder of (Max metric) = Max metric
+with_own_builder of (Min metric) = Min metric
+with_own_builder of (Sum metric) = Sum metric
+
+-- an aggregation with something else in place of each builder
+abbrev pub with_builders_in : {B C : Type 0} → (B → C) → Aggregation B → Aggregation C
+with_builders_in {B = B} {C = C} of =
+    fold-Aggregation B (Aggregation C) (λ a. aggregation_of (with_own_builder of a.agg) a.sub_aggregation)
+
+-- a request with something else in place of each builder
+abbrev pub with_builders : {B C : Type 0} → (B → C) → Request B → Request C
+with_builders of request = map (λ a. (a.0, with_builders_in of a.1)) request
+
+-- two aggregations are the same at any depth: they are equal and have no builders, of which two are
+-- never the same
+abbrev pub IsSame : {B : Type 0} → Aggregation B → Aggregation B → Type 0
+IsSame a b = (a ≡ b) × (listed_in own_builder a ≡ [])
 
 -- an aggregation is a composite with none below it, which is all that is collected so far
 abbrev pub IsPlainComposite : {B : Type 0} → Aggregation B → Type 0

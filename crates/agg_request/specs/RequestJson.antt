@@ -9,8 +9,9 @@ use Rattle.serde_json.specs.Find.{as_object, as_str, get}
 use Rattle.agg_request.specs.Builders.{builder_name, left_behind, left_by_each, left_by_kind}
 use Rattle.agg_request.specs.Builders.{taken}
 use Rattle.agg_request.specs.CompositeJson.{HasUnsupportedComposite, IsCompositeJson}
-use Rattle.agg_request.specs.Json.{has_member, only_other, present}
-use Rattle.agg_request.specs.Query.{HasUnsupportedQuery, IsField, IsFilterOf, is_among}
+use Rattle.agg_request.specs.Json.{HasUnsupportedMember, IsField, has_member, is_among}
+use Rattle.agg_request.specs.Json.{only_other, present}
+use Rattle.agg_request.specs.Query.{HasUnsupportedQuery, IsFilterOf}
 use Rattle.agg_request.specs.Request.{Request, agg_of, below_of}
 use Rattle.agg_request.specs.declared.aggregation.Aggregation.{Aggregation}
 use Rattle.agg_request.specs.declared.aggregation.AggregationVariants as variants
@@ -109,7 +110,7 @@ IsBelow lenient left Is kind (Some d) pool below =
     × (IsTrue lenient ⊎ (may_not_hold kind members ≡ false))
     × AreAggregations lenient left Is members pool below
 
--- an aggregation, with less than so many levels
+-- an aggregation, with at most so many, one inside another
 abbrev pub IsAggregation : {B : Type 0} → Bool → (B → List ℕ) → ℕ → Data → List B
     → Aggregation B → Type 0
 IsAggregation lenient name_of zero d pool a = ⊥
@@ -120,7 +121,7 @@ IsAggregation {B = B} lenient name_of (suc levels) d pool a =
     × IsBelow lenient (left_behind name_of levels) (IsAggregation lenient name_of levels) kind
     (get (codes "aggs") d) mid (below_of a))
 
--- a request, with less than so many levels
+-- a request, with at most so many aggregations, one inside another
 abbrev pub IsRequestWithin : {B : Type 0} → Bool → (B → List ℕ) → ℕ → Members → List B
     → Request B → Type 0
 IsRequestWithin lenient name_of levels =
@@ -137,7 +138,7 @@ IsRequestOf lenient name_of d pool request =
 abbrev pub IsRequestJson : {B : Type 0} → (B → List ℕ) → Data → List B → Request B → Type 0
 IsRequestJson = IsRequestOf false
 
--- no request
+-- a value says no request with these builders
 abbrev pub IsNoRequest : {B : Type 0} → (B → List ℕ) → Data → List B → Type 0
 IsNoRequest {B = B} name_of d pool =
     (request : Request B) → ¬ (IsRequestJson name_of d pool request)
@@ -158,16 +159,11 @@ HasUnsupportedAsked kind body =
     ⊎ ((kind ≡ codes "composite") × HasUnsupportedComposite body)
     ⊎ ((is_among kind metric_kinds ≡ true) × IsSome (present (codes "missing") body))
 
--- some member has it
-abbrev pub HasUnsupportedNamed : (Data → Type 0) → Members → Type 0
-HasUnsupportedNamed Has no_members = ⊥
-HasUnsupportedNamed Has (member name d members) = Has d ⊎ HasUnsupportedNamed Has members
-
 -- an aggregation of this kind has below it what it may not hold, or something that has it
 abbrev pub HasUnsupportedBelow : (Data → Type 0) → List ℕ → Option Data → Type 0
 HasUnsupportedBelow Has kind d =
     (members : Members) × (option_and_then as_object d ≡ Some members)
-    × ((may_not_hold kind members ≡ true) ⊎ HasUnsupportedNamed Has members)
+    × ((may_not_hold kind members ≡ true) ⊎ HasUnsupportedMember Has members)
 
 -- an aggregation says something that isn't supported, within so many levels
 abbrev pub HasUnsupportedAggregation : ℕ → Data → Type 0
@@ -181,7 +177,7 @@ HasUnsupportedAggregation (suc levels) d =
 abbrev pub HasUnsupportedRequest : Data → Type 0
 HasUnsupportedRequest d =
     (members : Members) × (as_object d ≡ Some members)
-    × HasUnsupportedNamed (HasUnsupportedAggregation (suc (depth d))) members
+    × HasUnsupportedMember (HasUnsupportedAggregation (suc (depth d))) members
 
 -- a filter of a request asks for a builder of which none is left
 abbrev pub HasUnknownBuilder : {B : Type 0} → (B → List ℕ) → Data → List B → Type 0

@@ -1,5 +1,5 @@
 -- Requests that may be written as JSON.
-use Rattle.std.specs.Prelude.{◌==◌, ◌&&◌, ◌||◌, [], ℕ, List, Bool, true, false, codes, map}
+use Rattle.std.specs.Prelude.{◌&&◌, ◌||◌, [], ℕ, List, Bool, true, false, codes}
 use Rattle.std.specs.Prelude.{if◌then◌else◌}
 use Rattle.std.specs.List.{list_all, list_any}
 use Rattle.std.specs.Map.{keys_of}
@@ -24,7 +24,7 @@ are_free names =
     if list_any (λ name. bytes_eq name (codes "key") || bytes_eq name (codes "doc_count")) names
     then false else true
 
--- whether an aggregation holds below it what is supported, where those below it do
+-- whether an aggregation may be written, where each of these says it of one below it
 abbrev pub may_be_written_step : {B : Type 0} → Aggregation-F B Bool → Bool
 may_be_written_step a =
     (may_hold_some a.agg || is_empty a.sub_aggregation) && are_free (keys_of a.sub_aggregation)
@@ -34,10 +34,10 @@ may_be_written_step a =
     is_empty [] = true
     is_empty _ = false
 
--- whether an aggregation and those at any depth below it do
+-- whether an aggregation may be written, with all below it
 abbrev pub may_be_written : {B : Type 0} → Aggregation B → Bool
 may_be_written {B = B} = fold-Aggregation B Bool may_be_written_step
 
--- whether all aggregations of a request, at any depth, do
+-- whether each aggregation of a request may
 abbrev pub all_may_be_written : {B : Type 0} → Request B → Bool
 all_may_be_written request = list_all (λ a. may_be_written a.1) request

@@ -9,8 +9,9 @@ use Rattle.agg_values.specs.declared.order.Order.{Order}
 use Rattle.agg_values.specs.declared.order.MissingOrder.{MissingOrder}
 use Rattle.agg_request.specs.Builders.{left_behind, left_by_kind}
 use Rattle.agg_request.specs.Query.{IsFilter, Says}
-use Rattle.agg_request.specs.Request.{listed_in, own_builder}
-use Rattle.agg_request.specs.RequestJson.{IsAggregation, IsAsked}
+use Rattle.agg_request.specs.Request.{Request, with_builders_in, builders_of, listed_in}
+use Rattle.agg_request.specs.Request.{own_builder, with_builders}
+use Rattle.agg_request.specs.RequestJson.{IsAggregation, IsAsked, IsRequestJson}
 use Rattle.agg_request.specs.declared.aggregation.Aggregation.{Aggregation}
 use Rattle.agg_request.specs.declared.aggregation.AggregationVariants as variants
 use variants.{AggregationVariants}
@@ -70,11 +71,25 @@ SaysKind {B = B} name_of body agg =
 
 -- a value says an aggregation, within more levels than it has, and takes the builders that the
 -- aggregation has, the first of those that there are
-abbrev pub SaysAggregation : {B : Type 0} → (B → List ℕ) → Data → Aggregation B → Type 0
-SaysAggregation {B = B} name_of d a =
+abbrev pub SaysItself : {B : Type 0} → (B → List ℕ) → Data → Aggregation B → Type 0
+SaysItself {B = B} name_of d a =
     (n : ℕ) → depth d < n → (rest : List B)
     → IsAggregation false name_of n d (listed_in own_builder a ++ rest) a
     × (left_behind name_of n d (listed_in own_builder a ++ rest) ≡ Some rest)
+
+-- so it says each that is the same but for its builders, which have the same names
+abbrev pub SaysAggregation : {B : Type 0} → (B → List ℕ) → Data → Aggregation B → Type 0
+SaysAggregation {B = B} name_of d a =
+    (other : Aggregation B) → with_builders_in name_of other ≡ with_builders_in name_of a
+    → SaysItself name_of d other
+
+-- a value, read with the builders of a request that is the same but for its builders, which have
+-- the same names, is that request; others behind them are left over
+abbrev pub ReadsBack : {B : Type 0} → (B → List ℕ) → Data → Request B → Type 0
+ReadsBack {B = B} name_of d request =
+    (other : Request B) (rest : List B)
+    → with_builders name_of other ≡ with_builders name_of request
+    → IsRequestJson name_of d (builders_of other ++ rest) other
 
 -- the members with those below them, where there are any
 abbrev pub with_below : Members → Members → Members

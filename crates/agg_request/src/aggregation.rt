@@ -39,11 +39,11 @@ pub enum AggregationVariants<B = NamedBuilder> {
     Composite(CompositeAggregation),
     /// How many values a field has.
     Count(CountAggregation),
-    /// The greatest number or date of a field.
+    /// The greatest number or date of a field, a date in nanoseconds.
     Max(MaxAggregation),
-    /// The least number or date of a field.
+    /// The least number or date of a field, a date in nanoseconds.
     Min(MinAggregation),
-    /// The sum of the numbers and dates of a field.
+    /// The sum of the numbers and dates of a field, dates in nanoseconds.
     Sum(SumAggregation),
 }
 

@@ -20,6 +20,7 @@ pub trait QueryBuilder: Drop {
     /// The query that it makes for the fields of a schema, if any.
     ghost tree_for: { Self → List (List ℕ) → Option Tree };
 
+    /// The query for a schema; NoTree where there is none.
     fn build_query(&self, alloc: Global, schema: &Schema) -> Result<QueryTree, QueryBuildError>
         ensures ok { IfOk result (λ tree. tree_for self.now schema.now ≡ Some tree) }
         ensures none { IsErrOf result QueryBuildError.NoTree

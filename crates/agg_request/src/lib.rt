@@ -15,6 +15,7 @@ mod occurrences;
 mod query;
 mod read_error;
 mod request;
+mod same;
 mod source;
 mod writer;
 
@@ -36,7 +37,7 @@ pub use laws::{
 pub use occurrences::count_uncut;
 pub use query::read_query;
 pub use read_error::ReadError;
-pub use request::{Named, read_aggregations, read_request};
+pub use request::{HasName, read_aggregations, read_request};
 pub use source::{
     CompositeAggregationSource, DateHistogramCompositeAggregationSource,
     HistogramCompositeAggregationSource, TermCompositeAggregationSource,

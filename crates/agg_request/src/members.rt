@@ -1,7 +1,7 @@
 //! The members of bodies in JSON.
 ghost use Rattle.std.specs.Prelude.{◌≡◌, map, option_map};
 ghost use Rattle.serde_json.specs.View.{view};
-ghost use Rattle.agg_request.specs.Query.{IsField, has_only, is_among, text_at};
+ghost use Rattle.agg_request.specs.Json.{IsField, has_only, is_among, text_at};
 ghost use Rattle.agg_request.specs.Reading.{IsReading};
 
 use crate::ReadError;

@@ -2,10 +2,10 @@
 ghost use Rattle.std.specs.Prelude.{◌≡◌, ◌≢◌, ◌<◌, ◌⊎◌, ℕ, [], Err, IfOk, IsErrOf};
 ghost use Rattle.serde_json.specs.Data.{depth, items_depth};
 ghost use Rattle.serde_json.specs.View.{view, items_view};
-ghost use Rattle.agg_request.specs.Query.{EachIs, HasUnsupported, HasUnsupportedBody};
-ghost use Rattle.agg_request.specs.Query.{HasUnsupportedItem, HasUnsupportedIn, HasUnsupportedList};
-ghost use Rattle.agg_request.specs.Query.{HasUnsupportedQuery, IsBoolean, IsFilter, IsListAt};
-ghost use Rattle.agg_request.specs.Query.{IsNoQueryAtAll, IsOfKind, IsQuery};
+ghost use Rattle.agg_request.specs.Json.{EachIs, HasUnsupportedItem, HasUnsupportedList, IsListAt};
+ghost use Rattle.agg_request.specs.Query.{HasUnsupportedFilter, HasUnsupportedBody, HasUnsupportedIn};
+ghost use Rattle.agg_request.specs.Query.{HasUnsupportedQuery, IsBoolean, IsFilter, IsNoQueryAtAll};
+ghost use Rattle.agg_request.specs.Query.{IsOfKind, IsQuery};
 ghost use Rattle.agg_request.specs.Reading.{IsReading};
 ghost use Rattle.agg_segment.specs.declared.query.QueryTree.{QueryTree as Tree};
 
@@ -44,7 +44,7 @@ pub fn read_query(alloc: Global, value: &Value) -> Result<QueryTree, ReadError>
 fn read_filter(alloc: Global, value: &Value) -> Result<QueryTree, ReadError>
     ensures { (n : ℕ) → depth (view value.now) < n
         → IsReading (λ lenient. IsFilter lenient n (view value.now))
-        (HasUnsupported n (view value.now)) result }
+        (HasUnsupportedFilter n (view value.now)) result }
 {
     let Some((kind, body)) = only_member(value) else {
         return Err(ReadError::Grammar);
@@ -56,7 +56,7 @@ fn read_filter(alloc: Global, value: &Value) -> Result<QueryTree, ReadError>
 fn read_kind(alloc: Global, kind: &str, body: &Value) -> Result<QueryTree, ReadError>
     ensures { (n : ℕ) → depth (view body.now) < n
         → IsReading (λ lenient. IsOfKind lenient (IsFilter lenient n) kind.now (view body.now))
-        (HasUnsupportedIn (HasUnsupported n) kind.now (view body.now)) result }
+        (HasUnsupportedIn (HasUnsupportedFilter n) kind.now (view body.now)) result }
 {
     match kind {
         "all" => read_plain(body, QueryTree::All),
@@ -73,7 +73,7 @@ fn read_kind(alloc: Global, kind: &str, body: &Value) -> Result<QueryTree, ReadE
 fn read_bool(alloc: Global, body: &Value) -> Result<QueryTree, ReadError>
     ensures { (n : ℕ) → depth (view body.now) < n
         → IsReading (λ lenient. IsBoolean (IsFilter lenient n) (view body.now))
-        (HasUnsupportedBody (HasUnsupported n) (view body.now)) result }
+        (HasUnsupportedBody (HasUnsupportedFilter n) (view body.now)) result }
 {
     if !has_only(body, &["must", "should", "must_not"]) {
         return Err(ReadError::Grammar);
@@ -93,7 +93,7 @@ fn read_bool(alloc: Global, body: &Value) -> Result<QueryTree, ReadError>
 fn read_list(alloc: Global, body: &Value, name: &str) -> Result<ItemList<QueryTree>, ReadError>
     ensures { (n : ℕ) → depth (view body.now) < n
         → IsReading (λ lenient. IsListAt (IsFilter lenient n) name.now (view body.now))
-        (HasUnsupportedList (HasUnsupported n) name.now (view body.now)) result }
+        (HasUnsupportedList (HasUnsupportedFilter n) name.now (view body.now)) result }
 {
     let Some(found) = body.get(name) else {
         return Ok(ItemList::new(alloc));
@@ -108,7 +108,7 @@ fn read_list(alloc: Global, body: &Value, name: &str) -> Result<ItemList<QueryTr
 fn read_items(alloc: Global, items: &[Value]) -> Result<ItemList<QueryTree>, ReadError>
     ensures { (n : ℕ) → items_depth (items_view items.now) < n
         → IsReading (λ lenient. EachIs (IsFilter lenient n) (items_view items.now))
-        (HasUnsupportedItem (HasUnsupported n) (items_view items.now)) result }
+        (HasUnsupportedItem (HasUnsupportedFilter n) (items_view items.now)) result }
 {
     let mut trees = room_for(alloc, items.len())?;
     for item in items {

@@ -6,11 +6,12 @@ ghost use Rattle.serde_json.specs.View.{members_view, view};
 ghost use Rattle.agg_values.specs.Names.{put};
 ghost use Rattle.agg_request.specs.Builders.{left_behind, left_below, left_by_each};
 ghost use Rattle.agg_request.specs.Reading.{IsReadingWith};
+ghost use Rattle.agg_request.specs.Json.{HasUnsupportedMember};
 ghost use Rattle.agg_request.specs.RequestJson.{HasUnknownBuilder, HasUnsupportedAggregation};
-ghost use Rattle.agg_request.specs.RequestJson.{HasUnsupportedBelow, HasUnsupportedNamed};
-ghost use Rattle.agg_request.specs.RequestJson.{HasUnsupportedRequest, IsAggregation, IsBelow};
-ghost use Rattle.agg_request.specs.RequestJson.{IsNoRequest, IsNoRequestAtAll, IsRequestJson};
-ghost use Rattle.agg_request.specs.RequestJson.{IsRequestWithin, may_not_hold};
+ghost use Rattle.agg_request.specs.RequestJson.{HasUnsupportedBelow, HasUnsupportedRequest};
+ghost use Rattle.agg_request.specs.RequestJson.{IsAggregation, IsBelow, IsNoRequest};
+ghost use Rattle.agg_request.specs.RequestJson.{IsNoRequestAtAll, IsRequestJson, IsRequestWithin};
+ghost use Rattle.agg_request.specs.RequestJson.{may_not_hold};
 
 mod builders;
 mod kind;
@@ -20,7 +21,7 @@ mod tests;
 use crate::json_value::{has_member, is_inhabited, only_other};
 use crate::{Aggregation, Aggregations, NamedBuilder, ReadError};
 use agg_values::{NameMap, OutOfMemory, Text};
-pub use builders::Named;
+pub use builders::HasName;
 use kind::{is_metric, read_kind};
 use serde_json::{Map, Value};
 use std::alloc::Global;
@@ -47,7 +48,7 @@ pub fn read_aggregations(
 }
 
 /// The same with builders of any type that have names.
-pub fn read_request<B: Named>(
+pub fn read_request<B: HasName>(
     alloc: Global,
     value: &Value,
     builders: Vec<B>,
@@ -72,7 +73,7 @@ pub fn read_request<B: Named>(
 
 // Each member by its name.
 #[cycle(requests)]
-fn read_members<B: Named>(
+fn read_members<B: HasName>(
     alloc: Global,
     members: &Map<String, Value>,
     pool: &mut Vec<B>,
@@ -80,7 +81,7 @@ fn read_members<B: Named>(
     ensures read { (n : ℕ) → members_depth (members_view members.now.entries) < n
         → IsReadingWith (λ lenient. IsRequestWithin lenient B.name_of n
         (members_view members.now.entries))
-        (HasUnsupportedNamed (HasUnsupportedAggregation n) (members_view members.now.entries))
+        (HasUnsupportedMember (HasUnsupportedAggregation n) (members_view members.now.entries))
         (λ some. left_by_each (left_behind B.name_of n) (members_view members.now.entries) some
         ≡ None) pool.old.items result }
     ensures left { (n : ℕ) → members_depth (members_view members.now.entries) < n
@@ -110,7 +111,7 @@ fn put_aggregation<B: Drop>(
 
 // Its kind, and then what is below it.
 #[cycle(requests)]
-fn read_aggregation<B: Named>(
+fn read_aggregation<B: HasName>(
     alloc: Global,
     value: &Value,
     pool: &mut Vec<B>,
@@ -136,7 +137,7 @@ fn read_aggregation<B: Named>(
 
 // What is below an aggregation of this kind.
 #[cycle(requests)]
-fn read_below<B: Named>(
+fn read_below<B: HasName>(
     alloc: Global,
     kind: &str,
     value: &Value,

@@ -9,7 +9,7 @@ use agg_values::{MissingOrder, Order, OutOfMemory, Text};
 use std::alloc::Global;
 
 /// A source whose keys are the values of a field.
-#[derive(Debug, Drop)]
+#[derive(Debug, Drop, PartialEq)]
 pub struct TermCompositeAggregationSource {
     pub name: Text,
     pub field: Text,
@@ -35,7 +35,7 @@ impl TermCompositeAggregationSource {
 }
 
 /// A source whose keys are the starts of the buckets of a field's numbers and dates, as numbers.
-#[derive(Debug, Drop)]
+#[derive(Debug, Drop, PartialEq)]
 pub struct HistogramCompositeAggregationSource {
     pub name: Text,
     pub field: Text,
@@ -68,7 +68,7 @@ impl HistogramCompositeAggregationSource {
 
 /// A source whose keys are the starts of the buckets of a field's dates, as dates. One of its two
 /// intervals is set.
-#[derive(Debug, Drop)]
+#[derive(Debug, Drop, PartialEq)]
 pub struct DateHistogramCompositeAggregationSource {
     pub name: Text,
     pub field: Text,
@@ -112,7 +112,7 @@ fn copy_of(alloc: Global, text: Option<&Text>) -> Result<Option<Text>, OutOfMemo
 }
 
 /// A source of keys.
-#[derive(Debug, Drop)]
+#[derive(Debug, Drop, PartialEq)]
 pub enum CompositeAggregationSource {
     Terms(TermCompositeAggregationSource),
     Histogram(HistogramCompositeAggregationSource),

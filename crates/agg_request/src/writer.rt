@@ -1,11 +1,9 @@
 //! Requests to JSON.
 ghost use Rattle.std.specs.Prelude.{◌≡◌, IfOk, OnOk, true};
 ghost use Rattle.serde_json.specs.View.{members_view, view};
-ghost use Rattle.agg_request.specs.CompositeJson.{EachNamedIs};
-ghost use Rattle.agg_request.specs.Request.{builders_of};
-ghost use Rattle.agg_request.specs.RequestJson.{IsRequestJson};
+ghost use Rattle.agg_request.specs.Json.{EachNamedIs};
 ghost use Rattle.agg_request.specs.Written.{all_may_be_written, may_be_written};
-ghost use Rattle.agg_request.specs.WrittenJson.{SaysAggregation, with_below};
+ghost use Rattle.agg_request.specs.WrittenJson.{ReadsBack, SaysAggregation, with_below};
 
 mod composite;
 mod kind;
@@ -17,7 +15,7 @@ mod tests;
 mod words;
 mod writable;
 
-use crate::request::Named;
+use crate::request::HasName;
 use crate::{Aggregation, Aggregations};
 use agg_values::{NameMap, OutOfMemory};
 use kind::{kind_word, write_kind};
@@ -25,19 +23,18 @@ use serde_json::{Map, Value, put};
 use std::alloc::Global;
 pub use writable::may_be_written;
 
-/// The JSON value that says a request: read with the request's own builders, in the order in which
-/// it lists them, it is the same request.
+/// The JSON value that says a request: read with builders of the same names as the request's, in the
+/// order in which it lists them, it is the same request with these in their places.
 pub fn write_aggregations(alloc: Global, request: &Aggregations) -> Result<Value, OutOfMemory>
     requires { all_may_be_written request.now ≡ true }
-    ensures back { IfOk result (λ value. IsRequestJson (λ b. b.name) (view value)
-        (builders_of request.now) request.now) }
+    ensures back { IfOk result (λ value. ReadsBack (λ b. b.name) (view value) request.now) }
 {
     Ok(Value::from(write_request(alloc, request)?))
 }
 
 // The aggregations by their names.
 #[cycle(written)]
-fn write_request<B: Named>(
+fn write_request<B: HasName>(
     alloc: Global,
     request: &NameMap<Aggregation<B>>,
 ) -> Result<Map<String, Value>, OutOfMemory>
@@ -59,7 +56,7 @@ fn write_request<B: Named>(
 
 // Its kind, and those below it.
 #[cycle(written)]
-fn write_aggregation<B: Named>(
+fn write_aggregation<B: HasName>(
     alloc: Global,
     aggregation: &Aggregation<B>,
 ) -> Result<Value, OutOfMemory>

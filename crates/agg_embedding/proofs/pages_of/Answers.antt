@@ -26,7 +26,7 @@ returns g c =
           c.run_uncounted.result)
           c.new-source.ensures
           (no_pages c.args.builders.items (λ b. b.name) _ c.new-source.result _ _
-              c.run_uncounted.result
+          c.run_uncounted.result
           (ap (λ word. word ∷ []) c.in_ok-copy_of.ensures) c.in_default.not-Ok
           c.run_uncounted.ensures);
     }

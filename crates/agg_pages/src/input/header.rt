@@ -35,7 +35,7 @@ pub struct Header<B = NamedBuilder> {
 
 /// The header of a line. A filter of its request takes the first unused builder of the name that it
 /// asks for.
-pub fn read_header<B: Named>(
+pub fn read_header<B: HasName>(
     alloc: Global,
     builders: Vec<B>,
     line: &str,
@@ -50,7 +50,7 @@ pub fn read_header<B: Named>(
 }
 
 // Exactly a request, a name and a schema, and a query and a bucket limit if there are any.
-fn header_of_value<B: Named>(
+fn header_of_value<B: HasName>(
     alloc: Global,
     builders: Vec<B>,
     value: &Value,
@@ -78,7 +78,7 @@ fn header_of_value<B: Named>(
 }
 
 // The request of a header.
-fn request_in<B: Named>(
+fn request_in<B: HasName>(
     alloc: Global,
     builders: Vec<B>,
     value: &Value,
@@ -168,7 +168,7 @@ fn text_of(alloc: Global, value: &Value) -> Result<Text, InputError>
 }
 
 // A request of the form that a walk takes.
-fn request_of<B: Named>(
+fn request_of<B: HasName>(
     alloc: Global,
     builders: Vec<B>,
     value: &Value,

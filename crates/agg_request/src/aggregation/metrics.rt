@@ -18,7 +18,7 @@ impl CountAggregation {
     }
 }
 
-/// The greatest number or date of the field.
+/// The greatest number or date of the field, a date in nanoseconds.
 #[derive(Drop)]
 pub struct MaxAggregation {
     pub field: Text,
@@ -33,7 +33,7 @@ impl MaxAggregation {
     }
 }
 
-/// The least number or date of the field.
+/// The least number or date of the field, a date in nanoseconds.
 #[derive(Drop)]
 pub struct MinAggregation {
     pub field: Text,
@@ -48,7 +48,7 @@ impl MinAggregation {
     }
 }
 
-/// The sum of the numbers and dates of the field.
+/// The sum of the numbers and dates of the field, dates in nanoseconds.
 #[derive(Drop)]
 pub struct SumAggregation {
     pub field: Text,

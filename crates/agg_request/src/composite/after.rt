@@ -3,9 +3,9 @@ ghost use Rattle.std.specs.Prelude.{◌≡◌, OnOk, codes};
 ghost use Rattle.serde_json.specs.Find.{get};
 ghost use Rattle.serde_json.specs.View.{members_view, view};
 ghost use Rattle.agg_values.specs.Names.{put};
-ghost use Rattle.agg_request.specs.CompositeJson.{EachNamedIs, HasUnsupportedAfter};
-ghost use Rattle.agg_request.specs.CompositeJson.{HasUnsupportedMember, IsAfter};
-ghost use Rattle.agg_request.specs.CompositeJson.{IsKeyJson, IsUnsupportedKey};
+ghost use Rattle.agg_request.specs.CompositeJson.{HasUnsupportedAfter, IsAfter, IsKeyJson};
+ghost use Rattle.agg_request.specs.CompositeJson.{IsUnsupportedKey};
+ghost use Rattle.agg_request.specs.Json.{EachNamedIs, HasUnsupportedMember};
 ghost use Rattle.agg_request.specs.Reading.{IsReading};
 
 use crate::ReadError;
@@ -30,7 +30,7 @@ pub fn read_after(alloc: Global, body: &Value) -> Result<NameMap<AfterKey>, Read
 fn read_members(alloc: Global, members: &Map<String, Value>) -> Result<NameMap<AfterKey>, ReadError>
     ensures { IsReading
         (λ lenient. EachNamedIs (IsKeyJson lenient) (members_view members.now.entries))
-        (HasUnsupportedMember (members_view members.now.entries)) result }
+        (HasUnsupportedMember IsUnsupportedKey (members_view members.now.entries)) result }
 {
     let mut after = NameMap::new(alloc);
     for (name, value) in members.iter() {

@@ -1,7 +1,8 @@
 //! How many groups a page of a composite has room for.
-ghost use Rattle.std.specs.Prelude.{◌≡◌, ◌↔◌, IsTrue};
+ghost use Rattle.std.specs.Prelude.{◌≡◌, ◌↔◌, IsTrue, codes};
 ghost use Rattle.serde_json.specs.View.{view};
-ghost use Rattle.agg_request.specs.CompositeJson.{HasFloatSize, IsFloat, IsSizeOf};
+ghost use Rattle.agg_request.specs.CompositeJson.{IsSizeOf};
+ghost use Rattle.agg_request.specs.Json.{HasFloatAt, IsFloat};
 ghost use Rattle.agg_request.specs.Reading.{IsReading};
 
 use crate::ReadError;
@@ -11,7 +12,7 @@ use serde_json::Value;
 /// The size of a body, which has to be there.
 pub fn read_size(body: &Value) -> Result<u32, ReadError>
     ensures { IsReading (λ lenient. IsSizeOf lenient (view body.now))
-        (HasFloatSize (view body.now)) result }
+        (HasFloatAt (codes "size") (view body.now)) result }
 {
     let Some(size) = body.get("size") else {
         return Err(ReadError::Grammar);

@@ -5,7 +5,7 @@ ghost use Rattle.serde_json.specs.View.{items_view, view};
 ghost use Rattle.agg_request.specs.CompositeJson.{AreSources, HasUnsupportedInterval};
 ghost use Rattle.agg_request.specs.CompositeJson.{HasUnsupportedKind, HasUnsupportedSource};
 ghost use Rattle.agg_request.specs.CompositeJson.{IsSourceJson, IsSourceOfKind};
-ghost use Rattle.agg_request.specs.Query.{EachIs, HasUnsupportedItem};
+ghost use Rattle.agg_request.specs.Json.{EachIs, HasUnsupportedItem};
 ghost use Rattle.agg_request.specs.Reading.{IsReading};
 
 mod date_histogram;

@@ -5,7 +5,7 @@ use std::alloc::Global;
 use std::test::Fail;
 
 // Bodies with what is read: the size, each source and each after value, or the refusal.
-const BODIES: [(&str, &str); 53] = [
+const BODIES: [(&str, &str); 60] = [
     (
         r#"{"sources":[{"a":{"terms":{"field":"f"}}}],"size":10}"#,
         "10; a f Asc false Default",
@@ -137,6 +137,22 @@ const BODIES: [(&str, &str); 53] = [
     (
         r#"{"sources":[],"size":1,"after":{"a":"i64:1","b":"f64:"}}"#,
         "Unsupported",
+    ),
+    (
+        r#"{"sources":[{"a":{"avg":{"field":"f"}}}],"size":1}"#,
+        "Grammar",
+    ),
+    (r#"{"sources":[{"a":{"terms":["f"]}}],"size":1}"#, "Grammar"),
+    (r#"[[{"a":{"terms":{"field":"f"}}}],1]"#, "Grammar"),
+    (
+        r#"{"sources":[{"a":{"terms":{"field":"f","order":{"desc":null}}}}],"size":1}"#,
+        "Grammar",
+    ),
+    (r#"{"sources":[],"size":-0}"#, "Unsupported"),
+    (r#"{"sources":[],"size":1,"after":{"a":"f64"}}"#, "Grammar"),
+    (
+        r#"{"sources":[{"a":{"terms":{"field":"f","interval":0.5}}}],"size":1}"#,
+        "1; a f Asc false Default",
     ),
 ];
 

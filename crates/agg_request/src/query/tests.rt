@@ -3,7 +3,7 @@ use serde_json::Value;
 use std::test::Fail;
 
 // Values with what is read, as it is shown.
-const VALUES: [(&str, &str); 50] = [
+const VALUES: [(&str, &str); 64] = [
     (r#"{"all":{}}"#, "Ok(All)"),
     (r#"{"empty":{}}"#, "Ok(Empty)"),
     (
@@ -120,6 +120,38 @@ const VALUES: [(&str, &str); 50] = [
     (r#"{"bool":{"must":{"all":{}}}}"#, "Err(Grammar)"),
     (r#"{"bool":{"must":["a:b"]}}"#, "Err(Grammar)"),
     (r#"{"bool":{"should":[{"builder":"b"}]}}"#, "Err(Grammar)"),
+    (
+        r#"{"range":{"field":"a","gt":"f64:1"}}"#,
+        "Err(Unsupported)",
+    ),
+    (
+        r#"{"range":{"field":"a","lte":"f64:1"}}"#,
+        "Err(Unsupported)",
+    ),
+    (r#"{"range":{"field":"a","gte":"null:"}}"#, "Err(Grammar)"),
+    (
+        r#"{"range":{"field":"a","gt":"u64:1","gte":null}}"#,
+        "Err(Grammar)",
+    ),
+    (r#"{"range":{"field":1}}"#, "Err(Grammar)"),
+    (r#"{"range":"a"}"#, "Err(Grammar)"),
+    (r#"{"term":{"field":1,"value":"u64:1"}}"#, "Err(Grammar)"),
+    (r#"{"term":"a"}"#, "Err(Grammar)"),
+    (
+        r#"{"term":{"field":"f64:1","value":"u64:1"}}"#,
+        r#"Ok(Term { field: Text { inner: "f64:1" }, value: U64(1) })"#,
+    ),
+    (r#"{"bool":{"must":null}}"#, "Err(Grammar)"),
+    (
+        r#"{"bool":{"must":[{"term":{"field":"a","value":"f64:1"}}]}}"#,
+        "Err(Unsupported)",
+    ),
+    (
+        r#"{"bool":{"should":[{"term":{"field":"a","value":"f64:1"}}]}}"#,
+        "Err(Unsupported)",
+    ),
+    (r#"{"terms":{"field":"a"}}"#, "Err(Grammar)"),
+    (r#"{"all":null}"#, "Err(Grammar)"),
 ];
 
 #[test]

@@ -5,24 +5,26 @@ ghost use Rattle.agg_request.specs.Builders.{taken};
 use crate::NamedBuilder;
 
 /// What has a name.
-pub trait Named: Drop {
+pub trait HasName: Drop {
     /// The name.
     ghost name_of: { Self → List ℕ };
 
+    /// Its name.
     fn name(&self) -> &str
         ensures { result.now ≡ name_of self.now };
 }
 
-impl Named for NamedBuilder {
+impl HasName for NamedBuilder {
     ghost name_of = { λ b. b.name };
 
+    /// Its name.
     fn name(&self) -> &str {
         self.name.as_str()
     }
 }
 
 /// Takes the first builder of this name out.
-pub fn take_builder<B: Named>(pool: &mut Vec<B>, name: &str) -> Option<B>
+pub fn take_builder<B: HasName>(pool: &mut Vec<B>, name: &str) -> Option<B>
     ensures { option_map (λ b. (b, pool.new.items)) result
         ≡ taken B.name_of name.now pool.old.items }
 {

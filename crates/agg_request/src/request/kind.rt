@@ -3,13 +3,13 @@ ghost use Rattle.std.specs.Prelude.{◌≡◌, ◌⊎◌, codes, IsSome, IsTrue,
 ghost use Rattle.serde_json.specs.Find.{as_str};
 ghost use Rattle.serde_json.specs.View.{view};
 ghost use Rattle.agg_request.specs.Builders.{builder_name, left_by_filter, left_by_kind};
-ghost use Rattle.agg_request.specs.Json.{present};
-ghost use Rattle.agg_request.specs.Query.{HasUnsupportedQuery, is_among};
-ghost use Rattle.agg_request.specs.Reading.{IsReading, IsReadingWith};
+ghost use Rattle.agg_request.specs.Json.{is_among, present};
+ghost use Rattle.agg_request.specs.Query.{HasUnsupportedQuery};
 ghost use Rattle.agg_request.specs.RequestJson.{HasUnsupportedAsked, IsKind, IsMetric, IsQueryOf};
 ghost use Rattle.agg_request.specs.RequestJson.{IsUnsupportedKind, metric_kinds};
+ghost use Rattle.agg_request.specs.Reading.{IsReading, IsReadingWith};
 
-use super::builders::{Named, take_builder};
+use super::builders::{HasName, take_builder};
 use crate::json_value::{only_named, present};
 use crate::members::{is_among, read_field};
 use crate::{
@@ -21,7 +21,7 @@ use serde_json::Value;
 use std::alloc::Global;
 
 /// What the body of a kind asks.
-pub fn read_kind<B: Named>(
+pub fn read_kind<B: HasName>(
     alloc: Global,
     kind: &str,
     body: &Value,
@@ -103,7 +103,7 @@ fn read_metric(alloc: Global, body: &Value) -> Result<Text, ReadError>
 }
 
 // The query of a filter's body.
-fn read_filter<B: Named>(
+fn read_filter<B: HasName>(
     alloc: Global,
     body: &Value,
     pool: &mut Vec<B>,

@@ -14,7 +14,7 @@ const BUILDERS: [(&str, bool); 3] = [("b", true), ("c", true), ("b", false)];
 
 // Requests with what is read of them, each aggregation under its names and down to the third level,
 // a builder as its name and its query; or the refusal.
-const REQUESTS: [(&str, &str); 35] = [
+const REQUESTS: [(&str, &str); 47] = [
     ("{}", ""),
     (r#"{"a":{"filter":{"all":{}}}}"#, "a filter All; "),
     (
@@ -108,6 +108,33 @@ const REQUESTS: [(&str, &str); 35] = [
     (
         r#"{"a":{"filter":{"builder":"c"}},"b":{"filter":{"builder":"c"}},"c":{"median":{}}}"#,
         "UnknownBuilder",
+    ),
+    (r#""f:1""#, "Grammar"),
+    (r#"{"a":{"max":"f"}}"#, "Grammar"),
+    (r#"{"a":{"max":["f"]}}"#, "Grammar"),
+    (r#"{"a":{"avg":null}}"#, "Unsupported"),
+    (
+        r#"{"a":{"avg":{"field":"f"},"max":{"field":"f"}}}"#,
+        "Grammar",
+    ),
+    (r#"{"a":{"filter":{}}}"#, "Grammar"),
+    (r#"{"a":{"filter":{"builder":"c","boost":1}}}"#, "Grammar"),
+    (r#"{"a":{"filter":{"builder":"c","all":{}}}}"#, "Grammar"),
+    (
+        r#"{"a":{"filter":{"all":{}},"aggs":{"aggs":{"max":{"field":"f"}}}}}"#,
+        "a filter All; a>aggs max f; ",
+    ),
+    (
+        r#"{"a":{"filter":{"all":{}},"aggs":{"b":{"avg":{"field":"f"}}}}}"#,
+        "Unsupported",
+    ),
+    (
+        r#"{"a":{"filter":{"all":{}},"aggs":{"b":{"median":{}}}}}"#,
+        "Grammar",
+    ),
+    (
+        r#"{"a":{"composite":{"sources":[],"size":1},"aggs":{"b":{"filter":"f:1"}}}}"#,
+        "Unsupported",
     ),
 ];
 

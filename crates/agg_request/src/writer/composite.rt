@@ -2,7 +2,8 @@
 ghost use Rattle.std.specs.Prelude.{◌≡◌, codes, false, IfOk, OnOk, Option};
 ghost use Rattle.serde_json.specs.Data.{Data};
 ghost use Rattle.serde_json.specs.View.{members_view, view};
-ghost use Rattle.agg_request.specs.CompositeJson.{EachNamedIs, IsAfter, IsCompositeJson, IsKeyJson};
+ghost use Rattle.agg_request.specs.CompositeJson.{IsAfter, IsCompositeJson, IsKeyJson};
+ghost use Rattle.agg_request.specs.Json.{EachNamedIs};
 ghost use Rattle.agg_request.specs.WrittenJson.{with_some};
 
 use super::sources::write_sources;

@@ -8,7 +8,7 @@ ghost use Rattle.agg_request.specs.declared.aggregation.AggregationVariants.TheV
 use super::composite::write_composite;
 use super::objects::{field_member, object_of};
 use super::query::write_query;
-use crate::request::Named;
+use crate::request::HasName;
 use crate::{AggregationVariants, FilterAggregation, FilterQuery};
 use agg_values::{OutOfMemory, Text};
 use serde_json::Value;
@@ -29,7 +29,7 @@ pub fn kind_word<B>(agg: &AggregationVariants<B>) -> &'static str
 }
 
 /// The body of that kind.
-pub fn write_kind<B: Named>(
+pub fn write_kind<B: HasName>(
     alloc: Global,
     agg: &AggregationVariants<B>,
 ) -> Result<Value, OutOfMemory>
@@ -46,7 +46,7 @@ pub fn write_kind<B: Named>(
 }
 
 // The query of a filter, or the name of its builder.
-fn write_filter<B: Named>(
+fn write_filter<B: HasName>(
     alloc: Global,
     filter: &FilterAggregation<B>,
 ) -> Result<Value, OutOfMemory>

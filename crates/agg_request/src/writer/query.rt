@@ -2,7 +2,8 @@
 ghost use Rattle.std.specs.Prelude.{◌≡◌, IfOk, codes};
 ghost use Rattle.serde_json.specs.Data.{array, member, no_members, object};
 ghost use Rattle.serde_json.specs.View.{items_view, view};
-ghost use Rattle.agg_request.specs.Query.{EachIs, IsQuery};
+ghost use Rattle.agg_request.specs.Json.{EachIs};
+ghost use Rattle.agg_request.specs.Query.{IsQuery};
 ghost use Rattle.agg_request.specs.WrittenJson.{SaysFilter};
 
 mod leaves;

@@ -4,7 +4,7 @@ ghost use Rattle.serde_json.specs.Data.{object, member, no_members};
 ghost use Rattle.serde_json.specs.View.{items_view, members_view, view};
 ghost use Rattle.agg_request.specs.CompositeJson.{IsDateHistogramBody, IsHistogramBody};
 ghost use Rattle.agg_request.specs.CompositeJson.{IsSourceJson, IsTermsBody, unit_word};
-ghost use Rattle.agg_request.specs.Query.{EachIs};
+ghost use Rattle.agg_request.specs.Json.{EachIs};
 ghost use Rattle.agg_request.specs.WrittenJson.{shared_members, with_text};
 
 use super::objects::object_of;

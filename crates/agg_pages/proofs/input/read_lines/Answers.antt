@@ -11,7 +11,7 @@ returns-in_err-header-clause-not_input g c = λ refused.
     let p = err_from_is_err_and c.from_residual-in_err-header.result
     c.from_residual-in_err-header.ensures.1 in
     let step = rw c.in_ok-first.ensures.ok_part at c.next.ensures.steps in
-    no_header_lines c.args.builders.items g.B.Named.name_of c.args.lines c.in_ok-first.first.now
+    no_header_lines c.args.builders.items g.B.HasName.name_of c.args.lines c.in_ok-first.first.now
     c.next.new.self step
     (c.in_err-header.ensures.not_input (cc (refused, p.1, p.2)))
 
@@ -20,7 +20,7 @@ returns-in_err-snapshots-clause-not_input g c = λ refused.
     let p = err_from_is_err_and c.from_residual-in_err-snapshots.result
     c.from_residual-in_err-snapshots.ensures.1 in
     let step = rw c.in_ok-first.ensures.ok_part at c.next.ensures.steps in
-    no_snapshot_lines c.args.builders.items g.B.Named.name_of c.args.lines c.in_ok-first.first.now
+    no_snapshot_lines c.args.builders.items g.B.HasName.name_of c.args.lines c.in_ok-first.first.now
     c.next.new.self step
     (c.in_err-snapshots.ensures.not_input (cc (refused, p.1, p.2)))
 
@@ -31,11 +31,11 @@ returns-clause-ok g c =
       header = c.in_ok-header.header;
       snapshots = c.in_ok-snapshots.snapshots;
     } in
-    subst (λ lines. IsInputOfLines c.args.builders.items g.B.Named.name_of lines (input_of i))
+    subst (λ lines. IsInputOfLines c.args.builders.items g.B.HasName.name_of lines (input_of i))
     (sym step)
     (c.in_ok-header.ensures.ok, c.in_ok-snapshots.ensures.ok)
 
 pub returns-clause-form : goal.returns-clause-form
 returns-clause-form g c =
-    header_form c.args.builders.items g.B.Named.name_of c.in_ok-first.first.now
+    header_form c.args.builders.items g.B.HasName.name_of c.in_ok-first.first.now
     c.in_ok-header.header c.in_ok-header.ensures.ok

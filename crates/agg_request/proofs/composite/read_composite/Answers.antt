@@ -1,7 +1,8 @@
-use Rattle.std.proofs.Common.{inl, inr}
+use Rattle.std.proofs.Common.{inl, inr, codes}
 use Rattle.serde_json.specs.View.{view}
-use Rattle.agg_request.specs.CompositeJson.{AreSources, HasFloatSize, HasUnsupportedComposite}
+use Rattle.agg_request.specs.CompositeJson.{AreSources, HasUnsupportedComposite}
 use Rattle.agg_request.specs.CompositeJson.{HasUnsupportedSource, IsCompositeJson, IsSizeOf}
+use Rattle.agg_request.specs.Json.{HasFloatAt}
 use Rattle.agg_request.proofs.Readings.{refused_by}
 use Rattle.agg_request.proofs.composite.read_composite.Goals as goal
 
@@ -17,7 +18,7 @@ returns-in_err-sources c =
 pub returns-in_err-size : goal.returns-in_err-size
 returns-in_err-size c =
     let body = view c.args.body.now in
-    refused_by (λ lenient. IsSizeOf lenient body) (HasFloatSize body)
+    refused_by (λ lenient. IsSizeOf lenient body) (HasFloatAt (codes "size") body)
     (λ lenient. IsCompositeJson lenient body) (HasUnsupportedComposite body)
     c.in_err-size.field-0.0 c.from_residual-in_err-size.result
     c.from_residual-in_err-size.ensures.1 c.in_err-size.ensures (λ h. inl h)

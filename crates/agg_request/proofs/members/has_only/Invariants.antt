@@ -1,6 +1,6 @@
 use Rattle.std.proofs.Common.{◌≡◌, map}
 use Rattle.serde_json.specs.View.{view, members_view}
-use Rattle.agg_request.specs.Query.{all_among, has_only}
+use Rattle.agg_request.specs.Json.{all_among, has_only}
 use Rattle.agg_request.proofs.members.has_only.Given as goal
 
 abbrev pub invariant-loop-name : goal.invariant-loop-name

@@ -1,5 +1,5 @@
 use Rattle.std.proofs.Common.{◌≡◌, map, drop}
-use Rattle.agg_request.specs.Query.{is_among}
+use Rattle.agg_request.specs.Json.{is_among}
 use Rattle.agg_request.proofs.members.is_among.Given as goal
 
 abbrev pub invariant-loop-other : goal.invariant-loop-other

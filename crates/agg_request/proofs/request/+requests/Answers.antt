@@ -20,7 +20,7 @@ pub read_aggregation-returns-in_err-agg-clause-read
 read_aggregation-returns-in_err-agg-clause-read g t c =
     let found : only_other (codes "aggs") (view c.args.value.now)
     ≡ Some (c.in-Some.kind.now, view c.in-Some.body.now) = search rules in
-    λ n deep. refused_kind g.B.Named.name_of (view c.args.value.now) c.in-Some.kind.now
+    λ n deep. refused_kind g.B.HasName.name_of (view c.args.value.now) c.in-Some.kind.now
     (view c.in-Some.body.now) found n c.args.pool.now.items c.in_err-agg.field-0.0
     c.from_residual.result deep c.from_residual.ensures.1 c.in_err-agg.ensures.read
 
@@ -29,7 +29,7 @@ pub read_aggregation-returns-in_err-sub_aggregation-clause-read
 read_aggregation-returns-in_err-sub_aggregation-clause-read g t c =
     let found : only_other (codes "aggs") (view c.args.value.now)
     ≡ Some (c.in-Some.kind.now, view c.in-Some.body.now) = search rules in
-    λ n deep. refused_below g.B.Named.name_of (view c.args.value.now) c.in-Some.kind.now
+    λ n deep. refused_below g.B.HasName.name_of (view c.args.value.now) c.in-Some.kind.now
     (view c.in-Some.body.now) found n c.read_kind.new.pool.items c.args.pool.now.items
     c.in_err-sub_aggregation.field-0.0 c.from_residual-in_err-sub_aggregation.result deep
     c.from_residual-in_err-sub_aggregation.ensures.1 c.in_ok-agg.ensures.left
@@ -39,7 +39,7 @@ pub read_aggregation-returns-clause-read : goal.read_aggregation-returns-clause-
 read_aggregation-returns-clause-read g t c =
     let found : only_other (codes "aggs") (view c.args.value.now)
     ≡ Some (c.in-Some.kind.now, view c.in-Some.body.now) = search rules in
-    λ n deep. read_both g.B.Named.name_of (view c.args.value.now) c.in-Some.kind.now
+    λ n deep. read_both g.B.HasName.name_of (view c.args.value.now) c.in-Some.kind.now
     (view c.in-Some.body.now) found n c.read_kind.new.pool.items c.args.pool.now.items
     c.in_ok-agg.agg c.in_ok-sub_aggregation.sub_aggregation deep
     c.in_ok-agg.ensures.read c.in_ok-agg.ensures.left c.in_ok-sub_aggregation.ensures.read
@@ -48,7 +48,7 @@ pub read_aggregation-returns-clause-left : goal.read_aggregation-returns-clause-
 read_aggregation-returns-clause-left g t c =
     let found : only_other (codes "aggs") (view c.args.value.now)
     ≡ Some (c.in-Some.kind.now, view c.in-Some.body.now) = search rules in
-    λ n deep. left_by_both g.B.Named.name_of (view c.args.value.now) c.in-Some.kind.now
+    λ n deep. left_by_both g.B.HasName.name_of (view c.args.value.now) c.in-Some.kind.now
     (view c.in-Some.body.now) found n c.read_kind.new.pool.items c.args.pool.now.items
     c.read_below.new.pool.items deep c.in_ok-agg.ensures.left c.in_ok-sub_aggregation.ensures.left
 
@@ -74,7 +74,7 @@ read_below-returns-clause-read g t c =
     ≡ Some (members_view c.in-Some-as_object.members.now.entries) = search rules in
     let good : may_not_hold c.args.kind.now (members_view c.in-Some-as_object.members.now.entries)
     ≡ false = search rules in
-    λ n deep. read_there g.B.Named.name_of c.args.kind.now (view c.args.value.now)
+    λ n deep. read_there g.B.HasName.name_of c.args.kind.now (view c.args.value.now)
     (view c.in-Some.below.now) found (members_view c.in-Some-as_object.members.now.entries) inner
     good n c.args.pool.now.items c.read_members.result deep c.read_members.ensures.read
 
@@ -84,7 +84,7 @@ read_below-returns-clause-left g t c =
     search rules in
     let inner : as_object (view c.in-Some.below.now)
     ≡ Some (members_view c.in-Some-as_object.members.now.entries) = search rules in
-    λ n deep. left_there g.B.Named.name_of c.args.kind.now (view c.args.value.now)
+    λ n deep. left_there g.B.HasName.name_of c.args.kind.now (view c.args.value.now)
     (view c.in-Some.below.now) found (members_view c.in-Some-as_object.members.now.entries) inner n
     c.args.pool.now.items c.read_members.new.pool.items c.read_members.result deep
     c.read_members.ensures.left
@@ -98,8 +98,8 @@ read_members-loop-name-init g t c =
       tt,
       IsInOrder-none entries c.new-request.result c.into_iter-name-iterator.result
           c.new-request.ensures all c.iter-name-items.ensures.ordered,
-      λ n deep. IsPartRead-none (left_behind g.B.Named.name_of n)
-          (λ lenient. IsAggregation lenient g.B.Named.name_of n) (HasUnsupportedAggregation n)
+      λ n deep. IsPartRead-none (left_behind g.B.HasName.name_of n)
+          (λ lenient. IsAggregation lenient g.B.HasName.name_of n) (HasUnsupportedAggregation n)
           entries c.args.pool.now.items c.new-request.result c.into_iter-name-iterator.result
           c.new-request.ensures all,
     )
@@ -111,8 +111,8 @@ read_members-returns-in_err-aggregation-clause-read g t c =
     let all = members_view c.args.members.now.entries in
     let lower = next_lower all l.request l.name-iterator c.in-Some.name.now c.in-Some.member.now
     c.next.new.self l.invariant.2 c.in-Some.ensures.steps in
-    λ n deep. IsPartRead-refused (left_behind g.B.Named.name_of n)
-    (λ lenient. IsAggregation lenient g.B.Named.name_of n) (HasUnsupportedAggregation n) all
+    λ n deep. IsPartRead-refused (left_behind g.B.HasName.name_of n)
+    (λ lenient. IsAggregation lenient g.B.HasName.name_of n) (HasUnsupportedAggregation n) all
     c.args.pool.now.items l.request l.pool.items l.name-iterator c.in-Some.name.now
     c.in-Some.member.now c.next.new.self (l.invariant.3 n deep) c.in-Some.ensures.steps
     c.in_err-aggregation.field-0.0 c.from_residual.result c.from_residual.ensures.1
@@ -135,8 +135,8 @@ read_members-loop-name-preserved g t c =
       tt,
       IsInOrder-more all l.request l.name-iterator name member c.next.new.self l.invariant.2
           c.in-Some.ensures.steps c.put_aggregation.new.request a put_is,
-      λ n deep. IsPartRead-more (left_behind g.B.Named.name_of n)
-          (λ lenient. IsAggregation lenient g.B.Named.name_of n) (HasUnsupportedAggregation n) all
+      λ n deep. IsPartRead-more (left_behind g.B.HasName.name_of n)
+          (λ lenient. IsAggregation lenient g.B.HasName.name_of n) (HasUnsupportedAggregation n) all
           c.args.pool.now.items l.request l.pool.items l.name-iterator name member
           c.next.new.self (l.invariant.3 n deep) c.in-Some.ensures.steps
           c.put_aggregation.new.request c.read_aggregation.new.pool.items a
@@ -147,15 +147,15 @@ read_members-loop-name-preserved g t c =
 pub read_members-returns-clause-read : goal.read_members-returns-clause-read
 read_members-returns-clause-read g t c =
     let l = c.loop-name in
-    λ n deep. IsPartRead-all (left_behind g.B.Named.name_of n)
-    (λ lenient. IsAggregation lenient g.B.Named.name_of n) (HasUnsupportedAggregation n)
+    λ n deep. IsPartRead-all (left_behind g.B.HasName.name_of n)
+    (λ lenient. IsAggregation lenient g.B.HasName.name_of n) (HasUnsupportedAggregation n)
     (members_view c.args.members.now.entries) c.args.pool.now.items l.request l.pool.items
     l.name-iterator (l.invariant.3 n deep) c.in-None.ensures.steps.0
 
 pub read_members-returns-clause-left : goal.read_members-returns-clause-left
 read_members-returns-clause-left g t c =
     let l = c.loop-name in
-    λ n deep. IsPartRead-left (left_behind g.B.Named.name_of n)
-    (λ lenient. IsAggregation lenient g.B.Named.name_of n) (HasUnsupportedAggregation n)
+    λ n deep. IsPartRead-left (left_behind g.B.HasName.name_of n)
+    (λ lenient. IsAggregation lenient g.B.HasName.name_of n) (HasUnsupportedAggregation n)
     (members_view c.args.members.now.entries) c.args.pool.now.items l.request l.pool.items
     l.name-iterator (l.invariant.3 n deep) c.in-None.ensures.steps.0

@@ -22,6 +22,6 @@ invariant-read_members-loop-name g l =
     × (goal.iterator-read_members-loop-name g).is_finite l.name-iterator
     × IsInOrder (members_view l.members.entries) l.request l.name-iterator
     × ((n : ℕ) → members_depth (members_view l.members.entries) < n
-    → IsPartRead (left_behind g.B.Named.name_of n)
-    (λ lenient. IsAggregation lenient g.B.Named.name_of n) (HasUnsupportedAggregation n)
+    → IsPartRead (left_behind g.B.HasName.name_of n)
+    (λ lenient. IsAggregation lenient g.B.HasName.name_of n) (HasUnsupportedAggregation n)
     (members_view l.members.entries) l.fn.pool.items l.request l.pool.items l.name-iterator)

@@ -8,7 +8,7 @@ pub returns-clause-ok : goal.returns-clause-ok
 returns-clause-ok g c =
     let found : as_object (view c.args.value.now)
     ≡ Some (members_view c.in-Some.members.now.entries) = search rules in
-    read_ok c.args.builders.items g.B.Named.name_of (view c.args.value.now)
+    read_ok c.args.builders.items g.B.HasName.name_of (view c.args.value.now)
     (members_view c.in-Some.members.now.entries) found c.read_members.result
     c.read_members.ensures.read
 
@@ -16,7 +16,7 @@ pub returns-clause-unsupported : goal.returns-clause-unsupported
 returns-clause-unsupported g c =
     let found : as_object (view c.args.value.now)
     ≡ Some (members_view c.in-Some.members.now.entries) = search rules in
-    unsupported c.args.builders.items g.B.Named.name_of (view c.args.value.now)
+    unsupported c.args.builders.items g.B.HasName.name_of (view c.args.value.now)
     (members_view c.in-Some.members.now.entries) found c.read_members.result
     c.read_members.ensures.read
 
@@ -24,7 +24,7 @@ pub returns-clause-grammar : goal.returns-clause-grammar
 returns-clause-grammar g c =
     let found : as_object (view c.args.value.now)
     ≡ Some (members_view c.in-Some.members.now.entries) = search rules in
-    outside c.args.builders.items g.B.Named.name_of (view c.args.value.now)
+    outside c.args.builders.items g.B.HasName.name_of (view c.args.value.now)
     (members_view c.in-Some.members.now.entries) found c.read_members.result
     c.read_members.ensures.read
 
@@ -32,7 +32,7 @@ pub returns-clause-unknown : goal.returns-clause-unknown
 returns-clause-unknown g c =
     let found : as_object (view c.args.value.now)
     ≡ Some (members_view c.in-Some.members.now.entries) = search rules in
-    unknown c.args.builders.items g.B.Named.name_of (view c.args.value.now)
+    unknown c.args.builders.items g.B.HasName.name_of (view c.args.value.now)
     (members_view c.in-Some.members.now.entries) found c.read_members.result
     c.read_members.ensures.read
 
@@ -40,6 +40,6 @@ pub returns-clause-none : goal.returns-clause-none
 returns-clause-none g c =
     let found : as_object (view c.args.value.now)
     ≡ Some (members_view c.in-Some.members.now.entries) = search rules in
-    no_request c.args.builders.items g.B.Named.name_of (view c.args.value.now)
+    no_request c.args.builders.items g.B.HasName.name_of (view c.args.value.now)
     (members_view c.in-Some.members.now.entries) found c.read_members.result
     c.read_members.ensures.read

@@ -4,7 +4,7 @@ use Rattle.serde_json.specs.View.{members_view, view}
 use Rattle.agg_request.specs.Request.{agg_of, below_of}
 use Rattle.agg_request.specs.WrittenJson.{SaysAggregation, kind_word, with_below}
 use Rattle.agg_request.proofs.RequestTrees.{height, height-out, levels}
-use Rattle.agg_request.proofs.Writable.{AreWritable-more, may-hold}
+use Rattle.agg_request.proofs.Writable.{AreWritable-more, may-below}
 use Rattle.agg_request.proofs.WrittenMembers.{AreWrittenUpTo-more}
 use Rattle.agg_request.proofs.WrittenRequests.{says-aggregation}
 use Rattle.agg_request.proofs.writer.+written.Goals as goal
@@ -12,7 +12,7 @@ use Rattle.agg_request.proofs.writer.+written.Goals as goal
 pub write_aggregation-write_request-requires : goal.write_aggregation-write_request-requires
 write_aggregation-write_request-requires g t c =
     let a = c.args.aggregation.now in
-    let may = (may-hold a c.requires).each in
+    let may = may-below a c.requires in
     let smaller : 2 * levels (below_of a) + 1 < 2 * height a = omega (arith, height-out a) in
     search (rules, may)
 
@@ -22,7 +22,7 @@ write_request-loop-name-preserved g t c =
     let d = view c.in_ok-write_aggregation.field-0 in
     let a = c.in-Some.aggregation.now in
     let name = c.in-Some.name.now in (
-      AreWrittenUpTo-more (SaysAggregation g.B.Named.name_of) c.args.request.now
+      AreWrittenUpTo-more (SaysAggregation g.B.HasName.name_of) c.args.request.now
           c.loop-name.name-iterator before (members_view c.put.new.map.entries) name d a
           c.next.new.self c.loop-name.invariant.0 c.in-Some.ensures.steps
           c.in_ok-write_aggregation.ensures
@@ -38,6 +38,6 @@ write_aggregation-returns g t c =
     let below = members_view c.in_ok-write_request.field-0.entries in
     let own : members_view c.put.new.map.entries ≡ member (kind_word (agg_of a)) body no_members =
     search rules in
-    says-aggregation g.B.Named.name_of (view c.from.result) body below a
+    says-aggregation g.B.HasName.name_of (view c.from.result) body below a
     (c.from.ensures ∙ ap object (c.in_ok-put_below.ensures ∙ ap (with_below below) own))
     c.in_ok-body.ensures c.in_ok-write_request.ensures c.requires

@@ -14,6 +14,6 @@ decreases-write_aggregation g l = 2 * height l.aggregation.now
 
 abbrev pub invariant-write_request-loop-name : goal.invariant-write_request-loop-name
 invariant-write_request-loop-name g l =
-    AreWrittenUpTo (SaysAggregation g.B.Named.name_of) l.request l.name-iterator
+    AreWrittenUpTo (SaysAggregation g.B.HasName.name_of) l.request l.name-iterator
     (members_view l.members.entries)
     × AreWritable l.request l.name-iterator

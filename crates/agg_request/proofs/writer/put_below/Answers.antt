@@ -1,4 +1,4 @@
-use Rattle.std.proofs.Common.{◌≡◌, ◌∷◌, [], List, codes, false, length, true, true≢false, refl, sym}
+use Rattle.std.proofs.Common.{◌≡◌, ◌∷◌, [], List, codes, length, true≢false, refl, sym}
 use Rattle.std.proofs.Common.{ap, ◌∙◌}
 use Rattle.serde_json.specs.Data.{Members, object, put}
 use Rattle.serde_json.specs.View.{members_view}

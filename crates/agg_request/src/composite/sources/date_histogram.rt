@@ -3,8 +3,8 @@ ghost use Rattle.std.specs.Prelude.{◌≡◌, ◌≢◌, IfNone, IfSome, Some, 
 ghost use Rattle.serde_json.specs.Find.{as_str};
 ghost use Rattle.serde_json.specs.View.{view};
 ghost use Rattle.agg_calendar.specs.declared.interval.CalendarInterval.{CalendarInterval as Unit};
-ghost use Rattle.agg_request.specs.CompositeJson.{IsDateHistogramBody, IsGiven, unit_word};
-ghost use Rattle.agg_request.specs.Json.{present};
+ghost use Rattle.agg_request.specs.CompositeJson.{IsDateHistogramBody, unit_word};
+ghost use Rattle.agg_request.specs.Json.{IsGiven, present};
 ghost use Rattle.agg_request.specs.Reading.{IsReading};
 
 use crate::composite::words::{missing_bucket, missing_order, order};

@@ -1,6 +1,8 @@
 //! Histogram sources.
+ghost use Rattle.std.specs.Prelude.{codes};
 ghost use Rattle.serde_json.specs.View.{view};
-ghost use Rattle.agg_request.specs.CompositeJson.{HasFloatInterval, IsHistogramBody, IsIntervalOf};
+ghost use Rattle.agg_request.specs.CompositeJson.{IsHistogramBody, IsIntervalOf};
+ghost use Rattle.agg_request.specs.Json.{HasFloatAt};
 ghost use Rattle.agg_request.specs.Reading.{IsReading};
 
 use crate::composite::words::{missing_bucket, missing_order, order};
@@ -17,7 +19,7 @@ pub fn read_histogram(
     body: &Value,
 ) -> Result<HistogramCompositeAggregationSource, ReadError>
     ensures { IsReading (λ lenient. IsHistogramBody lenient name.now (view body.now))
-        (HasFloatInterval (view body.now)) result }
+        (HasFloatAt (codes "interval") (view body.now)) result }
 {
     Ok(HistogramCompositeAggregationSource {
         name: Text::copy_of(alloc, name)?,
@@ -32,7 +34,7 @@ pub fn read_histogram(
 // The interval of a body, which has to be there.
 fn read_interval(body: &Value) -> Result<i64, ReadError>
     ensures { IsReading (λ lenient. IsIntervalOf lenient (view body.now))
-        (HasFloatInterval (view body.now)) result }
+        (HasFloatAt (codes "interval") (view body.now)) result }
 {
     let Some(interval) = body.get("interval") else {
         return Err(ReadError::Grammar);

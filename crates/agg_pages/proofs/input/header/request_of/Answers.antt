@@ -10,7 +10,7 @@ use Rattle.agg_pages.proofs.input.header.request_of.Goals as goal
 pub returns-in_err-request-clause-not_input : goal.returns-in_err-request-clause-not_input
 returns-in_err-request-clause-not_input g c = λ refused.
     let p = err_from_is_err_and c.from_residual.result c.from_residual.ensures.1 in
-    let none : IsNoRequest g.B.Named.name_of (view c.args.value.now) c.args.builders.items =
+    let none : IsNoRequest g.B.HasName.name_of (view c.args.value.now) c.args.builders.items =
     elim (p.2 (cc (refused, p.1))) [
       | inl unsupported ↦ c.in_err-request.ensures.none (inl (ap Err unsupported))
       | inr other ↦ elim other [
@@ -24,7 +24,7 @@ pub returns-then-not-is_one_composite-clause-not_input
     : goal.returns-then-not-is_one_composite-clause-not_input
 returns-then-not-is_one_composite-clause-not_input g c = λ _.
     let request = c.in_ok-request.request in
-    other_form c.args.builders.items g.B.Named.name_of (view c.args.value.now) request
+    other_form c.args.builders.items g.B.HasName.name_of (view c.args.value.now) request
     c.in_ok-request.ensures.ok
     (subst (λ b. MatchBool b (IsOneComposite request) (¬ (IsOneComposite request)))
     c.if-not-is_one_composite.true c.is_one_composite.ensures)

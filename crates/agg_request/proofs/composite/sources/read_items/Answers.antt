@@ -1,7 +1,7 @@
 use Rattle.std.proofs.Common.{false, sym, subst}
 use Rattle.serde_json.specs.View.{items_view, view}
 use Rattle.agg_request.specs.CompositeJson.{HasUnsupportedKind, IsSourceJson}
-use Rattle.agg_request.specs.Query.{EachIs, HasUnsupportedItem}
+use Rattle.agg_request.specs.Json.{EachIs, HasUnsupportedItem}
 use Rattle.agg_request.proofs.Items.{each_at, each_more, some_at}
 use Rattle.agg_request.proofs.Readings.{refused_by}
 use Rattle.agg_request.proofs.composite.sources.read_items.Goals as goal

@@ -1,7 +1,7 @@
 use Rattle.std.proofs.Common.{false, take}
 use Rattle.serde_json.specs.View.{items_view}
 use Rattle.agg_request.specs.CompositeJson.{IsSourceJson}
-use Rattle.agg_request.specs.Query.{EachIs}
+use Rattle.agg_request.specs.Json.{EachIs}
 use Rattle.agg_request.proofs.composite.sources.read_items.Given as goal
 
 -- the items so far are read

@@ -1,7 +1,8 @@
+use Rattle.std.proofs.Common.{codes}
 use Rattle.serde_json.specs.View.{view}
-use Rattle.agg_request.specs.CompositeJson.{HasFloatInterval, HasUnsupportedInterval}
-use Rattle.agg_request.specs.CompositeJson.{IsDateHistogramBody, IsHistogramBody, IsSourceOfKind}
-use Rattle.agg_request.specs.CompositeJson.{IsTermsBody}
+use Rattle.agg_request.specs.CompositeJson.{HasUnsupportedInterval, IsDateHistogramBody}
+use Rattle.agg_request.specs.CompositeJson.{IsHistogramBody, IsSourceOfKind, IsTermsBody}
+use Rattle.agg_request.specs.Json.{HasFloatAt}
 use Rattle.agg_request.proofs.CompositeSources.{dates_of, numbers_of, terms_of}
 use Rattle.agg_request.proofs.Readings.{refused_by}
 use Rattle.agg_request.proofs.composite.sources.read_kind.Goals as goal
@@ -21,7 +22,7 @@ returns-in_err-read_histogram-in-histogram c =
     let name = c.args.name.now in
     let kind = c.args.kind.now in
     let body = view c.args.body.now in
-    refused_by (λ lenient. IsHistogramBody lenient name body) (HasFloatInterval body)
+    refused_by (λ lenient. IsHistogramBody lenient name body) (HasFloatAt (codes "interval") body)
     (λ lenient. IsSourceOfKind lenient name kind body) (HasUnsupportedInterval kind body)
     c.in_err-read_histogram-in-histogram.field-0.0
     c.from_residual-in_err-read_histogram-in-histogram.result

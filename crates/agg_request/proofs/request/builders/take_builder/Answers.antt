@@ -6,7 +6,7 @@ use Rattle.agg_request.proofs.request.builders.take_builder.Goals as goal
 pub returns-then-eq : goal.returns-then-eq
 returns-then-eq g c =
     let l = c.loop-i in
-    let name_of = g.B.Named.name_of in
+    let name_of = g.B.HasName.name_of in
     let is : bytes_eq (name_of c.index.result.now) c.args.name.now ≡ true = search rules in
     ap (λ ys. Some (c.remove.result, ys)) c.remove.ensures.items
     ∙ taken_at name_of c.args.name.now l.pool.items l.i c.remove.result c.index.result.now
@@ -16,5 +16,5 @@ returns-then-eq g c =
 pub returns : goal.returns
 returns g c =
     let l = c.loop-i in
-    taken_nowhere g.B.Named.name_of c.args.name.now l.pool.items l.i (omega arith) l.invariant.1
-    ∙ ap (taken g.B.Named.name_of c.args.name.now) l.invariant.0
+    taken_nowhere g.B.HasName.name_of c.args.name.now l.pool.items l.i (omega arith) l.invariant.1
+    ∙ ap (taken g.B.HasName.name_of c.args.name.now) l.invariant.0

@@ -7,5 +7,5 @@ use Rattle.agg_request.proofs.request.builders.take_builder.Given as goal
 abbrev pub invariant-loop-i : goal.invariant-loop-i
 invariant-loop-i g l =
     (l.pool.items ≡ l.fn.pool.items)
-    × (taken g.B.Named.name_of l.name l.pool.items
-    ≡ before (take l.i l.pool.items) (taken g.B.Named.name_of l.name (drop l.i l.pool.items)))
+    × (taken g.B.HasName.name_of l.name l.pool.items
+    ≡ before (take l.i l.pool.items) (taken g.B.HasName.name_of l.name (drop l.i l.pool.items)))

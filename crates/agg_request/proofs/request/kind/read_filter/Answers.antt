@@ -8,7 +8,7 @@ pub returns-in_err-read_query-in-None-clause-read
     : goal.returns-in_err-read_query-in-None-clause-read
 returns-in_err-read_query-in-None-clause-read g c =
     let plain : builder_name (view c.args.body.now) ≡ None = search rules in
-    refused_tree g.B.Named.name_of (view c.args.body.now) plain c.args.pool.now.items
+    refused_tree g.B.HasName.name_of (view c.args.body.now) plain c.args.pool.now.items
     c.in_err-read_query-in-None.field-0.0 c.read_query.result c.from_residual.result
     c.from_residual.ensures.1 c.in_err-read_query-in-None.was c.read_query.ensures.unsupported
     c.read_query.ensures.grammar c.read_query.ensures.none c.read_query.ensures.kinds

@@ -6,7 +6,7 @@ use Rattle.agg_request.proofs.request.kind.read_kind.Goals as goal
 pub returns-in_err-read_metric-in-value_count-clause-read
     : goal.returns-in_err-read_metric-in-value_count-clause-read
 returns-in_err-read_metric-in-value_count-clause-read g c =
-    refused_metric g.B.Named.name_of c.args.kind.now (codes "value_count") c.in-value_count.is refl
+    refused_metric g.B.HasName.name_of c.args.kind.now (codes "value_count") c.in-value_count.is refl
     refl (view c.args.body.now) c.args.pool.now.items
     (c.in_err-read_metric-in-value_count).field-0.0
     (c.from_residual-in_err-read_metric-in-value_count).result
@@ -16,7 +16,7 @@ returns-in_err-read_metric-in-value_count-clause-read g c =
 pub returns-in_err-read_metric-in-max-clause-read
     : goal.returns-in_err-read_metric-in-max-clause-read
 returns-in_err-read_metric-in-max-clause-read g c =
-    refused_metric g.B.Named.name_of c.args.kind.now (codes "max") c.in-max.is refl refl
+    refused_metric g.B.HasName.name_of c.args.kind.now (codes "max") c.in-max.is refl refl
     (view c.args.body.now) c.args.pool.now.items (c.in_err-read_metric-in-max).field-0.0
     (c.from_residual-in_err-read_metric-in-max).result
     (c.from_residual-in_err-read_metric-in-max).ensures.1
@@ -25,7 +25,7 @@ returns-in_err-read_metric-in-max-clause-read g c =
 pub returns-in_err-read_metric-in-min-clause-read
     : goal.returns-in_err-read_metric-in-min-clause-read
 returns-in_err-read_metric-in-min-clause-read g c =
-    refused_metric g.B.Named.name_of c.args.kind.now (codes "min") c.in-min.is refl refl
+    refused_metric g.B.HasName.name_of c.args.kind.now (codes "min") c.in-min.is refl refl
     (view c.args.body.now) c.args.pool.now.items (c.in_err-read_metric-in-min).field-0.0
     (c.from_residual-in_err-read_metric-in-min).result
     (c.from_residual-in_err-read_metric-in-min).ensures.1
@@ -34,7 +34,7 @@ returns-in_err-read_metric-in-min-clause-read g c =
 pub returns-in_err-read_metric-in-sum-clause-read
     : goal.returns-in_err-read_metric-in-sum-clause-read
 returns-in_err-read_metric-in-sum-clause-read g c =
-    refused_metric g.B.Named.name_of c.args.kind.now (codes "sum") c.in-sum.is refl refl
+    refused_metric g.B.HasName.name_of c.args.kind.now (codes "sum") c.in-sum.is refl refl
     (view c.args.body.now) c.args.pool.now.items (c.in_err-read_metric-in-sum).field-0.0
     (c.from_residual-in_err-read_metric-in-sum).result
     (c.from_residual-in_err-read_metric-in-sum).ensures.1

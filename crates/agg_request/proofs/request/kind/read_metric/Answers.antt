@@ -1,7 +1,6 @@
 use Rattle.std.proofs.Common.{IsSome, codes}
 use Rattle.serde_json.specs.View.{view}
-use Rattle.agg_request.specs.Json.{present}
-use Rattle.agg_request.specs.Query.{IsField}
+use Rattle.agg_request.specs.Json.{IsField, present}
 use Rattle.agg_request.specs.RequestJson.{IsMetric}
 use Rattle.agg_request.proofs.Readings.{refused_by}
 use Rattle.agg_request.proofs.request.kind.read_metric.Goals as goal

@@ -2,7 +2,7 @@ use Rattle.std.proofs.Common.{◌≡◌, codes, false, ap, ◌∙◌, subst, rul
 use Rattle.serde_json.specs.Data.{object, array, member, no_members}
 use Rattle.serde_json.specs.View.{items_view, members_view, view}
 use Rattle.agg_request.specs.CompositeJson.{IsSourceJson}
-use Rattle.agg_request.specs.Query.{EachIs}
+use Rattle.agg_request.specs.Json.{EachIs}
 use Rattle.agg_request.specs.WrittenJson.{with_some}
 use Rattle.agg_request.proofs.WrittenComposites.{is-composite}
 use Rattle.agg_request.proofs.writer.composite.write_composite.Goals as goal

@@ -1,7 +1,8 @@
 use Rattle.std.proofs.Common.{◌≡◌, ◌<◌, ℕ, [], codes, false, true, inl, inr, refl, sym, subst}
 use Rattle.serde_json.specs.Data.{depth}
 use Rattle.serde_json.specs.View.{items_view, view}
-use Rattle.agg_request.specs.Query.{IsBoolean, IsExists, IsFilter, IsRange, IsTerm, has_only}
+use Rattle.agg_request.specs.Json.{has_only}
+use Rattle.agg_request.specs.Query.{IsBoolean, IsExists, IsFilter, IsRange, IsTerm}
 use Rattle.agg_request.specs.WrittenJson.{SaysFilter}
 use Rattle.agg_request.proofs.WrittenFilters.{is-boolean, says-filter}
 use Rattle.agg_request.proofs.WrittenSources.{each_written}

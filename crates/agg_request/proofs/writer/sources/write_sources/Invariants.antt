@@ -1,7 +1,7 @@
 use Rattle.std.proofs.Common.{false, take}
 use Rattle.serde_json.specs.View.{items_view}
 use Rattle.agg_request.specs.CompositeJson.{IsSourceJson}
-use Rattle.agg_request.specs.Query.{EachIs}
+use Rattle.agg_request.specs.Json.{EachIs}
 use Rattle.agg_request.proofs.writer.sources.write_sources.Given as goal
 
 abbrev pub invariant-loop-source : goal.invariant-loop-source

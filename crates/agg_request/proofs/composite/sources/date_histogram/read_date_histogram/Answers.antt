@@ -3,10 +3,9 @@ use Rattle.serde_json.specs.Find.{as_str, get}
 use Rattle.serde_json.specs.View.{view}
 use Rattle.agg_values.specs.declared.order.MissingOrder.TheVariants.{Default}
 use Rattle.agg_values.specs.declared.order.Order.TheVariants.{Asc}
-use Rattle.agg_request.specs.CompositeJson.{IsDateHistogramBody, IsGiven, IsWordOr}
-use Rattle.agg_request.specs.CompositeJson.{missing_order_word, order_word, unit_word}
-use Rattle.agg_request.specs.Json.{present}
-use Rattle.agg_request.specs.Query.{IsField}
+use Rattle.agg_request.specs.CompositeJson.{IsDateHistogramBody, IsWordOr, missing_order_word}
+use Rattle.agg_request.specs.CompositeJson.{order_word, unit_word}
+use Rattle.agg_request.specs.Json.{IsField, IsGiven, present}
 use Rattle.agg_request.proofs.Readings.{refused_part}
 use Rattle.agg_request.proofs.composite.sources.date_histogram.read_date_histogram.Goals as goal
 

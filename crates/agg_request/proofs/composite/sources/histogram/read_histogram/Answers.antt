@@ -3,9 +3,9 @@ use Rattle.serde_json.specs.Find.{get}
 use Rattle.serde_json.specs.View.{view}
 use Rattle.agg_values.specs.declared.order.MissingOrder.TheVariants.{Default}
 use Rattle.agg_values.specs.declared.order.Order.TheVariants.{Asc}
-use Rattle.agg_request.specs.CompositeJson.{HasFloatInterval, IsHistogramBody, IsIntervalOf}
-use Rattle.agg_request.specs.CompositeJson.{IsWordOr, missing_order_word, order_word}
-use Rattle.agg_request.specs.Query.{IsField}
+use Rattle.agg_request.specs.CompositeJson.{IsHistogramBody, IsIntervalOf, IsWordOr}
+use Rattle.agg_request.specs.CompositeJson.{missing_order_word, order_word}
+use Rattle.agg_request.specs.Json.{HasFloatAt, IsField}
 use Rattle.agg_request.proofs.Readings.{refused_by}
 use Rattle.agg_request.proofs.composite.sources.histogram.read_histogram.Goals as goal
 
@@ -13,7 +13,7 @@ pub returns-in_err-read_field : goal.returns-in_err-read_field
 returns-in_err-read_field c =
     let body = view c.args.body.now in
     refused_by (λ lenient. IsField body) ⊥
-    (λ lenient. IsHistogramBody lenient c.args.name.now body) (HasFloatInterval body)
+    (λ lenient. IsHistogramBody lenient c.args.name.now body) (HasFloatAt (codes "interval") body)
     c.in_err-read_field.field-0.0
     c.from_residual-in_err-read_field.result c.from_residual-in_err-read_field.ensures.1
     c.in_err-read_field.ensures (λ h. absurd h) (λ lenient source h. (source.field, h.1))
@@ -21,8 +21,8 @@ returns-in_err-read_field c =
 pub returns-in_err-read_interval : goal.returns-in_err-read_interval
 returns-in_err-read_interval c =
     let body = view c.args.body.now in
-    refused_by (λ lenient. IsIntervalOf lenient body) (HasFloatInterval body)
-    (λ lenient. IsHistogramBody lenient c.args.name.now body) (HasFloatInterval body)
+    refused_by (λ lenient. IsIntervalOf lenient body) (HasFloatAt (codes "interval") body)
+    (λ lenient. IsHistogramBody lenient c.args.name.now body) (HasFloatAt (codes "interval") body)
     c.in_err-read_interval.field-0.0
     c.from_residual-in_err-read_interval.result c.from_residual-in_err-read_interval.ensures.1
     c.in_err-read_interval.ensures (λ h. h) (λ lenient source h. (source.interval, h.2))
@@ -31,7 +31,7 @@ pub returns-in_err-order : goal.returns-in_err-order
 returns-in_err-order c =
     let body = view c.args.body.now in
     refused_by (λ lenient. IsWordOr Asc order_word (get (codes "order") body)) ⊥
-    (λ lenient. IsHistogramBody lenient c.args.name.now body) (HasFloatInterval body)
+    (λ lenient. IsHistogramBody lenient c.args.name.now body) (HasFloatAt (codes "interval") body)
     c.in_err-order.field-0.0
     c.from_residual-in_err-order.result c.from_residual-in_err-order.ensures.1
     c.in_err-order.ensures (λ h. absurd h) (λ lenient source h. (source.order, h.3))
@@ -41,7 +41,7 @@ returns-in_err-missing_order c =
     let body = view c.args.body.now in
     refused_by
     (λ lenient. IsWordOr Default missing_order_word (get (codes "missing_order") body)) ⊥
-    (λ lenient. IsHistogramBody lenient c.args.name.now body) (HasFloatInterval body)
+    (λ lenient. IsHistogramBody lenient c.args.name.now body) (HasFloatAt (codes "interval") body)
     c.in_err-missing_order.field-0.0
     c.from_residual-in_err-missing_order.result c.from_residual-in_err-missing_order.ensures.1
     c.in_err-missing_order.ensures (λ h. absurd h) (λ lenient source h. (source.missing_order, h.5))

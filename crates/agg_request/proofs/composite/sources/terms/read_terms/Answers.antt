@@ -4,7 +4,7 @@ use Rattle.serde_json.specs.View.{view}
 use Rattle.agg_values.specs.declared.order.MissingOrder.TheVariants.{Default}
 use Rattle.agg_values.specs.declared.order.Order.TheVariants.{Asc}
 use Rattle.agg_request.specs.CompositeJson.{IsTermsBody, IsWordOr, missing_order_word, order_word}
-use Rattle.agg_request.specs.Query.{IsField}
+use Rattle.agg_request.specs.Json.{IsField}
 use Rattle.agg_request.proofs.Readings.{refused_part}
 use Rattle.agg_request.proofs.composite.sources.terms.read_terms.Goals as goal
 
