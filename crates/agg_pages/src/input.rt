@@ -18,7 +18,7 @@ ghost use Rattle.agg_pages.specs.Input.{input_of};
 
 use crate::source::MAX_INPUT_BYTES;
 use agg_engine::Snapshot;
-use agg_request::{Named, NamedBuilder, ReadError};
+use agg_request::{HasName, NamedBuilder, ReadError};
 use agg_segment::BuildError;
 use agg_values::{ItemList, OutOfMemory};
 pub use header::Header;

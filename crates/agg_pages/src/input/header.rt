@@ -16,7 +16,7 @@ use super::InputError;
 use super::value::parse;
 use agg_request::json_value::{has_members, read_text, small_number};
 use agg_request::{
-    Aggregation, AggregationVariants, Named, NamedBuilder, read_query, read_request,
+    Aggregation, AggregationVariants, HasName, NamedBuilder, read_query, read_request,
 };
 use agg_segment::{QueryTree, Schema};
 use agg_values::{NameMap, Text};
