@@ -12,7 +12,7 @@ use Rattle.agg_request.specs.RequestJson.{IsRequestJson}
 use Rattle.agg_request.specs.declared.aggregation.AggregationVariants.TheVariants.{Composite}
 use Rattle.agg_request.proofs.PlainRequests.{one-said, says-one}
 use Rattle.agg_engine.specs.Form.{IsOneComposite}
-use Rattle.agg_engine.proofs.OneRequest.{made-of_parts}
+use Rattle.agg_request.proofs.RequestTrees.{made-of_parts}
 use Rattle.agg_pages.specs.declared.input.header.Header.{Header}
 use Rattle.agg_pages.specs.Header.{IsBucketLimitOf, IsHeader, IsHeaderLine, IsNoHeader}
 use Rattle.agg_pages.specs.Header.{IsNoHeaderLine, IsNoRequestAt, IsNoRequestOf, IsQueryOf}
