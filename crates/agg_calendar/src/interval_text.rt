@@ -10,9 +10,6 @@ ghost use Rattle.agg_calendar.specs.IntervalText.{digits_of, unit_of, unit_ms, r
 ghost use Rattle.agg_calendar.specs.IntervalText.{read_offset, spelled};
 ghost use Rattle.agg_calendar.specs.Refusal.{in_request, IsAnswer};
 
-#[cfg(test)]
-mod tests;
-
 use agg_values::{AggregationError, DateHistogramParseError, OutOfMemory, RequestError, Text};
 use std::alloc::Global;
 

@@ -8,9 +8,6 @@ ghost use Rattle.agg_calendar.specs.Start.{GivesStart, IsCalendarStart, IsUsable
 ghost use Rattle.agg_calendar.specs.declared.interval.CalendarInterval.TheVariants.{Year, Month};
 ghost use Rattle.agg_calendar.specs.declared.interval.CalendarInterval.TheVariants.{Week};
 
-#[cfg(test)]
-mod tests;
-
 use crate::{CalendarInterval, PrecomputedDateInterval, StartError};
 use jiff::Timestamp;
 use jiff::civil::Date;

@@ -10,12 +10,3 @@ use Rattle.agg_composite.specs.declared.page_entry.PageEntry.{PageEntry}
 -- an entry as a group: its key with its count
 abbrev pub entry_group : PageEntry → Group
 entry_group entry = (entry.key, entry.doc_count)
-
--- the entries are those of a page: they have its groups
-abbrev pub AreEntriesOf : List Entry → List PageEntry → Type 0
-AreEntriesOf page entries = map entry_group entries ≡ map group_of page
-
--- the entries are those of the page of a size past a bound
-abbrev pub ArePageEntries : Sources → ℕ → KeyTuple → List Fields → List PageEntry → Type 0
-ArePageEntries sources size bound documents entries =
-    (page : List Entry) × IsPage sources size bound documents page × AreEntriesOf page entries

@@ -7,11 +7,7 @@ ghost use Rattle.agg_segment.specs.Columns.{keys_rank};
 ghost use Rattle.agg_composite.specs.Accessors.{AreAccessorsOf, HasAccessors, HasNoAccessors};
 
 mod build;
-#[cfg(test)]
-mod divided_tests;
 mod faults;
-#[cfg(test)]
-mod tests;
 
 use crate::PrecomputedAfterKey;
 use agg_calendar::PrecomputedDateInterval;

@@ -6,8 +6,6 @@ ghost use Rattle.agg_composite.specs.AfterKey.{is_above, is_at, is_below, projec
 ghost use Rattle.agg_composite.specs.Places.{hit_place, signed_place, unsigned_place};
 
 mod precompute;
-#[cfg(test)]
-mod tests;
 
 use crate::CompositeAccessor;
 use crate::numbers::moved_up;

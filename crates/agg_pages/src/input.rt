@@ -5,8 +5,6 @@ mod header;
 mod line;
 mod lines;
 mod snapshots;
-#[cfg(test)]
-mod tests;
 mod tokens;
 mod value;
 

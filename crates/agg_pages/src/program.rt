@@ -1,6 +1,4 @@
 //! The program as a function of its arguments, its source and its sink.
-#[cfg(test)]
-mod tests;
 
 ghost use Rattle.std.specs.Prelude.{◌≡◌, ◌<◌, ◌+◌, ◌⊎◌, ◌↔◌, ℕ, Err, take, true, false, IfOk};
 ghost use Rattle.std.specs.Prelude.{IfErr, IsTrue, string_bytes};

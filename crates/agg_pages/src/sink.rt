@@ -1,8 +1,6 @@
 //! Where bytes go.
 mod memory;
 mod standard;
-#[cfg(test)]
-mod tests;
 mod writing;
 
 ghost use Rattle.std.specs.Prelude.{List, ℕ, Option, IfOk, ◌<◌, length};

@@ -1,12 +1,8 @@
 //! Where bytes come from.
-#[cfg(test)]
-mod drip;
 mod memory;
 mod reading;
 mod standard;
 mod steady;
-#[cfg(test)]
-mod tests;
 
 ghost use Rattle.std.specs.Prelude.{List, ℕ, Option};
 ghost use Rattle.std.specs.Io.{ReadsAtMost};
@@ -14,8 +10,6 @@ ghost use Rattle.std.specs.Io.KnownBytes.{ReadConsumes};
 ghost use Rattle.agg_pages.specs.Causes.{HasCause};
 
 use crate::fault::Failed;
-#[cfg(test)]
-pub use drip::Drip;
 pub use memory::MemorySource;
 pub use reading::{MAX_INPUT_BYTES, ReadAllError, read_all};
 pub use standard::StdSource;

@@ -40,20 +40,6 @@ is_some_map f (Some x) = refl
 abbrev pub onward : {A : Type 0} → List A → Option (List A) → Option (List A)
 onward done later = option_map (λ xs. done ++ xs) later
 
-pub onward_none : {A : Type 0} (later : Option (List A)) → later ≡ onward [] later
-onward_none None = refl
-onward_none (Some xs) = refl
-
-pub onward_more : {A : Type 0} (done : List A) (x : A) (later : Option (List A))
-    → onward done (option_map (λ xs. x ∷ xs) later) ≡ onward (done ++ x ∷ []) later
-onward_more done x None = refl
-onward_more done x (Some xs) = ap Some (sym (append_assoc done (x ∷ []) xs))
-
-pub onward_twice : {A : Type 0} (first next : List A) (later : Option (List A))
-    → onward first (onward next later) ≡ onward (first ++ next) later
-onward_twice first next None = refl
-onward_twice first next (Some xs) = ap Some (sym (append_assoc first next xs))
-
 -- ---- a document from the members of an object
 
 abbrev pub names_in : List Entry → List (List ℕ)

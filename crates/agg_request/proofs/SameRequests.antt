@@ -111,16 +111,3 @@ module _ {B : Type 0} where
         (both-empty (own_builder (agg_of a)) (builders_of (below_of a))
             (sym (listed-out own_builder a) ∙ same.1)).1,
       )
-
-  -- one aggregation is not the same as another where their kinds aren't
-  pub kind-apart : (a b : Aggregation B)
-      → ((agg_of a ≡ agg_of b) × (own_builder (agg_of a) ≡ []) → ⊥)
-      → IsTrue false ↔ IsSame a b
-  kind-apart a b differ = (
-    λ yes. absurd (cc),
-    λ same. absurd (differ (
-      ap agg_of same.0,
-      (both-empty (own_builder (agg_of a)) (builders_of (below_of a))
-          (sym (listed-out own_builder a) ∙ same.1)).0,
-    )),
-  )

@@ -7,8 +7,6 @@ ghost use Rattle.agg_request.specs.Source.{name_of};
 
 mod after;
 mod intervals;
-#[cfg(test)]
-mod tests;
 
 use crate::{
     Aggregation, AggregationVariants, Aggregations, CompositeAggregation,

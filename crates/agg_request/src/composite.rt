@@ -6,8 +6,6 @@ ghost use Rattle.agg_request.specs.Reading.{IsReading};
 mod after;
 mod size;
 mod sources;
-#[cfg(test)]
-mod tests;
 mod words;
 
 use crate::{CompositeAggregation, ReadError};

@@ -7,9 +7,6 @@ ghost use Rattle.agg_request.specs.OrderJson.{IsOrderJson, IsPair, data_of_order
 ghost use Rattle.agg_request.specs.OrderJson.{target_of};
 ghost use Rattle.agg_request.specs.Reading.{IsReading};
 
-#[cfg(test)]
-mod tests;
-
 use crate::ReadError;
 use crate::composite::order_of;
 use crate::json_value::{only_item, only_member};

@@ -4,9 +4,6 @@ ghost use Rattle.agg_request.specs.FieldNames.{HasJust, HasMore};
 ghost use Rattle.agg_request.specs.Request.{fields_of, listed_in, own_fields};
 ghost use Rattle.agg_request.specs.Source.{field_of};
 
-#[cfg(test)]
-mod tests;
-
 use crate::{Aggregation, AggregationVariants, Aggregations, CompositeAggregation};
 use agg_values::{ItemList, NameMap, OutOfMemory, Text};
 use std::alloc::Global;

@@ -1,6 +1,4 @@
 //! How many occurrences documents have, without walking them.
-#[cfg(test)]
-mod tests;
 
 ghost use Rattle.std.specs.Prelude.{◌≡◌, ◌-◌, ◌^◌, IfOk, filter, length, map, min};
 ghost use Rattle.agg_segment.specs.Columns.{all_keys, type_of};

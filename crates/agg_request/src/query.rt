@@ -10,8 +10,6 @@ ghost use Rattle.agg_request.specs.Reading.{IsReading};
 ghost use Rattle.agg_segment.specs.declared.query.QueryTree.{QueryTree as Tree};
 
 mod leaves;
-#[cfg(test)]
-mod tests;
 mod values;
 
 use crate::ReadError;

@@ -15,8 +15,6 @@ ghost use Rattle.agg_request.specs.RequestJson.{may_not_hold};
 
 mod builders;
 mod kind;
-#[cfg(test)]
-mod tests;
 
 use crate::json_value::{has_member, is_inhabited, only_other};
 use crate::{Aggregation, Aggregations, NamedBuilder, ReadError};

@@ -4,8 +4,6 @@ ghost use Rattle.agg_request.specs.Request.{IsSame, builders_of, own_builder, qu
 
 mod composite;
 mod query;
-#[cfg(test)]
-mod tests;
 
 use crate::{Aggregation, AggregationVariants, FilterAggregation, FilterQuery};
 use agg_values::NameMap;

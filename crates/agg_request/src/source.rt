@@ -208,6 +208,3 @@ impl CompositeAggregationSource {
         }
     }
 }
-
-#[cfg(test)]
-mod tests;

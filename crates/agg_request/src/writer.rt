@@ -10,8 +10,6 @@ mod kind;
 mod objects;
 mod query;
 mod sources;
-#[cfg(test)]
-mod tests;
 mod words;
 mod writable;
 

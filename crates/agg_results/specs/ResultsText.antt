@@ -42,10 +42,6 @@ bracketed items = 91 ∷ (join_with_byte 44 items ++ 93 ∷ [])
 abbrev pub object_text : {T : Type 0} → (T → List ℕ) → Named T → List ℕ
 object_text text entries = braced (map (λ e. member_text e.0 (text e.1)) entries)
 
--- a list as an array
-abbrev pub array_text : {T : Type 0} → (T → List ℕ) → List T → List ℕ
-array_text text items = bracketed (map text items)
-
 -- a shown key
 abbrev pub shown_key_text : CompositeKey → List ℕ
 shown_key_text (key.Bool b) = if b then codes "true" else codes "false"

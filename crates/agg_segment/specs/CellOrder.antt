@@ -17,15 +17,6 @@ cell_class (cell.U64 n) = class.Numeric
 cell_class (cell.Ip place) = class.IpAddr
 cell_class (cell.Date ns) = class.DateTime
 
--- the rank of the class of what a cell keeps
-abbrev pub value_rank : CellValue → ℕ
-value_rank (cell.Bool b) = 1
-value_rank (cell.Str place) = 2
-value_rank (cell.I64 n) = 3
-value_rank (cell.U64 n) = 3
-value_rank (cell.Ip place) = 4
-value_rank (cell.Date ns) = 5
-
 -- the rank of a class
 abbrev pub order_rank : ColumnPaginationOrder → ℕ
 order_rank class.Bool = 1

@@ -31,12 +31,6 @@ cell_mark c = (c.field, cell_sign c.value)
 abbrev pub key_mark : Placed → ℕ × Sign
 key_mark p = (p.field, sign_of p.key)
 
--- no field has a number below zero and one above those of an i64
-abbrev pub IsUnmixed : List Placed → Type 0
-IsUnmixed cells =
-    (p q : Placed) → Contains cells p → Contains cells q → p.field ≡ q.field
-    → sign_of p.key ≡ Negative → sign_of q.key ≡ Large → ⊥
-
 -- some field has both
 abbrev pub HasBoth : List (ℕ × Sign) → Type 0
 HasBoth marks = (field : ℕ) × Contains marks (field, Negative) × Contains marks (field, Large)

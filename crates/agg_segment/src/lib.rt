@@ -17,8 +17,6 @@ mod rows;
 mod schema;
 mod segment;
 mod signs;
-#[cfg(test)]
-mod tests;
 mod texts;
 
 pub use builder::{BuildError, MAX_DOCUMENTS, SegmentBuilder};

@@ -6,8 +6,6 @@ mod marks;
 mod matches;
 mod place;
 mod span;
-#[cfg(test)]
-mod tests;
 
 use crate::FieldValue;
 use agg_values::{ItemList, OutOfMemory, Text};

@@ -18,8 +18,6 @@ mod order_target;
 mod request_error;
 mod room;
 mod steps;
-#[cfg(test)]
-mod tests;
 mod text;
 mod tuple;
 mod typed_key;

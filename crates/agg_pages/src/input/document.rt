@@ -13,9 +13,6 @@ ghost use Rattle.agg_pages.specs.DocumentLine.{values_among};
 ghost use Rattle.agg_pages.specs.Fields.{AddsValues, HasNoKeys};
 ghost use Rattle.agg_pages.specs.Snapshots.{HasNoDocument, HoldsLine};
 
-#[cfg(test)]
-mod tests;
-
 use super::InputError;
 use super::tokens::{LineRoom, read_document_tokens};
 use super::value::parse;

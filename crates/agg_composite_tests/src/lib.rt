@@ -1,0 +1,9 @@
+//! Tests of what a source reads in a segment.
+#![tactic(auto)]
+
+#[cfg(test)]
+mod accessor;
+#[cfg(test)]
+mod after_key;
+#[cfg(test)]
+mod divided_accessor;

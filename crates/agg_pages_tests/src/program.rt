@@ -1,0 +1,340 @@
+mod segments;
+mod sources;
+mod starts;
+
+ghost use Rattle.std.specs.Prelude.{None, Some};
+
+use crate::drip::Drip;
+use agg_pages::sink::{MemorySink, Sink, write_all};
+use agg_pages::source::{MAX_INPUT_BYTES, MemorySource, Source, SteadySource};
+use agg_pages::{Failed, Status, run_uncounted};
+use agg_request::{NamedBuilder, QueryBuildError, QueryBuilder};
+use agg_segment::{QueryTree, Schema};
+use agg_values::Text;
+use std::alloc::Global;
+use std::process::Abort;
+use std::test::Fail;
+
+// A header up to the size of its composite.
+const COMPOSITE: &str =
+    r#"{"request":{"g":{"composite":{"sources":[{"a":{"terms":{"field":"a"}}}],"size":"#;
+
+// A snapshot of one document that has a value twice, and its page.
+const TWICE: &str = "\nsnapshot 10\n{\"a\":[5,5]}\n";
+
+const PAGE: &str = r#"{"page":1,"results":{"g":{"buckets":[{"doc_count":2,"key":{"a":5}}]}}}
+{"ended":true}
+"#;
+
+const NEGATIVE: &str = "{\"page\":1,\"results\":{\"g\":{\"buckets\":[\
+    {\"doc_count\":2,\"key\":{\"a\":-7}},{\"doc_count\":1,\"key\":{\"a\":9}}]}}}\n\
+    {\"ended\":true}\n";
+
+// A query for the documents with a value of 2 or more, two snapshots of one index, and their pages.
+const FROM_TWO: &str = r#","query":{"range":{"field":"a","gte":"i64:2"}}"#;
+
+const TWO_SNAPSHOTS: &str = "\nsnapshot 2\n{\"a\":3}\n{\"a\":1}\n{\"a\":2}\n{\"a\":1}\n\
+    snapshot 2\n{\"a\":3}\n{\"a\":1}\n{\"a\":2}\n{\"a\":1}\n";
+
+const FROM_TWO_PAGES: &str = "{\"page\":1,\"results\":{\"g\":{\"after_key\":{\"a\":\"i64:3\"},\
+    \"buckets\":[{\"doc_count\":1,\"key\":{\"a\":2}},{\"doc_count\":1,\"key\":{\"a\":3}}]}}}\n\
+    {\"page\":2,\"results\":{\"g\":{\"buckets\":[]}}}\n{\"ended\":true}\n";
+
+const FULL: &str = "{\"page\":1,\"results\":{\"g\":{\"after_key\":{\"a\":\"i64:1\"},\
+    \"buckets\":[{\"doc_count\":1,\"key\":{\"a\":1}}]}}}\n{\"ended\":false}\n";
+
+// Three snapshots, of which the last isn't reached, and the pages of the others.
+const THREE_SNAPSHOTS: &str = "\nsnapshot 2\n{}\n{\"a\":5}\n{\"a\":[9,-3,5]}\n\
+    snapshot 2\n{\"a\":9}\n{\"a\":5}\n{}\nsnapshot 1\n{\"a\":10}\n";
+
+const TWO_PAGES: &str = "{\"page\":1,\"results\":{\"g\":{\"after_key\":{\"a\":\"i64:5\"},\
+    \"buckets\":[{\"doc_count\":1,\"key\":{\"a\":-3}},{\"doc_count\":2,\"key\":{\"a\":5}}]}}}\n\
+    {\"page\":2,\"results\":{\"g\":{\"buckets\":[{\"doc_count\":1,\"key\":{\"a\":9}}]}}}\n\
+    {\"ended\":true}\n";
+
+// Two snapshots of two segments, and their pages.
+const TWO_SEGMENTS: &str = "\nsnapshot 2\nsegment\n{\"a\":3}\n{\"a\":1}\nsegment\n{\"a\":2}\n\
+    {\"a\":1}\nsnapshot 2\nsegment\n{\"a\":3}\n{\"a\":1}\nsegment\n{\"a\":2}\n{\"a\":1}\n";
+
+const TWO_SEGMENTS_PAGES: &str = "{\"page\":1,\"results\":{\"g\":{\
+    \"after_key\":{\"a\":\"i64:2\"},\
+    \"buckets\":[{\"doc_count\":2,\"key\":{\"a\":1}},{\"doc_count\":1,\"key\":{\"a\":2}}]}}}\n\
+    {\"page\":2,\"results\":{\"g\":{\"buckets\":[{\"doc_count\":1,\"key\":{\"a\":3}}]}}}\n\
+    {\"ended\":true}\n";
+
+// Segments whose numbers are of two kinds, and their pages.
+const TWO_KINDS: &str = "\nsnapshot 1\nsegment\n{\"a\":1}\nsegment\n\
+    {\"a\":18446744073709551615}\n{\"a\":1}\nsnapshot 1\nsegment\n{\"a\":1}\nsegment\n\
+    {\"a\":18446744073709551615}\n{\"a\":1}";
+
+const TWO_KINDS_PAGES: &str = "{\"page\":1,\"results\":{\"g\":{\
+    \"after_key\":{\"a\":\"i64:1\"},\
+    \"buckets\":[{\"doc_count\":2,\"key\":{\"a\":1}}]}}}\n\
+    {\"page\":2,\"results\":{\"g\":{\"after_key\":{\"a\":\"u64:18446744073709551615\"},\
+    \"buckets\":[{\"doc_count\":1,\"key\":{\"a\":18446744073709551615}}]}}}\n\
+    {\"ended\":false}\n";
+
+const ONE_TWO: &str = "{\"page\":1,\"results\":{\"g\":{\"buckets\":[\
+    {\"doc_count\":1,\"key\":{\"a\":1}},{\"doc_count\":1,\"key\":{\"a\":2}}]}}}\n\
+    {\"ended\":true}\n";
+
+// Segments of three keys, and their page where it may have three buckets.
+const THREE_KEYS: &str = "\nsnapshot 3\nsegment\n{\"a\":1}\n{\"a\":2}\nsegment\n{\"a\":3}";
+
+const THREE_KEYS_PAGE: &str = "{\"page\":1,\"results\":{\"g\":{\
+    \"after_key\":{\"a\":\"i64:3\"},\"buckets\":[{\"doc_count\":1,\"key\":{\"a\":1}},\
+    {\"doc_count\":1,\"key\":{\"a\":2}},{\"doc_count\":1,\"key\":{\"a\":3}}]}}}\n\
+    {\"ended\":false}\n";
+
+// Members of a header and what stands behind it, with the status and what is written.
+const MEMBERS: [(&str, &str, Status, &str); 3] = [
+    (FROM_TWO, TWO_SNAPSHOTS, Status::Ok, FROM_TWO_PAGES),
+    (
+        r#","bucket_limit":3"#,
+        THREE_KEYS,
+        Status::Ok,
+        THREE_KEYS_PAGE,
+    ),
+    (
+        r#","bucket_limit":2"#,
+        THREE_KEYS,
+        Status::Refused,
+        "error: BucketLimitExceeded\n",
+    ),
+];
+
+// The name and the size of a header and what stands behind it, with the status and what is written.
+const ANSWERS: [(&str, u32, &str, Status, &str); 14] = [
+    ("g", 10, "", Status::Ok, "{\"ended\":false}\n"),
+    ("g", 10, TWICE, Status::Ok, PAGE),
+    (
+        "g",
+        10,
+        "\r\n\r\n \t\r\nsnapshot 010\r\n{\"a\":5,\"b\":[1]}\n\n{\"a\":5}",
+        Status::Ok,
+        PAGE,
+    ),
+    (
+        "g",
+        4_294_967_295,
+        "\nsnapshot 4294967295\n{}\n{\"a\":[]}\n{\"b\":4}\n{\"a\":-7}\n{\"b\":4,\"a\":[9,-7]}\n",
+        Status::Ok,
+        NEGATIVE,
+    ),
+    (
+        "g",
+        9,
+        "\nsnapshot 1\n{\"a\":2}\n{\"a\":1}",
+        Status::Ok,
+        FULL,
+    ),
+    ("g", 9, THREE_SNAPSHOTS, Status::Ok, TWO_PAGES),
+    ("g", 2, TWO_SEGMENTS, Status::Ok, TWO_SEGMENTS_PAGES),
+    ("g", 1, TWO_KINDS, Status::Ok, TWO_KINDS_PAGES),
+    (
+        "g",
+        4_294_967_295,
+        "\nsnapshot 4294967295\nsegment\n{\"a\":1}\nsegment\n{\"a\":2}\n",
+        Status::Ok,
+        ONE_TWO,
+    ),
+    ("h", 10, TWICE, Status::Refused, "error: UnknownComposite\n"),
+    ("h", 10, "", Status::Refused, "error: UnknownComposite\n"),
+    ("g", 0, "", Status::Refused, "error: ZeroSize\n"),
+    (
+        "g",
+        1,
+        "\nsnapshot 1\nsnapshot 1\n{\"a\":1}\nsnapshot 0",
+        Status::Refused,
+        "error: ZeroSize\n",
+    ),
+    ("g", 10, "{}", Status::Input, ""),
+];
+
+// A sink that takes a few bytes at a time.
+#[derive(Drop)]
+struct Sip(MemorySink);
+
+impl Sink for Sip {
+    ghost held = { λ sink. Some sink.0.bytes };
+
+    ghost faults = { λ sink. sink.0.calls.faults };
+
+    fn write(&mut self, bytes: &[u8]) -> Result<usize, Failed> {
+        self.0.write(&bytes[..bytes.len().min(16)])
+    }
+}
+
+// A builder that has no query for any schema.
+#[derive(Drop)]
+struct NoQuery;
+
+impl QueryBuilder for NoQuery {
+    ghost tree_for = { λ _ _. None };
+
+    fn build_query(&self, _alloc: Global, _schema: &Schema) -> Result<QueryTree, QueryBuildError> {
+        Err(QueryBuildError::NoTree)
+    }
+}
+
+fn run_words<R: Source, W: Sink>(
+    alloc: Global,
+    words: &[&str],
+    source: &mut R,
+    sink: &mut W,
+) -> Result<Status, Fail> {
+    let mut texts = Vec::new(alloc);
+    for word in words {
+        texts.push(Text::copy_of(alloc, word)?)?;
+    }
+    let mut builders = Vec::new(alloc);
+    builders.push(NamedBuilder {
+        name: Text::copy_of(alloc, "unasked")?,
+        builder: Box::new(alloc, NoQuery)?,
+    })?;
+    Ok(run_uncounted(alloc, &texts, builders, source, sink))
+}
+
+// The bytes of a header and what stands behind it.
+fn input(alloc: Global, name: &str, size: u32, behind: &str) -> Result<Vec<u8>, Fail> {
+    input_with(alloc, name, size, "", behind)
+}
+
+// The same, with further members of the header.
+fn input_with(
+    alloc: Global,
+    name: &str,
+    size: u32,
+    members: &str,
+    behind: &str,
+) -> Result<Vec<u8>, Fail> {
+    let end = format!(in alloc;
+        "{size}}}}}}},\"name\":\"{name}\",\"schema\":[\"a\",\"b\"]{members}}}"
+    )?;
+    Ok(format!(in alloc; "{COMPOSITE}{end}{behind}")?.into_bytes())
+}
+
+#[test]
+fn answers_each_input(rt: HostRuntime) -> Result<(), Fail> {
+    let alloc = rt.alloc();
+    for (name, size, behind, status, output) in ANSWERS {
+        let mut source = SteadySource::new(input(alloc, name, size, behind)?);
+        let mut sink = MemorySink::new(alloc, Vec::new(alloc))?;
+        let answer = run_words(alloc, &["walk"], &mut source, &mut sink)?;
+        assert_eq!(rt; answer, status, "at {name}, {size}: {behind}");
+        assert_eq!(rt;
+            sink.bytes(),
+            output.as_bytes(),
+            "at {name}, {size}: {behind}"
+        );
+    }
+    Ok(())
+}
+
+#[test]
+fn heeds_each_member_of_a_header(rt: HostRuntime) -> Result<(), Fail> {
+    let alloc = rt.alloc();
+    for (members, behind, status, output) in MEMBERS {
+        let mut source = SteadySource::new(input_with(alloc, "g", 2, members, behind)?);
+        let mut sink = MemorySink::new(alloc, Vec::new(alloc))?;
+        let answer = run_words(alloc, &["walk"], &mut source, &mut sink)?;
+        assert_eq!(rt; answer, status, "at {members}");
+        assert_eq!(rt; sink.bytes(), output.as_bytes(), "at {members}");
+    }
+    Ok(())
+}
+
+#[test]
+fn writes_nothing_where_no_input_was_read(rt: HostRuntime) -> Result<(), Fail> {
+    let alloc = rt.alloc();
+    for (bytes, failing, status) in [
+        (input(alloc, "g", 10, TWICE)?, 1, Status::ReadFault),
+        (input(alloc, "g", 10, TWICE)?, 2, Status::ReadFault),
+        (b"{\"request\":{\"g\"".to_vec(alloc)?, 3, Status::Input),
+    ] {
+        let mut source = MemorySource::new(bytes, vec![in alloc; failing]?);
+        let mut sink = MemorySink::new(alloc, Vec::new(alloc))?;
+        let answer = run_words(alloc, &["walk"], &mut source, &mut sink)?;
+        assert_eq!(rt; answer, status, "where read {failing} fails");
+        assert_eq!(rt; sink.bytes().len(), 0, "where read {failing} fails");
+    }
+    Ok(())
+}
+
+#[test]
+fn refuses_one_byte_past_the_limit(rt: HostRuntime) -> Result<(), Fail> {
+    let alloc = rt.alloc();
+    let mut source = SteadySource::new(vec![in alloc; b' '; MAX_INPUT_BYTES + 1]?);
+    let mut sink = MemorySink::new(alloc, Vec::new(alloc))?;
+    let answer = run_words(alloc, &["walk"], &mut source, &mut sink)?;
+    assert_eq!(rt; answer, Status::Input);
+    assert_eq!(rt; sink.bytes().len(), 0);
+    Ok(())
+}
+
+#[test]
+fn holds_what_was_taken_before_a_write_failed(rt: HostRuntime) -> Result<(), Fail> {
+    let alloc = rt.alloc();
+    for (call, status, held) in [
+        (1, Status::WriteFault, ""),
+        (
+            3,
+            Status::WriteFault,
+            "{\"page\":1,\"results\":{\"g\":{\"bucke",
+        ),
+        (100, Status::Ok, PAGE),
+    ] {
+        let mut source = Drip(SteadySource::new(input(alloc, "g", 10, TWICE)?));
+        let mut sink = Sip(MemorySink::new(alloc, vec![in alloc; call]?)?);
+        let answer = run_words(alloc, &["walk"], &mut source, &mut sink)?;
+        assert_eq!(rt; answer, status, "at write {call}");
+        assert_eq!(rt; sink.0.bytes(), held.as_bytes(), "at write {call}");
+    }
+    Ok(())
+}
+
+#[test]
+fn fills_a_sink_to_its_last_byte(rt: HostRuntime) -> Result<(), Fail> {
+    let alloc = rt.alloc();
+    for (room, held) in [(0, ""), (5, "{\"pag")] {
+        let mut source = SteadySource::new(input(alloc, "g", 10, TWICE)?);
+        let mut sink = MemorySink::new(alloc, Vec::new(alloc))?;
+        let filler = vec![in alloc; b'.'; MemorySink::ROOM - room]?;
+        assert_eq!(rt; write_all(&mut sink, &filler), Ok(()));
+        let answer = run_words(alloc, &["walk"], &mut source, &mut sink)?;
+        assert_eq!(rt; answer, Status::WriteFault, "with room for {room}");
+        assert_eq!(rt;
+            sink.bytes().len(),
+            MemorySink::ROOM,
+            "with room for {room}"
+        );
+        assert!(rt;
+            sink.bytes().ends_with(held.as_bytes()),
+            "with room for {room}"
+        );
+    }
+    Ok(())
+}
+
+// Runs arguments that are no command, where the first read and the first write would fail.
+fn expect_usage(rt: &(impl Abort + AllocGlobal), words: &[&str]) -> Result<(), Fail> {
+    let alloc = rt.alloc();
+    let mut source = MemorySource::new(input(alloc, "g", 10, TWICE)?, vec![in alloc; 1]?);
+    let mut sink = MemorySink::new(alloc, vec![in alloc; 1]?)?;
+    assert_eq!(rt;
+        run_words(alloc, words, &mut source, &mut sink)?,
+        Status::Usage
+    );
+
+    // Those calls are still to come.
+    assert_eq!(rt; source.read(&mut [0]), Err(Failed));
+    assert_eq!(rt; sink.write(b"."), Err(Failed));
+    Ok(())
+}
+
+#[test]
+fn touches_nothing_where_the_arguments_are_no_command(rt: HostRuntime) -> Result<(), Fail> {
+    expect_usage(&rt, &[])?;
+    expect_usage(&rt, &["Walk"])?;
+    expect_usage(&rt, &["walk", "x"])
+}

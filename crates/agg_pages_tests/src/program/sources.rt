@@ -1,0 +1,207 @@
+//! Pages over several sources, over values of every class, and behind after keys.
+use super::run_words;
+use agg_pages::Status;
+use agg_pages::sink::MemorySink;
+use agg_pages::source::SteadySource;
+use std::process::Abort;
+use std::test::Fail;
+
+// Two sources, and documents with a number for each.
+const BOTH: &str = r#"{"a":{"terms":{"field":"a"}}},{"b":{"terms":{"field":"b"}}}"#;
+
+const PAIRS: &str = "{\"a\":1,\"b\":1}\n{\"a\":2,\"b\":1}\n{\"a\":2,\"b\":2}";
+
+const ALL_PAIRS: &str = "{\"doc_count\":1,\"key\":{\"a\":1,\"b\":1}},\
+    {\"doc_count\":1,\"key\":{\"a\":2,\"b\":1}},{\"doc_count\":1,\"key\":{\"a\":2,\"b\":2}}";
+
+const FROM_TWO: &str = "{\"doc_count\":1,\"key\":{\"a\":2,\"b\":1}},\
+    {\"doc_count\":1,\"key\":{\"a\":2,\"b\":2}}";
+
+// A source over values of every class, its reverse, and such values.
+pub(super) const ASCENDING: &str = r#"{"a":{"terms":{"field":"a"}}}"#;
+
+pub(super) const DESCENDING: &str = r#"{"a":{"terms":{"field":"a","order":"desc"}}}"#;
+
+const EACH_CLASS: &str = "{\"a\":{\"dt\":1000000}}\n{\"a\":{\"ip\":\"1.2.3.4\"}}\n\
+    {\"a\":[5,\"x\"]}\n{\"a\":true}";
+
+// Their buckets from each class on, and all of them descending.
+const FROM_DATES: &str = r#"{"doc_count":1,"key":{"a":1}}"#;
+
+const FROM_ADDRESSES: &str =
+    r#"{"doc_count":1,"key":{"a":"1.2.3.4"}},{"doc_count":1,"key":{"a":1}}"#;
+
+const FROM_NUMBERS: &str = "{\"doc_count\":1,\"key\":{\"a\":5}},\
+    {\"doc_count\":1,\"key\":{\"a\":\"1.2.3.4\"}},{\"doc_count\":1,\"key\":{\"a\":1}}";
+
+const FROM_TEXTS: &str = "{\"doc_count\":1,\"key\":{\"a\":\"x\"}},\
+    {\"doc_count\":1,\"key\":{\"a\":5}},{\"doc_count\":1,\"key\":{\"a\":\"1.2.3.4\"}},\
+    {\"doc_count\":1,\"key\":{\"a\":1}}";
+
+const FROM_TRUTHS: &str = "{\"doc_count\":1,\"key\":{\"a\":true}},\
+    {\"doc_count\":1,\"key\":{\"a\":\"x\"}},{\"doc_count\":1,\"key\":{\"a\":5}},\
+    {\"doc_count\":1,\"key\":{\"a\":\"1.2.3.4\"}},{\"doc_count\":1,\"key\":{\"a\":1}}";
+
+const REVERSED: &str = "{\"doc_count\":1,\"key\":{\"a\":1}},\
+    {\"doc_count\":1,\"key\":{\"a\":\"1.2.3.4\"}},{\"doc_count\":1,\"key\":{\"a\":5}},\
+    {\"doc_count\":1,\"key\":{\"a\":\"x\"}},{\"doc_count\":1,\"key\":{\"a\":true}}";
+
+// Sources that have a bucket for documents without a value, and its place.
+const NULL_FIRST: &str =
+    r#"{"a":{"terms":{"field":"a","missing_bucket":true,"missing_order":"first"}}}"#;
+
+const NULL_LAST: &str =
+    r#"{"a":{"terms":{"field":"a","missing_bucket":true,"missing_order":"last"}}}"#;
+
+const NULL_FIRST_OF_DESCENDING: &str =
+    r#"{"a":{"terms":{"field":"a","order":"desc","missing_bucket":true,"missing_order":"first"}}}"#;
+
+const NULL_LAST_OF_DESCENDING: &str =
+    r#"{"a":{"terms":{"field":"a","order":"desc","missing_bucket":true,"missing_order":"last"}}}"#;
+
+// Documents of which one has no value, and their buckets.
+const ONE_WITHOUT: &str = "{\"a\":[1,2]}\n{\"b\":7}";
+
+const ONE_TWO: &str = r#"{"doc_count":1,"key":{"a":1}},{"doc_count":1,"key":{"a":2}}"#;
+
+const NULL_ONE_TWO: &str = "{\"doc_count\":1,\"key\":{\"a\":null}},\
+    {\"doc_count\":1,\"key\":{\"a\":1}},{\"doc_count\":1,\"key\":{\"a\":2}}";
+
+const ONE_TWO_NULL: &str = "{\"doc_count\":1,\"key\":{\"a\":1}},\
+    {\"doc_count\":1,\"key\":{\"a\":2}},{\"doc_count\":1,\"key\":{\"a\":null}}";
+
+const NULL_TWO_ONE: &str = "{\"doc_count\":1,\"key\":{\"a\":null}},\
+    {\"doc_count\":1,\"key\":{\"a\":2}},{\"doc_count\":1,\"key\":{\"a\":1}}";
+
+const TWO_ONE_NULL: &str = "{\"doc_count\":1,\"key\":{\"a\":2}},\
+    {\"doc_count\":1,\"key\":{\"a\":1}},{\"doc_count\":1,\"key\":{\"a\":null}}";
+
+// The sources of a composite, its after key, documents, and the buckets of a page with room left.
+const PAGES: [(&str, &str, &str, &str); 29] = [
+    (BOTH, "{}", PAIRS, ALL_PAIRS),
+    (BOTH, r#"{"a":"i64:2"}"#, PAIRS, FROM_TWO),
+    (BOTH, r#"{"b":"i64:1"}"#, PAIRS, ALL_PAIRS),
+    (BOTH, r#"{"c":"i64:2"}"#, PAIRS, ALL_PAIRS),
+    (BOTH, r#"{"a":"i64:1","b":"i64:1"}"#, PAIRS, FROM_TWO),
+    (BOTH, r#"{"a":"i64:1","b":"str:x"}"#, PAIRS, ALL_PAIRS),
+    (BOTH, r#"{"a":"i64:1","b":"dt:0"}"#, PAIRS, FROM_TWO),
+    (ASCENDING, "{}", EACH_CLASS, FROM_TRUTHS),
+    (DESCENDING, "{}", EACH_CLASS, REVERSED),
+    (ASCENDING, r#"{"a":"bool:false"}"#, EACH_CLASS, FROM_TRUTHS),
+    (ASCENDING, r#"{"a":"bool:true"}"#, EACH_CLASS, FROM_TEXTS),
+    (ASCENDING, r#"{"a":"str:a"}"#, EACH_CLASS, FROM_TEXTS),
+    (ASCENDING, r#"{"a":"str:y"}"#, EACH_CLASS, FROM_NUMBERS),
+    (ASCENDING, r#"{"a":"i64:-1"}"#, EACH_CLASS, FROM_NUMBERS),
+    (ASCENDING, r#"{"a":"u64:6"}"#, EACH_CLASS, FROM_ADDRESSES),
+    (ASCENDING, r#"{"a":"ip:::1"}"#, EACH_CLASS, FROM_ADDRESSES),
+    (ASCENDING, r#"{"a":"ip:1.2.3.5"}"#, EACH_CLASS, FROM_DATES),
+    (ASCENDING, r#"{"a":"dt:999999"}"#, EACH_CLASS, FROM_DATES),
+    (ASCENDING, r#"{"a":"dt:1000001"}"#, EACH_CLASS, ""),
+    (DESCENDING, r#"{"a":"dt:1000001"}"#, EACH_CLASS, REVERSED),
+    (DESCENDING, r#"{"a":"bool:false"}"#, EACH_CLASS, ""),
+    (ASCENDING, "{}", ONE_WITHOUT, ONE_TWO),
+    (NULL_FIRST, "{}", ONE_WITHOUT, NULL_ONE_TWO),
+    (NULL_LAST, "{}", ONE_WITHOUT, ONE_TWO_NULL),
+    (NULL_FIRST_OF_DESCENDING, "{}", ONE_WITHOUT, NULL_TWO_ONE),
+    (NULL_LAST_OF_DESCENDING, "{}", ONE_WITHOUT, TWO_ONE_NULL),
+    (NULL_FIRST, r#"{"a":"null:"}"#, ONE_WITHOUT, ONE_TWO),
+    (NULL_FIRST, r#"{"a":"null:"}"#, EACH_CLASS, FROM_TRUTHS),
+    (NULL_LAST, r#"{"a":"null:"}"#, EACH_CLASS, ""),
+];
+
+// Two dates that look alike, each on a page of its own.
+const ALIKE: &str = "\nsnapshot 1\n{\"a\":{\"dt\":1000000}}\n{\"a\":{\"dt\":1000001}}\n\
+    snapshot 1\n{\"a\":{\"dt\":1000000}}\n{\"a\":{\"dt\":1000001}}";
+
+const ALIKE_PAGES: &str = "{\"page\":1,\"results\":{\"g\":{\"after_key\":{\"a\":\"dt:1000000\"},\
+    \"buckets\":[{\"doc_count\":1,\"key\":{\"a\":1}}]}}}\n\
+    {\"page\":2,\"results\":{\"g\":{\"after_key\":{\"a\":\"dt:1000001\"},\
+    \"buckets\":[{\"doc_count\":1,\"key\":{\"a\":1}}]}}}\n{\"ended\":false}\n";
+
+const SEVENTEEN: &str = concat!(
+    r#"{"a":{"terms":{"field":"a"}}},{"b":{"terms":{"field":"a"}}},{"c":{"terms":{"field":"a"}}},"#,
+    r#"{"d":{"terms":{"field":"a"}}},{"e":{"terms":{"field":"a"}}},{"f":{"terms":{"field":"a"}}},"#,
+    r#"{"g":{"terms":{"field":"a"}}},{"h":{"terms":{"field":"a"}}},{"i":{"terms":{"field":"a"}}},"#,
+    r#"{"j":{"terms":{"field":"a"}}},{"k":{"terms":{"field":"a"}}},{"l":{"terms":{"field":"a"}}},"#,
+    r#"{"m":{"terms":{"field":"a"}}},{"n":{"terms":{"field":"a"}}},{"o":{"terms":{"field":"a"}}},"#,
+    r#"{"p":{"terms":{"field":"a"}}},{"q":{"terms":{"field":"a"}}}"#,
+);
+
+const TWICE_NAMED: &str = r#"{"a":{"terms":{"field":"a"}}},{"a":{"terms":{"field":"b"}}}"#;
+
+// The sources and the after key of a composite that may not be asked, and the name of its fault.
+const FAULTS: [(&str, &str, &str); 4] = [
+    ("", "{}", "NoSource"),
+    (SEVENTEEN, "{}", "TooManySources"),
+    (TWICE_NAMED, "{}", "DuplicateSource"),
+    (ASCENDING, r#"{"a":"null:"}"#, "NullAfter"),
+];
+
+// Runs a composite of ten groups a page over what stands behind its header.
+pub(super) fn expect(
+    rt: &(impl Abort + AllocGlobal),
+    sources: &str,
+    after: &str,
+    behind: &str,
+    status: Status,
+    output: &str,
+) -> Result<(), Fail> {
+    let alloc = rt.alloc();
+    let composite = format!(in alloc;
+        "{{\"composite\":{{\"sources\":[{sources}],\"size\":10,\"after\":{after}}}}}"
+    )?;
+    let header = format!(in alloc;
+        "{{\"request\":{{\"g\":{composite}}},\"name\":\"g\",\"schema\":[]}}{behind}"
+    )?;
+    let mut source = SteadySource::new(header.into_bytes());
+    let mut sink = MemorySink::new(alloc, Vec::new(alloc))?;
+    let answer = run_words(alloc, &["walk"], &mut source, &mut sink)?;
+    assert_eq!(rt; answer, status, "at {sources}, {after}: {behind}");
+    assert_eq!(rt;
+        sink.bytes(),
+        output.as_bytes(),
+        "at {sources}, {after}: {behind}"
+    );
+    Ok(())
+}
+
+#[test]
+fn answers_each_composite(rt: HostRuntime) -> Result<(), Fail> {
+    let alloc = rt.alloc();
+    for (sources, after, documents, buckets) in PAGES {
+        let behind = format!(in alloc; "\nsnapshot 10\n{documents}")?;
+        let page = format!(in alloc;
+            "{{\"page\":1,\"results\":{{\"g\":{{\"buckets\":[{buckets}]}}}}}}\n{{\"ended\":true}}\n"
+        )?;
+        expect(&rt, sources, after, &behind, Status::Ok, &page)?;
+    }
+    expect(&rt, ASCENDING, "{}", ALIKE, Status::Ok, ALIKE_PAGES)
+}
+
+#[test]
+fn refuses_each_fault(rt: HostRuntime) -> Result<(), Fail> {
+    let alloc = rt.alloc();
+    for (sources, after, fault) in FAULTS {
+        let output = format!(in alloc; "error: {fault}\n")?;
+        for behind in ["", "\nsnapshot 10\n{\"a\":1}"] {
+            expect(&rt, sources, after, behind, Status::Refused, &output)?;
+        }
+    }
+    Ok(())
+}
+
+// 65,536 values in each of two fields are 2^32 pairs.
+#[test]
+fn refuses_too_many_pairs(rt: HostRuntime) -> Result<(), Fail> {
+    let alloc = rt.alloc();
+    let values = "1,".repeat(alloc, 65_535)?;
+    let behind = format!(in alloc; "\nsnapshot 10\n{{\"a\":[{values}1],\"b\":[{values}1]}}")?;
+    expect(
+        &rt,
+        BOTH,
+        "{}",
+        &behind,
+        Status::Refused,
+        "error: TooMany\n",
+    )
+}

@@ -1,0 +1,34 @@
+use crate::drip::Drip;
+use agg_pages::Failed;
+use agg_pages::source::{MemorySource, ReadAllError, Source, SteadySource, read_all};
+use std::test::Fail;
+
+#[test]
+fn reads_all_that_comes_slowly_or_in_chunks(rt: HostRuntime) -> Result<(), Fail> {
+    let bytes = b"one at a time".to_vec(rt.alloc())?;
+    let mut slow = Drip(SteadySource::new(bytes));
+    let all = read_all(rt.alloc(), &mut slow)?;
+    assert_eq!(rt; all.as_slice(), b"one at a time".as_slice());
+
+    let mut large = SteadySource::new(vec![in rt.alloc(); 7; 20_000]?);
+    assert_eq!(rt; read_all(rt.alloc(), &mut large)?.len(), 20_000);
+
+    let bytes = b"abcd".to_vec(rt.alloc())?;
+    let mut broken = MemorySource::new(bytes, vec![in rt.alloc(); 2]?);
+    let all = read_all(rt.alloc(), &mut broken);
+    assert_eq!(rt; all.err(), Some(ReadAllError::ReadFault));
+    Ok(())
+}
+
+#[test]
+fn fails_at_the_second_read_alone(rt: HostRuntime) -> Result<(), Fail> {
+    let bytes = b"abcd".to_vec(rt.alloc())?;
+    let failing = vec![in rt.alloc(); 2]?;
+    let mut source = MemorySource::new(bytes, failing);
+    let mut buf = [0; 3];
+    for read in [Ok(3), Err(Failed), Ok(1), Ok(0)] {
+        assert_eq!(rt; source.read(&mut buf), read);
+    }
+    assert_eq!(rt; buf.as_slice(), b"dbc".as_slice());
+    Ok(())
+}

@@ -1,0 +1,43 @@
+use agg_request::CustomOrder;
+use serde_json::Value;
+use std::alloc::Global;
+use std::test::Fail;
+
+// Values, with what is written of the order that they say, or the refusal.
+const ORDERS: [(&str, &str); 16] = [
+    (r#"{"_key":"desc"}"#, r#"{"_key":"desc"}"#),
+    (r#"[{"_key":"desc"}]"#, r#"{"_key":"desc"}"#),
+    (r#"{"_count":"asc"}"#, r#"{"_count":"asc"}"#),
+    (r#"{"prices":"asc"}"#, r#"{"prices":"asc"}"#),
+    (r#"{"":"desc"}"#, r#"{"":"desc"}"#),
+    ("{}", "Grammar"),
+    ("[]", "Grammar"),
+    ("null", "Grammar"),
+    (r#""_key""#, "Grammar"),
+    (r#"[{"_key":"desc"},{"_key":"desc"}]"#, "Grammar"),
+    (r#"[[{"_key":"desc"}]]"#, "Grammar"),
+    ("[{}]", "Grammar"),
+    (r#"{"_key":"desc","_count":"desc"}"#, "Grammar"),
+    (r#"{"_key":"Desc"}"#, "Grammar"),
+    (r#"{"_key":1}"#, "Grammar"),
+    (r#"{"_key":null}"#, "Grammar"),
+];
+
+// What is written of the order that a text says.
+fn written(alloc: Global, text: &str) -> Result<String, Fail> {
+    match CustomOrder::read(alloc, &Value::from_str(alloc, text)?) {
+        Ok(order) => Ok(order.write(alloc)?.to_string(alloc)?),
+        Err(error) => Ok(format!(in alloc; "{error:?}")?),
+    }
+}
+
+#[test]
+fn writes_what_was_read(rt: HostRuntime) -> Result<(), Fail> {
+    let alloc = rt.alloc();
+    for (text, expected) in ORDERS {
+        assert_eq!(rt; written(alloc, text)?.as_str(), expected, "{text}");
+    }
+    let usual = CustomOrder::default().write(alloc)?;
+    assert_eq!(rt; usual.to_string(alloc)?.as_str(), r#"{"_count":"desc"}"#);
+    Ok(())
+}

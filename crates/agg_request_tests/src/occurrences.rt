@@ -1,0 +1,186 @@
+//! Documents whose tuples would be too many to walk, and values of which a source reads some.
+use agg_calendar::CalendarInterval;
+use agg_request::{
+    CompositeAggregation, CompositeAggregationSource, DateHistogramCompositeAggregationSource,
+    HistogramCompositeAggregationSource, TermCompositeAggregationSource, count_uncut,
+};
+use agg_segment::{Document, FieldValue, SegmentBuilder, SegmentReader};
+use agg_values::{ItemList, MissingOrder, NameMap, Order, Text};
+use std::alloc::Global;
+use std::test::Fail;
+
+#[test]
+fn sources_multiply_and_a_missing_value_counts_once_where_it_has_a_bucket(
+    rt: HostRuntime,
+) -> Result<(), Fail> {
+    let alloc = rt.alloc();
+    let segment = one_document(alloc)?;
+    for (fields, missing_bucket, expected) in [
+        (["a"].as_slice(), false, 1 << 16),
+        (["a", "a"].as_slice(), false, 1 << 32),
+        (["a", "a", "b"].as_slice(), false, 0),
+        (["a", "b", "a"].as_slice(), true, 1 << 32),
+        (["a", "a", "a", "a"].as_slice(), false, u64::MAX),
+    ] {
+        let count = count_of(alloc, &segment, fields, missing_bucket)?;
+        assert_eq!(rt; count, expected);
+    }
+    Ok(())
+}
+
+// The values of the field `m` in documents: each is a date, a text, a truth value or a number, by
+// its letter.
+const MIXED: [&[(char, i64)]; 4] = [
+    &[
+        ('d', -1),
+        ('s', 0),
+        ('b', 0),
+        ('n', -5),
+        ('d', 86_400_000_000_000),
+        ('n', 5),
+    ],
+    &[('s', 0)],
+    &[],
+    &[('n', 7), ('n', 7)],
+];
+
+// How many of these a terms source, a histogram and a date source read.
+const READ: [[u64; 3]; 4] = [[6, 4, 2], [1, 0, 0], [0, 0, 0], [2, 2, 0]];
+
+#[test]
+fn a_source_counts_the_values_that_it_reads(rt: HostRuntime) -> Result<(), Fail> {
+    let alloc = rt.alloc();
+    let segment = mixed_documents(alloc)?;
+    for (doc, read) in (0..4).zip(READ) {
+        assert_eq!(rt; counts(alloc, &segment, doc, false)?, read, "{doc}");
+        let with_bucket = [read[0].max(1), read[1].max(1), read[2].max(1)];
+        assert_eq!(rt; counts(alloc, &segment, doc, true)?, with_bucket, "{doc}");
+    }
+    Ok(())
+}
+
+// How often a composite of each of the three kinds of sources counts a document.
+fn counts(
+    alloc: Global,
+    segment: &SegmentReader,
+    doc: u32,
+    missing_bucket: bool,
+) -> Result<[u64; 3], Fail> {
+    let terms = count_one(alloc, terms_of(alloc, "m", missing_bucket)?, segment, doc)?;
+    let numbers = count_one(alloc, numbers_of(alloc, missing_bucket)?, segment, doc)?;
+    let dates = count_one(alloc, dates_of(alloc, missing_bucket)?, segment, doc)?;
+    Ok([terms, numbers, dates])
+}
+
+fn count_one(
+    alloc: Global,
+    source: CompositeAggregationSource,
+    segment: &SegmentReader,
+    doc: u32,
+) -> Result<u64, Fail> {
+    let mut sources = ItemList::new(alloc);
+    sources.push(source)?;
+    count(alloc, sources, segment, doc)
+}
+
+fn mixed_documents(alloc: Global) -> Result<SegmentReader, Fail> {
+    let mut builder = SegmentBuilder::new(alloc);
+    for values in MIXED {
+        builder.add_document(document(alloc, values)?)?;
+    }
+    Ok(builder.build()?)
+}
+
+fn document(alloc: Global, values: &[(char, i64)]) -> Result<Document, Fail> {
+    let mut document = Document::new(alloc);
+    for (letter, number) in values {
+        document.add(Text::copy_of(alloc, "m")?, value(alloc, *letter, *number)?)?;
+    }
+    Ok(document)
+}
+
+fn value(alloc: Global, letter: char, number: i64) -> Result<FieldValue, Fail> {
+    match letter {
+        'd' => Ok(FieldValue::Date(number)),
+        's' => Ok(FieldValue::Str(Text::copy_of(alloc, "1970-01-01")?)),
+        'b' => Ok(FieldValue::Bool(true)),
+        _ => Ok(FieldValue::I64(number)),
+    }
+}
+
+fn numbers_of(alloc: Global, missing_bucket: bool) -> Result<CompositeAggregationSource, Fail> {
+    Ok(CompositeAggregationSource::Histogram(HistogramCompositeAggregationSource {
+        name: Text::copy_of(alloc, "numbers")?,
+        field: Text::copy_of(alloc, "m")?,
+        interval: 10,
+        order: Order::Asc,
+        missing_bucket,
+        missing_order: MissingOrder::Default,
+    }))
+}
+
+fn dates_of(alloc: Global, missing_bucket: bool) -> Result<CompositeAggregationSource, Fail> {
+    Ok(CompositeAggregationSource::DateHistogram(DateHistogramCompositeAggregationSource {
+        name: Text::copy_of(alloc, "dates")?,
+        field: Text::copy_of(alloc, "m")?,
+        fixed_interval: None,
+        calendar_interval: Some(CalendarInterval::Week),
+        order: Order::Asc,
+        missing_bucket,
+        missing_order: MissingOrder::Default,
+    }))
+}
+
+// A document with 65,536 values of the field `a`, each held twice.
+fn one_document(alloc: Global) -> Result<SegmentReader, Fail> {
+    let mut document = Document::new(alloc);
+    for number in 0..65_536 {
+        document.add(Text::copy_of(alloc, "a")?, FieldValue::I64(number / 2))?;
+    }
+    let mut builder = SegmentBuilder::new(alloc);
+    builder.add_document(document)?;
+    Ok(builder.build()?)
+}
+
+fn terms_of(
+    alloc: Global,
+    field: &str,
+    missing_bucket: bool,
+) -> Result<CompositeAggregationSource, Fail> {
+    Ok(CompositeAggregationSource::Terms(TermCompositeAggregationSource {
+        name: Text::copy_of(alloc, field)?,
+        field: Text::copy_of(alloc, field)?,
+        order: Order::Asc,
+        missing_bucket,
+        missing_order: MissingOrder::Default,
+    }))
+}
+
+// How often a composite over these fields counts the one document.
+fn count_of(
+    alloc: Global,
+    segment: &SegmentReader,
+    fields: &[&str],
+    missing_bucket: bool,
+) -> Result<u64, Fail> {
+    let mut sources = ItemList::new(alloc);
+    for field in fields {
+        sources.push(terms_of(alloc, field, missing_bucket)?)?;
+    }
+    count(alloc, sources, segment, 0)
+}
+
+// How often a composite of these sources counts a document.
+fn count(
+    alloc: Global,
+    sources: ItemList<CompositeAggregationSource>,
+    segment: &SegmentReader,
+    doc: u32,
+) -> Result<u64, Fail> {
+    let composite = CompositeAggregation {
+        sources,
+        size: 1,
+        after: NameMap::new(alloc),
+    };
+    Ok(count_uncut(alloc, &composite, segment, &[doc])?)
+}

@@ -1,0 +1,319 @@
+use agg_request::{
+    Aggregation, AggregationVariants, Aggregations, FilterQuery, NamedBuilder, QueryBuildError,
+    QueryBuilder, read_aggregations,
+};
+use agg_segment::{QueryTree, Schema};
+use agg_values::Text;
+use serde_json::Value;
+use std::alloc::Global;
+use std::test::Fail;
+
+// The unused builders, in order: their names, and whether a query of theirs matches everything.
+const BUILDERS: [(&str, bool); 3] = [("b", true), ("c", true), ("b", false)];
+
+// Requests with what is read of them, each aggregation under its names and down to the third level,
+// a builder as its name and its query; or the refusal.
+const REQUESTS: [(&str, &str); 47] = [
+    ("{}", ""),
+    (r#"{"a":{"filter":{"all":{}}}}"#, "a filter All; "),
+    (
+        r#"{"a":{"filter":{"term":{"field":"f","value":"u64:5"}}}}"#,
+        "a filter Term { field: Text { inner: \"f\" }, value: U64(5) }; ",
+    ),
+    (r#"{"a":{"filter":{"builder":"c"}}}"#, "a filter c All; "),
+    (
+        r#"{"a":{"composite":{"sources":[],"size":10,"format":1}}}"#,
+        "a composite 10; ",
+    ),
+    (
+        r#"{"d":{"sum":{"field":"x"}},"c":{"min":{"field":"y"}},"b":{"max":{"field":"z"}},
+            "a":{"value_count":{"field":""}}}"#,
+        "a value_count ; b max z; c min y; d sum x; ",
+    ),
+    (
+        r#"{"a":{"max":{"field":"f","missing":null,"script":5}}}"#,
+        "a max f; ",
+    ),
+    (r#"{"a":{"min":{"field":"f"},"aggs":{}}}"#, "a min f; "),
+    (
+        r#"{"key":{"sum":{"field":"f"}},"doc_count":{"sum":{"field":"g"}}}"#,
+        "doc_count sum g; key sum f; ",
+    ),
+    (
+        r#"{"a":{"aggs":{"n":{"max":{"field":"f"}},"m":{"composite":{"sources":[],"size":2},
+            "aggs":{"o":{"filter":{"empty":{}}}}}},"composite":{"sources":[],"size":1}}}"#,
+        "a composite 1; a>m composite 2; a>m>o filter Empty; a>n max f; ",
+    ),
+    (
+        r#"{"z":{"filter":{"builder":"b"}},"y":{"filter":{"builder":"b"}}}"#,
+        "y filter b All; z filter b Empty; ",
+    ),
+    (
+        r#"{"a":{"aggs":{"c":{"filter":{"builder":"b"}}},"filter":{"builder":"b"}}}"#,
+        "a filter b All; a>c filter b Empty; ",
+    ),
+    (
+        r#"{"a":{"filter":{"all":{}},"aggs":{"c":{"filter":{"builder":"b"}}}},
+            "b":{"filter":{"builder":"b"}}}"#,
+        "a filter All; a>c filter b All; b filter b Empty; ",
+    ),
+    ("null", "Grammar"),
+    ("[]", "Grammar"),
+    (r#"{"a":5}"#, "Grammar"),
+    (r#"{"a":{}}"#, "Grammar"),
+    (r#"{"a":{"aggs":{}}}"#, "Grammar"),
+    (
+        r#"{"a":{"max":{"field":"f"},"min":{"field":"f"}}}"#,
+        "Grammar",
+    ),
+    (r#"{"a":{"median":{"field":"f"}}}"#, "Grammar"),
+    (r#"{"a":{"max":{"field":"f"},"aggs":[]}}"#, "Grammar"),
+    (r#"{"a":{"max":{"field":"f"},"aggs":null}}"#, "Grammar"),
+    (r#"{"a":{"max":{}}}"#, "Grammar"),
+    (r#"{"a":{"sum":{"field":5}}}"#, "Grammar"),
+    (r#"{"a":{"filter":{"builder":5}}}"#, "Grammar"),
+    (
+        r#"{"a":{"filter":{"bool":{"must":[{"builder":"b"}]}}}}"#,
+        "Grammar",
+    ),
+    (r#"{"a":{"filter":"f:1"}}"#, "Unsupported"),
+    (
+        r#"{"a":{"filter":{"term":{"field":"f","value":"f64:1"}}}}"#,
+        "Unsupported",
+    ),
+    (
+        r#"{"a":{"composite":{"sources":[],"size":1.5}}}"#,
+        "Unsupported",
+    ),
+    (
+        r#"{"a":{"composite":{"sources":[],"size":1,"after":{"s":"f64:1"}}}}"#,
+        "Unsupported",
+    ),
+    (
+        r#"{"a":{"composite":{"sources":[{"s":{"histogram":{"field":"f","interval":0.5}}}],
+            "size":1}}}"#,
+        "Unsupported",
+    ),
+    (r#"{"a":{"filter":{"builder":"d"}}}"#, "UnknownBuilder"),
+    (
+        r#"{"a":{"filter":{"builder":"c"},"aggs":{"d":{"filter":{"builder":"c"}}}}}"#,
+        "UnknownBuilder",
+    ),
+    (
+        r#"{"a":{"filter":{"builder":"b"}},"b":{"filter":{"builder":"b"}},
+            "c":{"filter":{"builder":"b"}}}"#,
+        "UnknownBuilder",
+    ),
+    (
+        r#"{"a":{"filter":{"builder":"c"}},"b":{"filter":{"builder":"c"}},"c":{"median":{}}}"#,
+        "UnknownBuilder",
+    ),
+    (r#""f:1""#, "Grammar"),
+    (r#"{"a":{"max":"f"}}"#, "Grammar"),
+    (r#"{"a":{"max":["f"]}}"#, "Grammar"),
+    (r#"{"a":{"avg":null}}"#, "Unsupported"),
+    (
+        r#"{"a":{"avg":{"field":"f"},"max":{"field":"f"}}}"#,
+        "Grammar",
+    ),
+    (r#"{"a":{"filter":{}}}"#, "Grammar"),
+    (r#"{"a":{"filter":{"builder":"c","boost":1}}}"#, "Grammar"),
+    (r#"{"a":{"filter":{"builder":"c","all":{}}}}"#, "Grammar"),
+    (
+        r#"{"a":{"filter":{"all":{}},"aggs":{"aggs":{"max":{"field":"f"}}}}}"#,
+        "a filter All; a>aggs max f; ",
+    ),
+    (
+        r#"{"a":{"filter":{"all":{}},"aggs":{"b":{"avg":{"field":"f"}}}}}"#,
+        "Unsupported",
+    ),
+    (
+        r#"{"a":{"filter":{"all":{}},"aggs":{"b":{"median":{}}}}}"#,
+        "Grammar",
+    ),
+    (
+        r#"{"a":{"composite":{"sources":[],"size":1},"aggs":{"b":{"filter":"f:1"}}}}"#,
+        "Unsupported",
+    ),
+];
+
+// The kinds that are left out.
+const UNSUPPORTED_KINDS: [&str; 10] = [
+    "avg",
+    "stats",
+    "extended_stats",
+    "percentiles",
+    "cardinality",
+    "terms",
+    "range",
+    "histogram",
+    "date_histogram",
+    "top_hits",
+];
+
+// The names of members of a bucket.
+const RESERVED_NAMES: [&str; 2] = ["key", "doc_count"];
+
+// A builder of a query for every document, or for none.
+#[derive(Drop)]
+struct Marked {
+    matches: bool,
+}
+
+impl QueryBuilder for Marked {
+    ghost use Rattle.std.specs.Prelude.{Some, if◌then◌else◌};
+    ghost use Rattle.agg_segment.specs.declared.query.QueryTree.TheVariants.{All as AllOf};
+    ghost use Rattle.agg_segment.specs.declared.query.QueryTree.TheVariants.{Empty as NoneOf};
+
+    ghost tree_for = { λ builder _. (if builder.matches then Some AllOf else Some NoneOf) };
+
+    fn build_query(&self, _alloc: Global, _schema: &Schema) -> Result<QueryTree, QueryBuildError> {
+        if self.matches {
+            Ok(QueryTree::All)
+        } else {
+            Ok(QueryTree::Empty)
+        }
+    }
+}
+
+fn shown_query(alloc: Global, query: &FilterQuery) -> Result<String, Fail> {
+    match query {
+        FilterQuery::Tree(tree) => Ok(format!(in alloc; "{tree:?}")?),
+        FilterQuery::CustomBuilder(named) => {
+            let tree = named.builder.build_query(alloc, &Schema::new(alloc))?;
+            Ok(format!(in alloc; "{} {tree:?}", named.name.as_str())?)
+        }
+    }
+}
+
+// What an aggregation asks.
+fn shown_kind(alloc: Global, aggregation: &Aggregation) -> Result<String, Fail> {
+    match &aggregation.agg {
+        AggregationVariants::Filter(filter) => {
+            let query = shown_query(alloc, filter.query())?;
+            Ok(format!(in alloc; "filter {}", query.as_str())?)
+        }
+        AggregationVariants::Composite(composite) => {
+            Ok(format!(in alloc; "composite {}", composite.size)?)
+        }
+        AggregationVariants::Count(count) => {
+            Ok(format!(in alloc; "value_count {}", count.field.as_str())?)
+        }
+        AggregationVariants::Max(max) => Ok(format!(in alloc; "max {}", max.field.as_str())?),
+        AggregationVariants::Min(min) => Ok(format!(in alloc; "min {}", min.field.as_str())?),
+        AggregationVariants::Sum(sum) => Ok(format!(in alloc; "sum {}", sum.field.as_str())?),
+    }
+}
+
+// Puts an aggregation behind what is shown.
+fn show(
+    alloc: Global,
+    shown: &mut String,
+    path: &str,
+    aggregation: &Aggregation,
+) -> Result<(), Fail> {
+    let kind = shown_kind(alloc, aggregation)?;
+    shown.push_str(format!(in alloc; "{path} {}; ", kind.as_str())?.as_str())?;
+    Ok(())
+}
+
+// The aggregations below one, and those below them.
+fn show_below(
+    alloc: Global,
+    shown: &mut String,
+    path: &str,
+    request: &Aggregations,
+) -> Result<(), Fail> {
+    for (name, aggregation) in request.iter() {
+        let path = format!(in alloc; "{path}>{}", name.as_str())?;
+        show(alloc, shown, path.as_str(), aggregation)?;
+        for (name, aggregation) in aggregation.sub_aggregation.iter() {
+            let path = format!(in alloc; "{}>{}", path.as_str(), name.as_str())?;
+            show(alloc, shown, path.as_str(), aggregation)?;
+        }
+    }
+    Ok(())
+}
+
+fn shown(alloc: Global, request: &Aggregations) -> Result<String, Fail> {
+    let mut shown = String::new(alloc);
+    for (name, aggregation) in request.iter() {
+        show(alloc, &mut shown, name.as_str(), aggregation)?;
+        show_below(
+            alloc,
+            &mut shown,
+            name.as_str(),
+            &aggregation.sub_aggregation,
+        )?;
+    }
+    Ok(shown)
+}
+
+// What is read of a text with those builders.
+fn read(alloc: Global, text: &str) -> Result<String, Fail> {
+    let mut builders = Vec::new(alloc);
+    for (name, matches) in BUILDERS {
+        builders.push(NamedBuilder {
+            name: Text::copy_of(alloc, name)?,
+            builder: Box::new(alloc, Marked { matches })?,
+        })?;
+    }
+    match read_aggregations(alloc, &Value::from_str(alloc, text)?, builders) {
+        Ok(request) => shown(alloc, &request),
+        Err(error) => Ok(format!(in alloc; "{error:?}")?),
+    }
+}
+
+#[test]
+fn reads_requests(rt: HostRuntime) -> Result<(), Fail> {
+    for (text, expected) in REQUESTS {
+        assert_eq!(rt; read(rt.alloc(), text)?.as_str(), expected, "{text}");
+    }
+    Ok(())
+}
+
+#[test]
+fn refuses_kinds_that_are_left_out(rt: HostRuntime) -> Result<(), Fail> {
+    let alloc = rt.alloc();
+    for kind in UNSUPPORTED_KINDS {
+        let text = format!(in alloc; r#"{{"a":{{"{kind}":{{"field":"f"}}}}}}"#)?;
+        assert_eq!(rt;
+            read(alloc, text.as_str())?.as_str(),
+            "Unsupported",
+            "{kind}"
+        );
+    }
+    Ok(())
+}
+
+#[test]
+fn refuses_what_metrics_and_buckets_may_not_hold(rt: HostRuntime) -> Result<(), Fail> {
+    let alloc = rt.alloc();
+    for kind in ["value_count", "max", "min", "sum"] {
+        for member in [
+            r#""field":"f","missing":0}"#,
+            r#""field":"f"},"aggs":{"b":{}}"#,
+        ] {
+            let text = format!(in alloc; r#"{{"a":{{"{kind}":{{{member}}}}}"#)?;
+            assert_eq!(rt;
+                read(alloc, text.as_str())?.as_str(),
+                "Unsupported",
+                "{}",
+                text.as_str()
+            );
+        }
+    }
+    for name in RESERVED_NAMES {
+        let below = format!(in alloc; r#"{{"{name}":{{"max":{{"field":"f"}}}}}}"#)?;
+        let text = format!(in alloc;
+            r#"{{"a":{{"filter":{{"all":{{}}}},"aggs":{}}}}}"#,
+            below.as_str()
+        )?;
+        assert_eq!(rt;
+            read(alloc, text.as_str())?.as_str(),
+            "Unsupported",
+            "{name}"
+        );
+    }
+    Ok(())
+}

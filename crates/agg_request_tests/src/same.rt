@@ -1,0 +1,79 @@
+use agg_request::{Aggregations, read_aggregations};
+use serde_json::Value;
+use std::alloc::Global;
+use std::test::Fail;
+
+// Aggregations, no two of which are the same.
+const AGGREGATIONS: [&str; 38] = [
+    r#""value_count":{"field":"f"}"#,
+    r#""max":{"field":"f"}"#,
+    r#""min":{"field":"f"}"#,
+    r#""sum":{"field":"f"}"#,
+    r#""sum":{"field":"g"}"#,
+    r#""filter":{"all":{}}"#,
+    r#""filter":{"empty":{}}"#,
+    r#""filter":{"exists":{"field":"f"}}"#,
+    r#""filter":{"exists":{"field":"g"}}"#,
+    r#""filter":{"term":{"field":"f","value":"i64:1"}}"#,
+    r#""filter":{"term":{"field":"f","value":"u64:1"}}"#,
+    r#""filter":{"term":{"field":"g","value":"i64:1"}}"#,
+    r#""filter":{"range":{"field":"f","gte":"i64:1"}}"#,
+    r#""filter":{"range":{"field":"f","gt":"i64:1"}}"#,
+    r#""filter":{"range":{"field":"f","gt":"i64:2"}}"#,
+    r#""filter":{"range":{"field":"g","gt":"i64:1"}}"#,
+    r#""filter":{"range":{"field":"f","lt":"i64:1"}}"#,
+    r#""filter":{"bool":{}}"#,
+    r#""filter":{"bool":{"must":[{"all":{}}]}}"#,
+    r#""filter":{"bool":{"should":[{"all":{}}]}}"#,
+    r#""filter":{"bool":{"must_not":[{"all":{}}]}}"#,
+    r#""filter":{"bool":{"must":[{"all":{}},{"bool":{}}]}}"#,
+    r#""filter":{"bool":{"must":[{"all":{}},{"bool":{"must":[{"empty":{}}]}}]}}"#,
+    r#""composite":{"sources":[],"size":1}"#,
+    r#""composite":{"sources":[],"size":2}"#,
+    r#""composite":{"sources":[],"size":1,"after":{"s":"i64:1"}}"#,
+    r#""composite":{"sources":[],"size":1,"after":{"s":"u64:1"}}"#,
+    r#""composite":{"sources":[],"size":1,"after":{"t":"i64:1"}}"#,
+    r#""composite":{"sources":[],"size":1,"after":{"s":"i64:1","t":"i64:1"}}"#,
+    r#""composite":{"sources":[{"s":{"terms":{"field":"f"}}}],"size":1}"#,
+    r#""composite":{"sources":[{"s":{"terms":{"field":"f","order":"desc"}}}],"size":1}"#,
+    r#""composite":{"sources":[{"s":{"date_histogram":{"field":"f"}}}],"size":1}"#,
+    r#""composite":{"sources":[{"s":{"histogram":{"field":"f","interval":1}}}],"size":1}"#,
+    r#""filter":{"all":{}},"aggs":{"a":{"sum":{"field":"f"}}}"#,
+    r#""filter":{"all":{}},"aggs":{"b":{"sum":{"field":"f"}}}"#,
+    r#""filter":{"all":{}},"aggs":{"a":{"sum":{"field":"g"}}}"#,
+    r#""filter":{"all":{}},"aggs":{"a":{"sum":{"field":"f"}},"b":{"sum":{"field":"f"}}}"#,
+    r#""filter":{"all":{}},"aggs":{"a":{"filter":{"all":{}},"aggs":{"a":{"sum":{"field":"f"}}}}}"#,
+];
+
+// One request of them all, each by its number.
+fn all_of_them(alloc: Global) -> Result<Aggregations, Fail> {
+    let mut text = String::new(alloc);
+    for (i, aggregation) in AGGREGATIONS.iter().enumerate() {
+        let comma = if i == 0 { "" } else { "," };
+        text.push_str(format!(in alloc; r#"{comma}"{i}":{{{aggregation}}}"#)?.as_str())?;
+    }
+    let text = format!(in alloc; "{{{text}}}")?;
+    let value = Value::from_str(alloc, text.as_str())?;
+    Ok(read_aggregations(alloc, &value, Vec::new(alloc))?)
+}
+
+#[test]
+fn an_aggregation_is_the_same_as_itself_alone(rt: HostRuntime) -> Result<(), Fail> {
+    let alloc = rt.alloc();
+    let request = all_of_them(alloc)?;
+    let others = all_of_them(alloc)?;
+    assert_eq!(rt; request.len(), AGGREGATIONS.len());
+    for (name, aggregation) in request.iter() {
+        for (other_name, other) in others.iter() {
+            let is_same = aggregation.same_as(other);
+            assert_eq!(rt;
+                is_same,
+                name == other_name,
+                "{} {}",
+                name.as_str(),
+                other_name.as_str()
+            );
+        }
+    }
+    Ok(())
+}

@@ -1,0 +1,169 @@
+use agg_request::{
+    NamedBuilder, QueryBuildError, QueryBuilder, may_be_written, read_aggregations,
+    write_aggregations,
+};
+use agg_segment::{QueryTree, Schema};
+use agg_values::Text;
+use serde_json::Value;
+use std::alloc::Global;
+use std::test::Fail;
+
+// Requests, with what is written of them.
+const REQUESTS: [(&str, &str); 22] = [
+    ("{}", "{}"),
+    (
+        r#"{"b":{"max":{"field":"v"}},"a":{"value_count":{"field":""}}}"#,
+        r#"{"a":{"value_count":{"field":""}},"b":{"max":{"field":"v"}}}"#,
+    ),
+    (
+        r#"{"a":{"min":{"field":"v","missing":null}},"b":{"sum":{"field":"é\""},"aggs":{}}}"#,
+        r#"{"a":{"min":{"field":"v"}},"b":{"sum":{"field":"é\""}}}"#,
+    ),
+    (
+        r#"{"f":{"filter":{"all":{}}}}"#,
+        r#"{"f":{"filter":{"all":{}}}}"#,
+    ),
+    (
+        r#"{"f":{"filter":{"empty":{}}}}"#,
+        r#"{"f":{"filter":{"empty":{}}}}"#,
+    ),
+    (
+        r#"{"f":{"filter":{"builder":"any_field"}}}"#,
+        r#"{"f":{"filter":{"builder":"any_field"}}}"#,
+    ),
+    (
+        r#"{"f":{"filter":{"exists":{"field":"a"}}}}"#,
+        r#"{"f":{"filter":{"exists":{"field":"a"}}}}"#,
+    ),
+    (
+        r#"{"f":{"filter":{"term":{"value":"i64:-05","field":"a"}}}}"#,
+        r#"{"f":{"filter":{"term":{"field":"a","value":"i64:-5"}}}}"#,
+    ),
+    (
+        r#"{"f":{"filter":{"term":{"field":"a","value":"str:a:b"}}}}"#,
+        r#"{"f":{"filter":{"term":{"field":"a","value":"str:a:b"}}}}"#,
+    ),
+    (
+        r#"{"f":{"filter":{"term":{"field":"a","value":"ip:1.2.3.4"}}}}"#,
+        r#"{"f":{"filter":{"term":{"field":"a","value":"ip:::ffff:1.2.3.4"}}}}"#,
+    ),
+    (
+        r#"{"f":{"filter":{"range":{"field":"a"}}}}"#,
+        r#"{"f":{"filter":{"range":{"field":"a"}}}}"#,
+    ),
+    (
+        r#"{"f":{"filter":{"range":{"lte":"u64:9","gte":"u64:1","field":"a"}}}}"#,
+        r#"{"f":{"filter":{"range":{"field":"a","gte":"u64:1","lte":"u64:9"}}}}"#,
+    ),
+    (
+        r#"{"f":{"filter":{"range":{"gt":"dt:1","lt":"dt:+9","field":"a"}}}}"#,
+        r#"{"f":{"filter":{"range":{"field":"a","gt":"dt:1","lt":"dt:9"}}}}"#,
+    ),
+    (
+        r#"{"f":{"filter":{"range":{"field":"a","lt":"bool:true"}}}}"#,
+        r#"{"f":{"filter":{"range":{"field":"a","lt":"bool:true"}}}}"#,
+    ),
+    (
+        r#"{"f":{"filter":{"bool":{}}}}"#,
+        r#"{"f":{"filter":{"bool":{"must":[],"should":[],"must_not":[]}}}}"#,
+    ),
+    (
+        r#"{"f":{"filter":{"bool":{"should":[{"all":{}},{"empty":{}}],
+            "must_not":[{"bool":{"must":[{"exists":{"field":"b"}}]}}]}}}}"#,
+        r#"{"f":{"filter":{"bool":{"must":[],"should":[{"all":{}},{"empty":{}}],"must_not":[
+            {"bool":{"must":[{"exists":{"field":"b"}}],"should":[],"must_not":[]}}]}}}}"#,
+    ),
+    (
+        r#"{"g":{"composite":{"sources":[],"size":0,"after":{}}}}"#,
+        r#"{"g":{"composite":{"sources":[],"size":0}}}"#,
+    ),
+    (
+        r#"{"g":{"composite":{"sources":[{"b":{"terms":{"field":"f","order":"desc"}}},
+            {"a":{"terms":{"field":"g","missing_bucket":true,"missing_order":"last"}}}],
+            "size":4294967295,"after":{"b":"null:","a":"u64:05"},"format":1}}}"#,
+        r#"{"g":{"composite":{"sources":[
+            {"b":{"terms":{"field":"f","order":"desc","missing_bucket":false,
+            "missing_order":"default"}}},
+            {"a":{"terms":{"field":"g","order":"asc","missing_bucket":true,
+            "missing_order":"last"}}}],
+            "size":4294967295,"after":{"b":"null:","a":"u64:5"}}}}"#,
+    ),
+    (
+        r#"{"g":{"composite":{"sources":[
+            {"a":{"histogram":{"field":"f","interval":-9223372036854775808}}},
+            {"b":{"histogram":{"field":"f","interval":5,"missing_order":"first"}}}],"size":1}}}"#,
+        r#"{"g":{"composite":{"sources":[
+            {"a":{"histogram":{"field":"f","interval":-9223372036854775808,"order":"asc",
+            "missing_bucket":false,"missing_order":"default"}}},
+            {"b":{"histogram":{"field":"f","interval":5,"order":"asc",
+            "missing_bucket":false,"missing_order":"first"}}}],"size":1}}}"#,
+    ),
+    (
+        r#"{"g":{"composite":{"sources":[
+            {"a":{"date_histogram":{"field":"f","fixed_interval":"1d","calendar_interval":null}}},
+            {"b":{"date_histogram":{"field":"f","calendar_interval":"week"}}}],"size":1}}}"#,
+        r#"{"g":{"composite":{"sources":[
+            {"a":{"date_histogram":{"field":"f","fixed_interval":"1d","order":"asc",
+            "missing_bucket":false,"missing_order":"default"}}},
+            {"b":{"date_histogram":{"field":"f","calendar_interval":"week","order":"asc",
+            "missing_bucket":false,"missing_order":"default"}}}],"size":1}}}"#,
+    ),
+    (
+        r#"{"f":{"aggs":{"g":{"filter":{"empty":{}},"aggs":{"n":{"max":{"field":"v"}}}}},
+            "filter":{"all":{}}}}"#,
+        r#"{"f":{"aggs":{"g":{"aggs":{"n":{"max":{"field":"v"}}},"filter":{"empty":{}}}},
+            "filter":{"all":{}}}}"#,
+    ),
+    (
+        r#"{"g":{"composite":{"sources":[{"a":{"terms":{"field":"a"}}},
+            {"d":{"date_histogram":{"field":"d","calendar_interval":"month"}}}],
+            "size":10,"after":{"a":"str:x"}},
+            "aggs":{"n":{"value_count":{"field":"v"}},"f":{"filter":{"builder":"any_field"}}}}}"#,
+        r#"{"g":{"composite":{"sources":[
+            {"a":{"terms":{"field":"a","order":"asc","missing_bucket":false,
+            "missing_order":"default"}}},
+            {"d":{"date_histogram":{"field":"d","calendar_interval":"month","order":"asc",
+            "missing_bucket":false,"missing_order":"default"}}}],
+            "size":10,"after":{"a":"str:x"}},
+            "aggs":{"n":{"value_count":{"field":"v"}},"f":{"filter":{"builder":"any_field"}}}}}"#,
+    ),
+];
+
+// A builder of the query for every document.
+#[derive(Drop)]
+struct AllOfThem {}
+
+impl QueryBuilder for AllOfThem {
+    ghost use Rattle.std.specs.Prelude.{Some};
+    ghost use Rattle.agg_segment.specs.declared.query.QueryTree.TheVariants.{All as AllOf};
+
+    ghost tree_for = { λ _ fields. Some AllOf };
+
+    fn build_query(&self, alloc: Global, schema: &Schema) -> Result<QueryTree, QueryBuildError> {
+        let _ = alloc;
+        let _ = schema;
+        Ok(QueryTree::All)
+    }
+}
+
+#[test]
+fn writes_what_was_read(rt: HostRuntime) -> Result<(), Fail> {
+    let alloc = rt.alloc();
+    for (text, expected) in REQUESTS {
+        let mut builders = Vec::new(alloc);
+        builders.push(NamedBuilder {
+            name: Text::copy_of(alloc, "any_field")?,
+            builder: Box::new(alloc, AllOfThem {})?,
+        })?;
+        let request = read_aggregations(alloc, &Value::from_str(alloc, text)?, builders)?;
+        assert!(rt; may_be_written(&request), "{text}");
+        let written = write_aggregations(alloc, &request)?;
+        let expected = Value::from_str(alloc, expected)?.to_string(alloc)?;
+        assert_eq!(rt;
+            written.to_string(alloc)?.as_str(),
+            expected.as_str(),
+            "{text}"
+        );
+    }
+    Ok(())
+}

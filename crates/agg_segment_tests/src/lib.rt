@@ -1,0 +1,7 @@
+//! Tests of segments and queries.
+#![tactic(auto)]
+
+#[cfg(test)]
+mod query;
+#[cfg(test)]
+mod segment;

@@ -1,0 +1,246 @@
+//! What small segments answer.
+use agg_segment::{
+    BuildError, Column, ColumnType, FieldValue, OrdHit, Schema, SegmentBuilder, SegmentReader,
+    by_class_keeps_the_keys, classes_match_in_any_order,
+};
+use agg_values::{Address, ColumnPaginationOrder, CompositeIntermediateKey, OutOfMemory, Text};
+use std::alloc::Global;
+use std::cmp::Ordering;
+use std::test::Fail;
+
+const FROM_ZERO: u64 = 9_223_372_036_854_775_808;
+
+fn push(builder: &mut SegmentBuilder, name: &str, value: FieldValue) -> Result<(), OutOfMemory> {
+    let field = builder.field(name)?;
+    builder.push(field, value)
+}
+
+fn push_text(builder: &mut SegmentBuilder, alloc: Global, text: &str) -> Result<(), OutOfMemory> {
+    push(builder, "a", FieldValue::Str(Text::copy_of(alloc, text)?))
+}
+
+fn push_number(builder: &mut SegmentBuilder, number: u64) -> Result<(), OutOfMemory> {
+    push(builder, "a", FieldValue::U64(number))
+}
+
+// The numbers of a document in the first column of a field, none where there is no column.
+fn numbers<'s>(segment: &'s SegmentReader, field: &Text, doc: u32) -> &'s [u64] {
+    match segment.columns(field).first() {
+        Some(column) => column.values_for_doc(doc),
+        None => &[],
+    }
+}
+
+fn push_others(builder: &mut SegmentBuilder) -> Result<(), OutOfMemory> {
+    let field = builder.field("a")?;
+    builder.push(field, FieldValue::Date(3))?;
+    builder.push(field, FieldValue::Bool(true))?;
+    builder.push(field, FieldValue::Ip(Address(7)))?;
+    builder.push(field, FieldValue::I64(-5))
+}
+
+#[test]
+fn interleaved_classes_have_columns_of_their_own(rt: HostRuntime) -> Result<(), Fail> {
+    let mut builder = SegmentBuilder::new(rt.alloc());
+    push_number(&mut builder, 4)?;
+    push_text(&mut builder, rt.alloc(), "z")?;
+    push_others(&mut builder)?;
+    push_text(&mut builder, rt.alloc(), "a")?;
+    builder.finish()?;
+    let segment = builder.build()?;
+    let field = Text::copy_of(rt.alloc(), "a")?;
+    let expected = [
+        (ColumnType::Bool, [1].as_slice()),
+        (ColumnType::Str, [1, 0].as_slice()),
+        (ColumnType::I64, [FROM_ZERO + 4, FROM_ZERO - 5].as_slice()),
+        (ColumnType::IpAddr, [0].as_slice()),
+        (ColumnType::DateTime, [FROM_ZERO + 3].as_slice()),
+    ];
+    assert_eq!(rt; segment.columns(&field).len(), expected.len());
+    for (column, (kind, numbers)) in segment.columns(&field).iter().zip(expected) {
+        assert_eq!(rt; column.column_type(), kind);
+        assert_eq!(rt; column.values_for_doc(0), numbers);
+    }
+    Ok(())
+}
+
+#[test]
+fn mixed_numbers_are_refused(rt: HostRuntime) -> Result<(), Fail> {
+    let mut builder = SegmentBuilder::new(rt.alloc());
+    push_others(&mut builder)?;
+    builder.finish()?;
+    push_number(&mut builder, FROM_ZERO)?;
+    assert_eq!(rt; builder.finish(), Err(BuildError::MixedNumbers));
+    assert_eq!(rt; builder.build()?.num_docs(), 1);
+    Ok(())
+}
+
+#[test]
+fn a_document_too_many_is_refused(rt: HostRuntime) -> Result<(), Fail> {
+    let mut builder = SegmentBuilder::new(rt.alloc());
+    for _ in 0..16_777_216u32 {
+        builder.finish()?;
+    }
+    assert_eq!(rt; builder.finish(), Err(BuildError::TooManyDocuments));
+    Ok(())
+}
+
+// Each of nine documents has a number, all but one have two in another field, and the first and
+// the last have one in a third.
+fn layouts(alloc: Global) -> Result<SegmentReader, Fail> {
+    let mut builder = SegmentBuilder::new(alloc);
+    for doc in 0..9u64 {
+        push(&mut builder, "each", FieldValue::U64(doc))?;
+        if doc != 3 {
+            push(&mut builder, "most", FieldValue::U64(doc))?;
+            push(&mut builder, "most", FieldValue::U64(9))?;
+        }
+        if doc == 0 || doc == 8 {
+            push(&mut builder, "few", FieldValue::U64(doc))?;
+        }
+        builder.finish()?;
+    }
+    Ok(builder.build()?)
+}
+
+#[test]
+fn documents_have_their_numbers(rt: HostRuntime) -> Result<(), Fail> {
+    let segment = layouts(rt.alloc())?;
+    let expected = [
+        ("each", 0, [0].as_slice()),
+        ("each", 8, [8].as_slice()),
+        ("each", 9, [].as_slice()),
+        ("most", 0, [0, 9].as_slice()),
+        ("most", 3, [].as_slice()),
+        ("most", 4, [4, 9].as_slice()),
+        ("most", 8, [8, 9].as_slice()),
+        ("most", 9, [].as_slice()),
+        ("few", 0, [0].as_slice()),
+        ("few", 1, [].as_slice()),
+        ("few", 8, [8].as_slice()),
+        ("few", 9, [].as_slice()),
+        ("none", 0, [].as_slice()),
+    ];
+    for (name, doc, wanted) in expected {
+        let found = numbers(&segment, &Text::copy_of(rt.alloc(), name)?, doc);
+        assert_eq!(rt; found.len(), wanted.len());
+        for (found, wanted) in found.iter().zip(wanted) {
+            assert_eq!(rt; found.wrapping_sub(FROM_ZERO), *wanted);
+        }
+    }
+    Ok(())
+}
+
+#[test]
+fn open_documents_are_discarded(rt: HostRuntime) -> Result<(), Fail> {
+    let mut builder = SegmentBuilder::new(rt.alloc());
+    push_number(&mut builder, 1)?;
+    builder.finish()?;
+    push_number(&mut builder, 4)?;
+    push(&mut builder, "b", FieldValue::U64(3))?;
+    builder.finish()?;
+    push_number(&mut builder, 5)?;
+    builder.discard();
+    builder.finish()?;
+    push_number(&mut builder, 6)?;
+    let segment = builder.build()?;
+    assert_eq!(rt; segment.num_docs(), 3);
+    let a = Text::copy_of(rt.alloc(), "a")?;
+    for (doc, wanted) in [(0, [FROM_ZERO + 1]), (1, [FROM_ZERO + 4])] {
+        assert_eq!(rt; numbers(&segment, &a, doc), wanted.as_slice());
+    }
+    for doc in 2..4 {
+        assert!(rt; numbers(&segment, &a, doc).is_empty());
+    }
+    let b = Text::copy_of(rt.alloc(), "b")?;
+    assert_eq!(rt; numbers(&segment, &b, 1), [FROM_ZERO + 3].as_slice());
+    Ok(())
+}
+
+fn text_hit(column: &Column, text: &Text) -> Option<OrdHit> {
+    match column.column_type() {
+        ColumnType::Str => Some(column.term_ord_or_next(text)),
+        _ => None,
+    }
+}
+
+fn address_hit(column: &Column, address: Address) -> Option<OrdHit> {
+    match column.column_type() {
+        ColumnType::IpAddr => Some(column.address_or_next(address)),
+        _ => None,
+    }
+}
+
+#[test]
+fn hits_are_the_first_places_not_below(rt: HostRuntime) -> Result<(), Fail> {
+    let mut builder = SegmentBuilder::new(rt.alloc());
+    for (text, address) in [("d", 4), ("b", 2), ("d", 4)] {
+        push_text(&mut builder, rt.alloc(), text)?;
+        push(&mut builder, "b", FieldValue::Ip(Address(address)))?;
+    }
+    builder.finish()?;
+    let segment = builder.build()?;
+    let expected = [
+        ("a", 1, OrdHit::Next(0)),
+        ("b", 2, OrdHit::Exact(0)),
+        ("c", 3, OrdHit::Next(1)),
+        ("d", 4, OrdHit::Exact(1)),
+        ("e", 5, OrdHit::AfterLast),
+    ];
+    let texts = segment.columns(&Text::copy_of(rt.alloc(), "a")?);
+    let addresses = segment.columns(&Text::copy_of(rt.alloc(), "b")?);
+    assert_eq!(rt; (texts.len(), addresses.len()), (1, 1));
+    for (text, address, hit) in expected {
+        let text = Text::copy_of(rt.alloc(), text)?;
+        for column in texts {
+            assert_eq!(rt; text_hit(column, &text), Some(hit));
+        }
+        for column in addresses {
+            assert_eq!(rt; address_hit(column, Address(address)), Some(hit));
+        }
+    }
+    Ok(())
+}
+
+#[test]
+fn a_large_number_makes_a_column_unsigned(rt: HostRuntime) -> Result<(), Fail> {
+    let mut builder = SegmentBuilder::new(rt.alloc());
+    push_number(&mut builder, FROM_ZERO)?;
+    push_number(&mut builder, 7)?;
+    builder.finish()?;
+    let segment = builder.build()?;
+    let columns = segment.columns(&Text::copy_of(rt.alloc(), "a")?);
+    assert_eq!(rt; columns.len(), 1);
+    for column in columns {
+        assert_eq!(rt; column.column_type(), ColumnType::U64);
+        let class = column.column_type().column_pagination_order();
+        assert_eq!(rt; class, ColumnPaginationOrder::Numeric);
+        let numbers = column.values_for_doc(0);
+        assert_eq!(rt; numbers, [FROM_ZERO, 7].as_slice());
+        let (large, small) = (numbers[0], numbers[1]);
+        assert_eq!(rt; column.compare(large, small), Ordering::Greater);
+        let key = column.decode(rt.alloc(), small)?;
+        assert!(rt; matches!(key, CompositeIntermediateKey::I64(7)));
+        let key = column.decode(rt.alloc(), large)?;
+        assert!(rt; matches!(key, CompositeIntermediateKey::U64(FROM_ZERO)));
+    }
+    Ok(())
+}
+
+#[test]
+fn values_schemas_and_laws_are_called(rt: HostRuntime) -> Result<(), Fail> {
+    let alloc = rt.alloc();
+    for value in [
+        FieldValue::Bool(true),
+        FieldValue::Str(Text::copy_of(alloc, "a")?),
+    ] {
+        assert_eq!(rt; value.try_clone(alloc)?, value);
+    }
+    let mut schema = Schema::new(alloc);
+    schema.add_field(Text::copy_of(alloc, "a")?)?;
+    schema.add_field(Text::copy_of(alloc, "a")?)?;
+    assert_eq!(rt; schema.fields().len(), 2);
+    by_class_keeps_the_keys();
+    classes_match_in_any_order();
+    Ok(())
+}
