@@ -273,7 +273,8 @@ read_none d result told (inl e) =
     (subst (IsReading (λ lenient. IsFilterOf lenient d) (HasUnsupportedFilter (suc (depth d)) d)) e
     told).1
 read_none d result told (inr e) =
-    subst (IsReading (λ lenient. IsFilterOf lenient d) (HasUnsupportedFilter (suc (depth d)) d)) e told
+    subst (IsReading (λ lenient. IsFilterOf lenient d)
+    (HasUnsupportedFilter (suc (depth d)) d)) e told
     false
 
 -- where it is refused as outside the grammar, it is no query at all
@@ -282,6 +283,7 @@ pub read_nothing : (d : Data) (result : Result QueryTree ReadError)
     → as_str d ≡ None → IsErrOf result Grammar → IsNoQueryAtAll d
 read_nothing d result told no_text e = (
   no_text,
-  subst (IsReading (λ lenient. IsFilterOf lenient d) (HasUnsupportedFilter (suc (depth d)) d)) e told
+  subst (IsReading (λ lenient. IsFilterOf lenient d)
+      (HasUnsupportedFilter (suc (depth d)) d)) e told
       true,
 )

@@ -62,7 +62,8 @@ refused_item vs i x error result below at is told n deep =
     (λ lenient. EachIs (IsFilter lenient n) (items_view vs))
     (HasUnsupportedItem (HasUnsupportedFilter n) (items_view vs)) error result is
     (told n (omega (arith, shallow, deep)))
-    (λ h. some_at (HasUnsupportedFilter n) vs i x below (subst (λ y. HasUnsupportedFilter n (view y)) at h))
+    (λ h. some_at (HasUnsupportedFilter n) vs i x below
+    (subst (λ y. HasUnsupportedFilter n (view y)) at h))
     (λ lenient trees h. let one = each_at (IsFilter lenient n) vs i x trees below h in
     (one.0, subst (λ y. IsFilter lenient n (view y) one.0) (sym at) one.1))
 
@@ -142,7 +143,8 @@ pub refused_must : (n : ℕ) (body : Data) (error : ReadError) (result : Result 
 refused_must n body error result is told =
     refused_by (λ lenient. IsListAt (IsFilter lenient n) (codes "must") body)
     (HasUnsupportedList (HasUnsupportedFilter n) (codes "must") body)
-    (λ lenient. IsBoolean (IsFilter lenient n) body) (HasUnsupportedBody (HasUnsupportedFilter n) body)
+    (λ lenient. IsBoolean (IsFilter lenient n) body)
+    (HasUnsupportedBody (HasUnsupportedFilter n) body)
     error result is told (λ h. inl h) (λ lenient tree h. (h.0, h.5))
 
 -- the same of the second list
@@ -155,7 +157,8 @@ pub refused_should : (n : ℕ) (body : Data) (error : ReadError)
 refused_should n body error result is told =
     refused_by (λ lenient. IsListAt (IsFilter lenient n) (codes "should") body)
     (HasUnsupportedList (HasUnsupportedFilter n) (codes "should") body)
-    (λ lenient. IsBoolean (IsFilter lenient n) body) (HasUnsupportedBody (HasUnsupportedFilter n) body)
+    (λ lenient. IsBoolean (IsFilter lenient n) body)
+    (HasUnsupportedBody (HasUnsupportedFilter n) body)
     error result is told (λ h. inr (inl h)) (λ lenient tree h. (h.1, h.6))
 
 -- the same of the third list
@@ -168,5 +171,6 @@ pub refused_must_not : (n : ℕ) (body : Data) (error : ReadError)
 refused_must_not n body error result is told =
     refused_by (λ lenient. IsListAt (IsFilter lenient n) (codes "must_not") body)
     (HasUnsupportedList (HasUnsupportedFilter n) (codes "must_not") body)
-    (λ lenient. IsBoolean (IsFilter lenient n) body) (HasUnsupportedBody (HasUnsupportedFilter n) body)
+    (λ lenient. IsBoolean (IsFilter lenient n) body)
+    (HasUnsupportedBody (HasUnsupportedFilter n) body)
     error result is told (λ h. inr (inr h)) (λ lenient tree h. (h.2, h.7))

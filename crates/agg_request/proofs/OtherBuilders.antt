@@ -10,7 +10,8 @@ use Rattle.agg_request.specs.Builders.{left_by_filter, left_by_kind, taken}
 use Rattle.agg_request.specs.Request.{Request, agg_of, aggregation_of, with_builders_in, below_of}
 use Rattle.agg_request.specs.Request.{with_own_builder, with_query_builder, with_builders}
 use Rattle.agg_request.specs.Written.{are_free, may_hold_some}
-use Rattle.agg_request.specs.WrittenJson.{SaysKind, kind_word}
+use Rattle.agg_request.specs.ReadBack.{SaysKind}
+use Rattle.agg_request.specs.WrittenJson.{kind_word}
 use Rattle.agg_request.specs.declared.aggregation.Aggregation.{Aggregation}
 use Rattle.agg_request.specs.declared.aggregation.Aggregation.TheFolds as folds
 use folds.{fold_out-Aggregation}
@@ -62,7 +63,8 @@ module _ {B : Type 0} (name_of : B → List ℕ) where
   -- ---- kinds
 
   -- the name of a kind doesn't go by its builder
-  word-with : (agg : AggregationVariants B) → kind_word (with_own_builder name_of agg) ≡ kind_word agg
+  word-with : (agg : AggregationVariants B)
+      → kind_word (with_own_builder name_of agg) ≡ kind_word agg
   word-with (Filter filter) = refl
   word-with (Composite composite) = refl
   word-with (Count metric) = refl
@@ -72,7 +74,8 @@ module _ {B : Type 0} (name_of : B → List ℕ) where
 
   -- they have one name
   pub alike-word : (agg other : AggregationVariants B)
-      → with_own_builder name_of other ≡ with_own_builder name_of agg → kind_word other ≡ kind_word agg
+      → with_own_builder name_of other ≡ with_own_builder name_of agg
+      → kind_word other ≡ kind_word agg
   alike-word agg other same =
       sym (word-with other) ∙ ap kind_word same ∙ word-with agg
 
@@ -138,7 +141,8 @@ module _ {B : Type 0} (name_of : B → List ℕ) where
       ap (λ n. bytes_eq n name) same ∙ named-so name b found in
       let first : taken name_of name (c ∷ rest) ≡ Some (c, rest) = rw its refl in
       let left : left_by_kind name_of (codes "filter") body (c ∷ rest) ≡ Some rest =
-      ap (λ asks. left_by_filter name_of asks (c ∷ rest)) asked ∙ ap (option_map (λ t. t.1)) first in
+      ap (λ asks. left_by_filter name_of asks (c ∷ rest)) asked
+      ∙ ap (option_map (λ t. t.1)) first in
       ((kind, (name, asked, ap (option_map (λ t. t.0)) first)), left)
 
   -- a body says what is equal

@@ -12,7 +12,8 @@ use Rattle.agg_values.specs.declared.order.MissingOrder.{MissingOrder}
 use Rattle.agg_request.specs.contracts.source.CompositeAggregationSourcePartialEq as sources
 use Rattle.agg_request.specs.contracts.source.TermCompositeAggregationSourcePartialEq as terms
 use Rattle.agg_request.specs.contracts.source.HistogramCompositeAggregationSourcePartialEq as steps
-use Rattle.agg_request.specs.contracts.source.DateHistogramCompositeAggregationSourcePartialEq as days
+use Rattle.agg_request.specs.contracts.source as of
+use of.DateHistogramCompositeAggregationSourcePartialEq as days
 use Rattle.agg_request.specs.declared.source.CompositeAggregationSource as kinds
 use kinds.{CompositeAggregationSource}
 use kinds.TheVariants.{Terms, Histogram, DateHistogram}

@@ -1,25 +1,36 @@
 -- Composites as they are written.
-use Rattle.std.proofs.Common.{◌≡◌, Option, None, Some, codes, false, refl, sym, subst}
-use Rattle.serde_json.specs.Data.{Data, object, array, Items, no_members, member}
-use Rattle.agg_request.specs.CompositeJson.{IsAfter, IsCompositeJson, IsSize, IsSourceJson}
+use Rattle.std.proofs.Common.{◌≡◌, [], ◌∷◌, List, codes, false, map, refl, sym, subst}
+use Rattle.serde_json.specs.Data.{Data, object, array, number, unsigned, Items, no_members, member}
+use Rattle.serde_json.specs.View.{items_of}
+use Rattle.agg_values.specs.Names.{Named}
+use Rattle.agg_values.specs.declared.after_key.AfterKey.{AfterKey}
+use Rattle.agg_request.specs.CompositeJson.{IsCompositeJson, IsSize, IsSourceJson}
 use Rattle.agg_request.specs.Json.{EachIs}
-use Rattle.agg_request.specs.WrittenJson.{with_some}
+use Rattle.agg_request.specs.ReadBack.{AreKeysReadBack}
+use Rattle.agg_request.specs.WrittenJson.{data_of_composite, data_of_key, data_of_source}
+use Rattle.agg_request.specs.WrittenJson.{members_of, with_after}
 use Rattle.agg_request.specs.declared.aggregation.CompositeAggregation.{CompositeAggregation}
 
--- the body of a size, sources and what may stand at the after key says the composite
-pub is-composite : (d size : Data) (items : Items) (after : Option Data)
-    (composite : CompositeAggregation)
-    → d ≡ object (with_some (codes "after") after
-    (member (codes "size") size (member (codes "sources") (array items) no_members)))
-    → IsSize false size composite.size → EachIs (IsSourceJson false) items composite.sources
-    → IsAfter false after composite.after → IsCompositeJson false d composite
-is-composite d size items after composite is sized each told =
-    subst (λ e. IsCompositeJson false e composite) (sym is) (by_after after told)
+-- what is written of a composite says it
+pub is-composite : (composite : CompositeAggregation)
+    → IsSize false (number (unsigned composite.size)) composite.size
+    → EachIs (IsSourceJson false) (items_of (map data_of_source composite.sources))
+    composite.sources
+    → AreKeysReadBack composite.after
+    → IsCompositeJson false (data_of_composite composite) composite
+is-composite composite sized each told = by_after composite.after told
   where
-    by_after : (after : Option Data) → IsAfter false after composite.after
-        → IsCompositeJson false (object (with_some (codes "after") after
-        (member (codes "size") size (member (codes "sources") (array items) no_members)))) composite
-    by_after None told =
-        record { sources = (items, refl, each); size = (size, refl, sized); after = told }
-    by_after (Some d) told =
-        record { sources = (items, refl, each); size = (size, refl, sized); after = told }
+    items : Items
+    items = items_of (map data_of_source composite.sources)
+
+    by_after : (after : Named AfterKey) → AreKeysReadBack after
+        → IsCompositeJson false (object (with_after after
+        (member (codes "size") (number (unsigned composite.size))
+        (member (codes "sources") (array items) no_members)))) (record composite { after = after })
+    by_after [] told =
+        record { sources = (items, refl, each); size = (_, refl, sized); after = refl }
+    by_after (key ∷ keys) told = record {
+      sources = (items, refl, each);
+      size = (_, refl, sized);
+      after = (members_of data_of_key (key ∷ keys), refl, told);
+    }

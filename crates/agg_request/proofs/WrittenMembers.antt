@@ -1,14 +1,53 @@
--- Members as they are written, one by one in the order of their names.
+-- Items and members as they are written, members one by one in the order of their names.
 use Rattle.std.proofs.Common.{◌≡◌, ℕ, List, [], ◌∷◌, ◌++◌, Greater, Less, refl, sym, subst, ap, ◌∙◌}
-use Rattle.std.proofs.Common.{append_assoc}
+use Rattle.std.proofs.Common.{append_assoc, map}
 use Rattle.std.proofs.lemmas.Cmp.{nat_list_cmp_total}
 use Rattle.std.specs.List.{AllByRecursion}
 use Rattle.std.specs.List.Sorted.{IsStrictlySortedBy}
 use Rattle.std.specs.Map.{keys_of}
 use Rattle.std.specs.Ordering.{ordering_reverse}
 use Rattle.agg_values.specs.Names.{Named, name_cmp}
-use Rattle.serde_json.specs.Data.{Data, Members, no_members, member, put}
-use Rattle.agg_request.specs.Json.{EachNamedIs}
+use Rattle.serde_json.specs.Data.{Data, Items, no_items, item, Members, no_members, member, put}
+use Rattle.serde_json.specs.View.{items_of}
+use Rattle.agg_request.specs.Json.{EachIs, EachNamedIs}
+use Rattle.agg_request.specs.ReadBack.{IsWritten}
+use Rattle.agg_request.specs.WrittenJson.{members_of}
+
+module _ {A : Type 0} (data_of : A → Data) (Says : Data → A → Type 0) where
+  -- items that are written of a list are just that
+  pub items-written : (items : Items) (xs : List A) → EachIs (IsWritten data_of Says) items xs
+      → items ≡ items_of (map data_of xs)
+  items-written no_items [] each = refl
+  items-written no_items (x ∷ xs) each = absurd each
+  items-written (item d items) [] each = absurd each
+  items-written (item d items) (x ∷ xs) each =
+      rw (each.0.0, items-written items xs each.1) refl
+
+  -- and they say it
+  pub items-say : (items : Items) (xs : List A) → EachIs (IsWritten data_of Says) items xs
+      → EachIs Says items xs
+  items-say no_items [] each = tt
+  items-say no_items (x ∷ xs) each = absurd each
+  items-say (item d items) [] each = absurd each
+  items-say (item d items) (x ∷ xs) each = (each.0.1, items-say items xs each.1)
+
+  -- members that are written of a map are just that
+  pub members-written : (ms : Members) (xs : Named A) → EachNamedIs (IsWritten data_of Says) ms xs
+      → ms ≡ members_of data_of xs
+  members-written no_members [] each = refl
+  members-written no_members (x ∷ xs) each = absurd each
+  members-written (member name d ms) [] each = absurd each
+  members-written (member name d ms) (x ∷ xs) each =
+      rw (sym each.0, each.1.0, members-written ms xs each.2) refl
+
+  -- and they say it
+  pub members-say : (ms : Members) (xs : Named A) → EachNamedIs (IsWritten data_of Says) ms xs
+      → EachNamedIs Says ms xs
+  members-say no_members [] each = tt
+  members-say no_members (x ∷ xs) each = absurd each
+  members-say (member name d ms) [] each = absurd each
+  members-say (member name d ms) (x ∷ xs) each =
+      (each.0, each.1.1, members-say ms xs each.2)
 
 -- what is below all names is below the one in the middle
 below-middle : {A : Type 0} (first : List ℕ) (done : Named A) (e : List ℕ × A) (later : Named A)

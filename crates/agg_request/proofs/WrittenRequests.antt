@@ -1,7 +1,7 @@
 -- Requests as they are written.
 use Rattle.std.proofs.Common.{◌≡◌, ◌<◌, ◌∷◌, ◌++◌, [], ℕ, zero, suc, List, true, false, codes}
 use Rattle.std.proofs.Common.{Option, None, Some, option_and_then, inl, inr, refl, sym, subst, ap}
-use Rattle.std.proofs.Common.{◌∙◌, append_assoc, arith}
+use Rattle.std.proofs.Common.{◌∙◌, append_assoc, arith, map}
 use Rattle.serde_json.specs.Data.{Data, object, Members, no_members, member, depth, members_depth}
 use Rattle.serde_json.specs.Find.{as_object, get}
 use Rattle.agg_request.specs.Builders.{left_behind, left_by_each, left_by_object, left_by_own}
@@ -11,9 +11,13 @@ use Rattle.agg_request.specs.RequestJson.{may_not_hold}
 use Rattle.agg_request.specs.Request.{Request, agg_of, with_builders_in, below_of, builders_of}
 use Rattle.agg_request.specs.Request.{listed_in, own_builder, with_builders}
 use Rattle.agg_request.specs.Written.{may_be_written}
-use Rattle.agg_request.specs.WrittenJson.{ReadsBack, SaysAggregation, SaysItself, SaysKind}
-use Rattle.agg_request.specs.WrittenJson.{kind_word, with_below}
+use Rattle.agg_request.specs.ReadBack.{IsWritten, ReadsBack, SaysAggregation, SaysItself}
+use Rattle.agg_request.specs.ReadBack.{SaysKind}
+use Rattle.agg_request.specs.WrittenJson.{aggregation_step, data_of_aggregation, data_of_kind}
+use Rattle.agg_request.specs.WrittenJson.{data_of_request, kind_word, members_of, with_below}
 use Rattle.agg_request.specs.declared.aggregation.Aggregation.{Aggregation}
+use Rattle.agg_request.specs.declared.aggregation.Aggregation.TheFolds as folds
+use folds.{fold_out-Aggregation}
 use Rattle.agg_request.specs.declared.aggregation.AggregationVariants as variants
 use variants.{AggregationVariants}
 use variants.TheVariants.{Filter, Composite, Count, Max, Min, Sum}
@@ -22,6 +26,7 @@ use Rattle.agg_request.proofs.RequestTrees.{listed-out}
 use Rattle.agg_request.proofs.OtherBuilders.{alike-holds, alike-says, alike-word, same-below}
 use Rattle.agg_request.proofs.OtherBuilders.{same-kind}
 use Rattle.agg_request.proofs.Writable.{MayHold, may-hold, not-forbidden}
+use Rattle.agg_request.proofs.WrittenMembers.{members-say, members-written}
 
 -- ---- where the parts of an aggregation stand
 
@@ -192,15 +197,8 @@ each-alike name_of (member name d ms) (x ∷ request) (y ∷ other) each same =
       each-alike name_of ms request other each.2 later,
     )
 
--- what is written of a request says each that is the same but for its builders
-pub says-request : {B : Type 0} (name_of : B → List ℕ) (d : Data) (ms : Members)
-    (request : Request B) → d ≡ object ms
-    → EachNamedIs (SaysAggregation name_of) ms request → ReadsBack name_of d request
-says-request name_of d ms request is each other rest same =
-    says-own name_of d ms other rest is (each-alike name_of ms request other each same)
-
 -- what is written of an aggregation says each that is the same but for its builders
-pub says-aggregation : {B : Type 0} (name_of : B → List ℕ) (d body : Data) (below : Members)
+says-aggregation : {B : Type 0} (name_of : B → List ℕ) (d body : Data) (below : Members)
     (a : Aggregation B) → d ≡ written (kind_word (agg_of a)) body below
     → SaysKind name_of body (agg_of a)
     → EachNamedIs (SaysAggregation name_of) below (below_of a) → may_be_written a ≡ true
@@ -208,9 +206,62 @@ pub says-aggregation : {B : Type 0} (name_of : B → List ℕ) (d body : Data) (
 says-aggregation name_of d body below a is told each may other same =
     let kind = same-kind name_of a other same in
     let beneath = same-below name_of a other same in
-    says-itself name_of d body below other
-    (is ∙ ap (λ word. written word body below) (sym (alike-word name_of (agg_of a) (agg_of other) kind)))
+    let word = sym (alike-word name_of (agg_of a) (agg_of other) kind) in
+    says-itself name_of d body below other (is ∙ ap (λ w. written w body below) word)
     (alike-says name_of body (agg_of a) (agg_of other) kind told)
     (each-alike name_of below (below_of a) (below_of other) each beneath)
     (alike-holds name_of (agg_of a) (agg_of other) (below_of a) (below_of other) kind beneath
     (may-hold a may))
+
+-- ---- what is written
+
+module _ {B : Type 0} (name_of : B → List ℕ) where
+  -- what is written of aggregations that are written already
+  members-map : (request : Request B)
+      → members_of (λ d. d) (map {B = List ℕ × Data} (λ a. (a.0, data_of_aggregation name_of a.1))
+      request) ≡ members_of (data_of_aggregation name_of) request
+  members-map [] = refl
+  members-map (a ∷ request) = rw (members-map request) refl
+
+  -- what is written of an aggregation, by its parts
+  data-out : (a : Aggregation B) → data_of_aggregation name_of a
+      ≡ written (kind_word (agg_of a)) (data_of_kind name_of (agg_of a))
+      (members_of (data_of_aggregation name_of) (below_of a))
+  data-out a =
+      fold_out-Aggregation B Data (aggregation_step name_of) a
+      ∙ ap (λ below. written (kind_word (agg_of a)) (data_of_kind name_of (agg_of a)) below)
+      (members-map (below_of a))
+
+  -- aggregations as they are written
+  abbrev Written : Data → Aggregation B → Type 0
+  Written = IsWritten (data_of_aggregation name_of) (SaysAggregation name_of)
+
+  -- a kind's body with those below it is what is written of the aggregation, and says it
+  pub is-aggregation : (d body : Data) (below : Members) (a : Aggregation B)
+      → d ≡ written (kind_word (agg_of a)) body below
+      → IsWritten (data_of_kind name_of) (SaysKind name_of) body (agg_of a)
+      → EachNamedIs Written below (below_of a) → may_be_written a ≡ true → Written d a
+  is-aggregation d body below a is told each may = (
+    is ∙ ap (λ e. written (kind_word (agg_of a)) e below) told.0
+        ∙ ap (λ ms. written (kind_word (agg_of a)) (data_of_kind name_of (agg_of a)) ms)
+        (members-written (data_of_aggregation name_of) (SaysAggregation name_of) below
+        (below_of a) each)
+        ∙ sym (data-out a),
+    says-aggregation name_of d body below a is told.1
+        (members-say (data_of_aggregation name_of) (SaysAggregation name_of) below (below_of a)
+        each) may,
+  )
+
+  -- the members that are written of a request are what is written of it
+  pub request-written : (d : Data) (ms : Members) (request : Request B) → d ≡ object ms
+      → EachNamedIs Written ms request → d ≡ data_of_request name_of request
+  request-written d ms request is each =
+      is ∙ ap object (members-written (data_of_aggregation name_of) (SaysAggregation name_of) ms
+      request each)
+
+  -- what is written of a request says each that is the same but for its builders
+  pub request-reads : (d : Data) (ms : Members) (request : Request B) → d ≡ object ms
+      → EachNamedIs Written ms request → ReadsBack name_of d request
+  request-reads d ms request is each other rest same =
+      says-own name_of d ms other rest is (each-alike name_of ms request other
+      (members-say (data_of_aggregation name_of) (SaysAggregation name_of) ms request each) same)

@@ -1,26 +1,33 @@
 -- Sources as they are written.
 use Rattle.std.proofs.Common.{◌≡◌, ◌<◌, ◌+◌, ℕ, List, [], ◌∷◌, ◌++◌, get_or, length, take, false}
-use Rattle.std.proofs.Common.{Result, Ok, Err, IfOk, refl, sym, subst}
+use Rattle.std.proofs.Common.{Result, Ok, Err, IfOk, refl, sym, subst, ap, ◌∙◌}
 use Rattle.std.proofs.lemmas.List.{take_more}
-use Rattle.serde_json.specs.Data.{Data, object, member, no_members}
+use Rattle.serde_json.specs.Data.{Data, object}
 use Rattle.serde_json.specs.View.{view, items_view}
 use Rattle.serde_json.specs.declared.value.Value.{Value}
 use Rattle.agg_request.specs.CompositeJson.{IsSourceJson, IsSourceOfKind}
 use Rattle.agg_request.specs.Json.{EachIs}
+use Rattle.agg_request.specs.ReadBack.{IsWritten}
+use Rattle.agg_request.specs.Source.{name_of}
+use Rattle.agg_request.specs.WrittenJson.{alone, data_of_source, source_members, source_word}
 use Rattle.agg_request.specs.declared.source.CompositeAggregationSource as any_source
 use any_source.{CompositeAggregationSource}
 use Rattle.agg_request.proofs.Items.{each_put}
 
--- a body of a kind under its name says the source
-pub is-source : {E : Type 0} (result : Result Value E) (name kind : List ℕ) (body : Data)
+-- a body of a kind under its name is what is written of the source, and says it
+pub is-source : {E : Type 0} (result : Result Value E) (kind : List ℕ) (body : Data)
     (source : CompositeAggregationSource)
-    → IfOk result (λ v. view v
-    ≡ object (member name (object (member kind body no_members)) no_members))
-    → IsSourceOfKind false name kind body source
-    → IfOk result (λ v. IsSourceJson false (view v) source)
-is-source (Ok v) name kind body source is told =
-    subst (λ d. IsSourceJson false d source) (sym is) (name, kind, _, body, refl, refl, told)
-is-source (Err e) name kind body source is told = tt
+    → IfOk result (λ v. view v ≡ alone (name_of source) (alone kind body))
+    → kind ≡ source_word source → body ≡ object (source_members source)
+    → IsSourceOfKind false (name_of source) kind body source
+    → IfOk result (λ v. IsWritten data_of_source (IsSourceJson false) (view v) source)
+is-source (Ok v) kind body source is same written told = (
+  is ∙ ap (λ d. alone (name_of source) (alone kind d)) written
+      ∙ ap (λ word. alone (name_of source) (alone word (object (source_members source)))) same,
+  subst (λ d. IsSourceJson false d source) (sym is)
+      (name_of source, kind, alone kind body, body, refl, refl, told),
+)
+is-source (Err e) kind body source is same written told = tt
 
 -- one more of a list is written
 pub each_written : {A : Type 0} (Is : Data → A → Type 0) (vs new : List Value) (v : Value)

@@ -190,4 +190,5 @@ HasUnsupportedAfter d =
 -- a size or an interval that isn't whole, or a text of that type in the after key
 abbrev pub HasUnsupportedComposite : Data → Type 0
 HasUnsupportedComposite body =
-    HasFloatAt (codes "size") body ⊎ HasUnsupportedSource body ⊎ HasUnsupportedAfter (get (codes "after") body)
+    HasFloatAt (codes "size") body ⊎ HasUnsupportedSource body
+    ⊎ HasUnsupportedAfter (get (codes "after") body)

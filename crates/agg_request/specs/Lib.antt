@@ -10,6 +10,7 @@ pub mod OrderJson
 pub mod Page
 pub mod Query
 pub mod Ranges
+pub mod ReadBack
 pub mod Reading
 pub mod Request
 pub mod RequestJson

@@ -93,7 +93,8 @@ with_query_builder of (Tree tree) = Tree tree
 with_query_builder of (CustomBuilder builder) = CustomBuilder (of builder)
 
 -- what an aggregation asks, with something else in place of its builder
-abbrev pub with_own_builder : {B C : Type 0} → (B → C) → AggregationVariants B → AggregationVariants C
+abbrev pub with_own_builder : {B C : Type 0} → (B → C) → AggregationVariants B
+    → AggregationVariants C
 with_own_builder of (Filter filter) = Filter (record { query = with_query_builder of filter.query })
 with_own_builder of (Composite composite) = Composite composite
 with_own_builder of (Count metric) = Count metric
@@ -104,7 +105,8 @@ with_own_builder of (Sum metric) = Sum metric
 -- an aggregation with something else in place of each builder
 abbrev pub with_builders_in : {B C : Type 0} → (B → C) → Aggregation B → Aggregation C
 with_builders_in {B = B} {C = C} of =
-    fold-Aggregation B (Aggregation C) (λ a. aggregation_of (with_own_builder of a.agg) a.sub_aggregation)
+    fold-Aggregation B (Aggregation C)
+    (λ a. aggregation_of (with_own_builder of a.agg) a.sub_aggregation)
 
 -- a request with something else in place of each builder
 abbrev pub with_builders : {B C : Type 0} → (B → C) → Request B → Request C

@@ -1,48 +1,106 @@
--- The objects that are written for requests.
-use Rattle.std.specs.Prelude.{◌≡◌, ◌<◌, ◌++◌, ℕ, List, Bool, false, Option, None, Some, codes, ⊤}
-use Rattle.serde_json.specs.Data.{Data, Members, no_members, member, boolean, object, string, put}
-use Rattle.serde_json.specs.Data.{depth}
+-- The JSON values that are written for requests.
+use Rattle.std.specs.Prelude.{◌∷◌, [], ℕ, List, Bool, Option, None, Some, codes, map, option_map}
+use Rattle.serde_json.specs.Data.{Data, Members, no_members, member, boolean, number, unsigned}
+use Rattle.serde_json.specs.Data.{array, object, string, put}
+use Rattle.serde_json.specs.Find.{of_integer}
+use Rattle.serde_json.specs.View.{items_of}
+use Rattle.agg_values.specs.KeyText.{key_text}
+use Rattle.agg_values.specs.Names.{Named}
+use Rattle.agg_values.specs.declared.after_key.AfterKey.{AfterKey}
+use Rattle.agg_values.specs.declared.order.Order.{Order}
+use Rattle.agg_values.specs.declared.order.MissingOrder.{MissingOrder}
+use Rattle.agg_segment.specs.declared.document.FieldValue.{FieldValue}
 use Rattle.agg_segment.specs.declared.query.RangeBound.{RangeBound}
 use Rattle.agg_segment.specs.declared.query.RangeBound.TheVariants.{Unbounded, Included, Excluded}
 use Rattle.agg_segment.specs.declared.query.QueryTree.{QueryTree}
-use Rattle.agg_values.specs.declared.order.Order.{Order}
-use Rattle.agg_values.specs.declared.order.MissingOrder.{MissingOrder}
-use Rattle.agg_request.specs.Builders.{left_behind, left_by_kind}
-use Rattle.agg_request.specs.Query.{IsFilter, Says}
-use Rattle.agg_request.specs.Request.{Request, with_builders_in, builders_of, listed_in}
-use Rattle.agg_request.specs.Request.{own_builder, with_builders}
-use Rattle.agg_request.specs.RequestJson.{IsAggregation, IsAsked, IsRequestJson}
+use Rattle.agg_segment.specs.declared.query.QueryTree.TheOpen as query
+use query.{QueryTree-F}
+use Rattle.agg_segment.specs.declared.query.QueryTree.TheFolds.{fold-QueryTree}
+use Rattle.agg_request.specs.CompositeJson.{missing_order_word, order_word, unit_word}
+use Rattle.agg_request.specs.Query.{said_key}
+use Rattle.agg_request.specs.Request.{Request}
+use Rattle.agg_request.specs.Source.{name_of as source_name}
 use Rattle.agg_request.specs.declared.aggregation.Aggregation.{Aggregation}
+use Rattle.agg_request.specs.declared.aggregation.Aggregation.TheOpen.{Aggregation-F}
+use Rattle.agg_request.specs.declared.aggregation.Aggregation.TheFolds.{fold-Aggregation}
 use Rattle.agg_request.specs.declared.aggregation.AggregationVariants as variants
 use variants.{AggregationVariants}
 use variants.TheVariants.{Filter, Composite, Count, Max, Min, Sum}
-use Rattle.agg_request.specs.CompositeJson.{missing_order_word, order_word}
+use Rattle.agg_request.specs.declared.aggregation.CompositeAggregation.{CompositeAggregation}
+use Rattle.agg_request.specs.declared.aggregation.filter.FilterQuery.{FilterQuery}
+use Rattle.agg_request.specs.declared.aggregation.filter.FilterQuery.TheVariants as by
+use by.{Tree, CustomBuilder}
+use Rattle.agg_request.specs.declared.source.CompositeAggregationSource as any_source
+use any_source.{CompositeAggregationSource}
+use any_source.TheVariants.{Terms, Histogram, DateHistogram}
 
--- the members with this value at a name, where there is one
-abbrev pub with_some : List ℕ → Option Data → Members → Members
-with_some name None members = members
-with_some name (Some d) members = put name d members
+-- ---- objects
+
+-- an object of one member
+abbrev pub alone : List ℕ → Data → Data
+alone name d = object (member name d no_members)
+
+-- a member for each name, with what is written of its value
+abbrev pub members_of : {A : Type 0} → (A → Data) → Named A → Members
+members_of data_of [] = no_members
+members_of data_of (e ∷ es) = member e.0 (data_of e.1) (members_of data_of es)
+
+-- the one member that names a field
+abbrev pub field_members : List ℕ → Members
+field_members field = member (codes "field") (string field) no_members
 
 -- the members with this text at a name, where there is one
 abbrev pub with_text : List ℕ → Option (List ℕ) → Members → Members
 with_text name None members = members
 with_text name (Some text) members = put name (string text) members
 
--- a text says the value of a bound, where it has one
-abbrev pub SaysBound : RangeBound → List ℕ → Type 0
-SaysBound Unbounded text = ⊤
-SaysBound (Included value) text = Says false text value
-SaysBound (Excluded value) text = Says false text value
+-- ---- queries
 
--- the members with this text at the one of two names that is the bound's, if it has one
-abbrev pub with_bound : List ℕ → List ℕ → RangeBound → List ℕ → Members → Members
-with_bound including excluding Unbounded text members = members
-with_bound including excluding (Included value) text members = put including (string text) members
-with_bound including excluding (Excluded value) text members = put excluding (string text) members
+-- what is written of a value
+abbrev pub data_of_value : FieldValue → Data
+data_of_value value = string (key_text (said_key value))
 
--- a value says a query, within more levels than it has
-abbrev pub SaysFilter : Data → QueryTree → Type 0
-SaysFilter d tree = (n : ℕ) → depth d < n → IsFilter false n d tree
+-- the members with the value of a bound at its one of two names, if it has one
+abbrev pub with_bound : List ℕ → List ℕ → RangeBound → Members → Members
+with_bound including excluding Unbounded members = members
+with_bound including excluding (Included value) members =
+    put including (data_of_value value) members
+with_bound including excluding (Excluded value) members =
+    put excluding (data_of_value value) members
+
+-- the members of a query for a value
+abbrev pub term_members : List ℕ → FieldValue → Members
+term_members field value = put (codes "value") (data_of_value value) (field_members field)
+
+-- the members of a query for values between bounds
+abbrev pub range_members : List ℕ → RangeBound → RangeBound → Members
+range_members field lower upper =
+    with_bound (codes "lte") (codes "lt") upper
+    (with_bound (codes "gte") (codes "gt") lower (field_members field))
+
+-- the members of a query of three lists, with what is written of each
+abbrev pub list_members : List Data → List Data → List Data → Members
+list_members must should must_not =
+    member (codes "must") (array (items_of must))
+    (member (codes "must_not") (array (items_of must_not))
+    (member (codes "should") (array (items_of should)) no_members))
+
+-- what is written of a query, with what is written of those inside it
+abbrev pub query_step : QueryTree-F Data → Data
+query_step query.All = alone (codes "all") (object no_members)
+query_step query.Empty = alone (codes "empty") (object no_members)
+query_step (query.Term field value) = alone (codes "term") (object (term_members field value))
+query_step (query.Range field lower upper) =
+    alone (codes "range") (object (range_members field lower upper))
+query_step (query.Exists field) = alone (codes "exists") (object (field_members field))
+query_step (query.Boolean must should must_not) =
+    alone (codes "bool") (object (list_members must should must_not))
+
+-- what is written of a query
+abbrev pub data_of_query : QueryTree → Data
+data_of_query = fold-QueryTree Data query_step
+
+-- ---- composites
 
 -- the members of the body of any source
 abbrev pub shared_members : List ℕ → Order → Bool → MissingOrder → Members
@@ -51,6 +109,48 @@ shared_members field order missing_bucket missing_order =
     (member (codes "missing_bucket") (boolean missing_bucket)
     (member (codes "missing_order") (string (missing_order_word missing_order))
     (member (codes "order") (string (order_word order)) no_members)))
+
+-- the members of the body of a source
+abbrev pub source_members : CompositeAggregationSource → Members
+source_members (Terms s) = shared_members s.field s.order s.missing_bucket s.missing_order
+source_members (Histogram s) =
+    put (codes "interval") (number (of_integer s.interval))
+    (shared_members s.field s.order s.missing_bucket s.missing_order)
+source_members (DateHistogram s) =
+    with_text (codes "calendar_interval") (option_map unit_word s.calendar_interval)
+    (with_text (codes "fixed_interval") s.fixed_interval
+    (shared_members s.field s.order s.missing_bucket s.missing_order))
+
+-- the name of the kind of a source
+abbrev pub source_word : CompositeAggregationSource → List ℕ
+source_word (Terms s) = codes "terms"
+source_word (Histogram s) = codes "histogram"
+source_word (DateHistogram s) = codes "date_histogram"
+
+-- what is written of a source: its body under its kind, under its name
+abbrev pub data_of_source : CompositeAggregationSource → Data
+data_of_source source =
+    alone (source_name source) (alone (source_word source) (object (source_members source)))
+
+-- what is written of a key behind which a page begins
+abbrev pub data_of_key : AfterKey → Data
+data_of_key key = string (key_text key.0)
+
+-- the members with the keys behind which a page begins, where there are any
+abbrev pub with_after : Named AfterKey → Members → Members
+with_after [] members = members
+with_after (key ∷ keys) members =
+    put (codes "after") (object (members_of data_of_key (key ∷ keys))) members
+
+-- what is written of a composite
+abbrev pub data_of_composite : CompositeAggregation → Data
+data_of_composite composite =
+    object (with_after composite.after
+    (member (codes "size") (number (unsigned composite.size))
+    (member (codes "sources") (array (items_of (map data_of_source composite.sources)))
+    no_members)))
+
+-- ---- requests
 
 -- the name of the kind of an aggregation
 abbrev pub kind_word : {B : Type 0} → AggregationVariants B → List ℕ
@@ -61,37 +161,35 @@ kind_word (Max metric) = codes "max"
 kind_word (Min metric) = codes "min"
 kind_word (Sum metric) = codes "sum"
 
--- a body says what is asked, and takes the builder that it asks for, the first of those that there
--- are
-abbrev pub SaysKind : {B : Type 0} → (B → List ℕ) → Data → AggregationVariants B → Type 0
-SaysKind {B = B} name_of body agg =
-    (rest : List B)
-    → IsAsked false name_of (kind_word agg) body (own_builder agg ++ rest) agg
-    × (left_by_kind name_of (kind_word agg) body (own_builder agg ++ rest) ≡ Some rest)
+-- what is written of a filter's query: its builder has a name
+abbrev pub data_of_filter : {B : Type 0} → (B → List ℕ) → FilterQuery B → Data
+data_of_filter name_of (Tree tree) = data_of_query tree
+data_of_filter name_of (CustomBuilder builder) = alone (codes "builder") (string (name_of builder))
 
--- a value says an aggregation, within more levels than it has, and takes the builders that the
--- aggregation has, the first of those that there are
-abbrev pub SaysItself : {B : Type 0} → (B → List ℕ) → Data → Aggregation B → Type 0
-SaysItself {B = B} name_of d a =
-    (n : ℕ) → depth d < n → (rest : List B)
-    → IsAggregation false name_of n d (listed_in own_builder a ++ rest) a
-    × (left_behind name_of n d (listed_in own_builder a ++ rest) ≡ Some rest)
-
--- so it says each that is the same but for its builders, which have the same names
-abbrev pub SaysAggregation : {B : Type 0} → (B → List ℕ) → Data → Aggregation B → Type 0
-SaysAggregation {B = B} name_of d a =
-    (other : Aggregation B) → with_builders_in name_of other ≡ with_builders_in name_of a
-    → SaysItself name_of d other
-
--- a value, read with the builders of a request that is the same but for its builders, which have
--- the same names, is that request; others behind them are left over
-abbrev pub ReadsBack : {B : Type 0} → (B → List ℕ) → Data → Request B → Type 0
-ReadsBack {B = B} name_of d request =
-    (other : Request B) (rest : List B)
-    → with_builders name_of other ≡ with_builders name_of request
-    → IsRequestJson name_of d (builders_of other ++ rest) other
+-- what is written of what an aggregation asks
+abbrev pub data_of_kind : {B : Type 0} → (B → List ℕ) → AggregationVariants B → Data
+data_of_kind name_of (Filter filter) = data_of_filter name_of filter.query
+data_of_kind name_of (Composite composite) = data_of_composite composite
+data_of_kind name_of (Count metric) = object (field_members metric.field)
+data_of_kind name_of (Max metric) = object (field_members metric.field)
+data_of_kind name_of (Min metric) = object (field_members metric.field)
+data_of_kind name_of (Sum metric) = object (field_members metric.field)
 
 -- the members with those below them, where there are any
 abbrev pub with_below : Members → Members → Members
 with_below no_members members = members
 with_below (member name d below) members = put (codes "aggs") (object (member name d below)) members
+
+-- what is written of an aggregation, with what is written of those below it
+abbrev pub aggregation_step : {B : Type 0} → (B → List ℕ) → Aggregation-F B Data → Data
+aggregation_step name_of a =
+    object (with_below (members_of (λ d. d) a.sub_aggregation)
+    (member (kind_word a.agg) (data_of_kind name_of a.agg) no_members))
+
+-- what is written of an aggregation
+abbrev pub data_of_aggregation : {B : Type 0} → (B → List ℕ) → Aggregation B → Data
+data_of_aggregation {B = B} name_of = fold-Aggregation B Data (aggregation_step name_of)
+
+-- what is written of a request
+abbrev pub data_of_request : {B : Type 0} → (B → List ℕ) → Request B → Data
+data_of_request name_of request = object (members_of (data_of_aggregation name_of) request)

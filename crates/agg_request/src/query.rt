@@ -3,7 +3,8 @@ ghost use Rattle.std.specs.Prelude.{◌≡◌, ◌≢◌, ◌<◌, ◌⊎◌, �
 ghost use Rattle.serde_json.specs.Data.{depth, items_depth};
 ghost use Rattle.serde_json.specs.View.{view, items_view};
 ghost use Rattle.agg_request.specs.Json.{EachIs, HasUnsupportedItem, HasUnsupportedList, IsListAt};
-ghost use Rattle.agg_request.specs.Query.{HasUnsupportedFilter, HasUnsupportedBody, HasUnsupportedIn};
+ghost use Rattle.agg_request.specs.Query.{HasUnsupportedBody, HasUnsupportedFilter};
+ghost use Rattle.agg_request.specs.Query.{HasUnsupportedIn};
 ghost use Rattle.agg_request.specs.Query.{HasUnsupportedQuery, IsBoolean, IsFilter, IsNoQueryAtAll};
 ghost use Rattle.agg_request.specs.Query.{IsOfKind, IsQuery};
 ghost use Rattle.agg_request.specs.Reading.{IsReading};

@@ -3,7 +3,8 @@ ghost use Rattle.std.specs.Prelude.{◌≡◌, IfOk, OnOk, true};
 ghost use Rattle.serde_json.specs.View.{members_view, view};
 ghost use Rattle.agg_request.specs.Json.{EachNamedIs};
 ghost use Rattle.agg_request.specs.Written.{all_may_be_written, may_be_written};
-ghost use Rattle.agg_request.specs.WrittenJson.{ReadsBack, SaysAggregation, with_below};
+ghost use Rattle.agg_request.specs.ReadBack.{IsWritten, ReadsBack, SaysAggregation};
+ghost use Rattle.agg_request.specs.WrittenJson.{data_of_aggregation, data_of_request, with_below};
 
 mod composite;
 mod kind;
@@ -21,10 +22,12 @@ use serde_json::{Map, Value, put};
 use std::alloc::Global;
 pub use writable::may_be_written;
 
-/// The JSON value that says a request: read with builders of the same names as the request's, in the
-/// order in which it lists them, it is the same request with these in their places.
+/// The JSON value that says a request: read with builders of the same names as the request's, in
+/// the order in which it lists them, it is the same request with these in their places.
 pub fn write_aggregations(alloc: Global, request: &Aggregations) -> Result<Value, OutOfMemory>
     requires { all_may_be_written request.now ≡ true }
+    ensures written { IfOk result
+        (λ value. view value ≡ data_of_request (λ b. b.name) request.now) }
     ensures back { IfOk result (λ value. ReadsBack (λ b. b.name) (view value) request.now) }
 {
     Ok(Value::from(write_request(alloc, request)?))
@@ -37,7 +40,8 @@ fn write_request<B: HasName>(
     request: &NameMap<Aggregation<B>>,
 ) -> Result<Map<String, Value>, OutOfMemory>
     requires { all_may_be_written request.now ≡ true }
-    ensures { IfOk result (λ members. EachNamedIs (SaysAggregation B.name_of)
+    ensures { IfOk result (λ members. EachNamedIs
+        (IsWritten (data_of_aggregation B.name_of) (SaysAggregation B.name_of))
         (members_view members.entries) request.now) }
 {
     let mut members = Map::new(alloc);
@@ -59,7 +63,8 @@ fn write_aggregation<B: HasName>(
     aggregation: &Aggregation<B>,
 ) -> Result<Value, OutOfMemory>
     requires { may_be_written aggregation.now ≡ true }
-    ensures { IfOk result (λ value. SaysAggregation B.name_of (view value) aggregation.now) }
+    ensures { IfOk result (λ value. IsWritten (data_of_aggregation B.name_of)
+        (SaysAggregation B.name_of) (view value) aggregation.now) }
 {
     let body = write_kind(alloc, &aggregation.agg)?;
     let mut members = Map::new(alloc);

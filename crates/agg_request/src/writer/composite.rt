@@ -1,10 +1,10 @@
 //! Composites to JSON.
-ghost use Rattle.std.specs.Prelude.{◌≡◌, codes, false, IfOk, OnOk, Option};
-ghost use Rattle.serde_json.specs.Data.{Data};
+ghost use Rattle.std.specs.Prelude.{◌≡◌, false, IfOk, OnOk};
 ghost use Rattle.serde_json.specs.View.{members_view, view};
-ghost use Rattle.agg_request.specs.CompositeJson.{IsAfter, IsCompositeJson, IsKeyJson};
+ghost use Rattle.agg_request.specs.CompositeJson.{IsCompositeJson, IsKeyJson};
 ghost use Rattle.agg_request.specs.Json.{EachNamedIs};
-ghost use Rattle.agg_request.specs.WrittenJson.{with_some};
+ghost use Rattle.agg_request.specs.ReadBack.{AreKeysReadBack, IsWritten};
+ghost use Rattle.agg_request.specs.WrittenJson.{data_of_composite, data_of_key, with_after};
 
 use super::sources::write_sources;
 use super::words::write_size;
@@ -18,7 +18,8 @@ pub fn write_composite(
     alloc: Global,
     composite: &CompositeAggregation,
 ) -> Result<Value, OutOfMemory>
-    ensures { IfOk result (λ value. IsCompositeJson false (view value) composite.now) }
+    ensures { IfOk result (λ value.
+        IsWritten data_of_composite (IsCompositeJson false) (view value) composite.now) }
 {
     let sources = write_sources(alloc, composite.sources.as_slice())?;
     let mut body = Map::new(alloc);
@@ -34,9 +35,9 @@ fn put_after(
     body: &mut Map<String, Value>,
     after: &NameMap<AfterKey>,
 ) -> Result<(), OutOfMemory>
-    ensures { OnOk result ((d : Option Data) × IsAfter false d after.now
-        × (members_view body.new.entries
-        ≡ with_some (codes "after") d (members_view body.old.entries))) }
+    ensures written { OnOk result (members_view body.new.entries
+        ≡ with_after after.now (members_view body.old.entries)) }
+    ensures says { OnOk result (AreKeysReadBack after.now) }
 {
     if !after.is_empty() {
         put(
@@ -51,8 +52,8 @@ fn put_after(
 
 // The texts of the keys behind which a page begins, by the names of sources.
 fn write_after(alloc: Global, after: &NameMap<AfterKey>) -> Result<Map<String, Value>, OutOfMemory>
-    ensures { IfOk result (λ members.
-        EachNamedIs (IsKeyJson false) (members_view members.entries) after.now) }
+    ensures { IfOk result (λ members. EachNamedIs (IsWritten data_of_key (IsKeyJson false))
+        (members_view members.entries) after.now) }
 {
     let mut members = Map::new(alloc);
     for (name, key) in after.iter() {
@@ -63,7 +64,8 @@ fn write_after(alloc: Global, after: &NameMap<AfterKey>) -> Result<Map<String, V
 
 // The text of a key.
 fn write_key(alloc: Global, key: &AfterKey) -> Result<Value, OutOfMemory>
-    ensures { IfOk result (λ value. IsKeyJson false (view value) key.now) }
+    ensures { IfOk result (λ value.
+        IsWritten data_of_key (IsKeyJson false) (view value) key.now) }
 {
     let text = key.write(alloc)?;
     Ok(Value::try_from_str(alloc, text.as_str())?)

@@ -1,8 +1,10 @@
 //! What an aggregation asks, to JSON.
 ghost use Rattle.std.specs.Prelude.{◌≡◌, IfOk, false};
 ghost use Rattle.serde_json.specs.View.{view};
+ghost use Rattle.serde_json.specs.Data.{object};
+ghost use Rattle.agg_request.specs.ReadBack.{IsWritten, SaysKind};
 ghost use Rattle.agg_request.specs.RequestJson.{IsMetric};
-ghost use Rattle.agg_request.specs.WrittenJson.{SaysKind, kind_word};
+ghost use Rattle.agg_request.specs.WrittenJson.{data_of_kind, field_members, kind_word};
 ghost use Rattle.agg_request.specs.declared.aggregation.AggregationVariants.TheVariants as of_kind;
 
 use super::composite::write_composite;
@@ -33,7 +35,8 @@ pub fn write_kind<B: HasName>(
     alloc: Global,
     agg: &AggregationVariants<B>,
 ) -> Result<Value, OutOfMemory>
-    ensures { IfOk result (λ value. SaysKind B.name_of (view value) agg.now) }
+    ensures { IfOk result (λ value.
+        IsWritten (data_of_kind B.name_of) (SaysKind B.name_of) (view value) agg.now) }
 {
     match agg {
         AggregationVariants::Filter(filter) => write_filter(alloc, filter),
@@ -50,7 +53,8 @@ fn write_filter<B: HasName>(
     alloc: Global,
     filter: &FilterAggregation<B>,
 ) -> Result<Value, OutOfMemory>
-    ensures { IfOk result (λ value. SaysKind B.name_of (view value) (of_kind.Filter filter.now)) }
+    ensures { IfOk result (λ value. IsWritten (data_of_kind B.name_of) (SaysKind B.name_of)
+        (view value) (of_kind.Filter filter.now)) }
 {
     match filter.query() {
         FilterQuery::Tree(tree) => write_query(alloc, tree),
@@ -66,7 +70,8 @@ fn write_filter<B: HasName>(
 
 // The body of a metric over a field.
 fn write_metric(alloc: Global, field: &Text) -> Result<Value, OutOfMemory>
-    ensures { IfOk result (λ value. IsMetric false (view value) field.now) }
+    ensures written { IfOk result (λ value. view value ≡ object (field_members field.now)) }
+    ensures says { IfOk result (λ value. IsMetric false (view value) field.now) }
 {
     Ok(Value::from(field_member(alloc, field)?))
 }

@@ -1,10 +1,11 @@
 //! Queries to JSON.
-ghost use Rattle.std.specs.Prelude.{◌≡◌, IfOk, codes};
-ghost use Rattle.serde_json.specs.Data.{array, member, no_members, object};
+ghost use Rattle.std.specs.Prelude.{◌≡◌, IfOk, map};
+ghost use Rattle.serde_json.specs.Data.{object};
 ghost use Rattle.serde_json.specs.View.{items_view, view};
 ghost use Rattle.agg_request.specs.Json.{EachIs};
 ghost use Rattle.agg_request.specs.Query.{IsQuery};
-ghost use Rattle.agg_request.specs.WrittenJson.{SaysFilter};
+ghost use Rattle.agg_request.specs.ReadBack.{IsWritten, SaysFilter};
+ghost use Rattle.agg_request.specs.WrittenJson.{data_of_query, list_members};
 
 mod leaves;
 
@@ -17,14 +18,14 @@ use std::alloc::Global;
 
 /// The filter that says a query.
 pub fn write_query(alloc: Global, tree: &QueryTree) -> Result<Value, OutOfMemory>
-    ensures { IfOk result (λ value. IsQuery (view value) tree.now) }
+    ensures { IfOk result (λ value. IsWritten data_of_query IsQuery (view value) tree.now) }
 {
     write_filter(alloc, tree)
 }
 
 #[cycle(filters)]
 fn write_filter(alloc: Global, tree: &QueryTree) -> Result<Value, OutOfMemory>
-    ensures { IfOk result (λ value. SaysFilter (view value) tree.now) }
+    ensures { IfOk result (λ value. IsWritten data_of_query SaysFilter (view value) tree.now) }
 {
     match tree {
         QueryTree::All => object_of(alloc, "all", Value::from(Map::new(alloc))),
@@ -53,7 +54,8 @@ fn write_filter(alloc: Global, tree: &QueryTree) -> Result<Value, OutOfMemory>
 
 #[cycle(filters)]
 fn write_trees(alloc: Global, trees: &ItemList<QueryTree>) -> Result<Vec<Value>, OutOfMemory>
-    ensures { IfOk result (λ items. EachIs SaysFilter (items_view items.items) trees.now) }
+    ensures { IfOk result (λ items.
+        EachIs (IsWritten data_of_query SaysFilter) (items_view items.items) trees.now) }
 {
     let mut items = Vec::new(alloc);
     for tree in trees.as_slice() {
@@ -69,10 +71,8 @@ fn lists(
     should: Vec<Value>,
     must_not: Vec<Value>,
 ) -> Result<Value, OutOfMemory>
-    ensures { IfOk result (λ value. view value
-        ≡ object (member (codes "must") (array (items_view must.items))
-        (member (codes "must_not") (array (items_view must_not.items))
-        (member (codes "should") (array (items_view should.items)) no_members)))) }
+    ensures { IfOk result (λ value. view value ≡ object (list_members
+        (map view must.items) (map view should.items) (map view must_not.items))) }
 {
     Ok(json!(in alloc; {"must": must, "must_not": must_not, "should": should})?)
 }

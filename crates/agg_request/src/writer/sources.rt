@@ -1,11 +1,14 @@
 //! Sources of composites to JSON.
 ghost use Rattle.std.specs.Prelude.{◌≡◌, codes, false, IfOk, OnOk, option_map};
-ghost use Rattle.serde_json.specs.Data.{object, member, no_members};
+ghost use Rattle.serde_json.specs.Data.{object};
 ghost use Rattle.serde_json.specs.View.{items_view, members_view, view};
 ghost use Rattle.agg_request.specs.CompositeJson.{IsDateHistogramBody, IsHistogramBody};
 ghost use Rattle.agg_request.specs.CompositeJson.{IsSourceJson, IsTermsBody, unit_word};
 ghost use Rattle.agg_request.specs.Json.{EachIs};
-ghost use Rattle.agg_request.specs.WrittenJson.{shared_members, with_text};
+ghost use Rattle.agg_request.specs.ReadBack.{IsWritten};
+ghost use Rattle.agg_request.specs.WrittenJson.{alone, data_of_source, shared_members};
+ghost use Rattle.agg_request.specs.WrittenJson.{source_members, with_text};
+ghost use Rattle.agg_request.specs.declared.source.CompositeAggregationSource.TheVariants as of;
 
 use super::objects::object_of;
 use super::words::{missing_order_word, order_word, unit_word, write_interval};
@@ -24,7 +27,8 @@ pub fn write_sources(
     sources: &[CompositeAggregationSource],
 ) -> Result<Vec<Value>, OutOfMemory>
     ensures { IfOk result
-        (λ items. EachIs (IsSourceJson false) (items_view items.items) sources.now) }
+        (λ items. EachIs (IsWritten data_of_source (IsSourceJson false))
+        (items_view items.items) sources.now) }
 {
     let mut items = Vec::new(alloc);
     for source in sources {
@@ -35,7 +39,8 @@ pub fn write_sources(
 
 // A source under its name.
 fn write_source(alloc: Global, source: &CompositeAggregationSource) -> Result<Value, OutOfMemory>
-    ensures { IfOk result (λ value. IsSourceJson false (view value) source.now) }
+    ensures { IfOk result (λ value.
+        IsWritten data_of_source (IsSourceJson false) (view value) source.now) }
 {
     match source {
         CompositeAggregationSource::Terms(terms) => {
@@ -58,15 +63,18 @@ fn write_source(alloc: Global, source: &CompositeAggregationSource) -> Result<Va
 
 // A body under its kind, under a name.
 fn named(alloc: Global, name: &Text, kind: &str, body: Value) -> Result<Value, OutOfMemory>
-    ensures { IfOk result (λ value. view value ≡ object (member name.now
-        (object (member kind.now (view body) no_members)) no_members)) }
+    ensures { IfOk result
+        (λ value. view value ≡ alone name.now (alone kind.now (view body))) }
 {
     object_of(alloc, name.as_str(), object_of(alloc, kind, body)?)
 }
 
 // The body of a terms source.
 fn write_terms(alloc: Global, source: &TermCompositeAggregationSource) -> Result<Value, OutOfMemory>
-    ensures { IfOk result (λ value. IsTermsBody source.now.name (view value) source.now) }
+    ensures written { IfOk result
+        (λ value. view value ≡ object (source_members (of.Terms source.now))) }
+    ensures says { IfOk result
+        (λ value. IsTermsBody source.now.name (view value) source.now) }
 {
     let (order, place) = (source.order, source.missing_order);
     let body = shared_members(alloc, &source.field, order, source.missing_bucket, place)?;
@@ -78,7 +86,9 @@ fn write_histogram(
     alloc: Global,
     source: &HistogramCompositeAggregationSource,
 ) -> Result<Value, OutOfMemory>
-    ensures { IfOk result
+    ensures written { IfOk result
+        (λ value. view value ≡ object (source_members (of.Histogram source.now))) }
+    ensures says { IfOk result
         (λ value. IsHistogramBody false source.now.name (view value) source.now) }
 {
     let (order, place) = (source.order, source.missing_order);
@@ -97,7 +107,9 @@ fn write_date_histogram(
     alloc: Global,
     source: &DateHistogramCompositeAggregationSource,
 ) -> Result<Value, OutOfMemory>
-    ensures { IfOk result
+    ensures written { IfOk result
+        (λ value. view value ≡ object (source_members (of.DateHistogram source.now))) }
+    ensures says { IfOk result
         (λ value. IsDateHistogramBody source.now.name (view value) source.now) }
 {
     let (order, place) = (source.order, source.missing_order);

@@ -1,5 +1,7 @@
 //! Words and numbers as JSON.
 ghost use Rattle.std.specs.Prelude.{◌≡◌, false};
+ghost use Rattle.serde_json.specs.Data.{number, unsigned};
+ghost use Rattle.serde_json.specs.Find.{of_integer};
 ghost use Rattle.serde_json.specs.View.{view};
 ghost use Rattle.agg_request.specs.CompositeJson.{IsInterval, IsSize, missing_order_word};
 ghost use Rattle.agg_request.specs.CompositeJson.{order_word, unit_word};
@@ -42,14 +44,16 @@ pub fn unit_word(unit: CalendarInterval) -> &'static str
 
 /// The number that an interval is.
 pub fn write_interval(interval: i64) -> Value
-    ensures { IsInterval false (view result) interval }
+    ensures written { view result ≡ number (of_integer interval) }
+    ensures says { IsInterval false (view result) interval }
 {
     Value::from(interval)
 }
 
 /// The number that a size is.
 pub fn write_size(size: u32) -> Value
-    ensures { IsSize false (view result) size }
+    ensures written { view result ≡ number (unsigned size) }
+    ensures says { IsSize false (view result) size }
 {
     Value::from(size)
 }

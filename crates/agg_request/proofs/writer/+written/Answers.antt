@@ -2,11 +2,12 @@ use Rattle.std.proofs.Common.{◌≡◌, ◌<◌, ◌+◌, ◌*◌, ap, ◌∙�
 use Rattle.serde_json.specs.Data.{object, member, no_members, put}
 use Rattle.serde_json.specs.View.{members_view, view}
 use Rattle.agg_request.specs.Request.{agg_of, below_of}
-use Rattle.agg_request.specs.WrittenJson.{SaysAggregation, kind_word, with_below}
+use Rattle.agg_request.specs.ReadBack.{IsWritten, SaysAggregation}
+use Rattle.agg_request.specs.WrittenJson.{data_of_aggregation, kind_word, with_below}
 use Rattle.agg_request.proofs.RequestTrees.{height, height-out, levels}
 use Rattle.agg_request.proofs.Writable.{AreWritable-more, may-below}
 use Rattle.agg_request.proofs.WrittenMembers.{AreWrittenUpTo-more}
-use Rattle.agg_request.proofs.WrittenRequests.{says-aggregation}
+use Rattle.agg_request.proofs.WrittenRequests.{is-aggregation}
 use Rattle.agg_request.proofs.writer.+written.Goals as goal
 
 pub write_aggregation-write_request-requires : goal.write_aggregation-write_request-requires
@@ -22,7 +23,8 @@ write_request-loop-name-preserved g t c =
     let d = view c.in_ok-write_aggregation.field-0 in
     let a = c.in-Some.aggregation.now in
     let name = c.in-Some.name.now in (
-      AreWrittenUpTo-more (SaysAggregation g.B.HasName.name_of) c.args.request.now
+      AreWrittenUpTo-more (IsWritten (data_of_aggregation g.B.HasName.name_of)
+          (SaysAggregation g.B.HasName.name_of)) c.args.request.now
           c.loop-name.name-iterator before (members_view c.put.new.map.entries) name d a
           c.next.new.self c.loop-name.invariant.0 c.in-Some.ensures.steps
           c.in_ok-write_aggregation.ensures
@@ -38,6 +40,6 @@ write_aggregation-returns g t c =
     let below = members_view c.in_ok-write_request.field-0.entries in
     let own : members_view c.put.new.map.entries ≡ member (kind_word (agg_of a)) body no_members =
     search rules in
-    says-aggregation g.B.HasName.name_of (view c.from.result) body below a
+    is-aggregation g.B.HasName.name_of (view c.from.result) body below a
     (c.from.ensures ∙ ap object (c.in_ok-put_below.ensures ∙ ap (with_below below) own))
     c.in_ok-body.ensures c.in_ok-write_request.ensures c.requires

@@ -1,10 +1,14 @@
 use Rattle.serde_json.specs.View.{members_view, view}
-use Rattle.agg_request.proofs.WrittenRequests.{says-request}
+use Rattle.agg_request.proofs.WrittenRequests.{request-reads, request-written}
 use Rattle.agg_request.proofs.writer.write_aggregations.Goals as goal
 
 pub returns : goal.returns
-returns g c = record {
-  back = says-request (λ b. b.name) (view c.from.result)
-      (members_view c.in_ok-write_request.field-0.entries) c.args.request.now c.from.ensures
-      c.in_ok-write_request.ensures;
-}
+returns g c =
+    let members = members_view c.in_ok-write_request.field-0.entries in
+    let request = c.args.request.now in
+    let each = c.in_ok-write_request.ensures in
+    record {
+      written = request-written (λ b. b.name) (view c.from.result) members request c.from.ensures
+          each;
+      back = request-reads (λ b. b.name) (view c.from.result) members request c.from.ensures each;
+    }

@@ -1,11 +1,13 @@
 //! Filters with no filters inside.
-ghost use Rattle.std.specs.Prelude.{◌≡◌, ℕ, List, IfOk, OnOk, false};
-ghost use Rattle.serde_json.specs.Data.{put as with_member, string};
+ghost use Rattle.std.specs.Prelude.{◌≡◌, IfOk, OnOk, false};
+ghost use Rattle.serde_json.specs.Data.{object, put as with_member};
 ghost use Rattle.serde_json.specs.View.{members_view, view};
-ghost use Rattle.agg_values.specs.KeyText.{IsKeyText};
+ghost use Rattle.agg_values.specs.KeyText.{key_text};
 ghost use Rattle.agg_segment.specs.declared.query.QueryTree.TheVariants as of_tree;
 ghost use Rattle.agg_request.specs.Query.{IsExists, IsRange, IsTerm, said_key};
-ghost use Rattle.agg_request.specs.WrittenJson.{SaysBound, with_bound};
+ghost use Rattle.agg_request.specs.ReadBack.{IsBoundReadBack, IsReadBack};
+ghost use Rattle.agg_request.specs.WrittenJson.{data_of_value, field_members, range_members};
+ghost use Rattle.agg_request.specs.WrittenJson.{term_members, with_bound};
 
 use crate::writer::objects::field_member;
 use agg_segment::{FieldValue, RangeBound};
@@ -15,7 +17,9 @@ use std::alloc::Global;
 
 /// The body of a query for a value.
 pub fn write_term(alloc: Global, field: &Text, value: &FieldValue) -> Result<Value, OutOfMemory>
-    ensures { IfOk result
+    ensures written { IfOk result
+        (λ body. view body ≡ object (term_members field.now value.now)) }
+    ensures says { IfOk result
         (λ body. IsTerm false (view body) (of_tree.Term field.now value.now)) }
 {
     let mut body = field_member(alloc, field)?;
@@ -30,7 +34,9 @@ pub fn write_range(
     lower: &RangeBound,
     upper: &RangeBound,
 ) -> Result<Value, OutOfMemory>
-    ensures { IfOk result
+    ensures written { IfOk result
+        (λ body. view body ≡ object (range_members field.now lower.now upper.now)) }
+    ensures says { IfOk result
         (λ body. IsRange false (view body) (of_tree.Range field.now lower.now upper.now)) }
 {
     let mut body = field_member(alloc, field)?;
@@ -41,7 +47,8 @@ pub fn write_range(
 
 /// The body of a query for any value.
 pub fn write_exists(alloc: Global, field: &Text) -> Result<Value, OutOfMemory>
-    ensures { IfOk result (λ body. IsExists (view body) (of_tree.Exists field.now)) }
+    ensures written { IfOk result (λ body. view body ≡ object (field_members field.now)) }
+    ensures says { IfOk result (λ body. IsExists (view body) (of_tree.Exists field.now)) }
 {
     Ok(Value::from(field_member(alloc, field)?))
 }
@@ -54,9 +61,9 @@ fn put_bound(
     including: &str,
     excluding: &str,
 ) -> Result<(), OutOfMemory>
-    ensures { OnOk result ((text : List ℕ) × SaysBound bound.now text
-        × (members_view body.new.entries ≡ with_bound including.now excluding.now bound.now text
-        (members_view body.old.entries))) }
+    ensures written { OnOk result (members_view body.new.entries
+        ≡ with_bound including.now excluding.now bound.now (members_view body.old.entries)) }
+    ensures says { OnOk result (IsBoundReadBack bound.now) }
 {
     match bound {
         RangeBound::Unbounded => Ok(()),
@@ -72,9 +79,9 @@ fn put_value(
     name: &str,
     value: &FieldValue,
 ) -> Result<(), OutOfMemory>
-    ensures { OnOk result ((text : List ℕ) × IsKeyText text (said_key value.now)
-        × (members_view body.new.entries
-        ≡ with_member name.now (string text) (members_view body.old.entries))) }
+    ensures written { OnOk result (members_view body.new.entries
+        ≡ with_member name.now (data_of_value value.now) (members_view body.old.entries)) }
+    ensures says { OnOk result (IsReadBack value.now) }
 {
     let text = write_value(alloc, value)?;
     put(
@@ -88,7 +95,8 @@ fn put_value(
 
 // The text that says a value.
 fn write_value(alloc: Global, value: &FieldValue) -> Result<Text, OutOfMemory>
-    ensures { IfOk result (λ text. IsKeyText text (said_key value.now)) }
+    ensures written { IfOk result (λ text. text ≡ key_text (said_key value.now)) }
+    ensures says { OnOk result (IsReadBack value.now) }
 {
     AfterKey::from(key_of(alloc, value)?).write(alloc)
 }

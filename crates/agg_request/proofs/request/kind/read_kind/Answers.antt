@@ -6,7 +6,8 @@ use Rattle.agg_request.proofs.request.kind.read_kind.Goals as goal
 pub returns-in_err-read_metric-in-value_count-clause-read
     : goal.returns-in_err-read_metric-in-value_count-clause-read
 returns-in_err-read_metric-in-value_count-clause-read g c =
-    refused_metric g.B.HasName.name_of c.args.kind.now (codes "value_count") c.in-value_count.is refl
+    refused_metric g.B.HasName.name_of c.args.kind.now (codes "value_count")
+    c.in-value_count.is refl
     refl (view c.args.body.now) c.args.pool.now.items
     (c.in_err-read_metric-in-value_count).field-0.0
     (c.from_residual-in_err-read_metric-in-value_count).result

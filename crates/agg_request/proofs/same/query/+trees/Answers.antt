@@ -15,7 +15,8 @@ are_same_trees-returns-in_default t c =
     let i = c.loop-tree.tree-index in
     let more = drop_more items i c.tree-item.result c.loop-tree-test.true in
     other-left c.args.trees.now c.args.others.now (drop i items) c.loop-tree.others.rest.now
-    c.loop-tree.invariant (λ same. absurd (search (rules, more, c.in_default.ensures.steps.0, same)))
+    c.loop-tree.invariant
+    (λ same. absurd (search (rules, more, c.in_default.ensures.steps.0, same)))
 
 pub are_same_trees-returns-then-not-is_same_tree :
     goal.are_same_trees-returns-then-not-is_same_tree

@@ -1,13 +1,18 @@
-use Rattle.std.proofs.Common.{codes, ap, ◌∙◌}
-use Rattle.serde_json.specs.Data.{object, put, string}
+use Rattle.std.proofs.Common.{◌≡◌, codes, ap, ◌∙◌}
+use Rattle.serde_json.specs.Data.{object, put}
 use Rattle.serde_json.specs.View.{view}
+use Rattle.agg_request.specs.WrittenJson.{data_of_value, term_members}
 use Rattle.agg_request.proofs.WrittenFilters.{is-term}
 use Rattle.agg_request.proofs.writer.query.leaves.write_term.Goals as goal
 
 pub returns : goal.returns
 returns c =
-    let written = c.in_ok-put_value.ensures in
-    is-term (view c.from.result) c.args.field.now written.0 c.args.value.now
-    (c.from.ensures
-    ∙ ap object (written.2
-    ∙ ap (put (codes "value") (string written.0)) c.in_ok-body.ensures)) written.1
+    let field = c.args.field.now in
+    let value = c.args.value.now in
+    let body : view c.from.result ≡ object (term_members field value) =
+    c.from.ensures ∙ ap object (c.in_ok-put_value.ensures.written
+    ∙ ap (put (codes "value") (data_of_value value)) c.in_ok-body.ensures) in
+    record {
+      written = body;
+      says = is-term (view c.from.result) field value body c.in_ok-put_value.ensures.says;
+    }

@@ -1,0 +1,72 @@
+-- What is written for requests, read back.
+use Rattle.std.specs.Prelude.{◌≡◌, ◌<◌, ◌++◌, ℕ, List, false, Some, ⊤}
+use Rattle.serde_json.specs.Data.{Data, depth}
+use Rattle.agg_values.specs.KeyText.{IsKeyText, key_text}
+use Rattle.agg_values.specs.Names.{Named}
+use Rattle.agg_values.specs.declared.after_key.AfterKey.{AfterKey}
+use Rattle.agg_segment.specs.declared.document.FieldValue.{FieldValue}
+use Rattle.agg_segment.specs.declared.query.RangeBound.{RangeBound}
+use Rattle.agg_segment.specs.declared.query.RangeBound.TheVariants.{Unbounded, Included, Excluded}
+use Rattle.agg_segment.specs.declared.query.QueryTree.{QueryTree}
+use Rattle.agg_request.specs.Json.{EachNamedIs}
+use Rattle.agg_request.specs.Builders.{left_behind, left_by_kind}
+use Rattle.agg_request.specs.CompositeJson.{IsKeyJson}
+use Rattle.agg_request.specs.Query.{IsFilter, said_key}
+use Rattle.agg_request.specs.Request.{Request, with_builders_in, builders_of, listed_in}
+use Rattle.agg_request.specs.Request.{own_builder, with_builders}
+use Rattle.agg_request.specs.RequestJson.{IsAggregation, IsAsked, IsRequestJson}
+use Rattle.agg_request.specs.WrittenJson.{data_of_key, kind_word, members_of}
+use Rattle.agg_request.specs.declared.aggregation.Aggregation.{Aggregation}
+use Rattle.agg_request.specs.declared.aggregation.AggregationVariants.{AggregationVariants}
+
+-- a value is what is written of something, and says it
+abbrev pub IsWritten : {A : Type 0} → (A → Data) → (Data → A → Type 0) → Data → A → Type 0
+IsWritten data_of Says d x = (d ≡ data_of x) × Says d x
+
+-- the text that is written of a value says it
+abbrev pub IsReadBack : FieldValue → Type 0
+IsReadBack value = IsKeyText (key_text (said_key value)) (said_key value)
+
+-- so does that of the value of a bound, where it has one
+abbrev pub IsBoundReadBack : RangeBound → Type 0
+IsBoundReadBack Unbounded = ⊤
+IsBoundReadBack (Included value) = IsReadBack value
+IsBoundReadBack (Excluded value) = IsReadBack value
+
+-- so do those of keys
+abbrev pub AreKeysReadBack : Named AfterKey → Type 0
+AreKeysReadBack keys = EachNamedIs (IsKeyJson false) (members_of data_of_key keys) keys
+
+-- a value says a query, within more levels than it has
+abbrev pub SaysFilter : Data → QueryTree → Type 0
+SaysFilter d tree = (n : ℕ) → depth d < n → IsFilter false n d tree
+
+-- a body says what is asked, and takes the builder that it asks for, the first of those that there
+-- are
+abbrev pub SaysKind : {B : Type 0} → (B → List ℕ) → Data → AggregationVariants B → Type 0
+SaysKind {B = B} name_of body agg =
+    (rest : List B)
+    → IsAsked false name_of (kind_word agg) body (own_builder agg ++ rest) agg
+    × (left_by_kind name_of (kind_word agg) body (own_builder agg ++ rest) ≡ Some rest)
+
+-- a value says an aggregation, within more levels than it has, and takes the builders that the
+-- aggregation has, the first of those that there are
+abbrev pub SaysItself : {B : Type 0} → (B → List ℕ) → Data → Aggregation B → Type 0
+SaysItself {B = B} name_of d a =
+    (n : ℕ) → depth d < n → (rest : List B)
+    → IsAggregation false name_of n d (listed_in own_builder a ++ rest) a
+    × (left_behind name_of n d (listed_in own_builder a ++ rest) ≡ Some rest)
+
+-- so it says each that is the same but for its builders, which have the same names
+abbrev pub SaysAggregation : {B : Type 0} → (B → List ℕ) → Data → Aggregation B → Type 0
+SaysAggregation {B = B} name_of d a =
+    (other : Aggregation B) → with_builders_in name_of other ≡ with_builders_in name_of a
+    → SaysItself name_of d other
+
+-- a value, read with the builders of a request that is the same but for its builders, which have
+-- the same names, is that request; others behind them are left over
+abbrev pub ReadsBack : {B : Type 0} → (B → List ℕ) → Data → Request B → Type 0
+ReadsBack {B = B} name_of d request =
+    (other : Request B) (rest : List B)
+    → with_builders name_of other ≡ with_builders name_of request
+    → IsRequestJson name_of d (builders_of other ++ rest) other
