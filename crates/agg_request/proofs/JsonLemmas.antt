@@ -1,7 +1,7 @@
 -- JSON values beside what they stand for, and a document that grows by the members of an object.
 use Rattle.std.proofs.Common.{◌≡◌, ℕ, List, [], ◌∷◌, ◌++◌, length, map, Option, Some, None}
-use Rattle.std.proofs.Common.{String, Global, string_bytes, string_cmp, option_map, refl, sym, ap}
-use Rattle.std.proofs.Common.{◌∙◌, append_assoc, eqb, is_some, Less, Greater}
+use Rattle.std.proofs.Common.{String, Global, string_bytes, string_cmp, option_map, refl, ap}
+use Rattle.std.proofs.Common.{◌∙◌, eqb, is_some, Less, Greater}
 use Rattle.std.proofs.lemmas.Cmp.{nat_list_cmp_total}
 use Rattle.std.specs.List.{AllByRecursion}
 use Rattle.std.specs.List.Sorted.{IsStrictlySortedBy}

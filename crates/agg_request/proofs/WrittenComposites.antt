@@ -1,6 +1,6 @@
 -- Composites as they are written.
-use Rattle.std.proofs.Common.{◌≡◌, [], ◌∷◌, List, codes, false, map, refl, sym, subst}
-use Rattle.serde_json.specs.Data.{Data, object, array, number, unsigned, Items, no_members, member}
+use Rattle.std.proofs.Common.{[], ◌∷◌, codes, false, map, refl}
+use Rattle.serde_json.specs.Data.{object, array, number, unsigned, Items, no_members, member}
 use Rattle.serde_json.specs.View.{items_of}
 use Rattle.agg_values.specs.Names.{Named}
 use Rattle.agg_values.specs.declared.after_key.AfterKey.{AfterKey}

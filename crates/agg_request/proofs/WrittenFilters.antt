@@ -1,8 +1,8 @@
 -- Queries as they are written.
 use Rattle.std.proofs.Common.{◌≡◌, ◌<◌, ℕ, zero, suc, List, [], ◌∷◌, codes, false, refl, sym, subst}
 use Rattle.std.proofs.Common.{Result, Ok, Err, IfOk, map, arith, ap, ◌∙◌}
-use Rattle.serde_json.specs.Data.{Data, object, array, Items, no_items, item, no_members}
-use Rattle.serde_json.specs.Data.{member, depth, items_depth}
+use Rattle.serde_json.specs.Data.{Data, object, Items, no_items, item, no_members}
+use Rattle.serde_json.specs.Data.{depth, items_depth}
 use Rattle.serde_json.specs.View.{items_of, view}
 use Rattle.serde_json.specs.declared.value.Value.{Value}
 use Rattle.agg_values.specs.KeyText.{key_text}

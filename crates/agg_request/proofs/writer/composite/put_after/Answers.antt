@@ -6,7 +6,6 @@ use Rattle.agg_values.specs.Names.{Named}
 use Rattle.agg_values.specs.declared.after_key.AfterKey.{AfterKey}
 use Rattle.agg_request.specs.CompositeJson.{IsKeyJson}
 use Rattle.agg_request.specs.Json.{EachNamedIs}
-use Rattle.agg_request.specs.ReadBack.{AreKeysReadBack}
 use Rattle.agg_request.specs.WrittenJson.{data_of_key, members_of, with_after}
 use Rattle.agg_request.proofs.WrittenMembers.{members-say, members-written}
 use Rattle.agg_request.proofs.writer.composite.put_after.Goals as goal
