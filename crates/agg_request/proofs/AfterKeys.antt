@@ -15,9 +15,9 @@ use Rattle.agg_values.specs.TypedKey.{CompositeIntermediateKey}
 use Rattle.agg_values.specs.declared.after_key.AfterKey.{AfterKey}
 use Rattle.agg_values.specs.declared.error.KeyTextError.{KeyTextError}
 use Rattle.agg_values.specs.declared.error.KeyTextError.TheVariants.{OutOfMemory}
-use Rattle.agg_request.specs.CompositeJson.{IsKeyJson, IsUnsupportedKey, SaysKey}
+use Rattle.agg_request.specs.CompositeJson.{IsKeyJson, IsUnsupportedKey}
 use Rattle.agg_request.specs.Json.{EachNamedIs, HasUnsupportedMember}
-use Rattle.agg_request.specs.Query.{IsUnsupportedText}
+use Rattle.agg_request.specs.Query.{IsUnsupportedText, SaysKey}
 use Rattle.agg_request.specs.Reading.{IsReading, IsRefusal, refusal_of}
 use Rattle.agg_request.specs.declared.read_error.ReadError.{ReadError}
 use Rattle.agg_request.proofs.JsonLemmas.{Ascends, Ascends-none, Ascends-more, put_next}
@@ -37,7 +37,7 @@ refused_json d text copy error result found same is told only =
     (λ lenient. IsKeyJson lenient d) (IsUnsupportedKey d) (refusal_of error) result is
     (refused_key copy error told only) (λ h. (copy, found ∙ sym (Some-same same), h))
     (λ lenient after (other, there, h).
-    let one : other ≡ copy = cc in (after, subst (λ t. SaysKey lenient t after) one h))
+    let one : other ≡ copy = cc in (after.0, subst (λ t. SaysKey lenient t after.0) one h))
   where
     Some-same : copy ≡ text → Some copy ≡ Some text
     Some-same e i = Some (e i)

@@ -11,7 +11,7 @@ use Rattle.agg_request.specs.Request.{Request, agg_of, aggregation_of, with_buil
 use Rattle.agg_request.specs.Request.{with_own_builder, with_query_builder, with_builders}
 use Rattle.agg_request.specs.Written.{are_free, may_hold_some}
 use Rattle.agg_request.specs.ReadBack.{SaysKind}
-use Rattle.agg_request.specs.WrittenJson.{kind_word}
+use Rattle.agg_request.specs.RequestJson.{kind_word}
 use Rattle.agg_request.specs.declared.aggregation.Aggregation.{Aggregation}
 use Rattle.agg_request.specs.declared.aggregation.Aggregation.TheFolds as folds
 use folds.{fold_out-Aggregation}

@@ -10,10 +10,8 @@ use Rattle.agg_values.specs.TypedKey.{CompositeIntermediateKey}
 use Rattle.agg_values.specs.declared.typed_key.CompositeIntermediateKey.TheVariants as key
 use Rattle.agg_values.specs.declared.error.KeyTextError.{KeyTextError}
 use Rattle.agg_values.specs.declared.error.KeyTextError.TheVariants as key_text
-use Rattle.agg_values.specs.declared.after_key.AfterKey.{AfterKey}
 use Rattle.agg_segment.specs.declared.document.FieldValue.{FieldValue}
-use Rattle.agg_request.specs.CompositeJson.{SaysKey}
-use Rattle.agg_request.specs.Query.{IsUnsupportedText, Says, said_key}
+use Rattle.agg_request.specs.Query.{IsUnsupportedText, Says, SaysKey, said_key}
 use Rattle.agg_request.specs.Reading.{IsReading, IsRefusal, refusal_of}
 use Rattle.agg_request.specs.declared.read_error.ReadError.{ReadError}
 use Rattle.agg_request.specs.declared.read_error.ReadError.TheVariants.{Grammar}
@@ -40,9 +38,9 @@ supported text key.Null rest e (more, f) =
 -- a text that is no key's and isn't supported says no key
 says_nothing : (text : List ℕ)
     → ((k : CompositeIntermediateKey) → ¬ (IsKeyText text k)) → (¬ (IsUnsupportedText text))
-    → (lenient : Bool) (after : AfterKey) → ¬ (SaysKey lenient text after)
-says_nothing text none supports lenient after (inl h) = none after.0 h
-says_nothing text none supports lenient after (inr h) = supports h.1
+    → (lenient : Bool) (k : CompositeIntermediateKey) → ¬ (SaysKey lenient text k)
+says_nothing text none supports lenient k (inl h) = none k h
+says_nothing text none supports lenient k (inr h) = supports h.1
 
 -- a kind without a colon before a text that isn't supported
 cut_f64 : (kind value rest : List ℕ) → kind ++ colon ∷ value ≡ codes "f64:" ++ rest
@@ -59,17 +57,17 @@ cut_f64 (a ∷ b ∷ c ∷ d ∷ kind) value rest e bare =
     absurd (bare (3, omega arith, ap (λ t. get_or t 3 0) e))
 
 -- what a strict reading takes as a key is a key's text
-said_strictly : (text : List ℕ) (after : AfterKey) → SaysKey false text after
-    → IsKeyText text after.0
-said_strictly text after (inl h) = h
-said_strictly text after (inr h) = absurd (false≢true h.0)
+said_strictly : (text : List ℕ) (k : CompositeIntermediateKey) → SaysKey false text k
+    → IsKeyText text k
+said_strictly text k (inl h) = h
+said_strictly text k (inr h) = absurd (false≢true h.0)
 
 -- a refusal of a text as a key's
 pub refused_key : (text : List ℕ) (error : KeyTextError) → IsRefusedAs text error
     → ((k : CompositeIntermediateKey) → IsKeyText text k → error ≡ key_text.OutOfMemory)
     → IsRefusal (λ lenient. SaysKey lenient text) (IsUnsupportedText text) (refusal_of error)
 refused_key text key_text.Unsupported told only =
-    (told, λ after h. absurd (cc (only after.0 (said_strictly text after h))))
+    (told, λ k h. absurd (cc (only k (said_strictly text k h))))
 refused_key text key_text.NoColon told only =
     says_nothing text (λ k h. cc (only k h)) (λ (rest, e). told (rw e (3, omega arith, refl)))
 refused_key text key_text.UnknownType (kind, value, e, bare, other, unknown) only =
@@ -79,13 +77,6 @@ refused_key text key_text.BadValue (k, value, e, none) only =
     says_nothing text none (supported text k value e)
 refused_key text key_text.OutOfMemory told only = tt
 
--- what says a value says a key
-said_key_of : (text : List ℕ) (lenient : Bool) (value : FieldValue) → Says lenient text value
-    → (after : AfterKey) × SaysKey lenient text after
-said_key_of text false value h = (record { 0 = said_key value }, inl h)
-said_key_of text true value (inl h) = (record { 0 = said_key value }, inl h)
-said_key_of text true value (inr h) = (record { 0 = said_key value }, inr (refl, h))
-
 -- a refusal of a text as a key's is one of it as a value's
 refused_text : (text : List ℕ) (error : KeyTextError) → IsRefusedAs text error
     → ((k : CompositeIntermediateKey) → IsKeyText text k → error ≡ key_text.OutOfMemory)
@@ -93,7 +84,7 @@ refused_text : (text : List ℕ) (error : KeyTextError) → IsRefusedAs text err
 refused_text text error told only =
     refused (λ lenient. SaysKey lenient text) (IsUnsupportedText text)
     (λ lenient. Says lenient text) (IsUnsupportedText text) (refusal_of error)
-    (refused_key text error told only) (λ h. h) (said_key_of text)
+    (refused_key text error told only) (λ h. h) (λ lenient value h. (said_key value, h))
 
 -- what is read of a key's text
 pub read_text : (text : List ℕ) (k : CompositeIntermediateKey) (found : Option FieldValue)
@@ -103,14 +94,13 @@ pub read_text : (text : List ℕ) (k : CompositeIntermediateKey) (found : Option
     → IfNone found ((value : FieldValue) → said_key value ≢ k)
     → IsReading (λ lenient. Says lenient text) (IsUnsupportedText text) result
 read_text text k (Some value) result is known only some none =
-    rw is (rw some known)
+    rw is (rw some (inl known))
 read_text text k None result is known only some none =
     rw is (λ lenient value. said lenient value)
   where
     said : (lenient : Bool) (value : FieldValue) → ¬ (Says lenient text value)
-    said false value h = none value (sym (only (said_key value) h))
-    said true value (inl h) = none value (sym (only (said_key value) h))
-    said true value (inr h) = supported text k known.0 known.1 h
+    said lenient value (inl h) = none value (sym (only (said_key value) h))
+    said lenient value (inr h) = supported text k known.0 known.1 h.1
 
 -- the same, for a copy of the text and a result that passes the refusal on
 pub refused_copy : (text copy : List ℕ) (error : KeyTextError)

@@ -20,7 +20,7 @@ use Rattle.agg_request.specs.RequestJson.{may_not_hold, metric_kinds}
 use Rattle.agg_request.specs.Request.{Request, agg_of, below_of}
 use Rattle.agg_request.specs.Written.{all_may_be_written, are_free, may_be_written}
 use Rattle.agg_request.specs.Written.{may_be_written_step, may_hold_some}
-use Rattle.agg_request.specs.WrittenJson.{kind_word}
+use Rattle.agg_request.specs.RequestJson.{kind_word}
 use Rattle.agg_request.specs.declared.aggregation.Aggregation.{Aggregation}
 use Rattle.agg_request.specs.declared.aggregation.Aggregation.TheFolds as folds
 use folds.{fold_out-Aggregation}

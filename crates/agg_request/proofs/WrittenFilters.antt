@@ -1,6 +1,6 @@
 -- Queries as they are written.
 use Rattle.std.proofs.Common.{◌≡◌, ◌<◌, ℕ, zero, suc, List, [], ◌∷◌, codes, false, refl, sym, subst}
-use Rattle.std.proofs.Common.{Result, Ok, Err, IfOk, map, arith, ap, ◌∙◌}
+use Rattle.std.proofs.Common.{inl, Result, Ok, Err, IfOk, map, arith, ap, ◌∙◌}
 use Rattle.serde_json.specs.Data.{Data, object, Items, no_items, item, no_members}
 use Rattle.serde_json.specs.Data.{depth, items_depth}
 use Rattle.serde_json.specs.View.{items_of, view}
@@ -67,7 +67,7 @@ pub is-term : (d : Data) (field : List ℕ) (value : FieldValue)
     → IsTerm false d (Term field value)
 is-term d field value is told =
     subst (λ e. IsTerm false e (Term field value)) (sym is)
-    (field, value, refl, refl, refl, (text_of value, refl, told))
+    (field, value, refl, refl, refl, (text_of value, refl, inl told))
 
 -- the body of a field and bounds says the range
 pub is-range : (d : Data) (field : List ℕ) (lower upper : RangeBound)
@@ -83,11 +83,11 @@ is-range d field lower upper is above under =
     by_bounds Unbounded Unbounded l u =
         (field, Unbounded, Unbounded, refl, refl, refl, (refl, refl), (refl, refl))
     by_bounds Unbounded (Included y) l u =
-        (field, Unbounded, Included y, refl, refl, refl, (refl, refl), ((text_of y, refl, u), refl))
+        (field, Unbounded, Included y, refl, refl, refl, (refl, refl), ((text_of y, refl, inl u), refl))
     by_bounds Unbounded (Excluded y) l u =
-        (field, Unbounded, Excluded y, refl, refl, refl, (refl, refl), ((text_of y, refl, u), refl))
+        (field, Unbounded, Excluded y, refl, refl, refl, (refl, refl), ((text_of y, refl, inl u), refl))
     by_bounds (Included x) Unbounded l u =
-        (field, Included x, Unbounded, refl, refl, refl, ((text_of x, refl, l), refl), (refl, refl))
+        (field, Included x, Unbounded, refl, refl, refl, ((text_of x, refl, inl l), refl), (refl, refl))
     by_bounds (Included x) (Included y) l u = (
       field,
       Included x,
@@ -95,8 +95,8 @@ is-range d field lower upper is above under =
       refl,
       refl,
       refl,
-      ((text_of x, refl, l), refl),
-      ((text_of y, refl, u), refl),
+      ((text_of x, refl, inl l), refl),
+      ((text_of y, refl, inl u), refl),
     )
     by_bounds (Included x) (Excluded y) l u = (
       field,
@@ -105,11 +105,11 @@ is-range d field lower upper is above under =
       refl,
       refl,
       refl,
-      ((text_of x, refl, l), refl),
-      ((text_of y, refl, u), refl),
+      ((text_of x, refl, inl l), refl),
+      ((text_of y, refl, inl u), refl),
     )
     by_bounds (Excluded x) Unbounded l u =
-        (field, Excluded x, Unbounded, refl, refl, refl, ((text_of x, refl, l), refl), (refl, refl))
+        (field, Excluded x, Unbounded, refl, refl, refl, ((text_of x, refl, inl l), refl), (refl, refl))
     by_bounds (Excluded x) (Included y) l u = (
       field,
       Excluded x,
@@ -117,8 +117,8 @@ is-range d field lower upper is above under =
       refl,
       refl,
       refl,
-      ((text_of x, refl, l), refl),
-      ((text_of y, refl, u), refl),
+      ((text_of x, refl, inl l), refl),
+      ((text_of y, refl, inl u), refl),
     )
     by_bounds (Excluded x) (Excluded y) l u = (
       field,
@@ -127,8 +127,8 @@ is-range d field lower upper is above under =
       refl,
       refl,
       refl,
-      ((text_of x, refl, l), refl),
-      ((text_of y, refl, u), refl),
+      ((text_of x, refl, inl l), refl),
+      ((text_of y, refl, inl u), refl),
     )
 
 -- ---- lists

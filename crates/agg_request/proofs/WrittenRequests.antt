@@ -14,7 +14,8 @@ use Rattle.agg_request.specs.Written.{may_be_written}
 use Rattle.agg_request.specs.ReadBack.{IsWritten, ReadsBack, SaysAggregation, SaysItself}
 use Rattle.agg_request.specs.ReadBack.{SaysKind}
 use Rattle.agg_request.specs.WrittenJson.{aggregation_step, data_of_aggregation, data_of_kind}
-use Rattle.agg_request.specs.WrittenJson.{data_of_request, kind_word, members_of, with_below}
+use Rattle.agg_request.specs.RequestJson.{kind_word}
+use Rattle.agg_request.specs.WrittenJson.{data_of_request, members_of, with_below}
 use Rattle.agg_request.specs.declared.aggregation.Aggregation.{Aggregation}
 use Rattle.agg_request.specs.declared.aggregation.Aggregation.TheFolds as folds
 use folds.{fold_out-Aggregation}

@@ -3,7 +3,6 @@ use Rattle.std.specs.Prelude.{◌≡◌, ◌⊎◌, [], ℕ, ℤ, List, Bool, tr
 use Rattle.std.specs.Prelude.{codes, option_and_then, IsTrue}
 use Rattle.serde_json.specs.Data.{Data, Items, Members}
 use Rattle.serde_json.specs.Find.{as_array, as_bool, as_object, as_str, get}
-use Rattle.agg_values.specs.KeyText.{IsKeyText}
 use Rattle.agg_values.specs.Names.{Named}
 use Rattle.agg_values.specs.declared.after_key.AfterKey.{AfterKey}
 use Rattle.agg_values.specs.declared.order.Order.{Order}
@@ -15,7 +14,7 @@ use Rattle.agg_calendar.specs.declared.interval.CalendarInterval.TheVariants.{Ye
 use Rattle.agg_request.specs.Json.{EachIs, EachNamedIs, HasFloatAt, HasUnsupportedList}
 use Rattle.agg_request.specs.Json.{HasUnsupportedMember, IsField, IsFloat, IsGiven, only_member}
 use Rattle.agg_request.specs.Json.{present, small_number, whole_number}
-use Rattle.agg_request.specs.Query.{IsUnsupportedText}
+use Rattle.agg_request.specs.Query.{IsUnsupportedText, SaysKey}
 use Rattle.agg_request.specs.Source.{Sources}
 use Rattle.agg_request.specs.declared.aggregation.CompositeAggregation.{CompositeAggregation}
 use Rattle.agg_request.specs.declared.source.CompositeAggregationSource as any_source
@@ -97,15 +96,23 @@ IsDateHistogramBody name body source =
     × IsFlag (get (codes "missing_bucket") body) source.missing_bucket
     × IsWordOr Default missing_order_word (get (codes "missing_order") body) source.missing_order
 
+-- the name of the kind of a source
+abbrev pub source_word : CompositeAggregationSource → List ℕ
+source_word (Terms source) = codes "terms"
+source_word (Histogram source) = codes "histogram"
+source_word (DateHistogram source) = codes "date_histogram"
+
+-- the body of a source of a name
+abbrev pub IsSourceBody : Bool → List ℕ → Data → CompositeAggregationSource → Type 0
+IsSourceBody lenient name body (Terms source) = IsTermsBody name body source
+IsSourceBody lenient name body (Histogram source) = IsHistogramBody lenient name body source
+IsSourceBody lenient name body (DateHistogram source) = IsDateHistogramBody name body source
+
 -- the body of a source of a name, by the name of its kind
 abbrev pub IsSourceOfKind
     : Bool → List ℕ → List ℕ → Data → CompositeAggregationSource → Type 0
-IsSourceOfKind lenient name kind body (Terms source) =
-    (kind ≡ codes "terms") × IsTermsBody name body source
-IsSourceOfKind lenient name kind body (Histogram source) =
-    (kind ≡ codes "histogram") × IsHistogramBody lenient name body source
-IsSourceOfKind lenient name kind body (DateHistogram source) =
-    (kind ≡ codes "date_histogram") × IsDateHistogramBody name body source
+IsSourceOfKind lenient name kind body source =
+    (kind ≡ source_word source) × IsSourceBody lenient name body source
 
 -- a source: its name with its kind, of which there is one
 abbrev pub IsSourceJson : Bool → Data → CompositeAggregationSource → Type 0
@@ -133,15 +140,10 @@ IsSizeOf lenient body size = (d : Data) × (get (codes "size") body ≡ Some d) 
 
 -- ---- the after key
 
--- a text says a key; leniently, one of the type that isn't supported says any
-abbrev pub SaysKey : Bool → List ℕ → AfterKey → Type 0
-SaysKey lenient text after =
-    IsKeyText text after.0 ⊎ (IsTrue lenient × IsUnsupportedText text)
-
--- the same of the text that a value is
+-- a value is a text that says a key
 abbrev pub IsKeyJson : Bool → Data → AfterKey → Type 0
 IsKeyJson lenient d after =
-    (text : List ℕ) × (as_str d ≡ Some text) × SaysKey lenient text after
+    (text : List ℕ) × (as_str d ≡ Some text) × SaysKey lenient text after.0
 
 -- what may stand at a member is an object of keys by the names of sources; where it is absent there
 -- are none

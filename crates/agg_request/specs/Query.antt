@@ -1,7 +1,7 @@
 -- Queries as JSON: the value that stands for a query is a filter, an object with one member, whose
 -- name is the filter's kind and whose value is its body.
 use Rattle.std.specs.Prelude.{◌≡◌, ◌⊎◌, ◌∷◌, ◌++◌, [], ℕ, zero, suc, List, Bool, true}
-use Rattle.std.specs.Prelude.{false, None, Some, codes, IsSome}
+use Rattle.std.specs.Prelude.{false, None, Some, codes, IsSome, IsTrue}
 use Rattle.serde_json.specs.Data.{Data}
 use Rattle.serde_json.specs.Data.{depth}
 use Rattle.serde_json.specs.Find.{as_str, get}
@@ -33,10 +33,13 @@ said_key (value.Date ns) = key.DateTime ns
 abbrev pub IsUnsupportedText : List ℕ → Type 0
 IsUnsupportedText text = (rest : List ℕ) × (text ≡ codes "f64:" ++ rest)
 
--- a text says a value; leniently, one of the type that isn't supported says any
+-- a text says a key; leniently, one of the type that isn't supported says any
+abbrev pub SaysKey : Bool → List ℕ → CompositeIntermediateKey → Type 0
+SaysKey lenient text key = IsKeyText text key ⊎ (IsTrue lenient × IsUnsupportedText text)
+
+-- a text says a value
 abbrev pub Says : Bool → List ℕ → FieldValue → Type 0
-Says false text value = IsKeyText text (said_key value)
-Says true text value = IsKeyText text (said_key value) ⊎ IsUnsupportedText text
+Says lenient text value = SaysKey lenient text (said_key value)
 
 -- ---- members
 

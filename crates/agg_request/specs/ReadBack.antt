@@ -14,8 +14,8 @@ use Rattle.agg_request.specs.CompositeJson.{IsKeyJson}
 use Rattle.agg_request.specs.Query.{IsFilter, said_key}
 use Rattle.agg_request.specs.Request.{Request, with_builders_in, builders_of, listed_in}
 use Rattle.agg_request.specs.Request.{own_builder, with_builders}
-use Rattle.agg_request.specs.RequestJson.{IsAggregation, IsAsked, IsRequestJson}
-use Rattle.agg_request.specs.WrittenJson.{data_of_key, kind_word, members_of}
+use Rattle.agg_request.specs.RequestJson.{IsAggregation, IsAsked, IsRequestJson, kind_word}
+use Rattle.agg_request.specs.WrittenJson.{data_of_key, members_of}
 use Rattle.agg_request.specs.declared.aggregation.Aggregation.{Aggregation}
 use Rattle.agg_request.specs.declared.aggregation.AggregationVariants.{AggregationVariants}
 

@@ -54,21 +54,31 @@ IsQueryOf lenient name_of body pool (CustomBuilder builder) =
     (name : List ℕ) × (builder_name body ≡ Some name)
     × (option_map (λ t. t.0) (taken name_of name pool) ≡ Some builder)
 
+-- the name of the kind of an aggregation
+abbrev pub kind_word : {B : Type 0} → AggregationVariants B → List ℕ
+kind_word (Filter filter) = codes "filter"
+kind_word (Composite composite) = codes "composite"
+kind_word (Count metric) = codes "value_count"
+kind_word (Max metric) = codes "max"
+kind_word (Min metric) = codes "min"
+kind_word (Sum metric) = codes "sum"
+
+-- the body of an aggregation of its kind, with these builders unused
+abbrev pub IsBody : {B : Type 0} → Bool → (B → List ℕ) → Data → List B
+    → AggregationVariants B → Type 0
+IsBody lenient name_of body pool (Filter filter) =
+    IsQueryOf lenient name_of body pool filter.query
+IsBody lenient name_of body pool (Composite composite) = IsCompositeJson lenient body composite
+IsBody lenient name_of body pool (Count metric) = IsMetric lenient body metric.field
+IsBody lenient name_of body pool (Max metric) = IsMetric lenient body metric.field
+IsBody lenient name_of body pool (Min metric) = IsMetric lenient body metric.field
+IsBody lenient name_of body pool (Sum metric) = IsMetric lenient body metric.field
+
 -- what the body of a kind asks, with these builders unused
 abbrev pub IsAsked : {B : Type 0} → Bool → (B → List ℕ) → List ℕ → Data → List B
     → AggregationVariants B → Type 0
-IsAsked lenient name_of kind body pool (Filter filter) =
-    (kind ≡ codes "filter") × IsQueryOf lenient name_of body pool filter.query
-IsAsked lenient name_of kind body pool (Composite composite) =
-    (kind ≡ codes "composite") × IsCompositeJson lenient body composite
-IsAsked lenient name_of kind body pool (Count metric) =
-    (kind ≡ codes "value_count") × IsMetric lenient body metric.field
-IsAsked lenient name_of kind body pool (Max metric) =
-    (kind ≡ codes "max") × IsMetric lenient body metric.field
-IsAsked lenient name_of kind body pool (Min metric) =
-    (kind ≡ codes "min") × IsMetric lenient body metric.field
-IsAsked lenient name_of kind body pool (Sum metric) =
-    (kind ≡ codes "sum") × IsMetric lenient body metric.field
+IsAsked lenient name_of kind body pool agg =
+    (kind ≡ kind_word agg) × IsBody lenient name_of body pool agg
 
 -- the same; leniently, a kind that is left out asks anything
 abbrev pub IsKind : {B : Type 0} → Bool → (B → List ℕ) → List ℕ → Data → List B

@@ -16,9 +16,11 @@ use Rattle.agg_segment.specs.declared.query.QueryTree.{QueryTree}
 use Rattle.agg_segment.specs.declared.query.QueryTree.TheOpen as query
 use query.{QueryTree-F}
 use Rattle.agg_segment.specs.declared.query.QueryTree.TheFolds.{fold-QueryTree}
-use Rattle.agg_request.specs.CompositeJson.{missing_order_word, order_word, unit_word}
+use Rattle.agg_request.specs.CompositeJson.{missing_order_word, order_word, source_word}
+use Rattle.agg_request.specs.CompositeJson.{unit_word}
 use Rattle.agg_request.specs.Query.{said_key}
 use Rattle.agg_request.specs.Request.{Request}
+use Rattle.agg_request.specs.RequestJson.{kind_word}
 use Rattle.agg_request.specs.Source.{name_of as source_name}
 use Rattle.agg_request.specs.declared.aggregation.Aggregation.{Aggregation}
 use Rattle.agg_request.specs.declared.aggregation.Aggregation.TheOpen.{Aggregation-F}
@@ -121,12 +123,6 @@ source_members (DateHistogram s) =
     (with_text (codes "fixed_interval") s.fixed_interval
     (shared_members s.field s.order s.missing_bucket s.missing_order))
 
--- the name of the kind of a source
-abbrev pub source_word : CompositeAggregationSource → List ℕ
-source_word (Terms s) = codes "terms"
-source_word (Histogram s) = codes "histogram"
-source_word (DateHistogram s) = codes "date_histogram"
-
 -- what is written of a source: its body under its kind, under its name
 abbrev pub data_of_source : CompositeAggregationSource → Data
 data_of_source source =
@@ -151,15 +147,6 @@ data_of_composite composite =
     no_members)))
 
 -- ---- requests
-
--- the name of the kind of an aggregation
-abbrev pub kind_word : {B : Type 0} → AggregationVariants B → List ℕ
-kind_word (Filter filter) = codes "filter"
-kind_word (Composite composite) = codes "composite"
-kind_word (Count metric) = codes "value_count"
-kind_word (Max metric) = codes "max"
-kind_word (Min metric) = codes "min"
-kind_word (Sum metric) = codes "sum"
 
 -- what is written of a filter's query: its builder has a name
 abbrev pub data_of_filter : {B : Type 0} → (B → List ℕ) → FilterQuery B → Data

@@ -4,7 +4,8 @@ ghost use Rattle.serde_json.specs.View.{view};
 ghost use Rattle.serde_json.specs.Data.{object};
 ghost use Rattle.agg_request.specs.ReadBack.{IsWritten, SaysKind};
 ghost use Rattle.agg_request.specs.RequestJson.{IsMetric};
-ghost use Rattle.agg_request.specs.WrittenJson.{data_of_kind, field_members, kind_word};
+ghost use Rattle.agg_request.specs.RequestJson.{kind_word};
+ghost use Rattle.agg_request.specs.WrittenJson.{data_of_kind, field_members};
 ghost use Rattle.agg_request.specs.declared.aggregation.AggregationVariants.TheVariants as of_kind;
 
 use super::composite::write_composite;
