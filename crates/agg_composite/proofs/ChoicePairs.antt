@@ -16,7 +16,7 @@ use Rattle.agg_request.specs.Source.{Sources, field_of, missing_bucket_of, or_mi
 use Rattle.agg_request.specs.Source.{rules_of, source_values, values_at}
 use Rattle.agg_request.specs.declared.source.CompositeAggregationSource.{CompositeAggregationSource}
 use Rattle.agg_composite.specs.Accessors.{AreAccessorsOf, after_of, side_to}
-use Rattle.agg_composite.specs.Answers.{AllFit}
+use Rattle.agg_composite.specs.Accessors.{AllFit}
 use Rattle.agg_composite.specs.Choices.{AreChoicesIn, AreChoicesOf, CanRead, IsChoiceOf}
 use Rattle.agg_composite.specs.Choices.{keys_read, values_read}
 use Rattle.agg_composite.specs.Encoding.{EncodedTuple, StandFor, StandsFor}

@@ -13,7 +13,8 @@ use Rattle.agg_request.specs.Occurrences.{bound_of, is_past, occurrences, occurr
 use Rattle.agg_request.specs.Occurrences.{past_occurrences}
 use Rattle.agg_request.specs.Ranges.{AreInRange}
 use Rattle.agg_request.specs.Source.{Sources, rules_of}
-use Rattle.agg_composite.specs.Answers.{AllFit, AnswersDocuments, AreAllInRange, CountsFor}
+use Rattle.agg_composite.specs.Accessors.{AllFit}
+use Rattle.agg_composite.specs.Answers.{AnswersDocuments, AreAllInRange, CountsFor}
 use Rattle.agg_composite.specs.Answers.{TooOftenFor}
 use Rattle.agg_composite.specs.Counts.{EncodedCounts}
 use Rattle.agg_composite.specs.declared.accessor.CompositeSourceAccessors.{CompositeSourceAccessors}

@@ -23,10 +23,12 @@ use Rattle.agg_request.specs.declared.source.CompositeAggregationSource as kind
 use kind.{CompositeAggregationSource}
 use kind.TheVariants.{DateHistogram, Histogram, Terms}
 use Rattle.agg_composite.specs.Accessors.{AreOfField, IsIntervalOf}
-use Rattle.agg_composite.specs.Answers.{AllFit, AreAllInRange}
+use Rattle.agg_composite.specs.Accessors.{AllFit}
+use Rattle.agg_composite.specs.Answers.{AreAllInRange}
 use Rattle.agg_composite.specs.Lanes.{columns_of, in_requested}
 use Rattle.agg_composite.specs.Ranges.{AreColumnsWithin, AreSourcesWithin, IsDocumentWithin}
-use Rattle.agg_composite.specs.Starts.{IsWithin, divided, divisor_of}
+use Rattle.agg_request.specs.Ranges.{IsWithin}
+use Rattle.agg_composite.specs.Starts.{divided, divisor_of}
 use Rattle.agg_composite.specs.declared.accessor.CompositeAccessor.{CompositeAccessor}
 use Rattle.agg_composite.specs.declared.accessor.CompositeSourceAccessors.{CompositeSourceAccessors}
 use Rattle.agg_composite.specs.declared.divisor.Divisor.{Divisor}

@@ -24,7 +24,7 @@ use Rattle.agg_segment.specs.Columns.{AreInKeyOrder, ClassesAscend, StandsForKey
 use Rattle.agg_segment.specs.Columns.{all_keys, encoded_key, keys_rank, type_of}
 use Rattle.agg_segment.specs.Segment.{Stored, document_at}
 use Rattle.agg_request.specs.Faults.{HasInterval, IsIntervalFault, IsOfOtherType}
-use Rattle.agg_request.specs.Source.{field_of, interval_of, keys_in, missing_bucket_of}
+use Rattle.agg_request.specs.Source.{Sources, field_of, interval_of, keys_in, missing_bucket_of}
 use Rattle.agg_request.specs.Source.{missing_order_of, name_of, order_of, start_in}
 use Rattle.agg_request.specs.SourceColumns.{reads_type}
 use Rattle.agg_request.specs.declared.source.CompositeAggregationSource as kind
@@ -163,8 +163,11 @@ pub record HasAccessors (source : CompositeAggregationSource)
   pub interval : HasInterval source
   pub same_type : ¬ (IsOtherAfter source after)
 
--- request data has the accessors of each source in a segment, for its value in an after key
-abbrev pub Fits : Stored → Named AfterKey → CompositeAggReqData → Type 0
-Fits segment after req =
+-- each source has its accessors in a segment, for its value in an after key
+abbrev pub AllFit : Stored → Named AfterKey → Sources → List CompositeSourceAccessors → Type 0
+AllFit segment after =
     AllZip (λ source a. AreAccessorsOf segment source (after_of after source) a)
-    req.req.now.sources req.composite_accessors
+
+-- so have those of request data
+abbrev pub Fits : Stored → Named AfterKey → CompositeAggReqData → Type 0
+Fits segment after req = AllFit segment after req.req.now.sources req.composite_accessors

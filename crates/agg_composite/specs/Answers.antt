@@ -10,7 +10,7 @@ use Rattle.agg_segment.specs.Segment.{Stored, documents_at}
 use Rattle.agg_request.specs.Occurrences.{bound_of, past_occurrences}
 use Rattle.agg_request.specs.Ranges.{AreInRange}
 use Rattle.agg_request.specs.Source.{Sources}
-use Rattle.agg_composite.specs.Accessors.{AreAccessorsOf, after_of}
+use Rattle.agg_composite.specs.Accessors.{AllFit}
 use Rattle.agg_composite.specs.Counts.{EncodedCounts}
 use Rattle.agg_composite.specs.Encoding.{EncodedTuple, StandFor}
 use Rattle.agg_composite.specs.GroupCounts.{CountsBehind, CountsTooOften}
@@ -53,11 +53,6 @@ abbrev pub AnswersFor : Sources → List CompositeSourceAccessors → List KeyTu
 AnswersFor sources accessors keys held held_now =
     Answers (CountsFor sources accessors keys held held_now)
     (TooOftenFor sources accessors keys held) (length keys)
-
--- each source has its accessors in a segment, for its value in an after key
-abbrev pub AllFit : Stored → Named AfterKey → Sources → List CompositeSourceAccessors → Type 0
-AllFit segment after =
-    AllZip (λ source a. AreAccessorsOf segment source (after_of after source) a)
 
 -- the starts that sources read in documents at places lie within i64
 abbrev pub AreAllInRange : Stored → Sources → List ℕ → Type 0

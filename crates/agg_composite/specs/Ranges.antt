@@ -5,7 +5,8 @@ use Rattle.agg_segment.specs.Columns.{StoredColumn, column_keys, encoded_key}
 use Rattle.agg_segment.specs.declared.keys.ColumnKeys.{ColumnKeys}
 use Rattle.agg_request.specs.Source.{Sources}
 use Rattle.agg_request.specs.declared.source.CompositeAggregationSource.{CompositeAggregationSource}
-use Rattle.agg_composite.specs.Starts.{IsWithin, divided, divisor_of}
+use Rattle.agg_request.specs.Ranges.{IsWithin}
+use Rattle.agg_composite.specs.Starts.{divided, divisor_of}
 use Rattle.agg_composite.specs.declared.accessor.CompositeAccessor.{CompositeAccessor}
 use Rattle.agg_composite.specs.declared.accessor.CompositeSourceAccessors.{CompositeSourceAccessors}
 use Rattle.agg_composite.specs.declared.divisor.Divisor.{Divisor}

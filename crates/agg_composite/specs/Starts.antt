@@ -1,9 +1,7 @@
 -- The starts of buckets, and the numbers that stand for them in lanes.
 use Rattle.std.specs.Prelude.{◌≡◌, ◌&&◌, ◌≤ℤ◌, ◌-◌, ◌^◌, ℕ, ℤ, pos, neg_ℤ, Bool, Option, None, Some}
-use Rattle.std.specs.Prelude.{⊤}
-use Rattle.std.specs.Prelude.{FitsSigned, MatchOption, MatchResult, Result, int_le, int_lt}
-use Rattle.std.specs.Prelude.{option_map, if◌then◌else◌}
-use Rattle.std.specs.Int.{w64}
+use Rattle.std.specs.Prelude.{⊤, MatchResult, Result, int_le, int_lt, option_map}
+use Rattle.std.specs.Prelude.{if◌then◌else◌}
 use Rattle.agg_values.specs.TypedKey.{CompositeIntermediateKey}
 use Rattle.agg_calendar.specs.Start.{IsUsable, fixed_start, start_of}
 use Rattle.agg_calendar.specs.declared.error.StartError.{StartError}
@@ -12,6 +10,7 @@ use interval.{PrecomputedDateInterval}
 use interval.TheVariants.{FixedNanoseconds}
 use Rattle.agg_segment.specs.Columns.{encoded_key}
 use Rattle.agg_segment.specs.declared.keys.ColumnKeys.{ColumnKeys}
+use Rattle.agg_request.specs.Ranges.{IsWithin}
 use Rattle.agg_request.specs.Source.{counted_number, date_of}
 use Rattle.agg_request.specs.declared.source.CompositeAggregationSource as kind
 use kind.{CompositeAggregationSource}
@@ -64,10 +63,6 @@ start_number (Some start) = if is_within start then moved_up start else 0
 abbrev pub lane_number : Divisor → ColumnKeys → ℕ → ℕ
 lane_number Nothing keys number = number
 lane_number divisor keys number = start_number (divided divisor (encoded_key keys number))
-
--- a start lies within i64, if there is one
-abbrev pub IsWithin : Option ℤ → Type 0
-IsWithin start = MatchOption start ⊤ (λ n. FitsSigned w64 n)
 
 -- a start, if there is one, is given exactly where it lies within i64
 abbrev pub GivesStartOf : Option ℤ → Result (Option ℤ) StartError → Type 0

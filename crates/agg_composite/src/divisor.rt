@@ -4,7 +4,8 @@ ghost use Rattle.std.specs.Prelude.{pos};
 ghost use Rattle.agg_calendar.specs.Start.{IsUsable, fixed_start, start_of};
 ghost use Rattle.agg_segment.specs.Columns.{encoded_key};
 ghost use Rattle.agg_request.specs.Source.{counted_number, date_of};
-ghost use Rattle.agg_composite.specs.Starts.{CanDivide, GivesStartOf, IsCountable, IsWithin};
+ghost use Rattle.agg_request.specs.Ranges.{IsWithin};
+ghost use Rattle.agg_composite.specs.Starts.{CanDivide, GivesStartOf, IsCountable};
 ghost use Rattle.agg_composite.specs.Starts.{by_numbers, by_time, divided, divisor_of, lane_number};
 ghost use Rattle.agg_composite.specs.Starts.{start_number};
 

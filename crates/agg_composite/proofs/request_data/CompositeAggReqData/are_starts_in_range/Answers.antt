@@ -3,7 +3,8 @@ use Rattle.std.proofs.lemmas.Slice.Zip.{AllZip-long}
 use Rattle.std.specs.Prelude.{◌↔◌, IsTrue, MatchBool}
 use Rattle.agg_request.specs.Source.{Sources}
 use Rattle.agg_composite.specs.Accessors.{AreAccessorsOf, after_of}
-use Rattle.agg_composite.specs.Answers.{AllFit, AreAllInRange}
+use Rattle.agg_composite.specs.Accessors.{AllFit}
+use Rattle.agg_composite.specs.Answers.{AreAllInRange}
 use Rattle.agg_composite.specs.declared.accessor.CompositeSourceAccessors.{CompositeSourceAccessors}
 use Rattle.agg_composite.proofs.request_data.CompositeAggReqData.are_starts_in_range.Goals as goal
 
