@@ -22,9 +22,10 @@ use Rattle.agg_results.specs.Intermediate.{entries_of, orders_of, plain_entries,
 use Rattle.agg_results.specs.Intermediate.{target_size_of}
 use Rattle.agg_results.specs.Merging.{joined_composite, trimmed_composite}
 use Rattle.agg_results.specs.TupleMap.{ByTuple}
-use Rattle.agg_results.specs.declared.intermediate.composite.IntermediateCompositeBucketResult as composite
+use Rattle.agg_results.specs.declared.intermediate as intermediate
+use intermediate.composite.IntermediateCompositeBucketResult as composite
 use composite.{IntermediateCompositeBucketResult, out-IntermediateCompositeBucketResult}
-use Rattle.agg_results.specs.declared.intermediate.results.IntermediateAggregationResult.TheViews as views
+use intermediate.results.IntermediateAggregationResult.TheViews as views
 use views.{out-roll-IntermediateCompositeBucketResult, roll-out-IntermediateCompositeBucketResult}
 use Rattle.agg_results.specs.declared.intermediate.entry.IntermediateTermBucketEntry as entry
 use entry.{IntermediateTermBucketEntry}
@@ -101,7 +102,8 @@ plain-at es i e plain at = plain-there es i e (recursion_from_All (λ e. IsPlain
 
 -- the count of a place
 pub count-at : (es : Entries) (i : ℕ) (e : IntermediateTermBucketEntry)
-    → slice_get (values_of es) i ≡ Some e → slice_get (values_of (counts_of es)) i ≡ Some e.doc_count
+    → slice_get (values_of es) i ≡ Some e
+    → slice_get (values_of (counts_of es)) i ≡ Some e.doc_count
 count-at [] i e at = absurd (cc at)
 count-at (f ∷ es) zero e at = ap (λ x. Some x.doc_count) (same_Some f.1 e at)
 count-at (f ∷ es) (suc i) e at = count-at es i e at
@@ -118,7 +120,8 @@ seek-counts compare (e ∷ es) =
     ap (λ r. match_ordering (compare e.0) (Err 0) (Ok 0) (one_further r)) (seek-counts compare es)
 
 plain-set : (counts : List Group) (i n : ℕ)
-    → plain_entries (set_value_at counts i n) ≡ set_value_at (plain_entries counts) i (plain_entry n)
+    → plain_entries (set_value_at counts i n)
+    ≡ set_value_at (plain_entries counts) i (plain_entry n)
 plain-set [] i n = refl
 plain-set (g ∷ counts) zero n = refl
 plain-set (g ∷ counts) (suc i) n = ap (λ es. (g.0, plain_entry g.1) ∷ es) (plain-set counts i n)

@@ -9,7 +9,8 @@ use Rattle.agg_request.specs.Source.{Sources, missing_order_of, order_of, rules_
 use Rattle.agg_request.specs.declared.source.CompositeAggregationSource.{CompositeAggregationSource}
 use Rattle.agg_results.specs.Intermediate.{Entries, composite_of, entries_of, orders_of}
 use Rattle.agg_results.specs.Intermediate.{target_size_of}
-use Rattle.agg_results.specs.declared.intermediate.composite.IntermediateCompositeBucketResult as composite
+use Rattle.agg_results.specs.declared.intermediate as intermediate
+use intermediate.composite.IntermediateCompositeBucketResult as composite
 use composite.{IntermediateCompositeBucketResult}
 use Rattle.agg_results.specs.declared.intermediate.results.IntermediateAggregationResult as result
 use result.TheViews.{out-roll-IntermediateCompositeBucketResult}

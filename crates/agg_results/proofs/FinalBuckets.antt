@@ -19,7 +19,8 @@ use Rattle.agg_results.specs.BucketCount.{entry_buckets, result_buckets, results
 use Rattle.agg_results.specs.Final.{final_result, final_results, last_tuple, lowest_of}
 use Rattle.agg_results.specs.Intermediate.{Held, held_composite, target_size_of}
 use Rattle.agg_results.specs.ShownResults.{shown_after, shown_group, shown_page}
-use Rattle.agg_results.specs.declared.intermediate.composite.IntermediateCompositeBucketResult as composite
+use Rattle.agg_results.specs.declared.intermediate as intermediate
+use intermediate.composite.IntermediateCompositeBucketResult as composite
 use composite.{IntermediateCompositeBucketResult}
 use Rattle.agg_results.specs.declared.intermediate.results.IntermediateAggregationResult as declared
 use declared.{IntermediateAggregationResult}

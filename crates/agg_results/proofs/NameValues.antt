@@ -57,7 +57,8 @@ module _ {K X : Type 0} {cmp : K → K → Ordering} (total : IsTotalOrder cmp)
 
   first-by : (b : Bool) (k : K) (e : K × X) (es : List (K × X)) (v : X) → is_at (cmp k) e.0 ≡ b
       → value k (e ∷ es) ≡ Some v → ((k ≡ e.0) × (e.1 ≡ v)) ⊎ (value k es ≡ Some v)
-  first-by true k e es v is found = inl (same_key total exact k e.0 is, same_Some e.1 v (rw is at found))
+  first-by true k e es v is found =
+      inl (same_key total exact k e.0 is, same_Some e.1 v (rw is at found))
   first-by false k e es v is found = inr (rw is at found)
 
   -- a value is the first one, of the first key, or one behind it
@@ -76,8 +77,8 @@ module _ {K X : Type 0} {cmp : K → K → Ordering} (total : IsTotalOrder cmp)
       → value k es ≡ Some v → value k (e ∷ es) ≡ Some v
   later-by true k e es v up is found =
       let none = none_above e.0 es (sorted_head cmp e.0 (keys_of es) up) in
-      absurd (none-some v (sym (subst (λ l. value l es ≡ None) (sym (same_key total exact k e.0 is)) none)
-      ∙ found))
+      let own = sym (same_key total exact k e.0 is) in
+      absurd (none-some v (sym (subst (λ l. value l es ≡ None) own none) ∙ found))
   later-by false k e es v up is found = rw is found
 
   -- what is behind a first entry is there with it, where keys ascend

@@ -12,7 +12,8 @@ use Rattle.agg_results.specs.Final.{HoldsOther, IsInOtherOrders}
 use Rattle.agg_results.specs.Intermediate.{Held, IsPlain, entries_of, held_composite}
 use Rattle.agg_results.specs.declared.intermediate.results.IntermediateAggregationResult as declared
 use declared.{IntermediateAggregationResult}
-use Rattle.agg_results.specs.declared.intermediate.composite.IntermediateCompositeBucketResult as composite
+use Rattle.agg_results.specs.declared.intermediate as intermediate
+use intermediate.composite.IntermediateCompositeBucketResult as composite
 use composite.{IntermediateCompositeBucketResult}
 use Rattle.agg_results.proofs.NameOrder.{Ascends, value-cases, value-first, value-later}
 

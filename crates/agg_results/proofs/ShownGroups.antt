@@ -10,7 +10,8 @@ use Rattle.agg_values.specs.declared.after_key.AfterKey.{AfterKey}
 use Rattle.agg_request.specs.Source.{Sources}
 use Rattle.agg_results.specs.Final.{last_tuple, lowest_of}
 use Rattle.agg_results.specs.Intermediate.{Entries, counts_of, entries_of, target_size_of}
-use Rattle.agg_results.specs.declared.intermediate.composite.IntermediateCompositeBucketResult as composite
+use Rattle.agg_results.specs.declared.intermediate as intermediate
+use intermediate.composite.IntermediateCompositeBucketResult as composite
 use composite.{IntermediateCompositeBucketResult}
 use Rattle.agg_results.specs.declared.intermediate.entry.IntermediateTermBucketEntry as entry
 use entry.{IntermediateTermBucketEntry}

@@ -7,8 +7,9 @@ use Rattle.agg_request.specs.Groups.{Group}
 use Rattle.agg_results.specs.declared.intermediate.results.IntermediateAggregationResult as declared
 use declared.{IntermediateAggregationResult}
 use declared.TheVariants.{Bucket}
-use Rattle.agg_results.specs.declared.intermediate.results.IntermediateBucketResult.TheVariants.{Composite}
-use Rattle.agg_results.specs.declared.intermediate.composite.IntermediateCompositeBucketResult as composite
+use Rattle.agg_results.specs.declared.intermediate as intermediate
+use intermediate.results.IntermediateBucketResult.TheVariants.{Composite}
+use intermediate.composite.IntermediateCompositeBucketResult as composite
 use composite.{IntermediateCompositeBucketResult, out-IntermediateCompositeBucketResult}
 use composite.{roll-IntermediateCompositeBucketResult}
 use Rattle.agg_results.specs.declared.intermediate.entry.IntermediateTermBucketEntry as entry

@@ -8,7 +8,8 @@ use Rattle.agg_results.specs.Intermediate.{Held, as_result, composite_of, counts
 use Rattle.agg_results.specs.Intermediate.{held_composite, orders_of, plain_entries, target_size_of}
 use Rattle.agg_results.specs.declared.intermediate.results.IntermediateAggregationResult as declared
 use declared.{IntermediateAggregationResult}
-use Rattle.agg_results.specs.declared.intermediate.composite.IntermediateCompositeBucketResult as composite
+use Rattle.agg_results.specs.declared.intermediate as intermediate
+use intermediate.composite.IntermediateCompositeBucketResult as composite
 use composite.{IntermediateCompositeBucketResult}
 
 -- ---- composites

@@ -114,7 +114,8 @@ bucket_result_text =
 -- results, each by its name
 abbrev pub results_members : AggregationResults → Texts
 results_members =
-    fold-AggregationResults (List ℕ) (List ℕ) Texts (List ℕ) of_result of_buckets of_results of_entry
+    fold-AggregationResults (List ℕ) (List ℕ) Texts (List ℕ)
+    of_result of_buckets of_results of_entry
 
 -- a bucket
 abbrev pub bucket_text : CompositeBucketEntry → List ℕ

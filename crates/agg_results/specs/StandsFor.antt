@@ -1,5 +1,6 @@
 -- What intermediate results stand for: lists of documents.
-use Rattle.std.specs.Prelude.{◌≡◌, ◌≤◌, ◌<◌, ◌⊎◌, ℕ, List, [], IsTrue, All, Contains, Option, None, Some}
+use Rattle.std.specs.Prelude.{◌≡◌, ◌≤◌, ◌<◌, ◌⊎◌, ℕ, List, [], Option, None, Some}
+use Rattle.std.specs.Prelude.{All, Contains, IsTrue}
 use Rattle.std.specs.Prelude.{map, take}
 use Rattle.std.specs.List.Sorted.{IsStrictlySortedBy}
 use Rattle.std.specs.Map.{keys_of}
@@ -19,7 +20,8 @@ use Rattle.agg_results.specs.Intermediate.{Held, IsFlat, counts_of, entries_of, 
 use Rattle.agg_results.specs.Intermediate.{orders_of, target_size_of}
 use Rattle.agg_results.specs.declared.intermediate.results.IntermediateAggregationResult as declared
 use declared.{IntermediateAggregationResult}
-use Rattle.agg_results.specs.declared.intermediate.composite.IntermediateCompositeBucketResult as held
+use Rattle.agg_results.specs.declared.intermediate as intermediate
+use intermediate.composite.IntermediateCompositeBucketResult as held
 use held.{IntermediateCompositeBucketResult}
 
 -- groups that stand for documents: the lowest, as many as the size, are the page with its exact

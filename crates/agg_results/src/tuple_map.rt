@@ -1,4 +1,4 @@
-ghost use Rattle.std.specs.Prelude.{◌≡◌, ◌≤◌, ◌<◌, ◌++◌, ◌∷◌, [], Err, Some, OnErr, OnOk, length, take};
+ghost use Rattle.std.specs.Prelude.{◌≡◌, ◌<◌, ◌++◌, ◌∷◌, [], Err, Some, OnErr, OnOk, length, take};
 ghost use Rattle.std.specs.Borrow.{Lends, sem};
 ghost use Rattle.std.specs.List.{insert, remove, slice_get};
 ghost use Rattle.std.specs.List.Sorted.{IsStrictlySortedBy};
@@ -14,8 +14,8 @@ use std::alloc::Global;
 use std::cmp::Ordering;
 use std::marker::Model;
 
-/// An ordered map from tuples, which ascend by the order and missing order of each source. Contracts
-/// see these orders and the entries.
+/// An ordered map from tuples, which ascend by the order and missing order of each source.
+/// Contracts see these orders and the entries.
 #[derive(Drop)]
 pub struct TupleMap<T> {
     orders: Vec<(Order, MissingOrder)>,

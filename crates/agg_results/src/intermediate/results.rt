@@ -5,8 +5,8 @@ ghost use Rattle.std.specs.List.Sorted.{IsStrictlySortedBy};
 ghost use Rattle.std.specs.Map.{keys_of, values_of};
 ghost use Rattle.agg_values.specs.Names.{name_cmp, put, value_of, without};
 ghost use Rattle.agg_results.specs.Intermediate.{AreFlat, IsFlat, held_composite};
-ghost use Rattle.agg_results.specs.Merging.{AreMerged, CountsPass, ShapesDiffer, SomeOfBoth, behind};
-ghost use Rattle.agg_results.specs.Merging.{merged_result};
+ghost use Rattle.agg_results.specs.Merging.{AreMerged, CountsPass, ShapesDiffer, SomeOfBoth};
+ghost use Rattle.agg_results.specs.Merging.{behind, merged_result};
 
 use super::IntermediateCompositeBucketResult;
 use crate::MergeError;

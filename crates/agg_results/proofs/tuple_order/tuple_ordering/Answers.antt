@@ -1,7 +1,7 @@
 use Rattle.std.proofs.Common.{◌≤◌, ◌⊎◌, length, inl, inr, rules, ◌∙◌}
 use Rattle.agg_results.proofs.TupleSteps.{tuple_order-ended}
 use Rattle.agg_results.proofs.tuple_order.tuple_ordering.Goals as goal
-use Rattle.agg_results.proofs.tuple_order.tuple_ordering.Goals.{in_default-via-in-Some+in_default, in_default-via-in_default}
+use goal.{in_default-via-in-Some+in_default, in_default-via-in_default}
 
 pub returns-in_default : goal.returns-in_default
 returns-in_default c =
@@ -11,6 +11,6 @@ returns-in_default c =
       | in_default-via-in_default w ↦ inl (search rules)
     ] in
     c.cmp.ensures
-    ∙ tuple_order-ended c.args.orders.now c.args.left.now c.args.right.now c.loop-i.i c.loop-i-test.true
-    c.loop-i.invariant.left_lasts c.loop-i.invariant.right_lasts ended
+    ∙ tuple_order-ended c.args.orders.now c.args.left.now c.args.right.now c.loop-i.i
+    c.loop-i-test.true c.loop-i.invariant.left_lasts c.loop-i.invariant.right_lasts ended
     ∙ c.loop-i.invariant.rest

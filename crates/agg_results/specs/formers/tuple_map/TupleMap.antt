@@ -100,4 +100,5 @@ module _ (R R' : RattleType) (h : R.Denot → R'.Denot) where
 
   pub the_codes_placed : Recodes R R' h
       → Recodes (C.the_row R) (C.the_row R') ((the_former this).map R.Denot R'.Denot h)
-  the_codes_placed e d = λ i. gcons (orders_coded.code d.0) (entries_recoded tuple.the_row R R' h e d.1 i)
+  the_codes_placed e d = λ i.
+      gcons (orders_coded.code d.0) (entries_recoded tuple.the_row R R' h e d.1 i)

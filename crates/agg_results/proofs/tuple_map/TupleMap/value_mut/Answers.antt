@@ -12,8 +12,9 @@ invariant_of-self-lent g c =
     let at = c.args.at in
     let within : at < length es = subst (λ m. at < length m.1) (sym c.self.view_is) c.requires in
     λ w.
-    let same : keys_of (set es at (c.index_mut-entry.result.now.0, w)) ≡ keys_of es
-    = ap keys_of (set_is es at c.index_mut-entry.result.now w within c.index_mut-entry.ensures.value)
+    let same : keys_of (set es at (c.index_mut-entry.result.now.0, w)) ≡ keys_of es =
+    ap keys_of
+    (set_is es at c.index_mut-entry.result.now w within c.index_mut-entry.ensures.value)
     ∙ keys_set es at w in
     subst (IsStrictlySortedBy (tuple_order c.self.inside.orders.items)) (sym same) c.self.invariant
 

@@ -11,7 +11,8 @@ use Rattle.agg_results.specs.Intermediate.{target_size_of}
 use Rattle.agg_results.proofs.Composites.{counted, flat-of, plain-inserted, put_entry}
 use Rattle.agg_results.proofs.Composites.{raised_entry, value-counted, within}
 use Rattle.agg_results.proofs.Exits.{on_err}
-use Rattle.agg_results.proofs.intermediate.composite.IntermediateCompositeBucketResult.add_entry.Goals as goal
+use Rattle.agg_results.proofs.intermediate as intermediate
+use intermediate.composite.IntermediateCompositeBucketResult.add_entry.Goals as goal
 use Rattle.agg_results.proofs.intermediate.composite.IntermediateCompositeBucketResult.add_entry.Goals.{In-Ok, In-Err}
 
 found : (c : In-Ok)

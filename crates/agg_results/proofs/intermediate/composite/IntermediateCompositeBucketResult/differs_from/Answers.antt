@@ -2,8 +2,9 @@ use Rattle.std.proofs.Common.{◌<◌, inl, inr, sym, ◌∙◌, arith}
 use borrow.Author.Tests.{ltb-true}
 use Rattle.agg_results.specs.Intermediate.{orders_of, target_size_of}
 use Rattle.agg_results.proofs.SameOrders.{told}
-use Rattle.agg_results.proofs.intermediate.composite.IntermediateCompositeBucketResult.differs_from.Goals as goal
-use Rattle.agg_results.proofs.intermediate.composite.IntermediateCompositeBucketResult.differs_from.Goals.{then-self-gt0, else-self-gt0}
+use Rattle.agg_results.proofs.intermediate as intermediate
+use intermediate.composite.IntermediateCompositeBucketResult.differs_from.Goals as goal
+use goal.{then-self-gt0, else-self-gt0}
 
 pub returns-else-self-other : goal.returns-else-self-other
 returns-else-self-other c =

@@ -1,7 +1,8 @@
 use Rattle.std.proofs.Common.{◌<◌, inr, rules}
 use Rattle.agg_results.specs.Intermediate.{orders_of, target_size_of}
 use Rattle.agg_results.proofs.SameOrders.{same_orders}
-use Rattle.agg_results.proofs.intermediate.composite.IntermediateCompositeBucketResult.joined_with.Goals as goal
+use Rattle.agg_results.proofs.intermediate as intermediate
+use intermediate.composite.IntermediateCompositeBucketResult.joined_with.Goals as goal
 
 pub merge_entries-requires-clause-orders : goal.merge_entries-requires-clause-orders
 merge_entries-requires-clause-orders c =

@@ -6,7 +6,8 @@ use Rattle.agg_results.specs.Intermediate.{IsFlat, composite_of, entries_of, ord
 use Rattle.agg_results.specs.Intermediate.{plain_entry, target_size_of}
 use Rattle.agg_results.proofs.Composites.{count-at, flat-of, gone, plain-at, plain-removed}
 use Rattle.agg_results.proofs.Composites.{plain-replaced, still_there}
-use Rattle.agg_results.proofs.intermediate.composite.IntermediateCompositeBucketResult.merge_at.Goals as goal
+use Rattle.agg_results.proofs.intermediate as intermediate
+use intermediate.composite.IntermediateCompositeBucketResult.merge_at.Goals as goal
 
 pub merge_fruits-requires-clause-plain : goal.merge_fruits-requires-clause-plain
 merge_fruits-requires-clause-plain c =

@@ -1,7 +1,8 @@
 use Rattle.std.proofs.Common.{◌*◌, ◌≤◌, length, sym, ap, ◌∙◌, arith}
 use Rattle.agg_results.specs.Intermediate.{composite_of, entries_of, orders_of, target_size_of}
 use Rattle.agg_results.proofs.Composites.{closed, trimmed-up_to}
-use Rattle.agg_results.proofs.intermediate.composite.IntermediateCompositeBucketResult.trim.Goals as goal
+use Rattle.agg_results.proofs.intermediate as intermediate
+use intermediate.composite.IntermediateCompositeBucketResult.trim.Goals as goal
 
 pub returns-else-len-from : goal.returns-else-len-from
 returns-else-len-from c =

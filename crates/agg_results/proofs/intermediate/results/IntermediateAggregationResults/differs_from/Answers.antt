@@ -6,7 +6,8 @@ use Rattle.std.proofs.lemmas.Map.Keys.{sorted_tail}
 use Rattle.agg_values.specs.Names.{name_cmp}
 use Rattle.agg_results.specs.Merging.{ShapesDiffer, SomeOfBoth}
 use Rattle.agg_results.proofs.HeldResults.{behind_first, first_told, past_first}
-use Rattle.agg_results.proofs.intermediate.results.IntermediateAggregationResults.differs_from.Goals as goal
+use Rattle.agg_results.proofs.intermediate as intermediate
+use intermediate.results.IntermediateAggregationResults.differs_from.Goals as goal
 
 pub returns-then-differs_from : goal.returns-then-differs_from
 returns-then-differs_from c =

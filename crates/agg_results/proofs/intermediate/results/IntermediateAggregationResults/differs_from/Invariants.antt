@@ -2,7 +2,8 @@ use Rattle.std.specs.List.Sorted.{IsStrictlySortedBy}
 use Rattle.std.specs.Map.{keys_of}
 use Rattle.agg_values.specs.Names.{name_cmp}
 use Rattle.agg_results.specs.Merging.{ShapesDiffer, SomeOfBoth}
-use Rattle.agg_results.proofs.intermediate.results.IntermediateAggregationResults.differs_from.Given as goal
+use Rattle.agg_results.proofs.intermediate as intermediate
+use intermediate.results.IntermediateAggregationResults.differs_from.Given as goal
 
 -- where shapes differ, they do so among the results to come
 abbrev pub invariant-loop-name : goal.invariant-loop-name

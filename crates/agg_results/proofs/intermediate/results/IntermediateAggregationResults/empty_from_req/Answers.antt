@@ -5,8 +5,9 @@ use Rattle.agg_results.specs.Empty.{empty_result, empty_results}
 use Rattle.agg_results.specs.Intermediate.{AreFlat}
 use Rattle.agg_results.proofs.FlatResults.{empty_results-flat}
 use Rattle.agg_results.proofs.MadeByName.{by_name, by_name-all, by_name-more}
-use Rattle.agg_results.proofs.intermediate.results.IntermediateAggregationResults.empty_from_req.Goals as goal
-use Rattle.agg_results.proofs.intermediate.results.IntermediateAggregationResults.empty_from_req.Given as given
+use Rattle.agg_results.proofs.intermediate as intermediate
+use intermediate.results.IntermediateAggregationResults.empty_from_req.Goals as goal
+use intermediate.results.IntermediateAggregationResults.empty_from_req.Given as given
 use Rattle.agg_results.proofs.intermediate.results.IntermediateAggregationResults.empty_from_req.Goals.{In-None}
 
 pub loop-name-init : goal.loop-name-init

@@ -14,7 +14,8 @@ use Rattle.agg_results.proofs.NameValues.{Among, among_keys, sorted-gone}
 use Rattle.agg_results.proofs.PushedResults.{AreNamed, all_merged, named_on, none_told}
 use Rattle.agg_results.proofs.PushedResults.{pushed_none, pushed_some, same_on, told_first}
 use Rattle.agg_results.proofs.PushedResults.{told_on, untouched_on}
-use Rattle.agg_results.proofs.intermediate.results.IntermediateAggregationResults.push_all.Goals as goal
+use Rattle.agg_results.proofs.intermediate as intermediate
+use intermediate.results.IntermediateAggregationResults.push_all.Goals as goal
 
 pub loop-name-init : goal.loop-name-init
 loop-name-init c =

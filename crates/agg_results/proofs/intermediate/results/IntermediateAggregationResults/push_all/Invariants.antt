@@ -5,7 +5,8 @@ use Rattle.agg_values.specs.Names.{name_cmp}
 use Rattle.agg_results.specs.Intermediate.{AreFlat}
 use Rattle.agg_results.specs.Merging.{CountsPass, SomeOfBoth}
 use Rattle.agg_results.proofs.PushedResults.{AreNamed, AreSame, AreUntouched}
-use Rattle.agg_results.proofs.intermediate.results.IntermediateAggregationResults.push_all.Given as goal
+use Rattle.agg_results.proofs.intermediate as intermediate
+use intermediate.results.IntermediateAggregationResults.push_all.Given as goal
 
 abbrev pub decreases-loop-name : goal.decreases-loop-name
 decreases-loop-name l = length l.names.items

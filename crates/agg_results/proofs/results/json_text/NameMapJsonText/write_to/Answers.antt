@@ -8,8 +8,8 @@ pub loop-name-preserved : goal.loop-name-preserved
 loop-name-preserved g c =
     let text = λ (e : List ℕ × g.row.T.Denot). member_text e.0 (g.T.JsonText.json e.1) in
     let member = member-appended _ _ _ _ _ c.in-Some.name.now
-    (g.T.JsonText.json c.in-Some.value.now) _ c.in_ok-write_comma.ensures.comma c.as_str.ensures c.in_ok-write_name.ensures
-    c.in_ok-write_to.ensures in
+    (g.T.JsonText.json c.in-Some.value.now) _ c.in_ok-write_comma.ensures.comma c.as_str.ensures
+    c.in_ok-write_name.ensures c.in_ok-write_to.ensures in
     item-appended _ _ _ _ _ _ _ _ (ap (map text) c.in-Some.ensures.steps) member
     c.write_comma.ensures.next c.loop-name.invariant
 
