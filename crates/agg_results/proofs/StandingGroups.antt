@@ -1,9 +1,9 @@
 -- Groups that stand for documents: those of a page, and their fronts.
-use Rattle.std.proofs.Common.{◌≡◌, ℕ, ◌^◌, ◌<◌, ◌≤◌, inl, inr, IsTrue, List, [], ◌∷◌, length, take}
+use Rattle.std.proofs.Common.{◌≡◌, ℕ, ◌^◌, ◌<◌, ◌≤◌, IsTrue, List, [], length, take}
 use Rattle.std.proofs.Common.{drop, map, get_or, sym, subst, arith, Less}
-use Rattle.std.specs.List.{All, AllByRecursion, Contains}
+use Rattle.std.specs.List.{All, Contains}
 use Rattle.std.proofs.lemmas.List.{take-take, take_all}
-use Rattle.std.proofs.lemmas.List.Elements.{All-take, All-weaker, recursion_from_All}
+use Rattle.std.proofs.lemmas.List.Elements.{All-take, All-weaker}
 use Rattle.std.proofs.lemmas.List.Sums.{count_by-le-length}
 use Rattle.agg_values.specs.KeyOrder.{tuple_order}
 use Rattle.agg_values.specs.Tuple.{KeyTuple}
@@ -89,24 +89,17 @@ module _ (sources : Sources) (size : ℕ) (bound : KeyTuple) where
 
   -- ---- what follows
 
-  many-some : (documents : List Fields) (groups : List Group)
-      → AllByRecursion (CountsSome sources documents) groups → PassesCount groups
-      → 2 ^ 64 ≤ length (occurrences_in sources documents)
-  many-some documents [] all pass = absurd pass
-  many-some documents (g ∷ groups) all (inl many) =
-      let some = all.0.1 in
-      let most = count_by-le-length (same_tuple (rules_of sources) g.0)
-      (occurrences_in sources documents) in
-      omega arith
-  many-some documents (g ∷ groups) all (inr more) = many-some documents groups all.1 more
-
   -- a count passes only where there are as many occurrences
   pub stands-few : (documents : List Fields) (groups : List Group)
       → GroupsStandFor sources size bound documents groups → PassesCount groups
       → 2 ^ 64 ≤ length (occurrences_in sources documents)
-  stands-few documents groups stand =
-      many-some documents groups
-      (recursion_from_All (CountsSome sources documents) groups stand.some)
+  stands-few documents groups stand (i, g, within, at, many) =
+      let counted : CountsSome sources documents g =
+      subst (CountsSome sources documents) at (stand.some i g within) in
+      let some = counted.1 in
+      let most = count_by-le-length (same_tuple (rules_of sources) g.0)
+      (occurrences_in sources documents) in
+      omega arith
 
   -- what stands behind the page is above it
   pub above-page : (documents : List Fields) (groups : List Group)

@@ -3,15 +3,15 @@ use Rattle.std.proofs.Common.{◌≡◌, ℕ, ◌+◌, ◌^◌, ◌<◌, ◌≤�
 use Rattle.std.proofs.Common.{refl, sym, ap, ◌∙◌, subst, arith, Ordering, Less, Equal, Greater}
 use Rattle.std.proofs.Common.{append_assoc}
 use Rattle.std.specs.Cmp.{IsTotalOrder}
-use Rattle.std.specs.List.{All, AllByRecursion}
+use Rattle.std.specs.List.{All}
 use Rattle.std.specs.List.Sorted.{IsStrictlySortedBy}
 use Rattle.std.specs.Map.{keys_of}
 use Rattle.std.proofs.lemmas.List.{append-nil, map-append}
-use Rattle.std.proofs.lemmas.List.Elements.{All-append, All-head, All-push, All-tail}
-use Rattle.std.proofs.lemmas.List.Elements.{recursion_from_All}
+use Rattle.std.proofs.lemmas.List.Elements.{All-append, All-head, All-map, All-push, All-tail}
 use Rattle.std.proofs.lemmas.Map.Keys.{sorted_tail}
 use Rattle.agg_values.specs.Tuple.{KeyTuple}
 use Rattle.agg_request.specs.Groups.{Group}
+use Rattle.agg_request.proofs.CheckedRequests.{Any-back}
 use Rattle.agg_results.specs.Counts.{PassesCount, merged}
 use Rattle.agg_results.specs.Intermediate.{Entries, IsPlain, TupleEntry, counts_of, plain_entry}
 use Rattle.agg_results.proofs.Counts.{Ascend, Ascend-merged, merged-nothing}
@@ -57,24 +57,16 @@ whole-up R total whole left right is up =
 
 -- ---- counts of 2^64 or more
 
--- behind others they are as many
-passes_behind : {K : Type 0} (counts others : List (K × ℕ)) → PassesCount others
-    → PassesCount (counts ++ others)
-passes_behind [] others passes = passes
-passes_behind (e ∷ counts) others passes = inr (passes_behind counts others passes)
-
 -- an entry's count is below
 abbrev pub IsFew : TupleEntry → Type 0
 IsFew e = e.1.doc_count < 2 ^ 64
 
-few-passes : (es : Entries) → AllByRecursion IsFew es → ¬ (PassesCount (counts_of es))
-few-passes [] few passes = passes
-few-passes (e ∷ es) few (inl many) = absurd (omega (arith, few.0))
-few-passes (e ∷ es) few (inr many) = few-passes es few.1 many
-
 -- counts below aren't
 pub none_passes : (es : Entries) → All IsFew es → ¬ (PassesCount (counts_of es))
-none_passes es few = few-passes es (recursion_from_All IsFew es few)
+none_passes es few (i, g, within, at, many) =
+    let count : TupleEntry → Group = λ e. (e.0, e.1.doc_count) in
+    let below = All-map (λ (h : Group). h.1 < 2 ^ 64) count es few i g within in
+    absurd (omega (arith, below, ap (λ (h : Group). h.1) at))
 
 -- ---- what was moved, and what is left
 
@@ -161,9 +153,9 @@ module _ (R : KeyTuple → KeyTuple → Ordering) (counts : List Group) where
         (ap (λ gs. counts_of whole ++ gs)
         (sym (merged-equal R total (e.0, e.1.doc_count) (f.0, f.1.doc_count) (counts_of es)
         (counts_of fs) (counts-up R (f ∷ fs) now.ascending) equal)) ∙ now.same)
-        (passes_behind (counts_of whole)
+        (Any-back (λ g. 2 ^ 64 ≤ g.1) (counts_of whole)
         ((e.0, e.1.doc_count + f.1.doc_count) ∷ merged R (counts_of es) (counts_of fs))
-        (inl many))
+        (0, (e.0, e.1.doc_count + f.1.doc_count), omega arith, refl, many))
 
     module _ (left right : Entries) (is_left : left ≡ e ∷ es) (is_right : right ≡ f ∷ fs)
         (now : IsUnderway R counts left right whole) where

@@ -1,5 +1,5 @@
 -- Counts by key, and what adding, merging and trimming make of them.
-use Rattle.std.specs.Prelude.{◌≤◌, ◌+◌, ◌*◌, ◌^◌, ◌⊎◌, ℕ, List, [], ◌∷◌, Bool, Option}
+use Rattle.std.specs.Prelude.{◌≤◌, ◌+◌, ◌*◌, ◌^◌, ℕ, List, [], ◌∷◌, Any, Bool, Option}
 use Rattle.std.specs.Prelude.{if◌then◌else◌, length, nat_lt, take}
 use Rattle.std.specs.Map.{lookup}
 use Rattle.std.specs.Ordering.{is_eq, match_ordering}
@@ -11,8 +11,7 @@ trimmed size entries = if nat_lt (2 * size) (length entries) then take size entr
 
 -- some count is 2^64 or more
 abbrev pub PassesCount : {K : Type 0} → List (K × ℕ) → Type 0
-PassesCount [] = ⊥
-PassesCount (e ∷ counts) = (2 ^ 64 ≤ e.1) ⊎ PassesCount counts
+PassesCount counts = Any (λ e. 2 ^ 64 ≤ e.1) counts
 
 module _ {K : Type 0} (R : K → K → Ordering) where
   -- whether two keys are one

@@ -1,4 +1,4 @@
-use Rattle.std.proofs.Common.{◌≡◌, subst}
+use Rattle.std.proofs.Common.{◌≡◌, subst, sym}
 use Rattle.agg_values.specs.KeyOrder.{tuple_order}
 use Rattle.agg_values.proofs.TupleOrder.{tuple_order-total}
 use Rattle.agg_results.specs.Counts.{PassesCount, merged}
@@ -46,3 +46,15 @@ pub returns-then-is_below-2-clause-few : goal.returns-then-is_below-2-clause-few
 returns-then-is_below-2-clause-few c =
     subst (λ counts. ¬ (PassesCount counts)) (left_behind c)
     (none_passes c.in_ok-joined-2.field-0.items c.in_ok-joined-2.ensures.few)
+
+-- they overlap
+
+pub returns-clause-counts : goal.returns-clause-counts
+returns-clause-counts c =
+    rw (sym c.from_vec.ensures.items)
+    (rw (sym c.from_vec-2.ensures.items) c.merge_ascending.ensures.counts)
+
+pub returns-clause-too_many : goal.returns-clause-too_many
+returns-clause-too_many c =
+    rw (sym c.from_vec.ensures.items)
+    (rw (sym c.from_vec-2.ensures.items) c.merge_ascending.ensures.too_many)
