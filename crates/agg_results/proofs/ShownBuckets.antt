@@ -1,5 +1,6 @@
 -- Each entry of a result is shown as one bucket.
 use Rattle.std.proofs.Common.{◌≡◌, ℕ, ◌+◌, List, [], ◌∷◌, length, map, refl, ap, ◌∙◌, arith, rules}
+use Rattle.std.proofs.Common.{sym}
 use Rattle.std.specs.Map.{values_of}
 use Rattle.std.specs.Prelude.{sum}
 use Rattle.std.proofs.lemmas.List.Sums.{sum_by-cons}
@@ -80,6 +81,7 @@ buckets-each (a ∷ request) documents (r ∷ results) is =
     (map result_buckets (values_of (shown_by_name request results)))
     ∙ (λ i. buckets-shown (agg_of a.1) documents r.1 is.1 i
     + buckets-each request documents results is.2 i)
+    ∙ sym (sum-cons (length r.1.entries) (map (λ q. length q.1.entries) results))
 
 -- the results of a request are shown as one bucket for each of their entries
 pub shown-buckets : {B : Type 0} (request : Request B) (documents : List Fields) (results : Results)

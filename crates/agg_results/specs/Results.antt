@@ -1,6 +1,6 @@
 -- The results of a request over documents.
-use Rattle.std.specs.Prelude.{◌≡◌, ◌==◌, ◌+◌, ℕ, List, [], ◌∷◌, Option, None, if◌then◌else◌, length}
-use Rattle.std.specs.Prelude.{option_and_then, ⊤}
+use Rattle.std.specs.Prelude.{◌≡◌, ◌==◌, ℕ, List, [], ◌∷◌, Option, None, if◌then◌else◌, length}
+use Rattle.std.specs.Prelude.{map, option_and_then, sum, ⊤}
 use Rattle.std.specs.List.{last_or}
 use Rattle.agg_values.specs.Names.{value_of, Named}
 use Rattle.agg_values.specs.Tuple.{KeyTuple}
@@ -52,5 +52,4 @@ after_in name results = option_and_then (λ r. r.after) (value_of name results)
 
 -- the buckets of results: one for each entry
 abbrev pub buckets_in : Results → ℕ
-buckets_in [] = 0
-buckets_in (r ∷ results) = length r.1.entries + buckets_in results
+buckets_in results = sum (map (λ r. length r.1.entries) results)
