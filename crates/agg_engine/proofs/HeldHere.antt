@@ -21,10 +21,10 @@ use Rattle.agg_request.proofs.Lists.{Contains-map}
 use Rattle.agg_request.proofs.PageExists.{page_exists}
 use Rattle.agg_results.specs.BucketCount.{results_buckets}
 use Rattle.agg_results.specs.Final.{HoldsOther, HoldsUnknown, IsInOtherOrders, final_result}
-use Rattle.agg_results.specs.Final.{final_results, last_tuple, lowest_of}
+use Rattle.agg_results.specs.Final.{final_results, lowest_of}
 use Rattle.agg_results.specs.Intermediate.{AreFlat, Held, IsFlat, IsPlain, entries_of}
 use Rattle.agg_results.specs.Intermediate.{held_composite, target_size_of}
-use Rattle.agg_results.specs.Results.{buckets_in}
+use Rattle.agg_results.specs.Results.{buckets_in, last_tuple}
 use Rattle.agg_results.specs.ShownResults.{shown_group, shown_page, shown_results}
 use Rattle.agg_results.specs.StandsFor.{ResultStandsFor, StandsFor}
 use Rattle.agg_results.specs.declared.intermediate.results.IntermediateAggregationResult as declared

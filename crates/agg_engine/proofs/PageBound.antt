@@ -5,6 +5,7 @@ use Rattle.std.proofs.Common.{Less, Equal, Greater, rules}
 use Rattle.std.specs.Prelude.{MatchOption, Contains, ⊤, unwrap_or}
 use Rattle.std.specs.Option.{is_some}
 use Rattle.std.specs.List.{AllByRecursion, last_or}
+use Rattle.std.specs.Map.{keys_of}
 use Rattle.std.specs.Ordering.{match_ordering}
 use Rattle.std.proofs.lemmas.List.Elements.{recursion_from_All}
 use Rattle.agg_values.specs.Names.{Named, name_cmp, put}
@@ -13,7 +14,7 @@ use Rattle.agg_values.specs.declared.after_key.AfterKey.{AfterKey}
 use Rattle.agg_segment.specs.Document.{Fields}
 use Rattle.agg_request.specs.BySource.{after_map}
 use Rattle.agg_request.specs.Occurrences.{occurrences, occurrences_in}
-use Rattle.agg_request.specs.Page.{Entry, IsPage, MayList}
+use Rattle.agg_request.specs.Page.{Entry, IsPage, MayList, group_of}
 use Rattle.agg_request.specs.Source.{Sources, name_of, source_values}
 use Rattle.agg_request.proofs.Lists.{AllByRecursion-Has, AllByRecursion-flat_map}
 use Rattle.agg_request.proofs.Lists.{AllByRecursion-map, AllByRecursion-always, Has-from_Contains}
@@ -34,14 +35,15 @@ last-All P o [] first all = first
 last-All P o (x ∷ xs) first all = last-All P (Some x) xs all.0 all.1
 
 tuples-All : (P : KeyTuple → Type 0) (page : List Entry) → AllByRecursion (λ e. P e.tuple) page
-    → AllByRecursion P (map (λ e. e.tuple) page)
+    → AllByRecursion P (keys_of (map group_of page))
 tuples-All P [] all = tt
 tuples-All P (e ∷ page) all = (all.0, tuples-All P page all.1)
 
 after-All : (P : KeyTuple → Type 0) (full : Bool) (page : List Entry)
     → AllByRecursion (λ e. P e.tuple) page
-    → MatchOption (cond full (last_or None (map (λ e. e.tuple) page)) None) ⊤ P
-after-All P true page all = last-All P None (map (λ e. e.tuple) page) tt (tuples-All P page all)
+    → MatchOption (cond full (last_or None (keys_of (map group_of page))) None) ⊤ P
+after-All P true page all =
+    last-All P None (keys_of (map group_of page)) tt (tuples-All P page all)
 after-All P false page all = tt
 
 -- the after tuple of a page occurs in the documents
@@ -53,7 +55,7 @@ after-occurs sources size bound documents page tuple is_page last =
     let P : KeyTuple → Type 0 = λ t. Contains (occurrences_in sources documents) t in
     let listed = recursion_from_All (λ e. MayList sources bound documents e.tuple) page
     is_page.listed in
-    let occurs = after-All P (length page == size) page (AllByRecursion-weaker (λ e.
+    let occurs = after-All P (length (map group_of page) == size) page (AllByRecursion-weaker (λ e.
     MayList sources bound documents e.tuple) (λ e. P e.tuple) (λ e m. m.0) page listed) in
     subst (λ o. MatchOption o ⊤ P) last occurs
 

@@ -16,7 +16,8 @@ use Rattle.agg_request.specs.declared.aggregation.AggregationVariants.{Aggregati
 use Rattle.agg_request.specs.declared.aggregation.AggregationVariants.TheVariants.{Composite}
 use Rattle.agg_request.specs.declared.aggregation.CompositeAggregation.{CompositeAggregation}
 use Rattle.agg_results.specs.BucketCount.{entry_buckets, result_buckets, results_buckets}
-use Rattle.agg_results.specs.Final.{final_result, final_results, last_tuple, lowest_of}
+use Rattle.agg_results.specs.Final.{final_result, final_results, lowest_of}
+use Rattle.agg_results.specs.Results.{last_tuple}
 use Rattle.agg_results.specs.Intermediate.{Held, held_composite, target_size_of}
 use Rattle.agg_results.specs.ShownResults.{shown_after, shown_group, shown_page}
 use Rattle.agg_results.specs.declared.intermediate as intermediate

@@ -1,18 +1,17 @@
 -- What stands for documents is final as their page, as it is shown.
-use Rattle.std.proofs.Common.{◌≡◌, ℕ, ◌⊎◌, inl, inr, cond, List, [], ◌∷◌, Option, None, Some}
+use Rattle.std.proofs.Common.{◌≡◌, ℕ, ◌⊎◌, inl, inr, List, [], ◌∷◌, Option, None, Some}
 use Rattle.std.proofs.Common.{take, map, refl, sym, ap, ◌∙◌, arith}
-use Rattle.std.specs.List.{AllByRecursion, last_or}
+use Rattle.std.specs.List.{AllByRecursion}
 use Rattle.std.specs.List.Sorted.{IsPermutation}
-use Rattle.std.specs.Map.{keys_of}
 use Rattle.std.specs.Prelude.{nat_eq}
 use Rattle.std.proofs.lemmas.Bool.{cond_both}
-use Rattle.std.proofs.lemmas.List.{length-map, take_all}
+use Rattle.std.proofs.lemmas.List.{take_all}
 use Rattle.std.proofs.lemmas.List.Elements.{recursion_from_All}
 use Rattle.agg_values.specs.Names.{Named, value_of}
 use Rattle.agg_segment.specs.Document.{Fields}
 use Rattle.agg_request.specs.Groups.{Group}
 use Rattle.agg_request.specs.Occurrences.{bound_of}
-use Rattle.agg_request.specs.Page.{Entry, entry_of, group_of, tuples_of}
+use Rattle.agg_request.specs.Page.{Entry, entry_of, group_of}
 use Rattle.agg_request.specs.Request.{Request, agg_of}
 use Rattle.agg_request.specs.Source.{Sources}
 use Rattle.agg_request.specs.declared.aggregation.AggregationVariants.{AggregationVariants}
@@ -20,11 +19,11 @@ use Rattle.agg_request.specs.declared.aggregation.AggregationVariants.TheVariant
 use Rattle.agg_request.specs.declared.aggregation.CompositeAggregation.{CompositeAggregation}
 use Rattle.agg_request.proofs.PageCounts.{counts-permutation}
 use Rattle.agg_request.proofs.PageFromGroups.{groups-entries}
-use Rattle.agg_results.specs.Final.{final_result, final_results, last_tuple}
+use Rattle.agg_results.specs.Final.{final_result, final_results}
 use Rattle.agg_results.specs.Intermediate.{Held, counts_of, entries_of, held_composite}
 use Rattle.agg_results.specs.Intermediate.{target_size_of}
 use Rattle.agg_results.specs.Results.{CompositeResult, IsResult, IsResults, Results}
-use Rattle.agg_results.specs.Results.{after_tuple}
+use Rattle.agg_results.specs.Results.{last_tuple}
 use Rattle.agg_results.specs.ShownResults.{shown_by_name, shown_entry, shown_group}
 use Rattle.agg_results.specs.ShownResults.{shown_page, shown_result, shown_results}
 use Rattle.agg_results.specs.StandsFor.{CompositeStandsFor, HasShapeOf, ResultStandsFor, StandsFor}
@@ -42,16 +41,6 @@ shown-groups : (sources : Sources) (entries : List Entry)
 shown-groups sources [] = refl
 shown-groups sources (e ∷ entries) = ap (λ es. shown_entry sources e ∷ es)
     (shown-groups sources entries)
-
-keys-groups : (entries : List Entry) → keys_of (map group_of entries) ≡ tuples_of entries
-keys-groups [] = refl
-keys-groups (e ∷ entries) = ap (λ ts. e.tuple ∷ ts) (keys-groups entries)
-
-last-groups : (size : ℕ) (entries : List Entry)
-    → last_tuple size (map group_of entries) ≡ after_tuple size entries
-last-groups size entries =
-    λ i. cond (nat_eq (length-map entries group_of i) size)
-    (last_or None (keys-groups entries i)) None
 
 last-nothing : (size : ℕ) → last_tuple size [] ≡ None
 last-nothing size =
@@ -137,7 +126,7 @@ shown-page (Composite composite) documents result is =
     documents result.entries is.page in
     (λ i. shown_page composite.sources
     (sym (shown-groups composite.sources result.entries) i)
-    ((is.after ∙ sym (last-groups composite.size result.entries)) i))
+    (is.after i))
     ∙ ap (shown_lowest composite composite.size) groups
 shown-page _ documents result is = absurd is
 

@@ -1,10 +1,7 @@
 -- The final results of what is held, and when there are none.
-use Rattle.std.specs.Prelude.{◌≡◌, ◌≢◌, ◌==◌, ◌<◌, ◌⊎◌, ℕ, List, [], Option, None, Some, Any, ⊤}
-use Rattle.std.specs.Prelude.{if◌then◌else◌, length, map, take}
-use Rattle.std.specs.List.{last_or}
-use Rattle.std.specs.Map.{keys_of}
+use Rattle.std.specs.Prelude.{◌≡◌, ◌≢◌, ◌<◌, ◌⊎◌, ℕ, List, [], Option, None, Some, Any, ⊤}
+use Rattle.std.specs.Prelude.{map, take}
 use Rattle.agg_values.specs.Names.{value_of}
-use Rattle.agg_values.specs.Tuple.{KeyTuple}
 use Rattle.agg_values.specs.declared.request_error.AggregationError.TheVariants as aggregation
 use Rattle.agg_request.specs.Groups.{Group}
 use Rattle.agg_request.specs.Request.{Request, agg_of}
@@ -15,6 +12,7 @@ use Rattle.agg_request.specs.declared.aggregation.AggregationVariants.TheVariant
 use Rattle.agg_results.specs.BucketCount.{results_buckets}
 use Rattle.agg_results.specs.Intermediate.{Held, IsPlain, counts_of, entries_of, held_composite}
 use Rattle.agg_results.specs.Intermediate.{orders_of, target_size_of}
+use Rattle.agg_results.specs.Results.{last_tuple}
 use Rattle.agg_results.specs.ShownResults.{shown_group, shown_page}
 use Rattle.agg_results.specs.declared.error.FinalError.{FinalError}
 use Rattle.agg_results.specs.declared.error.FinalError.TheVariants as error
@@ -30,10 +28,6 @@ use Rattle.agg_results.specs.declared.results.types.AggregationResults.{Aggregat
 -- the lowest of what is held, as many as the page has room for
 abbrev pub lowest_of : IntermediateCompositeBucketResult → List Group
 lowest_of composite = take (target_size_of composite) (counts_of (entries_of composite))
-
--- the last tuple of a page that is full; a page without room has none
-abbrev pub last_tuple : ℕ → List Group → Option KeyTuple
-last_tuple size page = if length page == size then last_or None (keys_of page) else None
 
 -- the final result of an aggregation: the lowest groups, and none where its name isn't held; other
 -- kinds aren't collected yet

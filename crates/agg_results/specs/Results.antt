@@ -2,14 +2,16 @@
 use Rattle.std.specs.Prelude.{◌≡◌, ◌==◌, ℕ, List, [], ◌∷◌, Option, None, if◌then◌else◌, length}
 use Rattle.std.specs.Prelude.{map, option_and_then, sum, ⊤}
 use Rattle.std.specs.List.{last_or}
+use Rattle.std.specs.Map.{keys_of}
 use Rattle.agg_values.specs.Names.{value_of, Named}
 use Rattle.agg_values.specs.Tuple.{KeyTuple}
 use Rattle.agg_segment.specs.Document.{Fields}
 use Rattle.agg_request.specs.declared.aggregation.CompositeAggregation.{CompositeAggregation}
 use Rattle.agg_request.specs.declared.aggregation.AggregationVariants.{AggregationVariants}
 use Rattle.agg_request.specs.declared.aggregation.AggregationVariants.TheVariants.{Composite}
+use Rattle.agg_request.specs.Groups.{Group}
 use Rattle.agg_request.specs.Occurrences.{bound_of}
-use Rattle.agg_request.specs.Page.{Entry, IsPage, tuples_of}
+use Rattle.agg_request.specs.Page.{Entry, IsPage, group_of}
 use Rattle.agg_request.specs.Request.{Request, agg_of}
 
 -- the result of a composite: the entries of its page, and the last tuple of a full one
@@ -21,10 +23,13 @@ pub record CompositeResult : Type 0 where
 abbrev pub Results : Type 0
 Results = Named CompositeResult
 
+-- the last tuple of groups that are as many as a page has room for; without room there is none
+abbrev pub last_tuple : ℕ → List Group → Option KeyTuple
+last_tuple size groups = if length groups == size then last_or None (keys_of groups) else None
+
 -- the last tuple of a page that has as many entries as it has room for
 abbrev pub after_tuple : ℕ → List Entry → Option KeyTuple
-after_tuple size entries =
-    if length entries == size then last_or None (tuples_of entries) else None
+after_tuple size entries = last_tuple size (map group_of entries)
 
 -- the result of a composite over documents
 pub record IsCompositeResult (composite : CompositeAggregation) (documents : List Fields)

@@ -1,6 +1,7 @@
 //! Final results as they are shown.
 ghost use Rattle.std.specs.Prelude.{◌≡◌, IfOk, map, option_map};
-ghost use Rattle.agg_results.specs.Final.{final_result, last_tuple, lowest_of};
+ghost use Rattle.agg_results.specs.Final.{final_result, lowest_of};
+ghost use Rattle.agg_results.specs.Results.{last_tuple};
 ghost use Rattle.agg_results.specs.Intermediate.{counts_of, target_size_of};
 ghost use Rattle.agg_results.specs.ShownResults.{shown_after, shown_group, shown_page};
 

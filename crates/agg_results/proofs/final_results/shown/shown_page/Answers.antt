@@ -1,5 +1,5 @@
 use Rattle.std.proofs.Common.{ap, ◌∙◌}
-use Rattle.agg_results.specs.Final.{last_tuple}
+use Rattle.agg_results.specs.Results.{last_tuple}
 use Rattle.agg_results.specs.Intermediate.{Entries, counts_of}
 use Rattle.agg_results.proofs.ShownGroups.{page-is}
 use Rattle.agg_results.proofs.final_results.shown.shown_page.Goals as goal
