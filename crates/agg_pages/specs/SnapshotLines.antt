@@ -11,8 +11,8 @@ use Rattle.agg_segment.specs.declared.builder.TheConstants.{MAX_DOCUMENTS}
 use Rattle.agg_engine.specs.Snapshot.{SnapshotDocuments}
 use Rattle.agg_pages.specs.DocumentLine.{IsDocumentLine}
 
--- what a line behind the header says: a snapshot of a page size begins, a segment begins in it, or a
--- document stands there
+-- what a line behind the header says: a snapshot of a page size begins, a segment begins in it, or
+-- a document stands there
 pub data Line : Type 0 where
   begins : ℕ → Line
   opens : Line
