@@ -16,7 +16,8 @@ pub fn a_walk_over_no_snapshot_has_no_page<B>()
         → (results ≡ []) × (ended ≡ false) }
 {}
 
-/// Every request of composites has a walk over every list of snapshots, and no request has two.
+/// A request of plain composites has a walk over every list of snapshots. No request, of whatever
+/// aggregations, has two.
 pub fn each_request_has_one_walk<B>()
     ensures exists { (name : List ℕ) (query : QueryTree) (request : Request B)
         (snapshots : List SnapshotDocuments)

@@ -41,7 +41,7 @@ pub fn a_page_stands_for_its_documents()
         (drop size groups) }
 {}
 
-/// The empty result of composites stands for no documents.
+/// The empty result of plain composites, whose names ascend, stands for no documents.
 pub fn the_empty_result_stands_for_none<B>()
     ensures { (request : Request B) → IsStrictlySortedBy name_cmp (keys_of request)
         → ArePlainComposites request
