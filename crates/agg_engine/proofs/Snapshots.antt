@@ -1,6 +1,6 @@
 -- Snapshots, as what they stand for.
-use Rattle.std.proofs.Common.{◌≡◌, ◌≢◌, ◌<◌, ◌==◌, ℕ, List, length}
-use Rattle.std.proofs.Common.{arith, get_or, true, false, sym, ap, ◌∙◌, subst}
+use Rattle.std.proofs.Common.{◌≡◌, ◌≢◌, ◌==◌, ℕ, List}
+use Rattle.std.proofs.Common.{arith, true, false, sym, ap, ◌∙◌}
 use Rattle.std.specs.List.{Any, filter, flat_map, list_any}
 use Rattle.std.proofs.lemmas.Bool.Decides.{nat_tests}
 use Rattle.std.proofs.lemmas.List.{get_or-map, length-map}
