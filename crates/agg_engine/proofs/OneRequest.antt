@@ -1,6 +1,6 @@
 -- A request of one composite, and how a walk changes it.
 use Rattle.std.proofs.Common.{◌≡◌, ℕ, List, [], ◌∷◌, Bool, true, false, cond, Option, None, Some}
-use Rattle.std.proofs.Common.{refl, sym, ap, ◌∙◌, nat_cmp, subst, arith, append-nil}
+use Rattle.std.proofs.Common.{refl, ap, ◌∙◌, nat_cmp, subst, arith, append-nil}
 use Rattle.std.specs.Prelude.{option_map}
 use Rattle.std.specs.Ordering.{is_eq}
 use Rattle.std.specs.BTreeMap.{is_at}
@@ -18,13 +18,12 @@ use Rattle.agg_request.specs.declared.aggregation.AggregationVariants.{Aggregati
 use Rattle.agg_request.specs.declared.aggregation.AggregationVariants.TheVariants.{Composite}
 use Rattle.agg_request.specs.BySource.{after_map}
 use Rattle.agg_request.specs.Faults.{IsSound, IsSoundRequest}
-use Rattle.agg_request.specs.Request.{Request, agg_of, aggregation_of, below_of, composites_in}
+use Rattle.agg_request.specs.Request.{Request, agg_of, aggregation_of, composites_in}
 use Rattle.agg_request.specs.Request.{composites_of}
 use Rattle.agg_request.proofs.PageFromGroups.{equal-from_is_eq}
 use Rattle.agg_request.proofs.RequestTrees.{agg-made, below-made, composites-plain}
-use Rattle.agg_request.proofs.RequestTrees.{made-of_parts}
 use Rattle.agg_engine.specs.NamedComposite.{IsCompositeNamed}
-use Rattle.agg_engine.specs.Walk.{changed, request_with, request_behind, request_at_size}
+use Rattle.agg_engine.specs.Walk.{changed, request_changed_at, request_behind, request_at_size}
 use Rattle.agg_engine.specs.Walk.{with_after, with_size}
 
 -- ---- a request of one composite
@@ -55,7 +54,7 @@ sound-one B name c sound =
 
 changed-one : {B : Type 0} (change : AggregationVariants B → AggregationVariants B)
     (name : List ℕ) (c : CompositeAggregation)
-    → request_with change name (one B name c)
+    → request_changed_at change name (one B name c)
     ≡ (name, aggregation_of (change (Composite c)) []) ∷ []
 changed-one {B = B} change name c =
     let own : Aggregation B = aggregation_of (Composite c) [] in

@@ -22,7 +22,7 @@ use Rattle.agg_results.specs.Results.{Results, after_in, after_tuple}
 use Rattle.agg_request.proofs.RequestTrees.{agg-made, below-made}
 use Rattle.agg_engine.specs.Snapshot.{SnapshotDocuments}
 use Rattle.agg_engine.specs.Walk.{IsWalk, changed, matching_documents, request_at_size}
-use Rattle.agg_engine.specs.Walk.{request_behind, request_with, with_after, with_size}
+use Rattle.agg_engine.specs.Walk.{request_behind, request_changed_at, with_after, with_size}
 use Rattle.agg_values.specs.Names.{name_cmp}
 use Rattle.agg_values.specs.Tuple.{KeyTuple}
 
@@ -101,7 +101,7 @@ plain-changed change keeps a plain =
 -- a request of composites with none below them stays one
 plain-with : {B : Type 0} (change : AggregationVariants B → AggregationVariants B)
     → KeepsComposites change → (name : List ℕ) (request : Request B) → AllPlain request
-    → AllPlain (request_with change name request)
+    → AllPlain (request_changed_at change name request)
 plain-with change keeps name [] plain = tt
 plain-with {B = B} change keeps name (a ∷ request) plain =
     (by (is_at (name_cmp name) a.0), plain-with change keeps name request plain.1)

@@ -47,18 +47,18 @@ abbrev pub changed : {B : Type 0} → (AggregationVariants B → AggregationVari
 changed change a = aggregation_of (change (agg_of a)) (below_of a)
 
 -- a request in which the aggregation of a name is changed
-abbrev pub request_with : {B : Type 0} → (AggregationVariants B → AggregationVariants B)
+abbrev pub request_changed_at : {B : Type 0} → (AggregationVariants B → AggregationVariants B)
     → List ℕ → Request B → Request B
-request_with change name request =
+request_changed_at change name request =
     map (λ a. if is_at (name_cmp name) a.0 then (a.0, changed change a.1) else a) request
 
 -- the request of a snapshot: its page size stands in place of the named composite's size
 abbrev pub request_at_size : {B : Type 0} → List ℕ → ℕ → Request B → Request B
-request_at_size name size = request_with (with_size size) name
+request_at_size name size = request_changed_at (with_size size) name
 
 -- the request that goes on behind a tuple
 abbrev pub request_behind : {B : Type 0} → List ℕ → KeyTuple → Request B → Request B
-request_behind name tuple = request_with (with_after tuple) name
+request_behind name tuple = request_changed_at (with_after tuple) name
 
 -- the walk: each snapshot's results, as long as the page before is full; it has ended where a page
 -- isn't full
