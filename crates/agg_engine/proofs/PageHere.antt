@@ -1,7 +1,8 @@
 -- The page of a snapshot as the results of a request of one composite, and when these are refused.
 use Rattle.std.proofs.Common.{◌≡◌, ◌≤◌, ◌<◌, ◌^◌, ℕ, List, [], ◌∷◌, length, refl, sym}
-use Rattle.std.proofs.Common.{ap, ◌∙◌, subst, inl, inr, arith}
-use Rattle.std.specs.Prelude.{option_and_then}
+use Rattle.std.proofs.Common.{ap, ◌∙◌, subst, zero, suc, arith}
+use Rattle.std.specs.Prelude.{Any, option_and_then}
+use Rattle.std.proofs.lemmas.List.Quantifiers.{Any-push}
 use Rattle.agg_values.specs.Names.{Named}
 use Rattle.agg_values.specs.declared.after_key.AfterKey.{AfterKey}
 use Rattle.agg_values.specs.declared.request_error.AggregationError.TheVariants as aggregation
@@ -12,6 +13,7 @@ use Rattle.agg_request.specs.Page.{Entry, IsPage}
 use Rattle.agg_request.specs.Request.{Request, agg_of, aggregation_of}
 use Rattle.agg_request.specs.Ranges.{HasOwnStartOutOfRange, HasStartOutOfRange}
 use Rattle.agg_request.specs.Uncut.{CountsTooMany, counted}
+use Rattle.agg_request.specs.declared.aggregation.Aggregation.{Aggregation}
 use Rattle.agg_request.specs.declared.aggregation.AggregationVariants.{AggregationVariants}
 use Rattle.agg_request.specs.declared.aggregation.AggregationVariants.TheVariants.{Composite}
 use Rattle.agg_request.specs.declared.aggregation.CompositeAggregation.{CompositeAggregation}
@@ -45,6 +47,11 @@ shown-one B name c result =
     ap (λ shown. record { 0 = (name, shown) ∷ [] })
     (ap (λ (agg : AggregationVariants B). shown_result agg result) (agg-made (Composite c) []))
 
+-- what some aggregation of only one asks is what that one asks
+Any-only : {X : Type 0} (P : X → Type 0) (x : X) → Any P (x ∷ []) → P x
+Any-only P x (zero, y, within, at, has) = subst P (sym at) has
+Any-only P x (suc k, y, within, at, has) = absurd (omega (arith, within))
+
 -- a composite counts 2^32 documents or more
 abbrev pub HasOwnTooMany : CompositeAggregation → List Fields → Type 0
 HasOwnTooMany c documents = 2 ^ 32 ≤ length (counted c documents)
@@ -70,6 +77,28 @@ module _ (B : Type 0) (name : List ℕ) (query : QueryTree) (c : CompositeAggreg
   -- what the only aggregation asks
   agg_here : agg_of (aggregation_of {B = B} (Composite sized) []) ≡ Composite sized
   agg_here = agg-made (Composite sized) []
+
+  -- the only aggregation as it stands
+  own_here : List ℕ × Aggregation B
+  own_here = (name, aggregation_of (Composite sized) [])
+
+  -- what some aggregation of the request as it stands asks is what the composite asks
+  some-here : (P : AggregationVariants B → Type 0)
+      → Any (λ (a : List ℕ × Aggregation B). P (agg_of a.1)) request_here → P (Composite sized)
+  unfolding own_here
+  some-here P some =
+      subst P agg_here (Any-only (λ (a : List ℕ × Aggregation B). P (agg_of a.1)) own_here
+      (subst (Any (λ (a : List ℕ × Aggregation B). P (agg_of a.1)))
+      (one_from-sized B name c after s.page_size) some))
+
+  some-own : (P : AggregationVariants B → Type 0) → P (Composite sized)
+      → Any (λ (a : List ℕ × Aggregation B). P (agg_of a.1)) request_here
+  unfolding own_here
+  some-own P own =
+      subst (Any (λ (a : List ℕ × Aggregation B). P (agg_of a.1)))
+      (sym (one_from-sized B name c after s.page_size))
+      (Any-push (λ (a : List ℕ × Aggregation B). P (agg_of a.1)) [] own_here
+      (subst P (sym agg_here) own))
 
   -- ---- results
 
@@ -128,31 +157,17 @@ module _ (B : Type 0) (name : List ℕ) (query : QueryTree) (c : CompositeAggreg
     out_of_range-here : HasOutOfRange request_here (matching_documents query s)
         → HasOwnStartOutOfRange c (matching_documents query s)
     out_of_range-here out =
-        elim (subst (λ (request : Request B). HasOutOfRange request (matching_documents query s))
-        (one_from-sized B name c after s.page_size) out) [
-          | inl h ↦ subst (λ (agg : AggregationVariants B). HasStartOutOfRange agg
-              (matching_documents query s)) agg_here h
-          | inr h ↦ absurd h
-        ]
+        some-here (λ agg. HasStartOutOfRange agg (matching_documents query s)) out
 
     too_many-here : HasTooMany request_here (matching_documents query s)
         → HasOwnTooMany c (matching_documents query s)
-    too_many-here many =
-        elim (subst (λ (request : Request B). HasTooMany request (matching_documents query s))
-        (one_from-sized B name c after s.page_size) many) [
-          | inl h ↦ subst (λ (agg : AggregationVariants B). CountsTooMany agg
-              (matching_documents query s)) agg_here h
-          | inr h ↦ absurd h
-        ]
+    too_many-here many = some-here (λ agg. CountsTooMany agg (matching_documents query s)) many
 
     -- a bucket starts out of range
     pub refused-out_of_range : HasOwnStartOutOfRange c (matching_documents query s)
         → AreRefusedHere error.BucketOutOfRange
     refused-out_of_range out =
-        subst (λ (request : Request B). HasOutOfRange request (matching_documents query s))
-        (sym (one_from-sized B name c after s.page_size))
-        (inl (subst (λ (agg : AggregationVariants B). HasStartOutOfRange agg
-        (matching_documents query s)) (sym agg_here) out))
+        some-own (λ agg. HasStartOutOfRange agg (matching_documents query s)) out
 
     -- too many documents are counted
     pub refused-too_many : ¬ (HasOwnStartOutOfRange c (matching_documents query s))
@@ -160,10 +175,7 @@ module _ (B : Type 0) (name : List ℕ) (query : QueryTree) (c : CompositeAggreg
         → AreRefusedHere error.TooMany
     refused-too_many in_range many = (
       λ out. in_range (out_of_range-here out),
-      subst (λ (request : Request B). HasTooMany request (matching_documents query s))
-          (sym (one_from-sized B name c after s.page_size))
-          (inl (subst (λ (agg : AggregationVariants B). CountsTooMany agg
-          (matching_documents query s)) (sym agg_here) many)),
+      some-own (λ agg. CountsTooMany agg (matching_documents query s)) many,
     )
 
     module _ (page : List Entry) (is_page : IsPageHere page)

@@ -75,15 +75,11 @@ IsWalk name query request (s ∷ snapshots) (r ∷ rs) ended =
 
 -- some start of a bucket of a request lies outside i64
 abbrev pub HasOutOfRange : {B : Type 0} → Request B → List Fields → Type 0
-HasOutOfRange [] documents = ⊥
-HasOutOfRange (a ∷ request) documents =
-    HasStartOutOfRange (agg_of a.1) documents ⊎ HasOutOfRange request documents
+HasOutOfRange request documents = Any (λ a. HasStartOutOfRange (agg_of a.1) documents) request
 
 -- some aggregation of a request counts too many documents
 abbrev pub HasTooMany : {B : Type 0} → Request B → List Fields → Type 0
-HasTooMany [] documents = ⊥
-HasTooMany (a ∷ request) documents =
-    CountsTooMany (agg_of a.1) documents ⊎ HasTooMany request documents
+HasTooMany request documents = Any (λ a. CountsTooMany (agg_of a.1) documents) request
 
 -- no page size is 0, of snapshots reached or not
 abbrev pub HaveRoom : List SnapshotDocuments → Type 0
