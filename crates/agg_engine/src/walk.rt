@@ -12,6 +12,8 @@ mod segment;
 
 ghost use Rattle.std.specs.Prelude.{◌≡◌, ◌≤◌, All, IfErr, IfOk, OnOk, IsErrOf};
 ghost use Rattle.agg_values.specs.declared.error.InvalidArgument.{InvalidArgument as Fault};
+ghost use Rattle.agg_values.specs.declared.request_error.AggregationError.TheVariants as error;
+ghost use Rattle.agg_values.specs.declared.request_error.DateHistogramParseError as text;
 ghost use Rattle.agg_results.specs.BucketCount.{results_buckets};
 ghost use Rattle.agg_engine.specs.Form.{IsOneComposite};
 ghost use Rattle.agg_engine.specs.Refusals.{HasCause, IsRefused};
@@ -80,6 +82,9 @@ pub fn walk_pages<L: Ledger>(
     ensures limits { limits.new ≡ limits.old }
     ensures later { steps.old ≤ steps.new }
     ensures faults_first { (fault : Fault) → IsErrOf result (WalkError.Invalid fault)
+        → steps.new ≡ steps.old }
+    ensures texts_first { (fault : text.DateHistogramParseError)
+        → IsErrOf result (WalkError.Aggregation (error.DateHistogramParseError fault))
         → steps.new ≡ steps.old }
     ensures name_first { IsErrOf result WalkError.UnknownComposite → steps.new ≡ steps.old }
 {
