@@ -1,10 +1,5 @@
 -- The entries that a collector gives of a page.
-use Rattle.std.specs.Prelude.{◌≡◌, ℕ, List, map}
-use Rattle.agg_values.specs.Tuple.{KeyTuple}
-use Rattle.agg_segment.specs.Document.{Fields}
 use Rattle.agg_request.specs.Groups.{Group}
-use Rattle.agg_request.specs.Page.{Entry, IsPage, group_of}
-use Rattle.agg_request.specs.Source.{Sources}
 use Rattle.agg_composite.specs.declared.page_entry.PageEntry.{PageEntry}
 
 -- an entry as a group: its key with its count
