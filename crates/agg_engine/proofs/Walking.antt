@@ -68,7 +68,7 @@ pub walking-start : {B : Type 0} (limit : ℕ) (name : List ℕ) (query : QueryT
     → IsOneComposite request → IsCompositeNamed name request composite → IsSoundRequest request
     → IsWalking limit name query request snapshots composite composite.after snapshots []
 walking-start {B = B} limit name query request snapshots composite
-    (given, a, c, request_is, is, none) found sound =
+    (given, a, request_is, (c, is, none)) found sound =
     let own = named-one name given a c composite is
     (subst (λ (r : Request B). IsCompositeNamed name r composite) request_is found) in
     let one_is : request ≡ one B name composite =

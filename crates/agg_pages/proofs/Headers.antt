@@ -28,7 +28,7 @@ module _ {B : Type 0} (builders : List B) (name_of : B → List ℕ) where
   same-form : (d : Data) (a b : Request B) → IsRequestJson name_of d builders a
       → IsRequest builders name_of d b → IsOneComposite a × (a ≡ b)
   same-form d a b said h =
-      let (name, first, composite, is, asks, none) = h.form in
+      let (name, first, is, (composite, asks, none)) = h.form in
       let one = says-one name_of d builders name first composite
       (subst (λ (r : Request B). IsRequestJson name_of d builders r) is h.said) asks none in
       let read = one-said name_of d builders name one.0 a one.1 said in
@@ -40,7 +40,7 @@ module _ {B : Type 0} (builders : List B) (name_of : B → List ℕ) where
       a_none in
       let own : first ≡ aggregation_of (Composite composite) [] =
       made-of_parts first (Composite composite) [] asks none in (
-        (name, made, found, a_is, a_asks, a_none),
+        (name, made, a_is, (found, a_asks, a_none)),
         a_is ∙ ap (λ x. (name, x) ∷ []) (mine ∙ sym own) ∙ sym is,
       )
 
