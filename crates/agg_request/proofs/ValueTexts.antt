@@ -1,5 +1,5 @@
 -- Texts of values: what a key's text says, and which refusal another gets.
-use Rattle.std.proofs.Common.{◌≡◌, ◌≢◌, ℕ, Bool, true, false, List, [], ◌∷◌}
+use Rattle.std.proofs.Common.{◌≡◌, ◌≢◌, ℕ, Bool, false, List, [], ◌∷◌}
 use Rattle.std.proofs.Common.{◌++◌, Option, Some, None, Result, Ok, Err, IfNone, IfSome, get_or}
 use Rattle.std.proofs.Common.{codes, refl, sym, ap, ◌∙◌, subst, arith, inl, inr, IsErrAnd}
 use Rattle.std.specs.List.{Contains}

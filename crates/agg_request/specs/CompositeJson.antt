@@ -1,6 +1,6 @@
 -- Composites as JSON: their sources, their size and their after key.
 use Rattle.std.specs.Prelude.{◌≡◌, ◌⊎◌, [], ℕ, ℤ, List, Bool, true, false, Option, None, Some}
-use Rattle.std.specs.Prelude.{codes, option_and_then, IsTrue}
+use Rattle.std.specs.Prelude.{codes, option_and_then}
 use Rattle.serde_json.specs.Data.{Data, Items, Members}
 use Rattle.serde_json.specs.Find.{as_array, as_bool, as_object, as_str, get}
 use Rattle.agg_values.specs.Names.{Named}

@@ -1,4 +1,4 @@
-//! Tests of requests.
+//! Tests of requests, and of what their queries match.
 #![tactic(auto)]
 
 #[cfg(test)]
@@ -11,6 +11,8 @@ mod composite;
 mod custom_order;
 #[cfg(test)]
 mod field_names;
+#[cfg(test)]
+mod matches;
 #[cfg(test)]
 mod occurrences;
 #[cfg(test)]

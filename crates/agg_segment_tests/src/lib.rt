@@ -1,7 +1,5 @@
-//! Tests of segments and queries.
+//! Tests of segments.
 #![tactic(auto)]
 
-#[cfg(test)]
-mod query;
 #[cfg(test)]
 mod segment;
