@@ -15,7 +15,8 @@ use Rattle.agg_request.specs.Ranges.{AreInRange, IsInRange}
 use Rattle.agg_request.specs.Source.{Sources, field_of, missing_bucket_of, or_missing, order_of}
 use Rattle.agg_request.specs.Source.{rules_of, source_values, values_at}
 use Rattle.agg_request.specs.declared.source.CompositeAggregationSource.{CompositeAggregationSource}
-use Rattle.agg_composite.specs.Accessors.{AreAccessorsOf, after_of, side_to}
+use Rattle.agg_request.specs.Source.{after_of}
+use Rattle.agg_composite.specs.Accessors.{AreAccessorsOf, side_to}
 use Rattle.agg_composite.specs.Accessors.{AllFit}
 use Rattle.agg_composite.specs.Choices.{AreChoicesIn, AreChoicesOf, CanRead, IsChoiceOf}
 use Rattle.agg_composite.specs.Choices.{keys_read, values_read}

@@ -17,7 +17,8 @@ use Rattle.agg_segment.specs.Segment.{Stored, document_at, documents_at}
 use Rattle.agg_request.specs.Occurrences.{bound_of, is_past, occurrences, past_occurrences}
 use Rattle.agg_request.specs.Source.{field_of, keys_in, missing_bucket_of, or_missing, rules_of}
 use Rattle.agg_request.specs.declared.source.CompositeAggregationSource.{CompositeAggregationSource}
-use Rattle.agg_composite.specs.Accessors.{AreAccessorsOf, after_of}
+use Rattle.agg_request.specs.Source.{after_of}
+use Rattle.agg_composite.specs.Accessors.{AreAccessorsOf}
 use Rattle.agg_composite.specs.Accessors.{AllFit}
 use Rattle.agg_composite.specs.Answers.{AnswersEncoded, AnswersFor, AreAllInRange}
 use Rattle.agg_composite.specs.Answers.{CountsFor, TooOftenFor}

@@ -13,7 +13,8 @@ use Rattle.agg_values.proofs.KeyOrder.{key_order-total}
 use Rattle.agg_request.specs.Occurrences.{bound_of, is_past}
 use Rattle.agg_request.specs.Source.{Sources, missing_order_of, name_of, order_of, rules_of}
 use Rattle.agg_request.specs.declared.source.CompositeAggregationSource.{CompositeAggregationSource}
-use Rattle.agg_composite.specs.Accessors.{after_of, side_to}
+use Rattle.agg_request.specs.Source.{after_of}
+use Rattle.agg_composite.specs.Accessors.{side_to}
 use Rattle.agg_composite.specs.Walk.{sides_past}
 
 -- how the keys of a tuple stand to the after values

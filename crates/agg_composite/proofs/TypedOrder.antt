@@ -35,7 +35,8 @@ use Rattle.agg_request.specs.Source.{Sources, missing_order_of, order_of, rules_
 use Rattle.agg_request.specs.declared.source.CompositeAggregationSource as kind
 use kind.{CompositeAggregationSource}
 use kind.TheVariants.{DateHistogram, Histogram, Terms}
-use Rattle.agg_composite.specs.Accessors.{AreAccessorsOf, AreOfField, Fits, after_of}
+use Rattle.agg_request.specs.Source.{after_of}
+use Rattle.agg_composite.specs.Accessors.{AreAccessorsOf, AreOfField, Fits}
 use Rattle.agg_composite.specs.Encoding.{EncodedTuple, StandFor, StandsFor, encoded_at}
 use Rattle.agg_composite.specs.Encoding.{encoded_null, encoded_order, encoded_tuple_order}
 use Rattle.agg_composite.specs.Encoding.{null_place, raw_of}

@@ -23,9 +23,9 @@ use interval.TheVariants.{NotApplicable}
 use Rattle.agg_segment.specs.Columns.{AreInKeyOrder, ClassesAscend, StandsForKey, StoredColumn}
 use Rattle.agg_segment.specs.Columns.{all_keys, encoded_key, keys_rank, type_of}
 use Rattle.agg_segment.specs.Segment.{Stored, document_at}
-use Rattle.agg_request.specs.Faults.{HasInterval, IsIntervalFault, IsOfOtherType}
-use Rattle.agg_request.specs.Source.{Sources, field_of, interval_of, keys_in, missing_bucket_of}
-use Rattle.agg_request.specs.Source.{missing_order_of, name_of, order_of, start_in}
+use Rattle.agg_request.specs.Faults.{HasInterval, IsIntervalFault, IsNullAfter, IsOtherAfter}
+use Rattle.agg_request.specs.Source.{Sources, after_of, field_of, interval_of, keys_in}
+use Rattle.agg_request.specs.Source.{missing_order_of, order_of, start_in}
 use Rattle.agg_request.specs.SourceColumns.{reads_type}
 use Rattle.agg_request.specs.declared.source.CompositeAggregationSource as kind
 use kind.{CompositeAggregationSource}
@@ -76,10 +76,6 @@ pub record AreOfField (segment : Stored) (source : CompositeAggregationSource)
 
 -- ---- after values
 
--- the after value of a source, by its name
-abbrev pub after_of : Named AfterKey → CompositeAggregationSource → Option CompositeIntermediateKey
-after_of after source = option_map (λ k. k.0) (value_of (name_of source) after)
-
 -- how a key stands to an after value in a source's order; Greater where there is none
 abbrev pub side_to : CompositeAggregationSource → Option CompositeIntermediateKey
     → CompositeIntermediateKey → Ordering
@@ -128,14 +124,6 @@ pub record AreAccessorsOf (segment : Stored) (source : CompositeAggregationSourc
       → StandsForKey (keys_at source a.accessors i) number
       → side_at (order_of source) a i number
       ≡ side_to source after (encoded_key (keys_at source a.accessors i) number)
-
--- a Null to go on from, where documents without a value have no bucket
-abbrev pub IsNullAfter : CompositeAggregationSource → Option CompositeIntermediateKey → Type 0
-IsNullAfter source after = (after ≡ Some Null) × (missing_bucket_of source ≡ false)
-
--- an after value that is none of the source's keys
-abbrev pub IsOtherAfter : CompositeAggregationSource → Option CompositeIntermediateKey → Type 0
-IsOtherAfter source after = MatchOption after ⊥ (IsOfOtherType source)
 
 -- the first fault of a source and its after value: the Null, then the interval, then the type
 abbrev pub IsFirstFault : CompositeAggregationSource → Option CompositeIntermediateKey

@@ -20,33 +20,21 @@ use Rattle.agg_request.proofs.Lists.{AllByRecursion-Has, Contains-from_Has, Has-
 use Rattle.agg_request.proofs.Lists.{Has-from_flat_map}
 use Rattle.agg_request.proofs.SourceKeys.{IsNullByBucket, after_map-own, after_map-sound}
 use Rattle.agg_request.proofs.SourceKeys.{occurrence-Null}
-use Rattle.agg_composite.specs.Accessors.{IsOtherAfter}
+use Rattle.agg_request.specs.Faults.{IsOtherAfter}
 use Rattle.agg_engine.specs.PageAnswers.{MayGoOnFrom}
 
 -- no field of a document holds Null
 abbrev pub HasNoNull : Fields → Type 0
 HasNoNull document = (field : List ℕ) → All (λ k. k ≢ Null) (document field)
 
-null-value : (o : Option AfterKey) → option_map (λ k. k.0) o ≡ Some Null
-    → o ≡ Some (record { 0 = Null })
-null-value None e = cc e
-null-value (Some k) e = let inner : k.0 ≡ Null = cc e in λ i. Some (record { 0 = inner i })
-
--- an after value that is of another type is some value
-other-value : (source : CompositeAggregationSource) (o : Option AfterKey)
-    → IsOtherAfter source (option_map (λ k. k.0) o)
-    → (k : CompositeIntermediateKey) × (o ≡ Some (record { 0 = k })) × IsOfOtherType source k
-other-value source None other = absurd other
-other-value source (Some k) other = (k.0, refl, other)
-
 -- a composite that may be asked goes on from its own after key
 pub MayGoOnFrom-own : (c : CompositeAggregation)
     → All (λ source. ¬ (IsBehindNoBucket c source)) c.sources → All HasInterval c.sources
     → All (λ source. ¬ (HasAfterOfOtherType c source)) c.sources → MayGoOnFrom c.sources c.after
 MayGoOnFrom-own c allowed intervals types i d within = record {
-  missing = λ null. allowed i d within (null-value _ null.0, null.1);
+  missing = allowed i d within;
   interval = intervals i d within;
-  same_type = λ other. types i d within (other-value _ _ other);
+  same_type = types i d within;
 }
 
 -- a composite goes on from the after key of a tuple of documents without Null

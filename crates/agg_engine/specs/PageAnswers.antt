@@ -12,7 +12,8 @@ use Rattle.agg_request.specs.declared.aggregation.AggregationVariants.TheVariant
 use Rattle.agg_request.specs.Ranges.{HasOwnStartOutOfRange}
 use Rattle.agg_request.specs.Request.{Request, aggregation_of}
 use Rattle.agg_request.specs.Uncut.{counted as counted_by}
-use Rattle.agg_composite.specs.Accessors.{HasAccessors, after_of}
+use Rattle.agg_request.specs.Source.{after_of}
+use Rattle.agg_composite.specs.Accessors.{HasAccessors}
 use Rattle.agg_results.specs.BucketCount.{results_buckets}
 use Rattle.agg_results.specs.Final.{HaveTooMany, final_results}
 use Rattle.agg_results.specs.Intermediate.{Held}

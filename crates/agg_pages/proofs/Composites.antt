@@ -32,6 +32,7 @@ use numbers.{HistogramCompositeAggregationSource as Numbers}
 use Rattle.agg_request.specs.declared.source.DateHistogramCompositeAggregationSource as dates
 use dates.{DateHistogramCompositeAggregationSource as Dates}
 use Rattle.agg_request.proofs.CompositeSources.{unit_word-one}
+use Rattle.agg_request.proofs.ValueTexts.{said_strictly}
 use Rattle.agg_pages.proofs.Documents.{same_value}
 use Rattle.agg_pages.proofs.Queries.{EachIs-unique}
 
@@ -229,18 +230,13 @@ IsSize-unique o a b (d, is, h) (d_too, is_too, k) =
     let same : d_too ≡ d = same_value d_too d (sym is_too ∙ is) in
     same_value a b (sym h ∙ sym (ap small_number same) ∙ k)
 
-strictly : (text : List ℕ) (key : CompositeIntermediateKey)
-    → IsKeyText text key ⊎ (IsTrue false × IsUnsupportedText text) → IsKeyText text key
-strictly text key (inl says) = says
-strictly text key (inr lenient) = absurd (false≢true lenient.0)
-
 IsKeyJson-unique : (d : Data) (a b : AfterKey) → IsKeyJson false d a → IsKeyJson false d b
     → a ≡ b
 IsKeyJson-unique d a b (text, is, says) (text_too, is_too, says_too) =
     let same : text_too ≡ text = same_value text_too text (sym is_too ∙ is) in
     let there : IsKeyText text b.0 =
-    subst (λ t. IsKeyText t b.0) same (strictly text_too b.0 says_too) in
-    let keys : a.0 ≡ b.0 = IsKeyText-unique text a.0 b.0 (strictly text a.0 says) there in
+    subst (λ t. IsKeyText t b.0) same (said_strictly text_too b.0 says_too) in
+    let keys : a.0 ≡ b.0 = IsKeyText-unique text a.0 b.0 (said_strictly text a.0 says) there in
     λ i. record { 0 = keys i }
 
 EachNamedIs-unique : {A : Type 0} (Is : Data → A → Type 0)

@@ -18,6 +18,7 @@ use Rattle.agg_segment.specs.declared.query.QueryTree.TheVariants.{All, Empty}
 use Rattle.agg_request.specs.Json.{EachIs, IsList}
 use Rattle.agg_request.specs.Query.{IsBoolean, IsBound, IsExists, IsFilter, IsOfKind, IsPlain}
 use Rattle.agg_request.specs.Query.{IsQuery, IsRange, IsTerm, SaysAt, said_key}
+use Rattle.agg_request.proofs.ValueTexts.{said_strictly}
 use Rattle.agg_pages.proofs.Documents.{none_is_some, same_value}
 
 -- ---- values
@@ -47,8 +48,9 @@ SaysAt-unique : (name : List ℕ) (d : Data) (v w : FieldValue) → SaysAt false
     → SaysAt false name d w → v ≡ w
 SaysAt-unique name d v w (text, is, says) (text_too, is_too, says_too) =
     let same : text_too ≡ text = same_value text_too text (sym is_too ∙ is) in
-    said_key-one v w (IsKeyText-unique text (said_key v) (said_key w) says
-    (subst (λ t. IsKeyText t (said_key w)) same says_too))
+    said_key-one v w (IsKeyText-unique text (said_key v) (said_key w)
+    (said_strictly text (said_key v) says)
+    (subst (λ t. IsKeyText t (said_key w)) same (said_strictly text_too (said_key w) says_too)))
 
 text_and_none : {A : Type 0} (name : List ℕ) (d : Data) (v : FieldValue) → SaysAt false name d v
     → get name d ≡ None → A

@@ -1,9 +1,9 @@
 -- The keys of a tuple beside the sources that they are of.
 use Rattle.std.proofs.Common.{◌≡◌, ◌≢◌, ◌^◌, ℕ, suc, ℤ, pos, Bool, true, false, Some}
-use Rattle.std.proofs.Common.{List, [], ◌∷◌, Option, length, map, refl, sym, ap, ◌∙◌, subst, arith}
+use Rattle.std.proofs.Common.{List, [], ◌∷◌, length, map, refl, sym, ap, ◌∙◌, subst, arith}
 use Rattle.std.specs.Prelude.{filter_map, int_lt, nat_lt, unsigned_abs}
 use Rattle.std.specs.List.{All, AllByRecursion, AllZip, Contains}
-use Rattle.std.specs.Option.{unwrap_or}
+use Rattle.std.specs.Option.{option_map, unwrap_or}
 use Rattle.std.proofs.lemmas.Bool.{cond_both, false≢true}
 use Rattle.std.proofs.lemmas.List.Elements.{All-from_recursion, recursion_from_All}
 use Rattle.agg_values.specs.Names.{Named, put, value_of}
@@ -26,9 +26,10 @@ use kind.{CompositeAggregationSource}
 use kind.TheVariants.{Terms, Histogram, DateHistogram}
 use Rattle.agg_request.specs.BySource.{after_map}
 use Rattle.agg_request.specs.Faults.{HasAfterOfOtherType, HaveOwnNames, IsBehindNoBucket}
-use Rattle.agg_request.specs.Faults.{IsOfOtherType}
+use Rattle.agg_request.specs.Faults.{IsNullAfter, IsOfOtherType, IsOtherAfter}
 use Rattle.agg_request.specs.Occurrences.{occurrences}
-use Rattle.agg_request.specs.Source.{Sources, field_of, keys_in, missing_bucket_of, name_of}
+use Rattle.agg_request.specs.Source.{Sources, after_of, field_of, keys_in, missing_bucket_of}
+use Rattle.agg_request.specs.Source.{name_of}
 use Rattle.agg_request.specs.Source.{or_missing, source_values, start_in, values_at}
 use Rattle.agg_request.proofs.Lists.{AllByRecursion-Has, AllByRecursion-always}
 use Rattle.agg_request.proofs.Lists.{AllByRecursion-flat_map}
@@ -165,15 +166,13 @@ occurrence-Null sources document tuple others held =
 -- where each after value is its key of such a tuple, Null stands only where it may
 pub after_value-no_Null : (after : Named AfterKey) (sources : Sources) (tuple : KeyTuple)
     → AllZip (IsAfterValue after) sources tuple → AllZip IsNullByBucket sources tuple
-    → AllByRecursion (λ source. ¬ ((value_of (name_of source) after ≡ Some (record { 0 = Null }))
-    × (missing_bucket_of source ≡ false))) sources
+    → AllByRecursion (λ source. ¬ (IsNullAfter source (after_of after source))) sources
 after_value-no_Null after [] [] values buckets = tt
 after_value-no_Null after [] (k ∷ keys) values buckets = tt
 after_value-no_Null after (source ∷ sources) [] values buckets = absurd values
 after_value-no_Null after (source ∷ sources) (k ∷ keys) values buckets =
-    let null : AfterKey = record { 0 = Null } in
-    let key_in : Option AfterKey → CompositeIntermediateKey = λ o. (unwrap_or o null).0 in (
-      λ h. false≢true (sym h.1 ∙ buckets.0 (ap key_in (sym values.0 ∙ h.0))),
+    let is : after_of after source ≡ Some k = ap (option_map (λ (a : AfterKey). a.0)) values.0 in (
+      λ h. false≢true (sym h.1 ∙ buckets.0 (ap (λ o. unwrap_or o Null) (sym is ∙ h.0))),
       after_value-no_Null after sources keys values.1 buckets.1,
     )
 
@@ -239,15 +238,13 @@ occurrence-own sources document tuple held =
 -- where each after value is its key of such a tuple, none is of another type
 after_value-own : (after : Named AfterKey) (sources : Sources) (tuple : KeyTuple)
     → AllZip (IsAfterValue after) sources tuple → AllZip IsOfOwnType sources tuple
-    → AllByRecursion (λ source. ¬ ((k : CompositeIntermediateKey)
-    × IsAfterValue after source k × IsOfOtherType source k)) sources
+    → AllByRecursion (λ source. ¬ (IsOtherAfter source (after_of after source))) sources
 after_value-own after [] [] values own = tt
 after_value-own after [] (k ∷ keys) values own = tt
 after_value-own after (source ∷ sources) [] values own = absurd values
 after_value-own after (source ∷ sources) (k ∷ keys) values own =
-    let null : AfterKey = record { 0 = Null } in
-    let key_in : Option AfterKey → CompositeIntermediateKey = λ o. (unwrap_or o null).0 in (
-      λ h. own.0 (subst (IsOfOtherType source) (ap key_in (sym h.1 ∙ values.0)) h.2),
+    let is : after_of after source ≡ Some k = ap (option_map (λ (a : AfterKey). a.0)) values.0 in (
+      λ h. own.0 (subst (IsOtherAfter source) is h),
       after_value-own after sources keys values.1 own.1,
     )
 

@@ -57,7 +57,7 @@ cut_f64 (a ∷ b ∷ c ∷ d ∷ kind) value rest e bare =
     absurd (bare (3, omega arith, ap (λ t. get_or t 3 0) e))
 
 -- what a strict reading takes as a key is a key's text
-said_strictly : (text : List ℕ) (k : CompositeIntermediateKey) → SaysKey false text k
+pub said_strictly : (text : List ℕ) (k : CompositeIntermediateKey) → SaysKey false text k
     → IsKeyText text k
 said_strictly text k (inl h) = h
 said_strictly text k (inr h) = absurd (false≢true h.0)

@@ -1,7 +1,6 @@
 -- What a request may not ask.
 use Rattle.std.specs.Prelude.{◌≡◌, ◌≢◌, ◌≤◌, ◌<◌, ◌≤ℤ◌, ◌<ℤ◌, ℕ, pos, [], false, Some, length}
-use Rattle.std.specs.Prelude.{All, AllPairs, Any, Err, IsOk, ⊤}
-use Rattle.agg_values.specs.Names.{value_of}
+use Rattle.std.specs.Prelude.{All, AllPairs, Any, Err, IsOk, MatchOption, Option, ⊤}
 use Rattle.agg_values.specs.TypedKey.{CompositeIntermediateKey}
 use Rattle.agg_values.specs.declared.typed_key.CompositeIntermediateKey.TheVariants as key
 use key.{Null}
@@ -11,7 +10,7 @@ use Rattle.agg_values.specs.declared.error.InvalidArgument.TheVariants as argume
 use Rattle.agg_values.specs.declared.request_error.RequestError.{RequestError}
 use Rattle.agg_values.specs.declared.request_error.RequestError.TheVariants as error
 use Rattle.agg_request.specs.Request.{Request, composites_of}
-use Rattle.agg_request.specs.Source.{Sources, interval_of, missing_bucket_of, name_of}
+use Rattle.agg_request.specs.Source.{Sources, after_of, interval_of, missing_bucket_of, name_of}
 use Rattle.agg_request.specs.declared.aggregation.CompositeAggregation.{CompositeAggregation}
 use Rattle.agg_request.specs.declared.source.CompositeAggregationSource as kind
 use kind.{CompositeAggregationSource}
@@ -25,11 +24,13 @@ max_sources = 16
 abbrev pub HaveOwnNames : Sources → Type 0
 HaveOwnNames sources = AllPairs (λ source other. name_of source ≢ name_of other) sources
 
--- the after value of a source is Null, and documents without a value have no bucket
+-- an after value is Null, and documents without a value have no bucket
+abbrev pub IsNullAfter : CompositeAggregationSource → Option CompositeIntermediateKey → Type 0
+IsNullAfter source after = (after ≡ Some Null) × (missing_bucket_of source ≡ false)
+
+-- that of a source in a composite is
 abbrev pub IsBehindNoBucket : CompositeAggregation → CompositeAggregationSource → Type 0
-IsBehindNoBucket composite source =
-    (value_of (name_of source) composite.after ≡ Some (record { 0 = Null }))
-    × (missing_bucket_of source ≡ false)
+IsBehindNoBucket composite source = IsNullAfter source (after_of composite.after source)
 
 -- a source's interval is refused so: a number below one, or the intervals of a date source
 abbrev pub IsIntervalFault : CompositeAggregationSource → RequestError → Type 0
@@ -50,7 +51,7 @@ IsIntervalCause source error.OutOfMemory =
     (part : AggregationError) × IsIntervalFault source (error.Aggregation part)
 IsIntervalCause source refusal = IsIntervalFault source refusal
 
--- an after value is none of the source's keys: neither Null nor a whole number where they are
+-- a key is none of the source's: neither Null nor a whole number where they are
 -- numbers, neither Null nor a date where they are dates
 abbrev pub IsOfOtherType : CompositeAggregationSource → CompositeIntermediateKey → Type 0
 IsOfOtherType (Histogram s) (key.Bool b) = ⊤
@@ -64,12 +65,13 @@ IsOfOtherType (DateHistogram s) (key.U64 n) = ⊤
 IsOfOtherType (DateHistogram s) (key.IpAddr address) = ⊤
 IsOfOtherType _ _ = ⊥
 
--- the after value of a source is of another type
+-- so is an after value that there is
+abbrev pub IsOtherAfter : CompositeAggregationSource → Option CompositeIntermediateKey → Type 0
+IsOtherAfter source after = MatchOption after ⊥ (IsOfOtherType source)
+
+-- that of a source in a composite is
 abbrev pub HasAfterOfOtherType : CompositeAggregation → CompositeAggregationSource → Type 0
-HasAfterOfOtherType composite source =
-    (k : CompositeIntermediateKey)
-    × (value_of (name_of source) composite.after ≡ Some (record { 0 = k }))
-    × IsOfOtherType source k
+HasAfterOfOtherType composite source = IsOtherAfter source (after_of composite.after source)
 
 -- a composite has this fault
 abbrev pub HasFault : CompositeAggregation → InvalidArgument → Type 0

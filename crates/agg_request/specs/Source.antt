@@ -3,7 +3,9 @@ use Rattle.std.specs.Prelude.{ℕ, ℤ, pos, List, [], ◌∷◌, Bool, Option, 
 use Rattle.std.specs.Prelude.{filter_map, map, option_map, if◌then◌else◌}
 use Rattle.std.specs.Int.{int_div_euclid}
 use Rattle.agg_values.specs.KeyOrder.{SourceRules}
+use Rattle.agg_values.specs.Names.{Named, value_of}
 use Rattle.agg_values.specs.TypedKey.{CompositeIntermediateKey, canonical_key, typed_number}
+use Rattle.agg_values.specs.declared.after_key.AfterKey.{AfterKey}
 use Rattle.agg_values.specs.declared.typed_key.CompositeIntermediateKey.TheVariants as key
 use Rattle.agg_values.specs.declared.order.Order.{Order}
 use Rattle.agg_values.specs.declared.order.MissingOrder.{MissingOrder}
@@ -34,6 +36,10 @@ abbrev pub name_of : CompositeAggregationSource → List ℕ
 name_of (Terms s) = s.name
 name_of (Histogram s) = s.name
 name_of (DateHistogram s) = s.name
+
+-- the after value of a source, by its name
+abbrev pub after_of : Named AfterKey → CompositeAggregationSource → Option CompositeIntermediateKey
+after_of after source = option_map (λ k. k.0) (value_of (name_of source) after)
 
 -- the direction in which a source's keys ascend
 abbrev pub order_of : CompositeAggregationSource → Order

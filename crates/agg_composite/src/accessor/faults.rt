@@ -4,7 +4,9 @@ ghost use Rattle.std.specs.Prelude.{option_map};
 ghost use Rattle.agg_calendar.specs.Start.{IsUsable};
 ghost use Rattle.agg_request.specs.Faults.{HasInterval, IsIntervalFault, IsOfOtherType};
 ghost use Rattle.agg_request.specs.Source.{interval_of};
-ghost use Rattle.agg_composite.specs.Accessors.{IsIntervalOf, IsNullAfter, IsOtherAfter};
+ghost use Rattle.agg_request.specs.Faults.{IsNullAfter};
+ghost use Rattle.agg_request.specs.Faults.{IsOtherAfter};
+ghost use Rattle.agg_composite.specs.Accessors.{IsIntervalOf};
 ghost use Rattle.agg_composite.specs.Accessors.{OrNoMemory};
 
 use agg_calendar::PrecomputedDateInterval;

@@ -1,7 +1,8 @@
 //! The accessors of the sources of a composite.
 ghost use Rattle.std.specs.Prelude.{◌≡◌, option_map, IfErr, IfOk};
 ghost use Rattle.std.specs.List.{AllZip};
-ghost use Rattle.agg_composite.specs.Accessors.{AreAccessorsOf, after_of};
+ghost use Rattle.agg_request.specs.Source.{after_of};
+ghost use Rattle.agg_composite.specs.Accessors.{AreAccessorsOf};
 ghost use Rattle.agg_engine.specs.PageAnswers.{MayGoOnFrom};
 ghost use Rattle.agg_engine.specs.declared.walk.error.WalkError.TheVariants.{OutOfMemory};
 

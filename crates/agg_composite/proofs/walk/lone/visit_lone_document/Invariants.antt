@@ -4,7 +4,8 @@ use Rattle.agg_values.specs.declared.after_key.AfterKey.{AfterKey}
 use Rattle.agg_segment.specs.Columns.{all_keys}
 use Rattle.agg_segment.specs.Segment.{Stored}
 use Rattle.agg_request.specs.Source.{keys_in}
-use Rattle.agg_composite.specs.Accessors.{AreAccessorsOf, after_of}
+use Rattle.agg_request.specs.Source.{after_of}
+use Rattle.agg_composite.specs.Accessors.{AreAccessorsOf}
 use Rattle.agg_composite.specs.Answers.{CountsFor}
 use Rattle.agg_composite.specs.Choices.{CanRead, is_nil}
 use Rattle.agg_composite.specs.GroupCounts.{all_counts}

@@ -1,5 +1,6 @@
 use Rattle.std.proofs.Common.{subst, arith}
-use Rattle.agg_composite.specs.Accessors.{AreAccessorsOf, after_of}
+use Rattle.agg_request.specs.Source.{after_of}
+use Rattle.agg_composite.specs.Accessors.{AreAccessorsOf}
 use Rattle.agg_engine.proofs.Accessors.{AllZip-one_more}
 use Rattle.agg_engine.proofs.walk.accessors.accessors_for.Goals as goal
 

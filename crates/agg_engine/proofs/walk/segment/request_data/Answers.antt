@@ -1,6 +1,7 @@
 use Rattle.std.proofs.Common.{subst}
 use Rattle.std.specs.List.{AllZip}
-use Rattle.agg_composite.specs.Accessors.{AreAccessorsOf, after_of}
+use Rattle.agg_request.specs.Source.{after_of}
+use Rattle.agg_composite.specs.Accessors.{AreAccessorsOf}
 use Rattle.agg_engine.proofs.walk.segment.request_data.Goals as goal
 
 pub returns-clause-fits : goal.returns-clause-fits
