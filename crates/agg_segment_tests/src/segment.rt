@@ -10,17 +10,50 @@ use std::test::Fail;
 
 const FROM_ZERO: u64 = 9_223_372_036_854_775_808;
 
-fn push(builder: &mut SegmentBuilder, name: &str, value: FieldValue) -> Result<(), OutOfMemory> {
-    let field = builder.field(name)?;
-    builder.push(field, value)
+// A value, as a table can hold it.
+#[derive(Clone, Copy)]
+enum Given {
+    Truth(bool),
+    Text(&'static str),
+    Signed(i64),
+    Unsigned(u64),
+    Address(u128),
+    Date(i64),
 }
 
-fn push_text(builder: &mut SegmentBuilder, alloc: Global, text: &str) -> Result<(), OutOfMemory> {
-    push(builder, "a", FieldValue::Str(Text::copy_of(alloc, text)?))
+// Values of every class in one field.
+const OF_EACH_CLASS: [(&str, Given); 7] = [
+    ("a", Given::Unsigned(4)),
+    ("a", Given::Text("z")),
+    ("a", Given::Date(3)),
+    ("a", Given::Truth(true)),
+    ("a", Given::Address(7)),
+    ("a", Given::Signed(-5)),
+    ("a", Given::Text("a")),
+];
+
+fn value_of(alloc: Global, given: Given) -> Result<FieldValue, OutOfMemory> {
+    Ok(match given {
+        Given::Truth(truth) => FieldValue::Bool(truth),
+        Given::Text(text) => FieldValue::Str(Text::copy_of(alloc, text)?),
+        Given::Signed(number) => FieldValue::I64(number),
+        Given::Unsigned(number) => FieldValue::U64(number),
+        Given::Address(address) => FieldValue::Ip(Address(address)),
+        Given::Date(nanoseconds) => FieldValue::Date(nanoseconds),
+    })
 }
 
-fn push_number(builder: &mut SegmentBuilder, number: u64) -> Result<(), OutOfMemory> {
-    push(builder, "a", FieldValue::U64(number))
+// Adds values to the open document.
+fn push_all(
+    alloc: Global,
+    builder: &mut SegmentBuilder,
+    values: &[(&str, Given)],
+) -> Result<(), OutOfMemory> {
+    for (name, given) in values {
+        let field = builder.field(name)?;
+        builder.push(field, value_of(alloc, *given)?)?;
+    }
+    Ok(())
 }
 
 // The numbers of a document in the first column of a field, none where there is no column.
@@ -31,21 +64,10 @@ fn numbers<'s>(segment: &'s SegmentReader, field: &Text, doc: u32) -> &'s [u64] 
     }
 }
 
-fn push_others(builder: &mut SegmentBuilder) -> Result<(), OutOfMemory> {
-    let field = builder.field("a")?;
-    builder.push(field, FieldValue::Date(3))?;
-    builder.push(field, FieldValue::Bool(true))?;
-    builder.push(field, FieldValue::Ip(Address(7)))?;
-    builder.push(field, FieldValue::I64(-5))
-}
-
 #[test]
 fn interleaved_classes_have_columns_of_their_own(rt: HostRuntime) -> Result<(), Fail> {
     let mut builder = SegmentBuilder::new(rt.alloc());
-    push_number(&mut builder, 4)?;
-    push_text(&mut builder, rt.alloc(), "z")?;
-    push_others(&mut builder)?;
-    push_text(&mut builder, rt.alloc(), "a")?;
+    push_all(rt.alloc(), &mut builder, &OF_EACH_CLASS)?;
     builder.finish()?;
     let segment = builder.build()?;
     let field = Text::copy_of(rt.alloc(), "a")?;
@@ -67,9 +89,13 @@ fn interleaved_classes_have_columns_of_their_own(rt: HostRuntime) -> Result<(), 
 #[test]
 fn mixed_numbers_are_refused(rt: HostRuntime) -> Result<(), Fail> {
     let mut builder = SegmentBuilder::new(rt.alloc());
-    push_others(&mut builder)?;
+    push_all(rt.alloc(), &mut builder, &OF_EACH_CLASS)?;
     builder.finish()?;
-    push_number(&mut builder, FROM_ZERO)?;
+    push_all(
+        rt.alloc(),
+        &mut builder,
+        &[("a", Given::Unsigned(FROM_ZERO))],
+    )?;
     assert_eq!(rt; builder.finish(), Err(BuildError::MixedNumbers));
     assert_eq!(rt; builder.build()?.num_docs(), 1);
     Ok(())
@@ -89,15 +115,20 @@ fn a_document_too_many_is_refused(rt: HostRuntime) -> Result<(), Fail> {
 // the last have one in a third.
 fn layouts(alloc: Global) -> Result<SegmentReader, Fail> {
     let mut builder = SegmentBuilder::new(alloc);
-    for doc in 0..9u64 {
-        push(&mut builder, "each", FieldValue::U64(doc))?;
-        if doc != 3 {
-            push(&mut builder, "most", FieldValue::U64(doc))?;
-            push(&mut builder, "most", FieldValue::U64(9))?;
-        }
-        if doc == 0 || doc == 8 {
-            push(&mut builder, "few", FieldValue::U64(doc))?;
-        }
+    for doc in 0..9 {
+        let number = Given::Unsigned(doc);
+        let values = [
+            ("each", number),
+            ("most", number),
+            ("most", Given::Unsigned(9)),
+            ("few", number),
+        ];
+        let count = match doc {
+            0 | 8 => 4,
+            3 => 1,
+            _ => 3,
+        };
+        push_all(alloc, &mut builder, &values[..count])?;
         builder.finish()?;
     }
     Ok(builder.build()?)
@@ -133,27 +164,27 @@ fn documents_have_their_numbers(rt: HostRuntime) -> Result<(), Fail> {
 
 #[test]
 fn open_documents_are_discarded(rt: HostRuntime) -> Result<(), Fail> {
-    let mut builder = SegmentBuilder::new(rt.alloc());
-    push_number(&mut builder, 1)?;
-    builder.finish()?;
-    push_number(&mut builder, 4)?;
-    push(&mut builder, "b", FieldValue::U64(3))?;
-    builder.finish()?;
-    push_number(&mut builder, 5)?;
-    builder.discard();
-    builder.finish()?;
-    push_number(&mut builder, 6)?;
+    let alloc = rt.alloc();
+    let mut builder = SegmentBuilder::new(alloc);
+    for (number, is_kept) in [(1, true), (4, true), (5, false)] {
+        push_all(alloc, &mut builder, &[("a", Given::Unsigned(number))])?;
+        if !is_kept {
+            builder.discard();
+        }
+        builder.finish()?;
+    }
+    push_all(alloc, &mut builder, &[("a", Given::Unsigned(6))])?;
     let segment = builder.build()?;
     assert_eq!(rt; segment.num_docs(), 3);
-    let a = Text::copy_of(rt.alloc(), "a")?;
-    for (doc, wanted) in [(0, [FROM_ZERO + 1]), (1, [FROM_ZERO + 4])] {
-        assert_eq!(rt; numbers(&segment, &a, doc), wanted.as_slice());
+    let field = Text::copy_of(alloc, "a")?;
+    for (doc, wanted) in [
+        (0, [FROM_ZERO + 1].as_slice()),
+        (1, [FROM_ZERO + 4].as_slice()),
+        (2, [].as_slice()),
+        (3, [].as_slice()),
+    ] {
+        assert_eq!(rt; numbers(&segment, &field, doc), wanted);
     }
-    for doc in 2..4 {
-        assert!(rt; numbers(&segment, &a, doc).is_empty());
-    }
-    let b = Text::copy_of(rt.alloc(), "b")?;
-    assert_eq!(rt; numbers(&segment, &b, 1), [FROM_ZERO + 3].as_slice());
     Ok(())
 }
 
@@ -175,8 +206,8 @@ fn address_hit(column: &Column, address: Address) -> Option<OrdHit> {
 fn hits_are_the_first_places_not_below(rt: HostRuntime) -> Result<(), Fail> {
     let mut builder = SegmentBuilder::new(rt.alloc());
     for (text, address) in [("d", 4), ("b", 2), ("d", 4)] {
-        push_text(&mut builder, rt.alloc(), text)?;
-        push(&mut builder, "b", FieldValue::Ip(Address(address)))?;
+        let values = [("a", Given::Text(text)), ("b", Given::Address(address))];
+        push_all(rt.alloc(), &mut builder, &values)?;
     }
     builder.finish()?;
     let segment = builder.build()?;
@@ -205,8 +236,8 @@ fn hits_are_the_first_places_not_below(rt: HostRuntime) -> Result<(), Fail> {
 #[test]
 fn a_large_number_makes_a_column_unsigned(rt: HostRuntime) -> Result<(), Fail> {
     let mut builder = SegmentBuilder::new(rt.alloc());
-    push_number(&mut builder, FROM_ZERO)?;
-    push_number(&mut builder, 7)?;
+    let values = [("a", Given::Unsigned(FROM_ZERO)), ("a", Given::Unsigned(7))];
+    push_all(rt.alloc(), &mut builder, &values)?;
     builder.finish()?;
     let segment = builder.build()?;
     let columns = segment.columns(&Text::copy_of(rt.alloc(), "a")?);
