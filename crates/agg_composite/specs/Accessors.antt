@@ -1,14 +1,14 @@
 -- What sources read in a segment, and where their after values stand there.
 use Rattle.std.specs.Prelude.{◌≡◌, ◌==◌, ◌<◌, ℕ, List, Bool, true, false, Option, None, Some, ⊤}
-use Rattle.std.specs.Prelude.{◌⊎◌, ℤ, Ok, MatchOption, count_by, filter, filter_map, length}
-use Rattle.std.specs.Prelude.{option_map, All}
+use Rattle.std.specs.Prelude.{◌⊎◌, ℤ, Ok, count_by, filter, filter_map, length}
+use Rattle.std.specs.Prelude.{All}
 use Rattle.std.specs.Prelude.{if◌then◌else◌}
 use Rattle.std.specs.List.{AllZip}
 use Rattle.std.specs.Ordering.{nat_cmp, is_lt, match_ordering}
 use Rattle.std.specs.declared.cmp.Ordering.{Ordering}
 use Rattle.std.specs.declared.cmp.Ordering.TheVariants.{Less, Greater}
 use Rattle.agg_values.specs.KeyOrder.{key_order, null_side}
-use Rattle.agg_values.specs.Names.{Named, value_of}
+use Rattle.agg_values.specs.Names.{Named}
 use Rattle.agg_values.specs.TypedKey.{CompositeIntermediateKey, class_rank}
 use Rattle.agg_values.specs.declared.typed_key.CompositeIntermediateKey.TheVariants.{Null}
 use Rattle.agg_values.specs.declared.after_key.AfterKey.{AfterKey}

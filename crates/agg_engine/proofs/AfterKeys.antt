@@ -1,26 +1,21 @@
 -- After keys from which each source goes on.
-use Rattle.std.proofs.Common.{◌≡◌, ◌≢◌, ℕ, List, Option, None, Some, refl}
-use Rattle.std.specs.Prelude.{option_map}
+use Rattle.std.proofs.Common.{◌≢◌, ℕ, List, refl}
 use Rattle.std.specs.List.{All, Contains}
 use Rattle.std.proofs.lemmas.List.Elements.{recursion_from_All}
 use Rattle.std.proofs.lemmas.Slice.Zip.{AllZip-long}
 use Rattle.agg_values.specs.Tuple.{KeyTuple}
-use Rattle.agg_values.specs.TypedKey.{CompositeIntermediateKey}
-use Rattle.agg_values.specs.declared.after_key.AfterKey.{AfterKey}
 use Rattle.agg_values.specs.declared.typed_key.CompositeIntermediateKey.TheVariants.{Null}
 use Rattle.agg_segment.specs.Document.{Fields}
 use Rattle.agg_request.specs.BySource.{after_map}
 use Rattle.agg_request.specs.Faults.{HasAfterOfOtherType, HasInterval, HaveOwnNames}
-use Rattle.agg_request.specs.Faults.{IsBehindNoBucket, IsOfOtherType}
+use Rattle.agg_request.specs.Faults.{IsBehindNoBucket}
 use Rattle.agg_request.specs.Occurrences.{occurrences, occurrences_in}
 use Rattle.agg_request.specs.Source.{Sources}
 use Rattle.agg_request.specs.declared.aggregation.CompositeAggregation.{CompositeAggregation}
-use Rattle.agg_request.specs.declared.source.CompositeAggregationSource.{CompositeAggregationSource}
 use Rattle.agg_request.proofs.Lists.{AllByRecursion-Has, Contains-from_Has, Has-from_Contains}
 use Rattle.agg_request.proofs.Lists.{Has-from_flat_map}
 use Rattle.agg_request.proofs.SourceKeys.{IsNullByBucket, after_map-own, after_map-sound}
 use Rattle.agg_request.proofs.SourceKeys.{occurrence-Null}
-use Rattle.agg_request.specs.Faults.{IsOtherAfter}
 use Rattle.agg_engine.specs.PageAnswers.{MayGoOnFrom}
 
 -- no field of a document holds Null

@@ -1,13 +1,11 @@
 -- A body is that of one composite at most.
-use Rattle.std.proofs.Common.{◌≡◌, ◌⊎◌, inl, inr, ℕ, ℤ, List, [], ◌∷◌, Bool, false, IsTrue}
+use Rattle.std.proofs.Common.{◌≡◌, ℕ, ℤ, List, [], ◌∷◌, Bool, false}
 use Rattle.std.proofs.Common.{Option, Some, None, refl, sym, ap, ◌∙◌, subst, codes, arith, get_or}
-use Rattle.std.proofs.lemmas.Bool.{false≢true}
 use Rattle.serde_json.specs.Data.{Data, Members, no_members, member}
 use Rattle.serde_json.specs.Find.{as_str, get}
 use Rattle.agg_values.proofs.KeyTexts.{IsKeyText-unique}
 use Rattle.agg_values.specs.KeyText.{IsKeyText}
 use Rattle.agg_values.specs.Names.{Named}
-use Rattle.agg_values.specs.TypedKey.{CompositeIntermediateKey}
 use Rattle.agg_values.specs.declared.after_key.AfterKey.{AfterKey}
 use Rattle.agg_values.specs.declared.order.Order.{Order}
 use Rattle.agg_values.specs.declared.order.Order.TheVariants.{Asc, Desc}
@@ -20,7 +18,6 @@ use Rattle.agg_request.specs.CompositeJson.{IsSourceOfKind, IsTermsBody, IsWordO
 use Rattle.agg_request.specs.CompositeJson.{missing_order_word, order_word, unit_word}
 use Rattle.agg_request.specs.Json.{EachIs, EachNamedIs, IsGiven, only_member, only_named, present}
 use Rattle.agg_request.specs.Json.{small_number, whole_number}
-use Rattle.agg_request.specs.Query.{IsUnsupportedText}
 use Rattle.agg_request.specs.declared.aggregation.CompositeAggregation.{CompositeAggregation}
 use Rattle.agg_request.specs.declared.source.CompositeAggregationSource as any_source
 use any_source.{CompositeAggregationSource}
