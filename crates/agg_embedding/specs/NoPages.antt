@@ -8,7 +8,7 @@ use Rattle.agg_pages.specs.Answer.{IsRefusal}
 use Rattle.agg_pages.specs.Input.{AreNoInput, Input, IsInput}
 
 -- bytes have no pages, and a status says why: they are no input, or one whose walk may be refused,
--- or one whose answer the sink didn't take; want of memory is free, and no other status comes
+-- or, at a write fault, one; want of memory is free, and no other status comes
 abbrev pub HaveNoPages : {B : Type 0} → List B → (B → List ℕ) → List ℕ → Status → Type 0
 HaveNoPages builders name_of bytes NotInput = AreNoInput builders name_of bytes
 HaveNoPages {B = B} builders name_of bytes Refused =

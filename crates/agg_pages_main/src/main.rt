@@ -28,7 +28,7 @@ fn main(rt: HostRuntime) -> ExitCode {
     ExitCode::from(status.code())
 }
 
-// The arguments without the program's name, or the status where they were not had.
+// The arguments without the program's name, or the status where they cannot be read.
 fn read_words(alloc: Global, rt: &(impl Env + AllocGlobal)) -> Result<Vec<Text>, Status>
     ensures { IfErr result (λ status. (status ≡ Status.Usage) ⊎ (status ≡ Status.OutOfMemory)) }
 {
@@ -49,7 +49,7 @@ fn words_of(alloc: Global, mut arguments: Args) -> Result<Vec<Text>, OutOfMemory
     Ok(words)
 }
 
-// The status where the arguments were not had: memory was refused, or one is no text.
+// The status where the arguments cannot be read: memory was refused, or one is no text.
 fn status_of_arguments(error: io::Error) -> Status
     ensures kinds { (result ≡ Status.Usage) ⊎ (result ≡ Status.OutOfMemory) }
     ensures memory { result ≡ Status.OutOfMemory ↔ (error_kind error ≡ ErrorKind.OutOfMemory) }
