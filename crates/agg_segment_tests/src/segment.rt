@@ -1,7 +1,7 @@
 //! What small segments answer.
 use agg_segment::{
-    BuildError, Column, ColumnType, FieldValue, OrdHit, Schema, SegmentBuilder, SegmentReader,
-    by_class_keeps_the_keys, classes_match_in_any_order,
+    BuildError, Column, ColumnType, FieldValue, OrdHit, QueryTree, RangeBound, Schema,
+    SegmentBuilder, SegmentReader, by_class_keeps_the_keys, classes_match_in_any_order,
 };
 use agg_values::{Address, ColumnPaginationOrder, CompositeIntermediateKey, OutOfMemory, Text};
 use std::alloc::Global;
@@ -273,5 +273,16 @@ fn values_schemas_and_laws_are_called(rt: HostRuntime) -> Result<(), Fail> {
     assert_eq!(rt; schema.fields().len(), 2);
     by_class_keeps_the_keys();
     classes_match_in_any_order();
+    Ok(())
+}
+
+#[test]
+fn queries_and_their_bounds_are_cloned(rt: HostRuntime) -> Result<(), Fail> {
+    let alloc = rt.alloc();
+    let bound = RangeBound::Included(FieldValue::I64(5));
+    let copy = bound.try_clone(alloc)?;
+    assert!(rt; matches!(copy, RangeBound::Included(FieldValue::I64(5))));
+    let copy = QueryTree::All.try_clone(alloc)?;
+    assert!(rt; matches!(copy, QueryTree::All));
     Ok(())
 }
