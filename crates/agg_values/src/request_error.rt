@@ -6,7 +6,7 @@ use crate::{InvalidArgument, OutOfMemory, Text};
 use thiserror::Error;
 
 /// A text that is no interval or no offset. `UnitNotRecognized` holds the unit, and each of the
-/// others the whole text.
+/// others the whole text, without the sign before it in an offset.
 #[derive(Debug, Drop, PartialEq, Eq, Error)]
 pub enum DateHistogramParseError {
     #[error("unit not recognized: {}", .0.as_str())]
