@@ -7,10 +7,10 @@ use Rattle.std.proofs.lemmas.Bool.{eq-eqb}
 use Rattle.std.proofs.lemmas.List.{get_or_default}
 use Rattle.std.proofs.lemmas.List.Elements.{All-contains}
 use Rattle.agg_values.specs.declared.address.Address.{Address}
-use Rattle.agg_values.specs.TypedKey.{CompositeIntermediateKey, class_rank}
+use Rattle.agg_values.specs.Column.{class_rank, order_rank}
+use Rattle.agg_values.specs.TypedKey.{CompositeIntermediateKey}
 use Rattle.agg_values.specs.declared.typed_key.CompositeIntermediateKey.TheVariants as key
 use Rattle.agg_segment.specs.Cells.{Placed, is_at, keys_at}
-use Rattle.agg_segment.specs.CellOrder.{order_rank}
 use Rattle.agg_segment.specs.Document.{by_class, of_class}
 use Rattle.agg_segment.specs.Gatherings.{Raw, raw_key, raw_placed, kind_of, is_raw_of, AreAlike}
 use Rattle.agg_segment.specs.declared.hit.ColumnType.{ColumnType}
@@ -18,7 +18,8 @@ use Rattle.agg_segment.specs.declared.hit.ColumnType.TheVariants as kind
 use Rattle.agg_segment.specs.declared.signs.Sign.{Sign}
 use Rattle.agg_segment.specs.declared.signs.Sign.TheVariants.{Small}
 use Rattle.agg_segment.proofs.Classes.{same_classes}
-use Rattle.agg_segment.proofs.Encoded.{type_rank, kind_rank}
+use Rattle.agg_segment.specs.Columns.{type_class}
+use Rattle.agg_segment.proofs.Encoded.{kind_rank}
 use Rattle.agg_segment.proofs.Kept.{filter_map_is}
 use Rattle.agg_segment.proofs.Members.{contains_filter, from_filter}
 
@@ -62,7 +63,7 @@ map_map f g [] = refl
 map_map f g (x ∷ xs) = ap (λ r. g (f x) ∷ r) (map_map f g xs)
 
 key_rank : (texts : List (List ℕ)) (addresses : List Address) (k : ColumnType) (n : ℕ)
-    → class_rank (raw_key texts addresses k n) ≡ type_rank k
+    → class_rank (raw_key texts addresses k n) ≡ order_rank (type_class k)
 key_rank texts addresses kind.Bool n = refl
 key_rank texts addresses kind.Str n = refl
 key_rank texts addresses kind.I64 n = refl

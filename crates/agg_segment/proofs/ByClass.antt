@@ -14,7 +14,8 @@ use Rattle.agg_values.specs.declared.typed_key.CompositeIntermediateKey.TheVaria
   Null,
 }
 use Rattle.agg_segment.specs.Document.{Fields, by_class, of_class}
-use Rattle.agg_segment.specs.Query.{matches, matches_by, all_match, some_matches, wanted_match}
+use Rattle.agg_segment.specs.Query.{all_match, by_itself, matches, matches_by, some_matches}
+use Rattle.agg_segment.specs.Query.{wanted_match}
 use Rattle.agg_segment.specs.Query.{is_value, is_between, is_any, put_by_class}
 use Rattle.agg_segment.specs.declared.query.QueryTree.{QueryTree}
 use Rattle.agg_segment.specs.declared.query.QueryTree.TheOpen as layer
@@ -112,14 +113,14 @@ abbrev Proved : Type 0
 Proved = (tree : QueryTree) × MatchesByClass tree
 
 some_by_class : (es : List Proved) (document : Fields)
-    → some_matches (map matches (map (λ e. e.0) es)) (put_by_class document)
-    ≡ some_matches (map matches (map (λ e. e.0) es)) document
+    → some_matches by_itself (map matches (map (λ e. e.0) es)) (put_by_class document)
+    ≡ some_matches by_itself (map matches (map (λ e. e.0) es)) document
 some_by_class [] document = refl
 some_by_class (e ∷ es) document = rw (e.1 document, some_by_class es document) refl
 
 all_by_class : (es : List Proved) (document : Fields)
-    → all_match (map matches (map (λ e. e.0) es)) (put_by_class document)
-    ≡ all_match (map matches (map (λ e. e.0) es)) document
+    → all_match by_itself (map matches (map (λ e. e.0) es)) (put_by_class document)
+    ≡ all_match by_itself (map matches (map (λ e. e.0) es)) document
 all_by_class [] document = refl
 all_by_class (e ∷ es) document = rw (e.1 document, all_by_class es document) refl
 

@@ -11,7 +11,7 @@ use Rattle.std.proofs.lemmas.List.Elements.{filter-append, All-tail, All-head}
 use Rattle.std.proofs.lemmas.List.Sorted.{IsPermutation-refl, IsPermutation-cons}
 use Rattle.std.proofs.lemmas.List.Sorted.{IsPermutation-trans, IsPermutation-middle}
 use Rattle.std.proofs.lemmas.List.Sorted.{IsPermutation-append_right}
-use Rattle.agg_values.specs.TypedKey.{class_rank}
+use Rattle.agg_values.specs.Column.{class_rank}
 use Rattle.agg_values.specs.TypedKey.{CompositeIntermediateKey}
 use Rattle.agg_values.specs.declared.typed_key.CompositeIntermediateKey.TheVariants
     as key

@@ -14,9 +14,9 @@ use Rattle.agg_values.specs.declared.column.ColumnPaginationOrder.TheVariants as
 use Rattle.agg_values.specs.TypedKey.{CompositeIntermediateKey}
 use Rattle.agg_values.specs.declared.typed_key.CompositeIntermediateKey.TheVariants as key
 use Rattle.agg_segment.specs.Cells.{Placed}
-use Rattle.agg_segment.specs.CellOrder.{order_rank}
+use Rattle.agg_values.specs.Column.{order_rank}
 use Rattle.agg_segment.specs.Columns.{StoredColumn, column_cells, encoded_key, type_of, keys_rank}
-use Rattle.agg_segment.specs.Columns.{named_texts}
+use Rattle.agg_segment.specs.Columns.{named_texts, type_class}
 use Rattle.agg_segment.specs.Dictionary.{text_at}
 use Rattle.agg_segment.specs.Gatherings.{Raw, raws, column_raws, raw_key, keyed_rows, kind_of}
 use Rattle.agg_segment.specs.Gatherings.{raw_placed, IsEncodable, IsWide, IsRaw, gathering_places}
@@ -104,24 +104,8 @@ kind_large Negative class.Numeric is = absurd (let f : kind.I64 ≡ kind.U64 = i
 kind_large sign class.IpAddr is = absurd (let f : kind.IpAddr ≡ kind.U64 = is in cc)
 kind_large sign class.DateTime is = absurd (let f : kind.DateTime ≡ kind.U64 = is in cc)
 
-abbrev pub type_rank : ColumnType → ℕ
-type_rank kind.Bool = 1
-type_rank kind.Str = 2
-type_rank kind.I64 = 3
-type_rank kind.U64 = 3
-type_rank kind.IpAddr = 4
-type_rank kind.DateTime = 5
-
-keys_type : (keys : ColumnKeys) → keys_rank keys ≡ type_rank (type_of keys)
-keys_type Bools = refl
-keys_type (Texts texts) = refl
-keys_type Signed = refl
-keys_type Unsigned = refl
-keys_type (Addresses addresses) = refl
-keys_type Dates = refl
-
 pub kind_rank : (sign : Sign) (c : ColumnPaginationOrder)
-    → type_rank (kind_of sign c) ≡ order_rank c
+    → order_rank (type_class (kind_of sign c)) ≡ order_rank c
 kind_rank sign class.Bool = refl
 kind_rank sign class.Str = refl
 kind_rank Large class.Numeric = refl
@@ -132,7 +116,7 @@ kind_rank sign class.DateTime = refl
 
 pub rank_is : (sign : Sign) (c : ColumnPaginationOrder) (keys : ColumnKeys)
     → type_of keys ≡ kind_of sign c → keys_rank keys ≡ order_rank c
-rank_is sign c keys is = keys_type keys ∙ ap type_rank is ∙ kind_rank sign c
+rank_is sign c keys is = ap (λ type. order_rank (type_class type)) is ∙ kind_rank sign c
 
 signs_of_rows : (field : ℕ) (keys : ColumnKeys) (rows : List (ℕ × ℕ))
     → map (λ p. sign_of p.key) (column_cells (record { field = field; keys = keys; cells = rows }))

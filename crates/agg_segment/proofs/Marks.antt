@@ -18,21 +18,22 @@ use Rattle.agg_values.specs.TypedKey.{CompositeIntermediateKey}
 use Rattle.agg_segment.specs.Document.{Fields}
 use Rattle.agg_segment.specs.Segment.{Stored, document_at, documents_at, documents_of}
 use Rattle.agg_segment.specs.Columns.{StoredColumn, encoded_key, column_keys, all_keys}
-use Rattle.agg_segment.specs.Marks.{AreMarks, mark_at, marked_docs, has_key, any_matches}
-use Rattle.agg_segment.specs.Spans.{is_in, IsNumberOf, IsSpanOf}
+use Rattle.agg_segment.specs.Marks.{AreMarks, mark_at, marked_docs, has_key}
+use Rattle.agg_segment.specs.Query.{matches, some_matches}
+use Rattle.agg_segment.specs.Spans.{is_in, IsColumnNumber, IsSpanOf}
 use Rattle.agg_segment.specs.declared.keys.ColumnKeys.{ColumnKeys}
 use Rattle.agg_segment.specs.declared.query.span.Span.{Span}
 
 -- a span has a number where a key is such
 pub span_finds : (keys : ColumnKeys) (is_such : CompositeIntermediateKey → Bool) (span : Span)
-    → IsSpanOf keys is_such (Some span) → (ns : List ℕ) → All (IsNumberOf keys) ns
+    → IsSpanOf keys is_such (Some span) → (ns : List ℕ) → All (IsColumnNumber keys) ns
     → list_any (is_in span) ns ≡ list_any is_such (map (encoded_key keys) ns)
 span_finds keys is_such span of [] all = refl
 span_finds keys is_such span of (n ∷ ns) all =
     rw (
-      of n (All-head (IsNumberOf keys) n ns all),
+      of n (All-head (IsColumnNumber keys) n ns all),
       span_finds keys is_such span of ns
-          (All-tail (IsNumberOf keys) n ns all),
+          (All-tail (IsColumnNumber keys) n ns all),
     ) refl
 
 -- where there is no span no key is such
@@ -161,16 +162,19 @@ marked_more marks docs n b is at =
 -- marks of what one query matches and others don't, as those of a query that says the same
 pub without : (p q : Fields → Bool) (segment : Stored) (old : List Bool)
     (slice others : List QueryTree) (result : Result (Vec Bool Global) OutOfMemory)
-    → ((document : Fields) → q document ≡ (p document && not (any_matches others document)))
+    → ((document : Fields) → q document ≡
+    (p document && not (some_matches matches others document)))
     → slice ≡ others → AreMarks p segment old → IfOk result (λ left. (is_such : Fields → Bool)
     → AreMarks is_such segment old
-    → AreMarks (λ document. is_such document && not (any_matches slice document)) segment
+    → AreMarks (λ document. is_such document && not (some_matches matches slice document)) segment
     left.items) → IfOk result (λ left. AreMarks q segment left.items)
 without p q segment old slice others result same is marks =
     IfOk-weaker result (λ left. (is_such : Fields → Bool) → AreMarks is_such segment old
-    → AreMarks (λ document. is_such document && not (any_matches slice document)) segment
+    → AreMarks (λ document. is_such document && not (some_matches matches slice document)) segment
     left.items) (λ left. AreMarks q segment left.items)
-    (λ left told. AreMarks-same (λ document. p document && not (any_matches slice document)) q
+    (λ left told. AreMarks-same
+    (λ document. p document && not (some_matches matches slice document)) q
     segment left.items
-    (λ document. same document ∙ ap (λ trees. p document && not (any_matches trees document))
+    (λ document. same document ∙ ap
+    (λ trees. p document && not (some_matches matches trees document))
     (sym is)) (told p marks))

@@ -11,9 +11,9 @@ use Rattle.std.proofs.lemmas.List.Elements.{filter-append, All-append, All-cons}
 use Rattle.agg_values.specs.declared.address.Address.{Address}
 use Rattle.agg_values.specs.declared.column.ColumnPaginationOrder.{ColumnPaginationOrder}
 use Rattle.agg_values.specs.declared.column.ColumnPaginationOrder.TheVariants as class
-use Rattle.agg_values.specs.TypedKey.{CompositeIntermediateKey, class_rank}
+use Rattle.agg_values.specs.Column.{class_rank, order_rank}
+use Rattle.agg_values.specs.TypedKey.{CompositeIntermediateKey}
 use Rattle.agg_segment.specs.Cells.{Placed, keys_at}
-use Rattle.agg_segment.specs.CellOrder.{order_rank}
 use Rattle.agg_segment.specs.Columns.{StoredColumn, keys_rank, AreInOrder}
 use Rattle.agg_segment.specs.Document.{by_class}
 use Rattle.agg_segment.specs.Gatherings.{Raw, raws, column_raws, raw_placed, is_column, raw_key}

@@ -10,7 +10,7 @@ use Rattle.std.proofs.lemmas.List.{append-nil, append_assoc, map-append, set-get
 use Rattle.std.proofs.lemmas.List.Elements.{All-append, All-head, All-tail, All-cons, filter-append}
 use Rattle.agg_values.specs.declared.column.ColumnPaginationOrder.{ColumnPaginationOrder}
 use Rattle.agg_values.specs.declared.column.ColumnPaginationOrder.TheVariants as class
-use Rattle.agg_segment.specs.CellOrder.{order_rank}
+use Rattle.agg_values.specs.Column.{order_rank}
 use Rattle.agg_segment.specs.Gatherings.{Raw, column_raws, raws, is_raw_of, forgotten}
 use Rattle.agg_segment.specs.Gatherings.{AreAlike, AreApart, IsPutInto, IsRawOf, AreRawsOf}
 use Rattle.agg_segment.specs.declared.gatherings.Gathering.{Gathering}

@@ -3,6 +3,7 @@ use Rattle.std.specs.Prelude.{◌≡◌}
 use Rattle.std.specs.Prelude.{ℕ}
 use Rattle.std.specs.Ordering.{nat_cmp, ordering_then}
 use Rattle.std.specs.declared.cmp.Ordering.{Ordering}
+use Rattle.agg_values.specs.Column.{order_rank}
 use Rattle.agg_values.specs.declared.column.ColumnPaginationOrder.{ColumnPaginationOrder}
 use Rattle.agg_values.specs.declared.column.ColumnPaginationOrder.TheVariants as class
 use Rattle.agg_segment.specs.declared.log.CellValue.{CellValue}
@@ -16,14 +17,6 @@ cell_class (cell.I64 n) = class.Numeric
 cell_class (cell.U64 n) = class.Numeric
 cell_class (cell.Ip place) = class.IpAddr
 cell_class (cell.Date ns) = class.DateTime
-
--- the rank of a class
-abbrev pub order_rank : ColumnPaginationOrder → ℕ
-order_rank class.Bool = 1
-order_rank class.Str = 2
-order_rank class.Numeric = 3
-order_rank class.IpAddr = 4
-order_rank class.DateTime = 5
 
 -- an order of fields and classes is by their numbers
 pub record IsByRank

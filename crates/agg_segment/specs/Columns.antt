@@ -3,9 +3,12 @@ use Rattle.std.specs.Prelude.{◌≡◌, ◌==◌, ◌<◌, ◌≤◌, ◌^◌, 
 use Rattle.std.specs.Prelude.{List, [], map, filter, length, flat_map, get_or}
 use Rattle.std.specs.List.{All, Contains}
 use Rattle.std.specs.Ordering.{nat_cmp}
+use Rattle.agg_values.specs.Column.{order_rank}
 use Rattle.agg_values.specs.KeyOrder.{ascending_order}
 use Rattle.agg_values.specs.TypedKey.{typed_number}
 use Rattle.agg_values.specs.declared.address.Address.{Address}
+use Rattle.agg_values.specs.declared.column.ColumnPaginationOrder.{ColumnPaginationOrder}
+use Rattle.agg_values.specs.declared.column.ColumnPaginationOrder.TheVariants as class
 use Rattle.agg_values.specs.TypedKey.{CompositeIntermediateKey}
 use Rattle.agg_values.specs.declared.typed_key.CompositeIntermediateKey.TheVariants as key
 use Rattle.agg_segment.specs.Cells.{Placed}
@@ -46,15 +49,6 @@ AreInKeyOrder keys =
     (left right : ℕ) → StandsForKey keys left → StandsForKey keys right
     → ascending_order (encoded_key keys left) (encoded_key keys right) ≡ nat_cmp left right
 
--- the rank of the class of its keys
-abbrev pub keys_rank : ColumnKeys → ℕ
-keys_rank Bools = 1
-keys_rank (Texts texts) = 2
-keys_rank Signed = 3
-keys_rank Unsigned = 3
-keys_rank (Addresses addresses) = 4
-keys_rank Dates = 5
-
 -- the type of a column
 abbrev pub type_of : ColumnKeys → ColumnType
 type_of Bools = kind.Bool
@@ -63,6 +57,19 @@ type_of Signed = kind.I64
 type_of Unsigned = kind.U64
 type_of (Addresses addresses) = kind.IpAddr
 type_of Dates = kind.DateTime
+
+-- the class of the keys of a column of a type
+abbrev pub type_class : ColumnType → ColumnPaginationOrder
+type_class kind.Bool = class.Bool
+type_class kind.Str = class.Str
+type_class kind.I64 = class.Numeric
+type_class kind.U64 = class.Numeric
+type_class kind.IpAddr = class.IpAddr
+type_class kind.DateTime = class.DateTime
+
+-- the rank of the class of its keys
+abbrev pub keys_rank : ColumnKeys → ℕ
+keys_rank keys = order_rank (type_class (type_of keys))
 
 -- the numbers of a document
 abbrev pub numbers_at : List (ℕ × ℕ) → ℕ → List ℕ

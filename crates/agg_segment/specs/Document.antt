@@ -1,7 +1,8 @@
 -- Documents: values with the names of their fields, and the keys that they mean.
 use Rattle.std.specs.Prelude.{◌==◌, ℕ, List, [], ◌∷◌, map, filter, flat_map}
 use Rattle.std.specs.Str.{bytes_eq}
-use Rattle.agg_values.specs.TypedKey.{class_rank, canonical_key}
+use Rattle.agg_values.specs.Column.{class_rank}
+use Rattle.agg_values.specs.TypedKey.{canonical_key}
 use Rattle.agg_values.specs.TypedKey.{CompositeIntermediateKey}
 use Rattle.agg_values.specs.declared.typed_key.CompositeIntermediateKey.TheVariants as key
 use Rattle.agg_segment.specs.declared.document.FieldValue.{FieldValue}
@@ -11,14 +12,19 @@ use Rattle.agg_segment.specs.declared.document.FieldValue.TheVariants as value
 abbrev pub Fields : Type 0
 Fields = List ℕ → List CompositeIntermediateKey
 
+-- the key of a value as it was given
+abbrev pub said_key : FieldValue → CompositeIntermediateKey
+said_key (value.Bool b) = key.Bool b
+said_key (value.Str text) = key.Str text
+said_key (value.I64 n) = key.I64 n
+said_key (value.U64 n) = key.U64 n
+said_key (value.Ip address) = key.IpAddr address
+said_key (value.Date ns) = key.DateTime ns
+
 -- the canonical key of a value
 abbrev pub key_of : FieldValue → CompositeIntermediateKey
-key_of (value.Bool b) = key.Bool b
-key_of (value.Str text) = key.Str text
-key_of (value.I64 n) = key.I64 n
 key_of (value.U64 n) = canonical_key (key.U64 n)
-key_of (value.Ip address) = key.IpAddr address
-key_of (value.Date ns) = key.DateTime ns
+key_of value = said_key value
 
 -- the ranks of the classes, ascending; the first one is Null's
 abbrev pub class_ranks : List ℕ

@@ -9,7 +9,8 @@ use Rattle.agg_values.specs.declared.column.ColumnPaginationOrder.TheVariants as
 use Rattle.agg_values.specs.TypedKey.{CompositeIntermediateKey}
 use Rattle.agg_values.specs.declared.typed_key.CompositeIntermediateKey.TheVariants as key
 use Rattle.agg_segment.specs.Cells.{Placed}
-use Rattle.agg_segment.specs.CellOrder.{cell_class, order_rank}
+use Rattle.agg_segment.specs.CellOrder.{cell_class}
+use Rattle.agg_values.specs.Column.{order_rank}
 use Rattle.agg_segment.specs.Columns.{StoredColumn, keys_rank}
 use Rattle.agg_segment.specs.Dictionary.{text_at, address_at, HasOrdinal}
 use Rattle.agg_segment.specs.declared.gatherings.Gathering.{Gathering}

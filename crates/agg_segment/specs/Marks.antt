@@ -31,14 +31,6 @@ pub record AreMarks (is_such : Fields → Bool) (segment : Stored) (marks : List
 abbrev pub has_key : (CompositeIntermediateKey → Bool) → ℕ → StoredColumn → Bool
 has_key is_such doc column = list_any is_such (column_keys column doc)
 
--- whether every query matches
-abbrev pub each_matches : List QueryTree → Fields → Bool
-each_matches trees document = list_all (λ tree. matches tree document) trees
-
--- whether some query matches
-abbrev pub any_matches : List QueryTree → Fields → Bool
-any_matches trees document = list_any (λ tree. matches tree document) trees
-
 -- the documents with a mark, ascending
 abbrev pub marked_docs : List Bool → List ℕ
 marked_docs marks = filter (mark_at marks) (range_with_len 0 (length marks))

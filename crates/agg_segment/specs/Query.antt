@@ -3,7 +3,8 @@ use Rattle.std.specs.Prelude.{◌==◌, ◌&&◌, ℕ, List, [], ◌∷◌, Bool
 use Rattle.std.specs.List.{list_any, list_all}
 use Rattle.std.specs.Ordering.{is_eq, is_lt, is_le, is_gt, is_ge}
 use Rattle.agg_values.specs.KeyOrder.{ascending_order}
-use Rattle.agg_values.specs.TypedKey.{CompositeIntermediateKey, class_rank}
+use Rattle.agg_values.specs.Column.{class_rank}
+use Rattle.agg_values.specs.TypedKey.{CompositeIntermediateKey}
 use Rattle.agg_segment.specs.Document.{Fields, key_of, by_class}
 use Rattle.agg_segment.specs.declared.document.FieldValue.{FieldValue}
 use Rattle.agg_segment.specs.declared.query.RangeBound.{RangeBound}
@@ -45,18 +46,22 @@ is_any key = true
 abbrev pub holds : (CompositeIntermediateKey → Bool) → List ℕ → Fields → Bool
 holds is_such field document = list_any is_such (document field)
 
--- whether all of these match
-abbrev pub all_match : List (Fields → Bool) → Fields → Bool
-all_match queries document = list_all (λ is_match. is_match document) queries
+-- whether all of these match, by what each matches
+abbrev pub all_match : {Q : Type 0} → (Q → Fields → Bool) → List Q → Fields → Bool
+all_match is_match queries document = list_all (λ query. is_match query document) queries
 
--- whether some of these matches
-abbrev pub some_matches : List (Fields → Bool) → Fields → Bool
-some_matches queries document = list_any (λ is_match. is_match document) queries
+-- whether some of these matches, by what each matches
+abbrev pub some_matches : {Q : Type 0} → (Q → Fields → Bool) → List Q → Fields → Bool
+some_matches is_match queries document = list_any (λ query. is_match query document) queries
+
+-- what a query matches that is its own test
+abbrev pub by_itself : (Fields → Bool) → Fields → Bool
+by_itself is_match = is_match
 
 -- every must, and where there is none, some should
 abbrev pub wanted_match : List (Fields → Bool) → List (Fields → Bool) → Fields → Bool
-wanted_match [] should document = some_matches should document
-wanted_match (query ∷ must) should document = all_match (query ∷ must) document
+wanted_match [] should document = some_matches by_itself should document
+wanted_match (query ∷ must) should document = all_match by_itself (query ∷ must) document
 
 -- whether a query matches, where its parts say so
 abbrev pub matches_by : QueryTree-F (Fields → Bool) → Fields → Bool
@@ -66,7 +71,7 @@ matches_by (Term field value) document = holds (is_value value) field document
 matches_by (Range field lower upper) document = holds (is_between lower upper) field document
 matches_by (Exists field) document = holds is_any field document
 matches_by (Boolean must should must_not) document =
-    wanted_match must should document && not (some_matches must_not document)
+    wanted_match must should document && not (some_matches by_itself must_not document)
 
 -- whether a query matches a document
 abbrev pub matches : QueryTree → Fields → Bool

@@ -21,13 +21,13 @@ place_cmp (Next place) n = if nat_lt n place then Less else Greater
 place_cmp AfterLast n = Less
 
 -- a number of a column
-abbrev pub IsNumberOf : ColumnKeys → ℕ → Type 0
-IsNumberOf keys n = (n < 2 ^ 64) × StandsForKey keys n
+abbrev pub IsColumnNumber : ColumnKeys → ℕ → Type 0
+IsColumnNumber keys n = (n < 2 ^ 64) × StandsForKey keys n
 
 -- the numbers of a column compare with a place as their keys do with the value
 abbrev pub IsPlaceOf : ColumnKeys → FieldValue → OrdHit → Type 0
 IsPlaceOf keys value place =
-    (n : ℕ) → IsNumberOf keys n
+    (n : ℕ) → IsColumnNumber keys n
     → ascending_order (encoded_key keys n) (key_of value) ≡ place_cmp place n
 
 -- whether a number is in a span
@@ -38,4 +38,4 @@ is_in span n = nat_le span.first n && nat_le n span.last
 abbrev pub IsSpanOf : ColumnKeys → (CompositeIntermediateKey → Bool) → Option Span → Type 0
 IsSpanOf keys is_such None = (n : ℕ) → is_such (encoded_key keys n) ≡ false
 IsSpanOf keys is_such (Some span) =
-    (n : ℕ) → IsNumberOf keys n → is_in span n ≡ is_such (encoded_key keys n)
+    (n : ℕ) → IsColumnNumber keys n → is_in span n ≡ is_such (encoded_key keys n)

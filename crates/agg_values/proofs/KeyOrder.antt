@@ -9,7 +9,8 @@ use Rattle.std.proofs.lemmas.Int.{ints}
 use Rattle.std.specs.Cmp.{IsTotalOrder, then_flip}
 use Rattle.std.specs.Prelude.{int_lt, unsigned_abs}
 use Rattle.std.specs.Ordering.{nat_cmp, ordering_then, ordering_reverse}
-use Rattle.agg_values.specs.TypedKey.{class_rank, truth_or_number, address_of, text_of, IsCanonical}
+use Rattle.agg_values.specs.Column.{class_rank}
+use Rattle.agg_values.specs.TypedKey.{truth_or_number, address_of, text_of, IsCanonical}
 use Rattle.agg_values.specs.KeyOrder.{ascending_order, directed, null_rank, key_order}
 use Rattle.agg_values.specs.Laws.{IsExactOn, IsReverseOn}
 use Rattle.agg_values.specs.TypedKey.{CompositeIntermediateKey}

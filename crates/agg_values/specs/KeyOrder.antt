@@ -5,7 +5,8 @@ use Rattle.std.specs.declared.cmp.Ordering.TheVariants.{Less, Equal, Greater}
 use Rattle.std.specs.Ordering.{nat_cmp, int_cmp, on, then_cmp, flip_args, ordering_then}
 use Rattle.std.specs.Cmp.Lexicographic.{slice_cmp}
 use Rattle.agg_values.specs.Tuple.{KeyTuple}
-use Rattle.agg_values.specs.TypedKey.{class_rank, truth_or_number, address_of, text_of}
+use Rattle.agg_values.specs.Column.{class_rank}
+use Rattle.agg_values.specs.TypedKey.{truth_or_number, address_of, text_of}
 use Rattle.agg_values.specs.TypedKey.{CompositeIntermediateKey}
 use Rattle.agg_values.specs.TypedKey.key.{Null}
 use Rattle.agg_values.specs.declared.order.Order.{Order}

@@ -6,16 +6,6 @@ pub use typed.{CompositeIntermediateKey}
 pub use typed.TheVariants as key
 use key.{Bool as Truth, Str, I64, U64, DateTime, IpAddr, Null}
 
--- the place of a key's class among the classes; Null has none, and stands at 0
-abbrev pub class_rank : CompositeIntermediateKey → ℕ
-class_rank Null = 0
-class_rank (Truth b) = 1
-class_rank (Str text) = 2
-class_rank (I64 n) = 3
-class_rank (U64 n) = 3
-class_rank (IpAddr a) = 4
-class_rank (DateTime ns) = 5
-
 -- the number of a key: false is 0 and true is 1, a date is its nanoseconds; 0 for the other classes
 abbrev pub truth_or_number : CompositeIntermediateKey → ℤ
 truth_or_number Null = pos 0

@@ -1,5 +1,6 @@
 ghost use Rattle.std.specs.Prelude.{◌≡◌};
-ghost use Rattle.agg_values.specs.TypedKey.{class_rank, truth_or_number, address_of, text_of};
+ghost use Rattle.agg_values.specs.Column.{class_rank};
+ghost use Rattle.agg_values.specs.TypedKey.{truth_or_number, address_of, text_of};
 ghost use Rattle.agg_values.specs.KeyOrder.{ascending_order, directed, null_rank, key_order};
 
 use crate::CompositeIntermediateKey;

@@ -1,8 +1,7 @@
 ghost use Rattle.std.specs.Prelude.{◌≡◌, ◌&&◌, Bool, IfOk, map, filter, length, not};
 ghost use Rattle.agg_segment.specs.Document.{Fields};
 ghost use Rattle.agg_segment.specs.Marks.{AreMarks, mark_at, marked_docs};
-ghost use Rattle.agg_segment.specs.Marks.{each_matches, any_matches};
-ghost use Rattle.agg_segment.specs.Query.{matches};
+ghost use Rattle.agg_segment.specs.Query.{all_match, matches, some_matches};
 ghost use Rattle.agg_segment.specs.Segment.{Stored, documents_at, documents_of};
 ghost use Rattle.agg_segment.specs.declared.query.QueryTree.{QueryTree};
 
@@ -119,7 +118,7 @@ fn unmatched_marks(
     requires { length marks.items ≡ length (documents_of segment.now) }
     ensures { IfOk result (λ left. (is_such : Fields → Bool)
         → AreMarks is_such segment.now marks.items
-        → AreMarks (λ document. is_such document && not (any_matches trees.now document))
+        → AreMarks (λ document. is_such document && not (some_matches matches trees.now document))
         segment.now left.items) }
 {
     let others = any_marks(alloc, trees, segment)?;
@@ -133,7 +132,8 @@ fn each_marks(
     trees: &[QueryTree],
     segment: &SegmentReader,
 ) -> Result<Vec<bool>, OutOfMemory>
-    ensures { IfOk result (λ marks. AreMarks (each_matches trees.now) segment.now marks.items) }
+    ensures { IfOk result
+        (λ marks. AreMarks (all_match matches trees.now) segment.now marks.items) }
 {
     let mut marks = same_marks(alloc, segment, true)?;
     for tree in trees {
@@ -149,7 +149,8 @@ fn any_marks(
     trees: &[QueryTree],
     segment: &SegmentReader,
 ) -> Result<Vec<bool>, OutOfMemory>
-    ensures { IfOk result (λ marks. AreMarks (any_matches trees.now) segment.now marks.items) }
+    ensures { IfOk result
+        (λ marks. AreMarks (some_matches matches trees.now) segment.now marks.items) }
 {
     let mut marks = same_marks(alloc, segment, false)?;
     for tree in trees {

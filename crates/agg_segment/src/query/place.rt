@@ -1,6 +1,6 @@
 ghost use Rattle.std.specs.Prelude.{◌≡◌, ◌==◌, ◌-ℤ◌, ◌^◌, ◌<◌, ℕ, pos, false, IfSome, IfNone};
 ghost use Rattle.std.specs.Ordering.{int_cmp};
-ghost use Rattle.agg_values.specs.TypedKey.{class_rank};
+ghost use Rattle.agg_values.specs.Column.{class_rank};
 ghost use Rattle.agg_segment.specs.Columns.{keys_rank};
 ghost use Rattle.agg_segment.specs.Document.{key_of};
 ghost use Rattle.agg_segment.specs.Spans.{IsPlaceOf, place_cmp};
