@@ -8,6 +8,7 @@ use Rattle.agg_values.proofs.KeyTexts.{IsKeyText-unique}
 use Rattle.agg_values.specs.KeyText.{IsKeyText}
 use Rattle.agg_values.specs.TypedKey.{CompositeIntermediateKey}
 use Rattle.agg_values.specs.declared.typed_key.CompositeIntermediateKey.TheVariants as key
+use Rattle.agg_segment.specs.Document.{said_key}
 use Rattle.agg_segment.specs.declared.document.FieldValue.{FieldValue}
 use Rattle.agg_segment.specs.declared.document.FieldValue.TheVariants as value
 use Rattle.agg_segment.specs.declared.query.RangeBound.{RangeBound}
@@ -17,7 +18,7 @@ use Rattle.agg_segment.specs.declared.query.QueryTree.TheVariants.{Term, Range, 
 use Rattle.agg_segment.specs.declared.query.QueryTree.TheVariants.{All, Empty}
 use Rattle.agg_request.specs.Json.{EachIs, IsList}
 use Rattle.agg_request.specs.Query.{IsBoolean, IsBound, IsExists, IsFilter, IsOfKind, IsPlain}
-use Rattle.agg_request.specs.Query.{IsQuery, IsRange, IsTerm, SaysAt, said_key}
+use Rattle.agg_request.specs.Query.{IsQuery, IsRange, IsTerm, SaysAt}
 use Rattle.agg_request.proofs.ValueTexts.{said_strictly}
 use Rattle.agg_pages.proofs.Documents.{none_is_some, same_value}
 

@@ -2,6 +2,7 @@
 use Rattle.std.proofs.Common.{◌≡◌, ◌≢◌, ◌⊎◌, Bool, true, false, true≢false, List, ℕ, None}
 use Rattle.std.proofs.Common.{Result, Ok, Err, IsErrAnd, IsErrOf, codes, refl, sym, ap, ◌∙◌}
 use Rattle.std.proofs.Common.{is_some, inl, inr}
+use Rattle.std.specs.Str.{bytes_eq}
 use Rattle.serde_json.specs.Data.{Data}
 use Rattle.agg_segment.specs.declared.query.QueryTree.{QueryTree}
 use Rattle.agg_request.specs.Builders.{builder_name, left_by_filter, left_by_kind}
@@ -20,7 +21,7 @@ use Rattle.agg_request.specs.declared.read_error.ReadError.{ReadError}
 use Rattle.agg_request.specs.declared.read_error.ReadError.TheVariants.{Unsupported, Grammar}
 use Rattle.agg_request.specs.declared.read_error.ReadError.TheVariants.{UnknownBuilder}
 use Rattle.agg_request.specs.declared.read_error.ReadError.TheVariants.{OutOfMemory}
-use Rattle.agg_request.proofs.PoolReadings.{passed_alone}
+use Rattle.agg_request.proofs.PoolReadings.{passed_alone, passed_with}
 
 -- ---- metrics
 
@@ -98,7 +99,45 @@ module _ {B : Type 0} (name_of : B → List ℕ) (body : Data) (plain : builder_
       by_error : (e : ReadError) → inner ≡ Err e
           → IsReadingWith (λ lenient. IsQueryOf lenient name_of body) (HasUnsupportedQuery body)
           (λ some. left_by_filter name_of (builder_name body) some ≡ None) pool (Err e)
-      by_error Unsupported at = (unsupported at, no_filter (none (inl at)))
-      by_error Grammar at = no_filter_at_all (none (inr at)) (grammar at)
+      by_error Unsupported at = (unsupported at, λ x. no_filter (none (inl at)) x.0 x.1)
+      by_error Grammar at =
+          λ lenient x. no_filter_at_all (none (inr at)) (grammar at) lenient x.0 x.1
       by_error UnknownBuilder at = absurd (kinds at)
       by_error OutOfMemory at = tt
+
+module _ {B : Type 0} (name_of : B → List ℕ) (kind : List ℕ) (is : kind ≡ codes "filter")
+    (body : Data) where
+  -- a filter is of no other kind
+  no_other : (other : List ℕ) → kind ≡ other → bytes_eq other (codes "filter") ≡ false → ⊥
+  no_other other e apart =
+      true≢false (ap (λ k. bytes_eq k (codes "filter")) (sym is ∙ e) ∙ apart)
+
+  -- what such a kind asks is a query
+  query_of : (lenient : Bool) (some : List B) (agg : AggregationVariants B)
+      → IsKind lenient name_of kind body some agg
+      → (query : FilterQuery B) × IsQueryOf lenient name_of body some query
+  query_of lenient some agg (inr (may, known)) =
+      absurd (true≢false (sym known ∙ ap (λ k. is_among k unsupported_kinds) is))
+  query_of lenient some (Filter filter) (inl (e, h)) = (filter.query, h)
+  query_of lenient some (Composite composite) (inl (e, h)) = absurd (no_other _ e refl)
+  query_of lenient some (Count agg) (inl (e, h)) = absurd (no_other _ e refl)
+  query_of lenient some (Max agg) (inl (e, h)) = absurd (no_other _ e refl)
+  query_of lenient some (Min agg) (inl (e, h)) = absurd (no_other _ e refl)
+  query_of lenient some (Sum agg) (inl (e, h)) = absurd (no_other _ e refl)
+
+  -- a refused query refuses what is asked
+  pub refused_filter : (pool : List B) (error : ReadError)
+      (result : Result (AggregationVariants B) ReadError) → IsErrAnd result (λ e. e ≡ error)
+      → IsReadingWith (λ lenient. IsQueryOf lenient name_of body) (HasUnsupportedQuery body)
+      (λ some. left_by_filter name_of (builder_name body) some ≡ None) pool (Err error)
+      → IsReadingWith (λ lenient. IsKind lenient name_of kind body) (HasUnsupportedAsked kind body)
+      (λ some. left_by_kind name_of kind body some ≡ None) pool result
+  refused_filter pool error result told refusal =
+      passed_with (λ lenient. IsQueryOf lenient name_of body) (HasUnsupportedQuery body)
+      (λ some. left_by_filter name_of (builder_name body) some ≡ None)
+      (λ lenient. IsKind lenient name_of kind body) (HasUnsupportedAsked kind body)
+      (λ some. left_by_kind name_of kind body some ≡ None) pool pool error result told refusal
+      (λ h. inr (inl (is, h)))
+      (λ lenient some agg h.
+      let found = query_of lenient some agg h in (some, found.0, found.1))
+      (λ none. ap (λ k. left_by_kind name_of k body pool) is ∙ none)

@@ -7,9 +7,8 @@ use Rattle.serde_json.specs.Find.{as_array, get}
 use Rattle.agg_calendar.specs.declared.interval.CalendarInterval.{CalendarInterval}
 use Rattle.agg_calendar.specs.declared.interval.CalendarInterval.TheVariants.{Year, Month, Week}
 use Rattle.agg_request.specs.CompositeJson.{AreSources, HasUnsupportedInterval, HasUnsupportedKind}
-use Rattle.agg_request.specs.CompositeJson.{HasUnsupportedSource, IsDateHistogramBody}
-use Rattle.agg_request.specs.CompositeJson.{IsHistogramBody, IsSourceJson, IsSourceOfKind}
-use Rattle.agg_request.specs.CompositeJson.{IsTermsBody, unit_word}
+use Rattle.agg_request.specs.CompositeJson.{HasUnsupportedSource, IsSourceBody, IsSourceJson}
+use Rattle.agg_request.specs.CompositeJson.{IsSourceOfKind, unit_word}
 use Rattle.agg_request.specs.Json.{EachIs, HasUnsupportedItem, only_member}
 use Rattle.agg_request.specs.Reading.{IsReading}
 use Rattle.agg_request.specs.Source.{Sources}
@@ -35,7 +34,7 @@ by_letter text other same apart = absurd (apart (ap (λ l. get_or l 0 0) same))
 -- the terms of a source of this kind
 pub terms_of : (name kind : List ℕ) (body : Data) → kind ≡ codes "terms" → (lenient : Bool)
     (source : CompositeAggregationSource) → IsSourceOfKind lenient name kind body source
-    → (terms : Term) × IsTermsBody name body terms
+    → (terms : Term) × IsSourceBody lenient name body (Terms terms)
 terms_of name kind body is lenient (Terms source) h = (source, h.1)
 terms_of name kind body is lenient (Histogram source) h =
     by_letter (codes "terms") (codes "histogram") (sym is ∙ h.0) (λ l. omega (arith, l))
@@ -45,7 +44,7 @@ terms_of name kind body is lenient (DateHistogram source) h =
 -- the numbers of a source of this kind
 pub numbers_of : (name kind : List ℕ) (body : Data) → kind ≡ codes "histogram" → (lenient : Bool)
     (source : CompositeAggregationSource) → IsSourceOfKind lenient name kind body source
-    → (numbers : Numbers) × IsHistogramBody lenient name body numbers
+    → (numbers : Numbers) × IsSourceBody lenient name body (Histogram numbers)
 numbers_of name kind body is lenient (Terms source) h =
     by_letter (codes "histogram") (codes "terms") (sym is ∙ h.0) (λ l. omega (arith, l))
 numbers_of name kind body is lenient (Histogram source) h = (source, h.1)
@@ -56,7 +55,7 @@ numbers_of name kind body is lenient (DateHistogram source) h =
 pub dates_of : (name kind : List ℕ) (body : Data) → kind ≡ codes "date_histogram"
     → (lenient : Bool) (source : CompositeAggregationSource)
     → IsSourceOfKind lenient name kind body source
-    → (dates : Dates) × IsDateHistogramBody name body dates
+    → (dates : Dates) × IsSourceBody lenient name body (DateHistogram dates)
 dates_of name kind body is lenient (Terms source) h =
     by_letter (codes "date_histogram") (codes "terms") (sym is ∙ h.0) (λ l. omega (arith, l))
 dates_of name kind body is lenient (Histogram source) h =

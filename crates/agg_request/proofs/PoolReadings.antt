@@ -17,14 +17,14 @@ pub refused_with : {A B C : Type 0} (Part : Bool → List B → C → Type 0) (H
     → IsReadingWith Is Has IsWanting pool (Err error)
 refused_with Part HasPart WantsPart Is Has IsWanting rest pool Unsupported told up part want = (
   up told.0,
-  λ some x h.
-      let found = part false some x h in
-      told.1 found.0 found.1 found.2,
+  λ x h.
+      let found = part false x.0 x.1 h in
+      told.1 (found.0, found.1) found.2,
 )
 refused_with Part HasPart WantsPart Is Has IsWanting rest pool Grammar told up part want =
-    λ lenient some x h.
-    let found = part lenient some x h in
-    told lenient found.0 found.1 found.2
+    λ lenient x h.
+    let found = part lenient x.0 x.1 h in
+    told lenient (found.0, found.1) found.2
 refused_with Part HasPart WantsPart Is Has IsWanting rest pool UnknownBuilder told up part want =
     want told
 refused_with Part HasPart WantsPart Is Has IsWanting rest pool OutOfMemory told up part want = tt
@@ -74,13 +74,13 @@ passed_alone Part HasPart Is Has IsWanting pool error (Err e) is told up part =
         → IsReadingWith Is Has IsWanting pool (Err e)
     alone Unsupported told = (
       up told.0,
-      λ some x h.
-          let found = part false some x h in
+      λ x h.
+          let found = part false x.0 x.1 h in
           told.1 found.0 found.1,
     )
     alone Grammar told =
-        λ lenient some x h.
-        let found = part lenient some x h in
+        λ lenient x h.
+        let found = part lenient x.0 x.1 h in
         told lenient found.0 found.1
     alone UnknownBuilder told = absurd told
     alone OutOfMemory told = tt

@@ -73,8 +73,8 @@ module _ {B : Type 0} (pool : List B) (name_of : B → List ℕ) (d : Data) wher
     unsupported e = (subst IsRequestReading e told).0
 
     -- it is outside the grammar
-    pub outside : IsErrOf result Grammar → IsNoRequestAtAll name_of d pool
-    outside e = subst IsRequestReading e told
+    pub outside : IsErrOf result Grammar → IsNoRequestAtAll name_of d
+    outside e lenient some request = (subst IsRequestReading e told) lenient (some, request)
 
     -- a builder isn't there
     pub unknown : IsErrOf result UnknownBuilder → HasUnknownBuilder name_of d pool
@@ -83,6 +83,6 @@ module _ {B : Type 0} (pool : List B) (name_of : B → List ℕ) (d : Data) wher
     -- where it is refused, it is no request
     pub no_request : IsErrOf result Unsupported ⊎ IsErrOf result Grammar
         ⊎ IsErrOf result UnknownBuilder → IsNoRequest name_of d pool
-    no_request (inl e) = (subst IsRequestReading e told).1 pool
+    no_request (inl e) = λ request. (subst IsRequestReading e told).1 (pool, request)
     no_request (inr (inl e)) = outside e false pool
     no_request (inr (inr e)) = λ request. no_unknown request (unknown e)

@@ -10,8 +10,9 @@ use Rattle.agg_values.specs.TypedKey.{CompositeIntermediateKey}
 use Rattle.agg_values.specs.declared.typed_key.CompositeIntermediateKey.TheVariants as key
 use Rattle.agg_values.specs.declared.error.KeyTextError.{KeyTextError}
 use Rattle.agg_values.specs.declared.error.KeyTextError.TheVariants as key_text
+use Rattle.agg_segment.specs.Document.{said_key}
 use Rattle.agg_segment.specs.declared.document.FieldValue.{FieldValue}
-use Rattle.agg_request.specs.Query.{IsUnsupportedText, Says, SaysKey, said_key}
+use Rattle.agg_request.specs.Query.{IsUnsupportedText, Says, SaysKey}
 use Rattle.agg_request.specs.Reading.{IsReading, IsRefusal, refusal_of}
 use Rattle.agg_request.specs.declared.read_error.ReadError.{ReadError}
 use Rattle.agg_request.specs.declared.read_error.ReadError.TheVariants.{Grammar}

@@ -4,8 +4,8 @@ use Rattle.serde_json.specs.Data.{object, array, number, unsigned, Items, no_mem
 use Rattle.serde_json.specs.View.{items_of}
 use Rattle.agg_values.specs.Names.{Named}
 use Rattle.agg_values.specs.declared.after_key.AfterKey.{AfterKey}
-use Rattle.agg_request.specs.CompositeJson.{IsCompositeJson, IsSize, IsSourceJson}
-use Rattle.agg_request.specs.Json.{EachIs}
+use Rattle.agg_request.specs.CompositeJson.{IsCompositeJson, IsSourceJson}
+use Rattle.agg_request.specs.Json.{EachIs, IsWhole, small_number}
 use Rattle.agg_request.specs.ReadBack.{AreKeysReadBack}
 use Rattle.agg_request.specs.WrittenJson.{data_of_composite, data_of_key, data_of_source}
 use Rattle.agg_request.specs.WrittenJson.{members_of, with_after}
@@ -13,7 +13,7 @@ use Rattle.agg_request.specs.declared.aggregation.CompositeAggregation.{Composit
 
 -- what is written of a composite says it
 pub is-composite : (composite : CompositeAggregation)
-    → IsSize false (number (unsigned composite.size)) composite.size
+    → IsWhole small_number false (number (unsigned composite.size)) composite.size
     → EachIs (IsSourceJson false) (items_of (map data_of_source composite.sources))
     composite.sources
     → AreKeysReadBack composite.after

@@ -6,6 +6,7 @@ use Rattle.serde_json.specs.Data.{depth, items_depth}
 use Rattle.serde_json.specs.View.{items_of, view}
 use Rattle.serde_json.specs.declared.value.Value.{Value}
 use Rattle.agg_values.specs.KeyText.{key_text}
+use Rattle.agg_segment.specs.Document.{said_key}
 use Rattle.agg_segment.specs.declared.document.FieldValue.{FieldValue}
 use Rattle.agg_segment.specs.declared.query.RangeBound.{RangeBound}
 use Rattle.agg_segment.specs.declared.query.RangeBound.TheVariants.{Unbounded, Included, Excluded}
@@ -14,10 +15,10 @@ use Rattle.agg_segment.specs.declared.query.QueryTree.TheVariants as tree
 use tree.{All, Empty, Term, Range, Exists, Boolean}
 use Rattle.agg_segment.specs.declared.query.QueryTree.TheOpen as layer
 use Rattle.agg_segment.specs.declared.query.QueryTree.TheFolds.{fold-roll-QueryTree}
-use Rattle.agg_request.specs.Json.{EachIs}
-use Rattle.agg_request.specs.Query.{IsBoolean, IsFilter, IsOfKind, IsRange, IsTerm, said_key}
+use Rattle.agg_request.specs.Json.{alone, EachIs}
+use Rattle.agg_request.specs.Query.{IsBoolean, IsFilter, IsOfKind, IsRange, IsTerm}
 use Rattle.agg_request.specs.ReadBack.{IsBoundReadBack, IsReadBack, IsWritten, SaysFilter}
-use Rattle.agg_request.specs.WrittenJson.{alone, data_of_query, field_members, list_members}
+use Rattle.agg_request.specs.WrittenJson.{data_of_query, field_members, list_members}
 use Rattle.agg_request.specs.WrittenJson.{query_step, range_members, term_members}
 use Rattle.agg_request.proofs.WrittenMembers.{items-written}
 
@@ -27,7 +28,8 @@ pub data-All : data_of_query All ≡ alone (codes "all") (object no_members)
 data-All = ap data_of_query (sym tree.rolls-All) ∙ fold-roll-QueryTree Data query_step layer.All
 
 pub data-Empty : data_of_query Empty ≡ alone (codes "empty") (object no_members)
-data-Empty = ap data_of_query (sym tree.rolls-Empty) ∙ fold-roll-QueryTree Data query_step layer.Empty
+data-Empty =
+    ap data_of_query (sym tree.rolls-Empty) ∙ fold-roll-QueryTree Data query_step layer.Empty
 
 pub data-Term : (field : List ℕ) (value : FieldValue)
     → data_of_query (Term field value) ≡ alone (codes "term") (object (term_members field value))
@@ -82,12 +84,36 @@ is-range d field lower upper is above under =
         → IsRange false (object (range_members field lower upper)) (Range field lower upper)
     by_bounds Unbounded Unbounded l u =
         (field, Unbounded, Unbounded, refl, refl, refl, (refl, refl), (refl, refl))
-    by_bounds Unbounded (Included y) l u =
-        (field, Unbounded, Included y, refl, refl, refl, (refl, refl), ((text_of y, refl, inl u), refl))
-    by_bounds Unbounded (Excluded y) l u =
-        (field, Unbounded, Excluded y, refl, refl, refl, (refl, refl), ((text_of y, refl, inl u), refl))
-    by_bounds (Included x) Unbounded l u =
-        (field, Included x, Unbounded, refl, refl, refl, ((text_of x, refl, inl l), refl), (refl, refl))
+    by_bounds Unbounded (Included y) l u = (
+      field,
+      Unbounded,
+      Included y,
+      refl,
+      refl,
+      refl,
+      (refl, refl),
+      ((text_of y, refl, inl u), refl),
+    )
+    by_bounds Unbounded (Excluded y) l u = (
+      field,
+      Unbounded,
+      Excluded y,
+      refl,
+      refl,
+      refl,
+      (refl, refl),
+      ((text_of y, refl, inl u), refl),
+    )
+    by_bounds (Included x) Unbounded l u = (
+      field,
+      Included x,
+      Unbounded,
+      refl,
+      refl,
+      refl,
+      ((text_of x, refl, inl l), refl),
+      (refl, refl),
+    )
     by_bounds (Included x) (Included y) l u = (
       field,
       Included x,
@@ -108,8 +134,16 @@ is-range d field lower upper is above under =
       ((text_of x, refl, inl l), refl),
       ((text_of y, refl, inl u), refl),
     )
-    by_bounds (Excluded x) Unbounded l u =
-        (field, Excluded x, Unbounded, refl, refl, refl, ((text_of x, refl, inl l), refl), (refl, refl))
+    by_bounds (Excluded x) Unbounded l u = (
+      field,
+      Excluded x,
+      Unbounded,
+      refl,
+      refl,
+      refl,
+      ((text_of x, refl, inl l), refl),
+      (refl, refl),
+    )
     by_bounds (Excluded x) (Included y) l u = (
       field,
       Excluded x,

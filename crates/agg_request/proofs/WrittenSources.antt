@@ -6,11 +6,11 @@ use Rattle.serde_json.specs.Data.{Data, object}
 use Rattle.serde_json.specs.View.{view, items_view}
 use Rattle.serde_json.specs.declared.value.Value.{Value}
 use Rattle.agg_request.specs.CompositeJson.{IsSourceJson, IsSourceOfKind}
-use Rattle.agg_request.specs.Json.{EachIs}
+use Rattle.agg_request.specs.Json.{alone, EachIs}
 use Rattle.agg_request.specs.ReadBack.{IsWritten}
 use Rattle.agg_request.specs.Source.{name_of}
 use Rattle.agg_request.specs.CompositeJson.{source_word}
-use Rattle.agg_request.specs.WrittenJson.{alone, data_of_source, source_members}
+use Rattle.agg_request.specs.WrittenJson.{data_of_source, source_members}
 use Rattle.agg_request.specs.declared.source.CompositeAggregationSource as any_source
 use any_source.{CompositeAggregationSource}
 use Rattle.agg_request.proofs.Items.{each_put}

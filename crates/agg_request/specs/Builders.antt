@@ -50,18 +50,20 @@ abbrev pub left_by_object : {B : Type 0} → (Data → List B → Option (List B
 left_by_object left None pool = Some pool
 left_by_object left (Some members) pool = left_by_each left members pool
 
+-- the builders that those below an aggregation leave, where this says what each of them leaves
+abbrev pub left_by_below : {B : Type 0} → (Data → List B → Option (List B)) → Data → List B
+    → Option (List B)
+left_by_below left d pool =
+    left_by_object left (option_and_then as_object (get (codes "aggs") d)) pool
+
 -- the builders that an aggregation leaves, within so many levels: it takes its own first, and then
 -- those below it take theirs
 abbrev pub left_behind : {B : Type 0} → (B → List ℕ) → ℕ → Data → List B → Option (List B)
 left_behind name_of zero d pool = Some pool
 left_behind name_of (suc levels) d pool =
-    option_and_then
-    (left_by_object (left_behind name_of levels)
-    (option_and_then as_object (get (codes "aggs") d)))
+    option_and_then (left_by_below (left_behind name_of levels) d)
     (left_by_own name_of (only_other (codes "aggs") d) pool)
 
 -- the builders that those below an aggregation leave, within so many levels
 abbrev pub left_below : {B : Type 0} → (B → List ℕ) → ℕ → Data → List B → Option (List B)
-left_below name_of levels d pool =
-    left_by_object (left_behind name_of levels)
-    (option_and_then as_object (get (codes "aggs") d)) pool
+left_below name_of levels = left_by_below (left_behind name_of levels)

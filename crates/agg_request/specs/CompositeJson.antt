@@ -1,6 +1,6 @@
 -- Composites as JSON: their sources, their size and their after key.
 use Rattle.std.specs.Prelude.{◌≡◌, ◌⊎◌, [], ℕ, ℤ, List, Bool, true, false, Option, None, Some}
-use Rattle.std.specs.Prelude.{codes, option_and_then}
+use Rattle.std.specs.Prelude.{codes, option_and_then, ⊤}
 use Rattle.serde_json.specs.Data.{Data, Items, Members}
 use Rattle.serde_json.specs.Find.{as_array, as_bool, as_object, as_str, get}
 use Rattle.agg_values.specs.Names.{Named}
@@ -12,18 +12,15 @@ use Rattle.agg_values.specs.declared.order.MissingOrder.TheVariants.{Default, Fi
 use Rattle.agg_calendar.specs.declared.interval.CalendarInterval.{CalendarInterval}
 use Rattle.agg_calendar.specs.declared.interval.CalendarInterval.TheVariants.{Year, Month, Week}
 use Rattle.agg_request.specs.Json.{EachIs, EachNamedIs, HasFloatAt, HasUnsupportedList}
-use Rattle.agg_request.specs.Json.{HasUnsupportedMember, IsField, IsFloat, IsGiven, only_member}
-use Rattle.agg_request.specs.Json.{present, small_number, whole_number}
+use Rattle.agg_request.specs.Json.{HasUnsupportedMember, IsField, IsGiven, IsOr, IsWholeAt}
+use Rattle.agg_request.specs.Json.{only_member, present, small_number, whole_number}
 use Rattle.agg_request.specs.Query.{IsUnsupportedText, SaysKey}
-use Rattle.agg_request.specs.Source.{Sources}
+use Rattle.agg_request.specs.Source.{Sources, field_of, missing_bucket_of, missing_order_of}
+use Rattle.agg_request.specs.Source.{name_of, order_of}
 use Rattle.agg_request.specs.declared.aggregation.CompositeAggregation.{CompositeAggregation}
 use Rattle.agg_request.specs.declared.source.CompositeAggregationSource as any_source
 use any_source.{CompositeAggregationSource}
 use any_source.TheVariants.{Terms, Histogram, DateHistogram}
-use Rattle.agg_request.specs.declared.source.TermCompositeAggregationSource as term
-use term.{TermCompositeAggregationSource as Term}
-use Rattle.agg_request.specs.declared.source.HistogramCompositeAggregationSource as numbers
-use numbers.{HistogramCompositeAggregationSource as Numbers}
 use Rattle.agg_request.specs.declared.source.DateHistogramCompositeAggregationSource as dates
 use dates.{DateHistogramCompositeAggregationSource as Dates}
 
@@ -42,13 +39,11 @@ missing_order_word Last = codes "last"
 
 -- what may stand at a member is a value's word; where it is absent the value is this one
 abbrev pub IsWordOr : {A : Type 0} → A → (A → List ℕ) → Option Data → A → Type 0
-IsWordOr given word None value = value ≡ given
-IsWordOr given word (Some d) value = as_str d ≡ Some (word value)
+IsWordOr given word = IsOr given (λ d value. as_str d ≡ Some (word value))
 
 -- what may stand at a member is a truth value; where it is absent it is false
 abbrev pub IsFlag : Option Data → Bool → Type 0
-IsFlag None flag = flag ≡ false
-IsFlag (Some d) flag = as_bool d ≡ Some flag
+IsFlag = IsOr false (λ d flag. as_bool d ≡ Some flag)
 
 -- the word for a unit of the calendar
 abbrev pub unit_word : CalendarInterval → List ℕ
@@ -56,45 +51,33 @@ unit_word Year = codes "year"
 unit_word Month = codes "month"
 unit_word Week = codes "week"
 
--- an interval, a whole number within i64; leniently, a number that isn't whole is any
-abbrev pub IsInterval : Bool → Data → ℤ → Type 0
-IsInterval false d interval = whole_number d ≡ Some interval
-IsInterval true d interval = (whole_number d ≡ Some interval) ⊎ IsFloat d
-
--- the interval of a body
+-- the interval of a body, a whole number within i64
 abbrev pub IsIntervalOf : Bool → Data → ℤ → Type 0
-IsIntervalOf lenient body interval =
-    (d : Data) × (get (codes "interval") body ≡ Some d) × IsInterval lenient d interval
+IsIntervalOf = IsWholeAt whole_number (codes "interval")
 
--- the body of a terms source of a name; other members don't count
-abbrev pub IsTermsBody : List ℕ → Data → Term → Type 0
-IsTermsBody name body source =
-    (source.name ≡ name) × IsField body source.field
-    × IsWordOr Asc order_word (get (codes "order") body) source.order
-    × IsFlag (get (codes "missing_bucket") body) source.missing_bucket
-    × IsWordOr Default missing_order_word (get (codes "missing_order") body) source.missing_order
+-- what the body of any source of a name says; other members don't count
+pub record IsSharedBody (name : List ℕ) (body : Data) (source : CompositeAggregationSource)
+    : Type 0 where
+  pub named : name_of source ≡ name
+  pub field : IsField body (field_of source)
+  pub order : IsWordOr Asc order_word (get (codes "order") body) (order_of source)
+  pub missing_bucket : IsFlag (get (codes "missing_bucket") body) (missing_bucket_of source)
+  pub missing_order : IsWordOr Default missing_order_word (get (codes "missing_order") body)
+      (missing_order_of source)
 
--- the body of a histogram source of a name; other members don't count
-abbrev pub IsHistogramBody : Bool → List ℕ → Data → Numbers → Type 0
-IsHistogramBody lenient name body source =
-    (source.name ≡ name) × IsField body source.field
-    × IsIntervalOf lenient body source.interval
-    × IsWordOr Asc order_word (get (codes "order") body) source.order
-    × IsFlag (get (codes "missing_bucket") body) source.missing_bucket
-    × IsWordOr Default missing_order_word (get (codes "missing_order") body) source.missing_order
-
--- the body of a date source of a name: each interval may stand there, and null stands for none;
--- other members don't count
-abbrev pub IsDateHistogramBody : List ℕ → Data → Dates → Type 0
-IsDateHistogramBody name body source =
-    (source.name ≡ name) × IsField body source.field
-    × IsGiven (λ d text. as_str d ≡ Some text)
+-- the intervals of a date source: each may stand there, and null stands for none
+abbrev pub AreIntervals : Data → Dates → Type 0
+AreIntervals body source =
+    IsGiven (λ d text. as_str d ≡ Some text)
     (present (codes "fixed_interval") body) source.fixed_interval
     × IsGiven (λ d unit. as_str d ≡ Some (unit_word unit))
     (present (codes "calendar_interval") body) source.calendar_interval
-    × IsWordOr Asc order_word (get (codes "order") body) source.order
-    × IsFlag (get (codes "missing_bucket") body) source.missing_bucket
-    × IsWordOr Default missing_order_word (get (codes "missing_order") body) source.missing_order
+
+-- what a body says that a source divides values by
+abbrev pub IsDividedBy : Bool → Data → CompositeAggregationSource → Type 0
+IsDividedBy lenient body (Terms source) = ⊤
+IsDividedBy lenient body (Histogram source) = IsIntervalOf lenient body source.interval
+IsDividedBy lenient body (DateHistogram source) = AreIntervals body source
 
 -- the name of the kind of a source
 abbrev pub source_word : CompositeAggregationSource → List ℕ
@@ -104,9 +87,8 @@ source_word (DateHistogram source) = codes "date_histogram"
 
 -- the body of a source of a name
 abbrev pub IsSourceBody : Bool → List ℕ → Data → CompositeAggregationSource → Type 0
-IsSourceBody lenient name body (Terms source) = IsTermsBody name body source
-IsSourceBody lenient name body (Histogram source) = IsHistogramBody lenient name body source
-IsSourceBody lenient name body (DateHistogram source) = IsDateHistogramBody name body source
+IsSourceBody lenient name body source =
+    IsSharedBody name body source × IsDividedBy lenient body source
 
 -- the body of a source of a name, by the name of its kind
 abbrev pub IsSourceOfKind
@@ -129,14 +111,9 @@ AreSources lenient body sources =
 
 -- ---- the size
 
--- a size; leniently, a number that isn't whole is any
-abbrev pub IsSize : Bool → Data → ℕ → Type 0
-IsSize false d size = small_number d ≡ Some size
-IsSize true d size = (small_number d ≡ Some size) ⊎ IsFloat d
-
--- the size of a body
+-- the size of a body, a whole number within u32
 abbrev pub IsSizeOf : Bool → Data → ℕ → Type 0
-IsSizeOf lenient body size = (d : Data) × (get (codes "size") body ≡ Some d) × IsSize lenient d size
+IsSizeOf = IsWholeAt small_number (codes "size")
 
 -- ---- the after key
 
@@ -145,13 +122,15 @@ abbrev pub IsKeyJson : Bool → Data → AfterKey → Type 0
 IsKeyJson lenient d after =
     (text : List ℕ) × (as_str d ≡ Some text) × SaysKey lenient text after.0
 
--- what may stand at a member is an object of keys by the names of sources; where it is absent there
--- are none
-abbrev pub IsAfter : Bool → Option Data → Named AfterKey → Type 0
-IsAfter lenient None after = after ≡ []
-IsAfter lenient (Some d) after =
+-- an object of keys by the names of sources
+abbrev pub AreKeys : Bool → Data → Named AfterKey → Type 0
+AreKeys lenient d after =
     (members : Members) × (as_object d ≡ Some members)
     × EachNamedIs (IsKeyJson lenient) members after
+
+-- what may stand at a member is such an object; where it is absent there are no keys
+abbrev pub IsAfter : Bool → Option Data → Named AfterKey → Type 0
+IsAfter lenient = IsOr [] (AreKeys lenient)
 
 -- ---- composites
 
@@ -168,14 +147,14 @@ pub record IsCompositeJson (lenient : Bool) (body : Data) (composite : Composite
 abbrev pub HasUnsupportedInterval : List ℕ → Data → Type 0
 HasUnsupportedInterval kind body = (kind ≡ codes "histogram") × HasFloatAt (codes "interval") body
 
--- a source is such a histogram
+-- a source is a histogram whose interval isn't whole
 abbrev pub HasUnsupportedKind : Data → Type 0
 HasUnsupportedKind d =
     (name : List ℕ) × (kind : List ℕ) × (named : Data) × (body : Data)
     × (only_member d ≡ Some (name, named)) × (only_member named ≡ Some (kind, body))
     × HasUnsupportedInterval kind body
 
--- some source of a body is
+-- some source of a body is such a histogram
 abbrev pub HasUnsupportedSource : Data → Type 0
 HasUnsupportedSource = HasUnsupportedList HasUnsupportedKind (codes "sources")
 
@@ -183,7 +162,7 @@ HasUnsupportedSource = HasUnsupportedList HasUnsupportedKind (codes "sources")
 abbrev pub IsUnsupportedKey : Data → Type 0
 IsUnsupportedKey d = (text : List ℕ) × (as_str d ≡ Some text) × IsUnsupportedText text
 
--- some member of an after key is one
+-- some member of an after key is such a text
 abbrev pub HasUnsupportedAfter : Option Data → Type 0
 HasUnsupportedAfter d =
     (members : Members) × (option_and_then as_object d ≡ Some members)

@@ -28,7 +28,7 @@ HaveOwnNames sources = AllPairs (λ source other. name_of source ≢ name_of oth
 abbrev pub IsNullAfter : CompositeAggregationSource → Option CompositeIntermediateKey → Type 0
 IsNullAfter source after = (after ≡ Some Null) × (missing_bucket_of source ≡ false)
 
--- that of a source in a composite is
+-- the after value of a source in a composite is such a Null
 abbrev pub IsBehindNoBucket : CompositeAggregation → CompositeAggregationSource → Type 0
 IsBehindNoBucket composite source = IsNullAfter source (after_of composite.after source)
 
@@ -51,8 +51,8 @@ IsIntervalCause source error.OutOfMemory =
     (part : AggregationError) × IsIntervalFault source (error.Aggregation part)
 IsIntervalCause source refusal = IsIntervalFault source refusal
 
--- a key is none of the source's: neither Null nor a whole number where they are
--- numbers, neither Null nor a date where they are dates
+-- a key is none that the source can give: a histogram gives Null and whole numbers, a date source
+-- Null and dates
 abbrev pub IsOfOtherType : CompositeAggregationSource → CompositeIntermediateKey → Type 0
 IsOfOtherType (Histogram s) (key.Bool b) = ⊤
 IsOfOtherType (Histogram s) (key.Str text) = ⊤
@@ -65,11 +65,11 @@ IsOfOtherType (DateHistogram s) (key.U64 n) = ⊤
 IsOfOtherType (DateHistogram s) (key.IpAddr address) = ⊤
 IsOfOtherType _ _ = ⊥
 
--- so is an after value that there is
+-- there is an after value, and it is such a key
 abbrev pub IsOtherAfter : CompositeAggregationSource → Option CompositeIntermediateKey → Type 0
 IsOtherAfter source after = MatchOption after ⊥ (IsOfOtherType source)
 
--- that of a source in a composite is
+-- the after value of a source in a composite is
 abbrev pub HasAfterOfOtherType : CompositeAggregation → CompositeAggregationSource → Type 0
 HasAfterOfOtherType composite source = IsOtherAfter source (after_of composite.after source)
 

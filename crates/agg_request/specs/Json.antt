@@ -40,6 +40,10 @@ small_number d =
     (λ n. if nat_lt n (2 ^ 32) then Some n else None)
     (option_and_then as_u64 (as_number d))
 
+-- an object of one member
+abbrev pub alone : List ℕ → Data → Data
+alone name d = object (member name d no_members)
+
 -- the value, under one for each item, where each has one
 abbrev pub each_item : {A : Type 0} → (Data → Option A) → Items → Option (List A)
 each_item value no_items = Some []
@@ -108,10 +112,18 @@ EachIs Is no_items [] = ⊤
 EachIs Is (item d items) (x ∷ xs) = Is d x × EachIs Is items xs
 EachIs Is _ _ = ⊥
 
+-- what stands there is such a value; where nothing stands there it is this one
+abbrev pub IsOr : {A : Type 0} → A → (Data → A → Type 0) → Option Data → A → Type 0
+IsOr given Is None x = x ≡ given
+IsOr given Is (Some d) x = Is d x
+
+-- an array of such items
+abbrev pub IsArray : {A : Type 0} → (Data → A → Type 0) → Data → List A → Type 0
+IsArray Is d xs = (items : Items) × (as_array d ≡ Some items) × EachIs Is items xs
+
 -- what may stand at a member is an array of such items; where it is absent there are none
 abbrev pub IsList : {A : Type 0} → (Data → A → Type 0) → Option Data → List A → Type 0
-IsList Is None xs = xs ≡ []
-IsList Is (Some d) xs = (items : Items) × (as_array d ≡ Some items) × EachIs Is items xs
+IsList Is = IsOr [] (IsArray Is)
 
 -- the same of the member of a name
 abbrev pub IsListAt : {A : Type 0} → (Data → A → Type 0) → List ℕ → Data → List A → Type 0
@@ -135,6 +147,16 @@ IsGiven Is _ _ = ⊥
 -- a number that isn't whole, or lies outside 64 bits
 abbrev pub IsFloat : Data → Type 0
 IsFloat d = (x : Float) × (d ≡ number (float x))
+
+-- a whole number as it is taken; leniently, a number that isn't whole is any
+abbrev pub IsWhole : {A : Type 0} → (Data → Option A) → Bool → Data → A → Type 0
+IsWhole taken false d n = taken d ≡ Some n
+IsWhole taken true d n = (taken d ≡ Some n) ⊎ IsFloat d
+
+-- the one at the member of a name, which has to be there
+abbrev pub IsWholeAt : {A : Type 0} → (Data → Option A) → List ℕ → Bool → Data → A → Type 0
+IsWholeAt taken name lenient body n =
+    (d : Data) × (get name body ≡ Some d) × IsWhole taken lenient d n
 
 -- a number that isn't whole stands at a member
 abbrev pub HasFloatAt : List ℕ → Data → Type 0

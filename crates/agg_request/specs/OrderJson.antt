@@ -1,13 +1,13 @@
 -- Orders of buckets as JSON: an object of one pair, a target's text with the word for a direction.
 use Rattle.std.specs.Prelude.{◌≡◌, ◌⊎◌, ℕ, List, Some, if◌then◌else◌, codes}
 use Rattle.std.specs.Str.{bytes_eq}
-use Rattle.serde_json.specs.Data.{Data, string, object, no_members, member}
+use Rattle.serde_json.specs.Data.{Data, string}
 use Rattle.serde_json.specs.Find.{as_str}
 use Rattle.agg_values.specs.OrderTarget.{target_text}
 use Rattle.agg_values.specs.declared.order_target.OrderTarget.{OrderTarget}
 use Rattle.agg_values.specs.declared.order_target.OrderTarget.TheVariants as target
 use Rattle.agg_request.specs.CompositeJson.{order_word}
-use Rattle.agg_request.specs.Json.{only_item, only_member}
+use Rattle.agg_request.specs.Json.{alone, only_item, only_member}
 use Rattle.agg_request.specs.declared.custom_order.CustomOrder.{CustomOrder}
 
 -- the target of a text: the key, the count, or the sub-aggregation of this name
@@ -30,7 +30,7 @@ IsOrderJson d order =
 -- the object that is written for an order
 abbrev pub data_of_order : CustomOrder → Data
 data_of_order order =
-    object (member (target_text order.target) (string (order_word order.order)) no_members)
+    alone (target_text order.target) (string (order_word order.order))
 
 -- the order as it is read back: a sub-aggregation of the name `_key` or `_count` is the key or the
 -- count

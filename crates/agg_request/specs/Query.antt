@@ -5,11 +5,11 @@ use Rattle.std.specs.Prelude.{false, None, Some, codes, IsSome, IsTrue}
 use Rattle.serde_json.specs.Data.{Data}
 use Rattle.serde_json.specs.Data.{depth}
 use Rattle.serde_json.specs.Find.{as_str, get}
-use Rattle.agg_values.specs.KeyText.{IsKeyText}
+use Rattle.agg_values.specs.KeyText.{IsKeyText, IsRefusedAs}
+use Rattle.agg_values.specs.declared.error.KeyTextError.TheVariants as key_text
 use Rattle.agg_values.specs.TypedKey.{CompositeIntermediateKey}
-use Rattle.agg_values.specs.declared.typed_key.CompositeIntermediateKey.TheVariants as key
+use Rattle.agg_segment.specs.Document.{said_key}
 use Rattle.agg_segment.specs.declared.document.FieldValue.{FieldValue}
-use Rattle.agg_segment.specs.declared.document.FieldValue.TheVariants as value
 use Rattle.agg_segment.specs.declared.query.RangeBound.{RangeBound}
 use Rattle.agg_segment.specs.declared.query.RangeBound.TheVariants.{Unbounded, Included, Excluded}
 use Rattle.agg_segment.specs.declared.query.QueryTree.{QueryTree}
@@ -20,18 +20,9 @@ use Rattle.agg_request.specs.Json.{text_at}
 
 -- ---- values
 
--- the key that is written for a value
-abbrev pub said_key : FieldValue → CompositeIntermediateKey
-said_key (value.Bool b) = key.Bool b
-said_key (value.Str text) = key.Str text
-said_key (value.I64 n) = key.I64 n
-said_key (value.U64 n) = key.U64 n
-said_key (value.Ip address) = key.IpAddr address
-said_key (value.Date ns) = key.DateTime ns
-
 -- a text of the type that isn't supported
 abbrev pub IsUnsupportedText : List ℕ → Type 0
-IsUnsupportedText text = (rest : List ℕ) × (text ≡ codes "f64:" ++ rest)
+IsUnsupportedText text = IsRefusedAs text key_text.Unsupported
 
 -- a text says a key; leniently, one of the type that isn't supported says any
 abbrev pub SaysKey : Bool → List ℕ → CompositeIntermediateKey → Type 0
@@ -135,31 +126,31 @@ IsNoQueryAtAll d = (as_str d ≡ None) × ((tree : QueryTree) → ¬ (IsFilterOf
 abbrev pub HasUnsupportedAt : List ℕ → Data → Type 0
 HasUnsupportedAt name d = (text : List ℕ) × (text_at name d ≡ Some text) × IsUnsupportedText text
 
--- the text at one of two members is
+-- the text at one of the two members of a bound is
 abbrev pub HasUnsupportedEnd : List ℕ → List ℕ → Data → Type 0
 HasUnsupportedEnd including excluding body =
     HasUnsupportedAt including body ⊎ HasUnsupportedAt excluding body
 
--- the text at a bound is
+-- the text at a bound of a range is
 abbrev pub HasUnsupportedBound : Data → Type 0
 HasUnsupportedBound body =
     HasUnsupportedEnd (codes "gte") (codes "gt") body
     ⊎ HasUnsupportedEnd (codes "lte") (codes "lt") body
 
--- some filter in one of the three lists has it
+-- some filter in one of the three lists of a body has a text of that type
 abbrev pub HasUnsupportedBody : (Data → Type 0) → Data → Type 0
 HasUnsupportedBody Has body =
     HasUnsupportedList Has (codes "must") body ⊎ HasUnsupportedList Has (codes "should") body
     ⊎ HasUnsupportedList Has (codes "must_not") body
 
--- it stands at the place of a value in a body of this kind
+-- a text of that type stands at the place of a value in a body of this kind
 abbrev pub HasUnsupportedIn : (Data → Type 0) → List ℕ → Data → Type 0
 HasUnsupportedIn Has kind body =
     ((kind ≡ codes "term") × HasUnsupportedAt (codes "value") body)
     ⊎ ((kind ≡ codes "range") × HasUnsupportedBound body)
     ⊎ ((kind ≡ codes "bool") × HasUnsupportedBody Has body)
 
--- it stands at the place of a value in a filter, within so many levels
+-- a text of that type stands at the place of a value in a filter, within so many levels
 abbrev pub HasUnsupportedFilter : ℕ → Data → Type 0
 HasUnsupportedFilter zero d = ⊥
 HasUnsupportedFilter (suc levels) d =

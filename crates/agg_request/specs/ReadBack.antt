@@ -4,6 +4,7 @@ use Rattle.serde_json.specs.Data.{Data, depth}
 use Rattle.agg_values.specs.KeyText.{IsKeyText, key_text}
 use Rattle.agg_values.specs.Names.{Named}
 use Rattle.agg_values.specs.declared.after_key.AfterKey.{AfterKey}
+use Rattle.agg_segment.specs.Document.{said_key}
 use Rattle.agg_segment.specs.declared.document.FieldValue.{FieldValue}
 use Rattle.agg_segment.specs.declared.query.RangeBound.{RangeBound}
 use Rattle.agg_segment.specs.declared.query.RangeBound.TheVariants.{Unbounded, Included, Excluded}
@@ -11,7 +12,7 @@ use Rattle.agg_segment.specs.declared.query.QueryTree.{QueryTree}
 use Rattle.agg_request.specs.Json.{EachNamedIs}
 use Rattle.agg_request.specs.Builders.{left_behind, left_by_kind}
 use Rattle.agg_request.specs.CompositeJson.{IsKeyJson}
-use Rattle.agg_request.specs.Query.{IsFilter, said_key}
+use Rattle.agg_request.specs.Query.{IsFilter}
 use Rattle.agg_request.specs.Request.{Request, with_builders_in, builders_of, listed_in}
 use Rattle.agg_request.specs.Request.{own_builder, with_builders}
 use Rattle.agg_request.specs.RequestJson.{IsAggregation, IsAsked, IsRequestJson, kind_word}
@@ -64,7 +65,7 @@ SaysAggregation {B = B} name_of d a =
     → SaysItself name_of d other
 
 -- a value, read with the builders of a request that is the same but for its builders, which have
--- the same names, is that request; others behind them are left over
+-- the same names, is that request; others behind them are not taken
 abbrev pub ReadsBack : {B : Type 0} → (B → List ℕ) → Data → Request B → Type 0
 ReadsBack {B = B} name_of d request =
     (other : Request B) (rest : List B)

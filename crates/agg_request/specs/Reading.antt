@@ -20,17 +20,14 @@ abbrev pub IsReading : {A : Type 0} → (Bool → A → Type 0) → Type 0 → R
 IsReading Is HasUnsupported (Ok x) = Is false x
 IsReading Is HasUnsupported (Err error) = IsRefusal Is HasUnsupported error
 
--- what is read with the builders of a pool, or why nothing is: as above, whatever the pool, or for
--- want of a builder in this one
+-- what is read with the builders of a pool, or why nothing is: as above with whatever builders, or
+-- for want of a builder in this pool
 abbrev pub IsReadingWith : {A B : Type 0} → (Bool → List B → A → Type 0) → Type 0
     → (List B → Type 0) → List B → Result A ReadError → Type 0
 IsReadingWith Is HasUnsupported IsWanting pool (Ok x) = Is false pool x
-IsReadingWith {A = A} {B = B} Is HasUnsupported IsWanting pool (Err Unsupported) =
-    HasUnsupported × ((some : List B) (x : A) → ¬ (Is false some x))
-IsReadingWith {A = A} {B = B} Is HasUnsupported IsWanting pool (Err Grammar) =
-    (lenient : Bool) (some : List B) (x : A) → ¬ (Is lenient some x)
 IsReadingWith Is HasUnsupported IsWanting pool (Err UnknownBuilder) = IsWanting pool
-IsReadingWith Is HasUnsupported IsWanting pool (Err OutOfMemory) = ⊤
+IsReadingWith {A = A} {B = B} Is HasUnsupported IsWanting pool (Err error) =
+    IsRefusal {A = List B × A} (λ lenient x. Is lenient x.0 x.1) HasUnsupported error
 
 -- the refusal of what holds a text that is no key's
 abbrev pub refusal_of : KeyTextError → ReadError

@@ -154,8 +154,8 @@ IsNoRequest {B = B} name_of d pool =
     (request : Request B) → ¬ (IsRequestJson name_of d pool request)
 
 -- no request, whatever builders there are, were all that isn't supported taken as something
-abbrev pub IsNoRequestAtAll : {B : Type 0} → (B → List ℕ) → Data → List B → Type 0
-IsNoRequestAtAll {B = B} name_of d pool =
+abbrev pub IsNoRequestAtAll : {B : Type 0} → (B → List ℕ) → Data → Type 0
+IsNoRequestAtAll {B = B} name_of d =
     (lenient : Bool) (some : List B) (request : Request B)
     → ¬ (IsRequestOf lenient name_of d some request)
 

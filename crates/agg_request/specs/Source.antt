@@ -41,7 +41,7 @@ name_of (DateHistogram s) = s.name
 abbrev pub after_of : Named AfterKey → CompositeAggregationSource → Option CompositeIntermediateKey
 after_of after source = option_map (λ k. k.0) (value_of (name_of source) after)
 
--- the direction in which a source's keys ascend
+-- the direction in which a source's keys are listed
 abbrev pub order_of : CompositeAggregationSource → Order
 order_of (Terms s) = s.order
 order_of (Histogram s) = s.order

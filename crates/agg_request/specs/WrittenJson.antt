@@ -9,6 +9,7 @@ use Rattle.agg_values.specs.Names.{Named}
 use Rattle.agg_values.specs.declared.after_key.AfterKey.{AfterKey}
 use Rattle.agg_values.specs.declared.order.Order.{Order}
 use Rattle.agg_values.specs.declared.order.MissingOrder.{MissingOrder}
+use Rattle.agg_segment.specs.Document.{said_key}
 use Rattle.agg_segment.specs.declared.document.FieldValue.{FieldValue}
 use Rattle.agg_segment.specs.declared.query.RangeBound.{RangeBound}
 use Rattle.agg_segment.specs.declared.query.RangeBound.TheVariants.{Unbounded, Included, Excluded}
@@ -18,7 +19,7 @@ use query.{QueryTree-F}
 use Rattle.agg_segment.specs.declared.query.QueryTree.TheFolds.{fold-QueryTree}
 use Rattle.agg_request.specs.CompositeJson.{missing_order_word, order_word, source_word}
 use Rattle.agg_request.specs.CompositeJson.{unit_word}
-use Rattle.agg_request.specs.Query.{said_key}
+use Rattle.agg_request.specs.Json.{alone}
 use Rattle.agg_request.specs.Request.{Request}
 use Rattle.agg_request.specs.RequestJson.{kind_word}
 use Rattle.agg_request.specs.Source.{name_of as source_name}
@@ -37,10 +38,6 @@ use any_source.{CompositeAggregationSource}
 use any_source.TheVariants.{Terms, Histogram, DateHistogram}
 
 -- ---- objects
-
--- an object of one member
-abbrev pub alone : List ℕ → Data → Data
-alone name d = object (member name d no_members)
 
 -- a member for each name, with what is written of its value
 abbrev pub members_of : {A : Type 0} → (A → Data) → Named A → Members
@@ -62,7 +59,8 @@ with_text name (Some text) members = put name (string text) members
 abbrev pub data_of_value : FieldValue → Data
 data_of_value value = string (key_text (said_key value))
 
--- the members with the value of a bound at its one of two names, if it has one
+-- the members with the value of a bound, if it has one, at one of two names: the first where the
+-- bound includes its value, the second where it excludes it
 abbrev pub with_bound : List ℕ → List ℕ → RangeBound → Members → Members
 with_bound including excluding Unbounded members = members
 with_bound including excluding (Included value) members =

@@ -61,7 +61,7 @@ pub fn only_other<'a>(value: &'a Value, name: &str) -> Option<(&'a str, &'a Valu
     found
 }
 
-/// The value of that member, where it has this name.
+/// The value of the only member, where it has this name.
 pub fn only_named<'a>(value: &'a Value, name: &str) -> Option<&'a Value>
     ensures { option_map (λ v. view v.now) result ≡ only_named name.now (view value.now) }
 {

@@ -8,7 +8,8 @@ ghost use Rattle.agg_request.specs.Groups.{Groups, Group};
 ghost use Rattle.agg_request.specs.Occurrences.{past_occurrences, bound_of};
 ghost use Rattle.agg_request.specs.BySource.{after_map};
 ghost use Rattle.agg_request.specs.Page.{Entry, IsPage, MayList, entry_of, group_of, tuples_of};
-ghost use Rattle.agg_request.specs.Source.{name_of, rules_of, Sources};
+ghost use Rattle.agg_request.specs.Faults.{HaveOwnNames};
+ghost use Rattle.agg_request.specs.Source.{rules_of, Sources};
 ghost use Rattle.agg_request.specs.Successive.{AreSuccessive, Step};
 ghost use Rattle.agg_request.specs.Successive.{entries_of, last_tuple, steps_over};
 ghost use Rattle.agg_values.specs.Tuple.{KeyTuple};
@@ -93,7 +94,7 @@ pub fn successive_pages_end_with_every_tuple()
 /// The bound that a tuple gives as an after key is the tuple.
 pub fn an_after_key_is_its_tuple()
     ensures { (sources : Sources) (tuple : KeyTuple)
-        → AllPairs (λ source other. name_of source ≢ name_of other) sources
+        → HaveOwnNames sources
         → length tuple ≡ length sources
         → bound_of sources (after_map sources tuple) ≡ tuple }
 {}

@@ -35,7 +35,7 @@ pub fn read_aggregations(
     ensures unsupported { IsErrOf result ReadError.Unsupported
         → HasUnsupportedRequest (view value.now) }
     ensures grammar { IsErrOf result ReadError.Grammar
-        → IsNoRequestAtAll (λ b. b.name) (view value.now) builders.items }
+        → IsNoRequestAtAll ⟦<NamedBuilder as HasName>⟧.name_of (view value.now) }
     ensures unknown { IsErrOf result ReadError.UnknownBuilder
         → HasUnknownBuilder (λ b. b.name) (view value.now) builders.items }
     ensures none { IsErrOf result ReadError.Unsupported ⊎ IsErrOf result ReadError.Grammar
@@ -55,7 +55,7 @@ pub fn read_request<B: HasName>(
     ensures unsupported { IsErrOf result ReadError.Unsupported
         → HasUnsupportedRequest (view value.now) }
     ensures grammar { IsErrOf result ReadError.Grammar
-        → IsNoRequestAtAll B.name_of (view value.now) builders.items }
+        → IsNoRequestAtAll B.name_of (view value.now) }
     ensures unknown { IsErrOf result ReadError.UnknownBuilder
         → HasUnknownBuilder B.name_of (view value.now) builders.items }
     ensures none { IsErrOf result ReadError.Unsupported ⊎ IsErrOf result ReadError.Grammar

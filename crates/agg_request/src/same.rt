@@ -22,7 +22,7 @@ impl<B: Drop> Aggregation<B> {
     }
 }
 
-// Whether two requests have the same names for the same.
+// Whether two requests have the same names for the same aggregations.
 #[cycle(same)]
 fn are_same<B: Drop>(request: &NameMap<Aggregation<B>>, other: &NameMap<Aggregation<B>>) -> bool
     ensures { IsTrue result ↔ (request.now ≡ other.now) × (builders_of request.now ≡ []) }

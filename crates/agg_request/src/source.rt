@@ -159,7 +159,7 @@ impl CompositeAggregationSource {
         }
     }
 
-    /// The direction in which the keys ascend.
+    /// The direction in which the keys are listed.
     pub fn order(&self) -> Order
         ensures { result ≡ order_of self.now }
     {

@@ -22,8 +22,9 @@ use serde_json::{Map, Value, put};
 use std::alloc::Global;
 pub use writable::may_be_written;
 
-/// The JSON value that says a request: read with builders of the same names as the request's, in
-/// the order in which it lists them, it is the same request with these in their places.
+/// The JSON value that says a request that `may_be_written` accepts: read with builders of the same
+/// names as the request's, in the order in which it lists them, it is the same request with these
+/// in their places.
 pub fn write_aggregations(alloc: Global, request: &Aggregations) -> Result<Value, OutOfMemory>
     requires { all_may_be_written request.now ≡ true }
     ensures written { IfOk result

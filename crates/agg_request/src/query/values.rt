@@ -1,9 +1,9 @@
 //! Values from the texts of keys.
 ghost use Rattle.std.specs.Prelude.{◌≡◌, ◌≢◌, IfNone, IfSome};
 ghost use Rattle.serde_json.specs.View.{view};
+ghost use Rattle.agg_segment.specs.Document.{said_key};
 ghost use Rattle.agg_segment.specs.declared.document.FieldValue.{FieldValue as Said};
 ghost use Rattle.agg_request.specs.Query.{HasUnsupportedAt, IsUnsupportedText, Says, SaysAt};
-ghost use Rattle.agg_request.specs.Query.{said_key};
 ghost use Rattle.agg_request.specs.Reading.{IsReading};
 
 use crate::ReadError;

@@ -2,11 +2,10 @@
 ghost use Rattle.std.specs.Prelude.{◌≡◌, codes, false, IfOk, OnOk, option_map};
 ghost use Rattle.serde_json.specs.Data.{object};
 ghost use Rattle.serde_json.specs.View.{items_view, members_view, view};
-ghost use Rattle.agg_request.specs.CompositeJson.{IsDateHistogramBody, IsHistogramBody};
-ghost use Rattle.agg_request.specs.CompositeJson.{IsSourceJson, IsTermsBody, unit_word};
-ghost use Rattle.agg_request.specs.Json.{EachIs};
+ghost use Rattle.agg_request.specs.CompositeJson.{IsSourceBody, IsSourceJson, unit_word};
+ghost use Rattle.agg_request.specs.Json.{alone, EachIs};
 ghost use Rattle.agg_request.specs.ReadBack.{IsWritten};
-ghost use Rattle.agg_request.specs.WrittenJson.{alone, data_of_source, shared_members};
+ghost use Rattle.agg_request.specs.WrittenJson.{data_of_source, shared_members};
 ghost use Rattle.agg_request.specs.WrittenJson.{source_members, with_text};
 ghost use Rattle.agg_request.specs.declared.source.CompositeAggregationSource.TheVariants as of;
 
@@ -74,7 +73,7 @@ fn write_terms(alloc: Global, source: &TermCompositeAggregationSource) -> Result
     ensures written { IfOk result
         (λ value. view value ≡ object (source_members (of.Terms source.now))) }
     ensures says { IfOk result
-        (λ value. IsTermsBody source.now.name (view value) source.now) }
+        (λ value. IsSourceBody false source.now.name (view value) (of.Terms source.now)) }
 {
     let (order, place) = (source.order, source.missing_order);
     let body = shared_members(alloc, &source.field, order, source.missing_bucket, place)?;
@@ -89,7 +88,7 @@ fn write_histogram(
     ensures written { IfOk result
         (λ value. view value ≡ object (source_members (of.Histogram source.now))) }
     ensures says { IfOk result
-        (λ value. IsHistogramBody false source.now.name (view value) source.now) }
+        (λ value. IsSourceBody false source.now.name (view value) (of.Histogram source.now)) }
 {
     let (order, place) = (source.order, source.missing_order);
     let mut body = shared_members(alloc, &source.field, order, source.missing_bucket, place)?;
@@ -110,7 +109,8 @@ fn write_date_histogram(
     ensures written { IfOk result
         (λ value. view value ≡ object (source_members (of.DateHistogram source.now))) }
     ensures says { IfOk result
-        (λ value. IsDateHistogramBody source.now.name (view value) source.now) }
+        (λ value. IsSourceBody false source.now.name (view value)
+        (of.DateHistogram source.now)) }
 {
     let (order, place) = (source.order, source.missing_order);
     let mut body = shared_members(alloc, &source.field, order, source.missing_bucket, place)?;

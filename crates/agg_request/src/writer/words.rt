@@ -3,8 +3,8 @@ ghost use Rattle.std.specs.Prelude.{◌≡◌, false};
 ghost use Rattle.serde_json.specs.Data.{number, unsigned};
 ghost use Rattle.serde_json.specs.Find.{of_integer};
 ghost use Rattle.serde_json.specs.View.{view};
-ghost use Rattle.agg_request.specs.CompositeJson.{IsInterval, IsSize, missing_order_word};
-ghost use Rattle.agg_request.specs.CompositeJson.{order_word, unit_word};
+ghost use Rattle.agg_request.specs.CompositeJson.{missing_order_word, order_word, unit_word};
+ghost use Rattle.agg_request.specs.Json.{IsWhole, small_number, whole_number};
 
 use agg_calendar::CalendarInterval;
 use agg_values::{MissingOrder, Order};
@@ -45,7 +45,7 @@ pub fn unit_word(unit: CalendarInterval) -> &'static str
 /// The number that an interval is.
 pub fn write_interval(interval: i64) -> Value
     ensures written { view result ≡ number (of_integer interval) }
-    ensures says { IsInterval false (view result) interval }
+    ensures says { IsWhole whole_number false (view result) interval }
 {
     Value::from(interval)
 }
@@ -53,7 +53,7 @@ pub fn write_interval(interval: i64) -> Value
 /// The number that a size is.
 pub fn write_size(size: u32) -> Value
     ensures written { view result ≡ number (unsigned size) }
-    ensures says { IsSize false (view result) size }
+    ensures says { IsWhole small_number false (view result) size }
 {
     Value::from(size)
 }

@@ -3,9 +3,10 @@ ghost use Rattle.std.specs.Prelude.{◌≡◌, ◌≢◌, IfNone, IfSome, Some, 
 ghost use Rattle.serde_json.specs.Find.{as_str};
 ghost use Rattle.serde_json.specs.View.{view};
 ghost use Rattle.agg_calendar.specs.declared.interval.CalendarInterval.{CalendarInterval as Unit};
-ghost use Rattle.agg_request.specs.CompositeJson.{IsDateHistogramBody, unit_word};
+ghost use Rattle.agg_request.specs.CompositeJson.{IsSourceBody, unit_word};
 ghost use Rattle.agg_request.specs.Json.{IsGiven, present};
 ghost use Rattle.agg_request.specs.Reading.{IsReading};
+ghost use Rattle.agg_request.specs.declared.source.CompositeAggregationSource.TheVariants as of;
 
 use crate::composite::words::{missing_bucket, missing_order, order};
 use crate::json_value::present;
@@ -22,7 +23,8 @@ pub fn read_date_histogram(
     name: &str,
     body: &Value,
 ) -> Result<DateHistogramCompositeAggregationSource, ReadError>
-    ensures { IsReading (λ lenient. IsDateHistogramBody name.now (view body.now)) ⊥ result }
+    ensures { IsReading (λ lenient dates. IsSourceBody lenient name.now (view body.now)
+        (of.DateHistogram dates)) ⊥ result }
 {
     Ok(DateHistogramCompositeAggregationSource {
         name: Text::copy_of(alloc, name)?,

@@ -1,9 +1,10 @@
 //! Histogram sources.
 ghost use Rattle.std.specs.Prelude.{codes};
 ghost use Rattle.serde_json.specs.View.{view};
-ghost use Rattle.agg_request.specs.CompositeJson.{IsHistogramBody, IsIntervalOf};
+ghost use Rattle.agg_request.specs.CompositeJson.{IsSourceBody, IsIntervalOf};
 ghost use Rattle.agg_request.specs.Json.{HasFloatAt};
 ghost use Rattle.agg_request.specs.Reading.{IsReading};
+ghost use Rattle.agg_request.specs.declared.source.CompositeAggregationSource.TheVariants as of;
 
 use crate::composite::words::{missing_bucket, missing_order, order};
 use crate::members::read_field;
@@ -18,8 +19,8 @@ pub fn read_histogram(
     name: &str,
     body: &Value,
 ) -> Result<HistogramCompositeAggregationSource, ReadError>
-    ensures { IsReading (λ lenient. IsHistogramBody lenient name.now (view body.now))
-        (HasFloatAt (codes "interval") (view body.now)) result }
+    ensures { IsReading (λ lenient numbers. IsSourceBody lenient name.now (view body.now)
+        (of.Histogram numbers)) (HasFloatAt (codes "interval") (view body.now)) result }
 {
     Ok(HistogramCompositeAggregationSource {
         name: Text::copy_of(alloc, name)?,

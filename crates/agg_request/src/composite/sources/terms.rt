@@ -1,7 +1,8 @@
 //! Terms sources.
 ghost use Rattle.serde_json.specs.View.{view};
-ghost use Rattle.agg_request.specs.CompositeJson.{IsTermsBody};
+ghost use Rattle.agg_request.specs.CompositeJson.{IsSourceBody};
 ghost use Rattle.agg_request.specs.Reading.{IsReading};
+ghost use Rattle.agg_request.specs.declared.source.CompositeAggregationSource.TheVariants as of;
 
 use crate::composite::words::{missing_bucket, missing_order, order};
 use crate::members::read_field;
@@ -16,7 +17,8 @@ pub fn read_terms(
     name: &str,
     body: &Value,
 ) -> Result<TermCompositeAggregationSource, ReadError>
-    ensures { IsReading (λ lenient. IsTermsBody name.now (view body.now)) ⊥ result }
+    ensures { IsReading (λ lenient terms. IsSourceBody lenient name.now (view body.now)
+        (of.Terms terms)) ⊥ result }
 {
     Ok(TermCompositeAggregationSource {
         name: Text::copy_of(alloc, name)?,

@@ -1,8 +1,8 @@
 use Rattle.std.proofs.Common.{codes}
 use Rattle.serde_json.specs.View.{view}
-use Rattle.agg_request.specs.CompositeJson.{HasUnsupportedInterval, IsDateHistogramBody}
-use Rattle.agg_request.specs.CompositeJson.{IsHistogramBody, IsSourceOfKind, IsTermsBody}
+use Rattle.agg_request.specs.CompositeJson.{HasUnsupportedInterval, IsSourceBody, IsSourceOfKind}
 use Rattle.agg_request.specs.Json.{HasFloatAt}
+use Rattle.agg_request.specs.declared.source.CompositeAggregationSource.TheVariants as of
 use Rattle.agg_request.proofs.CompositeSources.{dates_of, numbers_of, terms_of}
 use Rattle.agg_request.proofs.Readings.{refused_by}
 use Rattle.agg_request.proofs.composite.sources.read_kind.Goals as goal
@@ -12,7 +12,7 @@ returns-in_err-read_terms-in-terms c =
     let name = c.args.name.now in
     let kind = c.args.kind.now in
     let body = view c.args.body.now in
-    refused_by (λ lenient. IsTermsBody name body) ⊥
+    refused_by (λ lenient terms. IsSourceBody lenient name body (of.Terms terms)) ⊥
     (λ lenient. IsSourceOfKind lenient name kind body) (HasUnsupportedInterval kind body)
     c.in_err-read_terms-in-terms.field-0.0 c.from_residual.result c.from_residual.ensures.1
     c.in_err-read_terms-in-terms.ensures (λ h. absurd h) (terms_of name kind body c.in-terms.is)
@@ -22,7 +22,8 @@ returns-in_err-read_histogram-in-histogram c =
     let name = c.args.name.now in
     let kind = c.args.kind.now in
     let body = view c.args.body.now in
-    refused_by (λ lenient. IsHistogramBody lenient name body) (HasFloatAt (codes "interval") body)
+    refused_by (λ lenient numbers. IsSourceBody lenient name body (of.Histogram numbers))
+    (HasFloatAt (codes "interval") body)
     (λ lenient. IsSourceOfKind lenient name kind body) (HasUnsupportedInterval kind body)
     c.in_err-read_histogram-in-histogram.field-0.0
     c.from_residual-in_err-read_histogram-in-histogram.result
@@ -36,7 +37,7 @@ returns-in_err-read_date_histogram-in-date_histogram c =
     let name = c.args.name.now in
     let kind = c.args.kind.now in
     let body = view c.args.body.now in
-    refused_by (λ lenient. IsDateHistogramBody name body) ⊥
+    refused_by (λ lenient dates. IsSourceBody lenient name body (of.DateHistogram dates)) ⊥
     (λ lenient. IsSourceOfKind lenient name kind body) (HasUnsupportedInterval kind body)
     c.in_err-read_date_histogram-in-date_histogram.field-0.0
     c.from_residual-in_err-read_date_histogram-in-date_histogram.result

@@ -1,7 +1,14 @@
 use Rattle.std.proofs.Common.{codes, refl}
 use Rattle.serde_json.specs.View.{view}
-use Rattle.agg_request.proofs.AskedKinds.{refused_metric}
+use Rattle.agg_request.proofs.AskedKinds.{refused_filter, refused_metric}
 use Rattle.agg_request.proofs.request.kind.read_kind.Goals as goal
+
+pub returns-in_err-read_filter-in-filter-clause-read
+    : goal.returns-in_err-read_filter-in-filter-clause-read
+returns-in_err-read_filter-in-filter-clause-read g c =
+    refused_filter g.B.HasName.name_of c.args.kind.now c.in-filter.is (view c.args.body.now)
+    c.args.pool.now.items (c.in_err-read_filter-in-filter).field-0.0 c.from_residual.result
+    c.from_residual.ensures.1 (c.in_err-read_filter-in-filter).ensures.read
 
 pub returns-in_err-read_metric-in-value_count-clause-read
     : goal.returns-in_err-read_metric-in-value_count-clause-read

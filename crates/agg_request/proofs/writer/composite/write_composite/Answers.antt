@@ -1,8 +1,8 @@
 use Rattle.std.proofs.Common.{◌≡◌, codes, false, map, ap, ◌∙◌, subst, sym, rules}
 use Rattle.serde_json.specs.Data.{object, array, number, unsigned, member, no_members}
 use Rattle.serde_json.specs.View.{items_of, items_view, members_view, view}
-use Rattle.agg_request.specs.CompositeJson.{IsCompositeJson, IsSize, IsSourceJson}
-use Rattle.agg_request.specs.Json.{EachIs}
+use Rattle.agg_request.specs.CompositeJson.{IsCompositeJson, IsSourceJson}
+use Rattle.agg_request.specs.Json.{EachIs, IsWhole, small_number}
 use Rattle.agg_request.specs.ReadBack.{IsWritten}
 use Rattle.agg_request.specs.WrittenJson.{data_of_composite, data_of_source, with_after}
 use Rattle.agg_request.proofs.WrittenComposites.{is-composite}
@@ -30,7 +30,7 @@ returns c =
     (member (codes "sources") (array ds) no_members)) written)) in (
       body,
       subst (λ d. IsCompositeJson false d composite) (sym body) (is-composite composite
-          (subst (λ d. IsSize false d composite.size) c.write_size.ensures.written
+          (subst (λ d. IsWhole small_number false d composite.size) c.write_size.ensures.written
           c.write_size.ensures.says)
           (subst (λ ds. EachIs (IsSourceJson false) ds composite.sources) written
           (items-say data_of_source (IsSourceJson false) items composite.sources each))
