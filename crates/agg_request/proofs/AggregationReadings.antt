@@ -7,10 +7,10 @@ use Rattle.serde_json.specs.Data.{depth, members_depth}
 use Rattle.serde_json.specs.Find.{as_object, get}
 use Rattle.agg_request.specs.Builders.{left_behind, left_below, left_by_each, left_by_kind}
 use Rattle.agg_request.specs.Builders.{left_by_object, left_by_own}
-use Rattle.agg_request.specs.Json.{HasUnsupportedMember, only_other}
+use Rattle.agg_request.specs.Json.{HasUnsupportedMember, names_in, only_other}
 use Rattle.agg_request.specs.RequestJson.{HasUnsupportedAggregation, HasUnsupportedAsked}
 use Rattle.agg_request.specs.RequestJson.{HasUnsupportedBelow, IsAggregation, IsBelow, IsKind}
-use Rattle.agg_request.specs.RequestJson.{IsRequestWithin, may_not_hold}
+use Rattle.agg_request.specs.RequestJson.{IsRequestWithin, may_hold}
 use Rattle.agg_request.specs.Reading.{IsReadingWith}
 use Rattle.agg_request.specs.Request.{Request, agg_of, aggregation_of, below_of}
 use Rattle.agg_request.specs.declared.aggregation.Aggregation.{Aggregation}
@@ -170,13 +170,13 @@ module _ {B : Type 0} (name_of : B → List ℕ) (kind : List ℕ) (d : Data) wh
       members_below : (lenient : Bool) (n : ℕ) (some : List B) (below : Request B)
           → IsBelow lenient (left_behind name_of n) (IsAggregation lenient name_of n) kind
           (get (codes "aggs") d) some below
-          → ((lenient ≡ true) ⊎ (may_not_hold kind members ≡ false))
+          → ((lenient ≡ true) ⊎ (may_hold kind (names_in members) ≡ true))
           × IsRequestWithin lenient name_of n members some below
       members_below lenient n some below h =
           let found = subst (λ o. IsBelow lenient (left_behind name_of n)
           (IsAggregation lenient name_of n) kind o some below) there h in
           let same : found.0 ≡ members = (let is = found.1 in cc) in
-          subst (λ ms. ((lenient ≡ true) ⊎ (may_not_hold kind ms ≡ false))
+          subst (λ ms. ((lenient ≡ true) ⊎ (may_hold kind (names_in ms) ≡ true))
           × IsRequestWithin lenient name_of n ms some below) same (found.2, found.3)
 
       -- the object that stands there
@@ -190,7 +190,7 @@ module _ {B : Type 0} (name_of : B → List ℕ) (kind : List ℕ) (d : Data) wh
           ap (λ o. left_by_object (left_behind name_of n) o some) object_there
 
       -- what is read of the members is read
-      pub read_there : may_not_hold kind members ≡ false → (n : ℕ) (pool : List B)
+      pub read_there : may_hold kind (names_in members) ≡ true → (n : ℕ) (pool : List B)
           (result : Result (Request B) ReadError) → depth d ≤ n
           → ((m : ℕ) → members_depth members < m
           → IsReadingWith (λ lenient. IsRequestWithin lenient name_of m members)

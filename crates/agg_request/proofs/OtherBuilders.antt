@@ -9,9 +9,8 @@ use Rattle.serde_json.specs.Data.{Data}
 use Rattle.agg_request.specs.Builders.{left_by_filter, left_by_kind, taken}
 use Rattle.agg_request.specs.Request.{Request, agg_of, aggregation_of, with_builders_in, below_of}
 use Rattle.agg_request.specs.Request.{with_own_builder, with_query_builder, with_builders}
-use Rattle.agg_request.specs.Written.{are_free, may_hold_some}
 use Rattle.agg_request.specs.ReadBack.{SaysKind}
-use Rattle.agg_request.specs.RequestJson.{kind_word}
+use Rattle.agg_request.specs.RequestJson.{kind_word, may_hold}
 use Rattle.agg_request.specs.declared.aggregation.Aggregation.{Aggregation}
 use Rattle.agg_request.specs.declared.aggregation.Aggregation.TheFolds as folds
 use folds.{fold_out-Aggregation}
@@ -24,7 +23,6 @@ use Rattle.agg_request.specs.declared.aggregation.filter.FilterQuery.{FilterQuer
 use Rattle.agg_request.specs.declared.aggregation.filter.FilterQuery.TheVariants as by
 use by.{Tree, CustomBuilder}
 use Rattle.agg_request.proofs.RequestTrees.{agg-made, below-made}
-use Rattle.agg_request.proofs.Writable.{MayHold}
 
 module _ {B : Type 0} (name_of : B → List ℕ) where
   -- ---- level by level
@@ -79,42 +77,20 @@ module _ {B : Type 0} (name_of : B → List ℕ) where
   alike-word agg other same =
       sym (word-with other) ∙ ap kind_word same ∙ word-with agg
 
-  -- whether there may be some below a kind doesn't go by its builder
-  some-with : (agg : AggregationVariants B)
-      → may_hold_some (with_own_builder name_of agg) ≡ may_hold_some agg
-  some-with (Filter filter) = refl
-  some-with (Composite composite) = refl
-  some-with (Count metric) = refl
-  some-with (Max metric) = refl
-  some-with (Min metric) = refl
-  some-with (Sum metric) = refl
-
-  -- there are none below the one where there are none below the other
-  none-below : (below other : Request B)
-      → with_builders name_of other ≡ with_builders name_of below → below ≡ [] → other ≡ []
-  none-below below [] same none = refl
-  none-below [] (y ∷ other) same none = absurd (cc)
-  none-below (x ∷ below) (y ∷ other) same none = absurd (cc)
-
   -- what one may have below it, so may the other
   pub alike-holds : (agg other : AggregationVariants B) (below others : Request B)
       → with_own_builder name_of other ≡ with_own_builder name_of agg
       → with_builders name_of others ≡ with_builders name_of below
-      → MayHold agg below → MayHold other others
-  alike-holds agg other below others same beneath may = record {
-    some = by_some may.some;
-    free = ap are_free (sym (keys_of-map_values (λ (a : Aggregation B). with_builders_in name_of a)
-        others)
-        ∙ ap keys_of beneath
-        ∙ keys_of-map_values (λ (a : Aggregation B). with_builders_in name_of a) below)
-        ∙ may.free;
-  }
+      → may_hold (kind_word agg) (keys_of below) ≡ true
+      → may_hold (kind_word other) (keys_of others) ≡ true
+  alike-holds agg other below others same beneath may =
+      (λ i. may_hold (alike-word agg other same i) (names i)) ∙ may
     where
-      by_some : (may_hold_some agg ≡ true) ⊎ (below ≡ [])
-          → (may_hold_some other ≡ true) ⊎ (others ≡ [])
-      by_some (inl some) =
-          inl (sym (some-with other) ∙ ap may_hold_some same ∙ some-with agg ∙ some)
-      by_some (inr none) = inr (none-below below others beneath none)
+      names : keys_of others ≡ keys_of below
+      names =
+          sym (keys_of-map_values (λ (a : Aggregation B). with_builders_in name_of a) others)
+          ∙ ap keys_of beneath
+          ∙ keys_of-map_values (λ (a : Aggregation B). with_builders_in name_of a) below
 
   -- ---- builders
 

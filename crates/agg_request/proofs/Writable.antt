@@ -1,13 +1,14 @@
 -- Requests that may be written, level by level.
-use Rattle.std.proofs.Common.{◌≡◌, ◌≤◌, ◌⊎◌, ◌∷◌, [], ℕ, suc, List, Bool, true, false, inl, inr}
-use Rattle.std.proofs.Common.{refl, codes, map, sym, subst, ap, ◌∙◌, arith}
-use Rattle.std.specs.Prelude.{◌==◌, ◌&&◌, ◌||◌, if◌then◌else◌, length, nat_lt}
-use Rattle.std.specs.List.{list_all, list_any}
+use Rattle.std.proofs.Common.{◌≡◌, ◌≢◌, ◌≤◌, ◌∷◌, [], ℕ, List, Bool, true, false, refl, codes}
+use Rattle.std.proofs.Common.{map, sym, subst, ap, ◌∙◌, arith, not}
+use Rattle.std.specs.Prelude.{◌==◌, ◌&&◌, ◌||◌, length, nat_lt}
+use Rattle.std.specs.List.{list_all}
 use Rattle.std.specs.Map.{keys_of}
 use Rattle.std.specs.Str.{bytes_eq}
 use Rattle.std.specs.declared.cmp.Ordering.{Ordering}
 use Rattle.std.specs.declared.cmp.Ordering.TheVariants.{Less, Equal, Greater}
-use Rattle.std.proofs.lemmas.Bool.{eqb-true}
+use Rattle.std.proofs.lemmas.Bool.Decides.{nat_tests}
+use Rattle.std.proofs.lemmas.Cmp.{nat_list_cmp_total, tied_itself}
 use Rattle.std.proofs.lemmas.List.Folds.{list_all-map}
 use Rattle.std.proofs.lemmas.Map.Lookups.{exact_bytes}
 use Rattle.std.proofs.lemmas.Map.Made.{keys_of-map_values}
@@ -15,18 +16,14 @@ use Rattle.std.proofs.lemmas.Slice.Eq.{bytes_eq-Decides}
 use Rattle.agg_values.specs.Names.{Named, name_cmp}
 use Rattle.serde_json.specs.Data.{Data, Members, no_members, member}
 use Rattle.serde_json.specs.Events.{members_len}
-use Rattle.agg_request.specs.Json.{EachNamedIs, has_member, is_among}
-use Rattle.agg_request.specs.RequestJson.{may_not_hold, metric_kinds}
+use Rattle.agg_request.specs.Json.{EachNamedIs, has_member, is_among, names_in}
+use Rattle.agg_request.specs.RequestJson.{are_free, kind_word, may_hold, metric_kinds}
 use Rattle.agg_request.specs.Request.{Request, agg_of, below_of}
-use Rattle.agg_request.specs.Written.{all_may_be_written, are_free, may_be_written}
-use Rattle.agg_request.specs.Written.{may_be_written_step, may_hold_some}
-use Rattle.agg_request.specs.RequestJson.{kind_word}
+use Rattle.agg_request.specs.Written.{all_may_be_written, may_be_written}
+use Rattle.agg_request.specs.Written.{may_be_written_step}
 use Rattle.agg_request.specs.declared.aggregation.Aggregation.{Aggregation}
 use Rattle.agg_request.specs.declared.aggregation.Aggregation.TheFolds as folds
 use folds.{fold_out-Aggregation}
-use Rattle.agg_request.specs.declared.aggregation.AggregationVariants as variants
-use variants.{AggregationVariants}
-use variants.TheVariants.{Filter, Composite, Count, Max, Min, Sum}
 use Rattle.agg_request.proofs.RequestTrees.{levels}
 
 -- where both hold, each does
@@ -35,154 +32,114 @@ both true true e = (refl, refl)
 both true false e = absurd (cc)
 both false b e = absurd (cc)
 
--- where neither holds, each doesn't
-neither : (a b : Bool) → (a || b) ≡ false → (a ≡ false) × (b ≡ false)
-neither true b e = absurd (cc)
-neither false b e = (refl, e)
-
--- what holds or false does holds
-first : (b : Bool) → (b || false) ≡ true → b ≡ true
-first true e = refl
-first false e = e
-
--- a number above another is not 0
-filled : (n : ℕ) → (suc n == 0) ≡ false
-filled n = by_test (suc n == 0) refl
-  where
-    by_test : (b : Bool) → (suc n == 0) ≡ b → b ≡ false
-    by_test true e = absurd (omega (arith, eqb-true (suc n) 0 e))
-    by_test false e = refl
-
--- the first of some names is not this, and the others are free
-free-parts : (b c : Bool) → (if b || c then false else true) ≡ true
-    → (b ≡ false) × ((if c then false else true) ≡ true)
-free-parts true c e = absurd (cc)
-free-parts false c e = (refl, e)
-
 -- ---- what an aggregation may have below it
-
--- an aggregation of this kind may have these below it
-pub record MayHold {B : Type 0} (agg : AggregationVariants B) (below : Request B) : Type 0 where
-  pub some : (may_hold_some agg ≡ true) ⊎ (below ≡ [])
-  pub free : are_free (keys_of below) ≡ true
 
 -- an aggregation may be written where it may have what is below it, which may be written
 pub writable-out : {B : Type 0} (a : Aggregation B)
     → may_be_written a
-    ≡ ((may_hold_some (agg_of a) || (length (below_of a) == 0)) && are_free (keys_of (below_of a))
-    && all_may_be_written (below_of a))
+    ≡ (may_hold (kind_word (agg_of a)) (keys_of (below_of a)) && all_may_be_written (below_of a))
 writable-out {B = B} a =
-    fold_out-Aggregation B Bool may_be_written_step a ∙ by_below (agg_of a) (below_of a)
+    fold_out-Aggregation B Bool may_be_written_step a
+    ∙ (λ i. may_hold (kind_word (agg_of a)) (names i) && each i)
   where
     -- the aggregations below, each with whether it may be written
-    told : Request B → Named Bool
-    told below = map (λ e. (e.0, may_be_written e.1)) below
+    told : Named Bool
+    told = map (λ e. (e.0, may_be_written e.1)) (below_of a)
 
-    by_below : (agg : AggregationVariants B) (below : Request B)
-        → may_be_written_step (record { agg = agg; sub_aggregation = told below })
-        ≡ ((may_hold_some agg || (length below == 0)) && are_free (keys_of below)
-        && all_may_be_written below)
-    by_below agg [] = refl
-    by_below agg (x ∷ below) =
-        let some : false ≡ (length (x ∷ below) == 0) = sym (filled (length below)) in
-        let names : are_free (keys_of (told (x ∷ below))) ≡ are_free (keys_of (x ∷ below)) =
-        ap are_free (keys_of-map_values (λ (y : Aggregation B). may_be_written y) (x ∷ below)) in
-        let each : list_all (λ e. e.1) (told (x ∷ below)) ≡ all_may_be_written (x ∷ below) =
+    names : keys_of told ≡ keys_of (below_of a)
+    names = keys_of-map_values (λ (b : Aggregation B). may_be_written b) (below_of a)
+
+    each : list_all (λ e. e.1) told ≡ all_may_be_written (below_of a)
+    each =
         list_all-map (λ (e : List ℕ × Bool). e.1)
-        (λ (e : List ℕ × Aggregation B). (e.0, may_be_written e.1)) (x ∷ below) in
-        λ i. (may_hold_some agg || some i) && names i && each i
-
--- what may be written may have what is below it, which may be written
-may-both : {B : Type 0} (a : Aggregation B) → may_be_written a ≡ true
-    → MayHold (agg_of a) (below_of a) × (all_may_be_written (below_of a) ≡ true)
-may-both {B = B} a may =
-    let some = may_hold_some (agg_of a) || (length (below_of a) == 0) in
-    let parts = both (some && are_free (keys_of (below_of a))) (all_may_be_written (below_of a))
-    (sym (writable-out a) ∙ may) in
-    let own = both some (are_free (keys_of (below_of a))) parts.0 in
-    (record { some = by_below (agg_of a) (below_of a) own.0; free = own.1 }, parts.1)
-  where
-    by_below : (agg : AggregationVariants B) (below : Request B)
-        → (may_hold_some agg || (length below == 0)) ≡ true
-        → (may_hold_some agg ≡ true) ⊎ (below ≡ [])
-    by_below agg [] may = inr refl
-    by_below agg (x ∷ below) may =
-        let none : (length (x ∷ below) == 0) ≡ false = filled (length below) in
-        inl (first (may_hold_some agg) (ap (λ b. may_hold_some agg || b) (sym none) ∙ may))
+        (λ (e : List ℕ × Aggregation B). (e.0, may_be_written e.1)) (below_of a)
 
 -- what may be written may have what is below it
 pub may-hold : {B : Type 0} (a : Aggregation B) → may_be_written a ≡ true
-    → MayHold (agg_of a) (below_of a)
-may-hold a may = (may-both a may).0
+    → may_hold (kind_word (agg_of a)) (keys_of (below_of a)) ≡ true
+may-hold a may =
+    (both (may_hold (kind_word (agg_of a)) (keys_of (below_of a)))
+    (all_may_be_written (below_of a)) (sym (writable-out a) ∙ may)).0
 
 -- what is below it may be written
 pub may-below : {B : Type 0} (a : Aggregation B) → may_be_written a ≡ true
     → all_may_be_written (below_of a) ≡ true
-may-below a may = (may-both a may).1
+may-below a may =
+    (both (may_hold (kind_word (agg_of a)) (keys_of (below_of a)))
+    (all_may_be_written (below_of a)) (sym (writable-out a) ∙ may)).1
 
 -- ---- names
 
--- a member of another name is passed by
-skips : (name other : List ℕ) (d : Data) (ms : Members) → bytes_eq other name ≡ false
-    → has_member name ms ≡ false → has_member name (member other d ms) ≡ false
-skips name other d ms apart none = by_order (name_cmp name other) refl
+-- members that say these have their names
+pub names-are : {A : Type 0} (Is : Data → A → Type 0) (ms : Members) (xs : Named A)
+    → EachNamedIs Is ms xs → names_in ms ≡ keys_of xs
+names-are Is no_members [] each = refl
+names-are Is no_members (x ∷ xs) each = absurd each
+names-are Is (member name d ms) [] each = absurd each
+names-are Is (member name d ms) (x ∷ xs) each =
+    let first : name ≡ x.0 = sym each.0 in
+    let later = names-are Is ms xs each.2 in
+    λ i. first i ∷ later i
+
+-- an object has a member of a name where the first has it, or another
+has-next : (name other : List ℕ) (d : Data) (ms : Members)
+    → has_member name (member other d ms) ≡ (bytes_eq other name || has_member name ms)
+has-next name other d ms = by_order (name_cmp name other) refl
   where
-    same : name ≡ other → bytes_eq other name ≡ true
-    same e = (bytes_eq-Decides other name).1 (sym e)
+    apart : (o : Ordering) → name_cmp name other ≡ o → (o ≢ Equal) → bytes_eq other name ≡ false
+    apart o is not_same = by_test (bytes_eq other name) refl
+      where
+        by_test : (b : Bool) → bytes_eq other name ≡ b → b ≡ false
+        by_test false e = refl
+        by_test true e =
+            let same : other ≡ name = (bytes_eq-Decides other name).0 e in
+            absurd (not_same (sym is ∙ ap (name_cmp name) same
+            ∙ tied_itself nat_list_cmp_total name))
 
     by_order : (o : Ordering) → name_cmp name other ≡ o
-        → has_member name (member other d ms) ≡ false
-    by_order Less is = rw is none
-    by_order Equal is = absurd (cc (same (exact_bytes name other is), apart))
-    by_order Greater is = rw is none
+        → has_member name (member other d ms) ≡ (bytes_eq other name || has_member name ms)
+    by_order Less is = rw (is, apart Less is (λ e. cc)) refl
+    by_order Equal is =
+        rw (is, (bytes_eq-Decides other name).1 (sym (exact_bytes name other is))) refl
+    by_order Greater is = rw (is, apart Greater is (λ e. cc)) refl
 
--- members whose names are free have none of the names of the members of a bucket
-has-none : {A : Type 0} (Is : Data → A → Type 0) (ms : Members) (xs : Named A)
-    → EachNamedIs Is ms xs → are_free (keys_of xs) ≡ true
-    → (has_member (codes "key") ms ≡ false) × (has_member (codes "doc_count") ms ≡ false)
-has-none Is no_members [] each free = (refl, refl)
-has-none Is no_members (x ∷ xs) each free = absurd each
-has-none Is (member name d ms) [] each free = absurd each
-has-none Is (member name d ms) (x ∷ xs) each free =
-    let parts = free-parts
-    (bytes_eq x.0 (codes "key") || bytes_eq x.0 (codes "doc_count"))
-    (list_any (λ n. bytes_eq n (codes "key") || bytes_eq n (codes "doc_count")) (keys_of xs))
-    free in
-    let apart = neither (bytes_eq x.0 (codes "key")) (bytes_eq x.0 (codes "doc_count")) parts.0 in
-    let rest = has-none Is ms xs each.2 parts.1 in
-    let is : name ≡ x.0 = sym each.0 in (
-      skips (codes "key") name d ms (ap (λ n. bytes_eq n (codes "key")) is ∙ apart.0) rest.0,
-      skips (codes "doc_count") name d ms
-          (ap (λ n. bytes_eq n (codes "doc_count")) is ∙ apart.1) rest.1,
-    )
-
--- a metric has no members below it
-no-metric : {B : Type 0} (Is : Data → Aggregation B → Type 0) (agg : AggregationVariants B)
-    (ms : Members) (below : Request B) → (may_hold_some agg ≡ true) ⊎ (below ≡ [])
-    → EachNamedIs Is ms below
-    → (is_among (kind_word agg) metric_kinds && nat_lt 0 (members_len ms)) ≡ false
-no-metric Is agg no_members below some each = neither-is (is_among (kind_word agg) metric_kinds)
+-- names are free where no member has the name of a member of a bucket
+free-names : (ms : Members)
+    → are_free (names_in ms)
+    ≡ (not (has_member (codes "key") ms) && not (has_member (codes "doc_count") ms))
+free-names no_members = refl
+free-names (member name d ms) =
+    by_first (bytes_eq name (codes "key")) (bytes_eq name (codes "doc_count")) _
+    (has_member (codes "key") ms) (has_member (codes "doc_count") ms) (free-names ms)
+    ∙ sym (λ i. not (has-next (codes "key") name d ms i)
+    && not (has-next (codes "doc_count") name d ms i))
   where
-    neither-is : (b : Bool) → (b && false) ≡ false
-    neither-is true = refl
-    neither-is false = refl
-no-metric Is (Filter filter) (member name d ms) below some each = refl
-no-metric Is (Composite composite) (member name d ms) below some each = refl
-no-metric Is agg (member name d ms) [] some each = absurd each
-no-metric Is (Count metric) (member name d ms) (x ∷ below) (inl some) each = absurd (cc)
-no-metric Is (Max metric) (member name d ms) (x ∷ below) (inl some) each = absurd (cc)
-no-metric Is (Min metric) (member name d ms) (x ∷ below) (inl some) each = absurd (cc)
-no-metric Is (Sum metric) (member name d ms) (x ∷ below) (inl some) each = absurd (cc)
-no-metric Is agg (member name d ms) (x ∷ below) (inr none) each = absurd (cc)
+    by_first : (key count later has_key has_count : Bool)
+        → not later ≡ (not has_key && not has_count)
+        → not ((key || count) || later) ≡ (not (key || has_key) && not (count || has_count))
+    by_first true count later has_key has_count e = refl
+    by_first false true later true has_count e = refl
+    by_first false true later false has_count e = refl
+    by_first false false later has_key has_count e = e
 
--- what is below an aggregation that may hold it is nothing that it may not hold
-pub not-forbidden : {B : Type 0} (Is : Data → Aggregation B → Type 0)
-    (agg : AggregationVariants B) (ms : Members) (below : Request B) → MayHold agg below
-    → EachNamedIs Is ms below → may_not_hold (kind_word agg) ms ≡ false
-not-forbidden Is agg ms below h each =
-    let metric = no-metric Is agg ms below h.some each in
-    let named = has-none Is ms below each h.free in
-    λ i. metric i || named.0 i || named.1 i
+-- there are as many names as members
+names-length : (ms : Members) → length (names_in ms) ≡ members_len ms
+names-length no_members = refl
+names-length (member name d ms) = rw (names-length ms) refl
+
+-- what members an aggregation may have is told by their number and by two names
+pub holds-members : (kind : List ℕ) (ms : Members)
+    → may_hold kind (names_in ms)
+    ≡ ((not (is_among kind metric_kinds) || not (nat_lt 0 (members_len ms)))
+    && (not (has_member (codes "key") ms) && not (has_member (codes "doc_count") ms)))
+holds-members kind ms =
+    λ i. (not (is_among kind metric_kinds) || none i) && free-names ms i
+  where
+    by_number : (n : ℕ) → (n == 0) ≡ not (nat_lt 0 n)
+    by_number n = grind (arith, nat_tests)
+
+    none : (length (names_in ms) == 0) ≡ not (nat_lt 0 (members_len ms))
+    none = ap (λ n. n == 0) (names-length ms) ∙ by_number (members_len ms)
 
 -- ---- in a loop
 

@@ -5,9 +5,10 @@ use Rattle.std.proofs.Common.{◌∙◌, append_assoc, arith, map}
 use Rattle.serde_json.specs.Data.{Data, object, Members, no_members, member, depth, members_depth}
 use Rattle.serde_json.specs.Find.{as_object, get}
 use Rattle.agg_request.specs.Builders.{left_behind, left_by_each, left_by_object, left_by_own}
-use Rattle.agg_request.specs.Json.{EachNamedIs, only_other}
+use Rattle.std.specs.Map.{keys_of}
+use Rattle.agg_request.specs.Json.{EachNamedIs, names_in, only_other}
 use Rattle.agg_request.specs.RequestJson.{AreAggregations, IsAggregation, IsBelow, IsRequestJson}
-use Rattle.agg_request.specs.RequestJson.{may_not_hold}
+use Rattle.agg_request.specs.RequestJson.{may_hold}
 use Rattle.agg_request.specs.Request.{Request, agg_of, with_builders_in, below_of, builders_of}
 use Rattle.agg_request.specs.Request.{listed_in, own_builder, with_builders}
 use Rattle.agg_request.specs.Written.{may_be_written}
@@ -26,7 +27,7 @@ use Rattle.agg_request.proofs.FilterLists.{get_lower}
 use Rattle.agg_request.proofs.RequestTrees.{listed-out}
 use Rattle.agg_request.proofs.OtherBuilders.{alike-holds, alike-says, alike-word, same-below}
 use Rattle.agg_request.proofs.OtherBuilders.{same-kind}
-use Rattle.agg_request.proofs.Writable.{MayHold, may-hold, not-forbidden}
+use Rattle.agg_request.proofs.Writable.{may-hold, names-are}
 use Rattle.agg_request.proofs.WrittenMembers.{members-say, members-written}
 
 -- ---- where the parts of an aggregation stand
@@ -120,7 +121,7 @@ record SaysBelow {B : Type 0} (name_of : B → List ℕ) (levels : ℕ) (kind : 
 -- what is written of those below an aggregation says them
 says-below : {B : Type 0} (name_of : B → List ℕ) (levels : ℕ) (kind : List ℕ) (o : Option Data)
     (below : Members) (request : Request B) (rest : List B) → o ≡ stands below
-    → EachNamedIs (SaysItself name_of) below request → may_not_hold kind below ≡ false
+    → EachNamedIs (SaysItself name_of) below request → may_hold kind (names_in below) ≡ true
     → ((d : Data) → o ≡ Some d → depth d < levels) → SaysBelow name_of levels kind o request rest
 says-below name_of levels kind None no_members [] rest is each free under =
     record { is = refl; left = refl }
@@ -145,7 +146,8 @@ says-below name_of levels kind (Some e) (member name d below) request rest is ea
 says-itself : {B : Type 0} (name_of : B → List ℕ) (d body : Data) (below : Members)
     (a : Aggregation B) → d ≡ written (kind_word (agg_of a)) body below
     → SaysKind name_of body (agg_of a)
-    → EachNamedIs (SaysItself name_of) below (below_of a) → MayHold (agg_of a) (below_of a)
+    → EachNamedIs (SaysItself name_of) below (below_of a)
+    → may_hold (kind_word (agg_of a)) (keys_of (below_of a)) ≡ true
     → SaysItself name_of d a
 says-itself {B = B} name_of d body below a is told each may = says
   where
@@ -165,7 +167,7 @@ says-itself {B = B} name_of d body below a is told each may = says
         let own = told mid in
         let beneath = says-below name_of levels kind (get (codes "aggs") d) below (below_of a) rest
         parts.beneath each
-        (not-forbidden (SaysItself name_of) (agg_of a) below (below_of a) may each)
+        (ap (may_hold kind) (names-are (SaysItself name_of) below (below_of a) each) ∙ may)
         (λ e found. omega (arith, under, get_lower (codes "aggs") d e found)) in
         let left = left_by_object (left_behind name_of levels)
         (option_and_then as_object (get (codes "aggs") d)) in

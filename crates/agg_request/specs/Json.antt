@@ -66,6 +66,11 @@ abbrev pub only_other : List ℕ → Data → Option (List ℕ × Data)
 only_other name (object members) = the_only (others name members)
 only_other name _ = None
 
+-- the names of members
+abbrev pub names_in : Members → List (List ℕ)
+names_in no_members = []
+names_in (member name d members) = name ∷ names_in members
+
 -- whether an object has a member of this name
 abbrev pub has_member : List ℕ → Members → Bool
 has_member name members = is_some (get_member name members)

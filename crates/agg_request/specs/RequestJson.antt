@@ -1,15 +1,16 @@
 -- Requests as JSON: an object from name to aggregation, each an object whose one member besides
 -- `aggs` is its kind, and at `aggs` those below it.
 use Rattle.std.specs.Prelude.{◌≡◌, ◌⊎◌, ◌∷◌, ◌&&◌, ◌||◌, [], ℕ, zero, suc, List, Bool, true, false}
-use Rattle.std.specs.Prelude.{Option, None, Some, option_and_then, option_map, codes, nat_lt}
-use Rattle.std.specs.Prelude.{IsSome, IsTrue, ⊤}
+use Rattle.std.specs.Prelude.{Option, None, Some, option_and_then, option_map, codes}
+use Rattle.std.specs.Prelude.{◌==◌, IsSome, IsTrue, length, not, ⊤}
+use Rattle.std.specs.List.{list_any}
+use Rattle.std.specs.Str.{bytes_eq}
 use Rattle.serde_json.specs.Data.{Data, Members, no_members, member, depth}
-use Rattle.serde_json.specs.Events.{members_len}
 use Rattle.serde_json.specs.Find.{as_object, as_str, get}
 use Rattle.agg_request.specs.Builders.{builder_name, left_behind, left_by_each, left_by_kind}
 use Rattle.agg_request.specs.Builders.{taken}
 use Rattle.agg_request.specs.CompositeJson.{HasUnsupportedComposite, IsCompositeJson}
-use Rattle.agg_request.specs.Json.{HasUnsupportedMember, IsField, has_member, is_among}
+use Rattle.agg_request.specs.Json.{HasUnsupportedMember, IsField, is_among, names_in}
 use Rattle.agg_request.specs.Json.{only_other, present}
 use Rattle.agg_request.specs.Query.{HasUnsupportedQuery, IsFilterOf}
 use Rattle.agg_request.specs.Request.{Request, agg_of, below_of}
@@ -88,12 +89,16 @@ IsKind lenient name_of kind body pool agg =
 
 -- ---- aggregations
 
--- whether an aggregation of this kind may not have such members below it: a metric may have none,
--- and none may have the name of a member of a bucket
-abbrev pub may_not_hold : List ℕ → Members → Bool
-may_not_hold kind members =
-    (is_among kind metric_kinds && nat_lt 0 (members_len members))
-    || has_member (codes "key") members || has_member (codes "doc_count") members
+-- whether none of these names is that of a member of a bucket
+abbrev pub are_free : List (List ℕ) → Bool
+are_free names =
+    not (list_any (λ name. bytes_eq name (codes "key") || bytes_eq name (codes "doc_count")) names)
+
+-- whether an aggregation of this kind may have aggregations of these names below it: a metric may
+-- have none, and none may have the name of a member of a bucket
+abbrev pub may_hold : List ℕ → List (List ℕ) → Bool
+may_hold kind names =
+    (not (is_among kind metric_kinds) || (length names == 0)) && are_free names
 
 -- these builders are left; leniently, any
 abbrev pub IsLeft : {B : Type 0} → Bool → Option (List B) → List B → Type 0
@@ -117,7 +122,7 @@ abbrev pub IsBelow : {B : Type 0} → Bool → (Data → List B → Option (List
 IsBelow lenient left Is kind None pool below = below ≡ []
 IsBelow lenient left Is kind (Some d) pool below =
     (members : Members) × (as_object d ≡ Some members)
-    × (IsTrue lenient ⊎ (may_not_hold kind members ≡ false))
+    × (IsTrue lenient ⊎ (may_hold kind (names_in members) ≡ true))
     × AreAggregations lenient left Is members pool below
 
 -- an aggregation, with at most so many, one inside another
@@ -173,7 +178,7 @@ HasUnsupportedAsked kind body =
 abbrev pub HasUnsupportedBelow : (Data → Type 0) → List ℕ → Option Data → Type 0
 HasUnsupportedBelow Has kind d =
     (members : Members) × (option_and_then as_object d ≡ Some members)
-    × ((may_not_hold kind members ≡ true) ⊎ HasUnsupportedMember Has members)
+    × ((may_hold kind (names_in members) ≡ false) ⊎ HasUnsupportedMember Has members)
 
 -- an aggregation says something that isn't supported, within so many levels
 abbrev pub HasUnsupportedAggregation : ℕ → Data → Type 0

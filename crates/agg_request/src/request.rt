@@ -6,12 +6,12 @@ ghost use Rattle.serde_json.specs.View.{members_view, view};
 ghost use Rattle.agg_values.specs.Names.{put};
 ghost use Rattle.agg_request.specs.Builders.{left_behind, left_below, left_by_each};
 ghost use Rattle.agg_request.specs.Reading.{IsReadingWith};
-ghost use Rattle.agg_request.specs.Json.{HasUnsupportedMember};
+ghost use Rattle.agg_request.specs.Json.{HasUnsupportedMember, names_in};
 ghost use Rattle.agg_request.specs.RequestJson.{HasUnknownBuilder, HasUnsupportedAggregation};
 ghost use Rattle.agg_request.specs.RequestJson.{HasUnsupportedBelow, HasUnsupportedRequest};
 ghost use Rattle.agg_request.specs.RequestJson.{IsAggregation, IsBelow, IsNoRequest};
 ghost use Rattle.agg_request.specs.RequestJson.{IsNoRequestAtAll, IsRequestJson, IsRequestWithin};
-ghost use Rattle.agg_request.specs.RequestJson.{may_not_hold};
+ghost use Rattle.agg_request.specs.RequestJson.{may_hold};
 
 mod builders;
 mod kind;
@@ -157,19 +157,19 @@ fn read_below<B: HasName>(
     let Some(members) = below.as_object() else {
         return Err(ReadError::Grammar);
     };
-    if may_not_hold(kind, members) {
+    if !may_hold(kind, members) {
         return Err(ReadError::Unsupported);
     }
     read_members(alloc, members, pool)
 }
 
-// Whether an aggregation of this kind may not have such members below it: a metric may have none,
-// and none may have the name of a member of a bucket.
-fn may_not_hold(kind: &str, members: &Map<String, Value>) -> bool
-    ensures { result ≡ may_not_hold kind.now (members_view members.now.entries) }
+// Whether an aggregation of this kind may have such members below it: a metric may have none, and
+// none may have the name of a member of a bucket.
+fn may_hold(kind: &str, members: &Map<String, Value>) -> bool
+    ensures { result ≡ may_hold kind.now (names_in (members_view members.now.entries)) }
 {
     if is_metric(kind) && is_inhabited(members) {
-        return true;
+        return false;
     }
-    has_member(members, "key") || has_member(members, "doc_count")
+    !has_member(members, "key") && !has_member(members, "doc_count")
 }

@@ -1,9 +1,10 @@
 //! Which requests may be written.
-ghost use Rattle.std.specs.Prelude.{◌≡◌, ◌==◌, ◌&&◌, ◌||◌, codes, length};
+ghost use Rattle.std.specs.Prelude.{◌≡◌, ◌||◌, codes, not};
 ghost use Rattle.std.specs.Map.{keys_of};
 ghost use Rattle.std.specs.Str.{bytes_eq};
-ghost use Rattle.agg_request.specs.Written.{all_may_be_written, are_free, may_be_written};
-ghost use Rattle.agg_request.specs.Written.{may_hold_some};
+ghost use Rattle.agg_request.specs.Json.{is_among};
+ghost use Rattle.agg_request.specs.RequestJson.{are_free, kind_word, may_hold, metric_kinds};
+ghost use Rattle.agg_request.specs.Written.{all_may_be_written, may_be_written};
 
 use crate::{Aggregation, AggregationVariants, Aggregations};
 use agg_values::NameMap;
@@ -38,15 +39,14 @@ fn is_writable<B: Drop>(aggregation: &Aggregation<B>) -> bool
 
 // Whether an aggregation may have aggregations of these names below it.
 fn may_hold<B: Drop>(agg: &AggregationVariants<B>, below: &NameMap<Aggregation<B>>) -> bool
-    ensures { result ≡ (may_hold_some agg.now || (length below.now == 0))
-        && are_free (keys_of below.now) }
+    ensures { result ≡ may_hold (kind_word agg.now) (keys_of below.now) }
 {
     (may_hold_some(agg) || below.is_empty()) && are_free(below)
 }
 
 // Whether an aggregation may have any below it.
 fn may_hold_some<B>(agg: &AggregationVariants<B>) -> bool
-    ensures { result ≡ may_hold_some agg.now }
+    ensures { result ≡ not (is_among (kind_word agg.now) metric_kinds) }
 {
     matches!(
         agg,

@@ -1,11 +1,11 @@
-use Rattle.std.proofs.Common.{◌≡◌, ◌<◌, ◌+◌, ◌*◌, Some, false, codes, ap, ◌∙◌, arith, rules}
+use Rattle.std.proofs.Common.{◌≡◌, ◌<◌, ◌+◌, ◌*◌, Some, false, true, codes, ap, ◌∙◌, arith, rules}
 use Rattle.serde_json.specs.Data.{depth, members_depth}
 use Rattle.serde_json.specs.Find.{as_object, get}
 use Rattle.serde_json.specs.View.{view, members_view}
 use Rattle.agg_values.specs.Names.{put}
 use Rattle.agg_request.specs.Builders.{left_behind}
-use Rattle.agg_request.specs.Json.{only_other}
-use Rattle.agg_request.specs.RequestJson.{HasUnsupportedAggregation, IsAggregation, may_not_hold}
+use Rattle.agg_request.specs.Json.{names_in, only_other}
+use Rattle.agg_request.specs.RequestJson.{HasUnsupportedAggregation, IsAggregation, may_hold}
 use Rattle.agg_request.proofs.AggregationReadings.{left_by_both, left_there, object_lower}
 use Rattle.agg_request.proofs.AggregationReadings.{read_both, read_there, refused_below}
 use Rattle.agg_request.proofs.AggregationReadings.{refused_kind}
@@ -72,8 +72,8 @@ read_below-returns-clause-read g t c =
     search rules in
     let inner : as_object (view c.in-Some.below.now)
     ≡ Some (members_view c.in-Some-as_object.members.now.entries) = search rules in
-    let good : may_not_hold c.args.kind.now (members_view c.in-Some-as_object.members.now.entries)
-    ≡ false = search rules in
+    let good : may_hold c.args.kind.now
+    (names_in (members_view c.in-Some-as_object.members.now.entries)) ≡ true = search rules in
     λ n deep. read_there g.B.HasName.name_of c.args.kind.now (view c.args.value.now)
     (view c.in-Some.below.now) found (members_view c.in-Some-as_object.members.now.entries) inner
     good n c.args.pool.now.items c.read_members.result deep c.read_members.ensures.read
