@@ -1,5 +1,5 @@
 -- A body is that of one composite at most.
-use Rattle.std.proofs.Common.{◌≡◌, ℕ, ℤ, List, [], ◌∷◌, Bool, false}
+use Rattle.std.proofs.Common.{◌≡◌, ℕ, List, [], ◌∷◌, Bool, false}
 use Rattle.std.proofs.Common.{Option, Some, None, refl, sym, ap, ◌∙◌, subst, codes, arith, get_or}
 use Rattle.serde_json.specs.Data.{Data, Members, no_members, member}
 use Rattle.serde_json.specs.Find.{as_str, get}
@@ -11,13 +11,14 @@ use Rattle.agg_values.specs.declared.order.Order.{Order}
 use Rattle.agg_values.specs.declared.order.Order.TheVariants.{Asc, Desc}
 use Rattle.agg_values.specs.declared.order.MissingOrder.{MissingOrder}
 use Rattle.agg_values.specs.declared.order.MissingOrder.TheVariants.{Default, First, Last}
-use Rattle.agg_request.specs.CompositeJson.{AreSources, IsAfter, IsCompositeJson}
-use Rattle.agg_request.specs.CompositeJson.{IsDateHistogramBody, IsFlag, IsHistogramBody}
-use Rattle.agg_request.specs.CompositeJson.{IsInterval, IsKeyJson, IsSize, IsSourceJson}
-use Rattle.agg_request.specs.CompositeJson.{IsSourceOfKind, IsTermsBody, IsWordOr}
-use Rattle.agg_request.specs.CompositeJson.{missing_order_word, order_word, unit_word}
-use Rattle.agg_request.specs.Json.{EachIs, EachNamedIs, IsGiven, only_member, only_named, present}
-use Rattle.agg_request.specs.Json.{small_number, whole_number}
+use Rattle.agg_request.specs.CompositeJson.{AreIntervals, AreSources, IsAfter, IsCompositeJson}
+use Rattle.agg_request.specs.CompositeJson.{IsFlag, IsKeyJson, IsSharedBody, IsSourceJson}
+use Rattle.agg_request.specs.CompositeJson.{IsSourceOfKind, IsWordOr, missing_order_word}
+use Rattle.agg_request.specs.CompositeJson.{order_word, unit_word}
+use Rattle.agg_request.specs.Json.{EachIs, EachNamedIs, IsGiven, IsWholeAt, only_member}
+use Rattle.agg_request.specs.Json.{only_named, present, small_number, whole_number}
+use Rattle.agg_request.specs.Source.{field_of, missing_bucket_of, missing_order_of, name_of}
+use Rattle.agg_request.specs.Source.{order_of}
 use Rattle.agg_request.specs.declared.aggregation.CompositeAggregation.{CompositeAggregation}
 use Rattle.agg_request.specs.declared.source.CompositeAggregationSource as any_source
 use any_source.{CompositeAggregationSource}
@@ -89,52 +90,54 @@ IsFlag-unique (Some d) a b h k = same_value a b (sym h ∙ k)
 
 -- ---- sources
 
-IsTermsBody-unique : (name : List ℕ) (body : Data) (a b : Term) → IsTermsBody name body a
-    → IsTermsBody name body b → a ≡ b
-IsTermsBody-unique name body a b (named, field, order, bucket, missing)
-    (named_too, field_too, order_too, bucket_too, missing_too) =
-    let orders : a.order ≡ b.order = IsWordOr-unique Asc order_word order_word-one
-    (get (codes "order") body) a.order b.order order order_too in
-    let buckets : a.missing_bucket ≡ b.missing_bucket = IsFlag-unique
-    (get (codes "missing_bucket") body) a.missing_bucket b.missing_bucket bucket bucket_too in
-    let places : a.missing_order ≡ b.missing_order =
-    IsWordOr-unique Default missing_order_word missing_order_word-one
-    (get (codes "missing_order") body) a.missing_order b.missing_order missing missing_too in
-    λ i. record {
-      name = (named ∙ sym named_too) i;
-      field = same_value a.field b.field (sym field ∙ field_too) i;
-      order = orders i;
-      missing_bucket = buckets i;
-      missing_order = places i;
-    }
+-- what two sources of one body share is the same
+record SameShared (a b : CompositeAggregationSource) : Type 0 where
+  named : name_of a ≡ name_of b
+  field : field_of a ≡ field_of b
+  order : order_of a ≡ order_of b
+  missing_bucket : missing_bucket_of a ≡ missing_bucket_of b
+  missing_order : missing_order_of a ≡ missing_order_of b
 
-IsInterval-unique : (o : Option Data) (a b : ℤ) → (d : Data) × (o ≡ Some d) × IsInterval false d a
-    → (d : Data) × (o ≡ Some d) × IsInterval false d b → a ≡ b
-IsInterval-unique o a b (d, is, h) (d_too, is_too, k) =
+shared-unique : (name : List ℕ) (body : Data) (a b : CompositeAggregationSource)
+    → IsSharedBody name body a → IsSharedBody name body b → SameShared a b
+shared-unique name body a b h k = record {
+  named = h.named ∙ sym k.named;
+  field = same_value (field_of a) (field_of b) (sym h.field ∙ k.field);
+  order = IsWordOr-unique Asc order_word order_word-one (get (codes "order") body) (order_of a)
+      (order_of b) h.order k.order;
+  missing_bucket = IsFlag-unique (get (codes "missing_bucket") body) (missing_bucket_of a)
+      (missing_bucket_of b) h.missing_bucket k.missing_bucket;
+  missing_order = IsWordOr-unique Default missing_order_word missing_order_word-one
+      (get (codes "missing_order") body) (missing_order_of a) (missing_order_of b) h.missing_order
+      k.missing_order;
+}
+
+terms-unique : (a b : Term) → SameShared (Terms a) (Terms b) → a ≡ b
+terms-unique a b same = λ i. record {
+  name = same.named i;
+  field = same.field i;
+  order = same.order i;
+  missing_bucket = same.missing_bucket i;
+  missing_order = same.missing_order i;
+}
+
+-- the numbers that stand at one member are the same
+IsWholeAt-unique : {A : Type 0} (taken : Data → Option A) (name : List ℕ) (body : Data) (a b : A)
+    → IsWholeAt taken name false body a → IsWholeAt taken name false body b → a ≡ b
+IsWholeAt-unique taken name body a b (d, is, h) (d_too, is_too, k) =
     let same : d_too ≡ d = same_value d_too d (sym is_too ∙ is) in
-    same_value a b (sym h ∙ sym (ap whole_number same) ∙ k)
+    same_value a b (sym h ∙ sym (ap taken same) ∙ k)
 
-IsHistogramBody-unique : (name : List ℕ) (body : Data) (a b : Numbers)
-    → IsHistogramBody false name body a → IsHistogramBody false name body b → a ≡ b
-IsHistogramBody-unique name body a b (named, field, every, order, bucket, missing)
-    (named_too, field_too, every_too, order_too, bucket_too, missing_too) =
-    let intervals : a.interval ≡ b.interval =
-    IsInterval-unique (get (codes "interval") body) a.interval b.interval every every_too in
-    let orders : a.order ≡ b.order = IsWordOr-unique Asc order_word order_word-one
-    (get (codes "order") body) a.order b.order order order_too in
-    let buckets : a.missing_bucket ≡ b.missing_bucket = IsFlag-unique
-    (get (codes "missing_bucket") body) a.missing_bucket b.missing_bucket bucket bucket_too in
-    let places : a.missing_order ≡ b.missing_order =
-    IsWordOr-unique Default missing_order_word missing_order_word-one
-    (get (codes "missing_order") body) a.missing_order b.missing_order missing missing_too in
-    λ i. record {
-      name = (named ∙ sym named_too) i;
-      field = same_value a.field b.field (sym field ∙ field_too) i;
-      interval = intervals i;
-      order = orders i;
-      missing_bucket = buckets i;
-      missing_order = places i;
-    }
+numbers-unique : (a b : Numbers) → SameShared (Histogram a) (Histogram b)
+    → a.interval ≡ b.interval → a ≡ b
+numbers-unique a b same intervals = λ i. record {
+  name = same.named i;
+  field = same.field i;
+  interval = intervals i;
+  order = same.order i;
+  missing_bucket = same.missing_bucket i;
+  missing_order = same.missing_order i;
+}
 
 IsGiven-unique : {A : Type 0} (Is : Data → A → Type 0)
     → ((d : Data) (a b : A) → Is d a → Is d b → a ≡ b) → (o : Option Data) (a b : Option A)
@@ -146,10 +149,9 @@ IsGiven-unique Is one (Some d) None b h k = absurd h
 IsGiven-unique Is one (Some d) (Some a) None h k = absurd k
 IsGiven-unique Is one (Some d) (Some a) (Some b) h k = ap Some (one d a b h k)
 
-IsDateHistogramBody-unique : (name : List ℕ) (body : Data) (a b : Dates)
-    → IsDateHistogramBody name body a → IsDateHistogramBody name body b → a ≡ b
-IsDateHistogramBody-unique name body a b (named, field, fixed, unit, order, bucket, missing)
-    (named_too, field_too, fixed_too, unit_too, order_too, bucket_too, missing_too) =
+dates-unique : (body : Data) (a b : Dates) → SameShared (DateHistogram a) (DateHistogram b)
+    → AreIntervals body a → AreIntervals body b → a ≡ b
+dates-unique body a b same (fixed, unit) (fixed_too, unit_too) =
     let texts : a.fixed_interval ≡ b.fixed_interval =
     IsGiven-unique (λ d text. as_str d ≡ Some text) (λ d s t h k. same_value s t (sym h ∙ k))
     (present (codes "fixed_interval") body) a.fixed_interval b.fixed_interval fixed fixed_too in
@@ -158,27 +160,20 @@ IsDateHistogramBody-unique name body a b (named, field, fixed, unit, order, buck
     (λ d u v h k. unit_word-one u v (same_value (unit_word u) (unit_word v) (sym h ∙ k)))
     (present (codes "calendar_interval") body) a.calendar_interval b.calendar_interval unit
     unit_too in
-    let orders : a.order ≡ b.order = IsWordOr-unique Asc order_word order_word-one
-    (get (codes "order") body) a.order b.order order order_too in
-    let buckets : a.missing_bucket ≡ b.missing_bucket = IsFlag-unique
-    (get (codes "missing_bucket") body) a.missing_bucket b.missing_bucket bucket bucket_too in
-    let places : a.missing_order ≡ b.missing_order =
-    IsWordOr-unique Default missing_order_word missing_order_word-one
-    (get (codes "missing_order") body) a.missing_order b.missing_order missing missing_too in
     λ i. record {
-      name = (named ∙ sym named_too) i;
-      field = same_value a.field b.field (sym field ∙ field_too) i;
+      name = same.named i;
+      field = same.field i;
       fixed_interval = texts i;
       calendar_interval = units i;
-      order = orders i;
-      missing_bucket = buckets i;
-      missing_order = places i;
+      order = same.order i;
+      missing_bucket = same.missing_bucket i;
+      missing_order = same.missing_order i;
     }
 
 IsSourceOfKind-unique : (name kind : List ℕ) (body : Data) (a b : CompositeAggregationSource)
     → IsSourceOfKind false name kind body a → IsSourceOfKind false name kind body b → a ≡ b
 IsSourceOfKind-unique name kind body (Terms a) (Terms b) h k =
-    ap Terms (IsTermsBody-unique name body a b h.1 k.1)
+    ap Terms (terms-unique a b (shared-unique name body (Terms a) (Terms b) h.1.0 k.1.0))
 IsSourceOfKind-unique name kind body (Terms a) (Histogram b) h k =
     by_letter (codes "terms") (codes "histogram") (sym h.0 ∙ k.0) (λ l. omega (arith, l))
 IsSourceOfKind-unique name kind body (Terms a) (DateHistogram b) h k =
@@ -186,7 +181,9 @@ IsSourceOfKind-unique name kind body (Terms a) (DateHistogram b) h k =
 IsSourceOfKind-unique name kind body (Histogram a) (Terms b) h k =
     by_letter (codes "histogram") (codes "terms") (sym h.0 ∙ k.0) (λ l. omega (arith, l))
 IsSourceOfKind-unique name kind body (Histogram a) (Histogram b) h k =
-    ap Histogram (IsHistogramBody-unique name body a b h.1 k.1)
+    ap Histogram (numbers-unique a b
+    (shared-unique name body (Histogram a) (Histogram b) h.1.0 k.1.0)
+    (IsWholeAt-unique whole_number (codes "interval") body a.interval b.interval h.1.1 k.1.1))
 IsSourceOfKind-unique name kind body (Histogram a) (DateHistogram b) h k =
     by_letter (codes "histogram") (codes "date_histogram") (sym h.0 ∙ k.0) (λ l. omega (arith, l))
 IsSourceOfKind-unique name kind body (DateHistogram a) (Terms b) h k =
@@ -194,7 +191,8 @@ IsSourceOfKind-unique name kind body (DateHistogram a) (Terms b) h k =
 IsSourceOfKind-unique name kind body (DateHistogram a) (Histogram b) h k =
     by_letter (codes "date_histogram") (codes "histogram") (sym h.0 ∙ k.0) (λ l. omega (arith, l))
 IsSourceOfKind-unique name kind body (DateHistogram a) (DateHistogram b) h k =
-    ap DateHistogram (IsDateHistogramBody-unique name body a b h.1 k.1)
+    ap DateHistogram (dates-unique body a b
+    (shared-unique name body (DateHistogram a) (DateHistogram b) h.1.0 k.1.0) h.1.1 k.1.1)
 
 IsSourceJson-unique : (d : Data) (a b : CompositeAggregationSource) → IsSourceJson false d a
     → IsSourceJson false d b → a ≡ b
@@ -220,12 +218,6 @@ AreSources-unique body a b (items, is, each) (items_too, is_too, each_too) =
     (subst (λ l. EachIs (IsSourceJson false) l b) same each_too)
 
 -- ---- the size and the after key
-
-IsSize-unique : (o : Option Data) (a b : ℕ) → (d : Data) × (o ≡ Some d) × IsSize false d a
-    → (d : Data) × (o ≡ Some d) × IsSize false d b → a ≡ b
-IsSize-unique o a b (d, is, h) (d_too, is_too, k) =
-    let same : d_too ≡ d = same_value d_too d (sym is_too ∙ is) in
-    same_value a b (sym h ∙ sym (ap small_number same) ∙ k)
 
 IsKeyJson-unique : (d : Data) (a b : AfterKey) → IsKeyJson false d a → IsKeyJson false d b
     → a ≡ b
@@ -265,7 +257,7 @@ IsCompositeJson-unique body a b h k =
     let sources : a.sources ≡ b.sources =
     AreSources-unique body a.sources b.sources h.sources k.sources in
     let sizes : a.size ≡ b.size =
-    IsSize-unique (get (codes "size") body) a.size b.size h.size k.size in
+    IsWholeAt-unique small_number (codes "size") body a.size b.size h.size k.size in
     let afters : a.after ≡ b.after =
     IsAfter-unique (get (codes "after") body) a.after b.after h.after k.after in
     λ i. record { sources = sources i; size = sizes i; after = afters i }
