@@ -8,20 +8,18 @@ use Rattle.agg_values.specs.Names.{Named}
 use Rattle.agg_values.specs.Tuple.{KeyTuple}
 use Rattle.agg_values.specs.TypedKey.{CompositeIntermediateKey, canonical_key}
 use Rattle.agg_values.specs.declared.after_key.AfterKey.{AfterKey}
-use Rattle.agg_segment.specs.Columns.{all_keys}
 use Rattle.agg_segment.specs.Segment.{Stored, document_at, documents_at}
 use Rattle.agg_request.specs.Occurrences.{bound_of, is_past, occurrences, past_occurrences}
 use Rattle.agg_request.specs.Ranges.{AreInRange, IsInRange}
-use Rattle.agg_request.specs.Source.{Sources, field_of, missing_bucket_of, or_missing, order_of}
+use Rattle.agg_request.specs.Source.{Sources, field_of, missing_bucket_of, or_missing}
 use Rattle.agg_request.specs.Source.{rules_of, source_values, values_at}
 use Rattle.agg_request.specs.declared.source.CompositeAggregationSource.{CompositeAggregationSource}
 use Rattle.agg_request.specs.Source.{after_of}
-use Rattle.agg_composite.specs.Accessors.{AreAccessorsOf, side_to}
-use Rattle.agg_composite.specs.Accessors.{AllFit}
+use Rattle.agg_composite.specs.Accessors.{AllFit, AreAccessorsOf, keys_held, keys_read, side_to}
 use Rattle.agg_composite.specs.Choices.{AreChoicesIn, AreChoicesOf, CanRead, IsChoiceOf}
-use Rattle.agg_composite.specs.Choices.{keys_read, values_read}
+use Rattle.agg_composite.specs.Choices.{values_read}
 use Rattle.agg_composite.specs.Encoding.{EncodedTuple, StandFor, StandsFor}
-use Rattle.agg_composite.specs.Lanes.{columns_of, in_requested, keys_at}
+use Rattle.agg_composite.specs.Lanes.{keys_at}
 use Rattle.agg_composite.specs.Walk.{product, sides_of, sides_past, values_of, walked}
 use Rattle.agg_composite.specs.declared.accessor.CompositeSourceAccessors.{CompositeSourceAccessors}
 use Rattle.agg_composite.specs.declared.walk.choice.Choice.{Choice}
@@ -65,7 +63,7 @@ module _ (segment : Stored) (after : Named AfterKey) where
       → AreChoicesOf source a choices (values_read source a doc)
       → values_read source a doc ≡ source_values source (document_at segment doc)
   values-are source a doc choices fit p =
-      let keys = keys_read source a doc in
+      let keys = keys_read source a.accessors doc in
       let same = without-missing (missing_bucket_of source) keys
       (canonical-choices source a choices (values_read source a doc) p) in
       ap (or_missing (missing_bucket_of source))
@@ -136,7 +134,7 @@ module _ (segment : Stored) (after : Named AfterKey) where
       → All (IsInRange source) (values_at (field_of source) (document_at segment doc))
       → CanRead source a doc
   can-read source a doc fit range =
-      let held = all_keys (in_requested (order_of source) (columns_of a.accessors)) doc in
+      let held = keys_held source a.accessors doc in
       let values = document_at segment doc (field_of source) in
       record {
         interval = fit.columns.interval;

@@ -22,7 +22,7 @@ use Rattle.agg_request.specs.Source.{Sources, keys_in, or_missing, order_of}
 use Rattle.agg_request.specs.declared.source.CompositeAggregationSource as kind
 use kind.{CompositeAggregationSource}
 use kind.TheVariants.{DateHistogram, Histogram, Terms}
-use Rattle.agg_composite.specs.Accessors.{IsAccessorOf}
+use Rattle.agg_composite.specs.Accessors.{IsAccessorOf, keys_held}
 use Rattle.agg_composite.specs.Choices.{AddsChoices, AreChoicesIn, AreChoicesOf, AreGathered}
 use Rattle.agg_composite.specs.Choices.{CanRead, IsChoiceOf, choice_at, divided_choices}
 use Rattle.agg_composite.specs.Choices.{null_choice, place_in, values_read}
@@ -221,11 +221,10 @@ turn-read source a order accessors turn place doc found numbers ordered same l w
       within = inside;
       next = next;
       chosen = λ can.
-          let read = all_keys (in_requested (order_of source) (columns_of a.accessors)) doc in
           let all : AllByRecursion (IsInRange source) (all_keys columns doc) =
           subst (AllByRecursion (IsInRange source))
           (sym (λ j. all_keys (in_requested (ordered j) (columns_of (same j))) doc))
-          (recursion_from_All (IsInRange source) read can.range) in
+          (recursion_from_All (IsInRange source) (keys_held source a.accessors doc) can.range) in
           column-chosen source a place found numbers doc here own_is fits stand keys
           can.interval
           (subst (IsAccessorOf source) (sym own_is) (can.each place found here))

@@ -18,12 +18,10 @@ use Rattle.agg_request.specs.Occurrences.{bound_of, is_past, occurrences, past_o
 use Rattle.agg_request.specs.Source.{field_of, keys_in, missing_bucket_of, or_missing, rules_of}
 use Rattle.agg_request.specs.declared.source.CompositeAggregationSource.{CompositeAggregationSource}
 use Rattle.agg_request.specs.Source.{after_of}
-use Rattle.agg_composite.specs.Accessors.{AreAccessorsOf}
-use Rattle.agg_composite.specs.Accessors.{AllFit}
+use Rattle.agg_composite.specs.Accessors.{AllFit, AreAccessorsOf, keys_read}
 use Rattle.agg_composite.specs.Answers.{AnswersEncoded, AnswersFor, AreAllInRange}
 use Rattle.agg_composite.specs.Answers.{CountsFor, TooOftenFor}
-use Rattle.agg_composite.specs.Choices.{AreChoicesOf, CanRead, IsChoiceOf, is_nil, keys_read}
-use Rattle.agg_composite.specs.Choices.{null_choice}
+use Rattle.agg_composite.specs.Choices.{AreChoicesOf, CanRead, IsChoiceOf, is_nil, null_choice}
 use Rattle.agg_composite.specs.Counts.{EncodedCounts}
 use Rattle.agg_composite.specs.Encoding.{StandFor}
 use Rattle.agg_composite.specs.Walk.{walked}
@@ -137,7 +135,7 @@ module _ (segment : Stored) (after : Named AfterKey) (source : CompositeAggregat
 
   -- the tuples of a document: those of the columns, and that of Null
   whole-document : (columns : List StoredColumn)
-      → given_in columns ≡ keys_read source a doc
+      → given_in columns ≡ keys_read source a.accessors doc
       → AreAccessorsOf segment source (after_of after source) a
       → past_occurrences (source ∷ []) (bound_of (source ∷ []) after)
       (documents_at segment (doc ∷ []))
@@ -192,7 +190,7 @@ module _ (segment : Stored) (after : Named AfterKey) (source : CompositeAggregat
             (lone-column columns turn column choices is p) own)
 
         -- the error of a column is the document's
-        pub column-error : given_in columns ≡ keys_read source a doc
+        pub column-error : given_in columns ≡ keys_read source a.accessors doc
             → (error : VisitError) (returned : Returned)
             → AnswersEncoded (walked (choices ∷ []) [] false) now then steps_now steps_then
             (Err error)
@@ -218,7 +216,8 @@ module _ (segment : Stored) (after : Named AfterKey) (source : CompositeAggregat
             is_err)
 
       -- all columns, and what comes behind them
-      then-null : length columns ≤ turn → given_in columns ≡ keys_read source a doc
+      then-null : length columns ≤ turn
+          → given_in columns ≡ keys_read source a.accessors doc
           → (tuples : List KeyTuple) (then : EncodedCounts) (steps_then : ℕ) (result : Returned)
           → lone_past segment after source
           (null_part (missing_bucket_of source) (read_in columns)) ≡ tuples
@@ -238,7 +237,8 @@ module _ (segment : Stored) (after : Named AfterKey) (source : CompositeAggregat
           steps steps_now so_far past) answers)
 
       -- no Null behind the columns
-      pub columns-alone : length columns ≤ turn → given_in columns ≡ keys_read source a doc
+      pub columns-alone : length columns ≤ turn
+          → given_in columns ≡ keys_read source a.accessors doc
           → null_part (missing_bucket_of source) (read_in columns) ≡ []
           → AnswersFor (source ∷ []) (a ∷ [])
           (past_occurrences (source ∷ []) (bound_of (source ∷ []) after)
@@ -251,7 +251,8 @@ module _ (segment : Stored) (after : Named AfterKey) (source : CompositeAggregat
           (typed-visits (source ∷ []) (a ∷ [])) now steps_now)
 
       -- Null behind them
-      pub columns-and-null : length columns ≤ turn → given_in columns ≡ keys_read source a doc
+      pub columns-and-null : length columns ≤ turn
+          → given_in columns ≡ keys_read source a.accessors doc
           → null_part (missing_bucket_of source) (read_in columns) ≡ Null ∷ []
           → (then : EncodedCounts) (steps_then : ℕ) (result : Returned)
           → AnswersEncoded (walked ((null_choice source a ∷ []) ∷ []) [] false) now then steps_now
@@ -270,7 +271,8 @@ module _ (segment : Stored) (after : Named AfterKey) (source : CompositeAggregat
           (inl (refl, refl), tt)) answers)
 
       -- the three ways in which a document ends
-      pub ends-with-values : length columns ≤ turn → given_in columns ≡ keys_read source a doc
+      pub ends-with-values : length columns ≤ turn
+          → given_in columns ≡ keys_read source a.accessors doc
           → is_nil (given_in (take turn columns)) ≡ false
           → AnswersFor (source ∷ []) (a ∷ [])
           (past_occurrences (source ∷ []) (bound_of (source ∷ []) after)
@@ -283,7 +285,7 @@ module _ (segment : Stored) (after : Named AfterKey) (source : CompositeAggregat
           (sym (take_all turn columns past)) ∙ some))
 
       pub ends-without-bucket : length columns ≤ turn
-          → given_in columns ≡ keys_read source a doc → missing_bucket_of source ≡ false
+          → given_in columns ≡ keys_read source a.accessors doc → missing_bucket_of source ≡ false
           → AnswersFor (source ∷ []) (a ∷ [])
           (past_occurrences (source ∷ []) (bound_of (source ∷ []) after)
           (documents_at segment (doc ∷ [])))
@@ -291,7 +293,8 @@ module _ (segment : Stored) (after : Named AfterKey) (source : CompositeAggregat
       ends-without-bucket past read none =
           columns-alone past read (no-bucket (missing_bucket_of source) (read_in columns) none)
 
-      pub ends-with-null : length columns ≤ turn → given_in columns ≡ keys_read source a doc
+      pub ends-with-null : length columns ≤ turn
+          → given_in columns ≡ keys_read source a.accessors doc
           → is_nil (given_in (take turn columns)) ≡ true → missing_bucket_of source ≡ true
           → (then : EncodedCounts) (steps_then : ℕ) (result : Returned)
           → AnswersEncoded (walked ((null_choice source a ∷ []) ∷ []) [] false) now then steps_now

@@ -22,8 +22,7 @@ use Rattle.agg_request.specs.Source.{values_at}
 use Rattle.agg_request.specs.declared.source.CompositeAggregationSource as kind
 use kind.{CompositeAggregationSource}
 use kind.TheVariants.{DateHistogram, Histogram, Terms}
-use Rattle.agg_composite.specs.Accessors.{AreOfField, IsIntervalOf}
-use Rattle.agg_composite.specs.Accessors.{AllFit}
+use Rattle.agg_composite.specs.Accessors.{AllFit, AreOfField, IsIntervalOf, keys_held}
 use Rattle.agg_composite.specs.Answers.{AreAllInRange}
 use Rattle.agg_composite.specs.Lanes.{columns_of, in_requested}
 use Rattle.agg_composite.specs.Ranges.{AreColumnsWithin, AreSourcesWithin, IsDocumentWithin}
@@ -113,9 +112,6 @@ module _ (segment : Stored) (source : CompositeAggregationSource)
   abbrev FieldWithin : Type 0
   FieldWithin = All (IsInRange source) (values_at (field_of source) (document_at segment doc))
 
-  abbrev held : List CompositeIntermediateKey
-  held = all_keys (in_requested (order_of source) (columns_of accessors)) doc
-
   abbrev values : List CompositeIntermediateKey
   values = document_at segment doc (field_of source)
 
@@ -135,7 +131,7 @@ module _ (segment : Stored) (source : CompositeAggregationSource)
       (column_keys a.column.now doc)) accessors =
       λ i d l j k m. subst IsWithin (own-start i d l _) (all i d l j k m) in
       All-from_recursion (IsInRange source) (map canonical_key values)
-      (range-alike source (map canonical_key values) held
+      (range-alike source (map canonical_key values) (keys_held source accessors doc)
       (starts-canonical source values ∙ sym (of_field.starts doc))
       (keys-all (IsInRange source) doc
       (in_requested (order_of source) (columns_of accessors))
@@ -152,7 +148,7 @@ module _ (segment : Stored) (source : CompositeAggregationSource)
       (given-all (λ c. All (IsInRange source) (column_keys c doc)) (order_of source)
       (columns_of accessors)
       (keys-each (IsInRange source) doc (in_requested (order_of source) (columns_of accessors))
-      (range-alike source held (map canonical_key values)
+      (range-alike source (keys_held source accessors doc) (map canonical_key values)
       (of_field.starts doc ∙ sym (starts-canonical source values))
       (recursion_from_All (IsInRange source) (map canonical_key values) all)))) in
       λ i d l j k m. subst IsWithin (sym (own-start i d l _)) (each i d l j k m)

@@ -56,6 +56,17 @@ pub record IsAccessorOf (source : CompositeAggregationSource) (a : CompositeAcce
 abbrev pub columns_read : CompositeAggregationSource → List StoredColumn → List StoredColumn
 columns_read source columns = filter (λ c. reads_type source (type_of c.keys)) columns
 
+-- the keys that the columns of a source's accessors hold of a document, by class ascending
+abbrev pub keys_held : CompositeAggregationSource → List CompositeAccessor → ℕ
+    → List CompositeIntermediateKey
+keys_held source accessors doc =
+    all_keys (in_requested (order_of source) (columns_of accessors)) doc
+
+-- the keys that the source gives for them
+abbrev pub keys_read : CompositeAggregationSource → List CompositeAccessor → ℕ
+    → List CompositeIntermediateKey
+keys_read source accessors doc = keys_in source (keys_held source accessors doc)
+
 -- the starts of the buckets of values, where a source divides them
 abbrev pub starts_in : CompositeAggregationSource → List CompositeIntermediateKey → List ℤ
 starts_in source values = filter_map (start_in source) values
@@ -67,10 +78,9 @@ pub record AreOfField (segment : Stored) (source : CompositeAggregationSource)
   pub interval : HasInterval source
   pub each : All (IsAccessorOf source) accessors
   pub keys : (doc : ℕ)
-      → keys_in source (all_keys (in_requested (order_of source) (columns_of accessors)) doc)
-      ≡ keys_in source (document_at segment doc (field_of source))
+      → keys_read source accessors doc ≡ keys_in source (document_at segment doc (field_of source))
   pub starts : (doc : ℕ)
-      → starts_in source (all_keys (in_requested (order_of source) (columns_of accessors)) doc)
+      → starts_in source (keys_held source accessors doc)
       ≡ starts_in source (document_at segment doc (field_of source))
   pub classes : ClassesAscend (in_requested (order_of source) (columns_of accessors))
 

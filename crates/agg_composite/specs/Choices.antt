@@ -8,14 +8,14 @@ use Rattle.agg_values.specs.TypedKey.{CompositeIntermediateKey}
 use Rattle.agg_values.specs.declared.typed_key.CompositeIntermediateKey.TheVariants.{Null}
 use Rattle.agg_values.specs.declared.order.Order.{Order}
 use Rattle.agg_values.specs.declared.order.Order.TheVariants.{Asc, Desc}
-use Rattle.agg_segment.specs.Columns.{StandsForKey, all_keys, encoded_key}
+use Rattle.agg_segment.specs.Columns.{StandsForKey, encoded_key}
 use Rattle.agg_request.specs.Faults.{HasInterval}
 use Rattle.agg_request.specs.Ranges.{IsInRange}
-use Rattle.agg_request.specs.Source.{Sources, keys_in, missing_bucket_of, or_missing, order_of}
+use Rattle.agg_request.specs.Source.{Sources, missing_bucket_of, or_missing, order_of}
 use Rattle.agg_request.specs.declared.source.CompositeAggregationSource.{CompositeAggregationSource}
-use Rattle.agg_composite.specs.Accessors.{IsAccessorOf, side_at}
+use Rattle.agg_composite.specs.Accessors.{IsAccessorOf, keys_held, keys_read, side_at}
 use Rattle.agg_composite.specs.Encoding.{encoded_at, encoded_null}
-use Rattle.agg_composite.specs.Lanes.{columns_of, in_requested, keys_at, lane_of, lanes}
+use Rattle.agg_composite.specs.Lanes.{keys_at, lane_of, lanes}
 use Rattle.agg_composite.specs.Starts.{divisor_of, lane_number}
 use Rattle.agg_composite.specs.Walk.{parts}
 use Rattle.agg_composite.specs.declared.accessor.CompositeAccessor.{CompositeAccessor}
@@ -63,25 +63,20 @@ abbrev pub place_in : Order → ℕ → ℕ → ℕ
 place_in Asc accessors turn = turn
 place_in Desc accessors turn = accessors - 1 - turn
 
--- the keys that a source gives for what accessors read in a document, by class ascending
-abbrev pub keys_read : CompositeAggregationSource → CompositeSourceAccessors → ℕ
-    → List CompositeIntermediateKey
-keys_read source a doc =
-    keys_in source (all_keys (in_requested (order_of source) (columns_of a.accessors)) doc)
-
 -- accessors can be read in a document: they are those of a source that has what it divides values
 -- by, and the starts of the keys that they hold lie within i64
 pub record CanRead (source : CompositeAggregationSource) (a : CompositeSourceAccessors) (doc : ℕ)
     : Type 0 where
   pub interval : HasInterval source
   pub each : All (IsAccessorOf source) a.accessors
-  pub range : All (IsInRange source)
-      (all_keys (in_requested (order_of source) (columns_of a.accessors)) doc)
+  pub range : All (IsInRange source) (keys_held source a.accessors doc)
 
--- the keys, or Null where there is none and a missing value has a bucket
+-- the keys that a source gives for what accessors read in a document, by class ascending, or Null
+-- where there is none and a missing value has a bucket
 abbrev pub values_read : CompositeAggregationSource → CompositeSourceAccessors → ℕ
     → List CompositeIntermediateKey
-values_read source a doc = or_missing (missing_bucket_of source) (keys_read source a doc)
+values_read source a doc =
+    or_missing (missing_bucket_of source) (keys_read source a.accessors doc)
 
 -- choices of a source, of these keys in order
 abbrev pub AreChoicesOf : CompositeAggregationSource → CompositeSourceAccessors → List Choice

@@ -1,7 +1,8 @@
 //! The choices that a document gives.
 ghost use Rattle.std.specs.Prelude.{◌≡◌, ◌<◌, ◌++◌, ◌^◌, List, length, map, OnOk};
+ghost use Rattle.agg_composite.specs.Accessors.{keys_read};
 ghost use Rattle.agg_composite.specs.Choices.{AddsChoices, AreGathered, choice_at};
-ghost use Rattle.agg_composite.specs.Choices.{divided_choices, keys_read, values_read};
+ghost use Rattle.agg_composite.specs.Choices.{divided_choices, values_read};
 ghost use Rattle.agg_composite.specs.Starts.{CanDivide, lane_number};
 
 use super::choice::{Choice, missing_choice, side_of};
@@ -85,7 +86,7 @@ fn add_values(
     doc: DocId,
 ) -> Result<(), OutOfMemory>
     ensures { OnOk result (AddsChoices source.now accessors.now doc
-        (keys_read source.now accessors.now doc) choices.old.items choices.new.items) }
+        (keys_read source.now accessors.now.accessors doc) choices.old.items choices.new.items) }
 {
     let order = source.order();
     let columns = accessors.accessors.as_slice();

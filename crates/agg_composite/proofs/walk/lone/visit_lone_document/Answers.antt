@@ -2,7 +2,8 @@ use Rattle.std.proofs.Common.{rules, ◌≡◌, ℕ, ◌<◌, ◌≤◌, ◌^◌
 use Rattle.std.proofs.lemmas.List.{length-map}
 use Rattle.agg_segment.specs.Columns.{all_keys}
 use Rattle.agg_request.specs.Source.{keys_in}
-use Rattle.agg_composite.specs.Choices.{divided_choices, keys_read}
+use Rattle.agg_composite.specs.Accessors.{keys_read}
+use Rattle.agg_composite.specs.Choices.{divided_choices}
 use Rattle.agg_composite.specs.GroupCounts.{all_counts}
 use Rattle.agg_composite.specs.Lanes.{columns_of, in_requested}
 use Rattle.agg_composite.proofs.Choosing.{length-requested, turn-read}
@@ -60,7 +61,7 @@ returns-in_err-visit_column g c = λ segment after fit range.
     c.order-order.ensures c.as_slice-columns.ensures c.loop-turn-test.true
     c.place_at-place.ensures.bound c.place_at-place.ensures.place c.index-columns-place.is fits
     c.values_for_doc-numbers.ensures.stand c.values_for_doc-numbers.ensures.keys in
-    let all : keys_in source (all_keys xs doc) ≡ keys_read source a doc =
+    let all : keys_in source (all_keys xs doc) ≡ keys_read source a.accessors doc =
     λ j. keys_in source (all_keys (in_requested (c.order-order.ensures j)
     (columns_of (c.as_slice-columns.ensures j))) doc) in
     let can = lone-can segment after source a doc fit range in
@@ -82,7 +83,7 @@ returns-then-not-is_missing g c = λ segment after fit range.
     let long = length-requested c.order-order.result (columns_of columns)
     ∙ length-map columns (λ x. x.column.now) in
     let past : length xs ≤ turn = omega (arith, long, c.loop-turn-test.false) in
-    let all : keys_in source (all_keys xs doc) ≡ keys_read source a doc =
+    let all : keys_in source (all_keys xs doc) ≡ keys_read source a.accessors doc =
     λ j. keys_in source (all_keys (in_requested (c.order-order.ensures j)
     (columns_of (c.as_slice-columns.ensures j))) doc) in
     let can = lone-can segment after source a doc fit range in
@@ -102,7 +103,7 @@ returns-then-not-missing_bucket g c = λ segment after fit range.
     let long = length-requested c.order-order.result (columns_of columns)
     ∙ length-map columns (λ x. x.column.now) in
     let past : length xs ≤ turn = omega (arith, long, c.loop-turn-test.false) in
-    let all : keys_in source (all_keys xs doc) ≡ keys_read source a doc =
+    let all : keys_in source (all_keys xs doc) ≡ keys_read source a.accessors doc =
     λ j. keys_in source (all_keys (in_requested (c.order-order.ensures j)
     (columns_of (c.as_slice-columns.ensures j))) doc) in
     let can = lone-can segment after source a doc fit range in
@@ -122,7 +123,7 @@ returns g c = λ segment after fit range.
     let long = length-requested c.order-order.result (columns_of columns)
     ∙ length-map columns (λ x. x.column.now) in
     let past : length xs ≤ turn = omega (arith, long, c.loop-turn-test.false) in
-    let all : keys_in source (all_keys xs doc) ≡ keys_read source a doc =
+    let all : keys_in source (all_keys xs doc) ≡ keys_read source a.accessors doc =
     λ j. keys_in source (all_keys (in_requested (c.order-order.ensures j)
     (columns_of (c.as_slice-columns.ensures j))) doc) in
     let can = lone-can segment after source a doc fit range in
