@@ -9,7 +9,7 @@ use Rattle.std.specs.declared.cmp.Ordering.{Ordering}
 use Rattle.std.specs.declared.cmp.Ordering.TheVariants.{Less, Greater}
 use Rattle.agg_values.specs.KeyOrder.{key_order, null_side}
 use Rattle.agg_values.specs.Names.{Named}
-use Rattle.agg_values.specs.TypedKey.{CompositeIntermediateKey, class_rank}
+use Rattle.agg_values.specs.TypedKey.{CompositeIntermediateKey}
 use Rattle.agg_values.specs.declared.typed_key.CompositeIntermediateKey.TheVariants.{Null}
 use Rattle.agg_values.specs.declared.after_key.AfterKey.{AfterKey}
 use Rattle.agg_values.specs.declared.error.InvalidArgument.TheVariants.{AfterType, NullAfter}
@@ -21,7 +21,7 @@ use Rattle.agg_calendar.specs.declared.interval.PrecomputedDateInterval as inter
 use interval.{PrecomputedDateInterval}
 use interval.TheVariants.{NotApplicable}
 use Rattle.agg_segment.specs.Columns.{AreInKeyOrder, ClassesAscend, StandsForKey, StoredColumn}
-use Rattle.agg_segment.specs.Columns.{all_keys, encoded_key, keys_rank, type_of}
+use Rattle.agg_segment.specs.Columns.{all_keys, encoded_key, type_of}
 use Rattle.agg_segment.specs.Segment.{Stored, document_at}
 use Rattle.agg_request.specs.Faults.{HasInterval, IsIntervalFault, IsNullAfter, IsOtherAfter}
 use Rattle.agg_request.specs.Source.{Sources, after_of, field_of, interval_of, keys_in}
@@ -31,8 +31,8 @@ use Rattle.agg_request.specs.declared.source.CompositeAggregationSource as kind
 use kind.{CompositeAggregationSource}
 use kind.TheVariants.{DateHistogram, Histogram, Terms}
 use Rattle.agg_composite.specs.AfterKey.{projected_side}
-use Rattle.agg_composite.specs.Lanes.{class_order, columns_of, in_requested, keys_at, lane_of}
-use Rattle.agg_composite.specs.Lanes.{lanes}
+use Rattle.agg_composite.specs.Classes.{is_of_class_before}
+use Rattle.agg_composite.specs.Lanes.{columns_of, in_requested, keys_at, lane_of, lanes}
 use Rattle.agg_composite.specs.declared.accessor.CompositeAccessor.{CompositeAccessor}
 use Rattle.agg_composite.specs.declared.accessor.CompositeSourceAccessors.{CompositeSourceAccessors}
 use Rattle.agg_composite.specs.declared.request_data.CompositeAggReqData.{CompositeAggReqData}
@@ -103,9 +103,7 @@ abbrev pub accessors_before : CompositeAggregationSource → CompositeIntermedia
 accessors_before source Null accessors =
     if null_side (order_of source) (missing_order_of source) == 2 then length accessors else 0
 accessors_before source k accessors =
-    count_by
-    (λ a. is_lt (class_order (order_of source) (keys_rank a.column.now.keys) (class_rank k)))
-    accessors
+    count_by (λ a. is_of_class_before (order_of source) k a.column.now.keys) accessors
 
 -- the lane behind those before an after value, the first where there is none
 abbrev pub index_of : CompositeAggregationSource → Option CompositeIntermediateKey
