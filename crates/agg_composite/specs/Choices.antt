@@ -1,21 +1,19 @@
 -- The choices that a document gives for sources.
-use Rattle.std.specs.Prelude.{◌≡◌, ◌⊎◌, ◌-◌, ◌<◌, ◌^◌, ◌++◌, ℕ, List, [], ◌∷◌, Bool, true, false, ⊤}
+use Rattle.std.specs.Prelude.{◌≡◌, ◌-◌, ◌++◌, ℕ, List, [], ◌∷◌, Bool, true, false, ⊤}
 use Rattle.std.specs.Prelude.{length, map, sum, if◌then◌else◌}
 use Rattle.std.specs.List.{All, AllZip}
 use Rattle.std.specs.declared.cmp.Ordering.{Ordering}
 use Rattle.std.specs.declared.cmp.Ordering.TheVariants.{Less, Equal, Greater}
 use Rattle.agg_values.specs.TypedKey.{CompositeIntermediateKey}
-use Rattle.agg_values.specs.declared.typed_key.CompositeIntermediateKey.TheVariants.{Null}
 use Rattle.agg_values.specs.declared.order.Order.{Order}
 use Rattle.agg_values.specs.declared.order.Order.TheVariants.{Asc, Desc}
-use Rattle.agg_segment.specs.Columns.{StandsForKey, encoded_key}
 use Rattle.agg_request.specs.Faults.{HasInterval}
 use Rattle.agg_request.specs.Ranges.{IsInRange}
 use Rattle.agg_request.specs.Source.{Sources, missing_bucket_of, or_missing, order_of}
 use Rattle.agg_request.specs.declared.source.CompositeAggregationSource.{CompositeAggregationSource}
 use Rattle.agg_composite.specs.Accessors.{IsAccessorOf, keys_held, keys_read, side_at}
-use Rattle.agg_composite.specs.Encoding.{encoded_at, encoded_null}
-use Rattle.agg_composite.specs.Lanes.{keys_at, lane_of, lanes}
+use Rattle.agg_composite.specs.Encoding.{IsItemOf, encoded_at, encoded_null}
+use Rattle.agg_composite.specs.Lanes.{lane_of}
 use Rattle.agg_composite.specs.Starts.{divisor_of, lane_number}
 use Rattle.agg_composite.specs.Walk.{parts}
 use Rattle.agg_composite.specs.declared.accessor.CompositeAccessor.{CompositeAccessor}
@@ -44,12 +42,8 @@ choice_at order a i number =
 -- a choice is that of a key: of Null, or of the key of a number of a lane
 abbrev pub IsChoiceOf : CompositeAggregationSource → CompositeSourceAccessors → Choice
     → CompositeIntermediateKey → Type 0
-IsChoiceOf source a c k =
-    ((c ≡ null_choice source a) × (k ≡ Null))
-    ⊎ ((i : ℕ) × (number : ℕ) × (i < length (lanes source a.accessors)) × (number < 2 ^ 64)
-    × StandsForKey (keys_at source a.accessors i) number
-    × (c ≡ choice_at (order_of source) a i number)
-    × (k ≡ encoded_key (keys_at source a.accessors i) number))
+IsChoiceOf source a =
+    IsItemOf source a.accessors (null_choice source a) (choice_at (order_of source) a)
 
 -- ---- the choices of a source
 

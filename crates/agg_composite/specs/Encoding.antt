@@ -52,15 +52,22 @@ encoded_null source accessors =
       raw = 0;
     }
 
+-- an item is that of a key, where Null and each number of a lane have an item: that of Null, or of
+-- a number that stands for the key in its lane
+abbrev pub IsItemOf : {A : Type 0} → CompositeAggregationSource → List CompositeAccessor → A
+    → (ℕ → ℕ → A) → A → CompositeIntermediateKey → Type 0
+IsItemOf source accessors item_of_null item_of_number x k =
+    ((x ≡ item_of_null) × (k ≡ Null))
+    ⊎ ((i : ℕ) × (number : ℕ) × (i < length (lanes source accessors)) × (number < 2 ^ 64)
+    × StandsForKey (keys_at source accessors i) number
+    × (x ≡ item_of_number i number)
+    × (k ≡ encoded_key (keys_at source accessors i) number))
+
 -- an encoded key stands for a key: Null, or that of a number of a lane
 abbrev pub StandsFor : CompositeAggregationSource → List CompositeAccessor → Encoded
     → CompositeIntermediateKey → Type 0
-StandsFor source accessors e k =
-    ((e ≡ encoded_null source accessors) × (k ≡ Null))
-    ⊎ ((i : ℕ) × (number : ℕ) × (i < length (lanes source accessors)) × (number < 2 ^ 64)
-    × StandsForKey (keys_at source accessors i) number
-    × (e ≡ encoded_at (order_of source) i number)
-    × (k ≡ encoded_key (keys_at source accessors i) number))
+StandsFor source accessors =
+    IsItemOf source accessors (encoded_null source accessors) (encoded_at (order_of source))
 
 -- encoded keys stand for a tuple, source by source
 abbrev pub StandFor : Sources → List CompositeSourceAccessors → EncodedTuple → KeyTuple → Type 0
