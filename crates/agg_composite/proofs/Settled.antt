@@ -19,7 +19,7 @@ use Rattle.agg_composite.specs.Answers.{AnswersFor}
 use Rattle.agg_composite.specs.Counts.{Counts, EncodedCounts}
 use Rattle.agg_composite.specs.Encoding.{EncodedTuple, StandFor, encoded_tuple_order}
 use Rattle.agg_composite.specs.GroupCounts.{CountsBehind, CountsTooOften}
-use Rattle.agg_composite.specs.Visits.{AnswersKeys, AnswersVisits, HasVisited, StandsForTuple}
+use Rattle.agg_composite.specs.Visits.{AnswersVisits, HasVisited, StandsForTuple}
 use Rattle.agg_composite.specs.Visits.{collected}
 use Rattle.agg_composite.specs.declared.accessor.CompositeSourceAccessors.{CompositeSourceAccessors}
 use Rattle.agg_composite.specs.declared.request_data.CompositeAggReqData.{CompositeAggReqData}
@@ -47,7 +47,7 @@ module _ (req : CompositeAggReqData) (visited keys : List KeyTuple) (held mid : 
       → AnswersFor req.req.now.sources req.composite_accessors keys held mid steps steps_now (Ok tt)
       → OnOk result (CountsBehind mid [] settled)
       → (IsErrOf result TooMany → CountsTooOften mid [])
-      → AnswersKeys req visited keys settled steps steps_now result
+      → AnswersVisits TooMany req visited keys settled steps steps_now result
   settled-visits settled (Ok x) walked ok too_many =
       let own = walked.ok in
       let tuples = before.tuples ++ own.0 in
@@ -85,11 +85,11 @@ module _ (req : CompositeAggReqData) (visited keys : List KeyTuple) (held mid : 
       → AnswersFor req.req.now.sources req.composite_accessors keys held mid steps steps_now
       (Err error)
       → IsErrAnd returned (λ e. e ≡ error)
-      → AnswersKeys req visited keys settled steps steps_now returned
+      → AnswersVisits TooMany req visited keys settled steps steps_now returned
   refused-visits settled error returned walked is_err =
       let given = err_from_is_err_and returned is_err in
       let same : returned ≡ Err error = given.1 ∙ ap (λ e. Err e) given.2 in
-      subst (AnswersKeys req visited keys settled steps steps_now) (sym same) (record {
+      subst (AnswersVisits TooMany req visited keys settled steps steps_now) (sym same) (record {
         ok = tt;
         ticks = tt;
         too_many = λ e.
@@ -121,8 +121,8 @@ found false fact other is holds = absurd (cc is)
 -- what is visited, the collector has visited
 pub visited-all : (req : CompositeAggReqData) (visited keys : List KeyTuple)
     (held : EncodedCounts) (steps steps_now : ℕ)
-    → AnswersKeys req visited keys held steps steps_now (Ok tt)
-    → AnswersVisits req visited keys held steps steps_now (Ok tt)
+    → AnswersVisits TooMany req visited keys held steps steps_now (Ok tt)
+    → AnswersVisits refusal.TooMany req visited keys held steps steps_now (Ok tt)
 visited-all req visited keys held steps steps_now walked = record {
   ok = walked.ok;
   ticks = walked.ticks;
@@ -135,13 +135,13 @@ visited-all req visited keys held steps steps_now walked = record {
 pub collected-visits : (req : CompositeAggReqData) (visited keys : List KeyTuple)
     (held : EncodedCounts) (steps steps_now : ℕ) (error : VisitError)
     (returned : Result (Unit {0}) CollectError)
-    → AnswersKeys req visited keys held steps steps_now (Err error)
+    → AnswersVisits TooMany req visited keys held steps steps_now (Err error)
     → IsErrAnd returned (λ e. e ≡ collected error)
-    → AnswersVisits req visited keys held steps steps_now returned
+    → AnswersVisits refusal.TooMany req visited keys held steps steps_now returned
 collected-visits req visited keys held steps steps_now error returned walked is_err =
     let given = err_from_is_err_and returned is_err in
     let same : returned ≡ Err (collected error) = given.1 ∙ ap (λ e. Err e) given.2 in
-    subst (AnswersVisits req visited keys held steps steps_now) (sym same) (record {
+    subst (AnswersVisits refusal.TooMany req visited keys held steps steps_now) (sym same) (record {
       ok = tt;
       ticks = tt;
       too_many = λ e.

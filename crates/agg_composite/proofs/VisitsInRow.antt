@@ -34,10 +34,10 @@ pub passed-on : (visits refuses : Type 0) (count steps steps_now : ℕ)
     → (◌≡◌ {A = Returned} (Err error) (Err TooMany) → refuses)
     → steps ≤ steps_now → steps_now ≤ steps + count
     → IsErrAnd returned (λ e. e ≡ error)
-    → Answers visits refuses count steps steps_now returned
+    → Answers TooMany visits refuses count steps steps_now returned
 passed-on visits refuses count steps steps_now error returned too_many later bounded is_err =
     let given = err_from_is_err_and returned is_err in
-    subst (Answers visits refuses count steps steps_now) (sym given.1) (record {
+    subst (Answers TooMany visits refuses count steps steps_now) (sym given.1) (record {
       ok = tt;
       ticks = tt;
       too_many = λ e. too_many (cc (given.2, e));
@@ -50,7 +50,7 @@ pub refused : (visits refuses : Type 0) (count steps : ℕ) (error : VisitError)
     (returned : Returned)
     → (◌≡◌ {A = Returned} (Err error) (Err TooMany) → refuses)
     → IsErrAnd returned (λ e. e ≡ error)
-    → Answers visits refuses count steps steps returned
+    → Answers TooMany visits refuses count steps steps returned
 refused visits refuses count steps error returned too_many is_err =
     passed-on visits refuses count steps steps error returned too_many (omega arith) (omega arith)
     is_err
@@ -59,7 +59,7 @@ module _ {Y S : Type 0} (visits : List Y → S → S → Type 0) (refuses : List
     (laws : AreVisits visits refuses) where
   -- what visits of a list answer
   abbrev Answered : List Y → S → S → ℕ → ℕ → Returned → Type 0
-  Answered ys s t = Answers (visits ys s t) (refuses ys s) (length ys)
+  Answered ys s t = Answers TooMany (visits ys s t) (refuses ys s) (length ys)
 
   -- nothing to visit
   pub none-visited : (s : S) (steps : ℕ) → Answered [] s s steps steps (Ok tt)

@@ -16,13 +16,13 @@ use Rattle.agg_composite.specs.Encoding.{EncodedTuple, StandFor}
 use Rattle.agg_composite.specs.GroupCounts.{CountsBehind, CountsTooOften}
 use Rattle.agg_composite.specs.declared.accessor.CompositeSourceAccessors.{CompositeSourceAccessors}
 
--- an Ok has visited so many tuples, with a step at each; TooMany has its cause; whatever is
--- answered, steps never fall and are no more than one for each tuple
-pub record Answers (visits refuses : Type 0) (count steps steps_now : ℕ)
-    (result : Result (Unit {0}) VisitError) : Type 0 where
+-- an Ok has visited so many tuples, with a step at each; the error that says too many has its
+-- cause; whatever is answered, steps never fall and are no more than one for each tuple
+pub record Answers {E : Type 0} (many : E) (visits refuses : Type 0) (count steps steps_now : ℕ)
+    (result : Result (Unit {0}) E) : Type 0 where
   pub ok : OnOk result visits
   pub ticks : OnOk result (steps_now ≡ steps + count)
-  pub too_many : IsErrOf result TooMany → refuses
+  pub too_many : IsErrOf result many → refuses
   pub later : steps ≤ steps_now
   pub bounded : steps_now ≤ steps + count
 
@@ -30,7 +30,8 @@ pub record Answers (visits refuses : Type 0) (count steps steps_now : ℕ)
 abbrev pub AnswersEncoded : List EncodedTuple → EncodedCounts → EncodedCounts → ℕ → ℕ
     → Result (Unit {0}) VisitError → Type 0
 AnswersEncoded tuples held held_now =
-    Answers (CountsBehind held tuples held_now) (CountsTooOften held tuples) (length tuples)
+    Answers TooMany (CountsBehind held tuples held_now) (CountsTooOften held tuples)
+    (length tuples)
 
 -- encoded tuples that stand for these were counted
 abbrev pub CountsFor : Sources → List CompositeSourceAccessors → List KeyTuple → EncodedCounts
@@ -51,7 +52,7 @@ TooOftenFor sources accessors keys held =
 abbrev pub AnswersFor : Sources → List CompositeSourceAccessors → List KeyTuple → EncodedCounts
     → EncodedCounts → ℕ → ℕ → Result (Unit {0}) VisitError → Type 0
 AnswersFor sources accessors keys held held_now =
-    Answers (CountsFor sources accessors keys held held_now)
+    Answers TooMany (CountsFor sources accessors keys held held_now)
     (TooOftenFor sources accessors keys held) (length keys)
 
 -- the starts that sources read in documents at places lie within i64

@@ -1,11 +1,9 @@
 -- What a collector has visited, and when it has visited too often.
-use Rattle.std.specs.Prelude.{◌≡◌, ◌≤◌, ◌+◌, ◌^◌, ℕ, List, ◌++◌, Result, OnOk, IsErrOf}
-use Rattle.std.specs.Prelude.{Err, count_by, length}
+use Rattle.std.specs.Prelude.{◌≤◌, ◌^◌, ℕ, List, ◌++◌, Result, Err, count_by, length}
 use Rattle.std.specs.List.{AllZip}
 use Rattle.agg_values.specs.Tuple.{KeyTuple}
 use Rattle.agg_cache.specs.declared.error.CollectError.{CollectError}
 use Rattle.agg_cache.specs.declared.error.CollectError.TheVariants as refusal
-use refusal.{TooMany}
 use Rattle.agg_request.specs.Occurrences.{same_tuple}
 use Rattle.agg_request.specs.Source.{rules_of}
 use Rattle.agg_composite.specs.Answers.{Answers}
@@ -32,23 +30,12 @@ IsTooOften req tuples =
     (tuple : KeyTuple)
     × (2 ^ 64 ≤ count_by (same_tuple (rules_of req.req.now.sources) tuple) tuples)
 
--- what a call that visits tuples behind those visited answers: an Ok has visited them all, with a
--- step at each; TooMany comes only where some tuple is visited too often; whatever is answered,
--- steps never fall and are no more than one for each tuple
-pub record AnswersVisits (req : CompositeAggReqData) (visited tuples : List KeyTuple)
-    (held : EncodedCounts) (steps steps_now : ℕ) (result : Result (Unit {0}) CollectError)
-    : Type 0 where
-  pub ok : OnOk result (HasVisited req (visited ++ tuples) held)
-  pub ticks : OnOk result (steps_now ≡ steps + length tuples)
-  pub too_many : IsErrOf result TooMany → IsTooOften req (visited ++ tuples)
-  pub later : steps ≤ steps_now
-  pub bounded : steps_now ≤ steps + length tuples
-
--- what visits of tuples behind those visited answer, of documents whose starts lie within i64
-abbrev pub AnswersKeys : CompositeAggReqData → List KeyTuple → List KeyTuple → EncodedCounts → ℕ → ℕ
-    → Result (Unit {0}) VisitError → Type 0
-AnswersKeys req visited tuples held =
-    Answers (HasVisited req (visited ++ tuples) held) (IsTooOften req (visited ++ tuples))
+-- what visits of tuples behind those visited answer: an Ok has visited them all, with a step at
+-- each; the error that says too many comes only where some tuple is visited too often
+abbrev pub AnswersVisits : {E : Type 0} → E → CompositeAggReqData → List KeyTuple → List KeyTuple
+    → EncodedCounts → ℕ → ℕ → Result (Unit {0}) E → Type 0
+AnswersVisits many req visited tuples held =
+    Answers many (HasVisited req (visited ++ tuples) held) (IsTooOften req (visited ++ tuples))
     (length tuples)
 
 -- why a collector refuses documents, where visits of their tuples end early

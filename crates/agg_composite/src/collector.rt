@@ -10,7 +10,7 @@ ghost use Rattle.agg_request.specs.Source.{rules_of};
 ghost use Rattle.agg_composite.specs.Accessors.{Fits};
 ghost use Rattle.agg_composite.specs.Answers.{AreAllInRange};
 ghost use Rattle.agg_composite.specs.PageEntries.{entry_group};
-ghost use Rattle.agg_composite.specs.Visits.{AnswersKeys, AnswersRange, AnswersVisits};
+ghost use Rattle.agg_composite.specs.Visits.{AnswersRange, AnswersVisits};
 ghost use Rattle.agg_composite.specs.Visits.{HasVisited};
 ghost use Rattle.agg_composite.specs.declared.request_data.CompositeAggReqData as declared;
 
@@ -71,7 +71,7 @@ impl SegmentCompositeCollector {
         ensures visits { (segment : Stored) (after : Named AfterKey) (visited : List KeyTuple)
             → Fits segment after req.now
             → HasVisited req.now visited self.old
-            → AnswersVisits req.now visited
+            → AnswersVisits CollectError.TooMany req.now visited
             (past_occurrences req.now.req.now.sources (bound_of req.now.req.now.sources after)
             (documents_at segment docs.now))
             self.new steps.old steps.new result }
@@ -98,7 +98,7 @@ impl SegmentCompositeCollector {
             → Fits segment after req.now
             → AreAllInRange segment req.now.req.now.sources docs.now
             → HasVisited req.now visited self.old
-            → AnswersKeys req.now visited
+            → AnswersVisits VisitError.TooMany req.now visited
             (past_occurrences req.now.req.now.sources (bound_of req.now.req.now.sources after)
             (documents_at segment docs.now))
             self.new steps.old steps.new result }
