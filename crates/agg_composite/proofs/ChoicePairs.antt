@@ -20,7 +20,7 @@ use Rattle.agg_composite.specs.Choices.{AreChoicesIn, AreChoicesOf, CanRead, IsC
 use Rattle.agg_composite.specs.Choices.{values_read}
 use Rattle.agg_composite.specs.Encoding.{EncodedTuple, StandFor, StandsFor}
 use Rattle.agg_composite.specs.Lanes.{keys_at}
-use Rattle.agg_composite.specs.Walk.{product, sides_of, sides_past, values_of, walked}
+use Rattle.agg_composite.specs.Walk.{walked}
 use Rattle.agg_composite.specs.declared.accessor.CompositeSourceAccessors.{CompositeSourceAccessors}
 use Rattle.agg_composite.specs.declared.walk.choice.Choice.{Choice}
 use Rattle.agg_composite.proofs.CanonicalKeys.{canonical}
@@ -28,7 +28,7 @@ use Rattle.agg_composite.proofs.KeysGiven.{keys_in-canonical, range-alike, start
 use Rattle.agg_composite.proofs.NullStanding.{null-standing}
 use Rattle.agg_composite.proofs.Pairs.{AllZip-filter, AllZip-flat_map, AllZip-map, AllZip-weaker}
 use Rattle.agg_composite.proofs.PastSides.{is_past-sides, sides_to}
-use Rattle.agg_composite.proofs.Product.{walked-past}
+use Rattle.agg_composite.proofs.Product.{product, sides_of, sides_past, values_of, walked-past}
 
 -- ---- canonical keys
 

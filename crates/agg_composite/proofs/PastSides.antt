@@ -15,7 +15,7 @@ use Rattle.agg_request.specs.Source.{Sources, missing_order_of, name_of, order_o
 use Rattle.agg_request.specs.declared.source.CompositeAggregationSource.{CompositeAggregationSource}
 use Rattle.agg_request.specs.Source.{after_of}
 use Rattle.agg_composite.specs.Accessors.{side_to}
-use Rattle.agg_composite.specs.Walk.{sides_past}
+use Rattle.agg_composite.proofs.Product.{sides_past}
 
 -- how the keys of a tuple stand to the after values
 abbrev pub sides_to : Sources → Named AfterKey → KeyTuple → List Ordering

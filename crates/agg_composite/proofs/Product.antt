@@ -7,11 +7,39 @@ use Rattle.std.specs.declared.cmp.Ordering.TheVariants.{Less, Equal, Greater}
 use Rattle.std.proofs.lemmas.List.{append-nil, map-append}
 use Rattle.std.proofs.lemmas.List.Elements.{filter-append}
 use Rattle.agg_composite.specs.Encoding.{EncodedTuple}
-use Rattle.agg_composite.specs.Walk.{product, values_of, sides_of, sides_past, past_tuples, walked}
-use Rattle.agg_composite.specs.Walk.{behind, next_standing}
+use Rattle.agg_composite.specs.Walk.{behind, next_standing, walked}
 use Rattle.agg_composite.specs.declared.encoded.Encoded.{Encoded}
 use Rattle.agg_composite.specs.declared.walk.choice.Choice.{Choice}
 use Rattle.agg_composite.proofs.Walking.{walked_with}
+
+-- ---- the product of choices
+
+-- one tuple for each choice of one element per list, repeats kept
+abbrev pub product : {A : Type 0} → List (List A) → List (List A)
+product [] = [] ∷ []
+product (xs ∷ rest) = flat_map (λ x. map (λ t. x ∷ t) (product rest)) xs
+
+-- whether what stands so to the after values, source by source, lies past the bound: the first that
+-- isn't Equal is Greater
+abbrev pub sides_past : List Ordering → Bool
+sides_past [] = false
+sides_past (Less ∷ sides) = false
+sides_past (Equal ∷ sides) = sides_past sides
+sides_past (Greater ∷ sides) = true
+
+-- the encoded keys of choices
+abbrev pub values_of : List Choice → EncodedTuple
+values_of choices = map (λ c. c.value) choices
+
+-- how they stand to the after values
+abbrev pub sides_of : List Choice → List Ordering
+sides_of choices = map (λ c. c.side) choices
+
+-- whether the tuple of choices lies past the bound
+abbrev pub is_past : List Choice → Bool
+is_past t = sides_past (sides_of t)
+
+-- ---- lists
 
 map-cond : {X Y : Type 0} (f : X → Y) (b : Bool) (x : X) (xs : List X)
     → cond b (f x ∷ map f xs) (map f xs) ≡ map f (cond b (x ∷ xs) xs)
@@ -36,9 +64,7 @@ filter-none : {X : Type 0} (xs : List X) → filter (λ x. false) xs ≡ []
 filter-none [] = refl
 filter-none (x ∷ xs) = filter-none xs
 
--- whether the tuple of choices lies past the bound
-abbrev is_past : List Choice → Bool
-is_past t = sides_past (sides_of t)
+-- ---- the walk
 
 -- the tuples behind a front, where they are past the bound or the front is above it
 abbrev kept : List (List Choice) → EncodedTuple → Bool → List EncodedTuple
@@ -103,6 +129,8 @@ walked-is [] front true = ap (λ t. t ∷ []) (sym (append-nil front))
 walked-is [] front false = refl
 walked-is (choices ∷ rest) front above = each-value choices rest front above (walked-is rest)
 
--- from the empty front, below nothing, the walk visits the tuples past the bound
-pub walked-past : (sources : List (List Choice)) → walked sources [] false ≡ past_tuples sources
+-- from the empty front, below nothing, the walk visits the tuples past the bound, in the product's
+-- order
+pub walked-past : (sources : List (List Choice))
+    → walked sources [] false ≡ map values_of (filter is_past (product sources))
 walked-past sources = walked-is sources [] false

@@ -2,11 +2,12 @@
 use Rattle.std.proofs.Common.{◌≡◌, ◌<◌, ◌≤◌, ◌+◌, ◌-◌, ◌++◌, ℕ, zero, suc, List, [], ◌∷◌}
 use Rattle.std.proofs.Common.{All}
 use Rattle.std.proofs.Common.{length, get_or, map, reverse, take, refl, sym, ap, ◌∙◌, subst, arith}
-use Rattle.std.specs.List.{AllByRecursion}
+use Rattle.std.specs.List.{AllByRecursion, AllZip}
 use Rattle.std.specs.Prelude.{option_map}
 use Rattle.std.proofs.lemmas.List.{get_or-map, get_or-reverse, length-map, length-reverse}
 use Rattle.std.proofs.lemmas.List.{reverse-reverse, take_all, take_more}
 use Rattle.std.proofs.lemmas.List.Elements.{All-from_recursion, All-map, recursion_from_All}
+use Rattle.std.proofs.lemmas.Slice.Zip.{all_zipped_more}
 use Rattle.agg_values.specs.Names.{Named}
 use Rattle.agg_values.specs.TypedKey.{CompositeIntermediateKey, canonical_key}
 use Rattle.agg_values.specs.declared.after_key.AfterKey.{AfterKey}
@@ -25,7 +26,7 @@ use kind.TheVariants.{DateHistogram, Histogram, Terms}
 use Rattle.agg_composite.specs.Accessors.{AllFit, AreOfField, IsIntervalOf, keys_held}
 use Rattle.agg_composite.specs.Answers.{AreAllInRange}
 use Rattle.agg_composite.specs.Lanes.{columns_of, in_requested}
-use Rattle.agg_composite.specs.Ranges.{AreColumnsWithin, AreSourcesWithin, IsDocumentWithin}
+use Rattle.agg_composite.specs.Ranges.{AreColumnsWithin, IsDocumentWithin}
 use Rattle.agg_request.specs.Ranges.{IsWithin}
 use Rattle.agg_composite.specs.Starts.{divided, divisor_of}
 use Rattle.agg_composite.specs.declared.accessor.CompositeAccessor.{CompositeAccessor}
@@ -155,6 +156,11 @@ module _ (segment : Stored) (source : CompositeAggregationSource)
 
 -- ---- documents
 
+-- the starts of each source in the columns of its accessors lie within i64
+abbrev pub AreSourcesWithin : Sources → List CompositeSourceAccessors → List ℕ → Type 0
+AreSourcesWithin sources accessors docs =
+    AllZip (λ source a. AreColumnsWithin source a.accessors docs) sources accessors
+
 module _ (segment : Stored) (after : Named AfterKey) (docs : List ℕ) where
   -- the starts of what a source reads in the documents lie within i64
   abbrev SourceWithin : CompositeAggregationSource → Type 0
@@ -206,16 +212,6 @@ module _ (segment : Stored) (after : Named AfterKey) (docs : List ℕ) where
 
 -- ---- one source more
 
-pub within-more : (sources : Sources) (accessors : List CompositeSourceAccessors) (docs : List ℕ)
-    (source : CompositeAggregationSource) (a : CompositeSourceAccessors)
-    → AreSourcesWithin sources accessors docs → AreColumnsWithin source a.accessors docs
-    → AreSourcesWithin (sources ++ source ∷ []) (accessors ++ a ∷ []) docs
-within-more [] [] docs source a all own = (own, tt)
-within-more [] (b ∷ accessors) docs source a all own = absurd all
-within-more (s ∷ sources) [] docs source a all own = absurd all
-within-more (s ∷ sources) (b ∷ accessors) docs source a all own =
-    (all.0, within-more sources accessors docs source a all.1 own)
-
 pub within-at : (sources : Sources) (accessors : List CompositeSourceAccessors) (docs : List ℕ)
     (i : ℕ) (source : CompositeAggregationSource) (a : CompositeSourceAccessors)
     → i < length sources → get_or sources i source ≡ source → get_or accessors i a ≡ a
@@ -244,7 +240,8 @@ within-next sources accessors docs i source a own l m s_is a_is own_is so_far he
     take_more accessors i a m ∙ ap (λ x. take i accessors ++ x ∷ []) a_is in
     subst (λ (p : Sources × List CompositeSourceAccessors). AreSourcesWithin p.0 p.1 docs)
     (λ x. (sym one x, sym other x))
-    (within-more (take i sources) (take i accessors) docs source a so_far
+    (all_zipped_more (λ (s : CompositeAggregationSource) (b : CompositeSourceAccessors).
+    AreColumnsWithin s b.accessors docs) (take i sources) (take i accessors) source a so_far
     (subst (λ xs. AreColumnsWithin source xs docs) own_is here))
 
 -- those of all sources

@@ -40,8 +40,8 @@ use Rattle.agg_composite.specs.Accessors.{AreAccessorsOf, AreOfField, Fits}
 use Rattle.agg_composite.specs.Encoding.{EncodedTuple, StandFor, StandsFor, encoded_at}
 use Rattle.agg_composite.specs.Encoding.{encoded_null, encoded_order, encoded_tuple_order}
 use Rattle.agg_composite.specs.Encoding.{null_place, raw_of}
-use Rattle.agg_composite.specs.Lanes.{AreLanesInOrder, class_order, column_at, columns_of}
-use Rattle.agg_composite.specs.Lanes.{in_requested, keys_at, lanes}
+use Rattle.agg_composite.specs.Lanes.{class_order, column_at, columns_of, in_requested, keys_at}
+use Rattle.agg_composite.specs.Lanes.{lanes}
 use Rattle.agg_composite.specs.Visits.{StandsForTuple}
 use Rattle.agg_composite.specs.declared.accessor.CompositeAccessor.{CompositeAccessor}
 use Rattle.agg_composite.specs.declared.accessor.CompositeSourceAccessors.{CompositeSourceAccessors}
@@ -172,7 +172,18 @@ classes-in_order order accessors ascend i j l_i l_j =
     ∙ requested-ranks order (columns_of accessors) ascend no_column i j (omega (arith, l_i, long))
     (omega (arith, l_j, long))
 
--- so do those of lanes, whose numbers are in the order of their keys
+-- lanes stand by class in the requested order, and their numbers are in the order of their keys
+pub record AreLanesInOrder (source : CompositeAggregationSource)
+    (accessors : List CompositeAccessor) : Type 0 where
+  pub classes : (i j : ℕ) → i < length (lanes source accessors)
+      → j < length (lanes source accessors)
+      → class_order (order_of source) (keys_rank (keys_at source accessors i))
+      (keys_rank (keys_at source accessors j))
+      ≡ nat_cmp i j
+  pub order : (i : ℕ) → i < length (lanes source accessors)
+      → AreInKeyOrder (keys_at source accessors i)
+
+-- those of a source do, for the accessors of its field
 pub lanes-in_order : (segment : Stored) (source : CompositeAggregationSource)
     (accessors : List CompositeAccessor) → AreOfField segment source accessors
     → AreLanesInOrder source accessors

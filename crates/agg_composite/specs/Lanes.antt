@@ -1,13 +1,12 @@
 -- The lanes in which the keys of a source stand in a segment.
-use Rattle.std.specs.Prelude.{◌≡◌, ◌<◌, ℕ, List, [], ◌∷◌, get_or, length, map, reverse}
+use Rattle.std.specs.Prelude.{ℕ, List, [], ◌∷◌, get_or, map, reverse}
 use Rattle.std.specs.Ordering.{nat_cmp}
 use Rattle.std.specs.declared.cmp.Ordering.{Ordering}
 use Rattle.agg_values.specs.declared.order.Order.{Order}
 use Rattle.agg_values.specs.declared.order.Order.TheVariants.{Asc, Desc}
-use Rattle.agg_segment.specs.Columns.{AreInKeyOrder, StoredColumn, keys_rank}
+use Rattle.agg_segment.specs.Columns.{StoredColumn}
 use Rattle.agg_segment.specs.declared.keys.ColumnKeys.{ColumnKeys}
 use Rattle.agg_segment.specs.declared.keys.ColumnKeys.TheVariants.{Bools, Signed}
-use Rattle.agg_request.specs.Source.{order_of}
 use Rattle.agg_request.specs.declared.source.CompositeAggregationSource as kind
 use kind.{CompositeAggregationSource}
 use kind.TheVariants.{DateHistogram, Histogram, Terms}
@@ -56,14 +55,3 @@ lane_of (DateHistogram s) place = place
 -- what the numbers of the lane at a place stand for
 abbrev pub keys_at : CompositeAggregationSource → List CompositeAccessor → ℕ → ColumnKeys
 keys_at source accessors i = get_or (lanes source accessors) i Bools
-
--- lanes stand by class in the requested order, and their numbers are in the order of their keys
-pub record AreLanesInOrder (source : CompositeAggregationSource)
-    (accessors : List CompositeAccessor) : Type 0 where
-  pub classes : (i j : ℕ) → i < length (lanes source accessors)
-      → j < length (lanes source accessors)
-      → class_order (order_of source) (keys_rank (keys_at source accessors i))
-      (keys_rank (keys_at source accessors j))
-      ≡ nat_cmp i j
-  pub order : (i : ℕ) → i < length (lanes source accessors)
-      → AreInKeyOrder (keys_at source accessors i)

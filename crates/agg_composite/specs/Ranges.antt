@@ -1,14 +1,12 @@
 -- Starts of buckets of what columns hold, within i64.
-use Rattle.std.specs.Prelude.{ℕ, List, [], ◌∷◌, All, ⊤}
+use Rattle.std.specs.Prelude.{ℕ, List, All}
 use Rattle.agg_values.specs.TypedKey.{CompositeIntermediateKey}
 use Rattle.agg_segment.specs.Columns.{StoredColumn, column_keys, encoded_key}
 use Rattle.agg_segment.specs.declared.keys.ColumnKeys.{ColumnKeys}
-use Rattle.agg_request.specs.Source.{Sources}
 use Rattle.agg_request.specs.declared.source.CompositeAggregationSource.{CompositeAggregationSource}
 use Rattle.agg_request.specs.Ranges.{IsWithin}
 use Rattle.agg_composite.specs.Starts.{divided, divisor_of}
 use Rattle.agg_composite.specs.declared.accessor.CompositeAccessor.{CompositeAccessor}
-use Rattle.agg_composite.specs.declared.accessor.CompositeSourceAccessors.{CompositeSourceAccessors}
 use Rattle.agg_composite.specs.declared.divisor.Divisor.{Divisor}
 
 -- the start of a key's bucket lies within i64, if it has one
@@ -34,10 +32,3 @@ AreColumnsWithin source accessors docs =
     All
     (λ a. IsColumnWithin (divisor_of source a.date_histogram_interval) a.column.now docs)
     accessors
-
--- those of each source do
-abbrev pub AreSourcesWithin : Sources → List CompositeSourceAccessors → List ℕ → Type 0
-AreSourcesWithin [] [] docs = ⊤
-AreSourcesWithin (source ∷ sources) (a ∷ accessors) docs =
-    AreColumnsWithin source a.accessors docs × AreSourcesWithin sources accessors docs
-AreSourcesWithin _ _ docs = ⊥

@@ -1,6 +1,6 @@
--- The product of a document's choices, and the tuples of it that a walk visits.
+-- The tuples of a document's choices that a walk visits.
 use Rattle.std.specs.Prelude.{ℕ, List, [], ◌∷◌, ◌++◌, Bool, true, false, Option, None, Some}
-use Rattle.std.specs.Prelude.{drop, filter, map, take}
+use Rattle.std.specs.Prelude.{drop, map, take}
 use Rattle.std.specs.List.{flat_map}
 use Rattle.std.specs.declared.cmp.Ordering.{Ordering}
 use Rattle.std.specs.declared.cmp.Ordering.TheVariants.{Less, Equal, Greater}
@@ -12,31 +12,6 @@ use Rattle.agg_composite.specs.declared.walk.choice.Choice.{Choice}
 abbrev pub parts : {A : Type 0} → List ℕ → List A → List (List A)
 parts [] xs = []
 parts (size ∷ sizes) xs = take size xs ∷ parts sizes (drop size xs)
-
--- one tuple for each choice of one element per list, repeats kept
-abbrev pub product : {A : Type 0} → List (List A) → List (List A)
-product [] = [] ∷ []
-product (xs ∷ rest) = flat_map (λ x. map (λ t. x ∷ t) (product rest)) xs
-
--- whether what stands so to the after values, source by source, lies past the bound: the first that
--- isn't Equal is Greater
-abbrev pub sides_past : List Ordering → Bool
-sides_past [] = false
-sides_past (Less ∷ sides) = false
-sides_past (Equal ∷ sides) = sides_past sides
-sides_past (Greater ∷ sides) = true
-
--- the encoded keys of choices
-abbrev pub values_of : List Choice → EncodedTuple
-values_of choices = map (λ c. c.value) choices
-
--- how they stand to the after values
-abbrev pub sides_of : List Choice → List Ordering
-sides_of choices = map (λ c. c.side) choices
-
--- the tuples past the bound, in the product's order
-abbrev pub past_tuples : List (List Choice) → List EncodedTuple
-past_tuples sources = map values_of (filter (λ t. sides_past (sides_of t)) (product sources))
 
 -- whether a tuple is above the bound with one more key, None where it is below
 abbrev pub next_standing : Bool → Ordering → Option Bool

@@ -1,5 +1,5 @@
 use Rattle.std.proofs.Common.{take}
-use Rattle.agg_composite.specs.Ranges.{AreSourcesWithin}
+use Rattle.agg_composite.proofs.StartRanges.{AreSourcesWithin}
 use Rattle.agg_composite.proofs.ranges.are_sources_in_range.Given as goal
 
 abbrev pub invariant-loop-index : goal.invariant-loop-index
