@@ -37,7 +37,7 @@ walked (choices ∷ rest) front above =
     flat_map (λ c. behind (walked rest (front ++ c.value ∷ [])) (next_standing above c.side))
     choices
 
--- the tuples that a walk over one source visits, for numbers of the accessor at a place with their
+-- the tuples that a walk over one source visits, for numbers of the lane at a place with their
 -- sides
 abbrev pub number_tuples : Order → ℕ → (ℕ → Ordering) → List ℕ → List EncodedTuple
 number_tuples order i side numbers =

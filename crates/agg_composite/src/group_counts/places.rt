@@ -1,4 +1,4 @@
-//! Whether keys are of one accessor.
+//! Whether keys are at one place: all of one lane, or all Null.
 ghost use Rattle.std.specs.Prelude.{◌≡◌, ℕ, IsTrue, All};
 
 use crate::encoded::Encoded;

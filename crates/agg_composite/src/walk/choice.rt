@@ -19,7 +19,7 @@ pub struct Choice {
     pub side: Ordering,
 }
 
-/// How a number of the accessor at a place stands to the after value.
+/// How a number of the lane at a place stands to the after value.
 pub fn side_of(
     order: Order,
     accessors: &CompositeSourceAccessors<'_>,
@@ -35,7 +35,7 @@ pub fn side_of(
     }
 }
 
-/// How a number of the accessor that the after value stands in stands to it.
+/// How a number of the lane that the after value stands in stands to it.
 pub fn side_in(order: Order, after_key: &PrecomputedAfterKey, number: u64) -> Ordering
     ensures { result ≡ projected_side order after_key.now number }
 {
