@@ -1,11 +1,13 @@
 -- A document of one source: its columns, and Null where it has no value.
-use Rattle.std.proofs.Common.{◌≡◌, ℕ, ◌+◌, ◌<◌, ◌≤◌, List, [], ◌∷◌, ◌++◌, Bool, true, false, ◌&&◌}
-use Rattle.std.proofs.Common.{Ok, Err, IsErrAnd, length, get_or, take, map, filter, refl, sym, ap}
-use Rattle.std.proofs.Common.{◌∙◌, subst, inl, arith}
+use Rattle.std.proofs.Common.{◌≡◌, ℕ, suc, ◌+◌, ◌<◌, ◌≤◌, ◌==◌, List, [], ◌∷◌, ◌++◌, Bool, true}
+use Rattle.std.proofs.Common.{false, ◌&&◌, Ok, Err, IsErrAnd, length, get_or, take, map, filter}
+use Rattle.std.proofs.Common.{refl, sym, ap, ◌∙◌, subst, inl, arith}
 use Rattle.std.specs.List.{AllZip, flat_map}
-use Rattle.std.proofs.lemmas.List.{append-nil, map-append, take_all}
+use Rattle.std.proofs.lemmas.Bool.Decides.{nat_tests}
+use Rattle.std.proofs.lemmas.List.{append-nil, length-map, map-append, take_all}
 use Rattle.std.proofs.lemmas.List.Concat.{flat_map-append}
 use Rattle.std.proofs.lemmas.List.Elements.{filter-append}
+use Rattle.std.proofs.lemmas.Slice.Zip.{AllZip-long}
 use Rattle.agg_values.specs.Names.{Named}
 use Rattle.agg_values.specs.Tuple.{KeyTuple}
 use Rattle.agg_values.specs.TypedKey.{CompositeIntermediateKey, canonical_key}
@@ -21,7 +23,7 @@ use Rattle.agg_request.specs.Source.{after_of}
 use Rattle.agg_composite.specs.Accessors.{AllFit, AreAccessorsOf, keys_read}
 use Rattle.agg_composite.specs.Answers.{AnswersEncoded, AnswersFor, AreAllInRange}
 use Rattle.agg_composite.specs.Answers.{CountsFor, TooOftenFor}
-use Rattle.agg_composite.specs.Choices.{AreChoicesOf, CanRead, IsChoiceOf, is_nil, null_choice}
+use Rattle.agg_composite.specs.Choices.{AreChoicesOf, CanRead, IsChoiceOf, null_choice}
 use Rattle.agg_composite.specs.Counts.{EncodedCounts}
 use Rattle.agg_composite.specs.Encoding.{StandFor}
 use Rattle.agg_composite.specs.Walk.{walked}
@@ -37,40 +39,35 @@ use Rattle.agg_composite.proofs.VisitsInRow.{first-refused, none-visited, one-vi
 
 -- ---- whether there is a value
 
-nil-append : {A : Type 0} (xs ys : List A) → is_nil (xs ++ ys) ≡ (is_nil xs && is_nil ys)
-nil-append [] ys = refl
-nil-append (x ∷ xs) ys = refl
+some-count : (n : ℕ) → (suc n == 0) ≡ false
+some-count n = grind (arith, nat_tests)
 
-nil-map : {A B : Type 0} (f : A → B) (xs : List A) → is_nil (map f xs) ≡ is_nil xs
-nil-map f [] = refl
-nil-map f (x ∷ xs) = refl
-
-nil-alike : {A B : Type 0} (R : A → B → Type 0) (xs : List A) (ys : List B) → AllZip R xs ys
-    → is_nil ys ≡ is_nil xs
-nil-alike R [] [] p = refl
-nil-alike R [] (y ∷ ys) p = absurd p
-nil-alike R (x ∷ xs) [] p = absurd p
-nil-alike R (x ∷ xs) (y ∷ ys) p = refl
+none-append : {A : Type 0} (xs ys : List A)
+    → (length (xs ++ ys) == 0) ≡ ((length xs == 0) && (length ys == 0))
+none-append [] ys = refl
+none-append (x ∷ xs) ys =
+    some-count (length (xs ++ ys))
+    ∙ sym (ap (λ none. none && (length ys == 0)) (some-count (length xs)))
 
 -- whether there is none in one more column
-pub nil-more : (source : CompositeAggregationSource) (a : CompositeSourceAccessors)
+pub none-more : (source : CompositeAggregationSource) (a : CompositeSourceAccessors)
     (columns : List StoredColumn) (turn doc : ℕ) (column : StoredColumn) (numbers : List ℕ)
     (choice : ℕ → Choice) (before now : Bool)
     → turn < length columns → get_or columns turn column ≡ column
     → AreChoicesOf source a (map choice numbers) (keys_in source (column_keys column doc))
-    → before ≡ is_nil (keys_in source (all_keys (take turn columns) doc))
-    → now ≡ (before && is_nil numbers)
-    → now ≡ is_nil (keys_in source (all_keys (take (turn + 1) columns) doc))
-nil-more source a columns turn doc column numbers choice before now l is chosen so_far e =
+    → before ≡ (length (keys_in source (all_keys (take turn columns) doc)) == 0)
+    → now ≡ (before && (length numbers == 0))
+    → now ≡ (length (keys_in source (all_keys (take (turn + 1) columns) doc)) == 0)
+none-more source a columns turn doc column numbers choice before now l is chosen so_far e =
     let front = all_keys (take turn columns) doc in
     let here = column_keys column doc in
-    let none : is_nil (keys_in source here) ≡ is_nil numbers =
-    nil-alike (IsChoiceOf source a) (map choice numbers) (keys_in source here) chosen
-    ∙ nil-map choice numbers in
-    e ∙ (λ i. so_far i && sym none i)
-    ∙ sym (nil-append (keys_in source front) (keys_in source here))
-    ∙ ap is_nil (sym (ap (keys_in source) (turn-keys columns turn doc column l is)
-    ∙ keys_in-append source front here))
+    let long : length (keys_in source here) ≡ length numbers =
+    AllZip-long (IsChoiceOf source a) (map choice numbers) (keys_in source here) chosen
+    ∙ length-map numbers choice in
+    e ∙ (λ i. so_far i && (sym long i == 0))
+    ∙ sym (none-append (keys_in source front) (keys_in source here))
+    ∙ ap (λ keys. length keys == 0) (sym (ap (keys_in source)
+    (turn-keys columns turn doc column l is) ∙ keys_in-append source front here))
 
 -- Null, where there is no key and a missing value has a bucket
 abbrev null_part : Bool → List CompositeIntermediateKey → List CompositeIntermediateKey
@@ -82,7 +79,7 @@ with-null : (b : Bool) (keys : List CompositeIntermediateKey)
 with-null b [] = refl
 with-null b (k ∷ keys) = sym (append-nil (k ∷ keys))
 
-no-null : (b : Bool) (keys : List CompositeIntermediateKey) → is_nil keys ≡ false
+no-null : (b : Bool) (keys : List CompositeIntermediateKey) → (length keys == 0) ≡ false
     → null_part b keys ≡ []
 no-null b [] e = cc
 no-null b (k ∷ keys) e = refl
@@ -91,10 +88,10 @@ no-bucket : (b : Bool) (keys : List CompositeIntermediateKey) → b ≡ false �
 no-bucket b [] e = ap (λ x. or_missing x []) e
 no-bucket b (k ∷ keys) e = refl
 
-one-null : (b : Bool) (keys : List CompositeIntermediateKey) → is_nil keys ≡ true → b ≡ true
-    → null_part b keys ≡ Null ∷ []
+one-null : (b : Bool) (keys : List CompositeIntermediateKey) → (length keys == 0) ≡ true
+    → b ≡ true → null_part b keys ≡ Null ∷ []
 one-null b [] none e = ap (λ x. or_missing x []) e
-one-null b (k ∷ keys) none e = cc
+one-null b (k ∷ keys) none e = absurd (cc (none, some-count (length keys)))
 
 module _ (segment : Stored) (after : Named AfterKey) (source : CompositeAggregationSource)
     (a : CompositeSourceAccessors) (doc : ℕ) where
@@ -273,15 +270,15 @@ module _ (segment : Stored) (after : Named AfterKey) (source : CompositeAggregat
       -- the three ways in which a document ends
       pub ends-with-values : length columns ≤ turn
           → given_in columns ≡ keys_read source a.accessors doc
-          → is_nil (given_in (take turn columns)) ≡ false
+          → (length (given_in (take turn columns)) == 0) ≡ false
           → AnswersFor (source ∷ []) (a ∷ [])
           (past_occurrences (source ∷ []) (bound_of (source ∷ []) after)
           (documents_at segment (doc ∷ [])))
           held now steps steps_now (Ok tt)
       ends-with-values past read some =
           columns-alone past read (no-null (missing_bucket_of source) (read_in columns)
-          (nil-map canonical_key (given_in columns)
-          ∙ ap (λ (xs : List StoredColumn). is_nil (given_in xs))
+          (ap (λ n. n == 0) (length-map (given_in columns) canonical_key)
+          ∙ ap (λ (xs : List StoredColumn). length (given_in xs) == 0)
           (sym (take_all turn columns past)) ∙ some))
 
       pub ends-without-bucket : length columns ≤ turn
@@ -295,7 +292,8 @@ module _ (segment : Stored) (after : Named AfterKey) (source : CompositeAggregat
 
       pub ends-with-null : length columns ≤ turn
           → given_in columns ≡ keys_read source a.accessors doc
-          → is_nil (given_in (take turn columns)) ≡ true → missing_bucket_of source ≡ true
+          → (length (given_in (take turn columns)) == 0) ≡ true
+          → missing_bucket_of source ≡ true
           → (then : EncodedCounts) (steps_then : ℕ) (result : Returned)
           → AnswersEncoded (walked ((null_choice source a ∷ []) ∷ []) [] false) now then steps_now
           steps_then result
@@ -305,6 +303,6 @@ module _ (segment : Stored) (after : Named AfterKey) (source : CompositeAggregat
           held then steps steps_then result
       ends-with-null past read none bucket then steps_then result answers =
           columns-and-null past read (one-null (missing_bucket_of source) (read_in columns)
-          (nil-map canonical_key (given_in columns)
-          ∙ ap (λ (xs : List StoredColumn). is_nil (given_in xs))
+          (ap (λ n. n == 0) (length-map (given_in columns) canonical_key)
+          ∙ ap (λ (xs : List StoredColumn). length (given_in xs) == 0)
           (sym (take_all turn columns past)) ∙ none) bucket) then steps_then result answers

@@ -1,5 +1,5 @@
 -- The choices that a document gives for sources.
-use Rattle.std.specs.Prelude.{◌≡◌, ◌-◌, ◌++◌, ℕ, List, [], ◌∷◌, Bool, true, false, ⊤}
+use Rattle.std.specs.Prelude.{◌≡◌, ◌-◌, ◌++◌, ℕ, List, [], ◌∷◌, Bool, ⊤}
 use Rattle.std.specs.Prelude.{length, map, sum, if◌then◌else◌}
 use Rattle.std.specs.List.{All, AllZip}
 use Rattle.std.specs.declared.cmp.Ordering.{Ordering}
@@ -46,11 +46,6 @@ IsChoiceOf source a =
     IsItemOf source a.accessors (null_choice source a) (choice_at (order_of source) a)
 
 -- ---- the choices of a source
-
--- whether a list is empty
-abbrev pub is_nil : {A : Type 0} → List A → Bool
-is_nil [] = true
-is_nil (x ∷ xs) = false
 
 -- the place of the accessor that is read in a turn, of so many
 abbrev pub place_in : Order → ℕ → ℕ → ℕ

@@ -1,10 +1,10 @@
 //! The walk over documents of one source, which needs no choices and no tuple beside the key.
-ghost use Rattle.std.specs.Prelude.{◌≡◌, ◌&&◌, ◌<◌, ◌^◌, [], ◌∷◌, false, map};
+ghost use Rattle.std.specs.Prelude.{◌≡◌, ◌==◌, ◌&&◌, ◌<◌, ◌^◌, [], ◌∷◌, false, length, map};
 ghost use Rattle.std.specs.declared.cmp.Ordering.TheVariants.{Greater};
 ghost use Rattle.agg_composite.specs.Accessors.{side_at};
 ghost use Rattle.agg_composite.specs.AfterKey.{projected_side};
 ghost use Rattle.agg_composite.specs.Answers.{AnswersDocuments, AnswersEncoded};
-ghost use Rattle.agg_composite.specs.Choices.{divided_choices, is_nil, null_choice};
+ghost use Rattle.agg_composite.specs.Choices.{divided_choices, null_choice};
 ghost use Rattle.agg_composite.specs.GroupCounts.{all_counts};
 ghost use Rattle.agg_composite.specs.Starts.{CanDivide, lane_number};
 ghost use Rattle.agg_composite.specs.Walk.{number_tuples, walked};
@@ -72,7 +72,7 @@ fn visit_lone_document<L: Ledger>(
 
 // Whether a document has no value yet, with numbers of one more column.
 fn is_still_missing(is_missing: bool, numbers: &[u64]) -> bool
-    ensures { result ≡ (is_missing && is_nil numbers.now) }
+    ensures { result ≡ (is_missing && (length numbers.now == 0)) }
 {
     is_missing && numbers.is_empty()
 }

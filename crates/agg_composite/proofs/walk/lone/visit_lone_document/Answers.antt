@@ -8,7 +8,7 @@ use Rattle.agg_composite.specs.GroupCounts.{all_counts}
 use Rattle.agg_composite.specs.Lanes.{columns_of, in_requested}
 use Rattle.agg_composite.proofs.Choosing.{length-requested, turn-read}
 use Rattle.agg_composite.proofs.LoneDocument.{column-error, ends-with-null, ends-with-values}
-use Rattle.agg_composite.proofs.LoneDocument.{ends-without-bucket, lone-can, nil-more, one-column}
+use Rattle.agg_composite.proofs.LoneDocument.{ends-without-bucket, lone-can, none-more, one-column}
 use Rattle.agg_composite.proofs.walk.lone.visit_lone_document.Goals as goal
 
 pub loop-turn-preserved : goal.loop-turn-preserved
@@ -37,7 +37,7 @@ loop-turn-preserved g c =
           read.within read.next (read.chosen can) (all_counts c.visit_column.new.counts)
           c.visit_column.new.steps c.in_ok-visit_column.ensures;
       missing = λ can.
-          nil-more source a xs turn doc accessor.column.now numbers _
+          none-more source a xs turn doc accessor.column.now numbers _
           c.loop-turn.is_missing c.is_still_missing-is_missing.result read.within read.next
           (read.chosen can) (c.loop-turn.invariant.missing can)
           c.is_still_missing-is_missing.ensures;

@@ -1,4 +1,4 @@
-use Rattle.std.proofs.Common.{◌≡◌, [], ◌∷◌, take}
+use Rattle.std.proofs.Common.{◌≡◌, ◌==◌, [], ◌∷◌, length, take}
 use Rattle.agg_values.specs.Names.{Named}
 use Rattle.agg_values.specs.declared.after_key.AfterKey.{AfterKey}
 use Rattle.agg_segment.specs.Columns.{all_keys}
@@ -7,7 +7,7 @@ use Rattle.agg_request.specs.Source.{keys_in}
 use Rattle.agg_request.specs.Source.{after_of}
 use Rattle.agg_composite.specs.Accessors.{AreAccessorsOf}
 use Rattle.agg_composite.specs.Answers.{CountsFor}
-use Rattle.agg_composite.specs.Choices.{CanRead, is_nil}
+use Rattle.agg_composite.specs.Choices.{CanRead}
 use Rattle.agg_composite.specs.GroupCounts.{all_counts}
 use Rattle.agg_composite.specs.Lanes.{columns_of, in_requested}
 use Rattle.agg_composite.proofs.LoneDocument.{lone_in}
@@ -24,6 +24,6 @@ invariant-loop-turn g l = record {
       (in_requested l.order (columns_of l.columns)) l.turn (all_counts l.fn.counts)
       (all_counts l.counts) l.fn.steps l.steps;
   missing : CanRead l.source l.accessors l.doc
-      → l.is_missing ≡ is_nil (keys_in l.source
-      (all_keys (take l.turn (in_requested l.order (columns_of l.columns))) l.doc));
+      → l.is_missing ≡ (length (keys_in l.source
+      (all_keys (take l.turn (in_requested l.order (columns_of l.columns))) l.doc)) == 0);
 }
