@@ -13,9 +13,9 @@ use Rattle.std.specs.List.{All}
 use Rattle.std.specs.Ordering.{is_lt, match_ordering, nat_cmp, ordering_reverse}
 use Rattle.std.specs.Option.{is_some}
 use Rattle.std.specs.Prelude.{◌==◌, count_by, not}
-use Rattle.agg_values.specs.Column.{class_of}
+use Rattle.agg_values.specs.Column.{class_of, class_rank}
 use Rattle.agg_values.specs.KeyOrder.{key_order, null_side}
-use Rattle.agg_values.specs.TypedKey.{CompositeIntermediateKey, class_rank}
+use Rattle.agg_values.specs.TypedKey.{CompositeIntermediateKey}
 use Rattle.agg_values.specs.TypedKey.key.{Null}
 use Rattle.agg_values.specs.declared.order.MissingOrder.{MissingOrder}
 use Rattle.agg_values.specs.declared.order.Order.{Order}

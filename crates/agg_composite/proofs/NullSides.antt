@@ -5,7 +5,8 @@ use Rattle.std.proofs.lemmas.Cmp.{tied_itself}
 use Rattle.std.specs.Ordering.{nat_cmp, is_lt}
 use Rattle.std.specs.Prelude.{if◌then◌else◌}
 use Rattle.agg_values.specs.KeyOrder.{key_order, null_rank, null_side}
-use Rattle.agg_values.specs.TypedKey.{CompositeIntermediateKey, class_rank}
+use Rattle.agg_values.specs.Column.{class_rank}
+use Rattle.agg_values.specs.TypedKey.{CompositeIntermediateKey}
 use Rattle.agg_values.specs.TypedKey.key.{Null}
 use Rattle.agg_values.specs.declared.order.MissingOrder.{MissingOrder}
 use Rattle.agg_values.specs.declared.order.Order.{Order}

@@ -13,7 +13,8 @@ use Rattle.std.specs.Ordering.{nat_cmp, ordering_reverse, ordering_then}
 use Rattle.std.specs.Prelude.{if◌then◌else◌, not}
 use Rattle.agg_values.specs.KeyOrder.{ascending_order, key_order}
 use Rattle.agg_values.specs.Names.{name_cmp}
-use Rattle.agg_values.specs.TypedKey.{CompositeIntermediateKey, class_rank}
+use Rattle.agg_values.specs.Column.{class_rank}
+use Rattle.agg_values.specs.TypedKey.{CompositeIntermediateKey}
 use Rattle.agg_values.specs.TypedKey.key.{IpAddr, Str}
 use Rattle.agg_values.specs.declared.address.Address.{Address}
 use Rattle.agg_values.specs.declared.order.MissingOrder.{MissingOrder}

@@ -17,7 +17,8 @@ use Rattle.agg_values.specs.KeyOrder.{ascending_order, directed, null_rank, null
 use Rattle.agg_values.specs.KeyOrder.{tuple_order}
 use Rattle.agg_values.specs.Names.{Named}
 use Rattle.agg_values.specs.Tuple.{KeyTuple}
-use Rattle.agg_values.specs.TypedKey.{CompositeIntermediateKey, IsCanonical, class_rank}
+use Rattle.agg_values.specs.Column.{class_rank}
+use Rattle.agg_values.specs.TypedKey.{CompositeIntermediateKey, IsCanonical}
 use Rattle.agg_values.specs.TypedKey.key.{I64, U64, Null}
 use Rattle.agg_values.specs.declared.after_key.AfterKey.{AfterKey}
 use Rattle.agg_values.specs.declared.order.MissingOrder.{MissingOrder}

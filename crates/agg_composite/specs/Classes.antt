@@ -1,7 +1,8 @@
 -- The classes of columns beside those of keys.
 use Rattle.std.specs.Prelude.{◌≡◌, Bool, ⊤}
 use Rattle.std.specs.Ordering.{is_lt}
-use Rattle.agg_values.specs.TypedKey.{CompositeIntermediateKey, class_rank}
+use Rattle.agg_values.specs.Column.{class_rank}
+use Rattle.agg_values.specs.TypedKey.{CompositeIntermediateKey}
 use Rattle.agg_values.specs.declared.typed_key.CompositeIntermediateKey.TheVariants as key
 use Rattle.agg_values.specs.declared.order.Order.{Order}
 use Rattle.agg_segment.specs.Columns.{keys_rank}

@@ -1,8 +1,8 @@
 //! What a source reads in a segment, and where its after value stands there.
 ghost use Rattle.std.specs.Prelude.{◌≡◌, Some, option_map, IfErr, IfOk, OnOk};
 ghost use Rattle.std.specs.Ordering.{nat_cmp};
-ghost use Rattle.agg_values.specs.Column.{class_of};
-ghost use Rattle.agg_values.specs.TypedKey.{CompositeIntermediateKey, class_rank};
+ghost use Rattle.agg_values.specs.Column.{class_of, class_rank};
+ghost use Rattle.agg_values.specs.TypedKey.{CompositeIntermediateKey};
 ghost use Rattle.agg_segment.specs.Columns.{keys_rank};
 ghost use Rattle.agg_composite.specs.Accessors.{AreAccessorsOf, HasAccessors, HasNoAccessors};
 
