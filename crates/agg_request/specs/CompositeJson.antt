@@ -1,5 +1,5 @@
 -- Composites as JSON: their sources, their size and their after key.
-use Rattle.std.specs.Prelude.{◌≡◌, ◌⊎◌, [], ℕ, ℤ, List, Bool, true, false, Option, None, Some}
+use Rattle.std.specs.Prelude.{◌≡◌, ◌⊎◌, [], ℕ, ℤ, List, Bool, false, Option, Some}
 use Rattle.std.specs.Prelude.{codes, option_and_then, ⊤}
 use Rattle.serde_json.specs.Data.{Data, Items, Members}
 use Rattle.serde_json.specs.Find.{as_array, as_bool, as_object, as_str, get}

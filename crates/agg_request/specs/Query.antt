@@ -1,6 +1,6 @@
 -- Queries as JSON: the value that stands for a query is a filter, an object with one member, whose
 -- name is the filter's kind and whose value is its body.
-use Rattle.std.specs.Prelude.{◌≡◌, ◌⊎◌, ◌∷◌, ◌++◌, [], ℕ, zero, suc, List, Bool, true}
+use Rattle.std.specs.Prelude.{◌≡◌, ◌⊎◌, ◌∷◌, [], ℕ, zero, suc, List, Bool, true}
 use Rattle.std.specs.Prelude.{false, None, Some, codes, IsSome, IsTrue}
 use Rattle.serde_json.specs.Data.{Data}
 use Rattle.serde_json.specs.Data.{depth}

@@ -1,5 +1,5 @@
 -- Requests that may be written as JSON.
-use Rattle.std.specs.Prelude.{◌&&◌, ℕ, List, Bool}
+use Rattle.std.specs.Prelude.{◌&&◌, Bool}
 use Rattle.std.specs.List.{list_all}
 use Rattle.std.specs.Map.{keys_of}
 use Rattle.agg_request.specs.Request.{Request}

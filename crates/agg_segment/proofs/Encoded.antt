@@ -23,7 +23,6 @@ use Rattle.agg_segment.specs.Gatherings.{raw_placed, IsEncodable, IsWide, IsRaw,
 use Rattle.agg_segment.specs.Gatherings.{column_places}
 use Rattle.agg_segment.specs.Signs.{sign_of}
 use Rattle.agg_segment.specs.declared.gatherings.Gathering.{Gathering}
-use Rattle.agg_segment.specs.declared.hit.ColumnType.{ColumnType}
 use Rattle.agg_segment.specs.declared.hit.ColumnType.TheVariants as kind
 use Rattle.agg_segment.specs.declared.keys.ColumnKeys.{ColumnKeys}
 use Rattle.agg_segment.specs.declared.keys.ColumnKeys.TheVariants.{Bools, Texts, Signed, Unsigned}
