@@ -1,8 +1,9 @@
 -- Counts by key, and what adding, merging and trimming make of them.
-use Rattle.std.specs.Prelude.{◌≤◌, ◌+◌, ◌*◌, ◌^◌, ℕ, List, [], ◌∷◌, Any, Bool, Option}
+use Rattle.std.specs.Prelude.{◌≤◌, ◌+◌, ◌*◌, ◌^◌, ℕ, List, [], ◌∷◌, Any, Option}
 use Rattle.std.specs.Prelude.{if◌then◌else◌, length, nat_lt, take}
+use Rattle.std.specs.BTreeMap.{is_at}
 use Rattle.std.specs.Map.{lookup}
-use Rattle.std.specs.Ordering.{is_eq, match_ordering}
+use Rattle.std.specs.Ordering.{match_ordering}
 use Rattle.std.specs.declared.cmp.Ordering.{Ordering}
 
 -- entries that are more than twice the size are cut to the lowest, as many as the size
@@ -14,13 +15,9 @@ abbrev pub PassesCount : {K : Type 0} → List (K × ℕ) → Type 0
 PassesCount counts = Any (λ e. 2 ^ 64 ≤ e.1) counts
 
 module _ {K : Type 0} (R : K → K → Ordering) where
-  -- whether two keys are one
-  abbrev pub same_key : K → K → Bool
-  same_key k l = is_eq (R k l)
-
   -- what stands for a key
   abbrev pub value_at : {T : Type 0} → K → List (K × T) → Option T
-  value_at k entries = lookup (same_key k) entries
+  value_at k entries = lookup (is_at (R k)) entries
 
   -- ascending counts, with so many more of a key
   abbrev pub add_count : List (K × ℕ) → K → ℕ → List (K × ℕ)

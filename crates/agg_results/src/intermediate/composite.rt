@@ -1,11 +1,12 @@
 ghost use Rattle.std.specs.Prelude.{◌≡◌, ◌≢◌, ◌≤◌, ◌<◌, ◌+◌, ◌^◌, ◌++◌, ◌∷◌, [], Some, ℕ};
 ghost use Rattle.std.specs.Prelude.{length};
 ghost use Rattle.std.specs.Prelude.{◌↔◌, IfOk, IsTrue, OnErr, OnOk, IsErrOf};
+ghost use Rattle.std.specs.BTreeMap.{is_at};
 ghost use Rattle.std.specs.List.{remove, slice_get};
 ghost use Rattle.std.specs.Map.{remove_entry, values_of};
 ghost use Rattle.std_collections.specs.Layout.Columns.{set_value_at};
 ghost use Rattle.agg_values.specs.KeyOrder.{tuple_order};
-ghost use Rattle.agg_results.specs.Counts.{add_count, same_key, value_at};
+ghost use Rattle.agg_results.specs.Counts.{add_count, value_at};
 ghost use Rattle.agg_results.specs.Intermediate.{IsFlat, IsPlain, composite_of, counts_of};
 ghost use Rattle.agg_results.specs.Intermediate.{entries_of, orders_of, plain_entries, plain_entry};
 ghost use Rattle.agg_results.specs.Intermediate.{target_size_of};
@@ -75,7 +76,7 @@ impl IntermediateCompositeBucketResult {
             × (2 ^ 64 ≤ count + entry.doc_count) }
         ensures left { OnErr result (self.new
             ≡ composite_of (orders_of self.old) (target_size_of self.old)
-            (remove_entry (same_key (tuple_order (orders_of self.old)) key)
+            (remove_entry (is_at (tuple_order (orders_of self.old) key))
             (entries_of self.old))) }
         ensures flat { IsFlat self.new }
     {
