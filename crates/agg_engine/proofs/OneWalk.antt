@@ -48,9 +48,9 @@ results-same [] documents (r ∷ results) others h k = absurd h
 results-same (a ∷ request) documents [] others h k = absurd h
 results-same (a ∷ request) documents (r ∷ results) [] h k = absurd k
 results-same (a ∷ request) documents (r ∷ results) (q ∷ others) h k =
-    let name = h.0 ∙ sym k.0 in
-    let result = result-same (agg_of a.1) documents r.1 q.1 h.1 k.1 in
-    let rest = results-same request documents results others h.2 k.2 in
+    let name = h.0.0 ∙ sym k.0.0 in
+    let result = result-same (agg_of a.1) documents r.1 q.1 h.0.1 k.0.1 in
+    let rest = results-same request documents results others h.1 k.1 in
     λ i. (name i, result i) ∷ rest i
 
 -- each aggregation of a request is a composite with none below it
@@ -79,7 +79,7 @@ results-exist [] documents plain = ([], tt)
 results-exist (a ∷ request) documents plain =
     let result = result-exists a.1 documents plain.0 in
     let rest = results-exist request documents plain.1 in
-    ((a.0, result.0) ∷ rest.0, (refl, result.1, rest.1))
+    ((a.0, result.0) ∷ rest.0, ((refl, result.1), rest.1))
 
 -- ---- a request that is changed
 

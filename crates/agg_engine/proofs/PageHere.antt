@@ -112,9 +112,11 @@ module _ (B : Type 0) (name : List ℕ) (query : QueryTree) (c : CompositeAggreg
   asked-page page is_page =
       let own : IsCompositeResult sized (matching_documents query s) (result_of s.page_size page) =
       record { page = is_page; after = refl } in (
-        refl,
-        subst (λ (agg : AggregationVariants B). IsResult agg (matching_documents query s)
-            (result_of s.page_size page)) (sym agg_here) own,
+        (
+          refl,
+          subst (λ (agg : AggregationVariants B). IsResult agg (matching_documents query s)
+              (result_of s.page_size page)) (sym agg_here) own,
+        ),
         tt,
       )
 

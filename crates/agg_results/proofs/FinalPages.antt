@@ -185,8 +185,8 @@ shown-each [] documents [] is = refl
 shown-each [] documents (r ∷ results) is = absurd is
 shown-each (a ∷ request) documents [] is = absurd is
 shown-each (a ∷ request) documents (r ∷ results) is =
-    λ i. (is.0 i, shown-page (agg_of a.1) documents r.1 is.1 i)
-    ∷ shown-each request documents results is.2 i
+    λ i. (is.0.0 i, shown-page (agg_of a.1) documents r.1 is.0.1 i)
+    ∷ shown-each request documents results is.1 i
 
 -- what stands for documents is final as their results, as these are shown
 pub final-shown : {B : Type 0} (request : Request B) (documents : List Fields) (held : Held)

@@ -79,8 +79,8 @@ buckets-each (a ∷ request) documents [] is = absurd is
 buckets-each (a ∷ request) documents (r ∷ results) is =
     sum-cons (result_buckets (shown_result (agg_of a.1) r.1))
     (map result_buckets (values_of (shown_by_name request results)))
-    ∙ (λ i. buckets-shown (agg_of a.1) documents r.1 is.1 i
-    + buckets-each request documents results is.2 i)
+    ∙ (λ i. buckets-shown (agg_of a.1) documents r.1 is.0.1 i
+    + buckets-each request documents results is.1 i)
     ∙ sym (sum-cons (length r.1.entries) (map (λ q. length q.1.entries) results))
 
 -- the results of a request are shown as one bucket for each of their entries

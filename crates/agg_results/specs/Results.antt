@@ -1,7 +1,7 @@
 -- The results of a request over documents.
-use Rattle.std.specs.Prelude.{◌≡◌, ◌==◌, ℕ, List, [], ◌∷◌, Option, None, if◌then◌else◌, length}
-use Rattle.std.specs.Prelude.{map, option_and_then, sum, ⊤}
-use Rattle.std.specs.List.{last_or}
+use Rattle.std.specs.Prelude.{◌≡◌, ◌==◌, ℕ, List, Option, None, if◌then◌else◌, length}
+use Rattle.std.specs.Prelude.{map, option_and_then, sum}
+use Rattle.std.specs.List.{AllZip, last_or}
 use Rattle.std.specs.Map.{keys_of}
 use Rattle.agg_values.specs.Names.{value_of, Named}
 use Rattle.agg_values.specs.Tuple.{KeyTuple}
@@ -45,11 +45,8 @@ IsResult _ documents result = ⊥
 
 -- the results of a request over documents: one for each name
 abbrev pub IsResults : {B : Type 0} → Request B → List Fields → Results → Type 0
-IsResults [] documents [] = ⊤
-IsResults [] documents (r ∷ rs) = ⊥
-IsResults (a ∷ request) documents [] = ⊥
-IsResults (a ∷ request) documents (r ∷ rs) =
-    (r.0 ≡ a.0) × IsResult (agg_of a.1) documents r.1 × IsResults request documents rs
+IsResults request documents results =
+    AllZip (λ a r. (r.0 ≡ a.0) × IsResult (agg_of a.1) documents r.1) request results
 
 -- the last tuple of a name's page, where that is full
 abbrev pub after_in : List ℕ → Results → Option KeyTuple

@@ -1,5 +1,6 @@
 -- Results as they are shown.
-use Rattle.std.specs.Prelude.{List, [], ◌∷◌, Option, None, Some, map}
+use Rattle.std.specs.Prelude.{List, [], Option, None, Some, map}
+use Rattle.std.specs.List.{zip}
 use Rattle.agg_values.specs.declared.after_key.AfterKey.{AfterKey}
 use Rattle.agg_values.specs.Names.{Named}
 use Rattle.agg_values.specs.Shown.{shown_key}
@@ -53,10 +54,8 @@ shown_result _ result = shown_page [] [] None
 
 -- each result by its name
 abbrev pub shown_by_name : {B : Type 0} → Request B → Results → Named AggregationResult
-shown_by_name [] results = []
-shown_by_name (a ∷ request) [] = []
-shown_by_name (a ∷ request) (r ∷ results) =
-    (r.0, shown_result (agg_of a.1) r.1) ∷ shown_by_name request results
+shown_by_name request results =
+    map (λ p. (p.1.0, shown_result (agg_of p.0.1) p.1.1)) (zip request results)
 
 -- the results of a request as they are shown
 abbrev pub shown_results : {B : Type 0} → Request B → Results → AggregationResults
