@@ -3,7 +3,6 @@ use Rattle.std.specs.Prelude.{◌≡◌, ◌≤◌, ◌<◌, ◌+◌, ◌^◌, �
 use Rattle.std.specs.Prelude.{Result, All, IfErr, IfOk, OnOk, length, ⊤}
 use Rattle.agg_values.specs.Names.{Named, value_of}
 use Rattle.agg_values.specs.declared.after_key.AfterKey.{AfterKey}
-use Rattle.agg_values.specs.declared.request_error.AggregationError.TheVariants as aggregation
 use Rattle.agg_segment.specs.Document.{Fields}
 use Rattle.agg_request.specs.Faults.{max_sources}
 use Rattle.agg_request.specs.Source.{Sources}
@@ -14,8 +13,7 @@ use Rattle.agg_request.specs.Request.{Request, aggregation_of}
 use Rattle.agg_request.specs.Uncut.{counted as counted_by}
 use Rattle.agg_request.specs.Source.{after_of}
 use Rattle.agg_composite.specs.Accessors.{HasAccessors}
-use Rattle.agg_results.specs.BucketCount.{results_buckets}
-use Rattle.agg_results.specs.Final.{HaveTooMany, final_results}
+use Rattle.agg_results.specs.Final.{TellsTooMany}
 use Rattle.agg_results.specs.Intermediate.{Held}
 use Rattle.agg_results.specs.StandsFor.{StandsFor}
 use Rattle.agg_results.specs.declared.intermediate.results.IntermediateAggregationResults as held
@@ -97,8 +95,6 @@ shown_after_of name results = after_shown (value_of name results.0)
 -- why held results have no final ones: these have more buckets than the limit; want of memory needs
 -- no cause
 abbrev pub IsFinalRefusal : {B : Type 0} → ℕ → Request B → Held → WalkError → Type 0
-IsFinalRefusal limit request held (Aggregation (aggregation.BucketLimitExceeded given n)) =
-    (given ≡ limit) × (n ≡ results_buckets (final_results request held))
-    × HaveTooMany limit request held
+IsFinalRefusal limit request held (Aggregation given) = TellsTooMany limit request held given
 IsFinalRefusal limit request held OutOfMemory = ⊤
 IsFinalRefusal limit request held _ = ⊥

@@ -2,6 +2,7 @@
 use Rattle.std.specs.Prelude.{◌≡◌, ◌≢◌, ◌<◌, ◌⊎◌, ℕ, List, [], Option, None, Some, Any, ⊤}
 use Rattle.std.specs.Prelude.{map, take}
 use Rattle.agg_values.specs.Names.{value_of}
+use Rattle.agg_values.specs.declared.request_error.AggregationError.{AggregationError}
 use Rattle.agg_values.specs.declared.request_error.AggregationError.TheVariants as aggregation
 use Rattle.agg_request.specs.Groups.{Group}
 use Rattle.agg_request.specs.Request.{Request, agg_of}
@@ -73,15 +74,21 @@ HoldsOther {B = B} request held =
 abbrev pub HaveTooMany : {B : Type 0} → ℕ → Request B → Held → Type 0
 HaveTooMany limit request held = limit < results_buckets (final_results request held)
 
+-- the final results have more buckets than the limit, and the error tells both numbers
+abbrev pub TellsTooMany : {B : Type 0} → ℕ → Request B → Held → AggregationError → Type 0
+TellsTooMany limit request held (aggregation.BucketLimitExceeded given current) =
+    (given ≡ limit) × (current ≡ results_buckets (final_results request held))
+    × HaveTooMany limit request held
+TellsTooMany limit request held _ = ⊥
+
 -- why there are no final results; want of memory needs no cause
 abbrev pub IsNotFinal : {B : Type 0} → ℕ → Request B → Held → FinalError → Type 0
 IsNotFinal limit request held error.UnknownAggregation = HoldsUnknown request held
 IsNotFinal limit request held error.Mismatch =
     (¬ (HoldsUnknown request held)) × HoldsOther request held
-IsNotFinal limit request held (error.Aggregation (aggregation.BucketLimitExceeded given current)) =
+IsNotFinal limit request held (error.Aggregation given) =
     (¬ (HoldsUnknown request held)) × (¬ (HoldsOther request held))
-    × (given ≡ limit) × (current ≡ results_buckets (final_results request held))
-    × HaveTooMany limit request held
+    × TellsTooMany limit request held given
 IsNotFinal limit request held error.OutOfMemory = ⊤
 IsNotFinal limit request held _ = ⊥
 
