@@ -1,8 +1,8 @@
 -- What is held of a snapshot, for a request of one composite: it may be final, as the page.
-use Rattle.std.proofs.Common.{◌≡◌, ℕ, ◌⊎◌, inl, inr, List, [], ◌∷◌, Bool, true, false, cond, Option}
+use Rattle.std.proofs.Common.{◌≡◌, ℕ, inl, inr, List, [], ◌∷◌, Bool, true, false, cond, Option}
 use Rattle.std.proofs.Common.{None, Some, map, refl, sym, ap, ◌∙◌, subst, arith}
 use Rattle.std.specs.BTreeMap.{is_at}
-use Rattle.std.specs.List.{Any, Contains}
+use Rattle.std.specs.List.{Contains}
 use Rattle.std.specs.Map.{keys_of}
 use Rattle.std.specs.Prelude.{IsSome, ⊤}
 use Rattle.std.proofs.lemmas.List.Elements.{All-contains, All-from_recursion}
@@ -20,8 +20,8 @@ use Rattle.agg_request.specs.declared.aggregation.CompositeAggregation.{Composit
 use Rattle.agg_request.proofs.Lists.{Contains-map}
 use Rattle.agg_request.proofs.PageExists.{page_exists}
 use Rattle.agg_results.specs.BucketCount.{results_buckets}
-use Rattle.agg_results.specs.Final.{HoldsOther, HoldsUnknown, IsInOtherOrders, final_result}
-use Rattle.agg_results.specs.Final.{final_results, lowest_of}
+use Rattle.agg_results.specs.Final.{HoldsOther, HoldsUnknown, IsInOtherOrders, IsUnknown}
+use Rattle.agg_results.specs.Final.{final_result, final_results, lowest_of}
 use Rattle.agg_results.specs.Intermediate.{AreFlat, Held, IsFlat, IsPlain, entries_of}
 use Rattle.agg_results.specs.Intermediate.{held_composite, target_size_of}
 use Rattle.agg_results.specs.Results.{buckets_in, last_tuple}
@@ -125,8 +125,7 @@ module _ (B : Type 0) (name : List ℕ) (query : QueryTree) (c : CompositeAggreg
         r : List ℕ × IntermediateAggregationResult
         r = unknown.1
 
-        by : (value_of r.0 (one B name c) ≡ None)
-            ⊎ Any (λ e. ¬ (IsPlain e.1)) (entries_of (held_composite r.1)) → ⊥
+        by : ¬ (IsUnknown (one B name c) r)
         by (inl none) =
             none-found (value_of r.0 (one B name c)) none (found-name (one B name c) r.0
             (All-contains (Contains (name ∷ [])) (keys_of held) r.0 stand.known

@@ -1,7 +1,7 @@
 -- A page as it is held: entries added one by one, each above those before.
 use Rattle.std.proofs.Common.{◌≡◌, ◌≢◌, ℕ, List, [], ◌∷◌, ◌++◌, Some}
 use Rattle.std.proofs.Common.{map, sym, ap, ◌∙◌, subst, Less}
-use Rattle.std.specs.List.{All, AllByRecursion}
+use Rattle.std.specs.List.{AllByRecursion}
 use Rattle.std.specs.List.Sorted.{IsStrictlySortedBy}
 use Rattle.std.specs.Map.{keys_of}
 use Rattle.std.proofs.lemmas.List.{map-append}
@@ -11,7 +11,7 @@ use Rattle.agg_request.specs.Groups.{Group}
 use Rattle.agg_composite.specs.PageEntries.{entry_group}
 use Rattle.agg_composite.specs.declared.page_entry.PageEntry.{PageEntry}
 use Rattle.agg_results.specs.Counts.{add_count, value_at}
-use Rattle.agg_results.specs.Intermediate.{Entries, IsFlat, IsPlain, composite_of, counts_of}
+use Rattle.agg_results.specs.Intermediate.{ArePlain, Entries, IsFlat, composite_of, counts_of}
 use Rattle.agg_results.specs.Intermediate.{entries_of, orders_of, plain_entries, target_size_of}
 use Rattle.agg_results.specs.declared.error.MergeError.{MergeError}
 use Rattle.agg_results.specs.declared.error.MergeError.TheVariants as merge
@@ -51,7 +51,7 @@ module _ (c : IntermediateCompositeBucketResult) (rules : SourceRules) (size : �
         orders_are = ap (λ r. r.entries.0) same;
         size_is = ap (λ r. r.target_size) same;
         counts_are = ap (λ r. counts_of r.entries.1) same ∙ counts-plain counts;
-        flat = subst (λ (es : Entries). All (λ e. IsPlain e.1) es)
+        flat = subst (λ (es : Entries). ArePlain es)
             (sym (ap (λ r. r.entries.1) same)) (entries-plain counts);
       }
 

@@ -2,7 +2,7 @@
 use Rattle.std.proofs.Common.{◌≡◌, ℕ, zero, suc, ◌+◌, List, [], ◌∷◌, Some, Ok, Err, refl, sym}
 use Rattle.std.proofs.Common.{ap, ◌∙◌, subst, Ordering, ◌*◌, ◌<◌, ◌≤◌, Bool, true, false, cond}
 use Rattle.std.proofs.Common.{eqb, ltb, length, take, drop, arith}
-use Rattle.std.specs.List.{All, AllByRecursion, insert, remove, slice_get}
+use Rattle.std.specs.List.{AllByRecursion, insert, remove, slice_get}
 use Rattle.std.specs.Map.{values_of}
 use Rattle.std_collections.specs.Layout.BTreeMap.{one_further, seek}
 use Rattle.std_collections.specs.Layout.Columns.{set_value_at, length-set_value_at}
@@ -17,9 +17,9 @@ use Rattle.agg_values.specs.Tuple.{KeyTuple}
 use Rattle.agg_request.specs.Groups.{Group}
 use Rattle.std.proofs.lemmas.Bool.{le-ltb}
 use Rattle.agg_results.specs.Counts.{add_count, merged, trimmed, value_at}
-use Rattle.agg_results.specs.Intermediate.{Entries, IsFlat, IsPlain, composite_of, counts_of}
-use Rattle.agg_results.specs.Intermediate.{entries_of, orders_of, plain_entries, plain_entry}
-use Rattle.agg_results.specs.Intermediate.{target_size_of}
+use Rattle.agg_results.specs.Intermediate.{ArePlain, Entries, IsFlat, IsPlain, composite_of}
+use Rattle.agg_results.specs.Intermediate.{counts_of, entries_of, orders_of, plain_entries}
+use Rattle.agg_results.specs.Intermediate.{plain_entry, target_size_of}
 use Rattle.agg_results.specs.Merging.{joined_composite, trimmed_composite}
 use Rattle.agg_results.specs.TupleMap.{ByTuple}
 use Rattle.agg_results.specs.declared.intermediate as intermediate
@@ -86,7 +86,7 @@ plain-all [] plain = refl
 plain-all (e ∷ es) plain = λ i. (e.0, plain-is e.1 plain.0 i) ∷ plain-all es plain.1 i
 
 -- entries without sub-results are those of their counts
-pub plain-entries : (es : Entries) → All (λ e. IsPlain e.1) es → plain_entries (counts_of es) ≡ es
+pub plain-entries : (es : Entries) → ArePlain es → plain_entries (counts_of es) ≡ es
 plain-entries es plain = plain-all es (recursion_from_All (λ e. IsPlain e.1) es plain)
 
 plain-there : (es : Entries) (i : ℕ) (e : IntermediateTermBucketEntry)
@@ -97,7 +97,7 @@ plain-there (f ∷ es) (suc i) e plain at = plain-there es i e plain.1 at
 
 -- the entry of a place has no sub-results
 pub plain-at : (es : Entries) (i : ℕ) (e : IntermediateTermBucketEntry)
-    → All (λ e. IsPlain e.1) es → slice_get (values_of es) i ≡ Some e → IsPlain e
+    → ArePlain es → slice_get (values_of es) i ≡ Some e → IsPlain e
 plain-at es i e plain at = plain-there es i e (recursion_from_All (λ e. IsPlain e.1) es plain) at
 
 -- the count of a place
@@ -133,7 +133,7 @@ plain-insert [] (suc i) k n = refl
 plain-insert (g ∷ counts) (suc i) k n =
     ap (λ es. (g.0, plain_entry g.1) ∷ es) (plain-insert counts i k n)
 
-module _ (rules : SourceRules) (es : Entries) (plain : All (λ e. IsPlain e.1) es) (k : KeyTuple)
+module _ (rules : SourceRules) (es : Entries) (plain : ArePlain es) (k : KeyTuple)
     (i n : ℕ) where
   -- more of a tuple that is held
   pub raised_entry : (count : ℕ) → seek (tuple_order rules k) es ≡ Ok i
@@ -189,22 +189,22 @@ plain-counts [] = tt
 plain-counts (g ∷ counts) = (refl, plain-counts counts)
 
 -- a composite of entries without sub-results has none
-pub flat-of : (orders : SourceRules) (size : ℕ) (es : Entries) → All (λ e. IsPlain e.1) es
+pub flat-of : (orders : SourceRules) (size : ℕ) (es : Entries) → ArePlain es
     → IsFlat (composite_of orders size es)
 flat-of orders size es plain =
-    subst (λ c. All (λ e. IsPlain e.1) c.entries.1) (sym (opened orders size es)) plain
+    subst (λ c. ArePlain c.entries.1) (sym (opened orders size es)) plain
 
 -- with one more entry, with one fewer, and with another in a place
 pub plain-inserted : (es : Entries) (i : ℕ) (k : KeyTuple) (e : IntermediateTermBucketEntry)
-    → All (λ e. IsPlain e.1) es → IsPlain e → All (λ e. IsPlain e.1) (insert es i (k, e))
+    → ArePlain es → IsPlain e → ArePlain (insert es i (k, e))
 plain-inserted es i k e plain own =
     All-append (λ e. IsPlain e.1) (take i es) ((k, e) ∷ drop i es)
     (All-take (λ e. IsPlain e.1) i es plain)
     (All-cons (λ e. IsPlain e.1) (k, e) (drop i es) own
     (All-drop (λ e. IsPlain e.1) i es plain))
 
-pub plain-removed : (es : Entries) (i : ℕ) → All (λ e. IsPlain e.1) es
-    → All (λ e. IsPlain e.1) (remove es i)
+pub plain-removed : (es : Entries) (i : ℕ) → ArePlain es
+    → ArePlain (remove es i)
 plain-removed es i plain =
     All-append (λ e. IsPlain e.1) (take i es) (drop (suc i) es)
     (All-take (λ e. IsPlain e.1) i es plain) (All-drop (λ e. IsPlain e.1) (suc i) es plain)
@@ -217,13 +217,13 @@ plain-written (f ∷ es) zero e own plain = (own, plain.1)
 plain-written (f ∷ es) (suc i) e own plain = (plain.0, plain-written es i e own plain.1)
 
 pub plain-replaced : (es : Entries) (i : ℕ) (e : IntermediateTermBucketEntry) → IsPlain e
-    → All (λ e. IsPlain e.1) es → All (λ e. IsPlain e.1) (set_value_at es i e)
+    → ArePlain es → ArePlain (set_value_at es i e)
 plain-replaced es i e own plain =
     All-from_recursion (λ e. IsPlain e.1) (set_value_at es i e)
     (plain-written es i e own (recursion_from_All (λ e. IsPlain e.1) es plain))
 
-trimmed-plain : (b : Bool) (size : ℕ) (es : Entries) → All (λ e. IsPlain e.1) es
-    → All (λ e. IsPlain e.1) (cond b (take size es) es)
+trimmed-plain : (b : Bool) (size : ℕ) (es : Entries) → ArePlain es
+    → ArePlain (cond b (take size es) es)
 trimmed-plain true size es plain = All-take (λ e. IsPlain e.1) size es plain
 trimmed-plain false size es plain = plain
 

@@ -7,6 +7,7 @@ use Rattle.agg_values.specs.declared.order.MissingOrder.{MissingOrder}
 use Rattle.agg_values.specs.declared.order.Order.{Order}
 use Rattle.agg_request.specs.Source.{Sources, missing_order_of, order_of, rules_of}
 use Rattle.agg_request.specs.declared.source.CompositeAggregationSource.{CompositeAggregationSource}
+use Rattle.agg_results.specs.Empty.{empty_page}
 use Rattle.agg_results.specs.Intermediate.{Entries, composite_of, entries_of, orders_of}
 use Rattle.agg_results.specs.Intermediate.{target_size_of}
 use Rattle.agg_results.specs.declared.intermediate as intermediate
@@ -39,11 +40,7 @@ module _ (orders : SourceRules) (size : ℕ) (entries : Entries) where
 
 -- ---- a page of some sources
 
--- a page of some sources without entries
-abbrev pub empty_page : Sources → ℕ → IntermediateCompositeBucketResult
-empty_page sources size = composite_of (rules_of sources) size []
-
--- it has no entries
+-- a page without entries has none
 pub empty_page-empty : (sources : Sources) (size : ℕ) (page : IntermediateCompositeBucketResult)
     → page ≡ empty_page sources size → entries_of page ≡ []
 empty_page-empty sources size page e =

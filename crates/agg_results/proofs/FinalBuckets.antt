@@ -4,19 +4,18 @@ use Rattle.std.proofs.Common.{Option, Some, None, arith}
 use Rattle.std.specs.Prelude.{sum}
 use Rattle.std.proofs.lemmas.List.Sums.{sum_by-cons}
 use Rattle.std.proofs.lemmas.Simd.{map-map}
-use Rattle.agg_values.specs.Names.{value_of}
 use Rattle.agg_values.specs.Shown.{shown_key}
 use Rattle.agg_values.specs.Tuple.{KeyTuple}
 use Rattle.agg_request.specs.BySource.{by_source}
 use Rattle.agg_request.specs.Groups.{Group}
-use Rattle.agg_request.specs.Request.{Request, agg_of}
+use Rattle.agg_request.specs.Request.{Request}
 use Rattle.agg_request.specs.Source.{Sources}
 use Rattle.agg_request.specs.declared.aggregation.Aggregation.{Aggregation}
 use Rattle.agg_request.specs.declared.aggregation.AggregationVariants.{AggregationVariants}
 use Rattle.agg_request.specs.declared.aggregation.AggregationVariants.TheVariants.{Composite}
 use Rattle.agg_request.specs.declared.aggregation.CompositeAggregation.{CompositeAggregation}
 use Rattle.agg_results.specs.BucketCount.{entry_buckets, result_buckets, results_buckets}
-use Rattle.agg_results.specs.Final.{final_result, final_results, lowest_of}
+use Rattle.agg_results.specs.Final.{final_of, final_result, final_results, lowest_of}
 use Rattle.agg_results.specs.Results.{last_tuple}
 use Rattle.agg_results.specs.Intermediate.{Held, held_composite, target_size_of}
 use Rattle.agg_results.specs.ShownResults.{shown_after, shown_group, shown_page}
@@ -87,7 +86,7 @@ some-buckets _ asked held found own count kind some is shown = cc
 
 -- the buckets of a name's final result
 abbrev pub name_buckets : {B : Type 0} → Held → List ℕ × Aggregation B → ℕ
-name_buckets held a = result_buckets (final_result (agg_of a.1) (value_of a.0 held))
+name_buckets held a = result_buckets (final_of held a)
 
 -- the buckets of the names that are left
 abbrev pub left_buckets : {B : Type 0} → Held → Request B → ℕ
@@ -98,8 +97,7 @@ pub final-buckets : {B : Type 0} (request : Request B) (held : Held)
     → results_buckets (final_results request held) ≡ left_buckets held request
 final-buckets request held =
     results_buckets-sum (final_results request held)
-    ∙ ap sum (map-map (λ r. result_buckets r.1)
-    (λ a. (a.0, final_result (agg_of a.1) (value_of a.0 held))) request)
+    ∙ ap sum (map-map (λ r. result_buckets r.1) (λ a. (a.0, final_of held a)) request)
 
 -- the first name that is left is counted
 pub count-more : {B : Type 0} (held : Held) (left : Request B) (name : List ℕ) (a : Aggregation B)

@@ -10,17 +10,13 @@ use Rattle.std.proofs.lemmas.Map.Keys.{sorted_head, sorted_tail}
 use Rattle.agg_values.specs.Names.{Named, name_cmp, put, value_of, without}
 use Rattle.agg_request.specs.Request.{Request, agg_of}
 use Rattle.agg_request.specs.declared.aggregation.Aggregation.{Aggregation}
-use Rattle.agg_results.specs.Final.{final_result}
+use Rattle.agg_results.specs.Final.{final_of, final_result}
 use Rattle.agg_results.specs.Intermediate.{Held}
 use Rattle.agg_results.specs.declared.intermediate.results.IntermediateAggregationResult as declared
 use declared.{IntermediateAggregationResult}
 use Rattle.agg_results.specs.declared.results.types.AggregationResult.{AggregationResult}
 use Rattle.agg_results.proofs.MadeByName.{by_name, by_name-all, by_name-more}
 use Rattle.agg_results.proofs.NameOrder.{Ascends, apart, between, value-without}
-
--- the final result of a name
-abbrev pub final_of : {B : Type 0} → Held → List ℕ × Aggregation B → AggregationResult
-final_of held a = final_result (agg_of a.1) (value_of a.0 held)
 
 -- ---- the names in front of a last one
 

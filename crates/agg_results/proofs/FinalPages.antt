@@ -19,7 +19,7 @@ use Rattle.agg_request.specs.declared.aggregation.AggregationVariants.TheVariant
 use Rattle.agg_request.specs.declared.aggregation.CompositeAggregation.{CompositeAggregation}
 use Rattle.agg_request.proofs.PageCounts.{counts-permutation}
 use Rattle.agg_request.proofs.PageFromGroups.{groups-entries}
-use Rattle.agg_results.specs.Final.{final_result, final_results}
+use Rattle.agg_results.specs.Final.{final_by_name, final_result, final_results}
 use Rattle.agg_results.specs.Intermediate.{Held, counts_of, entries_of, held_composite}
 use Rattle.agg_results.specs.Intermediate.{target_size_of}
 use Rattle.agg_results.specs.Results.{CompositeResult, IsResult, IsResults, Results}
@@ -153,11 +153,6 @@ page-permutation _ documents others moved = refl
 -- the pages of a request over documents, as they are shown, by name
 abbrev pages_by_name : {B : Type 0} → Request B → List Fields → Named AggregationResult
 pages_by_name request documents = map (λ a. (a.0, final_page (agg_of a.1) documents)) request
-
--- the final results of what is held, by name
-abbrev final_by_name : {B : Type 0} → Request B → Held → Named AggregationResult
-final_by_name request held =
-    map (λ a. (a.0, final_result (agg_of a.1) (value_of a.0 held))) request
 
 final-each : {B : Type 0} (request : Request B) (documents : List Fields) (held : Held)
     → AllByRecursion (λ a. ResultStandsFor (agg_of a.1) documents (value_of a.0 held)) request

@@ -1,6 +1,5 @@
 -- Empty results have no sub-results.
 use Rattle.std.proofs.Common.{ℕ, [], get_or, subst, sym}
-use Rattle.std.specs.List.{All}
 use Rattle.std.proofs.lemmas.List.Elements.{All-map, All-nil}
 use Rattle.agg_values.specs.KeyOrder.{SourceRules}
 use Rattle.agg_request.specs.Request.{Request, agg_of}
@@ -8,13 +7,13 @@ use Rattle.agg_request.specs.Source.{rules_of}
 use Rattle.agg_request.specs.declared.aggregation.AggregationVariants.{AggregationVariants}
 use Rattle.agg_request.specs.declared.aggregation.AggregationVariants.TheVariants.{Composite}
 use Rattle.agg_results.specs.Empty.{empty_result, empty_results}
-use Rattle.agg_results.specs.Intermediate.{AreFlat, IsFlat, IsPlain, composite_of}
+use Rattle.agg_results.specs.Intermediate.{AreFlat, ArePlain, IsFlat, IsPlain, composite_of}
 use Rattle.agg_results.specs.Intermediate.{held_composite}
 use Rattle.agg_results.proofs.Composites.{opened}
 
 no_entries-flat : (orders : SourceRules) (size : ℕ) → IsFlat (composite_of orders size [])
 no_entries-flat orders size =
-    subst (λ r. All (λ e. IsPlain e.1) r.entries.1) (sym (opened orders size []))
+    subst (λ r. ArePlain r.entries.1) (sym (opened orders size []))
     (All-nil (λ e. IsPlain e.1))
 
 empty-flat : {B : Type 0} (aggregation : AggregationVariants B)

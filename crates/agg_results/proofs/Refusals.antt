@@ -1,31 +1,19 @@
 -- What intermediate results may not hold, told name by name.
-use Rattle.std.proofs.Common.{◌≡◌, ◌⊎◌, ℕ, List, [], ◌∷◌, inl, inr, true, false, Option, Some}
+use Rattle.std.proofs.Common.{◌≡◌, ℕ, List, [], ◌∷◌, inl, inr, true, false, Option, Some}
 use Rattle.std.proofs.Common.{None, sym, ◌∙◌, subst, true≢false}
-use Rattle.std.specs.List.{Any}
 use Rattle.std.specs.Option.{is_some, option_map}
 use Rattle.std.specs.Map.{keys_of}
 use Rattle.std.proofs.lemmas.Map.Keys.{sorted_tail}
 use Rattle.agg_values.specs.Names.{name_cmp, value_of}
 use Rattle.agg_request.specs.Request.{Request, agg_of}
 use Rattle.agg_request.specs.declared.aggregation.Aggregation.{Aggregation}
-use Rattle.agg_results.specs.Final.{HoldsOther, IsInOtherOrders}
-use Rattle.agg_results.specs.Intermediate.{Held, IsPlain, entries_of, held_composite}
+use Rattle.agg_results.specs.Final.{HoldsOther, IsInOtherOrders, IsUnknown}
+use Rattle.agg_results.specs.Intermediate.{HasSubResults, Held, held_composite}
 use Rattle.agg_results.specs.declared.intermediate.results.IntermediateAggregationResult as declared
 use declared.{IntermediateAggregationResult}
-use Rattle.agg_results.specs.declared.intermediate as intermediate
-use intermediate.composite.IntermediateCompositeBucketResult as composite
-use composite.{IntermediateCompositeBucketResult}
 use Rattle.agg_results.proofs.NameOrder.{Ascends, value-cases, value-first, value-later}
 
 -- ---- names that aren't asked for
-
--- some entry has sub-results
-abbrev pub HasSubResults : IntermediateCompositeBucketResult → Type 0
-HasSubResults composite = Any (λ e. ¬ (IsPlain e.1)) (entries_of composite)
-
--- a result has a name that isn't asked for, its own or one below it
-abbrev pub IsUnknown : {B : Type 0} → Request B → List ℕ × IntermediateAggregationResult → Type 0
-IsUnknown request r = (value_of r.0 request ≡ None) ⊎ HasSubResults (held_composite r.1)
 
 module _ {A B : Type 0} (f : B → A) where
   pub none_found : (found : Option B) (value : Option A) → option_map f found ≡ value

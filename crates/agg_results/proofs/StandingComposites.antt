@@ -7,17 +7,19 @@ use Rattle.std.proofs.lemmas.Bool.{cond_both}
 use Rattle.std.proofs.lemmas.Bool.Decides.{nat_tests}
 use Rattle.std.proofs.lemmas.List.{take-map}
 use Rattle.std.proofs.lemmas.List.Elements.{All-map, All-nil, All-take}
-use Rattle.agg_values.specs.KeyOrder.{SourceRules, tuple_order}
+use Rattle.agg_values.specs.KeyOrder.{SourceRules}
 use Rattle.agg_segment.specs.Document.{Fields}
 use Rattle.agg_request.specs.Groups.{Group}
 use Rattle.agg_request.specs.Occurrences.{bound_of, occurrences_in}
 use Rattle.agg_request.specs.Source.{rules_of}
 use Rattle.agg_request.specs.declared.aggregation.CompositeAggregation.{CompositeAggregation}
-use Rattle.agg_results.specs.Counts.{PassesCount, merged, trimmed}
-use Rattle.agg_results.specs.Intermediate.{Entries, IsPlain, composite_of, counts_of, entries_of}
-use Rattle.agg_results.specs.Intermediate.{orders_of, plain_entries, plain_entry, target_size_of}
+use Rattle.agg_results.specs.Counts.{PassesCount, trimmed}
+use Rattle.agg_results.specs.Empty.{empty_page}
+use Rattle.agg_results.specs.Intermediate.{ArePlain, Entries, IsPlain, composite_of, counts_of}
+use Rattle.agg_results.specs.Intermediate.{entries_of, orders_of, plain_entries, plain_entry}
+use Rattle.agg_results.specs.Intermediate.{target_size_of}
 use Rattle.agg_results.specs.Merging.{CompositesDiffer, CompositesPass, joined_composite}
-use Rattle.agg_results.specs.Merging.{trimmed_composite}
+use Rattle.agg_results.specs.Merging.{joined_counts, trimmed_composite}
 use Rattle.agg_results.specs.StandsFor.{CompositeStandsFor, GroupsStandFor, HasShapeOf}
 use Rattle.agg_results.specs.declared.intermediate.composite as declared
 use declared.IntermediateCompositeBucketResult.{IntermediateCompositeBucketResult}
@@ -31,7 +33,7 @@ counts-plain [] = refl
 counts-plain (g ∷ groups) = ap (λ gs. g ∷ gs) (counts-plain groups)
 
 -- entries of counts have no sub-results
-pub entries-plain : (groups : List Group) → All (λ e. IsPlain e.1) (plain_entries groups)
+pub entries-plain : (groups : List Group) → ArePlain (plain_entries groups)
 entries-plain groups =
     All-map (λ e. IsPlain e.1) (λ g. (g.0, plain_entry g.1)) groups (λ k d within. refl)
 
@@ -51,7 +53,7 @@ module _ (composite : CompositeAggregation) where
   -- a result of parts that stand for documents
   pub stands-made : (documents : List Fields) (orders : SourceRules) (size : ℕ) (entries : Entries)
       → IsShape size orders entries → Stand documents (counts_of entries)
-      → All (λ e. IsPlain e.1) entries
+      → ArePlain entries
       → CompositeStandsFor composite documents (composite_of orders size entries)
   stands-made documents orders size entries shape groups flat =
       let made = sym (out-roll-IntermediateCompositeBucketResult
@@ -59,12 +61,11 @@ module _ (composite : CompositeAggregation) where
       record {
         shape = subst (λ r. IsShape r.target_size r.entries.0 r.entries.1) made shape;
         groups = subst (λ r. Stand documents (counts_of r.entries.1)) made groups;
-        flat = subst (λ r. All (λ e. IsPlain e.1) r.entries.1) made flat;
+        flat = subst (λ r. ArePlain r.entries.1) made flat;
       }
 
   -- the empty result stands for no documents
-  pub stands-empty : CompositeStandsFor composite []
-      (composite_of (rules_of composite.sources) composite.size [])
+  pub stands-empty : CompositeStandsFor composite [] (empty_page composite.sources composite.size)
   stands-empty =
       stands-made [] (rules_of composite.sources) composite.size [] (inl (refl, refl))
       (stands-nothing composite.sources composite.size (bound_of composite.sources composite.after))
@@ -111,8 +112,8 @@ module _ (composite : CompositeAggregation) where
       subst (λ es. Stand documents (counts_of es))
       (none.1 ∙ sym (trimmed-nothing size entries none.0 none.1)) stand
 
-  flat-trimmed : (size : ℕ) (entries : Entries) → All (λ e. IsPlain e.1) entries
-      → All (λ e. IsPlain e.1) (trimmed size entries)
+  flat-trimmed : (size : ℕ) (entries : Entries) → ArePlain entries
+      → ArePlain (trimmed size entries)
   flat-trimmed size entries flat =
       cond_both (nat_lt (2 * size) (length entries)) (take size entries) entries
       (All (λ e. IsPlain e.1)) (λ more. All-take (λ e. IsPlain e.1) size entries flat) (λ few. flat)
@@ -135,8 +136,7 @@ module _ (composite : CompositeAggregation) where
       (a : CompositeStandsFor composite documents c)
       (b : CompositeStandsFor composite others d) where
     abbrev joined_groups : SourceRules → List Group
-    joined_groups orders =
-        merged (tuple_order orders) (counts_of (entries_of c)) (counts_of (entries_of d))
+    joined_groups orders = joined_counts orders (entries_of c) (entries_of d)
 
     -- they have one shape
     pub composites-alike : ¬ (CompositesDiffer c d)

@@ -1,7 +1,7 @@
 -- What stands for documents may be final: each name is known, and each result has the shape that is
 -- asked for.
-use Rattle.std.proofs.Common.{◌≡◌, ℕ, ◌⊎◌, inl, inr, List, Option, None, Some, subst}
-use Rattle.std.specs.List.{Any, Contains}
+use Rattle.std.proofs.Common.{◌≡◌, ℕ, inl, inr, List, Option, None, Some, subst}
+use Rattle.std.specs.List.{Contains}
 use Rattle.std.specs.Map.{keys_of}
 use Rattle.std.specs.Prelude.{IsSome}
 use Rattle.std.proofs.lemmas.List.Elements.{All-contains}
@@ -11,7 +11,7 @@ use Rattle.agg_request.specs.Request.{Request, agg_of}
 use Rattle.agg_request.specs.declared.aggregation.AggregationVariants.{AggregationVariants}
 use Rattle.agg_request.specs.declared.aggregation.AggregationVariants.TheVariants.{Composite}
 use Rattle.agg_request.proofs.Lists.{Contains-map}
-use Rattle.agg_results.specs.Final.{HoldsOther, HoldsUnknown, IsInOtherOrders}
+use Rattle.agg_results.specs.Final.{HoldsOther, HoldsUnknown, IsInOtherOrders, IsUnknown}
 use Rattle.agg_results.specs.Intermediate.{AreFlat, Held, IsFlat, IsPlain, entries_of}
 use Rattle.agg_results.specs.Intermediate.{held_composite}
 use Rattle.agg_results.specs.StandsFor.{HasShapeOf, ResultStandsFor, StandsFor}
@@ -54,8 +54,7 @@ module _ {B : Type 0} (request : Request B) (documents : List Fields) (held : He
       r : List ℕ × IntermediateAggregationResult
       r = unknown.1
 
-      by : (value_of r.0 request ≡ None)
-          ⊎ Any (λ e. ¬ (IsPlain e.1)) (entries_of (held_composite r.1)) → ⊥
+      by : ¬ (IsUnknown request r)
       by (inl none) =
           some-not-none (value_of r.0 request) none (found-name request r.0
           (All-contains (Contains (keys_of request)) (keys_of held) r.0 stand.known

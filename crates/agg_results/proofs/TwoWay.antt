@@ -13,7 +13,8 @@ use Rattle.agg_values.specs.Tuple.{KeyTuple}
 use Rattle.agg_request.specs.Groups.{Group}
 use Rattle.agg_request.proofs.CheckedRequests.{Any-back}
 use Rattle.agg_results.specs.Counts.{PassesCount, merged}
-use Rattle.agg_results.specs.Intermediate.{Entries, IsPlain, TupleEntry, counts_of, plain_entry}
+use Rattle.agg_results.specs.Intermediate.{ArePlain, Entries, IsPlain, TupleEntry, counts_of}
+use Rattle.agg_results.specs.Intermediate.{plain_entry}
 use Rattle.agg_results.proofs.Counts.{Ascend, Ascend-merged, merged-nothing}
 use Rattle.agg_results.proofs.Merged.{merge, merged-is_merge}
 
@@ -74,9 +75,9 @@ none_passes es few (i, g, within, at, many) =
 pub record IsUnderway (R : KeyTuple → KeyTuple → Ordering) (counts : List Group)
     (left right whole : Entries) : Type 0 where
   pub ascending : IsStrictlySortedBy R (keys_of right)
-  pub plain : All (λ e. IsPlain e.1) left
-  pub other_plain : All (λ e. IsPlain e.1) right
-  pub whole_plain : All (λ e. IsPlain e.1) whole
+  pub plain : ArePlain left
+  pub other_plain : ArePlain right
+  pub whole_plain : ArePlain whole
   pub few : All IsFew whole
   pub same : counts_of whole ++ merged R (counts_of left) (counts_of right) ≡ counts
 
@@ -219,7 +220,7 @@ module _ (R : KeyTuple → KeyTuple → Ordering) (counts : List Group) where
         ∙ ap (λ gs. counts_of whole ++ gs) (ended-by total left right now.ascending none)
         ∙ now.same
 
-    pub all-plain : All (λ e. IsPlain e.1) all
+    pub all-plain : ArePlain all
     all-plain =
         subst (All (λ e. IsPlain e.1)) (sym is)
         (All-append (λ e. IsPlain e.1) (whole ++ left) right

@@ -1,7 +1,7 @@
 -- The final results of what is held, and when there are none.
 use Rattle.std.specs.Prelude.{◌≡◌, ◌≢◌, ◌<◌, ◌⊎◌, ℕ, List, [], Option, None, Some, Any, ⊤}
 use Rattle.std.specs.Prelude.{map, take}
-use Rattle.agg_values.specs.Names.{value_of}
+use Rattle.agg_values.specs.Names.{Named, value_of}
 use Rattle.agg_values.specs.declared.request_error.AggregationError.{AggregationError}
 use Rattle.agg_values.specs.declared.request_error.AggregationError.TheVariants as aggregation
 use Rattle.agg_request.specs.Groups.{Group}
@@ -11,7 +11,8 @@ use Rattle.agg_request.specs.declared.aggregation.Aggregation.{Aggregation}
 use Rattle.agg_request.specs.declared.aggregation.AggregationVariants.{AggregationVariants}
 use Rattle.agg_request.specs.declared.aggregation.AggregationVariants.TheVariants.{Composite}
 use Rattle.agg_results.specs.BucketCount.{results_buckets}
-use Rattle.agg_results.specs.Intermediate.{Held, IsPlain, counts_of, entries_of, held_composite}
+use Rattle.agg_results.specs.Intermediate.{HasSubResults, Held, counts_of, entries_of}
+use Rattle.agg_results.specs.Intermediate.{held_composite}
 use Rattle.agg_results.specs.Intermediate.{orders_of, target_size_of}
 use Rattle.agg_results.specs.Results.{last_tuple}
 use Rattle.agg_results.specs.ShownResults.{shown_group, shown_page}
@@ -41,19 +42,28 @@ final_result (Composite composite) (Some held) =
     (last_tuple (target_size_of (held_composite held)) lowest)
 final_result _ held = shown_page [] [] None
 
+-- the final result of a name
+abbrev pub final_of : {B : Type 0} → Held → List ℕ × Aggregation B → AggregationResult
+final_of held a = final_result (agg_of a.1) (value_of a.0 held)
+
+-- the final result of each name
+abbrev pub final_by_name : {B : Type 0} → Request B → Held → Named AggregationResult
+final_by_name request held = map (λ a. (a.0, final_of held a)) request
+
 -- the final results of a request
 abbrev pub final_results : {B : Type 0} → Request B → Held → AggregationResults
-final_results request held =
-    record { 0 = map (λ a. (a.0, final_result (agg_of a.1) (value_of a.0 held))) request }
+final_results request held = record { 0 = final_by_name request held }
 
 -- ---- when there are none
 
--- a name is held that isn't asked for: one of a request, or one below an entry, since sub-results
+-- a result has a name that isn't asked for: its own, or one below an entry, since sub-results
 -- aren't collected yet
+abbrev pub IsUnknown : {B : Type 0} → Request B → List ℕ × IntermediateAggregationResult → Type 0
+IsUnknown request r = (value_of r.0 request ≡ None) ⊎ HasSubResults (held_composite r.1)
+
+-- such a result is held
 abbrev pub HoldsUnknown : {B : Type 0} → Request B → Held → Type 0
-HoldsUnknown request held =
-    Any (λ r. (value_of r.0 request ≡ None)
-    ⊎ Any (λ e. ¬ (IsPlain e.1)) (entries_of (held_composite r.1))) held
+HoldsUnknown request held = Any (IsUnknown request) held
 
 -- entries are held in other orders than those of the sources
 abbrev pub IsInOtherOrders : {B : Type 0} → AggregationVariants B

@@ -1,5 +1,5 @@
 -- Intermediate results, opened.
-use Rattle.std.specs.Prelude.{◌≡◌, ℕ, List, [], All, map}
+use Rattle.std.specs.Prelude.{◌≡◌, ℕ, List, [], All, Any, map}
 use Rattle.agg_values.specs.KeyOrder.{SourceRules}
 use Rattle.agg_values.specs.Names.{Named}
 use Rattle.agg_values.specs.Tuple.{KeyTuple}
@@ -77,9 +77,17 @@ plain_entries counts = map (λ g. (g.0, plain_entry g.1)) counts
 abbrev pub IsPlain : IntermediateTermBucketEntry → Type 0
 IsPlain entry = entry.sub_aggregation.results ≡ []
 
--- no entry of a composite's result has sub-results
+-- no entry has sub-results
+abbrev pub ArePlain : Entries → Type 0
+ArePlain entries = All (λ e. IsPlain e.1) entries
+
+-- nor has an entry of a composite's result
 abbrev pub IsFlat : IntermediateCompositeBucketResult → Type 0
-IsFlat composite = All (λ e. IsPlain e.1) (entries_of composite)
+IsFlat composite = ArePlain (entries_of composite)
+
+-- some entry of a composite's result has sub-results
+abbrev pub HasSubResults : IntermediateCompositeBucketResult → Type 0
+HasSubResults composite = Any (λ e. ¬ (IsPlain e.1)) (entries_of composite)
 
 -- no result has sub-results
 abbrev pub AreFlat : Held → Type 0

@@ -1,11 +1,13 @@
 -- What merging makes of two intermediate results, and when it is refused.
 use Rattle.std.specs.Prelude.{◌≡◌, ◌≢◌, ◌<◌, ◌==◌, ◌⊎◌, ℕ, List, Option, None, Some}
 use Rattle.std.specs.Prelude.{if◌then◌else◌}
-use Rattle.agg_values.specs.KeyOrder.{tuple_order}
+use Rattle.agg_values.specs.KeyOrder.{SourceRules, tuple_order}
 use Rattle.agg_values.specs.Names.{value_of}
+use Rattle.agg_request.specs.Groups.{Group}
 use Rattle.agg_results.specs.Counts.{PassesCount, merged, trimmed}
-use Rattle.agg_results.specs.Intermediate.{Held, as_result, composite_of, counts_of, entries_of}
-use Rattle.agg_results.specs.Intermediate.{held_composite, orders_of, plain_entries, target_size_of}
+use Rattle.agg_results.specs.Intermediate.{Entries, Held, as_result, composite_of, counts_of}
+use Rattle.agg_results.specs.Intermediate.{entries_of, held_composite, orders_of, plain_entries}
+use Rattle.agg_results.specs.Intermediate.{target_size_of}
 use Rattle.agg_results.specs.declared.intermediate.results.IntermediateAggregationResult as declared
 use declared.{IntermediateAggregationResult}
 use Rattle.agg_results.specs.declared.intermediate as intermediate
@@ -26,6 +28,11 @@ abbrev pub trimmed_composite : IntermediateCompositeBucketResult → Intermediat
 trimmed_composite c =
     composite_of (orders_of c) (target_size_of c) (trimmed (target_size_of c) (entries_of c))
 
+-- the counts of two lists of entries, added by tuple
+abbrev pub joined_counts : SourceRules → Entries → Entries → List Group
+joined_counts orders entries others =
+    merged (tuple_order orders) (counts_of entries) (counts_of others)
+
 -- two as one, with the counts added by tuple; of one without a size the other
 abbrev pub joined_composite : IntermediateCompositeBucketResult → IntermediateCompositeBucketResult
     → IntermediateCompositeBucketResult
@@ -33,16 +40,14 @@ joined_composite c d =
     if target_size_of c == 0 then d else
     (if target_size_of d == 0 then c else
     composite_of (orders_of c) (target_size_of c)
-    (plain_entries
-    (merged (tuple_order (orders_of c)) (counts_of (entries_of c)) (counts_of (entries_of d)))))
+    (plain_entries (joined_counts (orders_of c) (entries_of c) (entries_of d))))
 
 -- the sum of two counts of one tuple is 2^64 or more
 abbrev pub CompositesPass : IntermediateCompositeBucketResult → IntermediateCompositeBucketResult
     → Type 0
 CompositesPass c d =
     (0 < target_size_of c) × (0 < target_size_of d)
-    × PassesCount
-    (merged (tuple_order (orders_of c)) (counts_of (entries_of c)) (counts_of (entries_of d)))
+    × PassesCount (joined_counts (orders_of c) (entries_of c) (entries_of d))
 
 -- ---- results of an aggregation
 

@@ -65,13 +65,16 @@ abbrev pub put_all : Texts → Texts → Texts
 put_all [] members = members
 put_all (m ∷ over) members = put m.0 m.1 (put_all over members)
 
--- the members of a bucket: its number of occurrences, its key, and each sub-result by its name
-abbrev pub bucket_members : ℕ → Named CompositeKey → Texts → Texts
-bucket_members doc_count key sub_results =
-    put_all sub_results
-    ((codes "doc_count", decimal doc_count)
+-- the members of a bucket without sub-results: its number of occurrences and its key
+abbrev pub plain_members : ℕ → Named CompositeKey → Texts
+plain_members doc_count key =
+    (codes "doc_count", decimal doc_count)
     ∷ (codes "key", object_text shown_key_text key)
-    ∷ [])
+    ∷ []
+
+-- the members of a bucket: these, and each sub-result by its name
+abbrev pub bucket_members : ℕ → Named CompositeKey → Texts → Texts
+bucket_members doc_count key sub_results = put_all sub_results (plain_members doc_count key)
 
 -- the members of a composite: its after key, where the page is full, and its buckets
 abbrev pub composite_members : List (List ℕ) → Named AfterKey → Texts

@@ -5,6 +5,7 @@ ghost use Rattle.std.specs.Map.{keys_of};
 ghost use Rattle.agg_values.specs.KeyOrder.{tuple_order};
 ghost use Rattle.agg_request.specs.Source.{rules_of};
 ghost use Rattle.agg_composite.specs.PageEntries.{entry_group};
+ghost use Rattle.agg_results.specs.Empty.{empty_page};
 ghost use Rattle.agg_results.specs.Intermediate.{IsFlat, as_result, composite_of};
 ghost use Rattle.agg_results.specs.Intermediate.{plain_entries};
 ghost use Rattle.agg_engine.specs.declared.walk.error.WalkError.TheVariants.{OutOfMemory};
@@ -55,7 +56,7 @@ fn with_orders(
     sources: &[CompositeAggregationSource],
     size: u32,
 ) -> Result<IntermediateCompositeBucketResult, WalkError>
-    ensures ok { IfOk result (λ buckets. buckets ≡ composite_of (rules_of sources.now) size []) }
+    ensures ok { IfOk result (λ buckets. buckets ≡ empty_page sources.now size) }
     ensures err { IfErr result (λ error. error ≡ OutOfMemory) }
 {
     let mut buckets = IntermediateCompositeBucketResult::new(alloc, size);

@@ -3,9 +3,8 @@
 ghost use Rattle.std.specs.Prelude.{◌≡◌, IfOk, map, reverse};
 ghost use Rattle.std.specs.List.Sorted.{IsStrictlySortedBy};
 ghost use Rattle.std.specs.Map.{keys_of};
-ghost use Rattle.agg_values.specs.Names.{name_cmp, value_of};
-ghost use Rattle.agg_request.specs.Request.{agg_of};
-ghost use Rattle.agg_results.specs.Final.{final_result};
+ghost use Rattle.agg_values.specs.Names.{name_cmp};
+ghost use Rattle.agg_results.specs.Final.{final_by_name, final_of};
 
 use super::shown::shown_result;
 use crate::{AggregationResult, IntermediateAggregationResults};
@@ -17,8 +16,7 @@ pub fn shown_by_name(
     req: &Aggregations,
     held: IntermediateAggregationResults,
 ) -> Result<NameMap<AggregationResult>, OutOfMemory>
-    ensures { IfOk result (λ results. results
-        ≡ map (λ a. (a.0, final_result (agg_of a.1) (value_of a.0 held.results))) req.now) }
+    ensures { IfOk result (λ results. results ≡ final_by_name req.now held.results) }
 {
     let alloc = req.allocator();
     let mut last_first = shown_last_first(req, held)?;
@@ -36,8 +34,8 @@ fn shown_last_first(
     req: &Aggregations,
     mut held: IntermediateAggregationResults,
 ) -> Result<Vec<AggregationResult>, OutOfMemory>
-    ensures { IfOk result (λ shown. reverse shown.items
-        ≡ map (λ a. final_result (agg_of a.1) (value_of a.0 held.results)) req.now) }
+    ensures { IfOk result
+        (λ shown. reverse shown.items ≡ map (final_of held.results) req.now) }
 {
     let alloc = req.allocator();
     let mut wanted = entries_of(req)?;

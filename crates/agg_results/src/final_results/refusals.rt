@@ -1,8 +1,8 @@
 //! What intermediate results may not hold.
-ghost use Rattle.std.specs.Prelude.{◌≡◌, ◌↔◌, Any, IsTrue, MatchBool};
+ghost use Rattle.std.specs.Prelude.{◌≡◌, ◌↔◌, IsTrue, MatchBool};
 ghost use Rattle.agg_request.specs.Source.{rules_of};
 ghost use Rattle.agg_results.specs.Final.{HoldsOther, HoldsUnknown, IsInOtherOrders};
-ghost use Rattle.agg_results.specs.Intermediate.{IsPlain, entries_of};
+ghost use Rattle.agg_results.specs.Intermediate.{HasSubResults};
 
 use crate::{
     IntermediateAggregationResult, IntermediateAggregationResults,
@@ -26,8 +26,7 @@ pub fn holds_unknown(req: &Aggregations, held: &IntermediateAggregationResults) 
 
 // Whether an entry has sub-results.
 fn has_sub_results(held: &IntermediateCompositeBucketResult) -> bool
-    ensures { MatchBool result (Any (λ e. ¬ (IsPlain e.1)) (entries_of held.now))
-        (¬ (Any (λ e. ¬ (IsPlain e.1)) (entries_of held.now))) }
+    ensures { MatchBool result (HasSubResults held.now) (¬ (HasSubResults held.now)) }
 {
     held.entries()
         .iter()

@@ -1,8 +1,7 @@
 //! Intermediate results over no documents.
-ghost use Rattle.std.specs.Prelude.{◌≡◌, [], IfOk};
-ghost use Rattle.agg_request.specs.Source.{rules_of};
-ghost use Rattle.agg_results.specs.Empty.{empty_result, empty_results};
-ghost use Rattle.agg_results.specs.Intermediate.{AreFlat, composite_of};
+ghost use Rattle.std.specs.Prelude.{◌≡◌, IfOk};
+ghost use Rattle.agg_results.specs.Empty.{empty_page, empty_result, empty_results};
+ghost use Rattle.agg_results.specs.Intermediate.{AreFlat};
 
 use super::{
     IntermediateAggregationResult, IntermediateAggregationResults, IntermediateBucketResult,
@@ -57,7 +56,7 @@ fn empty_composite(
     composite: &CompositeAggregation,
 ) -> Result<IntermediateCompositeBucketResult, OutOfMemory>
     ensures { IfOk result
-        (λ page. page ≡ composite_of (rules_of composite.now.sources) composite.now.size []) }
+        (λ page. page ≡ empty_page composite.now.sources composite.now.size) }
 {
     let mut page = IntermediateCompositeBucketResult::new(alloc, composite.size);
     for source in composite.sources.as_slice() {

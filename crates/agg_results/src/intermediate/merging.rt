@@ -5,9 +5,10 @@ ghost use Rattle.std.specs.declared.cmp.Ordering.TheVariants.{Less};
 ghost use Rattle.std.specs.List.Sorted.{IsStrictlySortedBy};
 ghost use Rattle.std.specs.Map.{keys_of};
 ghost use Rattle.agg_values.specs.KeyOrder.{tuple_order};
-ghost use Rattle.agg_results.specs.Counts.{PassesCount, merged};
-ghost use Rattle.agg_results.specs.Intermediate.{Entries, IsPlain, TupleEntry, counts_of};
+ghost use Rattle.agg_results.specs.Counts.{PassesCount};
+ghost use Rattle.agg_results.specs.Intermediate.{ArePlain, Entries, IsPlain, TupleEntry, counts_of};
 ghost use Rattle.agg_results.specs.Intermediate.{plain_entries, plain_entry};
+ghost use Rattle.agg_results.specs.Merging.{joined_counts};
 
 use super::IntermediateTermBucketEntry;
 use crate::MergeError;
@@ -26,18 +27,16 @@ pub(super) fn merge_entries(
     right: TupleMap<IntermediateTermBucketEntry>,
 ) -> Result<TupleMap<IntermediateTermBucketEntry>, MergeError>
     requires orders { left.0 ≡ right.0 }
-    requires plain { All (λ e. IsPlain e.1) left.1 }
-    requires other_plain { All (λ e. IsPlain e.1) right.1 }
+    requires plain { ArePlain left.1 }
+    requires other_plain { ArePlain right.1 }
     ensures ok { IfOk result (λ whole. whole ≡ (
       left.0,
-      plain_entries
-          (merged (tuple_order left.0) (counts_of left.1) (counts_of right.1)),
+      plain_entries (joined_counts left.0 left.1 right.1),
     )) }
-    ensures few { OnOk result (¬ (PassesCount
-        (merged (tuple_order left.0) (counts_of left.1) (counts_of right.1)))) }
+    ensures few { OnOk result (¬ (PassesCount (joined_counts left.0 left.1 right.1))) }
     ensures mismatch { ¬ (IsErrOf result MergeError.Mismatch) }
-    ensures too_many { IsErrOf result MergeError.TooMany → PassesCount
-        (merged (tuple_order left.0) (counts_of left.1) (counts_of right.1)) }
+    ensures too_many { IsErrOf result MergeError.TooMany
+        → PassesCount (joined_counts left.0 left.1 right.1) }
 {
     let alloc = left.allocator();
     let (orders, left) = left.into_parts();
@@ -56,16 +55,15 @@ fn merge_lists(
 ) -> Result<Vec<HeldEntry>, MergeError>
     requires ascending { IsStrictlySortedBy (tuple_order orders.now) (keys_of left.items) }
     requires other_ascending { IsStrictlySortedBy (tuple_order orders.now) (keys_of right.items) }
-    requires plain { All (λ e. IsPlain e.1) left.items }
-    requires other_plain { All (λ e. IsPlain e.1) right.items }
+    requires plain { ArePlain left.items }
+    requires other_plain { ArePlain right.items }
     ensures counts { IfOk result (λ whole. counts_of whole.items
-        ≡ merged (tuple_order orders.now) (counts_of left.items) (counts_of right.items)) }
-    ensures plain { IfOk result (λ whole. All (λ e. IsPlain e.1) whole.items) }
-    ensures few { OnOk result (¬ (PassesCount
-        (merged (tuple_order orders.now) (counts_of left.items) (counts_of right.items)))) }
+        ≡ joined_counts orders.now left.items right.items) }
+    ensures plain { IfOk result (λ whole. ArePlain whole.items) }
+    ensures few { OnOk result (¬ (PassesCount (joined_counts orders.now left.items right.items))) }
     ensures mismatch { ¬ (IsErrOf result MergeError.Mismatch) }
-    ensures too_many { IsErrOf result MergeError.TooMany → PassesCount
-        (merged (tuple_order orders.now) (counts_of left.items) (counts_of right.items)) }
+    ensures too_many { IsErrOf result MergeError.TooMany
+        → PassesCount (joined_counts orders.now left.items right.items) }
 {
     if is_below(orders, &left, &right) {
         return Ok(joined(left, right)?);
@@ -138,16 +136,15 @@ fn merge_ascending(
     mut right: VecDeque<HeldEntry>,
 ) -> Result<Vec<HeldEntry>, MergeError>
     requires ascending { IsStrictlySortedBy (tuple_order orders.now) (keys_of right.items) }
-    requires plain { All (λ e. IsPlain e.1) left.items }
-    requires other_plain { All (λ e. IsPlain e.1) right.items }
+    requires plain { ArePlain left.items }
+    requires other_plain { ArePlain right.items }
     ensures counts { IfOk result (λ whole. counts_of whole.items
-        ≡ merged (tuple_order orders.now) (counts_of left.items) (counts_of right.items)) }
-    ensures plain { IfOk result (λ whole. All (λ e. IsPlain e.1) whole.items) }
-    ensures few { OnOk result (¬ (PassesCount
-        (merged (tuple_order orders.now) (counts_of left.items) (counts_of right.items)))) }
+        ≡ joined_counts orders.now left.items right.items) }
+    ensures plain { IfOk result (λ whole. ArePlain whole.items) }
+    ensures few { OnOk result (¬ (PassesCount (joined_counts orders.now left.items right.items))) }
     ensures mismatch { ¬ (IsErrOf result MergeError.Mismatch) }
-    ensures too_many { IsErrOf result MergeError.TooMany → PassesCount
-        (merged (tuple_order orders.now) (counts_of left.items) (counts_of right.items)) }
+    ensures too_many { IsErrOf result MergeError.TooMany
+        → PassesCount (joined_counts orders.now left.items right.items) }
 {
     let mut whole = with_room(alloc, left.len().saturating_add(right.len()))?;
     while let Some(order) = order_of_first(orders, &left, &right) {
@@ -212,8 +209,8 @@ fn move_both(
     right: &mut VecDeque<HeldEntry>,
     whole: &mut Vec<HeldEntry>,
 ) -> Result<(), MergeError>
-    requires plain { All (λ e. IsPlain e.1) left.now.items }
-    requires other_plain { All (λ e. IsPlain e.1) right.now.items }
+    requires plain { ArePlain left.now.items }
+    requires other_plain { ArePlain right.now.items }
     ensures ok { OnOk result ((e : TupleEntry) (f : TupleEntry) (es : Entries) (fs : Entries)
         → left.old.items ≡ e ∷ es
         → right.old.items ≡ f ∷ fs

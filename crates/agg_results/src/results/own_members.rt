@@ -1,9 +1,8 @@
 //! The members of a bucket's object beside its sub-results.
-ghost use Rattle.std.specs.Prelude.{◌≡◌, ◌++◌, [], Some, OnOk, codes, decimal, option_map};
-ghost use Rattle.std.specs.Prelude.{string_bytes};
+ghost use Rattle.std.specs.Prelude.{◌≡◌, [], OnOk, option_map, string_bytes};
 ghost use Rattle.agg_results.specs.Appending.{AppendsMembers, above, below};
 ghost use Rattle.agg_results.specs.OwnMembers.{member_of, own_members};
-ghost use Rattle.agg_results.specs.ResultsText.{object_text, shown_key_text};
+ghost use Rattle.agg_results.specs.ResultsText.{plain_members};
 
 use super::CompositeBucketEntry;
 use super::json_text::{JsonText, write_comma, write_name};
@@ -31,9 +30,7 @@ impl<'a> OwnMembers<'a> {
 
     /// Those of a bucket.
     pub fn of(bucket: &'a CompositeBucketEntry) -> OwnMembers<'a>
-        ensures { own_members result
-            ≡ member_of (codes "doc_count") decimal (Some bucket.now.doc_count)
-            ++ member_of (codes "key") (object_text shown_key_text) (Some bucket.now.key) }
+        ensures { own_members result ≡ plain_members bucket.now.doc_count bucket.now.key }
     {
         OwnMembers {
             doc_count: Some(&bucket.doc_count),

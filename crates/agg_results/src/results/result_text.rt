@@ -1,14 +1,13 @@
 //! Texts of results as JSON, down to their sub-results.
-ghost use Rattle.std.specs.Prelude.{◌≡◌, [], ◌∷◌, ◌++◌, map, codes, decimal, string_bytes, OnOk};
+ghost use Rattle.std.specs.Prelude.{◌≡◌, ◌++◌, map, string_bytes, OnOk};
 ghost use Rattle.std.specs.List.Sorted.{IsStrictlySortedBy};
 ghost use Rattle.std.specs.Map.{keys_of};
 ghost use Rattle.agg_values.specs.Names.{name_cmp};
 ghost use Rattle.agg_results.specs.Appending.{after_key_member};
 ghost use Rattle.agg_results.specs.OwnMembers.{own_members};
-ghost use Rattle.agg_results.specs.ResultsText.{braced, bracketed, bucket_result_text, bucket_text};
-ghost use Rattle.agg_results.specs.ResultsText.{composite_members, member_text, members_text};
-ghost use Rattle.agg_results.specs.ResultsText.{object_text, put_all, result_text, results_members};
-ghost use Rattle.agg_results.specs.ResultsText.{shown_key_text};
+ghost use Rattle.agg_results.specs.ResultsText.{bracketed, bucket_result_text, bucket_text};
+ghost use Rattle.agg_results.specs.ResultsText.{composite_members, members_text, plain_members};
+ghost use Rattle.agg_results.specs.ResultsText.{put_all, result_text, results_members};
 
 use super::json_text::{JsonText, write_comma, write_name};
 use super::own_members::OwnMembers;
@@ -135,10 +134,8 @@ fn write_plain_bucket(
     bucket: &CompositeBucketEntry,
 ) -> Result<(), OutOfMemory>
     ensures { OnOk result
-        (string_bytes text.new ≡ string_bytes text.old ++ braced (
-        member_text (codes "doc_count") (decimal bucket.now.doc_count)
-        ∷ member_text (codes "key") (object_text shown_key_text bucket.now.key)
-        ∷ [])) }
+        (string_bytes text.new ≡ string_bytes text.old
+        ++ members_text (plain_members bucket.now.doc_count bucket.now.key)) }
 {
     text.push_str("{\"doc_count\":")?;
     bucket.doc_count.write_to(alloc, text)?;

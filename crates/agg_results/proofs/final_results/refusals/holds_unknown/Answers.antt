@@ -1,7 +1,8 @@
 use Rattle.std.proofs.Common.{inl, inr, subst, ◌∙◌}
+use Rattle.agg_results.specs.Final.{IsUnknown}
+use Rattle.agg_results.specs.Intermediate.{HasSubResults}
 use Rattle.agg_results.proofs.LeftOver.{IsLeft-all, IsLeft-found, IsLeft-more, IsLeft-none}
-use Rattle.agg_results.proofs.Refusals.{HasSubResults, IsUnknown, IsUnknown-not, none_found}
-use Rattle.agg_results.proofs.Refusals.{some_found}
+use Rattle.agg_results.proofs.Refusals.{IsUnknown-not, none_found, some_found}
 use Rattle.agg_results.proofs.final_results.refusals.holds_unknown.Goals as goal
 use goal.{then-is_none-via-then-is_none, then-is_none-via-else-is_none+then-has_sub_results}
 

@@ -1,5 +1,5 @@
+use Rattle.agg_results.specs.Final.{IsUnknown}
 use Rattle.agg_results.proofs.LeftOver.{IsLeft}
-use Rattle.agg_results.proofs.Refusals.{IsUnknown}
 use Rattle.agg_results.proofs.final_results.refusals.holds_unknown.Given as goal
 
 -- no name so far is unknown

@@ -1,5 +1,5 @@
 use Rattle.std.proofs.Common.{◌≡◌, take}
-use Rattle.agg_results.proofs.EmptyPages.{empty_page}
+use Rattle.agg_results.specs.Empty.{empty_page}
 use Rattle.agg_results.proofs.intermediate.empty.empty_composite.Given as goal
 
 -- the page has the orders of the sources so far
