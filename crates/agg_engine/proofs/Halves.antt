@@ -25,11 +25,8 @@ use held.{IntermediateAggregationResults}
 use Rattle.agg_results.proofs.StandingResults.{StandsFor-alike, StandsFor-few, StandsFor-joined}
 use Rattle.agg_request.proofs.RequestTrees.{agg-made}
 use Rattle.agg_engine.specs.PageAnswers.{AnswersHeld, asked}
+use Rattle.agg_engine.specs.Walk.{matching_in}
 use Rattle.agg_engine.proofs.OneRequest.{at_size, going_on}
-
--- the documents of segments that match
-abbrev pub matching_in : QueryTree → List Stored → List Fields
-matching_in query segments = filter (matches query) (flat_map documents_of segments)
 
 -- those of two lists of segments
 pub matching-append : (query : QueryTree) (first second : List Stored)

@@ -1,6 +1,6 @@
 -- The last tuple of a full page, and the after key that is shown for it.
-use Rattle.std.proofs.Common.{◌≡◌, ◌≢◌, ◌≤◌, ◌==◌, ℕ, List, [], ◌∷◌, Bool, true, false, cond}
-use Rattle.std.proofs.Common.{Option, None, Some, length, map, refl, subst, arith, Ordering}
+use Rattle.std.proofs.Common.{◌≡◌, ◌≢◌, ◌==◌, ℕ, List, [], ◌∷◌, Bool, true, false, cond}
+use Rattle.std.proofs.Common.{Option, None, Some, length, map, refl, subst, Ordering}
 use Rattle.std.proofs.Common.{Less, Equal, Greater, rules}
 use Rattle.std.specs.Prelude.{MatchOption, Contains, ⊤, unwrap_or}
 use Rattle.std.specs.Option.{is_some}
@@ -24,7 +24,7 @@ use Rattle.agg_results.specs.ShownResults.{shown_after, shown_page}
 use Rattle.agg_results.specs.declared.results.types.AggregationResult as result
 use result.{the_lemmas}
 use Rattle.agg_results.specs.declared.results.types.CompositeBucketEntry.{CompositeBucketEntry}
-use Rattle.agg_engine.specs.PageAnswers.{shown_after_of}
+use Rattle.agg_engine.specs.PageAnswers.{IsShown, shown_after_of}
 use Rattle.agg_engine.proofs.OneRequest.{value-own}
 
 -- ---- the last tuple occurs
@@ -76,10 +76,10 @@ put-some name value (e ∷ named) none = by (name_cmp name e.0) none
 HasKey : Sources → KeyTuple → Type 0
 HasKey sources tuple = after_map sources tuple ≢ []
 
-occurrences-key : (sources : Sources) (document : Fields) → 1 ≤ length sources
+occurrences-key : (sources : Sources) (document : Fields) → sources ≢ []
     → AllByRecursion (HasKey sources) (occurrences sources document)
 unfolding HasKey
-occurrences-key [] document some = absurd (omega arith)
+occurrences-key [] document some = absurd (some refl)
 occurrences-key (source ∷ sources) document some =
     AllByRecursion-flat_map (HasKey (source ∷ sources))
     (λ k. map (λ t. k ∷ t) (occurrences sources document)) (source_values source document)
@@ -95,7 +95,7 @@ occurrences-key (source ∷ sources) document some =
 
 -- of a tuple of some sources that occurs
 pub after_map-some : (sources : Sources) (documents : List Fields) (tuple : KeyTuple)
-    → 1 ≤ length sources → Contains (occurrences_in sources documents) tuple
+    → sources ≢ [] → Contains (occurrences_in sources documents) tuple
     → after_map sources tuple ≢ []
 unfolding HasKey
 after_map-some sources documents tuple some occurs =
@@ -114,10 +114,6 @@ pub shown_after-page : (name : List ℕ) (sources : Sources) (entries : List Com
     ≡ shown_after sources last
 shown_after-page name sources entries last =
     rw (value-own name (shown_page sources entries last)) (search (rules, the_lemmas))
-
--- whether there is a next after key, and that it is the one that is shown
-abbrev pub IsShown : Option (Named AfterKey) → Named AfterKey → Type 0
-IsShown next shown = MatchOption next (shown ≡ []) (λ after. (after ≡ shown) × (after ≢ []))
 
 -- where none is shown there is no last tuple
 pub shown-none : (sources : Sources) (next : Option (Named AfterKey)) (last : Option KeyTuple)

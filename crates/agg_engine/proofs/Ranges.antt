@@ -25,7 +25,8 @@ use Rattle.agg_request.specs.declared.aggregation.CompositeAggregation.{Composit
 use Rattle.agg_engine.specs.PageAnswers.{IsStartRefusal}
 use Rattle.agg_engine.specs.declared.walk.error.WalkError.{WalkError}
 use Rattle.agg_engine.specs.declared.walk.error.WalkError.TheVariants as error
-use Rattle.agg_engine.proofs.Halves.{matching-append, matching-parts, matching_in}
+use Rattle.agg_engine.specs.Walk.{matching_in}
+use Rattle.agg_engine.proofs.Halves.{matching-append, matching-parts}
 
 -- what a source reads in a document
 abbrev Values : Fields → CompositeAggregationSource → Type 0

@@ -15,7 +15,7 @@ use Rattle.agg_request.specs.Request.{Request}
 use Rattle.agg_request.specs.declared.aggregation.CompositeAggregation.{CompositeAggregation}
 use Rattle.agg_engine.specs.NamedComposite.{IsCompositeNamed}
 use Rattle.agg_engine.specs.Snapshot.{SnapshotDocuments, snapshot_documents, snapshots_documents}
-use Rattle.agg_engine.specs.Walk.{HaveRoom, MayBeAsked, matching_documents}
+use Rattle.agg_engine.specs.Walk.{HaveRoom, MayBeAsked, matching_documents, matching_in}
 use Rattle.agg_engine.specs.declared.walk.Snapshot.{Snapshot}
 
 -- every page has room
@@ -61,8 +61,7 @@ module _ (snapshots items : List Snapshot) (same : items ≡ snapshots) where
 -- the documents of a snapshot that match are those of its segments
 pub matching_documents-segments : (query : QueryTree) (snapshot : Snapshot)
     (segments : List Stored) → segments ≡ snapshot.segments
-    → filter (matches query) (flat_map documents_of segments)
-    ≡ matching_documents query (snapshot_documents snapshot)
+    → matching_in query segments ≡ matching_documents query (snapshot_documents snapshot)
 matching_documents-segments query snapshot segments same =
     ap (filter (matches query))
     (ap (flat_map documents_of) same

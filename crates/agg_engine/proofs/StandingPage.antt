@@ -26,7 +26,7 @@ use Rattle.agg_results.specs.declared.intermediate.results.IntermediateAggregati
 use held.{IntermediateAggregationResults}
 use Rattle.agg_results.proofs.StandingComposites.{counts-plain, entries-plain, stands-made}
 use Rattle.agg_request.proofs.RequestTrees.{agg-made}
-use Rattle.agg_engine.specs.PageAnswers.{AnswersHeld, IsHeldRefusal, asked}
+use Rattle.agg_engine.specs.PageAnswers.{AnswersHeld, IsHeldRefusal, asked, page_held}
 use Rattle.agg_engine.specs.declared.walk.error.WalkError.{WalkError}
 use Rattle.agg_engine.specs.declared.walk.error.WalkError.TheVariants.{OutOfMemory}
 use Rattle.agg_engine.proofs.OneRequest.{at_size, going_on, value-own}
@@ -34,10 +34,8 @@ use Rattle.agg_engine.proofs.OneRequest.{at_size, going_on, value-own}
 module _ (name : List ℕ) (composite : CompositeAggregation) (size : ℕ) (after : Named AfterKey)
     (documents : List Fields) where
   -- the page of these groups, under the name
-  abbrev pub page_held : List Group → Held
-  page_held groups =
-      (name, as_result (composite_of (rules_of composite.sources) size (plain_entries groups)))
-      ∷ []
+  abbrev page_of : List Group → Held
+  page_of = page_held name composite size
 
   -- what the groups of a page stand for
   abbrev pub Stand : List Group → Type 0
@@ -52,17 +50,17 @@ module _ (name : List ℕ) (composite : CompositeAggregation) (size : ℕ) (afte
         (subst Stand (sym (counts-plain groups)) stand) (entries-plain groups)
 
     -- it stands for the documents
-    pub page-stands : StandsFor (asked name composite size after) documents (page_held groups)
+    pub page-stands : StandsFor (asked name composite size after) documents (page_of groups)
     page-stands =
         let own = at_size size (going_on after composite) in
         let result = as_result (composite_of (rules_of composite.sources) size
         (plain_entries groups)) in
         record {
           each = All-from_recursion (λ (a : List ℕ × Aggregation ⊤).
-              ResultStandsFor (agg_of a.1) documents (value_of a.0 (page_held groups)))
+              ResultStandsFor (agg_of a.1) documents (value_of a.0 (page_of groups)))
               (asked name composite size after) (
                 subst (λ (agg : AggregationVariants ⊤).
-                    ResultStandsFor agg documents (value_of name (page_held groups)))
+                    ResultStandsFor agg documents (value_of name (page_of groups)))
                     (sym (agg-made (Composite own) []))
                     (subst (ResultStandsFor {B = ⊤} (Composite own) documents)
                     (sym (value-own name result)) composite-stands),
@@ -74,12 +72,12 @@ module _ (name : List ℕ) (composite : CompositeAggregation) (size : ℕ) (afte
 
     -- it has no sub-results
     pub flat-page : (result : Result IntermediateAggregationResults WalkError)
-        → IfOk result (λ held. held.results ≡ page_held groups)
+        → IfOk result (λ held. held.results ≡ page_of groups)
         → IfOk result (λ held. AreFlat held.results)
     flat-page result is =
-        IfOk-weaker result (λ held. held.results ≡ page_held groups) (λ held. AreFlat held.results)
+        IfOk-weaker result (λ held. held.results ≡ page_of groups) (λ held. AreFlat held.results)
         (λ held e. subst AreFlat (sym e)
-        (All-from_recursion (λ r. IsFlat (held_composite r.1)) (page_held groups)
+        (All-from_recursion (λ r. IsFlat (held_composite r.1)) (page_of groups)
         (composite-stands.flat, tt))) is
 
   -- ---- what a call answers
@@ -105,7 +103,7 @@ module _ (name : List ℕ) (composite : CompositeAggregation) (size : ℕ) (afte
     pub answers-page : (groups : List Group) → Stand groups
         → counted_now ≡ counted + length (counted_by composite documents)
         → counted_now < 2 ^ 32 → (result : Result IntermediateAggregationResults WalkError)
-        → IfOk result (λ held. held.results ≡ page_held groups)
+        → IfOk result (λ held. held.results ≡ page_of groups)
         → IfErr result (λ error. error ≡ OutOfMemory) → Answers result
     answers-page groups stand counted_is few (Ok held) is err = record {
       held = subst (StandsFor (asked name composite size after) documents) (sym is)

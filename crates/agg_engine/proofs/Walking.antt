@@ -1,6 +1,6 @@
 -- The loop over the snapshots, for a request of one composite.
 use Rattle.std.proofs.Common.{◌≡◌, ◌≢◌, ◌≤◌, ◌<◌, ℕ, List, [], ◌∷◌, ◌++◌, true, false, Option}
-use Rattle.std.proofs.Common.{None, Some, ◌+◌, get_or, length, map, drop, refl, sym, ap, ◌∙◌, subst}
+use Rattle.std.proofs.Common.{None, Some, ◌+◌, get_or, length, map, drop, sym, ap, ◌∙◌, subst}
 use Rattle.std.proofs.Common.{arith, Ok}
 use Rattle.std.specs.List.{All}
 use Rattle.std.specs.Option.{is_some}
@@ -33,9 +33,8 @@ use Rattle.agg_results.specs.declared.results.types.AggregationResults.{Aggregat
 use Rattle.agg_request.proofs.RequestTrees.{made-of_parts}
 use Rattle.agg_engine.specs.Form.{IsOneComposite}
 use Rattle.agg_engine.specs.NamedComposite.{IsCompositeNamed}
-use Rattle.agg_engine.specs.PageAnswers.{AnswersHeld, AreFew, IsFinalRefusal, IsHeldRefusal, asked}
-use Rattle.agg_engine.specs.PageAnswers.{IsStartRefusal}
-use Rattle.agg_engine.specs.PageAnswers.{shown_after_of}
+use Rattle.agg_engine.specs.PageAnswers.{AnswersHeld, HasFewSources, IsFinalRefusal, IsHeldRefusal}
+use Rattle.agg_engine.specs.PageAnswers.{IsShown, IsStartRefusal, asked, shown_after_of}
 use Rattle.agg_engine.specs.Refusals.{HasCause, IsRefused}
 use Rattle.agg_engine.specs.Snapshot.{SnapshotDocuments, snapshot_documents, snapshots_documents}
 use Rattle.agg_engine.specs.Walk.{IsWalk, MayBeAsked, matching_documents}
@@ -45,7 +44,7 @@ use Rattle.agg_engine.specs.declared.walk.error.WalkError.TheVariants as error
 use Rattle.agg_engine.proofs.AfterKeys.{HasNoNull, MayGoOnFrom-own}
 use Rattle.agg_engine.proofs.HeldHere.{held-alike, held-buckets, held-final, held-known, page_here}
 use Rattle.agg_engine.proofs.OneRequest.{named-one, one, sound-one}
-use Rattle.agg_engine.proofs.PageBound.{IsShown, after-occurs, after_map-some, shown-none}
+use Rattle.agg_engine.proofs.PageBound.{after-occurs, after_map-some, shown-none}
 use Rattle.agg_engine.proofs.PageBound.{shown-some, shown_after-page}
 use Rattle.agg_engine.proofs.PageHere.{AreRefusedHere, HasOwnTooMany, IsPageHere, refused-buckets}
 use Rattle.agg_engine.proofs.PageHere.{refused-out_of_range, refused-too_many, result_of}
@@ -85,13 +84,10 @@ walking-start {B = B} limit name query request snapshots composite
     }
 
 -- a sound composite has as many sources as it may have
-pub AreFew-sound : (composite : CompositeAggregation) → IsSound composite → AreFew composite.sources
-AreFew-sound composite sound =
-    record { some = not_none composite.sources sound.some; few = sound.few }
-  where
-    not_none : {X : Type 0} (xs : List X) → xs ≢ [] → 1 ≤ length xs
-    not_none [] some = absurd (some refl)
-    not_none (x ∷ xs) some = omega arith
+pub HasFewSources-sound : (composite : CompositeAggregation) → IsSound composite
+    → HasFewSources composite
+HasFewSources-sound composite sound =
+    record { some = sound.some; few = λ many. omega (arith, sound.few, many) }
 
 -- what is held of a snapshot
 pub record IsHeldHere (name : List ℕ) (query : QueryTree) (composite : CompositeAggregation)
@@ -244,7 +240,7 @@ module _ {B : Type 0} {limit : ℕ} {name : List ℕ} {query : QueryTree} {reque
           → after_map composite.sources tuple ≢ []
       some_key tuple last =
           after_map-some composite.sources (matching_documents query s) tuple
-          (AreFew-sound composite w.sound).some
+          w.sound.some
           (after-occurs composite.sources s.page_size (bound_of composite.sources after)
           (matching_documents query s) page tuple is_page last)
 

@@ -1,20 +1,21 @@
 -- What calls answer of a page.
-use Rattle.std.specs.Prelude.{◌≡◌, ◌≤◌, ◌<◌, ◌+◌, ◌^◌, ℕ, List, [], ◌∷◌, Option, None, Some}
-use Rattle.std.specs.Prelude.{Result, All, IfErr, IfOk, OnOk, length, ⊤}
+use Rattle.std.specs.Prelude.{◌≡◌, ◌≢◌, ◌≤◌, ◌<◌, ◌+◌, ◌^◌, ℕ, List, [], ◌∷◌, Option, None, Some}
+use Rattle.std.specs.Prelude.{Result, All, IfErr, IfOk, MatchOption, OnOk, length, ⊤}
 use Rattle.agg_values.specs.Names.{Named, value_of}
 use Rattle.agg_values.specs.declared.after_key.AfterKey.{AfterKey}
+use Rattle.agg_values.specs.declared.error.InvalidArgument.TheVariants.{NoSource, TooManySources}
 use Rattle.agg_segment.specs.Document.{Fields}
-use Rattle.agg_request.specs.Faults.{max_sources}
-use Rattle.agg_request.specs.Source.{Sources}
+use Rattle.agg_request.specs.Faults.{HasFault}
+use Rattle.agg_request.specs.Groups.{Group}
 use Rattle.agg_request.specs.declared.aggregation.CompositeAggregation.{CompositeAggregation}
 use Rattle.agg_request.specs.declared.aggregation.AggregationVariants.TheVariants.{Composite}
 use Rattle.agg_request.specs.Ranges.{HasOwnStartOutOfRange}
 use Rattle.agg_request.specs.Request.{Request, aggregation_of}
 use Rattle.agg_request.specs.Uncut.{counted as counted_by}
-use Rattle.agg_request.specs.Source.{after_of}
+use Rattle.agg_request.specs.Source.{Sources, after_of, rules_of}
 use Rattle.agg_composite.specs.Accessors.{HasAccessors}
 use Rattle.agg_results.specs.Final.{TellsTooMany}
-use Rattle.agg_results.specs.Intermediate.{Held}
+use Rattle.agg_results.specs.Intermediate.{Held, as_result, composite_of, plain_entries}
 use Rattle.agg_results.specs.StandsFor.{StandsFor}
 use Rattle.agg_results.specs.declared.intermediate.results.IntermediateAggregationResults as held
 use held.{IntermediateAggregationResults}
@@ -29,10 +30,10 @@ use Rattle.agg_engine.specs.declared.walk.error.WalkError.{WalkError}
 use Rattle.agg_engine.specs.declared.walk.error.WalkError.TheVariants.{Aggregation, OutOfMemory}
 use Rattle.agg_engine.specs.declared.walk.error.WalkError.TheVariants.{BucketOutOfRange, TooMany}
 
--- as many sources as a composite may have
-pub record AreFew (sources : Sources) : Type 0 where
-  pub some : 1 ≤ length sources
-  pub few : length sources ≤ max_sources
+-- a composite has sources, and no more than it may have
+pub record HasFewSources (composite : CompositeAggregation) : Type 0 where
+  pub some : ¬ (HasFault composite NoSource)
+  pub few : ¬ (HasFault composite TooManySources)
 
 -- each source has accessors for its value in an after key: it has what it divides values by, and
 -- the value is one of its keys, Null only where that has a bucket
@@ -67,6 +68,11 @@ asked_with B name composite size after = (
 abbrev pub asked : List ℕ → CompositeAggregation → ℕ → Named AfterKey → Request ⊤
 asked = asked_with ⊤
 
+-- the page of these groups, as it is held under a name
+abbrev pub page_held : List ℕ → CompositeAggregation → ℕ → List Group → Held
+page_held name composite size groups =
+    (name, as_result (composite_of (rules_of composite.sources) size (plain_entries groups))) ∷ []
+
 -- what a call for the results of a composite over documents answers, where so many documents were
 -- counted before: an Ok has results that stand for the documents, and has counted these too, and
 -- they are not too many with those before; each other answer has its cause
@@ -91,6 +97,10 @@ shown_after_of name results = after_shown (value_of name results.0)
     after_shown : Option AggregationResult → Named AfterKey
     after_shown None = []
     after_shown (Some (kind.BucketResult buckets)) = of_buckets (out-BucketResult buckets)
+
+-- whether there is a next after key, and that it is the one that is shown
+abbrev pub IsShown : Option (Named AfterKey) → Named AfterKey → Type 0
+IsShown next shown = MatchOption next (shown ≡ []) (λ after. (after ≡ shown) × (after ≢ []))
 
 -- why held results have no final ones: these have more buckets than the limit; want of memory needs
 -- no cause

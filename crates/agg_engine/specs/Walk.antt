@@ -9,6 +9,7 @@ use Rattle.agg_values.specs.declared.error.InvalidArgument.{InvalidArgument}
 use Rattle.agg_values.specs.declared.error.InvalidArgument.TheVariants.{ZeroSize}
 use Rattle.agg_segment.specs.Document.{Fields}
 use Rattle.agg_segment.specs.Query.{matches}
+use Rattle.agg_segment.specs.Segment.{Stored, documents_of}
 use Rattle.agg_segment.specs.declared.query.QueryTree.{QueryTree}
 use Rattle.agg_request.specs.declared.aggregation.Aggregation.{Aggregation}
 use Rattle.agg_request.specs.declared.aggregation.AggregationVariants.{AggregationVariants}
@@ -25,6 +26,10 @@ use Rattle.agg_engine.specs.Snapshot.{SnapshotDocuments}
 -- the documents of a snapshot: those of its segments, joined
 abbrev pub documents_in : SnapshotDocuments → List Fields
 documents_in snapshot = flat_map (λ documents. documents) snapshot.segments
+
+-- the documents of segments that a query matches
+abbrev pub matching_in : QueryTree → List Stored → List Fields
+matching_in query segments = filter (matches query) (flat_map documents_of segments)
 
 -- the documents of a snapshot that a query matches
 abbrev pub matching_documents : QueryTree → SnapshotDocuments → List Fields

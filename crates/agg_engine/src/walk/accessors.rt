@@ -1,8 +1,7 @@
 //! The accessors of the sources of a composite.
 ghost use Rattle.std.specs.Prelude.{◌≡◌, option_map, IfErr, IfOk};
-ghost use Rattle.std.specs.List.{AllZip};
 ghost use Rattle.agg_request.specs.Source.{after_of};
-ghost use Rattle.agg_composite.specs.Accessors.{AreAccessorsOf};
+ghost use Rattle.agg_composite.specs.Accessors.{AllFit};
 ghost use Rattle.agg_engine.specs.PageAnswers.{MayGoOnFrom};
 ghost use Rattle.agg_engine.specs.declared.walk.error.WalkError.TheVariants.{OutOfMemory};
 
@@ -21,9 +20,7 @@ pub fn accessors_for<'s>(
     after: &NameMap<AfterKey>,
 ) -> Result<ItemList<CompositeSourceAccessors<'s>>, WalkError>
     requires after { MayGoOnFrom sources.now after.now }
-    ensures ok { IfOk result (AllZip
-        (λ source a. AreAccessorsOf segment.now source (after_of after.now source) a)
-        sources.now) }
+    ensures ok { IfOk result (AllFit segment.now after.now sources.now) }
     ensures err { IfErr result (λ error. error ≡ OutOfMemory) }
 {
     let mut accessors = ItemList::new(alloc);

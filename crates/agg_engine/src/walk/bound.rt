@@ -1,6 +1,6 @@
 //! Where the next page begins.
-ghost use Rattle.std.specs.Prelude.{◌≡◌, ◌≢◌, [], IfOk, MatchOption, unwrap_or};
-ghost use Rattle.agg_engine.specs.PageAnswers.{shown_after_of};
+ghost use Rattle.std.specs.Prelude.{◌≡◌, IfOk, unwrap_or};
+ghost use Rattle.agg_engine.specs.PageAnswers.{IsShown, shown_after_of};
 
 use agg_results::{AggregationResult, AggregationResults, BucketResult};
 use agg_values::{AfterKey, NameMap, OutOfMemory, Text};
@@ -25,9 +25,7 @@ pub fn next_after(
     results: &AggregationResults,
     name: &Text,
 ) -> Result<Option<NameMap<AfterKey>>, OutOfMemory>
-    ensures { IfOk result (λ next. MatchOption next
-        (shown_after_of name.now results.now ≡ [])
-        (λ after. (after ≡ shown_after_of name.now results.now) × (after ≢ []))) }
+    ensures { IfOk result (λ next. IsShown next (shown_after_of name.now results.now)) }
 {
     let Some(AggregationResult::BucketResult(BucketResult::Composite { after_key, .. })) = results
         .0

@@ -6,8 +6,8 @@ ghost use Rattle.agg_values.specs.KeyOrder.{tuple_order};
 ghost use Rattle.agg_request.specs.Source.{rules_of};
 ghost use Rattle.agg_composite.specs.PageEntries.{entry_group};
 ghost use Rattle.agg_results.specs.Empty.{empty_page};
-ghost use Rattle.agg_results.specs.Intermediate.{IsFlat, as_result, composite_of};
-ghost use Rattle.agg_results.specs.Intermediate.{plain_entries};
+ghost use Rattle.agg_results.specs.Intermediate.{IsFlat, as_result};
+ghost use Rattle.agg_engine.specs.PageAnswers.{page_held};
 ghost use Rattle.agg_engine.specs.declared.walk.error.WalkError.TheVariants.{OutOfMemory};
 
 use super::WalkError;
@@ -30,11 +30,9 @@ pub fn held_page(
     requires room { page.now.size ≢ 0 }
     requires ascending { IsStrictlySortedBy (tuple_order (rules_of page.now.composite.now.sources))
         (keys_of (map entry_group entries)) }
-    ensures held { IfOk result (λ held. held.results ≡ (
-      page.now.name.now,
-      as_result (composite_of (rules_of page.now.composite.now.sources) page.now.size
-          (plain_entries (map entry_group entries))),
-    ) ∷ []) }
+    ensures held { IfOk result (λ held. held.results
+        ≡ page_held page.now.name.now page.now.composite.now page.now.size
+        (map entry_group entries)) }
     ensures err { IfErr result (λ error. error ≡ OutOfMemory) }
 {
     let mut buckets = with_orders(alloc, page.composite.sources.as_slice(), page.size)?;

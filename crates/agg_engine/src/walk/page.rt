@@ -1,11 +1,9 @@
 //! What the segments of a snapshot hold for a page.
-ghost use Rattle.std.specs.Prelude.{◌≢◌, ◌≤◌, ◌<◌, ◌^◌, All, IfOk, filter};
-ghost use Rattle.std.specs.List.{flat_map};
-ghost use Rattle.agg_segment.specs.Segment.{documents_of};
-ghost use Rattle.agg_segment.specs.Query.{matches};
+ghost use Rattle.std.specs.Prelude.{◌≢◌, ◌≤◌, ◌<◌, ◌^◌, All, IfOk};
 ghost use Rattle.agg_request.specs.Ranges.{AreInRange};
 ghost use Rattle.agg_results.specs.Intermediate.{AreFlat};
-ghost use Rattle.agg_engine.specs.PageAnswers.{AnswersHeld, AreFew, MayGoOnFrom};
+ghost use Rattle.agg_engine.specs.PageAnswers.{AnswersHeld, HasFewSources, MayGoOnFrom};
+ghost use Rattle.agg_engine.specs.Walk.{matching_in};
 
 use super::WalkError;
 use super::held::want_of_memory;
@@ -38,15 +36,15 @@ pub fn segments_results<L: Ledger>(
     counted: &mut u64,
     steps: &mut Steps<L>,
 ) -> Result<IntermediateAggregationResults, WalkError>
-    requires sources { AreFew page.now.composite.now.sources }
+    requires sources { HasFewSources page.now.composite.now }
     requires after { MayGoOnFrom page.now.composite.now.sources page.now.after.now }
     requires room { page.now.size ≢ 0 }
     requires few { counted.now < 2 ^ 32 }
     requires range { All (AreInRange page.now.composite.now.sources)
-        (filter (matches page.now.query.now) (flat_map documents_of segments.now)) }
+        (matching_in page.now.query.now segments.now) }
     ensures held { AnswersHeld page.now.name.now page.now.composite.now page.now.size
         page.now.after.now
-        (filter (matches page.now.query.now) (flat_map documents_of segments.now))
+        (matching_in page.now.query.now segments.now)
         counted.old counted.new result }
     ensures flat { IfOk result (λ held. AreFlat held.results) }
     ensures later { steps.old ≤ steps.new }

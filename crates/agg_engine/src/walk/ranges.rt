@@ -1,11 +1,11 @@
 //! Whether the starts of buckets lie within 64 bits, which is asked before anything is counted.
 ghost use Rattle.std.specs.Prelude.{◌≡◌, All, IfErr, IsTrue, OnOk, filter};
-ghost use Rattle.std.specs.List.{flat_map};
 ghost use Rattle.agg_segment.specs.Document.{Fields};
 ghost use Rattle.agg_segment.specs.Query.{matches};
 ghost use Rattle.agg_segment.specs.Segment.{documents_of};
 ghost use Rattle.agg_request.specs.Ranges.{AreInRange};
 ghost use Rattle.agg_engine.specs.PageAnswers.{IsStartRefusal, MayGoOnFrom};
+ghost use Rattle.agg_engine.specs.Walk.{matching_in};
 
 use super::WalkError;
 use super::matching::matching_docs;
@@ -23,9 +23,9 @@ pub fn check_starts(
 ) -> Result<(), WalkError>
     requires after { MayGoOnFrom page.now.composite.now.sources page.now.after.now }
     ensures ok { OnOk result (All (AreInRange page.now.composite.now.sources)
-        (filter (matches page.now.query.now) (flat_map documents_of segments.now))) }
+        (matching_in page.now.query.now segments.now)) }
     ensures err { IfErr result (IsStartRefusal page.now.composite.now
-        (filter (matches page.now.query.now) (flat_map documents_of segments.now))) }
+        (matching_in page.now.query.now segments.now)) }
 {
     if !some_source_has_starts(page.composite.sources.as_slice()) {
         return Ok(());

@@ -12,7 +12,8 @@ ghost use Rattle.agg_composite.specs.Accessors.{Fits};
 ghost use Rattle.agg_composite.specs.PageEntries.{entry_group};
 ghost use Rattle.agg_results.specs.Intermediate.{AreFlat};
 ghost use Rattle.agg_results.specs.StandsFor.{GroupsStandFor};
-ghost use Rattle.agg_engine.specs.PageAnswers.{AnswersHeld, AreFew, IsHeldRefusal, MayGoOnFrom};
+ghost use Rattle.agg_engine.specs.PageAnswers.{AnswersHeld, HasFewSources, IsHeldRefusal};
+ghost use Rattle.agg_engine.specs.PageAnswers.{MayGoOnFrom};
 ghost use Rattle.agg_engine.specs.declared.walk.error.WalkError.TheVariants.{OutOfMemory};
 
 use super::WalkError;
@@ -40,7 +41,7 @@ pub fn segment_results<L: Ledger>(
     counted: &mut u64,
     steps: &mut Steps<L>,
 ) -> Result<IntermediateAggregationResults, WalkError>
-    requires sources { AreFew page.now.composite.now.sources }
+    requires sources { HasFewSources page.now.composite.now }
     requires after { MayGoOnFrom page.now.composite.now.sources page.now.after.now }
     requires room { page.now.size ≢ 0 }
     requires range { All (AreInRange page.now.composite.now.sources)
@@ -111,7 +112,7 @@ fn docs_page<L: Ledger>(
     req: &CompositeAggReqData<'_>,
     steps: &mut Steps<L>,
 ) -> Result<ItemList<PageEntry>, WalkError>
-    requires sources { AreFew req.now.req.now.sources }
+    requires sources { HasFewSources req.now.req.now }
     requires fits { (segment : Stored) × (after : Named After) × Fits segment after req.now
         × All (AreInRange req.now.req.now.sources) (documents_at segment docs.now) }
     ensures page { (segment : Stored) (after : Named After)

@@ -6,7 +6,7 @@ use Rattle.agg_engine.specs.PageAnswers.{IsHeldRefusal, IsStartRefusal}
 use Rattle.agg_engine.specs.Refusals.{HasCause}
 use Rattle.agg_engine.specs.Snapshot.{snapshot_documents, snapshots_documents}
 use Rattle.agg_engine.specs.Walk.{MayBeAsked, matching_documents}
-use Rattle.agg_engine.proofs.Halves.{matching_in}
+use Rattle.agg_engine.specs.Walk.{matching_in}
 use Rattle.agg_engine.proofs.HeldRefusals.{caused-by}
 use Rattle.agg_engine.proofs.NoNull.{matching-no_Null}
 use Rattle.agg_engine.proofs.Snapshots.{matching_documents-segments, may_be_asked, no_room-some}

@@ -2,7 +2,7 @@ use Rattle.std.proofs.Common.{Err, ◌/◌, length, ap, arith, rules}
 use Rattle.std.specs.List.{All}
 use Rattle.agg_request.specs.Ranges.{AreInRange}
 use Rattle.agg_engine.proofs.Halves.{halves-alike, halves-few, halves-joined, matching-parts}
-use Rattle.agg_engine.proofs.Halves.{matching_in}
+use Rattle.agg_engine.specs.Walk.{matching_in}
 use Rattle.agg_engine.proofs.Ranges.{ranges-here}
 use Rattle.agg_engine.proofs.HeldPage.{wants_memory}
 use Rattle.agg_engine.proofs.walk.page.+segments_results.Goals as goal

@@ -6,7 +6,7 @@ use Rattle.agg_request.specs.Ranges.{AreInRange}
 use Rattle.agg_request.specs.Uncut.{counted as counted_by}
 use Rattle.agg_request.specs.declared.aggregation.CompositeAggregation.{CompositeAggregation}
 use Rattle.agg_composite.specs.PageEntries.{entry_group}
-use Rattle.agg_engine.specs.PageAnswers.{AreFew, IsHeldRefusal}
+use Rattle.agg_engine.specs.PageAnswers.{HasFewSources, IsHeldRefusal}
 use Rattle.agg_engine.proofs.HeldRefusals.{refusal-later}
 use Rattle.agg_engine.proofs.StandingPage.{Stand, answers-page, answers-refused, flat-page}
 use Rattle.agg_engine.proofs.walk.segment.segment_results.Given as given
@@ -15,8 +15,7 @@ use Rattle.agg_engine.proofs.walk.segment.segment_results.Goals.{In_ok-entries}
 
 pub docs_page-requires-clause-sources : goal.docs_page-requires-clause-sources
 docs_page-requires-clause-sources g c =
-    subst (λ (composite : CompositeAggregation). AreFew composite.sources)
-    (sym c.in_ok-req.ensures.composite) c.requires.sources
+    subst HasFewSources (sym c.in_ok-req.ensures.composite) c.requires.sources
 
 pub docs_page-requires-clause-fits : goal.docs_page-requires-clause-fits
 docs_page-requires-clause-fits g c =
