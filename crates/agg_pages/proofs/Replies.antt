@@ -1,5 +1,5 @@
 -- Replies to inputs, and what bytes and an input say of one another.
-use Rattle.std.proofs.Common.{◌≡◌, ◌≢◌, ◌⊎◌, ℕ, List, Bool, true, false, Option, Some, refl}
+use Rattle.std.proofs.Common.{◌≡◌, ◌≢◌, ℕ, List, Option, Some, refl}
 use Rattle.std.proofs.Common.{subst, inl, inr, All, arith}
 use Rattle.std.specs.List.{Any}
 use Rattle.agg_values.specs.declared.error.InvalidArgument.{InvalidArgument}
@@ -19,14 +19,9 @@ use Rattle.agg_engine.specs.declared.walk.error.WalkError.TheVariants.{Aggregati
 use Rattle.agg_engine.specs.declared.walk.error.WalkError.TheVariants.{BucketOutOfRange}
 use Rattle.agg_engine.proofs.RequestFaults.{no-fault}
 use Rattle.agg_pages.specs.Input.{Input, IsInput}
-use Rattle.agg_pages.specs.Answer.{IsPrintedWalk, IsRefusal, IsReply, IsValid, MayRefuse}
+use Rattle.agg_pages.specs.Answer.{IsRefusal, IsValid, MayRefuse}
 use Rattle.agg_pages.specs.Reading.{GivesAll}
 use Rattle.agg_pages.proofs.Inputs.{IsInput-unique}
-
-pub reply-either : {B : Type 0} (refused : Bool) (i : Input B) (text : List ℕ)
-    → IsReply refused i text → IsPrintedWalk i text ⊎ IsRefusal i text
-reply-either true i text reply = inr reply
-reply-either false i text reply = inl reply
 
 -- ---- nothing refuses a valid input
 

@@ -51,7 +51,7 @@ IsReply false i text = IsPrintedWalk i text
 -- the text is a prefix of an answer to an input
 abbrev pub IsReplyPrefix : {B : Type 0} → Input B → List ℕ → Type 0
 IsReplyPrefix i prefix =
-    (text : List ℕ) × (IsPrintedWalk i text ⊎ IsRefusal i text)
+    (refused : Bool) × (text : List ℕ) × IsReply refused i text
     × ((count : ℕ) × (prefix ≡ take count text))
 
 -- the bytes are no input: all were read, or one past the limit

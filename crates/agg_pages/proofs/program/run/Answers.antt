@@ -1,7 +1,7 @@
 use Rattle.std.proofs.Common.{rules, refl, subst, take, inl, inr, string_bytes, Err, ap}
 use Rattle.agg_pages.specs.Answer.{IsReply}
 use Rattle.agg_pages.proofs.Reading.{no_ok, no_refused, no_usage, no_write_fault}
-use Rattle.agg_pages.proofs.Replies.{given_input, reply-either, valid-not_refused}
+use Rattle.agg_pages.proofs.Replies.{given_input, valid-not_refused}
 use Rattle.agg_pages.proofs.program.run.Goals as goal
 
 pub returns-in-Ok : goal.returns-in-Ok
@@ -41,11 +41,7 @@ returns-in-Ok g c =
             (given, gives, reads),
             (
               take count text,
-              (
-                text,
-                reply-either reply.refused i text replied,
-                (count, refl),
-              ),
+              (reply.refused, text, replied, (count, refl)),
               (written.prefix is).1,
             ),
           );
