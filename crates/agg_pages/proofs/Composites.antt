@@ -139,7 +139,8 @@ numbers-unique a b same intervals = λ i. record {
   missing_order = same.missing_order i;
 }
 
-IsGiven-unique : {A : Type 0} (Is : Data → A → Type 0)
+-- one value is given at most
+pub IsGiven-unique : {A : Type 0} (Is : Data → A → Type 0)
     → ((d : Data) (a b : A) → Is d a → Is d b → a ≡ b) → (o : Option Data) (a b : Option A)
     → IsGiven Is o a → IsGiven Is o b → a ≡ b
 IsGiven-unique Is one None None None h k = refl

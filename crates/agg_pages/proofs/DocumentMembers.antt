@@ -6,7 +6,7 @@ use Rattle.std.proofs.lemmas.Cmp.{nat_list_cmp_total, tied_itself}
 use Rattle.std.proofs.lemmas.List.Elements.{filter-append}
 use Rattle.std.proofs.lemmas.Slice.Eq.{bytes_eq-Decides}
 use Rattle.std.specs.Cmp.Lexicographic.{slice_cmp}
-use Rattle.std.specs.List.{AllByRecursion, AllZip}
+use Rattle.std.specs.List.{AllByRecursion}
 use Rattle.std.specs.List.Sorted.{IsStrictlySortedBy}
 use Rattle.std.specs.Map.{keys_of}
 use Rattle.std.specs.Ordering.{nat_cmp}
@@ -17,8 +17,9 @@ use Rattle.serde_json.specs.declared.value.Value.{Value}
 use Rattle.serde_json.proofs.Views.{Entry, member_here, member_later}
 use Rattle.agg_segment.specs.Document.{Fields, by_class, key_of, meaning, values_in}
 use Rattle.agg_segment.specs.declared.document.FieldValue.{FieldValue}
-use Rattle.agg_pages.specs.DocumentLine.{HasKey, IsDocument, IsField, field_values}
-use Rattle.agg_pages.specs.Fields.{AddsValues, HasNoKeys, named_values}
+use Rattle.agg_pages.specs.DocumentLine.{HaveKeys, IsDocument, IsField, field_values}
+use Rattle.agg_pages.specs.Fields.{AddsValues, named_values}
+use Rattle.agg_pages.specs.Nothing.{NoneIs}
 use Rattle.agg_pages.proofs.Documents.{none_is_some}
 
 -- the values that a document has, in the order in which they were added
@@ -111,7 +112,7 @@ first_ahead all document left name d later h is =
 -- where it has no keys, the object is apart document
 pub HasRead-refused : (all : List Entry) (document : Stored) (left : List Entry)
     (name : String Global) (d : Value) (later : List Entry) → HasRead all document left
-    → left ≡ (name, d) ∷ later → HasNoKeys (field_values (view d)) → (fields : Fields)
+    → left ≡ (name, d) ∷ later → NoneIs (HaveKeys (field_values (view d))) → (fields : Fields)
     → ¬ IsDocument (object (members_view all)) fields
 HasRead-refused all document left name d later h is none fields stands =
     let here = (first_ahead all document left name d later h is).0 in
@@ -122,7 +123,7 @@ HasRead-refused all document left name d later h is none fields stands =
 -- ---- one member more
 
 field_here : (o : Option Data) (d : Data) (values : List FieldValue) → o ≡ Some d
-    → AllZip HasKey (field_values d) (map key_of values) → IsField o (by_class (map key_of values))
+    → HaveKeys (field_values d) (map key_of values) → IsField o (by_class (map key_of values))
 field_here o d values is keys =
     subst (λ m. IsField m (by_class (map key_of values))) (sym is) (map key_of values, keys, refl)
 

@@ -16,6 +16,7 @@ use Rattle.agg_request.specs.Json.{only_member, only_named}
 use Rattle.agg_pages.proofs.Beside.{AllZip-unique}
 use Rattle.agg_pages.specs.DocumentLine.{HasKey, IsAddressKey, IsDocument, IsDocumentLine}
 use Rattle.agg_pages.specs.DocumentLine.{IsField, address_text_of, date_of, field_values, plain_key}
+use Rattle.agg_pages.specs.Nothing.{NoneIs}
 
 pub same_value : {A : Type 0} (a b : A) → Some a ≡ Some b → a ≡ b
 same_value a b e = cc
@@ -94,18 +95,15 @@ HasKey-unique d a b (inr h) (inr k) = IsAddressKey-unique d a b h k
 -- a text that is none of an address
 pub no_address : (d : Data) (text : List ℕ) (found : Option Address) → Some text ≡ address_text_of d
     → ((address : ℕ) → IsAddressText text address → found ≡ Some (record { 0 = address }))
-    → found ≡ None → (k : CompositeIntermediateKey) → ¬ IsAddressKey d k
+    → found ≡ None → NoneIs (IsAddressKey d)
 no_address d text found is each none k (spelled, address, is_too, spells, k_is) =
     let same : spelled ≡ text = same_value spelled text (sym is_too ∙ sym is) in
     none_is_some _ (sym none ∙ each address (subst (λ t. IsAddressText t address) same spells))
 
-pub no_address_text : (d : Data) → None ≡ address_text_of d → (k : CompositeIntermediateKey)
-    → ¬ IsAddressKey d k
+pub no_address_text : (d : Data) → None ≡ address_text_of d → NoneIs (IsAddressKey d)
 no_address_text d none k (spelled, address, is, spells, k_is) = none_is_some spelled (none ∙ is)
 
-pub no_key : (d : Data) → None ≡ plain_key d
-    → ((k : CompositeIntermediateKey) → ¬ IsAddressKey d k)
-    → (k : CompositeIntermediateKey) → ¬ HasKey d k
+pub no_key : (d : Data) → None ≡ plain_key d → NoneIs (IsAddressKey d) → NoneIs (HasKey d)
 no_key d none not_address k (inl plain) = none_is_some k (none ∙ plain)
 no_key d none not_address k (inr address) = not_address k address
 
@@ -130,8 +128,7 @@ IsDocumentLine-unique line document other (d, is, h) (d_too, is_too, k) =
     IsDocument-unique d document other h (subst (λ e. IsDocument e other) same k)
 
 -- a line of a value that is no document
-pub no_document : (line : List ℕ) (d : Data) → read line ≡ Some d
-    → ((document : Fields) → ¬ IsDocument d document)
-    → (document : Fields) → ¬ IsDocumentLine line document
+pub no_document : (line : List ℕ) (d : Data) → read line ≡ Some d → NoneIs (IsDocument d)
+    → NoneIs (IsDocumentLine line)
 no_document line d is none document (found, is_too, stands) =
     none document (subst (λ e. IsDocument e document) (same_value found d (sym is_too ∙ is)) stands)

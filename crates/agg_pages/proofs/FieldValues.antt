@@ -3,7 +3,6 @@ use Rattle.std.proofs.Common.{◌≡◌, ◌<◌, ℕ, ◌+◌, List, [], ◌∷
 use Rattle.std.proofs.Common.{get_or, Bool, true, false, cond, refl, sym, ap, ◌∙◌, subst}
 use Rattle.std.proofs.Common.{append-nil, append_assoc}
 use Rattle.std.proofs.lemmas.List.{take_more, take-append-drop}
-use Rattle.std.specs.List.{AllZip}
 use Rattle.std.specs.Option.{is_some}
 use Rattle.serde_json.specs.Data.{Data}
 use Rattle.serde_json.specs.Find.{as_null}
@@ -13,8 +12,9 @@ use Rattle.agg_values.specs.TypedKey.{CompositeIntermediateKey}
 use Rattle.agg_segment.specs.Document.{key_of}
 use Rattle.agg_segment.specs.declared.document.FieldValue.{FieldValue}
 use Rattle.agg_pages.proofs.Beside.{AllZip-append, AllZip-parts, map-append}
-use Rattle.agg_pages.specs.DocumentLine.{HasKey, values_among}
-use Rattle.agg_pages.specs.Fields.{AddsValues, HasNoKeys, named_values}
+use Rattle.agg_pages.specs.DocumentLine.{HasKey, HaveKeys, values_among}
+use Rattle.agg_pages.specs.Fields.{AddsValues, named_values}
+use Rattle.agg_pages.specs.Nothing.{NoneIs}
 
 -- the values among these
 abbrev pub among : List Value → List Data
@@ -35,7 +35,7 @@ pub AddsValues-then : (field : List ℕ) (written more : List Data)
     → AddsValues field more now new → AddsValues field (written ++ more) old new
 AddsValues-then field written more old now new first next = record {
   values = first.values ++ next.values;
-  keys = subst (AllZip HasKey (written ++ more)) (sym (map-append key_of first.values next.values))
+  keys = subst (HaveKeys (written ++ more)) (sym (map-append key_of first.values next.values))
       (AllZip-append HasKey written more _ _ first.keys next.keys);
   added = next.added ∙ ap (λ l. l ++ named_values field next.values) first.added
       ∙ append_assoc old (named_values field first.values) (named_values field next.values)
@@ -74,15 +74,15 @@ adds_more field items at x old now new within is first next =
 
 -- where an item is no value, not all are
 pub no_keys_at : (items : List Value) (at : ℕ) (x : Value) → at < length items
-    → x ≡ get_or items at x → HasNoKeys (among (x ∷ [])) → HasNoKeys (among items)
+    → x ≡ get_or items at x → NoneIs (HaveKeys (among (x ∷ []))) → NoneIs (HaveKeys (among items))
 no_keys_at items at x within is none keys has =
     let cut : among items ≡ among (take (at + 1) items) ++ among (drop (at + 1) items) =
     ap among (sym (take-append-drop (at + 1) items))
     ∙ among-append (take (at + 1) items) (drop (at + 1) items) in
     let upto = AllZip-parts HasKey (among (take (at + 1) items)) (among (drop (at + 1) items)) keys
-    (subst (λ l. AllZip HasKey l keys) cut has) in
+    (subst (λ l. HaveKeys l keys) cut has) in
     let last = AllZip-parts HasKey (among (take at items)) (among (x ∷ [])) upto.0
-    (subst (λ l. AllZip HasKey l upto.0) (among_more items at x within is) upto.3) in
+    (subst (λ l. HaveKeys l upto.0) (among_more items at x within is) upto.3) in
     none last.1 last.4
 
 -- ---- one item
@@ -99,10 +99,10 @@ adds_item field v value old new given has is =
     (record { values = value ∷ []; keys = (has, tt); added = is })
 
 pub no_keys_item : (v : Value) → is_some (as_null (view v)) ≡ false
-    → ((key : CompositeIntermediateKey) → ¬ HasKey (view v) key) → HasNoKeys (among (v ∷ []))
+    → NoneIs (HasKey (view v)) → NoneIs (HaveKeys (among (v ∷ [])))
 no_keys_item v given none keys has =
-    one_left keys (subst (λ written. AllZip HasKey written keys) (item_is v given) has)
+    one_left keys (subst (λ written. HaveKeys written keys) (item_is v given) has)
   where
-    one_left : (keys : List CompositeIntermediateKey) → AllZip HasKey (view v ∷ []) keys → ⊥
+    one_left : (keys : List CompositeIntermediateKey) → HaveKeys (view v ∷ []) keys → ⊥
     one_left [] zips = zips
     one_left (key ∷ keys) zips = none key zips.0

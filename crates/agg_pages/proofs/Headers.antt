@@ -6,7 +6,7 @@ use Rattle.serde_json.specs.Data.{Data}
 use Rattle.serde_json.specs.Find.{as_str, get}
 use Rattle.serde_json.specs.Read.{read}
 use Rattle.agg_segment.specs.declared.query.QueryTree.{QueryTree}
-use Rattle.agg_request.specs.Json.{has_members}
+use Rattle.agg_request.specs.Json.{has_members, small_number}
 use Rattle.agg_request.specs.Request.{Request, aggregation_of}
 use Rattle.agg_request.specs.RequestJson.{IsRequestJson}
 use Rattle.agg_request.specs.declared.aggregation.AggregationVariants.TheVariants.{Composite}
@@ -14,10 +14,10 @@ use Rattle.agg_request.proofs.PlainRequests.{one-said, says-one}
 use Rattle.agg_engine.specs.Form.{IsOneComposite}
 use Rattle.agg_request.proofs.RequestTrees.{made-of_parts}
 use Rattle.agg_pages.specs.declared.input.header.Header.{Header}
-use Rattle.agg_pages.specs.Header.{IsBucketLimitOf, IsHeader, IsHeaderLine, IsNoHeader}
-use Rattle.agg_pages.specs.Header.{IsNoHeaderLine, IsNoRequestAt, IsNoRequestOf, IsQueryOf}
+use Rattle.agg_pages.specs.Header.{IsBucketLimitOf, IsHeader, IsHeaderLine, IsQueryOf}
 use Rattle.agg_pages.specs.Header.{IsRequest, IsRequestAt, header_members, texts_of}
-use Rattle.agg_pages.proofs.Composites.{IsCompositeJson-unique}
+use Rattle.agg_pages.specs.Nothing.{NoneIs}
+use Rattle.agg_pages.proofs.Composites.{IsCompositeJson-unique, IsGiven-unique}
 use Rattle.agg_pages.proofs.Documents.{none_is_some, same_value}
 use Rattle.agg_pages.proofs.Queries.{IsQuery-unique}
 
@@ -55,9 +55,8 @@ IsQueryOf-unique (Some d) a b h k = IsQuery-unique d a b h k
 
 IsBucketLimitOf-unique : (o : Option Data) (a b : Option ℕ) → IsBucketLimitOf o a
     → IsBucketLimitOf o b → a ≡ b
-IsBucketLimitOf-unique None a b h k = h ∙ sym k
-IsBucketLimitOf-unique (Some d) a b (n, is, a_is) (m, is_too, b_is) =
-    a_is ∙ sym is ∙ is_too ∙ sym b_is
+IsBucketLimitOf-unique =
+    IsGiven-unique (λ d n. small_number d ≡ Some n) (λ d n m h k. same_value n m (sym h ∙ k))
 
 module _ {B : Type 0} (builders : List B) (name_of : B → List ℕ) where
   IsHeader-unique : (d : Data) (a b : Header B) → IsHeader builders name_of d a
@@ -80,43 +79,43 @@ module _ {B : Type 0} (builders : List B) (name_of : B → List ℕ) where
 
   -- a line of a value that is no header
   pub no_header : (line : List ℕ) (d : Data) → read line ≡ Some d
-      → IsNoHeader builders name_of d → IsNoHeaderLine builders name_of line
+      → NoneIs (IsHeader builders name_of d) → NoneIs (IsHeaderLine builders name_of line)
   no_header line d is none header (found, is_too, stands) =
       none header (subst (λ e. IsHeader builders name_of e header)
       (same_value found d (sym is_too ∙ is)) stands)
 
   -- ---- what is no header
 
-  pub no_request : (d : Data) → IsNoRequestAt builders name_of (get (codes "request") d)
-      → IsNoHeader builders name_of d
+  pub no_request : (d : Data) → NoneIs (IsRequestAt builders name_of (get (codes "request") d))
+      → NoneIs (IsHeader builders name_of d)
   no_request d none header h = none header.request h.request
 
   pub no_name : (d : Data) → option_and_then as_str (get (codes "name") d) ≡ None
-      → IsNoHeader builders name_of d
+      → NoneIs (IsHeader builders name_of d)
   no_name d none header h = none_is_some header.name (sym none ∙ h.name)
 
   pub no_schema : (d : Data) → option_and_then texts_of (get (codes "schema") d) ≡ None
-      → IsNoHeader builders name_of d
+      → NoneIs (IsHeader builders name_of d)
   no_schema d none header h = none_is_some header.schema (sym none ∙ h.schema)
 
-  pub no_query : (d : Data) → ((query : QueryTree) → ¬ IsQueryOf (get (codes "query") d) query)
-      → IsNoHeader builders name_of d
+  pub no_query : (d : Data) → NoneIs (IsQueryOf (get (codes "query") d))
+      → NoneIs (IsHeader builders name_of d)
   no_query d none header h = none header.query h.query
 
   pub no_bucket_limit : (d : Data)
-      → ((limit : Option ℕ) → ¬ IsBucketLimitOf (get (codes "bucket_limit") d) limit)
-      → IsNoHeader builders name_of d
+      → NoneIs (IsBucketLimitOf (get (codes "bucket_limit") d))
+      → NoneIs (IsHeader builders name_of d)
   no_bucket_limit d none header h = none header.bucket_limit h.bucket_limit
 
   pub other_members : (d : Data) → has_members (header_members d) d ≡ false
-      → IsNoHeader builders name_of d
+      → NoneIs (IsHeader builders name_of d)
   other_members d other header h = false≢true (sym other ∙ h.members)
 
   -- ---- what is no request
 
   -- where a request of another form is read, there is none of the form that a walk takes
   pub other_form : (d : Data) (request : Request B) → IsRequestJson name_of d builders request
-      → ¬ (IsOneComposite request) → IsNoRequestOf builders name_of d
+      → ¬ (IsOneComposite request) → NoneIs (IsRequest builders name_of d)
   other_form d request said other b h = other (same-form builders name_of d request b said h).0
 
   -- ---- the form of the request

@@ -4,10 +4,10 @@ use Rattle.std.proofs.Common.{◌∙◌, subst, arith}
 use Rattle.std.specs.Str.{IsUtf8}
 use Rattle.std.proofs.lemmas.Str.{IsUtf8-from_is_utf8, is_utf8-from_IsUtf8}
 use Rattle.agg_engine.specs.Snapshot.{SnapshotDocuments}
-use Rattle.agg_pages.specs.Header.{IsNoHeaderLine}
+use Rattle.agg_pages.specs.Header.{IsHeaderLine}
 use Rattle.agg_pages.specs.Input.{AreNoInput, Input, IsInput, IsInputOfLines}
-use Rattle.agg_pages.specs.Input.{IsNoInputOf}
 use Rattle.agg_pages.specs.Lines.{lines_of}
+use Rattle.agg_pages.specs.Nothing.{NoneIs}
 use Rattle.agg_pages.specs.SnapshotLines.{AreSnapshots, Says, begun_snapshots}
 use Rattle.agg_pages.proofs.Beside.{AllZip-unique}
 use Rattle.agg_pages.proofs.Headers.{IsHeaderLine-unique}
@@ -56,20 +56,20 @@ pub too_long : {B : Type 0} (builders : List B) (name_of : B → List ℕ) (byte
 too_long builders name_of bytes long (i, h) = absurd (omega (arith, long, h.few))
 
 pub no_lines : {B : Type 0} (builders : List B) (name_of : B → List ℕ) (bytes : List ℕ)
-    → IsNoInputOf builders name_of (lines_of bytes) → AreNoInput builders name_of bytes
+    → NoneIs (IsInputOfLines builders name_of (lines_of bytes)) → AreNoInput builders name_of bytes
 no_lines builders name_of bytes none (i, h) = none i h.lines
 
 -- ---- lines that are no input
 
 pub no_header_lines : {B : Type 0} (builders : List B) (name_of : B → List ℕ)
     (lines : List (List ℕ)) (first : List ℕ) (rest : List (List ℕ)) → lines ≡ first ∷ rest
-    → IsNoHeaderLine builders name_of first → IsNoInputOf builders name_of lines
+    → NoneIs (IsHeaderLine builders name_of first)
+    → NoneIs (IsInputOfLines builders name_of lines)
 no_header_lines builders name_of lines first rest cut none =
-    subst (IsNoInputOf builders name_of) (sym cut) (λ i h. none i.header h.0)
+    subst (λ l. NoneIs (IsInputOfLines builders name_of l)) (sym cut) (λ i h. none i.header h.0)
 
 pub no_snapshot_lines : {B : Type 0} (builders : List B) (name_of : B → List ℕ)
     (lines : List (List ℕ)) (first : List ℕ) (rest : List (List ℕ)) → lines ≡ first ∷ rest
-    → ((snapshots : List SnapshotDocuments) → ¬ AreSnapshots rest snapshots)
-    → IsNoInputOf builders name_of lines
+    → NoneIs (AreSnapshots rest) → NoneIs (IsInputOfLines builders name_of lines)
 no_snapshot_lines builders name_of lines first rest cut none =
-    subst (IsNoInputOf builders name_of) (sym cut) (λ i h. none i.snapshots h.1)
+    subst (λ l. NoneIs (IsInputOfLines builders name_of l)) (sym cut) (λ i h. none i.snapshots h.1)

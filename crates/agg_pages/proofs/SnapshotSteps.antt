@@ -15,6 +15,7 @@ use Rattle.agg_pages.specs.declared.input.snapshots.OpenSnapshot.{OpenSnapshot}
 use Rattle.agg_pages.specs.declared.input.snapshots.SnapshotsBuilder.{SnapshotsBuilder}
 use Rattle.agg_pages.specs.declared.input.tokens.LineRoom.{LineRoom}
 use Rattle.agg_pages.specs.DocumentLine.{IsDocumentLine}
+use Rattle.agg_pages.specs.Nothing.{NoneIs}
 use Rattle.agg_pages.specs.SnapshotLines.{AreSnapshots, FitSegment, Line, Says, StandForSnapshots}
 use Rattle.agg_pages.specs.SnapshotLines.{begins, begun_size, holds, is_snapshot_line, opens}
 use Rattle.agg_pages.specs.SnapshotLines.{segment_line}
@@ -231,7 +232,7 @@ AreSnapshots-none = ([], tt, StandForSnapshots-none, refl)
 
 -- no snapshots begin where the first line is none of a snapshot
 pub first_refused : (line : List ℕ) (left : List (List ℕ)) → begun_size line ≡ None
-    → (snapshots : List SnapshotDocuments) → ¬ AreSnapshots (line ∷ left) snapshots
+    → NoneIs (AreSnapshots (line ∷ left))
 first_refused line left none snapshots ([], say, stand, begun) = say
 first_refused line left none snapshots (begins n ∷ said, say, stand, begun) =
     none_is_some n (sym none ∙ say.0)

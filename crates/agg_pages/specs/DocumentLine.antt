@@ -41,6 +41,10 @@ IsAddressKey d found =
 abbrev pub HasKey : Data → CompositeIntermediateKey → Type 0
 HasKey d found = (plain_key d ≡ Some found) ⊎ IsAddressKey d found
 
+-- values have these keys, one by one
+abbrev pub HaveKeys : List Data → List CompositeIntermediateKey → Type 0
+HaveKeys values keys = AllZip HasKey values keys
+
 -- the values among these: all but `null`, which is none
 abbrev pub values_among : Items → List Data
 values_among no_items = []
@@ -51,15 +55,13 @@ values_among (item d items) =
 abbrev pub field_values : Data → List Data
 field_values d = values_among (unwrap_or (as_array d) (item d no_items))
 
--- the values of a field have these keys
-abbrev pub HasKeys : Data → List CompositeIntermediateKey → Type 0
-HasKeys d keys = AllZip HasKey (field_values d) keys
-
 -- a field of a document has the keys of this member by class, and none where there is no member
 abbrev pub IsField : Option Data → List CompositeIntermediateKey → Type 0
 IsField None keys = keys ≡ []
 IsField (Some d) keys =
-    (given : List CompositeIntermediateKey) × HasKeys d given × (keys ≡ by_class given)
+    (given : List CompositeIntermediateKey)
+    × HaveKeys (field_values d) given
+    × (keys ≡ by_class given)
 
 -- an object, and the document that it stands for
 pub record IsDocument (d : Data) (document : Fields) : Type 0 where

@@ -6,7 +6,7 @@ use Rattle.serde_json.specs.Find.{as_array, as_str, get}
 use Rattle.serde_json.specs.Read.{read}
 use Rattle.agg_segment.specs.declared.query.QueryTree.{QueryTree}
 use Rattle.agg_segment.specs.declared.query.QueryTree.TheVariants.{All}
-use Rattle.agg_request.specs.Json.{each_item, has_members, small_number}
+use Rattle.agg_request.specs.Json.{IsGiven, each_item, has_members, small_number}
 use Rattle.agg_request.specs.Query.{IsQuery}
 use Rattle.agg_request.specs.Request.{Request}
 use Rattle.agg_request.specs.RequestJson.{IsRequestJson}
@@ -24,16 +24,6 @@ pub record IsRequest {B : Type 0} (builders : List B) (name_of : B → List ℕ)
 abbrev pub IsRequestAt : {B : Type 0} → List B → (B → List ℕ) → Option Data → Request B → Type 0
 IsRequestAt builders name_of None request = ⊥
 IsRequestAt builders name_of (Some d) request = IsRequest builders name_of d request
-
--- a value is no request
-abbrev pub IsNoRequestOf : {B : Type 0} → List B → (B → List ℕ) → Data → Type 0
-IsNoRequestOf {B = B} builders name_of d =
-    (request : Request B) → ¬ (IsRequest builders name_of d request)
-
--- nor is what may stand at a member
-abbrev pub IsNoRequestAt : {B : Type 0} → List B → (B → List ℕ) → Option Data → Type 0
-IsNoRequestAt {B = B} builders name_of d =
-    (request : Request B) → ¬ (IsRequestAt builders name_of d request)
 
 -- an array of texts
 abbrev pub texts_of : Data → Option (List (List ℕ))
@@ -55,8 +45,7 @@ IsQueryOf (Some d) query = IsQuery d query
 
 -- the bucket limit of this member, a whole number within u32: none, where there is no member
 abbrev pub IsBucketLimitOf : Option Data → Option ℕ → Type 0
-IsBucketLimitOf None limit = limit ≡ None
-IsBucketLimitOf (Some d) limit = (n : ℕ) × (small_number d ≡ Some n) × (limit ≡ Some n)
+IsBucketLimitOf = IsGiven (λ d n. small_number d ≡ Some n)
 
 -- a header: exactly its request, its name and its schema, and a query and a bucket limit if there
 -- are any
@@ -73,12 +62,3 @@ pub record IsHeader {B : Type 0} (builders : List B) (name_of : B → List ℕ) 
 abbrev pub IsHeaderLine : {B : Type 0} → List B → (B → List ℕ) → List ℕ → Header B → Type 0
 IsHeaderLine builders name_of line header =
     (d : Data) × (read line ≡ Some d) × IsHeader builders name_of d header
-
--- a value is no header
-abbrev pub IsNoHeader : {B : Type 0} → List B → (B → List ℕ) → Data → Type 0
-IsNoHeader {B = B} builders name_of d = (header : Header B) → ¬ (IsHeader builders name_of d header)
-
--- nor is that of a line
-abbrev pub IsNoHeaderLine : {B : Type 0} → List B → (B → List ℕ) → List ℕ → Type 0
-IsNoHeaderLine {B = B} builders name_of line =
-    (header : Header B) → ¬ (IsHeaderLine builders name_of line header)

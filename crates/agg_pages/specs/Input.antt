@@ -24,11 +24,6 @@ IsInputOfLines builders name_of [] i = ⊥
 IsInputOfLines builders name_of (first ∷ lines) i =
     IsHeaderLine builders name_of first i.header × AreSnapshots lines i.snapshots
 
--- lines are no input
-abbrev pub IsNoInputOf : {B : Type 0} → List B → (B → List ℕ) → List (List ℕ) → Type 0
-IsNoInputOf {B = B} builders name_of lines =
-    (i : Input B) → ¬ (IsInputOfLines builders name_of lines i)
-
 -- how many bytes an input has at most
 abbrev pub max_input_bytes : ℕ
 max_input_bytes = 67108864

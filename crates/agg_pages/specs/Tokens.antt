@@ -1,6 +1,6 @@
 -- What was taken from the tokens of a line, and what came into the open document by it.
 use Rattle.std.specs.Prelude.{◌≡◌, ◌==◌, ◌<◌, ◌++◌, ◌∷◌, ℕ, List, None, Some, length, false}
-use Rattle.std.specs.List.{AllZip, IsDistinct}
+use Rattle.std.specs.List.{IsDistinct}
 use Rattle.std.specs.Str.{bytes_eq}
 use Rattle.json.specs.Token.{Token}
 use Rattle.json.specs.Json.{items, members, value}
@@ -16,7 +16,8 @@ use Rattle.agg_pages.specs.declared.input.tokens.number.WholeNumber.TheVariants.
   Unsigned,
   Negative,
 }
-use Rattle.agg_pages.specs.DocumentLine.{HasKey, IsDocument, field_values, values_among}
+use Rattle.agg_pages.specs.DocumentLine.{HasKey, HaveKeys, IsDocument, field_values}
+use Rattle.agg_pages.specs.DocumentLine.{values_among}
 
 -- a whole number as that of a JSON value
 abbrev pub num_of : WholeNumber → Num
@@ -46,7 +47,7 @@ pub record TakesValue (old : List Token) (key : CompositeIntermediateKey) (new :
 -- a field of the open document has these values behind those that it had
 pub record GainsKeys (field : ℕ) (written : List Data) (old new : Gathered) : Type 0 where
   pub keys : List CompositeIntermediateKey
-  pub has : AllZip HasKey written keys
+  pub has : HaveKeys written keys
   pub here : (name : List ℕ) (before : List CompositeIntermediateKey) → IsNameOf old field name
       → open_document old name ≡ by_class before
       → open_document new name ≡ by_class (before ++ keys)

@@ -11,8 +11,8 @@ mod value;
 ghost use Rattle.std.specs.Prelude.{◌≡◌, IfOk, IsErrOf};
 ghost use Rattle.agg_engine.specs.Form.{IsOneComposite};
 ghost use Rattle.agg_engine.specs.Snapshot.{snapshots_documents};
-ghost use Rattle.agg_pages.specs.Input.{AreNoInput, IsInput, IsInputOfLines, IsNoInputOf};
-ghost use Rattle.agg_pages.specs.Input.{input_of};
+ghost use Rattle.agg_pages.specs.Input.{AreNoInput, IsInput, IsInputOfLines, input_of};
+ghost use Rattle.agg_pages.specs.Nothing.{NoneIs};
 
 use crate::source::MAX_INPUT_BYTES;
 use agg_engine::Snapshot;
@@ -137,7 +137,7 @@ fn read_lines<B: HasName>(
     ensures form { IfOk result
         (λ i. IsOneComposite i.header.request) }
     ensures not_input { IsErrOf result InputError.NotInput
-        → IsNoInputOf builders.items B.name_of lines.entry }
+        → NoneIs (IsInputOfLines builders.items B.name_of lines.entry) }
 {
     let mut lines = lines;
     let first = lines.next().ok_or(InputError::NotInput)?;

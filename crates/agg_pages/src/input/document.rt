@@ -4,13 +4,14 @@ ghost use Rattle.std.specs.Prelude.{option_and_then};
 ghost use Rattle.serde_json.specs.Data.{item as one_item, no_items, object};
 ghost use Rattle.serde_json.specs.Find.{as_integer, as_number};
 ghost use Rattle.serde_json.specs.View.{items_view, members_view, view};
-ghost use Rattle.agg_segment.specs.Document.{Fields, key_of, meaning};
-ghost use Rattle.agg_values.specs.TypedKey.{CompositeIntermediateKey as Key, typed_number};
+ghost use Rattle.agg_segment.specs.Document.{key_of, meaning};
+ghost use Rattle.agg_values.specs.TypedKey.{typed_number};
 ghost use Rattle.agg_values.specs.declared.typed_key.CompositeIntermediateKey.TheVariants as key;
-ghost use Rattle.agg_pages.specs.DocumentLine.{HasKey, IsAddressKey, IsDocument, IsDocumentLine};
-ghost use Rattle.agg_pages.specs.DocumentLine.{address_text_of, date_of, field_values, plain_key};
-ghost use Rattle.agg_pages.specs.DocumentLine.{values_among};
-ghost use Rattle.agg_pages.specs.Fields.{AddsValues, HasNoKeys};
+ghost use Rattle.agg_pages.specs.DocumentLine.{HasKey, HaveKeys, IsAddressKey, IsDocument};
+ghost use Rattle.agg_pages.specs.DocumentLine.{IsDocumentLine, address_text_of, date_of};
+ghost use Rattle.agg_pages.specs.DocumentLine.{field_values, plain_key, values_among};
+ghost use Rattle.agg_pages.specs.Fields.{AddsValues};
+ghost use Rattle.agg_pages.specs.Nothing.{NoneIs};
 ghost use Rattle.agg_pages.specs.Snapshots.{HasNoDocument, HoldsLine};
 
 use super::InputError;
@@ -53,7 +54,7 @@ fn read_by_value(alloc: Global, builder: &mut SegmentBuilder, line: &str) -> Res
 fn document_of(alloc: Global, line: &str) -> Result<Document, InputError>
     ensures ok { IfOk result (λ document. IsDocumentLine line.now (meaning document)) }
     ensures not_input { IsErrOf result InputError.NotInput
-        → (document : Fields) → ¬ IsDocumentLine line.now document }
+        → NoneIs (IsDocumentLine line.now) }
 {
     match parse(alloc, line)? {
         Value::Object(members) => document_of_members(alloc, members),
@@ -66,7 +67,7 @@ fn document_of_members(alloc: Global, members: Map<String, Value>) -> Result<Doc
     ensures ok { IfOk result
         (λ document. IsDocument (object (members_view members.entries)) (meaning document)) }
     ensures not_input { IsErrOf result InputError.NotInput
-        → (document : Fields) → ¬ IsDocument (object (members_view members.entries)) document }
+        → NoneIs (IsDocument (object (members_view members.entries))) }
 {
     let mut document = Document::new(alloc);
     for (name, value) in members {
@@ -85,7 +86,7 @@ fn add_values(
     ensures ok { OnOk result
         (AddsValues name.now (field_values (view value.now)) document.old document.new) }
     ensures not_input { IsErrOf result InputError.NotInput
-        → HasNoKeys (field_values (view value.now)) }
+        → NoneIs (HaveKeys (field_values (view value.now))) }
 {
     match value.as_array() {
         Some(items) => add_items(alloc, document, name, items.as_slice()),
@@ -102,7 +103,7 @@ fn add_items(
     ensures ok { OnOk result
         (AddsValues name.now (values_among (items_view items.now)) document.old document.new) }
     ensures not_input { IsErrOf result InputError.NotInput
-        → HasNoKeys (values_among (items_view items.now)) }
+        → NoneIs (HaveKeys (values_among (items_view items.now))) }
 {
     for item in items {
         add_item(alloc, document, name, item)?;
@@ -121,7 +122,7 @@ fn add_item(
         (AddsValues name.now (values_among (one_item (view item.now) no_items))
         document.old document.new) }
     ensures not_input { IsErrOf result InputError.NotInput
-        → HasNoKeys (values_among (one_item (view item.now) no_items)) }
+        → NoneIs (HaveKeys (values_among (one_item (view item.now) no_items))) }
 {
     if item.is_null() {
         return Ok(());
@@ -134,7 +135,7 @@ fn add_item(
 fn read_value(alloc: Global, value: &Value) -> Result<FieldValue, InputError>
     ensures ok { IfOk result (λ read. HasKey (view value.now) (key_of read)) }
     ensures not_input { IsErrOf result InputError.NotInput
-        → (key : Key) → ¬ HasKey (view value.now) key }
+        → NoneIs (HasKey (view value.now)) }
 {
     match read_plain(alloc, value)? {
         Some(plain) => Ok(plain),
@@ -181,7 +182,7 @@ fn read_address(alloc: Global, value: &Value) -> Result<Option<Address>, OutOfMe
     ensures found { IfOk result
         (λ found. IfSome found (λ address. IsAddressKey (view value.now) (key.IpAddr address))) }
     ensures none { IfOk result
-        (λ found. found ≡ None → (key : Key) → ¬ IsAddressKey (view value.now) key) }
+        (λ found. found ≡ None → NoneIs (IsAddressKey (view value.now))) }
 {
     match address_text(value) {
         Some(text) => Ok(Address::read(&Text::copy_of(alloc, text)?)),

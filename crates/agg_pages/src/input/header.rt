@@ -1,16 +1,15 @@
 //! The header: what a walk is asked for.
-ghost use Rattle.std.specs.Prelude.{◌≡◌, ◌≤◌, ℕ, Option, Some, None, IfOk, IsErrOf, MatchBool};
+ghost use Rattle.std.specs.Prelude.{◌≡◌, ◌≤◌, Some, None, IfOk, IsErrOf, MatchBool};
 ghost use Rattle.std.specs.Prelude.{codes};
 ghost use Rattle.std.specs.Prelude.{option_and_then};
 ghost use Rattle.serde_json.specs.Find.{as_str, get};
 ghost use Rattle.serde_json.specs.View.{view};
-ghost use Rattle.agg_segment.specs.declared.query.QueryTree.{QueryTree as Tree};
 ghost use Rattle.agg_request.specs.Request.{IsPlainComposite};
 ghost use Rattle.agg_engine.specs.Form.{IsOneComposite};
-ghost use Rattle.agg_pages.specs.Header.{IsBucketLimitOf, IsHeader, IsHeaderLine, IsNoHeader};
-ghost use Rattle.agg_pages.specs.Header.{IsNoHeaderLine, IsNoRequestAt, IsNoRequestOf, IsQueryOf};
+ghost use Rattle.agg_pages.specs.Header.{IsBucketLimitOf, IsHeader, IsHeaderLine, IsQueryOf};
 ghost use Rattle.agg_pages.specs.Header.{IsRequest, IsRequestAt, counted_member, header_members};
 ghost use Rattle.agg_pages.specs.Header.{texts_of};
+ghost use Rattle.agg_pages.specs.Nothing.{NoneIs};
 
 use super::InputError;
 use super::value::parse;
@@ -43,7 +42,7 @@ pub fn read_header<B: HasName>(
     ensures ok { IfOk result
         (λ header. IsHeaderLine builders.items B.name_of line.now header) }
     ensures not_input { IsErrOf result InputError.NotInput
-        → IsNoHeaderLine builders.items B.name_of line.now }
+        → NoneIs (IsHeaderLine builders.items B.name_of line.now) }
 {
     let value = parse(alloc, line)?;
     header_of_value(alloc, builders, &value)
@@ -58,7 +57,7 @@ fn header_of_value<B: HasName>(
     ensures ok { IfOk result
         (λ header. IsHeader builders.items B.name_of (view value.now) header) }
     ensures not_input { IsErrOf result InputError.NotInput
-        → IsNoHeader builders.items B.name_of (view value.now) }
+        → NoneIs (IsHeader builders.items B.name_of (view value.now)) }
 {
     if !has_members(value, header_members(value)) {
         return Err(InputError::NotInput);
@@ -86,7 +85,8 @@ fn request_in<B: HasName>(
     ensures ok { IfOk result (λ request. IsRequestAt builders.items B.name_of
         (get (codes "request") (view value.now)) request) }
     ensures not_input { IsErrOf result InputError.NotInput
-        → IsNoRequestAt builders.items B.name_of (get (codes "request") (view value.now)) }
+        → NoneIs (IsRequestAt builders.items B.name_of
+        (get (codes "request") (view value.now))) }
 {
     request_of(alloc, builders, member(value, "request")?)
 }
@@ -130,7 +130,7 @@ fn counted_member(value: &Value, name: &str) -> usize
 fn query_of(alloc: Global, value: &Value) -> Result<QueryTree, InputError>
     ensures ok { IfOk result (λ query. IsQueryOf (get (codes "query") (view value.now)) query) }
     ensures not_input { IsErrOf result InputError.NotInput
-        → (query : Tree) → ¬ IsQueryOf (get (codes "query") (view value.now)) query }
+        → NoneIs (IsQueryOf (get (codes "query") (view value.now))) }
 {
     match value.get("query") {
         Some(query) => Ok(read_query(alloc, query)?),
@@ -142,8 +142,8 @@ fn query_of(alloc: Global, value: &Value) -> Result<QueryTree, InputError>
 fn bucket_limit_of(value: &Value) -> Result<Option<u32>, InputError>
     ensures ok { IfOk result
         (IsBucketLimitOf (get (codes "bucket_limit") (view value.now))) }
-    ensures not_input { IsErrOf result InputError.NotInput → (limit : Option ℕ)
-        → ¬ IsBucketLimitOf (get (codes "bucket_limit") (view value.now)) limit }
+    ensures not_input { IsErrOf result InputError.NotInput
+        → NoneIs (IsBucketLimitOf (get (codes "bucket_limit") (view value.now))) }
 {
     match value.get("bucket_limit") {
         Some(limit) => Ok(Some(small_number(limit).ok_or(InputError::NotInput)?)),
@@ -175,7 +175,7 @@ fn request_of<B: HasName>(
 ) -> Result<NameMap<Aggregation<B>>, InputError>
     ensures ok { IfOk result (IsRequest builders.items B.name_of (view value.now)) }
     ensures not_input { IsErrOf result InputError.NotInput
-        → IsNoRequestOf builders.items B.name_of (view value.now) }
+        → NoneIs (IsRequest builders.items B.name_of (view value.now)) }
 {
     let request = read_request(alloc, value, builders)?;
     if !is_one_composite(&request) {

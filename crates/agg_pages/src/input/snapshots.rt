@@ -4,6 +4,7 @@ ghost use Rattle.std.specs.Prelude.{map};
 ghost use Rattle.agg_segment.specs.Segment.{documents_of, gathered_documents};
 ghost use Rattle.agg_engine.specs.Snapshot.{SnapshotDocuments, snapshot_documents};
 ghost use Rattle.agg_engine.specs.Snapshot.{snapshots_documents};
+ghost use Rattle.agg_pages.specs.Nothing.{NoneIs};
 ghost use Rattle.agg_pages.specs.SnapshotLines.{AreSnapshots, begins};
 ghost use Rattle.agg_pages.specs.Snapshots.{AreFit, CannotFollow, TakesLine, begun, made_by};
 ghost use Rattle.agg_pages.specs.Snapshots.{last_segment, open_of, snapshots_made};
@@ -25,7 +26,7 @@ pub fn read_snapshots(alloc: Global, lines: Lines<'_>) -> Result<ItemList<Snapsh
     ensures ok { IfOk result
         (λ snapshots. AreSnapshots lines.entry (snapshots_documents snapshots)) }
     ensures not_input { IsErrOf result InputError.NotInput
-        → (snapshots : List SnapshotDocuments) → ¬ AreSnapshots lines.entry snapshots }
+        → NoneIs (AreSnapshots lines.entry) }
 {
     let mut lines = lines;
     match lines.next() {
@@ -39,8 +40,7 @@ fn read_from(alloc: Global, first: &str, lines: Lines<'_>) -> Result<ItemList<Sn
     ensures ok { IfOk result
         (λ snapshots. AreSnapshots (first.now ∷ lines.entry) (snapshots_documents snapshots)) }
     ensures not_input { IsErrOf result InputError.NotInput
-        → (snapshots : List SnapshotDocuments)
-        → ¬ AreSnapshots (first.now ∷ lines.entry) snapshots }
+        → NoneIs (AreSnapshots (first.now ∷ lines.entry)) }
 {
     let page_size = begun_size(first).ok_or(InputError::NotInput)?;
     let mut builder = SnapshotsBuilder::new(alloc, page_size);

@@ -1,7 +1,8 @@
 use Rattle.std.proofs.Common.{ap, ◌∙◌, arith, subst}
 use Rattle.std.proofs.lemmas.Result.{IfOk-weaker}
-use Rattle.agg_pages.specs.Input.{IsInput, IsInputOfLines, IsNoInputOf, input_of}
+use Rattle.agg_pages.specs.Input.{IsInput, IsInputOfLines, input_of}
 use Rattle.agg_pages.specs.Lines.{lines_of}
+use Rattle.agg_pages.specs.Nothing.{NoneIs}
 use Rattle.agg_pages.proofs.Inputs.{input_some, no_lines, no_text}
 use Rattle.agg_pages.proofs.input.read_input.Goals as goal
 
@@ -20,7 +21,7 @@ returns-in-Ok-clause-ok g c =
 pub returns-in-Ok-clause-not_input : goal.returns-in-Ok-clause-not_input
 returns-in-Ok-clause-not_input g c = λ refused.
     no_lines c.args.builders.items g.B.HasName.name_of c.args.bytes.now
-    (subst (IsNoInputOf c.args.builders.items g.B.HasName.name_of)
+    (subst (λ lines. NoneIs (IsInputOfLines c.args.builders.items g.B.HasName.name_of lines))
     (c.new.ensures ∙ ap lines_of c.in-Ok.ensures.cases.0)
     (c.read_lines.ensures.not_input refused))
 

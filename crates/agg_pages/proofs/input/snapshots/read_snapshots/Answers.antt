@@ -1,9 +1,9 @@
-use Rattle.std.proofs.Common.{List, sym, subst}
-use Rattle.agg_engine.specs.Snapshot.{SnapshotDocuments}
+use Rattle.std.proofs.Common.{sym, subst}
+use Rattle.agg_pages.specs.Nothing.{NoneIs}
 use Rattle.agg_pages.specs.SnapshotLines.{AreSnapshots}
 use Rattle.agg_pages.proofs.input.snapshots.read_snapshots.Goals as goal
 
 pub returns-in-Some-clause-not_input : goal.returns-in-Some-clause-not_input
 returns-in-Some-clause-not_input c = λ refused.
-    subst (λ lines. (snapshots : List SnapshotDocuments) → ¬ AreSnapshots lines snapshots)
+    subst (λ lines. NoneIs (AreSnapshots lines))
     (sym c.in-Some.ensures.steps) (c.read_from.ensures.not_input refused)
