@@ -6,7 +6,6 @@ pub mod Header
 pub mod Input
 pub mod Lines
 pub mod Memory
-pub mod Nothing
 pub mod Observed
 pub mod Output
 pub mod Reading

@@ -17,6 +17,7 @@ use Rattle.agg_segment.specs.declared.query.QueryTree.TheVariants.{All, Empty, T
 use Rattle.agg_segment.specs.declared.query.QueryTree.TheVariants.{Boolean}
 use Rattle.agg_request.specs.Json.{HasUnsupportedList, IsField, IsListAt, has_only, only_member}
 use Rattle.agg_request.specs.Json.{text_at}
+use Rattle.agg_request.specs.Reading.{NoneIs}
 
 -- ---- values
 
@@ -118,7 +119,7 @@ IsQuery = IsFilterOf false
 
 -- no text, and no filter, were texts of the type that isn't supported taken as values
 abbrev pub IsNoQueryAtAll : Data → Type 0
-IsNoQueryAtAll d = (as_str d ≡ None) × ((tree : QueryTree) → ¬ (IsFilterOf true d tree))
+IsNoQueryAtAll d = (as_str d ≡ None) × NoneIs (IsFilterOf true d)
 
 -- ---- what isn't supported
 

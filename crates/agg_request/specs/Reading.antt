@@ -7,11 +7,15 @@ use Rattle.agg_request.specs.declared.read_error.ReadError.TheVariants.{Unsuppor
 use Rattle.agg_request.specs.declared.read_error.ReadError.TheVariants.{UnknownBuilder}
 use Rattle.agg_request.specs.declared.read_error.ReadError.TheVariants.{OutOfMemory}
 
+-- nothing is such
+abbrev pub NoneIs : {A : Type 0} → (A → Type 0) → Type 0
+NoneIs {A = A} Is = (x : A) → ¬ (Is x)
+
 -- why nothing is read, where `Is` says what may be read, strictly and leniently: something that
 -- isn't supported stands there, or nothing may be read even leniently
 abbrev pub IsRefusal : {A : Type 0} → (Bool → A → Type 0) → Type 0 → ReadError → Type 0
-IsRefusal {A = A} Is HasUnsupported Unsupported = HasUnsupported × ((x : A) → ¬ (Is false x))
-IsRefusal {A = A} Is HasUnsupported Grammar = (lenient : Bool) (x : A) → ¬ (Is lenient x)
+IsRefusal Is HasUnsupported Unsupported = HasUnsupported × NoneIs (Is false)
+IsRefusal Is HasUnsupported Grammar = (lenient : Bool) → NoneIs (Is lenient)
 IsRefusal Is HasUnsupported UnknownBuilder = ⊥
 IsRefusal Is HasUnsupported OutOfMemory = ⊤
 

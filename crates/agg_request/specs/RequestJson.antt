@@ -13,6 +13,7 @@ use Rattle.agg_request.specs.CompositeJson.{HasUnsupportedComposite, IsComposite
 use Rattle.agg_request.specs.Json.{HasUnsupportedMember, IsField, is_among, names_in}
 use Rattle.agg_request.specs.Json.{only_other, present}
 use Rattle.agg_request.specs.Query.{HasUnsupportedQuery, IsFilterOf}
+use Rattle.agg_request.specs.Reading.{NoneIs}
 use Rattle.agg_request.specs.Request.{Request, agg_of, below_of}
 use Rattle.agg_request.specs.declared.aggregation.Aggregation.{Aggregation}
 use Rattle.agg_request.specs.declared.aggregation.AggregationVariants as variants
@@ -155,14 +156,12 @@ IsRequestJson = IsRequestOf false
 
 -- a value says no request with these builders
 abbrev pub IsNoRequest : {B : Type 0} → (B → List ℕ) → Data → List B → Type 0
-IsNoRequest {B = B} name_of d pool =
-    (request : Request B) → ¬ (IsRequestJson name_of d pool request)
+IsNoRequest name_of d pool = NoneIs (IsRequestJson name_of d pool)
 
 -- no request, whatever builders there are, were all that isn't supported taken as something
 abbrev pub IsNoRequestAtAll : {B : Type 0} → (B → List ℕ) → Data → Type 0
 IsNoRequestAtAll {B = B} name_of d =
-    (lenient : Bool) (some : List B) (request : Request B)
-    → ¬ (IsRequestOf lenient name_of d some request)
+    (lenient : Bool) (some : List B) → NoneIs (IsRequestOf lenient name_of d some)
 
 -- ---- what isn't supported
 

@@ -7,8 +7,7 @@ ghost use Rattle.agg_request.specs.Query.{HasUnsupportedBody, HasUnsupportedFilt
 ghost use Rattle.agg_request.specs.Query.{HasUnsupportedIn};
 ghost use Rattle.agg_request.specs.Query.{HasUnsupportedQuery, IsBoolean, IsFilter, IsNoQueryAtAll};
 ghost use Rattle.agg_request.specs.Query.{IsOfKind, IsQuery};
-ghost use Rattle.agg_request.specs.Reading.{IsReading};
-ghost use Rattle.agg_segment.specs.declared.query.QueryTree.{QueryTree as Tree};
+ghost use Rattle.agg_request.specs.Reading.{IsReading, NoneIs};
 
 mod leaves;
 mod values;
@@ -30,7 +29,7 @@ pub fn read_query(alloc: Global, value: &Value) -> Result<QueryTree, ReadError>
         → HasUnsupportedQuery (view value.now) }
     ensures grammar { IsErrOf result ReadError.Grammar → IsNoQueryAtAll (view value.now) }
     ensures none { IsErrOf result ReadError.Unsupported ⊎ IsErrOf result ReadError.Grammar
-        → (tree : Tree) → ¬ (IsQuery (view value.now) tree) }
+        → NoneIs (IsQuery (view value.now)) }
     ensures kinds { result ≢ Err ReadError.UnknownBuilder }
 {
     if value.as_str().is_some() {

@@ -9,7 +9,7 @@ ghost use Rattle.agg_engine.specs.Form.{IsOneComposite};
 ghost use Rattle.agg_pages.specs.Header.{IsBucketLimitOf, IsHeader, IsHeaderLine, IsQueryOf};
 ghost use Rattle.agg_pages.specs.Header.{IsRequest, IsRequestAt, counted_member, header_members};
 ghost use Rattle.agg_pages.specs.Header.{texts_of};
-ghost use Rattle.agg_pages.specs.Nothing.{NoneIs};
+ghost use Rattle.agg_request.specs.Reading.{NoneIs};
 
 use super::InputError;
 use super::value::parse;

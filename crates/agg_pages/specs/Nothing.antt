@@ -1,5 +1,0 @@
--- That nothing is such.
-
--- nothing is
-abbrev pub NoneIs : {A : Type 0} → (A → Type 0) → Type 0
-NoneIs {A = A} Is = (x : A) → ¬ (Is x)
