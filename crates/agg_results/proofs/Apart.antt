@@ -14,15 +14,12 @@ use Rattle.std.proofs.lemmas.Option.{none-some, same_Some, slice_get-get_or}
 use Rattle.agg_values.specs.Tuple.{KeyTuple}
 use Rattle.agg_results.specs.Counts.{merged}
 use Rattle.agg_results.specs.Intermediate.{Entries, TupleEntry, counts_of}
+use Rattle.agg_results.specs.Merging.{AreBelow}
 use Rattle.agg_results.proofs.Counts.{Below, merged-end, reversed}
 use Rattle.agg_results.proofs.Merged.{merge, merge-nothing, merge_first, merged-is_merge}
 use Rattle.agg_results.proofs.TwoWay.{counts-up}
 
 module _ (R : KeyTuple → KeyTuple → Ordering) (total : IsTotalOrder R) where
-  -- each of a list is below each of another
-  abbrev pub AreBelow : Entries → Entries → Type 0
-  AreBelow lower upper = All (λ f. All (λ e. R e.0 f.0 ≡ Less) lower) upper
-
   -- ---- their ends tell it
 
   module _ (es : Entries) (up : IsStrictlySortedBy R (keys_of es)) (i j : ℕ) (d : TupleEntry)
@@ -54,11 +51,11 @@ module _ (R : KeyTuple → KeyTuple → Ordering) (total : IsTotalOrder R) where
       none-some (get_or (e ∷ es) i e) (none ∙ slice_get-get_or (e ∷ es) i e within)
 
   pub below_none : (lower upper : Entries) → None ≡ slice_get lower (length lower - 1)
-      → AreBelow lower upper
+      → AreBelow R lower upper
   below_none lower upper none j d within i c inside =
       absurd (nowhere lower (length lower - 1) none (omega arith))
 
-  pub none_above : (lower upper : Entries) → None ≡ slice_get upper 0 → AreBelow lower upper
+  pub none_above : (lower upper : Entries) → None ≡ slice_get upper 0 → AreBelow R lower upper
   none_above lower upper none j d within i c inside =
       absurd (nowhere upper 0 none (omega arith))
 
@@ -82,7 +79,7 @@ module _ (R : KeyTuple → KeyTuple → Ordering) (total : IsTotalOrder R) where
   pub below_by_ends : (lower upper : Entries) (last first : TupleEntry)
       → IsStrictlySortedBy R (keys_of lower) → IsStrictlySortedBy R (keys_of upper)
       → slice_get lower (length lower - 1) ≡ Some last → slice_get upper 0 ≡ Some first
-      → R last.0 first.0 ≡ Less → AreBelow lower upper
+      → R last.0 first.0 ≡ Less → AreBelow R lower upper
   below_by_ends lower upper last first up up_upper at at_first less j d within i c inside =
       let at_end = found-at lower (length lower - 1) last c (omega arith) at in
       let at_start = found-at upper 0 first d (omega arith) at_first in
@@ -112,7 +109,7 @@ module _ (R : KeyTuple → KeyTuple → Ordering) (total : IsTotalOrder R) where
 
   -- the higher behind the lower
   pub joined_right : (left right : Entries) → IsStrictlySortedBy R (keys_of right)
-      → AreBelow left right
+      → AreBelow R left right
       → counts_of (left ++ right) ≡ merged R (counts_of left) (counts_of right)
   joined_right left right up below =
       counts-append left right
@@ -141,7 +138,7 @@ module _ (R : KeyTuple → KeyTuple → Ordering) (total : IsTotalOrder R) where
       (above-each e.0 right (recursion_from_All (λ f. R f.0 e.0 ≡ Less) right all.0)))
 
   pub joined_left : (left right : Entries) → IsStrictlySortedBy R (keys_of right)
-      → AreBelow right left
+      → AreBelow R right left
       → counts_of (right ++ left) ≡ merged R (counts_of left) (counts_of right)
   joined_left left right up below =
       counts-append right left
@@ -151,10 +148,10 @@ module _ (R : KeyTuple → KeyTuple → Ordering) (total : IsTotalOrder R) where
 
   -- lists with other names
   module _ (left right lower upper whole : Entries) (is_lower : lower ≡ left)
-      (is_upper : upper ≡ right) (below : AreBelow lower upper) where
-    below-same : AreBelow left right
+      (is_upper : upper ≡ right) (below : AreBelow R lower upper) where
+    below-same : AreBelow R left right
     below-same =
-        subst (λ l. AreBelow l right) is_lower (subst (λ u. AreBelow lower u) is_upper below)
+        subst (λ l. AreBelow R l right) is_lower (subst (λ u. AreBelow R lower u) is_upper below)
 
     pub whole_right : IsStrictlySortedBy R (keys_of right) → whole ≡ left ++ right
         → counts_of whole ≡ merged R (counts_of left) (counts_of right)

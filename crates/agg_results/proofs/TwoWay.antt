@@ -15,6 +15,7 @@ use Rattle.agg_request.proofs.CheckedRequests.{Any-back}
 use Rattle.agg_results.specs.Counts.{PassesCount, merged}
 use Rattle.agg_results.specs.Intermediate.{ArePlain, Entries, IsPlain, TupleEntry, counts_of}
 use Rattle.agg_results.specs.Intermediate.{plain_entry}
+use Rattle.agg_results.specs.Merging.{IsFew}
 use Rattle.agg_results.proofs.Counts.{Ascend, Ascend-merged, merged-nothing}
 use Rattle.agg_results.proofs.Merged.{merge, merged-is_merge}
 
@@ -57,10 +58,6 @@ whole-up R total whole left right is up =
     (Ascend-merged R total (counts_of left) (counts_of right) (counts-up R left up))
 
 -- ---- counts of 2^64 or more
-
--- an entry's count is below
-abbrev pub IsFew : TupleEntry → Type 0
-IsFew e = e.1.doc_count < 2 ^ 64
 
 -- counts below aren't
 pub none_passes : (es : Entries) → All IsFew es → ¬ (PassesCount (counts_of es))

@@ -1,13 +1,16 @@
 -- What merging makes of two intermediate results, and when it is refused.
-use Rattle.std.specs.Prelude.{◌≡◌, ◌≢◌, ◌<◌, ◌==◌, ◌⊎◌, ℕ, List, Option, None, Some}
-use Rattle.std.specs.Prelude.{if◌then◌else◌}
+use Rattle.std.specs.Prelude.{◌≡◌, ◌≢◌, ◌<◌, ◌==◌, ◌^◌, ◌⊎◌, ℕ, List, Option, None, Some}
+use Rattle.std.specs.Prelude.{All, if◌then◌else◌}
+use Rattle.std.specs.declared.cmp.Ordering.{Ordering}
+use Rattle.std.specs.declared.cmp.Ordering.TheVariants.{Less}
 use Rattle.agg_values.specs.KeyOrder.{SourceRules, tuple_order}
 use Rattle.agg_values.specs.Names.{value_of}
+use Rattle.agg_values.specs.Tuple.{KeyTuple}
 use Rattle.agg_request.specs.Groups.{Group}
 use Rattle.agg_results.specs.Counts.{PassesCount, merged, trimmed}
-use Rattle.agg_results.specs.Intermediate.{Entries, Held, as_result, composite_of, counts_of}
-use Rattle.agg_results.specs.Intermediate.{entries_of, held_composite, orders_of, plain_entries}
-use Rattle.agg_results.specs.Intermediate.{target_size_of}
+use Rattle.agg_results.specs.Intermediate.{Entries, Held, TupleEntry, as_result, composite_of}
+use Rattle.agg_results.specs.Intermediate.{counts_of, entries_of, held_composite, orders_of}
+use Rattle.agg_results.specs.Intermediate.{plain_entries, target_size_of}
 use Rattle.agg_results.specs.declared.intermediate.results.IntermediateAggregationResult as declared
 use declared.{IntermediateAggregationResult}
 use Rattle.agg_results.specs.declared.intermediate as intermediate
@@ -27,6 +30,14 @@ CompositesDiffer c d =
 abbrev pub trimmed_composite : IntermediateCompositeBucketResult → IntermediateCompositeBucketResult
 trimmed_composite c =
     composite_of (orders_of c) (target_size_of c) (trimmed (target_size_of c) (entries_of c))
+
+-- each entry of a list is below each of another
+abbrev pub AreBelow : (KeyTuple → KeyTuple → Ordering) → Entries → Entries → Type 0
+AreBelow order lower upper = All (λ f. All (λ e. order e.0 f.0 ≡ Less) lower) upper
+
+-- an entry's count is below 2^64
+abbrev pub IsFew : TupleEntry → Type 0
+IsFew e = e.1.doc_count < 2 ^ 64
 
 -- the counts of two lists of entries, added by tuple
 abbrev pub joined_counts : SourceRules → Entries → Entries → List Group

@@ -1,14 +1,13 @@
 //! Two ascending lists of entries as one.
 ghost use Rattle.std.specs.Prelude.{◌≡◌, ◌≤◌, ◌<◌, ◌+◌, ◌^◌, ◌++◌, ◌∷◌, ◌⊎◌, [], All, IfNone, IfOk};
 ghost use Rattle.std.specs.Prelude.{IfSome, IsErrOf, IsTrue, OnOk};
-ghost use Rattle.std.specs.declared.cmp.Ordering.TheVariants.{Less};
 ghost use Rattle.std.specs.List.Sorted.{IsStrictlySortedBy};
 ghost use Rattle.std.specs.Map.{keys_of};
 ghost use Rattle.agg_values.specs.KeyOrder.{tuple_order};
 ghost use Rattle.agg_results.specs.Counts.{PassesCount};
 ghost use Rattle.agg_results.specs.Intermediate.{ArePlain, Entries, IsPlain, TupleEntry, counts_of};
 ghost use Rattle.agg_results.specs.Intermediate.{plain_entries, plain_entry};
-ghost use Rattle.agg_results.specs.Merging.{joined_counts};
+ghost use Rattle.agg_results.specs.Merging.{AreBelow, IsFew, joined_counts};
 
 use super::IntermediateTermBucketEntry;
 use crate::MergeError;
@@ -83,8 +82,7 @@ fn merge_lists(
 fn is_below(orders: &[(Order, MissingOrder)], lower: &[HeldEntry], upper: &[HeldEntry]) -> bool
     requires ascending { IsStrictlySortedBy (tuple_order orders.now) (keys_of lower.now) }
     requires other_ascending { IsStrictlySortedBy (tuple_order orders.now) (keys_of upper.now) }
-    ensures { IsTrue result
-        → All (λ f. All (λ e. tuple_order orders.now e.0 f.0 ≡ Less) lower.now) upper.now }
+    ensures { IsTrue result → AreBelow (tuple_order orders.now) lower.now upper.now }
 {
     let Some(last) = lower.last() else {
         return true;
@@ -101,7 +99,7 @@ fn joined(
     mut upper: Vec<HeldEntry>,
 ) -> Result<Vec<HeldEntry>, OutOfMemory>
     ensures joined { IfOk result (λ whole. whole.items ≡ lower.items ++ upper.items) }
-    ensures few { IfOk result (λ whole. All (λ e. e.1.doc_count < 2 ^ 64) whole.items) }
+    ensures few { IfOk result (λ whole. All IsFew whole.items) }
 {
     read_counts(&lower);
     read_counts(&upper);
@@ -115,7 +113,7 @@ fn joined(
 // Reads each count, since contracts know the range of a number that is read. Nothing of it is left
 // to run.
 fn read_counts(entries: &[HeldEntry])
-    ensures { All (λ e. e.1.doc_count < 2 ^ 64) entries.now }
+    ensures { All IsFew entries.now }
 {
     for (_, entry) in entries {
         read_count(entry);
@@ -194,7 +192,7 @@ fn move_first(from: &mut VecDeque<HeldEntry>, whole: &mut Vec<HeldEntry>) -> Res
     ensures { OnOk result ((e : TupleEntry) (es : Entries)
         → from.old.items ≡ e ∷ es
         → (whole.new.items ≡ whole.old.items ++ e ∷ []) × (from.new.items ≡ es)
-        × (e.1.doc_count < 2 ^ 64)) }
+        × IsFew e) }
 {
     let Some(entry) = from.pop_front() else {
         return Ok(());
@@ -238,7 +236,7 @@ fn move_both(
 // Moves all entries behind others.
 fn move_all(mut from: VecDeque<HeldEntry>, whole: &mut Vec<HeldEntry>) -> Result<(), OutOfMemory>
     ensures moved { OnOk result (whole.new.items ≡ whole.old.items ++ from.items) }
-    ensures few { OnOk result (All (λ e. e.1.doc_count < 2 ^ 64) from.items) }
+    ensures few { OnOk result (All IsFew from.items) }
 {
     while let Some(entry) = from.pop_front() {
         whole.push(entry)?;

@@ -1,7 +1,7 @@
 use Rattle.std.proofs.Common.{sym, subst}
 use Rattle.std.specs.List.{All}
 use Rattle.std.proofs.lemmas.List.Elements.{All-append}
-use Rattle.agg_results.proofs.TwoWay.{IsFew}
+use Rattle.agg_results.specs.Merging.{IsFew}
 use Rattle.agg_results.proofs.intermediate.merging.joined.Goals as goal
 
 pub returns-clause-few : goal.returns-clause-few

@@ -1,7 +1,7 @@
 use Rattle.std.proofs.Common.{◌^◌, ◌<◌, ◌++◌, ◌∷◌, [], sym, ap, ◌∙◌, subst, append_assoc, rules}
 use Rattle.std.specs.List.{All}
 use Rattle.std.proofs.lemmas.List.Elements.{All-cons}
-use Rattle.agg_results.proofs.TwoWay.{IsFew}
+use Rattle.agg_results.specs.Merging.{IsFew}
 use Rattle.agg_results.proofs.intermediate.merging.move_all.Goals as goal
 
 pub loop-entry-preserved : goal.loop-entry-preserved

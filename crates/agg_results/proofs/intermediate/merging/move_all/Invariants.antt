@@ -1,6 +1,6 @@
 use Rattle.std.proofs.Common.{◌≡◌, ◌++◌, length}
 use Rattle.std.specs.List.{All}
-use Rattle.agg_results.proofs.TwoWay.{IsFew}
+use Rattle.agg_results.specs.Merging.{IsFew}
 use Rattle.agg_results.proofs.intermediate.merging.move_all.Given as goal
 
 abbrev pub decreases-loop-entry : goal.decreases-loop-entry
