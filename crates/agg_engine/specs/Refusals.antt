@@ -8,9 +8,8 @@ use Rattle.agg_request.specs.Request.{Request}
 use Rattle.agg_results.specs.Results.{IsResults, Results, after_in, buckets_in}
 use Rattle.agg_engine.specs.NamedComposite.{NamesComposite}
 use Rattle.agg_engine.specs.Snapshot.{SnapshotDocuments}
-use Rattle.agg_engine.specs.Walk.{HasFault, HasOutOfRange, HasTooMany, MayBeAsked}
-use Rattle.agg_engine.specs.Walk.{matching_documents}
-use Rattle.agg_engine.specs.Walk.{request_at_size, request_behind}
+use Rattle.agg_engine.specs.Walk.{AreResultsAt, HasFault, HasOutOfRange, HasTooMany, MayBeAsked}
+use Rattle.agg_engine.specs.Walk.{matching_documents, request_at_size, request_behind}
 use Rattle.agg_engine.specs.declared.walk.error.WalkError.{WalkError}
 use Rattle.agg_engine.specs.declared.walk.error.WalkError.TheVariants as error
 
@@ -26,16 +25,21 @@ AreRefused limit request documents (error.Aggregation (aggregation.BucketLimitEx
     × ((results : Results) × IsResults request documents results × (n ≡ buckets_in results))
 AreRefused limit request documents _ = ⊥
 
+-- why the results of a snapshot are refused
+abbrev pub AreRefusedAt : {B : Type 0} → ℕ → List ℕ → QueryTree → Request B → SnapshotDocuments
+    → WalkError → Type 0
+AreRefusedAt limit name query request s =
+    AreRefused limit (request_at_size name s.page_size request) (matching_documents query s)
+
 -- the walk reaches a snapshot whose results are refused, and those before it are not
 abbrev pub IsRefused : {B : Type 0} → ℕ → List ℕ → QueryTree → Request B
     → List SnapshotDocuments → WalkError → Type 0
 IsRefused limit name query request [] error = ⊥
 IsRefused limit name query request (s ∷ snapshots) error =
-    AreRefused limit (request_at_size name s.page_size request) (matching_documents query s) error
-    ⊎ (((other : WalkError) → ¬ (AreRefused limit (request_at_size name s.page_size request)
-    (matching_documents query s) other))
+    AreRefusedAt limit name query request s error
+    ⊎ (((other : WalkError) → ¬ (AreRefusedAt limit name query request s other))
     × ((r : Results)
-    × IsResults (request_at_size name s.page_size request) (matching_documents query s) r
+    × AreResultsAt name query request s r
     × MatchOption (after_in name r)
     ⊥
     (λ tuple. IsRefused limit name query (request_behind name tuple request) snapshots error)))

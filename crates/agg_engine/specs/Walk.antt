@@ -65,6 +65,12 @@ request_at_size name size = request_changed_at (with_size size) name
 abbrev pub request_behind : {B : Type 0} → List ℕ → KeyTuple → Request B → Request B
 request_behind name tuple = request_changed_at (with_after tuple) name
 
+-- the results of a snapshot
+abbrev pub AreResultsAt : {B : Type 0} → List ℕ → QueryTree → Request B → SnapshotDocuments
+    → Results → Type 0
+AreResultsAt name query request s results =
+    IsResults (request_at_size name s.page_size request) (matching_documents query s) results
+
 -- the walk: each snapshot's results, as long as the page before is full; it has ended where a page
 -- isn't full
 abbrev pub IsWalk : {B : Type 0} → List ℕ → QueryTree → Request B
@@ -73,7 +79,7 @@ IsWalk name query request [] [] ended = ended ≡ false
 IsWalk name query request [] (r ∷ rs) ended = ⊥
 IsWalk name query request (s ∷ snapshots) [] ended = ⊥
 IsWalk name query request (s ∷ snapshots) (r ∷ rs) ended =
-    IsResults (request_at_size name s.page_size request) (matching_documents query s) r
+    AreResultsAt name query request s r
     × MatchOption (after_in name r)
     ((rs ≡ []) × (ended ≡ true))
     (λ tuple. IsWalk name query (request_behind name tuple request) snapshots rs ended)
