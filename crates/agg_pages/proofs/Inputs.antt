@@ -49,15 +49,15 @@ input_some builders name_of bytes i few utf8 lines = record {
 
 pub no_text : {B : Type 0} (builders : List B) (name_of : B → List ℕ) (bytes : List ℕ)
     → ¬ (IsUtf8 bytes) → AreNoInput builders name_of bytes
-no_text builders name_of bytes none (i, h) = none (IsUtf8-from_is_utf8 bytes h.text)
+no_text builders name_of bytes none i h = none (IsUtf8-from_is_utf8 bytes h.text)
 
 pub too_long : {B : Type 0} (builders : List B) (name_of : B → List ℕ) (bytes : List ℕ)
     → 67108864 < length bytes → AreNoInput builders name_of bytes
-too_long builders name_of bytes long (i, h) = absurd (omega (arith, long, h.few))
+too_long builders name_of bytes long i h = absurd (omega (arith, long, h.few))
 
 pub no_lines : {B : Type 0} (builders : List B) (name_of : B → List ℕ) (bytes : List ℕ)
     → NoneIs (IsInputOfLines builders name_of (lines_of bytes)) → AreNoInput builders name_of bytes
-no_lines builders name_of bytes none (i, h) = none i h.lines
+no_lines builders name_of bytes none i h = none i h.lines
 
 -- ---- lines that are no input
 

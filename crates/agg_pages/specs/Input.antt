@@ -6,6 +6,7 @@ use Rattle.agg_pages.specs.declared.input.Input as stored
 use Rattle.agg_pages.specs.declared.input.header.Header.{Header}
 use Rattle.agg_pages.specs.Header.{IsHeaderLine}
 use Rattle.agg_pages.specs.Lines.{lines_of}
+use Rattle.agg_pages.specs.Nothing.{NoneIs}
 use Rattle.agg_pages.specs.SnapshotLines.{AreSnapshots}
 
 -- an input: what a walk is asked for, with such builders of queries, and over what
@@ -38,4 +39,4 @@ pub record IsInput {B : Type 0} (builders : List B) (name_of : B → List ℕ) (
 
 -- the bytes are no input
 abbrev pub AreNoInput : {B : Type 0} → List B → (B → List ℕ) → List ℕ → Type 0
-AreNoInput {B = B} builders name_of bytes = ¬ ((i : Input B) × IsInput builders name_of bytes i)
+AreNoInput builders name_of bytes = NoneIs (IsInput builders name_of bytes)

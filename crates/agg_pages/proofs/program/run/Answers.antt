@@ -81,7 +81,7 @@ returns-in-Err g c =
       taken = c.in-Err.ensures.taken;
       complete = λ walk (bytes, j, told, is, valid) no_read_fault no_write_fault.
           elim kinds [
-            | inl none ↦ absurd ((c.in-Err.ensures.no_input (ap Err none) bytes told).0 (j, is))
+            | inl none ↦ absurd ((c.in-Err.ensures.no_input (ap Err none) bytes told).0 j is)
             | inr other ↦ elim other [
               | inl fault ↦ absurd (no_read_fault (c.in-Err.ensures.read_fault (ap Err fault)))
               | inr memory ↦ inr memory
