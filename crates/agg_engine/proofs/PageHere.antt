@@ -22,7 +22,7 @@ use Rattle.agg_results.specs.Results.{Results, after_in, after_tuple, buckets_in
 use Rattle.agg_results.specs.ShownResults.{shown_composite, shown_result, shown_results}
 use Rattle.agg_request.proofs.RequestTrees.{agg-made}
 use Rattle.agg_engine.specs.PageAnswers.{asked_with}
-use Rattle.agg_engine.specs.Refusals.{AreRefused}
+use Rattle.agg_engine.specs.Refusals.{AreRefusedAt}
 use Rattle.agg_engine.specs.Snapshot.{SnapshotDocuments}
 use Rattle.agg_engine.specs.Walk.{HasOutOfRange, HasTooMany, matching_documents, request_at_size}
 use Rattle.agg_engine.specs.declared.walk.error.WalkError.{WalkError}
@@ -154,7 +154,7 @@ module _ (B : Type 0) (name : List ℕ) (query : QueryTree) (c : CompositeAggreg
   module _ (limit : ℕ) where
     -- the results of the snapshot are refused
     abbrev pub AreRefusedHere : WalkError → Type 0
-    AreRefusedHere = AreRefused limit request_here (matching_documents query s)
+    AreRefusedHere = AreRefusedAt limit name query (one_from B name c after) s
 
     out_of_range-here : HasOutOfRange request_here (matching_documents query s)
         → HasOwnStartOutOfRange c (matching_documents query s)
