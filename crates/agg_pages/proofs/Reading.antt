@@ -1,5 +1,5 @@
 -- Bytes that were not read as an input.
-use Rattle.std.proofs.Common.{◌≡◌, ◌⊎◌, inl, inr, refl}
+use Rattle.std.proofs.Common.{◌≡◌, inl, inr, refl}
 use Rattle.agg_pages.specs.declared.input.InputError.{InputError}
 use Rattle.agg_pages.specs.declared.input.InputError.TheVariants as refused
 use Rattle.agg_pages.specs.declared.status.Status.{Status}
@@ -7,7 +7,7 @@ use Rattle.agg_pages.specs.declared.source.reading.ReadAllError.{ReadAllError}
 use Rattle.agg_pages.specs.declared.source.reading.ReadAllError.TheVariants.{ReadFault, TooLong}
 use Rattle.agg_pages.specs.declared.source.reading.ReadAllError.TheVariants.{OutOfMemory}
 use Rattle.agg_pages.specs.declared.status.Status.TheVariants as status
-use Rattle.agg_pages.specs.Status.{status_of_input, status_of_reading}
+use Rattle.agg_pages.specs.Status.{IsUnanswered, status_of_input, status_of_reading}
 
 -- the one fault of reading that is a fault of the input
 pub too_long-from_status : (error : ReadAllError) → status_of_reading error ≡ status.Input
@@ -23,10 +23,6 @@ not_input-from_status refused.NotInput e = refl
 not_input-from_status refused.OutOfMemory e = cc
 
 -- ---- statuses without an answer
-
-abbrev pub IsUnanswered : Status → Type 0
-IsUnanswered s =
-    (s ≡ status.Input) ⊎ ((s ≡ status.ReadFault) ⊎ (s ≡ status.OutOfMemory))
 
 pub no_ok : (s : Status) → IsUnanswered s → s ≡ status.Ok → ⊥
 no_ok s (inl e) k = cc

@@ -11,8 +11,9 @@ use Rattle.agg_segment.specs.Segment.{HasSign, IsMixed}
 use Rattle.agg_segment.specs.Signs.{sign_of}
 use Rattle.agg_segment.specs.declared.signs.Sign.{Sign}
 use Rattle.agg_engine.specs.Snapshot.{SnapshotDocuments}
-use Rattle.agg_pages.specs.SnapshotLines.{FitSegment, Line, StandForSnapshots, begins, holds, opens}
-use Rattle.agg_pages.specs.SnapshotLines.{begun_snapshots, leading_documents, opened_segments}
+use Rattle.agg_pages.specs.SnapshotLines.{FitSegment, Line, SegmentsFit, StandForSnapshots, begins}
+use Rattle.agg_pages.specs.SnapshotLines.{begun_snapshots, holds, leading_documents, opens}
+use Rattle.agg_pages.specs.SnapshotLines.{opened_segments}
 use Rattle.agg_pages.specs.Snapshots.{AreFit, Made, Open, all_segments, begun, last_segment}
 use Rattle.agg_pages.specs.Snapshots.{snapshots_made, whole_snapshot, with_line}
 use Rattle.agg_pages.proofs.Beside.{map-append}
@@ -124,9 +125,6 @@ pub begun-made : (size : ℕ) (lines : List Line)
 begun-made size lines = sym (lines_follow lines (first size))
 
 -- ---- snapshots whose segments may hold their documents
-
-abbrev SegmentsFit : SnapshotDocuments → Type 0
-SegmentsFit s = All FitSegment s.segments
 
 last_fits : (opened : Bool) (documents : List Fields) → FitSegment documents
     → All FitSegment (last_segment opened documents)

@@ -10,6 +10,7 @@ use Rattle.agg_pages.specs.Answer.{walk_arguments}
 use Rattle.agg_pages.specs.Input.{Input, IsInput, max_input_bytes}
 use Rattle.agg_pages.specs.Observed.{Observed, HadFault, IsUntouched, bytes_after, bytes_before}
 use Rattle.agg_pages.specs.Reading.{GivesAll, TakesAtMost}
+use Rattle.agg_pages.specs.Status.{IsUnanswered}
 
 -- a run of the program: its arguments and its status
 pub record Command : Type 0 where
@@ -63,8 +64,7 @@ pub record IsAnswered {R W B : Type 0} (builders : List B) (name_of : B → List
   pub prefix : command.status ≡ WriteFault → HasWritten builders name_of IsReplyPrefix source sink
   -- a usage touches nothing, and these write nothing
   pub untouched : command.status ≡ Usage → IsUntouched source × IsUntouched sink
-  pub quiet : (command.status ≡ NotInput)
-      ⊎ ((command.status ≡ ReadFault) ⊎ (command.status ≡ OutOfMemory)) → IsUntouched sink
+  pub quiet : IsUnanswered command.status → IsUntouched sink
   -- whatever the status, no more than one byte past the limit is gone
   pub taken : TakesAtMost (max_input_bytes + 1) (bytes_before source) (bytes_after source)
   -- a valid call without a fault is answered, unless memory is refused

@@ -81,11 +81,15 @@ pub record FitSegment (documents : List Fields) : Type 0 where
   pub few : length documents ≤ MAX_DOCUMENTS
   pub unmixed : ¬ IsMixed documents
 
+-- each segment of a snapshot may hold its documents
+abbrev pub SegmentsFit : SnapshotDocuments → Type 0
+SegmentsFit snapshot = All FitSegment snapshot.segments
+
 -- lines that stand for snapshots: no segment begins before the first, and each segment may hold its
 -- documents
 pub record StandForSnapshots (lines : List Line) : Type 0 where
   pub none : leading_segments lines ≡ []
-  pub fit : All (λ s. All FitSegment s.segments) (begun_snapshots lines)
+  pub fit : All SegmentsFit (begun_snapshots lines)
 
 -- the snapshots of the lines behind the header
 abbrev pub AreSnapshots : List (List ℕ) → List SnapshotDocuments → Type 0

@@ -8,7 +8,7 @@ use Rattle.agg_engine.specs.Snapshot.{SnapshotDocuments, snapshots_documents}
 use Rattle.agg_pages.specs.declared.input.snapshots.OpenSnapshot.{OpenSnapshot}
 use Rattle.agg_pages.specs.declared.input.snapshots.SnapshotsBuilder.{SnapshotsBuilder}
 use Rattle.agg_pages.specs.DocumentLine.{IsDocumentLine}
-use Rattle.agg_pages.specs.SnapshotLines.{FitSegment, Line, Says, begins, holds, opens}
+use Rattle.agg_pages.specs.SnapshotLines.{FitSegment, Line, Says, SegmentsFit, begins, holds, opens}
 use Rattle.agg_pages.specs.SnapshotLines.{unopened_segment}
 
 -- ---- a document more
@@ -88,7 +88,7 @@ with_line (holds document) made = record made { current = with_document document
 
 -- each segment may hold its documents
 pub record AreFit (made : Made) : Type 0 where
-  pub closed : All (λ s. All FitSegment s.segments) made.closed
+  pub closed : All SegmentsFit made.closed
   pub segments : All FitSegment made.current.segments
   pub documents : FitSegment made.current.documents
 

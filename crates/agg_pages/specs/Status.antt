@@ -1,5 +1,5 @@
 -- How a run of the program ended.
-use Rattle.std.specs.Prelude.{ℕ}
+use Rattle.std.specs.Prelude.{◌≡◌, ◌⊎◌, ℕ}
 use Rattle.agg_pages.specs.declared.input.InputError.{InputError}
 use Rattle.agg_pages.specs.declared.input.InputError.TheVariants as refused
 use Rattle.agg_pages.specs.declared.source.reading.ReadAllError.{ReadAllError}
@@ -17,6 +17,10 @@ code_of Input = 3
 code_of ReadFault = 4
 code_of WriteFault = 5
 code_of OutOfMemory = 6
+
+-- a status without an answer: the bytes are no input, or reading or memory failed
+abbrev pub IsUnanswered : Status → Type 0
+IsUnanswered status = (status ≡ Input) ⊎ ((status ≡ ReadFault) ⊎ (status ≡ OutOfMemory))
 
 -- the status where not all bytes were read
 abbrev pub status_of_reading : ReadAllError → Status

@@ -11,6 +11,7 @@ ghost use Rattle.agg_pages.specs.Input.{Input as Meant, input_of, max_input_byte
 ghost use Rattle.agg_pages.specs.Observed.{over};
 ghost use Rattle.agg_pages.specs.Reading.{TakesAtMost};
 ghost use Rattle.agg_pages.specs.Run.{GaveInput, HadNoInput, IsAnswered, command};
+ghost use Rattle.agg_pages.specs.Status.{IsUnanswered};
 
 use crate::input::{Input, read_input};
 use crate::output::{refusal_text, walk_text};
@@ -107,8 +108,7 @@ fn answer<R: Source, L: Ledger>(
         (λ reply. (i : Meant _)
         × GaveInput builders.items (λ b. b.name) (over R.left R.faults source.old source.new) i
         × IsReply reply.refused i (string_bytes reply.text)) }
-    ensures kinds { IfErr result (λ status. (status ≡ Status.Input)
-        ⊎ ((status ≡ Status.ReadFault) ⊎ (status ≡ Status.OutOfMemory))) }
+    ensures kinds { IfErr result IsUnanswered }
     ensures no_input { result ≡ Err Status.Input
         → HadNoInput builders.items (λ b. b.name) (over R.left R.faults source.old source.new) }
     ensures read_fault { result ≡ Err Status.ReadFault
