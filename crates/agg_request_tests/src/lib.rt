@@ -12,6 +12,8 @@ mod custom_order;
 #[cfg(test)]
 mod field_names;
 #[cfg(test)]
+mod given;
+#[cfg(test)]
 mod matches;
 #[cfg(test)]
 mod occurrences;

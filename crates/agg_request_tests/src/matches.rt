@@ -1,13 +1,35 @@
 //! Which documents small queries match.
+use crate::given::{Given, segment};
 use agg_request::read_query;
-use agg_segment::{Document, FieldValue, Matches, SegmentBuilder, SegmentReader};
-use agg_values::{Address, DocId, Text};
+use agg_segment::Matches;
+use agg_values::DocId;
 use serde_json::Value;
-use std::alloc::Global;
 use std::test::Fail;
 
+// The documents.
+const DOCUMENTS: &[&[(&str, Given)]] = &[
+    &[("number", Given::Signed(5)), ("text", Given::Text("b"))],
+    &[
+        ("number", Given::Unsigned(5)),
+        ("number", Given::Unsigned(u64::MAX)),
+        ("date", Given::Date(5)),
+    ],
+    &[
+        ("date", Given::Signed(5)),
+        ("text", Given::Text("d")),
+        ("truth", Given::Truth(true)),
+    ],
+    &[],
+    &[
+        ("number", Given::Signed(7)),
+        ("number", Given::Text("5")),
+        ("date", Given::Date(9)),
+        ("address", Given::Address(7)),
+    ],
+];
+
 // Queries, and the documents that they match.
-const QUERIES: [(&str, &[DocId]); 30] = [
+const QUERIES: &[(&str, &[DocId])] = &[
     (r#"{"all":{}}"#, &[0, 1, 2, 3, 4]),
     (r#"{"empty":{}}"#, &[]),
     (r#"{"term":{"field":"number","value":"i64:5"}}"#, &[0, 1]),
@@ -70,53 +92,11 @@ const QUERIES: [(&str, &[DocId]); 30] = [
     ),
 ];
 
-fn add(alloc: Global, document: &mut Document, field: &str, value: FieldValue) -> Result<(), Fail> {
-    document.add(Text::copy_of(alloc, field)?, value)?;
-    Ok(())
-}
-
-fn text(alloc: Global, text: &str) -> Result<FieldValue, Fail> {
-    Ok(FieldValue::Str(Text::copy_of(alloc, text)?))
-}
-
-// Document 0 has the number 5 and a text, 1 has the number 5, the greatest number and the date 5,
-// 2 has the number 5 in the dates' field, a text and a truth value, 3 has nothing, and 4 has the
-// number 7, the text 5, the date 9 and an address.
-fn segment(alloc: Global) -> Result<SegmentReader, Fail> {
-    let mut builder = SegmentBuilder::new(alloc);
-    let mut document = Document::new(alloc);
-    add(alloc, &mut document, "number", FieldValue::I64(5))?;
-    add(alloc, &mut document, "text", text(alloc, "b")?)?;
-    builder.add_document(document)?;
-    let mut document = Document::new(alloc);
-    add(alloc, &mut document, "number", FieldValue::U64(5))?;
-    add(alloc, &mut document, "number", FieldValue::U64(u64::MAX))?;
-    add(alloc, &mut document, "date", FieldValue::Date(5))?;
-    builder.add_document(document)?;
-    let mut document = Document::new(alloc);
-    add(alloc, &mut document, "date", FieldValue::I64(5))?;
-    add(alloc, &mut document, "text", text(alloc, "d")?)?;
-    add(alloc, &mut document, "truth", FieldValue::Bool(true))?;
-    builder.add_document(document)?;
-    builder.add_document(Document::new(alloc))?;
-    builder.add_document(last_document(alloc)?)?;
-    Ok(builder.build()?)
-}
-
-fn last_document(alloc: Global) -> Result<Document, Fail> {
-    let mut document = Document::new(alloc);
-    add(alloc, &mut document, "number", FieldValue::I64(7))?;
-    add(alloc, &mut document, "number", text(alloc, "5")?)?;
-    add(alloc, &mut document, "date", FieldValue::Date(9))?;
-    add(alloc, &mut document, "address", FieldValue::Ip(Address(7)))?;
-    Ok(document)
-}
-
 #[test]
 fn queries_match_these_documents(rt: HostRuntime) -> Result<(), Fail> {
     let alloc = rt.alloc();
-    let segment = segment(alloc)?;
-    for (query, documents) in QUERIES {
+    let segment = segment(alloc, DOCUMENTS)?;
+    for &(query, documents) in QUERIES {
         let tree = read_query(alloc, &Value::from_str(alloc, query)?)?;
         let found = Matches::new(alloc, &tree, &segment)?;
         assert_eq!(rt; found.docs(alloc)?.as_slice(), documents, "{query}");
