@@ -1,4 +1,5 @@
 //! Documents whose tuples would be too many to walk, and values of which a source reads some.
+use crate::given::{Given, segment};
 use agg_calendar::CalendarInterval;
 use agg_request::{
     CompositeAggregation, CompositeAggregationSource, DateHistogramCompositeAggregationSource,
@@ -28,30 +29,29 @@ fn sources_multiply_and_a_missing_value_counts_once_where_it_has_a_bucket(
     Ok(())
 }
 
-// The values of the field `m` in documents: each is a date, a text, a truth value or a number, by
-// its letter.
-const MIXED: [&[(char, i64)]; 4] = [
+// Documents with values of the field `m`.
+const MIXED: &[&[(&str, Given)]] = &[
     &[
-        ('d', -1),
-        ('s', 0),
-        ('b', 0),
-        ('n', -5),
-        ('d', 86_400_000_000_000),
-        ('n', 5),
+        ("m", Given::Date(-1)),
+        ("m", Given::Text("1970-01-01")),
+        ("m", Given::Truth(true)),
+        ("m", Given::Signed(-5)),
+        ("m", Given::Date(86_400_000_000_000)),
+        ("m", Given::Signed(5)),
     ],
-    &[('s', 0)],
+    &[("m", Given::Text("1970-01-01"))],
     &[],
-    &[('n', 7), ('n', 7)],
+    &[("m", Given::Signed(7)), ("m", Given::Signed(7))],
 ];
 
 // How many of these a terms source, a histogram and a date source read.
-const READ: [[u64; 3]; 4] = [[6, 4, 2], [1, 0, 0], [0, 0, 0], [2, 2, 0]];
+const READ: &[[u64; 3]] = &[[6, 4, 2], [1, 0, 0], [0, 0, 0], [2, 2, 0]];
 
 #[test]
 fn a_source_counts_the_values_that_it_reads(rt: HostRuntime) -> Result<(), Fail> {
     let alloc = rt.alloc();
-    let segment = mixed_documents(alloc)?;
-    for (doc, read) in (0..4).zip(READ) {
+    let segment = segment(alloc, MIXED)?;
+    for (doc, &read) in (0..4).zip(READ) {
         assert_eq!(rt; counts(alloc, &segment, doc, false)?, read, "{doc}");
         let with_bucket = [read[0].max(1), read[1].max(1), read[2].max(1)];
         assert_eq!(rt; counts(alloc, &segment, doc, true)?, with_bucket, "{doc}");
@@ -81,31 +81,6 @@ fn count_one(
     let mut sources = ItemList::new(alloc);
     sources.push(source)?;
     count(alloc, sources, segment, doc)
-}
-
-fn mixed_documents(alloc: Global) -> Result<SegmentReader, Fail> {
-    let mut builder = SegmentBuilder::new(alloc);
-    for values in MIXED {
-        builder.add_document(document(alloc, values)?)?;
-    }
-    Ok(builder.build()?)
-}
-
-fn document(alloc: Global, values: &[(char, i64)]) -> Result<Document, Fail> {
-    let mut document = Document::new(alloc);
-    for (letter, number) in values {
-        document.add(Text::copy_of(alloc, "m")?, value(alloc, *letter, *number)?)?;
-    }
-    Ok(document)
-}
-
-fn value(alloc: Global, letter: char, number: i64) -> Result<FieldValue, Fail> {
-    match letter {
-        'd' => Ok(FieldValue::Date(number)),
-        's' => Ok(FieldValue::Str(Text::copy_of(alloc, "1970-01-01")?)),
-        'b' => Ok(FieldValue::Bool(true)),
-        _ => Ok(FieldValue::I64(number)),
-    }
 }
 
 fn numbers_of(alloc: Global, missing_bucket: bool) -> Result<CompositeAggregationSource, Fail> {
