@@ -1,9 +1,10 @@
 use agg_request::read_query;
 use serde_json::Value;
+use std::alloc::Global;
 use std::test::Fail;
 
 // Values with what is read, as it is shown.
-const VALUES: [(&str, &str); 64] = [
+const VALUES: &[(&str, &str)] = &[
     (r#"{"all":{}}"#, "Ok(All)"),
     (r#"{"empty":{}}"#, "Ok(Empty)"),
     (
@@ -154,12 +155,16 @@ const VALUES: [(&str, &str); 64] = [
     (r#"{"all":null}"#, "Err(Grammar)"),
 ];
 
+// What is read of a text, as it is shown.
+fn shown(alloc: Global, text: &str) -> Result<String, Fail> {
+    let read = read_query(alloc, &Value::from_str(alloc, text)?);
+    Ok(format!(in alloc; "{read:?}")?)
+}
+
 #[test]
 fn reads_queries(rt: HostRuntime) -> Result<(), Fail> {
-    let alloc = rt.alloc();
-    for (text, shown) in VALUES {
-        let read = read_query(alloc, &Value::from_str(alloc, text)?);
-        assert_eq!(rt; format!(in alloc; "{read:?}")?.as_str(), shown, "{text}");
+    for &(text, expected) in VALUES {
+        assert_eq!(rt; shown(rt.alloc(), text)?.as_str(), expected, "{text}");
     }
     Ok(())
 }
