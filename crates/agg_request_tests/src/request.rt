@@ -9,11 +9,11 @@ use std::alloc::Global;
 use std::test::Fail;
 
 // The unused builders, in order: their names, and whether a query of theirs matches everything.
-const BUILDERS: [(&str, bool); 3] = [("b", true), ("c", true), ("b", false)];
+const BUILDERS: &[(&str, bool)] = &[("b", true), ("c", true), ("b", false)];
 
 // Requests with what is read of them, each aggregation under its names and down to the third level,
 // a builder as its name and its query; or the refusal.
-const REQUESTS: [(&str, &str); 47] = [
+const REQUESTS: &[(&str, &str)] = &[
     ("{}", ""),
     (r#"{"a":{"filter":{"all":{}}}}"#, "a filter All; "),
     (
@@ -138,7 +138,7 @@ const REQUESTS: [(&str, &str); 47] = [
 ];
 
 // The kinds that are left out.
-const UNSUPPORTED_KINDS: [&str; 10] = [
+const UNSUPPORTED_KINDS: &[&str] = &[
     "avg",
     "stats",
     "extended_stats",
@@ -151,8 +151,16 @@ const UNSUPPORTED_KINDS: [&str; 10] = [
     "top_hits",
 ];
 
+// The metrics, and what they may not hold: the rest of their texts from their own members on.
+const METRICS: &[&str] = &["value_count", "max", "min", "sum"];
+
+const NO_MEMBERS: &[&str] = &[
+    r#""field":"f","missing":0}"#,
+    r#""field":"f"},"aggs":{"b":{}}"#,
+];
+
 // The names of members of a bucket.
-const RESERVED_NAMES: [&str; 2] = ["key", "doc_count"];
+const RESERVED_NAMES: &[&str] = &["key", "doc_count"];
 
 // A builder of a query for every document, or for none.
 #[derive(Drop)]
@@ -186,22 +194,35 @@ fn shown_query(alloc: Global, query: &FilterQuery) -> Result<String, Fail> {
     }
 }
 
-// What an aggregation asks.
-fn shown_kind(alloc: Global, aggregation: &Aggregation) -> Result<String, Fail> {
+// The kind and the field of a metric, none of a bucket.
+fn metric(aggregation: &Aggregation) -> Option<(&str, &Text)> {
+    match &aggregation.agg {
+        AggregationVariants::Filter(_) | AggregationVariants::Composite(_) => None,
+        AggregationVariants::Count(count) => Some(("value_count", &count.field)),
+        AggregationVariants::Max(max) => Some(("max", &max.field)),
+        AggregationVariants::Min(min) => Some(("min", &min.field)),
+        AggregationVariants::Sum(sum) => Some(("sum", &sum.field)),
+    }
+}
+
+fn shown_bucket(alloc: Global, aggregation: &Aggregation) -> Result<String, Fail> {
     match &aggregation.agg {
         AggregationVariants::Filter(filter) => {
             let query = shown_query(alloc, filter.query())?;
-            Ok(format!(in alloc; "filter {}", query.as_str())?)
+            Ok(format!(in alloc; "filter {query}")?)
         }
         AggregationVariants::Composite(composite) => {
             Ok(format!(in alloc; "composite {}", composite.size)?)
         }
-        AggregationVariants::Count(count) => {
-            Ok(format!(in alloc; "value_count {}", count.field.as_str())?)
-        }
-        AggregationVariants::Max(max) => Ok(format!(in alloc; "max {}", max.field.as_str())?),
-        AggregationVariants::Min(min) => Ok(format!(in alloc; "min {}", min.field.as_str())?),
-        AggregationVariants::Sum(sum) => Ok(format!(in alloc; "sum {}", sum.field.as_str())?),
+        _ => Ok(String::new(alloc)),
+    }
+}
+
+// What an aggregation asks.
+fn shown_kind(alloc: Global, aggregation: &Aggregation) -> Result<String, Fail> {
+    match metric(aggregation) {
+        Some((kind, field)) => Ok(format!(in alloc; "{kind} {}", field.as_str())?),
+        None => shown_bucket(alloc, aggregation),
     }
 }
 
@@ -252,7 +273,7 @@ fn shown(alloc: Global, request: &Aggregations) -> Result<String, Fail> {
 // What is read of a text with those builders.
 fn read(alloc: Global, text: &str) -> Result<String, Fail> {
     let mut builders = Vec::new(alloc);
-    for (name, matches) in BUILDERS {
+    for &(name, matches) in BUILDERS {
         builders.push(NamedBuilder {
             name: Text::copy_of(alloc, name)?,
             builder: Box::new(alloc, Marked { matches })?,
@@ -266,7 +287,7 @@ fn read(alloc: Global, text: &str) -> Result<String, Fail> {
 
 #[test]
 fn reads_requests(rt: HostRuntime) -> Result<(), Fail> {
-    for (text, expected) in REQUESTS {
+    for &(text, expected) in REQUESTS {
         assert_eq!(rt; read(rt.alloc(), text)?.as_str(), expected, "{text}");
     }
     Ok(())
@@ -275,45 +296,32 @@ fn reads_requests(rt: HostRuntime) -> Result<(), Fail> {
 #[test]
 fn refuses_kinds_that_are_left_out(rt: HostRuntime) -> Result<(), Fail> {
     let alloc = rt.alloc();
-    for kind in UNSUPPORTED_KINDS {
+    for &kind in UNSUPPORTED_KINDS {
         let text = format!(in alloc; r#"{{"a":{{"{kind}":{{"field":"f"}}}}}}"#)?;
-        assert_eq!(rt;
-            read(alloc, text.as_str())?.as_str(),
-            "Unsupported",
-            "{kind}"
-        );
+        assert_eq!(rt; read(alloc, &text)?.as_str(), "Unsupported", "{text}");
     }
     Ok(())
 }
 
 #[test]
-fn refuses_what_metrics_and_buckets_may_not_hold(rt: HostRuntime) -> Result<(), Fail> {
+fn refuses_what_metrics_may_not_hold(rt: HostRuntime) -> Result<(), Fail> {
     let alloc = rt.alloc();
-    for kind in ["value_count", "max", "min", "sum"] {
-        for member in [
-            r#""field":"f","missing":0}"#,
-            r#""field":"f"},"aggs":{"b":{}}"#,
-        ] {
+    for &kind in METRICS {
+        for &member in NO_MEMBERS {
             let text = format!(in alloc; r#"{{"a":{{"{kind}":{{{member}}}}}"#)?;
-            assert_eq!(rt;
-                read(alloc, text.as_str())?.as_str(),
-                "Unsupported",
-                "{}",
-                text.as_str()
-            );
+            assert_eq!(rt; read(alloc, &text)?.as_str(), "Unsupported", "{text}");
         }
     }
-    for name in RESERVED_NAMES {
+    Ok(())
+}
+
+#[test]
+fn refuses_names_that_buckets_may_not_hold(rt: HostRuntime) -> Result<(), Fail> {
+    let alloc = rt.alloc();
+    for &name in RESERVED_NAMES {
         let below = format!(in alloc; r#"{{"{name}":{{"max":{{"field":"f"}}}}}}"#)?;
-        let text = format!(in alloc;
-            r#"{{"a":{{"filter":{{"all":{{}}}},"aggs":{}}}}}"#,
-            below.as_str()
-        )?;
-        assert_eq!(rt;
-            read(alloc, text.as_str())?.as_str(),
-            "Unsupported",
-            "{name}"
-        );
+        let text = format!(in alloc; r#"{{"a":{{"filter":{{"all":{{}}}},"aggs":{below}}}}}"#)?;
+        assert_eq!(rt; read(alloc, &text)?.as_str(), "Unsupported", "{text}");
     }
     Ok(())
 }
