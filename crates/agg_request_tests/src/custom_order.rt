@@ -4,7 +4,7 @@ use std::alloc::Global;
 use std::test::Fail;
 
 // Values, with what is written of the order that they say, or the refusal.
-const ORDERS: [(&str, &str); 16] = [
+const ORDERS: &[(&str, &str)] = &[
     (r#"{"_key":"desc"}"#, r#"{"_key":"desc"}"#),
     (r#"[{"_key":"desc"}]"#, r#"{"_key":"desc"}"#),
     (r#"{"_count":"asc"}"#, r#"{"_count":"asc"}"#),
@@ -34,7 +34,7 @@ fn written(alloc: Global, text: &str) -> Result<String, Fail> {
 #[test]
 fn writes_what_was_read(rt: HostRuntime) -> Result<(), Fail> {
     let alloc = rt.alloc();
-    for (text, expected) in ORDERS {
+    for &(text, expected) in ORDERS {
         assert_eq!(rt; written(alloc, text)?.as_str(), expected, "{text}");
     }
     let usual = CustomOrder::default().write(alloc)?;

@@ -4,7 +4,7 @@ use std::alloc::Global;
 use std::test::Fail;
 
 // Aggregations, no two of which are the same.
-const AGGREGATIONS: [&str; 38] = [
+const AGGREGATIONS: &[&str] = &[
     r#""value_count":{"field":"f"}"#,
     r#""max":{"field":"f"}"#,
     r#""min":{"field":"f"}"#,
