@@ -6,6 +6,7 @@ use agg_request::{
 use agg_segment::ColumnType;
 use agg_values::{MissingOrder, Order, Text};
 use std::alloc::Global;
+use std::process::Abort;
 use std::test::Fail;
 
 fn terms(alloc: Global) -> Result<CompositeAggregationSource, Fail> {
@@ -46,30 +47,43 @@ fn dates(alloc: Global, fixed: bool) -> Result<CompositeAggregationSource, Fail>
     }))
 }
 
+// The parts of a source are those that it was made of.
+fn expect_parts(rt: &impl Abort, source: &CompositeAggregationSource) {
+    assert_eq!(rt;
+        (source.name().as_str(), source.field().as_str()),
+        ("by_a", "a")
+    );
+    let orders = (
+        source.order(),
+        source.missing_bucket(),
+        source.missing_order(),
+    );
+    assert_eq!(rt; orders, (Order::Desc, true, MissingOrder::Last));
+}
+
+// The same of a source and its copy, which are shown alike.
+fn expect_copy(
+    rt: &(impl Abort + AllocGlobal),
+    source: &CompositeAggregationSource,
+) -> Result<(), Fail> {
+    let alloc = rt.alloc();
+    let copy = source.try_clone(alloc)?;
+    expect_parts(rt, source);
+    expect_parts(rt, &copy);
+    assert_eq!(rt;
+        format!(in alloc; "{copy:?}")?,
+        format!(in alloc; "{source:?}")?
+    );
+    Ok(())
+}
+
 #[test]
 fn a_source_gives_its_parts(rt: HostRuntime) -> Result<(), Fail> {
     let alloc = rt.alloc();
-    for source in [
-        terms(alloc)?,
-        histogram(alloc)?,
-        dates(alloc, true)?,
-        dates(alloc, false)?,
-    ] {
-        let copy = source.try_clone(alloc)?;
-        for given in [&source, &copy] {
-            assert_eq!(rt; given.name().as_str(), "by_a");
-            assert_eq!(rt; given.field().as_str(), "a");
-            assert_eq!(rt; given.order(), Order::Desc);
-            assert!(rt; given.missing_bucket());
-            assert_eq!(rt; given.missing_order(), MissingOrder::Last);
-        }
-        let (shown, copied) = (
-            format!(in alloc; "{source:?}")?,
-            format!(in alloc; "{copy:?}")?,
-        );
-        assert_eq!(rt; copied.as_str(), shown.as_str());
-    }
-    Ok(())
+    expect_copy(&rt, &terms(alloc)?)?;
+    expect_copy(&rt, &histogram(alloc)?)?;
+    expect_copy(&rt, &dates(alloc, true)?)?;
+    expect_copy(&rt, &dates(alloc, false)?)
 }
 
 #[test]
