@@ -1,9 +1,10 @@
-use agg_request::{get_fast_field_names, read_aggregations};
+use agg_request::{Aggregation, Aggregations, get_fast_field_names, read_aggregations};
 use serde_json::Value;
+use std::alloc::Global;
 use std::test::Fail;
 
 // Requests, with the fields of all, and those of each of their aggregations by itself.
-const REQUESTS: [(&str, &str, &str); 4] = [
+const REQUESTS: &[(&str, &str, &str)] = &[
     ("{}", "", ""),
     (
         r#"{"x":{"composite":{"sources":[{"s":{"terms":{"field":"b"}}},
@@ -27,24 +28,47 @@ const REQUESTS: [(&str, &str, &str); 4] = [
     ),
 ];
 
+// The fields of all aggregations of a request.
+fn shown_all(alloc: Global, request: &Aggregations) -> Result<String, Fail> {
+    let mut shown = String::new(alloc);
+    for name in get_fast_field_names(alloc, request)?.keys() {
+        shown.push_str(name.as_str())?;
+        shown.push(' ')?;
+    }
+    Ok(shown)
+}
+
+// The fields of one aggregation.
+fn shown_one(alloc: Global, aggregation: &Aggregation) -> Result<String, Fail> {
+    let mut shown = String::new(alloc);
+    for name in aggregation.agg.get_fast_field_names(alloc)?.as_slice() {
+        shown.push_str(name.as_str())?;
+        shown.push(' ')?;
+    }
+    shown.push_str("; ")?;
+    Ok(shown)
+}
+
+// The fields of each aggregation.
+fn shown_each(alloc: Global, request: &Aggregations) -> Result<String, Fail> {
+    let mut shown = String::new(alloc);
+    for (_, aggregation) in request.iter() {
+        shown.push_str(&shown_one(alloc, aggregation)?)?;
+    }
+    Ok(shown)
+}
+
+// The fields of the request of a text: of all its aggregations, and of each.
+fn found(alloc: Global, text: &str) -> Result<(String, String), Fail> {
+    let request = read_aggregations(alloc, &Value::from_str(alloc, text)?, Vec::new(alloc))?;
+    Ok((shown_all(alloc, &request)?, shown_each(alloc, &request)?))
+}
+
 #[test]
 fn finds_the_fields_of_sources_and_metrics(rt: HostRuntime) -> Result<(), Fail> {
-    let alloc = rt.alloc();
-    for (text, all, own) in REQUESTS {
-        let request = read_aggregations(alloc, &Value::from_str(alloc, text)?, Vec::new(alloc))?;
-        let mut found = String::new(alloc);
-        for name in get_fast_field_names(alloc, &request)?.keys() {
-            found.push_str(format!(in alloc; "{} ", name.as_str())?.as_str())?;
-        }
-        assert_eq!(rt; found.as_str(), all, "{text}");
-        let mut found = String::new(alloc);
-        for (_, aggregation) in request.iter() {
-            for name in aggregation.agg.get_fast_field_names(alloc)?.as_slice() {
-                found.push_str(format!(in alloc; "{} ", name.as_str())?.as_str())?;
-            }
-            found.push_str("; ")?;
-        }
-        assert_eq!(rt; found.as_str(), own, "{text}");
+    for &(text, all, each) in REQUESTS {
+        let found = found(rt.alloc(), text)?;
+        assert_eq!(rt; (found.0.as_str(), found.1.as_str()), (all, each), "{text}");
     }
     Ok(())
 }
