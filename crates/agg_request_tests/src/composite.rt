@@ -1,10 +1,11 @@
 use agg_request::{CompositeAggregation, CompositeAggregationSource, read_composite};
+use agg_values::AfterKey;
 use serde_json::Value;
 use std::alloc::Global;
 use std::test::Fail;
 
 // Bodies with what is read: the size, each source and each after value, or the refusal.
-const BODIES: [(&str, &str); 60] = [
+const BODIES: &[(&str, &str)] = &[
     (
         r#"{"sources":[{"a":{"terms":{"field":"f"}}}],"size":10}"#,
         "10; a f Asc false Default",
@@ -156,7 +157,7 @@ const BODIES: [(&str, &str); 60] = [
 ];
 
 // Bodies of histogram sources, with what is read of them.
-const HISTOGRAMS: [(&str, &str); 22] = [
+const HISTOGRAMS: &[(&str, &str)] = &[
     (
         r#"{"field":"f","interval":5}"#,
         "1; a f Asc false Default 5",
@@ -208,7 +209,7 @@ const HISTOGRAMS: [(&str, &str); 22] = [
 ];
 
 // The same of date sources.
-const DATES: [(&str, &str); 24] = [
+const DATES: &[(&str, &str)] = &[
     (
         r#"{"field":"f","fixed_interval":"1d"}"#,
         "1; a f Asc false Default 1d None",
@@ -285,19 +286,29 @@ fn interval(alloc: Global, source: &CompositeAggregationSource) -> Result<String
     }
 }
 
+// In which order a source has its values, and whether and where it has a missing one.
+fn shown_orders(alloc: Global, source: &CompositeAggregationSource) -> Result<String, Fail> {
+    let (order, place) = (source.order(), source.missing_order());
+    Ok(format!(in alloc; "{order:?} {} {place:?}", source.missing_bucket())?)
+}
+
+fn shown_source(alloc: Global, source: &CompositeAggregationSource) -> Result<String, Fail> {
+    let (name, field) = (source.name().as_str(), source.field().as_str());
+    let (orders, interval) = (shown_orders(alloc, source)?, interval(alloc, source)?);
+    Ok(format!(in alloc; "; {name} {field} {orders}{interval}")?)
+}
+
+fn shown_key(alloc: Global, name: &str, key: &AfterKey) -> Result<String, Fail> {
+    Ok(format!(in alloc; "; {name}={}", key.write(alloc)?.as_str())?)
+}
+
 fn shown(alloc: Global, composite: &CompositeAggregation) -> Result<String, Fail> {
     let mut shown = format!(in alloc; "{}", composite.size)?;
     for source in composite.sources.as_slice() {
-        let (name, field) = (source.name().as_str(), source.field().as_str());
-        shown.push_str(format!(in alloc; "; {name} {field}")?.as_str())?;
-        let (order, bucket) = (source.order(), source.missing_bucket());
-        let place = source.missing_order();
-        shown.push_str(format!(in alloc; " {order:?} {bucket} {place:?}")?.as_str())?;
-        shown.push_str(interval(alloc, source)?.as_str())?;
+        shown.push_str(&shown_source(alloc, source)?)?;
     }
     for (name, key) in composite.after.iter() {
-        let (name, key) = (name.as_str(), key.write(alloc)?);
-        shown.push_str(format!(in alloc; "; {name}={}", key.as_str())?.as_str())?;
+        shown.push_str(&shown_key(alloc, name.as_str(), key)?)?;
     }
     Ok(shown)
 }
@@ -311,7 +322,7 @@ fn read(alloc: Global, body: &str) -> Result<String, Fail> {
 
 #[test]
 fn reads_composites(rt: HostRuntime) -> Result<(), Fail> {
-    for (body, expected) in BODIES {
+    for &(body, expected) in BODIES {
         assert_eq!(rt; read(rt.alloc(), body)?.as_str(), expected, "{body}");
     }
     Ok(())
@@ -320,10 +331,7 @@ fn reads_composites(rt: HostRuntime) -> Result<(), Fail> {
 #[test]
 fn reads_sources_with_intervals(rt: HostRuntime) -> Result<(), Fail> {
     let alloc = rt.alloc();
-    for (kind, cases) in [
-        ("histogram", HISTOGRAMS.as_slice()),
-        ("date_histogram", DATES.as_slice()),
-    ] {
+    for (kind, cases) in [("histogram", HISTOGRAMS), ("date_histogram", DATES)] {
         for (source, expected) in cases {
             let body = format!(in alloc;
                 r#"{{"sources":[{{"a":{{"{kind}":{source}}}}}],"size":1}}"#
