@@ -5,7 +5,7 @@ use std::test::Fail;
 
 // The names of sources, a letter each, of which the large ones have a bucket for a missing value;
 // the size; the names that have an after value, and that value; and what is answered.
-const COMPOSITES: [(&str, u32, &str, &str, &str); 19] = [
+const COMPOSITES: &[(&str, u32, &str, &str, &str)] = &[
     ("a", 1, "", "", "Ok(())"),
     ("ab", 4294967295, "", "", "Ok(())"),
     ("aA", 1, "", "", "Ok(())"),
@@ -40,7 +40,7 @@ const COMPOSITES: [(&str, u32, &str, &str, &str); 19] = [
 ];
 
 // The body of a source, and what is answered.
-const INTERVALS: [(&str, &str); 27] = [
+const INTERVALS: &[(&str, &str)] = &[
     (r#""histogram":{"field":"f","interval":1}"#, "Ok(())"),
     (
         r#""histogram":{"field":"f","interval":9223372036854775807}"#,
@@ -151,14 +151,14 @@ const INTERVALS: [(&str, &str); 27] = [
 ];
 
 // A source of each kind, with a bucket for a missing value.
-const KINDS: [&str; 3] = [
+const KINDS: &[&str] = &[
     r#""terms":{"field":"f","missing_bucket":true}"#,
     r#""histogram":{"field":"f","interval":1,"missing_bucket":true}"#,
     r#""date_histogram":{"field":"f","fixed_interval":"1d","missing_bucket":true}"#,
 ];
 
 // An after value, and whether it may be one of a source of each kind.
-const AFTER_VALUES: [(&str, [bool; 3]); 11] = [
+const AFTER_VALUES: &[(&str, [bool; 3])] = &[
     ("null:", [true, true, true]),
     ("i64:-9223372036854775808", [true, true, false]),
     ("i64:7", [true, true, false]),
@@ -176,7 +176,7 @@ const AFTER_VALUES: [(&str, [bool; 3]); 11] = [
 const SOUND: &str = r#"{"sources":[{"x":{"terms":{"field":"f"}}}],"size":1}"#;
 
 // Where a composite stands beside a sound one, or below it or a filter.
-const PLACES: [&str; 4] = ["before", "behind", "below", "below a filter"];
+const PLACES: &[&str] = &["before", "behind", "below", "below a filter"];
 
 // The text of a request with a composite of this body at a place.
 fn request_at(alloc: Global, place: &str, body: &str) -> Result<String, Fail> {
@@ -228,9 +228,9 @@ fn composite(
 fn finds_faults(rt: HostRuntime) -> Result<(), Fail> {
     let alloc = rt.alloc();
     assert_eq!(rt; answer(alloc, "{}")?.as_str(), "Ok(())");
-    for (names, size, after_names, key, expected) in COMPOSITES {
+    for &(names, size, after_names, key, expected) in COMPOSITES {
         let body = composite(alloc, names, size, after_names, key)?;
-        for place in PLACES {
+        for &place in PLACES {
             let text = request_at(alloc, place, body.as_str())?;
             assert_eq!(rt; answer(alloc, text.as_str())?.as_str(), expected, "{text}");
         }
@@ -241,7 +241,7 @@ fn finds_faults(rt: HostRuntime) -> Result<(), Fail> {
 #[test]
 fn finds_faults_of_intervals(rt: HostRuntime) -> Result<(), Fail> {
     let alloc = rt.alloc();
-    for (source, expected) in INTERVALS {
+    for &(source, expected) in INTERVALS {
         let body = format!(in alloc;
             r#"{{"sources":[{{"a":{{"terms":{{"field":"f"}}}}}},{{"b":{{{source}}}}}],"size":1}}"#
         )?;
@@ -255,23 +255,36 @@ fn finds_faults_of_intervals(rt: HostRuntime) -> Result<(), Fail> {
     Ok(())
 }
 
+// What is answered where a source named a has an after value of this name.
+fn answer_after(alloc: Global, source: &str, name: &str, key: &str) -> Result<String, Fail> {
+    let body = format!(in alloc;
+        r#"{{"sources":[{{"a":{{{source}}}}}],"size":1,"after":{{"{name}":"{key}"}}}}"#
+    )?;
+    answer(alloc, request_at(alloc, "behind", body.as_str())?.as_str())
+}
+
 #[test]
 fn finds_after_values_of_other_types(rt: HostRuntime) -> Result<(), Fail> {
-    let alloc = rt.alloc();
-    for (key, sound) in AFTER_VALUES {
+    for &(key, sound) in AFTER_VALUES {
         for (source, is_sound) in KINDS.iter().zip(sound) {
-            for (name, is_sound) in [("a", is_sound), ("b", true)] {
-                let body = format!(in alloc;
-                    r#"{{"sources":[{{"a":{{{source}}}}}],"size":1,"after":{{"{name}":"{key}"}}}}"#
-                )?;
-                let expected = if is_sound {
-                    "Ok(())"
-                } else {
-                    "Err(Invalid(AfterType))"
-                };
-                let text = request_at(alloc, "behind", body.as_str())?;
-                assert_eq!(rt; answer(alloc, text.as_str())?.as_str(), expected, "{text}");
-            }
+            let expected = if is_sound {
+                "Ok(())"
+            } else {
+                "Err(Invalid(AfterType))"
+            };
+            let found = answer_after(rt.alloc(), source, "a", key)?;
+            assert_eq!(rt; found.as_str(), expected, "{source} {key}");
+        }
+    }
+    Ok(())
+}
+
+#[test]
+fn passes_after_values_of_other_names(rt: HostRuntime) -> Result<(), Fail> {
+    for (key, _) in AFTER_VALUES {
+        for source in KINDS {
+            let found = answer_after(rt.alloc(), source, "b", key)?;
+            assert_eq!(rt; found.as_str(), "Ok(())", "{source} {key}");
         }
     }
     Ok(())
