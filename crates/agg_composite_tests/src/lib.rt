@@ -7,3 +7,7 @@ mod accessor;
 mod after_key;
 #[cfg(test)]
 mod divided_accessor;
+#[cfg(test)]
+mod found;
+#[cfg(test)]
+mod given;

@@ -1,0 +1,50 @@
+//! What the accessors of a source say.
+use crate::given::key;
+use agg_composite::{CompositeSourceAccessors, PrecomputedAfterKey};
+use agg_request::CompositeAggregationSource;
+use agg_segment::{ColumnType, SegmentReader};
+use std::alloc::Global;
+use std::test::Fail;
+
+/// Where an after value stands: its place, its accessor, whether Null comes before it and is it.
+pub type Standing = (PrecomputedAfterKey, usize, bool, bool);
+
+/// Behind all numbers.
+pub const ALL: PrecomputedAfterKey = PrecomputedAfterKey::AfterLast;
+
+/// Before all numbers.
+pub const NONE: PrecomputedAfterKey = PrecomputedAfterKey::Next(0);
+
+/// Where an after value of a source stands.
+pub fn standing(
+    alloc: Global,
+    segment: &SegmentReader,
+    source: &CompositeAggregationSource,
+    after: Option<&str>,
+) -> Result<Standing, Fail> {
+    let after = match after {
+        Some(text) => Some(key(alloc, text)?),
+        None => None,
+    };
+    let built = CompositeSourceAccessors::build_for_source(alloc, segment, source, after.as_ref())?;
+    Ok((
+        built.after_key,
+        built.after_key_accessor_idx,
+        built.skip_missing,
+        built.is_after_key_explicit_missing,
+    ))
+}
+
+/// The types of the columns that a source reads, in its order.
+pub fn types(
+    alloc: Global,
+    segment: &SegmentReader,
+    source: &CompositeAggregationSource,
+) -> Result<Vec<ColumnType>, Fail> {
+    let built = CompositeSourceAccessors::build_for_source(alloc, segment, source, None)?;
+    let mut types = Vec::new(alloc);
+    for accessor in built.accessors.as_slice() {
+        types.push(accessor.column.column_type())?;
+    }
+    Ok(types)
+}
