@@ -1,74 +1,74 @@
 //! Where after keys stand among the numbers of small columns.
+use crate::given::{Given, key, segment};
 use agg_calendar::PrecomputedDateInterval;
 use agg_composite::{CompositeAccessor, PrecomputedAfterKey};
-use agg_segment::{Document, FieldValue, SegmentBuilder, SegmentReader};
-use agg_values::{Address, CompositeIntermediateKey, MissingOrder, Order, Text};
-use std::alloc::Global;
+use agg_segment::Column;
+use agg_values::{CompositeIntermediateKey, MissingOrder, Order, Text};
 use std::test::Fail;
 
 const FROM_ZERO: u64 = 9_223_372_036_854_775_808;
 
-// One document with a signed number, one above those of an i64, and the texts apple and cherry.
-fn small_segment(alloc: Global) -> Result<SegmentReader, Fail> {
-    let mut document = Document::new(alloc);
-    for (name, value) in [
-        ("signed", FieldValue::I64(7)),
-        ("large", FieldValue::U64(FROM_ZERO)),
-        ("texts", FieldValue::Str(Text::copy_of(alloc, "apple")?)),
-        ("texts", FieldValue::Str(Text::copy_of(alloc, "cherry")?)),
-    ] {
-        document.add(Text::copy_of(alloc, name)?, value)?;
-    }
-    let mut builder = SegmentBuilder::new(alloc);
-    builder.add_document(document)?;
-    Ok(builder.build()?)
+// A signed number, one above those of an i64, and two texts.
+const VALUES: &[(&str, Given)] = &[
+    ("signed", Given::Signed(7)),
+    ("large", Given::Unsigned(FROM_ZERO)),
+    ("texts", Given::Text("apple")),
+    ("texts", Given::Text("cherry")),
+];
+
+// A field, an after key, the order, and the place of the key among the numbers of the column.
+const PLACES: &[(&str, &str, Order, PrecomputedAfterKey)] = &[
+    (
+        "signed",
+        "i64:5",
+        Order::Asc,
+        PrecomputedAfterKey::Exact(FROM_ZERO + 5),
+    ),
+    (
+        "signed",
+        "u64:9223372036854775808",
+        Order::Asc,
+        PrecomputedAfterKey::AfterLast,
+    ),
+    (
+        "texts",
+        "str:banana",
+        Order::Asc,
+        PrecomputedAfterKey::Next(1),
+    ),
+    (
+        "large",
+        "ip:::1",
+        Order::Desc,
+        PrecomputedAfterKey::AfterLast,
+    ),
+];
+
+// Where a key stands among the numbers of a column.
+fn place(column: &Column, key: &CompositeIntermediateKey, order: Order) -> PrecomputedAfterKey {
+    let accessor = CompositeAccessor {
+        column,
+        date_histogram_interval: PrecomputedDateInterval::NotApplicable,
+    };
+    PrecomputedAfterKey::precompute(&accessor, key, MissingOrder::Default, order)
 }
 
 #[test]
 fn after_keys_have_their_places(rt: HostRuntime) -> Result<(), Fail> {
     let alloc = rt.alloc();
-    let segment = small_segment(alloc)?;
-    let banana = CompositeIntermediateKey::Str(Text::copy_of(alloc, "banana")?);
-    let address = CompositeIntermediateKey::IpAddr(Address(1));
-    for (name, key, order, place) in [
-        (
-            "signed",
-            CompositeIntermediateKey::I64(5),
-            Order::Asc,
-            PrecomputedAfterKey::Exact(9_223_372_036_854_775_813),
-        ),
-        (
-            "signed",
-            CompositeIntermediateKey::U64(FROM_ZERO),
-            Order::Asc,
-            PrecomputedAfterKey::AfterLast,
-        ),
-        ("texts", banana, Order::Asc, PrecomputedAfterKey::Next(1)),
-        (
-            "large",
-            address,
-            Order::Desc,
-            PrecomputedAfterKey::AfterLast,
-        ),
-    ] {
+    let segment = segment(alloc, VALUES)?;
+    for &(name, after, order, expected) in PLACES {
         let columns = segment.columns(&Text::copy_of(alloc, name)?);
         assert_eq!(rt; columns.len(), 1, "{name}");
-        for column in columns {
-            let accessor = CompositeAccessor {
-                column,
-                date_histogram_interval: PrecomputedDateInterval::NotApplicable,
-            };
-            let found = PrecomputedAfterKey::precompute(
-                &accessor,
-                &key,
-                MissingOrder::Default,
-                order,
-            );
-            assert_eq!(rt; found, place, "{name} after {key:?}");
-        }
+        let found = place(&columns[0], &key(alloc, after)?, order);
+        assert_eq!(rt; found, expected, "{name} after {after}");
     }
+    Ok(())
+}
+
+#[test]
+fn no_number_is_above_the_place_behind_the_last(rt: HostRuntime) {
     for number in [0, FROM_ZERO, u64::MAX] {
         assert!(rt; !PrecomputedAfterKey::AfterLast.lt(number), "{number}");
     }
-    Ok(())
 }
