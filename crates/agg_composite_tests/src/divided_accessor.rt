@@ -1,35 +1,74 @@
 //! The accessors of sources that divide values.
-use agg_composite::{CompositeSourceAccessors, PrecomputedAfterKey};
+use crate::found::{ALL, NONE, Standing, standing, types};
+use crate::given::{Given, segment};
+use agg_composite::PrecomputedAfterKey;
 use agg_request::{
     CompositeAggregationSource, DateHistogramCompositeAggregationSource,
     HistogramCompositeAggregationSource,
 };
-use agg_segment::{ColumnType, Document, FieldValue, SegmentBuilder, SegmentReader};
-use agg_values::{CompositeIntermediateKey, MissingOrder, Order, Text};
+use agg_segment::ColumnType;
+use agg_values::{MissingOrder, Order, Text};
 use std::alloc::Global;
-use std::process::Abort;
 use std::test::Fail;
 
 const FROM_ZERO: u64 = 9_223_372_036_854_775_808;
 
-// One document with a text, a signed number and a date in one field, and in others a signed number,
-// one above those of an i64, and a date.
-fn segment(alloc: Global) -> Result<SegmentReader, Fail> {
-    let mut document = Document::new(alloc);
-    for (field, value) in [
-        ("mixed", FieldValue::Str(Text::copy_of(alloc, "apple")?)),
-        ("mixed", FieldValue::I64(7)),
-        ("mixed", FieldValue::Date(7)),
-        ("signed", FieldValue::I64(7)),
-        ("large", FieldValue::U64(FROM_ZERO)),
-        ("dates", FieldValue::Date(7)),
-    ] {
-        document.add(Text::copy_of(alloc, field)?, value)?;
-    }
-    let mut builder = SegmentBuilder::new(alloc);
-    builder.add_document(document)?;
-    Ok(builder.build()?)
-}
+// A text, a signed number and a date in one field, and in others a signed number, one above those
+// of an i64, and a date.
+const VALUES: &[(&str, Given)] = &[
+    ("mixed", Given::Text("apple")),
+    ("mixed", Given::Signed(7)),
+    ("mixed", Given::Date(7)),
+    ("signed", Given::Signed(7)),
+    ("large", Given::Unsigned(FROM_ZERO)),
+    ("dates", Given::Date(7)),
+];
+
+const FIRST: MissingOrder = MissingOrder::First;
+
+const LAST: MissingOrder = MissingOrder::Last;
+
+const DEFAULT: MissingOrder = MissingOrder::Default;
+
+// At the numbers of 5 and -5 in a column.
+const FIVE: PrecomputedAfterKey = PrecomputedAfterKey::Exact(FROM_ZERO + 5);
+
+const LESS_FIVE: PrecomputedAfterKey = PrecomputedAfterKey::Exact(FROM_ZERO - 5);
+
+// The orders of a histogram that has a bucket for a missing value, an after value, and where it
+// stands among the numbers of any column.
+const NUMBERS: &[(Order, MissingOrder, &str, Standing)] = &[
+    (Order::Asc, DEFAULT, "i64:5", (FIVE, 0, true, false)),
+    (Order::Desc, DEFAULT, "i64:5", (FIVE, 0, false, false)),
+    (Order::Asc, DEFAULT, "i64:-5", (LESS_FIVE, 0, true, false)),
+    (
+        Order::Asc,
+        LAST,
+        "u64:9223372036854775808",
+        (ALL, 0, false, false),
+    ),
+    (
+        Order::Desc,
+        FIRST,
+        "u64:9223372036854775808",
+        (ALL, 0, true, false),
+    ),
+    (Order::Asc, FIRST, "null:", (NONE, 0, false, true)),
+    (Order::Asc, LAST, "null:", (ALL, 0, false, true)),
+    (Order::Desc, FIRST, "null:", (ALL, 0, false, true)),
+    (Order::Desc, DEFAULT, "null:", (NONE, 0, false, true)),
+];
+
+// The order of a date source that has a bucket for a missing value, an after value, and where it
+// stands.
+const DATES: &[(Order, Option<&str>, Standing)] = &[
+    (Order::Asc, Some("dt:5"), (FIVE, 0, true, false)),
+    (Order::Desc, Some("dt:5"), (FIVE, 0, false, false)),
+    (Order::Asc, Some("null:"), (NONE, 0, false, true)),
+    (Order::Desc, Some("null:"), (ALL, 1, false, true)),
+    (Order::Asc, None, (NONE, 0, false, false)),
+    (Order::Desc, None, (ALL, 0, false, false)),
+];
 
 fn histogram(
     alloc: Global,
@@ -69,111 +108,39 @@ fn dates(
     }))
 }
 
-// A source reads columns of these types.
-fn assert_types(
-    rt: &impl Abort,
-    alloc: Global,
-    source: &CompositeAggregationSource,
-    expected: [Option<ColumnType>; 3],
-) -> Result<(), Fail> {
-    let segment = segment(alloc)?;
-    let built = CompositeSourceAccessors::build_for_source(alloc, &segment, source, None)?;
-    let accessors = built.accessors.as_slice();
-    for place in 0..3 {
-        let found = accessors
-            .get(place)
-            .map(|accessor| accessor.column.column_type());
-        assert_eq!(rt; found, expected[place], "{source:?}");
+#[test]
+fn histograms_read_what_they_divide(rt: HostRuntime) -> Result<(), Fail> {
+    let alloc = rt.alloc();
+    let segment = segment(alloc, VALUES)?;
+    for (order, expected) in [
+        (Order::Asc, [ColumnType::I64, ColumnType::DateTime]),
+        (Order::Desc, [ColumnType::DateTime, ColumnType::I64]),
+    ] {
+        let source = histogram(alloc, "mixed", 5, order, DEFAULT)?;
+        let found = types(alloc, &segment, &source)?;
+        assert_eq!(rt; found.as_slice(), expected.as_slice(), "{order:?}");
     }
     Ok(())
 }
 
 #[test]
-fn sources_read_what_they_divide(rt: HostRuntime) -> Result<(), Fail> {
+fn date_sources_read_dates(rt: HostRuntime) -> Result<(), Fail> {
     let alloc = rt.alloc();
-    let (number, date) = (Some(ColumnType::I64), Some(ColumnType::DateTime));
-    let ascending = histogram(alloc, "mixed", 5, Order::Asc, MissingOrder::Default)?;
-    assert_types(&rt, alloc, &ascending, [number, date, None])?;
-    let descending = histogram(alloc, "mixed", 5, Order::Desc, MissingOrder::Default)?;
-    assert_types(&rt, alloc, &descending, [date, number, None])?;
-    let by_days = dates(alloc, Some("1d"), Order::Asc, true)?;
-    assert_types(&rt, alloc, &by_days, [date, None, None])
-}
-
-// An after key of the first accessor has this place, and missing documents stand before it or
-// don't.
-fn assert_place(
-    rt: &impl Abort,
-    alloc: Global,
-    segment: &SegmentReader,
-    source: &CompositeAggregationSource,
-    after: &CompositeIntermediateKey,
-    expected: (PrecomputedAfterKey, bool),
-) -> Result<(), Fail> {
-    let built = CompositeSourceAccessors::build_for_source(alloc, segment, source, Some(after))?;
-    assert_eq!(rt; built.after_key_accessor_idx, 0, "{source:?} {after:?}");
-    let place = (built.after_key, built.skip_missing);
-    assert_eq!(rt; place, expected, "{source:?} {after:?}");
+    let source = dates(alloc, Some("1d"), Order::Asc, true)?;
+    let found = types(alloc, &segment(alloc, VALUES)?, &source)?;
+    assert_eq!(rt; found.as_slice(), [ColumnType::DateTime].as_slice());
     Ok(())
 }
 
 #[test]
 fn after_numbers_stand_among_starts(rt: HostRuntime) -> Result<(), Fail> {
     let alloc = rt.alloc();
-    let segment = segment(alloc)?;
-    let (first, last, default) = (
-        MissingOrder::First,
-        MissingOrder::Last,
-        MissingOrder::Default,
-    );
-    let (small, negative) = (
-        CompositeIntermediateKey::I64(5),
-        CompositeIntermediateKey::I64(-5),
-    );
-    let (large, null) = (
-        CompositeIntermediateKey::U64(FROM_ZERO),
-        CompositeIntermediateKey::Null,
-    );
-    let (all, none) = (PrecomputedAfterKey::AfterLast, PrecomputedAfterKey::Next(0));
+    let segment = segment(alloc, VALUES)?;
     for field in ["signed", "large", "dates"] {
-        for (order, missing_order, after, place, is_missing_before) in [
-            (
-                Order::Asc,
-                default,
-                &small,
-                PrecomputedAfterKey::Exact(FROM_ZERO + 5),
-                true,
-            ),
-            (
-                Order::Desc,
-                default,
-                &small,
-                PrecomputedAfterKey::Exact(FROM_ZERO + 5),
-                false,
-            ),
-            (
-                Order::Asc,
-                default,
-                &negative,
-                PrecomputedAfterKey::Exact(FROM_ZERO - 5),
-                true,
-            ),
-            (Order::Asc, last, &large, all, false),
-            (Order::Desc, first, &large, all, true),
-            (Order::Asc, first, &null, none, false),
-            (Order::Asc, last, &null, all, false),
-            (Order::Desc, first, &null, all, false),
-            (Order::Desc, default, &null, none, false),
-        ] {
+        for &(order, missing_order, after, expected) in NUMBERS {
             let source = histogram(alloc, field, 5, order, missing_order)?;
-            assert_place(
-                &rt,
-                alloc,
-                &segment,
-                &source,
-                after,
-                (place, is_missing_before),
-            )?;
+            let found = standing(alloc, &segment, &source, Some(after))?;
+            assert_eq!(rt; found, expected, "{source:?} {after}");
         }
     }
     Ok(())
@@ -182,33 +149,11 @@ fn after_numbers_stand_among_starts(rt: HostRuntime) -> Result<(), Fail> {
 #[test]
 fn after_dates_stand_among_starts(rt: HostRuntime) -> Result<(), Fail> {
     let alloc = rt.alloc();
-    let segment = segment(alloc)?;
-    let (date, null) = (
-        CompositeIntermediateKey::DateTime(5),
-        CompositeIntermediateKey::Null,
-    );
-    let at_date = PrecomputedAfterKey::Exact(FROM_ZERO + 5);
-    let (all, none) = (PrecomputedAfterKey::AfterLast, PrecomputedAfterKey::Next(0));
-    for (order, after, expected) in [
-        (Order::Asc, Some(&date), (at_date, 0, true, false)),
-        (Order::Desc, Some(&date), (at_date, 0, false, false)),
-        (Order::Asc, Some(&null), (none, 0, false, true)),
-        (Order::Desc, Some(&null), (all, 1, false, true)),
-        (Order::Asc, None, (none, 0, false, false)),
-        (Order::Desc, None, (all, 0, false, false)),
-    ] {
+    let segment = segment(alloc, VALUES)?;
+    for &(order, after, expected) in DATES {
         let source = dates(alloc, Some("1d"), order, true)?;
-        let built = CompositeSourceAccessors::build_for_source(alloc, &segment, &source, after)?;
-        assert_eq!(rt;
-            (
-                built.after_key,
-                built.after_key_accessor_idx,
-                built.skip_missing,
-                built.is_after_key_explicit_missing,
-            ),
-            expected,
-            "{order:?} {after:?}"
-        );
+        let found = standing(alloc, &segment, &source, after)?;
+        assert_eq!(rt; found, expected, "{order:?} {after:?}");
     }
     Ok(())
 }
