@@ -1,9 +1,10 @@
 use agg_request::{
-    Aggregations, NamedBuilder, QueryBuildError, QueryBuilder, may_be_written, read_aggregations,
+    Aggregation, AggregationVariants, Aggregations, FilterAggregation, MaxAggregation,
+    NamedBuilder, QueryBuildError, QueryBuilder, may_be_written, read_aggregations,
     write_aggregations,
 };
 use agg_segment::{QueryTree, Schema};
-use agg_values::Text;
+use agg_values::{NameMap, Text};
 use serde_json::Value;
 use std::alloc::Global;
 use std::test::Fail;
@@ -170,12 +171,78 @@ fn compact(alloc: Global, text: &str) -> Result<String, Fail> {
     Ok(Value::from_str(alloc, text)?.to_string(alloc)?)
 }
 
+// What stands above others.
+#[derive(Clone, Copy)]
+enum Above {
+    Metric,
+    Filter,
+}
+
+// Aggregations built by hand with those below them, and what is written of them: nothing where they
+// could not be read.
+const BUILT: &[(Above, &str, Option<&str>)] = &[
+    (Above::Metric, "{}", Some(r#"{"a":{"max":{"field":"v"}}}"#)),
+    (Above::Metric, r#"{"b":{"min":{"field":"w"}}}"#, None),
+    (
+        Above::Filter,
+        r#"{"b":{"min":{"field":"w"}}}"#,
+        Some(r#"{"a":{"filter":{"all":{}},"aggs":{"b":{"min":{"field":"w"}}}}}"#),
+    ),
+    (Above::Filter, r#"{"key":{"min":{"field":"w"}}}"#, None),
+    (
+        Above::Filter,
+        r#"{"doc_count":{"min":{"field":"w"}}}"#,
+        None,
+    ),
+];
+
+fn agg_of(alloc: Global, above: Above) -> Result<AggregationVariants, Fail> {
+    Ok(match above {
+        Above::Metric => AggregationVariants::Max(MaxAggregation {
+            field: Text::copy_of(alloc, "v")?,
+        }),
+        Above::Filter => {
+            AggregationVariants::Filter(FilterAggregation::new_with_tree(QueryTree::All))
+        }
+    })
+}
+
+// The request of one aggregation that stands above those of a text.
+fn built(alloc: Global, above: Above, below: &str) -> Result<Aggregations, Fail> {
+    let below = Value::from_str(alloc, below)?;
+    let aggregation = Aggregation {
+        agg: agg_of(alloc, above)?,
+        sub_aggregation: read_aggregations(alloc, &below, Vec::new(alloc))?,
+    };
+    let mut request = NameMap::new(alloc);
+    request.insert(Text::copy_of(alloc, "a")?, aggregation)?;
+    Ok(request)
+}
+
 #[test]
-fn writes_what_was_read(rt: HostRuntime) -> Result<(), Fail> {
+fn writes_what_was_read_and_reads_it_back(rt: HostRuntime) -> Result<(), Fail> {
     let alloc = rt.alloc();
     for &(text, expected) in REQUESTS {
-        let expected = Some(compact(alloc, expected)?);
-        assert_eq!(rt; written(alloc, text)?, expected, "{text}");
+        let shown = Some(compact(alloc, expected)?);
+        assert_eq!(rt; written(alloc, text)?, shown, "{text}");
+        assert_eq!(rt; written(alloc, expected)?, shown, "{text}, read back");
+    }
+    Ok(())
+}
+
+#[test]
+fn writes_no_request_that_could_not_be_read(rt: HostRuntime) -> Result<(), Fail> {
+    let alloc = rt.alloc();
+    for &(above, below, expected) in BUILT {
+        let expected = match expected {
+            Some(text) => Some(compact(alloc, text)?),
+            None => None,
+        };
+        assert_eq!(rt;
+            shown(alloc, &built(alloc, above, below)?)?,
+            expected,
+            "{below}"
+        );
     }
     Ok(())
 }
