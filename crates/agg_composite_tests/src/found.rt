@@ -7,16 +7,16 @@ use std::alloc::Global;
 use std::test::Fail;
 
 /// Where an after value stands: its place, its accessor, whether Null comes before it and is it.
-pub type Standing = (PrecomputedAfterKey, usize, bool, bool);
+pub(crate) type Standing = (PrecomputedAfterKey, usize, bool, bool);
 
 /// Behind all numbers.
-pub const ALL: PrecomputedAfterKey = PrecomputedAfterKey::AfterLast;
+pub(crate) const ALL: PrecomputedAfterKey = PrecomputedAfterKey::AfterLast;
 
 /// Before all numbers.
-pub const NONE: PrecomputedAfterKey = PrecomputedAfterKey::Next(0);
+pub(crate) const NONE: PrecomputedAfterKey = PrecomputedAfterKey::Next(0);
 
 /// Where an after value of a source stands.
-pub fn standing(
+pub(crate) fn standing(
     alloc: Global,
     segment: &SegmentReader,
     source: &CompositeAggregationSource,
@@ -36,7 +36,7 @@ pub fn standing(
 }
 
 /// The types of the columns that a source reads, in its order.
-pub fn types(
+pub(crate) fn types(
     alloc: Global,
     segment: &SegmentReader,
     source: &CompositeAggregationSource,

@@ -6,7 +6,7 @@ use std::test::Fail;
 
 /// A value.
 #[derive(Clone, Copy)]
-pub enum Given {
+pub(crate) enum Given {
     Truth(bool),
     Text(&'static str),
     Signed(i64),
@@ -25,7 +25,7 @@ fn value_of(alloc: Global, given: Given) -> Result<FieldValue, OutOfMemory> {
 }
 
 /// The segment of one document with these values.
-pub fn segment(alloc: Global, values: &[(&str, Given)]) -> Result<SegmentReader, Fail> {
+pub(crate) fn segment(alloc: Global, values: &[(&str, Given)]) -> Result<SegmentReader, Fail> {
     let mut document = Document::new(alloc);
     for (field, given) in values {
         document.add(Text::copy_of(alloc, field)?, value_of(alloc, *given)?)?;
@@ -36,6 +36,6 @@ pub fn segment(alloc: Global, values: &[(&str, Given)]) -> Result<SegmentReader,
 }
 
 /// The key that a text such as `i64:7` says.
-pub fn key(alloc: Global, text: &str) -> Result<CompositeIntermediateKey, Fail> {
+pub(crate) fn key(alloc: Global, text: &str) -> Result<CompositeIntermediateKey, Fail> {
     Ok(AfterKey::read(alloc, &Text::copy_of(alloc, text)?)?.0)
 }

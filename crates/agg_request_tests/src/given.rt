@@ -6,7 +6,7 @@ use std::test::Fail;
 
 /// A value.
 #[derive(Clone, Copy)]
-pub enum Given {
+pub(crate) enum Given {
     Truth(bool),
     Text(&'static str),
     Signed(i64),
@@ -35,7 +35,10 @@ fn document(alloc: Global, values: &[(&str, Given)]) -> Result<Document, OutOfMe
 }
 
 /// The segment of these documents.
-pub fn segment(alloc: Global, documents: &[&[(&str, Given)]]) -> Result<SegmentReader, Fail> {
+pub(crate) fn segment(
+    alloc: Global,
+    documents: &[&[(&str, Given)]],
+) -> Result<SegmentReader, Fail> {
     let mut builder = SegmentBuilder::new(alloc);
     for values in documents {
         builder.add_document(document(alloc, values)?)?;
