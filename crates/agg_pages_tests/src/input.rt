@@ -1,8 +1,9 @@
 use agg_pages::input::{Input, InputError, read_input};
 use agg_request::NamedBuilder;
-use agg_segment::ColumnType;
+use agg_segment::{ColumnType, SegmentReader};
 use agg_values::Text;
 use std::alloc::Global;
+use std::process::Abort;
 use std::test::Fail;
 
 // A header up to its schema.
@@ -12,7 +13,7 @@ const REQUEST: &str = "{\"request\":{\"byA\":{\"composite\":{\
 const SCHEMA: &str = ",\"schema\":[\"A\"]}";
 
 // Headers from their schema on, and whether they are such.
-const HEADERS: [(&str, bool); 16] = [
+const HEADERS: &[(&str, bool)] = &[
     (SCHEMA, true),
     (r#","schema":["A"],"bucket_limit":0}"#, true),
     (
@@ -38,7 +39,7 @@ const HEADERS: [(&str, bool); 16] = [
 ];
 
 // Requests, and whether they are such.
-const REQUESTS: [(&str, bool); 12] = [
+const REQUESTS: &[(&str, bool)] = &[
     (r#"{"a":{"composite":{"sources":[],"size":0}}}"#, true),
     (
         r#"{"a":{"composite":{"sources":[],"size":1,"after":{"b":"bool:true"},"more":1}}}"#,
@@ -72,7 +73,7 @@ const REQUESTS: [(&str, bool); 12] = [
 ];
 
 // Documents, and whether they are such.
-const DOCUMENTS: [(&str, bool); 43] = [
+const DOCUMENTS: &[(&str, bool)] = &[
     ("{}", true),
     (r#"{"A":1}"#, true),
     (r#"{"A":[1,-2,null,9223372036854775807]}"#, true),
@@ -119,7 +120,7 @@ const DOCUMENTS: [(&str, bool); 43] = [
 ];
 
 // Lines of a snapshot, and the numbers of documents in its segments.
-const SEGMENTS: [(&str, &[u32]); 5] = [
+const SEGMENTS: &[(&str, &[u32])] = &[
     ("", &[]),
     ("segment", &[0]),
     ("{}\nsegment", &[1, 0]),
@@ -128,7 +129,7 @@ const SEGMENTS: [(&str, &[u32]); 5] = [
 ];
 
 // What stands behind a header, and is no list of snapshots.
-const BEHIND: [&str; 10] = [
+const BEHIND: &[&str] = &[
     "{\"A\":1}",
     "{}",
     "snapshot",
@@ -139,6 +140,15 @@ const BEHIND: [&str; 10] = [
     "snapshot 4294967296",
     "segment",
     "segment\nsnapshot 1",
+];
+
+// The types of the columns of a field that has a value of every kind.
+const KINDS: &[ColumnType] = &[
+    ColumnType::Bool,
+    ColumnType::Str,
+    ColumnType::I64,
+    ColumnType::IpAddr,
+    ColumnType::DateTime,
 ];
 
 fn expected(is_input: bool) -> Option<InputError> {
@@ -155,37 +165,61 @@ fn read_text(alloc: Global, text: &str) -> Result<Input, InputError> {
     read_input(alloc, builders, text.as_bytes())
 }
 
+// The numbers of documents in segments.
+fn counts_of(alloc: Global, segments: &[SegmentReader]) -> Result<Vec<u32>, Fail> {
+    let mut counts = Vec::new(alloc);
+    for segment in segments {
+        counts.push(segment.num_docs())?;
+    }
+    Ok(counts)
+}
+
+// The snapshots of an input have these page sizes, and segments of so many documents.
+fn expect_snapshots(
+    rt: &(impl Abort + AllocGlobal),
+    input: &Input,
+    expected: &[(u32, &[u32])],
+) -> Result<(), Fail> {
+    let snapshots = input.snapshots.as_slice();
+    assert_eq!(rt; snapshots.len(), expected.len());
+    for (snapshot, &(page_size, counts)) in snapshots.iter().zip(expected) {
+        let found = counts_of(rt.alloc(), snapshot.segments.as_slice())?;
+        assert_eq!(rt; (snapshot.page_size, found.as_slice()), (page_size, counts));
+    }
+    Ok(())
+}
+
 #[test]
 fn reads(rt: HostRuntime) -> Result<(), Fail> {
     let text = format!(in rt.alloc();
         "\n{REQUEST}{SCHEMA}\r\nsnapshot 2\n{{\"A\":1,\"B\":[2,-3]}}\n \t\n{{}}\nsnapshot 07\n"
     )?;
     let input = read_text(rt.alloc(), &text)?;
-    assert_eq!(rt; input.header.request.len(), 1);
-    assert_eq!(rt; input.header.schema.fields().len(), 1);
-    let snapshots = input.snapshots.as_slice();
-    assert_eq!(rt; snapshots.len(), 2);
-    assert_eq!(rt; snapshots[0].page_size, 2);
-    assert_eq!(rt; snapshots[0].segments.as_slice().len(), 1);
-    assert_eq!(rt; snapshots[0].segments.as_slice()[0].num_docs(), 2);
-    assert_eq!(rt; snapshots[1].page_size, 7);
-    assert_eq!(rt; snapshots[1].segments.as_slice().len(), 0);
-    Ok(())
+    let header = &input.header;
+    assert_eq!(rt;
+        (header.request.len(), header.schema.fields().len()),
+        (1, 1)
+    );
+    expect_snapshots(&rt, &input, &[(2, &[2]), (7, &[])])
 }
 
 #[test]
 fn reads_segments(rt: HostRuntime) -> Result<(), Fail> {
     let alloc = rt.alloc();
-    for (lines, counts) in SEGMENTS {
+    for &(lines, counts) in SEGMENTS {
         let text = format!(in alloc; "{REQUEST}{SCHEMA}\nsnapshot 1\n{lines}")?;
-        let input = read_text(alloc, &text)?;
-        let snapshots = input.snapshots.as_slice();
-        assert_eq!(rt; snapshots.len(), 1, "at {lines}");
-        let mut found = Vec::new(alloc);
-        for segment in snapshots[0].segments.as_slice() {
-            found.push(segment.num_docs())?;
-        }
-        assert_eq!(rt; found.as_slice(), counts, "at {lines}");
+        expect_snapshots(&rt, &read_text(alloc, &text)?, &[(1, counts)])?;
+    }
+    Ok(())
+}
+
+// A segment of one document has a value of each type.
+fn expect_kinds(rt: &(impl Abort + AllocGlobal), segment: &SegmentReader) -> Result<(), Fail> {
+    let columns = segment.columns(&Text::copy_of(rt.alloc(), "B")?);
+    assert_eq!(rt; columns.len(), KINDS.len());
+    for (column, &kind) in columns.iter().zip(KINDS) {
+        let found = (column.column_type(), column.values_for_doc(0).len());
+        assert_eq!(rt; found, (kind, 1));
     }
     Ok(())
 }
@@ -196,52 +230,62 @@ fn reads_every_kind_of_value(rt: HostRuntime) -> Result<(), Fail> {
     let document = r#"{"B":[{"dt":1},{"ip":"::"},1,"a",null,true]}"#;
     let text = format!(in alloc; "{REQUEST}{SCHEMA}\nsnapshot 1\n{document}")?;
     let input = read_text(alloc, &text)?;
-    let snapshots = input.snapshots.as_slice();
-    assert_eq!(rt; snapshots.len(), 1);
-    let segments = snapshots[0].segments.as_slice();
-    assert_eq!(rt; segments.len(), 1);
-    let columns = segments[0].columns(&Text::copy_of(alloc, "B")?);
-    let types = [
-        ColumnType::Bool,
-        ColumnType::Str,
-        ColumnType::I64,
-        ColumnType::IpAddr,
-        ColumnType::DateTime,
-    ];
-    assert_eq!(rt; columns.len(), types.len());
-    for (column, kind) in columns.iter().zip(types.iter()) {
-        assert_eq!(rt; column.column_type(), *kind);
-        assert_eq!(rt; column.values_for_doc(0).len(), 1);
+    expect_snapshots(&rt, &input, &[(1, &[1])])?;
+    for snapshot in input.snapshots.as_slice() {
+        for segment in snapshot.segments.as_slice() {
+            expect_kinds(&rt, segment)?;
+        }
+    }
+    Ok(())
+}
+
+// A text is an input, or isn't.
+fn expect(rt: &(impl Abort + AllocGlobal), text: &str, is_input: bool) -> Result<(), Fail> {
+    let fault = read_text(rt.alloc(), text).err();
+    assert_eq!(rt; fault, expected(is_input), "at {text}");
+    Ok(())
+}
+
+#[test]
+fn tells_headers(rt: HostRuntime) -> Result<(), Fail> {
+    for &(behind, is_input) in HEADERS {
+        let text = format!(in rt.alloc(); "{REQUEST}{behind}")?;
+        expect(&rt, &text, is_input)?;
     }
     Ok(())
 }
 
 #[test]
-fn tells_what_is_an_input(rt: HostRuntime) -> Result<(), Fail> {
-    let alloc = rt.alloc();
-    for (behind, is_input) in HEADERS {
-        let text = format!(in alloc; "{REQUEST}{behind}")?;
-        let read = read_text(alloc, &text);
-        assert_eq!(rt; read.err(), expected(is_input), "at {behind}");
+fn tells_requests(rt: HostRuntime) -> Result<(), Fail> {
+    for &(request, is_input) in REQUESTS {
+        let text = format!(in rt.alloc(); "{{\"request\":{request},\"name\":\"a\"{SCHEMA}")?;
+        expect(&rt, &text, is_input)?;
     }
-    for (request, is_input) in REQUESTS {
-        let text = format!(in alloc; "{{\"request\":{request},\"name\":\"a\"{SCHEMA}")?;
-        let read = read_text(alloc, &text);
-        assert_eq!(rt; read.err(), expected(is_input), "at {request}");
+    Ok(())
+}
+
+#[test]
+fn tells_documents(rt: HostRuntime) -> Result<(), Fail> {
+    for &(lines, is_input) in DOCUMENTS {
+        let text = format!(in rt.alloc(); "{REQUEST}{SCHEMA}\nsnapshot 1\n{lines}")?;
+        expect(&rt, &text, is_input)?;
     }
-    for (behind, is_input) in DOCUMENTS {
-        let text = format!(in alloc; "{REQUEST}{SCHEMA}\nsnapshot 1\n{behind}")?;
-        let read = read_text(alloc, &text);
-        assert_eq!(rt; read.err(), expected(is_input), "at {behind}");
+    Ok(())
+}
+
+#[test]
+fn tells_snapshots(rt: HostRuntime) -> Result<(), Fail> {
+    for &behind in BEHIND {
+        let text = format!(in rt.alloc(); "{REQUEST}{SCHEMA}\n{behind}")?;
+        expect(&rt, &text, false)?;
     }
-    for behind in BEHIND {
-        let text = format!(in alloc; "{REQUEST}{SCHEMA}\n{behind}")?;
-        let read = read_text(alloc, &text);
-        assert_eq!(rt; read.err(), Some(InputError::NotInput), "at {behind}");
-    }
+    Ok(())
+}
+
+#[test]
+fn tells_texts_without_a_header(rt: HostRuntime) -> Result<(), Fail> {
     for text in ["", "\n", "{\"byA\"", "snapshot 1"] {
-        let read = read_text(alloc, text);
-        assert_eq!(rt; read.err(), Some(InputError::NotInput), "at {text}");
+        expect(&rt, text, false)?;
     }
     Ok(())
 }
