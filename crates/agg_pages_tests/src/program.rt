@@ -87,7 +87,7 @@ const THREE_KEYS_PAGE: &str = "{\"page\":1,\"results\":{\"g\":{\
     {\"ended\":false}\n";
 
 // Members of a header and what stands behind it, with the status and what is written.
-const MEMBERS: [(&str, &str, Status, &str); 3] = [
+const MEMBERS: &[(&str, &str, Status, &str)] = &[
     (FROM_TWO, TWO_SNAPSHOTS, Status::Ok, FROM_TWO_PAGES),
     (
         r#","bucket_limit":3"#,
@@ -104,7 +104,7 @@ const MEMBERS: [(&str, &str, Status, &str); 3] = [
 ];
 
 // The name and the size of a header and what stands behind it, with the status and what is written.
-const ANSWERS: [(&str, u32, &str, Status, &str); 14] = [
+const ANSWERS: &[(&str, u32, &str, Status, &str)] = &[
     ("g", 10, "", Status::Ok, "{\"ended\":false}\n"),
     ("g", 10, TWICE, Status::Ok, PAGE),
     (
@@ -195,8 +195,8 @@ fn run_words<R: Source, W: Sink>(
     Ok(run_uncounted(alloc, &texts, builders, source, sink))
 }
 
-// The bytes of a header and what stands behind it.
-fn input(alloc: Global, name: &str, size: u32, behind: &str) -> Result<Vec<u8>, Fail> {
+// The text of a header and what stands behind it.
+fn input(alloc: Global, name: &str, size: u32, behind: &str) -> Result<String, Fail> {
     input_with(alloc, name, size, "", behind)
 }
 
@@ -207,58 +207,80 @@ fn input_with(
     size: u32,
     members: &str,
     behind: &str,
-) -> Result<Vec<u8>, Fail> {
+) -> Result<String, Fail> {
     let end = format!(in alloc;
         "{size}}}}}}},\"name\":\"{name}\",\"schema\":[\"a\",\"b\"]{members}}}"
     )?;
-    Ok(format!(in alloc; "{COMPOSITE}{end}{behind}")?.into_bytes())
+    Ok(format!(in alloc; "{COMPOSITE}{end}{behind}")?)
+}
+
+// A source that gives the bytes of a text.
+fn steady(alloc: Global, text: &str) -> Result<SteadySource, Fail> {
+    Ok(SteadySource::new(text.as_bytes().to_vec(alloc)?))
+}
+
+// A run over a text has this status, and writes this.
+fn expect_answer(
+    rt: &(impl Abort + AllocGlobal),
+    text: &str,
+    status: Status,
+    output: &str,
+) -> Result<(), Fail> {
+    let alloc = rt.alloc();
+    let mut sink = MemorySink::new(alloc, Vec::new(alloc))?;
+    let answer = run_words(alloc, &["walk"], &mut steady(alloc, text)?, &mut sink)?;
+    assert_eq!(rt;
+        (answer, sink.bytes()),
+        (status, output.as_bytes()),
+        "at {text}"
+    );
+    Ok(())
 }
 
 #[test]
 fn answers_each_input(rt: HostRuntime) -> Result<(), Fail> {
-    let alloc = rt.alloc();
-    for (name, size, behind, status, output) in ANSWERS {
-        let mut source = SteadySource::new(input(alloc, name, size, behind)?);
-        let mut sink = MemorySink::new(alloc, Vec::new(alloc))?;
-        let answer = run_words(alloc, &["walk"], &mut source, &mut sink)?;
-        assert_eq!(rt; answer, status, "at {name}, {size}: {behind}");
-        assert_eq!(rt;
-            sink.bytes(),
-            output.as_bytes(),
-            "at {name}, {size}: {behind}"
-        );
+    for &(name, size, behind, status, output) in ANSWERS {
+        let text = input(rt.alloc(), name, size, behind)?;
+        expect_answer(&rt, &text, status, output)?;
     }
     Ok(())
 }
 
 #[test]
 fn heeds_each_member_of_a_header(rt: HostRuntime) -> Result<(), Fail> {
-    let alloc = rt.alloc();
-    for (members, behind, status, output) in MEMBERS {
-        let mut source = SteadySource::new(input_with(alloc, "g", 2, members, behind)?);
-        let mut sink = MemorySink::new(alloc, Vec::new(alloc))?;
-        let answer = run_words(alloc, &["walk"], &mut source, &mut sink)?;
-        assert_eq!(rt; answer, status, "at {members}");
-        assert_eq!(rt; sink.bytes(), output.as_bytes(), "at {members}");
+    for &(members, behind, status, output) in MEMBERS {
+        let text = input_with(rt.alloc(), "g", 2, members, behind)?;
+        expect_answer(&rt, &text, status, output)?;
     }
+    Ok(())
+}
+
+// A run over a text, of which a read fails, has this status and writes nothing.
+fn expect_nothing(
+    rt: &(impl Abort + AllocGlobal),
+    text: &str,
+    failing: u64,
+    status: Status,
+) -> Result<(), Fail> {
+    let alloc = rt.alloc();
+    let bytes = text.as_bytes().to_vec(alloc)?;
+    let mut source = MemorySource::new(bytes, vec![in alloc; failing]?);
+    let mut sink = MemorySink::new(alloc, Vec::new(alloc))?;
+    let answer = run_words(alloc, &["walk"], &mut source, &mut sink)?;
+    assert_eq!(rt;
+        (answer, sink.bytes().len()),
+        (status, 0),
+        "where read {failing} fails"
+    );
     Ok(())
 }
 
 #[test]
 fn writes_nothing_where_no_input_was_read(rt: HostRuntime) -> Result<(), Fail> {
-    let alloc = rt.alloc();
-    for (bytes, failing, status) in [
-        (input(alloc, "g", 10, TWICE)?, 1, Status::ReadFault),
-        (input(alloc, "g", 10, TWICE)?, 2, Status::ReadFault),
-        (b"{\"request\":{\"g\"".to_vec(alloc)?, 3, Status::Input),
-    ] {
-        let mut source = MemorySource::new(bytes, vec![in alloc; failing]?);
-        let mut sink = MemorySink::new(alloc, Vec::new(alloc))?;
-        let answer = run_words(alloc, &["walk"], &mut source, &mut sink)?;
-        assert_eq!(rt; answer, status, "where read {failing} fails");
-        assert_eq!(rt; sink.bytes().len(), 0, "where read {failing} fails");
-    }
-    Ok(())
+    let whole = input(rt.alloc(), "g", 10, TWICE)?;
+    expect_nothing(&rt, &whole, 1, Status::ReadFault)?;
+    expect_nothing(&rt, &whole, 2, Status::ReadFault)?;
+    expect_nothing(&rt, "{\"request\":{\"g\"", 3, Status::Input)
 }
 
 #[test]
@@ -267,49 +289,62 @@ fn refuses_one_byte_past_the_limit(rt: HostRuntime) -> Result<(), Fail> {
     let mut source = SteadySource::new(vec![in alloc; b' '; MAX_INPUT_BYTES + 1]?);
     let mut sink = MemorySink::new(alloc, Vec::new(alloc))?;
     let answer = run_words(alloc, &["walk"], &mut source, &mut sink)?;
-    assert_eq!(rt; answer, Status::Input);
-    assert_eq!(rt; sink.bytes().len(), 0);
+    assert_eq!(rt; (answer, sink.bytes().len()), (Status::Input, 0));
     Ok(())
 }
+
+// A call of a sink that takes a few bytes at a time, the status of a run where it fails, and what
+// was taken before.
+const HELD: &[(u64, Status, &str)] = &[
+    (1, Status::WriteFault, ""),
+    (
+        3,
+        Status::WriteFault,
+        "{\"page\":1,\"results\":{\"g\":{\"bucke",
+    ),
+    (100, Status::Ok, PAGE),
+];
 
 #[test]
 fn holds_what_was_taken_before_a_write_failed(rt: HostRuntime) -> Result<(), Fail> {
     let alloc = rt.alloc();
-    for (call, status, held) in [
-        (1, Status::WriteFault, ""),
-        (
-            3,
-            Status::WriteFault,
-            "{\"page\":1,\"results\":{\"g\":{\"bucke",
-        ),
-        (100, Status::Ok, PAGE),
-    ] {
-        let mut source = Drip(SteadySource::new(input(alloc, "g", 10, TWICE)?));
+    let text = input(alloc, "g", 10, TWICE)?;
+    for &(call, status, held) in HELD {
+        let mut source = Drip(steady(alloc, &text)?);
         let mut sink = Sip(MemorySink::new(alloc, vec![in alloc; call]?)?);
         let answer = run_words(alloc, &["walk"], &mut source, &mut sink)?;
-        assert_eq!(rt; answer, status, "at write {call}");
-        assert_eq!(rt; sink.0.bytes(), held.as_bytes(), "at write {call}");
+        assert_eq!(rt;
+            (answer, sink.0.bytes()),
+            (status, held.as_bytes()),
+            "at write {call}"
+        );
     }
+    Ok(())
+}
+
+// Fills a sink until it has room for so many bytes.
+fn fill(rt: &(impl Abort + AllocGlobal), sink: &mut MemorySink, room: usize) -> Result<(), Fail> {
+    let filler = vec![in rt.alloc(); b'.'; MemorySink::ROOM.saturating_sub(room)]?;
+    assert_eq!(rt; write_all(sink, &filler), Ok(()));
     Ok(())
 }
 
 #[test]
 fn fills_a_sink_to_its_last_byte(rt: HostRuntime) -> Result<(), Fail> {
     let alloc = rt.alloc();
+    let text = input(alloc, "g", 10, TWICE)?;
     for (room, held) in [(0, ""), (5, "{\"pag")] {
-        let mut source = SteadySource::new(input(alloc, "g", 10, TWICE)?);
         let mut sink = MemorySink::new(alloc, Vec::new(alloc))?;
-        let filler = vec![in alloc; b'.'; MemorySink::ROOM - room]?;
-        assert_eq!(rt; write_all(&mut sink, &filler), Ok(()));
-        let answer = run_words(alloc, &["walk"], &mut source, &mut sink)?;
-        assert_eq!(rt; answer, Status::WriteFault, "with room for {room}");
-        assert_eq!(rt;
+        fill(&rt, &mut sink, room)?;
+        let answer = run_words(alloc, &["walk"], &mut steady(alloc, &text)?, &mut sink)?;
+        let found = (
+            answer,
             sink.bytes().len(),
-            MemorySink::ROOM,
-            "with room for {room}"
-        );
-        assert!(rt;
             sink.bytes().ends_with(held.as_bytes()),
+        );
+        assert_eq!(rt;
+            found,
+            (Status::WriteFault, MemorySink::ROOM, true),
             "with room for {room}"
         );
     }
@@ -319,7 +354,8 @@ fn fills_a_sink_to_its_last_byte(rt: HostRuntime) -> Result<(), Fail> {
 // Runs arguments that are no command, where the first read and the first write would fail.
 fn expect_usage(rt: &(impl Abort + AllocGlobal), words: &[&str]) -> Result<(), Fail> {
     let alloc = rt.alloc();
-    let mut source = MemorySource::new(input(alloc, "g", 10, TWICE)?, vec![in alloc; 1]?);
+    let bytes = input(alloc, "g", 10, TWICE)?.into_bytes();
+    let mut source = MemorySource::new(bytes, vec![in alloc; 1]?);
     let mut sink = MemorySink::new(alloc, vec![in alloc; 1]?)?;
     assert_eq!(rt;
         run_words(alloc, words, &mut source, &mut sink)?,

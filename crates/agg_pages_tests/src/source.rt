@@ -4,15 +4,23 @@ use agg_pages::source::{MemorySource, ReadAllError, Source, SteadySource, read_a
 use std::test::Fail;
 
 #[test]
-fn reads_all_that_comes_slowly_or_in_chunks(rt: HostRuntime) -> Result<(), Fail> {
+fn reads_all_that_comes_slowly(rt: HostRuntime) -> Result<(), Fail> {
     let bytes = b"one at a time".to_vec(rt.alloc())?;
     let mut slow = Drip(SteadySource::new(bytes));
     let all = read_all(rt.alloc(), &mut slow)?;
     assert_eq!(rt; all.as_slice(), b"one at a time".as_slice());
+    Ok(())
+}
 
+#[test]
+fn reads_all_that_comes_in_chunks(rt: HostRuntime) -> Result<(), Fail> {
     let mut large = SteadySource::new(vec![in rt.alloc(); 7; 20_000]?);
     assert_eq!(rt; read_all(rt.alloc(), &mut large)?.len(), 20_000);
+    Ok(())
+}
 
+#[test]
+fn reads_nothing_of_what_breaks_off(rt: HostRuntime) -> Result<(), Fail> {
     let bytes = b"abcd".to_vec(rt.alloc())?;
     let mut broken = MemorySource::new(bytes, vec![in rt.alloc(); 2]?);
     let all = read_all(rt.alloc(), &mut broken);

@@ -5,7 +5,7 @@ use std::alloc::Global;
 use std::test::Fail;
 
 // The sources of a composite, its after key, segments, and the one bucket of a page with room left.
-const BUCKETS: [(&str, &str, &str, &str); 2] = [
+const BUCKETS: &[(&str, &str, &str, &str)] = &[
     (
         DESCENDING,
         r#"{"a":"ip:::1"}"#,
@@ -21,7 +21,7 @@ const BUCKETS: [(&str, &str, &str, &str); 2] = [
 ];
 
 // Documents, and the pages of a walk over them.
-const DOCUMENTS: [&str; 6] = [
+const DOCUMENTS: &[&str] = &[
     r#"{"a":3}"#,
     r#"{"a":[1,2]}"#,
     "{}",
@@ -38,7 +38,7 @@ const THREE_PAGES: &str = "{\"page\":1,\"results\":{\"g\":{\"after_key\":{\"a\":
     \"buckets\":[{\"doc_count\":1,\"key\":{\"a\":18446744073709551615}}]}}}\n{\"ended\":true}\n";
 
 // Cuts of the documents into segments: a bar opens one, and a dot is a document.
-const CUTS: [&str; 10] = [
+const CUTS: &[&str] = &[
     "......",
     "|......",
     "|.|.|.|.|.|.",
@@ -69,7 +69,7 @@ fn snapshot_lines(alloc: Global, cut: &str) -> Result<String, Fail> {
 #[test]
 fn pages_over_segments(rt: HostRuntime) -> Result<(), Fail> {
     let alloc = rt.alloc();
-    for (sources, after, segments, bucket) in BUCKETS {
+    for &(sources, after, segments, bucket) in BUCKETS {
         let behind = format!(in alloc; "\nsnapshot 10\n{segments}")?;
         let page = format!(in alloc;
             "{{\"page\":1,\"results\":{{\"g\":{{\"buckets\":[{bucket}]}}}}}}\n{{\"ended\":true}}\n"
@@ -81,7 +81,7 @@ fn pages_over_segments(rt: HostRuntime) -> Result<(), Fail> {
 
 #[test]
 fn pages_alike_over_each_cut(rt: HostRuntime) -> Result<(), Fail> {
-    for cut in CUTS {
+    for &cut in CUTS {
         let snapshots = snapshot_lines(rt.alloc(), cut)?.repeat(rt.alloc(), 3)?;
         expect(&rt, ASCENDING, "{}", &snapshots, Status::Ok, THREE_PAGES)?;
     }

@@ -1,8 +1,6 @@
 //! Pages over several sources, over values of every class, and behind after keys.
-use super::run_words;
+use super::expect_answer;
 use agg_pages::Status;
-use agg_pages::sink::MemorySink;
-use agg_pages::source::SteadySource;
 use std::process::Abort;
 use std::test::Fail;
 
@@ -77,7 +75,7 @@ const TWO_ONE_NULL: &str = "{\"doc_count\":1,\"key\":{\"a\":2}},\
     {\"doc_count\":1,\"key\":{\"a\":1}},{\"doc_count\":1,\"key\":{\"a\":null}}";
 
 // The sources of a composite, its after key, documents, and the buckets of a page with room left.
-const PAGES: [(&str, &str, &str, &str); 29] = [
+const PAGES: &[(&str, &str, &str, &str)] = &[
     (BOTH, "{}", PAIRS, ALL_PAIRS),
     (BOTH, r#"{"a":"i64:2"}"#, PAIRS, FROM_TWO),
     (BOTH, r#"{"b":"i64:1"}"#, PAIRS, ALL_PAIRS),
@@ -130,7 +128,7 @@ const SEVENTEEN: &str = concat!(
 const TWICE_NAMED: &str = r#"{"a":{"terms":{"field":"a"}}},{"a":{"terms":{"field":"b"}}}"#;
 
 // The sources and the after key of a composite that may not be asked, and the name of its fault.
-const FAULTS: [(&str, &str, &str); 4] = [
+const FAULTS: &[(&str, &str, &str)] = &[
     ("", "{}", "NoSource"),
     (SEVENTEEN, "{}", "TooManySources"),
     (TWICE_NAMED, "{}", "DuplicateSource"),
@@ -150,25 +148,16 @@ pub(super) fn expect(
     let composite = format!(in alloc;
         "{{\"composite\":{{\"sources\":[{sources}],\"size\":10,\"after\":{after}}}}}"
     )?;
-    let header = format!(in alloc;
+    let text = format!(in alloc;
         "{{\"request\":{{\"g\":{composite}}},\"name\":\"g\",\"schema\":[]}}{behind}"
     )?;
-    let mut source = SteadySource::new(header.into_bytes());
-    let mut sink = MemorySink::new(alloc, Vec::new(alloc))?;
-    let answer = run_words(alloc, &["walk"], &mut source, &mut sink)?;
-    assert_eq!(rt; answer, status, "at {sources}, {after}: {behind}");
-    assert_eq!(rt;
-        sink.bytes(),
-        output.as_bytes(),
-        "at {sources}, {after}: {behind}"
-    );
-    Ok(())
+    expect_answer(rt, &text, status, output)
 }
 
 #[test]
 fn answers_each_composite(rt: HostRuntime) -> Result<(), Fail> {
     let alloc = rt.alloc();
-    for (sources, after, documents, buckets) in PAGES {
+    for &(sources, after, documents, buckets) in PAGES {
         let behind = format!(in alloc; "\nsnapshot 10\n{documents}")?;
         let page = format!(in alloc;
             "{{\"page\":1,\"results\":{{\"g\":{{\"buckets\":[{buckets}]}}}}}}\n{{\"ended\":true}}\n"
@@ -181,7 +170,7 @@ fn answers_each_composite(rt: HostRuntime) -> Result<(), Fail> {
 #[test]
 fn refuses_each_fault(rt: HostRuntime) -> Result<(), Fail> {
     let alloc = rt.alloc();
-    for (sources, after, fault) in FAULTS {
+    for &(sources, after, fault) in FAULTS {
         let output = format!(in alloc; "error: {fault}\n")?;
         for behind in ["", "\nsnapshot 10\n{\"a\":1}"] {
             expect(&rt, sources, after, behind, Status::Refused, &output)?;

@@ -40,7 +40,7 @@ const THREE_WEEKS: &str = "{\"doc_count\":1,\"key\":{\"d\":-259200000}},\
     {\"doc_count\":1,\"key\":{\"d\":946252800000}},{\"doc_count\":1,\"key\":{\"d\":951696000000}}";
 
 // The sources of a composite, its after key, documents, and the buckets of a page with room left.
-const PAGES: [(&str, &str, &str, &str); 14] = [
+const PAGES: &[(&str, &str, &str, &str)] = &[
     (
         TENS,
         "{}",
@@ -111,7 +111,7 @@ const PAGES: [(&str, &str, &str, &str); 14] = [
 ];
 
 // The kind and the members of a source beside its field, its after key, and the name of its fault.
-const FAULTS: [(&str, &str, &str); 9] = [
+const FAULTS: &[(&str, &str, &str)] = &[
     (
         r#"{"date_histogram":{"field":"a","fixed_interval":"0ms"}}"#,
         "{}",
@@ -160,7 +160,7 @@ const FAULTS: [(&str, &str, &str); 9] = [
 ];
 
 // Sources, and documents of which one has a bucket that starts outside 64 bits.
-const OUT_OF_RANGE: [(&str, &str); 3] = [
+const OUT_OF_RANGE: &[(&str, &str)] = &[
     (WEEKS, "{\"d\":{\"dt\":-9223372036854775808}}"),
     (TENS, "{\"h\":-9223372036854775808}"),
     (
@@ -172,7 +172,7 @@ const OUT_OF_RANGE: [(&str, &str); 3] = [
 #[test]
 fn answers_each_start(rt: HostRuntime) -> Result<(), Fail> {
     let alloc = rt.alloc();
-    for (sources, after, documents, buckets) in PAGES {
+    for &(sources, after, documents, buckets) in PAGES {
         let behind = format!(in alloc; "\nsnapshot 10\n{documents}")?;
         let page = format!(in alloc;
             "{{\"page\":1,\"results\":{{\"g\":{{\"buckets\":[{buckets}]}}}}}}\n{{\"ended\":true}}\n"
@@ -197,7 +197,7 @@ const FULL_DAY: &str = "{\"page\":1,\"results\":{\"g\":{\
 #[test]
 fn refuses_each_interval(rt: HostRuntime) -> Result<(), Fail> {
     let alloc = rt.alloc();
-    for (kind, after, fault) in FAULTS {
+    for &(kind, after, fault) in FAULTS {
         let sources = format!(in alloc; "{{\"a\":{kind}}}")?;
         let output = format!(in alloc; "error: {fault}\n")?;
         for behind in ["", "\nsnapshot 10\n{\"a\":1}"] {
@@ -210,7 +210,7 @@ fn refuses_each_interval(rt: HostRuntime) -> Result<(), Fail> {
 #[test]
 fn refuses_starts_out_of_range(rt: HostRuntime) -> Result<(), Fail> {
     let alloc = rt.alloc();
-    for (sources, documents) in OUT_OF_RANGE {
+    for &(sources, documents) in OUT_OF_RANGE {
         let behind = format!(in alloc; "\nsnapshot 10\n{documents}")?;
         let output = "error: BucketOutOfRange\n";
         expect(&rt, sources, "{}", &behind, Status::Refused, output)?;
