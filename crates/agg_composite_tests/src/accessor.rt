@@ -1,9 +1,9 @@
 //! The accessors of sources over a field of several classes.
 use crate::found::{ALL, NONE, Standing, standing, types};
-use crate::given::{Given, segment};
 use agg_composite::{CompositeSourceAccessors, PrecomputedAfterKey};
 use agg_request::{CompositeAggregationSource, TermCompositeAggregationSource};
 use agg_segment::ColumnType;
+use agg_segment_tests::given::{Given, segment_of};
 use agg_values::{
     CompositeIntermediateKey, InvalidArgument, MissingOrder, Order, OutOfMemory, RequestError, Text,
 };
@@ -87,7 +87,7 @@ fn source(
 #[test]
 fn accessors_say_where_an_after_value_stands(rt: HostRuntime) -> Result<(), Fail> {
     let alloc = rt.alloc();
-    let segment = segment(alloc, MIXED)?;
+    let segment = segment_of(alloc, &[MIXED])?;
     for &(order, missing_order, after, expected) in STANDINGS {
         let source = source(alloc, order, missing_order, true)?;
         let found = standing(alloc, &segment, &source, after)?;
@@ -99,7 +99,7 @@ fn accessors_say_where_an_after_value_stands(rt: HostRuntime) -> Result<(), Fail
 #[test]
 fn accessors_stand_in_the_requested_order(rt: HostRuntime) -> Result<(), Fail> {
     let alloc = rt.alloc();
-    let segment = segment(alloc, MIXED)?;
+    let segment = segment_of(alloc, &[MIXED])?;
     for &(order, expected) in TYPES {
         let source = source(alloc, order, DEFAULT, false)?;
         let found = types(alloc, &segment, &source)?;
@@ -111,7 +111,7 @@ fn accessors_stand_in_the_requested_order(rt: HostRuntime) -> Result<(), Fail> {
 #[test]
 fn null_is_no_after_value_without_a_missing_bucket(rt: HostRuntime) -> Result<(), Fail> {
     let alloc = rt.alloc();
-    let segment = segment(alloc, MIXED)?;
+    let segment = segment_of(alloc, &[MIXED])?;
     let source = source(alloc, Order::Asc, DEFAULT, false)?;
     let null = CompositeIntermediateKey::Null;
     let refused = CompositeSourceAccessors::build_for_source(alloc, &segment, &source, Some(&null));

@@ -1,8 +1,9 @@
 //! Where after keys stand among the numbers of small columns.
-use crate::given::{Given, key, segment};
+use crate::given::key;
 use agg_calendar::PrecomputedDateInterval;
 use agg_composite::{CompositeAccessor, PrecomputedAfterKey};
 use agg_segment::Column;
+use agg_segment_tests::given::{Given, segment_of};
 use agg_values::{CompositeIntermediateKey, MissingOrder, Order, Text};
 use std::test::Fail;
 
@@ -56,7 +57,7 @@ fn place(column: &Column, key: &CompositeIntermediateKey, order: Order) -> Preco
 #[test]
 fn after_keys_have_their_places(rt: HostRuntime) -> Result<(), Fail> {
     let alloc = rt.alloc();
-    let segment = segment(alloc, VALUES)?;
+    let segment = segment_of(alloc, &[VALUES])?;
     for &(name, after, order, expected) in PLACES {
         let columns = segment.columns(&Text::copy_of(alloc, name)?);
         assert_eq!(rt; columns.len(), 1, "{name}");

@@ -1,12 +1,12 @@
 //! The accessors of sources that divide values.
 use crate::found::{ALL, NONE, Standing, standing, types};
-use crate::given::{Given, segment};
 use agg_composite::PrecomputedAfterKey;
 use agg_request::{
     CompositeAggregationSource, DateHistogramCompositeAggregationSource,
     HistogramCompositeAggregationSource,
 };
 use agg_segment::ColumnType;
+use agg_segment_tests::given::{Given, segment_of};
 use agg_values::{MissingOrder, Order, Text};
 use std::alloc::Global;
 use std::test::Fail;
@@ -111,7 +111,7 @@ fn dates(
 #[test]
 fn histograms_read_what_they_divide(rt: HostRuntime) -> Result<(), Fail> {
     let alloc = rt.alloc();
-    let segment = segment(alloc, VALUES)?;
+    let segment = segment_of(alloc, &[VALUES])?;
     for (order, expected) in [
         (Order::Asc, [ColumnType::I64, ColumnType::DateTime]),
         (Order::Desc, [ColumnType::DateTime, ColumnType::I64]),
@@ -127,7 +127,7 @@ fn histograms_read_what_they_divide(rt: HostRuntime) -> Result<(), Fail> {
 fn date_sources_read_dates(rt: HostRuntime) -> Result<(), Fail> {
     let alloc = rt.alloc();
     let source = dates(alloc, Some("1d"), Order::Asc, true)?;
-    let found = types(alloc, &segment(alloc, VALUES)?, &source)?;
+    let found = types(alloc, &segment_of(alloc, &[VALUES])?, &source)?;
     assert_eq!(rt; found.as_slice(), [ColumnType::DateTime].as_slice());
     Ok(())
 }
@@ -135,7 +135,7 @@ fn date_sources_read_dates(rt: HostRuntime) -> Result<(), Fail> {
 #[test]
 fn after_numbers_stand_among_starts(rt: HostRuntime) -> Result<(), Fail> {
     let alloc = rt.alloc();
-    let segment = segment(alloc, VALUES)?;
+    let segment = segment_of(alloc, &[VALUES])?;
     for field in ["signed", "large", "dates"] {
         for &(order, missing_order, after, expected) in NUMBERS {
             let source = histogram(alloc, field, 5, order, missing_order)?;
@@ -149,7 +149,7 @@ fn after_numbers_stand_among_starts(rt: HostRuntime) -> Result<(), Fail> {
 #[test]
 fn after_dates_stand_among_starts(rt: HostRuntime) -> Result<(), Fail> {
     let alloc = rt.alloc();
-    let segment = segment(alloc, VALUES)?;
+    let segment = segment_of(alloc, &[VALUES])?;
     for &(order, after, expected) in DATES {
         let source = dates(alloc, Some("1d"), order, true)?;
         let found = standing(alloc, &segment, &source, after)?;

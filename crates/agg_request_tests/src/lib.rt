@@ -12,8 +12,6 @@ mod custom_order;
 #[cfg(test)]
 mod field_names;
 #[cfg(test)]
-mod given;
-#[cfg(test)]
 mod matches;
 #[cfg(test)]
 mod occurrences;

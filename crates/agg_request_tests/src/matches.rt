@@ -1,7 +1,7 @@
 //! Which documents small queries match.
-use crate::given::{Given, segment};
 use agg_request::read_query;
 use agg_segment::Matches;
+use agg_segment_tests::given::{Given, segment_of};
 use agg_values::DocId;
 use serde_json::Value;
 use std::test::Fail;
@@ -95,7 +95,7 @@ const QUERIES: &[(&str, &[DocId])] = &[
 #[test]
 fn queries_match_these_documents(rt: HostRuntime) -> Result<(), Fail> {
     let alloc = rt.alloc();
-    let segment = segment(alloc, DOCUMENTS)?;
+    let segment = segment_of(alloc, DOCUMENTS)?;
     for &(query, documents) in QUERIES {
         let tree = read_query(alloc, &Value::from_str(alloc, query)?)?;
         let found = Matches::new(alloc, &tree, &segment)?;

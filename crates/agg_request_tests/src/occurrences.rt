@@ -1,11 +1,11 @@
 //! Documents whose tuples would be too many to walk, and values of which a source reads some.
-use crate::given::{Given, segment};
 use agg_calendar::CalendarInterval;
 use agg_request::{
     CompositeAggregation, CompositeAggregationSource, DateHistogramCompositeAggregationSource,
     HistogramCompositeAggregationSource, TermCompositeAggregationSource, count_uncut,
 };
 use agg_segment::{Document, FieldValue, SegmentBuilder, SegmentReader};
+use agg_segment_tests::given::{Given, segment_of};
 use agg_values::{ItemList, MissingOrder, NameMap, Order, Text};
 use std::alloc::Global;
 use std::test::Fail;
@@ -50,7 +50,7 @@ const READ: &[[u64; 3]] = &[[6, 4, 2], [1, 0, 0], [0, 0, 0], [2, 2, 0]];
 #[test]
 fn a_source_counts_the_values_that_it_reads(rt: HostRuntime) -> Result<(), Fail> {
     let alloc = rt.alloc();
-    let segment = segment(alloc, MIXED)?;
+    let segment = segment_of(alloc, MIXED)?;
     for (doc, &read) in (0..4).zip(READ) {
         assert_eq!(rt; counts(alloc, &segment, doc, false)?, read, "{doc}");
         let with_bucket = [read[0].max(1), read[1].max(1), read[2].max(1)];

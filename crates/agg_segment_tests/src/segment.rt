@@ -1,4 +1,5 @@
 //! What small segments answer.
+use crate::given::Given;
 use agg_segment::{
     BuildError, Column, ColumnType, FieldValue, OrdHit, QueryTree, RangeBound, Schema,
     SegmentBuilder, SegmentReader, by_class_keeps_the_keys, classes_match_in_any_order,
@@ -9,17 +10,6 @@ use std::cmp::Ordering;
 use std::test::Fail;
 
 const FROM_ZERO: u64 = 9_223_372_036_854_775_808;
-
-// A value, as a table can hold it.
-#[derive(Clone, Copy)]
-enum Given {
-    Truth(bool),
-    Text(&'static str),
-    Signed(i64),
-    Unsigned(u64),
-    Address(u128),
-    Date(i64),
-}
 
 // Values of every class in one field.
 const OF_EACH_CLASS: [(&str, Given); 7] = [
@@ -32,17 +22,6 @@ const OF_EACH_CLASS: [(&str, Given); 7] = [
     ("a", Given::Text("a")),
 ];
 
-fn value_of(alloc: Global, given: Given) -> Result<FieldValue, OutOfMemory> {
-    Ok(match given {
-        Given::Truth(truth) => FieldValue::Bool(truth),
-        Given::Text(text) => FieldValue::Str(Text::copy_of(alloc, text)?),
-        Given::Signed(number) => FieldValue::I64(number),
-        Given::Unsigned(number) => FieldValue::U64(number),
-        Given::Address(address) => FieldValue::Ip(Address(address)),
-        Given::Date(nanoseconds) => FieldValue::Date(nanoseconds),
-    })
-}
-
 // Adds values to the open document.
 fn push_all(
     alloc: Global,
@@ -51,7 +30,7 @@ fn push_all(
 ) -> Result<(), OutOfMemory> {
     for (name, given) in values {
         let field = builder.field(name)?;
-        builder.push(field, value_of(alloc, *given)?)?;
+        builder.push(field, given.value(alloc)?)?;
     }
     Ok(())
 }
