@@ -2,7 +2,7 @@
 -- it gets.
 use Rattle.std.proofs.Common.{◌≡◌, ◌≢◌, ℕ, ℤ, pos, negsuc, zero, suc, ◌+◌, ◌*◌, ◌<◌, ◌^◌, Bool}
 use Rattle.std.proofs.Common.{true, false, cond, eqb, List, [], ◌∷◌, ◌++◌, length, get_or, decimal}
-use Rattle.std.proofs.Common.{Option, Some, None, Result, Ok, Err, MatchResult, IfOk, IfErr, refl}
+use Rattle.std.proofs.Common.{Option, Some, None, Result, Ok, Err, MatchResult, IfErr, refl}
 use Rattle.std.proofs.Common.{true≢false, eq-eqb, ne_eqb, neg_ℤ, sym, ap, ◌∙◌, subst, arith}
 use Rattle.std.proofs.Common.{FitsSigned}
 use Rattle.std.specs.Int.{w64}
@@ -17,7 +17,7 @@ use Rattle.std.proofs.lemmas.Fmt.{decimal_is_IsNumeral}
 use Rattle.std.proofs.lemmas.Str.Parse.{without_leading_plus_none, digit_at}
 use Rattle.agg_values.specs.AddressGrammar.{IsAddressText}
 use Rattle.agg_values.specs.KeyText.{colon, kind_text, IsSignedText, IsUnsignedText, IsValueText}
-use Rattle.agg_values.specs.KeyText.{IsKeyText, IsRefusedAs, IsValueRefusedAs}
+use Rattle.agg_values.specs.KeyText.{IsKeyText, IsRefusedAs}
 use Rattle.agg_values.specs.declared.error.KeyTextError.{KeyTextError}
 use Rattle.agg_values.specs.declared.error.KeyTextError.TheVariants.{NoColon, UnknownType, BadValue}
 use Rattle.agg_values.specs.declared.error.KeyTextError.TheVariants.{Unsupported, OutOfMemory}
@@ -29,47 +29,6 @@ use Rattle.agg_values.proofs.AddressTexts.{IsAddressText-unique}
 abbrev weight : List ℕ → ℕ
 weight [] = 0
 weight (c ∷ cs) = c + 256 * weight cs
-
--- a value that is none of its kind's
-pub refused_truth : (value : List ℕ) → ((b : Bool) → ¬ (IsValueText value (Truth b)))
-    → IsValueRefusedAs (codes "bool") value BadValue
-refused_truth value none = ((Truth true, refl), λ key e h. of key e h)
-  where
-    of : (key : CompositeIntermediateKey) → codes "bool" ≡ kind_text key → ¬ (IsValueText value key)
-    of (Truth b) e h = none b h
-    of _ e h = omega (arith, ap weight e)
-
-pub refused_signed : (value : List ℕ) → ((n : ℤ) → ¬ (IsSignedText value n))
-    → IsValueRefusedAs (codes "i64") value BadValue
-refused_signed value none = ((I64 (pos 0), refl), λ key e h. of key e h)
-  where
-    of : (key : CompositeIntermediateKey) → codes "i64" ≡ kind_text key → ¬ (IsValueText value key)
-    of (I64 n) e h = none n h
-    of _ e h = omega (arith, ap weight e)
-
-pub refused_unsigned : (value : List ℕ) → ((n : ℕ) → ¬ (IsUnsignedText value n))
-    → IsValueRefusedAs (codes "u64") value BadValue
-refused_unsigned value none = ((U64 0, refl), λ key e h. of key e h)
-  where
-    of : (key : CompositeIntermediateKey) → codes "u64" ≡ kind_text key → ¬ (IsValueText value key)
-    of (U64 n) e h = none n h
-    of _ e h = omega (arith, ap weight e)
-
-pub refused_date : (value : List ℕ) → ((n : ℤ) → ¬ (IsSignedText value n))
-    → IsValueRefusedAs (codes "dt") value BadValue
-refused_date value none = ((DateTime (pos 0), refl), λ key e h. of key e h)
-  where
-    of : (key : CompositeIntermediateKey) → codes "dt" ≡ kind_text key → ¬ (IsValueText value key)
-    of (DateTime ns) e h = none ns h
-    of _ e h = omega (arith, ap weight e)
-
-pub refused_address : (value : List ℕ) → ((a : ℕ) → ¬ (IsAddressText value a))
-    → IsValueRefusedAs (codes "ip") value BadValue
-refused_address value none = ((IpAddr (record { 0 = 0 }), refl), λ key e h. of key e h)
-  where
-    of : (key : CompositeIntermediateKey) → codes "ip" ≡ kind_text key → ¬ (IsValueText value key)
-    of (IpAddr address) e h = none address.0 h
-    of _ e h = omega (arith, ap weight e)
 
 -- a text with no colon
 free_of_colon : List ℕ → Bool
@@ -150,6 +109,67 @@ IsKeyText-unique text key other (v, e, h) (w, f, k) =
     (sym e ∙ f) in
     value_unique v key other same.0 h (subst (λ value. IsValueText value other) (sym same.1) k)
 
+-- a kind and a value that are a key's make its text
+pub text_of_parts : (kind value : List ℕ) (key : CompositeIntermediateKey) → kind ≡ kind_text key
+    → IsValueText value key → IsKeyText (kind ++ colon ∷ value) key
+text_of_parts kind value key named spelled =
+    (value, ap (λ k. k ++ colon ∷ value) named, spelled)
+
+-- a text that begins as a key's, whose value is of no key of that kind
+refused_value : (value : List ℕ) (key : CompositeIntermediateKey)
+    → ((other : CompositeIntermediateKey) → kind_text key ≡ kind_text other
+    → ¬ (IsValueText value other))
+    → IsRefusedAs (kind_text key ++ colon ∷ value) BadValue
+refused_value value key none = (
+  key,
+  value,
+  refl,
+  λ other (w, e, spelled).
+      let same = cut_unique (kind_text key) value (kind_text other) w (no_colon key)
+      (no_colon other) e in
+      none other same.0 (subst (λ v. IsValueText v other) (sym same.1) spelled),
+)
+
+pub refused_truth : (value : List ℕ) → ((b : Bool) → ¬ (IsValueText value (Truth b)))
+    → IsRefusedAs (codes "bool" ++ colon ∷ value) BadValue
+refused_truth value none = refused_value value (Truth true) of
+  where
+    of : (key : CompositeIntermediateKey) → codes "bool" ≡ kind_text key → ¬ (IsValueText value key)
+    of (Truth b) e h = none b h
+    of _ e h = omega (arith, ap weight e)
+
+pub refused_signed : (value : List ℕ) → ((n : ℤ) → ¬ (IsSignedText value n))
+    → IsRefusedAs (codes "i64" ++ colon ∷ value) BadValue
+refused_signed value none = refused_value value (I64 (pos 0)) of
+  where
+    of : (key : CompositeIntermediateKey) → codes "i64" ≡ kind_text key → ¬ (IsValueText value key)
+    of (I64 n) e h = none n h
+    of _ e h = omega (arith, ap weight e)
+
+pub refused_unsigned : (value : List ℕ) → ((n : ℕ) → ¬ (IsUnsignedText value n))
+    → IsRefusedAs (codes "u64" ++ colon ∷ value) BadValue
+refused_unsigned value none = refused_value value (U64 0) of
+  where
+    of : (key : CompositeIntermediateKey) → codes "u64" ≡ kind_text key → ¬ (IsValueText value key)
+    of (U64 n) e h = none n h
+    of _ e h = omega (arith, ap weight e)
+
+pub refused_date : (value : List ℕ) → ((n : ℤ) → ¬ (IsSignedText value n))
+    → IsRefusedAs (codes "dt" ++ colon ∷ value) BadValue
+refused_date value none = refused_value value (DateTime (pos 0)) of
+  where
+    of : (key : CompositeIntermediateKey) → codes "dt" ≡ kind_text key → ¬ (IsValueText value key)
+    of (DateTime ns) e h = none ns h
+    of _ e h = omega (arith, ap weight e)
+
+pub refused_address : (value : List ℕ) → ((a : ℕ) → ¬ (IsAddressText value a))
+    → IsRefusedAs (codes "ip" ++ colon ∷ value) BadValue
+refused_address value none = refused_value value (IpAddr (record { 0 = 0 })) of
+  where
+    of : (key : CompositeIntermediateKey) → codes "ip" ≡ kind_text key → ¬ (IsValueText value key)
+    of (IpAddr address) e h = none address.0 h
+    of _ e h = omega (arith, ap weight e)
+
 -- a number's digits have no sign
 not_sign : (ds : List ℕ) (c : ℕ) → IsNumeral 10 ds → c < 48 → get_or ds 0 0 ≢ c
 not_sign ds c numeral low e = let first = digit_at ds 0 numeral.1 numeral.0 in omega arith
@@ -193,7 +213,7 @@ unfolding free_of_colon
 no_colon_in_f64 = not_contained (codes "f64") refl
 
 -- where a text is a key's, a reading gives that key, or memory was wanted
-refused_key : (text : List ℕ) (key : CompositeIntermediateKey) (error : KeyTextError)
+pub refused_key : (text : List ℕ) (key : CompositeIntermediateKey) (error : KeyTextError)
     → IsKeyText text key → IsRefusedAs text error → error ≡ OutOfMemory
 refused_key text key NoColon (v, e, h) none =
     absurd (none (subst (λ bytes. Contains bytes colon) (sym e) (contains_colon (kind_text key) v)))
@@ -205,30 +225,6 @@ refused_key text key UnknownType (v, e, h) (kind, w, f, bare, other, unknown) =
     ∙ f)).0))
 refused_key text key BadValue known (other, w, f, none) = absurd (none key known)
 refused_key text key OutOfMemory known memory = refl
-
-pub only_that_key : {A : Type 0} (of : A → CompositeIntermediateKey) (text : List ℕ)
-    (r : Result A KeyTextError)
-    → IfOk r (λ read. IsKeyText text (of read)) → IfErr r (IsRefusedAs text)
-    → (key : CompositeIntermediateKey) → IsKeyText text key
-    → MatchResult r (λ read. of read ≡ key) (λ error. error ≡ OutOfMemory)
-only_that_key of text (Ok read) ok err key known = IsKeyText-unique text (of read) key ok known
-only_that_key of text (Err error) ok err key known = refused_key text key error known err
-
--- what is refused of a kind and a value is refused of their text
-pub refused_text : (text kind value : List ℕ) (error : KeyTextError) → text ≡ kind ++ colon ∷ value
-    → (¬ (Contains kind colon)) → IsValueRefusedAs kind value error → IsRefusedAs text error
-refused_text text kind value NoColon e bare h = absurd h
-refused_text text kind value Unsupported e bare h = (value, e ∙ ap (λ k. k ++ colon ∷ value) h)
-refused_text text kind value UnknownType e bare h = (kind, value, e, bare, h.0, h.1)
-refused_text text kind value BadValue e bare h = (
-  h.0.0,
-  value,
-  e ∙ ap (λ k. k ++ colon ∷ value) h.0.1,
-  λ other (w, f, spelled).
-      let same = cut_unique kind value (kind_text other) w bare (no_colon other) (sym e ∙ f) in
-      h.1 other same.0 (subst (λ v. IsValueText v other) (sym same.1) spelled),
-)
-refused_text text kind value OutOfMemory e bare h = (value, e ∙ ap (λ k. k ++ colon ∷ value) h)
 
 -- where each byte is another, the byte is not contained
 pub not_contained_by_place : (c : ℕ) (bs : List ℕ) → ((i : ℕ) → i < length bs → get_or bs i 0 ≢ c)
@@ -242,12 +238,17 @@ pub passed_on : {T E : Type 0} (r : Result T E) (e : E) (P : E → Type 0) → I
 passed_on (Ok x) e P is p = tt
 passed_on (Err y) e P is p = subst P (sym is) p
 
+pub refusal_told : {T E : Type 0} (r : Result T E) (e : E) (P : T → Type 0) (Q : E → Type 0)
+    → IsErrAnd r (λ y. y ≡ e) → Q e → MatchResult r P Q
+refusal_told (Ok x) e P Q is q = absurd is
+refusal_told (Err y) e P Q is q = subst Q (sym is) q
+
 pub bad_value : {T : Type 0} (r : Result T KeyTextError) (e : KeyTextError) (kind name value : List
     ℕ) → IsErrAnd r (λ y. y ≡ e) → e ≡ BadValue → kind ≡ name
-    → IsValueRefusedAs name value BadValue → IfErr r (IsValueRefusedAs kind value)
+    → IsRefusedAs (name ++ colon ∷ value) BadValue → IfErr r (IsRefusedAs (kind ++ colon ∷ value))
 bad_value r e kind name value is bad named refused =
-    passed_on r e (IsValueRefusedAs kind value) is (subst (IsValueRefusedAs kind value) (sym bad)
-    (subst (λ k. IsValueRefusedAs k value BadValue) (sym named) refused))
+    passed_on r e (IsRefusedAs (kind ++ colon ∷ value)) is (subst (IsRefusedAs (kind ++ colon ∷ value))
+    (sym bad) (subst (λ k. IsRefusedAs (k ++ colon ∷ value) BadValue) (sym named) refused))
 
 -- the error of an `ok_or` at None
 pub error_of_none : {T E : Type 0} (o : Option T) (given error : E) → o ≡ None

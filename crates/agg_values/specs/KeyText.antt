@@ -83,13 +83,3 @@ IsRefusedAs text BadValue =
     (key : CompositeIntermediateKey) × (value : List ℕ) × (text ≡ kind_text key ++ colon ∷ value)
     × ((other : CompositeIntermediateKey) → ¬ (IsKeyText text other))
 IsRefusedAs text OutOfMemory = (value : List ℕ) × (text ≡ codes "str:" ++ value)
-
--- the same of a kind and a value that no colon divides
-abbrev pub IsValueRefusedAs : List ℕ → List ℕ → KeyTextError → Type 0
-IsValueRefusedAs kind value NoColon = ⊥
-IsValueRefusedAs kind value Unsupported = kind ≡ codes "f64"
-IsValueRefusedAs kind value UnknownType = (kind ≢ codes "f64") × IsUnknownKind kind
-IsValueRefusedAs kind value BadValue =
-    ((key : CompositeIntermediateKey) × (kind ≡ kind_text key))
-    × ((key : CompositeIntermediateKey) → kind ≡ kind_text key → ¬ (IsValueText value key))
-IsValueRefusedAs kind value OutOfMemory = kind ≡ codes "str"

@@ -1,11 +1,11 @@
 ghost use Rattle.std.specs.Prelude.{◌≡◌, ℤ, ℕ, Bool, ◌∷◌, ◌++◌, codes, decimal, string_bytes, IfOk};
 ghost use Rattle.std.specs.Prelude.{IfErr, MatchResult};
 ghost use Rattle.std.specs.Fmt.{signed_decimal};
+ghost use Rattle.std.specs.List.{Contains};
 ghost use Rattle.agg_values.specs.Address.{address_text};
 ghost use Rattle.agg_values.specs.AddressGrammar.{IsAddressText};
 ghost use Rattle.agg_values.specs.KeyText.{colon, key_text, kind_text, value_text, IsKeyText};
 ghost use Rattle.agg_values.specs.KeyText.{IsValueText, IsSignedText, IsUnsignedText, IsRefusedAs};
-ghost use Rattle.agg_values.specs.KeyText.{IsValueRefusedAs};
 ghost use Rattle.agg_values.specs.TypedKey.{CompositeIntermediateKey};
 ghost use Rattle.agg_values.specs.TypedKey.key.{Bool as Truth};
 
@@ -98,8 +98,9 @@ fn read_value(
     kind: &str,
     value: &str,
 ) -> Result<CompositeIntermediateKey, KeyTextError>
-    ensures ok { IfOk result (λ key. (kind.now ≡ kind_text key) × IsValueText value.now key) }
-    ensures err { IfErr result (λ error. IsValueRefusedAs kind.now value.now error) }
+    requires first_colon { ¬ (Contains kind.now colon) }
+    ensures ok { IfOk result (λ key. IsKeyText (kind.now ++ colon ∷ value.now) key) }
+    ensures err { IfErr result (λ error. IsRefusedAs (kind.now ++ colon ∷ value.now) error) }
 {
     match kind {
         "bool" => Ok(CompositeIntermediateKey::Bool(read_truth(value)?)),

@@ -1,8 +1,11 @@
+use Rattle.std.proofs.Common.{◌∷◌, ◌++◌, ℕ, List, ap}
 use Rattle.std.specs.Prelude.{codes}
+use Rattle.agg_values.specs.KeyText.{colon, IsRefusedAs}
+use Rattle.agg_values.specs.TypedKey.key.{Null}
 use Rattle.agg_values.proofs.KeyTexts.{bad_value, error_of_none, some_is_not_none, refused_truth}
 use Rattle.agg_values.proofs.KeyTexts.{refused_signed, refused_unsigned, refused_date}
-use Rattle.agg_values.proofs.KeyTexts.{refused_address}
-use Rattle.agg_values.specs.declared.error.KeyTextError.TheVariants.{BadValue}
+use Rattle.agg_values.proofs.KeyTexts.{passed_on, refused_address, text_of_parts}
+use Rattle.agg_values.specs.declared.error.KeyTextError.TheVariants.{BadValue, OutOfMemory}
 use Rattle.agg_values.proofs.after_key.read_value.Goals as goal
 
 pub returns-in_err-read_truth-in-bool-clause-err : goal.returns-in_err-read_truth-in-bool-clause-err
@@ -47,3 +50,17 @@ returns-in_err-ok_or-in-ip-clause-err c =
     bad c.in-ip.is
     (refused_address c.args.value.now (λ a h. some_is_not_none _ _ none (c.read_address.ensures.each
     a h)))
+
+pub returns-in_err-copy_of-in-str-clause-err : goal.returns-in_err-copy_of-in-str-clause-err
+returns-in_err-copy_of-in-str-clause-err c =
+    passed_on c.from_residual-in_err-copy_of-in-str.result OutOfMemory
+    (IsRefusedAs (c.args.kind.now ++ colon ∷ c.args.value.now))
+    c.from_residual-in_err-copy_of-in-str.ensures.1
+    (c.args.value.now, ap (λ (kind : List ℕ). kind ++ colon ∷ c.args.value.now) c.in-str.is)
+
+pub returns-in-null-clause-ok : goal.returns-in-null-clause-ok
+returns-in-null-clause-ok c = text_of_parts c.args.kind.now c.args.value.now Null c.in-null.is tt
+
+pub returns-in-f64-clause-err : goal.returns-in-f64-clause-err
+returns-in-f64-clause-err c =
+    (c.args.value.now, ap (λ (kind : List ℕ). kind ++ colon ∷ c.args.value.now) c.in-f64.is)

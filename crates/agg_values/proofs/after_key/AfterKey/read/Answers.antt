@@ -1,10 +1,12 @@
-use Rattle.std.proofs.Common.{◌∙◌, ℕ, List, ◌∷◌, ◌++◌, ap, sym, subst, arith}
+use Rattle.std.proofs.Common.{◌≡◌, ◌∙◌, ℕ, List, sym, subst, arith}
 use Rattle.std.proofs.lemmas.Str.Pattern.{split_parts}
-use Rattle.agg_values.specs.KeyText.{colon, IsKeyText, IsRefusedAs}
-use Rattle.agg_values.specs.declared.error.KeyTextError.TheVariants.{NoColon}
-use Rattle.agg_values.proofs.KeyTexts.{passed_on, error_of_none, refused_text}
+use Rattle.agg_values.specs.KeyText.{IsKeyText, IsRefusedAs}
+use Rattle.agg_values.specs.declared.error.KeyTextError.TheVariants.{NoColon, OutOfMemory}
+use Rattle.agg_values.proofs.KeyTexts.{passed_on, error_of_none, refusal_told, refused_key}
 use Rattle.agg_values.proofs.KeyTexts.{not_contained_by_place, IsKeyText-unique}
 use Rattle.agg_values.proofs.after_key.AfterKey.read.Goals as goal
+use Rattle.agg_values.proofs.after_key.AfterKey.read.Goals.{In_ok-read_value}
+use Rattle.agg_values.proofs.after_key.AfterKey.read.Goals.{After-from_residual-in_err-read_value}
 
 pub returns-in_err-kind-clause-err : goal.returns-in_err-kind-clause-err
 returns-in_err-kind-clause-err c =
@@ -18,28 +20,40 @@ returns-in_err-kind-clause-err c =
     passed_on c.from_residual.result c.in_err-kind.field-0.0 (IsRefusedAs c.args.text.now)
     c.from_residual.ensures.1 (subst (IsRefusedAs c.args.text.now) (sym refused) free)
 
-pub returns-in_err-read_value-clause-err : goal.returns-in_err-read_value-clause-err
-returns-in_err-read_value-clause-err c =
+pub read_value-requires : goal.read_value-requires
+read_value-requires c =
     let parts = split_parts 58 c.as_str.result.now c.split_once.result c.split_once.ensures.cases
     (omega arith) in
     let some = rw c.in_ok-kind.ensures.ok_part at parts in
-    let e0 = c.in_err-read_value.field-0.0 in
-    passed_on c.from_residual-in_err-read_value.result e0 (IsRefusedAs c.args.text.now)
-    c.from_residual-in_err-read_value.ensures.1
-    (refused_text c.args.text.now c.in_ok-kind.kind.now c.in_ok-kind.value.now e0
-    (sym c.as_str.ensures ∙ some.0) (not_contained_by_place 58 c.in_ok-kind.kind.now some.1)
-    c.in_err-read_value.ensures.err)
+    record { first_colon = not_contained_by_place 58 c.in_ok-kind.kind.now some.1 }
 
-known : (c : goal.In_ok-read_value) → IsKeyText c.args.text.now c.in_ok-read_value.field-0
+refused : (c : After-from_residual-in_err-read_value)
+    → IsRefusedAs c.args.text.now c.in_err-read_value.field-0.0
+refused c =
+    let parts = split_parts 58 c.as_str.result.now c.split_once.result c.split_once.ensures.cases
+    (omega arith) in
+    let some = rw c.in_ok-kind.ensures.ok_part at parts in
+    subst (λ (text : List ℕ). IsRefusedAs text c.in_err-read_value.field-0.0)
+    (sym some.0 ∙ c.as_str.ensures) c.in_err-read_value.ensures.err
+
+pub returns-in_err-read_value-clause-err : goal.returns-in_err-read_value-clause-err
+returns-in_err-read_value-clause-err c =
+    passed_on c.from_residual-in_err-read_value.result c.in_err-read_value.field-0.0
+    (IsRefusedAs c.args.text.now) c.from_residual-in_err-read_value.ensures.1 (refused c)
+
+pub returns-in_err-read_value-clause-each : goal.returns-in_err-read_value-clause-each
+returns-in_err-read_value-clause-each c = λ key known.
+    refusal_told c.from_residual-in_err-read_value.result c.in_err-read_value.field-0.0 _
+    (λ error. error ≡ OutOfMemory) c.from_residual-in_err-read_value.ensures.1
+    (refused_key c.args.text.now key c.in_err-read_value.field-0.0 known (refused c))
+
+known : (c : In_ok-read_value) → IsKeyText c.args.text.now c.in_ok-read_value.field-0
 known c =
     let parts = split_parts 58 c.as_str.result.now c.split_once.result c.split_once.ensures.cases
     (omega arith) in
-    let some = rw c.in_ok-kind.ensures.ok_part at parts in (
-      c.in_ok-kind.value.now,
-      sym c.as_str.ensures ∙ some.0 ∙ ap (λ k. k ++ colon
-          ∷ c.in_ok-kind.value.now) c.in_ok-read_value.ensures.ok.0,
-      c.in_ok-read_value.ensures.ok.1,
-    )
+    let some = rw c.in_ok-kind.ensures.ok_part at parts in
+    subst (λ (text : List ℕ). IsKeyText text c.in_ok-read_value.field-0)
+    (sym some.0 ∙ c.as_str.ensures) c.in_ok-read_value.ensures.ok
 
 pub returns-clause-ok : goal.returns-clause-ok
 returns-clause-ok c = known c
