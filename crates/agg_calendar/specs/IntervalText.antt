@@ -36,22 +36,29 @@ unit_ms unit =
     else if is_either (codes "d") (codes "days") unit then Some 86_400_000
     else None
 
+-- a fault with the text that it names: the unit where that is unknown, else the whole text
+abbrev pub spelled : List ℕ → Fault → DateHistogramParseError
+spelled text NoNumber = NumberMissing text
+spelled text NoUnit = UnitMissing text
+spelled text UnknownUnit = UnitNotRecognized (unit_of text)
+spelled text TooLarge = OutOfBounds text
+
 -- so many of a unit in milliseconds, where their nanoseconds fit 64 bits
 abbrev pub counted : List ℕ → ℕ → Option ℕ → Result ℤ DateHistogramParseError
-counted text count None = Err (UnitNotRecognized (unit_of text))
+counted text count None = Err (spelled text UnknownUnit)
 counted text count (Some factor) =
     if nat_lt (count * factor * 1_000_000) (2 ^ 63)
     then Ok (pos (count * factor))
-    else Err (OutOfBounds text)
+    else Err (spelled text TooLarge)
 
 -- the milliseconds of an interval text, or its first refusal
 unfoldable pub read_interval : List ℕ → Result ℤ DateHistogramParseError
 read_interval text =
-    if length (digits_of text) == 0 then Err (NumberMissing text)
-    else if length (unit_of text) == 0 then Err (UnitMissing text)
+    if length (digits_of text) == 0 then Err (spelled text NoNumber)
+    else if length (unit_of text) == 0 then Err (spelled text NoUnit)
     else if nat_lt (digits_value 10 (digits_of text)) (2 ^ 63)
     then counted text (digits_value 10 (digits_of text)) (unit_ms (unit_of text))
-    else Err (NumberMissing text)
+    else Err (spelled text NoNumber)
 
 -- milliseconds with the sign that stood before them
 abbrev pub signed :
@@ -65,13 +72,6 @@ read_offset text =
     if length text == 0
     then Err (InvalidOffset text)
     else signed (starts_with_minus text) (read_interval (without_leading_sign text))
-
--- a fault with the text that it names: the unit where that is unknown, else the whole text
-abbrev pub spelled : List ℕ → Fault → DateHistogramParseError
-spelled text NoNumber = NumberMissing text
-spelled text NoUnit = UnitMissing text
-spelled text UnknownUnit = UnitNotRecognized (unit_of text)
-spelled text TooLarge = OutOfBounds text
 
 -- digits and a unit, whose milliseconds these are; the digits and the nanoseconds fit 64 bits
 abbrev pub IsIntervalText : List ℕ → ℤ → Type 0

@@ -1,8 +1,7 @@
-ghost use Rattle.std.specs.Prelude.{◌≡◌, Err, IfOk, option_map};
+ghost use Rattle.std.specs.Prelude.{◌≡◌, Err, IfOk, None, Some, option_map};
 ghost use Rattle.agg_values.specs.declared.request_error.RequestError.TheVariants.{OutOfMemory};
-ghost use Rattle.agg_calendar.specs.Interval.{chosen, fixed, IsAtLeastOneMillisecond};
-ghost use Rattle.agg_calendar.specs.IntervalText.{read_interval};
-ghost use Rattle.agg_calendar.specs.Refusal.{in_request, HasText, IsAnswer};
+ghost use Rattle.agg_calendar.specs.Interval.{chosen, IsAtLeastOneMillisecond};
+ghost use Rattle.agg_calendar.specs.Refusal.{HasText, IsAnswer};
 ghost use Rattle.agg_calendar.specs.Start.{IsUsable};
 
 use crate::parse_into_milliseconds;
@@ -59,9 +58,9 @@ impl PrecomputedDateInterval {
 // The interval of a text, in nanoseconds.
 #[tactic(auto, using(crate::proofs::Refusals::fixed_has_text))]
 fn fixed_interval_of(alloc: Global, text: &Text) -> Result<PrecomputedDateInterval, RequestError>
-    ensures value { IsAnswer (fixed (in_request (read_interval text.now))) result }
+    ensures value { IsAnswer (chosen (Some text.now) None) result }
     ensures memory { result ≡ Err OutOfMemory
-        → HasText (fixed (in_request (read_interval text.now))) }
+        → HasText (chosen (Some text.now) None) }
     ensures least { IfOk result IsAtLeastOneMillisecond }
     ensures usable { IfOk result IsUsable }
 {

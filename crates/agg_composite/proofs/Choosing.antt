@@ -22,6 +22,7 @@ use Rattle.agg_request.specs.Source.{Sources, keys_in, or_missing, order_of}
 use Rattle.agg_request.specs.declared.source.CompositeAggregationSource as kind
 use kind.{CompositeAggregationSource}
 use kind.TheVariants.{DateHistogram, Histogram, Terms}
+use Rattle.agg_request.proofs.Faults.{HasInterval-large}
 use Rattle.agg_composite.specs.Accessors.{IsAccessorOf, keys_held}
 use Rattle.agg_composite.specs.Choices.{AddsChoices, AreChoicesIn, AreChoicesOf, AreGathered}
 use Rattle.agg_composite.specs.Choices.{CanRead, IsChoiceOf, choice_at, divided_choices}
@@ -91,7 +92,7 @@ column-chosen (Histogram s) a i accessor numbers doc l is fits stand keys interv
     let lane = numbers-some a.accessors (omega (arith, l)) in
     subst (λ ks. AreChoicesOf (Histogram s) a
     (divided_choices (Histogram s) a accessor i numbers) (keys_in (Histogram s) ks)) keys
-    (counted-chosen a accessor.column.now.keys numbers s interval
+    (counted-chosen a accessor.column.now.keys numbers s (HasInterval-large s interval)
     (subst (λ (ks : List ColumnKeys). 0 < length ks) (sym lane) (omega arith)) own.reads range)
 column-chosen (DateHistogram s) a i accessor numbers doc l is fits stand keys interval own range =
     let lane = lane-at a.accessors i accessor l is in

@@ -29,6 +29,7 @@ pub mod ReadColumns
 pub mod SameTuples
 pub mod Settled
 pub mod SortedKeys
+pub mod SourceFaults
 pub mod StartRanges
 pub mod TupleCounts
 pub mod TypedGroups

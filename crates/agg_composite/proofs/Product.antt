@@ -7,7 +7,8 @@ use Rattle.std.specs.declared.cmp.Ordering.TheVariants.{Less, Equal, Greater}
 use Rattle.std.proofs.lemmas.List.{append-nil, map-append}
 use Rattle.std.proofs.lemmas.List.Elements.{filter-append}
 use Rattle.agg_composite.specs.Encoding.{EncodedTuple}
-use Rattle.agg_composite.specs.Walk.{behind, next_standing, walked}
+use Rattle.std.specs.Option.{option_map_or}
+use Rattle.agg_composite.specs.Walk.{next_standing, walked}
 use Rattle.agg_composite.specs.declared.encoded.Encoded.{Encoded}
 use Rattle.agg_composite.specs.declared.walk.choice.Choice.{Choice}
 use Rattle.agg_composite.proofs.Walking.{walked_with}
@@ -82,7 +83,7 @@ longer-front tuples front c =
 with-value : (value : Encoded) (side : Ordering) (tuples : List (List Choice))
     (front : EncodedTuple) (above : Bool)
     → kept (map (λ t. record { value = value; side = side } ∷ t) tuples) front above
-    ≡ behind (kept tuples (front ++ value ∷ [])) (next_standing above side)
+    ≡ option_map_or (kept tuples (front ++ value ∷ [])) (next_standing above side) []
 with-value value side tuples front true =
     ap (map (λ t. front ++ values_of t))
     (filter-map (λ t. true || is_past t) (λ t. record { value = value; side = side } ∷ t) tuples)
@@ -116,8 +117,8 @@ each-value : (choices : List Choice) (rest : List (List Choice)) (front : Encode
     ≡ kept (flat_map (λ c. map (λ t. c ∷ t) (product rest)) choices) front above
 each-value [] rest front above others = refl
 each-value (c ∷ choices) rest front above others =
-    (λ i. behind (λ standing. others (front ++ c.value ∷ []) standing i)
-    (next_standing above c.side) ++ each-value choices rest front above others i)
+    (λ i. option_map_or (λ standing. others (front ++ c.value ∷ []) standing i)
+    (next_standing above c.side) [] ++ each-value choices rest front above others i)
     ∙ ap (λ ts. ts ++ kept (flat_map (λ x. map (λ t. x ∷ t) (product rest)) choices) front above)
     (sym (with-value c.value c.side (product rest) front above))
     ∙ sym (kept-append (map (λ t. c ∷ t) (product rest))

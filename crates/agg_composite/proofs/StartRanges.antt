@@ -23,6 +23,7 @@ use Rattle.agg_request.specs.Source.{values_at}
 use Rattle.agg_request.specs.declared.source.CompositeAggregationSource as kind
 use kind.{CompositeAggregationSource}
 use kind.TheVariants.{DateHistogram, Histogram, Terms}
+use Rattle.agg_request.proofs.Faults.{HasInterval-large}
 use Rattle.agg_composite.specs.Accessors.{AllFit, AreOfField, IsIntervalOf, keys_held}
 use Rattle.agg_composite.specs.Answers.{AreAllInRange}
 use Rattle.agg_composite.specs.Lanes.{columns_of, in_requested}
@@ -96,7 +97,7 @@ divisor-start : (source : CompositeAggregationSource) (interval : PrecomputedDat
     → divided (divisor_of source interval) k ≡ start_in source k
 divisor-start (Terms s) interval k has is = refl
 divisor-start (Histogram s) interval k has is =
-    ap (λ (d : Divisor). divided d k) (numbers-divide s.interval has)
+    ap (λ (d : Divisor). divided d k) (numbers-divide s.interval (HasInterval-large s has))
 divisor-start (DateHistogram s) interval k has is =
     ap (λ (d : Divisor). divided d k) (time-divides interval is.1)
     ∙ (λ x. option_map (start_by (sym is.0 x)) (date_of k))

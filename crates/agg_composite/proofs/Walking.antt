@@ -13,7 +13,8 @@ use Rattle.agg_composite.specs.declared.visit_error.VisitError.{VisitError}
 use Rattle.agg_composite.specs.Answers.{AnswersEncoded}
 use Rattle.agg_composite.specs.Counts.{EncodedCounts}
 use Rattle.agg_composite.specs.Encoding.{EncodedTuple, encoded_at}
-use Rattle.agg_composite.specs.Walk.{walked, behind, next_standing, number_tuples, parts}
+use Rattle.std.specs.Option.{option_map_or}
+use Rattle.agg_composite.specs.Walk.{walked, next_standing, number_tuples, parts}
 use Rattle.agg_composite.specs.declared.encoded.Encoded.{Encoded}
 use Rattle.agg_composite.specs.declared.walk.choice.Choice.{Choice}
 use Rattle.agg_composite.proofs.Appending.{Appends}
@@ -21,7 +22,7 @@ use Rattle.agg_composite.proofs.Appending.{Appends}
 -- what is visited behind one choice
 abbrev pub walked_with : List (List Choice) → EncodedTuple → Bool → Choice → List EncodedTuple
 walked_with rest front above c =
-    behind (walked rest (front ++ c.value ∷ [])) (next_standing above c.side)
+    option_map_or (walked rest (front ++ c.value ∷ [])) (next_standing above c.side) []
 
 -- choices in two parts
 pub choices-append : (rest : List (List Choice)) (front : EncodedTuple) (above : Bool)
@@ -76,14 +77,14 @@ pub walked-behind : (x : Choice) (rest : List (List Choice)) (tuple front : Enco
     ≡ walked ((x ∷ []) ∷ rest) front above
 walked-behind x rest tuple front level above standing l e goes =
     (λ i. walked rest (front-more tuple front level x.value l e i) standing)
-    ∙ (λ i. behind (walked rest (front ++ x.value ∷ [])) (goes i))
+    ∙ (λ i. option_map_or (walked rest (front ++ x.value ∷ [])) (goes i) [])
     ∙ sym (append-nil (walked_with rest front above x))
 
 -- a choice below the bound is walked with nothing
 pub walked-below : (x : Choice) (rest : List (List Choice)) (front : EncodedTuple) (above : Bool)
     → None ≡ next_standing above x.side → [] ≡ walked ((x ∷ []) ∷ rest) front above
 walked-below x rest front above ends =
-    (λ i. behind (walked rest (front ++ x.value ∷ [])) (ends i))
+    (λ i. option_map_or (walked rest (front ++ x.value ∷ [])) (ends i) [])
     ∙ sym (append-nil (walked_with rest front above x))
 
 -- the first places stay

@@ -1,6 +1,6 @@
 -- What sources read in a segment, and where their after values stand there.
 use Rattle.std.specs.Prelude.{◌≡◌, ◌==◌, ◌<◌, ℕ, List, Bool, true, false, Option, None, Some, ⊤}
-use Rattle.std.specs.Prelude.{◌⊎◌, ℤ, Ok, count_by, filter, filter_map, length}
+use Rattle.std.specs.Prelude.{ℤ, Ok, count_by, filter, filter_map, length}
 use Rattle.std.specs.Prelude.{All}
 use Rattle.std.specs.Prelude.{if◌then◌else◌}
 use Rattle.std.specs.List.{AllZip}
@@ -23,7 +23,7 @@ use interval.TheVariants.{NotApplicable}
 use Rattle.agg_segment.specs.Columns.{AreInKeyOrder, ClassesAscend, StandsForKey, StoredColumn}
 use Rattle.agg_segment.specs.Columns.{all_keys, encoded_key, type_of}
 use Rattle.agg_segment.specs.Segment.{Stored, document_at}
-use Rattle.agg_request.specs.Faults.{HasInterval, IsIntervalFault, IsNullAfter, IsOtherAfter}
+use Rattle.agg_request.specs.Faults.{HasInterval, SourceHasFault}
 use Rattle.agg_request.specs.Source.{Sources, after_of, field_of, interval_of, keys_in}
 use Rattle.agg_request.specs.Source.{missing_order_of, order_of, start_in}
 use Rattle.agg_request.specs.SourceColumns.{reads_type}
@@ -133,14 +133,19 @@ pub record AreAccessorsOf (segment : Stored) (source : CompositeAggregationSourc
       → side_at (order_of source) a i number
       ≡ side_to source after (encoded_key (keys_at source a.accessors i) number)
 
--- the first fault of a source and its after value: the Null, then the interval, then the type
+-- which check finds a fault of a source: that of the Null, then of the interval, then of the type
+abbrev pub check_of : RequestError → ℕ
+check_of (refusal.Invalid NullAfter) = 0
+check_of (refusal.Invalid AfterType) = 2
+check_of _ = 1
+
+-- the first fault of a source and its after value
 abbrev pub IsFirstFault : CompositeAggregationSource → Option CompositeIntermediateKey
     → RequestError → Type 0
 IsFirstFault source after error =
-    ((error ≡ refusal.Invalid NullAfter) × IsNullAfter source after)
-    ⊎ (¬ (IsNullAfter source after) × IsIntervalFault source error)
-    ⊎ (¬ (IsNullAfter source after) × HasInterval source
-    × (error ≡ refusal.Invalid AfterType) × IsOtherAfter source after)
+    SourceHasFault source after error
+    × ((other : RequestError) → check_of other < check_of error
+    → ¬ (SourceHasFault source after other))
 
 -- a fact of an error that isn't want of memory
 abbrev pub OrNoMemory : RequestError → Type 0 → Type 0
@@ -151,13 +156,6 @@ OrNoMemory error fact = fact
 abbrev pub HasNoAccessors : CompositeAggregationSource → Option CompositeIntermediateKey
     → RequestError → Type 0
 HasNoAccessors source after error = OrNoMemory error (IsFirstFault source after error)
-
--- a source and its after value have no fault
-pub record HasAccessors (source : CompositeAggregationSource)
-    (after : Option CompositeIntermediateKey) : Type 0 where
-  pub missing : ¬ (IsNullAfter source after)
-  pub interval : HasInterval source
-  pub same_type : ¬ (IsOtherAfter source after)
 
 -- each source has its accessors in a segment, for its value in an after key
 abbrev pub AllFit : Stored → Named AfterKey → Sources → List CompositeSourceAccessors → Type 0

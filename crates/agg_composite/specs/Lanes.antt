@@ -2,6 +2,7 @@
 use Rattle.std.specs.Prelude.{ℕ, List, [], ◌∷◌, get_or, map, reverse}
 use Rattle.std.specs.Ordering.{nat_cmp}
 use Rattle.std.specs.declared.cmp.Ordering.{Ordering}
+use Rattle.agg_values.specs.KeyOrder.{directed}
 use Rattle.agg_values.specs.declared.order.Order.{Order}
 use Rattle.agg_values.specs.declared.order.Order.TheVariants.{Asc, Desc}
 use Rattle.agg_segment.specs.Columns.{StoredColumn}
@@ -19,8 +20,7 @@ in_requested Desc xs = reverse xs
 
 -- how ranks of classes compare in an order
 abbrev pub class_order : Order → ℕ → ℕ → Ordering
-class_order Asc rank other = nat_cmp rank other
-class_order Desc rank other = nat_cmp other rank
+class_order order = directed order nat_cmp
 
 -- the columns of accessors
 abbrev pub columns_of : List CompositeAccessor → List StoredColumn

@@ -2,6 +2,7 @@
 use Rattle.std.specs.Prelude.{ℕ, List, [], ◌∷◌, ◌++◌, Bool, true, false, Option, None, Some}
 use Rattle.std.specs.Prelude.{drop, map, take}
 use Rattle.std.specs.List.{flat_map}
+use Rattle.std.specs.Option.{option_map_or}
 use Rattle.std.specs.declared.cmp.Ordering.{Ordering}
 use Rattle.std.specs.declared.cmp.Ordering.TheVariants.{Less, Equal, Greater}
 use Rattle.agg_values.specs.declared.order.Order.{Order}
@@ -20,21 +21,18 @@ next_standing false Less = None
 next_standing false Equal = Some false
 next_standing false Greater = Some true
 
--- what is visited behind a key, where it isn't below the bound
-abbrev pub behind : (Bool → List EncodedTuple) → Option Bool → List EncodedTuple
-behind visited None = []
-behind visited (Some standing) = visited standing
-
 -- a whole tuple is visited where it is above the bound
 abbrev pub if_above : EncodedTuple → Bool → List EncodedTuple
 if_above tuple true = tuple ∷ []
 if_above tuple false = []
 
--- the tuples that a walk visits behind the first keys of a tuple
+-- the tuples that a walk visits behind the first keys of a tuple: none behind a key that is below
+-- the bound
 abbrev pub walked : List (List Choice) → EncodedTuple → Bool → List EncodedTuple
 walked [] front above = if_above front above
 walked (choices ∷ rest) front above =
-    flat_map (λ c. behind (walked rest (front ++ c.value ∷ [])) (next_standing above c.side))
+    flat_map (λ c.
+        option_map_or (walked rest (front ++ c.value ∷ [])) (next_standing above c.side) [])
     choices
 
 -- the tuples that a walk over one source visits, for numbers of the lane at a place with their

@@ -4,10 +4,11 @@ ghost use Rattle.std.specs.Ordering.{nat_cmp};
 ghost use Rattle.agg_values.specs.Column.{class_of, class_rank};
 ghost use Rattle.agg_values.specs.TypedKey.{CompositeIntermediateKey};
 ghost use Rattle.agg_segment.specs.Columns.{keys_rank};
-ghost use Rattle.agg_composite.specs.Accessors.{AreAccessorsOf, HasAccessors, HasNoAccessors};
+ghost use Rattle.agg_request.specs.Faults.{IsSoundSource};
+ghost use Rattle.agg_composite.specs.Accessors.{AreAccessorsOf, HasNoAccessors};
 
 mod build;
-mod faults;
+mod interval;
 
 use crate::PrecomputedAfterKey;
 use agg_calendar::PrecomputedDateInterval;
@@ -17,7 +18,7 @@ use agg_values::{
     ColumnPaginationOrder, CompositeIntermediateKey, InvalidArgument, ItemList, RequestError,
 };
 use build::{from_the_start, going_on, in_requested_order};
-use faults::{date_interval, is_null_after, is_other_after};
+use interval::date_interval;
 use std::alloc::Global;
 use std::cmp::Ordering;
 
@@ -69,15 +70,15 @@ impl<'s> CompositeSourceAccessors<'s> {
         ensures ok { IfOk result (AreAccessorsOf
             reader.now source.now (option_map (λ k. k.now) source_after_key_opt.entry)) }
         ensures allowed { OnOk result
-            (HasAccessors source.now (option_map (λ k. k.now) source_after_key_opt.entry)) }
+            (IsSoundSource source.now (option_map (λ k. k.now) source_after_key_opt.entry)) }
         ensures err { IfErr result
             (HasNoAccessors source.now (option_map (λ k. k.now) source_after_key_opt.entry)) }
     {
-        if is_null_after(source, source_after_key_opt) {
+        if source.is_null_after(source_after_key_opt) {
             return Err(RequestError::Invalid(InvalidArgument::NullAfter));
         }
         let interval = date_interval(alloc, source)?;
-        if is_other_after(source, source_after_key_opt) {
+        if source.is_other_after(source_after_key_opt) {
             return Err(RequestError::Invalid(InvalidArgument::AfterType));
         }
         let columns = reader.columns(source.field());

@@ -4,6 +4,7 @@ ghost use Rattle.agg_values.specs.Names.{Named};
 ghost use Rattle.agg_values.specs.Tuple.{KeyTuple};
 ghost use Rattle.agg_values.specs.declared.after_key.AfterKey.{AfterKey};
 ghost use Rattle.agg_segment.specs.Segment.{Stored, documents_at};
+ghost use Rattle.agg_request.specs.Faults.{max_sources};
 ghost use Rattle.agg_request.specs.Groups.{Group, Groups};
 ghost use Rattle.agg_request.specs.Occurrences.{bound_of, past_occurrences};
 ghost use Rattle.agg_request.specs.Source.{rules_of};
@@ -46,7 +47,7 @@ impl SegmentCompositeCollector {
     /// A collector for a composite of so many sources, which has visited nothing.
     pub fn new(alloc: Global, num_sources: usize) -> Result<SegmentCompositeCollector, OutOfMemory>
         requires some { 1 ≤ num_sources }
-        requires few { num_sources ≤ 16 }
+        requires few { num_sources ≤ max_sources }
         ensures { IfOk result (λ collector. (req : declared.CompositeAggReqData)
             → HasVisited req [] collector) }
     {

@@ -4,7 +4,7 @@ ghost use Rattle.std.specs.Prelude.{pos};
 ghost use Rattle.agg_calendar.specs.Start.{IsUsable, fixed_start, start_of};
 ghost use Rattle.agg_segment.specs.Columns.{encoded_key};
 ghost use Rattle.agg_request.specs.Source.{counted_number, date_of};
-ghost use Rattle.agg_request.specs.Ranges.{IsWithin};
+ghost use Rattle.agg_composite.specs.Ranges.{IsKeyWithin};
 ghost use Rattle.agg_composite.specs.Starts.{CanDivide, GivesStartOf, IsCountable};
 ghost use Rattle.agg_composite.specs.Starts.{by_numbers, by_time, divided, divisor_of, lane_number};
 ghost use Rattle.agg_composite.specs.Starts.{start_number};
@@ -66,7 +66,7 @@ impl<'s> DividedColumn<'s> {
     pub fn is_in_range(&self, number: u64) -> bool
         requires { CanDivide self.now.divisor }
         ensures { IsTrue result
-            ↔ IsWithin (divided self.now.divisor (encoded_key self.now.column.now.keys number)) }
+            ↔ IsKeyWithin self.now.divisor (encoded_key self.now.column.now.keys number) }
     {
         self.start(number).is_ok()
     }

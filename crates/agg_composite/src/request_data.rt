@@ -1,10 +1,10 @@
 //! What a collector is asked in a segment.
-ghost use Rattle.std.specs.Prelude.{◌≡◌, ◌+◌, ◌*◌, ◌-◌, ◌^◌, All, MatchBool, length, min};
+ghost use Rattle.std.specs.Prelude.{◌≡◌, ◌+◌, ◌*◌, ◌-◌, ◌^◌, MatchBool, length, min};
 ghost use Rattle.agg_values.specs.Names.{Named};
 ghost use Rattle.agg_values.specs.declared.after_key.AfterKey.{AfterKey};
-ghost use Rattle.agg_segment.specs.Segment.{Stored, documents_at};
-ghost use Rattle.agg_request.specs.Ranges.{AreInRange};
+ghost use Rattle.agg_segment.specs.Segment.{Stored};
 ghost use Rattle.agg_composite.specs.Accessors.{Fits};
+ghost use Rattle.agg_composite.specs.Answers.{AreAllInRange};
 
 use crate::CompositeSourceAccessors;
 use crate::ranges::are_sources_in_range;
@@ -37,8 +37,8 @@ impl<'s> CompositeAggReqData<'s> {
         requires { (segment : Stored) × (after : Named AfterKey) × Fits segment after self.now }
         ensures { (segment : Stored) (after : Named AfterKey) → Fits segment after self.now
             → MatchBool result
-            (All (AreInRange self.now.req.now.sources) (documents_at segment docs.now))
-            (¬ (All (AreInRange self.now.req.now.sources) (documents_at segment docs.now))) }
+            (AreAllInRange segment self.now.req.now.sources docs.now)
+            (¬ (AreAllInRange segment self.now.req.now.sources docs.now)) }
     {
         let sources = self.req.sources.as_slice();
         are_sources_in_range(sources, self.composite_accessors.as_slice(), docs)

@@ -1,5 +1,5 @@
 -- After keys from which each source goes on.
-use Rattle.std.proofs.Common.{◌≢◌, ℕ, List, refl}
+use Rattle.std.proofs.Common.{◌≢◌, ℕ, List, get_or, refl}
 use Rattle.std.specs.List.{All, Contains}
 use Rattle.std.proofs.lemmas.List.Elements.{recursion_from_All}
 use Rattle.std.proofs.lemmas.Slice.Zip.{AllZip-long}
@@ -7,11 +7,11 @@ use Rattle.agg_values.specs.Tuple.{KeyTuple}
 use Rattle.agg_values.specs.declared.typed_key.CompositeIntermediateKey.TheVariants.{Null}
 use Rattle.agg_segment.specs.Document.{Fields}
 use Rattle.agg_request.specs.BySource.{after_map}
-use Rattle.agg_request.specs.Faults.{HasAfterOfOtherType, HasInterval, HaveOwnNames}
-use Rattle.agg_request.specs.Faults.{IsBehindNoBucket}
+use Rattle.agg_request.specs.Faults.{HasInterval, HaveOwnNames}
 use Rattle.agg_request.specs.Occurrences.{occurrences, occurrences_in}
-use Rattle.agg_request.specs.Source.{Sources}
+use Rattle.agg_request.specs.Source.{Sources, after_of}
 use Rattle.agg_request.specs.declared.aggregation.CompositeAggregation.{CompositeAggregation}
+use Rattle.agg_request.proofs.Faults.{IsSoundSource-parts}
 use Rattle.agg_request.proofs.Lists.{AllByRecursion-Has, Contains-from_Has, Has-from_Contains}
 use Rattle.agg_request.proofs.Lists.{Has-from_flat_map}
 use Rattle.agg_request.proofs.SourceKeys.{IsNullByBucket, after_map-own, after_map-sound}
@@ -21,16 +21,6 @@ use Rattle.agg_engine.specs.PageAnswers.{MayGoOnFrom}
 -- no field of a document holds Null
 abbrev pub HasNoNull : Fields → Type 0
 HasNoNull document = (field : List ℕ) → All (λ k. k ≢ Null) (document field)
-
--- a composite that may be asked goes on from its own after key
-pub MayGoOnFrom-own : (c : CompositeAggregation)
-    → All (λ source. ¬ (IsBehindNoBucket c source)) c.sources → All HasInterval c.sources
-    → All (λ source. ¬ (HasAfterOfOtherType c source)) c.sources → MayGoOnFrom c.sources c.after
-MayGoOnFrom-own c allowed intervals types i d within = record {
-  missing = allowed i d within;
-  interval = intervals i d within;
-  same_type = types i d within;
-}
 
 -- a composite goes on from the after key of a tuple of documents without Null
 pub MayGoOnFrom-behind : (sources : Sources) (documents : List Fields) (tuple : KeyTuple)
@@ -50,5 +40,9 @@ MayGoOnFrom-behind sources documents tuple own_names intervals no_null occurs =
       size = 0;
       after = after_map sources tuple;
     } in
-    MayGoOnFrom-own behind (after_map-sound behind from.0 tuple refl own_names long document held)
-    intervals (after_map-own behind from.0 tuple refl own_names long held)
+    λ i d within.
+        let source = get_or sources i d in
+        IsSoundSource-parts source (after_of (after_map sources tuple) source)
+        (after_map-sound behind from.0 tuple refl own_names long document held i d within)
+        (intervals i d within)
+        (after_map-own behind from.0 tuple refl own_names long held i d within)

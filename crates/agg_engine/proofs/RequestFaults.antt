@@ -19,13 +19,13 @@ use Rattle.agg_calendar.specs.Refusal.{in_request}
 use Rattle.agg_calendar.specs.declared.interval.CalendarInterval.{CalendarInterval}
 use Rattle.agg_calendar.specs.declared.interval.PrecomputedDateInterval as interval
 use interval.TheVariants.{FixedNanoseconds}
-use Rattle.agg_request.specs.Faults.{HasCause as IsCause, HasInterval}
-use Rattle.agg_request.specs.Faults.{IsIntervalFault, RequestHasTextFault}
+use Rattle.agg_request.specs.Faults.{HasCause as IsCause, IsIntervalFault, IsSoundSource}
+use Rattle.agg_request.specs.Faults.{RequestHasFault}
 use Rattle.agg_request.specs.Request.{Request}
 use Rattle.agg_request.specs.declared.source.CompositeAggregationSource as kind
 use kind.{CompositeAggregationSource}
 use kind.TheVariants.{DateHistogram, Histogram, Terms}
-use Rattle.agg_composite.specs.Accessors.{HasAccessors, HasNoAccessors, IsFirstFault}
+use Rattle.agg_composite.specs.Accessors.{HasNoAccessors}
 use Rattle.agg_engine.specs.Refusals.{HasCause}
 use Rattle.agg_engine.specs.Snapshot.{SnapshotDocuments}
 use Rattle.agg_engine.specs.WalkError.{error_from_request}
@@ -62,7 +62,7 @@ module _ (part : AggregationError) where
   source-text (DateHistogram s) fault = chosen-text s.fixed_interval s.calendar_interval fault
 
   -- the part of an error that a request has is that of a text
-  pub request-text : {B : Type 0} (request : Request B) → RequestHasTextFault request part
+  pub request-text : {B : Type 0} (request : Request B) → RequestHasFault request (Aggregation part)
       → IsOfText part
   request-text request (i, c, within, at, (j, source, below, there, refused)) =
       source-text source refused
@@ -87,30 +87,11 @@ cause-checked limit name query request snapshots OutOfMemory cause = tt
 
 -- ---- accessors
 
--- a source with what it divides values by isn't refused for it
-pub no-fault : (source : CompositeAggregationSource) (given : RequestError) → HasInterval source
-    → ¬ (IsIntervalFault source given)
-no-fault (Terms s) given has fault = fault
-no-fault (Histogram s) given has fault = let below = fault.1 in omega (arith, ints)
-no-fault (DateHistogram s) given has fault =
-    let none : false ≡ true = subst IsOk fault has in cc none
-
-no-first : (source : CompositeAggregationSource) (after : Option CompositeIntermediateKey)
-    → HasAccessors source after → (given : RequestError) → ¬ (IsFirstFault source after given)
-no-first source after has given fault =
-    elim fault [
-      | inl null ↦ has.missing null.1
-      | inr later ↦ elim later [
-        | inl interval ↦ no-fault source given has.interval interval.1
-        | inr other ↦ has.same_type other.3
-      ]
-    ]
-
--- where a source has accessors, only memory is wanting
+-- where a source is sound, only memory is wanting
 pub wants-memory : (source : CompositeAggregationSource) (after : Option CompositeIntermediateKey)
-    → HasAccessors source after → (given : RequestError) → HasNoAccessors source after given
+    → IsSoundSource source after → (given : RequestError) → HasNoAccessors source after given
     → error_from_request given ≡ error.OutOfMemory
-wants-memory source after has OutOfMemory none = refl
-wants-memory source after has (Invalid fault) none = absurd (no-first source after has _ none)
-wants-memory source after has (Aggregation part) none =
-    absurd (no-first source after has _ none)
+wants-memory source after sound OutOfMemory none = refl
+wants-memory source after sound (Invalid fault) none = absurd (sound (Invalid fault) none.0)
+wants-memory source after sound (Aggregation part) none =
+    absurd (sound (Aggregation part) none.0)

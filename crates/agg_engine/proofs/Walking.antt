@@ -9,7 +9,9 @@ use Rattle.std.proofs.lemmas.List.{drop_more, drop_all}
 use Rattle.agg_values.specs.Names.{Named}
 use Rattle.agg_values.specs.Tuple.{KeyTuple}
 use Rattle.agg_values.specs.declared.after_key.AfterKey.{AfterKey}
+use Rattle.agg_values.specs.declared.error.InvalidArgument.TheVariants.{NoSource, TooManySources}
 use Rattle.agg_values.specs.declared.request_error.AggregationError.TheVariants as aggregation
+use Rattle.agg_values.specs.declared.request_error.RequestError.TheVariants.{Invalid}
 use Rattle.agg_segment.specs.Document.{Fields}
 use Rattle.agg_segment.specs.declared.query.QueryTree.{QueryTree}
 use Rattle.agg_request.specs.BySource.{after_map}
@@ -30,6 +32,7 @@ use Rattle.agg_results.specs.StandsFor.{StandsFor}
 use Rattle.agg_results.specs.declared.intermediate.results.IntermediateAggregationResults as held
 use held.{IntermediateAggregationResults}
 use Rattle.agg_results.specs.declared.results.types.AggregationResults.{AggregationResults}
+use Rattle.agg_request.proofs.Faults.{IsSound-intervals, IsSound-names, IsSound-sources}
 use Rattle.agg_request.proofs.RequestTrees.{made-of_parts}
 use Rattle.agg_engine.specs.Form.{IsOneComposite}
 use Rattle.agg_engine.specs.NamedComposite.{IsCompositeNamed}
@@ -41,7 +44,7 @@ use Rattle.agg_engine.specs.Walk.{IsWalk, MayBeAsked, matching_documents}
 use Rattle.agg_engine.specs.declared.walk.Snapshot.{Snapshot}
 use Rattle.agg_engine.specs.declared.walk.error.WalkError.{WalkError}
 use Rattle.agg_engine.specs.declared.walk.error.WalkError.TheVariants as error
-use Rattle.agg_engine.proofs.AfterKeys.{HasNoNull, MayGoOnFrom-own}
+use Rattle.agg_engine.proofs.AfterKeys.{HasNoNull}
 use Rattle.agg_engine.proofs.HeldHere.{held-alike, held-buckets, held-final, held-known, page_here}
 use Rattle.agg_engine.proofs.OneRequest.{named-one, one, sound-one}
 use Rattle.agg_engine.proofs.PageBound.{after-occurs, after_map-some, shown-none}
@@ -79,15 +82,15 @@ walking-start {B = B} limit name query request snapshots composite
     record {
       request_is = one_is;
       sound = sound_one;
-      state = state-start B limit name query composite snapshots (MayGoOnFrom-own composite
-          sound_one.after sound_one.intervals sound_one.types);
+      state = state-start B limit name query composite snapshots (IsSound-sources composite
+          sound_one);
     }
 
 -- a sound composite has as many sources as it may have
 pub HasFewSources-sound : (composite : CompositeAggregation) → IsSound composite
     → HasFewSources composite
 HasFewSources-sound composite sound =
-    record { some = sound.some; few = λ many. omega (arith, sound.few, many) }
+    record { some = sound (Invalid NoSource); few = sound (Invalid TooManySources) }
 
 -- what is held of a snapshot
 pub record IsHeldHere (name : List ℕ) (query : QueryTree) (composite : CompositeAggregation)
@@ -240,7 +243,7 @@ module _ {B : Type 0} {limit : ℕ} {name : List ℕ} {query : QueryTree} {reque
           → after_map composite.sources tuple ≢ []
       some_key tuple last =
           after_map-some composite.sources (matching_documents query s) tuple
-          w.sound.some
+          (w.sound (Invalid NoSource))
           (after-occurs composite.sources s.page_size (bound_of composite.sources after)
           (matching_documents query s) page tuple is_page last)
 
@@ -287,7 +290,8 @@ module _ {B : Type 0} {limit : ℕ} {name : List ℕ} {query : QueryTree} {reque
           shown-some composite.sources next (after_tuple s.page_size page) own shown_next some in
           let more =
           state-more B limit name query composite snapshots after s rest pages w.state
-          page is_page h.range h.few few_buckets w.sound.names w.sound.intervals no_null last.0
+          page is_page h.range h.few few_buckets (IsSound-names composite w.sound)
+          (IsSound-intervals composite w.sound) no_null last.0
           last.1 in
           record {
             request_is = w.request_is;

@@ -5,7 +5,8 @@ use Rattle.agg_values.specs.Names.{Named, value_of}
 use Rattle.agg_values.specs.declared.after_key.AfterKey.{AfterKey}
 use Rattle.agg_values.specs.declared.error.InvalidArgument.TheVariants.{NoSource, TooManySources}
 use Rattle.agg_segment.specs.Document.{Fields}
-use Rattle.agg_request.specs.Faults.{HasFault}
+use Rattle.agg_values.specs.declared.request_error.RequestError.TheVariants.{Invalid}
+use Rattle.agg_request.specs.Faults.{HasFault, IsSoundSource}
 use Rattle.agg_request.specs.Groups.{Group}
 use Rattle.agg_request.specs.declared.aggregation.CompositeAggregation.{CompositeAggregation}
 use Rattle.agg_request.specs.declared.aggregation.AggregationVariants.TheVariants.{Composite}
@@ -13,7 +14,6 @@ use Rattle.agg_request.specs.Ranges.{HasOwnStartOutOfRange}
 use Rattle.agg_request.specs.Request.{Request, aggregation_of}
 use Rattle.agg_request.specs.Uncut.{counted as counted_by}
 use Rattle.agg_request.specs.Source.{Sources, after_of, rules_of}
-use Rattle.agg_composite.specs.Accessors.{HasAccessors}
 use Rattle.agg_results.specs.Final.{TellsTooMany}
 use Rattle.agg_results.specs.Intermediate.{Held, as_result, composite_of, plain_entries}
 use Rattle.agg_results.specs.StandsFor.{StandsFor}
@@ -32,13 +32,12 @@ use Rattle.agg_engine.specs.declared.walk.error.WalkError.TheVariants.{BucketOut
 
 -- a composite has sources, and no more than it may have
 pub record HasFewSources (composite : CompositeAggregation) : Type 0 where
-  pub some : ¬ (HasFault composite NoSource)
-  pub few : ¬ (HasFault composite TooManySources)
+  pub some : ¬ (HasFault composite (Invalid NoSource))
+  pub few : ¬ (HasFault composite (Invalid TooManySources))
 
--- each source has accessors for its value in an after key: it has what it divides values by, and
--- the value is one of its keys, Null only where that has a bucket
+-- each source may go on from its value in an after key
 abbrev pub MayGoOnFrom : Sources → Named AfterKey → Type 0
-MayGoOnFrom sources after = All (λ source. HasAccessors source (after_of after source)) sources
+MayGoOnFrom sources after = All (λ source. IsSoundSource source (after_of after source)) sources
 
 -- why a page is refused before its documents are counted: a bucket starts outside i64; want of
 -- memory needs no cause

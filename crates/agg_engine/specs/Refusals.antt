@@ -1,9 +1,11 @@
 -- Why a walk gave no pages.
-use Rattle.std.specs.Prelude.{◌≡◌, ◌<◌, ◌⊎◌, ℕ, List, [], ◌∷◌, MatchOption, ⊤}
+use Rattle.std.specs.Prelude.{◌≡◌, ◌<◌, ◌⊎◌, ℕ, List, [], ◌∷◌, IsSomeAnd, ⊤}
 use Rattle.agg_values.specs.declared.request_error.AggregationError.TheVariants as aggregation
 use Rattle.agg_segment.specs.Document.{Fields}
 use Rattle.agg_segment.specs.declared.query.QueryTree.{QueryTree}
-use Rattle.agg_request.specs.Faults.{RequestHasTextFault}
+use Rattle.agg_values.specs.declared.request_error.RequestError.TheVariants as refusal
+use Rattle.agg_request.specs.Faults.{RequestHasFault}
+use Rattle.agg_request.specs.Reading.{NoneIs}
 use Rattle.agg_request.specs.Request.{Request}
 use Rattle.agg_results.specs.Results.{IsResults, Results, after_in, buckets_in}
 use Rattle.agg_engine.specs.NamedComposite.{NamesComposite}
@@ -37,11 +39,10 @@ abbrev pub IsRefused : {B : Type 0} → ℕ → List ℕ → QueryTree → Reque
 IsRefused limit name query request [] error = ⊥
 IsRefused limit name query request (s ∷ snapshots) error =
     AreRefusedAt limit name query request s error
-    ⊎ (((other : WalkError) → ¬ (AreRefusedAt limit name query request s other))
+    ⊎ (NoneIs (AreRefusedAt limit name query request s)
     × ((r : Results)
     × AreResultsAt name query request s r
-    × MatchOption (after_in name r)
-    ⊥
+    × IsSomeAnd (after_in name r)
     (λ tuple. IsRefused limit name query (request_behind name tuple request) snapshots error)))
 
 -- an error of a walk has its cause; want of memory needs none
@@ -52,7 +53,7 @@ HasCause limit name query request snapshots error.UnknownComposite =
     ¬ (NamesComposite name request)
 HasCause limit name query request snapshots
     (error.Aggregation (aggregation.DateHistogramParseError part)) =
-    RequestHasTextFault request (aggregation.DateHistogramParseError part)
+    RequestHasFault request (refusal.Aggregation (aggregation.DateHistogramParseError part))
 HasCause limit name query request snapshots error.OutOfMemory = ⊤
 HasCause limit name query request snapshots error =
     MayBeAsked name request snapshots × IsRefused limit name query request snapshots error

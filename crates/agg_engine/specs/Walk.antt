@@ -7,6 +7,7 @@ use Rattle.agg_values.specs.Names.{name_cmp}
 use Rattle.agg_values.specs.Tuple.{KeyTuple}
 use Rattle.agg_values.specs.declared.error.InvalidArgument.{InvalidArgument}
 use Rattle.agg_values.specs.declared.error.InvalidArgument.TheVariants.{ZeroSize}
+use Rattle.agg_values.specs.declared.request_error.RequestError.TheVariants.{Invalid}
 use Rattle.agg_segment.specs.Document.{Fields}
 use Rattle.agg_segment.specs.Query.{matches}
 use Rattle.agg_segment.specs.Segment.{Stored, documents_of}
@@ -99,7 +100,8 @@ HaveRoom snapshots = All (λ s. s.page_size ≢ 0) snapshots
 -- the request has this fault, or some page size is 0
 abbrev pub HasFault : {B : Type 0} → Request B → List SnapshotDocuments → InvalidArgument → Type 0
 HasFault request snapshots fault =
-    RequestHasFault request fault ⊎ ((fault ≡ ZeroSize) × Any (λ s. s.page_size ≡ 0) snapshots)
+    RequestHasFault request (Invalid fault)
+    ⊎ ((fault ≡ ZeroSize) × Any (λ s. s.page_size ≡ 0) snapshots)
 
 -- a walk that may be asked, whatever its snapshots hold
 pub record MayBeAsked {B : Type 0} (name : List ℕ) (request : Request B)

@@ -14,6 +14,7 @@ ghost use Rattle.std.specs.Prelude.{◌≡◌, ◌≤◌, All, IfErr, IfOk, OnOk
 ghost use Rattle.agg_values.specs.declared.error.InvalidArgument.{InvalidArgument as Fault};
 ghost use Rattle.agg_values.specs.declared.request_error.AggregationError.TheVariants as error;
 ghost use Rattle.agg_values.specs.declared.request_error.DateHistogramParseError as text;
+ghost use Rattle.agg_request.specs.Reading.{NoneIs};
 ghost use Rattle.agg_results.specs.BucketCount.{results_buckets};
 ghost use Rattle.agg_engine.specs.Form.{IsOneComposite};
 ghost use Rattle.agg_engine.specs.Refusals.{HasCause, IsRefused};
@@ -68,9 +69,8 @@ pub fn walk_pages<L: Ledger>(
         (IsShownWalk name.now query.now request.now (snapshots_documents snapshots.now)) }
     ensures asked { OnOk result
         (MayBeAsked name.now request.now (snapshots_documents snapshots.now)) }
-    ensures fits { OnOk result ((error : Refusal)
-        → ¬ (IsRefused limits.old.bucket_limit name.now query.now request.now
-        (snapshots_documents snapshots.now) error)) }
+    ensures fits { OnOk result (NoneIs (IsRefused limits.old.bucket_limit name.now query.now
+        request.now (snapshots_documents snapshots.now))) }
     ensures buckets { IfOk result (λ walk.
         All (λ page. results_buckets page ≤ limits.old.bucket_limit) walk.pages) }
 

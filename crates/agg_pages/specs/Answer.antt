@@ -1,6 +1,7 @@
 -- What answers an input, and which bytes are none.
 use Rattle.std.specs.Prelude.{◌≡◌, ◌≢◌, ◌<◌, ◌+◌, ◌⊎◌, ℕ, List, [], ◌∷◌, Bool, true, false}
 use Rattle.std.specs.Prelude.{Option, Some, drop, take, length, codes, unwrap_or}
+use Rattle.agg_request.specs.Reading.{NoneIs}
 use Rattle.agg_engine.specs.declared.walk.Walk.{Walk}
 use Rattle.agg_engine.specs.declared.walk.error.WalkError.{WalkError}
 use Rattle.agg_engine.specs.declared.walk.error.WalkError.TheVariants.{OutOfMemory}
@@ -27,9 +28,8 @@ MayRefuse i error =
 -- a walk of an input that nothing refuses
 pub record IsValid {B : Type 0} (i : Input B) : Type 0 where
   pub asked : MayBeAsked i.header.name i.header.request i.snapshots
-  pub fits : (error : WalkError)
-      → ¬ (IsRefused (bucket_limit_of i) i.header.name i.header.query i.header.request i.snapshots
-      error)
+  pub fits : NoneIs (IsRefused (bucket_limit_of i) i.header.name i.header.query i.header.request
+      i.snapshots)
 
 -- the text is the printed walk of an input that nothing refuses
 abbrev pub IsPrintedWalk : {B : Type 0} → Input B → List ℕ → Type 0

@@ -1,5 +1,6 @@
 -- The document of a line: an object from field to a value, or to an array of values.
-use Rattle.std.specs.Prelude.{◌≡◌, ◌⊎◌, ℕ, ℤ, List, [], ◌∷◌, Option, None, Some, codes, IsTrue}
+use Rattle.std.specs.Prelude.{◌≡◌, ◌⊎◌, ℕ, ℤ, List, [], ◌∷◌, Option, None, Some, codes}
+use Rattle.std.specs.Prelude.{IsSome}
 use Rattle.std.specs.Prelude.{if◌then◌else◌, is_some, option_and_then, option_map, unwrap_or}
 use Rattle.std.specs.List.{AllZip}
 use Rattle.serde_json.specs.Data.{Data, null, boolean, number, string, array, object, Items}
@@ -10,7 +11,7 @@ use Rattle.agg_values.specs.AddressGrammar.{IsAddressText}
 use Rattle.agg_values.specs.TypedKey.{CompositeIntermediateKey, typed_number}
 use Rattle.agg_values.specs.declared.typed_key.CompositeIntermediateKey.TheVariants as key
 use Rattle.agg_segment.specs.Document.{Fields, by_class}
-use Rattle.agg_request.specs.Json.{only_named, whole_number}
+use Rattle.agg_request.specs.Json.{IsOr, only_named, whole_number}
 
 -- a date: an object whose one member is `dt`, its nanoseconds within i64
 abbrev pub date_of : Data → Option ℤ
@@ -57,15 +58,14 @@ field_values d = values_among (unwrap_or (as_array d) (item d no_items))
 
 -- a field of a document has the keys of this member by class, and none where there is no member
 abbrev pub IsField : Option Data → List CompositeIntermediateKey → Type 0
-IsField None keys = keys ≡ []
-IsField (Some d) keys =
-    (given : List CompositeIntermediateKey)
+IsField =
+    IsOr [] (λ d keys. (given : List CompositeIntermediateKey)
     × HaveKeys (field_values d) given
-    × (keys ≡ by_class given)
+    × (keys ≡ by_class given))
 
 -- an object, and the document that it stands for
 pub record IsDocument (d : Data) (document : Fields) : Type 0 where
-  pub members : IsTrue (is_some (as_object d))
+  pub members : IsSome (as_object d)
   pub fields : (field : List ℕ) → IsField (get field d) (document field)
 
 -- the document of a line

@@ -1,12 +1,12 @@
 -- The header: what a walk is asked for.
-use Rattle.std.specs.Prelude.{◌≡◌, ◌+◌, ℕ, List, Option, None, Some, IsTrue}
+use Rattle.std.specs.Prelude.{◌≡◌, ◌+◌, ℕ, List, Option, Some, IsSomeAnd, IsTrue}
 use Rattle.std.specs.Prelude.{if◌then◌else◌, is_some, option_and_then, codes}
 use Rattle.serde_json.specs.Data.{Data}
 use Rattle.serde_json.specs.Find.{as_array, as_str, get}
 use Rattle.serde_json.specs.Read.{read}
 use Rattle.agg_segment.specs.declared.query.QueryTree.{QueryTree}
 use Rattle.agg_segment.specs.declared.query.QueryTree.TheVariants.{All}
-use Rattle.agg_request.specs.Json.{IsGiven, each_item, has_members, small_number}
+use Rattle.agg_request.specs.Json.{IsGiven, IsOr, each_item, has_members, small_number, text_at}
 use Rattle.agg_request.specs.Query.{IsQuery}
 use Rattle.agg_request.specs.Request.{Request}
 use Rattle.agg_request.specs.RequestJson.{IsRequestJson}
@@ -22,8 +22,8 @@ pub record IsRequest {B : Type 0} (builders : List B) (name_of : B → List ℕ)
 
 -- the request of this member, which has to be there
 abbrev pub IsRequestAt : {B : Type 0} → List B → (B → List ℕ) → Option Data → Request B → Type 0
-IsRequestAt builders name_of None request = ⊥
-IsRequestAt builders name_of (Some d) request = IsRequest builders name_of d request
+IsRequestAt builders name_of found request =
+    IsSomeAnd found (λ d. IsRequest builders name_of d request)
 
 -- an array of texts
 abbrev pub texts_of : Data → Option (List (List ℕ))
@@ -40,8 +40,7 @@ header_members d = 3 + counted_member (codes "query") d + counted_member (codes 
 
 -- the query of this member: all documents, where there is no member
 abbrev pub IsQueryOf : Option Data → QueryTree → Type 0
-IsQueryOf None query = query ≡ All
-IsQueryOf (Some d) query = IsQuery d query
+IsQueryOf = IsOr All IsQuery
 
 -- the bucket limit of this member, a whole number within u32: none, where there is no member
 abbrev pub IsBucketLimitOf : Option Data → Option ℕ → Type 0
@@ -53,7 +52,7 @@ pub record IsHeader {B : Type 0} (builders : List B) (name_of : B → List ℕ) 
     (header : Header B) : Type 0 where
   pub members : IsTrue (has_members (header_members d) d)
   pub request : IsRequestAt builders name_of (get (codes "request") d) header.request
-  pub name : option_and_then as_str (get (codes "name") d) ≡ Some header.name
+  pub name : text_at (codes "name") d ≡ Some header.name
   pub schema : option_and_then texts_of (get (codes "schema") d) ≡ Some header.schema
   pub query : IsQueryOf (get (codes "query") d) header.query
   pub bucket_limit : IsBucketLimitOf (get (codes "bucket_limit") d) header.bucket_limit

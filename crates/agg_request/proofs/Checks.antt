@@ -26,10 +26,8 @@ use Rattle.agg_calendar.specs.declared.interval.CalendarInterval.{CalendarInterv
 use Rattle.agg_calendar.specs.declared.interval.PrecomputedDateInterval as interval
 use interval.{PrecomputedDateInterval}
 use interval.TheVariants.{FixedNanoseconds}
-use Rattle.agg_request.specs.Faults.{CompositeHasCause}
 use Rattle.agg_request.specs.Faults.{HaveOwnNames, IsIntervalCause, IsIntervalFault}
 use Rattle.agg_request.specs.Source.{Sources, interval_of, name_of}
-use Rattle.agg_request.specs.declared.aggregation.CompositeAggregation.{CompositeAggregation}
 use Rattle.agg_request.specs.declared.source.CompositeAggregationSource as kind
 use kind.{CompositeAggregationSource}
 use kind.TheVariants.{Terms, Histogram, DateHistogram}
@@ -105,40 +103,13 @@ chosen-fault (Some text) (Some unit) fault is = inr cc
 chosen-fault None None fault is = inr cc
 
 -- no interval is refused for another fault
-no_interval_fault : (source : CompositeAggregationSource) (fault : InvalidArgument)
+pub no_interval_fault : (source : CompositeAggregationSource) (fault : InvalidArgument)
     → fault ≢ argument.BadInterval → fault ≢ argument.IntervalChoice
     → ¬ (IsIntervalFault source (error.Invalid fault))
 no_interval_fault (Terms s) fault large one is = is
 no_interval_fault (Histogram s) fault large one is = let same = is.0 in large cc
 no_interval_fault (DateHistogram s) fault large one is =
     ⊎_elim large one (chosen-fault s.fixed_interval s.calendar_interval fault is)
-
-no_interval_faults : (sources : Sources) (fault : InvalidArgument)
-    → fault ≢ argument.BadInterval → fault ≢ argument.IntervalChoice
-    → ¬ (Any (λ s. IsIntervalFault s (error.Invalid fault)) sources)
-no_interval_faults sources fault large one (k, s, within, at, is) =
-    no_interval_fault s fault large one is
-
--- an interval that is refused refuses the composite
-pub interval-cause : (composite : CompositeAggregation) (refusal : RequestError)
-    → Any (λ s. IsIntervalCause s refusal) composite.sources → CompositeHasCause composite refusal
-interval-cause composite (error.Invalid argument.BadInterval) some = some
-interval-cause composite (error.Invalid argument.IntervalChoice) some = some
-interval-cause composite (error.Invalid argument.NoSource) some =
-    absurd (no_interval_faults composite.sources argument.NoSource (λ e. cc) (λ e. cc) some)
-interval-cause composite (error.Invalid argument.ZeroSize) some =
-    absurd (no_interval_faults composite.sources argument.ZeroSize (λ e. cc) (λ e. cc) some)
-interval-cause composite (error.Invalid argument.TooManySources) some =
-    absurd (no_interval_faults composite.sources argument.TooManySources (λ e. cc) (λ e. cc) some)
-interval-cause composite (error.Invalid argument.DuplicateSource) some =
-    absurd (no_interval_faults composite.sources argument.DuplicateSource (λ e. cc) (λ e. cc) some)
-interval-cause composite (error.Invalid argument.NullAfter) some =
-    absurd (no_interval_faults composite.sources argument.NullAfter (λ e. cc) (λ e. cc) some)
-interval-cause composite (error.Invalid argument.AfterType) some =
-    absurd (no_interval_faults composite.sources argument.AfterType (λ e. cc) (λ e. cc) some)
-interval-cause composite (error.Aggregation part) some = some
-interval-cause composite error.OutOfMemory (k, s, within, at, some) =
-    (some.0, (k, s, within, at, some.1))
 
 -- a refusal that holds a text is that of a text
 text-of : (right : Result PrecomputedDateInterval RequestError) → HasText right

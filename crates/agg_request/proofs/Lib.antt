@@ -5,6 +5,7 @@ pub mod BuildersTaken
 pub mod CheckedRequests
 pub mod Checks
 pub mod CompositeSources
+pub mod Faults
 pub mod FieldNames
 pub mod FilterKinds
 pub mod FilterLists

@@ -1,11 +1,12 @@
 -- The bound that a tuple gives as an after key is the tuple.
-use Rattle.std.proofs.Common.{◌≡◌, ◌≢◌, ℕ, zero, suc, Bool, true, false, cond, Option, Some, None}
+use Rattle.std.proofs.Common.{◌≡◌, ◌≢◌, ℕ, zero, suc, Bool, true, false, cond, Option, Some}
 use Rattle.std.proofs.Common.{List, [], ◌∷◌, length, refl, sym, ap, ◌∙◌, arith, Ordering, Less}
-use Rattle.std.proofs.Common.{Equal, Greater, is_eq}
+use Rattle.std.proofs.Common.{Equal, Greater, is_eq, option_map}
 use Rattle.std.specs.Cmp.{IsTotalOrder}
 use Rattle.std.specs.Ordering.{match_ordering}
 use Rattle.std.specs.List.{AllByRecursion, AllPairs}
 use Rattle.std.specs.Map.{lookup}
+use Rattle.std.specs.Option.{option_map_or}
 use Rattle.std.specs.BTreeMap.{insert_entry, is_at}
 use Rattle.std.proofs.lemmas.Cmp.{alike_right, nat_list_cmp_total, tied_back, tied_itself}
 use Rattle.std.proofs.lemmas.List.Elements.{recursion_from_All}
@@ -82,8 +83,7 @@ value_of-put_other name other value map apart =
 
 -- a bound from the after value of the first source and the bound of the others
 abbrev bound_from : Option AfterKey → KeyTuple → KeyTuple
-bound_from None rest = []
-bound_from (Some k) rest = k.0 ∷ rest
+bound_from after rest = option_map_or (λ k. k ∷ rest) (option_map (λ k. k.0) after) []
 
 -- after keys with the same values at the names of the sources give the same bound
 bound_of-same : (sources : Sources) (after other : Named AfterKey)

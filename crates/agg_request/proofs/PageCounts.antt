@@ -16,6 +16,7 @@ use Rattle.agg_request.proofs.Lists.{Has-from_flat_map, count_by-flat_map, lengt
 use Rattle.agg_request.proofs.PageKeys.{Lowest-alike, Lowest-same}
 use Rattle.agg_request.proofs.PageTuples.{occurring-exact}
 use Rattle.agg_request.proofs.PageUnique.{Lowest-from_page, entry_at, entries-from_tuples}
+use Rattle.agg_request.proofs.PagePast.{past-parts, past-whole}
 use Rattle.agg_values.specs.Tuple.{KeyTuple}
 use Rattle.agg_request.specs.Groups.{Group}
 
@@ -92,14 +93,16 @@ module _ (sources : Sources) where
       tuples =
           Lowest-same (tuple_order (rules_of sources)) (tuple_order-total (rules_of sources))
           (map (λ e. e.tuple) page) (map (λ e. e.tuple) other) (MayList sources bound documents)
-          (λ t u may_t may_u e. occurring-exact sources documents t u may_t.0 may_u.0 e)
+          (λ t u may_t may_u e. occurring-exact sources documents t u
+          (past-parts sources bound documents t may_t).0
+          (past-parts sources bound documents u may_u).0 e)
           size (Lowest-from_page sources size bound documents page first)
           (Lowest-alike (tuple_order (rules_of sources)) (MayList sources bound others)
           (MayList sources bound documents)
-          (λ t may. (
-            occurring-permutation others documents (IsPermutation-sym documents others
-                moved) t may.0,
-            may.1,
-          ))
-          (λ t may. (occurring-permutation documents others moved t may.0, may.1))
+          (λ t may. let parts = past-parts sources bound others t may in
+          past-whole sources bound documents t (occurring-permutation others documents
+          (IsPermutation-sym documents others moved) t parts.0) parts.1)
+          (λ t may. let parts = past-parts sources bound documents t may in
+          past-whole sources bound others t (occurring-permutation documents others moved t parts.0)
+          parts.1)
           size (map (λ e. e.tuple) other) (Lowest-from_page sources size bound others other second))

@@ -1,5 +1,5 @@
 -- The lowest groups of all past occurrences are a page.
-use Rattle.std.proofs.Common.{◌≡◌, ℕ, zero, suc, ◌⊎◌, inl, inr, Bool, true, ◌&&◌, ◌||◌, List, []}
+use Rattle.std.proofs.Common.{◌≡◌, ℕ, zero, suc, ◌⊎◌, inl, inr, true, ◌&&◌, ◌||◌, List, []}
 use Rattle.std.proofs.Common.{◌∷◌, ◌<◌, length, get_or, take, map, refl, sym, ap, ◌∙◌, subst}
 use Rattle.std.proofs.Common.{arith, rules, Ordering, Less, Equal, Greater, is_eq, is_lt, ltb}
 use Rattle.std.specs.List.{All, Contains, filter, count_by}
@@ -8,7 +8,7 @@ use Rattle.std.specs.Map.{keys_of}
 use Rattle.std.specs.Ordering.{ordering_then}
 use Rattle.std.proofs.lemmas.Cmp.{alike_right}
 use Rattle.std.proofs.lemmas.List.{length-map, length-take, take-map}
-use Rattle.std.proofs.lemmas.List.Elements.{All-nil, All-take, All-map, All-weaker, All-contains}
+use Rattle.std.proofs.lemmas.List.Elements.{All-nil, All-take, All-map, All-contains}
 use Rattle.agg_values.specs.KeyOrder.{tuple_order, key_order, SourceRules}
 use Rattle.agg_values.proofs.KeyOrder.{then_equal}
 use Rattle.agg_values.proofs.TupleOrder.{tuple_order-total}
@@ -19,8 +19,9 @@ use Rattle.agg_request.specs.Occurrences.{past_occurrences}
 use Rattle.agg_request.specs.Groups.{Groups, Group}
 use Rattle.agg_request.specs.Page.{Entry, IsPage, MayList, entry_of, group_of, count_in}
 use Rattle.agg_request.specs.Page.{documents_with}
-use Rattle.agg_request.proofs.Lists.{Contains-filter, Contains-from_filter, count_by-filter}
+use Rattle.agg_request.proofs.Lists.{count_by-filter}
 use Rattle.agg_request.proofs.Lists.{All-from_map}
+use Rattle.agg_request.proofs.PagePast.{past-parts}
 use Rattle.agg_request.proofs.PageKeys.{IsStrictlySortedBy-take, in_front_or_above}
 use Rattle.agg_values.specs.Tuple.{KeyTuple}
 
@@ -120,23 +121,14 @@ module _ (sources : Sources) (documents : List Fields) where
       MayList_here : Entry → Type 0
       MayList_here e = MayList sources bound documents e.tuple
 
-      past : KeyTuple → Bool
-      past = is_past (rules_of sources) bound
-
       may : All (λ g. MayList sources bound documents g.0) held
-      may =
-          All-weaker (λ g. Contains (filter past (occurrences_in sources documents)) g.0) (λ g.
-          MayList sources bound documents g.0)
-          (λ g c. Contains-from_filter past (occurrences_in sources documents) g.0 c)
-          held (All-from_map (Contains (filter past (occurrences_in sources documents))) (λ g.
-          g.0) held groups.occurring)
+      may = All-from_map (MayList sources bound documents) (λ g. g.0) held groups.occurring
 
       holds : (tuple : KeyTuple) → MayList sources bound documents tuple
           → Contains (keys_of held) tuple
       holds tuple m =
           All-contains (Contains (keys_of held)) (past_occurrences sources bound documents) tuple
-          groups.complete
-          (Contains-filter past (occurrences_in sources documents) tuple m.0 m.1)
+          groups.complete m
 
       full : (tuple : KeyTuple)
           → ¬ (Contains (map (λ e. e.tuple) (map (entry_of sources documents) (take size held)))
@@ -155,4 +147,5 @@ module _ (sources : Sources) (documents : List Fields) where
 
       exact : All (λ g. g.1 ≡ count_in sources documents g.0) held
       exact k d lt = (groups.counted k d lt).1 ∙ count_by-past (rules_of sources) bound
-          (get_or held k d).0 (occurrences_in sources documents) (may k d lt).1
+          (get_or held k d).0 (occurrences_in sources documents)
+          (past-parts sources bound documents (get_or held k d).0 (may k d lt)).1

@@ -1,15 +1,36 @@
 -- Which tuples lie past a bound: those above a past one, and past a whole tuple those above it.
 use Rattle.std.proofs.Common.{◌≡◌, ℕ, zero, suc, ◌⊎◌, inl, inr, Bool, true, false, ◌&&◌, ◌||◌, []}
 use Rattle.std.proofs.Common.{◌∷◌, length, take, refl, sym, ap, ◌∙◌, arith, Ordering, Less, Equal}
-use Rattle.std.proofs.Common.{Greater, is_eq, is_lt, ltb}
+use Rattle.std.proofs.Common.{Greater, List, is_eq, is_lt, ltb}
+use Rattle.std.specs.List.{Contains}
 use Rattle.std.specs.Ordering.{ordering_then}
 use Rattle.std.proofs.lemmas.Cmp.{alike_right}
 use Rattle.std.proofs.lemmas.Bool.{le-ltb}
 use Rattle.std.proofs.lemmas.List.{take_all}
 use Rattle.agg_values.specs.KeyOrder.{tuple_order, key_order, SourceRules}
 use Rattle.agg_values.proofs.TupleOrder.{tuple_order-total}
-use Rattle.agg_request.specs.Occurrences.{is_past}
 use Rattle.agg_values.specs.Tuple.{KeyTuple}
+use Rattle.agg_segment.specs.Document.{Fields}
+use Rattle.agg_request.specs.Occurrences.{is_past, occurrences_in, past_occurrences}
+use Rattle.agg_request.specs.Source.{Sources, rules_of}
+use Rattle.agg_request.proofs.Lists.{Contains-filter, Contains-from_filter}
+
+module _ (sources : Sources) (bound : KeyTuple) (documents : List Fields) (tuple : KeyTuple) where
+  -- a tuple that is among those past a bound occurs, and lies past it
+  pub past-parts : Contains (past_occurrences sources bound documents) tuple
+      → Contains (occurrences_in sources documents) tuple
+      × (is_past (rules_of sources) bound tuple ≡ true)
+  past-parts may =
+      Contains-from_filter (is_past (rules_of sources) bound) (occurrences_in sources documents)
+      tuple may
+
+  -- a tuple that occurs and lies past a bound is among those
+  pub past-whole : Contains (occurrences_in sources documents) tuple
+      → is_past (rules_of sources) bound tuple ≡ true
+      → Contains (past_occurrences sources bound documents) tuple
+  past-whole occurs past =
+      Contains-filter (is_past (rules_of sources) bound) (occurrences_in sources documents) tuple
+      occurs past
 
 -- two orders in a row of which the first, or the first where it is equal the second, is below
 then_below : (a b c : Ordering) → ordering_then a b ≡ Less → (b ≡ Less → (c ≡ Less) ⊎ (c ≡ Equal))

@@ -17,7 +17,7 @@ use Rattle.agg_request.proofs.Lists.{Has, Has-from_Contains, Contains-from_Has}
 use Rattle.agg_request.proofs.Lists.{AllByRecursion-append, AllByRecursion-Has}
 use Rattle.agg_request.proofs.Lists.{AllByRecursion-weaker, Has-append_left, Has-append_right}
 use Rattle.agg_request.proofs.PageKeys.{AllPairs-from_sorted, Lowest, held_or_not, sorted_append}
-use Rattle.agg_request.proofs.PagePast.{is_past-above, is_past-whole}
+use Rattle.agg_request.proofs.PagePast.{is_past-above, is_past-whole, past-parts, past-whole}
 use Rattle.agg_request.proofs.PageTuples.{occurring-canonical}
 use Rattle.agg_request.proofs.PageUnique.{Lowest-from_page}
 use Rattle.agg_request.proofs.PageWalk.{all_below, at_last, less-from_is_lt}
@@ -40,10 +40,9 @@ module _ (sources : Sources) where
   -- a tuple that a page may list is canonical, and lies past the bound
   LiesPast-from_may : (bound : KeyTuple) (documents : List Fields) (tuple : KeyTuple)
       → MayList sources bound documents tuple → LiesPast bound tuple
-  LiesPast-from_may bound documents tuple may = (
-    occurring-canonical sources documents tuple may.0,
-    may.1,
-  )
+  LiesPast-from_may bound documents tuple may =
+      let parts = past-parts sources bound documents tuple may in
+      (occurring-canonical sources documents tuple parts.0, parts.1)
 
   -- past a canonical tuple lies what is above it
   past_whole : (last tuple : KeyTuple) → IsCanonicalTuple (rules_of sources) last
@@ -162,7 +161,7 @@ module _ (sources : Sources) where
       canonical : AllByRecursion (IsCanonicalTuple (rules_of sources)) tuples
       canonical = AllByRecursion-weaker (MayList sources bound step.documents)
           (IsCanonicalTuple (rules_of sources)) (λ t may. occurring-canonical sources step.documents
-          t may.0) tuples low.listed
+          t (past-parts sources bound step.documents t may).0) tuples low.listed
 
       listed_or : Has tuple tuples ⊎ ¬ (Has tuple tuples)
           → (AllByRecursion (λ t. order_here t tuple ≡ Less) tuples → length step.page ≡ step.size
@@ -171,7 +170,8 @@ module _ (sources : Sources) where
       listed_or (inl h) rest = Has-append_left tuples (map (λ e. e.tuple) (entries_of steps)) tuple
           h
       listed_or (inr out) rest =
-          let h = low.complete tuple (there.0, past.1) out in
+          let h = low.complete tuple (past-whole sources bound step.documents tuple there.0
+          past.1) out in
           Has-append_right tuples (map (λ e. e.tuple) (entries_of steps)) tuple
           (rest h.0 (sym (length-map step.page (λ e. e.tuple)) ∙ h.1))
 
@@ -193,4 +193,5 @@ module _ (sources : Sources) where
       Contains-from_Has (map (λ e. e.tuple) (entries_of steps)) tuple
       (stays bound steps walk tuple past (AllByRecursion-weaker (λ s.
       MayList sources bound s.documents tuple) (λ s.
-      Contains (occurrences_in sources s.documents) tuple) (λ s m. m.0) steps all) step)
+      Contains (occurrences_in sources s.documents) tuple)
+      (λ s m. (past-parts sources bound s.documents tuple m).0) steps all) step)

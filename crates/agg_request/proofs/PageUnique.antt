@@ -11,6 +11,7 @@ use Rattle.agg_request.specs.Page.{Entry, IsPage, MayList, count_in, documents_w
 use Rattle.agg_request.proofs.Lists.{All-from_map, Contains-from_Has, Has-from_Contains}
 use Rattle.agg_request.proofs.PageKeys.{Lowest, Lowest-same, AllPairs-from_sorted}
 use Rattle.agg_request.proofs.PageTuples.{occurring-exact}
+use Rattle.agg_request.proofs.PagePast.{past-parts}
 use Rattle.agg_values.specs.Tuple.{KeyTuple}
 
 module _ (sources : Sources) (size : ℕ) (bound : KeyTuple) (documents : List Fields) where
@@ -101,7 +102,8 @@ module _ (sources : Sources) (size : ℕ) (bound : KeyTuple) (documents : List F
       Lowest-same (tuple_order (rules_of sources)) (tuple_order-total (rules_of sources))
       (map (λ e. e.tuple) entries) (map (λ e. e.tuple) others)
       (MayList sources bound documents) (λ t u may_t may_u e. occurring-exact sources documents t u
-      may_t.0 may_u.0 e) size
+      (past-parts sources bound documents t may_t).0
+      (past-parts sources bound documents u may_u).0 e) size
       (Lowest-from_page entries page) (Lowest-from_page others other) in
       entries-from_tuples entries page ∙ ap (map entry_at) tuples
       ∙ sym (entries-from_tuples others other)

@@ -15,7 +15,7 @@ use Rattle.agg_request.specs.Page.{Entry, IsPage, MayList, count_in, documents_w
 use Rattle.agg_request.specs.Successive.{AreSuccessive, last_tuple, steps_over}
 use Rattle.agg_request.proofs.Lists.{AllByRecursion-Has}
 use Rattle.agg_request.proofs.PageKeys.{Lowest, Lowest-append}
-use Rattle.agg_request.proofs.PagePast.{is_past-above, is_past-whole}
+use Rattle.agg_request.proofs.PagePast.{is_past-above, is_past-whole, past-parts, past-whole}
 use Rattle.agg_request.proofs.PageTuples.{occurring-canonical}
 use Rattle.agg_request.proofs.PageUnique.{Lowest-from_page, IsPage-from_lowest}
 use Rattle.agg_values.specs.Tuple.{KeyTuple}
@@ -73,19 +73,17 @@ module _ (sources : Sources) (documents : List Fields) where
   tuples_join size more bound (entry ∷ entries) next first second =
       Lowest-append R (tuple_order-total (rules_of sources)) (MayList sources bound documents)
       (MayList sources last documents)
-      (λ tuple may. (
-        may.0,
-        is_past-above (rules_of sources) bound last tuple listed.1
-            (above tuple may),
-      ))
+      (λ tuple may. past-whole sources bound documents tuple
+      (past-parts sources last documents tuple may).0
+      (is_past-above (rules_of sources) bound last tuple listed.1 (above tuple may)))
       size more (map (λ e. e.tuple) (entry ∷ entries)) (map (λ e. e.tuple) next) first second
       (λ t u h may. AllByRecursion-Has (λ l. R l u ≡ Less) (map (λ e. e.tuple) (entry ∷ entries)) t
       (all_below sources entry entries first.ascending u (above u may)) h)
-      (λ tuple may below. (
-        may.0,
-        above_whole last listed.0 tuple may.0
-            ∙ ap is_lt (at_last (λ l. R l tuple ≡ Less) entry entries below),
-      ))
+      (λ tuple may below.
+      let occurs = (past-parts sources bound documents tuple may).0 in
+      past-whole sources last documents tuple occurs
+      (above_whole last listed.0 tuple occurs
+      ∙ ap is_lt (at_last (λ l. R l tuple ≡ Less) entry entries below)))
     where
       R : KeyTuple → KeyTuple → Ordering
       R = tuple_order (rules_of sources)
@@ -93,12 +91,14 @@ module _ (sources : Sources) (documents : List Fields) where
       last : KeyTuple
       last = last_tuple entry.tuple entries
 
-      listed : MayList sources bound documents last
-      listed = at_last (MayList sources bound documents) entry entries first.listed
+      listed : Contains (occurrences_in sources documents) last
+          × (is_past (rules_of sources) bound last ≡ true)
+      listed = past-parts sources bound documents last
+          (at_last (MayList sources bound documents) entry entries first.listed)
 
       above : (tuple : KeyTuple) → MayList sources last documents tuple → R last tuple ≡ Less
-      above tuple may = less-from_is_lt (R last tuple) (sym (above_whole last listed.0 tuple may.0)
-          ∙ may.1)
+      above tuple may = let parts = past-parts sources last documents tuple may in
+          less-from_is_lt (R last tuple) (sym (above_whole last listed.0 tuple parts.0) ∙ parts.1)
 
   -- a page and the next one are a page of both sizes
   pub IsPage-append : (size more : ℕ) (bound : KeyTuple) (page next : List Entry)

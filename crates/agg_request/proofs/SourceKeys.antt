@@ -25,7 +25,7 @@ use Rattle.agg_request.specs.declared.source.CompositeAggregationSource as kind
 use kind.{CompositeAggregationSource}
 use kind.TheVariants.{Terms, Histogram, DateHistogram}
 use Rattle.agg_request.specs.BySource.{after_map}
-use Rattle.agg_request.specs.Faults.{HasAfterOfOtherType, HaveOwnNames, IsBehindNoBucket}
+use Rattle.agg_request.specs.Faults.{HaveOwnNames}
 use Rattle.agg_request.specs.Faults.{IsNullAfter, IsOfOtherType, IsOtherAfter}
 use Rattle.agg_request.specs.Occurrences.{occurrences}
 use Rattle.agg_request.specs.Source.{Sources, after_of, field_of, keys_in, missing_bucket_of}
@@ -182,10 +182,10 @@ pub after_map-sound : (composite : CompositeAggregation) (document : Fields) (tu
     → length tuple ≡ length composite.sources
     → ((field : List ℕ) → All (λ k. k ≢ Null) (document field))
     → Contains (occurrences composite.sources document) tuple
-    → All (λ source. ¬ (IsBehindNoBucket composite source)) composite.sources
+    → All (λ source. ¬ (IsNullAfter source (after_of composite.after source))) composite.sources
 after_map-sound composite document tuple is apart whole others held =
     let sources = composite.sources in
-    All-from_recursion (λ source. ¬ (IsBehindNoBucket composite source)) sources
+    All-from_recursion (λ source. ¬ (IsNullAfter source (after_of composite.after source))) sources
     (after_value-no_Null composite.after sources tuple
     (subst (λ after. AllZip (IsAfterValue after) sources tuple) (sym is)
     (after_map-values sources tuple apart whole))
@@ -253,10 +253,10 @@ pub after_map-own : (composite : CompositeAggregation) (document : Fields) (tupl
     → composite.after ≡ after_map composite.sources tuple → HaveOwnNames composite.sources
     → length tuple ≡ length composite.sources
     → Contains (occurrences composite.sources document) tuple
-    → All (λ source. ¬ (HasAfterOfOtherType composite source)) composite.sources
+    → All (λ source. ¬ (IsOtherAfter source (after_of composite.after source))) composite.sources
 after_map-own composite document tuple is apart whole held =
     let sources = composite.sources in
-    All-from_recursion (λ source. ¬ (HasAfterOfOtherType composite source)) sources
+    All-from_recursion (λ source. ¬ (IsOtherAfter source (after_of composite.after source))) sources
     (after_value-own composite.after sources tuple
     (subst (λ after. AllZip (IsAfterValue after) sources tuple) (sym is)
     (after_map-values sources tuple apart whole))

@@ -1,7 +1,8 @@
 -- Looking into JSON values.
-use Rattle.std.specs.Prelude.{◌≡◌, ◌⊎◌, ◌==◌, ◌∷◌, ◌&&◌, ◌||◌, ◌^◌, [], ℕ, ℤ, List, Bool, true}
+use Rattle.std.specs.Prelude.{◌≡◌, ◌⊎◌, ◌==◌, ◌∷◌, ◌&&◌, ◌^◌, [], ℕ, ℤ, List, Bool, true}
 use Rattle.std.specs.Prelude.{false, Float, Option, None, Some, if◌then◌else◌, is_some, option_map}
 use Rattle.std.specs.Prelude.{option_and_then, nat_lt, codes, ⊤}
+use Rattle.std.specs.List.{list_any}
 use Rattle.std.specs.Str.{bytes_eq}
 use Rattle.agg_values.specs.Names.{Named}
 use Rattle.serde_json.specs.Data.{Data, number, float, object, Items, no_items, item, Members}
@@ -88,8 +89,7 @@ only_item d = option_and_then one_item (as_array d)
 
 -- whether a name is one of these
 abbrev pub is_among : List ℕ → List (List ℕ) → Bool
-is_among name [] = false
-is_among name (other ∷ names) = bytes_eq name other || is_among name names
+is_among name names = list_any (bytes_eq name) names
 
 -- whether each member has one of these names
 abbrev pub all_among : List (List ℕ) → Members → Bool

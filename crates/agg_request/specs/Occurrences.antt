@@ -1,13 +1,14 @@
 -- The tuples of a document, and those that lie past a bound.
-use Rattle.std.specs.Prelude.{Bool, ◌&&◌, ◌||◌, Option, None, Some, nat_lt}
+use Rattle.std.specs.Prelude.{Bool, ◌&&◌, ◌||◌, nat_lt}
 use Rattle.std.specs.Prelude.{List, [], ◌∷◌, filter, length, map, take}
 use Rattle.std.specs.List.{flat_map}
+use Rattle.std.specs.Option.{option_map_or}
 use Rattle.std.specs.Ordering.{is_lt, is_eq}
 use Rattle.agg_values.specs.declared.after_key.AfterKey.{AfterKey}
 use Rattle.agg_values.specs.KeyOrder.{tuple_order, SourceRules}
-use Rattle.agg_values.specs.Names.{value_of, Named}
+use Rattle.agg_values.specs.Names.{Named}
 use Rattle.agg_segment.specs.Document.{Fields}
-use Rattle.agg_request.specs.Source.{Sources, name_of, rules_of, source_values}
+use Rattle.agg_request.specs.Source.{Sources, after_of, rules_of, source_values}
 use Rattle.agg_values.specs.Tuple.{KeyTuple}
 
 -- one tuple for each choice of one key per source, repeats kept
@@ -24,11 +25,7 @@ occurrences_in sources documents = flat_map (occurrences sources) documents
 abbrev pub bound_of : Sources → Named AfterKey → KeyTuple
 bound_of [] after = []
 bound_of (source ∷ sources) after =
-    bound_with (value_of (name_of source) after) (bound_of sources after)
-  where
-    bound_with : Option AfterKey → KeyTuple → KeyTuple
-    bound_with None rest = []
-    bound_with (Some k) rest = k.0 ∷ rest
+    option_map_or (λ k. k ∷ bound_of sources after) (after_of after source) []
 
 -- whether a tuple lies past a bound: above it in the places that the bound has, or equal there to a
 -- bound that lacks a place

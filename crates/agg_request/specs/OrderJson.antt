@@ -1,20 +1,11 @@
 -- Orders of buckets as JSON: an object of one pair, a target's text with the word for a direction.
-use Rattle.std.specs.Prelude.{◌≡◌, ◌⊎◌, ℕ, List, Some, if◌then◌else◌, codes}
-use Rattle.std.specs.Str.{bytes_eq}
+use Rattle.std.specs.Prelude.{◌≡◌, ◌⊎◌, ℕ, List, Some}
 use Rattle.serde_json.specs.Data.{Data, string}
 use Rattle.serde_json.specs.Find.{as_str}
-use Rattle.agg_values.specs.OrderTarget.{target_text}
-use Rattle.agg_values.specs.declared.order_target.OrderTarget.{OrderTarget}
-use Rattle.agg_values.specs.declared.order_target.OrderTarget.TheVariants as target
+use Rattle.agg_values.specs.OrderTarget.{target_of, target_text}
 use Rattle.agg_request.specs.CompositeJson.{order_word}
 use Rattle.agg_request.specs.Json.{alone, only_item, only_member}
 use Rattle.agg_request.specs.declared.custom_order.CustomOrder.{CustomOrder}
-
--- the target of a text: the key, the count, or the sub-aggregation of this name
-abbrev pub target_of : List ℕ → OrderTarget
-target_of text =
-    if bytes_eq text (codes "_key") then target.Key
-    else (if bytes_eq text (codes "_count") then target.Count else target.SubAggregation text)
 
 -- an object of one pair says an order
 abbrev pub IsPair : Data → CustomOrder → Type 0

@@ -1,5 +1,5 @@
 -- A page of a composite, as a relation on whole lists of documents.
-use Rattle.std.specs.Prelude.{◌≡◌, ◌≤◌, ℕ, List, IsTrue, length, map, count_by, replicate}
+use Rattle.std.specs.Prelude.{◌≡◌, ◌≤◌, ℕ, List, length, map, count_by, replicate}
 use Rattle.std.specs.Prelude.{All, Contains}
 use Rattle.std.specs.List.{flat_map}
 use Rattle.std.specs.List.Sorted.{IsStrictlySortedBy}
@@ -7,7 +7,8 @@ use Rattle.std.specs.declared.cmp.Ordering.TheVariants.{Less}
 use Rattle.agg_values.specs.KeyOrder.{tuple_order}
 use Rattle.agg_segment.specs.Document.{Fields}
 use Rattle.agg_request.specs.Source.{rules_of, Sources}
-use Rattle.agg_request.specs.Occurrences.{occurrences, occurrences_in, is_past, same_tuple}
+use Rattle.agg_request.specs.Occurrences.{occurrences, occurrences_in, past_occurrences}
+use Rattle.agg_request.specs.Occurrences.{same_tuple}
 use Rattle.agg_values.specs.Tuple.{KeyTuple}
 use Rattle.agg_request.specs.Groups.{Group}
 
@@ -44,9 +45,7 @@ module _ (sources : Sources) where
 
   -- a tuple that the page may list: it occurs, and lies past the bound
   abbrev pub MayList : KeyTuple → List Fields → KeyTuple → Type 0
-  MayList bound documents tuple =
-      Contains (occurrences_in sources documents) tuple
-      × IsTrue (is_past (rules_of sources) bound tuple)
+  MayList bound documents tuple = Contains (past_occurrences sources bound documents) tuple
 
   -- the page of a size past a bound: the lowest tuples, ascending, each with its exact count and
   -- its documents

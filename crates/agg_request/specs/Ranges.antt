@@ -1,5 +1,5 @@
 -- Starts of buckets that lie within i64, and documents for which they do.
-use Rattle.std.specs.Prelude.{FitsSigned, ℤ, List, All, MatchOption, Option, ⊤}
+use Rattle.std.specs.Prelude.{FitsSigned, ℤ, List, All, IfSome, Option}
 use Rattle.std.specs.Int.{w64}
 use Rattle.agg_values.specs.TypedKey.{CompositeIntermediateKey}
 use Rattle.agg_segment.specs.Document.{Fields}
@@ -11,7 +11,7 @@ use Rattle.agg_request.specs.declared.source.CompositeAggregationSource.{Composi
 
 -- a start lies within i64, if there is one
 abbrev pub IsWithin : Option ℤ → Type 0
-IsWithin start = MatchOption start ⊤ (λ n. FitsSigned w64 n)
+IsWithin start = IfSome start (λ n. FitsSigned w64 n)
 
 -- the start of a value's bucket, if it has one, lies within i64
 abbrev pub IsInRange : CompositeAggregationSource → CompositeIntermediateKey → Type 0

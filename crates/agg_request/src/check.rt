@@ -12,7 +12,7 @@ use crate::{
     Aggregation, AggregationVariants, Aggregations, CompositeAggregation,
     CompositeAggregationSource,
 };
-use after::{has_null_after, has_other_after};
+use after::find_after_fault;
 use agg_values::{InvalidArgument, NameMap, RequestError, Text};
 use intervals::check_intervals;
 use std::alloc::Global;
@@ -83,7 +83,7 @@ fn check_composite(alloc: Global, composite: &CompositeAggregation) -> Result<()
 // A fault of a composite besides those of its intervals, if it has any. Names are compared only
 // where there are few.
 fn find_fault(composite: &CompositeAggregation) -> Option<InvalidArgument>
-    ensures some { IfSome result (HasFault composite.now) }
+    ensures some { IfSome result (λ fault. HasFault composite.now (RequestError.Invalid fault)) }
     ensures none { IfNone result (All HasInterval composite.now.sources → IsSound composite.now) }
 {
     let sources = composite.sources.as_slice();
@@ -99,13 +99,7 @@ fn find_fault(composite: &CompositeAggregation) -> Option<InvalidArgument>
     if has_duplicate(sources) {
         return Some(InvalidArgument::DuplicateSource);
     }
-    if has_null_after(composite) {
-        return Some(InvalidArgument::NullAfter);
-    }
-    if has_other_after(composite) {
-        return Some(InvalidArgument::AfterType);
-    }
-    None
+    find_after_fault(composite)
 }
 
 // Whether two sources have one name.

@@ -2,9 +2,9 @@
 ghost use Rattle.std.specs.Prelude.{◌≡◌, IfOk};
 ghost use Rattle.serde_json.specs.Data.{string};
 ghost use Rattle.serde_json.specs.View.{view};
+ghost use Rattle.agg_values.specs.OrderTarget.{target_of};
 ghost use Rattle.agg_request.specs.CompositeJson.{order_word};
 ghost use Rattle.agg_request.specs.OrderJson.{IsOrderJson, IsPair, data_of_order, read_back};
-ghost use Rattle.agg_request.specs.OrderJson.{target_of};
 ghost use Rattle.agg_request.specs.Reading.{IsReading};
 
 use crate::ReadError;

@@ -1,6 +1,7 @@
 //! How many occurrences documents have, without walking them.
 
-ghost use Rattle.std.specs.Prelude.{◌≡◌, ◌-◌, ◌^◌, IfOk, filter, length, map, min};
+ghost use Rattle.std.specs.Prelude.{◌≡◌, IfOk, filter, length, map};
+ghost use Rattle.std.specs.Io.Iter.{u64_saturate};
 ghost use Rattle.agg_segment.specs.Columns.{all_keys, type_of};
 ghost use Rattle.agg_segment.specs.Segment.{Stored, document_at, documents_at};
 ghost use Rattle.agg_request.specs.declared.source.CompositeAggregationSource as declared;
@@ -29,9 +30,8 @@ pub fn count_uncut(
     segment: &SegmentReader,
     docs: &[DocId],
 ) -> Result<u64, OutOfMemory>
-    ensures { IfOk result (λ count. count ≡ min
-        (length (counted composite.now (documents_at segment.now docs.now)))
-        (2 ^ 64 - 1)) }
+    ensures { IfOk result (λ count. count ≡ u64_saturate
+        (length (counted composite.now (documents_at segment.now docs.now)))) }
 {
     let sources = source_columns(alloc, composite.sources.as_slice(), segment)?;
     let mut count: u64 = 0;
@@ -80,7 +80,7 @@ fn read_columns<'a>(
 // How many occurrences a document has, cut to what the number holds.
 fn num_occurrences(sources: &[SourceColumns<'_>], doc: DocId) -> u64
     ensures { (segment : Stored) (read : Sources) → AreReadBy segment read sources.now
-        → result ≡ min (length (occurrences read (document_at segment doc))) (2 ^ 64 - 1) }
+        → result ≡ u64_saturate (length (occurrences read (document_at segment doc))) }
 {
     let mut product: u64 = 1;
     for source in sources {
@@ -93,7 +93,7 @@ fn num_occurrences(sources: &[SourceColumns<'_>], doc: DocId) -> u64
 fn num_keys(source: &SourceColumns<'_>, doc: DocId) -> u64
     ensures { (segment : Stored) (read : declared.CompositeAggregationSource)
         → IsReadBy segment read source.now
-        → result ≡ min (length (source_values read (document_at segment doc))) (2 ^ 64 - 1) }
+        → result ≡ u64_saturate (length (source_values read (document_at segment doc))) }
 {
     let num_values = num_values(&source.columns, doc);
     if num_values == 0 && source.missing_bucket {
@@ -104,8 +104,7 @@ fn num_keys(source: &SourceColumns<'_>, doc: DocId) -> u64
 
 // How many values a document has in columns, cut to what the number holds.
 fn num_values(columns: &[&Column], doc: DocId) -> u64
-    ensures { result
-        ≡ min (length (all_keys (map (λ c. c.now) columns.now) doc)) (2 ^ 64 - 1) }
+    ensures { result ≡ u64_saturate (length (all_keys (map (λ c. c.now) columns.now) doc)) }
 {
     let mut count: u64 = 0;
     for column in columns {

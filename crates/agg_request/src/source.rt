@@ -3,6 +3,8 @@ ghost use Rattle.agg_request.specs.Source.{field_of, name_of, order_of};
 ghost use Rattle.agg_request.specs.Source.{missing_order_of, missing_bucket_of};
 ghost use Rattle.agg_request.specs.SourceColumns.{reads_type};
 
+mod after;
+
 use agg_calendar::CalendarInterval;
 use agg_segment::ColumnType;
 use agg_values::{MissingOrder, Order, OutOfMemory, Text};

@@ -14,6 +14,7 @@ use Rattle.agg_results.specs.BucketCount.{results_buckets}
 use Rattle.agg_results.specs.Intermediate.{HasSubResults, Held, counts_of, entries_of}
 use Rattle.agg_results.specs.Intermediate.{held_composite}
 use Rattle.agg_results.specs.Intermediate.{orders_of, target_size_of}
+use Rattle.agg_results.specs.Merging.{SomeOfBoth}
 use Rattle.agg_results.specs.Results.{last_tuple}
 use Rattle.agg_results.specs.ShownResults.{shown_group, shown_page}
 use Rattle.agg_results.specs.declared.error.FinalError.{FinalError}
@@ -75,10 +76,7 @@ IsInOtherOrders _ held = ⊥
 
 -- a result is held that isn't of the shape that the request asks for
 abbrev pub HoldsOther : {B : Type 0} → Request B → Held → Type 0
-HoldsOther {B = B} request held =
-    (name : List ℕ) × (a : Aggregation B) × (r : IntermediateAggregationResult)
-    × (value_of name request ≡ Some a) × (value_of name held ≡ Some r)
-    × IsInOtherOrders (agg_of a) r
+HoldsOther request held = SomeOfBoth (λ a r. IsInOtherOrders (agg_of a) r) request held
 
 -- the final results have more buckets than the limit
 abbrev pub HaveTooMany : {B : Type 0} → ℕ → Request B → Held → Type 0

@@ -1,10 +1,11 @@
 -- What merging makes of two intermediate results, and when it is refused.
 use Rattle.std.specs.Prelude.{◌≡◌, ◌≢◌, ◌<◌, ◌==◌, ◌^◌, ◌⊎◌, ℕ, List, Option, None, Some}
 use Rattle.std.specs.Prelude.{All, if◌then◌else◌}
+use Rattle.std.specs.Option.{option_map_or}
 use Rattle.std.specs.declared.cmp.Ordering.{Ordering}
 use Rattle.std.specs.declared.cmp.Ordering.TheVariants.{Less}
 use Rattle.agg_values.specs.KeyOrder.{SourceRules, tuple_order}
-use Rattle.agg_values.specs.Names.{value_of}
+use Rattle.agg_values.specs.Names.{Named, value_of}
 use Rattle.agg_values.specs.Tuple.{KeyTuple}
 use Rattle.agg_request.specs.Groups.{Group}
 use Rattle.agg_results.specs.Counts.{PassesCount, merged, trimmed}
@@ -32,7 +33,8 @@ trimmed_composite c =
     composite_of (orders_of c) (target_size_of c) (trimmed (target_size_of c) (entries_of c))
 
 -- each entry of a list is below each of another
-abbrev pub AreBelow : (KeyTuple → KeyTuple → Ordering) → Entries → Entries → Type 0
+abbrev pub AreBelow : {T : Type 0} → (KeyTuple → KeyTuple → Ordering) → List (KeyTuple × T)
+    → List (KeyTuple × T) → Type 0
 AreBelow order lower upper = All (λ f. All (λ e. order e.0 f.0 ≡ Less) lower) upper
 
 -- an entry's count is below 2^64
@@ -81,8 +83,7 @@ merged_result r o =
 -- a result behind another, if there is one
 abbrev pub behind : Option IntermediateAggregationResult → IntermediateAggregationResult
     → IntermediateAggregationResult
-behind None o = o
-behind (Some r) o = merged_result r o
+behind held o = option_map_or (λ r. merged_result r o) held o
 
 -- what either side holds, and the two as one where both hold it
 abbrev pub either_or_both : Option IntermediateAggregationResult
@@ -96,9 +97,8 @@ AreMerged held others whole =
     (name : List ℕ)
     → value_of name whole ≡ either_or_both (value_of name held) (value_of name others)
 
--- both sides hold a name, with results of which this is told
-abbrev pub SomeOfBoth : (IntermediateAggregationResult → IntermediateAggregationResult → Type 0)
-    → Held → Held → Type 0
-SomeOfBoth Told held others =
-    (name : List ℕ) × (r : IntermediateAggregationResult) × (o : IntermediateAggregationResult)
+-- both sides hold a name, with values of which this is told
+abbrev pub SomeOfBoth : {A B : Type 0} → (A → B → Type 0) → Named A → Named B → Type 0
+SomeOfBoth {A = A} {B = B} Told held others =
+    (name : List ℕ) × (r : A) × (o : B)
     × (value_of name held ≡ Some r) × (value_of name others ≡ Some o) × Told r o

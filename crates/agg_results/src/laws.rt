@@ -17,7 +17,8 @@ ghost use Rattle.agg_request.specs.Uncut.{uncut};
 ghost use Rattle.agg_results.specs.Empty.{empty_results};
 ghost use Rattle.agg_results.specs.Final.{HoldsOther, HoldsUnknown, final_results};
 ghost use Rattle.agg_results.specs.Intermediate.{AreFlat, Held};
-ghost use Rattle.agg_results.specs.Merging.{AreMerged, CountsPass, ShapesDiffer, SomeOfBoth};
+ghost use Rattle.agg_results.specs.Merging.{AreBelow, AreMerged, CountsPass, ShapesDiffer};
+ghost use Rattle.agg_results.specs.Merging.{SomeOfBoth};
 ghost use Rattle.agg_results.specs.BucketCount.{results_buckets};
 ghost use Rattle.agg_results.specs.Results.{IsResults, Results, buckets_in};
 ghost use Rattle.agg_results.specs.ShownResults.{shown_results};
@@ -37,8 +38,7 @@ pub fn a_page_stands_for_its_documents()
     ensures above { (sources : Sources) (size : ℕ) (bound : KeyTuple) (documents : List Fields)
         (groups : List Group)
         → GroupsStandFor sources size bound documents groups
-        → All (λ g. All (λ p. tuple_order (rules_of sources) p.0 g.0 ≡ Less) (take size groups))
-        (drop size groups) }
+        → AreBelow (tuple_order (rules_of sources)) (take size groups) (drop size groups) }
 {}
 
 /// The empty result of plain composites, whose names ascend, stands for no documents.

@@ -2,7 +2,7 @@
 use Rattle.std.specs.Prelude.{◌==◌, ◌&&◌, ◌<◌, ◌≤◌, ◌^◌, ⊤}
 use Rattle.std.specs.Prelude.{ℕ, Bool, List, [], Option, map, filter}
 use Rattle.std.specs.Option.{option_map_or}
-use Rattle.agg_values.specs.Names.{value_of}
+use Rattle.agg_values.specs.Names.{Named, value_of}
 use Rattle.agg_values.specs.declared.address.Address.{Address}
 use Rattle.agg_values.specs.TypedKey.{CompositeIntermediateKey}
 use Rattle.agg_values.specs.declared.typed_key.CompositeIntermediateKey.TheVariants as key
@@ -27,11 +27,11 @@ abbrev pub keys_at : List Placed → ℕ → ℕ → List CompositeIntermediateK
 keys_at cells field doc = map (λ p. p.key) (filter (is_at field doc) cells)
 
 -- the number of a field's name
-abbrev pub number_of : List (List ℕ × ℕ) → List ℕ → Option ℕ
+abbrev pub number_of : Named ℕ → List ℕ → Option ℕ
 number_of names name = value_of name names
 
 -- the keys of a document in the field of a name
-abbrev pub named_keys : List (List ℕ × ℕ) → List Placed → ℕ → Fields
+abbrev pub named_keys : Named ℕ → List Placed → ℕ → Fields
 named_keys names cells doc name =
     option_map_or (λ field. keys_at cells field doc) (number_of names name) []
 
@@ -55,12 +55,16 @@ abbrev pub placed : List (List ℕ) → List Address → Cell → Placed
 placed texts addresses c =
     record { field = c.field; doc = c.doc; key = stored_key texts addresses c.value }
 
--- the places of a cell are held, and a U64 is one that no I64 can be
+-- a number of a u64 is one that no i64 can be
+abbrev pub IsWideAsUnsigned : CellValue → Type 0
+IsWideAsUnsigned (cell.U64 n) = 2 ^ 63 ≤ n
+IsWideAsUnsigned _ = ⊤
+
+-- the places of a cell are held, and a u64 is one that no i64 can be
 abbrev pub IsKept : ℕ → ℕ → CellValue → Type 0
 IsKept texts addresses (cell.Str place) = place < texts
 IsKept texts addresses (cell.Ip place) = place < addresses
-IsKept texts addresses (cell.U64 n) = 2 ^ 63 ≤ n
-IsKept texts addresses _ = ⊤
+IsKept texts addresses value = IsWideAsUnsigned value
 
 -- values in order, and the texts and addresses that are kept beside
 pub record Logged : Type 0 where

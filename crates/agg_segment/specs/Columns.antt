@@ -1,7 +1,8 @@
 -- Columns of numbers, and the keys that they stand for.
 use Rattle.std.specs.Prelude.{◌≡◌, ◌==◌, ◌<◌, ◌≤◌, ◌^◌, pos, ◌-ℤ◌, ℕ}
-use Rattle.std.specs.Prelude.{List, [], map, filter, length, flat_map, get_or}
+use Rattle.std.specs.Prelude.{List, [], AllPairs, map, filter, length, flat_map}
 use Rattle.std.specs.List.{All, Contains}
+use Rattle.std.specs.Map.{values_of}
 use Rattle.std.specs.Ordering.{nat_cmp}
 use Rattle.agg_values.specs.Column.{order_rank}
 use Rattle.agg_values.specs.KeyOrder.{ascending_order}
@@ -73,7 +74,7 @@ keys_rank keys = order_rank (type_class (type_of keys))
 
 -- the numbers of a document
 abbrev pub numbers_at : List (ℕ × ℕ) → ℕ → List ℕ
-numbers_at cells doc = map (λ c. c.1) (filter (λ c. c.0 == doc) cells)
+numbers_at cells doc = values_of (filter (λ c. c.0 == doc) cells)
 
 -- the keys of a document in a column
 abbrev pub column_keys : StoredColumn → ℕ → List CompositeIntermediateKey
@@ -122,12 +123,8 @@ IsColumnBefore c d = (c.field ≤ d.field) × (c.field ≡ d.field → keys_rank
 
 -- columns by field and class, one for each
 abbrev pub AreInOrder : List StoredColumn → Type 0
-AreInOrder columns =
-    (i j : ℕ) (d : StoredColumn) → i < j → j < length columns
-    → IsColumnBefore (get_or columns i d) (get_or columns j d)
+AreInOrder columns = AllPairs IsColumnBefore columns
 
 -- columns by class, one for each
 abbrev pub ClassesAscend : List StoredColumn → Type 0
-ClassesAscend columns =
-    (i j : ℕ) (d : StoredColumn) → i < j → j < length columns
-    → keys_rank (get_or columns i d).keys < keys_rank (get_or columns j d).keys
+ClassesAscend columns = AllPairs (λ c d. keys_rank c.keys < keys_rank d.keys) columns

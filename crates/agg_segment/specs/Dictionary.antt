@@ -2,9 +2,9 @@
 use Rattle.std.specs.Prelude.{◌≡◌, ◌<◌, ◌-◌, ℕ, List, [], get_or, length}
 use Rattle.std.specs.declared.cmp.Ordering.{Ordering}
 use Rattle.std.specs.declared.cmp.Ordering.TheVariants.{Less, Greater}
-use Rattle.std.specs.Ordering.{nat_cmp, is_lt}
+use Rattle.std.specs.Ordering.{nat_cmp, on}
 use Rattle.std.specs.List.{HoldsAt}
-use Rattle.std.specs.List.Sorted.{IsSortedBy}
+use Rattle.std.specs.List.Sorted.{IsSortedByKey}
 use Rattle.agg_values.specs.Names.{name_cmp}
 use Rattle.agg_values.specs.declared.address.Address.{Address}
 use Rattle.agg_segment.specs.declared.hit.OrdHit.{OrdHit}
@@ -20,8 +20,7 @@ last_text texts = text_at texts (length texts - 1)
 
 -- places ascend by their texts
 abbrev pub AreByText : List (List ℕ) → List ℕ → Type 0
-AreByText texts places =
-    IsSortedBy (λ a b. is_lt (name_cmp (text_at texts a) (text_at texts b))) places
+AreByText texts places = IsSortedByKey (text_at texts) name_cmp places
 
 -- the ordinal of a place is where its text is in a dictionary
 abbrev pub HasOrdinal : List (List ℕ) → List (List ℕ) → List ℕ → ℕ → Type 0
@@ -35,7 +34,7 @@ address_at addresses place = get_or addresses place (record { 0 = 0 })
 
 -- addresses are ordered by their number
 abbrev pub address_cmp : Address → Address → Ordering
-address_cmp a b = nat_cmp a.0 b.0
+address_cmp = on (λ a. a.0) nat_cmp
 
 -- the items at two places compare as the places do
 abbrev pub AreInPlaceOrder : {X : Type 0} → (X → X → Ordering) → List X → X → Type 0

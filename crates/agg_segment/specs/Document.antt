@@ -1,5 +1,6 @@
 -- Documents: values with the names of their fields, and the keys that they mean.
 use Rattle.std.specs.Prelude.{◌==◌, ℕ, List, [], ◌∷◌, map, filter, flat_map}
+use Rattle.std.specs.Map.{values_of}
 use Rattle.std.specs.Str.{bytes_eq}
 use Rattle.agg_values.specs.Column.{class_rank}
 use Rattle.agg_values.specs.TypedKey.{canonical_key}
@@ -40,7 +41,7 @@ by_class keys = flat_map (of_class keys) class_ranks
 
 -- the values of a field, in the order in which they were added
 abbrev pub values_in : List (List ℕ × FieldValue) → List ℕ → List FieldValue
-values_in document field = map (λ p. p.1) (filter (λ p. bytes_eq field p.0) document)
+values_in document field = values_of (filter (λ p. bytes_eq field p.0) document)
 
 -- what a document means
 abbrev pub meaning : List (List ℕ × FieldValue) → Fields

@@ -1,8 +1,9 @@
 -- Numbers of fields and classes, while more may come.
-use Rattle.std.specs.Prelude.{◌≡◌, ◌≢◌, ◌==◌, ◌&&◌, ◌<◌, ◌≤◌, ◌+◌, ◌-◌, ◌^◌, ◌-ℤ◌, pos, ⊤}
-use Rattle.std.specs.Prelude.{ℕ, Bool, List, [], ◌∷◌, ◌++◌, length, get_or, map, filter, flat_map}
+use Rattle.std.specs.Prelude.{◌≡◌, ◌≢◌, ◌==◌, ◌&&◌, ◌<◌, ◌≤◌, ◌+◌, ◌-◌, ◌^◌, ◌-ℤ◌, pos}
+use Rattle.std.specs.Prelude.{ℕ, Bool, List, ◌∷◌, ◌++◌, length, get_or, map, filter, flat_map}
 use Rattle.std.specs.Prelude.{if◌then◌else◌, nat_lt}
-use Rattle.std.specs.List.{All, Contains}
+use Rattle.std.specs.List.{All, AllPairs, AllZip, Contains}
+use Rattle.std.specs.Map.{values_of}
 use Rattle.agg_values.specs.declared.address.Address.{Address}
 use Rattle.agg_values.specs.declared.column.ColumnPaginationOrder.{ColumnPaginationOrder}
 use Rattle.agg_values.specs.declared.column.ColumnPaginationOrder.TheVariants as class
@@ -92,9 +93,7 @@ pub record IsRawOf (doc : ℕ) (c : Cell) (r : Raw) : Type 0 where
 
 -- what the cells of a document become
 abbrev pub AreRawsOf : ℕ → List Cell → List Raw → Type 0
-AreRawsOf doc [] [] = ⊤
-AreRawsOf doc (c ∷ cells) (r ∷ rs) = IsRawOf doc c r × AreRawsOf doc cells rs
-AreRawsOf doc _ _ = ⊥
+AreRawsOf doc = AllZip (IsRawOf doc)
 
 -- the column of a field that a place names, the place after it, is its last one before a bound
 pub record IsLast (columns : List Gathering) (field head bound : ℕ) : Type 0 where
@@ -107,9 +106,7 @@ pub record AreLinked (last : List ℕ) (columns : List Gathering) : Type 0 where
   pub heads : (field : ℕ) → IsLast columns field (get_or last field 0) (length columns)
   pub nexts : (k : ℕ) (g : Gathering) → k < length columns
       → IsLast columns (get_or columns k g).field (get_or columns k g).before k
-  pub apart : (i j : ℕ) (g : Gathering) → i < j → j < length columns
-      → (get_or columns i g).field ≡ (get_or columns j g).field
-      → (get_or columns i g).class ≡ (get_or columns j g).class → ⊥
+  pub apart : AllPairs (λ g h. g.field ≡ h.field → g.class ≡ h.class → ⊥) columns
 
 -- a column is of a field and a class
 abbrev pub IsColumnOf : ℕ → ColumnPaginationOrder → Gathering → Type 0
@@ -160,11 +157,6 @@ IsRaw texts addresses class.Numeric n = n < 2 ^ 64
 IsRaw texts addresses class.IpAddr n = n < addresses
 IsRaw texts addresses class.DateTime n = n < 2 ^ 64
 
--- a number of a u64 is one that no i64 can be
-abbrev pub IsWideAsUnsigned : CellValue → Type 0
-IsWideAsUnsigned (cell.U64 n) = 2 ^ 63 ≤ n
-IsWideAsUnsigned _ = ⊤
-
 -- a number that a column may have one for: a text's place has its ordinal, an address is listed
 abbrev pub IsEncodable
     : List (List ℕ) → List ℕ → List Address → ColumnKeys → ℕ → Type 0
@@ -188,7 +180,7 @@ AreSorted columns =
 abbrev pub IsWide : Sign → Gathering → Type 0
 IsWide sign column =
     sign ≡ Large → column.class ≡ class.Numeric
-    → (n : ℕ) × Contains (map (λ r. r.1) column.rows) n × (n < 2 ^ 63)
+    → (n : ℕ) × Contains (values_of column.rows) n × (n < 2 ^ 63)
 
 -- so it is for all columns
 abbrev pub AreWide : List Sign → List Gathering → Type 0

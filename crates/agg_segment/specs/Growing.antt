@@ -1,7 +1,7 @@
 -- Numbers with their documents, while more may come.
 use Rattle.std.specs.Prelude.{◌≤◌, ◌-◌, ⊤, ℕ, List, [], ◌∷◌, ◌++◌, length}
 use Rattle.std.specs.List.{zip, range_with_len}
-use Rattle.std.specs.List.Sorted.{IsNonDecreasingBy}
+use Rattle.std.specs.List.Sorted.{IsNonDecreasing}
 use Rattle.agg_segment.specs.declared.rows.growing.ManyNumbers.{ManyNumbers}
 use Rattle.agg_segment.specs.declared.rows.growing.Growing.{Growing}
 use Rattle.agg_segment.specs.declared.rows.growing.Growing.TheVariants.{Empty, One, Many}
@@ -25,7 +25,7 @@ growing_rows (Many many) = many_rows many.value
 abbrev pub AreMany : ManyNumbers → Type 0
 AreMany many =
     (length many.docs.items ≤ length many.numbers.items)
-    × IsNonDecreasingBy (λ d. d) (many_docs many)
+    × IsNonDecreasing (many_docs many)
 
 -- the documents of the numbers rise
 abbrev pub AreGrowing : Growing → Type 0

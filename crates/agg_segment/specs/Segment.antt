@@ -11,13 +11,14 @@ use Rattle.agg_segment.specs.Columns.{StoredColumn, column_cells}
 use Rattle.agg_segment.specs.declared.signs.Sign.{Sign}
 use Rattle.agg_segment.specs.declared.signs.Sign.TheVariants.{Negative, Large}
 use Rattle.agg_segment.specs.declared.builder.TheConstants.{MAX_DOCUMENTS}
+use Rattle.agg_values.specs.Names.{Named}
 use Rattle.agg_values.specs.TypedKey.{CompositeIntermediateKey}
 
 -- what a builder holds: how many documents are closed, the numbers of the fields, and the keys of
 -- all documents
 pub record Gathered : Type 0 where
   pub count : ℕ
-  pub names : List (List ℕ × ℕ)
+  pub names : Named ℕ
   pub cells : List Placed
 
 -- a document that is closed, or the open one at the count
@@ -48,7 +49,7 @@ with_key field key document name =
 -- what a segment holds: how many documents, the numbers of the fields, and the columns
 pub record Stored : Type 0 where
   pub count : ℕ
-  pub names : List (List ℕ × ℕ)
+  pub names : Named ℕ
   pub columns : List StoredColumn
 
 -- the document at a place
@@ -95,7 +96,7 @@ builder_cells signs columns log =
 
 -- what is true of a builder, by its parts
 abbrev pub IsBuilding
-    : ℕ → List (List ℕ × ℕ) → List Sign → List Raw → Logged → Type 0
+    : ℕ → Named ℕ → List Sign → List Raw → Logged → Type 0
 IsBuilding count names signs columns log =
     IsGathered
     (record { count = count; names = names; cells = builder_cells signs columns log })

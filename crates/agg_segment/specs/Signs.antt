@@ -6,10 +6,9 @@ use Rattle.agg_values.specs.TypedKey.{CompositeIntermediateKey}
 use Rattle.agg_values.specs.declared.typed_key.CompositeIntermediateKey.TheVariants as key
 use Rattle.agg_segment.specs.declared.log.Cell.{Cell}
 use Rattle.agg_segment.specs.declared.log.CellValue.{CellValue}
-use Rattle.agg_segment.specs.declared.log.CellValue.TheVariants as cell
 use Rattle.agg_segment.specs.declared.signs.Sign.{Sign}
 use Rattle.agg_segment.specs.declared.signs.Sign.TheVariants.{Small, Negative, Large}
-use Rattle.agg_segment.specs.Cells.{Placed}
+use Rattle.agg_segment.specs.Cells.{Placed, stored_key}
 
 -- whether a number is below zero, or above those of an i64
 abbrev pub sign_of : CompositeIntermediateKey → Sign
@@ -19,9 +18,7 @@ sign_of _ = Small
 
 -- the same of what a cell keeps
 abbrev pub cell_sign : CellValue → Sign
-cell_sign (cell.I64 n) = if int_lt n (pos 0) then Negative else Small
-cell_sign (cell.U64 n) = Large
-cell_sign _ = Small
+cell_sign value = sign_of (stored_key [] [] value)
 
 -- a cell's field and sign
 abbrev pub cell_mark : Cell → ℕ × Sign

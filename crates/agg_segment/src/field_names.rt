@@ -25,11 +25,12 @@ pub struct FieldNames {
 }
 
 impl Model for FieldNames {
-    ghost use Rattle.std.specs.Prelude.{List, ℕ};
+    ghost use Rattle.std.specs.Prelude.{ℕ};
+    ghost use Rattle.agg_values.specs.Names.{Named};
     ghost use Rattle.agg_segment.specs.Names.{numbered_names};
     ghost use Rattle.agg_segment.specs.FirstNames.{AreFirst};
 
-    ghost Value = { List (List ℕ × ℕ) };
+    ghost Value = { Named ℕ };
 
     ghost view = { λ names. numbered_names names.numbers };
 

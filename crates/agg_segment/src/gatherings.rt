@@ -3,7 +3,8 @@ ghost use Rattle.std.specs.Prelude.{length, get_or, map, filter, nat_lt, IfOk, I
 ghost use Rattle.std.specs.List.{All};
 ghost use Rattle.agg_segment.specs.CellOrder.{cell_class};
 ghost use Rattle.agg_segment.specs.Gatherings.{Raw, raws, column_raws, AreAlike, IsPutInto};
-ghost use Rattle.agg_segment.specs.Gatherings.{IsWideAsUnsigned, IsNumberOf, IsRawOf, AreRawsOf};
+ghost use Rattle.agg_segment.specs.Cells.{IsWideAsUnsigned};
+ghost use Rattle.agg_segment.specs.Gatherings.{IsNumberOf, IsRawOf, AreRawsOf};
 ghost use Rattle.agg_segment.specs.Gatherings.{AreLinked, IsColumnOf, forgotten};
 
 mod by_text;

@@ -4,8 +4,7 @@ ghost use Rattle.std.specs.List.{All, zip, range_with_len};
 ghost use Rattle.std.specs.List.Sorted.{IsNonDecreasing};
 ghost use Rattle.agg_segment.specs.Columns.{numbers_at};
 ghost use Rattle.agg_segment.specs.Rows.{listed_docs, start_at, numbered, layout_docs};
-ghost use Rattle.agg_segment.specs.Rows.{uneven_rows};
-ghost use Rattle.agg_segment.specs.Rows.{AreEndsOf, IsLaidOut};
+ghost use Rattle.agg_segment.specs.Rows.{uneven_rows, AreEndsOf, IsLaidOut};
 
 mod growing;
 
@@ -224,9 +223,8 @@ fn count_up_to_last(docs: &[u32]) -> usize
 fn all_ends(alloc: Global, docs: &[u32], count: usize) -> Result<Vec<u32>, OutOfMemory>
     requires ascending { IsNonDecreasing docs.now }
     requires all { All (λ doc. doc < count) docs.now }
-    ensures docs { IfOk result (λ ends. listed_docs 0 (numbered 0 ends.items)
-        ≡ docs.now) }
-    ensures ends { IfOk result (λ ends. AreEndsOf (numbered 0 ends.items) (length docs.now)) }
+    ensures docs { IfOk result (λ ends. layout_docs (Layout.Dense ends) ≡ docs.now) }
+    ensures ends { IfOk result (λ ends. IsLaidOut (Layout.Dense ends) (length docs.now)) }
 {
     let mut ends = Vec::with_capacity(alloc, count)?;
     let mut at = 0;
@@ -258,8 +256,8 @@ fn past_doc(docs: &[u32], from: usize, doc: usize) -> usize
 // The distinct documents, with where each ends.
 fn doc_ends(alloc: Global, docs: &[u32]) -> Result<Vec<DocEnd>, OutOfMemory>
     requires { IsNonDecreasing docs.now }
-    ensures docs { IfOk result (λ ends. listed_docs 0 ends.items ≡ docs.now) }
-    ensures ends { IfOk result (λ ends. AreEndsOf ends.items (length docs.now)) }
+    ensures docs { IfOk result (λ ends. layout_docs (Layout.Listed ends) ≡ docs.now) }
+    ensures ends { IfOk result (λ ends. IsLaidOut (Layout.Listed ends) (length docs.now)) }
 {
     let mut ends = Vec::with_capacity(alloc, count_docs(docs))?;
     let mut at = 0;

@@ -1,10 +1,9 @@
 -- The longest run of zero groups, and the first of that length.
 use Rattle.std.proofs.Common.{◌≡◌, ℕ, zero, suc, ◌+◌, ◌<◌, Bool, true, false, cond, eqb, ltb, not}
-use Rattle.std.proofs.Common.{List, [], ◌∷◌, length, drop, map, fold, max, refl, sym, ap, ◌∙◌}
+use Rattle.std.proofs.Common.{List, [], ◌∷◌, length, map, fold, max, refl, sym, ap, ◌∙◌}
 use Rattle.std.proofs.Common.{arith, inl, inr, le-leb, lt-ltb, Some, None, unwrap_or, ne_eqb}
 use Rattle.std.proofs.Common.{eq-eqb}
 use Rattle.std.specs.List.{range_with_len, prefix_len, position_or_len}
-use Rattle.std.proofs.lemmas.List.Folds.{length-prefix_len}
 use Rattle.std.proofs.lemmas.Bool.{cases_lt, cases_eq, lt-leb}
 use Rattle.std.proofs.NetLemmas.Texts.{IsZeroRun-longest_zero_run, longest_zero_run_first}
 use Rattle.std.specs.Net.Text.{zero_run, longest_zero_run}
@@ -31,9 +30,6 @@ fold_max m [] = omega arith
 fold_max m (x ∷ xs) = let e = fold_max (max m x) xs in let f = fold_max (max 0 x) xs in
     omega (arith, e, f)
 
-zeros_from-zero_run : (xs : List ℕ) (at : ℕ) → zeros_from xs at ≡ zero_run (drop at xs)
-zeros_from-zero_run xs at = length-prefix_len (λ g. eqb g 0) (drop at xs)
-
 most_zeros : List ℕ → ℕ
 most_zeros xs = fold max 0 (map (zeros_from xs) (range_with_len 0 (length xs)))
 
@@ -43,7 +39,7 @@ unfolding most_zeros
 most_zeros-cons x xs =
     fold_max (max 0 (zeros_from (x ∷ xs) 0)) (map (zeros_from (x ∷ xs))
     (range_with_len 1 (length xs)))
-    ∙ (λ i. max (max 0 (zeros_from-zero_run (x ∷ xs) 0 i))
+    ∙ (λ i. max (max 0 (zero_run (x ∷ xs)))
     (fold max 0 (map-range (zeros_from (x ∷ xs)) 0 (length xs) i)))
     ∙ omega arith
 
@@ -66,7 +62,7 @@ first_with-cons : (x : ℕ) (xs : List ℕ) (len : ℕ)
     → first_with (x ∷ xs) len ≡ cond (eqb (zero_run (x ∷ xs)) len) 0 (1 + first_with xs len)
 unfolding first_with
 first_with-cons x xs len =
-    (λ i. cond (not (eqb (zeros_from-zero_run (x ∷ xs) 0 i) len)) (1 + prefix-range (λ at.
+    (λ i. cond (not (eqb (zero_run (x ∷ xs)) len)) (1 + prefix-range (λ at.
     not (eqb (zeros_from (x ∷ xs) at) len)) 0 (length xs) i) 0)
     ∙ by_not (eqb (zero_run (x ∷ xs)) len)
   where

@@ -1,9 +1,10 @@
 -- The text of an address: RFC 5952, sections 4 and 5.
 use Rattle.std.specs.Prelude.{ℕ, ◌+◌, ◌-◌, ◌*◌, ◌/◌, ◌%◌, ◌^◌, List, ◌++◌, Bool, false, ◌==◌}
-use Rattle.std.specs.Prelude.{if◌then◌else◌, length, map, take, drop, fold, max, unwrap_or}
-use Rattle.std.specs.Prelude.{position, take_while, codes, nat_lt, decimal}
+use Rattle.std.specs.Prelude.{if◌then◌else◌, map, take, drop, fold, max, unwrap_or}
+use Rattle.std.specs.Prelude.{position, codes, nat_lt, decimal}
 use Rattle.std.specs.Fmt.{radix_digits}
 use Rattle.std.specs.List.{range_with_len, join_with_byte}
+use Rattle.std.specs.Net.Text.{zero_run}
 
 -- the eight groups of sixteen bits, the highest first
 abbrev pub groups_of : ℕ → List ℕ
@@ -11,7 +12,7 @@ groups_of address = map (λ k. (address / 2 ^ (112 - 16 * k)) % 2 ^ 16) (range_w
 
 -- how many zero groups stand from a place on
 abbrev pub zeros_from : List ℕ → ℕ → ℕ
-zeros_from groups at = length (take_while (λ g. g == 0) (drop at groups))
+zeros_from groups at = zero_run (drop at groups)
 
 -- the length of the longest run of zero groups
 abbrev pub longest_run : List ℕ → ℕ

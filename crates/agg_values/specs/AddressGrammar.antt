@@ -1,6 +1,6 @@
 -- The texts that are read as an address: the text forms of RFC 4291, and IPv4 texts.
 use Rattle.std.specs.Prelude.{◌≡◌, ℕ, ◌^◌, ◌<◌, ◌⊎◌, List, ◌∷◌}
-use Rattle.std.specs.Net.Addr.{segments_of, ipv4_octets, ipv6_segments}
+use Rattle.std.specs.Net.Addr.{embedded_segments, ipv6_segments, segments_of}
 use Rattle.std.specs.declared.net.ip_addr.IpAddr.{IpAddr}
 use Rattle.std.specs.declared.net.ip_addr.IpAddr.TheVariants.{V4, V6}
 use Rattle.std.specs.Net.Grammar.{IsDotted, IsColonHex}
@@ -25,5 +25,5 @@ IsAddressText text address =
 
 -- the groups of an IP address, of an IPv4 address the mapped one's
 abbrev pub ip_groups : IpAddr → List ℕ
-ip_groups (V4 ip) = 0 ∷ 0 ∷ 0 ∷ 0 ∷ 0 ∷ 65535 ∷ segments_of (ipv4_octets ip)
+ip_groups (V4 ip) = embedded_segments 65535 ip
 ip_groups (V6 ip) = ipv6_segments ip

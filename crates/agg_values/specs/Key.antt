@@ -21,12 +21,6 @@ intermediate_key (bucket.Str text) = intermediate.Str text
 intermediate_key (bucket.I64 n) = intermediate.I64 n
 intermediate_key (bucket.U64 n) = intermediate.U64 n
 
--- what is displayed of a key
-abbrev pub bucket_key_text : Key → List ℕ
-bucket_key_text (bucket.Str text) = text
-bucket_key_text (bucket.I64 n) = signed_decimal n
-bucket_key_text (bucket.U64 n) = decimal n
-
 -- what is displayed of a key that keeps its type
 abbrev pub intermediate_key_text : IntermediateKey → List ℕ
 intermediate_key_text (intermediate.IpAddr address) = address_text address.0
@@ -34,3 +28,7 @@ intermediate_key_text (intermediate.Bool b) = if b then codes "true" else codes 
 intermediate_key_text (intermediate.Str text) = text
 intermediate_key_text (intermediate.I64 n) = signed_decimal n
 intermediate_key_text (intermediate.U64 n) = decimal n
+
+-- what is displayed of a key
+abbrev pub bucket_key_text : Key → List ℕ
+bucket_key_text key = intermediate_key_text (intermediate_key key)

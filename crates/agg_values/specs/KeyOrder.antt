@@ -3,7 +3,7 @@ use Rattle.std.specs.Prelude.{ℕ, List, [], ◌∷◌}
 use Rattle.std.specs.declared.cmp.Ordering.{Ordering}
 use Rattle.std.specs.declared.cmp.Ordering.TheVariants.{Less, Equal, Greater}
 use Rattle.std.specs.Ordering.{nat_cmp, int_cmp, on, then_cmp, flip_args, ordering_then}
-use Rattle.std.specs.Cmp.Lexicographic.{slice_cmp}
+use Rattle.agg_values.specs.Names.{name_cmp}
 use Rattle.agg_values.specs.Tuple.{KeyTuple}
 use Rattle.agg_values.specs.Column.{class_rank}
 use Rattle.agg_values.specs.TypedKey.{truth_or_number, address_of, text_of}
@@ -27,7 +27,7 @@ abbrev pub ascending_order : Comparison
 ascending_order =
     then_cmp (on class_rank nat_cmp)
     (then_cmp (on truth_or_number int_cmp)
-    (then_cmp (on address_of nat_cmp) (on text_of (slice_cmp nat_cmp))))
+    (then_cmp (on address_of nat_cmp) (on text_of name_cmp)))
 
 -- Null before the values is 0, and behind them 2
 abbrev pub null_side : Order → MissingOrder → ℕ
@@ -42,7 +42,7 @@ null_rank order missing Null = null_side order missing
 null_rank order missing _ = 1
 
 -- the order, or its reverse
-abbrev pub directed : Order → Comparison → Comparison
+abbrev pub directed : {K : Type 0} → Order → (K → K → Ordering) → K → K → Ordering
 directed Asc cmp = cmp
 directed Desc cmp = flip_args cmp
 

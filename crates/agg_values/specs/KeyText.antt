@@ -55,7 +55,7 @@ IsUnsignedText text n =
 
 -- the texts that are read as the value of a key; Null takes any
 abbrev pub IsValueText : List ℕ → CompositeIntermediateKey → Type 0
-IsValueText value (Truth b) = value ≡ (if b then codes "true" else codes "false")
+IsValueText value (Truth b) = value ≡ value_text (Truth b)
 IsValueText value (Str text) = text ≡ value
 IsValueText value (I64 n) = IsSignedText value n
 IsValueText value (U64 n) = IsUnsignedText value n

@@ -1,5 +1,5 @@
 -- Typed keys: a value with its type, or Null.
-use Rattle.std.specs.Prelude.{ℕ, ◌^◌, ◌≤◌, ◌<ℤ◌, ℤ, pos, unsigned_abs, int_lt, List, [], nat_lt}
+use Rattle.std.specs.Prelude.{ℕ, ◌^◌, ◌≤◌, ◌<ℤ◌, ℤ, pos, unsigned_abs, int_lt, List, []}
 use Rattle.std.specs.Prelude.{if◌then◌else◌, ⊤}
 use Rattle.agg_values.specs.declared.typed_key.CompositeIntermediateKey as typed
 pub use typed.{CompositeIntermediateKey}
@@ -33,7 +33,7 @@ typed_number n = if int_lt n (pos (2 ^ 63)) then I64 n else U64 (unsigned_abs n)
 -- the same value, with a number as an I64 where it fits one
 abbrev pub canonical_key : CompositeIntermediateKey → CompositeIntermediateKey
 canonical_key (I64 n) = typed_number n
-canonical_key (U64 n) = if nat_lt n (2 ^ 63) then I64 (pos n) else U64 n
+canonical_key (U64 n) = typed_number (pos n)
 canonical_key key = key
 
 -- a U64 is one that no I64 can be, and an I64 is below 2 ^ 63; the other bounds of the numbers are

@@ -7,7 +7,7 @@ ghost use Rattle.agg_values.specs.AddressGrammar.{IsAddressText};
 ghost use Rattle.agg_values.specs.KeyText.{colon, key_text, kind_text, value_text, IsKeyText};
 ghost use Rattle.agg_values.specs.KeyText.{IsValueText, IsSignedText, IsUnsignedText, IsRefusedAs};
 ghost use Rattle.agg_values.specs.TypedKey.{CompositeIntermediateKey};
-ghost use Rattle.agg_values.specs.TypedKey.key.{Bool as Truth};
+ghost use Rattle.agg_values.specs.TypedKey.key.{Bool as Truth, IpAddr, U64};
 
 use crate::address::read_address;
 use crate::{Address, CompositeIntermediateKey, KeyTextError, OutOfMemory, Text};
@@ -80,14 +80,14 @@ fn signed_text(alloc: Global, kind: &str, n: i64) -> Result<String, AllocError>
 }
 
 fn unsigned_text(alloc: Global, n: u64) -> Result<String, AllocError>
-    ensures text { IfOk result (λ text. string_bytes text ≡ codes "u64:" ++ decimal n) }
+    ensures text { IfOk result (λ text. string_bytes text ≡ key_text (U64 n)) }
     ensures reads_back { IsUnsignedText (decimal n) n }
 {
     format!(in alloc; "u64:{n}")
 }
 
 fn ip_text(alloc: Global, address: Address) -> Result<String, AllocError>
-    ensures text { IfOk result (λ text. string_bytes text ≡ codes "ip:" ++ address_text address.0) }
+    ensures text { IfOk result (λ text. string_bytes text ≡ key_text (IpAddr address)) }
     ensures reads_back { IsAddressText (address_text address.0) address.0 }
 {
     format!(in alloc; "ip:{address}")

@@ -10,9 +10,9 @@ pub struct NameEntries<'a, T> {
 }
 
 impl<'a, T> Model for NameEntries<'a, T> {
-    ghost use Rattle.std.specs.Prelude.{List, ℕ};
+    ghost use Rattle.agg_values.specs.Names.{Named};
 
-    ghost Value = { List (List ℕ × T) };
+    ghost Value = { Named T };
 
     ghost view = { λ entries. entries.rest.now };
 }

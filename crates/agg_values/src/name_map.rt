@@ -25,9 +25,9 @@ impl<T> Model for NameMap<T> {
     ghost use Rattle.std.specs.Coded.{coded_list, coded×, coded_ℕ};
     ghost use Rattle.std.specs.List.Sorted.{IsStrictlySortedBy};
     ghost use Rattle.std.specs.Map.{keys_of};
-    ghost use Rattle.agg_values.specs.Names.{name_cmp};
+    ghost use Rattle.agg_values.specs.Names.{Named, name_cmp};
 
-    ghost Value = { List (List ℕ × T) };
+    ghost Value = { Named T };
 
     ghost coded = { coded_list (coded× (coded_list coded_ℕ) T.code) };
 

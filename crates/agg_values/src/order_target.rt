@@ -1,5 +1,5 @@
-ghost use Rattle.std.specs.Prelude.{◌≡◌, codes, Some};
-ghost use Rattle.agg_values.specs.OrderTarget.{target_text};
+ghost use Rattle.std.specs.Prelude.{◌≡◌, Some};
+ghost use Rattle.agg_values.specs.OrderTarget.{target_of, target_text};
 
 use crate::Text;
 use std::fmt;
@@ -17,9 +17,8 @@ pub enum OrderTarget {
 impl OrderTarget {
     /// The target of a text: `_key`, `_count`, or else a sub-aggregation's name.
     pub fn from_text(target: Text) -> OrderTarget
+        ensures target { result ≡ target_of target }
         ensures text { target_text result ≡ target }
-        ensures by_key { target ≡ codes "_key" → result ≡ OrderTarget.Key }
-        ensures by_count { target ≡ codes "_count" → result ≡ OrderTarget.Count }
     {
         match target.as_str() {
             "_key" => OrderTarget::Key,

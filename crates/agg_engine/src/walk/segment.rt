@@ -9,6 +9,7 @@ ghost use Rattle.agg_request.specs.Occurrences.{bound_of};
 ghost use Rattle.agg_request.specs.Ranges.{AreInRange};
 ghost use Rattle.agg_request.specs.Uncut.{counted as counted_by};
 ghost use Rattle.agg_composite.specs.Accessors.{Fits};
+ghost use Rattle.agg_composite.specs.Answers.{AreAllInRange};
 ghost use Rattle.agg_composite.specs.PageEntries.{entry_group};
 ghost use Rattle.agg_results.specs.Intermediate.{AreFlat};
 ghost use Rattle.agg_results.specs.StandsFor.{GroupsStandFor};
@@ -114,7 +115,7 @@ fn docs_page<L: Ledger>(
 ) -> Result<ItemList<PageEntry>, WalkError>
     requires sources { HasFewSources req.now.req.now }
     requires fits { (segment : Stored) × (after : Named After) × Fits segment after req.now
-        × All (AreInRange req.now.req.now.sources) (documents_at segment docs.now) }
+        × AreAllInRange segment req.now.req.now.sources docs.now }
     ensures page { (segment : Stored) (after : Named After)
         → Fits segment after req.now
         → IfOk result (λ entries. GroupsStandFor req.now.req.now.sources req.now.size

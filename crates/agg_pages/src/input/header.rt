@@ -2,8 +2,9 @@
 ghost use Rattle.std.specs.Prelude.{◌≡◌, ◌≤◌, Some, None, IfOk, IsErrOf, MatchBool};
 ghost use Rattle.std.specs.Prelude.{codes};
 ghost use Rattle.std.specs.Prelude.{option_and_then};
-ghost use Rattle.serde_json.specs.Find.{as_str, get};
+ghost use Rattle.serde_json.specs.Find.{get};
 ghost use Rattle.serde_json.specs.View.{view};
+ghost use Rattle.agg_request.specs.Json.{text_at};
 ghost use Rattle.agg_request.specs.Request.{IsPlainComposite};
 ghost use Rattle.agg_engine.specs.Form.{IsOneComposite};
 ghost use Rattle.agg_pages.specs.Header.{IsBucketLimitOf, IsHeader, IsHeaderLine, IsQueryOf};
@@ -93,10 +94,9 @@ fn request_in<B: HasName>(
 
 // The name of a header.
 fn name_in(alloc: Global, value: &Value) -> Result<Text, InputError>
-    ensures ok { IfOk result
-        (λ name. option_and_then as_str (get (codes "name") (view value.now)) ≡ Some name) }
+    ensures ok { IfOk result (λ name. text_at (codes "name") (view value.now) ≡ Some name) }
     ensures not_input { IsErrOf result InputError.NotInput
-        → option_and_then as_str (get (codes "name") (view value.now)) ≡ None }
+        → text_at (codes "name") (view value.now) ≡ None }
 {
     text_of(alloc, member(value, "name")?)
 }

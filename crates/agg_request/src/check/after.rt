@@ -1,86 +1,26 @@
-//! What the after value of a source may not be.
-ghost use Rattle.std.specs.Prelude.{◌≡◌, ◌↔◌, All, Any, IsTrue, MatchBool};
-ghost use Rattle.agg_request.specs.Faults.{HasAfterOfOtherType, IsBehindNoBucket, IsOfOtherType};
+//! What the after values of sources may not be.
+ghost use Rattle.std.specs.Prelude.{All, IfNone, IfSome};
+ghost use Rattle.agg_request.specs.Faults.{HasFault, HasInterval, IsSoundSource};
+ghost use Rattle.agg_request.specs.Source.{after_of};
 
-use crate::{CompositeAggregation, CompositeAggregationSource};
-use agg_values::{AfterKey, CompositeIntermediateKey};
+use crate::CompositeAggregation;
+use agg_values::{InvalidArgument, RequestError};
 
-/// Whether the after value of a source is Null where documents without a value have no bucket.
-pub fn has_null_after(composite: &CompositeAggregation) -> bool
-    ensures { MatchBool result (Any (IsBehindNoBucket composite.now) composite.now.sources)
-        (All (λ source. ¬ (IsBehindNoBucket composite.now source)) composite.now.sources) }
+/// A fault of an after value of a composite, if it has any: a Null where documents without a value
+/// have no bucket, or a key of another type than its source's.
+pub fn find_after_fault(composite: &CompositeAggregation) -> Option<InvalidArgument>
+    ensures some { IfSome result (λ fault. HasFault composite.now (RequestError.Invalid fault)) }
+    ensures none { IfNone result (All (λ source. HasInterval source
+        → IsSoundSource source (after_of composite.now.after source)) composite.now.sources) }
 {
     for source in composite.sources.as_slice() {
-        if is_behind_no_bucket(composite, source) {
-            return true;
+        let after = source.after_value(&composite.after);
+        if source.is_null_after(after) {
+            return Some(InvalidArgument::NullAfter);
+        }
+        if source.is_other_after(after) {
+            return Some(InvalidArgument::AfterType);
         }
     }
-    false
-}
-
-// The same of one source.
-fn is_behind_no_bucket(
-    composite: &CompositeAggregation,
-    source: &CompositeAggregationSource,
-) -> bool
-    ensures { MatchBool result (IsBehindNoBucket composite.now source.now)
-        (¬ (IsBehindNoBucket composite.now source.now)) }
-{
-    match composite.after.get(source.name()) {
-        Some(after) => is_null(after) && !source.missing_bucket(),
-        None => false,
-    }
-}
-
-fn is_null(after: &AfterKey) -> bool
-    ensures { IsTrue result ↔ after.now.0 ≡ CompositeIntermediateKey.Null }
-{
-    matches!(after.0, CompositeIntermediateKey::Null)
-}
-
-/// Whether the after value of a source is of another type than its keys.
-pub fn has_other_after(composite: &CompositeAggregation) -> bool
-    ensures { MatchBool result (Any (HasAfterOfOtherType composite.now) composite.now.sources)
-        (All (λ source. ¬ (HasAfterOfOtherType composite.now source)) composite.now.sources) }
-{
-    for source in composite.sources.as_slice() {
-        if has_after_of_other_type(composite, source) {
-            return true;
-        }
-    }
-    false
-}
-
-// The same of one source.
-fn has_after_of_other_type(
-    composite: &CompositeAggregation,
-    source: &CompositeAggregationSource,
-) -> bool
-    ensures { MatchBool result (HasAfterOfOtherType composite.now source.now)
-        (¬ (HasAfterOfOtherType composite.now source.now)) }
-{
-    match composite.after.get(source.name()) {
-        Some(after) => is_of_other_type(source, after),
-        None => false,
-    }
-}
-
-// Whether a key is neither Null nor of the type of a source's keys.
-fn is_of_other_type(source: &CompositeAggregationSource, after: &AfterKey) -> bool
-    ensures { MatchBool result (IsOfOtherType source.now after.now.0)
-        (¬ (IsOfOtherType source.now after.now.0)) }
-{
-    match source {
-        CompositeAggregationSource::Terms(_) => false,
-        CompositeAggregationSource::Histogram(_) => !matches!(
-            after.0,
-            CompositeIntermediateKey::I64(_)
-                | CompositeIntermediateKey::U64(_)
-                | CompositeIntermediateKey::Null
-        ),
-        CompositeAggregationSource::DateHistogram(_) => !matches!(
-            after.0,
-            CompositeIntermediateKey::DateTime(_) | CompositeIntermediateKey::Null
-        ),
-    }
+    None
 }

@@ -2,6 +2,7 @@ ghost use Rattle.std.specs.Prelude.{◌≡◌, ◌≤◌, ◌<◌, ◌-◌, ◌�
 ghost use Rattle.std.specs.Prelude.{length, map, filter, take, get_or, nat_lt, IfOk, OnOk, OnErr};
 ghost use Rattle.std.specs.List.{All, zip, range_with_len};
 ghost use Rattle.std.specs.List.Sorted.{IsNonDecreasingBy};
+ghost use Rattle.std.specs.Map.{values_of};
 ghost use Rattle.agg_segment.specs.Columns.{encoded_key, type_of, named_texts, StandsForKey};
 ghost use Rattle.agg_segment.specs.Gatherings.{raw_key, keyed_rows, IsEncodable};
 ghost use Rattle.agg_segment.specs.Growing.{many_docs, many_rows, AreMany};
@@ -96,7 +97,7 @@ impl GrowingRows {
 
     /// The numbers alone.
     pub fn numbers(&self) -> &[u64]
-        ensures { result.now ≡ map (λ r. r.1) self.now }
+        ensures { result.now ≡ values_of self.now }
     {
         match &self.growing {
             Growing::Empty => &[],

@@ -1,9 +1,0 @@
-use Rattle.std.proofs.Common.{take}
-use Rattle.std.specs.List.{All}
-use Rattle.agg_request.specs.Faults.{HasAfterOfOtherType}
-use Rattle.agg_request.proofs.check.after.has_other_after.Given as goal
-
--- no source so far has such an after value
-abbrev pub invariant-loop-source : goal.invariant-loop-source
-invariant-loop-source l =
-    All (λ source. ¬ (HasAfterOfOtherType l.composite source)) (take l.source-index l.source-items)
