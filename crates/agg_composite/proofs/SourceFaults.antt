@@ -1,5 +1,5 @@
 -- Why a source has no accessors, and why it has.
-use Rattle.std.proofs.Common.{◌<◌, ℕ, Option, arith}
+use Rattle.std.proofs.Common.{◌<◌, Option, arith}
 use Rattle.agg_values.specs.TypedKey.{CompositeIntermediateKey}
 use Rattle.agg_values.specs.declared.error.InvalidArgument.TheVariants as argument
 use Rattle.agg_values.specs.declared.request_error.RequestError.{RequestError}
@@ -8,7 +8,6 @@ use Rattle.agg_request.specs.Faults.{HasInterval, IsIntervalFault, IsNullAfter, 
 use Rattle.agg_request.specs.Faults.{SourceHasFault}
 use Rattle.agg_request.specs.declared.source.CompositeAggregationSource.{CompositeAggregationSource}
 use Rattle.agg_request.proofs.Checks.{no_interval_fault}
-use Rattle.agg_request.proofs.Faults.{SourceHasFault-interval}
 use Rattle.agg_composite.specs.Accessors.{HasNoAccessors, IsFirstFault, OrNoMemory, check_of}
 
 module _ (source : CompositeAggregationSource) (after : Option CompositeIntermediateKey) where

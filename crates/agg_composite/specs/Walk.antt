@@ -32,7 +32,7 @@ abbrev pub walked : List (List Choice) → EncodedTuple → Bool → List Encode
 walked [] front above = if_above front above
 walked (choices ∷ rest) front above =
     flat_map (λ c.
-        option_map_or (walked rest (front ++ c.value ∷ [])) (next_standing above c.side) [])
+    option_map_or (walked rest (front ++ c.value ∷ [])) (next_standing above c.side) [])
     choices
 
 -- the tuples that a walk over one source visits, for numbers of the lane at a place with their

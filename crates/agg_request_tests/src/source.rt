@@ -4,17 +4,22 @@ use agg_request::{
     HistogramCompositeAggregationSource, TermCompositeAggregationSource,
 };
 use agg_segment::ColumnType;
-use agg_values::{MissingOrder, Order, Text};
+use agg_values::{AfterKey, CompositeIntermediateKey, MissingOrder, NameMap, Order, Text};
 use std::alloc::Global;
 use std::process::Abort;
 use std::test::Fail;
 
 fn terms(alloc: Global) -> Result<CompositeAggregationSource, Fail> {
+    terms_of(alloc, true)
+}
+
+// A source of terms, with or without a bucket for a missing value.
+fn terms_of(alloc: Global, missing_bucket: bool) -> Result<CompositeAggregationSource, Fail> {
     Ok(CompositeAggregationSource::Terms(TermCompositeAggregationSource {
         name: Text::copy_of(alloc, "by_a")?,
         field: Text::copy_of(alloc, "a")?,
         order: Order::Desc,
-        missing_bucket: true,
+        missing_bucket,
         missing_order: MissingOrder::Last,
     }))
 }
@@ -101,5 +106,41 @@ fn a_source_reads_columns_by_type(rt: HostRuntime) -> Result<(), Fail> {
         assert_eq!(rt; histogram(alloc)?.reads(column_type), numbers);
         assert_eq!(rt; dates(alloc, true)?.reads(column_type), of_dates);
     }
+    Ok(())
+}
+
+// A key, and whether it is of another type than the keys of a histogram and of a date source.
+const AFTER_VALUES: &[(&str, bool, bool)] = &[
+    ("bool:true", true, true),
+    ("str:b", true, true),
+    ("i64:-1", false, true),
+    ("u64:1", false, true),
+    ("ip:::1", true, true),
+    ("dt:1", true, false),
+    ("null:", false, false),
+];
+
+#[test]
+fn a_source_goes_on_from_keys_of_its_type(rt: HostRuntime) -> Result<(), Fail> {
+    let alloc = rt.alloc();
+    for &(key, numbers, of_dates) in AFTER_VALUES {
+        let mut after = NameMap::new(alloc);
+        let read = AfterKey::read(alloc, &Text::copy_of(alloc, key)?)?;
+        after.insert(Text::copy_of(alloc, "by_a")?, read)?;
+        let source = histogram(alloc)?;
+        assert_eq!(rt; source.is_other_after(source.after_value(&after)), numbers);
+        let source = dates(alloc, true)?;
+        assert_eq!(rt; source.is_other_after(source.after_value(&after)), of_dates);
+    }
+    Ok(())
+}
+
+#[test]
+fn null_is_gone_on_from_where_it_has_a_bucket(rt: HostRuntime) -> Result<(), Fail> {
+    let alloc = rt.alloc();
+    let null = Some(&CompositeIntermediateKey::Null);
+    assert!(rt; !terms_of(alloc, true)?.is_null_after(null));
+    assert!(rt; terms_of(alloc, false)?.is_null_after(null));
+    assert!(rt; !terms_of(alloc, false)?.is_null_after(None));
     Ok(())
 }
