@@ -41,8 +41,8 @@ MayGoOnFrom-behind sources documents tuple own_names intervals no_null occurs =
       after = after_map sources tuple;
     } in
     λ i d within.
-        let source = get_or sources i d in
-        IsSoundSource-parts source (after_of (after_map sources tuple) source)
-        (after_map-sound behind from.0 tuple refl own_names long document held i d within)
-        (intervals i d within)
-        (after_map-own behind from.0 tuple refl own_names long held i d within)
+    let source = get_or sources i d in
+    IsSoundSource-parts source (after_of (after_map sources tuple) source)
+    (after_map-sound behind from.0 tuple refl own_names long document held i d within)
+    (intervals i d within)
+    (after_map-own behind from.0 tuple refl own_names long held i d within)

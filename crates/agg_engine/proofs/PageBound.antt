@@ -16,6 +16,7 @@ use Rattle.agg_request.specs.BySource.{after_map}
 use Rattle.agg_request.specs.Occurrences.{occurrences, occurrences_in}
 use Rattle.agg_request.specs.Page.{Entry, IsPage, MayList, group_of}
 use Rattle.agg_request.specs.Source.{Sources, name_of, source_values}
+use Rattle.agg_request.proofs.PagePast.{past-parts}
 use Rattle.agg_request.proofs.Lists.{AllByRecursion-Has, AllByRecursion-flat_map}
 use Rattle.agg_request.proofs.Lists.{AllByRecursion-map, AllByRecursion-always, Has-from_Contains}
 use Rattle.agg_request.proofs.PageKeys.{AllByRecursion-weaker}
@@ -56,7 +57,8 @@ after-occurs sources size bound documents page tuple is_page last =
     let listed = recursion_from_All (λ e. MayList sources bound documents e.tuple) page
     is_page.listed in
     let occurs = after-All P (length (map group_of page) == size) page (AllByRecursion-weaker (λ e.
-    MayList sources bound documents e.tuple) (λ e. P e.tuple) (λ e m. m.0) page listed) in
+    MayList sources bound documents e.tuple) (λ e. P e.tuple)
+    (λ e m. (past-parts sources bound documents e.tuple m).0) page listed) in
     subst (λ o. MatchOption o ⊤ P) last occurs
 
 -- ---- the after key of a tuple isn't empty

@@ -1,8 +1,8 @@
 -- Why a request is refused, and why a source has no accessors.
-use Rattle.std.proofs.Common.{◌≡◌, ◌*ℤ◌, inl, inr, ℕ, ℤ, pos, List, Bool, true, false, cond}
-use Rattle.std.proofs.Common.{Option, None, Some, Result, Ok, Err, IsOk, refl, subst, arith}
-use Rattle.std.proofs.lemmas.Int.{ints}
+use Rattle.std.proofs.Common.{◌≡◌, ◌*ℤ◌, inl, ℕ, ℤ, pos, List, Bool, true, false, cond}
+use Rattle.std.proofs.Common.{Option, None, Some, Result, Ok, Err, IfErr, refl, ◌∙◌}
 use Rattle.std.specs.Ordering.{int_eq}
+use Rattle.std.specs.Result.{IsErrAnd}
 use Rattle.agg_values.specs.declared.error.InvalidArgument.TheVariants.{BadInterval}
 use Rattle.agg_values.specs.declared.request_error.AggregationError.{AggregationError}
 use Rattle.agg_values.specs.declared.request_error.AggregationError.TheVariants as aggregation
@@ -29,6 +29,7 @@ use Rattle.agg_composite.specs.Accessors.{HasNoAccessors}
 use Rattle.agg_engine.specs.Refusals.{HasCause}
 use Rattle.agg_engine.specs.Snapshot.{SnapshotDocuments}
 use Rattle.agg_engine.specs.WalkError.{error_from_request}
+use Rattle.agg_engine.specs.declared.walk.error.WalkError.{WalkError}
 use Rattle.agg_engine.specs.declared.walk.error.WalkError.TheVariants as error
 
 -- a part of an error is that of a text
@@ -95,3 +96,13 @@ wants-memory source after sound OutOfMemory none = refl
 wants-memory source after sound (Invalid fault) none = absurd (sound (Invalid fault) none.0)
 wants-memory source after sound (Aggregation part) none =
     absurd (sound (Aggregation part) none.0)
+
+-- an error that is passed on is want of memory
+pub only-memory : {T : Type 0} (result : Result T WalkError) (source : CompositeAggregationSource)
+    (after : Option CompositeIntermediateKey) (given : RequestError)
+    → IsSoundSource source after → HasNoAccessors source after given
+    → IsErrAnd result (λ e. e ≡ error_from_request given)
+    → IfErr result (λ e. e ≡ error.OutOfMemory)
+only-memory (Ok x) source after given sound none is = tt
+only-memory (Err e) source after given sound none is =
+    is ∙ wants-memory source after sound given none

@@ -2,7 +2,7 @@
 use Rattle.std.proofs.Common.{◌≡◌, ◌≤◌, ℕ, List, [], ◌∷◌, ◌++◌, Bool, true, false, None, Some, map}
 use Rattle.std.proofs.Common.{refl, sym, ap, ◌∙◌, subst, inl, inr, append_assoc, append-nil}
 use Rattle.std.specs.List.{All}
-use Rattle.std.specs.Prelude.{MatchOption}
+use Rattle.std.specs.Prelude.{IsSomeAnd, MatchOption}
 use Rattle.std.proofs.lemmas.List.{map-append}
 use Rattle.std.proofs.lemmas.List.Elements.{All-nil, All-push}
 use Rattle.agg_values.specs.Names.{Named}
@@ -109,13 +109,13 @@ module _ (B : Type 0) (limit : ℕ) (name : List ℕ) (query : QueryTree)
 
       refused-goes_on : (error : WalkError)
           → IsRefused limit name query (one_from B name c after) (s ∷ rest) error
-          → MatchOption (after_tuple s.page_size page) ⊥ (RefusedBehind error)
+          → IsSomeAnd (after_tuple s.page_size page) (RefusedBehind error)
       refused-goes_on error refused =
           elim refused [
             | inl h ↦
                 absurd (not-refused B name query c after s limit page is_page in_range few fit error
                 h)
-            | inr h ↦ subst (λ o. MatchOption o ⊥ (RefusedBehind error))
+            | inr h ↦ subst (λ o. IsSomeAnd o (RefusedBehind error))
                 (after-page B name query c after s h.1.0 h.1.1 page is_page) h.1.2
           ]
 
@@ -154,7 +154,7 @@ module _ (B : Type 0) (limit : ℕ) (name : List ℕ) (query : QueryTree)
       pub state-ended-fits : after_tuple s.page_size page ≡ None
           → (error : WalkError) → ¬ (IsRefused limit name query (one B name c) snapshots error)
       state-ended-fits last error refused =
-          subst (λ o. MatchOption o ⊥ (RefusedBehind error)) last
+          subst (λ o. IsSomeAnd o (RefusedBehind error)) last
           (refused-goes_on error (state.fits error refused))
 
       -- a full page goes on behind its last tuple
@@ -179,14 +179,14 @@ module _ (B : Type 0) (limit : ℕ) (name : List ℕ) (query : QueryTree)
         fits = λ error refused. subst (λ (request : Request B).
             IsRefused limit name query request rest error)
             (one_from-behind B name c after tuple)
-            (subst (λ o. MatchOption o ⊥ (RefusedBehind error)) last
+            (subst (λ o. IsSomeAnd o (RefusedBehind error)) last
             (refused-goes_on error (state.fits error refused)));
         reaches = λ error refused. state.reaches error (inr (
           not-refused B name query c after s limit page is_page in_range few fit,
           (
             this,
             results-page B name query c after s page is_page,
-            subst (λ o. MatchOption o ⊥ (RefusedBehind error)) (sym (this-after ∙ last))
+            subst (λ o. IsSomeAnd o (RefusedBehind error)) (sym (this-after ∙ last))
                 (subst (λ (request : Request B). IsRefused limit name query request rest error)
                 (sym (one_from-behind B name c after tuple)) refused),
           ),

@@ -14,7 +14,7 @@ ghost use Rattle.std.specs.Prelude.{◌≡◌, ◌≤◌, All, IfErr, IfOk, OnOk
 ghost use Rattle.agg_values.specs.declared.error.InvalidArgument.{InvalidArgument as Fault};
 ghost use Rattle.agg_values.specs.declared.request_error.AggregationError.TheVariants as error;
 ghost use Rattle.agg_values.specs.declared.request_error.DateHistogramParseError as text;
-ghost use Rattle.agg_request.specs.Reading.{NoneIs};
+ghost use Rattle.agg_values.specs.Nothing.{NoneIs};
 ghost use Rattle.agg_results.specs.BucketCount.{results_buckets};
 ghost use Rattle.agg_engine.specs.Form.{IsOneComposite};
 ghost use Rattle.agg_engine.specs.Refusals.{HasCause, IsRefused};

@@ -19,7 +19,7 @@ use Rattle.agg_segment.specs.Document.{Fields, by_class, key_of, meaning, values
 use Rattle.agg_segment.specs.declared.document.FieldValue.{FieldValue}
 use Rattle.agg_pages.specs.DocumentLine.{HaveKeys, IsDocument, IsField, field_values}
 use Rattle.agg_pages.specs.Fields.{AddsValues, named_values}
-use Rattle.agg_request.specs.Reading.{NoneIs}
+use Rattle.agg_values.specs.Nothing.{NoneIs}
 use Rattle.agg_pages.proofs.Documents.{none_is_some}
 
 -- the values that a document has, in the order in which they were added

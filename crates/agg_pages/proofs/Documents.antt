@@ -16,7 +16,7 @@ use Rattle.agg_request.specs.Json.{only_member, only_named}
 use Rattle.agg_pages.proofs.Beside.{AllZip-unique}
 use Rattle.agg_pages.specs.DocumentLine.{HasKey, IsAddressKey, IsDocument, IsDocumentLine}
 use Rattle.agg_pages.specs.DocumentLine.{IsField, address_text_of, date_of, field_values, plain_key}
-use Rattle.agg_request.specs.Reading.{NoneIs}
+use Rattle.agg_values.specs.Nothing.{NoneIs}
 
 pub same_value : {A : Type 0} (a b : A) → Some a ≡ Some b → a ≡ b
 same_value a b e = cc

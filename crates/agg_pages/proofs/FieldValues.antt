@@ -14,7 +14,7 @@ use Rattle.agg_segment.specs.declared.document.FieldValue.{FieldValue}
 use Rattle.agg_pages.proofs.Beside.{AllZip-append, AllZip-parts, map-append}
 use Rattle.agg_pages.specs.DocumentLine.{HasKey, HaveKeys, values_among}
 use Rattle.agg_pages.specs.Fields.{AddsValues, named_values}
-use Rattle.agg_request.specs.Reading.{NoneIs}
+use Rattle.agg_values.specs.Nothing.{NoneIs}
 
 -- the values among these
 abbrev pub among : List Value → List Data

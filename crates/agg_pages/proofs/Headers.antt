@@ -16,7 +16,7 @@ use Rattle.agg_request.proofs.RequestTrees.{made-of_parts}
 use Rattle.agg_pages.specs.declared.input.header.Header.{Header}
 use Rattle.agg_pages.specs.Header.{IsBucketLimitOf, IsHeader, IsHeaderLine, IsQueryOf}
 use Rattle.agg_pages.specs.Header.{IsRequest, IsRequestAt, header_members, texts_of}
-use Rattle.agg_request.specs.Reading.{NoneIs}
+use Rattle.agg_values.specs.Nothing.{NoneIs}
 use Rattle.agg_pages.proofs.Composites.{IsCompositeJson-unique, IsGiven-unique}
 use Rattle.agg_pages.proofs.Documents.{none_is_some, same_value}
 use Rattle.agg_pages.proofs.Queries.{IsQuery-unique}

@@ -7,7 +7,7 @@ use Rattle.agg_engine.specs.Snapshot.{SnapshotDocuments}
 use Rattle.agg_pages.specs.Header.{IsHeaderLine}
 use Rattle.agg_pages.specs.Input.{AreNoInput, Input, IsInput, IsInputOfLines}
 use Rattle.agg_pages.specs.Lines.{lines_of}
-use Rattle.agg_request.specs.Reading.{NoneIs}
+use Rattle.agg_values.specs.Nothing.{NoneIs}
 use Rattle.agg_pages.specs.SnapshotLines.{AreSnapshots, Says, begun_snapshots}
 use Rattle.agg_pages.proofs.Beside.{AllZip-unique}
 use Rattle.agg_pages.proofs.Headers.{IsHeaderLine-unique}

@@ -1,7 +1,6 @@
 -- Replies to inputs, and what bytes and an input say of one another.
-use Rattle.std.proofs.Common.{◌≡◌, ◌≢◌, ℕ, List, Option, Some, refl}
-use Rattle.std.proofs.Common.{subst, inl, inr, All, arith}
-use Rattle.std.specs.List.{Any}
+use Rattle.std.proofs.Common.{◌≡◌, ℕ, List, Option, Some, refl}
+use Rattle.std.proofs.Common.{subst, inl, inr}
 use Rattle.agg_values.specs.declared.request_error.AggregationError.TheVariants as aggregation
 use Rattle.agg_values.specs.declared.request_error.RequestError.TheVariants as error
 use Rattle.agg_request.specs.Faults.{HasFault}

@@ -15,7 +15,7 @@ use Rattle.agg_pages.specs.declared.input.snapshots.OpenSnapshot.{OpenSnapshot}
 use Rattle.agg_pages.specs.declared.input.snapshots.SnapshotsBuilder.{SnapshotsBuilder}
 use Rattle.agg_pages.specs.declared.input.tokens.LineRoom.{LineRoom}
 use Rattle.agg_pages.specs.DocumentLine.{IsDocumentLine}
-use Rattle.agg_request.specs.Reading.{NoneIs}
+use Rattle.agg_values.specs.Nothing.{NoneIs}
 use Rattle.agg_pages.specs.SnapshotLines.{AreSnapshots, FitSegment, Line, Says, StandForSnapshots}
 use Rattle.agg_pages.specs.SnapshotLines.{begins, begun_size, holds, is_snapshot_line, opens}
 use Rattle.agg_pages.specs.SnapshotLines.{segment_line}

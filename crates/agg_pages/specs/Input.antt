@@ -6,7 +6,7 @@ use Rattle.agg_pages.specs.declared.input.Input as stored
 use Rattle.agg_pages.specs.declared.input.header.Header.{Header}
 use Rattle.agg_pages.specs.Header.{IsHeaderLine}
 use Rattle.agg_pages.specs.Lines.{lines_of}
-use Rattle.agg_request.specs.Reading.{NoneIs}
+use Rattle.agg_values.specs.Nothing.{NoneIs}
 use Rattle.agg_pages.specs.SnapshotLines.{AreSnapshots}
 
 -- an input: what a walk is asked for, with such builders of queries, and over what

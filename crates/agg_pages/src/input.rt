@@ -12,7 +12,7 @@ ghost use Rattle.std.specs.Prelude.{◌≡◌, IfOk, IsErrOf};
 ghost use Rattle.agg_engine.specs.Form.{IsOneComposite};
 ghost use Rattle.agg_engine.specs.Snapshot.{snapshots_documents};
 ghost use Rattle.agg_pages.specs.Input.{AreNoInput, IsInput, IsInputOfLines, input_of};
-ghost use Rattle.agg_request.specs.Reading.{NoneIs};
+ghost use Rattle.agg_values.specs.Nothing.{NoneIs};
 
 use crate::source::MAX_INPUT_BYTES;
 use agg_engine::Snapshot;

@@ -8,7 +8,7 @@ use Rattle.agg_values.specs.declared.request_error.AggregationError.{Aggregation
 use Rattle.agg_values.specs.declared.error.InvalidArgument.TheVariants as argument
 use Rattle.agg_values.specs.declared.request_error.RequestError.{RequestError}
 use Rattle.agg_values.specs.declared.request_error.RequestError.TheVariants as error
-use Rattle.agg_request.specs.Reading.{NoneIs}
+use Rattle.agg_values.specs.Nothing.{NoneIs}
 use Rattle.agg_request.specs.Request.{Request, composites_of}
 use Rattle.agg_request.specs.Source.{Sources, after_of, interval_of, missing_bucket_of, name_of}
 use Rattle.agg_request.specs.declared.aggregation.CompositeAggregation.{CompositeAggregation}

@@ -17,7 +17,7 @@ use Rattle.agg_segment.specs.declared.query.QueryTree.TheVariants.{All, Empty, T
 use Rattle.agg_segment.specs.declared.query.QueryTree.TheVariants.{Boolean}
 use Rattle.agg_request.specs.Json.{HasUnsupportedList, IsField, IsListAt, has_only, only_member}
 use Rattle.agg_request.specs.Json.{text_at}
-use Rattle.agg_request.specs.Reading.{NoneIs}
+use Rattle.agg_values.specs.Nothing.{NoneIs}
 
 -- ---- values
 

@@ -1,15 +1,12 @@
 -- What a reading answers.
 use Rattle.std.specs.Prelude.{Bool, false, List, Result, Ok, Err, ⊤}
+use Rattle.agg_values.specs.Nothing.{NoneIs}
 use Rattle.agg_values.specs.declared.error.KeyTextError.{KeyTextError}
 use Rattle.agg_values.specs.declared.error.KeyTextError.TheVariants as key_text
 use Rattle.agg_request.specs.declared.read_error.ReadError.{ReadError}
 use Rattle.agg_request.specs.declared.read_error.ReadError.TheVariants.{Unsupported, Grammar}
 use Rattle.agg_request.specs.declared.read_error.ReadError.TheVariants.{UnknownBuilder}
 use Rattle.agg_request.specs.declared.read_error.ReadError.TheVariants.{OutOfMemory}
-
--- nothing is such
-abbrev pub NoneIs : {A : Type 0} → (A → Type 0) → Type 0
-NoneIs {A = A} Is = (x : A) → ¬ (Is x)
 
 -- why nothing is read, where `Is` says what may be read, strictly and leniently: something that
 -- isn't supported stands there, or nothing may be read even leniently

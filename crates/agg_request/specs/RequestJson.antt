@@ -13,7 +13,7 @@ use Rattle.agg_request.specs.CompositeJson.{HasUnsupportedComposite, IsComposite
 use Rattle.agg_request.specs.Json.{HasUnsupportedMember, IsField, is_among, names_in}
 use Rattle.agg_request.specs.Json.{only_other, present}
 use Rattle.agg_request.specs.Query.{HasUnsupportedQuery, IsFilterOf}
-use Rattle.agg_request.specs.Reading.{NoneIs}
+use Rattle.agg_values.specs.Nothing.{NoneIs}
 use Rattle.agg_request.specs.Request.{Request, agg_of, below_of}
 use Rattle.agg_request.specs.declared.aggregation.Aggregation.{Aggregation}
 use Rattle.agg_request.specs.declared.aggregation.AggregationVariants as variants

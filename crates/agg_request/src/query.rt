@@ -7,7 +7,8 @@ ghost use Rattle.agg_request.specs.Query.{HasUnsupportedBody, HasUnsupportedFilt
 ghost use Rattle.agg_request.specs.Query.{HasUnsupportedIn};
 ghost use Rattle.agg_request.specs.Query.{HasUnsupportedQuery, IsBoolean, IsFilter, IsNoQueryAtAll};
 ghost use Rattle.agg_request.specs.Query.{IsOfKind, IsQuery};
-ghost use Rattle.agg_request.specs.Reading.{IsReading, NoneIs};
+ghost use Rattle.agg_values.specs.Nothing.{NoneIs};
+ghost use Rattle.agg_request.specs.Reading.{IsReading};
 
 mod leaves;
 mod values;

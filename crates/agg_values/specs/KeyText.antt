@@ -8,6 +8,7 @@ use Rattle.std.specs.Str.Parse.{without_leading_sign}
 use Rattle.std.specs.List.{Contains}
 use Rattle.agg_values.specs.Address.{address_text}
 use Rattle.agg_values.specs.AddressGrammar.{IsAddressText}
+use Rattle.agg_values.specs.Nothing.{NoneIs}
 use Rattle.agg_values.specs.declared.error.KeyTextError.{KeyTextError}
 use Rattle.agg_values.specs.declared.error.KeyTextError.TheVariants.{NoColon, UnknownType, BadValue}
 use Rattle.agg_values.specs.declared.error.KeyTextError.TheVariants.{Unsupported, OutOfMemory}
@@ -70,7 +71,7 @@ IsKeyText text key =
 
 -- the kind is of no key
 abbrev pub IsUnknownKind : List ℕ → Type 0
-IsUnknownKind kind = (key : CompositeIntermediateKey) → kind ≢ kind_text key
+IsUnknownKind kind = NoneIs (λ key. kind ≡ kind_text key)
 
 -- what the refusals say of a text; memory is taken for a `str` alone
 abbrev pub IsRefusedAs : List ℕ → KeyTextError → Type 0
@@ -81,5 +82,5 @@ IsRefusedAs text UnknownType =
     × (kind ≢ codes "f64") × IsUnknownKind kind
 IsRefusedAs text BadValue =
     (key : CompositeIntermediateKey) × (value : List ℕ) × (text ≡ kind_text key ++ colon ∷ value)
-    × ((other : CompositeIntermediateKey) → ¬ (IsKeyText text other))
+    × NoneIs (IsKeyText text)
 IsRefusedAs text OutOfMemory = (value : List ℕ) × (text ≡ codes "str:" ++ value)

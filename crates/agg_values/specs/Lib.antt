@@ -7,6 +7,7 @@ pub mod KeyOrder
 pub mod KeyText
 pub mod Laws
 pub mod Names
+pub mod Nothing
 pub mod OrderTarget
 pub mod Shown
 pub mod Tuple

@@ -6,6 +6,7 @@ ghost use Rattle.agg_values.specs.Address.{address_text};
 ghost use Rattle.agg_values.specs.AddressGrammar.{IsAddressText};
 ghost use Rattle.agg_values.specs.KeyText.{colon, key_text, kind_text, value_text, IsKeyText};
 ghost use Rattle.agg_values.specs.KeyText.{IsValueText, IsSignedText, IsUnsignedText, IsRefusedAs};
+ghost use Rattle.agg_values.specs.Nothing.{NoneIs};
 ghost use Rattle.agg_values.specs.TypedKey.{CompositeIntermediateKey};
 ghost use Rattle.agg_values.specs.TypedKey.key.{Bool as Truth, IpAddr, U64};
 
@@ -119,21 +120,21 @@ fn read_value(
 
 fn read_truth(value: &str) -> Result<bool, KeyTextError>
     ensures { MatchResult result (λ b. IsValueText value.now (Truth b))
-        (λ e. (e ≡ KeyTextError.BadValue) × ((b : Bool) → ¬ (IsValueText value.now (Truth b)))) }
+        (λ e. (e ≡ KeyTextError.BadValue) × NoneIs (λ b. IsValueText value.now (Truth b))) }
 {
     value.parse().map_err(|_| KeyTextError::BadValue)
 }
 
 fn read_signed(value: &str) -> Result<i64, KeyTextError>
     ensures { MatchResult result (IsSignedText value.now)
-        (λ e. (e ≡ KeyTextError.BadValue) × ((n : ℤ) → ¬ (IsSignedText value.now n))) }
+        (λ e. (e ≡ KeyTextError.BadValue) × NoneIs (IsSignedText value.now)) }
 {
     value.parse().map_err(|_| KeyTextError::BadValue)
 }
 
 fn read_unsigned(value: &str) -> Result<u64, KeyTextError>
     ensures { MatchResult result (IsUnsignedText value.now)
-        (λ e. (e ≡ KeyTextError.BadValue) × ((n : ℕ) → ¬ (IsUnsignedText value.now n))) }
+        (λ e. (e ≡ KeyTextError.BadValue) × NoneIs (IsUnsignedText value.now)) }
 {
     value.parse().map_err(|_| KeyTextError::BadValue)
 }

@@ -11,7 +11,7 @@ ghost use Rattle.agg_pages.specs.DocumentLine.{HasKey, HaveKeys, IsAddressKey, I
 ghost use Rattle.agg_pages.specs.DocumentLine.{IsDocumentLine, address_text_of, date_of};
 ghost use Rattle.agg_pages.specs.DocumentLine.{field_values, plain_key, values_among};
 ghost use Rattle.agg_pages.specs.Fields.{AddsValues};
-ghost use Rattle.agg_request.specs.Reading.{NoneIs};
+ghost use Rattle.agg_values.specs.Nothing.{NoneIs};
 ghost use Rattle.agg_pages.specs.Snapshots.{HasNoDocument, HoldsLine};
 
 use super::InputError;

@@ -2,7 +2,7 @@
 ghost use Rattle.std.specs.Prelude.{◌≡◌, ◌≤◌, Some, None, IfOk, IsErrOf, MatchBool};
 ghost use Rattle.std.specs.Prelude.{codes};
 ghost use Rattle.std.specs.Prelude.{option_and_then};
-ghost use Rattle.serde_json.specs.Find.{get};
+ghost use Rattle.serde_json.specs.Find.{as_str, get};
 ghost use Rattle.serde_json.specs.View.{view};
 ghost use Rattle.agg_request.specs.Json.{text_at};
 ghost use Rattle.agg_request.specs.Request.{IsPlainComposite};
@@ -10,7 +10,7 @@ ghost use Rattle.agg_engine.specs.Form.{IsOneComposite};
 ghost use Rattle.agg_pages.specs.Header.{IsBucketLimitOf, IsHeader, IsHeaderLine, IsQueryOf};
 ghost use Rattle.agg_pages.specs.Header.{IsRequest, IsRequestAt, counted_member, header_members};
 ghost use Rattle.agg_pages.specs.Header.{texts_of};
-ghost use Rattle.agg_request.specs.Reading.{NoneIs};
+ghost use Rattle.agg_values.specs.Nothing.{NoneIs};
 
 use super::InputError;
 use super::value::parse;

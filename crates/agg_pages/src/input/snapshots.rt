@@ -4,7 +4,7 @@ ghost use Rattle.std.specs.Prelude.{map};
 ghost use Rattle.agg_segment.specs.Segment.{documents_of, gathered_documents};
 ghost use Rattle.agg_engine.specs.Snapshot.{SnapshotDocuments, snapshot_documents};
 ghost use Rattle.agg_engine.specs.Snapshot.{snapshots_documents};
-ghost use Rattle.agg_request.specs.Reading.{NoneIs};
+ghost use Rattle.agg_values.specs.Nothing.{NoneIs};
 ghost use Rattle.agg_pages.specs.SnapshotLines.{AreSnapshots, begins};
 ghost use Rattle.agg_pages.specs.Snapshots.{AreFit, CannotFollow, TakesLine, begun, made_by};
 ghost use Rattle.agg_pages.specs.Snapshots.{last_segment, open_of, snapshots_made};

@@ -2,7 +2,7 @@ use Rattle.std.proofs.Common.{◌≡◌, ◌+◌, ◌∷◌, ◌∙◌, drop, un
 use Rattle.std.proofs.Common.{sym, subst, arith, inr}
 use Rattle.std.specs.List.{All}
 use Rattle.agg_request.specs.Ranges.{AreInRange}
-use Rattle.agg_engine.specs.PageAnswers.{IsHeldRefusal, IsStartRefusal}
+use Rattle.agg_engine.specs.PageAnswers.{IsHeldRefusal, IsStartRefusal, MayGoOnFrom}
 use Rattle.agg_engine.specs.Refusals.{HasCause}
 use Rattle.agg_engine.specs.Snapshot.{snapshot_documents, snapshots_documents}
 use Rattle.agg_engine.specs.Walk.{MayBeAsked, matching_documents}
@@ -10,7 +10,8 @@ use Rattle.agg_engine.specs.Walk.{matching_in}
 use Rattle.agg_engine.proofs.HeldRefusals.{caused-by}
 use Rattle.agg_engine.proofs.NoNull.{matching-no_Null}
 use Rattle.agg_engine.proofs.Snapshots.{matching_documents-segments, may_be_asked, no_room-some}
-use Rattle.agg_engine.proofs.Walking.{IsHeldHere, IsWalking, alike-here, cause-final}
+use Rattle.agg_engine.proofs.Walking.{HasFewSources-sound, IsHeldHere, IsWalking, alike-here}
+use Rattle.agg_engine.proofs.Walking.{cause-final}
 use Rattle.agg_engine.proofs.Walking.{cause-held, cause-starts, held-here, known-here, walking-at}
 use Rattle.agg_engine.proofs.Walking.{walking-end}
 use Rattle.agg_engine.proofs.Walking.{walking-ended, walking-ended-fits, walking-few, walking-more}
@@ -51,6 +52,21 @@ here g c =
     c.args.snapshots.now _ c.in-Some.composite.now _ c.loop-snapshot.snapshot-index
     c.loop-snapshot.pages c.loop-snapshot.invariant.walking c.as_slice-snapshot-items.ensures
     c.snapshot-item.result (omega arith) c.snapshot-item.is
+
+pub check_starts-requires : goal.check_starts-requires
+check_starts-requires g c = record {
+  after = subst (MayGoOnFrom c.in-Some.composite.now.sources) (sym c.after_key.ensures)
+      c.loop-snapshot.invariant.walking.state.may_go_on;
+}
+
+pub segments_results-requires-clause-sources : goal.segments_results-requires-clause-sources
+segments_results-requires-clause-sources g c =
+    HasFewSources-sound c.in-Some.composite.now c.loop-snapshot.invariant.walking.sound
+
+pub segments_results-requires-clause-after : goal.segments_results-requires-clause-after
+segments_results-requires-clause-after g c =
+    subst (MayGoOnFrom c.in-Some.composite.now.sources) (sym c.after_key.ensures)
+    c.loop-snapshot.invariant.walking.state.may_go_on
 
 -- the walk may be asked
 asked : (g : given.Over) (c : After-check_starts g)

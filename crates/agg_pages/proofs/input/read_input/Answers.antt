@@ -2,7 +2,7 @@ use Rattle.std.proofs.Common.{ap, ◌∙◌, arith, subst}
 use Rattle.std.proofs.lemmas.Result.{IfOk-weaker}
 use Rattle.agg_pages.specs.Input.{IsInput, IsInputOfLines, input_of}
 use Rattle.agg_pages.specs.Lines.{lines_of}
-use Rattle.agg_request.specs.Reading.{NoneIs}
+use Rattle.agg_values.specs.Nothing.{NoneIs}
 use Rattle.agg_pages.proofs.Inputs.{input_some, no_lines, no_text}
 use Rattle.agg_pages.proofs.input.read_input.Goals as goal
 

@@ -3,7 +3,7 @@ use Rattle.std.proofs.lemmas.Result.{err_from_is_err_and}
 use Rattle.serde_json.specs.View.{view}
 use Rattle.agg_request.specs.Query.{IsQuery}
 use Rattle.agg_pages.specs.Header.{IsQueryOf}
-use Rattle.agg_request.specs.Reading.{NoneIs}
+use Rattle.agg_values.specs.Nothing.{NoneIs}
 use Rattle.agg_pages.proofs.input.header.query_of.Goals as goal
 
 pub returns-in_err-read_query-in-Some-clause-not_input

@@ -1,5 +1,5 @@
 use Rattle.std.proofs.Common.{sym, subst}
-use Rattle.agg_request.specs.Reading.{NoneIs}
+use Rattle.agg_values.specs.Nothing.{NoneIs}
 use Rattle.agg_pages.specs.SnapshotLines.{AreSnapshots}
 use Rattle.agg_pages.proofs.input.snapshots.read_snapshots.Goals as goal
 
