@@ -4,13 +4,14 @@ use Rattle.std.specs.List.{IsDistinct}
 use Rattle.std.specs.Str.{bytes_eq}
 use Rattle.json.specs.Token.{Token}
 use Rattle.json.specs.Json.{items, members, value}
-use Rattle.serde_json.specs.Data.{Data, Items, Members, Num, item, member, no_items, no_members}
+use Rattle.serde_json.specs.Data.{Data, Items, Members, Num, item, no_items, no_members}
 use Rattle.serde_json.specs.Data.{object, unsigned, negative}
 use Rattle.serde_json.specs.Find.{as_array}
 use Rattle.serde_json.specs.Read.{converted, of_items, of_json, of_members}
 use Rattle.agg_values.specs.TypedKey.{CompositeIntermediateKey}
 use Rattle.agg_segment.specs.Document.{by_class}
 use Rattle.agg_segment.specs.Segment.{Gathered, IsNameOf, open_document}
+use Rattle.agg_request.specs.Json.{alone}
 use Rattle.agg_pages.specs.declared.input.tokens.number.WholeNumber.{WholeNumber}
 use Rattle.agg_pages.specs.declared.input.tokens.number.WholeNumber.TheVariants.{
   Unsigned,
@@ -32,7 +33,7 @@ AreDistinct numbers = IsDistinct (λ a b. a == b) numbers
 pub record IsOnlyMember (name : List ℕ) (token : Token) (key : CompositeIntermediateKey) : Type 0
   where
     pub seen : Data
-    pub has : HasKey (object (member name seen no_members)) key
+    pub has : HasKey (alone name seen) key
     pub read : (depth : ℕ) (rest : List Token)
         → converted of_json (value depth (token ∷ rest)) ≡ Some (seen, rest)
 

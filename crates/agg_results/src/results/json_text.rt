@@ -1,9 +1,8 @@
 //! Texts as JSON of what has no results inside it. Each writer appends the text of one thing.
-ghost use Rattle.std.specs.Prelude.{◌≡◌, List, [], ◌∷◌, ℕ, ◌++◌, false, OnOk, decimal};
+ghost use Rattle.std.specs.Prelude.{◌≡◌, List, [], ℕ, ◌++◌, false, OnOk, decimal};
 ghost use Rattle.std.specs.Prelude.{string_bytes};
-ghost use Rattle.json.specs.Print.{quoted};
-ghost use Rattle.agg_results.specs.ResultsText.{comma_unless, object_text, quoted_after_key};
-ghost use Rattle.agg_results.specs.ResultsText.{shown_key_text};
+ghost use Rattle.agg_results.specs.ResultsText.{comma_unless, member_text, object_text};
+ghost use Rattle.agg_results.specs.ResultsText.{quoted_after_key, shown_key_text};
 
 use super::quoted::write_quoted;
 use agg_values::{AfterKey, CompositeKey, NameMap, OutOfMemory};
@@ -84,7 +83,7 @@ pub fn write_comma(text: &mut String, first: &mut bool) -> Result<(), OutOfMemor
 /// Appends a member's name and its colon.
 pub fn write_name(alloc: Global, text: &mut String, name: &str) -> Result<(), OutOfMemory>
     ensures { OnOk result
-        (string_bytes text.new ≡ string_bytes text.old ++ (quoted name.now ++ 58 ∷ [])) }
+        (string_bytes text.new ≡ string_bytes text.old ++ member_text name.now []) }
 {
     write_quoted(alloc, text, name)?;
     text.push(':')?;
