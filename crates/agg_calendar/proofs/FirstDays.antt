@@ -4,11 +4,11 @@ use Rattle.std.proofs.Common.{ℤ, pos, ◌+ℤ◌, ◌≤ℤ◌, Result, Ok, If
 use Rattle.std.proofs.lemmas.Bool.{cases_order}
 use Rattle.std.proofs.lemmas.Int.{by_lt_z}
 use Rattle.std.specs.Int.{int_rem_euclid}
-use Rattle.jiff.specs.Types.{Date}
-use Rattle.jiff.specs.Words.{epoch_day, ordinal}
-use Rattle.jiff.proofs.Family.{epoch_day-lt, epoch_day_same, epoch_day-ordinal}
-use Rattle.jiff.proofs.Family.{days_from_civil-day}
-use Rattle.jiff.proofs.SpanFacts.{signed_arith}
+use Rattle.jiff_core.specs.declared.civil.date.Date.{Date}
+use Rattle.jiff_core.specs.Date.{epoch_day, ordinal}
+use Rattle.jiff_core.proofs.DateLemmas.{epoch_day-lt, epoch_day_same, epoch_day-ordinal}
+use Rattle.jiff_core.proofs.DateLemmas.{days_from_civil-day}
+use Rattle.jiff_core.proofs.SignedLemmas.{signed_arith}
 use Rattle.agg_calendar.specs.FirstDay.{IsGreatestFirstDay}
 use Rattle.agg_calendar.specs.declared.interval.CalendarInterval.{CalendarInterval}
 use Rattle.agg_calendar.specs.declared.interval.CalendarInterval.TheVariants.{Year, Month, Week}

@@ -7,10 +7,12 @@ use Rattle.std.proofs.lemmas.Bool.{cases_Bool, cases_order}
 use Rattle.std.specs.Int.{int_max, int_div_euclid}
 use Rattle.agg_calendar.specs.Start.{day_ns, calendar_start, IsCalendarStart}
 use borrow.Author.Differences.{up, down}
-use Rattle.jiff.specs.Types.{Date}
-use Rattle.jiff.specs.Words.{epoch_day, IsEpochDay, IsTimestampNanos}
-use Rattle.jiff.proofs.Family.{days_from_civil-min, epoch_day_range}
-use Rattle.jiff.proofs.SpanFacts.{signed_arith}
+use Rattle.jiff_core.specs.declared.civil.date.Date.{Date}
+use Rattle.jiff_core.specs.Calendar.{IsEpochDay}
+use Rattle.jiff_core.specs.Date.{epoch_day}
+use Rattle.jiff_core.specs.Timestamp.{IsTimestampNanos}
+use Rattle.jiff_core.proofs.DateLemmas.{days_from_civil-min, epoch_day_range}
+use Rattle.jiff_core.proofs.SignedLemmas.{signed_arith}
 use Rattle.agg_calendar.specs.FirstDay.{IsGreatestFirstDay, nth_year, nth_month}
 use Rattle.agg_calendar.specs.FirstDay.{greatest_at_most, greatest_first_day}
 use Rattle.agg_calendar.specs.declared.interval.CalendarInterval.{CalendarInterval}

@@ -5,8 +5,8 @@ use Rattle.std.proofs.Math.Nat.{mul-le-mul_left, mul_comm}
 use Rattle.std.proofs.lemmas.Int.{by_lt_z}
 use Rattle.std.specs.Int.{w64, int_div_euclid}
 use borrow.Author.Differences.{up, down}
-use Rattle.jiff.specs.Words.{IsTimestampNanos}
-use Rattle.jiff.proofs.SpanFacts.{signed_arith}
+use Rattle.jiff_core.specs.Timestamp.{IsTimestampNanos}
+use Rattle.jiff_core.proofs.SignedLemmas.{signed_arith}
 use Rattle.jiff_core.proofs.SignedLemmas.{int_div_euclid-parts}
 use Rattle.agg_calendar.specs.FirstDay.{greatest_first_day}
 use Rattle.agg_calendar.specs.Start.{day_ns, calendar_start, fixed_start, start_of, IsUsable}

@@ -5,7 +5,7 @@ ghost use Rattle.std.specs.List.{prefix_len};
 ghost use Rattle.std.specs.Char.{is_ascii_digit};
 ghost use Rattle.std.specs.Str.Parse.{IsNumeral, digits_value, starts_with_minus};
 ghost use Rattle.std.specs.Str.Parse.{without_leading_sign};
-ghost use Rattle.jiff.specs.Words.{IsBetween};
+ghost use Rattle.jiff_core.specs.Calendar.{IsBetween};
 ghost use Rattle.agg_calendar.specs.IntervalText.{digits_of, unit_of, unit_ms, read_interval};
 ghost use Rattle.agg_calendar.specs.IntervalText.{read_offset, spelled};
 ghost use Rattle.agg_calendar.specs.Refusal.{in_request, IsAnswer};

@@ -1,6 +1,7 @@
 //! What holds of starts and of texts, as their definitions say it.
 ghost use Rattle.std.specs.Prelude.{◌≡◌, ◌↔◌, List, ℕ, ℤ, pos, ◌+ℤ◌, ◌*ℤ◌, ◌<ℤ◌, ◌≤ℤ◌, Ok};
-ghost use Rattle.jiff.specs.Words.{IsEpochDay, IsTimestampNanos};
+ghost use Rattle.jiff_core.specs.Calendar.{IsEpochDay};
+ghost use Rattle.jiff_core.specs.Timestamp.{IsTimestampNanos};
 ghost use Rattle.agg_values.specs.Laws.{IsSameness};
 ghost use Rattle.agg_calendar.specs.FirstDay.{greatest_first_day, IsGreatestFirstDay};
 ghost use Rattle.agg_calendar.specs.IntervalText.{read_interval, read_offset};

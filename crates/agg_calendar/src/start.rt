@@ -1,7 +1,9 @@
 ghost use Rattle.std.specs.Prelude.{◌≡◌, ℤ, pos, ◌≤ℤ◌, neg_ℤ};
 ghost use Rattle.std.specs.Int.{int_div_euclid};
-ghost use Rattle.jiff.specs.Words.{epoch_day, IsBetween, IsCivilNanos, IsEpochDay};
-ghost use Rattle.jiff.specs.Words.{IsTimestampNanos};
+ghost use Rattle.jiff_core.specs.Calendar.{IsBetween, IsEpochDay};
+ghost use Rattle.jiff_core.specs.Date.{epoch_day};
+ghost use Rattle.jiff_core.specs.DateTime.{IsCivilNanos};
+ghost use Rattle.jiff_core.specs.Timestamp.{IsTimestampNanos};
 ghost use Rattle.agg_calendar.specs.FirstDay.{greatest_first_day};
 ghost use Rattle.agg_calendar.specs.Start.{day_ns, fixed_start, calendar_start, start_of};
 ghost use Rattle.agg_calendar.specs.Start.{GivesStart, IsCalendarStart, IsUsable};
@@ -9,9 +11,7 @@ ghost use Rattle.agg_calendar.specs.declared.interval.CalendarInterval.TheVarian
 ghost use Rattle.agg_calendar.specs.declared.interval.CalendarInterval.TheVariants.{Week};
 
 use crate::{CalendarInterval, PrecomputedDateInterval, StartError};
-use jiff::Timestamp;
-use jiff::civil::Date;
-use jiff::tz::Offset;
+use jiff_core::civil::Date;
 
 const DAY_NS: i128 = 86_400_000_000_000;
 
@@ -136,8 +136,7 @@ fn date_at(ns: i128) -> Date
     requires { IsTimestampNanos ns }
     ensures { epoch_day result ≡ int_div_euclid ns day_ns }
 {
-    let instant = Timestamp::from_nanosecond(ns).unwrap();
-    Offset::UTC.to_datetime(instant).date()
+    Date::from_unix_epoch_day(ns.div_euclid(DAY_NS) as i64).unwrap()
 }
 
 // The number of 1 January of its year.
@@ -153,7 +152,7 @@ fn month_day(ns: i128) -> i128
     requires { IsTimestampNanos ns }
     ensures { result ≡ greatest_first_day Month (int_div_euclid ns day_ns) }
 {
-    ns.div_euclid(DAY_NS) + 1 - i128::from(date_at(ns).day())
+    ns.div_euclid(DAY_NS) + 1 - i128::from(date_at(ns).day)
 }
 
 // The number of the Monday of its week.

@@ -1,7 +1,7 @@
-use Rattle.std.proofs.Common.{arith, rules, pos, ◌+ℤ◌, ◌-ℤ◌, FitsSigned}
-use Rattle.std.specs.Int.{w8, w128, int_div_euclid}
+use Rattle.std.proofs.Common.{arith, pos, ◌+ℤ◌, ◌-ℤ◌, FitsSigned}
+use Rattle.std.specs.Int.{w128, int_div_euclid}
 use Rattle.std.proofs.lemmas.Int.{to_z-of_z}
-use Rattle.jiff.proofs.SpanFacts.{signed_arith}
+use Rattle.jiff_core.proofs.SignedLemmas.{signed_arith}
 use Rattle.agg_calendar.specs.Start.{day_ns}
 use Rattle.agg_calendar.specs.declared.interval.CalendarInterval.TheVariants.{Month}
 use Rattle.agg_calendar.proofs.FirstDays.{month_is}
@@ -12,9 +12,7 @@ pub returns : goal.returns
 returns c =
     let ns = c.args.ns in
     let fits : FitsSigned w128 ns = c.ranges.ns in
-    let short : FitsSigned w8 c.day.result = search rules in
     let on = simp to_z-of_z at c.date_at.ensures in
-    let place = simp to_z-of_z at c.from.ensures in
     let day = int_div_euclid ns day_ns in
     let date = c.date_at.result in
     let first = day +ℤ pos 1 -ℤ pos date.day in

@@ -1,8 +1,8 @@
-use Rattle.std.proofs.Common.{arith, rules, pos, ◌+ℤ◌, ◌-ℤ◌, FitsSigned}
-use Rattle.std.specs.Int.{w16, w128, int_div_euclid}
+use Rattle.std.proofs.Common.{arith, pos, ◌+ℤ◌, ◌-ℤ◌, FitsSigned}
+use Rattle.std.specs.Int.{w128, int_div_euclid}
 use Rattle.std.proofs.lemmas.Int.{to_z-of_z}
-use Rattle.jiff.specs.Words.{ordinal}
-use Rattle.jiff.proofs.SpanFacts.{signed_arith}
+use Rattle.jiff_core.specs.Date.{ordinal}
+use Rattle.jiff_core.proofs.SignedLemmas.{signed_arith}
 use Rattle.agg_calendar.specs.Start.{day_ns}
 use Rattle.agg_calendar.specs.declared.interval.CalendarInterval.TheVariants.{Year}
 use Rattle.agg_calendar.proofs.FirstDays.{year_is}
@@ -13,9 +13,7 @@ pub returns : goal.returns
 returns c =
     let ns = c.args.ns in
     let fits : FitsSigned w128 ns = c.ranges.ns in
-    let short : FitsSigned w16 c.day_of_year.result = search rules in
     let on = simp to_z-of_z at c.date_at.ensures in
-    let place = simp to_z-of_z at c.from.ensures in
     let day = int_div_euclid ns day_ns in
     let date = c.date_at.result in
     let first = day +ℤ pos 1 -ℤ pos (ordinal date) in
