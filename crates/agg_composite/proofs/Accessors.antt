@@ -21,15 +21,15 @@ use Rattle.agg_values.specs.declared.order.MissingOrder.{MissingOrder}
 use Rattle.agg_values.specs.declared.order.Order.{Order}
 use Rattle.agg_values.specs.declared.order.Order.TheVariants.{Asc, Desc}
 use Rattle.agg_values.proofs.KeyOrder.{key_order-total}
-use Rattle.agg_segment.specs.Columns.{ClassesAscend, StandsForKey, StoredColumn, encoded_key}
-use Rattle.agg_segment.specs.Columns.{all_keys, keys_rank, type_of}
+use Rattle.agg_column.specs.Columns.{ClassesAscend, StandsForKey, StoredColumn, encoded_key}
+use Rattle.agg_column.specs.Columns.{all_keys, keys_rank, type_of}
 use Rattle.agg_segment.specs.Segment.{Stored, document_at}
-use Rattle.agg_segment.specs.declared.keys.ColumnKeys.{ColumnKeys}
-use Rattle.agg_segment.specs.declared.keys.ColumnKeys.TheVariants.{Bools}
-use Rattle.agg_request.specs.Faults.{HasInterval}
-use Rattle.agg_request.specs.Source.{field_of, keys_in, missing_order_of, order_of}
-use Rattle.agg_request.specs.SourceColumns.{reads_type}
-use Rattle.agg_request.specs.declared.source.CompositeAggregationSource as kind
+use Rattle.agg_column.specs.declared.keys.ColumnKeys.{ColumnKeys}
+use Rattle.agg_column.specs.declared.keys.ColumnKeys.TheVariants.{Bools}
+use Rattle.agg_request_tree.specs.Faults.{HasInterval}
+use Rattle.agg_request_tree.specs.Source.{field_of, keys_in, missing_order_of, order_of}
+use Rattle.agg_request_tree.specs.SourceColumns.{reads_type}
+use Rattle.agg_request_tree.specs.declared.source.CompositeAggregationSource as kind
 use kind.{CompositeAggregationSource}
 use kind.TheVariants.{DateHistogram, Histogram, Terms}
 use Rattle.agg_composite.specs.Accessors.{AreAccessorsOf, AreOfField, IsAccessorOf}

@@ -9,12 +9,12 @@ use Rattle.agg_values.specs.Tuple.{KeyTuple}
 use Rattle.agg_values.specs.TypedKey.{CompositeIntermediateKey, canonical_key}
 use Rattle.agg_values.specs.declared.after_key.AfterKey.{AfterKey}
 use Rattle.agg_segment.specs.Segment.{Stored, document_at, documents_at}
-use Rattle.agg_request.specs.Occurrences.{bound_of, is_past, occurrences, past_occurrences}
-use Rattle.agg_request.specs.Ranges.{AreInRange, IsInRange}
-use Rattle.agg_request.specs.Source.{Sources, field_of, missing_bucket_of, or_missing}
-use Rattle.agg_request.specs.Source.{rules_of, source_values, values_at}
-use Rattle.agg_request.specs.declared.source.CompositeAggregationSource.{CompositeAggregationSource}
-use Rattle.agg_request.specs.Source.{after_of}
+use Rattle.agg_request_tree.specs.Occurrences.{bound_of, is_past, occurrences, past_occurrences}
+use Rattle.agg_request_tree.specs.Ranges.{AreInRange, IsInRange}
+use Rattle.agg_request_tree.specs.Source.{Sources, field_of, missing_bucket_of, or_missing}
+use Rattle.agg_request_tree.specs.Source.{rules_of, source_values, values_at}
+use Rattle.agg_request_tree.specs.declared.source.CompositeAggregationSource.{CompositeAggregationSource}
+use Rattle.agg_request_tree.specs.Source.{after_of}
 use Rattle.agg_composite.specs.Accessors.{AllFit, AreAccessorsOf, keys_held, keys_read, side_to}
 use Rattle.agg_composite.specs.Choices.{AreChoicesIn, AreChoicesOf, CanRead, IsChoiceOf}
 use Rattle.agg_composite.specs.Choices.{values_read}

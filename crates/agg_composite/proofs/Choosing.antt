@@ -12,17 +12,17 @@ use Rattle.std.proofs.lemmas.List.Sums.{sum_by-append, sum_by-cons}
 use Rattle.agg_values.specs.TypedKey.{CompositeIntermediateKey}
 use Rattle.agg_values.specs.declared.order.Order.{Order}
 use Rattle.agg_values.specs.declared.order.Order.TheVariants.{Asc, Desc}
-use Rattle.agg_segment.specs.Columns.{StandsForKey, StoredColumn, all_keys, column_keys}
-use Rattle.agg_segment.specs.Columns.{encoded_key}
-use Rattle.agg_segment.specs.declared.keys.ColumnKeys.{ColumnKeys}
-use Rattle.agg_segment.specs.declared.keys.ColumnKeys.TheVariants.{Bools}
-use Rattle.agg_request.specs.Faults.{HasInterval}
-use Rattle.agg_request.specs.Ranges.{IsInRange}
-use Rattle.agg_request.specs.Source.{Sources, keys_in, or_missing, order_of}
-use Rattle.agg_request.specs.declared.source.CompositeAggregationSource as kind
+use Rattle.agg_column.specs.Columns.{StandsForKey, StoredColumn, all_keys, column_keys}
+use Rattle.agg_column.specs.Columns.{encoded_key}
+use Rattle.agg_column.specs.declared.keys.ColumnKeys.{ColumnKeys}
+use Rattle.agg_column.specs.declared.keys.ColumnKeys.TheVariants.{Bools}
+use Rattle.agg_request_tree.specs.Faults.{HasInterval}
+use Rattle.agg_request_tree.specs.Ranges.{IsInRange}
+use Rattle.agg_request_tree.specs.Source.{Sources, keys_in, or_missing, order_of}
+use Rattle.agg_request_tree.specs.declared.source.CompositeAggregationSource as kind
 use kind.{CompositeAggregationSource}
 use kind.TheVariants.{DateHistogram, Histogram, Terms}
-use Rattle.agg_request.proofs.Faults.{HasInterval-large}
+use Rattle.agg_request_tree.proofs.Faults.{HasInterval-large}
 use Rattle.agg_composite.specs.Accessors.{IsAccessorOf, keys_held}
 use Rattle.agg_composite.specs.Choices.{AddsChoices, AreChoicesIn, AreChoicesOf, AreGathered}
 use Rattle.agg_composite.specs.Choices.{CanRead, IsChoiceOf, choice_at, divided_choices}

@@ -16,20 +16,20 @@ use Rattle.agg_calendar.specs.Start.{IsUsable, fixed_start}
 use Rattle.agg_calendar.specs.declared.interval.PrecomputedDateInterval as interval
 use interval.{PrecomputedDateInterval}
 use interval.TheVariants.{Calendar, FixedNanoseconds, NotApplicable}
-use Rattle.agg_segment.specs.Columns.{StandsForKey, encoded_key, type_of}
-use Rattle.agg_segment.specs.declared.keys.ColumnKeys.{ColumnKeys}
-use Rattle.agg_segment.specs.declared.keys.ColumnKeys.TheVariants.{Bools, Texts, Signed, Unsigned}
-use Rattle.agg_segment.specs.declared.keys.ColumnKeys.TheVariants.{Addresses, Dates}
-use Rattle.agg_request.specs.Ranges.{IsInRange}
-use Rattle.agg_request.specs.Source.{counted_number, date_of, interval_of, keys_in, order_of}
-use Rattle.agg_request.specs.Source.{start_by, start_in}
-use Rattle.agg_request.specs.SourceColumns.{reads_type}
-use Rattle.agg_request.specs.declared.source.CompositeAggregationSource as kind
+use Rattle.agg_column.specs.Columns.{StandsForKey, encoded_key, type_of}
+use Rattle.agg_column.specs.declared.keys.ColumnKeys.{ColumnKeys}
+use Rattle.agg_column.specs.declared.keys.ColumnKeys.TheVariants.{Bools, Texts, Signed, Unsigned}
+use Rattle.agg_column.specs.declared.keys.ColumnKeys.TheVariants.{Addresses, Dates}
+use Rattle.agg_request_tree.specs.Ranges.{IsInRange}
+use Rattle.agg_request_tree.specs.Source.{counted_number, date_of, interval_of, keys_in, order_of}
+use Rattle.agg_request_tree.specs.Source.{start_by, start_in}
+use Rattle.agg_request_tree.specs.SourceColumns.{reads_type}
+use Rattle.agg_request_tree.specs.declared.source.CompositeAggregationSource as kind
 use kind.{CompositeAggregationSource}
 use kind.TheVariants.{DateHistogram, Histogram}
-use Rattle.agg_request.specs.declared.source.DateHistogramCompositeAggregationSource as dates
+use Rattle.agg_request_tree.specs.declared.source.DateHistogramCompositeAggregationSource as dates
 use dates.{DateHistogramCompositeAggregationSource as Dated}
-use Rattle.agg_request.specs.declared.source.HistogramCompositeAggregationSource as numbers
+use Rattle.agg_request_tree.specs.declared.source.HistogramCompositeAggregationSource as numbers
 use numbers.{HistogramCompositeAggregationSource as Counted}
 use Rattle.agg_composite.specs.Choices.{AreChoicesOf, choice_at}
 use Rattle.agg_composite.specs.Lanes.{keys_at, lanes}

@@ -8,8 +8,8 @@ use Rattle.agg_values.specs.TypedKey.{CompositeIntermediateKey}
 use Rattle.agg_values.specs.contracts.column.ColumnPaginationOrderOrd.TheImpl.{ghosts}
 use Rattle.agg_values.specs.declared.column.ColumnPaginationOrder.{ColumnPaginationOrder}
 use Rattle.agg_values.specs.declared.column.ColumnPaginationOrder.TheVariants as class
-use Rattle.agg_segment.specs.Columns.{encoded_key, keys_rank}
-use Rattle.agg_segment.specs.declared.keys.ColumnKeys.{ColumnKeys}
+use Rattle.agg_column.specs.Columns.{encoded_key, keys_rank}
+use Rattle.agg_column.specs.declared.keys.ColumnKeys.{ColumnKeys}
 use Rattle.agg_composite.proofs.TypedOrder.{encoded-rank}
 
 -- the rank of a class, 0 for none

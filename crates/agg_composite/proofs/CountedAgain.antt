@@ -12,7 +12,7 @@ use Rattle.std.specs.declared.cmp.Ordering.TheVariants.{Less, Equal, Greater}
 use Rattle.std.proofs.lemmas.Bool.{cases_Bool}
 use Rattle.std.proofs.lemmas.Cmp.{tied_itself}
 use Rattle.std.proofs.lemmas.Map.Views.{tells_apart}
-use Rattle.agg_request.proofs.Lists.{AllByRecursion-weaker, count-step}
+use Rattle.agg_request_tree.proofs.Lists.{AllByRecursion-weaker, count-step}
 use Rattle.agg_composite.specs.Counts.{positive}
 use Rattle.agg_composite.specs.Encoding.{encoded_order}
 use Rattle.agg_composite.specs.KeyCounts.{CountsMore, Entries, count_in, counted_again, raised}

@@ -9,7 +9,7 @@ use Rattle.std.proofs.lemmas.Result.{on_ok_weaker}
 use Rattle.std.proofs.lemmas.Slice.Zip.{AllZip-long}
 use Rattle.agg_values.specs.Tuple.{KeyTuple}
 use Rattle.agg_composite.specs.declared.visit_error.VisitError.{VisitError}
-use Rattle.agg_request.specs.Source.{Sources}
+use Rattle.agg_request_tree.specs.Source.{Sources}
 use Rattle.agg_composite.specs.Answers.{AnswersEncoded, AnswersFor, CountsFor, TooOftenFor}
 use Rattle.agg_composite.specs.Counts.{Counts, EncodedCounts}
 use Rattle.agg_composite.specs.Encoding.{EncodedTuple, StandFor, encoded_tuple_order}

@@ -9,10 +9,10 @@ use Rattle.agg_values.specs.Tuple.{KeyTuple}
 use Rattle.agg_values.specs.declared.after_key.AfterKey.{AfterKey}
 use Rattle.agg_composite.specs.declared.visit_error.VisitError.{VisitError}
 use Rattle.agg_segment.specs.Segment.{Stored, document_at, documents_at}
-use Rattle.agg_request.specs.Occurrences.{bound_of, is_past, occurrences, occurrences_in}
-use Rattle.agg_request.specs.Occurrences.{past_occurrences}
-use Rattle.agg_request.specs.Ranges.{AreInRange}
-use Rattle.agg_request.specs.Source.{Sources, rules_of}
+use Rattle.agg_request_tree.specs.Occurrences.{bound_of, is_past, occurrences, occurrences_in}
+use Rattle.agg_request_tree.specs.Occurrences.{past_occurrences}
+use Rattle.agg_request_tree.specs.Ranges.{AreInRange}
+use Rattle.agg_request_tree.specs.Source.{Sources, rules_of}
 use Rattle.agg_composite.specs.Accessors.{AllFit}
 use Rattle.agg_composite.specs.Answers.{AnswersDocuments, AreAllInRange, CountsFor}
 use Rattle.agg_composite.specs.Answers.{TooOftenFor}

@@ -17,7 +17,7 @@ use Rattle.std.proofs.lemmas.List.Elements.{All-get_or, All-from_get_or, All-nil
 use Rattle.std.proofs.lemmas.List.Elements.{All-append, All-push}
 use Rattle.std.proofs.lemmas.List.Sorted.{ranks_by, sorted_far}
 use Rattle.std.proofs.lemmas.Map.Views.{tells_apart}
-use Rattle.agg_request.proofs.Lists.{AllByRecursion-weaker, count-step}
+use Rattle.agg_request_tree.proofs.Lists.{AllByRecursion-weaker, count-step}
 use Rattle.agg_composite.specs.Encoding.{encoded_order}
 use Rattle.agg_composite.specs.KeyCounts.{AreAscending, CountsMore, Entries, IsBelow, IsUpTo}
 use Rattle.agg_composite.specs.KeyCounts.{count_in, entries_of, raised}

@@ -12,7 +12,7 @@ use Rattle.std.specs.declared.cmp.Ordering.TheVariants.{Less, Equal, Greater}
 use Rattle.std.proofs.lemmas.List.{append-nil}
 use Rattle.std.proofs.lemmas.List.Sorted.{sum_by-IsPermutation}
 use Rattle.std.proofs.lemmas.List.Sums.{fold-append, sum_by-append}
-use Rattle.agg_request.proofs.Lists.{count-step}
+use Rattle.agg_request_tree.proofs.Lists.{count-step}
 use Rattle.agg_composite.specs.Counts.{positive}
 use Rattle.agg_composite.specs.Encoding.{EncodedTuple, encoded_order, encoded_tuple_order}
 use Rattle.agg_composite.specs.GroupCounts.{CountsBehind, CountsTooOften}

@@ -13,10 +13,10 @@ use Rattle.std.proofs.lemmas.List.Elements.{filter_map-append}
 use Rattle.agg_values.specs.TypedKey.{CompositeIntermediateKey, canonical_key, typed_number}
 use Rattle.agg_values.specs.declared.typed_key.CompositeIntermediateKey.TheVariants as key
 use Rattle.agg_calendar.specs.Start.{fixed_start}
-use Rattle.agg_request.specs.Ranges.{IsInRange}
-use Rattle.agg_request.specs.Source.{counted_number, date_of, interval_of, keys_in, start_by}
-use Rattle.agg_request.specs.Source.{start_in}
-use Rattle.agg_request.specs.declared.source.CompositeAggregationSource as kind
+use Rattle.agg_request_tree.specs.Ranges.{IsInRange}
+use Rattle.agg_request_tree.specs.Source.{counted_number, date_of, interval_of, keys_in, start_by}
+use Rattle.agg_request_tree.specs.Source.{start_in}
+use Rattle.agg_request_tree.specs.declared.source.CompositeAggregationSource as kind
 use kind.{CompositeAggregationSource}
 use kind.TheVariants.{DateHistogram, Histogram, Terms}
 use Rattle.agg_composite.specs.Accessors.{starts_in}

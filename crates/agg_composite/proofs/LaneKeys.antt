@@ -7,13 +7,13 @@ use Rattle.std.proofs.lemmas.List.{length-map}
 use Rattle.std.specs.Ordering.{nat_cmp}
 use Rattle.agg_values.specs.declared.order.Order.{Order}
 use Rattle.agg_values.specs.declared.order.Order.TheVariants.{Asc, Desc}
-use Rattle.agg_segment.specs.Columns.{AreInKeyOrder, keys_rank}
-use Rattle.agg_segment.specs.declared.keys.ColumnKeys.{ColumnKeys}
-use Rattle.agg_segment.specs.declared.keys.ColumnKeys.TheVariants.{Bools, Signed}
-use Rattle.agg_request.specs.declared.source.CompositeAggregationSource as kind
+use Rattle.agg_column.specs.Columns.{AreInKeyOrder, keys_rank}
+use Rattle.agg_column.specs.declared.keys.ColumnKeys.{ColumnKeys}
+use Rattle.agg_column.specs.declared.keys.ColumnKeys.TheVariants.{Bools, Signed}
+use Rattle.agg_request_tree.specs.declared.source.CompositeAggregationSource as kind
 use kind.{CompositeAggregationSource}
 use kind.TheVariants.{Histogram}
-use Rattle.agg_request.specs.declared.source.HistogramCompositeAggregationSource as numbers
+use Rattle.agg_request_tree.specs.declared.source.HistogramCompositeAggregationSource as numbers
 use numbers.{HistogramCompositeAggregationSource as Counted}
 use Rattle.agg_composite.specs.Lanes.{class_order, column_keys_of, keys_at, lane_of_numbers, lanes}
 use Rattle.agg_composite.specs.declared.accessor.CompositeAccessor.{CompositeAccessor}

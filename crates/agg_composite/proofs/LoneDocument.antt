@@ -14,12 +14,12 @@ use Rattle.agg_values.specs.TypedKey.{CompositeIntermediateKey, canonical_key}
 use Rattle.agg_values.specs.declared.after_key.AfterKey.{AfterKey}
 use Rattle.agg_values.specs.declared.typed_key.CompositeIntermediateKey.TheVariants.{Null}
 use Rattle.agg_composite.specs.declared.visit_error.VisitError.{VisitError}
-use Rattle.agg_segment.specs.Columns.{StoredColumn, all_keys, column_keys}
+use Rattle.agg_column.specs.Columns.{StoredColumn, all_keys, column_keys}
 use Rattle.agg_segment.specs.Segment.{Stored, document_at, documents_at}
-use Rattle.agg_request.specs.Occurrences.{bound_of, is_past, occurrences, past_occurrences}
-use Rattle.agg_request.specs.Source.{field_of, keys_in, missing_bucket_of, or_missing, rules_of}
-use Rattle.agg_request.specs.declared.source.CompositeAggregationSource.{CompositeAggregationSource}
-use Rattle.agg_request.specs.Source.{after_of}
+use Rattle.agg_request_tree.specs.Occurrences.{bound_of, is_past, occurrences, past_occurrences}
+use Rattle.agg_request_tree.specs.Source.{field_of, keys_in, missing_bucket_of, or_missing, rules_of}
+use Rattle.agg_request_tree.specs.declared.source.CompositeAggregationSource.{CompositeAggregationSource}
+use Rattle.agg_request_tree.specs.Source.{after_of}
 use Rattle.agg_composite.specs.Accessors.{AllFit, AreAccessorsOf, keys_read}
 use Rattle.agg_composite.specs.Answers.{AnswersEncoded, AnswersFor, AreAllInRange}
 use Rattle.agg_composite.specs.Answers.{CountsFor, TooOftenFor}

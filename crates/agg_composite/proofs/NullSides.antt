@@ -12,8 +12,8 @@ use Rattle.agg_values.specs.declared.order.MissingOrder.{MissingOrder}
 use Rattle.agg_values.specs.declared.order.Order.{Order}
 use Rattle.agg_values.proofs.KeyOrder.{key_order-total}
 use Rattle.agg_segment.specs.Segment.{Stored}
-use Rattle.agg_request.specs.Source.{missing_order_of, order_of}
-use Rattle.agg_request.specs.declared.source.CompositeAggregationSource.{CompositeAggregationSource}
+use Rattle.agg_request_tree.specs.Source.{missing_order_of, order_of}
+use Rattle.agg_request_tree.specs.declared.source.CompositeAggregationSource.{CompositeAggregationSource}
 use Rattle.agg_composite.specs.Accessors.{AreAccessorsOf, is_null, side_to}
 use Rattle.agg_composite.specs.declared.accessor.CompositeSourceAccessors.{CompositeSourceAccessors}
 use Rattle.agg_composite.proofs.TypedOrder.{decided, null_rank-of_class, null_sides}

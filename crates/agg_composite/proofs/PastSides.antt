@@ -11,10 +11,10 @@ use Rattle.agg_values.specs.Tuple.{KeyTuple}
 use Rattle.agg_values.specs.TypedKey.{CompositeIntermediateKey}
 use Rattle.agg_values.specs.declared.after_key.AfterKey.{AfterKey}
 use Rattle.agg_values.proofs.KeyOrder.{key_order-total}
-use Rattle.agg_request.specs.Occurrences.{bound_of, is_past}
-use Rattle.agg_request.specs.Source.{Sources, missing_order_of, order_of, rules_of}
-use Rattle.agg_request.specs.declared.source.CompositeAggregationSource.{CompositeAggregationSource}
-use Rattle.agg_request.specs.Source.{after_of}
+use Rattle.agg_request_tree.specs.Occurrences.{bound_of, is_past}
+use Rattle.agg_request_tree.specs.Source.{Sources, missing_order_of, order_of, rules_of}
+use Rattle.agg_request_tree.specs.declared.source.CompositeAggregationSource.{CompositeAggregationSource}
+use Rattle.agg_request_tree.specs.Source.{after_of}
 use Rattle.agg_composite.specs.Accessors.{side_to}
 use Rattle.agg_composite.proofs.Product.{sides_past}
 

@@ -21,13 +21,13 @@ use Rattle.agg_values.specs.declared.order.MissingOrder.{MissingOrder}
 use Rattle.agg_values.specs.declared.order.Order.{Order}
 use Rattle.agg_values.specs.declared.order.Order.TheVariants.{Asc, Desc}
 use Rattle.agg_values.proofs.KeyOrder.{ascending_order-total}
-use Rattle.agg_segment.specs.Columns.{StandsForKey, addresses_of, encoded_key, keys_rank, texts_of}
-use Rattle.agg_segment.specs.Dictionary.{IsHit, address_cmp}
-use Rattle.agg_segment.specs.declared.hit.OrdHit.{OrdHit}
-use Rattle.agg_segment.specs.declared.hit.OrdHit.TheVariants as hit
-use Rattle.agg_segment.specs.declared.keys.ColumnKeys.{ColumnKeys}
-use Rattle.agg_segment.specs.declared.keys.ColumnKeys.TheVariants.{Bools, Texts, Signed, Unsigned}
-use Rattle.agg_segment.specs.declared.keys.ColumnKeys.TheVariants.{Addresses, Dates}
+use Rattle.agg_column.specs.Columns.{StandsForKey, addresses_of, encoded_key, keys_rank, texts_of}
+use Rattle.agg_column.specs.Dictionary.{IsHit, address_cmp}
+use Rattle.agg_column.specs.declared.hit.OrdHit.{OrdHit}
+use Rattle.agg_column.specs.declared.hit.OrdHit.TheVariants as hit
+use Rattle.agg_column.specs.declared.keys.ColumnKeys.{ColumnKeys}
+use Rattle.agg_column.specs.declared.keys.ColumnKeys.TheVariants.{Bools, Texts, Signed, Unsigned}
+use Rattle.agg_column.specs.declared.keys.ColumnKeys.TheVariants.{Addresses, Dates}
 use Rattle.agg_composite.specs.AfterKey.{projected_side}
 use Rattle.agg_composite.specs.Places.{IsPlaceOf, hit_place}
 use Rattle.agg_composite.specs.declared.after_key.PrecomputedAfterKey.{PrecomputedAfterKey}

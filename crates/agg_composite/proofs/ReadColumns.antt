@@ -7,14 +7,14 @@ use Rattle.std.specs.Prelude.{filter_map, int_lt, option_map, unsigned_abs}
 use Rattle.std.proofs.lemmas.List.Elements.{All-filter, filter_map-append}
 use Rattle.agg_values.specs.TypedKey.{CompositeIntermediateKey, typed_number}
 use Rattle.agg_values.specs.declared.typed_key.CompositeIntermediateKey.TheVariants as key
-use Rattle.agg_segment.specs.Columns.{ClassesAscend, StoredColumn, all_keys, column_keys}
-use Rattle.agg_segment.specs.Columns.{encoded_key, keys_rank, numbers_at, type_of}
-use Rattle.agg_segment.specs.declared.keys.ColumnKeys.{ColumnKeys}
-use Rattle.agg_segment.specs.declared.keys.ColumnKeys.TheVariants.{Bools, Texts, Signed, Unsigned}
-use Rattle.agg_segment.specs.declared.keys.ColumnKeys.TheVariants.{Addresses, Dates}
-use Rattle.agg_request.specs.Source.{date_of, interval_of, keys_in, start_by, start_in}
-use Rattle.agg_request.specs.SourceColumns.{reads_type}
-use Rattle.agg_request.specs.declared.source.CompositeAggregationSource as kind
+use Rattle.agg_column.specs.Columns.{ClassesAscend, StoredColumn, all_keys, column_keys}
+use Rattle.agg_column.specs.Columns.{encoded_key, keys_rank, numbers_at, type_of}
+use Rattle.agg_column.specs.declared.keys.ColumnKeys.{ColumnKeys}
+use Rattle.agg_column.specs.declared.keys.ColumnKeys.TheVariants.{Bools, Texts, Signed, Unsigned}
+use Rattle.agg_column.specs.declared.keys.ColumnKeys.TheVariants.{Addresses, Dates}
+use Rattle.agg_request_tree.specs.Source.{date_of, interval_of, keys_in, start_by, start_in}
+use Rattle.agg_request_tree.specs.SourceColumns.{reads_type}
+use Rattle.agg_request_tree.specs.declared.source.CompositeAggregationSource as kind
 use kind.{CompositeAggregationSource}
 use kind.TheVariants.{DateHistogram, Histogram, Terms}
 use Rattle.agg_composite.specs.Accessors.{columns_read, starts_in}

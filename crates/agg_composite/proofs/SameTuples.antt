@@ -13,11 +13,11 @@ use Rattle.agg_values.specs.declared.order.Order.{Order}
 use Rattle.agg_values.specs.declared.order.Order.TheVariants.{Asc, Desc}
 use Rattle.agg_values.proofs.KeyOrder.{then_equal}
 use Rattle.agg_values.proofs.TupleOrder.{tuple_order-total}
-use Rattle.agg_segment.specs.Columns.{encoded_key}
-use Rattle.agg_request.specs.Occurrences.{same_tuple}
-use Rattle.agg_request.specs.Source.{Sources, order_of, rules_of}
-use Rattle.agg_request.specs.declared.source.CompositeAggregationSource.{CompositeAggregationSource}
-use Rattle.agg_request.proofs.Lists.{count-step}
+use Rattle.agg_column.specs.Columns.{encoded_key}
+use Rattle.agg_request_tree.specs.Occurrences.{same_tuple}
+use Rattle.agg_request_tree.specs.Source.{Sources, order_of, rules_of}
+use Rattle.agg_request_tree.specs.declared.source.CompositeAggregationSource.{CompositeAggregationSource}
+use Rattle.agg_request_tree.proofs.Lists.{count-step}
 use Rattle.agg_composite.specs.Encoding.{EncodedTuple, StandFor, StandsFor, encoded_order}
 use Rattle.agg_composite.specs.Encoding.{encoded_tuple_order, null_place, raw_of}
 use Rattle.agg_composite.specs.Lanes.{keys_at, lanes}

@@ -4,10 +4,10 @@ use Rattle.agg_values.specs.TypedKey.{CompositeIntermediateKey}
 use Rattle.agg_values.specs.declared.error.InvalidArgument.TheVariants as argument
 use Rattle.agg_values.specs.declared.request_error.RequestError.{RequestError}
 use Rattle.agg_values.specs.declared.request_error.RequestError.TheVariants as error
-use Rattle.agg_request.specs.Faults.{HasInterval, IsIntervalFault, IsNullAfter, IsOtherAfter}
-use Rattle.agg_request.specs.Faults.{SourceHasFault}
-use Rattle.agg_request.specs.declared.source.CompositeAggregationSource.{CompositeAggregationSource}
-use Rattle.agg_request.proofs.Checks.{no_interval_fault}
+use Rattle.agg_request_tree.specs.Faults.{HasInterval, IsIntervalFault, IsNullAfter, IsOtherAfter}
+use Rattle.agg_request_tree.specs.Faults.{SourceHasFault}
+use Rattle.agg_request_tree.specs.declared.source.CompositeAggregationSource.{CompositeAggregationSource}
+use Rattle.agg_request_tree.proofs.Checks.{no_interval_fault}
 use Rattle.agg_composite.specs.Accessors.{HasNoAccessors, IsFirstFault, OrNoMemory, check_of}
 
 module _ (source : CompositeAggregationSource) (after : Option CompositeIntermediateKey) where

@@ -14,21 +14,21 @@ use Rattle.agg_values.specs.declared.after_key.AfterKey.{AfterKey}
 use Rattle.agg_values.specs.declared.order.Order.{Order}
 use Rattle.agg_values.specs.declared.order.Order.TheVariants.{Asc, Desc}
 use Rattle.agg_calendar.specs.declared.interval.PrecomputedDateInterval.{PrecomputedDateInterval}
-use Rattle.agg_segment.specs.Columns.{StoredColumn, all_keys, column_keys}
+use Rattle.agg_column.specs.Columns.{StoredColumn, all_keys, column_keys}
 use Rattle.agg_segment.specs.Segment.{Stored, document_at}
-use Rattle.agg_request.specs.Faults.{HasInterval}
-use Rattle.agg_request.specs.Ranges.{AreInRange, IsInRange}
-use Rattle.agg_request.specs.Source.{Sources, date_of, field_of, order_of, start_by, start_in}
-use Rattle.agg_request.specs.Source.{values_at}
-use Rattle.agg_request.specs.declared.source.CompositeAggregationSource as kind
+use Rattle.agg_request_tree.specs.Faults.{HasInterval}
+use Rattle.agg_request_tree.specs.Ranges.{AreInRange, IsInRange}
+use Rattle.agg_request_tree.specs.Source.{Sources, date_of, field_of, order_of, start_by, start_in}
+use Rattle.agg_request_tree.specs.Source.{values_at}
+use Rattle.agg_request_tree.specs.declared.source.CompositeAggregationSource as kind
 use kind.{CompositeAggregationSource}
 use kind.TheVariants.{DateHistogram, Histogram, Terms}
-use Rattle.agg_request.proofs.Faults.{HasInterval-large}
+use Rattle.agg_request_tree.proofs.Faults.{HasInterval-large}
 use Rattle.agg_composite.specs.Accessors.{AllFit, AreOfField, IsIntervalOf, keys_held}
 use Rattle.agg_composite.specs.Answers.{AreAllInRange}
 use Rattle.agg_composite.specs.Lanes.{columns_of, in_requested}
 use Rattle.agg_composite.specs.Ranges.{AreColumnsWithin, IsDocumentWithin}
-use Rattle.agg_request.specs.Ranges.{IsWithin}
+use Rattle.agg_request_tree.specs.Ranges.{IsWithin}
 use Rattle.agg_composite.specs.Starts.{divided, divisor_of}
 use Rattle.agg_composite.specs.declared.accessor.CompositeAccessor.{CompositeAccessor}
 use Rattle.agg_composite.specs.declared.accessor.CompositeSourceAccessors.{CompositeSourceAccessors}

@@ -17,13 +17,13 @@ use Rattle.agg_values.specs.Names.{Named}
 use Rattle.agg_values.specs.Tuple.{KeyTuple}
 use Rattle.agg_values.specs.declared.after_key.AfterKey.{AfterKey}
 use Rattle.agg_segment.specs.Segment.{Stored}
-use Rattle.agg_request.specs.Groups.{Group, Groups}
-use Rattle.agg_request.specs.Occurrences.{same_tuple}
-use Rattle.agg_request.specs.Source.{rules_of}
-use Rattle.agg_request.proofs.Lists.{AllByRecursion-Has, AllByRecursion-from_Has}
-use Rattle.agg_request.proofs.Lists.{All-from_Contains, Contains-from_Has, Contains-map, Has}
-use Rattle.agg_request.proofs.Lists.{Has-from_Contains, count-step, count_by-map}
-use Rattle.agg_request.proofs.Lists.{count_by-positive, count_by-some}
+use Rattle.agg_request_tree.specs.Groups.{Group, Groups}
+use Rattle.agg_request_tree.specs.Occurrences.{same_tuple}
+use Rattle.agg_request_tree.specs.Source.{rules_of}
+use Rattle.agg_request_tree.proofs.Lists.{AllByRecursion-Has, AllByRecursion-from_Has}
+use Rattle.agg_request_tree.proofs.Lists.{All-from_Contains, Contains-from_Has, Contains-map, Has}
+use Rattle.agg_request_tree.proofs.Lists.{Has-from_Contains, count-step, count_by-map}
+use Rattle.agg_request_tree.proofs.Lists.{count_by-positive, count_by-some}
 use Rattle.agg_composite.specs.Accessors.{Fits}
 use Rattle.agg_composite.specs.Counts.{Counts, EncodedCounts, positive}
 use Rattle.agg_composite.specs.Decoded.{IsEncoded, decoded, decoded_groups}

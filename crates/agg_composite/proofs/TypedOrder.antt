@@ -26,17 +26,17 @@ use Rattle.agg_values.specs.declared.order.MissingOrder.TheVariants.{Default, Fi
 use Rattle.agg_values.specs.declared.order.Order.{Order}
 use Rattle.agg_values.specs.declared.order.Order.TheVariants.{Asc, Desc}
 use Rattle.agg_values.proofs.KeyOrder.{key_order-exact, key_order-total, then_equal}
-use Rattle.agg_segment.specs.Columns.{AreInKeyOrder, ClassesAscend, StandsForKey, StoredColumn}
-use Rattle.agg_segment.specs.Columns.{encoded_key, keys_rank}
+use Rattle.agg_column.specs.Columns.{AreInKeyOrder, ClassesAscend, StandsForKey, StoredColumn}
+use Rattle.agg_column.specs.Columns.{encoded_key, keys_rank}
 use Rattle.agg_segment.specs.Segment.{Stored}
-use Rattle.agg_segment.specs.declared.keys.ColumnKeys.{ColumnKeys}
-use Rattle.agg_segment.specs.declared.keys.ColumnKeys.TheVariants.{Bools, Texts, Signed, Unsigned}
-use Rattle.agg_segment.specs.declared.keys.ColumnKeys.TheVariants.{Addresses, Dates}
-use Rattle.agg_request.specs.Source.{Sources, missing_order_of, order_of, rules_of}
-use Rattle.agg_request.specs.declared.source.CompositeAggregationSource as kind
+use Rattle.agg_column.specs.declared.keys.ColumnKeys.{ColumnKeys}
+use Rattle.agg_column.specs.declared.keys.ColumnKeys.TheVariants.{Bools, Texts, Signed, Unsigned}
+use Rattle.agg_column.specs.declared.keys.ColumnKeys.TheVariants.{Addresses, Dates}
+use Rattle.agg_request_tree.specs.Source.{Sources, missing_order_of, order_of, rules_of}
+use Rattle.agg_request_tree.specs.declared.source.CompositeAggregationSource as kind
 use kind.{CompositeAggregationSource}
 use kind.TheVariants.{DateHistogram, Histogram, Terms}
-use Rattle.agg_request.specs.Source.{after_of}
+use Rattle.agg_request_tree.specs.Source.{after_of}
 use Rattle.agg_composite.specs.Accessors.{AreAccessorsOf, AreOfField, Fits}
 use Rattle.agg_composite.specs.Encoding.{EncodedTuple, StandFor, StandsFor, encoded_at}
 use Rattle.agg_composite.specs.Encoding.{encoded_null, encoded_order, encoded_tuple_order}

@@ -20,14 +20,14 @@ use Rattle.agg_calendar.specs.Start.{IsUsable}
 use Rattle.agg_calendar.specs.declared.interval.PrecomputedDateInterval as interval
 use interval.{PrecomputedDateInterval}
 use interval.TheVariants.{NotApplicable}
-use Rattle.agg_segment.specs.Columns.{AreInKeyOrder, ClassesAscend, StandsForKey, StoredColumn}
-use Rattle.agg_segment.specs.Columns.{all_keys, encoded_key, type_of}
+use Rattle.agg_column.specs.Columns.{AreInKeyOrder, ClassesAscend, StandsForKey, StoredColumn}
+use Rattle.agg_column.specs.Columns.{all_keys, encoded_key, type_of}
 use Rattle.agg_segment.specs.Segment.{Stored, document_at}
-use Rattle.agg_request.specs.Faults.{HasInterval, SourceHasFault}
-use Rattle.agg_request.specs.Source.{Sources, after_of, field_of, interval_of, keys_in}
-use Rattle.agg_request.specs.Source.{missing_order_of, order_of, start_in}
-use Rattle.agg_request.specs.SourceColumns.{reads_type}
-use Rattle.agg_request.specs.declared.source.CompositeAggregationSource as kind
+use Rattle.agg_request_tree.specs.Faults.{HasInterval, SourceHasFault}
+use Rattle.agg_request_tree.specs.Source.{Sources, after_of, field_of, interval_of, keys_in}
+use Rattle.agg_request_tree.specs.Source.{missing_order_of, order_of, start_in}
+use Rattle.agg_request_tree.specs.SourceColumns.{reads_type}
+use Rattle.agg_request_tree.specs.declared.source.CompositeAggregationSource as kind
 use kind.{CompositeAggregationSource}
 use kind.TheVariants.{DateHistogram, Histogram, Terms}
 use Rattle.agg_composite.specs.AfterKey.{projected_side}

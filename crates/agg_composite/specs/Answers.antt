@@ -7,9 +7,9 @@ use Rattle.agg_values.specs.declared.after_key.AfterKey.{AfterKey}
 use Rattle.agg_composite.specs.declared.visit_error.VisitError.{VisitError}
 use Rattle.agg_composite.specs.declared.visit_error.VisitError.TheVariants.{TooMany}
 use Rattle.agg_segment.specs.Segment.{Stored, documents_at}
-use Rattle.agg_request.specs.Occurrences.{bound_of, past_occurrences}
-use Rattle.agg_request.specs.Ranges.{AreInRange}
-use Rattle.agg_request.specs.Source.{Sources}
+use Rattle.agg_request_tree.specs.Occurrences.{bound_of, past_occurrences}
+use Rattle.agg_request_tree.specs.Ranges.{AreInRange}
+use Rattle.agg_request_tree.specs.Source.{Sources}
 use Rattle.agg_composite.specs.Accessors.{AllFit}
 use Rattle.agg_composite.specs.Counts.{EncodedCounts}
 use Rattle.agg_composite.specs.Encoding.{EncodedTuple, StandFor}

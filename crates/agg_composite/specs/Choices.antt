@@ -7,10 +7,10 @@ use Rattle.std.specs.declared.cmp.Ordering.TheVariants.{Less, Equal, Greater}
 use Rattle.agg_values.specs.TypedKey.{CompositeIntermediateKey}
 use Rattle.agg_values.specs.declared.order.Order.{Order}
 use Rattle.agg_values.specs.declared.order.Order.TheVariants.{Asc, Desc}
-use Rattle.agg_request.specs.Faults.{HasInterval}
-use Rattle.agg_request.specs.Ranges.{IsInRange}
-use Rattle.agg_request.specs.Source.{Sources, missing_bucket_of, or_missing, order_of}
-use Rattle.agg_request.specs.declared.source.CompositeAggregationSource.{CompositeAggregationSource}
+use Rattle.agg_request_tree.specs.Faults.{HasInterval}
+use Rattle.agg_request_tree.specs.Ranges.{IsInRange}
+use Rattle.agg_request_tree.specs.Source.{Sources, missing_bucket_of, or_missing, order_of}
+use Rattle.agg_request_tree.specs.declared.source.CompositeAggregationSource.{CompositeAggregationSource}
 use Rattle.agg_composite.specs.Accessors.{IsAccessorOf, keys_held, keys_read, side_at}
 use Rattle.agg_composite.specs.Encoding.{IsItemOf, encoded_at, encoded_null}
 use Rattle.agg_composite.specs.Lanes.{lane_of}

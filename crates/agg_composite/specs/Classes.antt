@@ -5,8 +5,8 @@ use Rattle.agg_values.specs.Column.{class_rank}
 use Rattle.agg_values.specs.TypedKey.{CompositeIntermediateKey}
 use Rattle.agg_values.specs.declared.typed_key.CompositeIntermediateKey.TheVariants as key
 use Rattle.agg_values.specs.declared.order.Order.{Order}
-use Rattle.agg_segment.specs.Columns.{keys_rank}
-use Rattle.agg_segment.specs.declared.keys.ColumnKeys.{ColumnKeys}
+use Rattle.agg_column.specs.Columns.{keys_rank}
+use Rattle.agg_column.specs.declared.keys.ColumnKeys.{ColumnKeys}
 use Rattle.agg_composite.specs.Lanes.{class_order}
 
 -- whether a column's keys come before a key by their class, in the requested order

@@ -4,10 +4,10 @@ use Rattle.std.specs.Prelude.{if◌then◌else◌}
 use Rattle.agg_values.specs.Tuple.{KeyTuple}
 use Rattle.agg_values.specs.TypedKey.{CompositeIntermediateKey}
 use Rattle.agg_values.specs.declared.typed_key.CompositeIntermediateKey.TheVariants.{Null}
-use Rattle.agg_segment.specs.Columns.{encoded_key}
-use Rattle.agg_request.specs.Groups.{Group}
-use Rattle.agg_request.specs.Source.{Sources, order_of}
-use Rattle.agg_request.specs.declared.source.CompositeAggregationSource.{CompositeAggregationSource}
+use Rattle.agg_column.specs.Columns.{encoded_key}
+use Rattle.agg_request_tree.specs.Groups.{Group}
+use Rattle.agg_request_tree.specs.Source.{Sources, order_of}
+use Rattle.agg_request_tree.specs.declared.source.CompositeAggregationSource.{CompositeAggregationSource}
 use Rattle.agg_composite.specs.Lanes.{keys_at, lanes}
 use Rattle.agg_composite.specs.Counts.{EncodedCounts}
 use Rattle.agg_composite.specs.Encoding.{EncodedTuple, raw_of}

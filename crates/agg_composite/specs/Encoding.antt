@@ -9,9 +9,9 @@ use Rattle.agg_values.specs.TypedKey.{CompositeIntermediateKey}
 use Rattle.agg_values.specs.declared.typed_key.CompositeIntermediateKey.TheVariants.{Null}
 use Rattle.agg_values.specs.declared.order.Order.{Order}
 use Rattle.agg_values.specs.declared.order.Order.TheVariants.{Asc, Desc}
-use Rattle.agg_segment.specs.Columns.{StandsForKey, encoded_key}
-use Rattle.agg_request.specs.Source.{Sources, missing_order_of, order_of}
-use Rattle.agg_request.specs.declared.source.CompositeAggregationSource.{CompositeAggregationSource}
+use Rattle.agg_column.specs.Columns.{StandsForKey, encoded_key}
+use Rattle.agg_request_tree.specs.Source.{Sources, missing_order_of, order_of}
+use Rattle.agg_request_tree.specs.declared.source.CompositeAggregationSource.{CompositeAggregationSource}
 use Rattle.agg_composite.specs.Lanes.{keys_at, lanes}
 use Rattle.agg_composite.specs.declared.accessor.CompositeAccessor.{CompositeAccessor}
 use Rattle.agg_composite.specs.declared.accessor.CompositeSourceAccessors.{CompositeSourceAccessors}

@@ -1,5 +1,5 @@
 -- The entries that a collector gives of a page.
-use Rattle.agg_request.specs.Groups.{Group}
+use Rattle.agg_request_tree.specs.Groups.{Group}
 use Rattle.agg_composite.specs.declared.page_entry.PageEntry.{PageEntry}
 
 -- an entry as a group: its key with its count

@@ -5,10 +5,10 @@ use Rattle.agg_values.specs.TypedKey.{CompositeIntermediateKey}
 use Rattle.agg_values.specs.declared.number.ProjectedNumber.{ProjectedNumber}
 use Rattle.agg_values.specs.declared.number.ProjectedNumber.TheVariants as number
 use Rattle.agg_values.specs.declared.order.Order.TheVariants.{Asc}
-use Rattle.agg_segment.specs.Columns.{StandsForKey, encoded_key}
-use Rattle.agg_segment.specs.declared.hit.OrdHit.{OrdHit}
-use Rattle.agg_segment.specs.declared.hit.OrdHit.TheVariants as hit
-use Rattle.agg_segment.specs.declared.keys.ColumnKeys.{ColumnKeys}
+use Rattle.agg_column.specs.Columns.{StandsForKey, encoded_key}
+use Rattle.agg_column.specs.declared.hit.OrdHit.{OrdHit}
+use Rattle.agg_column.specs.declared.hit.OrdHit.TheVariants as hit
+use Rattle.agg_column.specs.declared.keys.ColumnKeys.{ColumnKeys}
 use Rattle.agg_composite.specs.AfterKey.{projected_side}
 use Rattle.agg_composite.specs.declared.after_key.PrecomputedAfterKey.{PrecomputedAfterKey}
 use Rattle.agg_composite.specs.declared.after_key.PrecomputedAfterKey.TheVariants.{AfterLast}

@@ -1,10 +1,10 @@
 -- Starts of buckets of what columns hold, within i64.
 use Rattle.std.specs.Prelude.{ℕ, List, All}
 use Rattle.agg_values.specs.TypedKey.{CompositeIntermediateKey}
-use Rattle.agg_segment.specs.Columns.{StoredColumn, column_keys, encoded_key}
-use Rattle.agg_segment.specs.declared.keys.ColumnKeys.{ColumnKeys}
-use Rattle.agg_request.specs.declared.source.CompositeAggregationSource.{CompositeAggregationSource}
-use Rattle.agg_request.specs.Ranges.{IsWithin}
+use Rattle.agg_column.specs.Columns.{StoredColumn, column_keys, encoded_key}
+use Rattle.agg_column.specs.declared.keys.ColumnKeys.{ColumnKeys}
+use Rattle.agg_request_tree.specs.declared.source.CompositeAggregationSource.{CompositeAggregationSource}
+use Rattle.agg_request_tree.specs.Ranges.{IsWithin}
 use Rattle.agg_composite.specs.Starts.{divided, divisor_of}
 use Rattle.agg_composite.specs.declared.accessor.CompositeAccessor.{CompositeAccessor}
 use Rattle.agg_composite.specs.declared.divisor.Divisor.{Divisor}

@@ -8,11 +8,11 @@ use Rattle.agg_calendar.specs.declared.error.StartError.{StartError}
 use Rattle.agg_calendar.specs.declared.interval.PrecomputedDateInterval as interval
 use interval.{PrecomputedDateInterval}
 use interval.TheVariants.{FixedNanoseconds}
-use Rattle.agg_segment.specs.Columns.{encoded_key}
-use Rattle.agg_segment.specs.declared.keys.ColumnKeys.{ColumnKeys}
-use Rattle.agg_request.specs.Ranges.{IsWithin}
-use Rattle.agg_request.specs.Source.{counted_number, date_of}
-use Rattle.agg_request.specs.declared.source.CompositeAggregationSource as kind
+use Rattle.agg_column.specs.Columns.{encoded_key}
+use Rattle.agg_column.specs.declared.keys.ColumnKeys.{ColumnKeys}
+use Rattle.agg_request_tree.specs.Ranges.{IsWithin}
+use Rattle.agg_request_tree.specs.Source.{counted_number, date_of}
+use Rattle.agg_request_tree.specs.declared.source.CompositeAggregationSource as kind
 use kind.{CompositeAggregationSource}
 use kind.TheVariants.{DateHistogram, Histogram, Terms}
 use Rattle.agg_composite.specs.Places.{moved_up}

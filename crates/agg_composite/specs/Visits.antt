@@ -4,8 +4,8 @@ use Rattle.std.specs.List.{AllZip}
 use Rattle.agg_values.specs.Tuple.{KeyTuple}
 use Rattle.agg_cache.specs.declared.error.CollectError.{CollectError}
 use Rattle.agg_cache.specs.declared.error.CollectError.TheVariants as refusal
-use Rattle.agg_request.specs.Occurrences.{same_tuple}
-use Rattle.agg_request.specs.Source.{rules_of}
+use Rattle.agg_request_tree.specs.Occurrences.{same_tuple}
+use Rattle.agg_request_tree.specs.Source.{rules_of}
 use Rattle.agg_composite.specs.Answers.{Answers}
 use Rattle.agg_composite.specs.Counts.{Counts, EncodedCounts}
 use Rattle.agg_composite.specs.Encoding.{EncodedTuple, StandFor}

@@ -3,8 +3,8 @@ ghost use Rattle.std.specs.Prelude.{◌≡◌, Some, option_map, IfErr, IfOk, On
 ghost use Rattle.std.specs.Ordering.{nat_cmp};
 ghost use Rattle.agg_values.specs.Column.{class_of, class_rank};
 ghost use Rattle.agg_values.specs.TypedKey.{CompositeIntermediateKey};
-ghost use Rattle.agg_segment.specs.Columns.{keys_rank};
-ghost use Rattle.agg_request.specs.Faults.{IsSoundSource};
+ghost use Rattle.agg_column.specs.Columns.{keys_rank};
+ghost use Rattle.agg_request_tree.specs.Faults.{IsSoundSource};
 ghost use Rattle.agg_composite.specs.Accessors.{AreAccessorsOf, HasNoAccessors};
 
 mod build;
@@ -12,7 +12,7 @@ mod interval;
 
 use crate::PrecomputedAfterKey;
 use agg_calendar::PrecomputedDateInterval;
-use agg_request::CompositeAggregationSource;
+use agg_request_tree::CompositeAggregationSource;
 use agg_segment::{Column, SegmentReader};
 use agg_values::{
     ColumnPaginationOrder, CompositeIntermediateKey, InvalidArgument, ItemList, RequestError,

@@ -1,6 +1,6 @@
 //! After keys on the numbers of columns.
 ghost use Rattle.std.specs.Prelude.{◌≡◌, ℕ};
-ghost use Rattle.agg_segment.specs.Columns.{StandsForKey, encoded_key};
+ghost use Rattle.agg_column.specs.Columns.{StandsForKey, encoded_key};
 ghost use Rattle.agg_values.specs.KeyOrder.{key_order};
 ghost use Rattle.agg_composite.specs.AfterKey.{is_above, is_at, is_below, projected_side};
 ghost use Rattle.agg_composite.specs.Places.{hit_place, signed_place, unsigned_place};

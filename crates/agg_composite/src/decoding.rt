@@ -1,7 +1,7 @@
 //! Encoded tuples, back as the tuples that they stand for.
 ghost use Rattle.std.specs.Prelude.{◌≡◌, ◌<◌, IfOk, length};
 ghost use Rattle.agg_values.specs.TypedKey.{CompositeIntermediateKey as Key};
-ghost use Rattle.agg_segment.specs.Columns.{StandsForKey, encoded_key};
+ghost use Rattle.agg_column.specs.Columns.{StandsForKey, encoded_key};
 ghost use Rattle.agg_composite.specs.Decoded.{IsEncoded, decoded, decoded_key};
 ghost use Rattle.agg_composite.specs.Encoding.{StandsFor, raw_of};
 ghost use Rattle.agg_composite.specs.Lanes.{keys_at, lanes};
@@ -10,7 +10,7 @@ use crate::encoded::Encoded;
 use crate::lanes::count_of_lanes;
 use crate::numbers::moved_down;
 use crate::{CompositeAccessor, CompositeAggReqData};
-use agg_request::CompositeAggregationSource;
+use agg_request_tree::CompositeAggregationSource;
 use agg_values::{CompositeIntermediateKey, Order, OutOfMemory, Tuple};
 use std::alloc::Global;
 

@@ -2,8 +2,8 @@
 ghost use Rattle.std.specs.Prelude.{◌≡◌, ◌↔◌, ◌≤ℤ◌, ℤ, IfSome, IsTrue, Option, neg_ℤ, option_map};
 ghost use Rattle.std.specs.Prelude.{pos};
 ghost use Rattle.agg_calendar.specs.Start.{IsUsable, fixed_start, start_of};
-ghost use Rattle.agg_segment.specs.Columns.{encoded_key};
-ghost use Rattle.agg_request.specs.Source.{counted_number, date_of};
+ghost use Rattle.agg_column.specs.Columns.{encoded_key};
+ghost use Rattle.agg_request_tree.specs.Source.{counted_number, date_of};
 ghost use Rattle.agg_composite.specs.Ranges.{IsKeyWithin};
 ghost use Rattle.agg_composite.specs.Starts.{CanDivide, GivesStartOf, IsCountable};
 ghost use Rattle.agg_composite.specs.Starts.{by_numbers, by_time, divided, divisor_of, lane_number};
@@ -12,7 +12,7 @@ ghost use Rattle.agg_composite.specs.Starts.{start_number};
 use crate::CompositeAccessor;
 use crate::numbers::{moved_down, moved_up};
 use agg_calendar::{PrecomputedDateInterval, StartError, fixed_bucket};
-use agg_request::CompositeAggregationSource;
+use agg_request_tree::CompositeAggregationSource;
 use agg_segment::{Column, ColumnType};
 
 /// What values are divided by.

@@ -3,7 +3,7 @@ ghost use Rattle.std.specs.Prelude.{◌≡◌, ◌<◌, ◌≤◌, ◌^◌, leng
 ghost use Rattle.agg_composite.specs.Lanes.{lane_of, lanes};
 
 use crate::CompositeAccessor;
-use agg_request::CompositeAggregationSource;
+use agg_request_tree::CompositeAggregationSource;
 
 /// How many lanes a source has: one for each accessor, a histogram one for all.
 pub fn count_of_lanes(

@@ -7,7 +7,7 @@ ghost use Rattle.agg_values.specs.Names.{Named};
 ghost use Rattle.agg_values.specs.Tuple.{KeyTuple};
 ghost use Rattle.agg_values.specs.declared.after_key.AfterKey.{AfterKey};
 ghost use Rattle.agg_segment.specs.Segment.{Stored};
-ghost use Rattle.agg_request.specs.Source.{rules_of};
+ghost use Rattle.agg_request_tree.specs.Source.{rules_of};
 ghost use Rattle.agg_composite.specs.Accessors.{Fits};
 ghost use Rattle.agg_composite.specs.Encoding.{EncodedTuple};
 ghost use Rattle.agg_composite.specs.Visits.{StandsForTuple};

@@ -11,7 +11,7 @@ ghost use Rattle.agg_composite.specs.Starts.{CanDivide};
 
 use crate::divisor::DividedColumn;
 use crate::{CompositeAccessor, CompositeSourceAccessors};
-use agg_request::CompositeAggregationSource;
+use agg_request_tree::CompositeAggregationSource;
 use agg_values::DocId;
 
 /// Whether the starts of all values that sources read in documents lie within 64 bits.

@@ -8,7 +8,7 @@ ghost use Rattle.agg_composite.specs.Answers.{AreAllInRange};
 
 use crate::CompositeSourceAccessors;
 use crate::ranges::are_sources_in_range;
-use agg_request::CompositeAggregation;
+use agg_request_tree::CompositeAggregation;
 use agg_values::{DocId, ItemList, Text};
 
 /// A composite in a segment: how many groups its page has room for, and the accessors of each of

@@ -13,7 +13,7 @@ mod visit;
 use crate::CompositeSourceAccessors;
 use crate::group_counts::GroupCounts;
 use crate::visit_error::VisitError;
-use agg_request::CompositeAggregationSource;
+use agg_request_tree::CompositeAggregationSource;
 use agg_values::{DocId, Steps};
 use std::alloc::Global;
 use std::sync::ledger::Ledger;

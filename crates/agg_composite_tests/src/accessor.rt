@@ -1,7 +1,7 @@
 //! The accessors of sources over a field of several classes.
 use crate::found::{ALL, NONE, Standing, standing, types};
 use agg_composite::{CompositeSourceAccessors, PrecomputedAfterKey};
-use agg_request::{CompositeAggregationSource, TermCompositeAggregationSource};
+use agg_request_tree::{CompositeAggregationSource, TermCompositeAggregationSource};
 use agg_segment::ColumnType;
 use agg_segment_tests::given::{Given, segment_of};
 use agg_values::{

@@ -1,7 +1,7 @@
 //! The accessors of sources that divide values.
 use crate::found::{ALL, NONE, Standing, standing, types};
 use agg_composite::PrecomputedAfterKey;
-use agg_request::{
+use agg_request_tree::{
     CompositeAggregationSource, DateHistogramCompositeAggregationSource,
     HistogramCompositeAggregationSource,
 };

@@ -1,7 +1,7 @@
 //! What the accessors of a source say.
 use crate::given::key;
 use agg_composite::{CompositeSourceAccessors, PrecomputedAfterKey};
-use agg_request::CompositeAggregationSource;
+use agg_request_tree::CompositeAggregationSource;
 use agg_segment::{ColumnType, SegmentReader};
 use std::alloc::Global;
 use std::test::Fail;

@@ -5,7 +5,7 @@ use Rattle.agg_pages.specs.declared.status.Status.TheVariants.{Ok, Refused, Usag
 use Rattle.agg_pages.specs.declared.status.Status.TheVariants.{Input as NotInput, ReadFault}
 use Rattle.agg_pages.specs.declared.status.Status.TheVariants.{WriteFault, OutOfMemory}
 use Rattle.agg_pages.specs.Answer.{IsRefusal}
-use Rattle.agg_pages.specs.Input.{AreNoInput, Input, IsInput}
+use Rattle.agg_input.specs.Input.{AreNoInput, Input, IsInput}
 
 -- bytes have no pages, and a status says why: they are no input, or one whose walk may be refused,
 -- or, at a write fault, one; want of memory is free, and no other status comes

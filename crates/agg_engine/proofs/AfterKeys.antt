@@ -5,17 +5,17 @@ use Rattle.std.proofs.lemmas.List.Elements.{recursion_from_All}
 use Rattle.std.proofs.lemmas.Slice.Zip.{AllZip-long}
 use Rattle.agg_values.specs.Tuple.{KeyTuple}
 use Rattle.agg_values.specs.declared.typed_key.CompositeIntermediateKey.TheVariants.{Null}
-use Rattle.agg_segment.specs.Document.{Fields}
-use Rattle.agg_request.specs.BySource.{after_map}
-use Rattle.agg_request.specs.Faults.{HasInterval, HaveOwnNames}
-use Rattle.agg_request.specs.Occurrences.{occurrences, occurrences_in}
-use Rattle.agg_request.specs.Source.{Sources, after_of}
-use Rattle.agg_request.specs.declared.aggregation.CompositeAggregation.{CompositeAggregation}
-use Rattle.agg_request.proofs.Faults.{IsSoundSource-parts}
-use Rattle.agg_request.proofs.Lists.{AllByRecursion-Has, Contains-from_Has, Has-from_Contains}
-use Rattle.agg_request.proofs.Lists.{Has-from_flat_map}
-use Rattle.agg_request.proofs.SourceKeys.{IsNullByBucket, after_map-own, after_map-sound}
-use Rattle.agg_request.proofs.SourceKeys.{occurrence-Null}
+use Rattle.agg_column.specs.Document.{Fields}
+use Rattle.agg_request_tree.specs.BySource.{after_map}
+use Rattle.agg_request_tree.specs.Faults.{HasInterval, HaveOwnNames}
+use Rattle.agg_request_tree.specs.Occurrences.{occurrences, occurrences_in}
+use Rattle.agg_request_tree.specs.Source.{Sources, after_of}
+use Rattle.agg_request_tree.specs.declared.aggregation.CompositeAggregation.{CompositeAggregation}
+use Rattle.agg_request_tree.proofs.Faults.{IsSoundSource-parts}
+use Rattle.agg_request_tree.proofs.Lists.{AllByRecursion-Has, Contains-from_Has, Has-from_Contains}
+use Rattle.agg_request_tree.proofs.Lists.{Has-from_flat_map}
+use Rattle.agg_request_tree.proofs.SourceKeys.{IsNullByBucket, after_map-own, after_map-sound}
+use Rattle.agg_request_tree.proofs.SourceKeys.{occurrence-Null}
 use Rattle.agg_engine.specs.PageAnswers.{MayGoOnFrom}
 
 -- no field of a document holds Null

@@ -8,22 +8,22 @@ use Rattle.std.proofs.lemmas.List.Concat.{flat_map-append}
 use Rattle.std.proofs.lemmas.List.Elements.{All-contains, All-from_recursion, filter-append}
 use Rattle.agg_values.specs.Names.{Named}
 use Rattle.agg_values.specs.declared.after_key.AfterKey.{AfterKey}
-use Rattle.agg_segment.specs.Document.{Fields}
+use Rattle.agg_column.specs.Document.{Fields}
 use Rattle.agg_segment.specs.Query.{matches}
 use Rattle.agg_segment.specs.Segment.{Stored, documents_of}
 use Rattle.agg_segment.specs.declared.query.QueryTree.{QueryTree}
 use Rattle.agg_segment.proofs.Encoded.{back_all, front_all}
-use Rattle.agg_request.specs.Request.{agg_of}
-use Rattle.agg_request.specs.Uncut.{counted as counted_by, uncut}
-use Rattle.agg_request.specs.declared.aggregation.Aggregation.{Aggregation}
-use Rattle.agg_request.specs.declared.aggregation.AggregationVariants.{AggregationVariants}
-use Rattle.agg_request.specs.declared.aggregation.AggregationVariants.TheVariants.{Composite}
-use Rattle.agg_request.specs.declared.aggregation.CompositeAggregation.{CompositeAggregation}
+use Rattle.agg_request_tree.specs.Request.{agg_of}
+use Rattle.agg_request_tree.specs.Uncut.{counted as counted_by, uncut}
+use Rattle.agg_request_tree.specs.declared.aggregation.Aggregation.{Aggregation}
+use Rattle.agg_request_tree.specs.declared.aggregation.AggregationVariants.{AggregationVariants}
+use Rattle.agg_request_tree.specs.declared.aggregation.AggregationVariants.TheVariants.{Composite}
+use Rattle.agg_request_tree.specs.declared.aggregation.CompositeAggregation.{CompositeAggregation}
 use Rattle.agg_results.specs.Merging.{AreMerged, CountsPass, ShapesDiffer, SomeOfBoth}
 use Rattle.agg_results.specs.declared.intermediate.results.IntermediateAggregationResults as held
 use held.{IntermediateAggregationResults}
 use Rattle.agg_results.proofs.StandingResults.{StandsFor-alike, StandsFor-few, StandsFor-joined}
-use Rattle.agg_request.proofs.RequestTrees.{agg-made}
+use Rattle.agg_request_tree.proofs.RequestTrees.{agg-made}
 use Rattle.agg_engine.specs.PageAnswers.{AnswersHeld, asked}
 use Rattle.agg_engine.specs.Walk.{matching_in}
 use Rattle.agg_engine.proofs.OneRequest.{at_size, going_on}

@@ -8,17 +8,17 @@ use Rattle.std.specs.Prelude.{IsSome, ⊤}
 use Rattle.std.proofs.lemmas.List.Elements.{All-contains, All-from_recursion}
 use Rattle.agg_values.specs.Names.{Named, name_cmp, value_of}
 use Rattle.agg_values.specs.declared.after_key.AfterKey.{AfterKey}
-use Rattle.agg_segment.specs.Document.{Fields}
+use Rattle.agg_column.specs.Document.{Fields}
 use Rattle.agg_segment.specs.declared.query.QueryTree.{QueryTree}
-use Rattle.agg_request.specs.Occurrences.{bound_of}
-use Rattle.agg_request.specs.Page.{Entry}
-use Rattle.agg_request.specs.Request.{agg_of, aggregation_of}
-use Rattle.agg_request.specs.declared.aggregation.Aggregation.{Aggregation}
-use Rattle.agg_request.specs.declared.aggregation.AggregationVariants.{AggregationVariants}
-use Rattle.agg_request.specs.declared.aggregation.AggregationVariants.TheVariants.{Composite}
-use Rattle.agg_request.specs.declared.aggregation.CompositeAggregation.{CompositeAggregation}
-use Rattle.agg_request.proofs.Lists.{Contains-map}
-use Rattle.agg_request.proofs.PageExists.{page_exists}
+use Rattle.agg_request_tree.specs.Occurrences.{bound_of}
+use Rattle.agg_request_tree.specs.Page.{Entry}
+use Rattle.agg_request_tree.specs.Request.{agg_of, aggregation_of}
+use Rattle.agg_request_tree.specs.declared.aggregation.Aggregation.{Aggregation}
+use Rattle.agg_request_tree.specs.declared.aggregation.AggregationVariants.{AggregationVariants}
+use Rattle.agg_request_tree.specs.declared.aggregation.AggregationVariants.TheVariants.{Composite}
+use Rattle.agg_request_tree.specs.declared.aggregation.CompositeAggregation.{CompositeAggregation}
+use Rattle.agg_request_tree.proofs.Lists.{Contains-map}
+use Rattle.agg_request_tree.proofs.PageExists.{page_exists}
 use Rattle.agg_results.specs.BucketCount.{results_buckets}
 use Rattle.agg_results.specs.Final.{HoldsOther, HoldsUnknown, IsInOtherOrders, IsUnknown}
 use Rattle.agg_results.specs.Final.{final_result, final_results, lowest_of}
@@ -33,7 +33,7 @@ use Rattle.agg_results.proofs.FinalPages.{final-shown}
 use Rattle.agg_results.proofs.NameLookups.{found-name}
 use Rattle.agg_results.proofs.ShownBuckets.{shown-buckets}
 use Rattle.agg_results.proofs.StandingFinal.{StandsFor-shapes}
-use Rattle.agg_request.proofs.RequestTrees.{agg-made}
+use Rattle.agg_request_tree.proofs.RequestTrees.{agg-made}
 use Rattle.agg_engine.specs.PageAnswers.{asked}
 use Rattle.agg_engine.specs.Snapshot.{SnapshotDocuments}
 use Rattle.agg_engine.specs.Walk.{matching_documents}

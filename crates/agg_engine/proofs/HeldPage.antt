@@ -7,7 +7,7 @@ use Rattle.std.specs.Map.{keys_of}
 use Rattle.std.proofs.lemmas.List.{map-append}
 use Rattle.agg_values.specs.KeyOrder.{SourceRules, tuple_order}
 use Rattle.agg_values.proofs.TupleOrder.{tuple_order-total}
-use Rattle.agg_request.specs.Groups.{Group}
+use Rattle.agg_request_tree.specs.Groups.{Group}
 use Rattle.agg_composite.specs.PageEntries.{entry_group}
 use Rattle.agg_composite.specs.declared.page_entry.PageEntry.{PageEntry}
 use Rattle.agg_results.specs.Counts.{add_count, value_at}

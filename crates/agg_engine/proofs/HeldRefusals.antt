@@ -7,12 +7,12 @@ use Rattle.std.proofs.lemmas.Result.{err_from_is_err_and}
 use Rattle.agg_values.specs.Tuple.{KeyTuple}
 use Rattle.agg_cache.specs.declared.error.CollectError.{CollectError}
 use Rattle.agg_cache.specs.declared.error.CollectError.TheVariants as collect
-use Rattle.agg_segment.specs.Document.{Fields}
-use Rattle.agg_request.specs.Occurrences.{past_occurrences, same_tuple}
-use Rattle.agg_request.specs.Source.{rules_of}
-use Rattle.agg_request.specs.declared.aggregation.CompositeAggregation.{CompositeAggregation}
-use Rattle.agg_request.proofs.OccurrencesLength.{past-fewer}
-use Rattle.agg_request.proofs.UncutLength.{length-counted}
+use Rattle.agg_column.specs.Document.{Fields}
+use Rattle.agg_request_tree.specs.Occurrences.{past_occurrences, same_tuple}
+use Rattle.agg_request_tree.specs.Source.{rules_of}
+use Rattle.agg_request_tree.specs.declared.aggregation.CompositeAggregation.{CompositeAggregation}
+use Rattle.agg_request_tree.proofs.OccurrencesLength.{past-fewer}
+use Rattle.agg_request_tree.proofs.UncutLength.{length-counted}
 use Rattle.agg_engine.specs.PageAnswers.{IsHeldRefusal}
 use Rattle.agg_engine.specs.WalkError.{error_from_collect}
 use Rattle.agg_engine.specs.declared.walk.error.WalkError.{WalkError}

@@ -12,16 +12,16 @@ use Rattle.std.proofs.lemmas.Map.Lookups.{exact_bytes}
 use Rattle.agg_values.specs.Names.{Named, name_cmp, value_of}
 use Rattle.agg_values.specs.Tuple.{KeyTuple}
 use Rattle.agg_values.specs.declared.after_key.AfterKey.{AfterKey}
-use Rattle.agg_request.specs.declared.aggregation.Aggregation.{Aggregation}
-use Rattle.agg_request.specs.declared.aggregation.CompositeAggregation.{CompositeAggregation}
-use Rattle.agg_request.specs.declared.aggregation.AggregationVariants.{AggregationVariants}
-use Rattle.agg_request.specs.declared.aggregation.AggregationVariants.TheVariants.{Composite}
-use Rattle.agg_request.specs.BySource.{after_map}
-use Rattle.agg_request.specs.Faults.{IsSound, IsSoundRequest}
-use Rattle.agg_request.specs.Request.{Request, agg_of, aggregation_of, composites_in}
-use Rattle.agg_request.specs.Request.{composites_of}
-use Rattle.agg_request.proofs.PageFromGroups.{equal-from_is_eq}
-use Rattle.agg_request.proofs.RequestTrees.{agg-made, below-made, composites-plain}
+use Rattle.agg_request_tree.specs.declared.aggregation.Aggregation.{Aggregation}
+use Rattle.agg_request_tree.specs.declared.aggregation.CompositeAggregation.{CompositeAggregation}
+use Rattle.agg_request_tree.specs.declared.aggregation.AggregationVariants.{AggregationVariants}
+use Rattle.agg_request_tree.specs.declared.aggregation.AggregationVariants.TheVariants.{Composite}
+use Rattle.agg_request_tree.specs.BySource.{after_map}
+use Rattle.agg_request_tree.specs.Faults.{IsSound, IsSoundRequest}
+use Rattle.agg_request_tree.specs.Request.{Request, agg_of, aggregation_of, composites_in}
+use Rattle.agg_request_tree.specs.Request.{composites_of}
+use Rattle.agg_request_tree.proofs.PageFromGroups.{equal-from_is_eq}
+use Rattle.agg_request_tree.proofs.RequestTrees.{agg-made, below-made, composites-plain}
 use Rattle.agg_engine.specs.NamedComposite.{IsCompositeNamed}
 use Rattle.agg_engine.specs.Walk.{changed, request_changed_at, request_behind, request_at_size}
 use Rattle.agg_engine.specs.Walk.{with_after, with_size}

@@ -5,21 +5,21 @@ use Rattle.std.specs.BTreeMap.{is_at}
 use Rattle.std.specs.List.{AllByRecursion}
 use Rattle.std.specs.Prelude.{MatchOption}
 use Rattle.std.proofs.lemmas.List.Elements.{recursion_from_All}
-use Rattle.agg_segment.specs.Document.{Fields}
+use Rattle.agg_column.specs.Document.{Fields}
 use Rattle.agg_segment.specs.declared.query.QueryTree.{QueryTree}
-use Rattle.agg_request.specs.declared.aggregation.Aggregation.{Aggregation}
-use Rattle.agg_request.specs.declared.aggregation.AggregationVariants.{AggregationVariants}
-use Rattle.agg_request.specs.declared.aggregation.AggregationVariants.TheVariants.{Composite}
-use Rattle.agg_request.specs.declared.aggregation.CompositeAggregation.{CompositeAggregation}
-use Rattle.agg_request.specs.BySource.{after_map}
-use Rattle.agg_request.specs.Occurrences.{bound_of}
-use Rattle.agg_request.specs.Request.{ArePlainComposites, IsPlainComposite, Request, agg_of}
-use Rattle.agg_request.specs.Request.{below_of}
-use Rattle.agg_request.proofs.PageExists.{page_exists}
-use Rattle.agg_request.proofs.PageUnique.{IsPage-same}
+use Rattle.agg_request_tree.specs.declared.aggregation.Aggregation.{Aggregation}
+use Rattle.agg_request_tree.specs.declared.aggregation.AggregationVariants.{AggregationVariants}
+use Rattle.agg_request_tree.specs.declared.aggregation.AggregationVariants.TheVariants.{Composite}
+use Rattle.agg_request_tree.specs.declared.aggregation.CompositeAggregation.{CompositeAggregation}
+use Rattle.agg_request_tree.specs.BySource.{after_map}
+use Rattle.agg_request_tree.specs.Occurrences.{bound_of}
+use Rattle.agg_request_tree.specs.Request.{ArePlainComposites, IsPlainComposite, Request, agg_of}
+use Rattle.agg_request_tree.specs.Request.{below_of}
+use Rattle.agg_request_tree.proofs.PageExists.{page_exists}
+use Rattle.agg_request_tree.proofs.PageUnique.{IsPage-same}
 use Rattle.agg_results.specs.Results.{CompositeResult, IsCompositeResult, IsResult, IsResults}
 use Rattle.agg_results.specs.Results.{Results, after_in, after_tuple}
-use Rattle.agg_request.proofs.RequestTrees.{agg-made, below-made}
+use Rattle.agg_request_tree.proofs.RequestTrees.{agg-made, below-made}
 use Rattle.agg_engine.specs.Snapshot.{SnapshotDocuments}
 use Rattle.agg_engine.specs.Walk.{IsWalk, changed, matching_documents, request_at_size}
 use Rattle.agg_engine.specs.Walk.{request_behind, request_changed_at, with_after, with_size}

@@ -11,15 +11,15 @@ use Rattle.std.proofs.lemmas.List.Elements.{recursion_from_All}
 use Rattle.agg_values.specs.Names.{Named, name_cmp, put}
 use Rattle.agg_values.specs.Tuple.{KeyTuple}
 use Rattle.agg_values.specs.declared.after_key.AfterKey.{AfterKey}
-use Rattle.agg_segment.specs.Document.{Fields}
-use Rattle.agg_request.specs.BySource.{after_map}
-use Rattle.agg_request.specs.Occurrences.{occurrences, occurrences_in}
-use Rattle.agg_request.specs.Page.{Entry, IsPage, MayList, group_of}
-use Rattle.agg_request.specs.Source.{Sources, name_of, source_values}
-use Rattle.agg_request.proofs.PagePast.{past-parts}
-use Rattle.agg_request.proofs.Lists.{AllByRecursion-Has, AllByRecursion-flat_map}
-use Rattle.agg_request.proofs.Lists.{AllByRecursion-map, AllByRecursion-always, Has-from_Contains}
-use Rattle.agg_request.proofs.PageKeys.{AllByRecursion-weaker}
+use Rattle.agg_column.specs.Document.{Fields}
+use Rattle.agg_request_tree.specs.BySource.{after_map}
+use Rattle.agg_request_tree.specs.Occurrences.{occurrences, occurrences_in}
+use Rattle.agg_request_tree.specs.Page.{Entry, IsPage, MayList, group_of}
+use Rattle.agg_request_tree.specs.Source.{Sources, name_of, source_values}
+use Rattle.agg_request_tree.proofs.PagePast.{past-parts}
+use Rattle.agg_request_tree.proofs.Lists.{AllByRecursion-Has, AllByRecursion-flat_map}
+use Rattle.agg_request_tree.proofs.Lists.{AllByRecursion-map, AllByRecursion-always, Has-from_Contains}
+use Rattle.agg_request_tree.proofs.PageKeys.{AllByRecursion-weaker}
 use Rattle.agg_results.specs.Results.{after_tuple}
 use Rattle.agg_results.specs.ShownResults.{shown_after, shown_page}
 use Rattle.agg_results.specs.declared.results.types.AggregationResult as result

@@ -6,21 +6,21 @@ use Rattle.std.proofs.lemmas.List.Quantifiers.{Any-push}
 use Rattle.agg_values.specs.Names.{Named}
 use Rattle.agg_values.specs.declared.after_key.AfterKey.{AfterKey}
 use Rattle.agg_values.specs.declared.request_error.AggregationError.TheVariants as aggregation
-use Rattle.agg_segment.specs.Document.{Fields}
+use Rattle.agg_column.specs.Document.{Fields}
 use Rattle.agg_segment.specs.declared.query.QueryTree.{QueryTree}
-use Rattle.agg_request.specs.Occurrences.{bound_of}
-use Rattle.agg_request.specs.Page.{Entry, IsPage}
-use Rattle.agg_request.specs.Request.{Request, agg_of, aggregation_of}
-use Rattle.agg_request.specs.Ranges.{HasOwnStartOutOfRange, HasStartOutOfRange}
-use Rattle.agg_request.specs.Uncut.{CountsTooMany, counted}
-use Rattle.agg_request.specs.declared.aggregation.Aggregation.{Aggregation}
-use Rattle.agg_request.specs.declared.aggregation.AggregationVariants.{AggregationVariants}
-use Rattle.agg_request.specs.declared.aggregation.AggregationVariants.TheVariants.{Composite}
-use Rattle.agg_request.specs.declared.aggregation.CompositeAggregation.{CompositeAggregation}
+use Rattle.agg_request_tree.specs.Occurrences.{bound_of}
+use Rattle.agg_request_tree.specs.Page.{Entry, IsPage}
+use Rattle.agg_request_tree.specs.Request.{Request, agg_of, aggregation_of}
+use Rattle.agg_request_tree.specs.Ranges.{HasOwnStartOutOfRange, HasStartOutOfRange}
+use Rattle.agg_request_tree.specs.Uncut.{CountsTooMany, counted}
+use Rattle.agg_request_tree.specs.declared.aggregation.Aggregation.{Aggregation}
+use Rattle.agg_request_tree.specs.declared.aggregation.AggregationVariants.{AggregationVariants}
+use Rattle.agg_request_tree.specs.declared.aggregation.AggregationVariants.TheVariants.{Composite}
+use Rattle.agg_request_tree.specs.declared.aggregation.CompositeAggregation.{CompositeAggregation}
 use Rattle.agg_results.specs.Results.{CompositeResult, IsCompositeResult, IsResult, IsResults}
 use Rattle.agg_results.specs.Results.{Results, after_in, after_tuple, buckets_in}
 use Rattle.agg_results.specs.ShownResults.{shown_composite, shown_result, shown_results}
-use Rattle.agg_request.proofs.RequestTrees.{agg-made}
+use Rattle.agg_request_tree.proofs.RequestTrees.{agg-made}
 use Rattle.agg_engine.specs.PageAnswers.{asked_with}
 use Rattle.agg_engine.specs.Refusals.{AreRefusedAt}
 use Rattle.agg_engine.specs.Snapshot.{SnapshotDocuments}

@@ -4,15 +4,15 @@ use Rattle.std.proofs.Common.{◌∙◌, subst}
 use Rattle.std.specs.List.{All}
 use Rattle.std.proofs.lemmas.List.{take_more}
 use Rattle.std.proofs.lemmas.List.Elements.{All-from_recursion, All-nil, All-push}
-use Rattle.agg_segment.specs.Document.{Fields}
-use Rattle.agg_request.specs.Ranges.{AreInRange, IsInRange}
-use Rattle.agg_request.specs.Source.{Sources, field_of, values_at}
-use Rattle.agg_request.specs.declared.source.CompositeAggregationSource as kind
+use Rattle.agg_column.specs.Document.{Fields}
+use Rattle.agg_request_tree.specs.Ranges.{AreInRange, IsInRange}
+use Rattle.agg_request_tree.specs.Source.{Sources, field_of, values_at}
+use Rattle.agg_request_tree.specs.declared.source.CompositeAggregationSource as kind
 use kind.{CompositeAggregationSource}
 use kind.TheVariants.{Terms}
-use Rattle.agg_request.specs.declared.source.TermCompositeAggregationSource as term
+use Rattle.agg_request_tree.specs.declared.source.TermCompositeAggregationSource as term
 use term.{TermCompositeAggregationSource}
-use Rattle.agg_request.proofs.Lists.{AllByRecursion-always}
+use Rattle.agg_request_tree.proofs.Lists.{AllByRecursion-always}
 use Rattle.std.proofs.Common.{append-nil, refl, drop}
 use Rattle.std.specs.List.{filter}
 use Rattle.std.proofs.lemmas.List.Concat.{flat_map-cons}
@@ -21,7 +21,7 @@ use Rattle.agg_segment.specs.Query.{matches}
 use Rattle.agg_segment.specs.Segment.{Stored, documents_of}
 use Rattle.agg_segment.specs.declared.query.QueryTree.{QueryTree}
 use Rattle.agg_segment.proofs.Encoded.{back_all}
-use Rattle.agg_request.specs.declared.aggregation.CompositeAggregation.{CompositeAggregation}
+use Rattle.agg_request_tree.specs.declared.aggregation.CompositeAggregation.{CompositeAggregation}
 use Rattle.agg_engine.specs.PageAnswers.{IsStartRefusal}
 use Rattle.agg_engine.specs.declared.walk.error.WalkError.{WalkError}
 use Rattle.agg_engine.specs.declared.walk.error.WalkError.TheVariants as error

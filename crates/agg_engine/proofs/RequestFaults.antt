@@ -19,10 +19,10 @@ use Rattle.agg_calendar.specs.Refusal.{in_request}
 use Rattle.agg_calendar.specs.declared.interval.CalendarInterval.{CalendarInterval}
 use Rattle.agg_calendar.specs.declared.interval.PrecomputedDateInterval as interval
 use interval.TheVariants.{FixedNanoseconds}
-use Rattle.agg_request.specs.Faults.{HasCause as IsCause, IsIntervalFault, IsSoundSource}
-use Rattle.agg_request.specs.Faults.{RequestHasFault}
-use Rattle.agg_request.specs.Request.{Request}
-use Rattle.agg_request.specs.declared.source.CompositeAggregationSource as kind
+use Rattle.agg_request_tree.specs.Faults.{HasCause as IsCause, IsIntervalFault, IsSoundSource}
+use Rattle.agg_request_tree.specs.Faults.{RequestHasFault}
+use Rattle.agg_request_tree.specs.Request.{Request}
+use Rattle.agg_request_tree.specs.declared.source.CompositeAggregationSource as kind
 use kind.{CompositeAggregationSource}
 use kind.TheVariants.{DateHistogram, Histogram, Terms}
 use Rattle.agg_composite.specs.Accessors.{HasNoAccessors}

@@ -6,13 +6,13 @@ use Rattle.std.proofs.lemmas.Bool.Decides.{nat_tests}
 use Rattle.std.proofs.lemmas.List.{get_or-map, length-map}
 use Rattle.std.proofs.lemmas.List.Elements.{All-map}
 use Rattle.std.proofs.lemmas.List.Folds.{Any-from_list_any, flat_map-map, list_any_at}
-use Rattle.agg_segment.specs.Document.{Fields}
+use Rattle.agg_column.specs.Document.{Fields}
 use Rattle.agg_segment.specs.Query.{matches}
 use Rattle.agg_segment.specs.Segment.{Stored, documents_of}
 use Rattle.agg_segment.specs.declared.query.QueryTree.{QueryTree}
-use Rattle.agg_request.specs.Faults.{IsSoundRequest}
-use Rattle.agg_request.specs.Request.{Request}
-use Rattle.agg_request.specs.declared.aggregation.CompositeAggregation.{CompositeAggregation}
+use Rattle.agg_request_tree.specs.Faults.{IsSoundRequest}
+use Rattle.agg_request_tree.specs.Request.{Request}
+use Rattle.agg_request_tree.specs.declared.aggregation.CompositeAggregation.{CompositeAggregation}
 use Rattle.agg_engine.specs.NamedComposite.{IsCompositeNamed}
 use Rattle.agg_engine.specs.Snapshot.{SnapshotDocuments, snapshot_documents, snapshots_documents}
 use Rattle.agg_engine.specs.Walk.{HaveRoom, MayBeAsked, matching_documents, matching_in}

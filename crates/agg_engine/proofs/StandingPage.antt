@@ -7,17 +7,17 @@ use Rattle.std.proofs.lemmas.List.Elements.{All-from_recursion}
 use Rattle.std.proofs.lemmas.Result.{IfOk-weaker, err_from_is_err_and}
 use Rattle.agg_values.specs.Names.{Named, value_of}
 use Rattle.agg_values.specs.declared.after_key.AfterKey.{AfterKey}
-use Rattle.agg_segment.specs.Document.{Fields}
-use Rattle.agg_request.specs.Groups.{Group}
-use Rattle.agg_request.specs.Occurrences.{bound_of}
-use Rattle.agg_request.specs.Request.{agg_of}
-use Rattle.agg_request.specs.Source.{rules_of}
-use Rattle.agg_request.specs.Uncut.{counted as counted_by}
-use Rattle.agg_request.specs.declared.aggregation.Aggregation.{Aggregation}
-use Rattle.agg_request.specs.declared.aggregation.AggregationVariants.{AggregationVariants}
-use Rattle.agg_request.specs.declared.aggregation.AggregationVariants.TheVariants.{Composite}
-use Rattle.agg_request.specs.declared.aggregation.CompositeAggregation.{CompositeAggregation}
-use Rattle.agg_request.proofs.Lists.{Contains-here}
+use Rattle.agg_column.specs.Document.{Fields}
+use Rattle.agg_request_tree.specs.Groups.{Group}
+use Rattle.agg_request_tree.specs.Occurrences.{bound_of}
+use Rattle.agg_request_tree.specs.Request.{agg_of}
+use Rattle.agg_request_tree.specs.Source.{rules_of}
+use Rattle.agg_request_tree.specs.Uncut.{counted as counted_by}
+use Rattle.agg_request_tree.specs.declared.aggregation.Aggregation.{Aggregation}
+use Rattle.agg_request_tree.specs.declared.aggregation.AggregationVariants.{AggregationVariants}
+use Rattle.agg_request_tree.specs.declared.aggregation.AggregationVariants.TheVariants.{Composite}
+use Rattle.agg_request_tree.specs.declared.aggregation.CompositeAggregation.{CompositeAggregation}
+use Rattle.agg_request_tree.proofs.Lists.{Contains-here}
 use Rattle.agg_results.specs.Intermediate.{AreFlat, Held, IsFlat, as_result, composite_of}
 use Rattle.agg_results.specs.Intermediate.{held_composite, plain_entries}
 use Rattle.agg_results.specs.StandsFor.{CompositeStandsFor, GroupsStandFor, ResultStandsFor}
@@ -25,7 +25,7 @@ use Rattle.agg_results.specs.StandsFor.{StandsFor}
 use Rattle.agg_results.specs.declared.intermediate.results.IntermediateAggregationResults as held
 use held.{IntermediateAggregationResults}
 use Rattle.agg_results.proofs.StandingComposites.{counts-plain, entries-plain, stands-made}
-use Rattle.agg_request.proofs.RequestTrees.{agg-made}
+use Rattle.agg_request_tree.proofs.RequestTrees.{agg-made}
 use Rattle.agg_engine.specs.PageAnswers.{AnswersHeld, IsHeldRefusal, asked, page_held}
 use Rattle.agg_engine.specs.declared.walk.error.WalkError.{WalkError}
 use Rattle.agg_engine.specs.declared.walk.error.WalkError.TheVariants.{OutOfMemory}

@@ -9,13 +9,13 @@ use Rattle.agg_values.specs.Names.{Named}
 use Rattle.agg_values.specs.Tuple.{KeyTuple}
 use Rattle.agg_values.specs.declared.after_key.AfterKey.{AfterKey}
 use Rattle.agg_segment.specs.declared.query.QueryTree.{QueryTree}
-use Rattle.agg_request.specs.BySource.{after_map}
-use Rattle.agg_request.specs.Faults.{HasInterval, HaveOwnNames}
-use Rattle.agg_request.specs.Occurrences.{bound_of}
-use Rattle.agg_request.specs.Page.{Entry}
-use Rattle.agg_request.specs.Ranges.{HasOwnStartOutOfRange}
-use Rattle.agg_request.specs.Request.{Request}
-use Rattle.agg_request.specs.declared.aggregation.CompositeAggregation.{CompositeAggregation}
+use Rattle.agg_request_tree.specs.BySource.{after_map}
+use Rattle.agg_request_tree.specs.Faults.{HasInterval, HaveOwnNames}
+use Rattle.agg_request_tree.specs.Occurrences.{bound_of}
+use Rattle.agg_request_tree.specs.Page.{Entry}
+use Rattle.agg_request_tree.specs.Ranges.{HasOwnStartOutOfRange}
+use Rattle.agg_request_tree.specs.Request.{Request}
+use Rattle.agg_request_tree.specs.declared.aggregation.CompositeAggregation.{CompositeAggregation}
 use Rattle.agg_results.specs.BucketCount.{results_buckets}
 use Rattle.agg_results.specs.Results.{Results, after_in, after_tuple, buckets_in}
 use Rattle.agg_results.specs.ShownResults.{shown_results}

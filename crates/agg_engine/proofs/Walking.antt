@@ -12,17 +12,17 @@ use Rattle.agg_values.specs.declared.after_key.AfterKey.{AfterKey}
 use Rattle.agg_values.specs.declared.error.InvalidArgument.TheVariants.{NoSource, TooManySources}
 use Rattle.agg_values.specs.declared.request_error.AggregationError.TheVariants as aggregation
 use Rattle.agg_values.specs.declared.request_error.RequestError.TheVariants.{Invalid}
-use Rattle.agg_segment.specs.Document.{Fields}
+use Rattle.agg_column.specs.Document.{Fields}
 use Rattle.agg_segment.specs.declared.query.QueryTree.{QueryTree}
-use Rattle.agg_request.specs.BySource.{after_map}
-use Rattle.agg_request.specs.Faults.{IsSound, IsSoundRequest}
-use Rattle.agg_request.specs.Occurrences.{bound_of}
-use Rattle.agg_request.specs.Page.{Entry}
-use Rattle.agg_request.specs.Ranges.{AreInRange, HasOwnStartOutOfRange}
-use Rattle.agg_request.specs.Request.{Request}
-use Rattle.agg_request.specs.declared.aggregation.Aggregation.{Aggregation}
-use Rattle.agg_request.specs.declared.aggregation.AggregationVariants.TheVariants.{Composite}
-use Rattle.agg_request.specs.declared.aggregation.CompositeAggregation.{CompositeAggregation}
+use Rattle.agg_request_tree.specs.BySource.{after_map}
+use Rattle.agg_request_tree.specs.Faults.{IsSound, IsSoundRequest}
+use Rattle.agg_request_tree.specs.Occurrences.{bound_of}
+use Rattle.agg_request_tree.specs.Page.{Entry}
+use Rattle.agg_request_tree.specs.Ranges.{AreInRange, HasOwnStartOutOfRange}
+use Rattle.agg_request_tree.specs.Request.{Request}
+use Rattle.agg_request_tree.specs.declared.aggregation.Aggregation.{Aggregation}
+use Rattle.agg_request_tree.specs.declared.aggregation.AggregationVariants.TheVariants.{Composite}
+use Rattle.agg_request_tree.specs.declared.aggregation.CompositeAggregation.{CompositeAggregation}
 use Rattle.agg_results.specs.BucketCount.{results_buckets}
 use Rattle.agg_results.specs.Final.{HaveTooMany, HoldsOther, HoldsUnknown, final_results}
 use Rattle.agg_results.specs.Intermediate.{AreFlat, Held}
@@ -32,8 +32,8 @@ use Rattle.agg_results.specs.StandsFor.{StandsFor}
 use Rattle.agg_results.specs.declared.intermediate.results.IntermediateAggregationResults as held
 use held.{IntermediateAggregationResults}
 use Rattle.agg_results.specs.declared.results.types.AggregationResults.{AggregationResults}
-use Rattle.agg_request.proofs.Faults.{IsSound-intervals, IsSound-names, IsSound-sources}
-use Rattle.agg_request.proofs.RequestTrees.{made-of_parts}
+use Rattle.agg_request_tree.proofs.Faults.{IsSound-intervals, IsSound-names, IsSound-sources}
+use Rattle.agg_request_tree.proofs.RequestTrees.{made-of_parts}
 use Rattle.agg_engine.specs.Form.{IsOneComposite}
 use Rattle.agg_engine.specs.NamedComposite.{IsCompositeNamed}
 use Rattle.agg_engine.specs.PageAnswers.{AnswersHeld, HasFewSources, IsFinalRefusal, IsHeldRefusal}

@@ -1,7 +1,7 @@
 -- The form that a request takes so far.
 use Rattle.std.specs.Prelude.{◌≡◌, ℕ, List, [], ◌∷◌}
-use Rattle.agg_request.specs.declared.aggregation.Aggregation.{Aggregation}
-use Rattle.agg_request.specs.Request.{IsPlainComposite, Request}
+use Rattle.agg_request_tree.specs.declared.aggregation.Aggregation.{Aggregation}
+use Rattle.agg_request_tree.specs.Request.{IsPlainComposite, Request}
 
 -- one aggregation, which is a composite with none below it
 abbrev pub IsOneComposite : {B : Type 0} → Request B → Type 0

@@ -1,9 +1,9 @@
 -- The composite of a name.
 use Rattle.std.specs.Prelude.{◌≡◌, ℕ, List, Some, option_map}
 use Rattle.agg_values.specs.Names.{value_of}
-use Rattle.agg_request.specs.declared.aggregation.CompositeAggregation.{CompositeAggregation}
-use Rattle.agg_request.specs.declared.aggregation.AggregationVariants.TheVariants.{Composite}
-use Rattle.agg_request.specs.Request.{Request, agg_of}
+use Rattle.agg_request_tree.specs.declared.aggregation.CompositeAggregation.{CompositeAggregation}
+use Rattle.agg_request_tree.specs.declared.aggregation.AggregationVariants.TheVariants.{Composite}
+use Rattle.agg_request_tree.specs.Request.{Request, agg_of}
 
 -- the aggregation of a name is this composite
 abbrev pub IsCompositeNamed : {B : Type 0} → List ℕ → Request B → CompositeAggregation → Type 0

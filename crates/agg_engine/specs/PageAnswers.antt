@@ -4,16 +4,16 @@ use Rattle.std.specs.Prelude.{Result, All, IfErr, IfOk, MatchOption, OnOk, lengt
 use Rattle.agg_values.specs.Names.{Named, value_of}
 use Rattle.agg_values.specs.declared.after_key.AfterKey.{AfterKey}
 use Rattle.agg_values.specs.declared.error.InvalidArgument.TheVariants.{NoSource, TooManySources}
-use Rattle.agg_segment.specs.Document.{Fields}
+use Rattle.agg_column.specs.Document.{Fields}
 use Rattle.agg_values.specs.declared.request_error.RequestError.TheVariants.{Invalid}
-use Rattle.agg_request.specs.Faults.{HasFault, IsSoundSource}
-use Rattle.agg_request.specs.Groups.{Group}
-use Rattle.agg_request.specs.declared.aggregation.CompositeAggregation.{CompositeAggregation}
-use Rattle.agg_request.specs.declared.aggregation.AggregationVariants.TheVariants.{Composite}
-use Rattle.agg_request.specs.Ranges.{HasOwnStartOutOfRange}
-use Rattle.agg_request.specs.Request.{Request, aggregation_of}
-use Rattle.agg_request.specs.Uncut.{counted as counted_by}
-use Rattle.agg_request.specs.Source.{Sources, after_of, rules_of}
+use Rattle.agg_request_tree.specs.Faults.{HasFault, IsSoundSource}
+use Rattle.agg_request_tree.specs.Groups.{Group}
+use Rattle.agg_request_tree.specs.declared.aggregation.CompositeAggregation.{CompositeAggregation}
+use Rattle.agg_request_tree.specs.declared.aggregation.AggregationVariants.TheVariants.{Composite}
+use Rattle.agg_request_tree.specs.Ranges.{HasOwnStartOutOfRange}
+use Rattle.agg_request_tree.specs.Request.{Request, aggregation_of}
+use Rattle.agg_request_tree.specs.Uncut.{counted as counted_by}
+use Rattle.agg_request_tree.specs.Source.{Sources, after_of, rules_of}
 use Rattle.agg_results.specs.Final.{TellsTooMany}
 use Rattle.agg_results.specs.Intermediate.{Held, as_result, composite_of, plain_entries}
 use Rattle.agg_results.specs.StandsFor.{StandsFor}

@@ -1,12 +1,12 @@
 -- Why a walk gave no pages.
 use Rattle.std.specs.Prelude.{◌≡◌, ◌<◌, ◌⊎◌, ℕ, List, [], ◌∷◌, IsSomeAnd, ⊤}
 use Rattle.agg_values.specs.declared.request_error.AggregationError.TheVariants as aggregation
-use Rattle.agg_segment.specs.Document.{Fields}
+use Rattle.agg_column.specs.Document.{Fields}
 use Rattle.agg_segment.specs.declared.query.QueryTree.{QueryTree}
 use Rattle.agg_values.specs.declared.request_error.RequestError.TheVariants as refusal
-use Rattle.agg_request.specs.Faults.{RequestHasFault}
+use Rattle.agg_request_tree.specs.Faults.{RequestHasFault}
 use Rattle.agg_values.specs.Nothing.{NoneIs}
-use Rattle.agg_request.specs.Request.{Request}
+use Rattle.agg_request_tree.specs.Request.{Request}
 use Rattle.agg_results.specs.Results.{IsResults, Results, after_in, buckets_in}
 use Rattle.agg_engine.specs.NamedComposite.{NamesComposite}
 use Rattle.agg_engine.specs.Snapshot.{SnapshotDocuments}

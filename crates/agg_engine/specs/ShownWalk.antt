@@ -1,7 +1,7 @@
 -- A walk as it is shown.
 use Rattle.std.specs.Prelude.{◌≡◌, ℕ, List, map}
 use Rattle.agg_segment.specs.declared.query.QueryTree.{QueryTree}
-use Rattle.agg_request.specs.Request.{Request}
+use Rattle.agg_request_tree.specs.Request.{Request}
 use Rattle.agg_engine.specs.declared.walk.Walk.{Walk}
 use Rattle.agg_results.specs.Results.{Results}
 use Rattle.agg_results.specs.ShownResults.{shown_results}

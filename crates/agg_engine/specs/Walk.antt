@@ -8,18 +8,18 @@ use Rattle.agg_values.specs.Tuple.{KeyTuple}
 use Rattle.agg_values.specs.declared.error.InvalidArgument.{InvalidArgument}
 use Rattle.agg_values.specs.declared.error.InvalidArgument.TheVariants.{ZeroSize}
 use Rattle.agg_values.specs.declared.request_error.RequestError.TheVariants.{Invalid}
-use Rattle.agg_segment.specs.Document.{Fields}
+use Rattle.agg_column.specs.Document.{Fields}
 use Rattle.agg_segment.specs.Query.{matches}
 use Rattle.agg_segment.specs.Segment.{Stored, documents_of}
 use Rattle.agg_segment.specs.declared.query.QueryTree.{QueryTree}
-use Rattle.agg_request.specs.declared.aggregation.Aggregation.{Aggregation}
-use Rattle.agg_request.specs.declared.aggregation.AggregationVariants.{AggregationVariants}
-use Rattle.agg_request.specs.declared.aggregation.AggregationVariants.TheVariants.{Composite}
-use Rattle.agg_request.specs.BySource.{after_map}
-use Rattle.agg_request.specs.Faults.{IsSoundRequest, RequestHasFault}
-use Rattle.agg_request.specs.Ranges.{HasStartOutOfRange}
-use Rattle.agg_request.specs.Request.{Request, agg_of, aggregation_of, below_of}
-use Rattle.agg_request.specs.Uncut.{CountsTooMany}
+use Rattle.agg_request_tree.specs.declared.aggregation.Aggregation.{Aggregation}
+use Rattle.agg_request_tree.specs.declared.aggregation.AggregationVariants.{AggregationVariants}
+use Rattle.agg_request_tree.specs.declared.aggregation.AggregationVariants.TheVariants.{Composite}
+use Rattle.agg_request_tree.specs.BySource.{after_map}
+use Rattle.agg_request_tree.specs.Faults.{IsSoundRequest, RequestHasFault}
+use Rattle.agg_request_tree.specs.Ranges.{HasStartOutOfRange}
+use Rattle.agg_request_tree.specs.Request.{Request, agg_of, aggregation_of, below_of}
+use Rattle.agg_request_tree.specs.Uncut.{CountsTooMany}
 use Rattle.agg_engine.specs.NamedComposite.{NamesComposite}
 use Rattle.agg_results.specs.Results.{IsResults, Results, after_in}
 use Rattle.agg_engine.specs.Snapshot.{SnapshotDocuments}

@@ -4,7 +4,7 @@ ghost use Rattle.agg_segment.specs.declared.query.QueryTree.{QueryTree};
 ghost use Rattle.agg_results.specs.Results.{Results};
 ghost use Rattle.agg_engine.specs.Snapshot.{SnapshotDocuments};
 ghost use Rattle.agg_engine.specs.Walk.{IsWalk};
-ghost use Rattle.agg_request.specs.Request.{ArePlainComposites, Request};
+ghost use Rattle.agg_request_tree.specs.Request.{ArePlainComposites, Request};
 
 /// The walk over no snapshot has no page and has not ended.
 pub fn a_walk_over_no_snapshot_has_no_page<B>()

@@ -24,7 +24,7 @@ ghost use Rattle.agg_engine.specs.Walk.{MayBeAsked};
 ghost use Rattle.agg_engine.specs.declared.walk.error.WalkError.{WalkError as Refusal};
 
 use agg_cache::LimitsLedger;
-use agg_request::{Aggregations, check_request};
+use agg_request_tree::{Aggregations, check_request};
 use agg_results::AggregationResults;
 use agg_segment::{QueryTree, Schema, SegmentReader};
 use agg_values::{InvalidArgument, ItemList, Steps, Text};

@@ -1,7 +1,7 @@
 -- Bytes that were not read as an input.
 use Rattle.std.proofs.Common.{◌≡◌, inl, inr, refl}
-use Rattle.agg_pages.specs.declared.input.InputError.{InputError}
-use Rattle.agg_pages.specs.declared.input.InputError.TheVariants as refused
+use Rattle.agg_document_json.specs.declared.input_error.InputError.{InputError}
+use Rattle.agg_document_json.specs.declared.input_error.InputError.TheVariants as refused
 use Rattle.agg_pages.specs.declared.status.Status.{Status}
 use Rattle.agg_pages.specs.declared.source.reading.ReadAllError.{ReadAllError}
 use Rattle.agg_pages.specs.declared.source.reading.ReadAllError.TheVariants.{ReadFault, TooLong}

@@ -3,18 +3,18 @@ use Rattle.std.proofs.Common.{◌≡◌, ℕ, List, Option, Some, refl}
 use Rattle.std.proofs.Common.{subst, inl, inr}
 use Rattle.agg_values.specs.declared.request_error.AggregationError.TheVariants as aggregation
 use Rattle.agg_values.specs.declared.request_error.RequestError.TheVariants as error
-use Rattle.agg_request.specs.Faults.{HasFault}
-use Rattle.agg_request.specs.Request.{composites_of}
+use Rattle.agg_request_tree.specs.Faults.{HasFault}
+use Rattle.agg_request_tree.specs.Request.{composites_of}
 use Rattle.agg_engine.specs.declared.walk.error.WalkError.{WalkError}
 use Rattle.agg_engine.specs.declared.walk.error.WalkError.TheVariants.{Invalid, UnknownComposite}
 use Rattle.agg_engine.specs.declared.walk.error.WalkError.TheVariants.{TooMany, OutOfMemory}
 use Rattle.agg_engine.specs.declared.walk.error.WalkError.TheVariants.{Aggregation}
 use Rattle.agg_engine.specs.declared.walk.error.WalkError.TheVariants.{BucketOutOfRange}
-use Rattle.agg_request.proofs.Faults.{none_of_all}
-use Rattle.agg_pages.specs.Input.{Input, IsInput}
+use Rattle.agg_request_tree.proofs.Faults.{none_of_all}
+use Rattle.agg_input.specs.Input.{Input, IsInput}
 use Rattle.agg_pages.specs.Answer.{IsRefusal, IsValid, MayRefuse}
 use Rattle.agg_pages.specs.Reading.{GivesAll}
-use Rattle.agg_pages.proofs.Inputs.{IsInput-unique}
+use Rattle.agg_input.proofs.Inputs.{IsInput-unique}
 
 -- ---- nothing refuses a valid input
 

@@ -8,7 +8,7 @@ use Rattle.agg_engine.specs.declared.walk.error.WalkError.TheVariants.{OutOfMemo
 use Rattle.agg_engine.specs.ShownWalk.{IsShownWalk}
 use Rattle.agg_engine.specs.Refusals.{HasCause, IsRefused}
 use Rattle.agg_engine.specs.Walk.{MayBeAsked}
-use Rattle.agg_pages.specs.Input.{AreNoInput, Input, max_input_bytes}
+use Rattle.agg_input.specs.Input.{AreNoInput, Input, max_input_bytes}
 use Rattle.agg_pages.specs.Output.{refusal_text, walk_text}
 
 -- the arguments of the command

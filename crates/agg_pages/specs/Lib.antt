@@ -1,16 +1,8 @@
 pub mod Answer
 pub mod Causes
-pub mod DocumentLine
-pub mod Fields
-pub mod Header
-pub mod Input
-pub mod Lines
 pub mod Memory
 pub mod Observed
 pub mod Output
 pub mod Reading
 pub mod Run
-pub mod SnapshotLines
-pub mod Snapshots
 pub mod Status
-pub mod Tokens

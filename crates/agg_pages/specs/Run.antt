@@ -7,7 +7,7 @@ use Rattle.agg_pages.specs.declared.status.Status.TheVariants.{Input as NotInput
 use Rattle.agg_pages.specs.declared.status.Status.TheVariants.{WriteFault, OutOfMemory}
 use Rattle.agg_pages.specs.Answer.{IsReplyPrefix, IsNoInput, IsPrintedWalk, IsRefusal, IsValid}
 use Rattle.agg_pages.specs.Answer.{walk_arguments}
-use Rattle.agg_pages.specs.Input.{Input, IsInput, max_input_bytes}
+use Rattle.agg_input.specs.Input.{Input, IsInput, max_input_bytes}
 use Rattle.agg_pages.specs.Observed.{Observed, HadFault, IsUntouched, bytes_after, bytes_before}
 use Rattle.agg_pages.specs.Reading.{GivesAll, TakesAtMost}
 use Rattle.agg_pages.specs.Status.{IsUnanswered}

@@ -1,5 +1,5 @@
-//! The outside of walks: where bytes come from and go to, the input that bytes stand for, the text
-//! of an answer, and the run that joins them.
+//! The outside of walks: where bytes come from and go to, the text of an answer, and the run that
+//! joins them with the reading of an input.
 #![tactic(auto)]
 
 mod fault;

@@ -10,8 +10,9 @@ ghost use Rattle.std.specs.Io.KnownBytes.{ReadConsumes};
 ghost use Rattle.agg_pages.specs.Causes.{HasCause};
 
 use crate::fault::Failed;
+pub use agg_input::MAX_INPUT_BYTES;
 pub use memory::MemorySource;
-pub use reading::{MAX_INPUT_BYTES, ReadAllError, read_all};
+pub use reading::{ReadAllError, read_all};
 pub use standard::StdSource;
 pub use steady::SteadySource;
 

@@ -6,23 +6,23 @@ use Rattle.std.specs.Map.{keys_of}
 use Rattle.std.specs.Str.{bytes_eq}
 use Rattle.std.proofs.lemmas.Map.Made.{keys_of-map_values}
 use Rattle.serde_json.specs.Data.{Data}
-use Rattle.agg_request.specs.Builders.{left_by_filter, left_by_kind, taken}
-use Rattle.agg_request.specs.Request.{Request, agg_of, aggregation_of, with_builders_in, below_of}
-use Rattle.agg_request.specs.Request.{with_own_builder, with_query_builder, with_builders}
+use Rattle.agg_request_json.specs.Builders.{left_by_filter, left_by_kind, taken}
+use Rattle.agg_request_tree.specs.Request.{Request, agg_of, aggregation_of, with_builders_in, below_of}
+use Rattle.agg_request_tree.specs.Request.{with_own_builder, with_query_builder, with_builders}
 use Rattle.agg_request.specs.ReadBack.{SaysKind}
-use Rattle.agg_request.specs.RequestJson.{kind_word, may_hold}
-use Rattle.agg_request.specs.declared.aggregation.Aggregation.{Aggregation}
-use Rattle.agg_request.specs.declared.aggregation.Aggregation.TheFolds as folds
+use Rattle.agg_request_json.specs.RequestJson.{kind_word, may_hold}
+use Rattle.agg_request_tree.specs.declared.aggregation.Aggregation.{Aggregation}
+use Rattle.agg_request_tree.specs.declared.aggregation.Aggregation.TheFolds as folds
 use folds.{fold_out-Aggregation}
-use Rattle.agg_request.specs.declared.aggregation.AggregationVariants as variants
+use Rattle.agg_request_tree.specs.declared.aggregation.AggregationVariants as variants
 use variants.{AggregationVariants}
 use variants.TheVariants.{Filter, Composite, Count, Max, Min, Sum}
-use Rattle.agg_request.specs.declared.aggregation.filter.FilterAggregation as filters
+use Rattle.agg_request_tree.specs.declared.aggregation.filter.FilterAggregation as filters
 use filters.{FilterAggregation}
-use Rattle.agg_request.specs.declared.aggregation.filter.FilterQuery.{FilterQuery}
-use Rattle.agg_request.specs.declared.aggregation.filter.FilterQuery.TheVariants as by
+use Rattle.agg_request_tree.specs.declared.aggregation.filter.FilterQuery.{FilterQuery}
+use Rattle.agg_request_tree.specs.declared.aggregation.filter.FilterQuery.TheVariants as by
 use by.{Tree, CustomBuilder}
-use Rattle.agg_request.proofs.RequestTrees.{agg-made, below-made}
+use Rattle.agg_request_tree.proofs.RequestTrees.{agg-made, below-made}
 
 module _ {B : Type 0} (name_of : B → List ℕ) where
   -- ---- level by level

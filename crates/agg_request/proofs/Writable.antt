@@ -16,15 +16,15 @@ use Rattle.std.proofs.lemmas.Slice.Eq.{bytes_eq-Decides}
 use Rattle.agg_values.specs.Names.{Named, name_cmp}
 use Rattle.serde_json.specs.Data.{Data, Members, no_members, member}
 use Rattle.serde_json.specs.Events.{members_len}
-use Rattle.agg_request.specs.Json.{EachNamedIs, has_member, is_among, names_in}
-use Rattle.agg_request.specs.RequestJson.{are_free, kind_word, may_hold, metric_kinds}
-use Rattle.agg_request.specs.Request.{Request, agg_of, below_of}
+use Rattle.agg_json.specs.Json.{EachNamedIs, has_member, is_among, names_in}
+use Rattle.agg_request_json.specs.RequestJson.{are_free, kind_word, may_hold, metric_kinds}
+use Rattle.agg_request_tree.specs.Request.{Request, agg_of, below_of}
 use Rattle.agg_request.specs.Written.{all_may_be_written, may_be_written}
 use Rattle.agg_request.specs.Written.{may_be_written_step}
-use Rattle.agg_request.specs.declared.aggregation.Aggregation.{Aggregation}
-use Rattle.agg_request.specs.declared.aggregation.Aggregation.TheFolds as folds
+use Rattle.agg_request_tree.specs.declared.aggregation.Aggregation.{Aggregation}
+use Rattle.agg_request_tree.specs.declared.aggregation.Aggregation.TheFolds as folds
 use folds.{fold_out-Aggregation}
-use Rattle.agg_request.proofs.RequestTrees.{levels}
+use Rattle.agg_request_tree.proofs.RequestTrees.{levels}
 
 -- where both hold, each does
 both : (a b : Bool) → (a && b) ≡ true → (a ≡ true) × (b ≡ true)

@@ -4,12 +4,12 @@ use Rattle.serde_json.specs.Data.{object, array, number, unsigned, Items, no_mem
 use Rattle.serde_json.specs.View.{items_of}
 use Rattle.agg_values.specs.Names.{Named}
 use Rattle.agg_values.specs.declared.after_key.AfterKey.{AfterKey}
-use Rattle.agg_request.specs.CompositeJson.{IsCompositeJson, IsSourceJson}
-use Rattle.agg_request.specs.Json.{EachIs, IsWhole, small_number}
+use Rattle.agg_request_json.specs.CompositeJson.{IsCompositeJson, IsSourceJson}
+use Rattle.agg_json.specs.Json.{EachIs, IsWhole, small_number}
 use Rattle.agg_request.specs.ReadBack.{AreKeysReadBack}
 use Rattle.agg_request.specs.WrittenJson.{data_of_composite, data_of_key, data_of_source}
 use Rattle.agg_request.specs.WrittenJson.{members_of, with_after}
-use Rattle.agg_request.specs.declared.aggregation.CompositeAggregation.{CompositeAggregation}
+use Rattle.agg_request_tree.specs.declared.aggregation.CompositeAggregation.{CompositeAggregation}
 
 -- what is written of a composite says it
 pub is-composite : (composite : CompositeAggregation)

@@ -9,7 +9,7 @@ use Rattle.std.specs.Ordering.{ordering_reverse}
 use Rattle.agg_values.specs.Names.{Named, name_cmp}
 use Rattle.serde_json.specs.Data.{Data, Items, no_items, item, Members, no_members, member, put}
 use Rattle.serde_json.specs.View.{items_of}
-use Rattle.agg_request.specs.Json.{EachIs, EachNamedIs}
+use Rattle.agg_json.specs.Json.{EachIs, EachNamedIs}
 use Rattle.agg_request.specs.ReadBack.{IsWritten}
 use Rattle.agg_request.specs.WrittenJson.{members_of}
 

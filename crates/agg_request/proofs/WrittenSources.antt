@@ -5,15 +5,15 @@ use Rattle.std.proofs.lemmas.List.{take_more}
 use Rattle.serde_json.specs.Data.{Data, object}
 use Rattle.serde_json.specs.View.{view, items_view}
 use Rattle.serde_json.specs.declared.value.Value.{Value}
-use Rattle.agg_request.specs.CompositeJson.{IsSourceJson, IsSourceOfKind}
-use Rattle.agg_request.specs.Json.{alone, EachIs}
+use Rattle.agg_request_json.specs.CompositeJson.{IsSourceJson, IsSourceOfKind}
+use Rattle.agg_json.specs.Json.{alone, EachIs}
 use Rattle.agg_request.specs.ReadBack.{IsWritten}
-use Rattle.agg_request.specs.Source.{name_of}
-use Rattle.agg_request.specs.CompositeJson.{source_word}
+use Rattle.agg_request_tree.specs.Source.{name_of}
+use Rattle.agg_request_json.specs.CompositeJson.{source_word}
 use Rattle.agg_request.specs.WrittenJson.{data_of_source, source_members}
-use Rattle.agg_request.specs.declared.source.CompositeAggregationSource as any_source
+use Rattle.agg_request_tree.specs.declared.source.CompositeAggregationSource as any_source
 use any_source.{CompositeAggregationSource}
-use Rattle.agg_request.proofs.Items.{each_put}
+use Rattle.agg_json.proofs.Items.{each_put}
 
 -- a body of a kind under its name is what is written of the source, and says it
 pub is-source : {E : Type 0} (result : Result Value E) (kind : List ℕ) (body : Data)

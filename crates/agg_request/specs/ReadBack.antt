@@ -4,21 +4,21 @@ use Rattle.serde_json.specs.Data.{Data, depth}
 use Rattle.agg_values.specs.KeyText.{IsKeyText, key_text}
 use Rattle.agg_values.specs.Names.{Named}
 use Rattle.agg_values.specs.declared.after_key.AfterKey.{AfterKey}
-use Rattle.agg_segment.specs.Document.{said_key}
-use Rattle.agg_segment.specs.declared.document.FieldValue.{FieldValue}
+use Rattle.agg_column.specs.Document.{said_key}
+use Rattle.agg_column.specs.declared.document.FieldValue.{FieldValue}
 use Rattle.agg_segment.specs.declared.query.RangeBound.{RangeBound}
 use Rattle.agg_segment.specs.declared.query.RangeBound.TheVariants.{Unbounded, Included, Excluded}
 use Rattle.agg_segment.specs.declared.query.QueryTree.{QueryTree}
-use Rattle.agg_request.specs.Json.{EachNamedIs}
-use Rattle.agg_request.specs.Builders.{left_behind, left_by_kind}
-use Rattle.agg_request.specs.CompositeJson.{IsKeyJson}
-use Rattle.agg_request.specs.Query.{IsFilter}
-use Rattle.agg_request.specs.Request.{Request, with_builders_in, builders_of, listed_in}
-use Rattle.agg_request.specs.Request.{own_builder, with_builders}
-use Rattle.agg_request.specs.RequestJson.{IsAggregation, IsAsked, IsRequestJson, kind_word}
+use Rattle.agg_json.specs.Json.{EachNamedIs}
+use Rattle.agg_request_json.specs.Builders.{left_behind, left_by_kind}
+use Rattle.agg_request_json.specs.CompositeJson.{IsKeyJson}
+use Rattle.agg_json.specs.Query.{IsFilter}
+use Rattle.agg_request_tree.specs.Request.{Request, with_builders_in, builders_of, listed_in}
+use Rattle.agg_request_tree.specs.Request.{own_builder, with_builders}
+use Rattle.agg_request_json.specs.RequestJson.{IsAggregation, IsAsked, IsRequestJson, kind_word}
 use Rattle.agg_request.specs.WrittenJson.{data_of_key, members_of}
-use Rattle.agg_request.specs.declared.aggregation.Aggregation.{Aggregation}
-use Rattle.agg_request.specs.declared.aggregation.AggregationVariants.{AggregationVariants}
+use Rattle.agg_request_tree.specs.declared.aggregation.Aggregation.{Aggregation}
+use Rattle.agg_request_tree.specs.declared.aggregation.AggregationVariants.{AggregationVariants}
 
 -- a value is what is written of something, and says it
 abbrev pub IsWritten : {A : Type 0} → (A → Data) → (Data → A → Type 0) → Data → A → Type 0

@@ -2,11 +2,11 @@
 use Rattle.std.specs.Prelude.{◌&&◌, Bool}
 use Rattle.std.specs.List.{list_all}
 use Rattle.std.specs.Map.{keys_of}
-use Rattle.agg_request.specs.Request.{Request}
-use Rattle.agg_request.specs.RequestJson.{kind_word, may_hold}
-use Rattle.agg_request.specs.declared.aggregation.Aggregation.{Aggregation}
-use Rattle.agg_request.specs.declared.aggregation.Aggregation.TheOpen.{Aggregation-F}
-use Rattle.agg_request.specs.declared.aggregation.Aggregation.TheFolds.{fold-Aggregation}
+use Rattle.agg_request_tree.specs.Request.{Request}
+use Rattle.agg_request_json.specs.RequestJson.{kind_word, may_hold}
+use Rattle.agg_request_tree.specs.declared.aggregation.Aggregation.{Aggregation}
+use Rattle.agg_request_tree.specs.declared.aggregation.Aggregation.TheOpen.{Aggregation-F}
+use Rattle.agg_request_tree.specs.declared.aggregation.Aggregation.TheFolds.{fold-Aggregation}
 
 -- whether an aggregation may be written, where each of these says it of one below it
 abbrev pub may_be_written_step : {B : Type 0} → Aggregation-F B Bool → Bool

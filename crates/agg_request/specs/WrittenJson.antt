@@ -9,31 +9,31 @@ use Rattle.agg_values.specs.Names.{Named}
 use Rattle.agg_values.specs.declared.after_key.AfterKey.{AfterKey}
 use Rattle.agg_values.specs.declared.order.Order.{Order}
 use Rattle.agg_values.specs.declared.order.MissingOrder.{MissingOrder}
-use Rattle.agg_segment.specs.Document.{said_key}
-use Rattle.agg_segment.specs.declared.document.FieldValue.{FieldValue}
+use Rattle.agg_column.specs.Document.{said_key}
+use Rattle.agg_column.specs.declared.document.FieldValue.{FieldValue}
 use Rattle.agg_segment.specs.declared.query.RangeBound.{RangeBound}
 use Rattle.agg_segment.specs.declared.query.RangeBound.TheVariants.{Unbounded, Included, Excluded}
 use Rattle.agg_segment.specs.declared.query.QueryTree.{QueryTree}
 use Rattle.agg_segment.specs.declared.query.QueryTree.TheOpen as query
 use query.{QueryTree-F}
 use Rattle.agg_segment.specs.declared.query.QueryTree.TheFolds.{fold-QueryTree}
-use Rattle.agg_request.specs.CompositeJson.{missing_order_word, order_word, source_word}
-use Rattle.agg_request.specs.CompositeJson.{unit_word}
-use Rattle.agg_request.specs.Json.{alone}
-use Rattle.agg_request.specs.Request.{Request}
-use Rattle.agg_request.specs.RequestJson.{kind_word}
-use Rattle.agg_request.specs.Source.{name_of as source_name}
-use Rattle.agg_request.specs.declared.aggregation.Aggregation.{Aggregation}
-use Rattle.agg_request.specs.declared.aggregation.Aggregation.TheOpen.{Aggregation-F}
-use Rattle.agg_request.specs.declared.aggregation.Aggregation.TheFolds.{fold-Aggregation}
-use Rattle.agg_request.specs.declared.aggregation.AggregationVariants as variants
+use Rattle.agg_request_json.specs.CompositeJson.{missing_order_word, order_word, source_word}
+use Rattle.agg_request_json.specs.CompositeJson.{unit_word}
+use Rattle.agg_json.specs.Json.{alone}
+use Rattle.agg_request_tree.specs.Request.{Request}
+use Rattle.agg_request_json.specs.RequestJson.{kind_word}
+use Rattle.agg_request_tree.specs.Source.{name_of as source_name}
+use Rattle.agg_request_tree.specs.declared.aggregation.Aggregation.{Aggregation}
+use Rattle.agg_request_tree.specs.declared.aggregation.Aggregation.TheOpen.{Aggregation-F}
+use Rattle.agg_request_tree.specs.declared.aggregation.Aggregation.TheFolds.{fold-Aggregation}
+use Rattle.agg_request_tree.specs.declared.aggregation.AggregationVariants as variants
 use variants.{AggregationVariants}
 use variants.TheVariants.{Filter, Composite, Count, Max, Min, Sum}
-use Rattle.agg_request.specs.declared.aggregation.CompositeAggregation.{CompositeAggregation}
-use Rattle.agg_request.specs.declared.aggregation.filter.FilterQuery.{FilterQuery}
-use Rattle.agg_request.specs.declared.aggregation.filter.FilterQuery.TheVariants as by
+use Rattle.agg_request_tree.specs.declared.aggregation.CompositeAggregation.{CompositeAggregation}
+use Rattle.agg_request_tree.specs.declared.aggregation.filter.FilterQuery.{FilterQuery}
+use Rattle.agg_request_tree.specs.declared.aggregation.filter.FilterQuery.TheVariants as by
 use by.{Tree, CustomBuilder}
-use Rattle.agg_request.specs.declared.source.CompositeAggregationSource as any_source
+use Rattle.agg_request_tree.specs.declared.source.CompositeAggregationSource as any_source
 use any_source.{CompositeAggregationSource}
 use any_source.TheVariants.{Terms, Histogram, DateHistogram}
 

@@ -2,8 +2,8 @@
 use Rattle.std.proofs.Common.{◌≡◌, ℕ, min, [], ◌∷◌, length, drop, refl, arith}
 use Rattle.std.proofs.lemmas.List.{length-drop}
 use Rattle.agg_values.specs.TypedKey.{CompositeIntermediateKey}
-use Rattle.agg_request.specs.BySource.{by_source}
-use Rattle.agg_request.specs.Source.{Sources}
+use Rattle.agg_request_tree.specs.BySource.{by_source}
+use Rattle.agg_request_tree.specs.Source.{Sources}
 use Rattle.agg_values.specs.Tuple.{KeyTuple}
 
 module _ {T : Type 0} (value : CompositeIntermediateKey → T) where

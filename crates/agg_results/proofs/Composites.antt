@@ -14,7 +14,7 @@ use Rattle.std.proofs.lemmas.Option.{same_Some, slice_get-get_or}
 use Rattle.std.specs.Ordering.{match_ordering}
 use Rattle.agg_values.specs.KeyOrder.{SourceRules, tuple_order}
 use Rattle.agg_values.specs.Tuple.{KeyTuple}
-use Rattle.agg_request.specs.Groups.{Group}
+use Rattle.agg_request_tree.specs.Groups.{Group}
 use Rattle.std.proofs.lemmas.Bool.{le-ltb}
 use Rattle.agg_results.specs.Counts.{add_count, merged, trimmed, value_at}
 use Rattle.agg_results.specs.Intermediate.{ArePlain, Entries, IsFlat, IsPlain, composite_of}

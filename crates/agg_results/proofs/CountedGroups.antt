@@ -11,10 +11,10 @@ use Rattle.agg_values.specs.KeyOrder.{SourceRules, tuple_order}
 use Rattle.agg_values.specs.Laws.{IsCanonicalTuple, IsExactOn}
 use Rattle.agg_values.specs.Tuple.{KeyTuple}
 use Rattle.agg_values.proofs.TupleOrder.{tuple_order-exact, tuple_order-total}
-use Rattle.agg_request.specs.Groups.{Groups}
-use Rattle.agg_request.specs.Occurrences.{same_tuple}
-use Rattle.agg_request.proofs.Lists.{AllByRecursion-both, AllByRecursion-weaker, Has}
-use Rattle.agg_request.proofs.Lists.{Contains-from_Has}
+use Rattle.agg_request_tree.specs.Groups.{Groups}
+use Rattle.agg_request_tree.specs.Occurrences.{same_tuple}
+use Rattle.agg_request_tree.proofs.Lists.{AllByRecursion-both, AllByRecursion-weaker, Has}
+use Rattle.agg_request_tree.proofs.Lists.{Contains-from_Has}
 use Rattle.agg_results.specs.Counts.{add_count}
 use Rattle.agg_results.proofs.Counts.{all-added}
 use Rattle.agg_results.proofs.Counted.{Ascend-counted, Positive-counted, all-counted}

@@ -8,8 +8,8 @@ use Rattle.std.specs.Map.{keys_of}
 use Rattle.std.specs.Ordering.{match_ordering, ordering_reverse}
 use Rattle.std.proofs.lemmas.List.{append-nil, take-map}
 use Rattle.std.proofs.lemmas.List.Elements.{recursion_from_All}
-use Rattle.agg_request.proofs.Lists.{AllByRecursion-weaker}
-use Rattle.agg_request.proofs.PageKeys.{IsStrictlySortedBy-take}
+use Rattle.agg_request_tree.proofs.Lists.{AllByRecursion-weaker}
+use Rattle.agg_request_tree.proofs.PageKeys.{IsStrictlySortedBy-take}
 use Rattle.agg_results.specs.Counts.{add_count, merged}
 
 -- the keys of counts ascend

@@ -5,8 +5,8 @@ use Rattle.std.proofs.lemmas.List.{take_all}
 use Rattle.agg_values.specs.KeyOrder.{SourceRules}
 use Rattle.agg_values.specs.declared.order.MissingOrder.{MissingOrder}
 use Rattle.agg_values.specs.declared.order.Order.{Order}
-use Rattle.agg_request.specs.Source.{Sources, missing_order_of, order_of, rules_of}
-use Rattle.agg_request.specs.declared.source.CompositeAggregationSource.{CompositeAggregationSource}
+use Rattle.agg_request_tree.specs.Source.{Sources, missing_order_of, order_of, rules_of}
+use Rattle.agg_request_tree.specs.declared.source.CompositeAggregationSource.{CompositeAggregationSource}
 use Rattle.agg_results.specs.Empty.{empty_page}
 use Rattle.agg_results.specs.Intermediate.{Entries, composite_of, entries_of, orders_of}
 use Rattle.agg_results.specs.Intermediate.{target_size_of}

@@ -6,14 +6,14 @@ use Rattle.std.proofs.lemmas.List.Sums.{sum_by-cons}
 use Rattle.std.proofs.lemmas.Simd.{map-map}
 use Rattle.agg_values.specs.Shown.{shown_key}
 use Rattle.agg_values.specs.Tuple.{KeyTuple}
-use Rattle.agg_request.specs.BySource.{by_source}
-use Rattle.agg_request.specs.Groups.{Group}
-use Rattle.agg_request.specs.Request.{Request}
-use Rattle.agg_request.specs.Source.{Sources}
-use Rattle.agg_request.specs.declared.aggregation.Aggregation.{Aggregation}
-use Rattle.agg_request.specs.declared.aggregation.AggregationVariants.{AggregationVariants}
-use Rattle.agg_request.specs.declared.aggregation.AggregationVariants.TheVariants.{Composite}
-use Rattle.agg_request.specs.declared.aggregation.CompositeAggregation.{CompositeAggregation}
+use Rattle.agg_request_tree.specs.BySource.{by_source}
+use Rattle.agg_request_tree.specs.Groups.{Group}
+use Rattle.agg_request_tree.specs.Request.{Request}
+use Rattle.agg_request_tree.specs.Source.{Sources}
+use Rattle.agg_request_tree.specs.declared.aggregation.Aggregation.{Aggregation}
+use Rattle.agg_request_tree.specs.declared.aggregation.AggregationVariants.{AggregationVariants}
+use Rattle.agg_request_tree.specs.declared.aggregation.AggregationVariants.TheVariants.{Composite}
+use Rattle.agg_request_tree.specs.declared.aggregation.CompositeAggregation.{CompositeAggregation}
 use Rattle.agg_results.specs.BucketCount.{entry_buckets, result_buckets, results_buckets}
 use Rattle.agg_results.specs.Final.{final_of, final_result, final_results, lowest_of}
 use Rattle.agg_results.specs.Results.{last_tuple}

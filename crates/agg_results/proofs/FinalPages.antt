@@ -8,17 +8,17 @@ use Rattle.std.proofs.lemmas.Bool.{cond_both}
 use Rattle.std.proofs.lemmas.List.{take_all}
 use Rattle.std.proofs.lemmas.List.Elements.{recursion_from_All}
 use Rattle.agg_values.specs.Names.{Named, value_of}
-use Rattle.agg_segment.specs.Document.{Fields}
-use Rattle.agg_request.specs.Groups.{Group}
-use Rattle.agg_request.specs.Occurrences.{bound_of}
-use Rattle.agg_request.specs.Page.{Entry, entry_of, group_of}
-use Rattle.agg_request.specs.Request.{Request, agg_of}
-use Rattle.agg_request.specs.Source.{Sources}
-use Rattle.agg_request.specs.declared.aggregation.AggregationVariants.{AggregationVariants}
-use Rattle.agg_request.specs.declared.aggregation.AggregationVariants.TheVariants.{Composite}
-use Rattle.agg_request.specs.declared.aggregation.CompositeAggregation.{CompositeAggregation}
-use Rattle.agg_request.proofs.PageCounts.{counts-permutation}
-use Rattle.agg_request.proofs.PageFromGroups.{groups-entries}
+use Rattle.agg_column.specs.Document.{Fields}
+use Rattle.agg_request_tree.specs.Groups.{Group}
+use Rattle.agg_request_tree.specs.Occurrences.{bound_of}
+use Rattle.agg_request_tree.specs.Page.{Entry, entry_of, group_of}
+use Rattle.agg_request_tree.specs.Request.{Request, agg_of}
+use Rattle.agg_request_tree.specs.Source.{Sources}
+use Rattle.agg_request_tree.specs.declared.aggregation.AggregationVariants.{AggregationVariants}
+use Rattle.agg_request_tree.specs.declared.aggregation.AggregationVariants.TheVariants.{Composite}
+use Rattle.agg_request_tree.specs.declared.aggregation.CompositeAggregation.{CompositeAggregation}
+use Rattle.agg_request_tree.proofs.PageCounts.{counts-permutation}
+use Rattle.agg_request_tree.proofs.PageFromGroups.{groups-entries}
 use Rattle.agg_results.specs.Final.{final_by_name, final_result, final_results}
 use Rattle.agg_results.specs.Intermediate.{Held, counts_of, entries_of, held_composite}
 use Rattle.agg_results.specs.Intermediate.{target_size_of}

@@ -2,10 +2,10 @@
 use Rattle.std.proofs.Common.{ℕ, [], get_or, subst, sym}
 use Rattle.std.proofs.lemmas.List.Elements.{All-map, All-nil}
 use Rattle.agg_values.specs.KeyOrder.{SourceRules}
-use Rattle.agg_request.specs.Request.{Request, agg_of}
-use Rattle.agg_request.specs.Source.{rules_of}
-use Rattle.agg_request.specs.declared.aggregation.AggregationVariants.{AggregationVariants}
-use Rattle.agg_request.specs.declared.aggregation.AggregationVariants.TheVariants.{Composite}
+use Rattle.agg_request_tree.specs.Request.{Request, agg_of}
+use Rattle.agg_request_tree.specs.Source.{rules_of}
+use Rattle.agg_request_tree.specs.declared.aggregation.AggregationVariants.{AggregationVariants}
+use Rattle.agg_request_tree.specs.declared.aggregation.AggregationVariants.TheVariants.{Composite}
 use Rattle.agg_results.specs.Empty.{empty_result, empty_results}
 use Rattle.agg_results.specs.Intermediate.{AreFlat, ArePlain, IsFlat, IsPlain, composite_of}
 use Rattle.agg_results.specs.Intermediate.{held_composite}

@@ -16,7 +16,7 @@ use Rattle.agg_results.specs.Intermediate.{AreFlat, Held, IsFlat, held_composite
 use Rattle.agg_results.specs.Merging.{CountsPass, ShapesDiffer, SomeOfBoth, behind}
 use Rattle.agg_results.specs.declared.intermediate.results.IntermediateAggregationResult as declared
 use declared.{IntermediateAggregationResult}
-use Rattle.agg_request.proofs.Lists.{All-from_map}
+use Rattle.agg_request_tree.proofs.Lists.{All-from_map}
 use Rattle.agg_results.proofs.Composites.{flat-merged}
 use Rattle.agg_results.proofs.NameValues.{first_or_later, later, value-first}
 

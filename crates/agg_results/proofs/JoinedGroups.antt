@@ -9,12 +9,12 @@ use Rattle.std.proofs.lemmas.List.Sums.{sum_by-append, sum_by-cons}
 use Rattle.agg_values.specs.KeyOrder.{tuple_order}
 use Rattle.agg_values.specs.Tuple.{KeyTuple}
 use Rattle.agg_values.proofs.TupleOrder.{tuple_order-total}
-use Rattle.agg_segment.specs.Document.{Fields}
-use Rattle.agg_request.specs.Groups.{Group}
-use Rattle.agg_request.specs.Occurrences.{occurrences, occurrences_in, past_occurrences}
-use Rattle.agg_request.specs.Occurrences.{same_tuple}
-use Rattle.agg_request.specs.Page.{IsPage, count_in, entry_of}
-use Rattle.agg_request.specs.Source.{Sources, rules_of}
+use Rattle.agg_column.specs.Document.{Fields}
+use Rattle.agg_request_tree.specs.Groups.{Group}
+use Rattle.agg_request_tree.specs.Occurrences.{occurrences, occurrences_in, past_occurrences}
+use Rattle.agg_request_tree.specs.Occurrences.{same_tuple}
+use Rattle.agg_request_tree.specs.Page.{IsPage, count_in, entry_of}
+use Rattle.agg_request_tree.specs.Source.{Sources, rules_of}
 use Rattle.agg_results.specs.Counts.{merged}
 use Rattle.agg_results.specs.StandsFor.{GroupsStandFor}
 use Rattle.agg_results.proofs.Counts.{Ascend-merged, merged-nothing}

@@ -5,14 +5,14 @@ use Rattle.std.proofs.lemmas.List.Elements.{All-filter, filter-append}
 use Rattle.agg_values.specs.KeyOrder.{tuple_order}
 use Rattle.agg_values.specs.Laws.{IsCanonicalTuple}
 use Rattle.agg_values.specs.Tuple.{KeyTuple}
-use Rattle.agg_segment.specs.Document.{Fields}
-use Rattle.agg_request.specs.Groups.{Group, Groups}
-use Rattle.agg_request.specs.Occurrences.{is_past, occurrences, occurrences_in, past_occurrences}
-use Rattle.agg_request.specs.Page.{Entry, IsPage, entry_of, group_of}
-use Rattle.agg_request.specs.Source.{Sources, rules_of}
-use Rattle.agg_request.proofs.PageFromGroups.{IsPage-from_groups, groups-entries}
-use Rattle.agg_request.proofs.PageTuples.{occurrences_in-canonical}
-use Rattle.agg_request.proofs.PageUnique.{IsPage-same}
+use Rattle.agg_column.specs.Document.{Fields}
+use Rattle.agg_request_tree.specs.Groups.{Group, Groups}
+use Rattle.agg_request_tree.specs.Occurrences.{is_past, occurrences, occurrences_in, past_occurrences}
+use Rattle.agg_request_tree.specs.Page.{Entry, IsPage, entry_of, group_of}
+use Rattle.agg_request_tree.specs.Source.{Sources, rules_of}
+use Rattle.agg_request_tree.proofs.PageFromGroups.{IsPage-from_groups, groups-entries}
+use Rattle.agg_request_tree.proofs.PageTuples.{occurrences_in-canonical}
+use Rattle.agg_request_tree.proofs.PageUnique.{IsPage-same}
 use Rattle.agg_results.proofs.Counted.{counted}
 use Rattle.agg_results.proofs.CountedGroups.{Groups-counted}
 

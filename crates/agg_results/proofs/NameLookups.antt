@@ -11,7 +11,7 @@ use Rattle.std.proofs.lemmas.Map.Views.{All-keys_from_lookup, Contains-keys_from
 use Rattle.std.proofs.lemmas.Map.Views.{Contains-from_lookup, IsSome-lookup_from_Contains}
 use Rattle.std.proofs.lemmas.Map.Views.{lookup-from_Contains, tells_apart}
 use Rattle.agg_values.specs.Names.{Named, name_cmp, value_of}
-use Rattle.agg_request.proofs.Lists.{Contains-from_Has, Has, Has-from_Contains}
+use Rattle.agg_request_tree.proofs.Lists.{Contains-from_Has, Has, Has-from_Contains}
 
 module _ {T : Type 0} where
   entry-named : (es : Named T) (name : List ℕ) → Has name (keys_of es)

@@ -13,7 +13,7 @@ use Rattle.std.proofs.lemmas.Cmp.{tied_itself}
 use Rattle.std.proofs.lemmas.Option.{none-some, same_Some}
 use Rattle.std.proofs.lemmas.Map.Keys.{sorted_head, sorted_tail}
 use Rattle.std.proofs.lemmas.Map.Lookups.{CmpEqualImpliesEq}
-use Rattle.agg_request.proofs.Lists.{AllByRecursion-weaker}
+use Rattle.agg_request_tree.proofs.Lists.{AllByRecursion-weaker}
 
 -- a key is one of these
 abbrev pub Among : {K : Type 0} → List K → K → Type 0

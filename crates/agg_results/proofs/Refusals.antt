@@ -5,8 +5,8 @@ use Rattle.std.specs.Option.{is_some, option_map}
 use Rattle.std.specs.Map.{keys_of}
 use Rattle.std.proofs.lemmas.Map.Keys.{sorted_tail}
 use Rattle.agg_values.specs.Names.{name_cmp, value_of}
-use Rattle.agg_request.specs.Request.{Request, agg_of}
-use Rattle.agg_request.specs.declared.aggregation.Aggregation.{Aggregation}
+use Rattle.agg_request_tree.specs.Request.{Request, agg_of}
+use Rattle.agg_request_tree.specs.declared.aggregation.Aggregation.{Aggregation}
 use Rattle.agg_results.specs.Final.{HoldsOther, IsInOtherOrders, IsUnknown}
 use Rattle.agg_results.specs.Intermediate.{HasSubResults, Held, held_composite}
 use Rattle.agg_results.specs.declared.intermediate.results.IntermediateAggregationResult as declared

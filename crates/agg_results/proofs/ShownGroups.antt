@@ -7,7 +7,7 @@ use Rattle.std.proofs.lemmas.List.{length-map, take-map}
 use Rattle.agg_values.specs.Names.{Named}
 use Rattle.agg_values.specs.Tuple.{KeyTuple}
 use Rattle.agg_values.specs.declared.after_key.AfterKey.{AfterKey}
-use Rattle.agg_request.specs.Source.{Sources}
+use Rattle.agg_request_tree.specs.Source.{Sources}
 use Rattle.agg_results.specs.Final.{lowest_of}
 use Rattle.agg_results.specs.Results.{last_tuple}
 use Rattle.agg_results.specs.Intermediate.{Entries, counts_of, entries_of, target_size_of}

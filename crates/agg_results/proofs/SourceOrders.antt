@@ -10,8 +10,8 @@ use Rattle.agg_values.specs.contracts.order.MissingOrder as missing_order
 use Rattle.agg_values.specs.contracts.order.Order as order
 use Rattle.agg_values.specs.declared.order.MissingOrder.{MissingOrder}
 use Rattle.agg_values.specs.declared.order.Order.{Order}
-use Rattle.agg_request.specs.Source.{Sources, missing_order_of, order_of, rules_of}
-use Rattle.agg_request.specs.declared.source.CompositeAggregationSource.{CompositeAggregationSource}
+use Rattle.agg_request_tree.specs.Source.{Sources, missing_order_of, order_of, rules_of}
+use Rattle.agg_request_tree.specs.declared.source.CompositeAggregationSource.{CompositeAggregationSource}
 
 pub unnegated : (b : Bool) → false ≡ not b → b ≡ true
 unnegated true e = refl

@@ -8,11 +8,11 @@ use Rattle.std.proofs.lemmas.Bool.Decides.{nat_tests}
 use Rattle.std.proofs.lemmas.List.{take-map}
 use Rattle.std.proofs.lemmas.List.Elements.{All-map, All-nil, All-take}
 use Rattle.agg_values.specs.KeyOrder.{SourceRules}
-use Rattle.agg_segment.specs.Document.{Fields}
-use Rattle.agg_request.specs.Groups.{Group}
-use Rattle.agg_request.specs.Occurrences.{bound_of, occurrences_in}
-use Rattle.agg_request.specs.Source.{rules_of}
-use Rattle.agg_request.specs.declared.aggregation.CompositeAggregation.{CompositeAggregation}
+use Rattle.agg_column.specs.Document.{Fields}
+use Rattle.agg_request_tree.specs.Groups.{Group}
+use Rattle.agg_request_tree.specs.Occurrences.{bound_of, occurrences_in}
+use Rattle.agg_request_tree.specs.Source.{rules_of}
+use Rattle.agg_request_tree.specs.declared.aggregation.CompositeAggregation.{CompositeAggregation}
 use Rattle.agg_results.specs.Counts.{PassesCount, trimmed}
 use Rattle.agg_results.specs.Empty.{empty_page}
 use Rattle.agg_results.specs.Intermediate.{ArePlain, Entries, IsPlain, composite_of, counts_of}

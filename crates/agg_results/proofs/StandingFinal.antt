@@ -6,11 +6,11 @@ use Rattle.std.specs.Map.{keys_of}
 use Rattle.std.specs.Prelude.{IsSome}
 use Rattle.std.proofs.lemmas.List.Elements.{All-contains}
 use Rattle.agg_values.specs.Names.{value_of}
-use Rattle.agg_segment.specs.Document.{Fields}
-use Rattle.agg_request.specs.Request.{Request, agg_of}
-use Rattle.agg_request.specs.declared.aggregation.AggregationVariants.{AggregationVariants}
-use Rattle.agg_request.specs.declared.aggregation.AggregationVariants.TheVariants.{Composite}
-use Rattle.agg_request.proofs.Lists.{Contains-map}
+use Rattle.agg_column.specs.Document.{Fields}
+use Rattle.agg_request_tree.specs.Request.{Request, agg_of}
+use Rattle.agg_request_tree.specs.declared.aggregation.AggregationVariants.{AggregationVariants}
+use Rattle.agg_request_tree.specs.declared.aggregation.AggregationVariants.TheVariants.{Composite}
+use Rattle.agg_request_tree.proofs.Lists.{Contains-map}
 use Rattle.agg_results.specs.Final.{HoldsOther, HoldsUnknown, IsInOtherOrders, IsUnknown}
 use Rattle.agg_results.specs.Intermediate.{AreFlat, Held, IsFlat, IsPlain, entries_of}
 use Rattle.agg_results.specs.Intermediate.{held_composite}

@@ -7,14 +7,14 @@ use Rattle.std.proofs.lemmas.List.Elements.{All-take, All-weaker}
 use Rattle.std.proofs.lemmas.List.Sums.{count_by-le-length}
 use Rattle.agg_values.specs.KeyOrder.{tuple_order}
 use Rattle.agg_values.specs.Tuple.{KeyTuple}
-use Rattle.agg_segment.specs.Document.{Fields}
-use Rattle.agg_request.specs.Groups.{Group, Groups}
-use Rattle.agg_request.specs.Occurrences.{is_past, occurrences_in, past_occurrences}
-use Rattle.agg_request.specs.Occurrences.{same_tuple}
-use Rattle.agg_request.specs.Page.{Entry, IsPage, count_in, entry_of, group_of}
-use Rattle.agg_request.specs.Source.{Sources, rules_of}
-use Rattle.agg_request.proofs.Lists.{All-from_map, Contains-from_filter}
-use Rattle.agg_request.proofs.PageFromGroups.{Groups-nothing, IsPage-from_groups, count_by-past}
+use Rattle.agg_column.specs.Document.{Fields}
+use Rattle.agg_request_tree.specs.Groups.{Group, Groups}
+use Rattle.agg_request_tree.specs.Occurrences.{is_past, occurrences_in, past_occurrences}
+use Rattle.agg_request_tree.specs.Occurrences.{same_tuple}
+use Rattle.agg_request_tree.specs.Page.{Entry, IsPage, count_in, entry_of, group_of}
+use Rattle.agg_request_tree.specs.Source.{Sources, rules_of}
+use Rattle.agg_request_tree.proofs.Lists.{All-from_map, Contains-from_filter}
+use Rattle.agg_request_tree.proofs.PageFromGroups.{Groups-nothing, IsPage-from_groups, count_by-past}
 use Rattle.agg_results.specs.Counts.{PassesCount}
 use Rattle.agg_results.specs.StandsFor.{GroupsStandFor}
 use Rattle.agg_results.proofs.Counts.{Ascend-take}

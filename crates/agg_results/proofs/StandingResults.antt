@@ -10,15 +10,15 @@ use Rattle.std.proofs.lemmas.List.Elements.{All-contains, All-contains_itself}
 use Rattle.std.proofs.lemmas.Map.Made.{keys_of-map_values, lookup-map_values}
 use Rattle.std.specs.BTreeMap.{is_at}
 use Rattle.agg_values.specs.Names.{name_cmp, value_of}
-use Rattle.agg_segment.specs.Document.{Fields}
-use Rattle.agg_request.specs.Request.{ArePlainComposites, IsPlainComposite, Request, agg_of}
-use Rattle.agg_request.specs.Uncut.{uncut}
-use Rattle.agg_request.specs.declared.aggregation.Aggregation.{Aggregation}
-use Rattle.agg_request.specs.declared.aggregation.AggregationVariants.{AggregationVariants}
-use Rattle.agg_request.specs.declared.aggregation.AggregationVariants.TheVariants.{Composite}
-use Rattle.agg_request.specs.declared.aggregation.CompositeAggregation.{CompositeAggregation}
-use Rattle.agg_request.proofs.Lists.{All-from_Contains}
-use Rattle.agg_request.proofs.UncutLength.{length-counted}
+use Rattle.agg_column.specs.Document.{Fields}
+use Rattle.agg_request_tree.specs.Request.{ArePlainComposites, IsPlainComposite, Request, agg_of}
+use Rattle.agg_request_tree.specs.Uncut.{uncut}
+use Rattle.agg_request_tree.specs.declared.aggregation.Aggregation.{Aggregation}
+use Rattle.agg_request_tree.specs.declared.aggregation.AggregationVariants.{AggregationVariants}
+use Rattle.agg_request_tree.specs.declared.aggregation.AggregationVariants.TheVariants.{Composite}
+use Rattle.agg_request_tree.specs.declared.aggregation.CompositeAggregation.{CompositeAggregation}
+use Rattle.agg_request_tree.proofs.Lists.{All-from_Contains}
+use Rattle.agg_request_tree.proofs.UncutLength.{length-counted}
 use Rattle.agg_results.specs.Empty.{empty_result, empty_results}
 use Rattle.agg_results.specs.Intermediate.{AreFlat, Held, IsFlat, held_composite}
 use Rattle.agg_results.specs.Merging.{AreMerged, CountsPass, ShapesDiffer, SomeOfBoth}

@@ -10,8 +10,8 @@ use Rattle.std.proofs.lemmas.List.{append-nil, map-append}
 use Rattle.std.proofs.lemmas.List.Elements.{All-append, All-head, All-map, All-push, All-tail}
 use Rattle.std.proofs.lemmas.Map.Keys.{sorted_tail}
 use Rattle.agg_values.specs.Tuple.{KeyTuple}
-use Rattle.agg_request.specs.Groups.{Group}
-use Rattle.agg_request.proofs.CheckedRequests.{Any-back}
+use Rattle.agg_request_tree.specs.Groups.{Group}
+use Rattle.agg_request_tree.proofs.CheckedRequests.{Any-back}
 use Rattle.agg_results.specs.Counts.{PassesCount, merged}
 use Rattle.agg_results.specs.Intermediate.{ArePlain, Entries, IsPlain, TupleEntry, counts_of}
 use Rattle.agg_results.specs.Intermediate.{plain_entry}

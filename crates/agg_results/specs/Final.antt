@@ -4,12 +4,12 @@ use Rattle.std.specs.Prelude.{map, take}
 use Rattle.agg_values.specs.Names.{Named, value_of}
 use Rattle.agg_values.specs.declared.request_error.AggregationError.{AggregationError}
 use Rattle.agg_values.specs.declared.request_error.AggregationError.TheVariants as aggregation
-use Rattle.agg_request.specs.Groups.{Group}
-use Rattle.agg_request.specs.Request.{Request, agg_of}
-use Rattle.agg_request.specs.Source.{rules_of}
-use Rattle.agg_request.specs.declared.aggregation.Aggregation.{Aggregation}
-use Rattle.agg_request.specs.declared.aggregation.AggregationVariants.{AggregationVariants}
-use Rattle.agg_request.specs.declared.aggregation.AggregationVariants.TheVariants.{Composite}
+use Rattle.agg_request_tree.specs.Groups.{Group}
+use Rattle.agg_request_tree.specs.Request.{Request, agg_of}
+use Rattle.agg_request_tree.specs.Source.{rules_of}
+use Rattle.agg_request_tree.specs.declared.aggregation.Aggregation.{Aggregation}
+use Rattle.agg_request_tree.specs.declared.aggregation.AggregationVariants.{AggregationVariants}
+use Rattle.agg_request_tree.specs.declared.aggregation.AggregationVariants.TheVariants.{Composite}
 use Rattle.agg_results.specs.BucketCount.{results_buckets}
 use Rattle.agg_results.specs.Intermediate.{HasSubResults, Held, counts_of, entries_of}
 use Rattle.agg_results.specs.Intermediate.{held_composite}

@@ -3,7 +3,7 @@ use Rattle.std.specs.Prelude.{◌≡◌, ℕ, List, [], All, Any, map}
 use Rattle.agg_values.specs.KeyOrder.{SourceRules}
 use Rattle.agg_values.specs.Names.{Named}
 use Rattle.agg_values.specs.Tuple.{KeyTuple}
-use Rattle.agg_request.specs.Groups.{Group}
+use Rattle.agg_request_tree.specs.Groups.{Group}
 use Rattle.agg_results.specs.declared.intermediate.results.IntermediateAggregationResult as declared
 use declared.{IntermediateAggregationResult}
 use declared.TheVariants.{Bucket}

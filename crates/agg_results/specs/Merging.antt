@@ -7,7 +7,7 @@ use Rattle.std.specs.declared.cmp.Ordering.TheVariants.{Less}
 use Rattle.agg_values.specs.KeyOrder.{SourceRules, tuple_order}
 use Rattle.agg_values.specs.Names.{Named, value_of}
 use Rattle.agg_values.specs.Tuple.{KeyTuple}
-use Rattle.agg_request.specs.Groups.{Group}
+use Rattle.agg_request_tree.specs.Groups.{Group}
 use Rattle.agg_results.specs.Counts.{PassesCount, merged, trimmed}
 use Rattle.agg_results.specs.Intermediate.{Entries, Held, TupleEntry, as_result, composite_of}
 use Rattle.agg_results.specs.Intermediate.{counts_of, entries_of, held_composite, orders_of}

@@ -5,14 +5,14 @@ use Rattle.std.specs.List.{AllZip, last_or}
 use Rattle.std.specs.Map.{keys_of}
 use Rattle.agg_values.specs.Names.{value_of, Named}
 use Rattle.agg_values.specs.Tuple.{KeyTuple}
-use Rattle.agg_segment.specs.Document.{Fields}
-use Rattle.agg_request.specs.declared.aggregation.CompositeAggregation.{CompositeAggregation}
-use Rattle.agg_request.specs.declared.aggregation.AggregationVariants.{AggregationVariants}
-use Rattle.agg_request.specs.declared.aggregation.AggregationVariants.TheVariants.{Composite}
-use Rattle.agg_request.specs.Groups.{Group}
-use Rattle.agg_request.specs.Occurrences.{bound_of}
-use Rattle.agg_request.specs.Page.{Entry, IsPage, group_of}
-use Rattle.agg_request.specs.Request.{Request, agg_of}
+use Rattle.agg_column.specs.Document.{Fields}
+use Rattle.agg_request_tree.specs.declared.aggregation.CompositeAggregation.{CompositeAggregation}
+use Rattle.agg_request_tree.specs.declared.aggregation.AggregationVariants.{AggregationVariants}
+use Rattle.agg_request_tree.specs.declared.aggregation.AggregationVariants.TheVariants.{Composite}
+use Rattle.agg_request_tree.specs.Groups.{Group}
+use Rattle.agg_request_tree.specs.Occurrences.{bound_of}
+use Rattle.agg_request_tree.specs.Page.{Entry, IsPage, group_of}
+use Rattle.agg_request_tree.specs.Request.{Request, agg_of}
 
 -- the result of a composite: the entries of its page, and the last tuple of a full one
 pub record CompositeResult : Type 0 where

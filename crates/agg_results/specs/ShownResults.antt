@@ -5,13 +5,13 @@ use Rattle.agg_values.specs.declared.after_key.AfterKey.{AfterKey}
 use Rattle.agg_values.specs.Names.{Named}
 use Rattle.agg_values.specs.Shown.{shown_key}
 use Rattle.agg_values.specs.Tuple.{KeyTuple}
-use Rattle.agg_request.specs.declared.aggregation.AggregationVariants.{AggregationVariants}
-use Rattle.agg_request.specs.declared.aggregation.AggregationVariants.TheVariants.{Composite}
-use Rattle.agg_request.specs.BySource.{after_map, by_source}
-use Rattle.agg_request.specs.Groups.{Group}
-use Rattle.agg_request.specs.Page.{Entry, group_of}
-use Rattle.agg_request.specs.Request.{Request, agg_of}
-use Rattle.agg_request.specs.Source.{Sources}
+use Rattle.agg_request_tree.specs.declared.aggregation.AggregationVariants.{AggregationVariants}
+use Rattle.agg_request_tree.specs.declared.aggregation.AggregationVariants.TheVariants.{Composite}
+use Rattle.agg_request_tree.specs.BySource.{after_map, by_source}
+use Rattle.agg_request_tree.specs.Groups.{Group}
+use Rattle.agg_request_tree.specs.Page.{Entry, group_of}
+use Rattle.agg_request_tree.specs.Request.{Request, agg_of}
+use Rattle.agg_request_tree.specs.Source.{Sources}
 use Rattle.agg_results.specs.Results.{CompositeResult, Results}
 use Rattle.agg_results.specs.declared.results.types.AggregationResult.{AggregationResult}
 use Rattle.agg_results.specs.declared.results.types.AggregationResult.TheVariants as kind

@@ -7,15 +7,15 @@ use Rattle.std.specs.Map.{keys_of}
 use Rattle.agg_values.specs.KeyOrder.{tuple_order}
 use Rattle.agg_values.specs.Names.{value_of}
 use Rattle.agg_values.specs.Tuple.{KeyTuple}
-use Rattle.agg_segment.specs.Document.{Fields}
-use Rattle.agg_request.specs.Groups.{Group}
-use Rattle.agg_request.specs.Occurrences.{bound_of, is_past}
-use Rattle.agg_request.specs.Page.{IsPage, count_in, entry_of}
-use Rattle.agg_request.specs.Request.{Request, agg_of}
-use Rattle.agg_request.specs.Source.{Sources, rules_of}
-use Rattle.agg_request.specs.declared.aggregation.AggregationVariants.{AggregationVariants}
-use Rattle.agg_request.specs.declared.aggregation.AggregationVariants.TheVariants.{Composite}
-use Rattle.agg_request.specs.declared.aggregation.CompositeAggregation.{CompositeAggregation}
+use Rattle.agg_column.specs.Document.{Fields}
+use Rattle.agg_request_tree.specs.Groups.{Group}
+use Rattle.agg_request_tree.specs.Occurrences.{bound_of, is_past}
+use Rattle.agg_request_tree.specs.Page.{IsPage, count_in, entry_of}
+use Rattle.agg_request_tree.specs.Request.{Request, agg_of}
+use Rattle.agg_request_tree.specs.Source.{Sources, rules_of}
+use Rattle.agg_request_tree.specs.declared.aggregation.AggregationVariants.{AggregationVariants}
+use Rattle.agg_request_tree.specs.declared.aggregation.AggregationVariants.TheVariants.{Composite}
+use Rattle.agg_request_tree.specs.declared.aggregation.CompositeAggregation.{CompositeAggregation}
 use Rattle.agg_results.specs.Intermediate.{Held, IsFlat, counts_of, entries_of, held_composite}
 use Rattle.agg_results.specs.Intermediate.{orders_of, target_size_of}
 use Rattle.agg_results.specs.declared.intermediate.results.IntermediateAggregationResult as declared

@@ -10,7 +10,7 @@ mod shown;
 
 use crate::{AggregationResults, FinalError, IntermediateAggregationResults};
 use agg_cache::LimitsLedger;
-use agg_request::Aggregations;
+use agg_request_tree::Aggregations;
 use agg_values::AggregationError;
 use bucket_count::bucket_count;
 use by_name::shown_by_name;

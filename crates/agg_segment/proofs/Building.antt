@@ -15,18 +15,19 @@ use Rattle.agg_values.specs.declared.address.Address.{Address}
 use Rattle.agg_values.specs.declared.column.ColumnPaginationOrder.{ColumnPaginationOrder}
 use Rattle.agg_values.specs.declared.column.ColumnPaginationOrder.TheVariants as class
 use Rattle.agg_values.specs.declared.typed_key.CompositeIntermediateKey.TheVariants as key
-use Rattle.agg_segment.specs.Cells.{Placed, Logged, placed, stored_key, IsKept}
+use Rattle.agg_column.specs.Cells.{Placed, Logged, placed, stored_key, IsKept}
 use Rattle.agg_segment.specs.Segment.{builder_cells}
-use Rattle.agg_segment.specs.CellOrder.{cell_class}
-use Rattle.agg_segment.specs.Gatherings.{Raw, raw_key, raw_placed, kind_of, IsRaw, AreRawsOf}
+use Rattle.agg_column.specs.CellOrder.{cell_class}
+use Rattle.agg_segment.specs.Gatherings.{Raw, raw_placed, kind_of, IsRaw, AreRawsOf}
+use Rattle.agg_column.specs.GatheredNumbers.{raw_key}
 use Rattle.agg_segment.specs.Gatherings.{IsNumberOf}
-use Rattle.agg_segment.specs.Signs.{sign_of, cell_sign, cell_mark, key_mark, IsFieldSign}
-use Rattle.agg_segment.specs.declared.hit.ColumnType.TheVariants as kind
-use Rattle.agg_segment.specs.declared.log.Cell.{Cell}
-use Rattle.agg_segment.specs.declared.log.CellValue.{CellValue}
-use Rattle.agg_segment.specs.declared.log.CellValue.TheVariants as cell
-use Rattle.agg_segment.specs.declared.signs.Sign.{Sign}
-use Rattle.agg_segment.specs.declared.signs.Sign.TheVariants.{Small, Negative, Large}
+use Rattle.agg_column.specs.Signs.{sign_of, cell_sign, cell_mark, key_mark, IsFieldSign}
+use Rattle.agg_column.specs.declared.hit.ColumnType.TheVariants as kind
+use Rattle.agg_column.specs.declared.log.Cell.{Cell}
+use Rattle.agg_column.specs.declared.log.CellValue.{CellValue}
+use Rattle.agg_column.specs.declared.log.CellValue.TheVariants as cell
+use Rattle.agg_column.specs.declared.sign.Sign.{Sign}
+use Rattle.agg_column.specs.declared.sign.Sign.TheVariants.{Small, Negative, Large}
 use Rattle.agg_segment.proofs.Closed.{padded}
 
 -- ---- more texts and addresses beside numbers

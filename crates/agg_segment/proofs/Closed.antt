@@ -14,19 +14,19 @@ use Rattle.std.proofs.lemmas.List.FromFn.{map-range_with_len_more, length-range_
 use Rattle.std.proofs.lemmas.List.Sorted.{Contains-permutation, IsPermutation-sym}
 use Rattle.std.specs.Cmp.Lexicographic.{nat_list_eq_equiv}
 use Rattle.agg_values.specs.TypedKey.{CompositeIntermediateKey}
-use Rattle.agg_segment.specs.Document.{Fields, by_class}
-use Rattle.agg_segment.specs.Cells.{Placed, is_at, keys_at, number_of}
-use Rattle.agg_segment.specs.Signs.{key_mark, sign_of, IsFieldSign, AreSigns, HasBoth}
+use Rattle.agg_column.specs.Document.{Fields, by_class}
+use Rattle.agg_column.specs.Cells.{Placed, is_at, keys_at, number_of}
+use Rattle.agg_column.specs.Signs.{key_mark, sign_of, IsFieldSign, AreSigns, HasBoth}
 use Rattle.agg_segment.specs.Segment.{Stored, Gathered, IsNameOf, gathered_fields}
 use Rattle.agg_segment.specs.Segment.{gathered_documents, open_document, document_at}
 use Rattle.agg_segment.specs.Segment.{documents_of, IsGathered, IsMixed, HasSign}
-use Rattle.agg_segment.specs.Columns.{StoredColumn, column_cells}
-use Rattle.agg_segment.specs.declared.signs.Sign.{Sign}
-use Rattle.agg_segment.specs.declared.signs.Sign.TheVariants.{Small, Negative, Large}
-use Rattle.agg_segment.proofs.Places.{same_texts}
-use Rattle.agg_segment.proofs.Classes.{by_class_nil, by_class_moves}
-use Rattle.agg_segment.proofs.Members.{contains_map, from_map, contains_flat, from_flat}
-use Rattle.agg_segment.proofs.Members.{contains_filter, from_filter, in_range, none_of}
+use Rattle.agg_column.specs.Columns.{StoredColumn, column_cells}
+use Rattle.agg_column.specs.declared.sign.Sign.{Sign}
+use Rattle.agg_column.specs.declared.sign.Sign.TheVariants.{Small, Negative, Large}
+use Rattle.agg_column.proofs.Places.{same_texts}
+use Rattle.agg_column.proofs.Classes.{by_class_nil, by_class_moves}
+use Rattle.agg_column.proofs.Members.{contains_map, from_map, contains_flat, from_flat}
+use Rattle.agg_column.proofs.Members.{contains_filter, from_filter, in_range, none_of}
 use Rattle.agg_segment.proofs.InTheMaking.{keys_no_field, map_same}
 use Rattle.agg_segment.proofs.InTheMaking.{ended_keys}
 

@@ -9,25 +9,25 @@ use Rattle.std.proofs.lemmas.List.{take_all, drop_all, get_or_default, append-ni
 use Rattle.std.proofs.lemmas.List.{map-append, length-map}
 use Rattle.std.proofs.lemmas.List.Elements.{All-contains, All-weaker, All-take, All-append}
 use Rattle.std.proofs.lemmas.List.Elements.{All-tail}
-use Rattle.agg_segment.specs.Cells.{Placed, Logged, keys_at, number_of, placed, IsKept}
-use Rattle.agg_segment.specs.Document.{by_class}
+use Rattle.agg_column.specs.Cells.{Placed, Logged, keys_at, number_of, placed, IsKept}
+use Rattle.agg_column.specs.Document.{by_class}
 use Rattle.agg_segment.specs.Segment.{gathered_fields, gathered_documents, open_document, no_fields}
 use Rattle.agg_segment.specs.Segment.{builder_cells, IsBuilding, IsMixed}
 use Rattle.agg_segment.specs.Segment.{IsGathered}
-use Rattle.agg_segment.specs.Signs.{cell_mark, key_mark, IsFieldSign, AreSigns}
+use Rattle.agg_column.specs.Signs.{cell_mark, key_mark, IsFieldSign, AreSigns}
 use Rattle.agg_segment.specs.declared.builder.TheConstants.{MAX_DOCUMENTS}
-use Rattle.agg_segment.specs.declared.signs.Sign.{Sign}
-use Rattle.agg_segment.specs.declared.signs.Sign.TheVariants.{Small}
+use Rattle.agg_column.specs.declared.sign.Sign.{Sign}
+use Rattle.agg_column.specs.declared.sign.Sign.TheVariants.{Small}
 use Rattle.agg_segment.specs.Gatherings.{Raw, raw_placed, IsRaw, AreRawsOf, AreAlike}
-use Rattle.agg_segment.specs.declared.log.Cell.{Cell}
+use Rattle.agg_column.specs.declared.log.Cell.{Cell}
 use Rattle.agg_segment.proofs.Alike.{alike_contains, alike_back, alike_all, alike_keys}
 use Rattle.agg_segment.proofs.Building.{signed_read, cells_read, cells_raw, dropped, taken}
 use Rattle.agg_segment.proofs.Closed.{all_docs, finish_documents, not_mixed}
 use Rattle.agg_segment.proofs.Encoded.{front_all, back_all}
-use Rattle.agg_segment.proofs.Kept.{marks_are}
+use Rattle.agg_column.proofs.Kept.{marks_are}
 use Rattle.agg_segment.proofs.Marked.{marks_joined}
 use Rattle.agg_segment.proofs.InTheMaking.{keys_none, no_keys_open, map_same}
-use Rattle.agg_segment.proofs.Members.{from_map, contains_map}
+use Rattle.agg_column.proofs.Members.{from_map, contains_map}
 
 pub moved_fields : (count : ℕ) (names : List (List ℕ × ℕ)) (cells others : List Placed) (doc : ℕ)
     → ((field : ℕ) → by_class (keys_at others field doc) ≡ by_class (keys_at cells field doc))

@@ -13,23 +13,25 @@ use Rattle.agg_values.specs.declared.column.ColumnPaginationOrder.{ColumnPaginat
 use Rattle.agg_values.specs.declared.column.ColumnPaginationOrder.TheVariants as class
 use Rattle.agg_values.specs.TypedKey.{CompositeIntermediateKey}
 use Rattle.agg_values.specs.declared.typed_key.CompositeIntermediateKey.TheVariants as key
-use Rattle.agg_segment.specs.Cells.{Placed}
+use Rattle.agg_column.specs.Cells.{Placed}
 use Rattle.agg_values.specs.Column.{order_rank}
-use Rattle.agg_segment.specs.Columns.{StoredColumn, column_cells, encoded_key, type_of, keys_rank}
-use Rattle.agg_segment.specs.Columns.{named_texts, type_class}
-use Rattle.agg_segment.specs.Dictionary.{text_at}
-use Rattle.agg_segment.specs.Gatherings.{Raw, raws, column_raws, raw_key, keyed_rows, kind_of}
-use Rattle.agg_segment.specs.Gatherings.{raw_placed, IsEncodable, IsWide, IsRaw, gathering_places}
+use Rattle.agg_column.specs.Columns.{StoredColumn, column_cells, encoded_key, type_of, keys_rank}
+use Rattle.agg_column.specs.Columns.{named_texts, type_class}
+use Rattle.agg_column.specs.Dictionary.{text_at}
+use Rattle.agg_segment.specs.Gatherings.{Raw, raws, column_raws, kind_of}
+use Rattle.agg_column.specs.GatheredNumbers.{raw_key, keyed_rows}
+use Rattle.agg_segment.specs.Gatherings.{raw_placed, IsWide, IsRaw, gathering_places}
+use Rattle.agg_column.specs.GatheredNumbers.{IsEncodable}
 use Rattle.agg_segment.specs.Gatherings.{column_places}
-use Rattle.agg_segment.specs.Signs.{sign_of}
+use Rattle.agg_column.specs.Signs.{sign_of}
 use Rattle.agg_segment.specs.declared.gatherings.Gathering.{Gathering}
-use Rattle.agg_segment.specs.declared.hit.ColumnType.TheVariants as kind
-use Rattle.agg_segment.specs.declared.keys.ColumnKeys.{ColumnKeys}
-use Rattle.agg_segment.specs.declared.keys.ColumnKeys.TheVariants.{Bools, Texts, Signed, Unsigned}
-use Rattle.agg_segment.specs.declared.keys.ColumnKeys.TheVariants.{Addresses, Dates}
-use Rattle.agg_segment.specs.declared.signs.Sign.{Sign}
-use Rattle.agg_segment.specs.declared.signs.Sign.TheVariants.{Small, Negative, Large}
-use Rattle.agg_segment.proofs.Members.{from_map, contains_map}
+use Rattle.agg_column.specs.declared.hit.ColumnType.TheVariants as kind
+use Rattle.agg_column.specs.declared.keys.ColumnKeys.{ColumnKeys}
+use Rattle.agg_column.specs.declared.keys.ColumnKeys.TheVariants.{Bools, Texts, Signed, Unsigned}
+use Rattle.agg_column.specs.declared.keys.ColumnKeys.TheVariants.{Addresses, Dates}
+use Rattle.agg_column.specs.declared.sign.Sign.{Sign}
+use Rattle.agg_column.specs.declared.sign.Sign.TheVariants.{Small, Negative, Large}
+use Rattle.agg_column.proofs.Members.{from_map, contains_map}
 
 -- ---- texts by their ordinals
 

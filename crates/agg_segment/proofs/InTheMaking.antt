@@ -12,15 +12,15 @@ use Rattle.std.proofs.lemmas.List.{take-append-le, drop-append-le}
 use Rattle.std.proofs.lemmas.List.Elements.{filter-append, All-tail, All-head, All-cons, All-push}
 use Rattle.std.proofs.lemmas.List.Elements.{All-weaker}
 use Rattle.agg_values.specs.TypedKey.{CompositeIntermediateKey}
-use Rattle.agg_segment.specs.Document.{Fields, by_class}
-use Rattle.agg_segment.specs.Cells.{Placed, is_at, keys_at, number_of, named_keys}
+use Rattle.agg_column.specs.Document.{Fields, by_class}
+use Rattle.agg_column.specs.Cells.{Placed, is_at, keys_at, number_of, named_keys}
 use Rattle.agg_segment.specs.Segment.{Gathered, IsNameOf, gathered_fields, gathered_documents}
 use Rattle.agg_segment.specs.Segment.{open_document, no_fields, with_key}
 use Rattle.agg_segment.specs.Segment.{IsGathered}
-use Rattle.agg_segment.specs.declared.signs.Sign.{Sign}
-use Rattle.agg_segment.proofs.Classes.{by_class_more, by_class_nil}
+use Rattle.agg_column.specs.declared.sign.Sign.{Sign}
+use Rattle.agg_column.proofs.Classes.{by_class_more, by_class_nil}
 use Rattle.std.specs.Cmp.Lexicographic.{nat_list_eq_equiv}
-use Rattle.agg_segment.proofs.Places.{same_texts}
+use Rattle.agg_column.proofs.Places.{same_texts}
 
 -- ---- the keys of a document
 

@@ -13,19 +13,20 @@ use Rattle.agg_values.specs.declared.column.ColumnPaginationOrder.{ColumnPaginat
 use Rattle.agg_values.specs.declared.column.ColumnPaginationOrder.TheVariants as class
 use Rattle.agg_values.specs.Column.{class_rank, order_rank}
 use Rattle.agg_values.specs.TypedKey.{CompositeIntermediateKey}
-use Rattle.agg_segment.specs.Cells.{Placed, keys_at}
-use Rattle.agg_segment.specs.Columns.{StoredColumn, keys_rank, AreInOrder}
-use Rattle.agg_segment.specs.Document.{by_class}
-use Rattle.agg_segment.specs.Gatherings.{Raw, raws, column_raws, raw_placed, is_column, raw_key}
+use Rattle.agg_column.specs.Cells.{Placed, keys_at}
+use Rattle.agg_column.specs.Columns.{StoredColumn, keys_rank, AreInOrder}
+use Rattle.agg_column.specs.Document.{by_class}
+use Rattle.agg_segment.specs.Gatherings.{Raw, raws, column_raws, raw_placed, is_column}
+use Rattle.agg_column.specs.GatheredNumbers.{raw_key}
 use Rattle.agg_segment.specs.Gatherings.{kind_of, AreLinked, AreSorted, AreAlike, AreWide}
 use Rattle.agg_segment.specs.Gatherings.{gathering_places, column_places}
-use Rattle.agg_segment.specs.Signs.{sign_of, key_mark, AreSigns}
+use Rattle.agg_column.specs.Signs.{sign_of, key_mark, AreSigns}
 use Rattle.agg_segment.specs.declared.gatherings.Gathering.{Gathering}
-use Rattle.agg_segment.specs.declared.signs.Sign.{Sign}
-use Rattle.agg_segment.specs.declared.signs.Sign.TheVariants.{Small, Negative, Large}
+use Rattle.agg_column.specs.declared.sign.Sign.{Sign}
+use Rattle.agg_column.specs.declared.sign.Sign.TheVariants.{Small, Negative, Large}
 use Rattle.agg_segment.proofs.Alike.{raw_rank, keys_are, alike_keys}
-use Rattle.agg_segment.proofs.Classes.{Ascends, ascending_stays}
-use Rattle.agg_segment.proofs.Members.{from_map, from_flat, contains_map}
+use Rattle.agg_column.proofs.Classes.{Ascends, ascending_stays}
+use Rattle.agg_column.proofs.Members.{from_map, from_flat, contains_map}
 use Rattle.agg_segment.proofs.Raws.{filter_none, rank_apart}
 
 -- ---- no two of a field and a class

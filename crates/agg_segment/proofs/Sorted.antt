@@ -15,7 +15,7 @@ use Rattle.std.proofs.lemmas.List.Elements.{filter_agree, filter-append}
 use Rattle.agg_values.specs.declared.column.ColumnPaginationOrder.{ColumnPaginationOrder}
 use Rattle.agg_values.specs.declared.column.ColumnPaginationOrder.TheVariants as class
 use Rattle.agg_values.specs.Column.{order_rank}
-use Rattle.agg_segment.specs.CellOrder.{IsByRank}
+use Rattle.agg_column.specs.CellOrder.{IsByRank}
 use Rattle.agg_segment.specs.Gatherings.{Raw, raws, column_raws, is_raw_of, is_column, AreAlike}
 use Rattle.agg_segment.specs.Gatherings.{AreSorted}
 use Rattle.agg_segment.specs.declared.gatherings.Gathering.{Gathering}

@@ -8,23 +8,19 @@ use Rattle.agg_values.specs.declared.address.Address.{Address}
 use Rattle.agg_values.specs.declared.column.ColumnPaginationOrder.{ColumnPaginationOrder}
 use Rattle.agg_values.specs.declared.column.ColumnPaginationOrder.TheVariants as class
 use Rattle.agg_values.specs.TypedKey.{CompositeIntermediateKey}
-use Rattle.agg_values.specs.declared.typed_key.CompositeIntermediateKey.TheVariants as key
-use Rattle.agg_segment.specs.Cells.{Placed}
-use Rattle.agg_segment.specs.CellOrder.{cell_class}
+use Rattle.agg_column.specs.Cells.{Placed}
+use Rattle.agg_column.specs.CellOrder.{cell_class}
 use Rattle.agg_values.specs.Column.{order_rank}
-use Rattle.agg_segment.specs.Columns.{StoredColumn, keys_rank}
-use Rattle.agg_segment.specs.Dictionary.{text_at, address_at, HasOrdinal}
+use Rattle.agg_column.specs.Columns.{StoredColumn, keys_rank}
+use Rattle.agg_column.specs.GatheredNumbers.{raw_key}
 use Rattle.agg_segment.specs.declared.gatherings.Gathering.{Gathering}
-use Rattle.agg_segment.specs.declared.keys.ColumnKeys.{ColumnKeys}
-use Rattle.agg_segment.specs.declared.keys.ColumnKeys.TheVariants.{Bools, Texts}
-use Rattle.agg_segment.specs.declared.keys.ColumnKeys.TheVariants.{Addresses}
-use Rattle.agg_segment.specs.declared.hit.ColumnType.{ColumnType}
-use Rattle.agg_segment.specs.declared.hit.ColumnType.TheVariants as kind
-use Rattle.agg_segment.specs.declared.log.Cell.{Cell}
-use Rattle.agg_segment.specs.declared.log.CellValue.{CellValue}
-use Rattle.agg_segment.specs.declared.log.CellValue.TheVariants as cell
-use Rattle.agg_segment.specs.declared.signs.Sign.{Sign}
-use Rattle.agg_segment.specs.declared.signs.Sign.TheVariants.{Small, Negative, Large}
+use Rattle.agg_column.specs.declared.hit.ColumnType.{ColumnType}
+use Rattle.agg_column.specs.declared.hit.ColumnType.TheVariants as kind
+use Rattle.agg_column.specs.declared.log.Cell.{Cell}
+use Rattle.agg_column.specs.declared.log.CellValue.{CellValue}
+use Rattle.agg_column.specs.declared.log.CellValue.TheVariants as cell
+use Rattle.agg_column.specs.declared.sign.Sign.{Sign}
+use Rattle.agg_column.specs.declared.sign.Sign.TheVariants.{Small, Negative, Large}
 
 -- a number of a document, in the column of a field and a class
 pub record Raw : Type 0 where
@@ -126,21 +122,6 @@ kind_of Negative class.Numeric = kind.I64
 kind_of sign class.IpAddr = kind.IpAddr
 kind_of sign class.DateTime = kind.DateTime
 
--- the key that a number stands for: a text's and an address's is its place
-abbrev pub raw_key : List (List ℕ) → List Address → ColumnType → ℕ → CompositeIntermediateKey
-raw_key texts addresses kind.Bool n = key.Bool (n == 1)
-raw_key texts addresses kind.Str n = key.Str (text_at texts n)
-raw_key texts addresses kind.I64 n = key.I64 (pos n -ℤ pos (2 ^ 63))
-raw_key texts addresses kind.U64 n =
-    if nat_lt n (2 ^ 63) then key.U64 (n + 2 ^ 63) else key.I64 (pos n -ℤ pos (2 ^ 63))
-raw_key texts addresses kind.IpAddr n = key.IpAddr (address_at addresses n)
-raw_key texts addresses kind.DateTime n = key.DateTime (pos n -ℤ pos (2 ^ 63))
-
--- documents with the keys of their numbers
-abbrev pub keyed_rows
-    : (ℕ → CompositeIntermediateKey) → List (ℕ × ℕ) → List (ℕ × CompositeIntermediateKey)
-keyed_rows key_of rows = map {B = ℕ × CompositeIntermediateKey} (λ r. (r.0, key_of r.1)) rows
-
 -- what a number stands for
 abbrev pub raw_placed : List Sign → List (List ℕ) → List Address → Raw → Placed
 raw_placed signs texts addresses r = record {
@@ -156,16 +137,6 @@ IsRaw texts addresses class.Str n = n < texts
 IsRaw texts addresses class.Numeric n = n < 2 ^ 64
 IsRaw texts addresses class.IpAddr n = n < addresses
 IsRaw texts addresses class.DateTime n = n < 2 ^ 64
-
--- a number that a column may have one for: a text's place has its ordinal, an address is listed
-abbrev pub IsEncodable
-    : List (List ℕ) → List ℕ → List Address → ColumnKeys → ℕ → Type 0
-IsEncodable texts ordinals addresses Bools n = n < 2
-IsEncodable texts ordinals addresses (Texts dictionary) n =
-    (n < length ordinals) × HasOrdinal texts dictionary ordinals n
-IsEncodable texts ordinals addresses (Addresses list) n =
-    (n < length addresses) × Contains list (address_at addresses n)
-IsEncodable texts ordinals addresses _ n = n < 2 ^ 64
 
 -- columns by field and class
 abbrev pub AreSorted : List Gathering → Type 0

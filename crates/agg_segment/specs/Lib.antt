@@ -1,17 +1,6 @@
-pub mod CellOrder
-pub mod Cells
-pub mod Columns
-pub mod Dictionary
-pub mod Document
-pub mod FirstNames
 pub mod Fronts
 pub mod Gatherings
-pub mod Growing
 pub mod Marks
-pub mod Names
 pub mod Query
-pub mod Rows
 pub mod Segment
-pub mod Signs
 pub mod Spans
-pub mod TextPlaces

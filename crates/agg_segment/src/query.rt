@@ -7,7 +7,7 @@ mod matches;
 mod place;
 mod span;
 
-use crate::FieldValue;
+use agg_column::FieldValue;
 use agg_values::{ItemList, OutOfMemory, Text};
 pub use laws::classes_match_in_any_order;
 pub use matches::Matches;

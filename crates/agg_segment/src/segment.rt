@@ -1,10 +1,10 @@
 ghost use Rattle.std.specs.Prelude.{◌≡◌, ◌≤◌, ◌==◌, ℕ, length, filter};
-ghost use Rattle.agg_segment.specs.Names.{numbered_names};
-ghost use Rattle.agg_segment.specs.Columns.{all_keys, AreInOrder, ClassesAscend};
+ghost use Rattle.agg_column.specs.Names.{numbered_names};
+ghost use Rattle.agg_column.specs.Columns.{all_keys, AreInOrder, ClassesAscend};
 ghost use Rattle.agg_segment.specs.Segment.{document_at, documents_of};
 
-use crate::names::find_number;
-use crate::{Column, MAX_DOCUMENTS};
+use crate::MAX_DOCUMENTS;
+use agg_column::{Column, find_number};
 use agg_values::Text;
 use std::collections::BTreeMap;
 use std::marker::Model;
@@ -19,9 +19,9 @@ pub struct SegmentReader {
 
 impl Model for SegmentReader {
     ghost use Rattle.std.specs.Prelude.{◌≤◌};
-    ghost use Rattle.agg_segment.specs.Columns.{AreInOrder};
+    ghost use Rattle.agg_column.specs.Columns.{AreInOrder};
     ghost use Rattle.agg_segment.specs.Segment.{Stored};
-    ghost use Rattle.agg_segment.specs.Names.{numbered_names};
+    ghost use Rattle.agg_column.specs.Names.{numbered_names};
     ghost use Rattle.agg_segment.specs.declared.builder.TheConstants.{MAX_DOCUMENTS};
 
     ghost Value = { Stored };

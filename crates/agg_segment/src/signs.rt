@@ -1,20 +1,11 @@
 ghost use Rattle.std.specs.Prelude.{◌≡◌, ◌≢◌, ◌<◌, ◌∷◌, ◌++◌, [], ℕ, List, Err, length, map};
 ghost use Rattle.std.specs.Prelude.{IfOk, OnOk, OnErr, IsErrOf};
 ghost use Rattle.std.specs.List.{All};
-ghost use Rattle.agg_segment.specs.Signs.{cell_sign, cell_mark, AreSigns, HasBoth, without_signs};
+ghost use Rattle.agg_column.specs.Signs.{cell_sign, cell_mark, AreSigns, HasBoth, without_signs};
 
 use crate::BuildError;
-use crate::log::{Cell, CellValue};
+use agg_column::{Cell, CellValue, Sign};
 use std::alloc::Global;
-
-/// Whether the numbers of a field have one below zero, or one above those of an i64. No field has
-/// both.
-#[derive(Clone, Copy, PartialEq, Eq)]
-pub enum Sign {
-    Small,
-    Negative,
-    Large,
-}
 
 /// The sign of what a cell keeps.
 fn sign_of(value: CellValue) -> Sign

@@ -4,10 +4,10 @@ ghost use Rattle.std.specs.Prelude.{count_by, length};
 ghost use Rattle.std.specs.Ordering.{is_lt};
 ghost use Rattle.agg_values.specs.Column.{class_of};
 ghost use Rattle.agg_values.specs.KeyOrder.{key_order, null_side};
-ghost use Rattle.agg_segment.specs.Columns.{AreInKeyOrder, StandsForKey, encoded_key};
+ghost use Rattle.agg_column.specs.Columns.{AreInKeyOrder, StandsForKey, encoded_key};
 ghost use Rattle.agg_segment.specs.Segment.{Stored};
-ghost use Rattle.agg_request.specs.Faults.{IsOfOtherType};
-ghost use Rattle.agg_request.specs.Source.{order_of};
+ghost use Rattle.agg_request_tree.specs.Faults.{IsOfOtherType};
+ghost use Rattle.agg_request_tree.specs.Source.{order_of};
 ghost use Rattle.agg_composite.specs.Accessors.{AreAccessorsOf, AreOfField, IsAccessorOf};
 ghost use Rattle.agg_composite.specs.Accessors.{IsIntervalOf, accessors_before, columns_read};
 ghost use Rattle.agg_composite.specs.Accessors.{side_to};
@@ -20,7 +20,7 @@ use crate::PrecomputedAfterKey;
 use crate::after_key::precompute_among_starts;
 use crate::lanes::lane_of;
 use agg_calendar::PrecomputedDateInterval;
-use agg_request::CompositeAggregationSource;
+use agg_request_tree::CompositeAggregationSource;
 use agg_segment::Column;
 use agg_values::{
     ColumnPaginationOrder, CompositeIntermediateKey, ItemList, MissingOrder, Order, OutOfMemory,

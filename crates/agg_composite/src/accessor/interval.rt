@@ -1,11 +1,11 @@
 //! What a source divides its values by, or why that is refused.
 ghost use Rattle.std.specs.Prelude.{IfErr, IfOk, OnOk};
-ghost use Rattle.agg_request.specs.Faults.{HasInterval, IsIntervalFault};
-ghost use Rattle.agg_request.specs.declared.source.CompositeAggregationSource.TheVariants as kind;
+ghost use Rattle.agg_request_tree.specs.Faults.{HasInterval, IsIntervalFault};
+ghost use Rattle.agg_request_tree.specs.declared.source.CompositeAggregationSource.TheVariants as kind;
 ghost use Rattle.agg_composite.specs.Accessors.{IsIntervalOf, OrNoMemory};
 
 use agg_calendar::PrecomputedDateInterval;
-use agg_request::{CompositeAggregationSource, DateHistogramCompositeAggregationSource};
+use agg_request_tree::{CompositeAggregationSource, DateHistogramCompositeAggregationSource};
 use agg_values::{InvalidArgument, RequestError};
 use std::alloc::Global;
 

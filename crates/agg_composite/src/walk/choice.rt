@@ -7,7 +7,7 @@ ghost use Rattle.agg_composite.specs.Choices.{missing_standing, null_choice};
 use crate::encoded::Encoded;
 use crate::lanes::count_of_lanes;
 use crate::{CompositeSourceAccessors, PrecomputedAfterKey};
-use agg_request::CompositeAggregationSource;
+use agg_request_tree::CompositeAggregationSource;
 use agg_values::Order;
 use std::cmp::Ordering;
 

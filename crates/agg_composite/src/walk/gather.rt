@@ -11,7 +11,7 @@ use crate::divisor::{DividedColumn, Divisor};
 use crate::encoded::Encoded;
 use crate::lanes::lane_of;
 use crate::{CompositeAccessor, CompositeSourceAccessors};
-use agg_request::CompositeAggregationSource;
+use agg_request_tree::CompositeAggregationSource;
 use agg_values::{DocId, Order, OutOfMemory};
 use std::alloc::Global;
 

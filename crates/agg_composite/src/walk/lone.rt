@@ -18,7 +18,7 @@ use crate::group_counts::GroupCounts;
 use crate::lanes::lane_of;
 use crate::visit_error::VisitError;
 use crate::{CompositeAccessor, CompositeSourceAccessors, PrecomputedAfterKey};
-use agg_request::CompositeAggregationSource;
+use agg_request_tree::CompositeAggregationSource;
 use agg_values::{DocId, Order, Steps};
 use std::cmp::Ordering;
 use std::sync::ledger::Ledger;

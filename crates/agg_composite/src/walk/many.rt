@@ -11,7 +11,7 @@ use crate::CompositeSourceAccessors;
 use crate::encoded::Encoded;
 use crate::group_counts::GroupCounts;
 use crate::visit_error::VisitError;
-use agg_request::CompositeAggregationSource;
+use agg_request_tree::CompositeAggregationSource;
 use agg_values::{DocId, Steps};
 use std::alloc::Global;
 use std::cmp::Ordering;

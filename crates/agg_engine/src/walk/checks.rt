@@ -4,7 +4,7 @@ ghost use Rattle.std.specs.List.{list_any};
 ghost use Rattle.agg_engine.specs.NamedComposite.{IsCompositeNamed, NamesComposite};
 
 use super::Snapshot;
-use agg_request::{AggregationVariants, Aggregations, CompositeAggregation};
+use agg_request_tree::{AggregationVariants, Aggregations, CompositeAggregation};
 use agg_values::Text;
 
 /// Whether the page of some listed snapshot has no room.

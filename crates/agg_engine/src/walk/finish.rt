@@ -5,7 +5,7 @@ ghost use Rattle.agg_engine.specs.PageAnswers.{IsFinalRefusal};
 
 use super::WalkError;
 use agg_cache::LimitsLedger;
-use agg_request::Aggregations;
+use agg_request_tree::Aggregations;
 use agg_results::{AggregationResults, FinalError, IntermediateAggregationResults};
 
 /// The final results of a request, from what is held of a page, unless they have more buckets than

@@ -3,7 +3,7 @@ ghost use Rattle.std.specs.Prelude.{◌≡◌, ◌≢◌, [], ◌∷◌, map, If
 ghost use Rattle.std.specs.List.Sorted.{IsStrictlySortedBy};
 ghost use Rattle.std.specs.Map.{keys_of};
 ghost use Rattle.agg_values.specs.KeyOrder.{tuple_order};
-ghost use Rattle.agg_request.specs.Source.{rules_of};
+ghost use Rattle.agg_request_tree.specs.Source.{rules_of};
 ghost use Rattle.agg_composite.specs.PageEntries.{entry_group};
 ghost use Rattle.agg_results.specs.Empty.{empty_page};
 ghost use Rattle.agg_results.specs.Intermediate.{IsFlat, as_result};
@@ -13,7 +13,7 @@ ghost use Rattle.agg_engine.specs.declared.walk.error.WalkError.TheVariants.{Out
 use super::WalkError;
 use super::page::PageRequest;
 use agg_composite::PageEntry;
-use agg_request::CompositeAggregationSource;
+use agg_request_tree::CompositeAggregationSource;
 use agg_results::{
     IntermediateAggregationResult, IntermediateAggregationResults, IntermediateBucketResult,
     IntermediateCompositeBucketResult, IntermediateTermBucketEntry, MergeError,

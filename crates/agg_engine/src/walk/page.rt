@@ -1,6 +1,6 @@
 //! What the segments of a snapshot hold for a page.
 ghost use Rattle.std.specs.Prelude.{◌≢◌, ◌≤◌, ◌<◌, ◌^◌, All, IfOk};
-ghost use Rattle.agg_request.specs.Ranges.{AreInRange};
+ghost use Rattle.agg_request_tree.specs.Ranges.{AreInRange};
 ghost use Rattle.agg_results.specs.Intermediate.{AreFlat};
 ghost use Rattle.agg_engine.specs.PageAnswers.{AnswersHeld, HasFewSources, MayGoOnFrom};
 ghost use Rattle.agg_engine.specs.Walk.{matching_in};
@@ -8,7 +8,7 @@ ghost use Rattle.agg_engine.specs.Walk.{matching_in};
 use super::WalkError;
 use super::held::want_of_memory;
 use super::segment::segment_results;
-use agg_request::CompositeAggregation;
+use agg_request_tree::CompositeAggregation;
 use agg_results::IntermediateAggregationResults;
 use agg_segment::{QueryTree, SegmentReader};
 use agg_values::{AfterKey, NameMap, Steps, Text};

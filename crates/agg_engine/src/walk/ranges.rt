@@ -1,9 +1,9 @@
 //! Whether the starts of buckets lie within 64 bits, which is asked before anything is counted.
 ghost use Rattle.std.specs.Prelude.{◌≡◌, All, IfErr, IsTrue, OnOk, filter};
-ghost use Rattle.agg_segment.specs.Document.{Fields};
+ghost use Rattle.agg_column.specs.Document.{Fields};
 ghost use Rattle.agg_segment.specs.Query.{matches};
 ghost use Rattle.agg_segment.specs.Segment.{documents_of};
-ghost use Rattle.agg_request.specs.Ranges.{AreInRange};
+ghost use Rattle.agg_request_tree.specs.Ranges.{AreInRange};
 ghost use Rattle.agg_engine.specs.PageAnswers.{IsStartRefusal, MayGoOnFrom};
 ghost use Rattle.agg_engine.specs.Walk.{matching_in};
 
@@ -11,7 +11,7 @@ use super::WalkError;
 use super::matching::matching_docs;
 use super::page::PageRequest;
 use super::segment::request_data;
-use agg_request::CompositeAggregationSource;
+use agg_request_tree::CompositeAggregationSource;
 use agg_segment::SegmentReader;
 use std::alloc::Global;
 

@@ -4,10 +4,8 @@ ghost use Rattle.agg_pages.specs.Reading.{GivesAll, TakesAtMost};
 
 use super::Source;
 use crate::fault::Failed;
+use agg_input::MAX_INPUT_BYTES;
 use std::alloc::{AllocError, Global};
-
-/// How many bytes an input has at most.
-pub const MAX_INPUT_BYTES: usize = 67_108_864;
 
 // How many bytes one read asks for at most.
 const CHUNK_BYTES: usize = 65_536;

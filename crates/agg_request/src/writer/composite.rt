@@ -1,14 +1,14 @@
 //! Composites to JSON.
 ghost use Rattle.std.specs.Prelude.{◌≡◌, false, IfOk, OnOk};
 ghost use Rattle.serde_json.specs.View.{members_view, view};
-ghost use Rattle.agg_request.specs.CompositeJson.{IsCompositeJson, IsKeyJson};
-ghost use Rattle.agg_request.specs.Json.{EachNamedIs};
+ghost use Rattle.agg_request_json.specs.CompositeJson.{IsCompositeJson, IsKeyJson};
+ghost use Rattle.agg_json.specs.Json.{EachNamedIs};
 ghost use Rattle.agg_request.specs.ReadBack.{AreKeysReadBack, IsWritten};
 ghost use Rattle.agg_request.specs.WrittenJson.{data_of_composite, data_of_key, with_after};
 
 use super::sources::write_sources;
 use super::words::write_size;
-use crate::CompositeAggregation;
+use agg_request_tree::CompositeAggregation;
 use agg_values::{AfterKey, NameMap, OutOfMemory};
 use serde_json::{Map, Value, put};
 use std::alloc::Global;

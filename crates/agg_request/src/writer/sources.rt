@@ -2,20 +2,20 @@
 ghost use Rattle.std.specs.Prelude.{◌≡◌, codes, false, IfOk, OnOk, option_map};
 ghost use Rattle.serde_json.specs.Data.{object};
 ghost use Rattle.serde_json.specs.View.{items_view, members_view, view};
-ghost use Rattle.agg_request.specs.CompositeJson.{IsSourceBody, IsSourceJson, unit_word};
-ghost use Rattle.agg_request.specs.Json.{alone, EachIs};
+ghost use Rattle.agg_request_json.specs.CompositeJson.{IsSourceBody, IsSourceJson, unit_word};
+ghost use Rattle.agg_json.specs.Json.{alone, EachIs};
 ghost use Rattle.agg_request.specs.ReadBack.{IsWritten};
 ghost use Rattle.agg_request.specs.WrittenJson.{data_of_source, shared_members};
 ghost use Rattle.agg_request.specs.WrittenJson.{source_members, with_text};
-ghost use Rattle.agg_request.specs.declared.source.CompositeAggregationSource.TheVariants as of;
+ghost use Rattle.agg_request_tree.specs.declared.source.CompositeAggregationSource.TheVariants as of;
 
 use super::objects::object_of;
 use super::words::{missing_order_word, order_word, unit_word, write_interval};
-use crate::{
+use agg_calendar::CalendarInterval;
+use agg_request_tree::{
     CompositeAggregationSource, DateHistogramCompositeAggregationSource,
     HistogramCompositeAggregationSource, TermCompositeAggregationSource,
 };
-use agg_calendar::CalendarInterval;
 use agg_values::{MissingOrder, Order, OutOfMemory, Text};
 use serde_json::{Map, Value, put};
 use std::alloc::Global;

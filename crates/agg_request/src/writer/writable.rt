@@ -2,11 +2,11 @@
 ghost use Rattle.std.specs.Prelude.{◌≡◌, ◌||◌, codes, not};
 ghost use Rattle.std.specs.Map.{keys_of};
 ghost use Rattle.std.specs.Str.{bytes_eq};
-ghost use Rattle.agg_request.specs.Json.{is_among};
-ghost use Rattle.agg_request.specs.RequestJson.{are_free, kind_word, may_hold, metric_kinds};
+ghost use Rattle.agg_json.specs.Json.{is_among};
+ghost use Rattle.agg_request_json.specs.RequestJson.{are_free, kind_word, may_hold, metric_kinds};
 ghost use Rattle.agg_request.specs.Written.{all_may_be_written, may_be_written};
 
-use crate::{Aggregation, AggregationVariants, Aggregations};
+use agg_request_tree::{Aggregation, AggregationVariants, Aggregations};
 use agg_values::NameMap;
 
 /// Whether a request may be written: a metric has no aggregations below it, and no aggregation

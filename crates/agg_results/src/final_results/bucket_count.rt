@@ -7,7 +7,7 @@ use crate::{
     IntermediateAggregationResult, IntermediateAggregationResults,
     IntermediateCompositeBucketResult,
 };
-use agg_request::{AggregationVariants, Aggregations};
+use agg_request_tree::{AggregationVariants, Aggregations};
 use agg_values::OutOfMemory;
 
 /// The number of buckets of a request's final results. No memory has room for more than u64 counts.

@@ -8,7 +8,7 @@ ghost use Rattle.agg_results.specs.Final.{final_by_name, final_of};
 
 use super::shown::shown_result;
 use crate::{AggregationResult, IntermediateAggregationResults};
-use agg_request::{Aggregation, Aggregations};
+use agg_request_tree::{Aggregation, Aggregations};
 use agg_values::{NameMap, OutOfMemory, Text};
 
 /// The final result of each name.

@@ -1,9 +1,9 @@
 //! Tuples by the names of their sources.
 ghost use Rattle.std.specs.Prelude.{◌≡◌, IfOk};
 ghost use Rattle.agg_values.specs.Shown.{shown_key};
-ghost use Rattle.agg_request.specs.BySource.{after_map, by_source};
+ghost use Rattle.agg_request_tree.specs.BySource.{after_map, by_source};
 
-use agg_request::CompositeAggregationSource;
+use agg_request_tree::CompositeAggregationSource;
 use agg_values::{AfterKey, CompositeKey, NameMap, OutOfMemory, Tuple};
 use std::alloc::Global;
 

@@ -1,6 +1,6 @@
 //! What intermediate results may not hold.
 ghost use Rattle.std.specs.Prelude.{◌≡◌, ◌↔◌, IsTrue, MatchBool};
-ghost use Rattle.agg_request.specs.Source.{rules_of};
+ghost use Rattle.agg_request_tree.specs.Source.{rules_of};
 ghost use Rattle.agg_results.specs.Final.{HoldsOther, HoldsUnknown, IsInOtherOrders};
 ghost use Rattle.agg_results.specs.Intermediate.{HasSubResults};
 
@@ -8,7 +8,7 @@ use crate::{
     IntermediateAggregationResult, IntermediateAggregationResults,
     IntermediateCompositeBucketResult,
 };
-use agg_request::{AggregationVariants, Aggregations, CompositeAggregationSource};
+use agg_request_tree::{AggregationVariants, Aggregations, CompositeAggregationSource};
 use agg_values::{MissingOrder, Order};
 
 /// Whether a name is held that isn't asked for.

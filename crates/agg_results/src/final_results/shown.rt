@@ -10,7 +10,7 @@ use crate::{
     AggregationResult, AggregationResults, BucketResult, CompositeBucketEntry,
     IntermediateAggregationResult, IntermediateCompositeBucketResult, IntermediateTermBucketEntry,
 };
-use agg_request::{AggregationVariants, CompositeAggregationSource};
+use agg_request_tree::{AggregationVariants, CompositeAggregationSource};
 use agg_values::{AfterKey, ItemList, NameMap, OutOfMemory, Tuple};
 use std::alloc::Global;
 

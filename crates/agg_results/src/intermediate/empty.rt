@@ -7,7 +7,7 @@ use super::{
     IntermediateAggregationResult, IntermediateAggregationResults, IntermediateBucketResult,
     IntermediateCompositeBucketResult,
 };
-use agg_request::{AggregationVariants, Aggregations, CompositeAggregation};
+use agg_request_tree::{AggregationVariants, Aggregations, CompositeAggregation};
 use agg_values::{NameMap, OutOfMemory};
 use std::alloc::Global;
 

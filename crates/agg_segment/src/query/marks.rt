@@ -9,7 +9,8 @@ ghost use Rattle.agg_segment.specs.declared.builder.TheConstants.{MAX_DOCUMENTS}
 
 use super::key_test::{KeyTest, passing_span};
 use super::span::Span;
-use crate::{Column, SegmentReader};
+use crate::SegmentReader;
+use agg_column::Column;
 use agg_values::{DocId, OutOfMemory, Text};
 use std::alloc::Global;
 

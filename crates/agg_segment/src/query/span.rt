@@ -5,7 +5,7 @@ ghost use Rattle.agg_segment.specs.Spans.{place_cmp, is_in, IsSpanOf};
 
 use super::RangeBound;
 use super::place::place_of;
-use crate::{Column, FieldValue, OrdHit};
+use agg_column::{Column, FieldValue, OrdHit};
 
 /// The numbers from the first to the last, none where the last is before the first.
 #[derive(Clone, Copy, Debug)]

@@ -1,5 +1,5 @@
 use Rattle.std.proofs.Common.{get_or, refl, sym, subst}
-use Rattle.agg_request.specs.declared.source.CompositeAggregationSource.{CompositeAggregationSource}
+use Rattle.agg_request_tree.specs.declared.source.CompositeAggregationSource.{CompositeAggregationSource}
 use Rattle.agg_composite.specs.Ranges.{IsDocumentWithin}
 use Rattle.agg_composite.specs.Starts.{divisor_of}
 use Rattle.agg_composite.proofs.ranges.are_columns_in_range.Goals as goal

@@ -1,6 +1,6 @@
 use Rattle.std.proofs.Common.{All, sym, subst}
 use Rattle.std.proofs.lemmas.List.Elements.{All-map}
-use Rattle.agg_segment.specs.Columns.{encoded_key}
+use Rattle.agg_column.specs.Columns.{encoded_key}
 use Rattle.agg_composite.specs.Ranges.{IsDocumentWithin, IsKeyWithin}
 use Rattle.agg_composite.proofs.StartRanges.{from-map}
 use Rattle.agg_composite.proofs.ranges.is_document_in_range.Goals as goal

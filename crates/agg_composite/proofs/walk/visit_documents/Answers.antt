@@ -1,6 +1,6 @@
 use Rattle.std.proofs.Common.{◌≡◌, List, [], ◌∷◌, length, get_or, sym, ap}
 use Rattle.std.proofs.Common.{subst, arith}
-use Rattle.agg_request.specs.Source.{Sources}
+use Rattle.agg_request_tree.specs.Source.{Sources}
 use Rattle.agg_composite.specs.Answers.{AnswersDocuments}
 use Rattle.agg_composite.specs.GroupCounts.{all_counts}
 use Rattle.agg_composite.specs.declared.accessor.CompositeSourceAccessors.{CompositeSourceAccessors}

@@ -1,7 +1,7 @@
 use Rattle.std.proofs.Common.{◌≡◌, ◌+◌, ◌∷◌, ◌∙◌, drop, unwrap_or, refl}
 use Rattle.std.proofs.Common.{sym, subst, arith, inr}
 use Rattle.std.specs.List.{All}
-use Rattle.agg_request.specs.Ranges.{AreInRange}
+use Rattle.agg_request_tree.specs.Ranges.{AreInRange}
 use Rattle.agg_engine.specs.PageAnswers.{IsHeldRefusal, IsStartRefusal, MayGoOnFrom}
 use Rattle.agg_engine.specs.Refusals.{HasCause}
 use Rattle.agg_engine.specs.Snapshot.{snapshot_documents, snapshots_documents}

@@ -1,11 +1,11 @@
 use Rattle.std.proofs.Common.{◌≡◌, ◌<◌, ◌+◌, ◌*◌, ap, ◌∙◌, arith, rules}
 use Rattle.serde_json.specs.Data.{object, member, no_members, put}
 use Rattle.serde_json.specs.View.{members_view, view}
-use Rattle.agg_request.specs.Request.{agg_of, below_of}
+use Rattle.agg_request_tree.specs.Request.{agg_of, below_of}
 use Rattle.agg_request.specs.ReadBack.{IsWritten, SaysAggregation}
-use Rattle.agg_request.specs.RequestJson.{kind_word}
+use Rattle.agg_request_json.specs.RequestJson.{kind_word}
 use Rattle.agg_request.specs.WrittenJson.{data_of_aggregation, with_below}
-use Rattle.agg_request.proofs.RequestTrees.{height, height-out, levels}
+use Rattle.agg_request_tree.proofs.RequestTrees.{height, height-out, levels}
 use Rattle.agg_request.proofs.Writable.{AreWritable-more, may-below}
 use Rattle.agg_request.proofs.WrittenMembers.{AreWrittenUpTo-more}
 use Rattle.agg_request.proofs.WrittenRequests.{is-aggregation}

@@ -2,7 +2,7 @@ use Rattle.std.proofs.Common.{◌+◌, ◌*◌}
 use Rattle.serde_json.specs.View.{members_view}
 use Rattle.agg_request.specs.ReadBack.{IsWritten, SaysAggregation}
 use Rattle.agg_request.specs.WrittenJson.{data_of_aggregation}
-use Rattle.agg_request.proofs.RequestTrees.{height, levels}
+use Rattle.agg_request_tree.proofs.RequestTrees.{height, levels}
 use Rattle.agg_request.proofs.Writable.{AreWritable}
 use Rattle.agg_request.proofs.WrittenMembers.{AreWrittenUpTo}
 use Rattle.agg_request.proofs.writer.+written.Given as goal

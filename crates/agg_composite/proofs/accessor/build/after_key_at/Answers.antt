@@ -2,8 +2,8 @@ use Rattle.std.proofs.Common.{◌≡◌, sym, subst}
 use Rattle.agg_values.specs.KeyOrder.{key_order}
 use Rattle.agg_values.specs.declared.order.MissingOrder.{MissingOrder}
 use Rattle.agg_values.specs.declared.order.Order.{Order}
-use Rattle.agg_segment.specs.Columns.{StandsForKey, encoded_key}
-use Rattle.agg_segment.specs.declared.keys.ColumnKeys.{ColumnKeys}
+use Rattle.agg_column.specs.Columns.{StandsForKey, encoded_key}
+use Rattle.agg_column.specs.declared.keys.ColumnKeys.{ColumnKeys}
 use Rattle.agg_composite.specs.AfterKey.{projected_side}
 use Rattle.agg_composite.proofs.LaneKeys.{numbers-lane}
 use Rattle.agg_composite.proofs.accessor.build.after_key_at.Goals as goal

@@ -1,7 +1,7 @@
 use Rattle.std.proofs.Common.{◌≡◌, ◌<◌, ◌∙◌, ℕ, Some, length, refl, sym, ap, subst}
 use Rattle.std.specs.Option.{is_some}
-use Rattle.agg_segment.specs.Columns.{StandsForKey, encoded_key}
-use Rattle.agg_request.specs.Source.{order_of}
+use Rattle.agg_column.specs.Columns.{StandsForKey, encoded_key}
+use Rattle.agg_request_tree.specs.Source.{order_of}
 use Rattle.agg_composite.specs.Accessors.{accessors_before, side_to}
 use Rattle.agg_composite.specs.AfterKey.{projected_side}
 use Rattle.agg_composite.specs.Lanes.{keys_at, lane_of, lanes}

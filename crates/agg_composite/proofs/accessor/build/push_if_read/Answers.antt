@@ -1,7 +1,7 @@
 use Rattle.std.proofs.Common.{sym, subst, ◌∙◌}
 use Rattle.std.proofs.lemmas.List.Elements.{All-push}
-use Rattle.agg_segment.specs.Columns.{type_of}
-use Rattle.agg_request.specs.SourceColumns.{reads_type}
+use Rattle.agg_column.specs.Columns.{type_of}
+use Rattle.agg_request_tree.specs.SourceColumns.{reads_type}
 use Rattle.agg_composite.specs.Accessors.{IsAccessorOf, IsIntervalOf}
 use Rattle.agg_composite.proofs.accessor.build.push_if_read.Goals as goal
 

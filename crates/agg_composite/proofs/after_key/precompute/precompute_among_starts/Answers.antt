@@ -1,7 +1,7 @@
 use Rattle.std.proofs.Common.{sym, ap, ◌∙◌}
 use Rattle.agg_values.specs.KeyOrder.{key_order}
-use Rattle.agg_segment.specs.Columns.{encoded_key}
-use Rattle.agg_segment.specs.declared.keys.ColumnKeys.TheVariants.{Signed}
+use Rattle.agg_column.specs.Columns.{encoded_key}
+use Rattle.agg_column.specs.declared.keys.ColumnKeys.TheVariants.{Signed}
 use Rattle.agg_composite.proofs.after_key.precompute.precompute_among_starts.Goals as goal
 
 pub returns-in-Null : goal.returns-in-Null

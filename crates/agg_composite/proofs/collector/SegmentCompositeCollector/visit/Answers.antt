@@ -1,9 +1,9 @@
 use Rattle.std.proofs.Common.{◌≡◌, List, Ok, Err, length, sym, ap, ◌∙◌, subst}
 use Rattle.std.proofs.lemmas.Slice.Zip.{AllZip-long}
 use Rattle.agg_segment.specs.Segment.{documents_at}
-use Rattle.agg_request.specs.Occurrences.{bound_of, past_occurrences}
-use Rattle.agg_request.specs.Source.{Sources}
-use Rattle.agg_request.specs.Source.{after_of}
+use Rattle.agg_request_tree.specs.Occurrences.{bound_of, past_occurrences}
+use Rattle.agg_request_tree.specs.Source.{Sources}
+use Rattle.agg_request_tree.specs.Source.{after_of}
 use Rattle.agg_composite.specs.Accessors.{AreAccessorsOf}
 use Rattle.agg_composite.specs.Answers.{AnswersDocuments}
 use Rattle.agg_composite.specs.GroupCounts.{all_counts, settled_counts}

@@ -2,7 +2,7 @@ use Rattle.std.proofs.Common.{rules, ℤ, FitsSigned, Option, option_map, sym, s
 use Rattle.std.specs.Int.{w64}
 use Rattle.std.proofs.lemmas.Int.{to_z-of_z}
 use Rattle.agg_calendar.specs.Start.{fixed_start}
-use Rattle.agg_segment.specs.Columns.{encoded_key}
+use Rattle.agg_column.specs.Columns.{encoded_key}
 use Rattle.agg_composite.specs.Starts.{GivesStartOf, divided}
 use Rattle.agg_composite.specs.declared.divisor.Divisor.{Divisor}
 use Rattle.agg_composite.proofs.divisor.DividedColumn.start.Goals as goal

@@ -1,8 +1,8 @@
 use Rattle.std.proofs.Common.{List, Bool, true, false, length, refl, sym, ap, ◌∙◌, subst}
 use Rattle.std.proofs.lemmas.Slice.Zip.{AllZip-long}
 use Rattle.std.specs.Prelude.{◌↔◌, IsTrue, MatchBool}
-use Rattle.agg_request.specs.Source.{Sources}
-use Rattle.agg_request.specs.Source.{after_of}
+use Rattle.agg_request_tree.specs.Source.{Sources}
+use Rattle.agg_request_tree.specs.Source.{after_of}
 use Rattle.agg_composite.specs.Accessors.{AreAccessorsOf}
 use Rattle.agg_composite.specs.Accessors.{AllFit}
 use Rattle.agg_composite.specs.Answers.{AreAllInRange}

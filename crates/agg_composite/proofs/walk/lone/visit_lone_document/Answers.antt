@@ -1,7 +1,7 @@
 use Rattle.std.proofs.Common.{rules, ◌≡◌, ℕ, ◌<◌, ◌≤◌, ◌^◌, length, get_or, sym, ◌∙◌, arith}
 use Rattle.std.proofs.lemmas.List.{length-map}
-use Rattle.agg_segment.specs.Columns.{all_keys}
-use Rattle.agg_request.specs.Source.{keys_in}
+use Rattle.agg_column.specs.Columns.{all_keys}
+use Rattle.agg_request_tree.specs.Source.{keys_in}
 use Rattle.agg_composite.specs.Accessors.{keys_read}
 use Rattle.agg_composite.specs.Choices.{divided_choices}
 use Rattle.agg_composite.specs.GroupCounts.{all_counts}

@@ -1,10 +1,10 @@
 use Rattle.std.proofs.Common.{◌≡◌, ◌==◌, [], ◌∷◌, length, take}
 use Rattle.agg_values.specs.Names.{Named}
 use Rattle.agg_values.specs.declared.after_key.AfterKey.{AfterKey}
-use Rattle.agg_segment.specs.Columns.{all_keys}
+use Rattle.agg_column.specs.Columns.{all_keys}
 use Rattle.agg_segment.specs.Segment.{Stored}
-use Rattle.agg_request.specs.Source.{keys_in}
-use Rattle.agg_request.specs.Source.{after_of}
+use Rattle.agg_request_tree.specs.Source.{keys_in}
+use Rattle.agg_request_tree.specs.Source.{after_of}
 use Rattle.agg_composite.specs.Accessors.{AreAccessorsOf}
 use Rattle.agg_composite.specs.Answers.{CountsFor}
 use Rattle.agg_composite.specs.Choices.{CanRead}

@@ -1,6 +1,6 @@
 use Rattle.std.proofs.Common.{[], ◌∷◌, false, List, sym, subst, arith}
 use Rattle.agg_segment.specs.Segment.{document_at, documents_at}
-use Rattle.agg_request.specs.Occurrences.{bound_of, past_occurrences}
+use Rattle.agg_request_tree.specs.Occurrences.{bound_of, past_occurrences}
 use Rattle.agg_composite.specs.Choices.{AreChoicesIn}
 use Rattle.agg_composite.specs.GroupCounts.{all_counts}
 use Rattle.agg_composite.specs.Walk.{parts, walked}

@@ -1,5 +1,5 @@
 use Rattle.std.proofs.Common.{Err, [], ◌∷◌, ◌++◌, map, sym, ap, ◌∙◌, append_assoc}
-use Rattle.agg_request.specs.Source.{rules_of}
+use Rattle.agg_request_tree.specs.Source.{rules_of}
 use Rattle.agg_composite.specs.PageEntries.{entry_group}
 use Rattle.agg_engine.proofs.HeldPage.{counts_in, entry-absent, entry-added, wants_memory}
 use Rattle.agg_engine.proofs.walk.held.held_page.Goals as goal

@@ -1,5 +1,5 @@
 use Rattle.std.proofs.Common.{◌≡◌, ◌++◌, map}
-use Rattle.agg_request.specs.Source.{rules_of}
+use Rattle.agg_request_tree.specs.Source.{rules_of}
 use Rattle.agg_composite.specs.PageEntries.{entry_group}
 use Rattle.agg_results.specs.Intermediate.{composite_of, plain_entries}
 use Rattle.agg_engine.proofs.walk.held.held_page.Given as goal

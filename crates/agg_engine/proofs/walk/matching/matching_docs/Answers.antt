@@ -1,6 +1,6 @@
 use Rattle.std.proofs.Common.{◌≡◌, List, [], ◌∷◌, Bool, true, cond, filter, refl, sym, ap, ◌∙◌}
 use Rattle.std.proofs.Common.{IfOk, subst}
-use Rattle.agg_segment.specs.Document.{Fields}
+use Rattle.agg_column.specs.Document.{Fields}
 use Rattle.agg_segment.specs.Query.{matches, matches_by}
 use Rattle.agg_segment.specs.Segment.{documents_at, documents_of}
 use Rattle.agg_segment.specs.declared.query.QueryTree.TheFolds.{fold-roll-QueryTree}

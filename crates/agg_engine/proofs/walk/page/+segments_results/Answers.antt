@@ -1,6 +1,6 @@
 use Rattle.std.proofs.Common.{Err, ◌/◌, length, ap, arith, rules}
 use Rattle.std.specs.List.{All}
-use Rattle.agg_request.specs.Ranges.{AreInRange}
+use Rattle.agg_request_tree.specs.Ranges.{AreInRange}
 use Rattle.agg_engine.proofs.Halves.{halves-alike, halves-few, halves-joined, matching-parts}
 use Rattle.agg_engine.specs.Walk.{matching_in}
 use Rattle.agg_engine.proofs.Ranges.{ranges-here}

@@ -1,8 +1,8 @@
 use Rattle.std.proofs.Common.{sym, ap, ◌∙◌, subst}
 use Rattle.std.specs.List.{All}
 use Rattle.agg_segment.specs.Segment.{documents_at}
-use Rattle.agg_request.specs.Ranges.{AreInRange}
-use Rattle.agg_request.specs.declared.aggregation.CompositeAggregation.{CompositeAggregation}
+use Rattle.agg_request_tree.specs.Ranges.{AreInRange}
+use Rattle.agg_request_tree.specs.declared.aggregation.CompositeAggregation.{CompositeAggregation}
 use Rattle.agg_engine.proofs.walk.ranges.check_segment.Goals as goal
 
 pub returns-then-not-are_starts_in_range-clause-err :

@@ -2,7 +2,7 @@ use Rattle.std.proofs.Common.{subst, arith}
 use Rattle.std.specs.List.{All}
 use Rattle.std.proofs.lemmas.List.{take_all}
 use Rattle.std.proofs.lemmas.List.Elements.{All-nil}
-use Rattle.agg_request.specs.Ranges.{AreInRange}
+use Rattle.agg_request_tree.specs.Ranges.{AreInRange}
 use Rattle.agg_engine.specs.PageAnswers.{IsStartRefusal}
 use Rattle.agg_engine.specs.Walk.{matching_in}
 use Rattle.agg_engine.proofs.HeldRefusals.{caused-by}

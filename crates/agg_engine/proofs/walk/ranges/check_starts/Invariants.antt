@@ -1,6 +1,6 @@
 use Rattle.std.proofs.Common.{take}
 use Rattle.std.specs.List.{All}
-use Rattle.agg_request.specs.Ranges.{AreInRange}
+use Rattle.agg_request_tree.specs.Ranges.{AreInRange}
 use Rattle.agg_engine.specs.Walk.{matching_in}
 use Rattle.agg_engine.proofs.walk.ranges.check_starts.Given as goal
 

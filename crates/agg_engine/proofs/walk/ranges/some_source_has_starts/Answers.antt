@@ -1,6 +1,6 @@
 use Rattle.std.proofs.Common.{sym, ◌∙◌, subst, arith}
 use Rattle.std.proofs.lemmas.Bool.{false≢true}
-use Rattle.agg_request.specs.Ranges.{AreInRange}
+use Rattle.agg_request_tree.specs.Ranges.{AreInRange}
 use Rattle.std.proofs.lemmas.List.{take_all}
 use Rattle.agg_engine.proofs.Ranges.{in_range-more, in_range-none}
 use Rattle.agg_engine.proofs.walk.ranges.some_source_has_starts.Goals as goal

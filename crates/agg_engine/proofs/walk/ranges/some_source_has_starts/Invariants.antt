@@ -1,6 +1,6 @@
 use Rattle.std.proofs.Common.{take}
-use Rattle.agg_segment.specs.Document.{Fields}
-use Rattle.agg_request.specs.Ranges.{AreInRange}
+use Rattle.agg_column.specs.Document.{Fields}
+use Rattle.agg_request_tree.specs.Ranges.{AreInRange}
 use Rattle.agg_engine.proofs.walk.ranges.some_source_has_starts.Given as goal
 
 -- the sources so far have no starts

@@ -1,6 +1,6 @@
 use Rattle.std.proofs.Common.{[], Err, ap, subst, sym}
 use Rattle.agg_segment.specs.Segment.{documents_at}
-use Rattle.agg_request.specs.Occurrences.{bound_of, past_occurrences}
+use Rattle.agg_request_tree.specs.Occurrences.{bound_of, past_occurrences}
 use Rattle.agg_results.specs.StandsFor.{GroupsStandFor}
 use Rattle.agg_results.proofs.StandingGroups.{stands-lowest}
 use Rattle.agg_cache.specs.declared.error.CollectError.TheVariants as collect

@@ -2,9 +2,9 @@ use Rattle.std.proofs.Common.{◌≡◌, ◌+◌, length, map, sym, ap, ◌∙�
 use Rattle.std.specs.List.{All, filter}
 use Rattle.agg_segment.specs.Query.{matches}
 use Rattle.agg_segment.specs.Segment.{documents_at, documents_of}
-use Rattle.agg_request.specs.Ranges.{AreInRange}
-use Rattle.agg_request.specs.Uncut.{counted as counted_by}
-use Rattle.agg_request.specs.declared.aggregation.CompositeAggregation.{CompositeAggregation}
+use Rattle.agg_request_tree.specs.Ranges.{AreInRange}
+use Rattle.agg_request_tree.specs.Uncut.{counted as counted_by}
+use Rattle.agg_request_tree.specs.declared.aggregation.CompositeAggregation.{CompositeAggregation}
 use Rattle.agg_composite.specs.PageEntries.{entry_group}
 use Rattle.agg_engine.specs.PageAnswers.{HasFewSources, IsHeldRefusal}
 use Rattle.agg_engine.proofs.HeldRefusals.{refusal-later}

@@ -1,6 +1,6 @@
 use Rattle.std.proofs.Common.{codes, refl}
 use Rattle.serde_json.specs.View.{view}
-use Rattle.agg_request.specs.declared.source.CompositeAggregationSource.TheVariants as of
+use Rattle.agg_request_tree.specs.declared.source.CompositeAggregationSource.TheVariants as of
 use Rattle.agg_request.proofs.WrittenSources.{is-source}
 use Rattle.agg_request.proofs.writer.sources.write_source.Goals as goal
 

@@ -1,6 +1,6 @@
 use Rattle.std.proofs.Common.{sym, ap, ◌∙◌}
 use Rattle.std.specs.Prelude.{◌&&◌}
-use Rattle.agg_request.specs.Request.{below_of}
+use Rattle.agg_request_tree.specs.Request.{below_of}
 use Rattle.agg_request.specs.Written.{all_may_be_written}
 use Rattle.agg_request.proofs.Writable.{writable-out}
 use Rattle.agg_request.proofs.writer.writable.+writable.Goals as goal

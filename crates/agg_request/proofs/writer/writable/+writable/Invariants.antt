@@ -1,5 +1,5 @@
 use Rattle.std.proofs.Common.{◌+◌, ◌*◌}
-use Rattle.agg_request.proofs.RequestTrees.{height, levels}
+use Rattle.agg_request_tree.proofs.RequestTrees.{height, levels}
 use Rattle.agg_request.proofs.Writable.{AreUndecided}
 use Rattle.agg_request.proofs.writer.writable.+writable.Given as goal
 

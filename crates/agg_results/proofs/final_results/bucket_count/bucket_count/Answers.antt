@@ -1,5 +1,5 @@
 use Rattle.std.proofs.Common.{◌∙◌, ap, arith, rules, sym}
-use Rattle.agg_request.specs.Request.{agg_of}
+use Rattle.agg_request_tree.specs.Request.{agg_of}
 use Rattle.agg_results.specs.BucketCount.{result_buckets}
 use Rattle.agg_results.specs.Final.{final_result}
 use Rattle.agg_results.proofs.FinalBuckets.{count-all, count-more, final-buckets, left_buckets}

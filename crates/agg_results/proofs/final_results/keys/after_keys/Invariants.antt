@@ -1,5 +1,5 @@
 use Rattle.std.proofs.Common.{◌≡◌, drop}
-use Rattle.agg_request.specs.BySource.{after_map}
+use Rattle.agg_request_tree.specs.BySource.{after_map}
 use Rattle.agg_results.proofs.final_results.keys.after_keys.Given as goal
 
 -- the keys of the sources from here on

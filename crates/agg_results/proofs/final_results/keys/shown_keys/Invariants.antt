@@ -1,6 +1,6 @@
 use Rattle.std.proofs.Common.{◌≡◌, drop}
 use Rattle.agg_values.specs.Shown.{shown_key}
-use Rattle.agg_request.specs.BySource.{by_source}
+use Rattle.agg_request_tree.specs.BySource.{by_source}
 use Rattle.agg_results.proofs.final_results.keys.shown_keys.Given as goal
 
 -- the keys of the sources from here on

@@ -1,5 +1,5 @@
 use Rattle.std.proofs.Common.{◌≡◌, take}
-use Rattle.agg_request.specs.Source.{rules_of}
+use Rattle.agg_request_tree.specs.Source.{rules_of}
 use Rattle.agg_results.proofs.final_results.refusals.are_orders_of.Given as goal
 
 -- the orders so far are those of the sources so far

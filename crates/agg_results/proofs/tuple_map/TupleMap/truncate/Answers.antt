@@ -3,7 +3,7 @@ use Rattle.std.specs.List.Sorted.{IsStrictlySortedBy}
 use Rattle.std.specs.Map.{keys_of}
 use Rattle.std.proofs.lemmas.List.{take-map}
 use Rattle.agg_values.specs.KeyOrder.{tuple_order}
-use Rattle.agg_request.proofs.PageKeys.{IsStrictlySortedBy-take}
+use Rattle.agg_request_tree.proofs.PageKeys.{IsStrictlySortedBy-take}
 use Rattle.agg_results.proofs.tuple_map.TupleMap.truncate.Goals as goal
 
 pub invariant_of-self : goal.invariant_of-self

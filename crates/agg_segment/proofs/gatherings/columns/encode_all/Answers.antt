@@ -2,11 +2,11 @@ use Rattle.std.proofs.Common.{◌∷◌, ◌++◌, [], List, length, map, get_or
 use Rattle.std.specs.Prelude.{reverse, flat_map}
 use Rattle.std.specs.List.{All}
 use Rattle.std.proofs.lemmas.List.{with_items_is, reverse-append}
-use Rattle.agg_segment.specs.Columns.{column_cells}
+use Rattle.agg_column.specs.Columns.{column_cells}
 use Rattle.agg_segment.specs.Gatherings.{Raw, raws, raw_placed, IsRaw, IsWide, column_places}
 use Rattle.agg_segment.specs.Gatherings.{gathering_places}
 use Rattle.agg_segment.specs.declared.gatherings.Gathering.{Gathering}
-use Rattle.agg_segment.specs.declared.signs.Sign.TheVariants.{Small}
+use Rattle.agg_column.specs.declared.sign.Sign.TheVariants.{Small}
 use Rattle.agg_segment.proofs.Encoded.{column_is, next_cells, next_places, rank_is, kept_last}
 use Rattle.agg_segment.proofs.Encoded.{kept_rest, all_last, all_rest}
 use Rattle.agg_segment.proofs.gatherings.columns.encode_all.Goals as goal

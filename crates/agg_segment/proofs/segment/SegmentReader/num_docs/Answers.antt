@@ -1,5 +1,5 @@
 use Rattle.std.proofs.Common.{length, sym, ap, ◌∙◌}
-use Rattle.agg_segment.specs.Names.{numbered_names}
+use Rattle.agg_column.specs.Names.{numbered_names}
 use Rattle.agg_segment.specs.Segment.{Stored, documents_of}
 use Rattle.agg_segment.proofs.Closed.{read_count}
 use Rattle.agg_segment.proofs.segment.SegmentReader.num_docs.Goals as goal

@@ -1,6 +1,6 @@
 use Rattle.std.proofs.Common.{◌≡◌, ap, ◌++◌, ◌∙◌, subst, sym}
 use Rattle.agg_values.specs.Names.{put}
-use Rattle.agg_request.specs.Request.{agg_of}
+use Rattle.agg_request_tree.specs.Request.{agg_of}
 use Rattle.agg_results.specs.Empty.{empty_result, empty_results}
 use Rattle.agg_results.specs.Intermediate.{AreFlat}
 use Rattle.agg_results.proofs.FlatResults.{empty_results-flat}

@@ -1,5 +1,5 @@
 use Rattle.std.proofs.Common.{◌≡◌, ◌++◌}
-use Rattle.agg_request.specs.Request.{agg_of}
+use Rattle.agg_request_tree.specs.Request.{agg_of}
 use Rattle.agg_results.specs.Empty.{empty_result}
 use Rattle.agg_results.proofs.MadeByName.{by_name}
 use Rattle.agg_results.proofs.intermediate as intermediate

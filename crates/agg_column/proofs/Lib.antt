@@ -1,0 +1,11 @@
+pub mod Ascending
+pub mod Classes
+pub mod Dense
+pub mod FirstNames
+pub mod Growing
+pub mod Kept
+pub mod Layouts
+pub mod Members
+pub mod Numbers
+pub mod Places
+pub mod TextPlaces

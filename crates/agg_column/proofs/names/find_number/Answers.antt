@@ -1,0 +1,7 @@
+use Rattle.std.proofs.Common.{sym, ◌∙◌}
+use Rattle.agg_column.proofs.Numbers.{number_is}
+use Rattle.agg_column.proofs.names.find_number.Goals as goal
+
+pub returns : goal.returns
+returns c = c.copied.ensures ∙ c.get.ensures.value
+    ∙ sym (number_is c.args.names.now c.args.name.now)

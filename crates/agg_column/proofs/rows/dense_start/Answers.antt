@@ -1,0 +1,10 @@
+use Rattle.std.proofs.Common.{◌≡◌, ◌-◌, suc, ap, ◌∙◌, arith}
+use Rattle.agg_column.specs.Rows.{start_at, numbered}
+use Rattle.agg_column.proofs.Dense.{dense_start_is}
+use Rattle.agg_column.proofs.rows.dense_start.Goals as goal
+
+pub returns : goal.returns
+returns c =
+    let same : suc (c.args.doc - 1) ≡ c.args.doc = omega arith in
+    dense_start_is c.args.ends.now (c.args.doc - 1) _ (omega (arith, c.requires))
+    ∙ ap (start_at 0 (numbered 0 c.args.ends.now)) same

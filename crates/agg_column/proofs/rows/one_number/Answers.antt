@@ -1,0 +1,8 @@
+use Rattle.agg_column.proofs.Layouts.{number_of_one, number_of_none}
+use Rattle.agg_column.proofs.rows.one_number.Goals as goal
+
+pub returns-then-at-numbers : goal.returns-then-at-numbers
+returns-then-at-numbers c = number_of_one c.args.numbers.now c.args.doc c.if-at-numbers.true
+
+pub returns : goal.returns
+returns c = number_of_none c.args.numbers.now c.args.doc c.if-at-numbers.false

@@ -1,0 +1,12 @@
+pub mod CellOrder
+pub mod Cells
+pub mod Columns
+pub mod Dictionary
+pub mod Document
+pub mod FirstNames
+pub mod GatheredNumbers
+pub mod Growing
+pub mod Names
+pub mod Rows
+pub mod Signs
+pub mod TextPlaces

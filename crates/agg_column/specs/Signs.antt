@@ -1,0 +1,49 @@
+-- Signs of numbers: whether one is below zero, or above those of an i64.
+use Rattle.std.specs.Prelude.{◌≡◌, ◌≢◌, ◌<◌, pos, int_lt, if◌then◌else◌}
+use Rattle.std.specs.Prelude.{ℕ, List, [], ◌∷◌, length, get_or, set}
+use Rattle.std.specs.List.{All, Contains}
+use Rattle.agg_values.specs.TypedKey.{CompositeIntermediateKey}
+use Rattle.agg_values.specs.declared.typed_key.CompositeIntermediateKey.TheVariants as key
+use Rattle.agg_column.specs.declared.log.Cell.{Cell}
+use Rattle.agg_column.specs.declared.log.CellValue.{CellValue}
+use Rattle.agg_column.specs.declared.sign.Sign.{Sign}
+use Rattle.agg_column.specs.declared.sign.Sign.TheVariants.{Small, Negative, Large}
+use Rattle.agg_column.specs.Cells.{Placed, stored_key}
+
+-- whether a number is below zero, or above those of an i64
+abbrev pub sign_of : CompositeIntermediateKey → Sign
+sign_of (key.I64 n) = if int_lt n (pos 0) then Negative else Small
+sign_of (key.U64 n) = Large
+sign_of _ = Small
+
+-- the same of what a cell keeps
+abbrev pub cell_sign : CellValue → Sign
+cell_sign value = sign_of (stored_key [] [] value)
+
+-- a cell's field and sign
+abbrev pub cell_mark : Cell → ℕ × Sign
+cell_mark c = (c.field, cell_sign c.value)
+
+-- a key's field and sign
+abbrev pub key_mark : Placed → ℕ × Sign
+key_mark p = (p.field, sign_of p.key)
+
+-- some field has both
+abbrev pub HasBoth : List (ℕ × Sign) → Type 0
+HasBoth marks = (field : ℕ) × Contains marks (field, Negative) × Contains marks (field, Large)
+
+-- a sign is its field's, if it says something
+abbrev pub IsFieldSign : List Sign → ℕ × Sign → Type 0
+IsFieldSign signs mark = mark.1 ≢ Small → get_or signs mark.0 Small ≡ mark.1
+
+-- the signs of fields are those of their numbers
+abbrev pub AreSigns : List Sign → List (ℕ × Sign) → Type 0
+AreSigns signs marks =
+    All (IsFieldSign signs) marks
+    × ((field : ℕ) → field < length signs → get_or signs field Small ≢ Small
+    → Contains marks (field, get_or signs field Small))
+
+-- the signs of fields taken away
+abbrev pub without_signs : List ℕ → List Sign → List Sign
+without_signs [] signs = signs
+without_signs (field ∷ fields) signs = set (without_signs fields signs) field Small

@@ -1,0 +1,29 @@
+//! Values of documents as cells, and columns of their numbers with dictionaries of their texts and
+//! addresses.
+#![tactic(auto)]
+
+mod column;
+mod dictionary;
+mod document;
+mod field_names;
+mod hit;
+mod keys;
+mod laws;
+mod log;
+mod names;
+mod rows;
+mod sign;
+mod texts;
+
+pub use column::Column;
+pub use dictionary::{AddressList, Dictionary};
+pub use document::{Document, FieldValue};
+pub use field_names::FieldNames;
+pub use hit::{ColumnType, OrdHit};
+pub use keys::{ColumnKeys, FROM_ZERO, from_zero};
+pub use laws::by_class_keeps_the_keys;
+pub use log::{Cell, CellValue, Log};
+pub use names::{find_number, set_number};
+pub use rows::{GrowingRows, Rows};
+pub use sign::Sign;
+pub use texts::Texts;

@@ -1,0 +1,10 @@
+pub mod Beside
+pub mod DistinctNumbers
+pub mod DocumentMembers
+pub mod Documents
+pub mod FieldValues
+pub mod TokenFields
+pub mod TokenLines
+pub mod TokenMembers
+pub mod TokenTurns
+pub mod TokenValues

@@ -1,0 +1,9 @@
+use Rattle.agg_document_json.proofs.DocumentMembers.{HasRead}
+use Rattle.agg_document_json.proofs.document.document_of_members.Given as goal
+
+-- the members so far were put into the document
+abbrev pub invariant-loop-name : goal.invariant-loop-name
+invariant-loop-name l =
+    (goal.iterator-loop-name).can_next l.name-iterator ×
+    (goal.iterator-loop-name).is_finite l.name-iterator ×
+    HasRead l.fn.members.entries l.document l.name-iterator

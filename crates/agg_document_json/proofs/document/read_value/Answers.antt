@@ -1,0 +1,11 @@
+use Rattle.std.proofs.Common.{sym, ap, ◌∙◌, option_map}
+use Rattle.serde_json.specs.View.{view}
+use Rattle.agg_column.specs.Document.{key_of}
+use Rattle.agg_document_json.proofs.Documents.{no_key}
+use Rattle.agg_document_json.proofs.document.read_value.Goals as goal
+
+pub returns-in-None-2-clause-not_input : goal.returns-in-None-2-clause-not_input
+returns-in-None-2-clause-not_input c = λ _.
+    no_key (view c.args.value.now)
+    (sym (ap (option_map key_of) c.in-None.is) ∙ c.in_ok-plain.ensures)
+    (c.in_ok-address-in-None.ensures.none c.in-None-2.is)

@@ -1,0 +1,13 @@
+use Rattle.std.proofs.Common.{◌≡◌, length}
+use Rattle.agg_segment.specs.Segment.{gathered_documents}
+use Rattle.agg_document_json.proofs.TokenMembers.{HasTakenMembers}
+use Rattle.agg_document_json.proofs.tokens.read_members.Given as goal
+
+-- the members so far were taken, and no document was closed
+abbrev pub invariant-members : goal.invariant-members
+invariant-members l =
+    HasTakenMembers l.fn.reader l.reader l.fields.items l.builder
+    × (gathered_documents l.builder ≡ gathered_documents l.fn.builder)
+
+abbrev pub decreases-members : goal.decreases-members
+decreases-members l = length l.reader

@@ -1,0 +1,10 @@
+use Rattle.std.proofs.Common.{subst}
+use Rattle.agg_values.specs.AddressGrammar.{IsAddressText}
+use Rattle.agg_document_json.proofs.TokenValues.{address_member}
+use Rattle.agg_document_json.proofs.tokens.value.read_address.Goals as goal
+
+pub returns : goal.returns
+returns c =
+    rw c.in-String.is (address_member c.in-String.text.now c.in-Some.address
+    (subst (λ s. IsAddressText s c.in-Some.address.0) c.in_ok-copy_of.ensures
+    c.in-Some.ensures.read))

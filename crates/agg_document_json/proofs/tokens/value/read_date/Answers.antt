@@ -1,0 +1,8 @@
+use Rattle.agg_document_json.specs.Tokens.{num_of}
+use Rattle.agg_document_json.proofs.TokenValues.{if_date}
+use Rattle.agg_document_json.proofs.tokens.value.read_date.Goals as goal
+
+pub returns : goal.returns
+returns c =
+    rw c.in-Number.is (if_date c.in-Number.text.now (num_of c.in_ok-whole_number.field-0)
+    c.date.result c.in_ok-whole_number.ensures c.date.ensures)

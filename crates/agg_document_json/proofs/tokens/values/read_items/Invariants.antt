@@ -1,0 +1,13 @@
+use Rattle.std.proofs.Common.{◌≡◌, length}
+use Rattle.agg_segment.specs.Segment.{gathered_documents}
+use Rattle.agg_document_json.proofs.TokenFields.{HasTakenItems}
+use Rattle.agg_document_json.proofs.tokens.values.read_items.Given as goal
+
+-- the items so far were taken into the field, and no document was closed
+abbrev pub invariant-items : goal.invariant-items
+invariant-items l =
+    HasTakenItems l.field l.initial.reader l.reader l.initial.builder l.builder
+    × (gathered_documents l.builder ≡ gathered_documents l.initial.builder)
+
+abbrev pub decreases-items : goal.decreases-items
+decreases-items l = length l.reader

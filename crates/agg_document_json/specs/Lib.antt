@@ -1,0 +1,4 @@
+pub mod AddedDocument
+pub mod DocumentLine
+pub mod Fields
+pub mod Tokens

@@ -1,0 +1,5 @@
+pub mod Header
+pub mod Input
+pub mod Lines
+pub mod SnapshotLines
+pub mod Snapshots

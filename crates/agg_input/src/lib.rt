@@ -1,0 +1,12 @@
+//! The input: a header and then snapshots, a line each.
+#![tactic(auto)]
+
+mod header;
+mod input;
+mod line;
+mod lines;
+mod snapshots;
+
+pub use agg_document_json::InputError;
+pub use header::Header;
+pub use input::{Input, MAX_INPUT_BYTES, read_input};

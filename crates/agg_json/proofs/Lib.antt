@@ -1,0 +1,9 @@
+pub mod FilterKinds
+pub mod FilterLists
+pub mod Filters
+pub mod Items
+pub mod JsonLemmas
+pub mod Others
+pub mod Pairs
+pub mod Readings
+pub mod ValueTexts

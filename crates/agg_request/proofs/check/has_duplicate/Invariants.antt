@@ -1,7 +1,0 @@
-use Rattle.std.proofs.Common.{take}
-use Rattle.agg_request.specs.Faults.{HaveOwnNames}
-use Rattle.agg_request.proofs.check.has_duplicate.Given as goal
-
--- the sources so far have own names
-abbrev pub invariant-loop-i : goal.invariant-loop-i
-invariant-loop-i l = HaveOwnNames (take l.i l.sources)

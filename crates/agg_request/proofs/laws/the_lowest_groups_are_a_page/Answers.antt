@@ -1,6 +1,0 @@
-use Rattle.agg_request.proofs.PageFromGroups.{IsPage-from_groups}
-use Rattle.agg_request.proofs.laws.the_lowest_groups_are_a_page.Goals as goal
-
-pub returns : goal.returns
-returns c sources size bound documents held groups = IsPage-from_groups sources documents size bound
-    held groups

@@ -1,5 +1,0 @@
-use Rattle.agg_request.proofs.Pairs.{AreSameSoFar}
-use Rattle.agg_request.proofs.same.composite.are_same_keys.Given as goal
-
-abbrev pub invariant-loop-entry : goal.invariant-loop-entry
-invariant-loop-entry l = AreSameSoFar l.after l.other l.entry-iterator l.others

@@ -1,0 +1,10 @@
+pub mod AfterKeys
+pub mod AggregationReadings
+pub mod AskedKinds
+pub mod BuildersTaken
+pub mod CompositeSources
+pub mod Orders
+pub mod PlainRequests
+pub mod PoolMembers
+pub mod PoolReadings
+pub mod RequestReadings

@@ -1,0 +1,35 @@
+use Rattle.std.proofs.Common.{codes, false}
+use Rattle.serde_json.specs.Find.{get}
+use Rattle.serde_json.specs.View.{view}
+use Rattle.agg_values.specs.declared.order.MissingOrder.TheVariants.{Default}
+use Rattle.agg_values.specs.declared.order.Order.TheVariants.{Asc}
+use Rattle.agg_request_json.specs.CompositeJson.{IsSourceBody, IsWordOr, missing_order_word, order_word}
+use Rattle.agg_json.specs.Json.{IsField}
+use Rattle.agg_request_tree.specs.declared.source.CompositeAggregationSource.TheVariants as of
+use Rattle.agg_json.proofs.Readings.{refused_part}
+use Rattle.agg_request_json.proofs.composite.sources.terms.read_terms.Goals as goal
+
+pub returns-in_err-read_field : goal.returns-in_err-read_field
+returns-in_err-read_field c =
+    let body = view c.args.body.now in
+    refused_part (IsField body) (λ terms. IsSourceBody false c.args.name.now body (of.Terms terms))
+    c.in_err-read_field.field-0.0
+    c.from_residual-in_err-read_field.result c.from_residual-in_err-read_field.ensures.1
+    c.in_err-read_field.ensures (λ source h. (source.field, h.0.field))
+
+pub returns-in_err-order : goal.returns-in_err-order
+returns-in_err-order c =
+    let body = view c.args.body.now in
+    refused_part (IsWordOr Asc order_word (get (codes "order") body))
+    (λ terms. IsSourceBody false c.args.name.now body (of.Terms terms)) c.in_err-order.field-0.0
+    c.from_residual-in_err-order.result c.from_residual-in_err-order.ensures.1
+    c.in_err-order.ensures (λ source h. (source.order, h.0.order))
+
+pub returns-in_err-missing_order : goal.returns-in_err-missing_order
+returns-in_err-missing_order c =
+    let body = view c.args.body.now in
+    refused_part (IsWordOr Default missing_order_word (get (codes "missing_order") body))
+    (λ terms. IsSourceBody false c.args.name.now body (of.Terms terms))
+    c.in_err-missing_order.field-0.0
+    c.from_residual-in_err-missing_order.result c.from_residual-in_err-missing_order.ensures.1
+    c.in_err-missing_order.ensures (λ source h. (source.missing_order, h.0.missing_order))

@@ -1,0 +1,14 @@
+use Rattle.std.proofs.Common.{IsSome, codes}
+use Rattle.serde_json.specs.View.{view}
+use Rattle.agg_json.specs.Json.{IsField, present}
+use Rattle.agg_request_json.specs.RequestJson.{IsMetric}
+use Rattle.agg_json.proofs.Readings.{refused_by}
+use Rattle.agg_request_json.proofs.request.kind.read_metric.Goals as goal
+
+pub returns-in_err-field : goal.returns-in_err-field
+returns-in_err-field c =
+    let body = view c.args.body.now in
+    refused_by (λ lenient. IsField body) ⊥ (λ lenient. IsMetric lenient body)
+    (IsSome (present (codes "missing") body)) c.in_err-field.field-0.0 c.from_residual.result
+    c.from_residual.ensures.1 c.in_err-field.ensures (λ h. absurd h)
+    (λ lenient field h. (field, h.0))

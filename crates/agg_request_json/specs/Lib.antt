@@ -1,0 +1,4 @@
+pub mod Builders
+pub mod CompositeJson
+pub mod OrderJson
+pub mod RequestJson

@@ -1,0 +1,31 @@
+//! Terms sources.
+ghost use Rattle.serde_json.specs.View.{view};
+ghost use Rattle.agg_request_json.specs.CompositeJson.{IsSourceBody};
+ghost use Rattle.agg_json.specs.Reading.{IsReading};
+ghost use Rattle.agg_request_tree.specs.declared.source.CompositeAggregationSource.TheVariants as of;
+
+use crate::composite::words::{missing_bucket, missing_order, order};
+use agg_json::ReadError;
+use agg_json::members::read_field;
+use agg_request_tree::TermCompositeAggregationSource;
+use agg_values::Text;
+use serde_json::Value;
+use std::alloc::Global;
+
+/// The terms source of a name.
+pub fn read_terms(
+    alloc: Global,
+    name: &str,
+    body: &Value,
+) -> Result<TermCompositeAggregationSource, ReadError>
+    ensures { IsReading (λ lenient terms. IsSourceBody lenient name.now (view body.now)
+        (of.Terms terms)) ⊥ result }
+{
+    Ok(TermCompositeAggregationSource {
+        name: Text::copy_of(alloc, name)?,
+        field: read_field(alloc, body)?,
+        order: order(body)?,
+        missing_bucket: missing_bucket(body)?,
+        missing_order: missing_order(body)?,
+    })
+}

@@ -1,0 +1,108 @@
+-- The counts of a page: each is the number of the entry's documents, and none hangs on the order of
+-- the documents.
+use Rattle.std.proofs.Common.{◌≡◌, ℕ, List, [], ◌∷◌, length, get_or, map, refl, sym, ap, ◌∙◌}
+use Rattle.std.specs.List.{All, Contains, count_by}
+use Rattle.std.specs.List.Sorted.{IsPermutation}
+use Rattle.std.proofs.lemmas.List.Sorted.{Contains-permutation, IsPermutation-sym}
+use Rattle.std.proofs.lemmas.List.Sorted.{sum_by-IsPermutation}
+use Rattle.agg_values.specs.KeyOrder.{tuple_order}
+use Rattle.agg_values.proofs.TupleOrder.{tuple_order-total}
+use Rattle.agg_column.specs.Document.{Fields}
+use Rattle.agg_request_tree.specs.Source.{rules_of, Sources}
+use Rattle.agg_request_tree.specs.Occurrences.{occurrences, occurrences_in, same_tuple}
+use Rattle.agg_request_tree.specs.Page.{Entry, IsPage, MayList, count_in, documents_with, group_of}
+use Rattle.agg_request_tree.proofs.Lists.{Has-from_Contains, Contains-from_Has, Has-flat_map}
+use Rattle.agg_request_tree.proofs.Lists.{Has-from_flat_map, count_by-flat_map, length-repeated}
+use Rattle.agg_request_tree.proofs.PageKeys.{Lowest-alike, Lowest-same}
+use Rattle.agg_request_tree.proofs.PageTuples.{occurring-exact}
+use Rattle.agg_request_tree.proofs.PageUnique.{Lowest-from_page, entry_at, entries-from_tuples}
+use Rattle.agg_request_tree.proofs.PagePast.{past-parts, past-whole}
+use Rattle.agg_values.specs.Tuple.{KeyTuple}
+use Rattle.agg_request_tree.specs.Groups.{Group}
+
+module _ (sources : Sources) where
+  -- how often a tuple occurs is how many documents it has
+  count_in-documents : (documents : List Fields) (tuple : KeyTuple)
+      → count_in sources documents tuple ≡ length (documents_with sources documents tuple)
+  count_in-documents documents tuple =
+      count_by-flat_map (occurrences sources) (same_tuple (rules_of sources) tuple) documents
+      ∙ sym (length-repeated (λ d. count_by (same_tuple (rules_of sources) tuple)
+      (occurrences sources d)) documents)
+
+  -- each entry of a page counts its documents
+  pub counts-documents : (size : ℕ) (bound : KeyTuple) (documents : List Fields) (page : List Entry)
+      → IsPage sources size bound documents page
+      → All (λ e. e.count ≡ length e.documents) page
+  counts-documents size bound documents page is k d within =
+      is.counted k d within ∙ count_in-documents documents (get_or page k d).tuple
+      ∙ ap length (sym (is.kept k d within))
+
+  -- a tuple of the documents is one of them in any order
+  occurring-permutation : (documents others : List Fields) → IsPermutation documents others
+      → (tuple : KeyTuple)
+      → Contains (occurrences_in sources documents) tuple
+      → Contains (occurrences_in sources others) tuple
+  occurring-permutation documents others moved tuple c =
+      let from = Has-from_flat_map (occurrences sources) documents tuple (Has-from_Contains
+      (occurrences_in sources documents) tuple c) in
+      let there = Contains-permutation documents others from.0 moved (Contains-from_Has documents
+      from.0 from.1) in
+      Contains-from_Has (occurrences_in sources others) tuple (Has-flat_map (occurrences sources)
+      others from.0 tuple (Has-from_Contains others from.0 there) from.2)
+
+  -- how often a tuple occurs is the same in any order
+  count_in-permutation : (documents others : List Fields) → IsPermutation documents others
+      → (tuple : KeyTuple)
+      → count_in sources documents tuple ≡ count_in sources others tuple
+  count_in-permutation documents others moved tuple =
+      let test = same_tuple (rules_of sources) tuple in
+      count_by-flat_map (occurrences sources) test documents
+      ∙ sym (sum_by-IsPermutation (λ d. count_by test (occurrences sources d)) documents others
+      moved)
+      ∙ sym (count_by-flat_map (occurrences sources) test others)
+
+  -- a tuple with how often it occurs
+  abbrev counted : List Fields → KeyTuple → Group
+  counted documents tuple = (tuple, count_in sources documents tuple)
+
+  -- the tuples of a page with their counts
+  counted_tuples : (size : ℕ) (bound : KeyTuple) (documents : List Fields) (tuples : List KeyTuple)
+      → map group_of (map (entry_at sources size bound documents) tuples) ≡ map (counted documents)
+      tuples
+  counted_tuples size bound documents [] = refl
+  counted_tuples size bound documents (t ∷ tuples) = ap (λ ts. counted documents t ∷ ts)
+      (counted_tuples size bound documents tuples)
+
+  -- the pages of the same documents in two orders have the same tuples and counts
+  pub counts-permutation : (size : ℕ) (bound : KeyTuple) (documents others : List Fields)
+      (page other : List Entry) → IsPermutation documents others
+      → IsPage sources size bound documents page
+      → IsPage sources size bound others other
+      → map group_of page ≡ map group_of other
+  counts-permutation size bound documents others page other moved first second =
+      ap (map group_of) (entries-from_tuples sources size bound documents page first)
+      ∙ counted_tuples size bound documents (map (λ e. e.tuple) page)
+      ∙ (λ i. map (same_counted i) (tuples i))
+      ∙ sym (counted_tuples size bound others (map (λ e. e.tuple) other))
+      ∙ ap (map group_of) (sym (entries-from_tuples sources size bound others other second))
+    where
+      same_counted : counted documents ≡ counted others
+      same_counted = λ i t. (t, count_in-permutation documents others moved t i)
+
+      tuples : map (λ e. e.tuple) page ≡ map (λ e. e.tuple) other
+      tuples =
+          Lowest-same (tuple_order (rules_of sources)) (tuple_order-total (rules_of sources))
+          (map (λ e. e.tuple) page) (map (λ e. e.tuple) other) (MayList sources bound documents)
+          (λ t u may_t may_u e. occurring-exact sources documents t u
+          (past-parts sources bound documents t may_t).0
+          (past-parts sources bound documents u may_u).0 e)
+          size (Lowest-from_page sources size bound documents page first)
+          (Lowest-alike (tuple_order (rules_of sources)) (MayList sources bound others)
+          (MayList sources bound documents)
+          (λ t may. let parts = past-parts sources bound others t may in
+          past-whole sources bound documents t (occurring-permutation others documents
+          (IsPermutation-sym documents others moved) t parts.0) parts.1)
+          (λ t may. let parts = past-parts sources bound documents t may in
+          past-whole sources bound others t (occurring-permutation documents others moved t parts.0)
+          parts.1)
+          size (map (λ e. e.tuple) other) (Lowest-from_page sources size bound others other second))

@@ -1,0 +1,12 @@
+pub mod BySource
+pub mod Faults
+pub mod FieldNames
+pub mod Groups
+pub mod Occurrences
+pub mod Page
+pub mod Ranges
+pub mod Request
+pub mod Source
+pub mod SourceColumns
+pub mod Successive
+pub mod Uncut

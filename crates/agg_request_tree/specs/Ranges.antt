@@ -1,0 +1,32 @@
+-- Starts of buckets that lie within i64, and documents for which they do.
+use Rattle.std.specs.Prelude.{FitsSigned, ℤ, List, All, IfSome, Option}
+use Rattle.std.specs.Int.{w64}
+use Rattle.agg_values.specs.TypedKey.{CompositeIntermediateKey}
+use Rattle.agg_column.specs.Document.{Fields}
+use Rattle.agg_request_tree.specs.Source.{Sources, field_of, start_in, values_at}
+use Rattle.agg_request_tree.specs.declared.aggregation.AggregationVariants.{AggregationVariants}
+use Rattle.agg_request_tree.specs.declared.aggregation.AggregationVariants.TheVariants.{Composite}
+use Rattle.agg_request_tree.specs.declared.aggregation.CompositeAggregation.{CompositeAggregation}
+use Rattle.agg_request_tree.specs.declared.source.CompositeAggregationSource.{CompositeAggregationSource}
+
+-- a start lies within i64, if there is one
+abbrev pub IsWithin : Option ℤ → Type 0
+IsWithin start = IfSome start (λ n. FitsSigned w64 n)
+
+-- the start of a value's bucket, if it has one, lies within i64
+abbrev pub IsInRange : CompositeAggregationSource → CompositeIntermediateKey → Type 0
+IsInRange source k = IsWithin (start_in source k)
+
+-- so do the starts of all values that sources read in a document
+abbrev pub AreInRange : Sources → Fields → Type 0
+AreInRange sources document =
+    All (λ source. All (IsInRange source) (values_at (field_of source) document)) sources
+
+-- some start of a bucket of a composite lies outside i64
+abbrev pub HasOwnStartOutOfRange : CompositeAggregation → List Fields → Type 0
+HasOwnStartOutOfRange composite documents = ¬ (All (AreInRange composite.sources) documents)
+
+-- some start of a bucket of an aggregation lies outside i64; only composites have starts
+abbrev pub HasStartOutOfRange : {B : Type 0} → AggregationVariants B → List Fields → Type 0
+HasStartOutOfRange (Composite composite) documents = HasOwnStartOutOfRange composite documents
+HasStartOutOfRange _ documents = ⊥

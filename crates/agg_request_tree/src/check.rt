@@ -1,0 +1,128 @@
+//! What a request may not ask.
+ghost use Rattle.std.specs.Prelude.{◌≡◌, ◌≢◌, All, Any, IfErr, IfNone, IfSome, MatchBool, OnOk};
+ghost use Rattle.agg_request_tree.specs.Faults.{CompositeHasCause, HasCause, HasFault, HasInterval};
+ghost use Rattle.agg_request_tree.specs.Faults.{HaveOwnNames, IsSound, IsSoundRequest};
+ghost use Rattle.agg_request_tree.specs.Request.{composites_in, own_composite};
+ghost use Rattle.agg_request_tree.specs.Source.{name_of};
+
+mod after;
+mod intervals;
+
+use crate::{
+    Aggregation, AggregationVariants, Aggregations, CompositeAggregation,
+    CompositeAggregationSource,
+};
+use after::find_after_fault;
+use agg_values::{InvalidArgument, NameMap, RequestError, Text};
+use intervals::check_intervals;
+use std::alloc::Global;
+
+// The most sources that a composite may have.
+const MAX_SOURCES: usize = 16;
+
+/// Whether a request may be asked: whether no composite of it, at any depth, has a fault. Which of
+/// several faults is named is free. Memory is taken only for the text of an error.
+pub fn check_request(alloc: Global, request: &Aggregations) -> Result<(), RequestError>
+    ensures ok { OnOk result (IsSoundRequest request.now) }
+    ensures err { IfErr result (HasCause request.now) }
+{
+    check_aggregations(alloc, request)
+}
+
+#[cycle(checks)]
+fn check_aggregations<B: Drop>(
+    alloc: Global,
+    request: &NameMap<Aggregation<B>>,
+) -> Result<(), RequestError>
+    ensures ok { OnOk result (IsSoundRequest request.now) }
+    ensures err { IfErr result (HasCause request.now) }
+{
+    for (_, aggregation) in request.iter() {
+        check_aggregation(alloc, aggregation)?;
+    }
+    Ok(())
+}
+
+// The same of an aggregation and those below it.
+#[cycle(checks)]
+fn check_aggregation<B: Drop>(
+    alloc: Global,
+    aggregation: &Aggregation<B>,
+) -> Result<(), RequestError>
+    ensures ok { OnOk result (All IsSound (composites_in aggregation.now)) }
+    ensures err { IfErr result
+        (λ error. Any (λ c. CompositeHasCause c error) (composites_in aggregation.now)) }
+{
+    check_own(alloc, &aggregation.agg)?;
+    check_aggregations(alloc, &aggregation.sub_aggregation)
+}
+
+// The same of what an aggregation asks by itself.
+fn check_own<B: Drop>(alloc: Global, agg: &AggregationVariants<B>) -> Result<(), RequestError>
+    ensures ok { OnOk result (All IsSound (own_composite agg.now)) }
+    ensures err { IfErr result
+        (λ error. Any (λ c. CompositeHasCause c error) (own_composite agg.now)) }
+{
+    match agg {
+        AggregationVariants::Composite(composite) => check_composite(alloc, composite),
+        _ => Ok(()),
+    }
+}
+
+// The same of a composite. Intervals are read only where there are few.
+fn check_composite(alloc: Global, composite: &CompositeAggregation) -> Result<(), RequestError>
+    ensures ok { OnOk result (IsSound composite.now) }
+    ensures err { IfErr result (CompositeHasCause composite.now) }
+{
+    if let Some(fault) = find_fault(composite) {
+        return Err(RequestError::Invalid(fault));
+    }
+    check_intervals(alloc, composite.sources.as_slice())
+}
+
+// A fault of a composite besides those of its intervals, if it has any. Names are compared only
+// where there are few.
+fn find_fault(composite: &CompositeAggregation) -> Option<InvalidArgument>
+    ensures some { IfSome result (λ fault. HasFault composite.now (RequestError.Invalid fault)) }
+    ensures none { IfNone result (All HasInterval composite.now.sources → IsSound composite.now) }
+{
+    let sources = composite.sources.as_slice();
+    if sources.is_empty() {
+        return Some(InvalidArgument::NoSource);
+    }
+    if sources.len() > MAX_SOURCES {
+        return Some(InvalidArgument::TooManySources);
+    }
+    if composite.size == 0 {
+        return Some(InvalidArgument::ZeroSize);
+    }
+    if has_duplicate(sources) {
+        return Some(InvalidArgument::DuplicateSource);
+    }
+    find_after_fault(composite)
+}
+
+// Whether two sources have one name.
+fn has_duplicate(sources: &[CompositeAggregationSource]) -> bool
+    ensures { MatchBool result (¬ (HaveOwnNames sources.now)) (HaveOwnNames sources.now) }
+{
+    for (i, source) in sources.iter().enumerate() {
+        if has_name(&sources[..i], source.name()) {
+            return true;
+        }
+    }
+    false
+}
+
+// Whether a source has this name.
+fn has_name(sources: &[CompositeAggregationSource], name: &Text) -> bool
+    ensures { MatchBool result (Any (λ source. name_of source ≡ name.now) sources.now)
+        (All (λ source. name_of source ≢ name.now) sources.now) }
+{
+    for source in sources {
+        if source.name() == name {
+            return true;
+        }
+    }
+    false
+}

@@ -1,0 +1,212 @@
+ghost use Rattle.std.specs.Prelude.{◌≡◌, IfOk, option_map};
+ghost use Rattle.agg_request_tree.specs.Source.{field_of, name_of, order_of};
+ghost use Rattle.agg_request_tree.specs.Source.{missing_order_of, missing_bucket_of};
+ghost use Rattle.agg_request_tree.specs.SourceColumns.{reads_type};
+
+mod after;
+
+use agg_calendar::CalendarInterval;
+use agg_segment::ColumnType;
+use agg_values::{MissingOrder, Order, OutOfMemory, Text};
+use std::alloc::Global;
+
+/// A source whose keys are the values of a field.
+#[derive(Debug, Drop, PartialEq)]
+pub struct TermCompositeAggregationSource {
+    pub name: Text,
+    pub field: Text,
+    pub order: Order,
+    /// Whether a document without a value has the key Null.
+    pub missing_bucket: bool,
+    pub missing_order: MissingOrder,
+}
+
+impl TermCompositeAggregationSource {
+    /// An equal source.
+    pub fn try_clone(&self, alloc: Global) -> Result<TermCompositeAggregationSource, OutOfMemory>
+        ensures { IfOk result (λ source. source ≡ self.now) }
+    {
+        Ok(TermCompositeAggregationSource {
+            name: self.name.try_clone(alloc)?,
+            field: self.field.try_clone(alloc)?,
+            order: self.order,
+            missing_bucket: self.missing_bucket,
+            missing_order: self.missing_order,
+        })
+    }
+}
+
+/// A source whose keys are the starts of the buckets of a field's numbers and dates, as numbers.
+#[derive(Debug, Drop, PartialEq)]
+pub struct HistogramCompositeAggregationSource {
+    pub name: Text,
+    pub field: Text,
+    /// The width of a bucket. Dates count in milliseconds.
+    pub interval: i64,
+    pub order: Order,
+    /// Whether a document without a number or date has the key Null.
+    pub missing_bucket: bool,
+    pub missing_order: MissingOrder,
+}
+
+impl HistogramCompositeAggregationSource {
+    /// An equal source.
+    pub fn try_clone(
+        &self,
+        alloc: Global,
+    ) -> Result<HistogramCompositeAggregationSource, OutOfMemory>
+        ensures { IfOk result (λ source. source ≡ self.now) }
+    {
+        Ok(HistogramCompositeAggregationSource {
+            name: self.name.try_clone(alloc)?,
+            field: self.field.try_clone(alloc)?,
+            interval: self.interval,
+            order: self.order,
+            missing_bucket: self.missing_bucket,
+            missing_order: self.missing_order,
+        })
+    }
+}
+
+/// A source whose keys are the starts of the buckets of a field's dates, as dates. One of its two
+/// intervals is set.
+#[derive(Debug, Drop, PartialEq)]
+pub struct DateHistogramCompositeAggregationSource {
+    pub name: Text,
+    pub field: Text,
+    /// The text of a number of days, hours, minutes, seconds or milliseconds.
+    pub fixed_interval: Option<Text>,
+    pub calendar_interval: Option<CalendarInterval>,
+    pub order: Order,
+    /// Whether a document without a date has the key Null.
+    pub missing_bucket: bool,
+    pub missing_order: MissingOrder,
+}
+
+impl DateHistogramCompositeAggregationSource {
+    /// An equal source.
+    pub fn try_clone(
+        &self,
+        alloc: Global,
+    ) -> Result<DateHistogramCompositeAggregationSource, OutOfMemory>
+        ensures { IfOk result (λ source. source ≡ self.now) }
+    {
+        Ok(DateHistogramCompositeAggregationSource {
+            name: self.name.try_clone(alloc)?,
+            field: self.field.try_clone(alloc)?,
+            fixed_interval: copy_of(alloc, self.fixed_interval.as_ref())?,
+            calendar_interval: self.calendar_interval,
+            order: self.order,
+            missing_bucket: self.missing_bucket,
+            missing_order: self.missing_order,
+        })
+    }
+}
+
+// The same text, where there is one.
+fn copy_of(alloc: Global, text: Option<&Text>) -> Result<Option<Text>, OutOfMemory>
+    ensures { IfOk result (λ copy. copy ≡ option_map (λ t. t.now) text.entry) }
+{
+    match text {
+        Some(text) => Ok(Some(text.try_clone(alloc)?)),
+        None => Ok(None),
+    }
+}
+
+/// A source of keys.
+#[derive(Debug, Drop, PartialEq)]
+pub enum CompositeAggregationSource {
+    Terms(TermCompositeAggregationSource),
+    Histogram(HistogramCompositeAggregationSource),
+    DateHistogram(DateHistogramCompositeAggregationSource),
+}
+
+impl CompositeAggregationSource {
+    /// An equal source.
+    pub fn try_clone(&self, alloc: Global) -> Result<CompositeAggregationSource, OutOfMemory>
+        ensures { IfOk result (λ source. source ≡ self.now) }
+    {
+        match self {
+            CompositeAggregationSource::Terms(terms) => {
+                Ok(CompositeAggregationSource::Terms(terms.try_clone(alloc)?))
+            }
+            CompositeAggregationSource::Histogram(histogram) => {
+                Ok(CompositeAggregationSource::Histogram(histogram.try_clone(alloc)?))
+            }
+            CompositeAggregationSource::DateHistogram(dates) => {
+                Ok(CompositeAggregationSource::DateHistogram(dates.try_clone(alloc)?))
+            }
+        }
+    }
+
+    /// The field that is read.
+    pub fn field(&self) -> &Text
+        ensures { result.now ≡ field_of self.now }
+    {
+        match self {
+            CompositeAggregationSource::Terms(terms) => &terms.field,
+            CompositeAggregationSource::Histogram(histogram) => &histogram.field,
+            CompositeAggregationSource::DateHistogram(dates) => &dates.field,
+        }
+    }
+
+    /// The name under which the key is shown.
+    pub fn name(&self) -> &Text
+        ensures { result.now ≡ name_of self.now }
+    {
+        match self {
+            CompositeAggregationSource::Terms(terms) => &terms.name,
+            CompositeAggregationSource::Histogram(histogram) => &histogram.name,
+            CompositeAggregationSource::DateHistogram(dates) => &dates.name,
+        }
+    }
+
+    /// The direction in which the keys are listed.
+    pub fn order(&self) -> Order
+        ensures { result ≡ order_of self.now }
+    {
+        match self {
+            CompositeAggregationSource::Terms(terms) => terms.order,
+            CompositeAggregationSource::Histogram(histogram) => histogram.order,
+            CompositeAggregationSource::DateHistogram(dates) => dates.order,
+        }
+    }
+
+    /// The place of Null among the keys.
+    pub fn missing_order(&self) -> MissingOrder
+        ensures { result ≡ missing_order_of self.now }
+    {
+        match self {
+            CompositeAggregationSource::Terms(terms) => terms.missing_order,
+            CompositeAggregationSource::Histogram(histogram) => histogram.missing_order,
+            CompositeAggregationSource::DateHistogram(dates) => dates.missing_order,
+        }
+    }
+
+    /// Whether a document without a value that the source reads has the key Null.
+    pub fn missing_bucket(&self) -> bool
+        ensures { result ≡ missing_bucket_of self.now }
+    {
+        match self {
+            CompositeAggregationSource::Terms(terms) => terms.missing_bucket,
+            CompositeAggregationSource::Histogram(histogram) => histogram.missing_bucket,
+            CompositeAggregationSource::DateHistogram(dates) => dates.missing_bucket,
+        }
+    }
+
+    /// Whether the values in columns of a type are read.
+    pub fn reads(&self, column_type: ColumnType) -> bool
+        ensures { result ≡ reads_type self.now column_type }
+    {
+        match self {
+            CompositeAggregationSource::Terms(_) => true,
+            CompositeAggregationSource::Histogram(_) => matches!(
+                column_type,
+                ColumnType::I64 | ColumnType::U64 | ColumnType::DateTime
+            ),
+            CompositeAggregationSource::DateHistogram(_) => {
+                matches!(column_type, ColumnType::DateTime)
+            }
+        }
+    }
+}

@@ -1,6 +1,0 @@
-use Rattle.agg_segment.proofs.Places.{addresses_ascend}
-use Rattle.agg_segment.proofs.dictionary.AddressList.class.Goals as goal
-
-pub returns-clause-order : goal.returns-clause-order
-returns-clause-order c = rw (← c.self.view_is)
-    (addresses_ascend c.self.inside.addresses.value.items c.self.invariant)

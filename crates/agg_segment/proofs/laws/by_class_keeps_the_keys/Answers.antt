@@ -1,8 +1,0 @@
-use Rattle.agg_segment.proofs.Classes.{by_class_moves, by_class_twice}
-use Rattle.agg_segment.proofs.laws.by_class_keeps_the_keys.Goals as goal
-
-pub returns-clause-permutation : goal.returns-clause-permutation
-returns-clause-permutation c = by_class_moves
-
-pub returns-clause-idempotent : goal.returns-clause-idempotent
-returns-clause-idempotent c = by_class_twice
