@@ -1,5 +1,7 @@
 //! Why bytes gave no input.
 
+ghost use Rattle.std.specs.Prelude.{◌≡◌, ◌↔◌};
+
 use agg_json::ReadError;
 use agg_segment::BuildError;
 use agg_values::OutOfMemory;
@@ -29,7 +31,7 @@ impl From<serde_json::Error> for InputError {
     ghost use Rattle.serde_json.specs.Errors.{IsMemory};
     ghost use Rattle.agg_document_json.specs.declared.input_error.InputError.TheVariants.{NotInput};
 
-    ghost from_gives = { λ error e. e ≡ NotInput → ¬ (IsMemory error) };
+    ghost from_gives = { λ error e. (e ≡ NotInput) ↔ (¬ (IsMemory error)) };
 
     fn from(error: serde_json::Error) -> InputError {
         match error.classify() {
@@ -46,7 +48,7 @@ impl From<BuildError> for InputError {
     ghost use Rattle.agg_document_json.specs.declared.input_error.InputError.TheVariants.{NotInput};
 
     ghost from_gives = { λ error e.
-        e ≡ NotInput → (error ≡ TooManyDocuments) ⊎ (error ≡ MixedNumbers) };
+        (e ≡ NotInput) ↔ ((error ≡ TooManyDocuments) ⊎ (error ≡ MixedNumbers)) };
 
     fn from(error: BuildError) -> InputError {
         match error {
@@ -63,8 +65,8 @@ impl From<ReadError> for InputError {
     ghost use Rattle.agg_json.specs.declared.read_error.ReadError.TheVariants.{UnknownBuilder};
     ghost use Rattle.agg_document_json.specs.declared.input_error.InputError.TheVariants.{NotInput};
 
-    ghost from_gives = { λ error e. e ≡ NotInput
-        → (error ≡ Unsupported) ⊎ ((error ≡ Grammar) ⊎ (error ≡ UnknownBuilder)) };
+    ghost from_gives = { λ error e. (e ≡ NotInput)
+        ↔ ((error ≡ Unsupported) ⊎ ((error ≡ Grammar) ⊎ (error ≡ UnknownBuilder))) };
 
     fn from(error: ReadError) -> InputError {
         match error {

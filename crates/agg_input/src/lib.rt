@@ -3,10 +3,12 @@
 
 mod header;
 mod input;
+mod laws;
 mod line;
 mod lines;
 mod snapshots;
 
 pub use agg_document_json::InputError;
 pub use header::Header;
+pub use laws::bytes_are_at_most_one_input;
 pub use input::{Input, MAX_INPUT_BYTES, read_input};

@@ -4,6 +4,5 @@ pub mod Filters
 pub mod Items
 pub mod JsonLemmas
 pub mod Others
-pub mod Pairs
 pub mod Readings
 pub mod ValueTexts

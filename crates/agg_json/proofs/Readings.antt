@@ -1,5 +1,5 @@
 -- What a reading answers, from what the readings of its parts answer.
-use Rattle.std.proofs.Common.{◌≡◌, Bool, false, Result, Ok, Err, OnOk, IsErrAnd, subst, sym}
+use Rattle.std.proofs.Common.{◌≡◌, Bool, false, Result, Ok, Err, IsErrAnd, subst, sym}
 use Rattle.agg_json.specs.declared.read_error.ReadError.{ReadError}
 use Rattle.agg_json.specs.declared.read_error.ReadError.TheVariants.{Unsupported, Grammar}
 use Rattle.agg_json.specs.declared.read_error.ReadError.TheVariants.{UnknownBuilder}
@@ -46,8 +46,3 @@ pub refused_part : {A B : Type 0} (Part : B → Type 0) (Is : A → Type 0) (err
 refused_part Part Is error result is told part =
     refused_by (λ lenient. Part) ⊥ (λ lenient. Is) ⊥ error result is told (λ h. h)
     (λ lenient x h. part x h)
-
--- what an Ok shows is shown of an answer
-pub when-ok : {A E P Q : Type 0} (result : Result A E) → (P → Q) → OnOk result P → OnOk result Q
-when-ok (Ok x) shows p = shows p
-when-ok (Err e) shows p = tt

@@ -10,7 +10,7 @@ use Rattle.agg_engine.specs.declared.walk.error.WalkError.TheVariants.{Invalid, 
 use Rattle.agg_engine.specs.declared.walk.error.WalkError.TheVariants.{TooMany, OutOfMemory}
 use Rattle.agg_engine.specs.declared.walk.error.WalkError.TheVariants.{Aggregation}
 use Rattle.agg_engine.specs.declared.walk.error.WalkError.TheVariants.{BucketOutOfRange}
-use Rattle.agg_request_tree.proofs.Faults.{none_of_all}
+use Rattle.agg_request_tree.proofs.Lists.{none_of_all}
 use Rattle.agg_input.specs.Input.{Input, IsInput}
 use Rattle.agg_pages.specs.Answer.{IsRefusal, IsValid, MayRefuse}
 use Rattle.agg_pages.specs.Reading.{GivesAll}

@@ -31,13 +31,16 @@ pub record IsValid {B : Type 0} (i : Input B) : Type 0 where
   pub fits : NoneIs (IsRefused (bucket_limit_of i) i.header.name i.header.query i.header.request
       i.snapshots)
 
--- the text is the printed walk of an input that nothing refuses
-abbrev pub IsPrintedWalk : {B : Type 0} → Input B → List ℕ → Type 0
-IsPrintedWalk i text =
+-- the text is the printed plain walk of an input
+abbrev pub IsPlainWalkText : {B : Type 0} → Input B → List ℕ → Type 0
+IsPlainWalkText i text =
     (walk : Walk)
-    × IsValid i
     × IsShownWalk i.header.name i.header.query i.header.request i.snapshots walk
     × (text ≡ walk_text walk)
+
+-- the text is the printed walk of an input that nothing refuses
+abbrev pub IsPrintedWalk : {B : Type 0} → Input B → List ℕ → Type 0
+IsPrintedWalk i text = IsValid i × IsPlainWalkText i text
 
 -- the text is a refusal that a walk of an input may answer
 abbrev pub IsRefusal : {B : Type 0} → Input B → List ℕ → Type 0

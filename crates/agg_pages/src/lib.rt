@@ -4,6 +4,7 @@
 
 mod fault;
 pub mod input;
+mod laws;
 pub mod output;
 mod program;
 pub mod sink;
@@ -11,5 +12,6 @@ pub mod source;
 mod status;
 
 pub use fault::Failed;
+pub use laws::a_printed_walk_is_the_plain_walk;
 pub use program::{run, run_uncounted};
 pub use status::Status;

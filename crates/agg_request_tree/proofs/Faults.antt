@@ -4,13 +4,12 @@ use Rattle.std.proofs.Common.{List, [], Option, None, Some, IfNone, length, get_
 use Rattle.std.proofs.Common.{refl, subst, sym, arith}
 use Rattle.std.specs.List.{All, Any}
 use Rattle.std.proofs.lemmas.Int.{ints}
-use Rattle.std.proofs.lemmas.List.{get_or_default}
 use Rattle.agg_values.specs.TypedKey.{CompositeIntermediateKey}
 use Rattle.agg_values.specs.declared.error.InvalidArgument.TheVariants as argument
 use Rattle.agg_values.specs.declared.request_error.RequestError.{RequestError}
 use Rattle.agg_values.specs.declared.request_error.RequestError.TheVariants as error
-use Rattle.agg_request_tree.specs.Faults.{CompositeHasCause, HasFault, HasInterval, HaveOwnNames}
-use Rattle.agg_request_tree.specs.Faults.{IsIntervalCause, IsIntervalFault, IsNullAfter, IsOtherAfter}
+use Rattle.agg_request_tree.specs.Faults.{HasFault, HasInterval, HaveOwnNames}
+use Rattle.agg_request_tree.specs.Faults.{IsIntervalFault, IsNullAfter, IsOtherAfter}
 use Rattle.agg_request_tree.specs.Faults.{IsSound, IsSoundSource, SourceHasFault, max_sources}
 use Rattle.agg_request_tree.specs.Source.{after_of}
 use Rattle.agg_request_tree.specs.declared.aggregation.CompositeAggregation.{CompositeAggregation}
@@ -20,20 +19,7 @@ use kind.TheVariants.{Histogram}
 use Rattle.agg_request_tree.specs.declared.source.HistogramCompositeAggregationSource as histogram
 use histogram.{HistogramCompositeAggregationSource as Numbers}
 use Rattle.agg_request_tree.proofs.Checks.{no_interval_fault}
-
--- what is so of none of a list is so of nothing in it
-pub none_of_all : {X : Type 0} (P : X → Type 0) (xs : List X) → All (λ x. ¬ (P x)) xs
-    → ¬ (Any P xs)
-none_of_all P xs none (k, x, within, at, is) = none k x within (subst P (sym at) is)
-
--- what is so of nothing in a list is so of none
-pub none_of_any : {X : Type 0} (P : X → Type 0) (xs : List X) → ¬ (Any P xs)
-    → All (λ x. ¬ (P x)) xs
-none_of_any P xs none k x within is = none (k, get_or xs k x, within, again xs k x within, is)
-  where
-    again : {X : Type 0} (xs : List X) (k : ℕ) (x : X) → k < length xs
-        → get_or xs k (get_or xs k x) ≡ get_or xs k x
-    again xs k x within = get_or_default xs k (get_or xs k x) x within
+use Rattle.agg_request_tree.proofs.Lists.{none_of_all, none_of_any}
 
 -- ---- intervals
 
@@ -109,16 +95,6 @@ HasFault-source composite (error.Invalid argument.BadInterval) some = some
 HasFault-source composite (error.Invalid argument.IntervalChoice) some = some
 HasFault-source composite (error.Aggregation part) some = some
 HasFault-source composite error.OutOfMemory some = some
-
--- an interval that is refused refuses the composite
-pub CompositeHasCause-interval : (composite : CompositeAggregation) (refusal : RequestError)
-    → Any (λ s. IsIntervalCause s refusal) composite.sources → CompositeHasCause composite refusal
-CompositeHasCause-interval composite (error.Invalid fault) (k, s, within, at, is) =
-    HasFault-source composite (error.Invalid fault)
-    (k, s, within, at, SourceHasFault-interval s (after_of composite.after s) _ is)
-CompositeHasCause-interval composite (error.Aggregation part) some = some
-CompositeHasCause-interval composite error.OutOfMemory (k, s, within, at, some) =
-    (some.0, (k, s, within, at, some.1))
 
 -- each source of a sound composite is sound
 pub IsSound-sources : (composite : CompositeAggregation) → IsSound composite

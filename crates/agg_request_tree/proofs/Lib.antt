@@ -15,6 +15,7 @@ pub mod PageTuples
 pub mod PageUnique
 pub mod PageWalk
 pub mod PageWhole
+pub mod Pairs
 pub mod ReadColumns
 pub mod RequestTrees
 pub mod SameRequests

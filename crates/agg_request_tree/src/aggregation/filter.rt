@@ -37,7 +37,7 @@ impl FilterAggregation {
 
 impl<B> FilterAggregation<B> {
     /// A filter by a query.
-    pub(crate) fn of(query: FilterQuery<B>) -> FilterAggregation<B>
+    pub fn of(query: FilterQuery<B>) -> FilterAggregation<B>
         ensures { result.query ≡ query }
     {
         FilterAggregation { query }

@@ -1,5 +1,5 @@
 use Rattle.std.proofs.Common.{rules}
-use Rattle.agg_request.proofs.Writable.{holds-members}
+use Rattle.agg_request_json.proofs.NamesBelow.{holds-members}
 use Rattle.agg_request_json.proofs.request.may_hold.Goals as goal
 
 pub returns-then-is_inhabited : goal.returns-then-is_inhabited

@@ -5,7 +5,7 @@ use Rattle.agg_request_tree.proofs.CheckedRequests.{IsCheckedUpTo-all, IsChecked
 use Rattle.agg_request_tree.proofs.CheckedRequests.{IsCheckedUpTo-refused}
 use Rattle.agg_request_tree.proofs.CheckedRequests.{below-cause, each-refusal, sound-aggregation}
 use Rattle.agg_request_tree.proofs.Checks.{passed_on}
-use Rattle.agg_json.proofs.Readings.{when-ok}
+use Rattle.std.proofs.lemmas.Result.{on_ok_weaker}
 use Rattle.agg_request_tree.proofs.check.+checks.Goals as goal
 
 pub check_aggregations-loop-aggregation-preserved
@@ -26,7 +26,7 @@ check_aggregations-returns-in_err-check_aggregation-clause-err g t c =
 
 pub check_aggregation-returns-clause-ok : goal.check_aggregation-returns-clause-ok
 check_aggregation-returns-clause-ok g t c =
-    when-ok c.check_aggregations.result
+    on_ok_weaker c.check_aggregations.result
     (sound-aggregation c.args.aggregation.now c.in_ok-check_own.ensures.ok)
     c.check_aggregations.ensures.ok
 

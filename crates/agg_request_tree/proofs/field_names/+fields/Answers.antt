@@ -2,14 +2,14 @@ use Rattle.std.proofs.Common.{subst, rules}
 use Rattle.agg_request_tree.specs.FieldNames.{HasMore}
 use Rattle.agg_request_tree.proofs.FieldNames.{AreAddedUpTo-all, AreAddedUpTo-more}
 use Rattle.agg_request_tree.proofs.FieldNames.{AreAddedUpTo-none, adds-aggregation}
-use Rattle.agg_json.proofs.Readings.{when-ok}
+use Rattle.std.proofs.lemmas.Result.{on_ok_weaker}
 use Rattle.agg_request_tree.proofs.field_names.+fields.Goals as goal
 
 pub add_aggregation-returns : goal.add_aggregation-returns
 add_aggregation-returns g t c =
     let own = subst (HasMore c.args.names.now c.add_all.new.names)
     c.in_ok-get_fast_field_names.ensures c.in_ok-add_all.ensures in
-    when-ok c.add_request.result
+    on_ok_weaker c.add_request.result
     (adds-aggregation c.args.aggregation.now c.args.names.now c.add_all.new.names
     c.add_request.new.names own) c.add_request.ensures
 

@@ -1,5 +1,5 @@
 use Rattle.std.proofs.Common.{rules, ◌∙◌}
-use Rattle.agg_json.proofs.Pairs.{none-compared, one-ended, one-same, other-left}
+use Rattle.agg_request_tree.proofs.Pairs.{none-compared, one-ended, one-same, other-left}
 use Rattle.agg_request_tree.proofs.same.composite.are_same_keys.Goals as goal
 
 pub loop-entry-init : goal.loop-entry-init

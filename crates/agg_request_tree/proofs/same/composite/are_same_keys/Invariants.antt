@@ -1,4 +1,4 @@
-use Rattle.agg_json.proofs.Pairs.{AreSameSoFar}
+use Rattle.agg_request_tree.proofs.Pairs.{AreSameSoFar}
 use Rattle.agg_request_tree.proofs.same.composite.are_same_keys.Given as goal
 
 abbrev pub invariant-loop-entry : goal.invariant-loop-entry

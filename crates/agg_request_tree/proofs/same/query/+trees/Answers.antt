@@ -1,6 +1,6 @@
 use Rattle.std.proofs.Common.{rules, arith, drop, length, ◌≤◌, ◌+◌, ◌∷◌, ap, sym, ◌∙◌}
 use Rattle.std.proofs.lemmas.List.{drop_all, drop_more, nil_from_length}
-use Rattle.agg_json.proofs.Pairs.{none-compared, one-ended, one-same, other-left}
+use Rattle.agg_request_tree.proofs.Pairs.{none-compared, one-ended, one-same, other-left}
 use Rattle.agg_request_tree.proofs.same.query.+trees.Goals as goal
 
 pub are_same_trees-loop-tree-init : goal.are_same_trees-loop-tree-init

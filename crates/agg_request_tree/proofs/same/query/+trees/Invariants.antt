@@ -1,5 +1,5 @@
 use Rattle.std.proofs.Common.{drop}
-use Rattle.agg_json.proofs.Pairs.{AreSameSoFar}
+use Rattle.agg_request_tree.proofs.Pairs.{AreSameSoFar}
 use Rattle.agg_request_tree.proofs.same.query.+trees.Given as goal
 
 abbrev pub invariant-are_same_trees-loop-tree : goal.invariant-are_same_trees-loop-tree
