@@ -15,7 +15,7 @@ pub returns-in_err-add_document-clause-not_input
 returns-in_err-add_document-clause-not_input c = λ refused document stands.
     let p = err_from_is_err_and c.from_residual-in_err-add_document.result
     c.from_residual-in_err-add_document.ensures.1 in
-    elim (p.2 (cc (refused, p.1))) [
+    elim (p.2.0 (cc (refused, p.1))) [
       | inl many ↦ inl (c.in_err-add_document.ensures.full.0 (ap Err many))
       | inr both ↦
           let same = IsDocumentLine-unique c.args.line.now (meaning c.in_ok-document.document)

@@ -12,7 +12,7 @@ returns-in_err-finish-clause-not_input c = λ refused document stands.
     let opened = c.open_line.new.builder in
     let kept : gathered_documents opened ≡ gathered_documents c.args.builder.now =
     c.in_ok-taken.ensures.documents in
-    elim (p.2 (cc (refused, p.1))) [
+    elim (p.2.0 (cc (refused, p.1))) [
       | inl many ↦ inl (sym (ap length kept) ∙ c.in_err-finish.ensures.full.0 (ap Err many))
       | inr both ↦
           let read : IsDocumentLine c.args.line.now (open_document opened) =

@@ -11,7 +11,7 @@ pub returns-in_err-read_query-in-Some-clause-not_input
 returns-in_err-read_query-in-Some-clause-not_input c = λ refused.
     let p = err_from_is_err_and c.from_residual.result c.from_residual.ensures.1 in
     let none : NoneIs (IsQuery (view c.in-Some.query.now)) =
-    elim (p.2 (cc (refused, p.1))) [
+    elim (p.2.0 (cc (refused, p.1))) [
       | inl unsupported ↦ c.in_err-read_query-in-Some.ensures.none (inl (ap Err unsupported))
       | inr other ↦ elim other [
         | inl grammar ↦ c.in_err-read_query-in-Some.ensures.none (inr (ap Err grammar))

@@ -11,7 +11,7 @@ pub returns-in_err-request-clause-not_input : goal.returns-in_err-request-clause
 returns-in_err-request-clause-not_input g c = λ refused.
     let p = err_from_is_err_and c.from_residual.result c.from_residual.ensures.1 in
     let none : IsNoRequest g.B.HasName.name_of (view c.args.value.now) c.args.builders.items =
-    elim (p.2 (cc (refused, p.1))) [
+    elim (p.2.0 (cc (refused, p.1))) [
       | inl unsupported ↦ c.in_err-request.ensures.none (inl (ap Err unsupported))
       | inr other ↦ elim other [
         | inl grammar ↦ c.in_err-request.ensures.none (inr (inl (ap Err grammar)))
