@@ -1,7 +1,9 @@
 pub mod Composites
 pub mod Headers
 pub mod Inputs
+pub mod KeyMembers
 pub mod LinesLemmas
+pub mod PrintedAfterKeys
 pub mod Queries
 pub mod SnapshotLists
 pub mod SnapshotSteps
