@@ -1,12 +1,13 @@
 -- The bound of a printed after key.
 use Rattle.std.proofs.Common.{◌≡◌, ℕ, List, [], ◌∷◌, Some, Ordering, Less, Equal, Greater, false}
-use Rattle.std.proofs.Common.{inl, inr, length, refl, sym, ap, ◌∙◌, subst, true≢false}
+use Rattle.std.proofs.Common.{codes, inl, inr, length, refl, sym, ap, ◌∙◌, subst, true≢false}
 use Rattle.std.specs.List.{All, AllByRecursion}
 use Rattle.std.specs.List.Sorted.{IsStrictlySortedBy}
 use Rattle.std.specs.Option.{unwrap_or}
 use Rattle.std.specs.Ordering.{match_ordering}
 use Rattle.std.proofs.lemmas.List.Elements.{recursion_from_All}
 use Rattle.serde_json.specs.Data.{Data, object, string}
+use Rattle.serde_json.specs.Find.{get}
 use Rattle.serde_json.specs.Read.{read}
 use Rattle.agg_values.specs.KeyText.{IsKeyText, IsValueText, key_text, value_text}
 use Rattle.agg_values.specs.Names.{Named, name_cmp, put}
@@ -18,7 +19,8 @@ use Rattle.agg_values.proofs.AddressTexts.{IsAddressText-address_text}
 use Rattle.agg_values.proofs.KeyTexts.{IsKeyText-unique, IsSignedText-signed_decimal}
 use Rattle.agg_values.proofs.KeyTexts.{IsUnsignedText-decimal}
 use Rattle.agg_json.specs.Json.{EachNamedIs}
-use Rattle.agg_request_json.specs.CompositeJson.{AreKeys, IsKeyJson}
+use Rattle.agg_request_json.specs.CompositeJson.{AreKeys, IsAfter, IsCompositeJson, IsKeyJson}
+use Rattle.agg_request_tree.specs.declared.aggregation.CompositeAggregation.{CompositeAggregation}
 use Rattle.agg_request_tree.specs.BySource.{after_map}
 use Rattle.agg_request_tree.specs.Faults.{HaveOwnNames}
 use Rattle.agg_request_tree.specs.Occurrences.{bound_of}
@@ -143,7 +145,7 @@ same_after d entries after all is keys =
     (subst (λ m. EachNamedIs (IsKeyJson false) m after) same each)
 
 -- the bound of the printed after key of a tuple is the tuple
-pub printed_after_key-bound : (sources : Sources) (tuple : KeyTuple) (d : Data)
+printed_after_key-bound : (sources : Sources) (tuple : KeyTuple) (d : Data)
     (after : Named AfterKey)
     → HaveOwnNames sources → length tuple ≡ length sources → All IsWithinType tuple
     → read (printed_after_key sources tuple) ≡ Some d → AreKeys false d after
@@ -155,3 +157,13 @@ printed_after_key-bound sources tuple d after own_names whole within reads keys 
     ap (λ o. unwrap_or o d) (sym reads ∙ read-printed sources tuple) in
     ap (bound_of sources) (same_after d entries after each is keys)
     ∙ bound_of-after_map sources tuple own_names whole
+
+-- so it is of a composite whose body has it
+pub composite-bound : (composite : CompositeAggregation) (tuple : KeyTuple) (body d : Data)
+    → HaveOwnNames composite.sources → length tuple ≡ length composite.sources
+    → All IsWithinType tuple → read (printed_after_key composite.sources tuple) ≡ Some d
+    → get (codes "after") body ≡ Some d → IsCompositeJson false body composite
+    → bound_of composite.sources composite.after ≡ tuple
+composite-bound composite tuple body d own_names whole within reads found is =
+    printed_after_key-bound composite.sources tuple d composite.after own_names whole within reads
+    (subst (λ o. IsAfter false o composite.after) found is.after)

@@ -1,8 +1,8 @@
-use Rattle.agg_input.proofs.PrintedAfterKeys.{printed_after_key-bound, printed_after_key-reads}
+use Rattle.agg_input.proofs.PrintedAfterKeys.{composite-bound, printed_after_key-reads}
 use Rattle.agg_input.proofs.laws.a_printed_after_key_gives_its_bound.Goals as goal
 
 pub returns-clause-reads : goal.returns-clause-reads
 returns-clause-reads c = printed_after_key-reads
 
 pub returns-clause-bound : goal.returns-clause-bound
-returns-clause-bound c = printed_after_key-bound
+returns-clause-bound c = composite-bound
