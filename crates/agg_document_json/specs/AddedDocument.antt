@@ -1,14 +1,13 @@
 -- The document of a line, added to a segment in the making.
 use Rattle.std.specs.Prelude.{◌≡◌, ◌⊎◌, ℕ, List, [], ◌∷◌, ◌++◌, length}
 use Rattle.agg_column.specs.Document.{Fields}
-use Rattle.agg_segment.specs.Segment.{Gathered, IsMixed, gathered_documents}
-use Rattle.agg_segment.specs.declared.builder.TheConstants.{MAX_DOCUMENTS}
+use Rattle.agg_segment.specs.Segment.{Gathered, IsMixed, gathered_documents, max_documents}
 use Rattle.agg_document_json.specs.DocumentLine.{IsDocumentLine}
 
 -- a segment of these documents takes no such one
 abbrev pub IsRefused : List Fields → Fields → Type 0
 IsRefused documents document =
-    (length documents ≡ MAX_DOCUMENTS) ⊎ IsMixed (documents ++ document ∷ [])
+    (length documents ≡ max_documents) ⊎ IsMixed (documents ++ document ∷ [])
 
 -- the document of the line stands behind those that a segment in the making held
 pub record HoldsLine (line : List ℕ) (old new : Gathered) : Type 0 where

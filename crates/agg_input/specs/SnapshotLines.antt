@@ -6,8 +6,7 @@ use Rattle.std.specs.List.{All, AllZip, starts_with}
 use Rattle.std.specs.Str.{all_ascii_digits}
 use Rattle.std.specs.Str.Parse.{digits_value}
 use Rattle.agg_column.specs.Document.{Fields}
-use Rattle.agg_segment.specs.Segment.{IsMixed}
-use Rattle.agg_segment.specs.declared.builder.TheConstants.{MAX_DOCUMENTS}
+use Rattle.agg_segment.specs.Segment.{IsMixed, max_documents}
 use Rattle.agg_engine.specs.Snapshot.{SnapshotDocuments}
 use Rattle.agg_document_json.specs.DocumentLine.{IsDocumentLine}
 
@@ -78,7 +77,7 @@ begun_snapshots (begins size ∷ lines) =
 
 -- a segment may hold these documents
 pub record FitSegment (documents : List Fields) : Type 0 where
-  pub few : length documents ≤ MAX_DOCUMENTS
+  pub few : length documents ≤ max_documents
   pub unmixed : ¬ IsMixed documents
 
 -- each segment of a snapshot may hold its documents

@@ -3,7 +3,6 @@ use Rattle.std.specs.Prelude.{◌≡◌, ◌⊎◌, ℕ, List, [], ◌∷◌, �
 use Rattle.std.specs.List.{All}
 use Rattle.agg_column.specs.Document.{Fields}
 use Rattle.agg_segment.specs.Segment.{Gathered, IsMixed, documents_of, gathered_documents}
-use Rattle.agg_segment.specs.declared.builder.TheConstants.{MAX_DOCUMENTS}
 use Rattle.agg_engine.specs.Snapshot.{SnapshotDocuments, snapshots_documents}
 use Rattle.agg_input.specs.declared.snapshots.OpenSnapshot.{OpenSnapshot}
 use Rattle.agg_input.specs.declared.snapshots.SnapshotsBuilder.{SnapshotsBuilder}

@@ -13,9 +13,8 @@ use Rattle.agg_column.specs.Cells.{Placed, Logged, keys_at, number_of, placed, I
 use Rattle.agg_column.specs.Document.{by_class}
 use Rattle.agg_segment.specs.Segment.{gathered_fields, gathered_documents, open_document, no_fields}
 use Rattle.agg_segment.specs.Segment.{builder_cells, IsBuilding, IsMixed}
-use Rattle.agg_segment.specs.Segment.{IsGathered}
+use Rattle.agg_segment.specs.Segment.{IsGathered, max_documents}
 use Rattle.agg_column.specs.Signs.{cell_mark, key_mark, IsFieldSign, AreSigns}
-use Rattle.agg_segment.specs.declared.builder.TheConstants.{MAX_DOCUMENTS}
 use Rattle.agg_column.specs.declared.sign.Sign.{Sign}
 use Rattle.agg_column.specs.declared.sign.Sign.TheVariants.{Small}
 use Rattle.agg_segment.specs.Gatherings.{Raw, raw_placed, IsRaw, AreRawsOf, AreAlike}
@@ -86,7 +85,7 @@ module _ (count : ℕ) (names : List (List ℕ × ℕ)) (cells : List Placed) (g
       (count + 1) (All-weaker (λ (p : Placed). p.doc < count + 1) (λ p. p.doc ≢ count + 1)
       (λ p l same. omega (arith, l, same)) others docs_below))
 
-  pub moved_inv : (signs : List Sign) → length signs ≡ length given → count < MAX_DOCUMENTS
+  pub moved_inv : (signs : List Sign) → length signs ≡ length given → count < max_documents
       → AreSigns signs (map key_mark cells) → (len : ℕ) → len ≡ length others
       → IsGathered (record { count = count + 1; names = names; cells = others }) signs len
   moved_inv signs as_long few are len is =
@@ -233,7 +232,7 @@ module _ (count : ℕ) (names : List (List ℕ × ℕ)) (old : List Sign) (befor
       subst (λ ps. Contains ps p) whole_read (subst (Contains (map read (before ++ more))) is
       (contains_map read (before ++ more) r (alike_contains after (before ++ more) r alike in')))
 
-  pub closed_inv : length signs ≡ length old → count < MAX_DOCUMENTS
+  pub closed_inv : length signs ≡ length old → count < max_documents
       → IsBuilding (count + 1) names signs after new
   closed_inv as_long few =
       let P : Raw → Type 0 = λ r. IsRaw (length log.texts) (length log.addresses) r.class r.number

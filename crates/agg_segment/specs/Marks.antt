@@ -3,10 +3,9 @@ use Rattle.std.specs.Prelude.{◌≡◌, ◌<◌, ◌≤◌, ℕ, List, Bool, fa
 use Rattle.std.specs.List.{list_any, filter, range_with_len}
 use Rattle.agg_values.specs.TypedKey.{CompositeIntermediateKey}
 use Rattle.agg_column.specs.Document.{Fields}
-use Rattle.agg_segment.specs.Segment.{Stored, document_at, documents_of}
+use Rattle.agg_segment.specs.Segment.{Stored, document_at, documents_of, max_documents}
 use Rattle.agg_column.specs.Columns.{StoredColumn, column_keys}
 use Rattle.agg_segment.specs.Query.{is_any, is_value, is_between}
-use Rattle.agg_segment.specs.declared.builder.TheConstants.{MAX_DOCUMENTS}
 use Rattle.agg_segment.specs.declared.query.key_test.KeyTest.{KeyTest}
 use Rattle.agg_segment.specs.declared.query.key_test.KeyTest.TheVariants.{Any, Value, Between}
 
@@ -23,7 +22,7 @@ mark_at marks doc = get_or marks doc false
 -- one mark for each document, which says whether the document is such
 pub record AreMarks (is_such : Fields → Bool) (segment : Stored) (marks : List Bool) : Type 0 where
   pub each : length marks ≡ length (documents_of segment)
-  pub few : length marks ≤ MAX_DOCUMENTS
+  pub few : length marks ≤ max_documents
   pub told : (doc : ℕ) → doc < length marks → mark_at marks doc ≡ is_such (document_at segment doc)
 
 -- whether a document has such a key in a column

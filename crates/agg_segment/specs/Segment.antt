@@ -10,9 +10,12 @@ use Rattle.agg_column.specs.Signs.{sign_of, key_mark, AreSigns}
 use Rattle.agg_column.specs.Columns.{StoredColumn, column_cells}
 use Rattle.agg_column.specs.declared.sign.Sign.{Sign}
 use Rattle.agg_column.specs.declared.sign.Sign.TheVariants.{Negative, Large}
-use Rattle.agg_segment.specs.declared.builder.TheConstants.{MAX_DOCUMENTS}
 use Rattle.agg_values.specs.Names.{Named}
 use Rattle.agg_values.specs.TypedKey.{CompositeIntermediateKey}
+
+-- how many documents a segment may hold
+abbrev pub max_documents : ℕ
+max_documents = 16_777_216
 
 -- what a builder holds: how many documents are closed, the numbers of the fields, and the keys of
 -- all documents
@@ -78,7 +81,7 @@ IsMixed documents =
 -- what is true of a builder: its closed documents come first, each field has one name and number,
 -- and its signs are those of the closed documents
 pub record IsGathered (builder : Gathered) (given : List Sign) (closed : ℕ) : Type 0 where
-  pub few : builder.count ≤ MAX_DOCUMENTS
+  pub few : builder.count ≤ max_documents
   pub within : closed ≤ length builder.cells
   pub before : All (λ p. p.doc < builder.count) (take closed builder.cells)
   pub behind : All (λ p. p.doc ≡ builder.count) (drop closed builder.cells)

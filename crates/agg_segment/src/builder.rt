@@ -3,7 +3,7 @@ ghost use Rattle.std.specs.Prelude.{IsTrue, IfOk, OnOk, OnErr, IsErrOf};
 ghost use Rattle.agg_column.specs.Document.{key_of, meaning};
 ghost use Rattle.agg_segment.specs.Segment.{gathered_documents, open_document};
 ghost use Rattle.agg_segment.specs.Segment.{no_fields, with_key, documents_of};
-ghost use Rattle.agg_segment.specs.Segment.{IsNameOf, IsMixed};
+ghost use Rattle.agg_segment.specs.Segment.{IsNameOf, IsMixed, max_documents};
 ghost use Rattle.agg_segment.specs.declared.builder.BuildError.TheVariants.{OutOfMemory as Memory};
 
 use crate::SegmentReader;
@@ -127,7 +127,7 @@ impl SegmentBuilder {
         ensures opened { OnOk result (open_document self.new ≡ no_fields) }
         ensures fits { OnOk result (¬ IsMixed (gathered_documents self.new)) }
         ensures full { IsErrOf result BuildError.TooManyDocuments
-            ↔ (length (gathered_documents self.old) ≡ MAX_DOCUMENTS) }
+            ↔ (length (gathered_documents self.old) ≡ max_documents) }
         ensures mixed { IsErrOf result BuildError.MixedNumbers
             → IsMixed (gathered_documents self.old ++ open_document self.old ∷ []) }
         ensures err { OnErr result (self.new ≡ self.old) }
@@ -166,7 +166,7 @@ impl SegmentBuilder {
         ensures opened { open_document self.new ≡ no_fields }
         ensures fits { OnOk result (¬ IsMixed (gathered_documents self.new)) }
         ensures full { IsErrOf result BuildError.TooManyDocuments
-            ↔ (length (gathered_documents self.old) ≡ MAX_DOCUMENTS) }
+            ↔ (length (gathered_documents self.old) ≡ max_documents) }
         ensures mixed { IsErrOf result BuildError.MixedNumbers
             → IsMixed (gathered_documents self.old ++ meaning document ∷ []) }
         ensures err { OnErr result (gathered_documents self.new ≡ gathered_documents self.old) }
@@ -186,7 +186,7 @@ impl SegmentBuilder {
 
     fn try_document(&mut self, document: Document) -> Result<(), BuildError>
         requires opened { open_document self.old ≡ no_fields }
-        requires few { length (gathered_documents self.old) ≢ MAX_DOCUMENTS }
+        requires few { length (gathered_documents self.old) ≢ max_documents }
         ensures ok { OnOk result (gathered_documents self.new
             ≡ gathered_documents self.old ++ meaning document ∷ []) }
         ensures opened { OnOk result (open_document self.new ≡ no_fields) }
@@ -214,7 +214,7 @@ impl SegmentBuilder {
     }
 
     fn is_full(&self) -> bool
-        ensures { IsTrue result ↔ (length (gathered_documents self.now) ≡ MAX_DOCUMENTS) }
+        ensures { IsTrue result ↔ (length (gathered_documents self.now) ≡ max_documents) }
     {
         self.count == MAX_DOCUMENTS
     }

@@ -1,9 +1,8 @@
 ghost use Rattle.std.specs.Prelude.{◌≡◌, ◌≤◌, ◌==◌, ℕ, length, filter};
 ghost use Rattle.agg_column.specs.Names.{numbered_names};
 ghost use Rattle.agg_column.specs.Columns.{all_keys, AreInOrder, ClassesAscend};
-ghost use Rattle.agg_segment.specs.Segment.{document_at, documents_of};
+ghost use Rattle.agg_segment.specs.Segment.{document_at, documents_of, max_documents};
 
-use crate::MAX_DOCUMENTS;
 use agg_column::{Column, find_number};
 use agg_values::Text;
 use std::collections::BTreeMap;
@@ -20,16 +19,15 @@ pub struct SegmentReader {
 impl Model for SegmentReader {
     ghost use Rattle.std.specs.Prelude.{◌≤◌};
     ghost use Rattle.agg_column.specs.Columns.{AreInOrder};
-    ghost use Rattle.agg_segment.specs.Segment.{Stored};
+    ghost use Rattle.agg_segment.specs.Segment.{Stored, max_documents};
     ghost use Rattle.agg_column.specs.Names.{numbered_names};
-    ghost use Rattle.agg_segment.specs.declared.builder.TheConstants.{MAX_DOCUMENTS};
 
     ghost Value = { Stored };
 
     ghost view = { λ r.
         record { count = r.count; names = numbered_names r.names; columns = r.columns.items } };
 
-    ghost invariant = { λ r. (r.count ≤ MAX_DOCUMENTS) × AreInOrder r.columns.items };
+    ghost invariant = { λ r. (r.count ≤ max_documents) × AreInOrder r.columns.items };
 }
 
 impl SegmentReader {
@@ -38,7 +36,7 @@ impl SegmentReader {
         names: BTreeMap<String, u32>,
         columns: Vec<Column>,
     ) -> SegmentReader
-        requires few { count ≤ MAX_DOCUMENTS }
+        requires few { count ≤ max_documents }
         requires order { AreInOrder columns.items }
         ensures { result
             ≡ record { count = count; names = numbered_names names; columns = columns.items } }
@@ -53,7 +51,7 @@ impl SegmentReader {
     /// The number of documents.
     pub fn num_docs(&self) -> u32
         ensures count { result ≡ length (documents_of self.now) }
-        ensures bound { result ≤ MAX_DOCUMENTS }
+        ensures bound { result ≤ max_documents }
     {
         self.count
     }

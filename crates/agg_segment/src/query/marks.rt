@@ -4,8 +4,8 @@ ghost use Rattle.std.specs.List.{All, list_any};
 ghost use Rattle.agg_values.specs.TypedKey.{CompositeIntermediateKey};
 ghost use Rattle.agg_segment.specs.Marks.{AreMarks, mark_at, passes, has_key};
 ghost use Rattle.agg_segment.specs.Query.{holds};
+ghost use Rattle.agg_segment.specs.Segment.{max_documents};
 ghost use Rattle.agg_segment.specs.Spans.{is_in, IsSpanOf};
-ghost use Rattle.agg_segment.specs.declared.builder.TheConstants.{MAX_DOCUMENTS};
 
 use super::key_test::{KeyTest, passing_span};
 use super::span::Span;
@@ -44,7 +44,7 @@ pub fn same_marks(
 
 // Marks the documents with a key in a column that passes a test.
 fn mark_passing(marks: &mut [bool], column: &Column, test: KeyTest<'_>)
-    requires { length marks.old ≤ MAX_DOCUMENTS }
+    requires { length marks.old ≤ max_documents }
     ensures each { length marks.new ≡ length marks.old }
     ensures told { (doc : ℕ) → doc < length marks.old
         → mark_at marks.new doc
@@ -57,7 +57,7 @@ fn mark_passing(marks: &mut [bool], column: &Column, test: KeyTest<'_>)
 
 // Marks the documents that have a number of a column in a span.
 fn mark_column(marks: &mut [bool], column: &Column, span: Span)
-    requires { length marks.old ≤ MAX_DOCUMENTS }
+    requires { length marks.old ≤ max_documents }
     ensures each { length marks.new ≡ length marks.old }
     ensures told { (is_such : CompositeIntermediateKey → Bool) (doc : ℕ)
         → IsSpanOf column.now.keys is_such (Some span) → doc < length marks.old

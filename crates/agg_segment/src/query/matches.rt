@@ -22,13 +22,13 @@ pub struct Matches {
 
 impl Model for Matches {
     ghost use Rattle.std.specs.Prelude.{List, Bool, ◌≤◌, length};
-    ghost use Rattle.agg_segment.specs.declared.builder.TheConstants.{MAX_DOCUMENTS};
+    ghost use Rattle.agg_segment.specs.Segment.{max_documents};
 
     ghost Value = { List Bool };
 
     ghost view = { λ m. m.marks.items };
 
-    ghost invariant = { λ m. length m.marks.items ≤ MAX_DOCUMENTS };
+    ghost invariant = { λ m. length m.marks.items ≤ max_documents };
 }
 
 impl Matches {
