@@ -3,13 +3,18 @@
 
 mod builder;
 mod gatherings;
+mod laws;
 mod query;
 mod schema;
 mod segment;
 mod signs;
 
-pub use agg_column::{Column, ColumnType, Document, FieldValue, OrdHit, by_class_keeps_the_keys};
+pub use agg_column::{
+    Column, ColumnType, Document, FieldValue, OrdHit, by_class_keeps_the_keys,
+    values_types_and_hits_are_equal_by_content,
+};
 pub use builder::{BuildError, MAX_DOCUMENTS, SegmentBuilder};
+pub use laws::build_errors_are_equal_by_variant;
 pub use query::{Matches, QueryTree, RangeBound, classes_match_in_any_order};
 pub use schema::Schema;
 pub use segment::SegmentReader;

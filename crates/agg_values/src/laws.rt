@@ -18,7 +18,8 @@ ghost use Rattle.agg_values.specs.declared.order.MissingOrder.TheVariants.{Defau
 use crate::{
     Address, AfterKey, AggregationError, ColumnPaginationOrder, CompositeIntermediateKey,
     CompositeKey, DateHistogramParseError, IntermediateKey, InvalidArgument, Key, KeyTextError,
-    MissingOrder, Order, OrderTarget, RequestError, Text, Tuple,
+    MissingOrder, Order, OrderTarget, OutOfMemory, ProjectedNumber, RequestError, Text, TooMany,
+    Tuple,
 };
 
 /// The order of keys is total, for each order and missing order.
@@ -67,12 +68,23 @@ pub fn equality_is_sameness()
     ensures shown_keys { IsSameness ⟦<CompositeKey as PartialEq>⟧.eq }
     ensures bucket_keys { IsSameness ⟦<Key as PartialEq>⟧.eq }
     ensures intermediate_keys { IsSameness ⟦<IntermediateKey as PartialEq>⟧.eq }
+    ensures orders { IsSameness ⟦<Order as PartialEq>⟧.eq }
+    ensures missing_orders { IsSameness ⟦<MissingOrder as PartialEq>⟧.eq }
+    ensures classes { IsSameness ⟦<ColumnPaginationOrder as PartialEq>⟧.eq }
     ensures order_targets { IsSameness ⟦<OrderTarget as PartialEq>⟧.eq }
+    ensures wants_of_memory { IsSameness ⟦<OutOfMemory as PartialEq>⟧.eq }
+    ensures overflows { IsSameness ⟦<TooMany as PartialEq>⟧.eq }
     ensures key_text_errors { IsSameness ⟦<KeyTextError as PartialEq>⟧.eq }
     ensures invalid_arguments { IsSameness ⟦<InvalidArgument as PartialEq>⟧.eq }
     ensures date_histogram_parse_errors { IsSameness ⟦<DateHistogramParseError as PartialEq>⟧.eq }
     ensures aggregation_errors { IsSameness ⟦<AggregationError as PartialEq>⟧.eq }
     ensures request_errors { IsSameness ⟦<RequestError as PartialEq>⟧.eq }
+{}
+
+/// Equality of projected numbers goes by variant and number, where that of their numbers does.
+pub fn projected_equality_is_sameness<T: PartialEq>()
+    requires { IsSameness T.eq }
+    ensures { IsSameness ⟦<ProjectedNumber<T> as PartialEq>⟧.eq }
 {}
 
 /// The direction is descending, the place of Null follows it, and buckets go by their count, where

@@ -31,7 +31,8 @@ pub use item_list::ItemList;
 pub use key::{IntermediateKey, Key};
 pub use laws::{
     classes_ascend_as_keys, desc_reverses_asc, equality_is_sameness, key_order_is_exact,
-    key_order_is_total, the_defaults, tuple_order_is_exact, tuple_order_is_total,
+    key_order_is_total, projected_equality_is_sameness, the_defaults, tuple_order_is_exact,
+    tuple_order_is_total,
 };
 pub use name_entries::{NameEntries, NameKeys};
 pub use name_map::NameMap;
