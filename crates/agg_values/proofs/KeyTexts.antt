@@ -1,5 +1,5 @@
--- Texts of after keys: what is written reads back, a text is of one key at most, and which refusal
--- it gets.
+-- Texts of after keys: what is written reads back, a text is of one key at most, and any other text
+-- gets its refusal.
 use Rattle.std.proofs.Common.{◌≡◌, ◌≢◌, ℕ, ℤ, pos, negsuc, zero, suc, ◌+◌, ◌*◌, ◌<◌, ◌^◌, Bool}
 use Rattle.std.proofs.Common.{true, false, cond, eqb, List, [], ◌∷◌, ◌++◌, length, get_or, decimal}
 use Rattle.std.proofs.Common.{Option, Some, None, Result, Ok, Err, MatchResult, IfErr, refl}

@@ -90,7 +90,7 @@ module _ {K X : Type 0} {cmp : K → K → Ordering} (total : IsTotalOrder cmp) 
         (sorted_entries es s)) in
         sym (seek_is_Err es i range p.0 p.1)
 
-    -- what lies before a lower key is lower too, and what lies behind a higher one higher
+    -- what lies before a lower key is lower too, and what lies after a higher one higher
     pub all_lower : (es : List (K × X)) (m : ℕ) → IsStrictlySortedBy cmp (keys_of es)
         → m < length es → HoldsAt (λ e. cmp e.0 k ≡ Less) es m
         → AllWithin (λ e. cmp e.0 k ≡ Less) es 0 (m + 1)
@@ -103,9 +103,9 @@ module _ {K X : Type 0} {cmp : K → K → Ordering} (total : IsTotalOrder cmp) 
         → m < length es → HoldsAt (λ e. cmp e.0 k ≡ Greater) es m
         → AllWithin (λ e. cmp e.0 k ≡ Greater) es m (length es)
     all_higher es m s l at j d a b = elim (cases_lt m j) [
-      | inl behind ↦
+      | inl after ↦
           let up : cmp k (get_or es m d).0 ≡ Less = turned total k _ Greater (at d) in
-          let far : cmp k (get_or es j d).0 ≡ Less = total.trans k _ _ up (less_at es m j d s behind
+          let far : cmp k (get_or es j d).0 ≡ Less = total.trans k _ _ up (less_at es m j d s after
           b) in
           total.antisymm _ k ∙ ap ordering_reverse far
       | inr here ↦ let same : j ≡ m = omega arith in rw same (at d)

@@ -29,7 +29,7 @@ ascending_order =
     (then_cmp (on truth_or_number int_cmp)
     (then_cmp (on address_of nat_cmp) (on text_of name_cmp)))
 
--- Null before the values is 0, and behind them 2
+-- Null before the values is 0, and after them 2
 abbrev pub null_side : Order → MissingOrder → ℕ
 null_side order First = 0
 null_side order Last = 2

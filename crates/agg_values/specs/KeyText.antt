@@ -43,12 +43,12 @@ value_text Null = []
 abbrev pub key_text : CompositeIntermediateKey → List ℕ
 key_text key = kind_text key ++ colon ∷ value_text key
 
--- decimal digits behind a plus, a minus or no sign, that write a signed number of 64 bits
+-- decimal digits after a plus, a minus or no sign, that write a signed number of 64 bits
 abbrev pub IsSignedText : List ℕ → ℤ → Type 0
 IsSignedText text n =
     IsNumeral 10 (without_leading_sign text) × FitsSigned w64 n × (n ≡ signed_digits_value 10 text)
 
--- decimal digits behind a plus or no sign, that write an unsigned number of 64 bits
+-- decimal digits after a plus or no sign, that write an unsigned number of 64 bits
 abbrev pub IsUnsignedText : List ℕ → ℕ → Type 0
 IsUnsignedText text n =
     IsNumeral 10 (without_leading_plus text) × (n < 2 ^ 64)

@@ -58,7 +58,7 @@ pub(crate) fn read_address(text: &str) -> Option<Address>
     }
 }
 
-// The number of an address, of an IPv4 address the mapped one's.
+// The number of an address. An IPv4 address has that of the mapped one.
 fn number_of(ip: IpAddr) -> u128
     ensures { groups_of result ≡ ip_groups ip }
 {

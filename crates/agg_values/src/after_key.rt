@@ -14,7 +14,7 @@ use crate::address::read_address;
 use crate::{Address, CompositeIntermediateKey, KeyTextError, OutOfMemory, Text};
 use std::alloc::{AllocError, Global};
 
-/// A key that a page begins behind.
+/// A key that a page begins after.
 #[derive(Debug, Drop, PartialEq)]
 pub struct AfterKey(pub CompositeIntermediateKey);
 

@@ -81,7 +81,7 @@ pub fn equality_is_sameness()
     ensures request_errors { IsSameness ⟦<RequestError as PartialEq>⟧.eq }
 {}
 
-/// Equality of projected numbers goes by variant and number, where that of their numbers does.
+/// Projected numbers are equal by variant and number, where their numbers are by themselves.
 pub fn projected_equality_is_sameness<T: PartialEq>()
     requires { IsSameness T.eq }
     ensures { IsSameness ⟦<ProjectedNumber<T> as PartialEq>⟧.eq }

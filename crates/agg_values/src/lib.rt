@@ -45,5 +45,5 @@ pub use text::Text;
 pub use tuple::Tuple;
 pub use typed_key::{CompositeIntermediateKey, canonical};
 
-/// The place of a document in its segment.
+/// The number of a document in its segment.
 pub type DocId = u32;

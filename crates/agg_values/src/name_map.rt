@@ -51,7 +51,7 @@ impl<T> NameMap<T> {
         *self.entries.allocator()
     }
 
-    /// The value of a name, None exactly where the name isn't held.
+    /// The value of a name, None exactly where it has none.
     pub fn get(&self, name: &Text) -> Option<&T>
         ensures value { option_map (λ v. v.now) result ≡ value_of name.now self.now }
         ensures member { IfSome result (λ v. IsAmong (values_of self.now) v.now) }
@@ -70,7 +70,7 @@ impl<T> NameMap<T> {
         self.entries.len()
     }
 
-    /// Whether no name is held.
+    /// Whether there are no names.
     pub fn is_empty(&self) -> bool
         ensures { result ≡ (length self.now == 0) }
     {
@@ -115,7 +115,7 @@ impl<T: Drop> NameMap<T> {
         }
     }
 
-    /// Takes a value out, None exactly where the name isn't held.
+    /// Takes out the value of a name, None exactly where it has none.
     pub fn remove(&mut self, name: &Text) -> Option<T>
         ensures value { result ≡ value_of name.now self.old }
         ensures rest { self.new ≡ without name.now self.old }

@@ -38,7 +38,7 @@ pub fn composite_intermediate_key_ordering(
         .then(compare_directed(left_opt, right_opt, order))
 }
 
-// Below, at or above 1, as Null stands before the values or behind them; 1 for a value.
+// 0 where Null comes before the values, 2 where it comes after them, and 1 for a value.
 fn null_place(key: &CompositeIntermediateKey, order: Order, missing_order: MissingOrder) -> u8
     ensures { result ≡ null_rank order missing_order key.now }
 {
