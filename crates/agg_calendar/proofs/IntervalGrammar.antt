@@ -91,10 +91,10 @@ to_text text ms e =
       | inr (inr some) ↦ elim (cases_order (length (unit_of text)) 0) [
         | inl none ↦ absurd (apart _ _ ms (no_unit text (omega arith) none) e)
         | inr (inl lt) ↦ absurd (omega arith)
-        | inr (inr behind) ↦ elim (cases_order (digits_value 10 (digits_of text)) (2 ^ 63)) [
+        | inr (inr has_unit) ↦ elim (cases_order (digits_value 10 (digits_of text)) (2 ^ 63)) [
           | inl long ↦ absurd
               (apart _ _ ms (too_long text (omega arith) (omega arith) (omega (arith, long))) e)
-          | inr (inl fits) ↦ within some behind fits
+          | inr (inl fits) ↦ within some has_unit fits
           | inr (inr long) ↦ absurd
               (apart _ _ ms (too_long text (omega arith) (omega arith) (omega (arith, long))) e)
         ]
@@ -105,7 +105,7 @@ to_text text ms e =
         → 0 < length (unit_of text)
         → digits_value 10 (digits_of text) < 2 ^ 63
         → IsIntervalText text ms
-    within some behind fits =
+    within some has_unit fits =
         let count = digits_value 10 (digits_of text) in
         let unit = unit_ms (unit_of text) in
         let read = sym (in_unit text (omega arith) (omega arith) fits) ∙ e in
@@ -127,9 +127,9 @@ from_text text ms (digits, unit, factor, is, numeral, named, fits, small, value)
     let whole = digits ++ unit in
     let parts = cut digits unit factor numeral.1 named in
     let some : length (digits_of whole) ≢ 0 = rw parts.0 (λ e. omega (arith, numeral.0, e)) in
-    let behind : length (unit_of whole) ≢ 0 = rw parts.1 (unit_is_there unit factor named) in
+    let has_unit : length (unit_of whole) ≢ 0 = rw parts.1 (unit_is_there unit factor named) in
     let short : digits_value 10 (digits_of whole) < 2 ^ 63 = rw parts.0 fits in
-    let read = in_unit whole some behind short in
+    let read = in_unit whole some has_unit short in
     rw (is, read, parts.0, parts.1, named, lt-ltb _ _ small, value) refl
 
 pub read_is : (text : List ℕ) (ms : ℤ) → (read_interval text ≡ Ok ms) ↔ IsIntervalText text ms

@@ -18,7 +18,7 @@ use Rattle.agg_calendar.specs.IntervalText.{read_interval, read_offset}
 pub digit_low : (c : ℕ) → is_ascii_digit c ≡ true → IsInRange 48 57 c
 digit_low c h = grind arith
 
--- a text may be cut behind its digits
+-- a text may be cut after its digits
 pub digits_boundary : (text : List ℕ)
     → IsUtf8 text
     → IsCharBoundary text (prefix_len is_ascii_digit text)
@@ -69,8 +69,8 @@ pub too_long : (text : List ℕ)
 unfolding read_interval
 too_long text h k l =
     let some = ne_eqb (length (digits_of text)) 0 h in
-    let behind = ne_eqb (length (unit_of text)) 0 k in
-    rw (some, behind, le-ltb (digits_value 10 (digits_of text)) (2 ^ 63) l) refl
+    let has_unit = ne_eqb (length (unit_of text)) 0 k in
+    rw (some, has_unit, le-ltb (digits_value 10 (digits_of text)) (2 ^ 63) l) refl
 
 -- any other text is read by its unit
 pub in_unit : (text : List ℕ)
@@ -82,8 +82,8 @@ pub in_unit : (text : List ℕ)
 unfolding read_interval
 in_unit text h k l =
     let some = ne_eqb (length (digits_of text)) 0 h in
-    let behind = ne_eqb (length (unit_of text)) 0 k in
-    rw (some, behind, lt-ltb (digits_value 10 (digits_of text)) (2 ^ 63) l) refl
+    let has_unit = ne_eqb (length (unit_of text)) 0 k in
+    rw (some, has_unit, lt-ltb (digits_value 10 (digits_of text)) (2 ^ 63) l) refl
 
 -- a text that no sign begins
 pub unsigned : (text : List ℕ)
@@ -103,13 +103,13 @@ unsigned (c ∷ cs) h k =
     begins c sign cs low e =
         ap (λ b. b ∷ cs) e ∙ sym (ap (λ bs. bs ++ cs) (encode_ascii sign low))
 
--- a text that is not empty is read behind its sign
-pub behind_sign : (text : List ℕ)
+-- a text that is not empty is read after its sign
+pub after_sign : (text : List ℕ)
     → length text ≢ 0
     → read_offset text
     ≡ signed (starts_with_minus text) (read_interval (without_leading_sign text))
 unfolding read_offset
-behind_sign text h = rw (ne_eqb (length text) 0 h) refl
+after_sign text h = rw (ne_eqb (length text) 0 h) refl
 
 -- what is read of a text, case by case
 pub ruleset reading = (no_number, no_unit, too_long, in_unit, digits_are)

@@ -1,4 +1,4 @@
--- What is read of an offset text is an interval text behind a sign or none.
+-- What is read of an offset text is an interval text after a sign or none.
 use Rattle.std.proofs.Common.{◌≡◌, ◌≢◌, ◌↔◌, ◌⊎◌, ℕ, ◌<◌, Bool, true, false, inl, inr}
 use Rattle.std.proofs.Common.{List, [], ◌∷◌, ◌++◌, length, Result, Ok, Err, ℤ, neg_ℤ}
 use Rattle.std.proofs.Common.{refl, sym, ◌∙◌, arith, ne_eqb, if◌then◌else◌}
@@ -10,7 +10,7 @@ use parsing.{DateHistogramParseError}
 use parsing.TheVariants.{InvalidOffset}
 use Rattle.agg_calendar.specs.IntervalText.{read_interval, read_offset, signed}
 use Rattle.agg_calendar.specs.IntervalText.{IsIntervalText, IsOffsetText}
-use Rattle.agg_calendar.proofs.IntervalTexts.{behind_sign, digit_low}
+use Rattle.agg_calendar.proofs.IntervalTexts.{after_sign, digit_low}
 use Rattle.agg_calendar.proofs.IntervalGrammar.{apart, is_digit, read_is}
 
 -- what is read with a sign was read without it
@@ -40,13 +40,13 @@ not_empty c cs e = omega (arith, e)
 
 to_minus : (cs : List ℕ) (ms : ℤ) → read_offset (45 ∷ cs) ≡ Ok ms → IsOffsetText (45 ∷ cs) ms
 to_minus cs ms e =
-    let read = sym (behind_sign (45 ∷ cs) (not_empty 45 cs)) ∙ e in
+    let read = sym (after_sign (45 ∷ cs) (not_empty 45 cs)) ∙ e in
     let found = signed_is true (read_interval cs) ms read in
     (cs, found.0, (read_is cs found.0).0 found.1, inr (inr (refl, found.2)))
 
 to_plus : (cs : List ℕ) (ms : ℤ) → read_offset (43 ∷ cs) ≡ Ok ms → IsOffsetText (43 ∷ cs) ms
 to_plus cs ms e =
-    let read = sym (behind_sign (43 ∷ cs) (not_empty 43 cs)) ∙ e in
+    let read = sym (after_sign (43 ∷ cs) (not_empty 43 cs)) ∙ e in
     let found = signed_is false (read_interval cs) ms read in
     (cs, found.0, (read_is cs found.0).0 found.1, inr (inl (refl, found.2)))
 
@@ -58,7 +58,7 @@ to_plain : (c : ℕ) (cs : List ℕ) (ms : ℤ)
 to_plain c cs ms no_minus no_plus e =
     let text = c ∷ cs in
     let none = no_sign c cs no_minus no_plus in
-    let read = sym (behind_sign text (not_empty c cs)) ∙ e in
+    let read = sym (after_sign text (not_empty c cs)) ∙ e in
     let plain : signed false (read_interval text) ≡ Ok ms = rw (none.1, none.0) at read in
     let found = signed_is false (read_interval text) ms plain in
     (text, found.0, (read_is text found.0).0 found.1, inl (refl, found.2))
@@ -89,16 +89,16 @@ from_plain text ms (d ∷ ds, unit, factor, joined, numeral, named, fits, small,
     let is : IsIntervalText (d ∷ cs) ms =
     (d ∷ ds, unit, factor, refl, numeral, named, fits, small, value) in
     let read : read_interval (d ∷ cs) ≡ Ok ms = (read_is (d ∷ cs) ms).1 is in
-    rw (joined, behind_sign (d ∷ cs) (not_empty d cs), none.1, none.0, read) refl
+    rw (joined, after_sign (d ∷ cs) (not_empty d cs), none.1, none.0, read) refl
 
 from_offset : (text : List ℕ) (ms : ℤ) → IsOffsetText text ms → read_offset text ≡ Ok ms
 from_offset text ms (rest, part, is, inl (e, value)) = rw (e, value) (from_plain rest part is)
 from_offset text ms (rest, part, is, inr (inl (e, value))) =
     let read = (read_is rest part).1 is in
-    rw (e, value, behind_sign (43 ∷ rest) (not_empty 43 rest), read) refl
+    rw (e, value, after_sign (43 ∷ rest) (not_empty 43 rest), read) refl
 from_offset text ms (rest, part, is, inr (inr (e, value))) =
     let read = (read_is rest part).1 is in
-    rw (e, value, behind_sign (45 ∷ rest) (not_empty 45 rest), read) refl
+    rw (e, value, after_sign (45 ∷ rest) (not_empty 45 rest), read) refl
 
 pub offset_is : (text : List ℕ) (ms : ℤ) → (read_offset text ≡ Ok ms) ↔ IsOffsetText text ms
 offset_is text ms = (to_offset text ms, from_offset text ms)

@@ -33,11 +33,11 @@ IsGreatestFirstDay interval day first =
     × (first ≤ℤ day)
     × ((other : ℤ) → IsFirstDay interval other → other ≤ℤ day → other ≤ℤ first)
 
--- the first day of the year that is so many years behind -9999
+-- the first day of the year that is so many years after -9999
 abbrev pub nth_year : ℕ → ℤ
 nth_year n = days_from_civil (pos n -ℤ pos 9999) 1 1
 
--- the first day of the month that is so many months behind January -9999
+-- the first day of the month that is so many months after January -9999
 abbrev pub nth_month : ℕ → ℤ
 nth_month n = days_from_civil (pos (n / 12) -ℤ pos 9999) (n % 12 + 1) 1
 

@@ -1,4 +1,4 @@
--- The texts of intervals and offsets: digits and a unit, behind a sign at offsets.
+-- The texts of intervals and offsets: digits and a unit, after a sign at offsets.
 use Rattle.std.specs.Prelude.{◌≡◌, ℕ, ℤ, pos, neg_ℤ, ◌*◌, ◌^◌, ◌<◌, ◌++◌, List, length, drop}
 use Rattle.std.specs.Prelude.{Bool, ◌⊎◌, ◌==◌, ◌||◌, if◌then◌else◌, nat_lt, codes, take_while}
 use Rattle.std.specs.Prelude.{Option, Some, None, Result, Ok, Err}
@@ -18,7 +18,7 @@ use Rattle.agg_calendar.specs.declared.interval_text.Fault.TheVariants.{UnknownU
 abbrev pub digits_of : List ℕ → List ℕ
 digits_of text = take_while is_ascii_digit text
 
--- what stands behind the digits at the front
+-- what follows the digits at the front
 abbrev pub unit_of : List ℕ → List ℕ
 unit_of text = drop (prefix_len is_ascii_digit text) text
 
@@ -84,14 +84,14 @@ IsIntervalText text ms =
     × (digits_value 10 digits * factor * 1_000_000 < 2 ^ 63)
     × (ms ≡ pos (digits_value 10 digits * factor))
 
--- a text is another behind a sign or none, and a number the other's with that sign
+-- a text is another after a sign or none, and a number the other's with that sign
 abbrev pub IsSigned : List ℕ → ℤ → List ℕ → ℤ → Type 0
 IsSigned text ms rest part =
     ((text ≡ rest) × (ms ≡ part))
     ⊎ (((text ≡ codes "+" ++ rest) × (ms ≡ part))
     ⊎ ((text ≡ codes "-" ++ rest) × (ms ≡ neg_ℤ part)))
 
--- an interval text behind a sign or none, whose milliseconds with that sign these are
+-- an interval text after a sign or none, whose milliseconds with that sign these are
 abbrev pub IsOffsetText : List ℕ → ℤ → Type 0
 IsOffsetText text ms =
     (rest : List ℕ) × (part : ℤ) × IsIntervalText rest part × IsSigned text ms rest part

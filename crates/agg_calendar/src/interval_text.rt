@@ -35,7 +35,7 @@ pub fn parse_into_milliseconds(alloc: Global, input: &Text) -> Result<i64, Reque
 }
 
 /// The milliseconds of an offset text. Memory is taken for the text of an error alone.
-#[tactic(auto, using(crate::proofs::IntervalTexts::behind_sign))]
+#[tactic(auto, using(crate::proofs::IntervalTexts::after_sign))]
 pub fn parse_offset_into_milliseconds(alloc: Global, input: &Text) -> Result<i64, RequestError>
     ensures value { IsAnswer (in_request (read_offset input.now)) result }
     ensures bound { IfOk
@@ -54,7 +54,7 @@ pub fn parse_offset_into_milliseconds(alloc: Global, input: &Text) -> Result<i64
     }
 }
 
-// Whether a minus stands before a text, and what stands behind its sign.
+// Whether a text begins with a minus, and what follows its sign.
 fn split_sign(text: &str) -> (bool, &str)
     ensures minus { result.0 ≡ starts_with_minus text.now }
     ensures rest { result.1.now ≡ without_leading_sign text.now }
@@ -166,7 +166,7 @@ fn in_ms(count: i64, factor: u32) -> Option<i64>
     Some(ms)
 }
 
-// The digits at the front, and what stands behind them.
+// The digits at the front, and what follows them.
 #[tactic(auto, using(crate::proofs::IntervalTexts::digits_boundary))]
 fn split_digits(text: &str) -> (&str, &str)
     ensures digits { result.0.now ≡ digits_of text.now }

@@ -17,7 +17,7 @@ pub fn interval_texts_are_digits_and_a_unit()
     ensures { (text : List ℕ) (ms : ℤ) → (read_interval text ≡ Ok ms) ↔ IsIntervalText text ms }
 {}
 
-/// What is read of an offset text is an interval text behind a sign or none.
+/// What is read of an offset text is an interval text after a sign or none.
 pub fn offset_texts_are_interval_texts_with_a_sign()
     ensures { (text : List ℕ) (ms : ℤ) → (read_offset text ≡ Ok ms) ↔ IsOffsetText text ms }
 {}
