@@ -211,37 +211,37 @@ ascending_stays (k ∷ keys) up = first_stays k keys up.0
 
 -- ---- a list and its keys by class are permutations
 
--- one key goes behind the classes below its own
-behind : (k : CompositeIntermediateKey) (a b z : Keys) → IsPermutation (b ++ (k ∷ z)) (k ∷ (b ++ z))
+-- one key goes after the classes below its own
+after : (k : CompositeIntermediateKey) (a b z : Keys) → IsPermutation (b ++ (k ∷ z)) (k ∷ (b ++ z))
     → IsPermutation (a ++ (b ++ (k ∷ z))) (k ∷ (a ++ (b ++ z)))
-behind k a b z inner = IsPermutation-trans (a ++ (b ++ (k ∷ z))) (a ++ (k ∷ (b ++ z))) (k
+after k a b z inner = IsPermutation-trans (a ++ (b ++ (k ∷ z))) (a ++ (k ∷ (b ++ z))) (k
     ∷ (a ++ (b ++ z))) (IsPermutation-append_right a (b ++ (k ∷ z)) (k ∷ (b ++ z)) inner)
     (IsPermutation-middle a k (b ++ z))
 
-behind3 : (k : CompositeIntermediateKey) (a b c z : Keys)
+after3 : (k : CompositeIntermediateKey) (a b c z : Keys)
     → IsPermutation (a ++ (b ++ (c ++ (k ∷ z)))) (k ∷ (a ++ (b ++ (c ++ z))))
-behind3 k a b c z =
+after3 k a b c z =
     IsPermutation-trans (a ++ (b ++ (c ++ (k ∷ z)))) (a ++ (k ∷ (b ++ (c ++ z)))) (k
     ∷ (a ++ (b ++ (c ++ z)))) (IsPermutation-append_right a (b ++ (c ++ (k ∷ z))) (k
-    ∷ (b ++ (c ++ z))) (behind k b c z (IsPermutation-middle c k z)))
+    ∷ (b ++ (c ++ z))) (after k b c z (IsPermutation-middle c k z)))
     (IsPermutation-middle a k (b ++ (c ++ z)))
 
-behind4 : (k : CompositeIntermediateKey) (a b c d z : Keys)
+after4 : (k : CompositeIntermediateKey) (a b c d z : Keys)
     → IsPermutation (a ++ (b ++ (c ++ (d ++ (k ∷ z))))) (k ∷ (a ++ (b ++ (c ++ (d ++ z)))))
-behind4 k a b c d z =
+after4 k a b c d z =
     IsPermutation-trans (a ++ (b ++ (c ++ (d ++ (k ∷ z))))) (a ++ (k ∷ (b ++ (c ++ (d ++ z))))) (k
     ∷ (a ++ (b ++ (c ++ (d ++ z)))))
     (IsPermutation-append_right a (b ++ (c ++ (d ++ (k ∷ z)))) (k ∷ (b ++ (c ++ (d ++ z))))
-    (behind3 k b c d z)) (IsPermutation-middle a k (b ++ (c ++ (d ++ z))))
+    (after3 k b c d z)) (IsPermutation-middle a k (b ++ (c ++ (d ++ z))))
 
-behind5 : (k : CompositeIntermediateKey) (a b c d e z : Keys)
+after5 : (k : CompositeIntermediateKey) (a b c d e z : Keys)
     → IsPermutation (a ++ (b ++ (c ++ (d ++ (e ++ (k ∷ z)))))) (k
     ∷ (a ++ (b ++ (c ++ (d ++ (e ++ z))))))
-behind5 k a b c d e z =
+after5 k a b c d e z =
     IsPermutation-trans (a ++ (b ++ (c ++ (d ++ (e ++ (k ∷ z))))))
     (a ++ (k ∷ (b ++ (c ++ (d ++ (e ++ z)))))) (k ∷ (a ++ (b ++ (c ++ (d ++ (e ++ z))))))
     (IsPermutation-append_right a (b ++ (c ++ (d ++ (e ++ (k ∷ z))))) (k
-    ∷ (b ++ (c ++ (d ++ (e ++ z))))) (behind4 k b c d e z)) (IsPermutation-middle a k
+    ∷ (b ++ (c ++ (d ++ (e ++ z))))) (after4 k b c d e z)) (IsPermutation-middle a k
     (b ++ (c ++ (d ++ (e ++ z)))))
 
 into_class : (k : CompositeIntermediateKey) (keys : Keys)
@@ -252,15 +252,15 @@ into_class (key.Bool b) keys = let c : ℕ → Keys = of_class keys in
     IsPermutation-middle (c 0) (key.Bool b) (c 1 ++ (c 2 ++ (c 3 ++ (c 4 ++ (c 5 ++ [])))))
 into_class (key.Str t) keys = let c : ℕ → Keys = of_class keys in
     let z : Keys = c 2 ++ (c 3 ++ (c 4 ++ (c 5 ++ []))) in
-    behind (key.Str t) (c 0) (c 1) z (IsPermutation-middle (c 1) (key.Str t) z)
+    after (key.Str t) (c 0) (c 1) z (IsPermutation-middle (c 1) (key.Str t) z)
 into_class (key.I64 n) keys = let c : ℕ → Keys = of_class keys in
-    behind3 (key.I64 n) (c 0) (c 1) (c 2) (c 3 ++ (c 4 ++ (c 5 ++ [])))
+    after3 (key.I64 n) (c 0) (c 1) (c 2) (c 3 ++ (c 4 ++ (c 5 ++ [])))
 into_class (key.U64 n) keys = let c : ℕ → Keys = of_class keys in
-    behind3 (key.U64 n) (c 0) (c 1) (c 2) (c 3 ++ (c 4 ++ (c 5 ++ [])))
+    after3 (key.U64 n) (c 0) (c 1) (c 2) (c 3 ++ (c 4 ++ (c 5 ++ [])))
 into_class (key.IpAddr a) keys = let c : ℕ → Keys = of_class keys in
-    behind4 (key.IpAddr a) (c 0) (c 1) (c 2) (c 3) (c 4 ++ (c 5 ++ []))
+    after4 (key.IpAddr a) (c 0) (c 1) (c 2) (c 3) (c 4 ++ (c 5 ++ []))
 into_class (key.DateTime n) keys = let c : ℕ → Keys = of_class keys in
-    behind5 (key.DateTime n) (c 0) (c 1) (c 2) (c 3) (c 4) (c 5 ++ [])
+    after5 (key.DateTime n) (c 0) (c 1) (c 2) (c 3) (c 4) (c 5 ++ [])
 
 pub by_class_moves : (keys : Keys) → IsPermutation (by_class keys) keys
 by_class_moves [] = subst (λ ks. IsPermutation ks []) (sym by_class_nil) (IsPermutation-refl [])

@@ -84,7 +84,7 @@ dense_none ends numbers doc l = sym (listed_absent (numbered 0 ends) numbers doc
     (λ i d in'. let below : (get_or (numbered 0 ends) i d).doc < doc =
     numbered_below 0 ends doc (omega (arith, l)) i d in' in λ same. omega (arith, below, same)))
 
--- what is true after some documents: the ends are of documents up to a place, and those behind it
+-- what is true after some documents: the ends are of documents up to a place, and those after it
 -- are of later documents
 pub record AreSoFar (docs : List ℕ) (doc at : ℕ) (ends : List ℕ) : Type 0 where
   pub each : length ends ≡ doc
@@ -92,7 +92,7 @@ pub record AreSoFar (docs : List ℕ) (doc at : ℕ) (ends : List ℕ) : Type 0 
   pub listed : listed_docs 0 (numbered 0 ends) ≡ take at docs
   pub rise : AreEnds 0 (numbered 0 ends)
   pub all : last_end 0 (numbered 0 ends) ≡ at
-  pub behind : (d : ℕ) → at < length docs → doc ≤ get_or docs at d
+  pub after : (d : ℕ) → at < length docs → doc ≤ get_or docs at d
 
 module _ (docs : List ℕ) (rising : IsNonDecreasing docs) (doc from to : ℕ)
     (ends : List ℕ) (so_far : AreSoFar docs doc from ends) (up : from ≤ to)
@@ -116,9 +116,9 @@ module _ (docs : List ℕ) (rising : IsNonDecreasing docs) (doc from to : ℕ)
       same k 0 low (omega (arith, high, up))))
       ∙ ap (λ k. take k docs) there
 
-  behind : (d : ℕ) → to < length docs → doc + 1 ≤ get_or docs to d
-  behind d l =
-      let first : doc ≤ get_or docs from d = so_far.behind d (omega (arith, l, up)) in
+  after : (d : ℕ) → to < length docs → doc + 1 ≤ get_or docs to d
+  after d l =
+      let first : doc ≤ get_or docs from d = so_far.after d (omega (arith, l, up)) in
       let then : get_or docs from d ≤ get_or docs to d = rising from to d up l in
       let apart : get_or docs to d ≢ doc = other d l in
       omega (arith, first, then, apart)
@@ -131,15 +131,15 @@ module _ (docs : List ℕ) (rising : IsNonDecreasing docs) (doc from to : ℕ)
     rise = subst (AreEnds 0) (sym more) (ends_more 0 (numbered 0 ends) end so_far.rise
         (numbered_below 0 ends doc (omega (arith, so_far.each))) (omega (arith, so_far.all, up)));
     all = ap (last_end 0) more ∙ last_more 0 (numbered 0 ends) end;
-    behind = behind;
+    after = after;
   }
 
--- at the end all documents are behind
+-- at the end all documents are after
 at_end : (docs : List ℕ) (doc count at : ℕ) (ends : List ℕ) → AreSoFar docs doc at ends
     → count ≤ doc → All (λ doc. doc < count) docs → at ≡ length docs
 at_end docs doc count at ends so_far past all = elim (cases_lt at (length docs)) [
   | inl left ↦
-      let low : doc ≤ get_or docs at 0 = so_far.behind 0 left in
+      let low : doc ≤ get_or docs at 0 = so_far.after 0 left in
       let high : get_or docs at 0 < count = all at 0 left in
       absurd (omega (arith, low, high, past))
   | inr end ↦ omega (arith, end, so_far.within)

@@ -71,7 +71,7 @@ docs_length each numbers listed few = omega (
 
 module _ (numbers listed : List ℕ) (doc number : ℕ) (few : length listed ≤ length numbers)
     (rising : IsNonDecreasing (range_with_len 0 (length numbers - length listed) ++ listed))
-    (behind : All (λ r. r.0 ≤ doc)
+    (after : All (λ r. r.0 ≤ doc)
     (zip (range_with_len 0 (length numbers - length listed) ++ listed) numbers)) where
   abbrev docs : List ℕ
   docs = range_with_len 0 (length numbers - length listed) ++ listed
@@ -80,7 +80,7 @@ module _ (numbers listed : List ℕ) (doc number : ℕ) (few : length listed ≤
   len = docs_length 0 numbers listed few
 
   below : All (λ d. d ≤ doc) docs
-  below = firsts_all (λ d. d ≤ doc) docs numbers len behind
+  below = firsts_all (λ d. d ≤ doc) docs numbers len after
 
   -- one more for the next document
   next_docs : length listed ≡ 0 → length numbers ≡ doc
@@ -210,25 +210,25 @@ pub filter_front : (p : ℕ → Bool) (docs numbers : List ℕ) (count : ℕ)
     → length docs ≡ length numbers → ((k : ℕ) → k < count → p (get_or docs k 0) ≡ true)
     → ((k : ℕ) → count ≤ k → k < length docs → p (get_or docs k 0) ≡ false)
     → take count (zip docs numbers) ≡ filter (λ r. p r.0) (zip docs numbers)
-filter_front p [] numbers zero same before behind = refl
-filter_front p [] numbers (suc count) same before behind = refl
-filter_front p (d ∷ docs) [] count same before behind = absurd (omega (arith, same))
-filter_front p (d ∷ docs) (n ∷ numbers) zero same before behind =
-    let out : p d ≡ false = behind 0 (omega arith) (omega arith) in
+filter_front p [] numbers zero same before after = refl
+filter_front p [] numbers (suc count) same before after = refl
+filter_front p (d ∷ docs) [] count same before after = absurd (omega (arith, same))
+filter_front p (d ∷ docs) (n ∷ numbers) zero same before after =
+    let out : p d ≡ false = after 0 (omega arith) (omega arith) in
     rw out (filter_front p docs numbers zero (omega (arith, same)) (λ k l. absurd (omega
     (arith, l)))
-    (λ k low l. behind (suc k) (omega arith) (omega (arith, l))))
-filter_front p (d ∷ docs) (n ∷ numbers) (suc count) same before behind =
+    (λ k low l. after (suc k) (omega arith) (omega (arith, l))))
+filter_front p (d ∷ docs) (n ∷ numbers) (suc count) same before after =
     let in' : p d ≡ true = before 0 (omega arith) in
     rw in' (ap (λ r. (d, n) ∷ r) (filter_front p docs numbers count (omega (arith, same))
     (λ k l. before (suc k) (omega (arith, l)))
-    (λ k low l. behind (suc k) (omega (arith, low)) (omega (arith, l)))))
+    (λ k low l. after (suc k) (omega (arith, low)) (omega (arith, l)))))
 
 module _ (numbers listed : List ℕ) (count doc : ℕ) (few : length listed ≤ length numbers)
     (rising : IsNonDecreasing (range_with_len 0 (length numbers - length listed) ++ listed))
     (low : count ≤ length numbers) (before : (k : ℕ) → k < count
     → get_or (range_with_len 0 (length numbers - length listed) ++ listed) k 0 < doc)
-    (behind : (k : ℕ) → count ≤ k → k < length numbers
+    (after : (k : ℕ) → count ≤ k → k < length numbers
     → doc ≤ get_or (range_with_len 0 (length numbers - length listed) ++ listed) k 0) where
   abbrev all : List ℕ
   all = range_with_len 0 (length numbers - length listed) ++ listed
@@ -243,7 +243,7 @@ module _ (numbers listed : List ℕ) (count doc : ℕ) (few : length listed ≤ 
       ∙ zip_take count all numbers
       ∙ filter_front (λ d. nat_lt d doc) all numbers count len (λ k l.
       let under = before k l in grind (arith, nat_tests))
-      (λ k up l. let over = behind k up (omega (arith, l, len)) in grind (arith, nat_tests))
+      (λ k up l. let over = after k up (omega (arith, l, len)) in grind (arith, nat_tests))
 
   pub kept_rise : IsNonDecreasing (range_with_len 0 (length (take count numbers)
       - length (take (count - (length numbers - length listed)) listed))
@@ -251,7 +251,7 @@ module _ (numbers listed : List ℕ) (count doc : ℕ) (few : length listed ≤ 
   kept_rise = subst (λ ds. IsNonDecreasing ds) (sym (docs_take numbers listed count few low))
       (IsNonDecreasingBy-take (λ d. d) count all rising)
 
--- ---- other numbers in the place of those that are there
+-- ---- other numbers that replace those that are there
 
 pub encoded_rows : {K : Type 0} (docs olds news : List ℕ) (f g : ℕ → K)
     → length news ≡ length olds

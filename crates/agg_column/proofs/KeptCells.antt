@@ -31,7 +31,7 @@ filter_map_is f p (x ∷ xs) = step (p (f x)) (filter_map_is f p xs)
     step true ih = ap (λ r. f x ∷ r) ih
     step false ih = ih
 
--- ---- more texts and addresses beside cells
+-- ---- more texts and addresses with the same cells
 
 key_longer : (texts more : List (List ℕ)) (addresses others : List Address) (v : CellValue)
     → IsKept (length texts) (length addresses) v

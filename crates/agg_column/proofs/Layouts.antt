@@ -260,11 +260,11 @@ pub nothing_at : (ends : List DocEnd) (doc at : ℕ) (d : DocEnd) → AreEnds 0 
     → ((i : ℕ) (d : DocEnd) → at ≤ i → i < length ends → nat_lt (get_or ends i d).doc doc ≡ false)
     → (at < length ends → (get_or ends at d).doc ≢ doc)
     → (numbers : List ℕ) → numbers_at (zip (listed_docs 0 ends) numbers) doc ≡ []
-nothing_at ends doc at d are before behind other numbers =
+nothing_at ends doc at d are before after other numbers =
     listed_absent ends numbers doc (not_listed ends doc at are (λ i e low within.
     ltb-true _ _ (before i e low))
     (λ e within. let up : doc ≤ (get_or ends at e).doc =
-    ltb-false _ _ (behind at e (omega arith) within) in
+    ltb-false _ _ (after at e (omega arith) within) in
     let same : (get_or ends at e).doc ≡ (get_or ends at d).doc = ap (λ (f : DocEnd). f.doc)
     (get_or_default ends at e d within) in
     let apart : (get_or ends at e).doc ≢ doc = λ is. other within (sym same ∙ is) in

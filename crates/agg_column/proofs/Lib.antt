@@ -1,9 +1,9 @@
-pub mod Ascending
+pub mod AscendingAddresses
 pub mod Classes
-pub mod Dense
+pub mod DenseEnds
 pub mod FirstNames
-pub mod Growing
-pub mod Kept
+pub mod GrowingNumbers
+pub mod KeptCells
 pub mod Layouts
 pub mod Members
 pub mod Numbers

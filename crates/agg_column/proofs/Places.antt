@@ -22,8 +22,8 @@ use Rattle.agg_column.specs.declared.hit.OrdHit.{OrdHit}
 use Rattle.agg_column.specs.declared.hit.OrdHit.TheVariants.{Exact, Next, AfterLast}
 
 -- a slice of what a box holds
-pub boxed_slice : {X : Type 0} {held given : Vec X Global} {slice : List X}
-    → slice ≡ given.items → given ≡ held → slice ≡ held.items
+pub boxed_slice : {X : Type 0} {boxed given : Vec X Global} {slice : List X}
+    → slice ≡ given.items → given ≡ boxed → slice ≡ boxed.items
 boxed_slice {X} there here = there ∙ ap (λ (v : Vec X Global). v.items) here
 
 apart_less : (o : Ordering) → o ≡ Less → o ≡ Equal → ⊥
@@ -135,9 +135,9 @@ address_hit ns a AfterLast h =
     let len = length-map ns (λ (n : ℕ). let x : Address = record { 0 = n } in x) in
     rw len (addresses_below ns a (length ns) h (omega arith))
 
-pub address_held : (ns : List ℕ) (n : ℕ) → Contains ns n
+pub address_listed : (ns : List ℕ) (n : ℕ) → Contains ns n
     → Contains (addresses ns) (record { 0 = n })
-address_held ns n (k, l, is) =
+address_listed ns n (k, l, is) =
     let len = length-map ns (λ (n : ℕ). let x : Address = record { 0 = n } in x) in (
       k,
       omega (arith, l, len),
@@ -145,8 +145,8 @@ address_held ns n (k, l, is) =
           is,
     )
 
-pub number_held : (ns : List ℕ) (a : Address) → Contains (addresses ns) a → Contains ns a.0
-number_held ns a (k, l, is) =
+pub number_listed : (ns : List ℕ) (a : Address) → Contains (addresses ns) a → Contains ns a.0
+number_listed ns a (k, l, is) =
     let len = length-map ns (λ (n : ℕ). let x : Address = record { 0 = n } in x) in
     let in' : k < length ns = omega (arith, l, len) in
     (k, in', ap (λ (b : Address). b.0) (sym (address_read ns k a in') ∙ is))

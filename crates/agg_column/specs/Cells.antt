@@ -60,13 +60,13 @@ abbrev pub IsWideAsUnsigned : CellValue → Type 0
 IsWideAsUnsigned (cell.U64 n) = 2 ^ 63 ≤ n
 IsWideAsUnsigned _ = ⊤
 
--- the places of a cell are held, and a u64 is one that no i64 can be
+-- the place that a cell names is there, and a u64 is one that no i64 can be
 abbrev pub IsKept : ℕ → ℕ → CellValue → Type 0
 IsKept texts addresses (cell.Str place) = place < texts
 IsKept texts addresses (cell.Ip place) = place < addresses
 IsKept texts addresses value = IsWideAsUnsigned value
 
--- values in order, and the texts and addresses that are kept beside
+-- values in order, and the texts and addresses that they name
 pub record Logged : Type 0 where
   pub texts : List (List ℕ)
   pub addresses : List Address

@@ -163,7 +163,7 @@ impl AddressList {
         }
     }
 
-    /// The place of an address that is held.
+    /// The place of an address of the list.
     pub fn place(&self, address: Address) -> u64
         requires { Contains self.now address }
         ensures within { result < length self.now }

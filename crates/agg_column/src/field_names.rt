@@ -20,7 +20,7 @@ pub struct FieldNames {
     numbers: BTreeMap<String, u32>,
     // The names of the first numbers.
     first: Vec<Text>,
-    // The number behind the one that was asked for last.
+    // The number after the one that was asked for last.
     next: u32,
 }
 
@@ -68,7 +68,7 @@ impl FieldNames {
         }
     }
 
-    // The next number, if it is the name's. The first one comes behind the last.
+    // The next number, if it is the name's. The first one comes after the last.
     fn guess(&self, name: &str) -> Option<u32>
         ensures { IfSome result (λ number. number_of self.now name.now ≡ Some number) }
     {

@@ -24,7 +24,7 @@ pub enum ColumnKeys {
     Dates,
 }
 
-/// Where the numbers of an i64 have their zero.
+/// The number that stands for the zero of an i64.
 pub const FROM_ZERO: u64 = 9_223_372_036_854_775_808;
 
 impl ColumnKeys {

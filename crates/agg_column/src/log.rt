@@ -14,7 +14,7 @@ use std::marker::Model;
 // More cells than these give their memory back.
 const MANY_CELLS: usize = 65_536;
 
-/// What a cell keeps of a value. Texts and addresses are kept beside, and are named by their place.
+/// What a cell keeps of a value. Texts and addresses are kept in lists, and a cell has their place.
 #[derive(Clone, Copy)]
 pub enum CellValue {
     Bool(bool),
@@ -138,6 +138,7 @@ impl Log {
         (texts, addresses)
     }
 }
+
 // What a cell keeps of a value.
 fn keep(
     texts: &mut Texts,

@@ -28,7 +28,7 @@ pub struct DocNumber {
     number: u64,
 }
 
-/// Whose the numbers are.
+/// Which documents the numbers are of.
 #[derive(Drop)]
 pub enum Layout {
     /// Where the numbers of each document end, up to the last that has any.
@@ -44,7 +44,7 @@ pub struct UnevenNumbers {
     layout: Layout,
 }
 
-/// Numbers, and whose they are.
+/// Numbers with their documents.
 #[derive(Drop)]
 pub enum Numbers {
     /// One number alone.
@@ -93,7 +93,7 @@ impl Rows {
         }
     }
 
-    /// Numbers of documents that rise, one for each.
+    /// Numbers of documents that ascend, one for each.
     pub fn of(alloc: Global, docs: &[u32], numbers: Vec<u64>) -> Result<Rows, OutOfMemory>
         requires rising { IsNonDecreasing docs.now }
         requires each { length docs.now ≡ length numbers.items }
@@ -118,7 +118,7 @@ impl Rows {
     }
 }
 
-// Whose the numbers of documents are.
+// Which documents the numbers are of.
 fn layout_of(alloc: Global, docs: &[u32]) -> Result<Layout, OutOfMemory>
     requires { IsNonDecreasing docs.now }
     ensures docs { IfOk result (λ layout. layout_docs layout ≡ docs.now) }
@@ -174,7 +174,7 @@ fn dense_numbers<'a>(numbers: &'a [u64], ends: &[u32], doc: DocId) -> &'a [u64]
     &numbers[start..ends[at] as usize]
 }
 
-// Where the numbers of the document of a number begin.
+// Where the numbers of a document begin.
 fn dense_start(ends: &[u32], doc: usize) -> u32
     requires { doc ≤ length ends.now }
     ensures { result ≡ start_at 0 (numbered 0 ends.now) doc }
@@ -219,7 +219,7 @@ fn count_up_to_last(docs: &[u32]) -> usize
     docs[docs.len() - 1] as usize + 1
 }
 
-// Where each document ends in a list, for so many documents.
+// Where each of so many documents ends in a list.
 fn all_ends(alloc: Global, docs: &[u32], count: usize) -> Result<Vec<u32>, OutOfMemory>
     requires ascending { IsNonDecreasing docs.now }
     requires all { All (λ doc. doc < count) docs.now }
@@ -236,7 +236,7 @@ fn all_ends(alloc: Global, docs: &[u32], count: usize) -> Result<Vec<u32>, OutOf
     Ok(ends)
 }
 
-// Where a document ends that may begin at a place.
+// The first place, from one on, that is not of a document.
 fn past_doc(docs: &[u32], from: usize, doc: usize) -> usize
     requires { from ≤ length docs.now }
     ensures further { from ≤ result }

@@ -10,8 +10,8 @@ use std::marker::Model;
 // How many texts can be found at once. More would cost more time than they save memory.
 const MAX_PLACES: usize = 65_536;
 
-/// Texts in the order in which they came, those that can be found once, seen by contracts as their
-/// list.
+/// Texts in the order in which they came, seen by contracts as their list. One that can be found
+/// is not kept again.
 #[derive(Drop)]
 pub struct Texts {
     alloc: Global,

@@ -105,7 +105,7 @@ module _ (count : ℕ) (names : List (List ℕ × ℕ)) (cells : List Placed) (g
   ended_keys field doc l =
       let none : keys_at (drop closed cells) field doc ≡ [] = keys_none (drop closed cells) field
       doc (All-weaker (λ (p : Placed). p.doc ≡ count) (λ p. p.doc ≢ doc) (λ p is same.
-      omega (arith, is, same, l)) (drop closed cells) inv.behind) in
+      omega (arith, is, same, l)) (drop closed cells) inv.after) in
       sym (append-nil (keys_at (take closed cells) field doc))
       ∙ ap (λ ks. keys_at (take closed cells) field doc ++ ks) (sym none)
       ∙ sym (keys_split (take closed cells) (drop closed cells) field doc)
@@ -309,8 +309,8 @@ module _ (count : ℕ) (names : List (List ℕ × ℕ)) (cells : List Placed) (g
           few = inv.few;
           within = omega (arith, inv.within, length-append cells (p ∷ []));
           before = rw front inv.before;
-          behind = rw back (All-push (λ (q : Placed). q.doc ≡ count) (drop closed cells) p
-              inv.behind refl);
+          after = rw back (All-push (λ (q : Placed). q.doc ≡ count) (drop closed cells) p
+              inv.after refl);
           numbered = inv.numbered;
           apart = inv.apart;
           named = inv.named;

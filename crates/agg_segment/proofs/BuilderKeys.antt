@@ -28,9 +28,9 @@ use Rattle.agg_column.specs.declared.log.CellValue.{CellValue}
 use Rattle.agg_column.specs.declared.log.CellValue.TheVariants as cell
 use Rattle.agg_column.specs.declared.sign.Sign.{Sign}
 use Rattle.agg_column.specs.declared.sign.Sign.TheVariants.{Small, Negative, Large}
-use Rattle.agg_segment.proofs.Closed.{padded}
+use Rattle.agg_segment.proofs.ClosedDocuments.{padded}
 
--- ---- more texts and addresses beside numbers
+-- ---- more texts and addresses with the same numbers
 
 longer_key : (texts more : List (List ℕ)) (addresses others : List Address) (sign : Sign)
     (c : ColumnPaginationOrder) (n : ℕ) → IsRaw (length texts) (length addresses) c n

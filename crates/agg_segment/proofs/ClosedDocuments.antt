@@ -27,10 +27,10 @@ use Rattle.agg_column.proofs.Places.{same_texts}
 use Rattle.agg_column.proofs.Classes.{by_class_nil, by_class_moves}
 use Rattle.agg_column.proofs.Members.{contains_map, from_map, contains_flat, from_flat}
 use Rattle.agg_column.proofs.Members.{contains_filter, from_filter, in_range, none_of}
-use Rattle.agg_segment.proofs.InTheMaking.{keys_no_field, map_same}
-use Rattle.agg_segment.proofs.InTheMaking.{ended_keys}
+use Rattle.agg_segment.proofs.BuilderDocuments.{keys_no_field, map_same}
+use Rattle.agg_segment.proofs.BuilderDocuments.{ended_keys}
 
--- what a field has not is small
+-- a field that has no sign yet is read as small
 pub padded : (signs : List Sign) (i : ℕ) → get_or (signs ++ Small ∷ []) i Small
     ≡ get_or signs i Small
 padded [] zero = refl
@@ -52,7 +52,7 @@ module _ (count : ℕ) (names : List (List ℕ × ℕ)) (cells : List Placed) (g
       (All-weaker (λ (p : Placed). p.doc < count) (λ p. p.doc < count + 1) (λ p l.
       omega (arith, l)) (take closed cells) inv.before)
       (All-weaker (λ (p : Placed). p.doc ≡ count) (λ p. p.doc < count + 1) (λ p is.
-      omega (arith, is)) (drop closed cells) inv.behind))
+      omega (arith, is)) (drop closed cells) inv.after))
 
   -- ---- the open document is closed
 
@@ -264,7 +264,7 @@ module _ (count : ℕ) (names : List (List ℕ × ℕ)) (cells : List Placed) (g
           few = inv.few;
           within = inv.within;
           before = inv.before;
-          behind = inv.behind;
+          after = inv.after;
           numbered = λ n f at. by_name n f at (cases_Bool (bytes_eq name n));
           apart = λ n m f at there. both_names n m f at there (cases_Bool (bytes_eq name n))
               (cases_Bool (bytes_eq name m));
@@ -275,13 +275,13 @@ module _ (count : ℕ) (names : List (List ℕ × ℕ)) (cells : List Placed) (g
           signs = (
             All-weaker (IsFieldSign given) (IsFieldSign (given ++ Small ∷ [])) (λ m is says.
                 padded given m.0 ∙ is says) (map key_mark (take closed cells)) inv.signs.0,
-            λ f l says. rw (padded given f) (inv.signs.1 f (held f (λ small. says (padded given f
+            λ f l says. rw (padded given f) (inv.signs.1 f (known f (λ small. says (padded given f
                 ∙ small))) (λ small. says (padded given f ∙ small))),
           );
         }
       where
-        held : (f : ℕ) → get_or given f Small ≢ Small → f < length given
-        held f says = elim (cases_lt f (length given)) [
+        known : (f : ℕ) → get_or given f Small ≢ Small → f < length given
+        known f says = elim (cases_lt f (length given)) [
           | inl low ↦ low
           | inr past ↦ absurd (says (get_or_past given f Small past))
         ]

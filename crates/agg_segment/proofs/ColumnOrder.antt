@@ -19,12 +19,12 @@ use Rattle.agg_column.specs.Document.{by_class}
 use Rattle.agg_segment.specs.Gatherings.{Raw, raws, column_raws, raw_placed, is_column}
 use Rattle.agg_column.specs.GatheredNumbers.{raw_key}
 use Rattle.agg_segment.specs.Gatherings.{kind_of, AreLinked, AreSorted, AreAlike, AreWide}
-use Rattle.agg_segment.specs.Gatherings.{gathering_places, column_places}
+use Rattle.agg_segment.specs.Gatherings.{gathering_classes, column_classes}
 use Rattle.agg_column.specs.Signs.{sign_of, key_mark, AreSigns}
 use Rattle.agg_segment.specs.declared.gatherings.Gathering.{Gathering}
 use Rattle.agg_column.specs.declared.sign.Sign.{Sign}
 use Rattle.agg_column.specs.declared.sign.Sign.TheVariants.{Small, Negative, Large}
-use Rattle.agg_segment.proofs.Alike.{raw_rank, keys_are, alike_keys}
+use Rattle.agg_segment.proofs.AlikeNumbers.{raw_rank, keys_are, alike_keys}
 use Rattle.agg_column.proofs.Classes.{Ascends, ascending_stays}
 use Rattle.agg_column.proofs.Members.{from_map, from_flat, contains_map}
 use Rattle.agg_segment.proofs.Raws.{filter_none, rank_apart}
@@ -108,19 +108,19 @@ module _ (olds news : List Gathering) (lasts : List ℕ) (linked : AreLinked las
   -- ---- their order is that of the columns made of them
 
   pub in_order : (columns : List StoredColumn) → AreSorted news
-      → column_places columns ≡ gathering_places news → AreInOrder columns
-  in_order columns sorted places i j d low l =
+      → column_classes columns ≡ gathering_classes news → AreInOrder columns
+  in_order columns sorted same i j d low l =
       let none : Gathering = record { field = 0; class = class.Bool; before = 0; rows = [] } in
-      let place : Gathering → ℕ × ℕ = λ g. (g.field, order_rank g.class) in
+      let class_of : Gathering → ℕ × ℕ = λ g. (g.field, order_rank g.class) in
       let mark : StoredColumn → ℕ × ℕ = λ c. (c.field, keys_rank c.keys) in
       let len : length columns ≡ length news =
-      sym (length-map columns mark) ∙ ap length places ∙ length-map news place in
+      sym (length-map columns mark) ∙ ap length same ∙ length-map news class_of in
       let within : j < length news = omega (arith, l, len) in
-      let at : (k : ℕ) → k < length columns → mark (get_or columns k d) ≡ place
+      let at : (k : ℕ) → k < length columns → mark (get_or columns k d) ≡ class_of
       (get_or news k none) =
       λ k in'. sym (get_or-map mark columns k d (mark (get_or columns k d)) in')
-      ∙ ap (λ ps. get_or ps k (mark (get_or columns k d))) places
-      ∙ get_or-map place news k none (mark (get_or columns k d)) (omega (arith, in', len)) in
+      ∙ ap (λ ps. get_or ps k (mark (get_or columns k d))) same
+      ∙ get_or-map class_of news k none (mark (get_or columns k d)) (omega (arith, in', len)) in
       let ai = at i (omega (arith, low, l)) in
       let aj = at j l in
       let fi : (get_or columns i d).field ≡ (get_or news i none).field =

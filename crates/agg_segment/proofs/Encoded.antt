@@ -1,4 +1,4 @@
--- Numbers in the place of those that were gathered, and the keys that they stand for.
+-- Numbers that replace those that were gathered, and the keys that they stand for.
 use Rattle.std.proofs.Common.{◌≡◌, ◌<◌, ◌^◌, ℕ, zero, suc, List, [], ◌∷◌, ◌++◌, length, get_or, map}
 use Rattle.std.proofs.Common.{true}
 use Rattle.std.proofs.Common.{refl, sym, ap, subst, ◌∙◌, arith}
@@ -20,9 +20,9 @@ use Rattle.agg_column.specs.Columns.{named_texts, type_class}
 use Rattle.agg_column.specs.Dictionary.{text_at}
 use Rattle.agg_segment.specs.Gatherings.{Raw, raws, column_raws, kind_of}
 use Rattle.agg_column.specs.GatheredNumbers.{raw_key, keyed_rows}
-use Rattle.agg_segment.specs.Gatherings.{raw_placed, IsWide, IsRaw, gathering_places}
+use Rattle.agg_segment.specs.Gatherings.{raw_placed, IsWide, IsRaw, gathering_classes}
 use Rattle.agg_column.specs.GatheredNumbers.{IsEncodable}
-use Rattle.agg_segment.specs.Gatherings.{column_places}
+use Rattle.agg_segment.specs.Gatherings.{column_classes}
 use Rattle.agg_column.specs.Signs.{sign_of}
 use Rattle.agg_segment.specs.declared.gatherings.Gathering.{Gathering}
 use Rattle.agg_column.specs.declared.hit.ColumnType.TheVariants as kind
@@ -161,7 +161,7 @@ wide_rows texts addresses sign g field keys rows wide is type same =
     ∙ ap (λ k. keyed_rows (raw_key texts addresses k) g.rows) u64)))
     (large_row texts addresses g.rows n has low)
 
--- ---- a column in the place of what was gathered
+-- ---- a column made of what was gathered
 
 cells_of_rows : (field : ℕ) (keys : ColumnKeys) (rows : List (ℕ × ℕ))
     → column_cells (record { field = field; keys = keys; cells = rows })
@@ -237,19 +237,19 @@ next_cells signs texts addresses rest g column done all one so_far =
     (sym (flat_map-append column_raws rest (g ∷ [])))
     ∙ so_far
 
-pub next_places : (rest : List Gathering) (g : Gathering) (column : StoredColumn)
+pub next_classes : (rest : List Gathering) (g : Gathering) (column : StoredColumn)
     (done : List StoredColumn) (all : List (ℕ × ℕ)) → column.field ≡ g.field
     → keys_rank column.keys ≡ order_rank g.class
-    → gathering_places (rest ++ g ∷ []) ++ column_places done ≡ all
-    → gathering_places rest ++ column_places (column ∷ done) ≡ all
-next_places rest g column done all field rank so_far =
-    let place : Gathering → ℕ × ℕ = λ h. (h.field, order_rank h.class) in
+    → gathering_classes (rest ++ g ∷ []) ++ column_classes done ≡ all
+    → gathering_classes rest ++ column_classes (column ∷ done) ≡ all
+next_classes rest g column done all field rank so_far =
+    let class_of : Gathering → ℕ × ℕ = λ h. (h.field, order_rank h.class) in
     ap (λ f. let p : ℕ × ℕ = (f, keys_rank column.keys) in
-    gathering_places rest ++ (p ∷ column_places done)) field
+    gathering_classes rest ++ (p ∷ column_classes done)) field
     ∙ ap (λ r. let p : ℕ × ℕ = (g.field, r) in
-    gathering_places rest ++ (p ∷ column_places done)) rank
-    ∙ sym (append_assoc (gathering_places rest) (place g ∷ []) (column_places done))
-    ∙ ap (λ ps. ps ++ column_places done) (sym (map-append place rest (g ∷ [])))
+    gathering_classes rest ++ (p ∷ column_classes done)) rank
+    ∙ sym (append_assoc (gathering_classes rest) (class_of g ∷ []) (column_classes done))
+    ∙ ap (λ ps. ps ++ column_classes done) (sym (map-append class_of rest (g ∷ [])))
     ∙ so_far
 
 -- ---- all but the last

@@ -16,8 +16,8 @@ use Rattle.agg_column.specs.Cells.{Placed, is_at, keys_at}
 use Rattle.agg_column.specs.Columns.{StoredColumn, column_cells, column_keys, all_keys}
 use Rattle.agg_column.specs.Columns.{numbers_at, encoded_key, keys_rank, IsColumnBefore}
 use Rattle.agg_column.specs.Columns.{AreInOrder, ClassesAscend}
-use Rattle.agg_segment.proofs.InTheMaking.{keys_split}
-use Rattle.agg_column.proofs.Kept.{filter_map_is}
+use Rattle.agg_segment.proofs.BuilderDocuments.{keys_split}
+use Rattle.agg_column.proofs.KeptCells.{filter_map_is}
 
 -- ---- a part of a list that holds what passes
 
@@ -37,7 +37,7 @@ pub part_passes : {X : Type 0} (p : X → Bool) (xs : List X) (from to : ℕ) �
     → from ≤ k → k < to → p (get_or xs k d) ≡ true)
     → ((k : ℕ) (d : X) → to ≤ k → k < length xs → p (get_or xs k d) ≡ false)
     → slice_range xs from to ≡ filter p xs
-part_passes p xs from to up within before here behind =
+part_passes p xs from to up within before here after =
     let there : from + (to - from) ≡ to = omega (arith, up) in
     let front : filter p (take from xs) ≡ [] = filter_none p (take from xs) (λ k d l.
     let low : k < from = omega (arith, l, length-take-le from xs (omega (arith, up, within))) in
@@ -49,7 +49,7 @@ part_passes p xs from to up within before here behind =
     (omega arith) (omega (arith, low, up))))
     in
     let back : filter p (drop to xs) ≡ [] = filter_none p (drop to xs) (λ k d l.
-    rw (get_or-drop to xs k d) (behind (to + k) d (omega arith)
+    rw (get_or-drop to xs k d) (after (to + k) d (omega arith)
     (omega (arith, l, length-drop to xs)))) in
     let rest : filter p (drop from xs) ≡ take (to - from) (drop from xs) =
     ap (filter p) (sym (take-append-drop (to - from) (drop from xs)))

@@ -85,10 +85,10 @@ sign_stays signs marks field sign either are = (
 pub signs_clash : (signs : List Sign) (marks : List (ℕ × Sign)) (field : ℕ) (sign : Sign)
     → field < length signs → sign ≢ Small → get_or signs field Small ≢ Small
     → sign ≢ get_or signs field Small → AreSigns signs marks → HasBoth (marks ++ (field, sign) ∷ [])
-signs_clash signs marks field sign l says held apart are =
-    by_signs sign (get_or signs field Small) says held apart (Contains-push marks (field, sign))
+signs_clash signs marks field sign l says known apart are =
+    by_signs sign (get_or signs field Small) says known apart (Contains-push marks (field, sign))
     (Contains-append_left marks ((field, sign) ∷ []) (field, get_or signs field Small)
-    (are.1 field l held))
+    (are.1 field l known))
   where
     by_signs : (s t : Sign) → s ≢ Small → t ≢ Small → s ≢ t
         → Contains (marks ++ (field, sign) ∷ []) (field, s)
@@ -101,7 +101,7 @@ signs_clash signs marks field sign l says held apart are =
     by_signs Large Negative a b c has other = (field, other, has)
     by_signs Large Large a b c has other = absurd (c refl)
 
--- more numbers behind keep both signs
+-- with more numbers both signs are still there
 pub both_more : (marks more : List (ℕ × Sign)) → HasBoth marks → HasBoth (marks ++ more)
 both_more marks more (field, low, high) = (
   field,

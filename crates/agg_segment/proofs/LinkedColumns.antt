@@ -8,14 +8,14 @@ use Rattle.agg_segment.specs.Gatherings.{IsLast, AreLinked, forgotten}
 use Rattle.agg_segment.specs.declared.gatherings.Gathering.{Gathering}
 
 -- a column is as another, but for its rows
-pub record IsSamePlace (g h : Gathering) : Type 0 where
+pub record IsSameColumn (g h : Gathering) : Type 0 where
   pub field : g.field ≡ h.field
   pub class : g.class ≡ h.class
   pub before : g.before ≡ h.before
 
 module _ (olds news : List Gathering) (as_long : length news ≡ length olds)
     (same : (k : ℕ) (g : Gathering) → k < length olds
-    → IsSamePlace (get_or news k g) (get_or olds k g)) where
+    → IsSameColumn (get_or news k g) (get_or olds k g)) where
   last_stays : (field head bound : ℕ) → bound ≤ length olds → IsLast olds field head bound
       → IsLast news field head bound
   last_stays field head bound low last = record {
@@ -47,13 +47,13 @@ module _ (olds news : List Gathering) (as_long : length news ≡ length olds)
 
 -- one column is given other rows
 pub links_set : (columns : List Gathering) (lasts : List ℕ) (i : ℕ) (x y : Gathering)
-    → i < length columns → x ≡ get_or columns i x → IsSamePlace y x → AreLinked lasts columns
+    → i < length columns → x ≡ get_or columns i x → IsSameColumn y x → AreLinked lasts columns
     → AreLinked lasts (set columns i y)
 links_set columns lasts i x y within is same linked =
     links_stay columns (set columns i y) (length-set columns i y) each lasts linked
   where
     each : (k : ℕ) (g : Gathering) → k < length columns
-        → IsSamePlace (get_or (set columns i y) k g) (get_or columns k g)
+        → IsSameColumn (get_or (set columns i y) k g) (get_or columns k g)
     each k g l = elim (cases_eq k i) [
       | inl here ↦
           let there : get_or (set columns i y) k g ≡ y =

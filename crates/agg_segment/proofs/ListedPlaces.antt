@@ -42,8 +42,8 @@ addresses_all numbers addresses found are k d l =
           (get_or numbers k d)) l),
     )
 
--- what holds of what a list holds
-pub held_on : {X Y : Type 0} (P : Y → Type 0) (f : X → Y) (items : List X) (found : List Y)
+-- what is true of all items of a list is true of those that it contains
+pub listed_all : {X Y : Type 0} (P : Y → Type 0) (f : X → Y) (items : List X) (found : List Y)
     → All (λ x. Contains found (f x)) items → All P found → All (λ x. P (f x)) items
-held_on P f items found held all k d l = All-contains P found (f (get_or items k d)) all
-    (held k d l)
+listed_all P f items found listed all k d l = All-contains P found (f (get_or items k d)) all
+    (listed k d l)

@@ -19,13 +19,13 @@ use Rattle.agg_column.specs.declared.sign.Sign.{Sign}
 use Rattle.agg_column.specs.declared.sign.Sign.TheVariants.{Small}
 use Rattle.agg_segment.specs.Gatherings.{Raw, raw_placed, IsRaw, AreRawsOf, AreAlike}
 use Rattle.agg_column.specs.declared.log.Cell.{Cell}
-use Rattle.agg_segment.proofs.Alike.{alike_contains, alike_back, alike_all, alike_keys}
-use Rattle.agg_segment.proofs.Building.{signed_read, cells_read, cells_raw, dropped, taken}
-use Rattle.agg_segment.proofs.Closed.{all_docs, finish_documents, not_mixed}
+use Rattle.agg_segment.proofs.AlikeNumbers.{alike_contains, alike_back, alike_all, alike_keys}
+use Rattle.agg_segment.proofs.BuilderKeys.{signed_read, cells_read, cells_raw, dropped, taken}
+use Rattle.agg_segment.proofs.ClosedDocuments.{all_docs, finish_documents, not_mixed}
 use Rattle.agg_segment.proofs.Encoded.{front_all, back_all}
-use Rattle.agg_column.proofs.Kept.{marks_are}
-use Rattle.agg_segment.proofs.Marked.{marks_joined}
-use Rattle.agg_segment.proofs.InTheMaking.{keys_none, no_keys_open, map_same}
+use Rattle.agg_column.proofs.KeptCells.{marks_are}
+use Rattle.agg_segment.proofs.FieldSigns.{marks_joined}
+use Rattle.agg_segment.proofs.BuilderDocuments.{keys_none, no_keys_open, map_same}
 use Rattle.agg_column.proofs.Members.{from_map, contains_map}
 
 pub moved_fields : (count : ℕ) (names : List (List ℕ × ℕ)) (cells others : List Placed) (doc : ℕ)
@@ -95,7 +95,7 @@ module _ (count : ℕ) (names : List (List ℕ × ℕ)) (cells : List Placed) (g
         few = omega (arith, few);
         within = omega (arith, is);
         before = rw whole docs_below;
-        behind = rw rest (λ i d l. absurd (omega (arith, l)));
+        after = rw rest (λ i d l. absurd (omega (arith, l)));
         numbered = λ name field at. omega (arith, as_long, inv.numbered name field at);
         apart = inv.apart;
         named = λ field l. inv.named field (omega (arith, l, as_long));
@@ -121,7 +121,7 @@ discard_inv count names cells given closed inv =
       few = inv.few;
       within = omega (arith, len);
       before = rw whole inv.before;
-      behind = rw rest (λ i d l. absurd (omega (arith, l)));
+      after = rw rest (λ i d l. absurd (omega (arith, l)));
       numbered = inv.numbered;
       apart = inv.apart;
       named = inv.named;
@@ -139,7 +139,7 @@ open_marks signs rs log cells are =
     marks_are log.texts log.addresses cells ∙ ap (map key_mark) (are
     ∙ sym (dropped (raw_placed signs log.texts log.addresses) rs log.cells))
 
--- and so are they behind those of the closed documents
+-- with those of the closed documents they are the marks of all keys
 pub all_marks : (signs : List Sign) (rs : List Raw) (log : Logged) (cells : List Cell)
     → map (placed log.texts log.addresses) cells ≡ log.cells
     → map key_mark (take (length rs) (builder_cells signs rs log)) ++ map cell_mark cells
@@ -195,7 +195,7 @@ module _ (count : ℕ) (names : List (List ℕ × ℕ)) (old : List Sign) (befor
   opened : map read more ≡ log.cells
   opened =
       let docs : All (λ p. p.doc ≡ count) log.cells =
-      subst (All (λ (p : Placed). p.doc ≡ count)) (dropped was before log.cells) inv.0.behind in
+      subst (All (λ (p : Placed). p.doc ≡ count)) (dropped was before log.cells) inv.0.after in
       cells_read signs log.texts log.addresses count cells more rows
       (subst (All (λ (p : Placed). p.doc ≡ count)) (sym are) docs)
       (subst (All (IsFieldSign signs)) (sym (marks_are log.texts log.addresses cells

@@ -19,17 +19,17 @@ use Rattle.agg_column.specs.Dictionary.{text_at, last_text, HasOrdinal}
 
 above_last : (text last : List ℕ) (o : Ordering) → name_cmp last text ≡ o
     → name_cmp text last ≢ Less → (last ≡ text → ⊥) → o ≡ Less
-above_last text last Less is behind other = refl
-above_last text last Equal is behind other = absurd (other (exact_bytes last text is))
-above_last text last Greater is behind other =
-    absurd (behind (nat_list_cmp_total.antisymm text last ∙ ap ordering_reverse is))
+above_last text last Less is after other = refl
+above_last text last Equal is after other = absurd (other (exact_bytes last text is))
+above_last text last Greater is after other =
+    absurd (after (nat_list_cmp_total.antisymm text last ∙ ap ordering_reverse is))
 
 -- a text that isn't below the last, and isn't the last
 pub pushed_ascends : (found : List (List ℕ)) (text : List ℕ) → IsStrictlySortedBy name_cmp found
     → (0 < length found → name_cmp text (last_text found) ≢ Less)
     → (0 < length found → last_text found ≡ text → ⊥)
     → IsStrictlySortedBy name_cmp (found ++ text ∷ [])
-pushed_ascends found text sorted behind other =
+pushed_ascends found text sorted after other =
     sorted_from_all_adjacent nat_list_cmp_total (found ++ text ∷ []) [] (λ k l.
     elim (cases_lt (k + 1) (length found)) [
       | inl below ↦ rw (
@@ -47,7 +47,7 @@ pushed_ascends found text sorted behind other =
             get_or_push found text [] (k + 1) end,
             here,
           ) (above_last text (last_text found) (name_cmp (last_text found) text) refl
-          (behind some) (other some))
+          (after some) (other some))
     ])
 
 pub pushed_last : (found : List (List ℕ)) (text : List ℕ)
@@ -80,10 +80,10 @@ none_numbered texts places ordinals each = record {
 module _ (texts : List (List ℕ)) (places : List ℕ) (at : ℕ) (ordinals : List ℕ)
     (found : List (List ℕ)) (so_far : AreNumbered texts places at ordinals found) where
   -- the next text isn't below the last
-  pub next_behind : IsSortedBy (λ a b. is_lt (name_cmp (text_at texts a) (text_at texts b))) places
+  pub next_after : IsSortedBy (λ a b. is_lt (name_cmp (text_at texts a) (text_at texts b))) places
       → at < length places → 0 < length found
       → name_cmp (text_at texts (get_or places at 0)) (last_text found) ≢ Less
-  next_behind sorted within some below =
+  next_after sorted within some below =
       let (more, same) = so_far.last some in
       let next : (at - 1) + 1 ≡ at = omega (arith, more) in
       let text : List ℕ = text_at texts (get_or places at 0) in

@@ -12,7 +12,7 @@ use Rattle.agg_values.specs.Names.{name_cmp}
 use Rattle.agg_values.specs.declared.address.Address.{Address}
 use Rattle.agg_column.specs.Columns.{type_of, texts_of, addresses_of}
 use Rattle.agg_column.specs.Dictionary.{IsHit, address_cmp}
-use Rattle.agg_segment.specs.Spans.{place_cmp, IsPlaceOf}
+use Rattle.agg_segment.specs.Spans.{hit_cmp, IsHitOf}
 use Rattle.agg_column.specs.declared.document.FieldValue.TheVariants as value
 use Rattle.agg_column.specs.declared.hit.ColumnType.TheVariants as kind
 use Rattle.agg_column.specs.declared.hit.OrdHit.{OrdHit}
@@ -21,10 +21,10 @@ use Rattle.agg_column.specs.declared.keys.ColumnKeys.{ColumnKeys}
 use Rattle.agg_column.specs.declared.keys.ColumnKeys.TheVariants.{Bools, Texts, Signed, Unsigned}
 use Rattle.agg_column.specs.declared.keys.ColumnKeys.TheVariants.{Addresses, Dates}
 
-next_less : (n place : ℕ) → n < place → place_cmp (Next place) n ≡ Less
+next_less : (n place : ℕ) → n < place → hit_cmp (Next place) n ≡ Less
 next_less n place l = grind (arith, nat_tests)
 
-next_greater : (n place : ℕ) → place ≤ n → place_cmp (Next place) n ≡ Greater
+next_greater : (n place : ℕ) → place ≤ n → hit_cmp (Next place) n ≡ Greater
 next_greater n place l = grind (arith, nat_tests)
 
 module _ {X : Type 0} {cmp : X → X → Ordering} (o : IsTotalOrder cmp) where
@@ -34,11 +34,11 @@ module _ {X : Type 0} {cmp : X → X → Ordering} (o : IsTotalOrder cmp) where
   turned_back : (x y : X) → cmp x y ≡ Greater → cmp y x ≡ Less
   turned_back x y greater = o.antisymm y x ∙ ap ordering_reverse greater
 
-  -- items that ascend compare with a value as their places do with its place
-  place_from_hit : (items : List X) (x : X) (hit : OrdHit) → IsStrictlySortedBy cmp items
+  -- items that ascend compare with a value as their places do with its hit
+  cmp_from_hit : (items : List X) (x : X) (hit : OrdHit) → IsStrictlySortedBy cmp items
       → IsHit cmp items x hit → (n : ℕ) (d : X) → n < length items
-      → cmp (get_or items n d) x ≡ place_cmp hit n
-  place_from_hit items x (Exact place) sorted (within, below, at) n d l =
+      → cmp (get_or items n d) x ≡ hit_cmp hit n
+  cmp_from_hit items x (Exact place) sorted (within, below, at) n d l =
       by_ranked (n < place) (n ≡ place) (place < n) (nat_cmp n place)
       (ranked n place (nat_cmp n place) refl)
       (λ e before. below n before d ∙ sym e)
@@ -46,7 +46,7 @@ module _ {X : Type 0} {cmp : X → X → Ordering} (o : IsTotalOrder cmp) where
       ∙ tied_itself o x ∙ sym e)
       (λ e past. turned x (get_or items n d) (subst (λ y. cmp y (get_or items n d) ≡ Less) (at d)
       (Less-from_sorted cmp items place n d sorted past l)) ∙ sym e)
-  place_from_hit items x (Next place) sorted (within, below, at) n d l =
+  cmp_from_hit items x (Next place) sorted (within, below, at) n d l =
       by_ranked (n < place) (n ≡ place) (place < n) (nat_cmp n place)
       (ranked n place (nat_cmp n place) refl)
       (λ e before. below n before d ∙ sym (next_less n place before))
@@ -55,34 +55,34 @@ module _ {X : Type 0} {cmp : X → X → Ordering} (o : IsTotalOrder cmp) where
       (λ e past. turned x (get_or items n d) (o.trans x (get_or items place d) (get_or items n d)
       (turned_back (get_or items place d) x (at d)) (Less-from_sorted cmp items place n d sorted
       past l)) ∙ sym (next_greater n place (omega (arith, past))))
-  place_from_hit items x AfterLast sorted below n d l = below n l d
+  cmp_from_hit items x AfterLast sorted below n d l = below n l d
 
 then_nothing : (o : Ordering) → ordering_then o Equal ≡ o
 then_nothing Less = refl
 then_nothing Equal = refl
 then_nothing Greater = refl
 
--- the place of a text is that among the numbers of the column
-pub text_place : (keys : ColumnKeys) (text : List ℕ) (hit : OrdHit) → type_of keys ≡ kind.Str
+-- the hit of a text is that among the numbers of the column
+pub text_hit : (keys : ColumnKeys) (text : List ℕ) (hit : OrdHit) → type_of keys ≡ kind.Str
     → IsStrictlySortedBy name_cmp (texts_of keys) → IsHit name_cmp (texts_of keys) text hit
-    → IsPlaceOf keys (value.Str text) hit
-text_place Bools text hit is = absurd (cc)
-text_place (Texts texts) text hit is = λ sorted found n within. place_from_hit nat_list_cmp_total
+    → IsHitOf keys (value.Str text) hit
+text_hit Bools text hit is = absurd (cc)
+text_hit (Texts texts) text hit is = λ sorted found n within. cmp_from_hit nat_list_cmp_total
     texts text hit sorted found n _ within.1
-text_place Signed text hit is = absurd (cc)
-text_place Unsigned text hit is = absurd (cc)
-text_place (Addresses addresses) text hit is = absurd (cc)
-text_place Dates text hit is = absurd (cc)
+text_hit Signed text hit is = absurd (cc)
+text_hit Unsigned text hit is = absurd (cc)
+text_hit (Addresses addresses) text hit is = absurd (cc)
+text_hit Dates text hit is = absurd (cc)
 
 -- the same of an address
-pub address_place : (keys : ColumnKeys) (address : Address) (hit : OrdHit)
+pub address_hit : (keys : ColumnKeys) (address : Address) (hit : OrdHit)
     → type_of keys ≡ kind.IpAddr → IsStrictlySortedBy address_cmp (addresses_of keys)
-    → IsHit address_cmp (addresses_of keys) address hit → IsPlaceOf keys (value.Ip address) hit
-address_place Bools address hit is = absurd (cc)
-address_place (Texts texts) address hit is = absurd (cc)
-address_place Signed address hit is = absurd (cc)
-address_place Unsigned address hit is = absurd (cc)
-address_place (Addresses addresses) address hit is = λ sorted found n within.
-    then_nothing _ ∙ place_from_hit (on_total (λ (a : Address). a.0) nat_cmp_total) addresses
+    → IsHit address_cmp (addresses_of keys) address hit → IsHitOf keys (value.Ip address) hit
+address_hit Bools address hit is = absurd (cc)
+address_hit (Texts texts) address hit is = absurd (cc)
+address_hit Signed address hit is = absurd (cc)
+address_hit Unsigned address hit is = absurd (cc)
+address_hit (Addresses addresses) address hit is = λ sorted found n within.
+    then_nothing _ ∙ cmp_from_hit (on_total (λ (a : Address). a.0) nat_cmp_total) addresses
     address hit sorted found n _ within.1
-address_place Dates address hit is = absurd (cc)
+address_hit Dates address hit is = absurd (cc)

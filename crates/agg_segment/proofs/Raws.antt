@@ -59,7 +59,7 @@ filter_every p [] every = refl
 filter_every {X} p (x ∷ xs) every = rw (All-head (λ (y : X). p y ≡ true) x xs every)
     (ap (λ r. x ∷ r) (filter_every p xs (All-tail (λ (y : X). p y ≡ true) x xs every)))
 
--- ---- a number put behind those of its column
+-- ---- a number put after those of its column
 
 -- the numbers of other columns
 apart_raws : (r : Raw) (columns : List Gathering) → ((k : ℕ) (g : Gathering) → k < length columns
@@ -206,16 +206,16 @@ rows_below (c ∷ columns) zero x doc l is all =
     of_column (s ∷ rows) all (suc k) d l = of_column rows (λ j e in'. all (suc j) e
         (omega (arith, in'))) k d (omega (arith, l))
 rows_below (c ∷ columns) (suc i) x doc l is all = rows_below columns i x doc (omega (arith, l)) is
-    (behind c.rows all)
+    (after c.rows all)
   where
-    behind : (rows : List (ℕ × ℕ)) → All (λ r. r.doc ≤ doc) (map (λ s. let t : Raw = record {
+    after : (rows : List (ℕ × ℕ)) → All (λ r. r.doc ≤ doc) (map (λ s. let t : Raw = record {
       field = c.field;
       class = c.class;
       doc = s.0;
       number = s.1;
     } in t) rows ++ raws columns) → All (λ r. r.doc ≤ doc) (raws columns)
-    behind [] all = all
-    behind (s ∷ rows) all = behind rows (λ j e in'. all (suc j) e (omega (arith, in')))
+    after [] all = all
+    after (s ∷ rows) all = after rows (λ j e in'. all (suc j) e (omega (arith, in')))
 
 pub set_same : (columns : List Gathering) (i : ℕ) (x : Gathering) (rows : List (ℕ × ℕ))
     → x ≡ get_or columns i x → rows ≡ x.rows → set columns i (record {

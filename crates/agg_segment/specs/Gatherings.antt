@@ -49,7 +49,7 @@ AreAlike xs ys =
     (field rank doc : ℕ)
     → filter (is_raw_of field rank doc) xs ≡ filter (is_raw_of field rank doc) ys
 
--- a column without the numbers of a document and of those behind it
+-- a column without the numbers of a document and of those after it
 abbrev pub forgotten : ℕ → Gathering → Gathering
 forgotten doc column = record {
   field = column.field;
@@ -62,7 +62,7 @@ forgotten doc column = record {
 abbrev pub AreApart : Raw → Raw → Type 0
 AreApart r s = r.field ≡ s.field → r.class ≡ s.class → ⊥
 
--- a number is put behind the others of its column
+-- a number is put after the others of its column
 pub record IsPutInto (old : List Raw) (r : Raw) (new : List Raw) : Type 0 where
   pub before : List Raw
   pub after : List Raw
@@ -91,7 +91,7 @@ pub record IsRawOf (doc : ℕ) (c : Cell) (r : Raw) : Type 0 where
 abbrev pub AreRawsOf : ℕ → List Cell → List Raw → Type 0
 AreRawsOf doc = AllZip (IsRawOf doc)
 
--- the column of a field that a place names, the place after it, is its last one before a bound
+-- a head is the place after that of a field's last column before a bound, 0 where there is none
 pub record IsLast (columns : List Gathering) (field head bound : ℕ) : Type 0 where
   pub within : head ≤ bound
   pub none : (k : ℕ) (g : Gathering) → head ≤ k → k < bound → (get_or columns k g).field ≢ field
@@ -157,9 +157,10 @@ IsWide sign column =
 abbrev pub AreWide : List Sign → List Gathering → Type 0
 AreWide signs columns = All (λ g. IsWide (get_or signs g.field Small) g) columns
 
--- the fields and classes of columns
-abbrev pub gathering_places : List Gathering → List (ℕ × ℕ)
-gathering_places columns = map {B = ℕ × ℕ} (λ g. (g.field, order_rank g.class)) columns
+-- the fields and classes of gathered columns
+abbrev pub gathering_classes : List Gathering → List (ℕ × ℕ)
+gathering_classes columns = map {B = ℕ × ℕ} (λ g. (g.field, order_rank g.class)) columns
 
-abbrev pub column_places : List StoredColumn → List (ℕ × ℕ)
-column_places columns = map {B = ℕ × ℕ} (λ c. (c.field, keys_rank c.keys)) columns
+-- the fields and classes of columns that are encoded
+abbrev pub column_classes : List StoredColumn → List (ℕ × ℕ)
+column_classes columns = map {B = ℕ × ℕ} (λ c. (c.field, keys_rank c.keys)) columns

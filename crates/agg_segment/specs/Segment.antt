@@ -55,12 +55,12 @@ pub record Stored : Type 0 where
   pub names : Named ℕ
   pub columns : List StoredColumn
 
--- the document at a place
+-- the document of a number
 abbrev pub document_at : Stored → ℕ → Fields
 document_at segment doc field =
     named_keys segment.names (flat_map column_cells segment.columns) doc field
 
--- the documents at places
+-- the documents of these numbers
 abbrev pub documents_at : Stored → List ℕ → List Fields
 documents_at segment docs = map (document_at segment) docs
 
@@ -84,7 +84,7 @@ pub record IsGathered (builder : Gathered) (given : List Sign) (closed : ℕ) : 
   pub few : builder.count ≤ max_documents
   pub within : closed ≤ length builder.cells
   pub before : All (λ p. p.doc < builder.count) (take closed builder.cells)
-  pub behind : All (λ p. p.doc ≡ builder.count) (drop closed builder.cells)
+  pub after : All (λ p. p.doc ≡ builder.count) (drop closed builder.cells)
   pub numbered : (name : List ℕ) (field : ℕ) → IsNameOf builder field name → field < length given
   pub apart : (name other : List ℕ) (field : ℕ)
       → IsNameOf builder field name → IsNameOf builder field other → name ≡ other

@@ -14,21 +14,21 @@ use Rattle.agg_column.specs.declared.hit.OrdHit.TheVariants.{Exact, Next, AfterL
 use Rattle.agg_column.specs.declared.keys.ColumnKeys.{ColumnKeys}
 use Rattle.agg_segment.specs.declared.query.span.Span.{Span}
 
--- how a number compares with a value that stands at a place
-abbrev pub place_cmp : OrdHit → ℕ → Ordering
-place_cmp (Exact place) n = nat_cmp n place
-place_cmp (Next place) n = if nat_lt n place then Less else Greater
-place_cmp AfterLast n = Less
+-- how a number compares with a value that has a hit
+abbrev pub hit_cmp : OrdHit → ℕ → Ordering
+hit_cmp (Exact place) n = nat_cmp n place
+hit_cmp (Next place) n = if nat_lt n place then Less else Greater
+hit_cmp AfterLast n = Less
 
 -- a number of a column
 abbrev pub IsColumnNumber : ColumnKeys → ℕ → Type 0
 IsColumnNumber keys n = (n < 2 ^ 64) × StandsForKey keys n
 
--- the numbers of a column compare with a place as their keys do with the value
-abbrev pub IsPlaceOf : ColumnKeys → FieldValue → OrdHit → Type 0
-IsPlaceOf keys value place =
+-- the numbers of a column compare with a hit as their keys do with the value
+abbrev pub IsHitOf : ColumnKeys → FieldValue → OrdHit → Type 0
+IsHitOf keys value hit =
     (n : ℕ) → IsColumnNumber keys n
-    → ascending_order (encoded_key keys n) (key_of value) ≡ place_cmp place n
+    → ascending_order (encoded_key keys n) (key_of value) ≡ hit_cmp hit n
 
 -- whether a number is in a span
 abbrev pub is_in : Span → ℕ → Bool

@@ -20,7 +20,7 @@ use std::marker::Model;
 pub struct Gathering {
     field: u32,
     class: ColumnPaginationOrder,
-    // The place after that of the field's column before, 0 for none.
+    // The place after that of the field's previous column, 0 for none.
     before: u32,
     rows: GrowingRows,
 }
@@ -55,9 +55,9 @@ impl Gatherings {
         }
     }
 
-    /// Appends the cells of a document that is behind all others.
+    /// Appends the cells of a document that comes after all others.
     pub fn add_all(&mut self, alloc: Global, doc: u32, cells: &[Cell]) -> Result<(), OutOfMemory>
-        requires behind { All (λ r. r.doc < doc) self.old }
+        requires after { All (λ r. r.doc < doc) self.old }
         requires wide { All (λ c. IsWideAsUnsigned c.value) cells.now }
         ensures ok { OnOk result ((more : List Raw)
             × AreRawsOf doc cells.now more × AreAlike self.new (self.old ++ more)) }
@@ -74,7 +74,7 @@ impl Gatherings {
 
     // Appends a cell of the last document.
     fn add(&mut self, alloc: Global, doc: u32, cell: &Cell) -> Result<(), OutOfMemory>
-        requires behind { All (λ r. r.doc ≤ doc) self.old }
+        requires after { All (λ r. r.doc ≤ doc) self.old }
         requires wide { IsWideAsUnsigned cell.now.value }
         ensures ok { OnOk result ((r : Raw)
             × IsRawOf doc cell.now r × IsPutInto self.old r self.new) }
@@ -87,7 +87,7 @@ impl Gatherings {
             .push(alloc, doc, number_of(cell.value))
     }
 
-    // Forgets the numbers of a document and of those behind it.
+    // Forgets the numbers of a document and of those after it.
     fn forget(&mut self, doc: u32)
         ensures { self.new ≡ filter (λ r. nat_lt r.doc doc) self.old }
     {
@@ -95,7 +95,7 @@ impl Gatherings {
     }
 }
 
-// Forgets the numbers of a document and of those behind it in columns.
+// Forgets the numbers of a document and of those after it in columns.
 fn forget_in(columns: &mut [Gathering], doc: u32)
     ensures { columns.new ≡ map (forgotten doc) columns.old }
 {

@@ -1,10 +1,10 @@
 ghost use Rattle.std.specs.Prelude.{◌≡◌, IfOk};
 
+mod hit;
 mod key_test;
 mod laws;
 mod marks;
 mod matches;
-mod place;
 mod span;
 
 use agg_column::FieldValue;

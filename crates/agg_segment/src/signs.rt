@@ -62,14 +62,14 @@ fn give_sign(
     ensures within { All (λ f. f < length signs.old) given.old.items
         → All (λ f. f < length signs.old) given.new.items }
 {
-    let held = signs[field as usize];
+    let known = signs[field as usize];
     if sign == Sign::Small {
         return Ok(());
     }
-    if sign == held {
+    if sign == known {
         return Ok(());
     }
-    if held != Sign::Small {
+    if known != Sign::Small {
         return Err(BuildError::MixedNumbers);
     }
     given.push(field)?;

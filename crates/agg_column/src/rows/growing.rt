@@ -60,7 +60,7 @@ impl GrowingRows {
         }
     }
 
-    /// Appends a number of the last document, or of one behind it.
+    /// Appends a number of the last document, or of one after it.
     pub fn push(&mut self, alloc: Global, doc: DocId, number: u64) -> Result<(), OutOfMemory>
         requires { All (λ r. r.0 ≤ doc) self.old }
         ensures ok { OnOk result (self.new ≡ self.old ++ (doc, number) ∷ []) }
@@ -80,7 +80,7 @@ impl GrowingRows {
         }
     }
 
-    /// Forgets the numbers of a document and of those behind it.
+    /// Forgets the numbers of a document and of those after it.
     pub fn forget(&mut self, doc: DocId)
         ensures { self.new ≡ filter (λ r. nat_lt r.0 doc) self.old }
     {
@@ -106,7 +106,7 @@ impl GrowingRows {
         }
     }
 
-    /// Puts the numbers that stand for keys in the place of those that were gathered.
+    /// Replaces the numbers that were gathered by those that stand for keys.
     pub fn encode(&mut self, keys: &ColumnKeys, ordinals: &[u64], addresses: &[Address])
         requires { All (λ r. IsEncodable (named_texts keys.now ordinals.now) ordinals.now
             addresses.now keys.now r.1) self.old }
@@ -153,7 +153,7 @@ fn pair(alloc: Global, first: DocNumber, second: DocNumber) -> Result<Box<ManyNu
 // Appends a number.
 fn push_number(many: &mut ManyNumbers, doc: DocId, number: u64) -> Result<(), OutOfMemory>
     requires many { AreMany many.old }
-    requires behind { All (λ r. r.0 ≤ doc) (many_rows many.old) }
+    requires after { All (λ r. r.0 ≤ doc) (many_rows many.old) }
     ensures many { AreMany many.new }
     ensures ok { OnOk result (many_rows many.new ≡ many_rows many.old ++ (doc, number) ∷ []) }
     ensures err { OnErr result (many_rows many.new ≡ many_rows many.old) }
@@ -168,7 +168,7 @@ fn push_number(many: &mut ManyNumbers, doc: DocId, number: u64) -> Result<(), Ou
     Ok(())
 }
 
-// Keeps the numbers of the documents before one.
+// Keeps the numbers of the documents before a document.
 fn keep_before(many: &mut ManyNumbers, doc: DocId)
     requires { AreMany many.old }
     ensures many { AreMany many.new }
@@ -180,12 +180,12 @@ fn keep_before(many: &mut ManyNumbers, doc: DocId)
     many.docs.truncate(count.saturating_sub(each));
 }
 
-// How many numbers are of documents before one.
+// How many numbers are of documents before a document.
 fn count_before(many: &ManyNumbers, doc: DocId) -> usize
     requires { AreMany many.now }
     ensures within { result ≤ length many.now.numbers.items }
     ensures before { (k : ℕ) → k < result → get_or (many_docs many.now) k 0 < doc }
-    ensures behind { (k : ℕ) → result ≤ k → k < length many.now.numbers.items
+    ensures after { (k : ℕ) → result ≤ k → k < length many.now.numbers.items
         → doc ≤ get_or (many_docs many.now) k 0 }
 {
     let mut count = many.numbers.len();
@@ -210,7 +210,7 @@ fn doc_at(many: &ManyNumbers, at: usize) -> usize
 
 fn encode_many(many: &mut ManyNumbers, keys: &ColumnKeys, ordinals: &[u64], addresses: &[Address])
     requires many { AreMany many.old }
-    requires held { All (λ r. IsEncodable (named_texts keys.now ordinals.now) ordinals.now
+    requires encodable { All (λ r. IsEncodable (named_texts keys.now ordinals.now) ordinals.now
         addresses.now keys.now r.1) (many_rows many.old) }
     ensures many { AreMany many.new }
     ensures keys { keyed_rows (encoded_key keys.now) (many_rows many.new)

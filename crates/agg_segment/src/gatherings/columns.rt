@@ -17,7 +17,7 @@ ghost use Rattle.agg_column.specs.GatheredNumbers.{raw_key, keyed_rows};
 ghost use Rattle.agg_segment.specs.Gatherings.{kind_of, IsRaw};
 ghost use Rattle.agg_segment.specs.Gatherings.{is_column, AreAlike, AreSorted};
 ghost use Rattle.agg_column.specs.GatheredNumbers.{IsEncodable};
-ghost use Rattle.agg_segment.specs.Gatherings.{IsWide, AreWide, gathering_places, column_places};
+ghost use Rattle.agg_segment.specs.Gatherings.{IsWide, AreWide, gathering_classes, column_classes};
 ghost use Rattle.agg_column.specs.Dictionary.{address_at, last_text};
 ghost use Rattle.agg_column.specs.Dictionary.{HasOrdinal, AreByText};
 ghost use Rattle.agg_column.specs.declared.sign.Sign.TheVariants.{Small, Large};
@@ -71,7 +71,7 @@ fn keys_are_by_rank()
     ensures { IsByRank ⟦<(u32, ColumnPaginationOrder) as Ord>⟧.cmp }
 {}
 
-// The columns of sorted ones, the last one first taken. Each gives its memory back.
+// The columns of what was gathered and sorted. Each gathering gives its memory back.
 fn encode_all(
     alloc: Global,
     texts: &[Text],
@@ -85,8 +85,8 @@ fn encode_all(
     requires wide { AreWide signs.now gatherings.items }
     ensures cells { IfOk result (λ columns. flat_map column_cells columns.items
         ≡ map (raw_placed signs.now texts.now addresses.now) (raws gatherings.items)) }
-    ensures places { IfOk result
-        (λ columns. column_places columns.items ≡ gathering_places gatherings.items) }
+    ensures classes { IfOk result
+        (λ columns. column_classes columns.items ≡ gathering_classes gatherings.items) }
 {
     let mut ordinals = Vec::from_elem(alloc, 0, texts.len())?;
     let mut columns = Vec::with_capacity(alloc, gatherings.len())?;
@@ -100,7 +100,7 @@ fn encode_all(
     Ok(columns)
 }
 
-// Gives the memory of half of the places back, once they are free.
+// Gives memory back, once half of it is free.
 fn give_back(gatherings: &mut Vec<Gathering>)
     ensures { gatherings.new.items ≡ gatherings.old.items }
 {
@@ -119,7 +119,7 @@ fn sign_in(signs: &[Sign], field: u32) -> Sign
     }
 }
 
-// The column of numbers. The ordinals of the texts that it has are written.
+// The column of numbers that were gathered. It writes the ordinals of its texts.
 fn column_of(
     alloc: Global,
     texts: &[Text],
@@ -170,7 +170,7 @@ fn keys_of(
     requires kept { All (IsRaw (length texts.now) (length addresses.now) class) numbers.now }
     requires each { length ordinals.old ≡ length texts.now }
     ensures kind { IfOk result (λ keys. type_of keys ≡ kind_of sign class) }
-    ensures held { IfOk result (λ keys.
+    ensures encodable { IfOk result (λ keys.
         All (IsEncodable texts.now ordinals.new addresses.now keys) numbers.now) }
 {
     Ok(match class {
@@ -231,7 +231,7 @@ fn number_places(
 // Appends a text, unless it is the last.
 fn add_text(alloc: Global, found: &mut Vec<Text>, text: &Text) -> Result<(), OutOfMemory>
     requires ascending { IsStrictlySortedBy name_cmp found.old.items }
-    requires behind { 0 < length found.old.items
+    requires after { 0 < length found.old.items
         → name_cmp text.now (last_text found.old.items) ≢ Less }
     ensures ascending { IsStrictlySortedBy name_cmp found.new.items }
     ensures more { (more : List (List ℕ)) × (found.new.items ≡ found.old.items ++ more) }

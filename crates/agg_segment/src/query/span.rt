@@ -1,10 +1,10 @@
 ghost use Rattle.std.specs.Prelude.{◌≡◌, ◌<◌, ◌^◌, ◌&&◌, ℕ, nat_le, nat_lt};
 ghost use Rattle.std.specs.Ordering.{is_ge, is_gt, is_le, is_lt};
 ghost use Rattle.agg_segment.specs.Query.{is_above, is_below, is_between, is_value};
-ghost use Rattle.agg_segment.specs.Spans.{place_cmp, is_in, IsSpanOf};
+ghost use Rattle.agg_segment.specs.Spans.{hit_cmp, is_in, IsSpanOf};
 
 use super::RangeBound;
-use super::place::place_of;
+use super::hit::hit_of;
 use agg_column::{Column, FieldValue, OrdHit};
 
 /// The numbers from the first to the last, none where the last is before the first.
@@ -46,7 +46,7 @@ impl Span {
 pub fn term_span(column: &Column, value: &FieldValue) -> Option<Span>
     ensures { IsSpanOf column.now.keys (is_value value.now) result }
 {
-    match place_of(column, value)? {
+    match hit_of(column, value)? {
         OrdHit::Exact(at) => Some(Span {
             first: at,
             last: at,
@@ -69,8 +69,8 @@ fn span_above(column: &Column, bound: &RangeBound) -> Option<Span>
 {
     match bound {
         RangeBound::Unbounded => Some(from_number(0)),
-        RangeBound::Included(value) => Some(from_place(place_of(column, value)?)),
-        RangeBound::Excluded(value) => Some(past_place(place_of(column, value)?)),
+        RangeBound::Included(value) => Some(from_hit(hit_of(column, value)?)),
+        RangeBound::Excluded(value) => Some(after_hit(hit_of(column, value)?)),
     }
 }
 
@@ -79,48 +79,48 @@ fn span_below(column: &Column, bound: &RangeBound) -> Option<Span>
 {
     match bound {
         RangeBound::Unbounded => Some(Span::ALL),
-        RangeBound::Included(value) => Some(to_place(place_of(column, value)?)),
-        RangeBound::Excluded(value) => Some(before_place(place_of(column, value)?)),
+        RangeBound::Included(value) => Some(to_hit(hit_of(column, value)?)),
+        RangeBound::Excluded(value) => Some(before_hit(hit_of(column, value)?)),
     }
 }
 
-// The numbers at a place and past it.
-fn from_place(place: OrdHit) -> Span
-    ensures { (n : ℕ) → n < 2 ^ 64 → is_in result n ≡ is_ge (place_cmp place n) }
+// The numbers at a hit and after it.
+fn from_hit(hit: OrdHit) -> Span
+    ensures { (n : ℕ) → n < 2 ^ 64 → is_in result n ≡ is_ge (hit_cmp hit n) }
 {
-    match place {
+    match hit {
         OrdHit::Exact(at) | OrdHit::Next(at) => from_number(at),
         OrdHit::AfterLast => Span::NONE,
     }
 }
 
-// The numbers past a place.
-fn past_place(place: OrdHit) -> Span
-    ensures { (n : ℕ) → n < 2 ^ 64 → is_in result n ≡ is_gt (place_cmp place n) }
+// The numbers after a hit.
+fn after_hit(hit: OrdHit) -> Span
+    ensures { (n : ℕ) → n < 2 ^ 64 → is_in result n ≡ is_gt (hit_cmp hit n) }
 {
-    match place {
+    match hit {
         OrdHit::Exact(u64::MAX) | OrdHit::AfterLast => Span::NONE,
         OrdHit::Exact(at) => from_number(at + 1),
         OrdHit::Next(at) => from_number(at),
     }
 }
 
-// The numbers up to a place.
-fn to_place(place: OrdHit) -> Span
-    ensures { (n : ℕ) → n < 2 ^ 64 → is_in result n ≡ is_le (place_cmp place n) }
+// The numbers up to a hit.
+fn to_hit(hit: OrdHit) -> Span
+    ensures { (n : ℕ) → n < 2 ^ 64 → is_in result n ≡ is_le (hit_cmp hit n) }
 {
-    match place {
+    match hit {
         OrdHit::Exact(at) => Span { first: 0, last: at },
         OrdHit::Next(at) => before_number(at),
         OrdHit::AfterLast => Span::ALL,
     }
 }
 
-// The numbers before a place.
-fn before_place(place: OrdHit) -> Span
-    ensures { (n : ℕ) → n < 2 ^ 64 → is_in result n ≡ is_lt (place_cmp place n) }
+// The numbers before a hit.
+fn before_hit(hit: OrdHit) -> Span
+    ensures { (n : ℕ) → n < 2 ^ 64 → is_in result n ≡ is_lt (hit_cmp hit n) }
 {
-    match place {
+    match hit {
         OrdHit::Exact(at) | OrdHit::Next(at) => before_number(at),
         OrdHit::AfterLast => Span::ALL,
     }

@@ -1,4 +1,4 @@
-use Rattle.agg_column.proofs.Dense.{next_doc, docs_at_end, ends_at_end}
+use Rattle.agg_column.proofs.DenseEnds.{next_doc, docs_at_end, ends_at_end}
 use Rattle.agg_column.proofs.rows.all_ends.Goals as goal
 
 pub loop-doc-preserved : goal.loop-doc-preserved

@@ -1,4 +1,4 @@
-use Rattle.agg_column.proofs.Dense.{AreSoFar}
+use Rattle.agg_column.proofs.DenseEnds.{AreSoFar}
 use Rattle.agg_column.proofs.rows.all_ends.Given as goal
 
 abbrev pub invariant-loop-doc : goal.invariant-loop-doc

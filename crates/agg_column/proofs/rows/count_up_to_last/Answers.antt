@@ -1,7 +1,7 @@
 use Rattle.std.proofs.Common.{◌≡◌, false, length, sym, ◌∙◌, arith}
 use Rattle.std.specs.Prelude.{◌==◌}
 use Rattle.std.proofs.lemmas.Bool.Decides.{nat_tests}
-use Rattle.agg_column.proofs.Dense.{last_is_greatest}
+use Rattle.agg_column.proofs.DenseEnds.{last_is_greatest}
 use Rattle.agg_column.proofs.rows.count_up_to_last.Goals as goal
 
 pub returns : goal.returns

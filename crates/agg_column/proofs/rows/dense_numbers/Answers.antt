@@ -1,5 +1,5 @@
 use Rattle.std.proofs.Common.{◌-◌, length, get_or, take, drop, ap, ◌∙◌, arith}
-use Rattle.agg_column.proofs.Dense.{dense_within, dense_found, dense_none}
+use Rattle.agg_column.proofs.DenseEnds.{dense_within, dense_found, dense_none}
 use Rattle.agg_column.proofs.rows.dense_numbers.Goals as goal
 
 pub returns-then-at-ends : goal.returns-then-at-ends

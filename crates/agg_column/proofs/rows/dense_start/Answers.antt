@@ -1,6 +1,6 @@
 use Rattle.std.proofs.Common.{◌≡◌, ◌-◌, suc, ap, ◌∙◌, arith}
 use Rattle.agg_column.specs.Rows.{start_at, numbered}
-use Rattle.agg_column.proofs.Dense.{dense_start_is}
+use Rattle.agg_column.proofs.DenseEnds.{dense_start_is}
 use Rattle.agg_column.proofs.rows.dense_start.Goals as goal
 
 pub returns : goal.returns

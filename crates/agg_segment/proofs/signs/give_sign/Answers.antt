@@ -1,14 +1,14 @@
 use Rattle.std.proofs.Common.{◌≡◌, ◌≢◌, get_or, rules, arith}
 use Rattle.agg_column.specs.declared.sign.Sign.TheVariants.{Small}
-use Rattle.agg_segment.proofs.Marked.{signs_clash, sign_given, given_back}
+use Rattle.agg_segment.proofs.FieldSigns.{signs_clash, sign_given, given_back}
 use Rattle.agg_segment.proofs.signs.give_sign.Goals as goal
 
 pub returns-then-ne-clause-mixed : goal.returns-then-ne-clause-mixed
 returns-then-ne-clause-mixed c is before are =
     let says : c.args.sign ≢ Small = grind (arith, rules) in
-    let held : get_or c.args.signs.now c.args.field Small ≢ Small = grind (arith, rules) in
+    let known : get_or c.args.signs.now c.args.field Small ≢ Small = grind (arith, rules) in
     let apart : c.args.sign ≢ get_or c.args.signs.now c.args.field Small = grind (arith, rules) in
-    signs_clash c.args.signs.now before c.args.field c.args.sign c.requires says held apart are
+    signs_clash c.args.signs.now before c.args.field c.args.sign c.requires says known apart are
 
 pub returns-clause-ok : goal.returns-clause-ok
 returns-clause-ok c before are =

@@ -6,7 +6,7 @@ use Rattle.agg_segment.specs.declared.builder.BuildError.TheVariants.{MixedNumbe
 use Rattle.agg_column.specs.declared.sign.Sign.{Sign}
 use Rattle.agg_column.specs.declared.log.Cell.{Cell}
 use Rattle.agg_column.specs.declared.log.CellValue.TheVariants as cell
-use Rattle.agg_segment.proofs.Marked.{both_more, marks_next, marks_all}
+use Rattle.agg_segment.proofs.FieldSigns.{both_more, marks_next, marks_all}
 use Rattle.agg_segment.proofs.signs.give_signs.Goals as goal
 
 abbrev none : Cell

@@ -1,4 +1,4 @@
-use Rattle.agg_column.proofs.Kept.{numbers_stand}
+use Rattle.agg_column.proofs.KeptCells.{numbers_stand}
 use Rattle.agg_column.proofs.column.Column.values_for_doc.Goals as goal
 
 pub returns-clause-stand : goal.returns-clause-stand

@@ -4,7 +4,7 @@ use Rattle.std.proofs.lemmas.Cmp.{nat_cmp_total}
 use Rattle.std.proofs.lemmas.Map.Lookups.{exact_unsigned}
 use Rattle.agg_column.specs.declared.hit.OrdHit.TheVariants.{Exact, Next, AfterLast}
 use Rattle.agg_column.proofs.Places.{boxed_slice, hit_exact, hit_next, hit_past, address_hit}
-use Rattle.agg_column.proofs.Ascending.{addresses_ascend}
+use Rattle.agg_column.proofs.AscendingAddresses.{addresses_ascend}
 use Rattle.agg_column.proofs.dictionary.AddressList.hit.Goals as goal
 
 pub returns-in-Ok-clause-hit : goal.returns-in-Ok-clause-hit

@@ -2,7 +2,7 @@ use Rattle.std.proofs.Common.{ap, ◌∙◌}
 use Rattle.std.specs.Ordering.{nat_cmp}
 use Rattle.std.proofs.lemmas.Cmp.{nat_cmp_total}
 use Rattle.std.proofs.lemmas.Map.Lookups.{exact_unsigned}
-use Rattle.agg_column.proofs.Places.{boxed_slice, found, not_missing, address_read, number_held}
+use Rattle.agg_column.proofs.Places.{boxed_slice, found, not_missing, address_read, number_listed}
 use Rattle.agg_column.proofs.dictionary.AddressList.place.Goals as goal
 
 pub returns-in-Ok-clause-address : goal.returns-in-Ok-clause-address
@@ -20,7 +20,7 @@ returns-in-Err-clause-within c =
     (not_missing nat_cmp nat_cmp_total exact_unsigned c.deref-2.result.now (rw (boxed_slice
     c.deref-2.ensures.value c.deref.ensures)
     c.self.invariant) c.args.address.0 c.in-Err.at c.in-Err.ensures.position
-    (number_held c.deref-2.result.now c.args.address (rw (
+    (number_listed c.deref-2.result.now c.args.address (rw (
       (boxed_slice c.deref-2.ensures.value
           c.deref.ensures),
       c.self.view_is,
@@ -33,7 +33,7 @@ returns-in-Err-clause-address c =
     (not_missing nat_cmp nat_cmp_total exact_unsigned c.deref-2.result.now (rw (boxed_slice
     c.deref-2.ensures.value c.deref.ensures)
     c.self.invariant) c.args.address.0 c.in-Err.at c.in-Err.ensures.position
-    (number_held c.deref-2.result.now c.args.address (rw (
+    (number_listed c.deref-2.result.now c.args.address (rw (
       (boxed_slice c.deref-2.ensures.value
           c.deref.ensures),
       c.self.view_is,

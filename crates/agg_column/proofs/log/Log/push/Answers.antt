@@ -4,7 +4,7 @@ use Rattle.std.proofs.lemmas.List.Elements.{All-push}
 use Rattle.agg_column.specs.Cells.{Logged, placed, IsKept}
 use Rattle.agg_column.specs.Document.{key_of}
 use Rattle.agg_column.specs.declared.log.Cell.{Cell}
-use Rattle.agg_column.proofs.Kept.{cells_longer, kept_longer, still, on_err_given}
+use Rattle.agg_column.proofs.KeptCells.{cells_longer, kept_longer, still, on_err_given}
 use Rattle.agg_column.proofs.log.Log.push.Goals as goal
 
 pub returns-in_err-value-clause-err : goal.returns-in_err-value-clause-err

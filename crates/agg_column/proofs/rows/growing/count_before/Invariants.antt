@@ -8,6 +8,6 @@ decreases-loop-count l = l.count
 abbrev pub invariant-loop-count : goal.invariant-loop-count
 invariant-loop-count l = record {
   within : l.count ≤ length l.many.numbers.items;
-  behind : (k : ℕ) → l.count ≤ k → k < length l.many.numbers.items
+  after : (k : ℕ) → l.count ≤ k → k < length l.many.numbers.items
       → l.doc ≤ get_or (many_docs l.many) k 0;
 }

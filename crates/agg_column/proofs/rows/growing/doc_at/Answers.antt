@@ -1,6 +1,6 @@
 use Rattle.std.proofs.Common.{◌≡◌, ◌-◌, length, get_or, arith, ap, ◌∙◌}
 use Rattle.std.proofs.lemmas.List.{get_or_read}
-use Rattle.agg_column.proofs.Growing.{doc_at_front, doc_at_back}
+use Rattle.agg_column.proofs.GrowingNumbers.{doc_at_front, doc_at_back}
 use Rattle.agg_column.proofs.rows.growing.doc_at.Goals as goal
 
 pub returns-then-at-each : goal.returns-then-at-each

@@ -4,7 +4,7 @@ use Rattle.std.proofs.lemmas.List.{with_items_is}
 use Rattle.agg_column.specs.Columns.{encoded_key, type_of, named_texts, StandsForKey}
 use Rattle.agg_column.specs.GatheredNumbers.{raw_key, IsEncodable}
 use Rattle.agg_column.specs.Growing.{many_docs}
-use Rattle.agg_column.proofs.Growing.{docs_length, all_seconds, seconds_all, encoded_rows}
+use Rattle.agg_column.proofs.GrowingNumbers.{docs_length, all_seconds, seconds_all, encoded_rows}
 use Rattle.agg_column.proofs.rows.growing.encode_many.Goals as goal
 
 pub encode_numbers-requires : goal.encode_numbers-requires
@@ -15,7 +15,7 @@ encode_numbers-requires c =
     rw c.deref_mut.ensures.value
     (all_seconds (IsEncodable (named_texts keys ordinals) ordinals c.args.addresses.now keys)
     (many_docs m) m.numbers.items (docs_length 0 m.numbers.items m.docs.items c.requires.many.0)
-    c.requires.held)
+    c.requires.encodable)
 
 -- the numbers are as many as before
 as_long : (c : goal.After-many-1) → length c.encode_numbers.new.numbers

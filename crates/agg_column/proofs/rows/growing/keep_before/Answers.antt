@@ -1,5 +1,5 @@
 use Rattle.std.proofs.Common.{◌≡◌, ◌-◌, length, arith, length-take}
-use Rattle.agg_column.proofs.Growing.{kept_rows, kept_rise}
+use Rattle.agg_column.proofs.GrowingNumbers.{kept_rows, kept_rise}
 use Rattle.agg_column.proofs.rows.growing.keep_before.Goals as goal
 
 -- how many numbers are of documents that aren't listed
@@ -24,7 +24,7 @@ returns-clause-many c =
             - (length m.numbers.items - length m.docs.items)) m.docs.items,
       ),
       kept_rise m.numbers.items m.docs.items c.count_before-count.result c.args.doc c.requires.0
-          c.requires.1 e.within e.before e.behind,
+          c.requires.1 e.within e.before e.after,
     )
 
 pub returns-clause-rows : goal.returns-clause-rows
@@ -33,4 +33,4 @@ returns-clause-rows c =
     let e = c.count_before-count.ensures in
     rw (c.truncate.ensures.items, c.truncate-2.ensures.items, each_is c)
     (kept_rows m.numbers.items m.docs.items c.count_before-count.result c.args.doc c.requires.0
-    c.requires.1 e.within e.before e.behind)
+    c.requires.1 e.within e.before e.after)

@@ -1,6 +1,6 @@
 use Rattle.std.proofs.Common.{◌≡◌, length, arith, length-append, ◌∷◌, [], ◌∙◌, ap, sym}
 use Rattle.std.proofs.lemmas.Bool.Decides.{nat_tests}
-use Rattle.agg_column.proofs.Growing.{next_rows, next_rise, listed_rows, listed_rise}
+use Rattle.agg_column.proofs.GrowingNumbers.{next_rows, next_rise, listed_rows, listed_rise}
 use Rattle.agg_column.proofs.rows.growing.push_number.Goals as goal
 
 pub returns-then-len-doc-clause-many : goal.returns-then-len-doc-clause-many
@@ -14,7 +14,7 @@ returns-then-len-doc-clause-many c =
     rw (c.in_ok-push.ensures.items, same) (
       omega (arith, none),
       next_rise m.numbers.items m.docs.items c.args.doc c.args.number
-          c.requires.many.0 c.requires.many.1 c.requires.behind none here,
+          c.requires.many.0 c.requires.many.1 c.requires.after none here,
     )
 
 pub returns-then-len-doc-clause-ok : goal.returns-then-len-doc-clause-ok
@@ -27,7 +27,7 @@ returns-then-len-doc-clause-ok c =
     omega (arith, ap length same, c.len.ensures, c.if-len-doc.true, c.reserve.new.self.ok) in
     rw (c.in_ok-push.ensures.items, same)
     (next_rows m.numbers.items m.docs.items c.args.doc c.args.number
-    c.requires.many.0 c.requires.many.1 c.requires.behind none here)
+    c.requires.many.0 c.requires.many.1 c.requires.after none here)
 
 pub returns-clause-many : goal.returns-clause-many
 returns-clause-many c =
@@ -40,7 +40,7 @@ returns-clause-many c =
         length-append m.docs.items (c.args.doc ∷ []),
       ),
       listed_rise m.numbers.items m.docs.items c.args.doc c.args.number
-          c.requires.many.0 c.requires.many.1 c.requires.behind,
+          c.requires.many.0 c.requires.many.1 c.requires.after,
     )
 
 pub returns-clause-ok : goal.returns-clause-ok
@@ -48,4 +48,4 @@ returns-clause-ok c =
     let m = c.args.many.now in
     rw (c.in_ok-push-2.ensures.items, c.in_ok-push-3.ensures.items, c.in_ok-reserve.ensures.items)
     (listed_rows m.numbers.items m.docs.items c.args.doc c.args.number
-    c.requires.many.0 c.requires.many.1 c.requires.behind)
+    c.requires.many.0 c.requires.many.1 c.requires.after)

@@ -2,8 +2,8 @@ use Rattle.std.proofs.Common.{List, length, ap, ◌∙◌}
 use Rattle.agg_column.specs.Cells.{Placed, keys_at}
 use Rattle.agg_column.specs.Document.{by_class}
 use Rattle.agg_segment.specs.Segment.{builder_cells, gathered_documents, documents_of}
-use Rattle.agg_segment.proofs.Building.{read_kept}
-use Rattle.agg_segment.proofs.Closed.{built_documents}
+use Rattle.agg_segment.proofs.BuilderKeys.{read_kept}
+use Rattle.agg_segment.proofs.ClosedDocuments.{built_documents}
 use Rattle.agg_segment.proofs.builder.SegmentBuilder.build.Goals as goal
 
 pub into_columns-requires-clause-kept : goal.into_columns-requires-clause-kept

@@ -1,9 +1,9 @@
 use Rattle.std.proofs.Common.{◌≡◌, List, length, take, ap, sym, subst, ◌∙◌}
 use Rattle.agg_column.specs.Cells.{Placed}
 use Rattle.agg_segment.specs.Segment.{builder_cells, gathered_documents, open_document, IsGathered}
-use Rattle.agg_segment.proofs.Building.{read_again}
-use Rattle.agg_segment.proofs.Closing.{discard_inv}
-use Rattle.agg_segment.proofs.InTheMaking.{discard_open, discard_documents}
+use Rattle.agg_segment.proofs.BuilderKeys.{read_again}
+use Rattle.agg_segment.proofs.MovedKeys.{discard_inv}
+use Rattle.agg_segment.proofs.BuilderDocuments.{discard_open, discard_documents}
 use Rattle.agg_segment.proofs.builder.SegmentBuilder.discard.Goals as goal
 
 -- the keys that are left

@@ -8,10 +8,10 @@ use Rattle.agg_segment.specs.Segment.{Gathered, builder_cells, gathered_document
 use Rattle.agg_segment.specs.Segment.{IsMixed}
 use Rattle.agg_segment.specs.declared.builder.BuildError.TheVariants.{MixedNumbers}
 use Rattle.agg_segment.specs.declared.builder.BuildError.TheVariants.{TooManyDocuments}
-use Rattle.agg_segment.proofs.Marked.{marked_fields}
-use Rattle.agg_segment.proofs.Closed.{documents_count, finish_documents, both_mixed}
-use Rattle.agg_segment.proofs.Closing.{closed_inv, closed_documents, closed_open, closed_fits}
-use Rattle.agg_segment.proofs.Closing.{open_marks, all_marks, docs_closed}
+use Rattle.agg_segment.proofs.FieldSigns.{marked_fields}
+use Rattle.agg_segment.proofs.ClosedDocuments.{documents_count, finish_documents, both_mixed}
+use Rattle.agg_segment.proofs.MovedKeys.{closed_inv, closed_documents, closed_open, closed_fits}
+use Rattle.agg_segment.proofs.MovedKeys.{open_marks, all_marks, docs_closed}
 use Rattle.agg_segment.proofs.builder.SegmentBuilder.finish.Goals as goal
 
 pub returns-then-self-eq-MAX_DOCUMENTS-clause-full
@@ -60,8 +60,8 @@ returns-in-Err-clause-mixed c is =
     ∙ ap (λ (b : Gathered). gathered_documents b ++ open_document b ∷ []) c.self.view_is)
     (both_mixed s.count s.names whole s.signs.items (length s.columns) c.self.invariant.0 both)
 
-pub add_all-requires-clause-behind : goal.add_all-requires-clause-behind
-add_all-requires-clause-behind c =
+pub add_all-requires-clause-after : goal.add_all-requires-clause-after
+add_all-requires-clause-after c =
     let s = c.self.inside in
     docs_closed s.count s.names s.signs.items s.columns s.log c.self.invariant
 

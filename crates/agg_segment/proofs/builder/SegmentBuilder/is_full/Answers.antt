@@ -1,7 +1,7 @@
 use Rattle.std.proofs.Common.{◌≡◌, length, sym, ap, ◌∙◌, arith, eq-eqb}
 use Rattle.std.proofs.lemmas.Bool.Decides.{nat_tests}
 use Rattle.agg_segment.specs.Segment.{Gathered, gathered_documents}
-use Rattle.agg_segment.proofs.Closed.{documents_count}
+use Rattle.agg_segment.proofs.ClosedDocuments.{documents_count}
 use Rattle.agg_segment.proofs.builder.SegmentBuilder.is_full.Goals as goal
 
 pub returns : goal.returns

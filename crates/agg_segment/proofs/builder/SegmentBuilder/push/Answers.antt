@@ -5,12 +5,12 @@ use Rattle.agg_column.specs.Document.{key_of}
 use Rattle.agg_column.specs.Cells.{Placed}
 use Rattle.agg_segment.specs.Segment.{Gathered, IsNameOf, IsGathered, with_key, builder_cells}
 use Rattle.agg_segment.specs.Segment.{gathered_documents, open_document}
-use Rattle.agg_segment.proofs.Building.{read_beside, read_pushed, raws_longer}
-use Rattle.agg_column.proofs.Kept.{on_either}
-use Rattle.agg_segment.proofs.InTheMaking.{push_open, push_documents, push_inv}
+use Rattle.agg_segment.proofs.BuilderKeys.{read_beside, read_pushed, raws_longer}
+use Rattle.agg_column.proofs.KeptCells.{on_either}
+use Rattle.agg_segment.proofs.BuilderDocuments.{push_open, push_documents, push_inv}
 use Rattle.agg_segment.proofs.builder.SegmentBuilder.push.Goals as goal
 
--- the value in its place
+-- the key of the value in its field and document
 abbrev one : (c : goal.After-push) → Placed
 one c = record {
   field = c.args.field;

@@ -1,6 +1,6 @@
 use Rattle.std.proofs.Common.{◌≡◌}
 use Rattle.agg_segment.specs.Segment.{gathered_documents, open_document}
-use Rattle.agg_segment.proofs.Added.{add_all}
+use Rattle.agg_segment.proofs.AddedValues.{add_all}
 use Rattle.agg_segment.proofs.builder.SegmentBuilder.try_document.Given as goal
 
 abbrev pub invariant-loop-name : goal.invariant-loop-name

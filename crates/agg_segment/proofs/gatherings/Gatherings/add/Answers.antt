@@ -3,7 +3,7 @@ use Rattle.std.specs.List.{All}
 use Rattle.std.proofs.lemmas.Result.{on_ok_weaker, on_err_weaker}
 use Rattle.agg_segment.specs.Gatherings.{Raw, raws, IsPutInto, IsRawOf}
 use Rattle.agg_segment.specs.declared.gatherings.Gathering.{Gathering}
-use Rattle.agg_segment.proofs.Linked.{links_set}
+use Rattle.agg_segment.proofs.LinkedColumns.{links_set}
 use Rattle.agg_segment.proofs.Raws.{put_into, set_same, rows_below}
 use Rattle.agg_segment.proofs.gatherings.Gatherings.add.Goals as goal
 
@@ -12,7 +12,7 @@ push-requires c =
     rows_below c.place.new.columns.items c.in_ok-at.at c.index_mut.result.now c.args.doc
     c.in_ok-at.ensures.within c.index_mut.ensures.value
     (subst (All (λ (r : Raw). r.doc ≤ c.args.doc)) (sym (c.in_ok-at.ensures.same
-    ∙ c.self.view_is)) c.requires.behind)
+    ∙ c.self.view_is)) c.requires.after)
 
 pub invariant_of-self-2 : goal.invariant_of-self-2
 invariant_of-self-2 c =

@@ -24,8 +24,8 @@ loop-cell-init c =
             (append-nil old)),
       );
       undone = filter_every (λ (r : Raw). nat_lt r.doc doc) old (λ k d l.
-          let low = c.requires.behind k d l in grind (arith, nat_tests));
-      behind = λ k d l. let low = c.requires.behind k d l in omega (arith, low);
+          let low = c.requires.after k d l in grind (arith, nat_tests));
+      after = λ k d l. let low = c.requires.after k d l in omega (arith, low);
     }
 
 pub loop-cell-preserved : goal.loop-cell-preserved
@@ -47,8 +47,8 @@ loop-cell-preserved c =
       );
       undone = put_filtered l.self r new put (λ (s : Raw). nat_lt s.doc doc)
           (let at = is.at in grind (arith, nat_tests)) ∙ l.invariant.undone;
-      behind = put_all l.self r new put (λ (s : Raw). s.doc ≤ doc) (omega (arith, is.at))
-          l.invariant.behind;
+      after = put_all l.self r new put (λ (s : Raw). s.doc ≤ doc) (omega (arith, is.at))
+          l.invariant.after;
     }
 
 pub returns-in-Err-clause-err : goal.returns-in-Err-clause-err

@@ -9,5 +9,5 @@ invariant-loop-cell l = record {
   so_far : (more : List Raw) × AreRawsOf l.doc (take l.cell-index l.cells) more
       × AreAlike l.self (l.initial.self ++ more);
   undone : filter (λ r. nat_lt r.doc l.doc) l.self ≡ l.initial.self;
-  behind : All (λ r. r.doc ≤ l.doc) l.self;
+  after : All (λ r. r.doc ≤ l.doc) l.self;
 }

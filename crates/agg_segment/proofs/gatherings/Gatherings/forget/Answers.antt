@@ -2,7 +2,7 @@ use Rattle.std.proofs.Common.{◌≡◌, length, map, arith, ap, ◌∙◌}
 use Rattle.std.specs.Prelude.{filter, nat_lt}
 use Rattle.std.proofs.lemmas.List.{with_items_is}
 use Rattle.agg_segment.specs.Gatherings.{Raw, raws, forgotten}
-use Rattle.agg_segment.proofs.Linked.{links_forgotten}
+use Rattle.agg_segment.proofs.LinkedColumns.{links_forgotten}
 use Rattle.agg_segment.proofs.Raws.{forgotten_raws}
 use Rattle.agg_segment.proofs.gatherings.Gatherings.forget.Goals as goal
 

@@ -7,8 +7,8 @@ use Rattle.agg_segment.specs.Gatherings.{Raw, raws, raw_placed, IsRaw, IsWide}
 use Rattle.agg_column.specs.Signs.{key_mark, AreSigns}
 use Rattle.agg_segment.specs.declared.gatherings.Gathering.{Gathering}
 use Rattle.agg_column.specs.declared.sign.Sign.TheVariants.{Small}
-use Rattle.agg_segment.proofs.Alike.{alike_all}
-use Rattle.agg_segment.proofs.Ordered.{wide_columns, in_order, sorted_keys}
+use Rattle.agg_segment.proofs.AlikeNumbers.{alike_all}
+use Rattle.agg_segment.proofs.ColumnOrder.{wide_columns, in_order, sorted_keys}
 use Rattle.agg_segment.proofs.gatherings.Gatherings.into_columns.Goals as goal
 
 pub encode_all-requires-clause-kept : goal.encode_all-requires-clause-kept
@@ -48,4 +48,4 @@ returns-clause-order c =
     IfOk-weaker c.encode_all.result _ _
     (λ columns is. in_order c.self.inside.columns.items c.sort.new.columns.items
     c.self.inside.last.items c.self.invariant c.in_ok-sort.ensures.stable columns.items
-    c.in_ok-sort.ensures.sorted is) c.encode_all.ensures.places
+    c.in_ok-sort.ensures.sorted is) c.encode_all.ensures.classes

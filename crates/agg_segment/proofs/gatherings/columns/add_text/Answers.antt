@@ -14,4 +14,4 @@ returns-clause-ascending c =
     (subst (λ (ts : List (List ℕ)). last_text ts ≡ text) (sym c.deref.ensures.value) is))
     ∙ c.if-is_last.false) in
     rw (c.in_ok-push.ensures.items, c.in_ok-try_clone.ensures)
-    (pushed_ascends found text c.requires.ascending c.requires.behind other)
+    (pushed_ascends found text c.requires.ascending c.requires.after other)

@@ -1,7 +1,7 @@
 use Rattle.std.proofs.Common.{ℕ, map, ap, ◌∙◌, arith}
 use Rattle.std.proofs.lemmas.List.{take_all}
 use Rattle.agg_column.specs.Dictionary.{address_at}
-use Rattle.agg_segment.proofs.Listed.{addresses_all}
+use Rattle.agg_segment.proofs.ListedPlaces.{addresses_all}
 use Rattle.agg_segment.proofs.gatherings.columns.addresses_of.Goals as goal
 
 pub returns : goal.returns

@@ -20,7 +20,7 @@ encode-requires c k d l =
     encodable_itself texts ordinals addresses c.in_ok-keys.keys (get_or c.args.gathering.rows k d).1
     (all_numbers (IsEncodable texts ordinals addresses c.in_ok-keys.keys) c.args.gathering.rows
     (subst (All (IsEncodable texts ordinals addresses c.in_ok-keys.keys)) c.numbers.ensures
-    c.in_ok-keys.ensures.held) k d l)
+    c.in_ok-keys.ensures.encodable) k d l)
 
 -- what the numbers stand for
 keys_are : (c : goal.In_ok-into_rows)
@@ -37,7 +37,7 @@ keys_are c =
     ∙ named_rows texts ordinals addresses keys rows
     (all_numbers (IsEncodable texts ordinals addresses keys) rows
     (subst (All (IsEncodable texts ordinals addresses keys)) c.numbers.ensures
-    c.in_ok-keys.ensures.held))
+    c.in_ok-keys.ensures.encodable))
     ∙ ap (λ k. keyed_rows (raw_key texts addresses k) rows) c.in_ok-keys.ensures.kind
 
 pub new-requires-clause-wide : goal.new-requires-clause-wide

@@ -2,7 +2,7 @@ use Rattle.std.proofs.Common.{List, ℕ, subst, sym}
 use Rattle.std.specs.List.{All}
 use Rattle.std.proofs.lemmas.Result.{IfOk-weaker}
 use Rattle.agg_column.specs.Dictionary.{HasOrdinal}
-use Rattle.agg_segment.proofs.Listed.{held_on}
+use Rattle.agg_segment.proofs.ListedPlaces.{listed_all}
 use Rattle.agg_segment.proofs.gatherings.columns.dictionary_of.Goals as goal
 
 pub returns : goal.returns
@@ -13,7 +13,7 @@ returns c =
     (λ dictionary is. subst (λ (texts' : List (List ℕ)).
     All (HasOrdinal texts texts' c.number_places.new.ordinals) c.args.numbers.now)
     (sym is)
-    (held_on (HasOrdinal texts found c.number_places.new.ordinals) (λ (n : ℕ). n)
+    (listed_all (HasOrdinal texts found c.number_places.new.ordinals) (λ (n : ℕ). n)
     c.args.numbers.now c.in_ok-places.places.items c.in_ok-places.ensures.all
     (subst (All (HasOrdinal texts found c.number_places.new.ordinals)) c.deref.ensures.value
     c.in_ok-found.ensures.ordinals)))

@@ -3,11 +3,11 @@ use Rattle.std.specs.Prelude.{reverse, flat_map}
 use Rattle.std.specs.List.{All}
 use Rattle.std.proofs.lemmas.List.{with_items_is, reverse-append}
 use Rattle.agg_column.specs.Columns.{column_cells}
-use Rattle.agg_segment.specs.Gatherings.{Raw, raws, raw_placed, IsRaw, IsWide, column_places}
-use Rattle.agg_segment.specs.Gatherings.{gathering_places}
+use Rattle.agg_segment.specs.Gatherings.{Raw, raws, raw_placed, IsRaw, IsWide, column_classes}
+use Rattle.agg_segment.specs.Gatherings.{gathering_classes}
 use Rattle.agg_segment.specs.declared.gatherings.Gathering.{Gathering}
 use Rattle.agg_column.specs.declared.sign.Sign.TheVariants.{Small}
-use Rattle.agg_segment.proofs.Encoded.{column_is, next_cells, next_places, rank_is, kept_last}
+use Rattle.agg_segment.proofs.Encoded.{column_is, next_cells, next_classes, rank_is, kept_last}
 use Rattle.agg_segment.proofs.Encoded.{kept_rest, all_last, all_rest}
 use Rattle.agg_segment.proofs.gatherings.columns.encode_all.Goals as goal
 
@@ -53,10 +53,10 @@ loop-gathering-preserved c =
           e.field e.cells)
           (ap (λ gs. map (raw_placed signs texts addresses) (raws gs)
           ++ flat_map column_cells (reverse l.columns.items)) (sym items) ∙ l.invariant.cells);
-      places = next_places rest g column (reverse l.columns.items) _ e.field
+      classes = next_classes rest g column (reverse l.columns.items) _ e.field
           (rank_is c.sign_in-sign.result g.class column.keys e.kind)
-          (ap (λ gs. gathering_places gs ++ column_places (reverse l.columns.items)) (sym items)
-          ∙ l.invariant.places);
+          (ap (λ gs. gathering_classes gs ++ column_classes (reverse l.columns.items)) (sym items)
+          ∙ l.invariant.classes);
       kept = kept_rest (length texts) (length addresses) rest g (subst (λ (gs : List Gathering).
           All (λ r. IsRaw (length texts) (length addresses) r.class r.number) (raws gs)) items
           l.invariant.kept);

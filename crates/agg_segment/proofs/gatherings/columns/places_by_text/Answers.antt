@@ -1,7 +1,7 @@
 use Rattle.std.proofs.Common.{◌<◌, length}
 use Rattle.std.proofs.lemmas.List.Sorted.{All-permutation, Contains-permutation}
 use Rattle.std.proofs.lemmas.Result.{IfOk-weaker}
-use Rattle.agg_segment.proofs.Listed.{places_within}
+use Rattle.agg_segment.proofs.ListedPlaces.{places_within}
 use Rattle.agg_segment.proofs.gatherings.columns.places_by_text.Goals as goal
 
 pub returns-clause-all : goal.returns-clause-all

@@ -1,7 +1,7 @@
 use Rattle.std.proofs.Common.{◌≡◌, ◌∙◌, arith}
 use Rattle.std.proofs.lemmas.List.{take_all}
 use Rattle.std.proofs.lemmas.List.Filters.{dedup_is}
-use Rattle.agg_segment.proofs.Listed.{places_all, places_only}
+use Rattle.agg_segment.proofs.ListedPlaces.{places_all, places_only}
 use Rattle.agg_segment.proofs.gatherings.columns.places_of.Goals as goal
 
 pub returns-clause-all : goal.returns-clause-all

@@ -1,7 +1,7 @@
 use Rattle.std.proofs.Common.{rules}
 use Rattle.std.proofs.lemmas.List.Sorted.{answers_always}
 use Rattle.agg_segment.specs.declared.gatherings.Gathering.{Gathering}
-use Rattle.agg_segment.proofs.Sorted.{keys_sorted, keys_alike, columns_stable}
+use Rattle.agg_segment.proofs.ColumnSort.{keys_sorted, keys_alike, columns_stable}
 use Rattle.agg_segment.proofs.gatherings.columns.sort.Goals as goal
 
 pub returns-clause-sorted : goal.returns-clause-sorted

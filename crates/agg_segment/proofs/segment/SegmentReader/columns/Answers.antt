@@ -6,7 +6,7 @@ use Rattle.agg_column.specs.Names.{numbered_names}
 use Rattle.agg_column.specs.Columns.{StoredColumn, column_cells, all_keys}
 use Rattle.agg_column.specs.Columns.{ClassesAscend}
 use Rattle.agg_segment.specs.Segment.{Stored, document_at}
-use Rattle.agg_segment.proofs.Searched.{field_keys, classes_ascend}
+use Rattle.agg_segment.proofs.FieldColumns.{field_keys, classes_ascend}
 use Rattle.agg_segment.proofs.segment.SegmentReader.columns.Goals as goal
 
 pub columns_of-requires : goal.columns_of-requires

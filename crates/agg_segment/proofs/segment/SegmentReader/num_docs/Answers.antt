@@ -1,7 +1,7 @@
 use Rattle.std.proofs.Common.{length, sym, ap, ◌∙◌}
 use Rattle.agg_column.specs.Names.{numbered_names}
 use Rattle.agg_segment.specs.Segment.{Stored, documents_of}
-use Rattle.agg_segment.proofs.Closed.{read_count}
+use Rattle.agg_segment.proofs.ClosedDocuments.{read_count}
 use Rattle.agg_segment.proofs.segment.SegmentReader.num_docs.Goals as goal
 
 pub returns-clause-count : goal.returns-clause-count

@@ -1,6 +1,6 @@
 use Rattle.std.proofs.Common.{◌≡◌, sym, ap, subst, ◌∙◌}
 use Rattle.agg_column.specs.Growing.{many_docs, many_rows, growing_rows, AreGrowing, AreMany}
-use Rattle.agg_column.proofs.Growing.{docs_length, zip_seconds}
+use Rattle.agg_column.proofs.GrowingNumbers.{docs_length, zip_seconds}
 use Rattle.agg_column.proofs.rows.growing.GrowingRows.numbers.Goals as goal
 
 pub returns-in-Many : goal.returns-in-Many
