@@ -10,6 +10,9 @@ returns-then-ne-clause-mixed c is before are =
     let apart : c.args.sign ≢ get_or c.args.signs.now c.args.field Small = grind (arith, rules) in
     signs_clash c.args.signs.now before c.args.field c.args.sign c.requires says known apart are
 
+pub returns-then-ne-clause-ok : goal.returns-then-ne-clause-ok
+returns-then-ne-clause-ok c = search rules
+
 pub returns-clause-ok : goal.returns-clause-ok
 returns-clause-ok c before are =
     let small : get_or c.args.signs.now c.args.field Small ≡ Small = grind (arith, rules) in
