@@ -32,12 +32,12 @@ numbers_here (suc k) d [] [] = refl
 numbers_here (suc k) d (e ∷ ds) [] = refl
 numbers_here (suc k) d ds (n ∷ ns) = rw (eq-eqb d d refl) (ap (λ r. n ∷ r) (numbers_here k d ds ns))
 
-numbers_behind : (k d doc : ℕ) (ds ns : List ℕ) → d ≢ doc
+numbers_after : (k d doc : ℕ) (ds ns : List ℕ) → d ≢ doc
     → numbers_at (zip (replicate k d ++ ds) ns) doc ≡ numbers_at (zip ds (drop k ns)) doc
-numbers_behind zero d doc ds ns other = refl
-numbers_behind (suc k) d doc [] [] other = refl
-numbers_behind (suc k) d doc (e ∷ ds) [] other = refl
-numbers_behind (suc k) d doc ds (n ∷ ns) other = rw (ne_eqb d doc other) (numbers_behind k d doc ds
+numbers_after zero d doc ds ns other = refl
+numbers_after (suc k) d doc [] [] other = refl
+numbers_after (suc k) d doc (e ∷ ds) [] other = refl
+numbers_after (suc k) d doc ds (n ∷ ns) other = rw (ne_eqb d doc other) (numbers_after k d doc ds
     ns other)
 
 -- ---- listed documents
@@ -124,7 +124,7 @@ listed_found start (e ∷ ends) numbers (suc at) d are l =
     let below : e.doc < (get_or ends at d).doc = head_below start e ends are at d (omega arith) in
     let up = ends_up start e ends are in
     let there : start + (e.end - start) ≡ e.end = omega (arith, up) in
-    numbers_behind (e.end - start) e.doc (get_or ends at d).doc (listed_docs e.end ends)
+    numbers_after (e.end - start) e.doc (get_or ends at d).doc (listed_docs e.end ends)
     (drop start numbers) (λ same. omega (arith, below, same))
     ∙ ap (λ ns. numbers_at (zip (listed_docs e.end ends) ns) (get_or ends at d).doc)
     (drop-drop (e.end - start) start numbers ∙ ap (λ k. drop k numbers) there)
@@ -204,47 +204,6 @@ range_more a n = let next : n + 1 ≡ suc n = omega arith in ap (range_with_len 
     by_count a zero = let same : a ≡ a + 0 = omega arith in ap (λ k. k ∷ []) same
     by_count a (suc n) = let same : (a + 1) + n ≡ a + suc n = omega arith in
         ap (λ r. a ∷ r) (by_count (a + 1) n ∙ ap (λ k. range_with_len (a + 1) n ++ k ∷ []) same)
-
--- ---- one number for each document
-
-one_before : (a : ℕ) (n : ℕ) (ns : List ℕ) (doc : ℕ) → doc < a
-    → numbers_at (zip (range_with_len a n) ns) doc ≡ []
-one_before a zero ns doc l = refl
-one_before a (suc n) [] doc l = refl
-one_before a (suc n) (m ∷ ns) doc l = rw (ne_eqb a doc (λ same. omega (arith, same, l)))
-    (one_before (a + 1) n ns doc (omega (arith, l)))
-
-pub one_found : (a : ℕ) (ns : List ℕ) (i : ℕ) → i < length ns
-    → numbers_at (zip (range_with_len a (length ns)) ns) (a + i) ≡ slice_range ns i (i + 1)
-one_found a [] i l = absurd (omega arith)
-one_found a (n ∷ ns) zero l = rw (eq-eqb a (a + 0) (omega arith))
-    (ap (λ r. n ∷ r) (one_before (a + 1) (length ns) ns (a + 0) (omega arith)))
-one_found a (n ∷ ns) (suc i) l =
-    rw (ne_eqb a (a + suc i) (λ same. omega (arith, same)))
-    (let there : a + suc i ≡ (a + 1) + i = omega arith in
-    let as_long : (i + 1) - i ≡ (suc i + 1) - suc i = omega arith in
-    ap (numbers_at (zip (range_with_len (a + 1) (length ns)) ns)) there ∙ one_found (a + 1) ns i
-    (omega arith) ∙ ap (λ k. take k (drop i ns)) as_long)
-
-pub one_past : (a : ℕ) (ns : List ℕ) (i : ℕ) → length ns ≤ i
-    → numbers_at (zip (range_with_len a (length ns)) ns) (a + i) ≡ []
-one_past a [] i l = refl
-one_past a (n ∷ ns) zero l = absurd (omega arith)
-one_past a (n ∷ ns) (suc i) l =
-    rw (ne_eqb a (a + suc i) (λ same. omega (arith, same)))
-    (let there : a + suc i ≡ (a + 1) + i = omega arith in
-    ap (numbers_at (zip (range_with_len (a + 1) (length ns)) ns)) there ∙ one_past (a + 1) ns i
-    (omega arith))
-
-pub number_of_one : (ns : List ℕ) (doc : ℕ) → doc < length ns
-    → slice_range ns doc (doc + 1) ≡ numbers_at (zip (range_with_len 0 (length ns)) ns) doc
-number_of_one ns doc l = let same : 0 + doc ≡ doc = omega arith in sym (one_found 0 ns doc l)
-    ∙ ap (numbers_at (zip (range_with_len 0 (length ns)) ns)) same
-
-pub number_of_none : (ns : List ℕ) (doc : ℕ) → length ns ≤ doc
-    → [] ≡ numbers_at (zip (range_with_len 0 (length ns)) ns) doc
-number_of_none ns doc l = let same : 0 + doc ≡ doc = omega arith in sym (one_past 0 ns doc l)
-    ∙ ap (numbers_at (zip (range_with_len 0 (length ns)) ns)) same
 
 -- ---- steps of the loops
 

@@ -7,5 +7,6 @@ pub mod KeptCells
 pub mod Layouts
 pub mod Members
 pub mod Numbers
+pub mod OneEachNumbers
 pub mod Places
 pub mod TextPlaces

@@ -16,7 +16,7 @@ use Rattle.agg_column.specs.Cells.{Placed, is_at, keys_at}
 use Rattle.agg_column.specs.Columns.{StoredColumn, column_cells, column_keys, all_keys}
 use Rattle.agg_column.specs.Columns.{numbers_at, encoded_key, keys_rank, IsColumnBefore}
 use Rattle.agg_column.specs.Columns.{AreInOrder, ClassesAscend}
-use Rattle.agg_segment.proofs.BuilderDocuments.{keys_split}
+use Rattle.agg_segment.proofs.DocumentKeys.{keys_split}
 use Rattle.agg_column.proofs.KeptCells.{filter_map_is}
 
 -- ---- a part of a list that holds what passes

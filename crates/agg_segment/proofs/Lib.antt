@@ -3,9 +3,11 @@ pub mod AlikeNumbers
 pub mod BuilderDocuments
 pub mod BuilderKeys
 pub mod ByClass
+pub mod CellKeys
 pub mod ClosedDocuments
 pub mod ColumnOrder
 pub mod ColumnSort
+pub mod DocumentKeys
 pub mod Encoded
 pub mod FieldColumns
 pub mod FieldSigns
@@ -14,7 +16,10 @@ pub mod LinkedColumns
 pub mod ListedPlaces
 pub mod Marks
 pub mod MovedKeys
+pub mod NewFields
 pub mod Ordinals
 pub mod Queries
 pub mod QueryHits
 pub mod Raws
+pub mod SortedKeys
+pub mod WideColumns

@@ -20,12 +20,13 @@ use Rattle.agg_column.specs.declared.sign.Sign.TheVariants.{Small}
 use Rattle.agg_segment.specs.Gatherings.{Raw, raw_placed, IsRaw, AreRawsOf, AreAlike}
 use Rattle.agg_column.specs.declared.log.Cell.{Cell}
 use Rattle.agg_segment.proofs.AlikeNumbers.{alike_contains, alike_back, alike_all, alike_keys}
-use Rattle.agg_segment.proofs.BuilderKeys.{signed_read, cells_read, cells_raw, dropped, taken}
+use Rattle.agg_segment.proofs.BuilderKeys.{signed_read, dropped, taken}
+use Rattle.agg_segment.proofs.CellKeys.{cells_read, cells_raw}
 use Rattle.agg_segment.proofs.ClosedDocuments.{all_docs, finish_documents, not_mixed}
 use Rattle.agg_segment.proofs.Encoded.{front_all, back_all}
 use Rattle.agg_column.proofs.KeptCells.{marks_are}
 use Rattle.agg_segment.proofs.FieldSigns.{marks_joined}
-use Rattle.agg_segment.proofs.BuilderDocuments.{keys_none, no_keys_open, map_same}
+use Rattle.agg_segment.proofs.DocumentKeys.{keys_none, no_keys_open, map_same}
 use Rattle.agg_column.proofs.Members.{from_map, contains_map}
 
 pub moved_fields : (count : ℕ) (names : List (List ℕ × ℕ)) (cells others : List Placed) (doc : ℕ)

@@ -1,4 +1,4 @@
-use Rattle.agg_column.proofs.Layouts.{number_of_one, number_of_none}
+use Rattle.agg_column.proofs.OneEachNumbers.{number_of_one, number_of_none}
 use Rattle.agg_column.proofs.rows.one_number.Goals as goal
 
 pub returns-then-at-numbers : goal.returns-then-at-numbers

@@ -5,7 +5,7 @@ use Rattle.agg_column.specs.Cells.{Placed, number_of}
 use Rattle.agg_segment.specs.Segment.{builder_cells, gathered_documents, open_document}
 use Rattle.agg_column.specs.declared.sign.Sign.TheVariants.{Small}
 use Rattle.agg_segment.proofs.BuilderKeys.{padded_read}
-use Rattle.agg_segment.proofs.ClosedDocuments.{field_fields, field_documents, field_inv}
+use Rattle.agg_segment.proofs.NewFields.{field_fields, field_documents, field_inv}
 use Rattle.agg_segment.proofs.builder.SegmentBuilder.field.Goals as goal
 
 fresh : (c : goal.In_ok-push) → number_of c.self.inside.names c.args.name.now

@@ -1,4 +1,4 @@
-use Rattle.agg_segment.proofs.BuilderDocuments.{nothing_gathered}
+use Rattle.agg_segment.proofs.DocumentKeys.{nothing_gathered}
 use Rattle.agg_segment.proofs.builder.SegmentBuilder.new.Goals as goal
 
 pub returns-clause-opened : goal.returns-clause-opened

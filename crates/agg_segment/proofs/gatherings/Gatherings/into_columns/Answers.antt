@@ -8,7 +8,9 @@ use Rattle.agg_column.specs.Signs.{key_mark, AreSigns}
 use Rattle.agg_segment.specs.declared.gatherings.Gathering.{Gathering}
 use Rattle.agg_column.specs.declared.sign.Sign.TheVariants.{Small}
 use Rattle.agg_segment.proofs.AlikeNumbers.{alike_all}
-use Rattle.agg_segment.proofs.ColumnOrder.{wide_columns, in_order, sorted_keys}
+use Rattle.agg_segment.proofs.WideColumns.{wide_columns}
+use Rattle.agg_segment.proofs.ColumnOrder.{in_order}
+use Rattle.agg_segment.proofs.SortedKeys.{sorted_keys}
 use Rattle.agg_segment.proofs.gatherings.Gatherings.into_columns.Goals as goal
 
 pub encode_all-requires-clause-kept : goal.encode_all-requires-clause-kept
