@@ -17,6 +17,7 @@ pub mod ListedPlaces
 pub mod Marks
 pub mod MovedKeys
 pub mod NewFields
+pub mod OrdinalKeys
 pub mod Ordinals
 pub mod Queries
 pub mod QueryHits

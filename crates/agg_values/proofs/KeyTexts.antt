@@ -247,8 +247,9 @@ pub bad_value : {T : Type 0} (r : Result T KeyTextError) (e : KeyTextError) (kin
     ℕ) → IsErrAnd r (λ y. y ≡ e) → e ≡ BadValue → kind ≡ name
     → IsRefusedAs (name ++ colon ∷ value) BadValue → IfErr r (IsRefusedAs (kind ++ colon ∷ value))
 bad_value r e kind name value is bad named refused =
-    passed_on r e (IsRefusedAs (kind ++ colon ∷ value)) is (subst (IsRefusedAs (kind ++ colon ∷ value))
-    (sym bad) (subst (λ k. IsRefusedAs (k ++ colon ∷ value) BadValue) (sym named) refused))
+    passed_on r e (IsRefusedAs (kind ++ colon ∷ value)) is
+    (subst (IsRefusedAs (kind ++ colon ∷ value)) (sym bad)
+    (subst (λ k. IsRefusedAs (k ++ colon ∷ value) BadValue) (sym named) refused))
 
 -- the error of an `ok_or` at None
 pub error_of_none : {T E : Type 0} (o : Option T) (given error : E) → o ≡ None
