@@ -1,3 +1,5 @@
+pub mod AlikeCounts
+pub mod AlikeOccurrences
 pub mod CheckedRequests
 pub mod Checks
 pub mod Faults
@@ -15,8 +17,10 @@ pub mod PageTuples
 pub mod PageUnique
 pub mod PageWalk
 pub mod PageWhole
+pub mod PairedLists
 pub mod Pairs
 pub mod ReadColumns
+pub mod Reorderings
 pub mod RequestTrees
 pub mod SameRequests
 pub mod SourceColumns

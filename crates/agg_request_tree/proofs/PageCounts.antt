@@ -1,5 +1,5 @@
 -- The counts of a page: each is the number of the entry's documents, and none hangs on the order of
--- the documents.
+-- the documents, or on more than the tuples of the documents and how often each occurs.
 use Rattle.std.proofs.Common.{◌≡◌, ℕ, List, [], ◌∷◌, length, get_or, map, refl, sym, ap, ◌∙◌}
 use Rattle.std.specs.List.{All, Contains, count_by}
 use Rattle.std.specs.List.Sorted.{IsPermutation}
@@ -20,6 +20,13 @@ use Rattle.agg_request_tree.proofs.PagePast.{past-parts, past-whole}
 use Rattle.agg_values.specs.Tuple.{KeyTuple}
 use Rattle.agg_request_tree.specs.Groups.{Group}
 
+-- each tuple of documents is one of others
+abbrev pub HoldsTuplesOf : Sources → List Fields → List Fields → Type 0
+HoldsTuplesOf sources documents others =
+    (tuple : KeyTuple)
+    → Contains (occurrences_in sources documents) tuple
+    → Contains (occurrences_in sources others) tuple
+
 module _ (sources : Sources) where
   -- how often a tuple occurs is how many documents it has
   count_in-documents : (documents : List Fields) (tuple : KeyTuple)
@@ -39,9 +46,7 @@ module _ (sources : Sources) where
 
   -- a tuple of the documents is one of them in any order
   occurring-permutation : (documents others : List Fields) → IsPermutation documents others
-      → (tuple : KeyTuple)
-      → Contains (occurrences_in sources documents) tuple
-      → Contains (occurrences_in sources others) tuple
+      → HoldsTuplesOf sources documents others
   occurring-permutation documents others moved tuple c =
       let from = Has-from_flat_map (occurrences sources) documents tuple (Has-from_Contains
       (occurrences_in sources documents) tuple c) in
@@ -73,13 +78,23 @@ module _ (sources : Sources) where
   counted_tuples size bound documents (t ∷ tuples) = ap (λ ts. counted documents t ∷ ts)
       (counted_tuples size bound documents tuples)
 
-  -- the pages of the same documents in two orders have the same tuples and counts
-  pub counts-permutation : (size : ℕ) (bound : KeyTuple) (documents others : List Fields)
-      (page other : List Entry) → IsPermutation documents others
+  -- what one list of documents may list the other may, where it holds the tuples of the one
+  may_list-there : (documents others : List Fields) → HoldsTuplesOf sources documents others
+      → (bound tuple : KeyTuple)
+      → MayList sources bound documents tuple → MayList sources bound others tuple
+  may_list-there documents others there bound tuple may =
+      let parts = past-parts sources bound documents tuple may in
+      past-whole sources bound others tuple (there tuple parts.0) parts.1
+
+  -- the pages of documents with the same tuples and counts have the same tuples and counts
+  pub counts-same : (size : ℕ) (bound : KeyTuple) (documents others : List Fields)
+      (page other : List Entry)
+      → HoldsTuplesOf sources documents others → HoldsTuplesOf sources others documents
+      → ((tuple : KeyTuple) → count_in sources documents tuple ≡ count_in sources others tuple)
       → IsPage sources size bound documents page
       → IsPage sources size bound others other
       → map group_of page ≡ map group_of other
-  counts-permutation size bound documents others page other moved first second =
+  counts-same size bound documents others page other there back same_counts first second =
       ap (map group_of) (entries-from_tuples sources size bound documents page first)
       ∙ counted_tuples size bound documents (map (λ e. e.tuple) page)
       ∙ (λ i. map (same_counted i) (tuples i))
@@ -87,7 +102,7 @@ module _ (sources : Sources) where
       ∙ ap (map group_of) (sym (entries-from_tuples sources size bound others other second))
     where
       same_counted : counted documents ≡ counted others
-      same_counted = λ i t. (t, count_in-permutation documents others moved t i)
+      same_counted = λ i t. (t, same_counts t i)
 
       tuples : map (λ e. e.tuple) page ≡ map (λ e. e.tuple) other
       tuples =
@@ -98,11 +113,18 @@ module _ (sources : Sources) where
           (past-parts sources bound documents u may_u).0 e)
           size (Lowest-from_page sources size bound documents page first)
           (Lowest-alike (tuple_order (rules_of sources)) (MayList sources bound others)
-          (MayList sources bound documents)
-          (λ t may. let parts = past-parts sources bound others t may in
-          past-whole sources bound documents t (occurring-permutation others documents
-          (IsPermutation-sym documents others moved) t parts.0) parts.1)
-          (λ t may. let parts = past-parts sources bound documents t may in
-          past-whole sources bound others t (occurring-permutation documents others moved t parts.0)
-          parts.1)
+          (MayList sources bound documents) (may_list-there others documents back bound)
+          (may_list-there documents others there bound)
           size (map (λ e. e.tuple) other) (Lowest-from_page sources size bound others other second))
+
+  -- the pages of the same documents in two orders have the same tuples and counts
+  pub counts-permutation : (size : ℕ) (bound : KeyTuple) (documents others : List Fields)
+      (page other : List Entry) → IsPermutation documents others
+      → IsPage sources size bound documents page
+      → IsPage sources size bound others other
+      → map group_of page ≡ map group_of other
+  counts-permutation size bound documents others page other moved =
+      counts-same size bound documents others page other
+      (occurring-permutation documents others moved)
+      (occurring-permutation others documents (IsPermutation-sym documents others moved))
+      (count_in-permutation documents others moved)

@@ -34,19 +34,8 @@ use Rattle.agg_request_tree.specs.Source.{or_missing, source_values, start_in, v
 use Rattle.agg_request_tree.proofs.Lists.{AllByRecursion-Has, AllByRecursion-always}
 use Rattle.agg_request_tree.proofs.Lists.{AllByRecursion-flat_map}
 use Rattle.agg_request_tree.proofs.Lists.{AllByRecursion-map, AllByRecursion-weaker, Has-from_Contains}
+use Rattle.agg_request_tree.proofs.PairedLists.{zip_weaker}
 use Rattle.agg_request_tree.proofs.PageAfter.{apart_first, value_of-put, value_of-put_other}
-
--- ---- lists side by side
-
--- what follows at each place, where it also holds of the first of the two
-zip_weaker : {A B : Type 0} (P : A → Type 0) (R S : A → B → Type 0)
-    → ((x : A) (y : B) → P x → R x y → S x y) → (xs : List A) (ys : List B)
-    → AllByRecursion P xs → AllZip R xs ys → AllZip S xs ys
-zip_weaker P R S follows [] [] all zipped = tt
-zip_weaker P R S follows [] (y ∷ ys) all zipped = zipped
-zip_weaker P R S follows (x ∷ xs) [] all zipped = zipped
-zip_weaker P R S follows (x ∷ xs) (y ∷ ys) all zipped =
-    (follows x y all.0 zipped.0, zip_weaker P R S follows xs ys all.1 zipped.1)
 
 -- ---- after values
 

@@ -1,3 +1,4 @@
+pub mod Alike
 pub mod BySource
 pub mod Faults
 pub mod FieldNames

@@ -1,18 +1,23 @@
 //! What holds of pages, as their definition says it.
-ghost use Rattle.std.specs.Prelude.{◌≡◌, ◌≢◌, ℕ, ◌+◌, ◌*◌, ◌<◌, List, ◌++◌, length, map};
+ghost use Rattle.std.specs.Prelude.{◌≡◌, ◌≢◌, ◌↔◌, ℕ, ◌+◌, ◌*◌, ◌<◌, List, ◌++◌, length, map};
 ghost use Rattle.std.specs.Prelude.{take, flat_map, All, AllPairs, Any, Contains, IsPermutation};
 ghost use Rattle.std.specs.List.Sorted.{IsStrictlySortedBy};
 ghost use Rattle.agg_column.specs.Document.{Fields};
 ghost use Rattle.agg_values.specs.KeyOrder.{tuple_order};
+ghost use Rattle.agg_request_tree.specs.Alike.{AreAllAlikeByClass};
 ghost use Rattle.agg_request_tree.specs.Groups.{Groups, Group};
 ghost use Rattle.agg_request_tree.specs.Occurrences.{past_occurrences, bound_of};
 ghost use Rattle.agg_request_tree.specs.BySource.{after_map};
 ghost use Rattle.agg_request_tree.specs.Page.{Entry, IsPage, MayList, entry_of, group_of, tuples_of};
+ghost use Rattle.agg_request_tree.specs.Ranges.{HasStartOutOfRange};
+ghost use Rattle.agg_request_tree.specs.Uncut.{counted, uncut};
 ghost use Rattle.agg_request_tree.specs.Faults.{HaveOwnNames};
 ghost use Rattle.agg_request_tree.specs.Source.{rules_of, Sources};
 ghost use Rattle.agg_request_tree.specs.Successive.{AreSuccessive, Step};
 ghost use Rattle.agg_request_tree.specs.Successive.{entries_of, last_tuple, steps_over};
 ghost use Rattle.agg_values.specs.Tuple.{KeyTuple};
+ghost use Rattle.agg_request_tree.specs.declared.aggregation.CompositeAggregation.{CompositeAggregation};
+ghost use Rattle.agg_request_tree.specs.declared.aggregation.AggregationVariants.{AggregationVariants};
 
 /// Every size, bound and list of documents has a page, and only one.
 pub fn each_request_has_one_page()
@@ -112,6 +117,26 @@ pub fn counts_are_of_the_documents()
         → IsPage sources size bound documents page
         → IsPage sources size bound others other
         → map group_of page ≡ map group_of other }
+{}
+
+/// The order of the classes inside the fields of documents changes no tuple and no count of a page,
+/// nor what an aggregation counts, nor whether a start of a bucket lies outside i64.
+pub fn classes_count_in_any_order<B>()
+    ensures pages { (sources : Sources) (size : ℕ) (bound : KeyTuple)
+        → (documents others : List Fields) (page other : List Entry)
+        → AreAllAlikeByClass documents others
+        → IsPage sources size bound documents page
+        → IsPage sources size bound others other
+        → map group_of page ≡ map group_of other }
+    ensures counts { (composite : CompositeAggregation) (documents others : List Fields)
+        → AreAllAlikeByClass documents others
+        → length (counted composite documents) ≡ length (counted composite others) }
+    ensures uncut { (aggregation : AggregationVariants B) (documents others : List Fields)
+        → AreAllAlikeByClass documents others
+        → AreAllAlikeByClass (uncut aggregation documents) (uncut aggregation others) }
+    ensures starts { (aggregation : AggregationVariants B) (documents others : List Fields)
+        → AreAllAlikeByClass documents others
+        → HasStartOutOfRange aggregation documents ↔ HasStartOutOfRange aggregation others }
 {}
 
 /// The lowest groups of the past occurrences of all documents, as many as the size, are a page.
