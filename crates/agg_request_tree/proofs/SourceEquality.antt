@@ -44,11 +44,11 @@ options-decided eq each (Some x) (Some y) = (λ e. ap Some ((each x y).0 e), λ 
 options-decided eq each None (Some y) = (λ e. absurd (cc), λ e. absurd (cc))
 options-decided eq each (Some x) None = (λ e. absurd (cc), λ e. absurd (cc))
 
-terms-decided : (x y : TermCompositeAggregationSource)
+pub terms-decided : (x y : TermCompositeAggregationSource)
     → Decides (terms.TheImpl.ghosts.eq x y) (x ≡ y)
 terms-decided x y = search rules
 
-histograms-decided : (x y : HistogramCompositeAggregationSource)
+pub histograms-decided : (x y : HistogramCompositeAggregationSource)
     → Decides (steps.TheImpl.ghosts.eq x y) (x ≡ y)
 histograms-decided x y =
     Decides-like _
@@ -77,7 +77,7 @@ histograms-decided x y =
     (Decides-and _ _ (flags-decided x.missing_bucket y.missing_bucket)
     (missing-decided x.missing_order y.missing_order))))))
 
-dates-decided : (x y : DateHistogramCompositeAggregationSource)
+pub dates-decided : (x y : DateHistogramCompositeAggregationSource)
     → Decides (days.TheImpl.ghosts.eq x y) (x ≡ y)
 dates-decided x y =
     Decides-like _

@@ -4,6 +4,7 @@ ghost use Rattle.std.specs.Prelude.{take, flat_map, All, AllPairs, Any, Contains
 ghost use Rattle.std.specs.List.Sorted.{IsStrictlySortedBy};
 ghost use Rattle.agg_column.specs.Document.{Fields};
 ghost use Rattle.agg_values.specs.KeyOrder.{tuple_order};
+ghost use Rattle.agg_values.specs.Laws.{IsSameness};
 ghost use Rattle.agg_request_tree.specs.Alike.{AreAllAlikeByClass};
 ghost use Rattle.agg_request_tree.specs.Groups.{Groups, Group};
 ghost use Rattle.agg_request_tree.specs.Occurrences.{past_occurrences, bound_of};
@@ -18,6 +19,11 @@ ghost use Rattle.agg_request_tree.specs.Successive.{entries_of, last_tuple, step
 ghost use Rattle.agg_values.specs.Tuple.{KeyTuple};
 ghost use Rattle.agg_request_tree.specs.declared.aggregation.CompositeAggregation.{CompositeAggregation};
 ghost use Rattle.agg_request_tree.specs.declared.aggregation.AggregationVariants.{AggregationVariants};
+
+use crate::{
+    CompositeAggregationSource, DateHistogramCompositeAggregationSource,
+    HistogramCompositeAggregationSource, QueryBuildError, TermCompositeAggregationSource,
+};
 
 /// Every size, bound and list of documents has a page, and only one.
 pub fn each_request_has_one_page()
@@ -145,4 +151,13 @@ pub fn the_lowest_groups_are_a_page()
         → (held : List Group)
         → Groups (rules_of sources) (past_occurrences sources bound documents) held
         → IsPage sources size bound documents (map (entry_of sources documents) (take size held)) }
+{}
+
+/// Equality of sources, and of why a builder gave no query, goes by variant and content.
+pub fn request_equality_is_sameness()
+    ensures terms_sources { IsSameness ⟦<TermCompositeAggregationSource as PartialEq>⟧.eq }
+    ensures histogram_sources { IsSameness ⟦<HistogramCompositeAggregationSource as PartialEq>⟧.eq }
+    ensures date_sources { IsSameness ⟦<DateHistogramCompositeAggregationSource as PartialEq>⟧.eq }
+    ensures sources { IsSameness ⟦<CompositeAggregationSource as PartialEq>⟧.eq }
+    ensures build_errors { IsSameness ⟦<QueryBuildError as PartialEq>⟧.eq }
 {}

@@ -21,8 +21,9 @@ pub use field_names::get_fast_field_names;
 pub use laws::{
     a_page_lists_each_tuple_once, a_page_with_room_is_the_last, an_after_key_is_its_tuple,
     classes_count_in_any_order, counts_are_of_the_documents, each_request_has_one_page,
-    successive_pages_are_one_page, successive_pages_end_with_every_tuple,
-    successive_pages_list_each_tuple_once, the_lowest_groups_are_a_page,
+    request_equality_is_sameness, successive_pages_are_one_page,
+    successive_pages_end_with_every_tuple, successive_pages_list_each_tuple_once,
+    the_lowest_groups_are_a_page,
 };
 pub use occurrences::count_uncut;
 pub use source::{
