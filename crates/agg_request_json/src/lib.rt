@@ -3,8 +3,10 @@
 
 mod composite;
 mod custom_order;
+mod laws;
 mod request;
 
 pub use composite::read_composite;
 pub use custom_order::CustomOrder;
+pub use laws::{order_equality_is_sameness, the_default_order};
 pub use request::{HasName, read_aggregations, read_request};
