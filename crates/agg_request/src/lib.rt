@@ -4,7 +4,10 @@
 mod writer;
 
 pub use agg_json::{ReadError, json_value, read_error_equality_is_sameness, read_query};
-pub use agg_request_json::{CustomOrder, HasName, read_aggregations, read_composite, read_request, order_equality_is_sameness, the_default_order};
+pub use agg_request_json::{
+    CustomOrder, HasName, order_equality_is_sameness, read_aggregations, read_composite,
+    read_request, the_default_order,
+};
 pub use agg_request_tree::{
     Aggregation, AggregationVariants, Aggregations, CompositeAggregation,
     CompositeAggregationSource, CountAggregation, DateHistogramCompositeAggregationSource,
@@ -12,8 +15,9 @@ pub use agg_request_tree::{
     MinAggregation, NamedBuilder, QueryBuildError, QueryBuilder, SumAggregation,
     TermCompositeAggregationSource, a_page_lists_each_tuple_once, a_page_with_room_is_the_last,
     an_after_key_is_its_tuple, check_request, classes_count_in_any_order, count_uncut,
-    counts_are_of_the_documents, each_request_has_one_page, request_equality_is_sameness, get_fast_field_names,
-    successive_pages_are_one_page, successive_pages_end_with_every_tuple,
-    successive_pages_list_each_tuple_once, the_lowest_groups_are_a_page,
+    counts_are_of_the_documents, each_request_has_one_page, get_fast_field_names,
+    request_equality_is_sameness, successive_pages_are_one_page,
+    successive_pages_end_with_every_tuple, successive_pages_list_each_tuple_once,
+    the_lowest_groups_are_a_page,
 };
 pub use writer::{may_be_written, write_aggregations};

@@ -19,7 +19,7 @@ loop-source-preserved c segment read are =
     (are.each i d c.source-item.result within)) in
     let more = cut-occurrences-more read i d document c.loop-source.product c.num_keys.result
     (2 ^ 64 - 1) within (c.loop-source.invariant segment read are) own in
-    cc (more, c.saturating_mul-product.ensures)
+    cc more
 
 pub returns : goal.returns
 returns c segment read are =
