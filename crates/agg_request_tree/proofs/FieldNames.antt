@@ -51,9 +51,9 @@ put-adds [] name x (inr has) = absurd has
 put-adds (e ∷ names) name x has =
     by_order (name_cmp name e.0) (put name tt names) (λ told. put-adds names name x told) has
   where
-    behind : (name ≡ x) ⊎ Has x (keys_of names) → (name ≡ x) ⊎ Has x (keys_of (e ∷ names))
-    behind (inl same) = inl same
-    behind (inr has) = inr (inr has)
+    one_further : (name ≡ x) ⊎ Has x (keys_of names) → (name ≡ x) ⊎ Has x (keys_of (e ∷ names))
+    one_further (inl same) = inl same
+    one_further (inr has) = inr (inr has)
 
     by_order : (o : Ordering) (later : Named ⊤)
         → (Has x (keys_of later) → (name ≡ x) ⊎ Has x (keys_of names))
@@ -63,7 +63,7 @@ put-adds (e ∷ names) name x has =
     by_order Less later more (inr has) = inr has
     by_order Equal later more has = inr has
     by_order Greater later more (inl same) = inr (inl same)
-    by_order Greater later more (inr has) = behind (more has)
+    by_order Greater later more (inr has) = one_further (more has)
 
 -- ---- fields so far
 

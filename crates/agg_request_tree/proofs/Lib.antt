@@ -1,5 +1,6 @@
 pub mod AlikeCounts
 pub mod AlikeOccurrences
+pub mod AscendingKeys
 pub mod CheckedRequests
 pub mod Checks
 pub mod Faults

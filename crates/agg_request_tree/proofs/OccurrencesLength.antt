@@ -233,10 +233,10 @@ pub cut-columns-more : (columns : List StoredColumn) (doc i : ℕ) (column : Sto
     → min (count + length values) most ≡ min (length (all_keys (take (i + 1) columns) doc)) most
 cut-columns-more columns doc i column count most values l item c own =
     let before = length (all_keys (take i columns) doc) in
-    let held = sym (length-map values (encoded_key column.keys)) ∙ ap length own in
+    let as_many = sym (length-map values (encoded_key column.keys)) ∙ ap length own in
     let all = all_keys-more columns doc i column l
     ∙ ap (λ (x : StoredColumn). before + length (column_keys x doc)) (sym item) in
     ap (λ n. min (n + length values) most) c
     ∙ ap (λ n. min n most) (add_comm (min before most) (length values))
     ∙ cut-sum (length values) before most
-    ∙ ap (λ n. min n most) (add_comm (length values) before ∙ ap (λ n. before + n) held ∙ sym all)
+    ∙ ap (λ n. min n most) (add_comm (length values) before ∙ ap (λ n. before + n) as_many ∙ sym all)

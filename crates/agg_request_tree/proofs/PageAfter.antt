@@ -93,7 +93,7 @@ bound_of-same [] after other all = refl
 bound_of-same (source ∷ sources) after other all = let rest = bound_of-same sources after other
     all.1 in λ i. bound_from (all.0 i) (rest i)
 
--- the first of different sources has another name than each behind it
+-- the first of different sources has another name than each after it
 pub apart_first : (source : CompositeAggregationSource) (sources : Sources)
     → AllPairs (λ s t. name_of s ≢ name_of t) (source ∷ sources)
     → AllByRecursion (λ s. name_of s ≢ name_of source) sources
@@ -108,14 +108,14 @@ bound_of-after_map [] [] apart whole = refl
 bound_of-after_map [] (k ∷ keys) apart whole = absurd (omega arith)
 bound_of-after_map (source ∷ sources) [] apart whole = absurd (omega arith)
 bound_of-after_map (source ∷ sources) (k ∷ keys) apart whole =
-    let behind = after_map sources keys in
+    let later = after_map sources keys in
     let own : AfterKey = record { 0 = k } in
     let kept =
     AllByRecursion-weaker (λ s. name_of s ≢ name_of source) (λ s.
-    value_of (name_of s) (put (name_of source) own behind) ≡ value_of (name_of s) behind)
-    (λ s differs. value_of-put_other (name_of s) (name_of source) own behind differs) sources
+    value_of (name_of s) (put (name_of source) own later) ≡ value_of (name_of s) later)
+    (λ s differs. value_of-put_other (name_of s) (name_of source) own later differs) sources
     (apart_first source sources apart) in
-    let rest = bound_of-same sources (put (name_of source) own behind) behind kept
+    let rest = bound_of-same sources (put (name_of source) own later) later kept
     ∙ bound_of-after_map sources keys (λ i j d before within. apart (suc i) (suc j) d
     (omega arith) (omega arith)) (omega arith) in
-    λ i. bound_from (value_of-put (name_of source) own behind i) (rest i)
+    λ i. bound_from (value_of-put (name_of source) own later i) (rest i)

@@ -1,8 +1,11 @@
 -- The counts of a page: each is the number of the entry's documents, and none hangs on the order of
 -- the documents, or on more than the tuples of the documents and how often each occurs.
-use Rattle.std.proofs.Common.{◌≡◌, ℕ, List, [], ◌∷◌, length, get_or, map, refl, sym, ap, ◌∙◌}
-use Rattle.std.specs.List.{All, Contains, count_by}
+use Rattle.std.proofs.Common.{◌≡◌, ℕ, ◌+◌, List, [], ◌∷◌, Bool, cond, length, length-append, get_or}
+use Rattle.std.proofs.Common.{map, replicate, refl, sym, ap, ◌∙◌}
+use Rattle.std.specs.List.{All, Contains, count_by, flat_map, sum_by}
 use Rattle.std.specs.List.Sorted.{IsPermutation}
+use Rattle.std.proofs.lemmas.List.{length-replicate}
+use Rattle.std.proofs.lemmas.List.Sums.{sum_by-append, sum_by-cons}
 use Rattle.std.proofs.lemmas.List.Sorted.{Contains-permutation, IsPermutation-sym}
 use Rattle.std.proofs.lemmas.List.Sorted.{sum_by-IsPermutation}
 use Rattle.agg_values.specs.KeyOrder.{tuple_order}
@@ -12,13 +15,34 @@ use Rattle.agg_request_tree.specs.Source.{rules_of, Sources}
 use Rattle.agg_request_tree.specs.Occurrences.{occurrences, occurrences_in, same_tuple}
 use Rattle.agg_request_tree.specs.Page.{Entry, IsPage, MayList, count_in, documents_with, group_of}
 use Rattle.agg_request_tree.proofs.Lists.{Has-from_Contains, Contains-from_Has, Has-flat_map}
-use Rattle.agg_request_tree.proofs.Lists.{Has-from_flat_map, count_by-flat_map, length-repeated}
+use Rattle.agg_request_tree.proofs.Lists.{Has-from_flat_map}
 use Rattle.agg_request_tree.proofs.PageKeys.{Lowest-alike, Lowest-same}
 use Rattle.agg_request_tree.proofs.PageTuples.{occurring-exact}
 use Rattle.agg_request_tree.proofs.PageUnique.{Lowest-from_page, entry_at, entries-from_tuples}
 use Rattle.agg_request_tree.proofs.PagePast.{past-parts, past-whole}
 use Rattle.agg_values.specs.Tuple.{KeyTuple}
 use Rattle.agg_request_tree.specs.Groups.{Group}
+
+-- ---- lists
+
+module _ {X Y : Type 0} (f : X → List Y) where
+  -- a count over parts end to end is the sum of the counts
+  pub count_by-flat_map : (p : Y → Bool) (xs : List X)
+      → count_by p (flat_map f xs) ≡ sum_by (λ x. count_by p (f x)) xs
+  count_by-flat_map p [] = refl
+  count_by-flat_map p (x ∷ xs) =
+      sum_by-append (λ y. cond (p y) 1 0) (f x) (flat_map f xs) ∙ ap (λ n. count_by p (f x) + n)
+      (count_by-flat_map p xs) ∙ sym (sum_by-cons (λ z. count_by p (f z)) x xs)
+
+-- how long a list is in which each element is repeated
+pub length-repeated : {X : Type 0} (n : X → ℕ) (xs : List X)
+    → length (flat_map (λ x. replicate (n x) x) xs) ≡ sum_by n xs
+length-repeated n [] = refl
+length-repeated n (x ∷ xs) =
+    length-append (replicate (n x) x) (flat_map (λ z. replicate (n z) z) xs)
+    ∙ (λ i. length-replicate (n x) x i + length-repeated n xs i) ∙ sym (sum_by-cons n x xs)
+
+-- ---- pages
 
 -- each tuple of documents is one of others
 abbrev pub HoldsTuplesOf : Sources → List Fields → List Fields → Type 0

@@ -14,8 +14,8 @@ use Rattle.agg_request_tree.specs.Occurrences.{occurrences_in, is_past, same_tup
 use Rattle.agg_request_tree.specs.Groups.{Groups, Group}
 use Rattle.agg_request_tree.specs.Page.{Entry, IsPage, entry_of}
 use Rattle.agg_request_tree.proofs.Lists.{Has-from_Contains, Contains-from_Has}
-use Rattle.agg_request_tree.proofs.PageKeys.{ascending_keys, ascending_keys-sorted, ascending_keys-all}
-use Rattle.agg_request_tree.proofs.PageKeys.{ascending_keys-hold, counts_itself}
+use Rattle.agg_request_tree.proofs.AscendingKeys.{ascending_keys, ascending_keys-all}
+use Rattle.agg_request_tree.proofs.AscendingKeys.{ascending_keys-hold, ascending_keys-sorted, counts_itself}
 use Rattle.agg_request_tree.proofs.PageTuples.{occurrences_in-canonical}
 use Rattle.agg_request_tree.proofs.PageFromGroups.{IsPage-from_groups}
 use Rattle.agg_values.specs.Tuple.{KeyTuple}

@@ -90,29 +90,29 @@ module _ (sources : Sources) (documents : List Fields) where
   groups-entries (g ∷ groups) = ap (λ gs. g ∷ gs) (groups-entries groups)
 
   -- the tuples of the entries of the lowest groups
-  pub tuples-lowest : (size : ℕ) (held : List Group)
-      → map (λ e. e.tuple) (map (entry_of sources documents) (take size held))
-      ≡ take size (keys_of held)
-  tuples-lowest size held = tuples-entries (take size held)
-      ∙ sym (take-map (λ (g : Group). g.0) size held)
+  pub tuples-lowest : (size : ℕ) (groups : List Group)
+      → map (λ e. e.tuple) (map (entry_of sources documents) (take size groups))
+      ≡ take size (keys_of groups)
+  tuples-lowest size groups = tuples-entries (take size groups)
+      ∙ sym (take-map (λ (g : Group). g.0) size groups)
 
   -- the lowest groups of all past occurrences, as many as the size, are a page
-  pub IsPage-from_groups : (size : ℕ) (bound : KeyTuple) (held : List Group)
-      → Groups (rules_of sources) (past_occurrences sources bound documents) held
-      → IsPage sources size bound documents (map (entry_of sources documents) (take size held))
-  IsPage-from_groups size bound held groups = record {
-    ascending = subst (IsStrictlySortedBy R) (sym (tuples-lowest size held))
-        (IsStrictlySortedBy-take R size (keys_of held) groups.ascending);
+  pub IsPage-from_groups : (size : ℕ) (bound : KeyTuple) (groups : List Group)
+      → Groups (rules_of sources) (past_occurrences sources bound documents) groups
+      → IsPage sources size bound documents (map (entry_of sources documents) (take size groups))
+  IsPage-from_groups size bound groups are = record {
+    ascending = subst (IsStrictlySortedBy R) (sym (tuples-lowest size groups))
+        (IsStrictlySortedBy-take R size (keys_of groups) are.ascending);
     short = simp (length-map, length-take) (omega arith);
-    listed = All-map MayList_here (entry_of sources documents) (take size held) (All-take (λ g.
-        MayList sources bound documents g.0) size held may);
-    complete = λ tuple may out. full tuple out (in_front_or_above R size (keys_of held) tuple
-        groups.ascending (holds tuple may));
+    listed = All-map MayList_here (entry_of sources documents) (take size groups) (All-take (λ g.
+        MayList sources bound documents g.0) size groups may);
+    complete = λ tuple may out. full tuple out (in_front_or_above R size (keys_of groups) tuple
+        are.ascending (holds tuple may));
     counted = All-map (λ e. e.count ≡ count_in sources documents e.tuple)
-        (entry_of sources documents) (take size held) (All-take (λ g. g.1
-        ≡ count_in sources documents g.0) size held exact);
+        (entry_of sources documents) (take size groups) (All-take (λ g. g.1
+        ≡ count_in sources documents g.0) size groups exact);
     kept = All-map (λ e. e.documents ≡ documents_with sources documents e.tuple)
-        (entry_of sources documents) (take size held) (λ k d lt. refl);
+        (entry_of sources documents) (take size groups) (λ k d lt. refl);
   }
     where
       R : KeyTuple → KeyTuple → Ordering
@@ -121,31 +121,31 @@ module _ (sources : Sources) (documents : List Fields) where
       MayList_here : Entry → Type 0
       MayList_here e = MayList sources bound documents e.tuple
 
-      may : All (λ g. MayList sources bound documents g.0) held
-      may = All-from_map (MayList sources bound documents) (λ g. g.0) held groups.occurring
+      may : All (λ g. MayList sources bound documents g.0) groups
+      may = All-from_map (MayList sources bound documents) (λ g. g.0) groups are.occurring
 
       holds : (tuple : KeyTuple) → MayList sources bound documents tuple
-          → Contains (keys_of held) tuple
+          → Contains (keys_of groups) tuple
       holds tuple m =
-          All-contains (Contains (keys_of held)) (past_occurrences sources bound documents) tuple
-          groups.complete m
+          All-contains (Contains (keys_of groups)) (past_occurrences sources bound documents) tuple
+          are.complete m
 
       full : (tuple : KeyTuple)
-          → ¬ (Contains (map (λ e. e.tuple) (map (entry_of sources documents) (take size held)))
+          → ¬ (Contains (map (λ e. e.tuple) (map (entry_of sources documents) (take size groups)))
           tuple)
-          → Contains (take size (keys_of held)) tuple ⊎ (All (λ l. R l tuple ≡ Less)
-          (take size (keys_of held)) × (length (take size (keys_of held)) ≡ size))
-          → All (λ e. R e.tuple tuple ≡ Less) (map (entry_of sources documents) (take size held))
-          × (length (map (entry_of sources documents) (take size held)) ≡ size)
+          → Contains (take size (keys_of groups)) tuple ⊎ (All (λ l. R l tuple ≡ Less)
+          (take size (keys_of groups)) × (length (take size (keys_of groups)) ≡ size))
+          → All (λ e. R e.tuple tuple ≡ Less) (map (entry_of sources documents) (take size groups))
+          × (length (map (entry_of sources documents) (take size groups)) ≡ size)
       full tuple out (inl c) =
-          absurd (out (subst (λ ts. Contains ts tuple) (sym (tuples-lowest size held)) c))
+          absurd (out (subst (λ ts. Contains ts tuple) (sym (tuples-lowest size groups)) c))
       full tuple out (inr h) = (
         All-from_map (λ l. R l tuple ≡ Less) (λ e. e.tuple) _ (subst (All (λ l. R l tuple ≡ Less))
-            (sym (tuples-lowest size held)) h.0),
-        sym (length-map _ (λ (e : Entry). e.tuple)) ∙ ap length (tuples-lowest size held) ∙ h.1,
+            (sym (tuples-lowest size groups)) h.0),
+        sym (length-map _ (λ (e : Entry). e.tuple)) ∙ ap length (tuples-lowest size groups) ∙ h.1,
       )
 
-      exact : All (λ g. g.1 ≡ count_in sources documents g.0) held
-      exact k d lt = (groups.counted k d lt).1 ∙ count_by-past (rules_of sources) bound
-          (get_or held k d).0 (occurrences_in sources documents)
-          (past-parts sources bound documents (get_or held k d).0 (may k d lt)).1
+      exact : All (λ g. g.1 ≡ count_in sources documents g.0) groups
+      exact k d lt = (are.counted k d lt).1 ∙ count_by-past (rules_of sources) bound
+          (get_or groups k d).0 (occurrences_in sources documents)
+          (past-parts sources bound documents (get_or groups k d).0 (may k d lt)).1

@@ -16,7 +16,7 @@ use Rattle.agg_request_tree.specs.Successive.{AreSuccessive, Step, last_tuple}
 use Rattle.agg_request_tree.proofs.Lists.{Has, Has-from_Contains, Contains-from_Has}
 use Rattle.agg_request_tree.proofs.Lists.{AllByRecursion-append, AllByRecursion-Has}
 use Rattle.agg_request_tree.proofs.Lists.{AllByRecursion-weaker, Has-append_left, Has-append_right}
-use Rattle.agg_request_tree.proofs.PageKeys.{AllPairs-from_sorted, Lowest, held_or_not, sorted_append}
+use Rattle.agg_request_tree.proofs.PageKeys.{AllPairs-from_sorted, Lowest, among_or_not, sorted_append}
 use Rattle.agg_request_tree.proofs.PagePast.{is_past-above, is_past-whole, past-parts, past-whole}
 use Rattle.agg_request_tree.proofs.PageTuples.{occurring-canonical}
 use Rattle.agg_request_tree.proofs.PageUnique.{Lowest-from_page}
@@ -51,7 +51,7 @@ module _ (sources : Sources) where
   past_whole last tuple in_last in_tuple = is_past-whole (rules_of sources) last tuple in_last.0
       in_tuple.0
 
-  -- tuples past a bound ascend, and behind them others that ascend past the last of them
+  -- tuples past a bound ascend, and after them others that ascend past the last of them
   ascend_on : (bound : KeyTuple) (page : List Entry) (rest : List KeyTuple)
       → IsStrictlySortedBy order_here (map (λ e. e.tuple) page)
       → AllByRecursion (LiesPast bound) (map (λ e. e.tuple) page)
@@ -130,11 +130,11 @@ module _ (sources : Sources) where
   SomeRoom steps = (step : Step) × Has step steps × (length step.page < step.size)
 
   -- room, but not at the first step
-  room_behind : (step : Step) (steps : List Step) → length step.page ≡ step.size
+  room_later : (step : Step) (steps : List Step) → length step.page ≡ step.size
       → SomeRoom (step ∷ steps) → SomeRoom steps
-  room_behind step steps full (s, inl e, room) = absurd (let same = ap (λ (z : Step). length z.page)
+  room_later step steps full (s, inl e, room) = absurd (let same = ap (λ (z : Step). length z.page)
       e in let size = ap (λ (z : Step). z.size) e in omega arith)
-  room_behind step steps full (s, inr h, room) = (s, h, room)
+  room_later step steps full (s, inr h, room) = (s, h, room)
 
   -- a tuple that every step's documents have is listed, where some page has room
   stays : (bound : KeyTuple) (steps : List Step) → AreSuccessive sources bound steps
@@ -145,11 +145,11 @@ module _ (sources : Sources) where
   stays bound [] walk tuple past there room = absurd room.1
   stays bound (step ∷ steps) walk tuple past there room =
       subst (Has tuple) (sym (map-append (λ (e : Entry). e.tuple) step.page (entries_of steps)))
-      (listed_or (held_or_not order_here (tuple_order-total (rules_of sources))
+      (listed_or (among_or_not order_here (tuple_order-total (rules_of sources))
       (IsCanonicalTuple (rules_of sources)) (tuple_order-exact (rules_of sources)) tuple tuples
       past.0 canonical)
       (λ below full. stays (last_tuple bound step.page) steps walk.1 tuple
-      (past_last bound step.page tuple canonical below past) there.1 (room_behind step steps
+      (past_last bound step.page tuple canonical below past) there.1 (room_later step steps
       full room)))
     where
       tuples : List KeyTuple

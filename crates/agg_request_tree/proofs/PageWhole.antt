@@ -13,7 +13,7 @@ use Rattle.agg_request_tree.specs.Occurrences.{past_occurrences}
 use Rattle.agg_request_tree.specs.Page.{Entry, IsPage, entry_of}
 use Rattle.agg_request_tree.specs.Successive.{AreSuccessive, last_tuple, steps_over}
 use Rattle.agg_request_tree.proofs.Lists.{Has, Has-from_Contains, Contains-from_Has}
-use Rattle.agg_request_tree.proofs.PageKeys.{ascending_keys, length-ascending_keys}
+use Rattle.agg_request_tree.proofs.AscendingKeys.{ascending_keys, length-ascending_keys}
 use Rattle.agg_request_tree.proofs.PageFromGroups.{tuples-lowest}
 use Rattle.agg_request_tree.proofs.PageUnique.{IsPage-same}
 use Rattle.agg_request_tree.proofs.PageExists.{groups_of, keys-groups, Groups-past, IsPage-past}

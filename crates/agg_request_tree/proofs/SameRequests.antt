@@ -7,7 +7,7 @@ use Rattle.agg_request_tree.specs.Request.{own_builder}
 use Rattle.agg_request_tree.specs.declared.aggregation.Aggregation.{Aggregation}
 use Rattle.agg_request_tree.proofs.RequestTrees.{listed-out, made-of_parts}
 
--- two lists behind one another are empty where they are together
+-- two lists one after the other are empty where they are together
 both-empty : {X : Type 0} (xs ys : List X) → xs ++ ys ≡ [] → (xs ≡ []) × (ys ≡ [])
 both-empty [] ys e = (refl, e)
 both-empty (x ∷ xs) ys e = absurd (cc)

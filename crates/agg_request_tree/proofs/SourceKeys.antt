@@ -51,13 +51,13 @@ after_map-values [] [] apart whole = tt
 after_map-values [] (k ∷ keys) apart whole = absurd (omega arith)
 after_map-values (source ∷ sources) [] apart whole = absurd (omega arith)
 after_map-values (source ∷ sources) (k ∷ keys) apart whole =
-    let behind = after_map sources keys in
+    let later = after_map sources keys in
     let own : AfterKey = record { 0 = k } in (
-      value_of-put (name_of source) own behind,
-      zip_weaker (λ s. name_of s ≢ name_of source) (IsAfterValue behind)
-          (IsAfterValue (put (name_of source) own behind))
+      value_of-put (name_of source) own later,
+      zip_weaker (λ s. name_of s ≢ name_of source) (IsAfterValue later)
+          (IsAfterValue (put (name_of source) own later))
           (λ s key differs same.
-          value_of-put_other (name_of s) (name_of source) own behind differs ∙ same)
+          value_of-put_other (name_of s) (name_of source) own later differs ∙ same)
           sources keys (apart_first source sources apart)
           (after_map-values sources keys
           (λ i j d before within. apart (suc i) (suc j) d (omega arith) (omega arith))
@@ -146,11 +146,11 @@ occurrences-zip R document each (source ∷ sources) =
 pub occurrence-Null : (sources : Sources) (document : Fields) (tuple : KeyTuple)
     → ((field : List ℕ) → All (λ k. k ≢ Null) (document field))
     → Contains (occurrences sources document) tuple → AllZip IsNullByBucket sources tuple
-occurrence-Null sources document tuple others held =
+occurrence-Null sources document tuple others occurs =
     AllByRecursion-Has (AllZip IsNullByBucket sources) (occurrences sources document) tuple
     (occurrences-zip IsNullByBucket document
     (λ source. source_values-Null source document (others (field_of source))) sources)
-    (Has-from_Contains (occurrences sources document) tuple held)
+    (Has-from_Contains (occurrences sources document) tuple occurs)
 
 -- where each after value is its key of such a tuple, Null stands only where it may
 pub after_value-no_Null : (after : Named AfterKey) (sources : Sources) (tuple : KeyTuple)
@@ -172,13 +172,13 @@ pub after_map-sound : (composite : CompositeAggregation) (document : Fields) (tu
     → ((field : List ℕ) → All (λ k. k ≢ Null) (document field))
     → Contains (occurrences composite.sources document) tuple
     → All (λ source. ¬ (IsNullAfter source (after_of composite.after source))) composite.sources
-after_map-sound composite document tuple is apart whole others held =
+after_map-sound composite document tuple is apart whole others occurs =
     let sources = composite.sources in
     All-from_recursion (λ source. ¬ (IsNullAfter source (after_of composite.after source))) sources
     (after_value-no_Null composite.after sources tuple
     (subst (λ after. AllZip (IsAfterValue after) sources tuple) (sym is)
     (after_map-values sources tuple apart whole))
-    (occurrence-Null sources document tuple others held))
+    (occurrence-Null sources document tuple others occurs))
 
 -- ---- types
 
@@ -217,12 +217,12 @@ or_missing-own source missing (k ∷ keys) own = own
 -- the keys of a tuple of a document are of their sources' types
 pub occurrence-own : (sources : Sources) (document : Fields) (tuple : KeyTuple)
     → Contains (occurrences sources document) tuple → AllZip IsOfOwnType sources tuple
-occurrence-own sources document tuple held =
+occurrence-own sources document tuple occurs =
     AllByRecursion-Has (AllZip IsOfOwnType sources) (occurrences sources document) tuple
     (occurrences-zip IsOfOwnType document
     (λ source. or_missing-own source (missing_bucket_of source) _
     (keys_in-own source (values_at (field_of source) document))) sources)
-    (Has-from_Contains (occurrences sources document) tuple held)
+    (Has-from_Contains (occurrences sources document) tuple occurs)
 
 -- where each after value is its key of such a tuple, none is of another type
 after_value-own : (after : Named AfterKey) (sources : Sources) (tuple : KeyTuple)
@@ -243,10 +243,10 @@ pub after_map-own : (composite : CompositeAggregation) (document : Fields) (tupl
     → length tuple ≡ length composite.sources
     → Contains (occurrences composite.sources document) tuple
     → All (λ source. ¬ (IsOtherAfter source (after_of composite.after source))) composite.sources
-after_map-own composite document tuple is apart whole held =
+after_map-own composite document tuple is apart whole occurs =
     let sources = composite.sources in
     All-from_recursion (λ source. ¬ (IsOtherAfter source (after_of composite.after source))) sources
     (after_value-own composite.after sources tuple
     (subst (λ after. AllZip (IsAfterValue after) sources tuple) (sym is)
     (after_map-values sources tuple apart whole))
-    (occurrence-own sources document tuple held))
+    (occurrence-own sources document tuple occurs))

@@ -16,11 +16,11 @@ length-counted composite [] = refl
 length-counted composite (d ∷ documents) =
     let counted = λ (document : Fields). map (λ tuple. document) (occurrences composite.sources
     document) in
-    let held = occurrences composite.sources in
+    let tuples_of = occurrences composite.sources in
     let left = ap length (flat_map-cons counted d documents) ∙ length-append (counted d)
     (flat_map counted documents) in
-    let right = ap length (flat_map-cons held d documents) ∙ length-append (held d)
-    (flat_map held documents) in
-    let one = length-map (held d) (λ tuple. d) in
+    let right = ap length (flat_map-cons tuples_of d documents) ∙ length-append (tuples_of d)
+    (flat_map tuples_of documents) in
+    let one = length-map (tuples_of d) (λ tuple. d) in
     let rest = length-counted composite documents in
     omega (arith, left, right, one, rest)

@@ -57,7 +57,7 @@ IsIntervalFault (DateHistogram s) refusal = interval_of s ≡ Err refusal
 abbrev pub HasInterval : CompositeAggregationSource → Type 0
 HasInterval source = NoneIs (IsIntervalFault source)
 
--- a source that goes on behind an after value, or begins where there is none, has this fault
+-- a source that goes on after an after value, or begins where there is none, has this fault
 abbrev pub SourceHasFault : CompositeAggregationSource → Option CompositeIntermediateKey
     → RequestError → Type 0
 SourceHasFault source after (error.Invalid argument.NullAfter) = IsNullAfter source after

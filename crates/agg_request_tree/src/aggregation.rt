@@ -53,6 +53,6 @@ pub struct CompositeAggregation {
     pub sources: ItemList<CompositeAggregationSource>,
     /// How many groups a page has room for.
     pub size: u32,
-    /// The key behind which the page begins, by the names of sources.
+    /// The key after which the page begins, by the names of sources.
     pub after: NameMap<AfterKey>,
 }

@@ -148,9 +148,9 @@ pub fn classes_count_in_any_order<B>()
 /// The lowest groups of the past occurrences of all documents, as many as the size, are a page.
 pub fn the_lowest_groups_are_a_page()
     ensures { (sources : Sources) (size : ℕ) (bound : KeyTuple) (documents : List Fields)
-        → (held : List Group)
-        → Groups (rules_of sources) (past_occurrences sources bound documents) held
-        → IsPage sources size bound documents (map (entry_of sources documents) (take size held)) }
+        → (groups : List Group)
+        → Groups (rules_of sources) (past_occurrences sources bound documents) groups
+        → IsPage sources size bound documents (map (entry_of sources documents) (take size groups)) }
 {}
 
 /// Equality of sources, and of why a builder gave no query, goes by variant and content.

@@ -2,5 +2,5 @@ use Rattle.agg_request_tree.proofs.PageFromGroups.{IsPage-from_groups}
 use Rattle.agg_request_tree.proofs.laws.the_lowest_groups_are_a_page.Goals as goal
 
 pub returns : goal.returns
-returns c sources size bound documents held groups = IsPage-from_groups sources documents size bound
-    held groups
+returns c sources size bound documents groups are = IsPage-from_groups sources documents size bound
+    groups are

@@ -30,5 +30,5 @@ returns c =
     let whole : length (lent columns) ≤ c.loop-column.column-index =
     omega (arith, c.loop-column-test.false, length-map columns (λ (x : Bor StoredColumn). x.now)) in
     c.loop-column.invariant
-    ∙ ap (λ held. min (length (all_keys held c.args.doc)) (2 ^ 64 - 1))
+    ∙ ap (λ stored. min (length (all_keys stored c.args.doc)) (2 ^ 64 - 1))
     (take_all c.loop-column.column-index (lent columns) whole)

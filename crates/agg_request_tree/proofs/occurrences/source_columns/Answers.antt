@@ -23,7 +23,7 @@ loop-source-preserved c =
     c.loop-source.invariant c.loop-source-test.true c.source-item.is
     (record {
       keys = λ doc.
-          ap (λ held. length (all_keys held doc)) c.in_ok-read_columns.ensures
+          ap (λ read. length (all_keys read doc)) c.in_ok-read_columns.ensures
           ∙ length-read source columns doc
           ∙ ap (λ keys. length (keys_in source (map canonical_key keys)))
           (c.columns.ensures.keys doc ∙ ap (document_at segment doc) c.field.ensures);
