@@ -1,7 +1,8 @@
 -- The kinds of filters: a body is read by its kind.
-use Rattle.std.proofs.Common.{◌≡◌, ◌<◌, Bool, true, false, true≢false, eq-eqb, eqb, List, []}
-use Rattle.std.proofs.Common.{◌∷◌, ℕ, zero, suc, ◌+◌, ◌*◌, Option, Some, None, Result, codes, refl}
-use Rattle.std.proofs.Common.{sym, ap, ◌∙◌, subst, arith, inl, inr, ◌⊎◌, IsErrOf}
+use Rattle.std.proofs.Common.{◌≡◌, ◌<◌, Bool, true, false, cond, List, [], ℕ, zero, suc, Option, Some}
+use Rattle.std.proofs.Common.{None, Result, codes, refl, sym, ap, ◌∙◌, subst, arith, inl, inr, ◌⊎◌}
+use Rattle.std.proofs.Common.{IsErrOf}
+use Rattle.std.specs.Str.{bytes_eq}
 use Rattle.serde_json.specs.Data.{Data, null, boolean, number, string, array, object, member}
 use Rattle.serde_json.specs.Data.{no_members, depth}
 use Rattle.serde_json.specs.Find.{as_str}
@@ -17,198 +18,116 @@ use Rattle.agg_json.specs.declared.read_error.ReadError.{ReadError}
 use Rattle.agg_json.specs.declared.read_error.ReadError.TheVariants.{Unsupported, Grammar}
 use Rattle.agg_json.proofs.Readings.{read_as}
 
--- a number that tells kinds apart
-abbrev weight : List ℕ → ℕ
-weight [] = 0
-weight (c ∷ cs) = c + 256 * weight cs
+-- ---- kinds
 
--- a kind is one kind
-differ : (kind : List ℕ) {a b : List ℕ} → kind ≡ a → kind ≡ b
-    → eqb (weight a) (weight b) ≡ false → ⊥
-differ kind {a = a} {b = b} is other apart =
-    true≢false (sym (eq-eqb (weight a) (weight b) (ap weight (sym is ∙ other))) ∙ apart)
+-- the kinds of filters
+pub data FilterKind : Type 0 where
+  all : FilterKind
+  empty : FilterKind
+  term : FilterKind
+  range : FilterKind
+  exists : FilterKind
+  bool : FilterKind
 
--- ---- all
+-- the name of a kind
+abbrev pub word_of : FilterKind → List ℕ
+word_of all = codes "all"
+word_of empty = codes "empty"
+word_of term = codes "term"
+word_of range = codes "range"
+word_of exists = codes "exists"
+word_of bool = codes "bool"
 
--- a body of this kind
-only_all : (lenient : Bool) (IsInner : Data → QueryTree → Type 0) (kind : List ℕ) (body : Data)
-    (tree : QueryTree) → kind ≡ codes "all" → IsOfKind lenient IsInner kind body tree
-    → IsPlain All body tree
-only_all lenient IsInner kind body tree is = of
-  where
-    of : IsOfKind lenient IsInner kind body tree → IsPlain All body tree
-    of (inl (e, h)) = h
-    of (inr (inl (e, h))) = absurd (differ kind is e refl)
-    of (inr (inr (inl (e, h)))) = absurd (differ kind is e refl)
-    of (inr (inr (inr (inl (e, h))))) = absurd (differ kind is e refl)
-    of (inr (inr (inr (inr (inl (e, h)))))) = absurd (differ kind is e refl)
-    of (inr (inr (inr (inr (inr (e, h)))))) = absurd (differ kind is e refl)
+-- a body of a kind stands for a query
+abbrev pub IsBody : Bool → (Data → QueryTree → Type 0) → FilterKind → Data → QueryTree → Type 0
+IsBody lenient IsInner all = IsPlain All
+IsBody lenient IsInner empty = IsPlain Empty
+IsBody lenient IsInner term = IsTerm lenient
+IsBody lenient IsInner range = IsRange lenient
+IsBody lenient IsInner exists = IsExists
+IsBody lenient IsInner bool = IsBoolean IsInner
 
--- what is read of it as such is read of it by its kind
-pub read_all : (n : ℕ) (kind : List ℕ) (body : Data) (result : Result QueryTree ReadError)
-    → kind ≡ codes "all"
-    → IsReading (λ lenient. IsPlain All body) ⊥ result
-    → IsReading (λ lenient. IsOfKind lenient (IsFilter lenient n) kind body)
-    (HasUnsupportedIn (HasUnsupportedFilter n) kind body) result
-read_all n kind body result is told =
-    read_as (λ lenient. IsPlain All body) ⊥
-    (λ lenient. IsOfKind lenient (IsFilter lenient n) kind body)
-    (HasUnsupportedIn (HasUnsupportedFilter n) kind body) result told
-    (λ tree h. inl (is, h))
-    (λ h. absurd h)
-    (λ lenient tree h. only_all lenient (IsFilter lenient n) kind body tree is h)
+-- a text of the type that isn't supported stands in a body of a kind
+abbrev pub HasUnsupportedValue : (Data → Type 0) → FilterKind → Data → Type 0
+HasUnsupportedValue Has term body = HasUnsupportedAt (codes "value") body
+HasUnsupportedValue Has range body = HasUnsupportedBound body
+HasUnsupportedValue Has bool body = HasUnsupportedBody Has body
+HasUnsupportedValue Has all body = ⊥
+HasUnsupportedValue Has empty body = ⊥
+HasUnsupportedValue Has exists body = ⊥
 
--- ---- empty
+-- the kind of a name
+abbrev kind_named : List ℕ → FilterKind
+kind_named name =
+    cond (bytes_eq name (codes "all")) all (cond (bytes_eq name (codes "empty")) empty
+    (cond (bytes_eq name (codes "term")) term (cond (bytes_eq name (codes "range")) range
+    (cond (bytes_eq name (codes "exists")) exists bool))))
 
--- a body of this kind
-only_empty : (lenient : Bool) (IsInner : Data → QueryTree → Type 0) (kind : List ℕ) (body : Data)
-    (tree : QueryTree) → kind ≡ codes "empty" → IsOfKind lenient IsInner kind body tree
-    → IsPlain Empty body tree
-only_empty lenient IsInner kind body tree is = of
-  where
-    of : IsOfKind lenient IsInner kind body tree → IsPlain Empty body tree
-    of (inl (e, h)) = absurd (differ kind is e refl)
-    of (inr (inl (e, h))) = h
-    of (inr (inr (inl (e, h)))) = absurd (differ kind is e refl)
-    of (inr (inr (inr (inl (e, h))))) = absurd (differ kind is e refl)
-    of (inr (inr (inr (inr (inl (e, h)))))) = absurd (differ kind is e refl)
-    of (inr (inr (inr (inr (inr (e, h)))))) = absurd (differ kind is e refl)
+named-word : (kind : FilterKind) → kind_named (word_of kind) ≡ kind
+named-word all = refl
+named-word empty = refl
+named-word term = refl
+named-word range = refl
+named-word exists = refl
+named-word bool = refl
 
--- what is read of it as such is read of it by its kind
-pub read_empty : (n : ℕ) (kind : List ℕ) (body : Data) (result : Result QueryTree ReadError)
-    → kind ≡ codes "empty"
-    → IsReading (λ lenient. IsPlain Empty body) ⊥ result
-    → IsReading (λ lenient. IsOfKind lenient (IsFilter lenient n) kind body)
-    (HasUnsupportedIn (HasUnsupportedFilter n) kind body) result
-read_empty n kind body result is told =
-    read_as (λ lenient. IsPlain Empty body) ⊥
-    (λ lenient. IsOfKind lenient (IsFilter lenient n) kind body)
-    (HasUnsupportedIn (HasUnsupportedFilter n) kind body) result told
-    (λ tree h. inr (inl (is, h)))
-    (λ h. absurd h)
-    (λ lenient tree h. only_empty lenient (IsFilter lenient n) kind body tree is h)
+module _ (name : List ℕ) (body : Data) where
+  -- a body by the name of its kind is a body of some kind of that name
+  some_kind : (lenient : Bool) (IsInner : Data → QueryTree → Type 0) (tree : QueryTree)
+      → IsOfKind lenient IsInner name body tree
+      → (kind : FilterKind) × (name ≡ word_of kind) × IsBody lenient IsInner kind body tree
+  some_kind lenient IsInner tree (inl (is, h)) = (all, is, h)
+  some_kind lenient IsInner tree (inr (inl (is, h))) = (empty, is, h)
+  some_kind lenient IsInner tree (inr (inr (inl (is, h)))) = (term, is, h)
+  some_kind lenient IsInner tree (inr (inr (inr (inl (is, h))))) = (range, is, h)
+  some_kind lenient IsInner tree (inr (inr (inr (inr (inl (is, h)))))) = (exists, is, h)
+  some_kind lenient IsInner tree (inr (inr (inr (inr (inr (is, h)))))) = (bool, is, h)
 
--- ---- term
+  -- and of no other kind
+  only_kind : (lenient : Bool) (IsInner : Data → QueryTree → Type 0) (tree : QueryTree)
+      → (kind : FilterKind) → name ≡ word_of kind → IsOfKind lenient IsInner name body tree
+      → IsBody lenient IsInner kind body tree
+  only_kind lenient IsInner tree kind is h =
+      let some = some_kind lenient IsInner tree h in
+      let same : some.0 ≡ kind =
+      sym (named-word some.0) ∙ ap kind_named (sym some.1 ∙ is) ∙ named-word kind in
+      subst (λ k. IsBody lenient IsInner k body tree) same some.2
 
--- a body of this kind
-only_term : (lenient : Bool) (IsInner : Data → QueryTree → Type 0) (kind : List ℕ) (body : Data)
-    (tree : QueryTree) → kind ≡ codes "term" → IsOfKind lenient IsInner kind body tree
-    → IsTerm lenient body tree
-only_term lenient IsInner kind body tree is = of
-  where
-    of : IsOfKind lenient IsInner kind body tree → IsTerm lenient body tree
-    of (inl (e, h)) = absurd (differ kind is e refl)
-    of (inr (inl (e, h))) = absurd (differ kind is e refl)
-    of (inr (inr (inl (e, h)))) = h
-    of (inr (inr (inr (inl (e, h))))) = absurd (differ kind is e refl)
-    of (inr (inr (inr (inr (inl (e, h)))))) = absurd (differ kind is e refl)
-    of (inr (inr (inr (inr (inr (e, h)))))) = absurd (differ kind is e refl)
+  -- a body of a kind is one by the kind's name
+  by_name : (lenient : Bool) (IsInner : Data → QueryTree → Type 0) (tree : QueryTree)
+      → (kind : FilterKind) → name ≡ word_of kind → IsBody lenient IsInner kind body tree
+      → IsOfKind lenient IsInner name body tree
+  by_name lenient IsInner tree all is h = inl (is, h)
+  by_name lenient IsInner tree empty is h = inr (inl (is, h))
+  by_name lenient IsInner tree term is h = inr (inr (inl (is, h)))
+  by_name lenient IsInner tree range is h = inr (inr (inr (inl (is, h))))
+  by_name lenient IsInner tree exists is h = inr (inr (inr (inr (inl (is, h)))))
+  by_name lenient IsInner tree bool is h = inr (inr (inr (inr (inr (is, h)))))
 
--- what is read of it as such is read of it by its kind
-pub read_term : (n : ℕ) (kind : List ℕ) (body : Data) (result : Result QueryTree ReadError)
-    → kind ≡ codes "term"
-    → IsReading (λ lenient. IsTerm lenient body) (HasUnsupportedAt (codes "value") body) result
-    → IsReading (λ lenient. IsOfKind lenient (IsFilter lenient n) kind body)
-    (HasUnsupportedIn (HasUnsupportedFilter n) kind body) result
-read_term n kind body result is told =
-    read_as (λ lenient. IsTerm lenient body) (HasUnsupportedAt (codes "value") body)
-    (λ lenient. IsOfKind lenient (IsFilter lenient n) kind body)
-    (HasUnsupportedIn (HasUnsupportedFilter n) kind body) result told
-    (λ tree h. inr (inr (inl (is, h))))
-    (λ h. inl (is, h))
-    (λ lenient tree h. only_term lenient (IsFilter lenient n) kind body tree is h)
+  unsupported_by_name : (Has : Data → Type 0) (kind : FilterKind) → name ≡ word_of kind
+      → HasUnsupportedValue Has kind body → HasUnsupportedIn Has name body
+  unsupported_by_name Has term is h = inl (is, h)
+  unsupported_by_name Has range is h = inr (inl (is, h))
+  unsupported_by_name Has bool is h = inr (inr (is, h))
+  unsupported_by_name Has all is h = absurd h
+  unsupported_by_name Has empty is h = absurd h
+  unsupported_by_name Has exists is h = absurd h
 
--- ---- range
-
--- a body of this kind
-only_range : (lenient : Bool) (IsInner : Data → QueryTree → Type 0) (kind : List ℕ) (body : Data)
-    (tree : QueryTree) → kind ≡ codes "range" → IsOfKind lenient IsInner kind body tree
-    → IsRange lenient body tree
-only_range lenient IsInner kind body tree is = of
-  where
-    of : IsOfKind lenient IsInner kind body tree → IsRange lenient body tree
-    of (inl (e, h)) = absurd (differ kind is e refl)
-    of (inr (inl (e, h))) = absurd (differ kind is e refl)
-    of (inr (inr (inl (e, h)))) = absurd (differ kind is e refl)
-    of (inr (inr (inr (inl (e, h))))) = h
-    of (inr (inr (inr (inr (inl (e, h)))))) = absurd (differ kind is e refl)
-    of (inr (inr (inr (inr (inr (e, h)))))) = absurd (differ kind is e refl)
-
--- what is read of it as such is read of it by its kind
-pub read_range : (n : ℕ) (kind : List ℕ) (body : Data) (result : Result QueryTree ReadError)
-    → kind ≡ codes "range"
-    → IsReading (λ lenient. IsRange lenient body) (HasUnsupportedBound body) result
-    → IsReading (λ lenient. IsOfKind lenient (IsFilter lenient n) kind body)
-    (HasUnsupportedIn (HasUnsupportedFilter n) kind body) result
-read_range n kind body result is told =
-    read_as (λ lenient. IsRange lenient body) (HasUnsupportedBound body)
-    (λ lenient. IsOfKind lenient (IsFilter lenient n) kind body)
-    (HasUnsupportedIn (HasUnsupportedFilter n) kind body) result told
-    (λ tree h. inr (inr (inr (inl (is, h)))))
-    (λ h. inr (inl (is, h)))
-    (λ lenient tree h. only_range lenient (IsFilter lenient n) kind body tree is h)
-
--- ---- exists
-
--- a body of this kind
-only_exists : (lenient : Bool) (IsInner : Data → QueryTree → Type 0) (kind : List ℕ) (body : Data)
-    (tree : QueryTree) → kind ≡ codes "exists" → IsOfKind lenient IsInner kind body tree
-    → IsExists body tree
-only_exists lenient IsInner kind body tree is = of
-  where
-    of : IsOfKind lenient IsInner kind body tree → IsExists body tree
-    of (inl (e, h)) = absurd (differ kind is e refl)
-    of (inr (inl (e, h))) = absurd (differ kind is e refl)
-    of (inr (inr (inl (e, h)))) = absurd (differ kind is e refl)
-    of (inr (inr (inr (inl (e, h))))) = absurd (differ kind is e refl)
-    of (inr (inr (inr (inr (inl (e, h)))))) = h
-    of (inr (inr (inr (inr (inr (e, h)))))) = absurd (differ kind is e refl)
-
--- what is read of it as such is read of it by its kind
-pub read_exists : (n : ℕ) (kind : List ℕ) (body : Data) (result : Result QueryTree ReadError)
-    → kind ≡ codes "exists"
-    → IsReading (λ lenient. IsExists body) ⊥ result
-    → IsReading (λ lenient. IsOfKind lenient (IsFilter lenient n) kind body)
-    (HasUnsupportedIn (HasUnsupportedFilter n) kind body) result
-read_exists n kind body result is told =
-    read_as (λ lenient. IsExists body) ⊥
-    (λ lenient. IsOfKind lenient (IsFilter lenient n) kind body)
-    (HasUnsupportedIn (HasUnsupportedFilter n) kind body) result told
-    (λ tree h. inr (inr (inr (inr (inl (is, h))))))
-    (λ h. absurd h)
-    (λ lenient tree h. only_exists lenient (IsFilter lenient n) kind body tree is h)
-
--- ---- bool
-
--- a body of this kind
-only_bool : (lenient : Bool) (IsInner : Data → QueryTree → Type 0) (kind : List ℕ) (body : Data)
-    (tree : QueryTree) → kind ≡ codes "bool" → IsOfKind lenient IsInner kind body tree
-    → IsBoolean (IsInner) body tree
-only_bool lenient IsInner kind body tree is = of
-  where
-    of : IsOfKind lenient IsInner kind body tree → IsBoolean (IsInner) body tree
-    of (inl (e, h)) = absurd (differ kind is e refl)
-    of (inr (inl (e, h))) = absurd (differ kind is e refl)
-    of (inr (inr (inl (e, h)))) = absurd (differ kind is e refl)
-    of (inr (inr (inr (inl (e, h))))) = absurd (differ kind is e refl)
-    of (inr (inr (inr (inr (inl (e, h)))))) = absurd (differ kind is e refl)
-    of (inr (inr (inr (inr (inr (e, h)))))) = h
-
--- what is read of it as such is read of it by its kind
-pub read_bool : (n : ℕ) (kind : List ℕ) (body : Data) (result : Result QueryTree ReadError)
-    → kind ≡ codes "bool"
-    → IsReading (λ lenient. IsBoolean (IsFilter lenient n) body)
-    (HasUnsupportedBody (HasUnsupportedFilter n) body) result
-    → IsReading (λ lenient. IsOfKind lenient (IsFilter lenient n) kind body)
-    (HasUnsupportedIn (HasUnsupportedFilter n) kind body) result
-read_bool n kind body result is told =
-    read_as (λ lenient. IsBoolean (IsFilter lenient n) body)
-    (HasUnsupportedBody (HasUnsupportedFilter n) body)
-    (λ lenient. IsOfKind lenient (IsFilter lenient n) kind body)
-    (HasUnsupportedIn (HasUnsupportedFilter n) kind body) result told
-    (λ tree h. inr (inr (inr (inr (inr (is, h))))))
-    (λ h. inr (inr (is, h)))
-    (λ lenient tree h. only_bool lenient (IsFilter lenient n) kind body tree is h)
+  -- what is read of a body of a kind is read of it by the kind's name
+  pub read_of_kind : (kind : FilterKind) (n : ℕ) (result : Result QueryTree ReadError)
+      → name ≡ word_of kind
+      → IsReading (λ lenient. IsBody lenient (IsFilter lenient n) kind body)
+      (HasUnsupportedValue (HasUnsupportedFilter n) kind body) result
+      → IsReading (λ lenient. IsOfKind lenient (IsFilter lenient n) name body)
+      (HasUnsupportedIn (HasUnsupportedFilter n) name body) result
+  read_of_kind kind n result is told =
+      read_as (λ lenient. IsBody lenient (IsFilter lenient n) kind body)
+      (HasUnsupportedValue (HasUnsupportedFilter n) kind body)
+      (λ lenient. IsOfKind lenient (IsFilter lenient n) name body)
+      (HasUnsupportedIn (HasUnsupportedFilter n) name body) result told
+      (λ tree. by_name false (IsFilter false n) tree kind is)
+      (unsupported_by_name (HasUnsupportedFilter n) kind is)
+      (λ lenient tree. only_kind lenient (IsFilter lenient n) tree kind is)
 
 -- ---- a filter by its one member
 

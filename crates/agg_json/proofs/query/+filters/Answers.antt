@@ -3,8 +3,8 @@ use Rattle.serde_json.specs.Data.{depth, items_depth}
 use Rattle.serde_json.specs.Find.{as_array, get}
 use Rattle.serde_json.specs.View.{view, items_view}
 use Rattle.agg_json.specs.Json.{only_member}
-use Rattle.agg_json.proofs.FilterKinds.{read_all, read_empty, read_term, read_range, read_exists}
-use Rattle.agg_json.proofs.FilterKinds.{read_bool, read_member}
+use Rattle.agg_json.proofs.FilterKinds.{all, empty, term, range, exists, bool}
+use Rattle.agg_json.proofs.FilterKinds.{read_member, read_of_kind}
 use Rattle.agg_json.proofs.FilterLists.{array_lower, get_lower, item_lower, read_found}
 use Rattle.agg_json.proofs.FilterLists.{read_more, refused_item, refused_must, refused_must_not}
 use Rattle.agg_json.proofs.FilterLists.{refused_should}
@@ -60,35 +60,33 @@ read_items-loop-item-preserved t c =
 
 pub read_kind-returns-in-all : goal.read_kind-returns-in-all
 read_kind-returns-in-all t c =
-    λ n deep. read_all n c.args.kind.now (view c.args.body.now) c.read_plain.result c.in-all.is
-    c.read_plain.ensures
+    λ n deep. read_of_kind c.args.kind.now (view c.args.body.now) all n c.read_plain.result
+    c.in-all.is c.read_plain.ensures
 
 pub read_kind-returns-in-empty : goal.read_kind-returns-in-empty
 read_kind-returns-in-empty t c =
-    λ n deep. read_empty n c.args.kind.now (view c.args.body.now) c.read_plain-in-empty.result
-    c.in-empty.is
-    c.read_plain-in-empty.ensures
+    λ n deep. read_of_kind c.args.kind.now (view c.args.body.now) empty n c.read_plain-in-empty.result
+    c.in-empty.is c.read_plain-in-empty.ensures
 
 pub read_kind-returns-in-term : goal.read_kind-returns-in-term
 read_kind-returns-in-term t c =
-    λ n deep. read_term n c.args.kind.now (view c.args.body.now) c.read_term.result c.in-term.is
-    c.read_term.ensures
+    λ n deep. read_of_kind c.args.kind.now (view c.args.body.now) term n c.read_term.result
+    c.in-term.is c.read_term.ensures
 
 pub read_kind-returns-in-range : goal.read_kind-returns-in-range
 read_kind-returns-in-range t c =
-    λ n deep. read_range n c.args.kind.now (view c.args.body.now) c.read_range.result c.in-range.is
-    c.read_range.ensures
+    λ n deep. read_of_kind c.args.kind.now (view c.args.body.now) range n c.read_range.result
+    c.in-range.is c.read_range.ensures
 
 pub read_kind-returns-in-exists : goal.read_kind-returns-in-exists
 read_kind-returns-in-exists t c =
-    λ n deep. read_exists n c.args.kind.now (view c.args.body.now) c.read_exists.result
-    c.in-exists.is
-    c.read_exists.ensures
+    λ n deep. read_of_kind c.args.kind.now (view c.args.body.now) exists n c.read_exists.result
+    c.in-exists.is c.read_exists.ensures
 
 pub read_kind-returns-in-bool : goal.read_kind-returns-in-bool
 read_kind-returns-in-bool t c =
-    λ n deep. read_bool n c.args.kind.now (view c.args.body.now) c.read_bool.result c.in-bool.is
-    (c.read_bool.ensures n deep)
+    λ n deep. read_of_kind c.args.kind.now (view c.args.body.now) bool n c.read_bool.result
+    c.in-bool.is (c.read_bool.ensures n deep)
 
 pub read_list-read_items-requires : goal.read_list-read_items-requires
 read_list-read_items-requires t c =
