@@ -68,7 +68,7 @@ IsReadUpTo-none es done left none all sorted =
       ascends = Ascends-none es sorted;
     }))
 
--- the keys of a member and of those behind it
+-- the keys of a member and of those after it
 first_of : (Is : Data → AfterKey → Type 0) (name : String Global) (d : Value) (later : List Entry)
     (more : Named AfterKey) → EachNamedIs Is (members_view ((name, d) ∷ later)) more
     → ((after : AfterKey) × Is (view d) after)

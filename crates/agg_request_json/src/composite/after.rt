@@ -1,4 +1,4 @@
-//! The key behind which a page of a composite begins.
+//! The key after which a page of a composite begins.
 ghost use Rattle.std.specs.Prelude.{◌≡◌, OnOk, codes};
 ghost use Rattle.serde_json.specs.Find.{get};
 ghost use Rattle.serde_json.specs.View.{members_view, view};

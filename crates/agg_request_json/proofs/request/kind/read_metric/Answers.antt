@@ -1,4 +1,4 @@
-use Rattle.std.proofs.Common.{IsSome, codes}
+use Rattle.std.proofs.Common.{IsSome, codes, rules}
 use Rattle.serde_json.specs.View.{view}
 use Rattle.agg_json.specs.Json.{IsField, present}
 use Rattle.agg_request_json.specs.RequestJson.{IsMetric}
@@ -12,3 +12,9 @@ returns-in_err-field c =
     (IsSome (present (codes "missing") body)) c.in_err-field.field-0.0 c.from_residual.result
     c.from_residual.ensures.1 c.in_err-field.ensures (λ h. absurd h)
     (λ lenient field h. (field, h.0))
+
+pub returns-then-is_some : goal.returns-then-is_some
+returns-then-is_some c = search rules
+
+pub returns : goal.returns
+returns c = search rules
