@@ -53,7 +53,7 @@ impl Dictionary {
         ensures class { result ≡ ColumnPaginationOrder.Str }
         ensures order { AreInPlaceOrder name_cmp self.now [] }
     {
-        let _ = self.texts.len();
+        let _ = &self.texts;
         ColumnPaginationOrder::Str
     }
 
@@ -64,7 +64,7 @@ impl Dictionary {
         ensures places { result ≡ nat_cmp left right }
         ensures texts { result ≡ name_cmp (text_at self.now left) (text_at self.now right) }
     {
-        let _ = self.texts.len();
+        let _ = &self.texts;
         left.cmp(&right)
     }
 
@@ -131,7 +131,7 @@ impl AddressList {
         ensures class { result ≡ ColumnPaginationOrder.IpAddr }
         ensures order { AreInPlaceOrder address_cmp self.now (record { 0 = 0 }) }
     {
-        let _ = self.addresses.len();
+        let _ = &self.addresses;
         ColumnPaginationOrder::IpAddr
     }
 
@@ -143,7 +143,7 @@ impl AddressList {
         ensures addresses { result
             ≡ address_cmp (address_at self.now left) (address_at self.now right) }
     {
-        let _ = self.addresses.len();
+        let _ = &self.addresses;
         left.cmp(&right)
     }
 
