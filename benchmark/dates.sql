@@ -10,8 +10,11 @@ select '{"page":1,"results":{"g":{"buckets":['
 from (
     select m, w, count(*) as number
     from (
-        select 1000 * strftime('%s', json_extract(text, '$.d.dt') / 1000000000, 'unixepoch', 'start of month') as m,
-            1000 * strftime('%s', json_extract(text, '$.e.dt') / 1000000000, 'unixepoch', 'weekday 0', '-6 days', 'start of day') as w
+        select
+            1000 * strftime('%s', json_extract(text, '$.d.dt') / 1000000000, 'unixepoch',
+                'start of month') as m,
+            1000 * strftime('%s', json_extract(text, '$.e.dt') / 1000000000, 'unixepoch',
+                'weekday 0', '-6 days', 'start of day') as w
         from line
         where rowid > 2
     )

@@ -1,5 +1,5 @@
--- The one page of an input of one snapshot, whose page has room for all pairs of the fields a, which
--- each document has, and b, descending, which some lack.
+-- The one page of an input of one snapshot, whose page has room for all pairs of the fields a,
+-- which each document has, and b, descending, which some lack.
 create table line (text);
 .mode list
 .separator "\t" "\n"

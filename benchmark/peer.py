@@ -36,8 +36,8 @@ def start(interval, nanoseconds):
 
 
 class Source:
-    """Where keys come from: the numbers, texts and dates of a field, or the starts of its dates; and
-    None where a document has no value."""
+    """Where keys come from: the numbers, texts and dates of a field, or the starts of its dates;
+    and None where a document has no value."""
 
     def __init__(self, source):
         [(self.name, kind)] = source.items()
@@ -49,8 +49,11 @@ class Source:
     def values(self, document):
         held = document.get(self.field, [])
         held = held if isinstance(held, list) else [held]
-        keys = [start(self.interval, value["dt"]) if isinstance(value, dict) else value for value in held]
+        keys = [self.key(value) for value in held]
         return keys or ([None] if self.has_missing else [])
+
+    def key(self, value):
+        return start(self.interval, value["dt"]) if isinstance(value, dict) else value
 
     def rank(self, value):
         """What sorts as the value does, None first, or last in descending order."""
@@ -85,6 +88,10 @@ def shown(value):
     return int(value / 10**6) if isinstance(value, Date) else value
 
 
+def bucket(count, names, values):
+    return {"doc_count": count, "key": dict(zip(names, map(shown, values)))}
+
+
 def walk(lines):
     header = json.loads(next(lines))
     name = header["name"]
@@ -92,13 +99,15 @@ def walk(lines):
     bound, number, ended = None, 0, False
     for size, documents in snapshots(lines):
         counts = Counter(
-            values for document in documents for values in product(*(source.values(document) for source in sources))
+            values
+            for document in documents
+            for values in product(*(source.values(document) for source in sources))
         )
         ranked = ((tuple(s.rank(v) for s, v in zip(sources, values)), values) for values in counts)
         page = sorted(entry for entry in ranked if bound is None or bound < entry[0])[:size]
         number, ended = number + 1, len(page) < size
         names = [source.name for source in sources]
-        results = {"buckets": [{"doc_count": counts[values], "key": dict(zip(names, map(shown, values)))} for _, values in page]}
+        results = {"buckets": [bucket(counts[values], names, values) for _, values in page]}
         if not ended:
             bound = page[-1][0]
             results = {"after_key": dict(zip(names, map(after_text, page[-1][1]))), **results}
