@@ -1,6 +1,6 @@
 -- Queries as they are written.
 use Rattle.std.proofs.Common.{◌≡◌, ◌<◌, ℕ, zero, suc, List, [], ◌∷◌, codes, false, refl, sym, subst}
-use Rattle.std.proofs.Common.{inl, Result, Ok, Err, IfOk, map, arith, ap, ◌∙◌}
+use Rattle.std.proofs.Common.{inl, Result, Ok, Err, IfOk, map, arith, ap, ◌∙◌, true}
 use Rattle.serde_json.specs.Data.{Data, object, Items, no_items, item, no_members}
 use Rattle.serde_json.specs.Data.{depth, items_depth}
 use Rattle.serde_json.specs.View.{items_of, view}
@@ -15,8 +15,9 @@ use Rattle.agg_segment.specs.declared.query.QueryTree.TheVariants as tree
 use tree.{All, Empty, Term, Range, Exists, Boolean}
 use Rattle.agg_segment.specs.declared.query.QueryTree.TheOpen as layer
 use Rattle.agg_segment.specs.declared.query.QueryTree.TheFolds.{fold-roll-QueryTree}
-use Rattle.agg_json.specs.Json.{alone, EachIs}
-use Rattle.agg_json.specs.Query.{IsBoolean, IsFilter, IsOfKind, IsRange, IsTerm}
+use Rattle.agg_json.specs.Json.{alone, EachIs, IsField, has_only}
+use Rattle.agg_json.specs.Query.{IsBoolean, IsBound, IsFilter, IsOfKind, IsRange, IsTerm}
+use Rattle.agg_json.specs.Query.{range_names}
 use Rattle.agg_request.specs.ReadBack.{IsBoundReadBack, IsReadBack, IsWritten, SaysFilter}
 use Rattle.agg_request.specs.WrittenJson.{data_of_query, field_members, list_members}
 use Rattle.agg_request.specs.WrittenJson.{query_step, range_members, term_members}
@@ -71,6 +72,20 @@ is-term d field value is told =
     subst (λ e. IsTerm false e (Term field value)) (sym is)
     (field, value, refl, refl, refl, (text_of value, refl, inl told))
 
+-- the body that is written of a range
+abbrev range_body : List ℕ → RangeBound → RangeBound → Data
+range_body field lower upper = object (range_members field lower upper)
+
+-- its parts say the range
+range-from_parts : (field : List ℕ) (lower upper : RangeBound)
+    → has_only range_names (range_body field lower upper) ≡ true
+    → IsField (range_body field lower upper) field
+    → IsBound false (codes "gte") (codes "gt") (range_body field lower upper) lower
+    → IsBound false (codes "lte") (codes "lt") (range_body field lower upper) upper
+    → IsRange false (range_body field lower upper) (Range field lower upper)
+range-from_parts field lower upper only named above under =
+    (field, lower, upper, refl, only, named, above, under)
+
 -- the body of a field and bounds says the range
 pub is-range : (d : Data) (field : List ℕ) (lower upper : RangeBound)
     → d ≡ object (range_members field lower upper)
@@ -81,89 +96,33 @@ is-range d field lower upper is above under =
     (by_bounds lower upper above under)
   where
     by_bounds : (lower upper : RangeBound) → IsBoundReadBack lower → IsBoundReadBack upper
-        → IsRange false (object (range_members field lower upper)) (Range field lower upper)
+        → IsRange false (range_body field lower upper) (Range field lower upper)
     by_bounds Unbounded Unbounded l u =
-        (field, Unbounded, Unbounded, refl, refl, refl, (refl, refl), (refl, refl))
-    by_bounds Unbounded (Included y) l u = (
-      field,
-      Unbounded,
-      Included y,
-      refl,
-      refl,
-      refl,
-      (refl, refl),
-      ((text_of y, refl, inl u), refl),
-    )
-    by_bounds Unbounded (Excluded y) l u = (
-      field,
-      Unbounded,
-      Excluded y,
-      refl,
-      refl,
-      refl,
-      (refl, refl),
-      ((text_of y, refl, inl u), refl),
-    )
-    by_bounds (Included x) Unbounded l u = (
-      field,
-      Included x,
-      Unbounded,
-      refl,
-      refl,
-      refl,
-      ((text_of x, refl, inl l), refl),
-      (refl, refl),
-    )
-    by_bounds (Included x) (Included y) l u = (
-      field,
-      Included x,
-      Included y,
-      refl,
-      refl,
-      refl,
-      ((text_of x, refl, inl l), refl),
-      ((text_of y, refl, inl u), refl),
-    )
-    by_bounds (Included x) (Excluded y) l u = (
-      field,
-      Included x,
-      Excluded y,
-      refl,
-      refl,
-      refl,
-      ((text_of x, refl, inl l), refl),
-      ((text_of y, refl, inl u), refl),
-    )
-    by_bounds (Excluded x) Unbounded l u = (
-      field,
-      Excluded x,
-      Unbounded,
-      refl,
-      refl,
-      refl,
-      ((text_of x, refl, inl l), refl),
-      (refl, refl),
-    )
-    by_bounds (Excluded x) (Included y) l u = (
-      field,
-      Excluded x,
-      Included y,
-      refl,
-      refl,
-      refl,
-      ((text_of x, refl, inl l), refl),
-      ((text_of y, refl, inl u), refl),
-    )
-    by_bounds (Excluded x) (Excluded y) l u = (
-      field,
-      Excluded x,
-      Excluded y,
-      refl,
-      refl,
-      refl,
-      ((text_of x, refl, inl l), refl),
-      ((text_of y, refl, inl u), refl),
-    )
+        range-from_parts field Unbounded Unbounded refl refl (refl, refl) (refl, refl)
+    by_bounds Unbounded (Included y) l u =
+        range-from_parts field Unbounded (Included y) refl refl
+        (refl, refl) ((text_of y, refl, inl u), refl)
+    by_bounds Unbounded (Excluded y) l u =
+        range-from_parts field Unbounded (Excluded y) refl refl
+        (refl, refl) ((text_of y, refl, inl u), refl)
+    by_bounds (Included x) Unbounded l u =
+        range-from_parts field (Included x) Unbounded refl refl
+        ((text_of x, refl, inl l), refl) (refl, refl)
+    by_bounds (Included x) (Included y) l u =
+        range-from_parts field (Included x) (Included y) refl refl
+        ((text_of x, refl, inl l), refl) ((text_of y, refl, inl u), refl)
+    by_bounds (Included x) (Excluded y) l u =
+        range-from_parts field (Included x) (Excluded y) refl refl
+        ((text_of x, refl, inl l), refl) ((text_of y, refl, inl u), refl)
+    by_bounds (Excluded x) Unbounded l u =
+        range-from_parts field (Excluded x) Unbounded refl refl
+        ((text_of x, refl, inl l), refl) (refl, refl)
+    by_bounds (Excluded x) (Included y) l u =
+        range-from_parts field (Excluded x) (Included y) refl refl
+        ((text_of x, refl, inl l), refl) ((text_of y, refl, inl u), refl)
+    by_bounds (Excluded x) (Excluded y) l u =
+        range-from_parts field (Excluded x) (Excluded y) refl refl
+        ((text_of x, refl, inl l), refl) ((text_of y, refl, inl u), refl)
 
 -- ---- lists
 

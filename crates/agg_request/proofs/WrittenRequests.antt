@@ -7,7 +7,8 @@ use Rattle.serde_json.specs.Find.{as_object, get}
 use Rattle.agg_request_json.specs.Builders.{left_behind, left_by_each, left_by_object, left_by_own}
 use Rattle.std.specs.Map.{keys_of}
 use Rattle.agg_json.specs.Json.{EachNamedIs, names_in, only_other}
-use Rattle.agg_request_json.specs.RequestJson.{AreAggregations, IsAggregation, IsBelow, IsRequestJson}
+use Rattle.agg_request_json.specs.RequestJson.{AreAggregations, IsAggregation, IsBelow}
+use Rattle.agg_request_json.specs.RequestJson.{IsRequestJson}
 use Rattle.agg_request_json.specs.RequestJson.{may_hold}
 use Rattle.agg_request_tree.specs.Request.{Request, agg_of, with_builders_in, below_of, builders_of}
 use Rattle.agg_request_tree.specs.Request.{listed_in, own_builder, with_builders}

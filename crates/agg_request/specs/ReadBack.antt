@@ -65,7 +65,7 @@ SaysAggregation {B = B} name_of d a =
     → SaysItself name_of d other
 
 -- a value, read with the builders of a request that is the same but for its builders, which have
--- the same names, is that request; others behind them are not taken
+-- the same names, is that request; others after them are not taken
 abbrev pub ReadsBack : {B : Type 0} → (B → List ℕ) → Data → Request B → Type 0
 ReadsBack {B = B} name_of d request =
     (other : Request B) (rest : List B)

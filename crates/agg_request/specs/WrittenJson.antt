@@ -126,11 +126,11 @@ abbrev pub data_of_source : CompositeAggregationSource → Data
 data_of_source source =
     alone (source_name source) (alone (source_word source) (object (source_members source)))
 
--- what is written of a key behind which a page begins
+-- what is written of a key after which a page begins
 abbrev pub data_of_key : AfterKey → Data
 data_of_key key = string (key_text key.0)
 
--- the members with the keys behind which a page begins, where there are any
+-- the members with the keys after which a page begins, where there are any
 abbrev pub with_after : Named AfterKey → Members → Members
 with_after [] members = members
 with_after (key ∷ keys) members =

@@ -29,7 +29,7 @@ pub fn write_composite(
     Ok(Value::from(body))
 }
 
-// Adds the keys behind which a page begins, where there are any.
+// Adds the keys after which a page begins, where there are any.
 fn put_after(
     alloc: Global,
     body: &mut Map<String, Value>,
@@ -50,7 +50,7 @@ fn put_after(
     Ok(())
 }
 
-// The texts of the keys behind which a page begins, by the names of sources.
+// The texts of the keys after which a page begins, by the names of sources.
 fn write_after(alloc: Global, after: &NameMap<AfterKey>) -> Result<Map<String, Value>, OutOfMemory>
     ensures { IfOk result (λ members. EachNamedIs (IsWritten data_of_key (IsKeyJson false))
         (members_view members.entries) after.now) }
