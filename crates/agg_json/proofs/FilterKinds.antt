@@ -1,5 +1,6 @@
 -- The kinds of filters: a body is read by its kind.
-use Rattle.std.proofs.Common.{◌≡◌, ◌<◌, Bool, true, false, cond, List, [], ℕ, zero, suc, Option, Some}
+use Rattle.std.proofs.Common.{◌≡◌, ◌<◌, Bool, true, false, cond, List, [], ℕ, zero, suc, Option}
+use Rattle.std.proofs.Common.{Some}
 use Rattle.std.proofs.Common.{None, Result, codes, refl, sym, ap, ◌∙◌, subst, arith, inl, inr, ◌⊎◌}
 use Rattle.std.proofs.Common.{IsErrOf}
 use Rattle.std.specs.Str.{bytes_eq}

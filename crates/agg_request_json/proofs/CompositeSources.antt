@@ -6,7 +6,8 @@ use Rattle.serde_json.specs.Data.{Data, Items}
 use Rattle.serde_json.specs.Find.{as_array, get}
 use Rattle.agg_calendar.specs.declared.interval.CalendarInterval.{CalendarInterval}
 use Rattle.agg_calendar.specs.declared.interval.CalendarInterval.TheVariants.{Year, Month, Week}
-use Rattle.agg_request_json.specs.CompositeJson.{AreSources, HasUnsupportedInterval, HasUnsupportedKind}
+use Rattle.agg_request_json.specs.CompositeJson.{AreSources, HasUnsupportedInterval}
+use Rattle.agg_request_json.specs.CompositeJson.{HasUnsupportedKind}
 use Rattle.agg_request_json.specs.CompositeJson.{HasUnsupportedSource, IsSourceBody, IsSourceJson}
 use Rattle.agg_request_json.specs.CompositeJson.{IsSourceOfKind, unit_word}
 use Rattle.agg_json.specs.Json.{EachIs, HasUnsupportedItem, only_member}

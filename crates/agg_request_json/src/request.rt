@@ -10,7 +10,8 @@ ghost use Rattle.agg_json.specs.Json.{HasUnsupportedMember, names_in};
 ghost use Rattle.agg_request_json.specs.RequestJson.{HasUnknownBuilder, HasUnsupportedAggregation};
 ghost use Rattle.agg_request_json.specs.RequestJson.{HasUnsupportedBelow, HasUnsupportedRequest};
 ghost use Rattle.agg_request_json.specs.RequestJson.{IsAggregation, IsBelow, IsNoRequest};
-ghost use Rattle.agg_request_json.specs.RequestJson.{IsNoRequestAtAll, IsRequestJson, IsRequestWithin};
+ghost use Rattle.agg_request_json.specs.RequestJson.{IsNoRequestAtAll, IsRequestJson};
+ghost use Rattle.agg_request_json.specs.RequestJson.{IsRequestWithin};
 ghost use Rattle.agg_request_json.specs.RequestJson.{may_hold};
 
 mod builders;

@@ -21,7 +21,8 @@ use Rattle.agg_segment.specs.Segment.{Stored, document_at, documents_at}
 use Rattle.agg_request_tree.specs.declared.source.CompositeAggregationSource.{CompositeAggregationSource}
 use Rattle.agg_request_tree.specs.Source.{Sources, field_of, keys_in, missing_bucket_of, or_missing}
 use Rattle.agg_request_tree.specs.Source.{rules_of, source_values, values_at}
-use Rattle.agg_request_tree.specs.Occurrences.{past_occurrences, is_past, occurrences, occurrences_in}
+use Rattle.agg_request_tree.specs.Occurrences.{past_occurrences, is_past, occurrences}
+use Rattle.agg_request_tree.specs.Occurrences.{occurrences_in}
 
 -- ---- of one document: a product over the sources
 
@@ -239,4 +240,5 @@ cut-columns-more columns doc i column count most values l item c own =
     ap (λ n. min (n + length values) most) c
     ∙ ap (λ n. min n most) (add_comm (min before most) (length values))
     ∙ cut-sum (length values) before most
-    ∙ ap (λ n. min n most) (add_comm (length values) before ∙ ap (λ n. before + n) as_many ∙ sym all)
+    ∙ ap (λ n. min n most)
+    (add_comm (length values) before ∙ ap (λ n. before + n) as_many ∙ sym all)

@@ -10,12 +10,14 @@ use Rattle.agg_values.specs.Laws.{IsCanonicalTuple}
 use Rattle.agg_values.proofs.TupleOrder.{tuple_order-total, tuple_order-exact}
 use Rattle.agg_column.specs.Document.{Fields}
 use Rattle.agg_request_tree.specs.Source.{rules_of, Sources}
-use Rattle.agg_request_tree.specs.Occurrences.{occurrences_in, is_past, same_tuple, past_occurrences}
+use Rattle.agg_request_tree.specs.Occurrences.{occurrences_in, is_past, same_tuple}
+use Rattle.agg_request_tree.specs.Occurrences.{past_occurrences}
 use Rattle.agg_request_tree.specs.Groups.{Groups, Group}
 use Rattle.agg_request_tree.specs.Page.{Entry, IsPage, entry_of}
 use Rattle.agg_request_tree.proofs.Lists.{Has-from_Contains, Contains-from_Has}
 use Rattle.agg_request_tree.proofs.AscendingKeys.{ascending_keys, ascending_keys-all}
-use Rattle.agg_request_tree.proofs.AscendingKeys.{ascending_keys-hold, ascending_keys-sorted, counts_itself}
+use Rattle.agg_request_tree.proofs.AscendingKeys.{ascending_keys-hold, ascending_keys-sorted}
+use Rattle.agg_request_tree.proofs.AscendingKeys.{counts_itself}
 use Rattle.agg_request_tree.proofs.PageTuples.{occurrences_in-canonical}
 use Rattle.agg_request_tree.proofs.PageFromGroups.{IsPage-from_groups}
 use Rattle.agg_values.specs.Tuple.{KeyTuple}

@@ -1,4 +1,5 @@
--- Ascending keys: that they differ, that there is one list of the lowest of a kind, and their fronts.
+-- Ascending keys: that they differ, that there is one list of the lowest of a kind, and their
+-- fronts.
 use Rattle.std.proofs.Common.{◌≡◌, ◌≢◌, ℕ, suc, ◌+◌, ◌-◌, ◌<◌, ◌≤◌, ◌⊎◌, ⊎_elim, inl, inr, cond}
 use Rattle.std.proofs.Common.{List, [], ◌∷◌, ◌++◌, zero, length, get_or, take, map, is_eq, refl}
 use Rattle.std.proofs.Common.{sym, ap, ◌∙◌, subst, arith, Ordering, Less, Equal, Greater}

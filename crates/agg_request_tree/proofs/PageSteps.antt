@@ -16,7 +16,8 @@ use Rattle.agg_request_tree.specs.Successive.{AreSuccessive, Step, last_tuple}
 use Rattle.agg_request_tree.proofs.Lists.{Has, Has-from_Contains, Contains-from_Has}
 use Rattle.agg_request_tree.proofs.Lists.{AllByRecursion-append, AllByRecursion-Has}
 use Rattle.agg_request_tree.proofs.Lists.{AllByRecursion-weaker, Has-append_left, Has-append_right}
-use Rattle.agg_request_tree.proofs.PageKeys.{AllPairs-from_sorted, Lowest, among_or_not, sorted_append}
+use Rattle.agg_request_tree.proofs.PageKeys.{AllPairs-from_sorted, Lowest, among_or_not}
+use Rattle.agg_request_tree.proofs.PageKeys.{sorted_append}
 use Rattle.agg_request_tree.proofs.PagePast.{is_past-above, is_past-whole, past-parts, past-whole}
 use Rattle.agg_request_tree.proofs.PageTuples.{occurring-canonical}
 use Rattle.agg_request_tree.proofs.PageUnique.{Lowest-from_page}

@@ -2,7 +2,8 @@
 use Rattle.std.proofs.Common.{◌≡◌, ◌↔◌, ◌∷◌, ◌++◌, [], ℕ, List, Bool, true, false, IsTrue, Option}
 use Rattle.std.proofs.Common.{None, Some, MatchOption, not, refl, sym, subst, ap, ◌∙◌}
 use Rattle.std.specs.Option.{is_some}
-use Rattle.agg_request_tree.specs.Request.{IsSame, Request, agg_of, below_of, builders_of, listed_in}
+use Rattle.agg_request_tree.specs.Request.{IsSame, Request, agg_of, below_of, builders_of}
+use Rattle.agg_request_tree.specs.Request.{listed_in}
 use Rattle.agg_request_tree.specs.Request.{own_builder}
 use Rattle.agg_request_tree.specs.declared.aggregation.Aggregation.{Aggregation}
 use Rattle.agg_request_tree.proofs.RequestTrees.{listed-out, made-of_parts}

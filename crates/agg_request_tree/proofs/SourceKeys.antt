@@ -33,7 +33,8 @@ use Rattle.agg_request_tree.specs.Source.{name_of}
 use Rattle.agg_request_tree.specs.Source.{or_missing, source_values, start_in, values_at}
 use Rattle.agg_request_tree.proofs.Lists.{AllByRecursion-Has, AllByRecursion-always}
 use Rattle.agg_request_tree.proofs.Lists.{AllByRecursion-flat_map}
-use Rattle.agg_request_tree.proofs.Lists.{AllByRecursion-map, AllByRecursion-weaker, Has-from_Contains}
+use Rattle.agg_request_tree.proofs.Lists.{AllByRecursion-map, AllByRecursion-weaker}
+use Rattle.agg_request_tree.proofs.Lists.{Has-from_Contains}
 use Rattle.agg_request_tree.proofs.PairedLists.{zip_weaker}
 use Rattle.agg_request_tree.proofs.PageAfter.{apart_first, value_of-put, value_of-put_other}
 

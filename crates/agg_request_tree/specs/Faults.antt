@@ -10,7 +10,8 @@ use Rattle.agg_values.specs.declared.request_error.RequestError.{RequestError}
 use Rattle.agg_values.specs.declared.request_error.RequestError.TheVariants as error
 use Rattle.agg_values.specs.Nothing.{NoneIs}
 use Rattle.agg_request_tree.specs.Request.{Request, composites_of}
-use Rattle.agg_request_tree.specs.Source.{Sources, after_of, interval_of, missing_bucket_of, name_of}
+use Rattle.agg_request_tree.specs.Source.{Sources, after_of, interval_of, missing_bucket_of}
+use Rattle.agg_request_tree.specs.Source.{name_of}
 use Rattle.agg_request_tree.specs.declared.aggregation.CompositeAggregation.{CompositeAggregation}
 use Rattle.agg_request_tree.specs.declared.source.CompositeAggregationSource as kind
 use kind.{CompositeAggregationSource}

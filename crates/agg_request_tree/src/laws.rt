@@ -9,7 +9,8 @@ ghost use Rattle.agg_request_tree.specs.Alike.{AreAllAlikeByClass};
 ghost use Rattle.agg_request_tree.specs.Groups.{Groups, Group};
 ghost use Rattle.agg_request_tree.specs.Occurrences.{past_occurrences, bound_of};
 ghost use Rattle.agg_request_tree.specs.BySource.{after_map};
-ghost use Rattle.agg_request_tree.specs.Page.{Entry, IsPage, MayList, entry_of, group_of, tuples_of};
+ghost use Rattle.agg_request_tree.specs.Page.{Entry, IsPage, MayList, entry_of, group_of};
+ghost use Rattle.agg_request_tree.specs.Page.{tuples_of};
 ghost use Rattle.agg_request_tree.specs.Ranges.{HasStartOutOfRange};
 ghost use Rattle.agg_request_tree.specs.Uncut.{counted, uncut};
 ghost use Rattle.agg_request_tree.specs.Faults.{HaveOwnNames};
@@ -17,8 +18,8 @@ ghost use Rattle.agg_request_tree.specs.Source.{rules_of, Sources};
 ghost use Rattle.agg_request_tree.specs.Successive.{AreSuccessive, Step};
 ghost use Rattle.agg_request_tree.specs.Successive.{entries_of, last_tuple, steps_over};
 ghost use Rattle.agg_values.specs.Tuple.{KeyTuple};
-ghost use Rattle.agg_request_tree.specs.declared.aggregation.CompositeAggregation.{CompositeAggregation};
-ghost use Rattle.agg_request_tree.specs.declared.aggregation.AggregationVariants.{AggregationVariants};
+ghost use Rattle.agg_request_tree.specs.declared.aggregation.CompositeAggregation as declared;
+ghost use Rattle.agg_request_tree.specs.declared.aggregation.AggregationVariants as variants;
 
 use crate::{
     CompositeAggregationSource, DateHistogramCompositeAggregationSource,
@@ -134,13 +135,13 @@ pub fn classes_count_in_any_order<B>()
         → IsPage sources size bound documents page
         → IsPage sources size bound others other
         → map group_of page ≡ map group_of other }
-    ensures counts { (composite : CompositeAggregation) (documents others : List Fields)
+    ensures counts { (composite : declared.CompositeAggregation) (documents others : List Fields)
         → AreAllAlikeByClass documents others
         → length (counted composite documents) ≡ length (counted composite others) }
-    ensures uncut { (aggregation : AggregationVariants B) (documents others : List Fields)
+    ensures uncut { (aggregation : variants.AggregationVariants B) (documents others : List Fields)
         → AreAllAlikeByClass documents others
         → AreAllAlikeByClass (uncut aggregation documents) (uncut aggregation others) }
-    ensures starts { (aggregation : AggregationVariants B) (documents others : List Fields)
+    ensures starts { (aggregation : variants.AggregationVariants B) (documents others : List Fields)
         → AreAllAlikeByClass documents others
         → HasStartOutOfRange aggregation documents ↔ HasStartOutOfRange aggregation others }
 {}
@@ -150,7 +151,8 @@ pub fn the_lowest_groups_are_a_page()
     ensures { (sources : Sources) (size : ℕ) (bound : KeyTuple) (documents : List Fields)
         → (groups : List Group)
         → Groups (rules_of sources) (past_occurrences sources bound documents) groups
-        → IsPage sources size bound documents (map (entry_of sources documents) (take size groups)) }
+        → IsPage sources size bound documents
+        (map (entry_of sources documents) (take size groups)) }
 {}
 
 /// Equality of sources, and of why a builder gave no query, goes by variant and content.

@@ -5,7 +5,8 @@ ghost use Rattle.serde_json.specs.View.{view};
 ghost use Rattle.agg_request_json.specs.Builders.{builder_name, left_by_filter, left_by_kind};
 ghost use Rattle.agg_json.specs.Json.{is_among, present};
 ghost use Rattle.agg_json.specs.Query.{HasUnsupportedQuery};
-ghost use Rattle.agg_request_json.specs.RequestJson.{HasUnsupportedAsked, IsKind, IsMetric, IsQueryOf};
+ghost use Rattle.agg_request_json.specs.RequestJson.{HasUnsupportedAsked, IsKind, IsMetric};
+ghost use Rattle.agg_request_json.specs.RequestJson.{IsQueryOf};
 ghost use Rattle.agg_request_json.specs.RequestJson.{IsUnsupportedKind, metric_kinds};
 ghost use Rattle.agg_json.specs.Reading.{IsReading, IsReadingWith};
 

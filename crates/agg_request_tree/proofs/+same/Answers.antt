@@ -1,6 +1,7 @@
 use Rattle.std.proofs.Common.{rules, refl, ap, not, true≢false, ◌∙◌}
 use Rattle.std.specs.Cmp.Lexicographic.{bytes_decides}
-use Rattle.agg_request_tree.proofs.SameRequests.{all-compared, all-left, apart, first-apart, none-left}
+use Rattle.agg_request_tree.proofs.SameRequests.{all-compared, all-left, apart, first-apart}
+use Rattle.agg_request_tree.proofs.SameRequests.{none-left}
 use Rattle.agg_request_tree.proofs.SameRequests.{one-more, same-out}
 use Rattle.agg_request_tree.proofs.+same.Goals as goal
 

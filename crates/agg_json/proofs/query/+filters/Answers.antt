@@ -65,8 +65,8 @@ read_kind-returns-in-all t c =
 
 pub read_kind-returns-in-empty : goal.read_kind-returns-in-empty
 read_kind-returns-in-empty t c =
-    λ n deep. read_of_kind c.args.kind.now (view c.args.body.now) empty n c.read_plain-in-empty.result
-    c.in-empty.is c.read_plain-in-empty.ensures
+    λ n deep. read_of_kind c.args.kind.now (view c.args.body.now) empty n
+    c.read_plain-in-empty.result c.in-empty.is c.read_plain-in-empty.ensures
 
 pub read_kind-returns-in-term : goal.read_kind-returns-in-term
 read_kind-returns-in-term t c =

@@ -1,7 +1,8 @@
 use Rattle.std.proofs.Common.{◌≡◌, Some, rules}
 use Rattle.serde_json.specs.Find.{as_object}
 use Rattle.serde_json.specs.View.{view, members_view}
-use Rattle.agg_request_json.proofs.RequestReadings.{no_request, outside, read_ok, unknown, unsupported}
+use Rattle.agg_request_json.proofs.RequestReadings.{no_request, outside, read_ok, unknown}
+use Rattle.agg_request_json.proofs.RequestReadings.{unsupported}
 use Rattle.agg_request_json.proofs.request.read_request.Goals as goal
 
 pub returns : goal.returns

@@ -1,4 +1,5 @@
-use Rattle.agg_request_tree.proofs.AlikeCounts.{counts-alike, length-alike, starts-alike, uncut-alike}
+use Rattle.agg_request_tree.proofs.AlikeCounts.{counts-alike, length-alike, starts-alike}
+use Rattle.agg_request_tree.proofs.AlikeCounts.{uncut-alike}
 use Rattle.agg_request_tree.proofs.laws.classes_count_in_any_order.Goals as goal
 
 pub returns-clause-pages : goal.returns-clause-pages

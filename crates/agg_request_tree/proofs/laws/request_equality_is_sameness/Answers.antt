@@ -1,4 +1,5 @@
-use Rattle.agg_request_tree.proofs.SourceEquality.{dates-decided, histograms-decided, sources-decided}
+use Rattle.agg_request_tree.proofs.SourceEquality.{dates-decided, histograms-decided}
+use Rattle.agg_request_tree.proofs.SourceEquality.{sources-decided}
 use Rattle.agg_request_tree.proofs.SourceEquality.{terms-decided}
 use Rattle.agg_request_tree.proofs.laws.request_equality_is_sameness.Goals as goal
 

@@ -1,6 +1,7 @@
 use Rattle.std.proofs.Common.{codes}
 use Rattle.serde_json.specs.View.{view}
-use Rattle.agg_request_json.specs.CompositeJson.{HasUnsupportedInterval, IsSourceBody, IsSourceOfKind}
+use Rattle.agg_request_json.specs.CompositeJson.{HasUnsupportedInterval, IsSourceBody}
+use Rattle.agg_request_json.specs.CompositeJson.{IsSourceOfKind}
 use Rattle.agg_json.specs.Json.{HasFloatAt}
 use Rattle.agg_request_tree.specs.declared.source.CompositeAggregationSource.TheVariants as of
 use Rattle.agg_request_json.proofs.CompositeSources.{dates_of, numbers_of, terms_of}

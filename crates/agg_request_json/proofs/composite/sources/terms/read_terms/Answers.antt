@@ -3,7 +3,8 @@ use Rattle.serde_json.specs.Find.{get}
 use Rattle.serde_json.specs.View.{view}
 use Rattle.agg_values.specs.declared.order.MissingOrder.TheVariants.{Default}
 use Rattle.agg_values.specs.declared.order.Order.TheVariants.{Asc}
-use Rattle.agg_request_json.specs.CompositeJson.{IsSourceBody, IsWordOr, missing_order_word, order_word}
+use Rattle.agg_request_json.specs.CompositeJson.{IsSourceBody, IsWordOr, missing_order_word}
+use Rattle.agg_request_json.specs.CompositeJson.{order_word}
 use Rattle.agg_json.specs.Json.{IsField}
 use Rattle.agg_request_tree.specs.declared.source.CompositeAggregationSource.TheVariants as of
 use Rattle.agg_json.proofs.Readings.{refused_part}
