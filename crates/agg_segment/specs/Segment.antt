@@ -1,6 +1,7 @@
 -- What segments mean: lists of documents.
-use Rattle.std.specs.Prelude.{◌≡◌, ◌<◌, ◌≤◌, ℕ, List, [], ◌∷◌, ◌++◌, Some, if◌then◌else◌}
-use Rattle.std.specs.Prelude.{map, flat_map, length, take, drop}
+use Rattle.std.specs.Prelude.{◌≡◌, ◌<◌, ◌≤◌, ◌==◌, ℕ, List, [], ◌∷◌, ◌++◌, Some, if◌then◌else◌}
+use Rattle.std.specs.Prelude.{filter, map, flat_map, length, take, drop}
+use Rattle.std.specs.Option.{option_map_or}
 use Rattle.std.specs.Str.{bytes_eq}
 use Rattle.std.specs.List.{range_with_len, All, Contains}
 use Rattle.agg_column.specs.Document.{Fields, by_class}
@@ -59,6 +60,12 @@ pub record Stored : Type 0 where
 abbrev pub document_at : Stored → ℕ → Fields
 document_at segment doc field =
     named_keys segment.names (flat_map column_cells segment.columns) doc field
+
+-- the columns of a field: those with its number, and none where the name has no number
+abbrev pub columns_in : Stored → List ℕ → List StoredColumn
+columns_in segment field =
+    option_map_or (λ number. filter (λ c. c.field == number) segment.columns)
+    (number_of segment.names field) []
 
 -- the documents of these numbers
 abbrev pub documents_at : Stored → List ℕ → List Fields

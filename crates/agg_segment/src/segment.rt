@@ -1,7 +1,8 @@
 ghost use Rattle.std.specs.Prelude.{◌≡◌, ◌≤◌, ◌==◌, ℕ, length, filter};
 ghost use Rattle.agg_column.specs.Names.{numbered_names};
 ghost use Rattle.agg_column.specs.Columns.{all_keys, AreInOrder, ClassesAscend};
-ghost use Rattle.agg_segment.specs.Segment.{document_at, documents_of, max_documents};
+ghost use Rattle.agg_segment.specs.Segment.{columns_in, document_at, documents_of};
+ghost use Rattle.agg_segment.specs.Segment.{max_documents};
 
 use agg_column::{Column, find_number};
 use agg_values::Text;
@@ -58,6 +59,7 @@ impl SegmentReader {
 
     /// The columns of a field, ascending by class.
     pub fn columns(&self, field: &Text) -> &[Column]
+        ensures of_field { result.now ≡ columns_in self.now field.now }
         ensures keys { (doc : ℕ) → all_keys result.now doc ≡ document_at self.now doc field.now }
         ensures classes { ClassesAscend result.now }
     {

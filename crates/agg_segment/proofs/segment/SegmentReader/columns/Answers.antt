@@ -5,7 +5,7 @@ use Rattle.agg_column.specs.Cells.{keys_at, number_of}
 use Rattle.agg_column.specs.Names.{numbered_names}
 use Rattle.agg_column.specs.Columns.{StoredColumn, column_cells, all_keys}
 use Rattle.agg_column.specs.Columns.{ClassesAscend}
-use Rattle.agg_segment.specs.Segment.{Stored, document_at}
+use Rattle.agg_segment.specs.Segment.{Stored, columns_in, document_at}
 use Rattle.agg_segment.proofs.FieldColumns.{field_keys, classes_ascend}
 use Rattle.agg_segment.proofs.segment.SegmentReader.columns.Goals as goal
 
@@ -17,6 +17,15 @@ found : (c : goal.After-columns_of) → c.columns_of.result.now ≡ filter (λ (
     d.field == c.in-Some.number) c.self.inside.columns.items
 found c = c.columns_of.ensures ∙ ap (filter (λ (d : StoredColumn). d.field == c.in-Some.number))
     c.deref.ensures.value
+
+pub returns-in-Some-clause-of_field : goal.returns-in-Some-clause-of_field
+returns-in-Some-clause-of_field c =
+    let s = c.self.inside in
+    found c
+    ∙ ap
+    (λ o. option_map_or (λ n. filter (λ (d : StoredColumn). d.field == n) s.columns.items) o [])
+    (c.in-Some.ensures ∙ ap (number_of (numbered_names s.names)) c.as_str.ensures)
+    ∙ ap (λ (r : Stored). columns_in r c.args.field.now) c.self.view_is
 
 pub returns-in-Some-clause-keys : goal.returns-in-Some-clause-keys
 returns-in-Some-clause-keys c doc =
@@ -30,6 +39,13 @@ returns-in-Some-clause-keys c doc =
 pub returns-in-Some-clause-classes : goal.returns-in-Some-clause-classes
 returns-in-Some-clause-classes c = subst ClassesAscend (sym (found c))
     (classes_ascend c.self.inside.columns.items c.in-Some.number c.self.invariant.1)
+
+pub returns-in-None-clause-of_field : goal.returns-in-None-clause-of_field
+returns-in-None-clause-of_field c =
+    let s = c.self.inside in
+    ap (λ o. option_map_or (λ n. filter (λ (d : StoredColumn). d.field == n) s.columns.items) o [])
+    (c.in-None.ensures ∙ ap (number_of (numbered_names s.names)) c.as_str.ensures)
+    ∙ ap (λ (r : Stored). columns_in r c.args.field.now) c.self.view_is
 
 pub returns-in-None-clause-keys : goal.returns-in-None-clause-keys
 returns-in-None-clause-keys c doc =
