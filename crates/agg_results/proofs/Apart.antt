@@ -147,16 +147,18 @@ module _ (R : KeyTuple → KeyTuple → Ordering) (total : IsTotalOrder R) where
       ∙ sym (merged-is_merge R total (counts_of left) (counts_of right) (counts-up R right up))
 
   -- lists with other names
-  module _ (left right lower upper whole : Entries) (is_lower : lower ≡ left)
+  module _ (left right lower upper : Entries) (is_lower : lower ≡ left)
       (is_upper : upper ≡ right) (below : AreBelow R lower upper) where
-    below-same : AreBelow R left right
+    pub below-same : AreBelow R left right
     below-same =
         subst (λ l. AreBelow R l right) is_lower (subst (λ u. AreBelow R lower u) is_upper below)
 
-    pub whole_right : IsStrictlySortedBy R (keys_of right) → whole ≡ left ++ right
+    pub whole_right : (whole : Entries) → IsStrictlySortedBy R (keys_of right)
+        → whole ≡ left ++ right
         → counts_of whole ≡ merged R (counts_of left) (counts_of right)
-    whole_right up is = ap counts_of is ∙ joined_right left right up below-same
+    whole_right whole up is = ap counts_of is ∙ joined_right left right up below-same
 
-    pub whole_left : IsStrictlySortedBy R (keys_of left) → whole ≡ left ++ right
+    pub whole_left : (whole : Entries) → IsStrictlySortedBy R (keys_of left)
+        → whole ≡ left ++ right
         → counts_of whole ≡ merged R (counts_of right) (counts_of left)
-    whole_left up is = ap counts_of is ∙ joined_left right left up below-same
+    whole_left whole up is = ap counts_of is ∙ joined_left right left up below-same

@@ -56,7 +56,7 @@ module _ (sources : Sources) where
       let both = count_in-append documents others g.0 in
       (some.0, let most = some.1 in omega arith)
 
-  some-tied : (documents others : List Fields) (g h : Group)
+  pub some-tied : (documents others : List Fields) (g h : Group)
       → tuple_order (rules_of sources) g.0 h.0 ≡ Equal
       → CountsSome sources documents g → CountsSome sources others h
       → CountsSome sources (documents ++ others) (g.0, g.1 + h.1)

@@ -25,6 +25,7 @@ pub mod Merged
 pub mod NameLookups
 pub mod NameOrder
 pub mod NameValues
+pub mod PassingSums
 pub mod PushedResults
 pub mod PutMembers
 pub mod Refusals

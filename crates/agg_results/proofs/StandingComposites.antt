@@ -7,25 +7,27 @@ use Rattle.std.proofs.lemmas.Bool.{cond_both}
 use Rattle.std.proofs.lemmas.Bool.Decides.{nat_tests}
 use Rattle.std.proofs.lemmas.List.{take-map}
 use Rattle.std.proofs.lemmas.List.Elements.{All-map, All-nil, All-take}
-use Rattle.agg_values.specs.KeyOrder.{SourceRules}
+use Rattle.std.proofs.lemmas.List.Sums.{count_by-le-length}
+use Rattle.agg_values.specs.KeyOrder.{SourceRules, tuple_order}
 use Rattle.agg_column.specs.Document.{Fields}
 use Rattle.agg_request_tree.specs.Groups.{Group}
-use Rattle.agg_request_tree.specs.Occurrences.{bound_of, occurrences_in}
+use Rattle.agg_request_tree.specs.Occurrences.{bound_of, occurrences_in, same_tuple}
 use Rattle.agg_request_tree.specs.Source.{rules_of}
 use Rattle.agg_request_tree.specs.declared.aggregation.CompositeAggregation.{CompositeAggregation}
-use Rattle.agg_results.specs.Counts.{PassesCount, trimmed}
+use Rattle.agg_request_tree.proofs.Lists.{All-from_map}
+use Rattle.agg_results.specs.Counts.{trimmed}
 use Rattle.agg_results.specs.Empty.{empty_page}
-use Rattle.agg_results.specs.Intermediate.{ArePlain, Entries, IsPlain, composite_of, counts_of}
-use Rattle.agg_results.specs.Intermediate.{entries_of, orders_of, plain_entries, plain_entry}
-use Rattle.agg_results.specs.Intermediate.{target_size_of}
+use Rattle.agg_results.specs.Intermediate.{ArePlain, Entries, IsPlain, TupleEntry, composite_of}
+use Rattle.agg_results.specs.Intermediate.{counts_of, entries_of, orders_of, plain_entries}
+use Rattle.agg_results.specs.Intermediate.{plain_entry, target_size_of}
 use Rattle.agg_results.specs.Merging.{CompositesDiffer, CompositesPass, joined_composite}
-use Rattle.agg_results.specs.Merging.{joined_counts, trimmed_composite}
+use Rattle.agg_results.specs.Merging.{SumPasses, joined_counts, trimmed_composite}
 use Rattle.agg_results.specs.StandsFor.{CompositeStandsFor, GroupsStandFor, HasShapeOf}
 use Rattle.agg_results.specs.declared.intermediate.composite as declared
 use declared.IntermediateCompositeBucketResult.{IntermediateCompositeBucketResult}
 use declared.IntermediateCompositeBucketResult.{out-roll-IntermediateCompositeBucketResult}
-use Rattle.agg_results.proofs.JoinedGroups.{stands-left, stands-merged, stands-right}
-use Rattle.agg_results.proofs.StandingGroups.{stands-few, stands-front, stands-nothing}
+use Rattle.agg_results.proofs.JoinedGroups.{some-tied, stands-left, stands-merged, stands-right}
+use Rattle.agg_results.proofs.StandingGroups.{CountsSome, stands-front, stands-nothing}
 
 -- the counts of entries of counts
 pub counts-plain : (groups : List Group) → counts_of (plain_entries groups) ≡ groups
@@ -157,13 +159,30 @@ module _ (composite : CompositeAggregation) where
         (bound_of composite.sources composite.after) documents others
         (counts_of (entries_of c)) (counts_of (entries_of d)) a.groups b.groups
 
-    -- a count of both passes only where there are as many occurrences
+    sums-few : SumPasses (tuple_order (rules_of composite.sources)) (entries_of c) (entries_of d)
+        → 2 ^ 64 ≤ length (occurrences_in composite.sources (documents ++ others))
+    sums-few (i, e, within, at, (j, f, inside, at_other, (tied, many))) =
+        let sources = composite.sources in
+        let count : TupleEntry → Group = λ x. (x.0, x.1.doc_count) in
+        let some : CountsSome sources documents (count e)
+        = subst (λ x. CountsSome sources documents (count x)) at
+        (All-from_map (CountsSome sources documents) count (entries_of c) a.groups.some i e
+        within) in
+        let more : CountsSome sources others (count f)
+        = subst (λ x. CountsSome sources others (count x)) at_other
+        (All-from_map (CountsSome sources others) count (entries_of d) b.groups.some j f
+        inside) in
+        let counted = (some-tied sources documents others (count e) (count f) tied some more).1 in
+        let most = count_by-le-length (same_tuple (rules_of sources) e.0)
+        (occurrences_in sources (documents ++ others)) in
+        omega arith
+
+    -- a sum of both passes only where there are as many occurrences
     pub composites-few : CompositesPass c d
         → 2 ^ 64 ≤ length (occurrences_in composite.sources (documents ++ others))
     composites-few passes =
-        stands-few composite.sources composite.size (bound_of composite.sources composite.after)
-        (documents ++ others) (joined_groups (rules_of composite.sources)) joined-stand
-        (subst (λ orders. PassesCount (joined_groups orders))
+        sums-few
+        (subst (λ orders. SumPasses (tuple_order orders) (entries_of c) (entries_of d))
         (with_room c a.shape passes.0).1 passes.2)
 
     stands-right-alone : target_size_of c ≡ 0

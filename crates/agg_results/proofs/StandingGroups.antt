@@ -1,21 +1,18 @@
 -- Groups that stand for documents: those of a page, and their fronts.
-use Rattle.std.proofs.Common.{◌≡◌, ℕ, ◌^◌, ◌<◌, ◌≤◌, IsTrue, List, [], length, take}
+use Rattle.std.proofs.Common.{◌≡◌, ℕ, ◌<◌, ◌≤◌, IsTrue, List, [], take}
 use Rattle.std.proofs.Common.{drop, map, get_or, sym, subst, arith, Less}
 use Rattle.std.specs.List.{All, Contains}
 use Rattle.std.proofs.lemmas.List.{take-take, take_all}
 use Rattle.std.proofs.lemmas.List.Elements.{All-take, All-weaker}
-use Rattle.std.proofs.lemmas.List.Sums.{count_by-le-length}
 use Rattle.agg_values.specs.KeyOrder.{tuple_order}
 use Rattle.agg_values.specs.Tuple.{KeyTuple}
 use Rattle.agg_column.specs.Document.{Fields}
 use Rattle.agg_request_tree.specs.Groups.{Group, Groups}
 use Rattle.agg_request_tree.specs.Occurrences.{is_past, occurrences_in, past_occurrences}
-use Rattle.agg_request_tree.specs.Occurrences.{same_tuple}
 use Rattle.agg_request_tree.specs.Page.{Entry, IsPage, count_in, entry_of, group_of}
 use Rattle.agg_request_tree.specs.Source.{Sources, rules_of}
 use Rattle.agg_request_tree.proofs.Lists.{All-from_map, Contains-from_filter}
 use Rattle.agg_request_tree.proofs.PageFromGroups.{Groups-nothing, IsPage-from_groups, count_by-past}
-use Rattle.agg_results.specs.Counts.{PassesCount}
 use Rattle.agg_results.specs.StandsFor.{GroupsStandFor}
 use Rattle.agg_results.proofs.Counts.{Ascend-take}
 use Rattle.agg_results.proofs.LowestGroups.{Groups-past, groups-page}
@@ -88,18 +85,6 @@ module _ (sources : Sources) (size : ℕ) (bound : KeyTuple) where
   }
 
   -- ---- what follows
-
-  -- a count passes only where there are as many occurrences
-  pub stands-few : (documents : List Fields) (groups : List Group)
-      → GroupsStandFor sources size bound documents groups → PassesCount groups
-      → 2 ^ 64 ≤ length (occurrences_in sources documents)
-  stands-few documents groups stand (i, g, within, at, many) =
-      let counted : CountsSome sources documents g =
-      subst (CountsSome sources documents) at (stand.some i g within) in
-      let some = counted.1 in
-      let most = count_by-le-length (same_tuple (rules_of sources) g.0)
-      (occurrences_in sources documents) in
-      omega arith
 
   -- what stands behind the page is above it
   pub above-page : (documents : List Fields) (groups : List Group)

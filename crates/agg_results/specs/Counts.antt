@@ -1,5 +1,5 @@
 -- Counts by key, and what adding, merging and trimming make of them.
-use Rattle.std.specs.Prelude.{◌≤◌, ◌+◌, ◌*◌, ◌^◌, ℕ, List, [], ◌∷◌, Any, Option}
+use Rattle.std.specs.Prelude.{◌+◌, ◌*◌, ℕ, List, [], ◌∷◌, Option}
 use Rattle.std.specs.Prelude.{if◌then◌else◌, length, nat_lt, take}
 use Rattle.std.specs.BTreeMap.{is_at}
 use Rattle.std.specs.Map.{lookup}
@@ -9,10 +9,6 @@ use Rattle.std.specs.declared.cmp.Ordering.{Ordering}
 -- entries that are more than twice the size are cut to the lowest, as many as the size
 abbrev pub trimmed : {A : Type 0} → ℕ → List A → List A
 trimmed size entries = if nat_lt (2 * size) (length entries) then take size entries else entries
-
--- some count is 2^64 or more
-abbrev pub PassesCount : {K : Type 0} → List (K × ℕ) → Type 0
-PassesCount counts = Any (λ e. 2 ^ 64 ≤ e.1) counts
 
 module _ {K : Type 0} (R : K → K → Ordering) where
   -- what stands for a key

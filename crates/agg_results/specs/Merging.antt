@@ -1,14 +1,14 @@
 -- What merging makes of two intermediate results, and when it is refused.
-use Rattle.std.specs.Prelude.{◌≡◌, ◌≢◌, ◌<◌, ◌==◌, ◌^◌, ◌⊎◌, ℕ, List, Option, None, Some}
-use Rattle.std.specs.Prelude.{All, if◌then◌else◌}
+use Rattle.std.specs.Prelude.{◌≡◌, ◌≢◌, ◌≤◌, ◌<◌, ◌==◌, ◌+◌, ◌^◌, ◌⊎◌, ℕ, List, Option, None, Some}
+use Rattle.std.specs.Prelude.{All, Any, if◌then◌else◌}
 use Rattle.std.specs.Option.{option_map_or}
 use Rattle.std.specs.declared.cmp.Ordering.{Ordering}
-use Rattle.std.specs.declared.cmp.Ordering.TheVariants.{Less}
+use Rattle.std.specs.declared.cmp.Ordering.TheVariants.{Equal, Less}
 use Rattle.agg_values.specs.KeyOrder.{SourceRules, tuple_order}
 use Rattle.agg_values.specs.Names.{Named, value_of}
 use Rattle.agg_values.specs.Tuple.{KeyTuple}
 use Rattle.agg_request_tree.specs.Groups.{Group}
-use Rattle.agg_results.specs.Counts.{PassesCount, merged, trimmed}
+use Rattle.agg_results.specs.Counts.{merged, trimmed}
 use Rattle.agg_results.specs.Intermediate.{Entries, Held, TupleEntry, as_result, composite_of}
 use Rattle.agg_results.specs.Intermediate.{counts_of, entries_of, held_composite, orders_of}
 use Rattle.agg_results.specs.Intermediate.{plain_entries, target_size_of}
@@ -37,9 +37,13 @@ abbrev pub AreBelow : {T : Type 0} → (KeyTuple → KeyTuple → Ordering) → 
     → List (KeyTuple × T) → Type 0
 AreBelow order lower upper = All (λ f. All (λ e. order e.0 f.0 ≡ Less) lower) upper
 
--- an entry's count is below 2^64
-abbrev pub IsFew : TupleEntry → Type 0
-IsFew e = e.1.doc_count < 2 ^ 64
+-- two entries have one tuple, and the sum of their counts is 2^64 or more
+abbrev pub PairPasses : (KeyTuple → KeyTuple → Ordering) → TupleEntry → TupleEntry → Type 0
+PairPasses order e f = (order e.0 f.0 ≡ Equal) × (2 ^ 64 ≤ e.1.doc_count + f.1.doc_count)
+
+-- a tuple is in both lists, and the sum of its two counts is 2^64 or more
+abbrev pub SumPasses : (KeyTuple → KeyTuple → Ordering) → Entries → Entries → Type 0
+SumPasses order entries others = Any (λ e. Any (PairPasses order e) others) entries
 
 -- the counts of two lists of entries, added by tuple
 abbrev pub joined_counts : SourceRules → Entries → Entries → List Group
@@ -55,12 +59,12 @@ joined_composite c d =
     composite_of (orders_of c) (target_size_of c)
     (plain_entries (joined_counts (orders_of c) (entries_of c) (entries_of d))))
 
--- the sum of two counts of one tuple is 2^64 or more
+-- both have room for a page, and the sum of two counts of one tuple is 2^64 or more
 abbrev pub CompositesPass : IntermediateCompositeBucketResult → IntermediateCompositeBucketResult
     → Type 0
 CompositesPass c d =
     (0 < target_size_of c) × (0 < target_size_of d)
-    × PassesCount (joined_counts (orders_of c) (entries_of c) (entries_of d))
+    × SumPasses (tuple_order (orders_of c)) (entries_of c) (entries_of d)
 
 -- ---- results of an aggregation
 
@@ -68,7 +72,7 @@ CompositesPass c d =
 abbrev pub ShapesDiffer : IntermediateAggregationResult → IntermediateAggregationResult → Type 0
 ShapesDiffer r o = CompositesDiffer (held_composite r) (held_composite o)
 
--- some count of the two as one is 2^64 or more
+-- the sum of two counts of one tuple is 2^64 or more
 abbrev pub CountsPass : IntermediateAggregationResult → IntermediateAggregationResult → Type 0
 CountsPass r o = CompositesPass (held_composite r) (held_composite o)
 

@@ -1,13 +1,12 @@
 //! Two ascending lists of entries as one.
-ghost use Rattle.std.specs.Prelude.{◌≡◌, ◌≤◌, ◌<◌, ◌+◌, ◌^◌, ◌++◌, ◌∷◌, ◌⊎◌, [], All, IfNone, IfOk};
+ghost use Rattle.std.specs.Prelude.{◌≡◌, ◌≤◌, ◌<◌, ◌+◌, ◌^◌, ◌++◌, ◌∷◌, ◌⊎◌, [], IfNone, IfOk};
 ghost use Rattle.std.specs.Prelude.{IfSome, IsErrOf, IsTrue, OnOk};
 ghost use Rattle.std.specs.List.Sorted.{IsStrictlySortedBy};
 ghost use Rattle.std.specs.Map.{keys_of};
 ghost use Rattle.agg_values.specs.KeyOrder.{tuple_order};
-ghost use Rattle.agg_results.specs.Counts.{PassesCount};
 ghost use Rattle.agg_results.specs.Intermediate.{ArePlain, Entries, IsPlain, TupleEntry, counts_of};
 ghost use Rattle.agg_results.specs.Intermediate.{plain_entries, plain_entry};
-ghost use Rattle.agg_results.specs.Merging.{AreBelow, IsFew, joined_counts};
+ghost use Rattle.agg_results.specs.Merging.{AreBelow, SumPasses, joined_counts};
 
 use super::IntermediateTermBucketEntry;
 use crate::MergeError;
@@ -32,10 +31,10 @@ pub(super) fn merge_entries(
       left.0,
       plain_entries (joined_counts left.0 left.1 right.1),
     )) }
-    ensures few { OnOk result (¬ (PassesCount (joined_counts left.0 left.1 right.1))) }
+    ensures few { OnOk result (¬ (SumPasses (tuple_order left.0) left.1 right.1)) }
     ensures mismatch { ¬ (IsErrOf result MergeError.Mismatch) }
     ensures too_many { IsErrOf result MergeError.TooMany
-        → PassesCount (joined_counts left.0 left.1 right.1) }
+        → SumPasses (tuple_order left.0) left.1 right.1 }
 {
     let alloc = left.allocator();
     let (orders, left) = left.into_parts();
@@ -59,10 +58,10 @@ fn merge_lists(
     ensures counts { IfOk result (λ whole. counts_of whole.items
         ≡ joined_counts orders.now left.items right.items) }
     ensures plain { IfOk result (λ whole. ArePlain whole.items) }
-    ensures few { OnOk result (¬ (PassesCount (joined_counts orders.now left.items right.items))) }
+    ensures few { OnOk result (¬ (SumPasses (tuple_order orders.now) left.items right.items)) }
     ensures mismatch { ¬ (IsErrOf result MergeError.Mismatch) }
     ensures too_many { IsErrOf result MergeError.TooMany
-        → PassesCount (joined_counts orders.now left.items right.items) }
+        → SumPasses (tuple_order orders.now) left.items right.items }
 {
     if is_below(orders, &left, &right) {
         return Ok(joined(left, right)?);
@@ -98,32 +97,13 @@ fn joined(
     mut lower: Vec<HeldEntry>,
     mut upper: Vec<HeldEntry>,
 ) -> Result<Vec<HeldEntry>, OutOfMemory>
-    ensures joined { IfOk result (λ whole. whole.items ≡ lower.items ++ upper.items) }
-    ensures few { IfOk result (λ whole. All IsFew whole.items) }
+    ensures { IfOk result (λ whole. whole.items ≡ lower.items ++ upper.items) }
 {
-    read_counts(&lower);
-    read_counts(&upper);
     if lower.is_empty() {
         return Ok(upper);
     }
     lower.append(&mut upper)?;
     Ok(lower)
-}
-
-// Reads each count, since contracts know the range of a number that is read. Nothing of it is left
-// to run.
-fn read_counts(entries: &[HeldEntry])
-    ensures { All IsFew entries.now }
-{
-    for (_, entry) in entries {
-        read_count(entry);
-    }
-}
-
-fn read_count(entry: &IntermediateTermBucketEntry)
-    ensures { entry.now.doc_count < 2 ^ 64 }
-{
-    let _count = entry.doc_count;
 }
 
 // Two ascending lists of entries as one, entry by entry.
@@ -133,16 +113,17 @@ fn merge_ascending(
     mut left: VecDeque<HeldEntry>,
     mut right: VecDeque<HeldEntry>,
 ) -> Result<Vec<HeldEntry>, MergeError>
-    requires ascending { IsStrictlySortedBy (tuple_order orders.now) (keys_of right.items) }
+    requires ascending { IsStrictlySortedBy (tuple_order orders.now) (keys_of left.items) }
+    requires other_ascending { IsStrictlySortedBy (tuple_order orders.now) (keys_of right.items) }
     requires plain { ArePlain left.items }
     requires other_plain { ArePlain right.items }
     ensures counts { IfOk result (λ whole. counts_of whole.items
         ≡ joined_counts orders.now left.items right.items) }
     ensures plain { IfOk result (λ whole. ArePlain whole.items) }
-    ensures few { OnOk result (¬ (PassesCount (joined_counts orders.now left.items right.items))) }
+    ensures few { OnOk result (¬ (SumPasses (tuple_order orders.now) left.items right.items)) }
     ensures mismatch { ¬ (IsErrOf result MergeError.Mismatch) }
     ensures too_many { IsErrOf result MergeError.TooMany
-        → PassesCount (joined_counts orders.now left.items right.items) }
+        → SumPasses (tuple_order orders.now) left.items right.items }
 {
     let mut whole = with_room(alloc, left.len().saturating_add(right.len()))?;
     while let Some(order) = order_of_first(orders, &left, &right) {
@@ -191,8 +172,7 @@ fn order_of_first(
 fn move_first(from: &mut VecDeque<HeldEntry>, whole: &mut Vec<HeldEntry>) -> Result<(), OutOfMemory>
     ensures { OnOk result ((e : TupleEntry) (es : Entries)
         → from.old.items ≡ e ∷ es
-        → (whole.new.items ≡ whole.old.items ++ e ∷ []) × (from.new.items ≡ es)
-        × IsFew e) }
+        → (whole.new.items ≡ whole.old.items ++ e ∷ []) × (from.new.items ≡ es)) }
 {
     let Some(entry) = from.pop_front() else {
         return Ok(());
@@ -235,8 +215,7 @@ fn move_both(
 
 // Moves all entries behind others.
 fn move_all(mut from: VecDeque<HeldEntry>, whole: &mut Vec<HeldEntry>) -> Result<(), OutOfMemory>
-    ensures moved { OnOk result (whole.new.items ≡ whole.old.items ++ from.items) }
-    ensures few { OnOk result (All IsFew from.items) }
+    ensures { OnOk result (whole.new.items ≡ whole.old.items ++ from.items) }
 {
     while let Some(entry) = from.pop_front() {
         whole.push(entry)?;

@@ -229,9 +229,7 @@ impl IntermediateAggregationResult {
         ensures too_many { IsErrOf result MergeError.TooMany
             → ¬ (ShapesDiffer self other) × CountsPass self other }
     {
-        let Self::Bucket(IntermediateBucketResult::Composite { buckets }) = self;
-        let Self::Bucket(IntermediateBucketResult::Composite { buckets: others }) = other;
-        let buckets = buckets.merged_with(others)?;
+        let buckets = self.into_composite().merged_with(other.into_composite())?;
         Ok(Self::Bucket(IntermediateBucketResult::Composite { buckets }))
     }
 

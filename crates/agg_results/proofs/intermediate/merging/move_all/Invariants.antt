@@ -1,13 +1,9 @@
 use Rattle.std.proofs.Common.{◌≡◌, ◌++◌, length}
-use Rattle.std.specs.List.{All}
-use Rattle.agg_results.specs.Merging.{IsFew}
 use Rattle.agg_results.proofs.intermediate.merging.move_all.Given as goal
 
 abbrev pub decreases-loop-entry : goal.decreases-loop-entry
 decreases-loop-entry l = length l.from.items
 
 abbrev pub invariant-loop-entry : goal.invariant-loop-entry
-invariant-loop-entry l = record {
-  same : l.whole.items ++ l.from.items ≡ l.fn.whole.items ++ l.fn.from.items;
-  few : All IsFew l.from.items → All IsFew l.fn.from.items;
-}
+invariant-loop-entry l =
+    l.whole.items ++ l.from.items ≡ l.fn.whole.items ++ l.fn.from.items
