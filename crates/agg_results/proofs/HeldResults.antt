@@ -77,11 +77,12 @@ flat_left held left name is flat = subst AreFlat (sym is) (flat_without held nam
 
 -- nor what has one more result, behind that of its name
 pub flat_pushed : (held pushed : Held) (name : List ℕ) (value : Result)
-    → pushed ≡ put name (behind (value_of name held) value) held → AreFlat held
+    → pushed ≡ put name (behind (value_of name held) value) (without name held) → AreFlat held
     → IsFlat (held_composite value) → AreFlat pushed
 flat_pushed held pushed name value is flat value_flat =
     subst AreFlat (sym is)
-    (flat_put held name (behind (value_of name held) value) flat
+    (flat_put (without name held) name (behind (value_of name held) value)
+    (flat_without held name flat)
     (flat_behind (value_of name held) value
     (flat_found held name (value_of name held) refl flat) value_flat))
 

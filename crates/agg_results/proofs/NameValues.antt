@@ -159,40 +159,6 @@ module _ {K X : Type 0} {cmp : K → K → Ordering} (total : IsTotalOrder cmp)
       other-gone-by (is_at (cmp k) e.0) e es (without k es) k q refl apart
       (other-gone es k q apart)
 
-  without-above : (k : K) (es : List (K × X)) → AllByRecursion (λ l. cmp k l ≡ Less) (keys_of es)
-      → without k es ≡ es
-  without-above k [] above = refl
-  without-above k (e ∷ es) above = rw above.0 (ap (λ fs. e ∷ fs) (without-above k es above.1))
-
-  put-above : (k : K) (v : X) (es : List (K × X))
-      → AllByRecursion (λ l. cmp k l ≡ Less) (keys_of es)
-      → insert_entry cmp es k v ≡ (k, v) ∷ es
-  put-above k v [] above = refl
-  put-above k v (e ∷ es) above = rw above.0 refl
-
-  put-gone-by : (o : Ordering) (e : K × X) (es : List (K × X)) (k : K) (v : X) → cmp k e.0 ≡ o
-      → IsStrictlySortedBy cmp (keys_of (e ∷ es))
-      → insert_entry cmp (without k es) k v ≡ insert_entry cmp es k v
-      → insert_entry cmp (cond (is_eq o) es (e ∷ without k es)) k v
-      ≡ match_ordering o ((k, v) ∷ e ∷ es) ((e.0, v) ∷ es) (e ∷ insert_entry cmp es k v)
-  put-gone-by Less e es k v is up rest =
-      let above = AllByRecursion-weaker (λ l. cmp e.0 l ≡ Less) (λ l. cmp k l ≡ Less)
-      (λ l h. total.trans k e.0 l is h) (keys_of es) (sorted_head cmp e.0 (keys_of es) up) in
-      rw is (ap (λ fs. (k, v) ∷ e ∷ fs) (without-above k es above))
-  put-gone-by Equal e es k v is up rest =
-      let above = AllByRecursion-weaker (λ l. cmp e.0 l ≡ Less) (λ l. cmp k l ≡ Less)
-      (λ l h. total.congr k e.0 l is ∙ h) (keys_of es) (sorted_head cmp e.0 (keys_of es) up) in
-      put-above k v es above ∙ ap (λ l. (l, v) ∷ es) (exact k e.0 is)
-  put-gone-by Greater e es k v is up rest = rw is (ap (λ fs. e ∷ fs) rest)
-
-  -- set again, the key is set as before
-  pub put-gone : (es : List (K × X)) (k : K) (v : X) → IsStrictlySortedBy cmp (keys_of es)
-      → insert_entry cmp (without k es) k v ≡ insert_entry cmp es k v
-  put-gone [] k v up = refl
-  put-gone (e ∷ es) k v up =
-      put-gone-by (cmp k e.0) e es k v refl up
-      (put-gone es k v (sorted_tail cmp e.0 (keys_of es) up))
-
   -- what is left ascends
   pub sorted-gone : (k : K) (es : List (K × X)) → IsStrictlySortedBy cmp (keys_of es)
       → IsStrictlySortedBy cmp (keys_of (without k es))

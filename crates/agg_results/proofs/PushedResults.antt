@@ -71,7 +71,7 @@ pub record IsPushed (name : List ℕ) (held others held_new others_new : Held) :
 pub pushed_some : (name : List ℕ) (value : Result) (held others held_new others_new : Held)
     → IsStrictlySortedBy name_cmp (keys_of others)
     → Some value ≡ value_of name others → others_new ≡ without name others
-    → held_new ≡ put name (behind (value_of name held) value) held
+    → held_new ≡ put name (behind (value_of name held) value) (without name held)
     → IsPushed name held others held_new others_new
 pushed_some name value held others held_new others_new up at rest new =
     let whole = behind (value_of name held) value in
@@ -81,10 +81,11 @@ pushed_some name value held others held_new others_new up at rest new =
       left = λ other apart. ap (value_of other) rest
           ∙ other-gone nat_list_cmp_total exact_bytes others name other apart;
       joined = ap (value_of name) new
-          ∙ value-put nat_list_cmp_total exact_bytes held name whole
+          ∙ value-put nat_list_cmp_total exact_bytes (without name held) name whole
           ∙ ap (either_or_both (value_of name held)) at;
       stayed = λ other apart. ap (value_of other) new
-          ∙ other-put nat_list_cmp_total exact_bytes held name other whole apart;
+          ∙ other-put nat_list_cmp_total exact_bytes (without name held) name other whole apart
+          ∙ other-gone nat_list_cmp_total exact_bytes held name other apart;
     }
 
 -- a name without a value changes nothing

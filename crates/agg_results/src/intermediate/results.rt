@@ -79,7 +79,8 @@ impl IntermediateAggregationResults {
         requires flat { AreFlat self.now.results }
         requires value_flat { IsFlat (held_composite value) }
         ensures ok { OnOk result (self.new.results
-            ≡ put key (behind (value_of key self.old.results) value) self.old.results) }
+            ≡ put key (behind (value_of key self.old.results) value)
+            (without key self.old.results)) }
         ensures shapes { OnOk result
             (¬ (SomeOfBoth ShapesDiffer self.old.results ((key, value) ∷ []))) }
         ensures counts { OnOk result
@@ -92,7 +93,6 @@ impl IntermediateAggregationResults {
         ensures left { OnErr result (self.new.results ≡ without key self.old.results) }
         ensures flat { AreFlat self.new.results }
     {
-        let _ = self.results.len();
         let value = behind(self.results.remove(&key), value)?;
         self.results.insert(key, value)?;
         Ok(())

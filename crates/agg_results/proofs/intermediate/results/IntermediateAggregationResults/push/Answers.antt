@@ -1,13 +1,10 @@
 use Rattle.std.proofs.Common.{◌≡◌, [], ap, ◌∙◌}
-use Rattle.std.proofs.lemmas.Cmp.{nat_list_cmp_total}
-use Rattle.std.proofs.lemmas.Map.Lookups.{exact_bytes}
-use Rattle.agg_values.specs.Names.{put, value_of}
+use Rattle.agg_values.specs.Names.{put, value_of, without}
 use Rattle.agg_results.specs.Merging.{CountsPass, ShapesDiffer, behind}
 use Rattle.agg_results.specs.declared.error.MergeError.TheVariants.{Mismatch, TooMany}
 use Rattle.agg_results.proofs.Exits.{error-kept}
 use Rattle.agg_results.proofs.HeldResults.{first_told, flat_found, flat_left, flat_pushed}
 use Rattle.agg_results.proofs.HeldResults.{nothing_told, passes_alone, past_first}
-use Rattle.agg_results.proofs.NameValues.{put-gone}
 use Rattle.agg_results.proofs.intermediate.results.IntermediateAggregationResults.push.Goals as goal
 use Rattle.agg_results.proofs.intermediate.results.IntermediateAggregationResults.push.Goals.{In_ok-insert}
 
@@ -43,14 +40,13 @@ returns-in_err-insert-clause-flat c =
 -- what stands under the name
 pushed : (c : In_ok-insert) → c.insert.new.self
     ≡ put c.args.key (behind (value_of c.args.key c.args.self.now.results) c.args.value)
-    c.args.self.now.results
+    (without c.args.key c.args.self.now.results)
 pushed c =
     let held = c.args.self.now.results in
     let key = c.args.key in
     c.in_ok-insert.ensures.ok
     ∙ ap (put key c.in_ok-value.value) c.remove.ensures.rest
-    ∙ put-gone nat_list_cmp_total exact_bytes held key c.in_ok-value.value c.len.ensures.ascending
-    ∙ ap (λ v. put key v held)
+    ∙ ap (λ v. put key v (without key held))
     (c.in_ok-value.ensures.ok ∙ ap (λ r. behind r c.args.value) c.remove.ensures.value)
 
 pub returns-clause-ok : goal.returns-clause-ok
