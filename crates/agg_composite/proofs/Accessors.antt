@@ -22,19 +22,18 @@ use Rattle.agg_values.specs.declared.order.Order.{Order}
 use Rattle.agg_values.specs.declared.order.Order.TheVariants.{Asc, Desc}
 use Rattle.agg_values.proofs.KeyOrder.{key_order-total}
 use Rattle.agg_column.specs.Columns.{ClassesAscend, StandsForKey, StoredColumn, encoded_key}
-use Rattle.agg_column.specs.Columns.{all_keys, keys_rank, type_of}
-use Rattle.agg_segment.specs.Segment.{Stored, document_at}
+use Rattle.agg_column.specs.Columns.{keys_rank, type_of}
+use Rattle.agg_segment.specs.Segment.{Stored, columns_in}
 use Rattle.agg_column.specs.declared.keys.ColumnKeys.{ColumnKeys}
 use Rattle.agg_column.specs.declared.keys.ColumnKeys.TheVariants.{Bools}
 use Rattle.agg_request_tree.specs.Faults.{HasInterval}
-use Rattle.agg_request_tree.specs.Source.{field_of, keys_in, missing_order_of, order_of}
+use Rattle.agg_request_tree.specs.Source.{field_of, missing_order_of, order_of}
 use Rattle.agg_request_tree.specs.SourceColumns.{reads_type}
 use Rattle.agg_request_tree.specs.declared.source.CompositeAggregationSource as kind
 use kind.{CompositeAggregationSource}
 use kind.TheVariants.{DateHistogram, Histogram, Terms}
 use Rattle.agg_composite.specs.Accessors.{AreAccessorsOf, AreOfField, IsAccessorOf}
 use Rattle.agg_composite.specs.Accessors.{accessors_before, columns_read, is_null, side_at, side_to}
-use Rattle.agg_composite.specs.Accessors.{starts_in}
 use Rattle.agg_composite.specs.AfterKey.{projected_side}
 use Rattle.agg_composite.specs.Classes.{is_of_class_before}
 use Rattle.agg_composite.specs.Lanes.{class_order, column_at, columns_of, in_requested}
@@ -43,7 +42,7 @@ use Rattle.agg_composite.specs.declared.accessor.CompositeAccessor.{CompositeAcc
 use Rattle.agg_composite.specs.declared.accessor.CompositeSourceAccessors.{CompositeSourceAccessors}
 use Rattle.agg_composite.proofs.LaneKeys.{columns-many, numbers-one}
 use Rattle.agg_composite.proofs.NullSides.{null_key}
-use Rattle.agg_composite.proofs.ReadColumns.{classes-read, keys-read, starts-read}
+use Rattle.agg_composite.proofs.ReadColumns.{classes-read}
 use Rattle.agg_composite.proofs.TypedOrder.{by_class, classes-in_order, encoded-rank, less}
 use Rattle.agg_composite.proofs.TypedOrder.{null_sides, some_rank, values-order}
 
@@ -406,18 +405,13 @@ pub field_accessors : (segment : Stored) (source : CompositeAggregationSource)
     (field : List ℕ) (accessors : List CompositeAccessor) (columns : List StoredColumn)
     → HasInterval source → field ≡ field_of source
     → in_requested (order_of source) (columns_of accessors) ≡ columns_read source columns
-    → ((doc : ℕ) → all_keys columns doc ≡ document_at segment doc field)
+    → columns ≡ columns_in segment field
     → ClassesAscend columns → All (IsAccessorOf source) accessors
     → AreOfField segment source accessors
-field_accessors segment source field accessors columns interval field_is is keys classes each =
+field_accessors segment source field accessors columns interval field_is is here classes each =
     record {
       interval = interval;
       each = each;
-      keys = λ doc. ap (λ cs. keys_in source (all_keys cs doc)) is
-          ∙ keys-read source columns doc
-          ∙ ap (keys_in source) (keys doc ∙ ap (document_at segment doc) field_is);
-      starts = λ doc. ap (λ cs. starts_in source (all_keys cs doc)) is
-          ∙ starts-read source columns doc
-          ∙ ap (starts_in source) (keys doc ∙ ap (document_at segment doc) field_is);
+      columns = is ∙ ap (columns_read source) (here ∙ ap (columns_in segment) field_is);
       classes = subst ClassesAscend (sym is) (classes-read source columns classes);
     }

@@ -24,6 +24,7 @@ use Rattle.agg_composite.specs.Walk.{walked}
 use Rattle.agg_composite.specs.declared.accessor.CompositeSourceAccessors.{CompositeSourceAccessors}
 use Rattle.agg_composite.specs.declared.walk.choice.Choice.{Choice}
 use Rattle.agg_composite.proofs.CanonicalKeys.{canonical}
+use Rattle.agg_composite.proofs.FieldColumns.{keys-of_field, starts-of_field}
 use Rattle.agg_composite.proofs.KeysGiven.{keys_in-canonical, range-alike, starts-canonical}
 use Rattle.agg_composite.proofs.NullStanding.{null-standing}
 use Rattle.agg_composite.proofs.Pairs.{AllZip-filter, AllZip-flat_map, AllZip-map, AllZip-weaker}
@@ -67,7 +68,7 @@ module _ (segment : Stored) (after : Named AfterKey) where
       let same = without-missing (missing_bucket_of source) keys
       (canonical-choices source a choices (values_read source a doc) p) in
       ap (or_missing (missing_bucket_of source))
-      (sym same ∙ ap (map canonical_key) (fit.columns.keys doc)
+      (sym same ∙ ap (map canonical_key) (keys-of_field segment source a.accessors fit.columns doc)
       ∙ sym (keys_in-canonical source (document_at segment doc (field_of source))))
 
   -- ---- a choice
@@ -141,7 +142,8 @@ module _ (segment : Stored) (after : Named AfterKey) where
         each = fit.columns.each;
         range = All-from_recursion (IsInRange source) held
             (range-alike source held (map canonical_key values)
-            (fit.columns.starts doc ∙ sym (starts-canonical source values))
+            (starts-of_field segment source a.accessors fit.columns doc
+            ∙ sym (starts-canonical source values))
             (recursion_from_All (IsInRange source) (map canonical_key values) range));
       }
 

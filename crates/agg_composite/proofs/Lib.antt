@@ -12,6 +12,7 @@ pub mod DecodedTuples
 pub mod DocumentsInRow
 pub mod EncodedOrder
 pub mod Errors
+pub mod FieldColumns
 pub mod KeyMerging
 pub mod KeyTuples
 pub mod KeysGiven

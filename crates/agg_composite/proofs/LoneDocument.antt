@@ -33,6 +33,7 @@ use Rattle.agg_composite.proofs.Appending.{Appends}
 use Rattle.agg_composite.proofs.ChoicePairs.{can-read, canonical-choices, lone_past, past-keys}
 use Rattle.agg_composite.proofs.Choosing.{all_keys-append, turn-keys}
 use Rattle.agg_composite.proofs.CountedBehind.{answers-for, typed-visits}
+use Rattle.agg_composite.proofs.FieldColumns.{keys-of_field}
 use Rattle.agg_composite.proofs.KeysGiven.{keys_in-append, keys_in-canonical}
 use Rattle.agg_composite.proofs.VisitsInRow.{Returned, SoFar, all-visited, error-visited}
 use Rattle.agg_composite.proofs.VisitsInRow.{first-refused, none-visited, one-visited, then-visited}
@@ -144,7 +145,8 @@ module _ (segment : Stored) (after : Named AfterKey) (source : CompositeAggregat
       ap (filter past) (append-nil (occurrences (source ∷ []) (document_at segment doc)))
       ∙ ap (λ ks. lone_past segment after source (or_missing b ks))
       (keys_in-canonical source (document_at segment doc (field_of source))
-      ∙ ap (map canonical_key) (sym (read ∙ fit.columns.keys doc)))
+      ∙ ap (map canonical_key)
+      (sym (read ∙ keys-of_field segment source a.accessors fit.columns doc)))
       ∙ ap (lone_past segment after source) (with-null b (read_in columns))
       ∙ lone-append (read_in columns) (null_part b (read_in columns))
 

@@ -35,6 +35,7 @@ use Rattle.agg_composite.specs.declared.accessor.CompositeSourceAccessors.{Compo
 use Rattle.agg_composite.specs.declared.divisor.Divisor.{Divisor}
 use Rattle.agg_composite.proofs.Choosing.{in_front}
 use Rattle.agg_composite.proofs.ChosenStarts.{numbers-divide, time-divides}
+use Rattle.agg_composite.proofs.FieldColumns.{starts-of_field}
 use Rattle.agg_composite.proofs.KeysGiven.{range-alike, starts-canonical}
 
 -- ---- lists
@@ -134,7 +135,7 @@ module _ (segment : Stored) (source : CompositeAggregationSource)
       λ i d l j k m. subst IsWithin (own-start i d l _) (all i d l j k m) in
       All-from_recursion (IsInRange source) (map canonical_key values)
       (range-alike source (map canonical_key values) (keys_held source accessors doc)
-      (starts-canonical source values ∙ sym (of_field.starts doc))
+      (starts-canonical source values ∙ sym (starts-of_field segment source accessors of_field doc))
       (keys-all (IsInRange source) doc
       (in_requested (order_of source) (columns_of accessors))
       (requested-all (λ c. All (IsInRange source) (column_keys c doc)) (order_of source)
@@ -151,7 +152,7 @@ module _ (segment : Stored) (source : CompositeAggregationSource)
       (columns_of accessors)
       (keys-each (IsInRange source) doc (in_requested (order_of source) (columns_of accessors))
       (range-alike source (keys_held source accessors doc) (map canonical_key values)
-      (of_field.starts doc ∙ sym (starts-canonical source values))
+      (starts-of_field segment source accessors of_field doc ∙ sym (starts-canonical source values))
       (recursion_from_All (IsInRange source) (map canonical_key values) all)))) in
       λ i d l j k m. subst IsWithin (sym (own-start i d l _)) (each i d l j k m)
 

@@ -22,7 +22,7 @@ use interval.{PrecomputedDateInterval}
 use interval.TheVariants.{NotApplicable}
 use Rattle.agg_column.specs.Columns.{AreInKeyOrder, ClassesAscend, StandsForKey, StoredColumn}
 use Rattle.agg_column.specs.Columns.{all_keys, encoded_key, type_of}
-use Rattle.agg_segment.specs.Segment.{Stored, document_at}
+use Rattle.agg_segment.specs.Segment.{Stored, columns_in}
 use Rattle.agg_request_tree.specs.Faults.{HasInterval, SourceHasFault}
 use Rattle.agg_request_tree.specs.Source.{Sources, after_of, field_of, interval_of, keys_in}
 use Rattle.agg_request_tree.specs.Source.{missing_order_of, order_of, start_in}
@@ -77,11 +77,8 @@ pub record AreOfField (segment : Stored) (source : CompositeAggregationSource)
     (accessors : List CompositeAccessor) : Type 0 where
   pub interval : HasInterval source
   pub each : All (IsAccessorOf source) accessors
-  pub keys : (doc : ℕ)
-      → keys_read source accessors doc ≡ keys_in source (document_at segment doc (field_of source))
-  pub starts : (doc : ℕ)
-      → starts_in source (keys_held source accessors doc)
-      ≡ starts_in source (document_at segment doc (field_of source))
+  pub columns : in_requested (order_of source) (columns_of accessors)
+      ≡ columns_read source (columns_in segment (field_of source))
   pub classes : ClassesAscend (in_requested (order_of source) (columns_of accessors))
 
 -- ---- after values

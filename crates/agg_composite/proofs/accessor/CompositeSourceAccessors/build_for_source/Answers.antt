@@ -10,7 +10,7 @@ returns-in-Some-clause-ok c =
     c.going_on.result) (sym c.in-Some.is) (c.going_on.ensures c.args.reader.now
     (field_accessors c.args.reader.now c.args.source.now c.field.result.now
     c.in_ok-accessors.accessors c.columns-columns.result.now c.in_ok-interval.ensures.interval
-    c.field.ensures c.in_ok-accessors.ensures.columns c.columns-columns.ensures.keys
+    c.field.ensures c.in_ok-accessors.ensures.columns c.columns-columns.ensures.of_field
     c.columns-columns.ensures.classes c.in_ok-accessors.ensures.each))
 
 pub returns-in-None-clause-ok : goal.returns-in-None-clause-ok
@@ -20,5 +20,5 @@ returns-in-None-clause-ok c =
     c.args.source.now (sym c.order.ensures)
     (field_accessors c.args.reader.now c.args.source.now c.field.result.now
     c.in_ok-accessors.accessors c.columns-columns.result.now c.in_ok-interval.ensures.interval
-    c.field.ensures c.in_ok-accessors.ensures.columns c.columns-columns.ensures.keys
+    c.field.ensures c.in_ok-accessors.ensures.columns c.columns-columns.ensures.of_field
     c.columns-columns.ensures.classes c.in_ok-accessors.ensures.each))
