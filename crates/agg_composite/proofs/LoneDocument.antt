@@ -12,6 +12,7 @@ use Rattle.agg_values.specs.Names.{Named}
 use Rattle.agg_values.specs.Tuple.{KeyTuple}
 use Rattle.agg_values.specs.TypedKey.{CompositeIntermediateKey, canonical_key}
 use Rattle.agg_values.specs.declared.after_key.AfterKey.{AfterKey}
+use Rattle.agg_values.specs.declared.order.Order.{Order}
 use Rattle.agg_values.specs.declared.typed_key.CompositeIntermediateKey.TheVariants.{Null}
 use Rattle.agg_composite.specs.declared.visit_error.VisitError.{VisitError}
 use Rattle.agg_column.specs.Columns.{StoredColumn, all_keys, column_keys}
@@ -19,19 +20,21 @@ use Rattle.agg_segment.specs.Segment.{Stored, document_at, documents_at}
 use Rattle.agg_request_tree.specs.Occurrences.{bound_of, is_past, occurrences, past_occurrences}
 use Rattle.agg_request_tree.specs.Source.{field_of, keys_in, missing_bucket_of, or_missing, rules_of}
 use Rattle.agg_request_tree.specs.declared.source.CompositeAggregationSource.{CompositeAggregationSource}
-use Rattle.agg_request_tree.specs.Source.{after_of}
+use Rattle.agg_request_tree.specs.Source.{after_of, order_of}
 use Rattle.agg_composite.specs.Accessors.{AllFit, AreAccessorsOf, keys_read}
 use Rattle.agg_composite.specs.Answers.{AnswersEncoded, AnswersFor, AreAllInRange}
 use Rattle.agg_composite.specs.Answers.{CountsFor, TooOftenFor}
 use Rattle.agg_composite.specs.Choices.{AreChoicesOf, CanRead, IsChoiceOf, null_choice}
 use Rattle.agg_composite.specs.Counts.{EncodedCounts}
 use Rattle.agg_composite.specs.Encoding.{StandFor}
+use Rattle.agg_composite.specs.Lanes.{columns_of, in_requested}
 use Rattle.agg_composite.specs.Walk.{walked}
+use Rattle.agg_composite.specs.declared.accessor.CompositeAccessor.{CompositeAccessor}
 use Rattle.agg_composite.specs.declared.accessor.CompositeSourceAccessors.{CompositeSourceAccessors}
 use Rattle.agg_composite.specs.declared.walk.choice.Choice.{Choice}
 use Rattle.agg_composite.proofs.Appending.{Appends}
 use Rattle.agg_composite.proofs.ChoicePairs.{can-read, canonical-choices, lone_past, past-keys}
-use Rattle.agg_composite.proofs.Choosing.{all_keys-append, turn-keys}
+use Rattle.agg_composite.proofs.Choosing.{all_keys-append, length-requested, turn-keys}
 use Rattle.agg_composite.proofs.CountedBehind.{answers-for, typed-visits}
 use Rattle.agg_composite.proofs.FieldColumns.{keys-of_field}
 use Rattle.agg_composite.proofs.KeysGiven.{keys_in-append, keys_in-canonical}
@@ -93,6 +96,25 @@ one-null : (b : Bool) (keys : List CompositeIntermediateKey) → (length keys ==
     → b ≡ true → null_part b keys ≡ Null ∷ []
 one-null b [] none e = ap (λ x. or_missing x []) e
 one-null b (k ∷ keys) none e = absurd (cc (none, some-count (length keys)))
+
+-- ---- all columns
+
+-- those of the accessors in the requested order have the keys that are read
+pub all-read : (source : CompositeAggregationSource) (a : CompositeSourceAccessors) (order : Order)
+    (columns : List CompositeAccessor) (doc : ℕ) → order ≡ order_of source
+    → columns ≡ a.accessors
+    → keys_in source (all_keys (in_requested order (columns_of columns)) doc)
+    ≡ keys_read source a.accessors doc
+all-read source a order columns doc same_order same =
+    λ j. keys_in source (all_keys (in_requested (same_order j) (columns_of (same j))) doc)
+
+-- after as many turns as there are accessors, none is left
+pub all-past : (order : Order) (columns : List CompositeAccessor) (turn : ℕ)
+    → length columns ≤ turn → length (in_requested order (columns_of columns)) ≤ turn
+all-past order columns turn past =
+    let long = length-requested order (columns_of columns)
+    ∙ length-map columns (λ (x : CompositeAccessor). x.column.now) in
+    omega arith
 
 module _ (segment : Stored) (after : Named AfterKey) (source : CompositeAggregationSource)
     (a : CompositeSourceAccessors) (doc : ℕ) where

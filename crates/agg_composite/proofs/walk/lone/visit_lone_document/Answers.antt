@@ -1,14 +1,11 @@
-use Rattle.std.proofs.Common.{rules, ◌≡◌, ℕ, ◌<◌, ◌≤◌, ◌^◌, length, get_or, sym, ◌∙◌, arith}
-use Rattle.std.proofs.lemmas.List.{length-map}
-use Rattle.agg_column.specs.Columns.{all_keys}
-use Rattle.agg_request_tree.specs.Source.{keys_in}
-use Rattle.agg_composite.specs.Accessors.{keys_read}
+use Rattle.std.proofs.Common.{rules, ℕ, ◌<◌, ◌^◌, get_or, sym, ◌∙◌, arith}
 use Rattle.agg_composite.specs.Choices.{divided_choices}
 use Rattle.agg_composite.specs.GroupCounts.{all_counts}
 use Rattle.agg_composite.specs.Lanes.{columns_of, in_requested}
-use Rattle.agg_composite.proofs.Choosing.{length-requested, turn-read}
-use Rattle.agg_composite.proofs.LoneDocument.{column-error, ends-with-null, ends-with-values}
-use Rattle.agg_composite.proofs.LoneDocument.{ends-without-bucket, lone-can, none-more, one-column}
+use Rattle.agg_composite.proofs.Choosing.{turn-read}
+use Rattle.agg_composite.proofs.LoneDocument.{all-past, all-read, column-error, ends-with-null}
+use Rattle.agg_composite.proofs.LoneDocument.{ends-with-values, ends-without-bucket, lone-can}
+use Rattle.agg_composite.proofs.LoneDocument.{none-more, one-column}
 use Rattle.agg_composite.proofs.walk.lone.visit_lone_document.Goals as goal
 
 pub loop-turn-preserved : goal.loop-turn-preserved
@@ -61,9 +58,8 @@ returns-in_err-visit_column g c = λ segment after fit range.
     c.order-order.ensures c.as_slice-columns.ensures c.loop-turn-test.true
     c.place_at-place.ensures.bound c.place_at-place.ensures.place c.index-columns-place.is fits
     c.values_for_doc-numbers.ensures.stand c.values_for_doc-numbers.ensures.keys in
-    let all : keys_in source (all_keys xs doc) ≡ keys_read source a.accessors doc =
-    λ j. keys_in source (all_keys (in_requested (c.order-order.ensures j)
-    (columns_of (c.as_slice-columns.ensures j))) doc) in
+    let all = all-read source a order columns doc c.order-order.ensures c.as_slice-columns.ensures
+    in
     let can = lone-can segment after source a doc fit range in
     column-error segment after source a doc fit.0 xs turn (all_counts c.args.counts.now)
     (all_counts c.loop-turn.counts) c.args.steps.now c.loop-turn.steps
@@ -79,14 +75,12 @@ returns-then-not-is_missing g c = λ segment after fit range.
     let doc = c.args.doc in
     let columns = c.as_slice-columns.result.now in
     let turn = c.loop-turn.turn in
-    let xs = in_requested c.order-order.result (columns_of columns) in
-    let long = length-requested c.order-order.result (columns_of columns)
-    ∙ length-map columns (λ x. x.column.now) in
-    let past : length xs ≤ turn = omega (arith, long, c.loop-turn-test.false) in
-    let all : keys_in source (all_keys xs doc) ≡ keys_read source a.accessors doc =
-    λ j. keys_in source (all_keys (in_requested (c.order-order.ensures j)
-    (columns_of (c.as_slice-columns.ensures j))) doc) in
+    let order = c.order-order.result in
+    let past = all-past order columns turn (omega (arith, c.loop-turn-test.false)) in
+    let all = all-read source a order columns doc c.order-order.ensures c.as_slice-columns.ensures
+    in
     let can = lone-can segment after source a doc fit range in
+    let xs = in_requested order (columns_of columns) in
     ends-with-values segment after source a doc fit.0 xs turn (all_counts c.args.counts.now)
     (all_counts c.loop-turn.counts) c.args.steps.now c.loop-turn.steps
     (c.loop-turn.invariant.visited segment after fit.0 can) past all
@@ -99,14 +93,12 @@ returns-then-not-missing_bucket g c = λ segment after fit range.
     let doc = c.args.doc in
     let columns = c.as_slice-columns.result.now in
     let turn = c.loop-turn.turn in
-    let xs = in_requested c.order-order.result (columns_of columns) in
-    let long = length-requested c.order-order.result (columns_of columns)
-    ∙ length-map columns (λ x. x.column.now) in
-    let past : length xs ≤ turn = omega (arith, long, c.loop-turn-test.false) in
-    let all : keys_in source (all_keys xs doc) ≡ keys_read source a.accessors doc =
-    λ j. keys_in source (all_keys (in_requested (c.order-order.ensures j)
-    (columns_of (c.as_slice-columns.ensures j))) doc) in
+    let order = c.order-order.result in
+    let past = all-past order columns turn (omega (arith, c.loop-turn-test.false)) in
+    let all = all-read source a order columns doc c.order-order.ensures c.as_slice-columns.ensures
+    in
     let can = lone-can segment after source a doc fit range in
+    let xs = in_requested order (columns_of columns) in
     ends-without-bucket segment after source a doc fit.0 xs turn (all_counts c.args.counts.now)
     (all_counts c.loop-turn.counts) c.args.steps.now c.loop-turn.steps
     (c.loop-turn.invariant.visited segment after fit.0 can) past all
@@ -119,14 +111,12 @@ returns g c = λ segment after fit range.
     let doc = c.args.doc in
     let columns = c.as_slice-columns.result.now in
     let turn = c.loop-turn.turn in
-    let xs = in_requested c.order-order.result (columns_of columns) in
-    let long = length-requested c.order-order.result (columns_of columns)
-    ∙ length-map columns (λ x. x.column.now) in
-    let past : length xs ≤ turn = omega (arith, long, c.loop-turn-test.false) in
-    let all : keys_in source (all_keys xs doc) ≡ keys_read source a.accessors doc =
-    λ j. keys_in source (all_keys (in_requested (c.order-order.ensures j)
-    (columns_of (c.as_slice-columns.ensures j))) doc) in
+    let order = c.order-order.result in
+    let past = all-past order columns turn (omega (arith, c.loop-turn-test.false)) in
+    let all = all-read source a order columns doc c.order-order.ensures c.as_slice-columns.ensures
+    in
     let can = lone-can segment after source a doc fit range in
+    let xs = in_requested order (columns_of columns) in
     ends-with-null segment after source a doc fit.0 xs turn (all_counts c.args.counts.now)
     (all_counts c.loop-turn.counts) c.args.steps.now c.loop-turn.steps
     (c.loop-turn.invariant.visited segment after fit.0 can) past all
