@@ -30,7 +30,6 @@ pub mod ReadColumns
 pub mod SameTuples
 pub mod Settled
 pub mod SortedKeys
-pub mod SourceFaults
 pub mod StartRanges
 pub mod TupleCounts
 pub mod TypedGroups
