@@ -9,8 +9,7 @@ ghost use Rattle.agg_request_tree.specs.BySource.{after_map};
 ghost use Rattle.agg_request_tree.specs.Faults.{HaveOwnNames};
 ghost use Rattle.agg_request_tree.specs.Occurrences.{bound_of};
 ghost use Rattle.agg_request_tree.specs.Source.{Sources};
-ghost use Rattle.agg_request_tree.specs.declared.aggregation.CompositeAggregation as composite;
-ghost use composite.{CompositeAggregation};
+ghost use Rattle.agg_request_tree.specs.declared.aggregation.CompositeAggregation as declared;
 ghost use Rattle.agg_request_json.specs.CompositeJson.{AreKeys, IsCompositeJson};
 ghost use Rattle.agg_input.specs.Input.{Input, IsInput};
 ghost use Rattle.agg_input.specs.PrintedAfterKeys.{IsWithinType, printed_after_key};
@@ -30,7 +29,8 @@ pub fn a_printed_after_key_gives_its_bound()
         → All IsWithinType tuple
         → (d : Data) × (read (printed_after_key sources tuple) ≡ Some d)
         × AreKeys false d (after_map sources tuple) }
-    ensures bound { (composite : CompositeAggregation) (tuple : KeyTuple) (body d : Data)
+    ensures bound { (composite : declared.CompositeAggregation) (tuple : KeyTuple)
+        → (body d : Data)
         → HaveOwnNames composite.sources
         → length tuple ≡ length composite.sources
         → All IsWithinType tuple
