@@ -23,19 +23,19 @@ abbrev pub HasNoNull : Fields → Type 0
 HasNoNull document = (field : List ℕ) → All (λ k. k ≢ Null) (document field)
 
 -- a composite goes on from the after key of a tuple of documents without Null
-pub MayGoOnFrom-behind : (sources : Sources) (documents : List Fields) (tuple : KeyTuple)
+pub MayGoOnFrom-after : (sources : Sources) (documents : List Fields) (tuple : KeyTuple)
     → HaveOwnNames sources → All HasInterval sources → All HasNoNull documents
     → Contains (occurrences_in sources documents) tuple
     → MayGoOnFrom sources (after_map sources tuple)
-MayGoOnFrom-behind sources documents tuple own_names intervals no_null occurs =
+MayGoOnFrom-after sources documents tuple own_names intervals no_null occurs =
     let from = Has-from_flat_map (occurrences sources) documents tuple
     (Has-from_Contains (occurrences_in sources documents) tuple occurs) in
     let document = AllByRecursion-Has HasNoNull documents from.0
     (recursion_from_All HasNoNull documents no_null) from.1 in
-    let held = Contains-from_Has (occurrences sources from.0) tuple from.2 in
+    let there = Contains-from_Has (occurrences sources from.0) tuple from.2 in
     let long = AllZip-long IsNullByBucket sources tuple (occurrence-Null sources from.0 tuple
-    document held) in
-    let behind : CompositeAggregation = record {
+    document there) in
+    let later : CompositeAggregation = record {
       sources = sources;
       size = 0;
       after = after_map sources tuple;
@@ -43,6 +43,6 @@ MayGoOnFrom-behind sources documents tuple own_names intervals no_null occurs =
     λ i d within.
     let source = get_or sources i d in
     IsSoundSource-parts source (after_of (after_map sources tuple) source)
-    (after_map-sound behind from.0 tuple refl own_names long document held i d within)
+    (after_map-sound later from.0 tuple refl own_names long document there i d within)
     (intervals i d within)
-    (after_map-own behind from.0 tuple refl own_names long held i d within)
+    (after_map-own later from.0 tuple refl own_names long there i d within)

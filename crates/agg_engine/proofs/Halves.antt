@@ -1,4 +1,4 @@
--- What two lists of segments hold for a page is held for both as one.
+-- The results of two lists of segments for a page, merged, are those of both as one.
 use Rattle.std.proofs.Common.{◌≡◌, ℕ, ◌+◌, ◌≤◌, ◌^◌, List, [], ◌++◌, Ok, length, take}
 use Rattle.std.proofs.Common.{drop, length-append, sym, ap, ◌∙◌, subst, arith}
 use Rattle.std.specs.List.{All, filter, flat_map}
@@ -20,11 +20,11 @@ use Rattle.agg_request_tree.specs.declared.aggregation.AggregationVariants.{Aggr
 use Rattle.agg_request_tree.specs.declared.aggregation.AggregationVariants.TheVariants.{Composite}
 use Rattle.agg_request_tree.specs.declared.aggregation.CompositeAggregation.{CompositeAggregation}
 use Rattle.agg_results.specs.Merging.{AreMerged, CountsPass, ShapesDiffer, SomeOfBoth}
-use Rattle.agg_results.specs.declared.intermediate.results.IntermediateAggregationResults as held
-use held.{IntermediateAggregationResults}
+use Rattle.agg_results.specs.declared.intermediate.results.IntermediateAggregationResults as intermediate
+use intermediate.{IntermediateAggregationResults}
 use Rattle.agg_results.proofs.StandingResults.{StandsFor-alike, StandsFor-few, StandsFor-joined}
 use Rattle.agg_request_tree.proofs.RequestTrees.{agg-made}
-use Rattle.agg_engine.specs.PageAnswers.{AnswersHeld, asked}
+use Rattle.agg_engine.specs.PageAnswers.{AnswersMerged, asked}
 use Rattle.agg_engine.specs.Walk.{matching_in}
 use Rattle.agg_engine.proofs.OneRequest.{at_size, going_on}
 
@@ -59,23 +59,24 @@ counted-append composite documents others =
 
 module _ (name : List ℕ) (composite : CompositeAggregation) (size : ℕ) (after : Named AfterKey)
     (query : QueryTree) (first second : List Stored) (counted between counted_now : ℕ)
-    (held more : IntermediateAggregationResults)
-    (a : AnswersHeld name composite size after (matching_in query first) counted between (Ok held))
-    (b : AnswersHeld name composite size after (matching_in query second) between counted_now
+    (merged more : IntermediateAggregationResults)
+    (a : AnswersMerged name composite size after (matching_in query first) counted between
+    (Ok merged))
+    (b : AnswersMerged name composite size after (matching_in query second) between counted_now
     (Ok more)) where
   -- their shapes never differ
-  pub halves-alike : ¬ (SomeOfBoth ShapesDiffer held.results more.results)
+  pub halves-alike : ¬ (SomeOfBoth ShapesDiffer merged.results more.results)
   halves-alike =
       StandsFor-alike (asked name composite size after) (matching_in query first)
-      (matching_in query second) held.results more.results a.held b.held
+      (matching_in query second) merged.results more.results a.merged b.merged
 
   -- no count passes, since few documents are counted
-  pub halves-few : ¬ (SomeOfBoth CountsPass held.results more.results)
+  pub halves-few : ¬ (SomeOfBoth CountsPass merged.results more.results)
   halves-few pass =
       let documents = matching_in query first in
       let others = matching_in query second in
-      let many = StandsFor-few (asked name composite size after) documents others held.results
-      more.results a.held b.held pass in
+      let many = StandsFor-few (asked name composite size after) documents others merged.results
+      more.results a.merged b.merged pass in
       let counts = counted-append composite documents others in
       let first_is = a.counted_is in
       let second_is = b.counted_is in
@@ -94,13 +95,13 @@ module _ (name : List ℕ) (composite : CompositeAggregation) (size : ℕ) (afte
       ))
       (many.0, many.2, many.3) many.4
 
-  -- the two as one are held for all segments
+  -- merged, they are the results of all segments
   pub halves-joined : (segments : List Stored) (at : ℕ) → first ≡ take at segments
       → second ≡ drop at segments → (whole : IntermediateAggregationResults)
-      → AreMerged held.results more.results whole.results
-      → AnswersHeld name composite size after (matching_in query segments) counted counted_now
+      → AreMerged merged.results more.results whole.results
+      → AnswersMerged name composite size after (matching_in query segments) counted counted_now
       (Ok whole)
-  halves-joined segments at front back whole merged =
+  halves-joined segments at front back whole are =
       let split : segments ≡ first ++ second =
       sym (take-append-drop at segments) ∙ (λ i. sym front i ++ sym back i) in
       let documents = matching_in query first in
@@ -108,10 +109,10 @@ module _ (name : List ℕ) (composite : CompositeAggregation) (size : ℕ) (afte
       let counts = counted-append composite documents others in
       let first_is = a.counted_is in
       let second_is = b.counted_is in
-      subst (λ ds. AnswersHeld name composite size after ds counted counted_now (Ok whole))
+      subst (λ ds. AnswersMerged name composite size after ds counted counted_now (Ok whole))
       (sym (ap (matching_in query) split ∙ matching-append query first second)) (record {
-        held = StandsFor-joined (asked name composite size after) documents others held.results
-            more.results a.held b.held whole.results merged;
+        merged = StandsFor-joined (asked name composite size after) documents others merged.results
+            more.results a.merged b.merged whole.results are;
         counted_is = omega arith;
         few = b.few;
         cause = tt;

@@ -23,7 +23,7 @@ use Rattle.agg_request_tree.specs.Request.{composites_of}
 use Rattle.agg_request_tree.proofs.PageFromGroups.{equal-from_is_eq}
 use Rattle.agg_request_tree.proofs.RequestTrees.{agg-made, below-made, composites-plain}
 use Rattle.agg_engine.specs.NamedComposite.{IsCompositeNamed}
-use Rattle.agg_engine.specs.Walk.{changed, request_changed_at, request_behind, request_at_size}
+use Rattle.agg_engine.specs.Walk.{changed, request_changed_at, request_after, request_at_size}
 use Rattle.agg_engine.specs.Walk.{with_after, with_size}
 
 -- ---- a request of one composite
@@ -76,10 +76,10 @@ abbrev pub one_from : (B : Type 0) → List ℕ → CompositeAggregation → Nam
 one_from B name c after = one B name (going_on after c)
 
 module _ (B : Type 0) (name : List ℕ) (c : CompositeAggregation) (after : Named AfterKey) where
-  -- a request that went on goes on behind a later tuple
-  pub one_from-behind : (tuple : KeyTuple) → request_behind name tuple (one_from B name c after)
+  -- a request that went on goes on after a later tuple
+  pub one_from-after : (tuple : KeyTuple) → request_after name tuple (one_from B name c after)
       ≡ one_from B name c (after_map c.sources tuple)
-  one_from-behind tuple = changed-one (with_after tuple) name (going_on after c)
+  one_from-after tuple = changed-one (with_after tuple) name (going_on after c)
 
   pub one_from-sized : (size : ℕ) → request_at_size name size (one_from B name c after)
       ≡ one B name (at_size size (going_on after c))

@@ -22,7 +22,7 @@ use Rattle.agg_results.specs.Results.{Results, after_in, after_tuple}
 use Rattle.agg_request_tree.proofs.RequestTrees.{agg-made, below-made}
 use Rattle.agg_engine.specs.Snapshot.{SnapshotDocuments}
 use Rattle.agg_engine.specs.Walk.{IsWalk, changed, matching_documents, request_at_size}
-use Rattle.agg_engine.specs.Walk.{request_behind, request_changed_at, with_after, with_size}
+use Rattle.agg_engine.specs.Walk.{request_after, request_changed_at, with_after, with_size}
 use Rattle.agg_values.specs.Names.{name_cmp}
 use Rattle.agg_values.specs.Tuple.{KeyTuple}
 
@@ -113,23 +113,23 @@ plain-with {B = B} change keeps name (a ∷ request) plain =
 -- ---- the walk
 
 module _ (name : List ℕ) (query : QueryTree) where
-  -- how the walk goes on behind a page with this last tuple, if it is full
+  -- how the walk goes on after a page with this last tuple, if it is full
   abbrev GoesOn : {B : Type 0} → Request B → List SnapshotDocuments → List Results → Bool
       → Option KeyTuple → Type 0
   GoesOn request snapshots results ended last = MatchOption last ((results ≡ []) × (ended ≡ true))
-      (λ tuple. IsWalk name query (request_behind name tuple request) snapshots results ended)
+      (λ tuple. IsWalk name query (request_after name tuple request) snapshots results ended)
 
-  behind-same : {B : Type 0} (request : Request B) (snapshots : List SnapshotDocuments)
+  after-same : {B : Type 0} (request : Request B) (snapshots : List SnapshotDocuments)
       (results others : List Results) (ended other : Bool) (last : Option KeyTuple)
-      → ((tuple : KeyTuple) → IsWalk name query (request_behind name tuple request) snapshots
-      results ended → IsWalk name query (request_behind name tuple request) snapshots others
+      → ((tuple : KeyTuple) → IsWalk name query (request_after name tuple request) snapshots
+      results ended → IsWalk name query (request_after name tuple request) snapshots others
       other → (results ≡ others) × (ended ≡ other))
       → GoesOn request snapshots results ended last
       → GoesOn request snapshots others other last
       → (results ≡ others) × (ended ≡ other)
-  behind-same request snapshots results others ended other None later h k =
+  after-same request snapshots results others ended other None later h k =
       (h.0 ∙ sym k.0, h.1 ∙ sym k.1)
-  behind-same request snapshots results others ended other (Some tuple) later h k = later tuple h k
+  after-same request snapshots results others ended other (Some tuple) later h k = later tuple h k
 
   -- two walks are the same
   pub walk-same : {B : Type 0} (request : Request B) (snapshots : List SnapshotDocuments)
@@ -146,19 +146,19 @@ module _ (name : List ℕ) (query : QueryTree) where
       let page = results-same (request_at_size name s.page_size request) (matching_documents query
       s) r q h.0 k.0 in
       let rest =
-      behind-same request snapshots results others ended other (after_in name r)
-      (λ tuple h k. walk-same (request_behind name tuple request) snapshots results others ended
+      after-same request snapshots results others ended other (after_in name r)
+      (λ tuple h k. walk-same (request_after name tuple request) snapshots results others ended
       other h k)
       h.1 (subst (λ p. GoesOn request snapshots others other (after_in name p)) (sym page) k.1) in
       (λ i. page i ∷ rest.0 i, rest.1)
 
-  behind-exists : {B : Type 0} (request : Request B) (snapshots : List SnapshotDocuments)
+  after-exists : {B : Type 0} (request : Request B) (snapshots : List SnapshotDocuments)
       (last : Option KeyTuple)
       → ((tuple : KeyTuple) → (results : List Results) × (ended : Bool)
-      × IsWalk name query (request_behind name tuple request) snapshots results ended)
+      × IsWalk name query (request_after name tuple request) snapshots results ended)
       → (results : List Results) × (ended : Bool) × GoesOn request snapshots results ended last
-  behind-exists request snapshots None later = ([], true, (refl, refl))
-  behind-exists request snapshots (Some tuple) later = later tuple
+  after-exists request snapshots None later = ([], true, (refl, refl))
+  after-exists request snapshots (Some tuple) later = later tuple
 
   plain-exists : {B : Type 0} (request : Request B) (snapshots : List SnapshotDocuments)
       → AllPlain request
@@ -171,8 +171,8 @@ module _ (name : List ℕ) (query : QueryTree) where
       request plain in
       let page = results-exist (request_at_size name s.page_size request) (matching_documents query
       s) sized in
-      let rest = behind-exists request snapshots (after_in name page.0) (λ tuple.
-      plain-exists (request_behind name tuple request) snapshots
+      let rest = after-exists request snapshots (after_in name page.0) (λ tuple.
+      plain-exists (request_after name tuple request) snapshots
       (plain-with (with_after {B = B} tuple)
       (λ c. (record c { after = after_map c.sources tuple }, refl)) name request plain)) in
       (page.0 ∷ rest.0, rest.1, (page.1, rest.2))

@@ -58,7 +58,7 @@ HasOwnTooMany c documents = 2 ^ 32 ≤ length (counted c documents)
 
 module _ (B : Type 0) (name : List ℕ) (query : QueryTree) (c : CompositeAggregation)
     (after : Named AfterKey) (s : SnapshotDocuments) where
-  -- the page of the snapshot behind the after key
+  -- the page of the snapshot after the after key
   abbrev pub IsPageHere : List Entry → Type 0
   IsPageHere = IsPage c.sources s.page_size (bound_of c.sources after) (matching_documents query s)
 

@@ -88,16 +88,16 @@ cause-checked limit name query request snapshots OutOfMemory cause = tt
 
 -- ---- accessors
 
--- where a source is sound, only memory is wanting
-pub wants-memory : (source : CompositeAggregationSource) (after : Option CompositeIntermediateKey)
+-- the accessors of a sound source fail only where memory runs out
+pub no-memory : (source : CompositeAggregationSource) (after : Option CompositeIntermediateKey)
     → IsSoundSource source after → (given : RequestError) → HasNoAccessors source after given
     → error_from_request given ≡ error.OutOfMemory
-wants-memory source after sound OutOfMemory none = refl
-wants-memory source after sound (Invalid fault) none = absurd (sound (Invalid fault) none.0)
-wants-memory source after sound (Aggregation part) none =
+no-memory source after sound OutOfMemory none = refl
+no-memory source after sound (Invalid fault) none = absurd (sound (Invalid fault) none.0)
+no-memory source after sound (Aggregation part) none =
     absurd (sound (Aggregation part) none.0)
 
--- an error that is passed on is want of memory
+-- an error that is passed on says that memory ran out
 pub only-memory : {T : Type 0} (result : Result T WalkError) (source : CompositeAggregationSource)
     (after : Option CompositeIntermediateKey) (given : RequestError)
     → IsSoundSource source after → HasNoAccessors source after given
@@ -105,4 +105,4 @@ pub only-memory : {T : Type 0} (result : Result T WalkError) (source : Composite
     → IfErr result (λ e. e ≡ error.OutOfMemory)
 only-memory (Ok x) source after given sound none is = tt
 only-memory (Err e) source after given sound none is =
-    is ∙ wants-memory source after sound given none
+    is ∙ no-memory source after sound given none

@@ -1,4 +1,4 @@
--- A page that is held under a name stands for its documents.
+-- The intermediate results of a page stand for its documents.
 use Rattle.std.proofs.Common.{◌≡◌, ◌<◌, ◌+◌, ◌^◌, ℕ, List, [], ◌∷◌, Result, Ok, Err, IfErr}
 use Rattle.std.proofs.Common.{IfOk, IsErrAnd, length, refl, sym, subst, inl}
 use Rattle.std.specs.List.{Contains}
@@ -22,11 +22,11 @@ use Rattle.agg_results.specs.Intermediate.{AreFlat, Held, IsFlat, as_result, com
 use Rattle.agg_results.specs.Intermediate.{held_composite, plain_entries}
 use Rattle.agg_results.specs.StandsFor.{CompositeStandsFor, GroupsStandFor, ResultStandsFor}
 use Rattle.agg_results.specs.StandsFor.{StandsFor}
-use Rattle.agg_results.specs.declared.intermediate.results.IntermediateAggregationResults as held
-use held.{IntermediateAggregationResults}
+use Rattle.agg_results.specs.declared.intermediate.results.IntermediateAggregationResults as intermediate
+use intermediate.{IntermediateAggregationResults}
 use Rattle.agg_results.proofs.StandingComposites.{counts-plain, entries-plain, stands-made}
 use Rattle.agg_request_tree.proofs.RequestTrees.{agg-made}
-use Rattle.agg_engine.specs.PageAnswers.{AnswersHeld, IsHeldRefusal, asked, page_held}
+use Rattle.agg_engine.specs.PageAnswers.{AnswersMerged, IsCountRefusal, asked, intermediate_page}
 use Rattle.agg_engine.specs.declared.walk.error.WalkError.{WalkError}
 use Rattle.agg_engine.specs.declared.walk.error.WalkError.TheVariants.{OutOfMemory}
 use Rattle.agg_engine.proofs.OneRequest.{at_size, going_on, value-own}
@@ -35,7 +35,7 @@ module _ (name : List ℕ) (composite : CompositeAggregation) (size : ℕ) (afte
     (documents : List Fields) where
   -- the page of these groups, under the name
   abbrev page_of : List Group → Held
-  page_of = page_held name composite size
+  page_of = intermediate_page name composite size
 
   -- what the groups of a page stand for
   abbrev pub Stand : List Group → Type 0
@@ -72,11 +72,12 @@ module _ (name : List ℕ) (composite : CompositeAggregation) (size : ℕ) (afte
 
     -- it has no sub-results
     pub flat-page : (result : Result IntermediateAggregationResults WalkError)
-        → IfOk result (λ held. held.results ≡ page_of groups)
-        → IfOk result (λ held. AreFlat held.results)
+        → IfOk result (λ merged. merged.results ≡ page_of groups)
+        → IfOk result (λ merged. AreFlat merged.results)
     flat-page result is =
-        IfOk-weaker result (λ held. held.results ≡ page_of groups) (λ held. AreFlat held.results)
-        (λ held e. subst AreFlat (sym e)
+        IfOk-weaker result (λ merged. merged.results ≡ page_of groups)
+        (λ merged. AreFlat merged.results)
+        (λ merged e. subst AreFlat (sym e)
         (All-from_recursion (λ r. IsFlat (held_composite r.1)) (page_of groups)
         (composite-stands.flat, tt))) is
 
@@ -84,37 +85,37 @@ module _ (name : List ℕ) (composite : CompositeAggregation) (size : ℕ) (afte
 
   module _ (counted counted_now : ℕ) where
     abbrev Answers : Result IntermediateAggregationResults WalkError → Type 0
-    Answers = AnswersHeld name composite size after documents counted counted_now
+    Answers = AnswersMerged name composite size after documents counted counted_now
 
     -- a refusal that has its cause
     pub answers-refused : (result : Result IntermediateAggregationResults WalkError)
         (given : WalkError) → IsErrAnd result (λ e. e ≡ given)
-        → IsHeldRefusal composite documents counted given → Answers result
+        → IsCountRefusal composite documents counted given → Answers result
     answers-refused result given kept cause =
         let found = err_from_is_err_and result kept in
         subst Answers (sym found.1) (record {
-          held = tt;
+          merged = tt;
           counted_is = tt;
           few = tt;
-          cause = subst (IsHeldRefusal composite documents counted) (sym found.2) cause;
+          cause = subst (IsCountRefusal composite documents counted) (sym found.2) cause;
         })
 
-    -- the page of these groups, unless memory is wanting
+    -- the page of these groups, unless memory runs out
     pub answers-page : (groups : List Group) → Stand groups
         → counted_now ≡ counted + length (counted_by composite documents)
         → counted_now < 2 ^ 32 → (result : Result IntermediateAggregationResults WalkError)
-        → IfOk result (λ held. held.results ≡ page_of groups)
+        → IfOk result (λ merged. merged.results ≡ page_of groups)
         → IfErr result (λ error. error ≡ OutOfMemory) → Answers result
-    answers-page groups stand counted_is few (Ok held) is err = record {
-      held = subst (StandsFor (asked name composite size after) documents) (sym is)
+    answers-page groups stand counted_is few (Ok merged) is err = record {
+      merged = subst (StandsFor (asked name composite size after) documents) (sym is)
           (page-stands groups stand);
       counted_is = counted_is;
       few = few;
       cause = tt;
     }
     answers-page groups stand counted_is few (Err error) ok is = record {
-      held = tt;
+      merged = tt;
       counted_is = tt;
       few = tt;
-      cause = subst (IsHeldRefusal composite documents counted) (sym is) tt;
+      cause = subst (IsCountRefusal composite documents counted) (sym is) tt;
     }

@@ -24,10 +24,10 @@ use Rattle.agg_results.proofs.ShownBuckets.{shown-buckets}
 use Rattle.agg_engine.specs.PageAnswers.{MayGoOnFrom}
 use Rattle.agg_engine.specs.Refusals.{IsRefused}
 use Rattle.agg_engine.specs.Snapshot.{SnapshotDocuments}
-use Rattle.agg_engine.specs.Walk.{IsWalk, matching_documents, request_behind}
+use Rattle.agg_engine.specs.Walk.{IsWalk, matching_documents, request_after}
 use Rattle.agg_engine.specs.declared.walk.error.WalkError.{WalkError}
-use Rattle.agg_engine.proofs.AfterKeys.{HasNoNull, MayGoOnFrom-behind}
-use Rattle.agg_engine.proofs.OneRequest.{one, one_from, one_from-behind}
+use Rattle.agg_engine.proofs.AfterKeys.{HasNoNull, MayGoOnFrom-after}
+use Rattle.agg_engine.proofs.OneRequest.{one, one_from, one_from-after}
 use Rattle.agg_engine.proofs.PageBound.{after-occurs}
 use Rattle.agg_engine.proofs.PageHere.{AreRefusedHere, HasOwnTooMany, IsPageHere, after-page}
 use Rattle.agg_engine.proofs.PageHere.{asked-page, asked_here, not-refused, results-page}
@@ -96,10 +96,10 @@ module _ (B : Type 0) (limit : ℕ) (name : List ℕ) (query : QueryTree)
       abbrev pub shown : AggregationResults
       shown = shown_results (one B name c) this
 
-      -- how the walk's refusal goes on behind a page with this last tuple
+      -- how the walk's refusal goes on after a page with this last tuple
       abbrev RefusedBehind : WalkError → KeyTuple → Type 0
       RefusedBehind error tuple =
-          IsRefused limit name query (request_behind name tuple (one_from B name c after)) rest
+          IsRefused limit name query (request_after name tuple (one_from B name c after)) rest
           error
 
       this-after : after_in name this ≡ after_tuple s.page_size page
@@ -145,7 +145,7 @@ module _ (B : Type 0) (limit : ℕ) (name : List ℕ) (query : QueryTree)
             state.goes_on (this ∷ nothing) true (
               results-page B name query c after s page is_page,
               subst (λ o. MatchOption o ((nothing ≡ []) × (true ≡ true)) (λ tuple.
-                  IsWalk name query (request_behind name tuple (one_from B name c after)) rest
+                  IsWalk name query (request_after name tuple (one_from B name c after)) rest
                   nothing true)) (sym (this-after ∙ last)) (refl, refl),
             ),
             pages-more,
@@ -157,7 +157,7 @@ module _ (B : Type 0) (limit : ℕ) (name : List ℕ) (query : QueryTree)
           subst (λ o. IsSomeAnd o (RefusedBehind error)) last
           (refused-goes_on error (state.fits error refused))
 
-      -- a full page goes on behind its last tuple
+      -- a full page goes on after its last tuple
       pub state-more : HaveOwnNames c.sources → All HasInterval c.sources
           → All HasNoNull (matching_documents query s)
           → (tuple : KeyTuple) → after_tuple s.page_size page ≡ Some tuple
@@ -171,14 +171,14 @@ module _ (B : Type 0) (limit : ℕ) (name : List ℕ) (query : QueryTree)
             (state.goes_on (this ∷ more) ended (
               results-page B name query c after s page is_page,
               subst (λ o. MatchOption o ((more ≡ []) × (ended ≡ true)) (λ t.
-                  IsWalk name query (request_behind name t (one_from B name c after)) rest more
+                  IsWalk name query (request_after name t (one_from B name c after)) rest more
                   ended)) (sym (this-after ∙ last))
                   (subst (λ (request : Request B). IsWalk name query request rest more ended)
-                  (sym (one_from-behind B name c after tuple)) walk),
+                  (sym (one_from-after B name c after tuple)) walk),
             ));
         fits = λ error refused. subst (λ (request : Request B).
             IsRefused limit name query request rest error)
-            (one_from-behind B name c after tuple)
+            (one_from-after B name c after tuple)
             (subst (λ o. IsSomeAnd o (RefusedBehind error)) last
             (refused-goes_on error (state.fits error refused)));
         reaches = λ error refused. state.reaches error (inr (
@@ -188,10 +188,10 @@ module _ (B : Type 0) (limit : ℕ) (name : List ℕ) (query : QueryTree)
             results-page B name query c after s page is_page,
             subst (λ o. IsSomeAnd o (RefusedBehind error)) (sym (this-after ∙ last))
                 (subst (λ (request : Request B). IsRefused limit name query request rest error)
-                (sym (one_from-behind B name c after tuple)) refused),
+                (sym (one_from-after B name c after tuple)) refused),
           ),
         ));
-        may_go_on = MayGoOnFrom-behind c.sources
+        may_go_on = MayGoOnFrom-after c.sources
             (matching_documents query s) tuple own_names intervals no_null
             (after-occurs c.sources s.page_size (bound_of c.sources after)
             (matching_documents query s) page tuple is_page last);

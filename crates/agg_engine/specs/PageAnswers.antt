@@ -17,8 +17,8 @@ use Rattle.agg_request_tree.specs.Source.{Sources, after_of, rules_of}
 use Rattle.agg_results.specs.Final.{TellsTooMany}
 use Rattle.agg_results.specs.Intermediate.{Held, as_result, composite_of, plain_entries}
 use Rattle.agg_results.specs.StandsFor.{StandsFor}
-use Rattle.agg_results.specs.declared.intermediate.results.IntermediateAggregationResults as held
-use held.{IntermediateAggregationResults}
+use Rattle.agg_results.specs.declared.intermediate.results.IntermediateAggregationResults as intermediate
+use intermediate.{IntermediateAggregationResults}
 use Rattle.agg_results.specs.declared.results.types.AggregationResult.{AggregationResult}
 use Rattle.agg_results.specs.declared.results.types.AggregationResult.TheOpen as opened
 use opened.{BucketResult-F}
@@ -39,8 +39,8 @@ pub record HasFewSources (composite : CompositeAggregation) : Type 0 where
 abbrev pub MayGoOnFrom : Sources → Named AfterKey → Type 0
 MayGoOnFrom sources after = All (λ source. IsSoundSource source (after_of after source)) sources
 
--- why a page is refused before its documents are counted: a bucket starts outside i64; want of
--- memory needs no cause
+-- why a page is refused before its documents are counted: a bucket starts outside i64; running out
+-- of memory needs no cause
 abbrev pub IsStartRefusal : CompositeAggregation → List Fields → WalkError → Type 0
 IsStartRefusal composite documents BucketOutOfRange =
     HasOwnStartOutOfRange composite documents
@@ -48,14 +48,14 @@ IsStartRefusal composite documents OutOfMemory = ⊤
 IsStartRefusal composite documents _ = ⊥
 
 -- why there are no results: with so many counted before, the composite counts too many documents;
--- want of memory needs no cause
-abbrev pub IsHeldRefusal : CompositeAggregation → List Fields → ℕ → WalkError → Type 0
-IsHeldRefusal composite documents counted TooMany =
+-- running out of memory needs no cause
+abbrev pub IsCountRefusal : CompositeAggregation → List Fields → ℕ → WalkError → Type 0
+IsCountRefusal composite documents counted TooMany =
     2 ^ 32 ≤ counted + length (counted_by composite documents)
-IsHeldRefusal composite documents counted OutOfMemory = ⊤
-IsHeldRefusal composite documents counted _ = ⊥
+IsCountRefusal composite documents counted OutOfMemory = ⊤
+IsCountRefusal composite documents counted _ = ⊥
 
--- the request of one composite under a name, of a size and behind an after key, with such builders
+-- the request of one composite under a name, of a size and after an after key, with such builders
 abbrev pub asked_with : (B : Type 0) → List ℕ → CompositeAggregation → ℕ → Named AfterKey
     → Request B
 asked_with B name composite size after = (
@@ -67,23 +67,23 @@ asked_with B name composite size after = (
 abbrev pub asked : List ℕ → CompositeAggregation → ℕ → Named AfterKey → Request ⊤
 asked = asked_with ⊤
 
--- the page of these groups, as it is held under a name
-abbrev pub page_held : List ℕ → CompositeAggregation → ℕ → List Group → Held
-page_held name composite size groups =
+-- the intermediate results of a name that have these groups as their page
+abbrev pub intermediate_page : List ℕ → CompositeAggregation → ℕ → List Group → Held
+intermediate_page name composite size groups =
     (name, as_result (composite_of (rules_of composite.sources) size (plain_entries groups))) ∷ []
 
 -- what a call for the results of a composite over documents answers, where so many documents were
 -- counted before: an Ok has results that stand for the documents, and has counted these too, and
 -- they are not too many with those before; each other answer has its cause
-pub record AnswersHeld (name : List ℕ) (composite : CompositeAggregation) (size : ℕ)
+pub record AnswersMerged (name : List ℕ) (composite : CompositeAggregation) (size : ℕ)
     (after : Named AfterKey) (documents : List Fields) (counted counted_now : ℕ)
     (result : Result IntermediateAggregationResults WalkError) : Type 0 where
-  pub held : IfOk result
-      (λ held. StandsFor (asked name composite size after) documents held.results)
+  pub merged : IfOk result
+      (λ merged. StandsFor (asked name composite size after) documents merged.results)
   pub counted_is : OnOk result
       (counted_now ≡ counted + length (counted_by composite documents))
   pub few : OnOk result (counted_now < 2 ^ 32)
-  pub cause : IfErr result (IsHeldRefusal composite documents counted)
+  pub cause : IfErr result (IsCountRefusal composite documents counted)
 
 -- the after key that the results of a name show
 abbrev pub shown_after_of : List ℕ → AggregationResults → Named AfterKey
@@ -101,9 +101,9 @@ shown_after_of name results = after_shown (value_of name results.0)
 abbrev pub IsShown : Option (Named AfterKey) → Named AfterKey → Type 0
 IsShown next shown = MatchOption next (shown ≡ []) (λ after. (after ≡ shown) × (after ≢ []))
 
--- why held results have no final ones: these have more buckets than the limit; want of memory needs
--- no cause
+-- why merged results have no final ones: these have more buckets than the limit; running out of
+-- memory needs no cause
 abbrev pub IsFinalRefusal : {B : Type 0} → ℕ → Request B → Held → WalkError → Type 0
-IsFinalRefusal limit request held (Aggregation given) = TellsTooMany limit request held given
-IsFinalRefusal limit request held OutOfMemory = ⊤
-IsFinalRefusal limit request held _ = ⊥
+IsFinalRefusal limit request merged (Aggregation given) = TellsTooMany limit request merged given
+IsFinalRefusal limit request merged OutOfMemory = ⊤
+IsFinalRefusal limit request merged _ = ⊥

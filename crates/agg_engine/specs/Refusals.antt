@@ -11,7 +11,7 @@ use Rattle.agg_results.specs.Results.{IsResults, Results, after_in, buckets_in}
 use Rattle.agg_engine.specs.NamedComposite.{NamesComposite}
 use Rattle.agg_engine.specs.Snapshot.{SnapshotDocuments}
 use Rattle.agg_engine.specs.Walk.{AreResultsAt, HasFault, HasOutOfRange, HasTooMany, MayBeAsked}
-use Rattle.agg_engine.specs.Walk.{matching_documents, request_at_size, request_behind}
+use Rattle.agg_engine.specs.Walk.{matching_documents, request_at_size, request_after}
 use Rattle.agg_engine.specs.declared.walk.error.WalkError.{WalkError}
 use Rattle.agg_engine.specs.declared.walk.error.WalkError.TheVariants as error
 
@@ -43,9 +43,9 @@ IsRefused limit name query request (s ∷ snapshots) error =
     × ((r : Results)
     × AreResultsAt name query request s r
     × IsSomeAnd (after_in name r)
-    (λ tuple. IsRefused limit name query (request_behind name tuple request) snapshots error)))
+    (λ tuple. IsRefused limit name query (request_after name tuple request) snapshots error)))
 
--- an error of a walk has its cause; want of memory needs none
+-- an error of a walk has its cause; running out of memory needs none
 abbrev pub HasCause : {B : Type 0} → ℕ → List ℕ → QueryTree → Request B
     → List SnapshotDocuments → WalkError → Type 0
 HasCause limit name query request snapshots (error.Invalid fault) = HasFault request snapshots fault

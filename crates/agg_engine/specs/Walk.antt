@@ -62,9 +62,9 @@ request_changed_at change name request =
 abbrev pub request_at_size : {B : Type 0} → List ℕ → ℕ → Request B → Request B
 request_at_size name size = request_changed_at (with_size size) name
 
--- the request that goes on behind a tuple
-abbrev pub request_behind : {B : Type 0} → List ℕ → KeyTuple → Request B → Request B
-request_behind name tuple = request_changed_at (with_after tuple) name
+-- the request that goes on after a tuple
+abbrev pub request_after : {B : Type 0} → List ℕ → KeyTuple → Request B → Request B
+request_after name tuple = request_changed_at (with_after tuple) name
 
 -- the results of a snapshot
 abbrev pub AreResultsAt : {B : Type 0} → List ℕ → QueryTree → Request B → SnapshotDocuments
@@ -83,7 +83,7 @@ IsWalk name query request (s ∷ snapshots) (r ∷ rs) ended =
     AreResultsAt name query request s r
     × MatchOption (after_in name r)
     ((rs ≡ []) × (ended ≡ true))
-    (λ tuple. IsWalk name query (request_behind name tuple request) snapshots rs ended)
+    (λ tuple. IsWalk name query (request_after name tuple request) snapshots rs ended)
 
 -- some start of a bucket of a request lies outside i64
 abbrev pub HasOutOfRange : {B : Type 0} → Request B → List Fields → Type 0

@@ -4,7 +4,7 @@ mod bound;
 mod checks;
 mod error;
 mod finish;
-mod held;
+mod intermediate;
 mod matching;
 mod page;
 mod ranges;
@@ -109,8 +109,8 @@ pub fn walk_pages<L: Ledger>(
         let segments = snapshot.segments.as_slice();
         ranges::check_starts(alloc, &page, segments)?;
         let mut counted = 0;
-        let held = segments_results(alloc, &page, segments, &mut counted, steps)?;
-        let results = page_results(held, request, limits)?;
+        let merged = segments_results(alloc, &page, segments, &mut counted, steps)?;
+        let results = page_results(merged, request, limits)?;
         before = bound::next_after(alloc, &results, name)?;
         pages.push(results)?;
         if before.is_none() {

@@ -8,22 +8,22 @@ use agg_cache::LimitsLedger;
 use agg_request_tree::Aggregations;
 use agg_results::{AggregationResults, FinalError, IntermediateAggregationResults};
 
-/// The final results of a request, from what is held of a page, unless they have more buckets than
-/// the limit.
+/// The final results of a request, from the merged results of a page, unless they have more buckets
+/// than the limit.
 pub fn page_results(
-    held: IntermediateAggregationResults,
+    merged: IntermediateAggregationResults,
     request: &Aggregations,
     limits: &LimitsLedger,
 ) -> Result<AggregationResults, WalkError>
-    requires known { ¬ (HoldsUnknown request.now held.results) }
-    requires alike { ¬ (HoldsOther request.now held.results) }
-    ensures ok { IfOk result (λ results. results ≡ final_results request.now held.results) }
+    requires known { ¬ (HoldsUnknown request.now merged.results) }
+    requires alike { ¬ (HoldsOther request.now merged.results) }
+    ensures ok { IfOk result (λ results. results ≡ final_results request.now merged.results) }
     ensures few { OnOk result
-        (¬ (HaveTooMany limits.now.bucket_limit request.now held.results)) }
+        (¬ (HaveTooMany limits.now.bucket_limit request.now merged.results)) }
     ensures cause { IfErr result
-        (IsFinalRefusal limits.now.bucket_limit request.now held.results) }
+        (IsFinalRefusal limits.now.bucket_limit request.now merged.results) }
 {
-    match held.into_final_result(request, limits) {
+    match merged.into_final_result(request, limits) {
         Ok(results) => Ok(results),
         Err(FinalError::Aggregation(error)) => Err(WalkError::Aggregation(error)),
         Err(FinalError::OutOfMemory) => Err(WalkError::OutOfMemory),

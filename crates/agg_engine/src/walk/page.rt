@@ -1,12 +1,12 @@
-//! What the segments of a snapshot hold for a page.
+//! The merged results of a snapshot's segments for a page.
 ghost use Rattle.std.specs.Prelude.{◌≢◌, ◌≤◌, ◌<◌, ◌^◌, All, IfOk};
 ghost use Rattle.agg_request_tree.specs.Ranges.{AreInRange};
 ghost use Rattle.agg_results.specs.Intermediate.{AreFlat};
-ghost use Rattle.agg_engine.specs.PageAnswers.{AnswersHeld, HasFewSources, MayGoOnFrom};
+ghost use Rattle.agg_engine.specs.PageAnswers.{AnswersMerged, HasFewSources, MayGoOnFrom};
 ghost use Rattle.agg_engine.specs.Walk.{matching_in};
 
 use super::WalkError;
-use super::held::want_of_memory;
+use super::intermediate::out_of_memory;
 use super::segment::segment_results;
 use agg_request_tree::CompositeAggregation;
 use agg_results::IntermediateAggregationResults;
@@ -16,7 +16,7 @@ use std::alloc::Global;
 use std::sync::ledger::Ledger;
 
 /// What a page is asked with: a composite under its name, how many groups the page has room for,
-/// the key behind which it begins, and which documents are counted.
+/// the key after which it begins, and which documents are counted.
 #[derive(Clone, Copy)]
 pub struct PageRequest<'a> {
     pub name: &'a Text,
@@ -26,9 +26,9 @@ pub struct PageRequest<'a> {
     pub query: &'a QueryTree,
 }
 
-/// What segments hold for a page, and in `counted` how many documents they count besides those
-/// counted before. Results are merged in halves, so that no entry is moved more often than the
-/// number of segments can be halved.
+/// The merged results of segments for a page, and in `counted` how many documents they count
+/// besides those counted before. Results are merged in halves, so that no entry is moved more often
+/// than the number of segments can be halved.
 pub fn segments_results<L: Ledger>(
     alloc: Global,
     page: &PageRequest<'_>,
@@ -42,11 +42,11 @@ pub fn segments_results<L: Ledger>(
     requires few { counted.now < 2 ^ 32 }
     requires range { All (AreInRange page.now.composite.now.sources)
         (matching_in page.now.query.now segments.now) }
-    ensures held { AnswersHeld page.now.name.now page.now.composite.now page.now.size
+    ensures merged { AnswersMerged page.now.name.now page.now.composite.now page.now.size
         page.now.after.now
         (matching_in page.now.query.now segments.now)
         counted.old counted.new result }
-    ensures flat { IfOk result (λ held. AreFlat held.results) }
+    ensures flat { IfOk result (λ merged. AreFlat merged.results) }
     ensures later { steps.old ≤ steps.new }
 {
     match segments {
@@ -54,11 +54,11 @@ pub fn segments_results<L: Ledger>(
         [segment] => segment_results(alloc, page, segment, counted, steps),
         _ => {
             let (first, second) = segments.split_at(segments.len() / 2);
-            let mut held = segments_results(alloc, page, first, counted, steps)?;
+            let mut merged = segments_results(alloc, page, first, counted, steps)?;
             let more = segments_results(alloc, page, second, counted, steps)?;
-            match held.merge_fruits(more) {
-                Ok(()) => Ok(held),
-                Err(error) => Err(want_of_memory(error)),
+            match merged.merge_fruits(more) {
+                Ok(()) => Ok(merged),
+                Err(error) => Err(out_of_memory(error)),
             }
         }
     }

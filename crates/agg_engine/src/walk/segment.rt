@@ -1,4 +1,4 @@
-//! What one segment holds for a page.
+//! The results of one segment for a page.
 ghost use Rattle.std.specs.Prelude.{◌≡◌, ◌≢◌, ◌≤◌, ◌<◌, ◌+◌, ◌^◌, filter, length, map};
 ghost use Rattle.std.specs.Prelude.{All, IfErr, IfOk, OnOk};
 ghost use Rattle.agg_values.specs.Names.{Named};
@@ -13,13 +13,13 @@ ghost use Rattle.agg_composite.specs.Answers.{AreAllInRange};
 ghost use Rattle.agg_composite.specs.PageEntries.{entry_group};
 ghost use Rattle.agg_results.specs.Intermediate.{AreFlat};
 ghost use Rattle.agg_results.specs.StandsFor.{GroupsStandFor};
-ghost use Rattle.agg_engine.specs.PageAnswers.{AnswersHeld, HasFewSources, IsHeldRefusal};
+ghost use Rattle.agg_engine.specs.PageAnswers.{AnswersMerged, HasFewSources, IsCountRefusal};
 ghost use Rattle.agg_engine.specs.PageAnswers.{MayGoOnFrom};
 ghost use Rattle.agg_engine.specs.declared.walk.error.WalkError.TheVariants.{OutOfMemory};
 
 use super::WalkError;
 use super::accessors::accessors_for;
-use super::held::held_page;
+use super::intermediate::intermediate_page;
 use super::matching::matching_docs;
 use super::page::PageRequest;
 use agg_composite::{CompositeAggReqData, PageEntry, SegmentCompositeCollector};
@@ -33,7 +33,7 @@ use std::sync::ledger::Ledger;
 /// So many documents are too many for a page to count.
 const TOO_MANY: u64 = 1 << 32;
 
-/// What a segment holds for a page, and in `counted` how many documents it counts besides those
+/// The results of a segment for a page, and in `counted` how many documents it counts besides those
 /// counted before.
 pub fn segment_results<L: Ledger>(
     alloc: Global,
@@ -47,18 +47,18 @@ pub fn segment_results<L: Ledger>(
     requires room { page.now.size ≢ 0 }
     requires range { All (AreInRange page.now.composite.now.sources)
         (filter (matches page.now.query.now) (documents_of segment.now)) }
-    ensures held { AnswersHeld page.now.name.now page.now.composite.now page.now.size
+    ensures merged { AnswersMerged page.now.name.now page.now.composite.now page.now.size
         page.now.after.now
         (filter (matches page.now.query.now) (documents_of segment.now))
         counted.old counted.new result }
-    ensures flat { IfOk result (λ held. AreFlat held.results) }
+    ensures flat { IfOk result (λ merged. AreFlat merged.results) }
     ensures later { steps.old ≤ steps.new }
 {
     let docs = matching_docs(alloc, page.query, segment)?;
     count_docs(alloc, page.composite, segment, &docs, counted)?;
     let req = request_data(alloc, page, segment)?;
     let entries = docs_page(alloc, &docs, &req, steps)?;
-    held_page(alloc, page, entries)
+    intermediate_page(alloc, page, entries)
 }
 
 /// What a collector is asked in a segment for a page.
@@ -95,7 +95,7 @@ fn count_docs(
         + length (counted_by composite.now (documents_at segment.now docs.now))) }
     ensures few { OnOk result (counted.new < 2 ^ 32) }
     ensures cause { IfErr result
-        (IsHeldRefusal composite.now (documents_at segment.now docs.now) counted.old) }
+        (IsCountRefusal composite.now (documents_at segment.now docs.now) counted.old) }
 {
     let more = count_uncut(alloc, composite, segment, docs)?;
     *counted = counted.saturating_add(more);
@@ -106,7 +106,7 @@ fn count_docs(
 }
 
 // The lowest groups of the documents at these places of a segment. The collector is let go before
-// they are held.
+// they become results.
 fn docs_page<L: Ledger>(
     alloc: Global,
     docs: &[DocId],
@@ -123,7 +123,7 @@ fn docs_page<L: Ledger>(
         (map entry_group entries)) }
     ensures cause { (segment : Stored) (after : Named After)
         → Fits segment after req.now
-        → IfErr result (IsHeldRefusal req.now.req.now (documents_at segment docs.now) 0) }
+        → IfErr result (IsCountRefusal req.now.req.now (documents_at segment docs.now) 0) }
     ensures later { steps.old ≤ steps.new }
 {
     let mut collector = SegmentCompositeCollector::new(alloc, req.req.sources.as_slice().len())?;

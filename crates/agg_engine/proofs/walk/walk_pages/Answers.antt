@@ -1,24 +1,23 @@
-use Rattle.std.proofs.Common.{◌≡◌, ◌+◌, ◌∷◌, ◌∙◌, drop, unwrap_or, refl}
-use Rattle.std.proofs.Common.{sym, subst, arith, inr}
+use Rattle.std.proofs.Common.{◌≡◌, ◌+◌, ◌∷◌, ◌∙◌, drop, unwrap_or, refl, sym, subst, arith, inr}
 use Rattle.std.specs.List.{All}
 use Rattle.agg_request_tree.specs.Ranges.{AreInRange}
-use Rattle.agg_engine.specs.PageAnswers.{IsHeldRefusal, IsStartRefusal, MayGoOnFrom}
+use Rattle.agg_engine.specs.PageAnswers.{IsCountRefusal, IsStartRefusal, MayGoOnFrom}
 use Rattle.agg_engine.specs.Refusals.{HasCause}
 use Rattle.agg_engine.specs.Snapshot.{snapshot_documents, snapshots_documents}
-use Rattle.agg_engine.specs.Walk.{MayBeAsked, matching_documents}
-use Rattle.agg_engine.specs.Walk.{matching_in}
-use Rattle.agg_engine.proofs.HeldRefusals.{caused-by}
+use Rattle.agg_engine.specs.Walk.{MayBeAsked, matching_documents, matching_in}
+use Rattle.agg_engine.proofs.CountRefusals.{caused-by}
 use Rattle.agg_engine.proofs.NoNull.{matching-no_Null}
 use Rattle.agg_engine.proofs.Snapshots.{matching_documents-segments, may_be_asked, no_room-some}
-use Rattle.agg_engine.proofs.Walking.{HasFewSources-sound, IsHeldHere, IsWalking, alike-here}
-use Rattle.agg_engine.proofs.Walking.{cause-final}
-use Rattle.agg_engine.proofs.Walking.{cause-held, cause-starts, held-here, known-here, walking-at}
-use Rattle.agg_engine.proofs.Walking.{walking-end}
-use Rattle.agg_engine.proofs.Walking.{walking-ended, walking-ended-fits, walking-few, walking-more}
-use Rattle.agg_engine.proofs.Walking.{walking-out, walking-start}
 use Rattle.agg_engine.proofs.walk.walk_pages.Given as given
 use Rattle.agg_engine.proofs.walk.walk_pages.Goals as goal
-use Rattle.agg_engine.proofs.walk.walk_pages.Goals.{After-check_starts, In_ok-held}
+use Rattle.agg_engine.proofs.walk.walk_pages.Goals.{After-check_starts, In_ok-merged}
+use Rattle.agg_engine.proofs.MergedResults.{IsMergedHere, merged-here}
+use Rattle.agg_engine.proofs.ReachedPage.{alike-here, known-here}
+use Rattle.agg_engine.proofs.WalkLoop.{IsWalking, walking-start, HasFewSources-sound, walking-out}
+use Rattle.agg_engine.proofs.WalkLoop.{walking-at, walking-end}
+use Rattle.agg_engine.proofs.WalkPages.{walking-ended, walking-ended-fits, walking-few}
+use Rattle.agg_engine.proofs.WalkPages.{walking-more}
+use Rattle.agg_engine.proofs.WalkRefusals.{cause-merged, cause-starts, cause-final}
 
 -- ---- before the first snapshot
 
@@ -84,20 +83,20 @@ documents g c =
     matching_documents-segments c.args.query.now c.snapshot-item.result
     c.as_slice-segments.result.now c.as_slice-segments.ensures
 
--- what its segments hold
-held : (g : given.Over) (c : In_ok-held g)
-    → IsHeldHere c.args.name.now c.args.query.now c.in-Some.composite.now
+-- the merged results of its segments
+merged : (g : given.Over) (c : In_ok-merged g)
+    → IsMergedHere c.args.name.now c.args.query.now c.in-Some.composite.now
     (unwrap_or c.loop-snapshot.before c.in-Some.composite.now.after)
-    (snapshot_documents c.snapshot-item.result) c.in_ok-held.held.results
-held g c =
-    held-here c.args.name.now c.args.query.now c.in-Some.composite.now
+    (snapshot_documents c.snapshot-item.result) c.in_ok-merged.merged.results
+merged g c =
+    merged-here c.args.name.now c.args.query.now c.in-Some.composite.now
     (unwrap_or c.loop-snapshot.before c.in-Some.composite.now.after) c.after_key.result.now
     (snapshot_documents c.snapshot-item.result)
     (matching_in c.args.query.now c.as_slice-segments.result.now)
-    c.segments_results.new.counted c.in_ok-held.held c.in_ok-held.ensures.held
-    c.in_ok-held.ensures.flat c.in_ok-check_starts.ensures.ok
+    c.segments_results.new.counted c.in_ok-merged.merged c.in_ok-merged.ensures.merged
+    c.in_ok-merged.ensures.flat c.in_ok-check_starts.ensures.ok
     c.after_key.ensures
-    (documents g ((goal.at.In_ok-held g c).After-check_starts))
+    (documents g ((goal.at.In_ok-merged g c).After-check_starts))
 
 pub returns-in_err-check_starts-clause-cause : goal.returns-in_err-check_starts-clause-cause
 returns-in_err-check_starts-clause-cause g c =
@@ -110,47 +109,47 @@ returns-in_err-check_starts-clause-cause g c =
     (subst (λ ds. IsStartRefusal c.in-Some.composite.now ds given) (documents g turn)
     c.in_err-check_starts.ensures.err))
 
-pub returns-in_err-held-clause-cause : goal.returns-in_err-held-clause-cause
-returns-in_err-held-clause-cause g c =
-    let turn = (goal.at.returns-in_err-held-clause-cause g c).After-check_starts in
+pub returns-in_err-merged-clause-cause : goal.returns-in_err-merged-clause-cause
+returns-in_err-merged-clause-cause g c =
+    let turn = (goal.at.returns-in_err-merged-clause-cause g c).After-check_starts in
     caused-by (HasCause c.args.limits.now.bucket_limit c.args.name.now c.args.query.now
     c.args.request.now (snapshots_documents c.args.snapshots.now))
-    c.from_residual-in_err-held.result c.in_err-held.field-0.0
-    c.from_residual-in_err-held.ensures.1
-    (cause-held (here g turn) (asked g turn)
+    c.from_residual-in_err-merged.result c.in_err-merged.field-0.0
+    c.from_residual-in_err-merged.ensures.1
+    (cause-merged (here g turn) (asked g turn)
     (subst (All (AreInRange c.in-Some.composite.now.sources)) (documents g turn)
-    c.in_ok-check_starts.ensures.ok) c.in_err-held.field-0.0
-    (subst (λ ds. IsHeldRefusal c.in-Some.composite.now ds 0 c.in_err-held.field-0.0)
-    (documents g turn) c.in_err-held.ensures.held.cause))
+    c.in_ok-check_starts.ensures.ok) c.in_err-merged.field-0.0
+    (subst (λ ds. IsCountRefusal c.in-Some.composite.now ds 0 c.in_err-merged.field-0.0)
+    (documents g turn) c.in_err-merged.ensures.merged.cause))
 
 pub page_results-requires-clause-known : goal.page_results-requires-clause-known
 page_results-requires-clause-known g c =
     known-here (here g (goal.at.page_results-requires-clause-known g c).After-check_starts)
-    (held g c)
+    (merged g c)
 
 pub page_results-requires-clause-alike : goal.page_results-requires-clause-alike
 page_results-requires-clause-alike g c =
     alike-here (here g (goal.at.page_results-requires-clause-alike g c).After-check_starts)
-    (held g c)
+    (merged g c)
 
 pub returns-in_err-results-clause-cause : goal.returns-in_err-results-clause-cause
 returns-in_err-results-clause-cause g c =
-    let turn = (goal.at.returns-in_err-results-clause-cause g c).In_ok-held in
+    let turn = (goal.at.returns-in_err-results-clause-cause g c).In_ok-merged in
     let before = (goal.at.returns-in_err-results-clause-cause g c).After-check_starts in
     caused-by (HasCause c.args.limits.now.bucket_limit c.args.name.now c.args.query.now
     c.args.request.now (snapshots_documents c.args.snapshots.now))
     c.from_residual-in_err-results.result c.in_err-results.field-0.0
     c.from_residual-in_err-results.ensures.1
-    (cause-final (here g before) (held g turn) (asked g before) c.in_err-results.field-0.0
+    (cause-final (here g before) (merged g turn) (asked g before) c.in_err-results.field-0.0
     c.in_err-results.ensures.cause)
 
--- ---- behind a page
+-- ---- after a page
 
 pub returns-then-is_none-clause-pages : goal.returns-then-is_none-clause-pages
 returns-then-is_none-clause-pages g c =
-    let turn = (goal.at.returns-then-is_none-clause-pages g c).In_ok-held in
+    let turn = (goal.at.returns-then-is_none-clause-pages g c).In_ok-merged in
     let before = (goal.at.returns-then-is_none-clause-pages g c).After-check_starts in
-    let out = walking-ended (here g before) (held g turn) c.in_ok-results.results
+    let out = walking-ended (here g before) (merged g turn) c.in_ok-results.results
     c.in_ok-before.before c.in_ok-results.ensures.ok c.in_ok-results.ensures.few
     c.in_ok-before.ensures c.if-is_none.ensures in
     (out.0, out.1, c.in_ok-push.ensures.ok ∙ out.2)
@@ -161,32 +160,32 @@ returns-then-is_none-clause-asked g c =
 
 pub returns-then-is_none-clause-fits : goal.returns-then-is_none-clause-fits
 returns-then-is_none-clause-fits g c =
-    let turn = (goal.at.returns-then-is_none-clause-fits g c).In_ok-held in
+    let turn = (goal.at.returns-then-is_none-clause-fits g c).In_ok-merged in
     let before = (goal.at.returns-then-is_none-clause-fits g c).After-check_starts in
-    walking-ended-fits (here g before) (held g turn) c.in_ok-results.results
+    walking-ended-fits (here g before) (merged g turn) c.in_ok-results.results
     c.in_ok-before.before c.in_ok-results.ensures.ok c.in_ok-results.ensures.few
     c.in_ok-before.ensures c.if-is_none.ensures
 
 pub returns-then-is_none-clause-buckets : goal.returns-then-is_none-clause-buckets
 returns-then-is_none-clause-buckets g c =
-    let turn = (goal.at.returns-then-is_none-clause-buckets g c).In_ok-held in
+    let turn = (goal.at.returns-then-is_none-clause-buckets g c).In_ok-merged in
     let before = (goal.at.returns-then-is_none-clause-buckets g c).After-check_starts in
     rw c.in_ok-push.ensures.ok
-    (walking-few (here g before) (held g turn) c.in_ok-results.results
+    (walking-few (here g before) (merged g turn) c.in_ok-results.results
     c.in_ok-before.before c.in_ok-results.ensures.ok c.in_ok-results.ensures.few
     c.in_ok-before.ensures)
 
 pub loop-snapshot-preserved : goal.loop-snapshot-preserved
 loop-snapshot-preserved g c =
-    let turn = (goal.at.loop-snapshot-preserved g c).In_ok-held in
+    let turn = (goal.at.loop-snapshot-preserved g c).In_ok-merged in
     let before = (goal.at.loop-snapshot-preserved g c).After-check_starts in
-    let more = walking-more (here g before) (held g turn) c.in_ok-results.results
+    let more = walking-more (here g before) (merged g turn) c.in_ok-results.results
     c.in_ok-before.before c.in_ok-results.ensures.ok c.in_ok-results.ensures.few
     c.in_ok-before.ensures (matching-no_Null c.args.query.now c.snapshot-item.result)
     c.in-Some.composite.now.after c.if-is_none.ensures in
     record { walking = rw c.in_ok-push.ensures.ok more; later = omega arith }
 
--- ---- behind the last snapshot
+-- ---- after the last snapshot
 
 pub returns-clause-pages : goal.returns-clause-pages
 returns-clause-pages g c =

@@ -1,6 +1,6 @@
 use Rattle.std.proofs.Common.{◌≤◌, drop, unwrap_or}
 use Rattle.agg_engine.specs.Snapshot.{snapshots_documents}
-use Rattle.agg_engine.proofs.Walking.{IsWalking}
+use Rattle.agg_engine.proofs.WalkLoop.{IsWalking}
 use Rattle.agg_engine.proofs.walk.walk_pages.Given as goal
 
 -- the pages so far are those of the walk, which goes on from the after key, and steps didn't fall

@@ -1,5 +1,5 @@
 use Rattle.std.proofs.Common.{◌≡◌, ◌++◌, ap}
-use Rattle.agg_engine.proofs.Ascending.{copied-more}
+use Rattle.agg_engine.proofs.AscendingKeys.{copied-more}
 use Rattle.agg_engine.proofs.walk.bound.copied.Goals as goal
 use Rattle.agg_engine.proofs.walk.bound.copied.Goals.{In_ok-insert}
 

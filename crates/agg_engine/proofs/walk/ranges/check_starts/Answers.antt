@@ -5,7 +5,7 @@ use Rattle.std.proofs.lemmas.List.Elements.{All-nil}
 use Rattle.agg_request_tree.specs.Ranges.{AreInRange}
 use Rattle.agg_engine.specs.PageAnswers.{IsStartRefusal}
 use Rattle.agg_engine.specs.Walk.{matching_in}
-use Rattle.agg_engine.proofs.HeldRefusals.{caused-by}
+use Rattle.agg_engine.proofs.CountRefusals.{caused-by}
 use Rattle.agg_engine.proofs.Ranges.{ranges-more, refusal-here}
 use Rattle.agg_engine.proofs.walk.ranges.check_starts.Goals as goal
 

@@ -6,9 +6,9 @@ use Rattle.agg_results.proofs.StandingGroups.{stands-lowest}
 use Rattle.agg_cache.specs.declared.error.CollectError.TheVariants as collect
 use Rattle.agg_composite.specs.Answers.{AreAllInRange}
 use Rattle.agg_composite.specs.Visits.{AnswersRange}
-use Rattle.agg_engine.specs.PageAnswers.{IsHeldRefusal}
+use Rattle.agg_engine.specs.PageAnswers.{IsCountRefusal}
 use Rattle.agg_engine.specs.WalkError.{error_from_collect}
-use Rattle.agg_engine.proofs.HeldRefusals.{caused-by, collected-refusal, too_many-often}
+use Rattle.agg_engine.proofs.CountRefusals.{caused-by, collected-refusal, too_many-often}
 use Rattle.agg_engine.proofs.walk.segment.docs_page.Goals as goal
 
 pub returns-in_err-collect-clause-cause : goal.returns-in_err-collect-clause-cause
@@ -18,7 +18,7 @@ returns-in_err-collect-clause-cause g c = λ segment after fits.
     let given = c.in_err-collect.field-0.0 in
     let visits = c.in_err-collect.ensures.visits segment after [] fits
     (c.in_ok-collector.ensures c.args.req.now) in
-    caused-by (IsHeldRefusal composite documents 0) c.from_residual-in_err-collect.result
+    caused-by (IsCountRefusal composite documents 0) c.from_residual-in_err-collect.result
     (error_from_collect given)
     c.from_residual-in_err-collect.ensures.1
     (collected-refusal composite documents given

@@ -6,8 +6,8 @@ use Rattle.agg_request_tree.specs.Ranges.{AreInRange}
 use Rattle.agg_request_tree.specs.Uncut.{counted as counted_by}
 use Rattle.agg_request_tree.specs.declared.aggregation.CompositeAggregation.{CompositeAggregation}
 use Rattle.agg_composite.specs.PageEntries.{entry_group}
-use Rattle.agg_engine.specs.PageAnswers.{HasFewSources, IsHeldRefusal}
-use Rattle.agg_engine.proofs.HeldRefusals.{refusal-later}
+use Rattle.agg_engine.specs.PageAnswers.{HasFewSources, IsCountRefusal}
+use Rattle.agg_engine.proofs.CountRefusals.{refusal-later}
 use Rattle.agg_engine.proofs.StandingPage.{Stand, answers-page, answers-refused, flat-page}
 use Rattle.agg_engine.proofs.walk.segment.segment_results.Given as given
 use Rattle.agg_engine.proofs.walk.segment.segment_results.Goals as goal
@@ -32,8 +32,8 @@ docs_page-requires-clause-fits g c =
           c.requires.range),
     )
 
-pub returns-in_err-entries-clause-held : goal.returns-in_err-entries-clause-held
-returns-in_err-entries-clause-held g c =
+pub returns-in_err-entries-clause-merged : goal.returns-in_err-entries-clause-merged
+returns-in_err-entries-clause-merged g c =
     let page = c.args.page.now in
     let segment = c.args.segment.now in
     let documents = filter (matches page.query.now) (documents_of segment) in
@@ -43,9 +43,9 @@ returns-in_err-entries-clause-held g c =
     c.args.counted.now c.count_docs.new.counted c.from_residual-in_err-entries.result given
     c.from_residual-in_err-entries.ensures.1
     (refusal-later page.composite.now documents 0 c.args.counted.now given (omega arith)
-    (subst (λ ds. IsHeldRefusal page.composite.now ds 0 given) listed
+    (subst (λ ds. IsCountRefusal page.composite.now ds 0 given) listed
     (subst (λ (composite : CompositeAggregation).
-    IsHeldRefusal composite (documents_at segment c.deref-2.result.now) 0 given)
+    IsCountRefusal composite (documents_at segment c.deref-2.result.now) 0 given)
     c.in_ok-req.ensures.composite
     (c.in_err-entries.ensures.cause segment page.after.now c.in_ok-req.ensures.fits))))
 
@@ -68,12 +68,12 @@ stand g c =
     (documents_at segment c.deref-2.result.now) entries) c.in_ok-req.ensures.size
     (c.in_ok-entries.ensures.page segment page.after.now c.in_ok-req.ensures.fits)))
 
-pub held_page-requires-clause-ascending : goal.held_page-requires-clause-ascending
-held_page-requires-clause-ascending g c = (stand g c).ascending
+pub intermediate_page-requires-clause-ascending : goal.intermediate_page-requires-clause-ascending
+intermediate_page-requires-clause-ascending g c = (stand g c).ascending
 
-pub returns-clause-held : goal.returns-clause-held
-returns-clause-held g c =
-    let turn = (goal.at.returns-clause-held g c).In_ok-entries in
+pub returns-clause-merged : goal.returns-clause-merged
+returns-clause-merged g c =
+    let turn = (goal.at.returns-clause-merged g c).In_ok-entries in
     let page = c.args.page.now in
     let segment = c.args.segment.now in
     let documents = filter (matches page.query.now) (documents_of segment) in
@@ -83,8 +83,8 @@ returns-clause-held g c =
     c.in_ok-count_docs.ensures.counted in
     answers-page page.name.now page.composite.now page.size page.after.now documents
     c.args.counted.now c.count_docs.new.counted (map entry_group c.in_ok-entries.entries)
-    (stand g turn) counted c.in_ok-count_docs.ensures.few c.held_page.result
-    c.held_page.ensures.held c.held_page.ensures.err
+    (stand g turn) counted c.in_ok-count_docs.ensures.few c.intermediate_page.result
+    c.intermediate_page.ensures.ok c.intermediate_page.ensures.err
 
 pub returns-clause-flat : goal.returns-clause-flat
 returns-clause-flat g c =
@@ -92,5 +92,5 @@ returns-clause-flat g c =
     let page = c.args.page.now in
     flat-page page.name.now page.composite.now page.size page.after.now
     (filter (matches page.query.now) (documents_of c.args.segment.now))
-    (map entry_group c.in_ok-entries.entries) (stand g turn) c.held_page.result
-    c.held_page.ensures.held
+    (map entry_group c.in_ok-entries.entries) (stand g turn) c.intermediate_page.result
+    c.intermediate_page.ensures.ok

@@ -1,4 +1,4 @@
--- What is held of a snapshot, for a request of one composite: it may be final, as the page.
+-- The merged results of a snapshot, for a request of one composite, are final as its page.
 use Rattle.std.proofs.Common.{◌≡◌, ℕ, inl, inr, List, [], ◌∷◌, Bool, true, false, cond, Option}
 use Rattle.std.proofs.Common.{None, Some, map, refl, sym, ap, ◌∙◌, subst, arith}
 use Rattle.std.specs.BTreeMap.{is_at}
@@ -61,16 +61,17 @@ standing B C c documents (Some result) stand = stand
 
 -- what stands for documents under a request without builders does with any
 pub stands-with : (B : Type 0) (name : List ℕ) (c : CompositeAggregation) (documents : List Fields)
-    (held : Held) → StandsFor (one ⊤ name c) documents held
-    → StandsFor (one B name c) documents held
-stands-with B name c documents held stand = record {
+    (merged : Held) → StandsFor (one ⊤ name c) documents merged
+    → StandsFor (one B name c) documents merged
+stands-with B name c documents merged stand = record {
   each = All-from_recursion (λ (a : List ℕ × Aggregation B).
-      ResultStandsFor (agg_of a.1) documents (value_of a.0 held)) (one B name c) (
-        subst (λ (agg : AggregationVariants B). ResultStandsFor agg documents (value_of name held))
+      ResultStandsFor (agg_of a.1) documents (value_of a.0 merged)) (one B name c) (
+        subst
+            (λ (agg : AggregationVariants B). ResultStandsFor agg documents (value_of name merged))
             (sym (agg-made (Composite c) []))
-            (standing ⊤ B c documents (value_of name held)
+            (standing ⊤ B c documents (value_of name merged)
             (subst (λ (agg : AggregationVariants ⊤). ResultStandsFor agg documents
-            (value_of name held)) (agg-made (Composite c) [])
+            (value_of name merged)) (agg-made (Composite c) [])
             (stand.each 0 (name, aggregation_of (Composite c) []) (omega arith)))),
         tt,
       );
@@ -82,24 +83,25 @@ final-alike : (B : Type 0) (c d : CompositeAggregation) → c.sources ≡ d.sour
     → (o : Option IntermediateAggregationResult)
     → final_result {B = B} (Composite c) o ≡ final_result {B = B} (Composite d) o
 final-alike B c d same None = ap (λ sources. shown_page sources [] None) same
-final-alike B c d same (Some held) =
-    ap (λ sources. shown_page sources (map (shown_group sources) (lowest_of (held_composite held)))
-    (last_tuple (target_size_of (held_composite held)) (lowest_of (held_composite held)))) same
+final-alike B c d same (Some merged) =
+    let lowest = lowest_of (held_composite merged) in
+    ap (λ sources. shown_page sources (map (shown_group sources) lowest)
+    (last_tuple (target_size_of (held_composite merged)) lowest)) same
 
 module _ (B : Type 0) (name : List ℕ) (query : QueryTree) (c : CompositeAggregation)
-    (after : Named AfterKey) (s : SnapshotDocuments) (held : Held)
-    (stand : StandsFor (asked name c s.page_size after) (matching_documents query s) held)
+    (after : Named AfterKey) (s : SnapshotDocuments) (merged : Held)
+    (stand : StandsFor (asked name c s.page_size after) (matching_documents query s) merged)
   where
     -- the composite that is asked
     abbrev sized : CompositeAggregation
     sized = at_size s.page_size (going_on after c)
 
-    stand_here : StandsFor (asked_here B name query c after s) (matching_documents query s) held
-    stand_here = stands-with B name sized (matching_documents query s) held stand
+    stand_here : StandsFor (asked_here B name query c after s) (matching_documents query s) merged
+    stand_here = stands-with B name sized (matching_documents query s) merged stand
 
     -- no result has another shape
-    pub held-alike : ¬ (HoldsOther (one B name c) held)
-    held-alike other =
+    pub merged-alike : ¬ (HoldsOther (one B name c) merged)
+    merged-alike other =
         let given = other.0 in
         let r = other.2 in
         let own_aggregation : Aggregation B = aggregation_of (Composite c) [] in
@@ -107,7 +109,7 @@ module _ (B : Type 0) (name : List ℕ) (query : QueryTree) (c : CompositeAggreg
         let orders : IsInOtherOrders {B = B} (Composite sized) r =
         subst (λ (agg : AggregationVariants B). IsInOtherOrders agg r)
         (ap (λ (d : Aggregation B). agg_of d) (sym own.1) ∙ agg-made (Composite c) []) other.5 in
-        StandsFor-shapes (asked_here B name query c after s) (matching_documents query s) held
+        StandsFor-shapes (asked_here B name query c after s) (matching_documents query s) merged
         stand_here (
           given,
           aggregation_of (Composite sized) [],
@@ -119,8 +121,8 @@ module _ (B : Type 0) (name : List ℕ) (query : QueryTree) (c : CompositeAggreg
         )
 
     -- no name is unknown
-    pub held-known : AreFlat held → ¬ (HoldsUnknown (one B name c) held)
-    held-known flat unknown = by unknown.4
+    pub merged-known : AreFlat merged → ¬ (HoldsUnknown (one B name c) merged)
+    merged-known flat unknown = by unknown.4
       where
         r : List ℕ × IntermediateAggregationResult
         r = unknown.1
@@ -128,11 +130,11 @@ module _ (B : Type 0) (name : List ℕ) (query : QueryTree) (c : CompositeAggreg
         by : ¬ (IsUnknown (one B name c) r)
         by (inl none) =
             none-found (value_of r.0 (one B name c)) none (found-name (one B name c) r.0
-            (All-contains (Contains (name ∷ [])) (keys_of held) r.0 stand.known
-            (Contains-map (λ e. e.0) held r (unknown.0, unknown.2, unknown.3))))
+            (All-contains (Contains (name ∷ [])) (keys_of merged) r.0 stand.known
+            (Contains-map (λ e. e.0) merged r (unknown.0, unknown.2, unknown.3))))
         by (inr below) =
             below.4 (All-contains (λ e. IsPlain e.1) (entries_of (held_composite r.1)) below.1
-            (All-contains (λ e. IsFlat (held_composite e.1)) held r flat
+            (All-contains (λ e. IsFlat (held_composite e.1)) merged r flat
             (unknown.0, unknown.2, unknown.3))
             (below.0, below.2, below.3))
 
@@ -144,33 +146,33 @@ module _ (B : Type 0) (name : List ℕ) (query : QueryTree) (c : CompositeAggreg
         page_exists c.sources s.page_size (bound_of c.sources after) (matching_documents query s)
 
     -- what is final of the request is that of the composite that is asked
-    final-asked : final_results (one B name c) held
-        ≡ final_results (asked_here B name query c after s) held
+    final-asked : final_results (one B name c) merged
+        ≡ final_results (asked_here B name query c after s) merged
     final-asked =
-        let own = value_of name held in
+        let own = value_of name merged in
         ap (λ final. record { 0 = (name, final) ∷ [] })
         (ap (λ (agg : AggregationVariants B). final_result agg own) (agg-made (Composite c) [])
         ∙ final-alike B c sized refl own
         ∙ sym (ap (λ (agg : AggregationVariants B). final_result agg own)
         (agg-made (Composite sized) [])))
 
-    -- what is held is final as the page, as it is shown
-    pub held-final : (page : List Entry) → IsPageHere B name query c after s page
-        → final_results (one B name c) held
+    -- the merged results are final as the page, as it is shown
+    pub merged-final : (page : List Entry) → IsPageHere B name query c after s page
+        → final_results (one B name c) merged
         ≡ shown_results (one B name c) (results_of B name query c after s page)
-    held-final page is_page =
+    merged-final page is_page =
         final-asked
-        ∙ final-shown (asked_here B name query c after s) (matching_documents query s) held
+        ∙ final-shown (asked_here B name query c after s) (matching_documents query s) merged
         (results_of B name query c after s page) stand_here
         (asked-page B name query c after s page is_page)
         ∙ shown-here B name query c after s page
 
     -- its buckets are those of the page
-    pub held-buckets : (page : List Entry) → IsPageHere B name query c after s page
-        → results_buckets (final_results (one B name c) held)
+    pub merged-buckets : (page : List Entry) → IsPageHere B name query c after s page
+        → results_buckets (final_results (one B name c) merged)
         ≡ buckets_in (results_of B name query c after s page)
-    held-buckets page is_page =
-        ap results_buckets (held-final page is_page
+    merged-buckets page is_page =
+        ap results_buckets (merged-final page is_page
         ∙ sym (shown-here B name query c after s page))
         ∙ shown-buckets (asked_here B name query c after s) (matching_documents query s)
         (results_of B name query c after s page) (asked-page B name query c after s page is_page)

@@ -7,7 +7,7 @@ ghost use Rattle.agg_request_tree.specs.Source.{rules_of};
 ghost use Rattle.agg_composite.specs.PageEntries.{entry_group};
 ghost use Rattle.agg_results.specs.Empty.{empty_page};
 ghost use Rattle.agg_results.specs.Intermediate.{IsFlat, as_result};
-ghost use Rattle.agg_engine.specs.PageAnswers.{page_held};
+ghost use Rattle.agg_engine.specs.PageAnswers.{intermediate_page};
 ghost use Rattle.agg_engine.specs.declared.walk.error.WalkError.TheVariants.{OutOfMemory};
 
 use super::WalkError;
@@ -22,7 +22,7 @@ use agg_values::ItemList;
 use std::alloc::Global;
 
 /// The entries of a page as the results of its name.
-pub fn held_page(
+pub fn intermediate_page(
     alloc: Global,
     page: &PageRequest<'_>,
     entries: ItemList<PageEntry>,
@@ -30,8 +30,8 @@ pub fn held_page(
     requires room { page.now.size ≢ 0 }
     requires ascending { IsStrictlySortedBy (tuple_order (rules_of page.now.composite.now.sources))
         (keys_of (map entry_group entries)) }
-    ensures held { IfOk result (λ held. held.results
-        ≡ page_held page.now.name.now page.now.composite.now page.now.size
+    ensures ok { IfOk result (λ made. made.results
+        ≡ intermediate_page page.now.name.now page.now.composite.now page.now.size
         (map entry_group entries)) }
     ensures err { IfErr result (λ error. error ≡ OutOfMemory) }
 {
@@ -42,7 +42,7 @@ pub fn held_page(
             sub_aggregation: IntermediateAggregationResults::new(alloc),
         };
         if let Err(error) = buckets.add_entry(key, entry) {
-            return Err(want_of_memory(error));
+            return Err(out_of_memory(error));
         }
     }
     named(alloc, page, buckets)
@@ -72,20 +72,20 @@ fn named(
 ) -> Result<IntermediateAggregationResults, WalkError>
     requires { IsFlat buckets }
     ensures ok { IfOk result
-        (λ held. held.results ≡ (page.now.name.now, as_result buckets) ∷ []) }
+        (λ made. made.results ≡ (page.now.name.now, as_result buckets) ∷ []) }
     ensures err { IfErr result (λ error. error ≡ OutOfMemory) }
 {
-    let mut held = IntermediateAggregationResults::new(alloc);
+    let mut results = IntermediateAggregationResults::new(alloc);
     let buckets = IntermediateBucketResult::Composite { buckets };
     let result = IntermediateAggregationResult::Bucket(buckets);
-    match held.push(page.name.try_clone(alloc)?, result) {
-        Ok(()) => Ok(held),
-        Err(error) => Err(want_of_memory(error)),
+    match results.push(page.name.try_clone(alloc)?, result) {
+        Ok(()) => Ok(results),
+        Err(error) => Err(out_of_memory(error)),
     }
 }
 
-/// The refusal of a merge that only memory can be wanting for.
-pub fn want_of_memory(error: MergeError) -> WalkError
+/// The refusal of a merge that can only have run out of memory.
+pub fn out_of_memory(error: MergeError) -> WalkError
     requires { error ≡ MergeError.OutOfMemory }
     ensures { result ≡ OutOfMemory }
 {

@@ -1,4 +1,4 @@
--- A page as it is held: entries added one by one, each above those before.
+-- Entries of a page, added one by one, each above those before.
 use Rattle.std.proofs.Common.{◌≡◌, ◌≢◌, ℕ, List, [], ◌∷◌, ◌++◌, Some}
 use Rattle.std.proofs.Common.{map, sym, ap, ◌∙◌, subst, Less}
 use Rattle.std.specs.List.{AllByRecursion}
@@ -16,23 +16,23 @@ use Rattle.agg_results.specs.Intermediate.{entries_of, orders_of, plain_entries,
 use Rattle.agg_results.specs.declared.error.MergeError.{MergeError}
 use Rattle.agg_results.specs.declared.error.MergeError.TheVariants as merge
 use Rattle.agg_results.specs.declared.intermediate.composite as declared
-use declared.IntermediateCompositeBucketResult as held
-use held.{IntermediateCompositeBucketResult, out-IntermediateCompositeBucketResult}
-use held.{out-roll-IntermediateCompositeBucketResult}
+use declared.IntermediateCompositeBucketResult as buckets
+use buckets.{IntermediateCompositeBucketResult, out-IntermediateCompositeBucketResult}
+use buckets.{out-roll-IntermediateCompositeBucketResult}
 use Rattle.agg_results.proofs.Counts.{add-end}
 use Rattle.agg_results.proofs.StandingComposites.{counts-plain, entries-plain}
-use Rattle.agg_engine.proofs.Ascending.{below-before, lookup-below}
+use Rattle.agg_engine.proofs.AscendingKeys.{below-before, lookup-below}
 
--- a merge that isn't refused for what is held wants memory
-pub wants_memory : (error : MergeError) → error ≢ merge.Mismatch → error ≢ merge.TooMany
+-- a merge that isn't refused for its two sides has run out of memory
+pub is_out_of_memory : (error : MergeError) → error ≢ merge.Mismatch → error ≢ merge.TooMany
     → error ≡ merge.OutOfMemory
-wants_memory merge.Mismatch mismatch too_many = absurd (mismatch (λ i. merge.Mismatch))
-wants_memory merge.TooMany mismatch too_many = absurd (too_many (λ i. merge.TooMany))
-wants_memory merge.OutOfMemory mismatch too_many = λ i. merge.OutOfMemory
+is_out_of_memory merge.Mismatch mismatch too_many = absurd (mismatch (λ i. merge.Mismatch))
+is_out_of_memory merge.TooMany mismatch too_many = absurd (too_many (λ i. merge.TooMany))
+is_out_of_memory merge.OutOfMemory mismatch too_many = λ i. merge.OutOfMemory
 
 -- ---- a composite's result of these counts
 
--- what is held of counts, without sub-results
+-- the intermediate results of counts, without sub-results
 pub record HasCounts (c : IntermediateCompositeBucketResult) (rules : SourceRules) (size : ℕ)
     (counts : List Group) : Type 0 where
   pub orders_are : orders_of c ≡ rules
@@ -75,7 +75,7 @@ module _ (rules : SourceRules) (size : ℕ) (front : List PageEntry) (entry : Pa
       (subst (λ gs. IsStrictlySortedBy (tuple_order rules) (keys_of gs))
       (ap (map entry_group) listed ∙ map-append entry_group front (entry ∷ rest)) up)
 
-  -- it stands behind the others
+  -- it stands after the others
   pub entry-added : (d : IntermediateCompositeBucketResult)
       → d ≡ composite_of (orders_of c) (target_size_of c)
       (plain_entries (add_count (tuple_order (orders_of c)) (counts_of (entries_of c)) entry.key
@@ -90,10 +90,10 @@ module _ (rules : SourceRules) (size : ℕ) (front : List PageEntry) (entry : Pa
       entry.doc_count below
       ∙ sym (map-append entry_group front (entry ∷ [])))
 
-  -- it isn't held yet
-  pub entry-absent : (held : ℕ)
-      → value_at (tuple_order (orders_of c)) entry.key (counts_of (entries_of c)) ≢ Some held
-  entry-absent held found =
+  -- its tuple isn't there yet
+  pub entry-absent : (count : ℕ)
+      → value_at (tuple_order (orders_of c)) entry.key (counts_of (entries_of c)) ≢ Some count
+  entry-absent count found =
       let none = lookup-below (tuple_order rules) (tuple_order-total rules) (map entry_group front)
       entry.key below in
       let same : value_at (tuple_order (orders_of c)) entry.key (counts_of (entries_of c))

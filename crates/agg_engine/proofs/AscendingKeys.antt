@@ -1,4 +1,4 @@
--- Ascending keys, and what is put behind them.
+-- Ascending keys, and what is put after them.
 use Rattle.std.proofs.Common.{◌≡◌, ℕ, List, [], ◌∷◌, ◌++◌, None, map, refl, sym, ap, ◌∙◌, subst}
 use Rattle.std.proofs.Common.{Ordering, Less, Greater, append_assoc}
 use Rattle.std.specs.BTreeMap.{insert_entry, is_at}
@@ -44,7 +44,7 @@ module _ {K : Type 0} (R : K → K → Ordering) where
     lookup-below [] k below = refl
     lookup-below (e ∷ es) k below = rw (above e.0 k below.0) (lookup-below es k below.1)
 
-    -- an entry above others is put behind them
+    -- an entry above others is put after them
     pub insert-end : {X : Type 0} (es : List (K × X)) (k : K) (x : X)
         → AllByRecursion (λ l. R l k ≡ Less) (keys_of es)
         → insert_entry R es k x ≡ es ++ (k, x) ∷ []
@@ -62,6 +62,6 @@ copied-more map copy left rest now name given value other up so_far next is same
     let listed = so_far ∙ ap (λ es. copy ++ es) next in
     let below = below-before name_cmp copy (name, value) rest
     (subst (λ es. IsStrictlySortedBy name_cmp (keys_of es)) listed up) in
-    let behind = is ∙ (λ i. put (same_name i) (same_value i) copy)
+    let last = is ∙ (λ i. put (same_name i) (same_value i) copy)
     ∙ insert-end name_cmp nat_list_cmp_total copy name value below in
-    listed ∙ sym (append_assoc copy ((name, value) ∷ []) rest) ∙ ap (λ es. es ++ rest) (sym behind)
+    listed ∙ sym (append_assoc copy ((name, value) ∷ []) rest) ∙ ap (λ es. es ++ rest) (sym last)

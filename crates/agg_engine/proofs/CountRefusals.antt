@@ -13,7 +13,7 @@ use Rattle.agg_request_tree.specs.Source.{rules_of}
 use Rattle.agg_request_tree.specs.declared.aggregation.CompositeAggregation.{CompositeAggregation}
 use Rattle.agg_request_tree.proofs.OccurrencesLength.{past-fewer}
 use Rattle.agg_request_tree.proofs.UncutLength.{length-counted}
-use Rattle.agg_engine.specs.PageAnswers.{IsHeldRefusal}
+use Rattle.agg_engine.specs.PageAnswers.{IsCountRefusal}
 use Rattle.agg_engine.specs.WalkError.{error_from_collect}
 use Rattle.agg_engine.specs.declared.walk.error.WalkError.{WalkError}
 use Rattle.agg_engine.specs.declared.walk.error.WalkError.TheVariants as error
@@ -30,7 +30,7 @@ module _ (composite : CompositeAggregation) where
   pub too_many-often : (bound tuple : KeyTuple) (documents : List Fields)
       → 2 ^ 64 ≤ count_by (same_tuple (rules_of composite.sources) tuple)
       (past_occurrences composite.sources bound documents)
-      → IsHeldRefusal composite documents 0 error.TooMany
+      → IsCountRefusal composite documents 0 error.TooMany
   too_many-often bound tuple documents often =
       omega (
         arith,
@@ -44,16 +44,16 @@ module _ (composite : CompositeAggregation) where
   -- the error of a collector
   pub collected-refusal : (documents : List Fields) (given : CollectError)
       → ¬ (given ≡ collect.BucketOutOfRange)
-      → (given ≡ collect.TooMany → IsHeldRefusal composite documents 0 error.TooMany)
-      → IsHeldRefusal composite documents 0 (error_from_collect given)
+      → (given ≡ collect.TooMany → IsCountRefusal composite documents 0 error.TooMany)
+      → IsCountRefusal composite documents 0 (error_from_collect given)
   collected-refusal documents collect.BucketOutOfRange in_range many = in_range refl
   collected-refusal documents collect.TooMany in_range many = many refl
   collected-refusal documents collect.OutOfMemory in_range many = tt
 
   -- with more counted before, the same refusal
   pub refusal-later : (documents : List Fields) (counted later : ℕ) (given : WalkError)
-      → counted ≤ later → IsHeldRefusal composite documents counted given
-      → IsHeldRefusal composite documents later given
+      → counted ≤ later → IsCountRefusal composite documents counted given
+      → IsCountRefusal composite documents later given
   refusal-later documents counted later error.TooMany more many = omega arith
   refusal-later documents counted later error.OutOfMemory more many = tt
   refusal-later documents counted later (error.Invalid fault) more refused = refused
