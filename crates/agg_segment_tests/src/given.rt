@@ -40,7 +40,8 @@ pub fn segment_of(
     builder.build()
 }
 
-fn document_of(alloc: Global, values: &[(&str, Given)]) -> Result<Document, OutOfMemory> {
+/// The document of these values.
+pub fn document_of(alloc: Global, values: &[(&str, Given)]) -> Result<Document, OutOfMemory> {
     let mut document = Document::new(alloc);
     for (field, given) in values {
         document.add(Text::copy_of(alloc, field)?, given.value(alloc)?)?;

@@ -1,5 +1,5 @@
 //! What small segments answer.
-use crate::given::Given;
+use crate::given::{Given, document_of};
 use agg_segment::{
     BuildError, Column, ColumnType, FieldValue, OrdHit, QueryTree, RangeBound, Schema,
     SegmentBuilder, SegmentReader, by_class_keeps_the_keys, classes_match_in_any_order,
@@ -77,6 +77,69 @@ fn mixed_numbers_are_refused(rt: HostRuntime) -> Result<(), Fail> {
     )?;
     assert_eq!(rt; builder.finish(), Err(BuildError::MixedNumbers));
     assert_eq!(rt; builder.build()?.num_docs(), 1);
+    Ok(())
+}
+
+// A document, given by its values, with what is answered where it is added.
+type Added = (&'static [(&'static str, Given)], Result<(), BuildError>);
+
+// Documents that are added one after another, and how many of them the segment has.
+const MIXED: &[(&[Added], u32)] = &[
+    (
+        &[
+            (&[("a", Given::Signed(-1))], Ok(())),
+            (&[("a", Given::Unsigned(FROM_ZERO))], MIX),
+            (&[("a", Given::Unsigned(FROM_ZERO - 1))], Ok(())),
+        ],
+        2,
+    ),
+    (
+        &[
+            (&[("a", Given::Unsigned(u64::MAX))], Ok(())),
+            (&[("a", Given::Signed(i64::MIN))], MIX),
+            (&[("a", Given::Signed(0))], Ok(())),
+        ],
+        2,
+    ),
+    (
+        &[
+            (
+                &[
+                    ("a", Given::Unsigned(FROM_ZERO)),
+                    ("a", Given::Text("b")),
+                    ("a", Given::Signed(-1)),
+                ],
+                MIX,
+            ),
+            (&[], Ok(())),
+        ],
+        1,
+    ),
+    (
+        &[
+            (
+                &[("a", Given::Signed(-1)), ("b", Given::Unsigned(FROM_ZERO))],
+                Ok(()),
+            ),
+            (&[("b", Given::Signed(-1))], MIX),
+        ],
+        1,
+    ),
+];
+
+const MIX: Result<(), BuildError> = Err(BuildError::MixedNumbers);
+
+#[test]
+fn documents_that_mix_numbers_are_left_out(rt: HostRuntime) -> Result<(), Fail> {
+    let alloc = rt.alloc();
+    for &(documents, taken) in MIXED {
+        let mut builder = SegmentBuilder::new(alloc);
+        for &(values, answer) in documents {
+            let added = builder.add_document(document_of(alloc, values)?);
+            assert_eq!(rt; added, answer);
+        }
+        assert_eq!(rt; builder.build()?.num_docs(), taken);
+    }
     Ok(())
 }
 
