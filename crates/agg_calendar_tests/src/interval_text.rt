@@ -3,20 +3,27 @@ use agg_values::{AggregationError, DateHistogramParseError, RequestError, Text};
 use std::alloc::Global;
 use std::test::Fail;
 
-fn refused(error: DateHistogramParseError) -> Result<i64, RequestError> {
-    Err(RequestError::Aggregation(AggregationError::from(error)))
+// Why a text is refused.
+#[derive(Clone, Copy)]
+enum Fault {
+    UnitNotRecognized,
+    NumberMissing,
+    UnitMissing,
+    InvalidOffset,
+    OutOfBounds,
 }
 
-// The error of a kind for a text.
-fn error_of(alloc: Global, kind: &str, text: &str) -> Result<DateHistogramParseError, Fail> {
+// The refusal for this fault, which names a text.
+fn refusal(alloc: Global, fault: Fault, text: &str) -> Result<RequestError, Fail> {
     let text = Text::copy_of(alloc, text)?;
-    Ok(match kind {
-        "unit" => DateHistogramParseError::UnitNotRecognized(text),
-        "no number" => DateHistogramParseError::NumberMissing(text),
-        "no unit" => DateHistogramParseError::UnitMissing(text),
-        "offset" => DateHistogramParseError::InvalidOffset(text),
-        _ => DateHistogramParseError::OutOfBounds(text),
-    })
+    let error = match fault {
+        Fault::UnitNotRecognized => DateHistogramParseError::UnitNotRecognized(text),
+        Fault::NumberMissing => DateHistogramParseError::NumberMissing(text),
+        Fault::UnitMissing => DateHistogramParseError::UnitMissing(text),
+        Fault::InvalidOffset => DateHistogramParseError::InvalidOffset(text),
+        Fault::OutOfBounds => DateHistogramParseError::OutOfBounds(text),
+    };
+    Ok(RequestError::Aggregation(AggregationError::from(error)))
 }
 
 #[test]
@@ -48,34 +55,42 @@ fn reads_every_unit(rt: HostRuntime) -> Result<(), Fail> {
 #[test]
 fn refuses_other_texts(rt: HostRuntime) -> Result<(), Fail> {
     let alloc = rt.alloc();
-    for (input, kind, text) in [
-        ("", "no number", ""),
-        ("ms", "no number", "ms"),
-        ("-1m", "no number", "-1m"),
-        ("１m", "no number", "１m"),
-        ("2000", "no unit", "2000"),
-        ("99999999999999999999", "no unit", "99999999999999999999"),
+    for (input, fault, text) in [
+        ("", Fault::NumberMissing, ""),
+        ("ms", Fault::NumberMissing, "ms"),
+        ("-1m", Fault::NumberMissing, "-1m"),
+        ("１m", Fault::NumberMissing, "１m"),
+        ("2000", Fault::UnitMissing, "2000"),
+        (
+            "99999999999999999999",
+            Fault::UnitMissing,
+            "99999999999999999999",
+        ),
         (
             "99999999999999999999y",
-            "no number",
+            Fault::NumberMissing,
             "99999999999999999999y",
         ),
         (
             "9223372036854775808ms",
-            "no number",
+            Fault::NumberMissing,
             "9223372036854775808ms",
         ),
-        ("2y", "unit", "y"),
-        ("1 m", "unit", " m"),
-        ("1M", "unit", "M"),
-        ("1minute", "unit", "minute"),
-        ("1.5h", "unit", ".5h"),
-        ("9223372036854775807ms", "bounds", "9223372036854775807ms"),
-        ("9223372036855ms", "bounds", "9223372036855ms"),
-        ("106752d", "bounds", "106752d"),
+        ("2y", Fault::UnitNotRecognized, "y"),
+        ("1 m", Fault::UnitNotRecognized, " m"),
+        ("1M", Fault::UnitNotRecognized, "M"),
+        ("1minute", Fault::UnitNotRecognized, "minute"),
+        ("1.5h", Fault::UnitNotRecognized, ".5h"),
+        (
+            "9223372036854775807ms",
+            Fault::OutOfBounds,
+            "9223372036854775807ms",
+        ),
+        ("9223372036855ms", Fault::OutOfBounds, "9223372036855ms"),
+        ("106752d", Fault::OutOfBounds, "106752d"),
     ] {
         let read = parse_into_milliseconds(alloc, &Text::copy_of(alloc, input)?);
-        assert_eq!(rt; read, refused(error_of(alloc, kind, text)?), "{input}");
+        assert_eq!(rt; read, Err(refusal(alloc, fault, text)?), "{input}");
     }
     Ok(())
 }
@@ -87,23 +102,29 @@ fn reads_offsets(rt: HostRuntime) -> Result<(), Fail> {
         ("1m", 60_000),
         ("+1m", 60_000),
         ("-1m", -60_000),
+        ("2m", 120_000),
+        ("+2m", 120_000),
+        ("-2m", -120_000),
         ("-2ms", -2),
         ("-0s", 0),
     ] {
         let read = parse_offset_into_milliseconds(alloc, &Text::copy_of(alloc, text)?);
         assert_eq!(rt; read, Ok(ms), "{text}");
     }
-    for (input, kind, text) in [
-        ("", "offset", ""),
-        ("+", "no number", ""),
-        ("-", "no number", ""),
-        ("+-1m", "no number", "-1m"),
-        ("-2000", "no unit", "2000"),
-        ("-2y", "unit", "y"),
-        ("-9223372036855ms", "bounds", "9223372036855ms"),
+    for (input, fault, text) in [
+        ("", Fault::InvalidOffset, ""),
+        ("+", Fault::NumberMissing, ""),
+        ("-", Fault::NumberMissing, ""),
+        ("+-1m", Fault::NumberMissing, "-1m"),
+        ("ms", Fault::NumberMissing, "ms"),
+        ("2000", Fault::UnitMissing, "2000"),
+        ("-2000", Fault::UnitMissing, "2000"),
+        ("2y", Fault::UnitNotRecognized, "y"),
+        ("-2y", Fault::UnitNotRecognized, "y"),
+        ("-9223372036855ms", Fault::OutOfBounds, "9223372036855ms"),
     ] {
         let read = parse_offset_into_milliseconds(alloc, &Text::copy_of(alloc, input)?);
-        assert_eq!(rt; read, refused(error_of(alloc, kind, text)?), "{input}");
+        assert_eq!(rt; read, Err(refusal(alloc, fault, text)?), "{input}");
     }
     Ok(())
 }
