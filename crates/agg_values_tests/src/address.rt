@@ -2,14 +2,17 @@ use agg_values::{Address, OutOfMemory, Text};
 use std::alloc::Global;
 use std::test::Fail;
 
+// Addresses, and their texts.
+const WRITTEN: &[(u128, &str)] = &[
+    (0, "::"),
+    (1, "::1"),
+    (281_470_698_652_420, "::ffff:1.2.3.4"),
+    (u128::MAX, "ffff:ffff:ffff:ffff:ffff:ffff:ffff:ffff"),
+];
+
 #[test]
 fn writes_the_recommended_text(rt: HostRuntime) -> Result<(), Fail> {
-    for (number, text) in [
-        (0, "::"),
-        (1, "::1"),
-        (281_470_698_652_420, "::ffff:1.2.3.4"),
-        (u128::MAX, "ffff:ffff:ffff:ffff:ffff:ffff:ffff:ffff"),
-    ] {
+    for &(number, text) in WRITTEN {
         let written = Address(number).write(rt.alloc())?;
         assert_eq!(rt; written.as_str(), text);
         assert_eq!(rt; Address(number).to_string(rt.alloc())?.as_str(), text);
@@ -25,36 +28,42 @@ fn rewritten(alloc: Global, text: &str) -> Result<Option<Text>, OutOfMemory> {
     }
 }
 
+// Texts of addresses, and the texts that are written of these.
+const READ: &[(&str, &str)] = &[
+    ("2001:DB8:0:0:0:0:0:1", "2001:db8::1"),
+    ("1:0:0:2:3:0:0:4", "1::2:3:0:0:4"),
+    ("1:0:0:2:0:0:0:3", "1:0:0:2::3"),
+    ("1:0:2:3:4:5:6:7", "1:0:2:3:4:5:6:7"),
+    ("0001:000a::", "1:a::"),
+    ("1.2.3.4", "::ffff:1.2.3.4"),
+    ("::FFFF:102:304", "::ffff:1.2.3.4"),
+    ("64:ff9b::1.2.3.4", "64:ff9b::102:304"),
+    ("1:2:3:4:5:6:7::", "1:2:3:4:5:6:7:0"),
+];
+
+// Texts of no address.
+const REFUSED: &[&str] = &[
+    "",
+    "1.2.3.04",
+    "1.2.3.256",
+    "1.2.3.4.5",
+    "::1::2",
+    "1:2:3:4:5:6:7",
+    "1:2:3:4:5:6:7:8::",
+    "12345::",
+    "1.2.3.4::",
+    "[::1]",
+    "fe80::1%1",
+    " ::1",
+];
+
 #[test]
 fn writes_what_it_read(rt: HostRuntime) -> Result<(), Fail> {
-    for (text, canonical) in [
-        ("2001:DB8:0:0:0:0:0:1", "2001:db8::1"),
-        ("1:0:0:2:3:0:0:4", "1::2:3:0:0:4"),
-        ("1:0:0:2:0:0:0:3", "1:0:0:2::3"),
-        ("1:0:2:3:4:5:6:7", "1:0:2:3:4:5:6:7"),
-        ("0001:000a::", "1:a::"),
-        ("1.2.3.4", "::ffff:1.2.3.4"),
-        ("::FFFF:102:304", "::ffff:1.2.3.4"),
-        ("64:ff9b::1.2.3.4", "64:ff9b::102:304"),
-        ("1:2:3:4:5:6:7::", "1:2:3:4:5:6:7:0"),
-    ] {
+    for &(text, canonical) in READ {
         let written = rewritten(rt.alloc(), text)?.ok_or("refused")?;
         assert_eq!(rt; written.as_str(), canonical, "{text}");
     }
-    for text in [
-        "",
-        "1.2.3.04",
-        "1.2.3.256",
-        "1.2.3.4.5",
-        "::1::2",
-        "1:2:3:4:5:6:7",
-        "1:2:3:4:5:6:7:8::",
-        "12345::",
-        "1.2.3.4::",
-        "[::1]",
-        "fe80::1%1",
-        " ::1",
-    ] {
+    for &text in REFUSED {
         assert_eq!(rt; rewritten(rt.alloc(), text)?, None, "{text}");
     }
     Ok(())

@@ -25,24 +25,27 @@ fn reads_each_kind(rt: HostRuntime) -> Result<(), Fail> {
     Ok(())
 }
 
+// Texts of no key, and why.
+const REFUSED: &[(&str, KeyTextError)] = &[
+    ("", KeyTextError::NoColon),
+    ("null", KeyTextError::NoColon),
+    ("f64:1", KeyTextError::Unsupported),
+    ("x:1", KeyTextError::UnknownType),
+    ("I64:1", KeyTextError::UnknownType),
+    (":1", KeyTextError::UnknownType),
+    ("i64:", KeyTextError::BadValue),
+    ("i64:9223372036854775808", KeyTextError::BadValue),
+    ("u64:-0", KeyTextError::BadValue),
+    ("u64:18446744073709551616", KeyTextError::BadValue),
+    ("dt:1.0", KeyTextError::BadValue),
+    ("bool:True", KeyTextError::BadValue),
+    ("ip:1.2.3.04", KeyTextError::BadValue),
+];
+
 #[test]
 fn answers_the_first_refusal(rt: HostRuntime) -> Result<(), Fail> {
     let alloc = rt.alloc();
-    for (text, refusal) in [
-        ("", KeyTextError::NoColon),
-        ("null", KeyTextError::NoColon),
-        ("f64:1", KeyTextError::Unsupported),
-        ("x:1", KeyTextError::UnknownType),
-        ("I64:1", KeyTextError::UnknownType),
-        (":1", KeyTextError::UnknownType),
-        ("i64:", KeyTextError::BadValue),
-        ("i64:9223372036854775808", KeyTextError::BadValue),
-        ("u64:-0", KeyTextError::BadValue),
-        ("u64:18446744073709551616", KeyTextError::BadValue),
-        ("dt:1.0", KeyTextError::BadValue),
-        ("bool:True", KeyTextError::BadValue),
-        ("ip:1.2.3.04", KeyTextError::BadValue),
-    ] {
+    for &(text, refusal) in REFUSED {
         let read = AfterKey::read(alloc, &Text::copy_of(alloc, text)?);
         assert_eq!(rt; read, Err(refusal), "{text}");
     }
