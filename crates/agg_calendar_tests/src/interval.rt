@@ -1,63 +1,97 @@
 use agg_calendar::{CalendarInterval, PrecomputedDateInterval};
-use agg_values::{AggregationError, DateHistogramParseError, InvalidArgument, RequestError, Text};
+use agg_values::{
+    AggregationError, DateHistogramParseError, InvalidArgument, OutOfMemory, RequestError, Text,
+};
+use std::alloc::Global;
 use std::test::Fail;
 
-// The interval as a text and a number, for comparing.
-fn parts(interval: PrecomputedDateInterval) -> (&'static str, i64) {
+// The nanoseconds of a fixed interval, or a unit of the calendar.
+type Parts = (Option<i64>, Option<CalendarInterval>);
+
+// The fixed and the calendar interval of a source, and the parts of the one that it takes.
+const TAKEN: &[(Option<&str>, Option<CalendarInterval>, Parts)] = &[
+    (Some("1ms"), None, (Some(1_000_000), None)),
+    (
+        Some("106751d"),
+        None,
+        (Some(9_223_286_400_000_000_000), None),
+    ),
+    (
+        None,
+        Some(CalendarInterval::Year),
+        (None, Some(CalendarInterval::Year)),
+    ),
+    (
+        None,
+        Some(CalendarInterval::Month),
+        (None, Some(CalendarInterval::Month)),
+    ),
+    (
+        None,
+        Some(CalendarInterval::Week),
+        (None, Some(CalendarInterval::Week)),
+    ),
+];
+
+// The same of sources that may not be, and why.
+const REFUSED: &[(Option<&str>, Option<CalendarInterval>, InvalidArgument)] = &[
+    (None, None, InvalidArgument::IntervalChoice),
+    (
+        Some("2y"),
+        Some(CalendarInterval::Week),
+        InvalidArgument::IntervalChoice,
+    ),
+    (Some("0d"), None, InvalidArgument::BadInterval),
+];
+
+fn parts(interval: PrecomputedDateInterval) -> Parts {
     match interval {
-        PrecomputedDateInterval::NotApplicable => ("none", 0),
-        PrecomputedDateInterval::FixedNanoseconds(ns) => ("fixed", ns),
-        PrecomputedDateInterval::Calendar(CalendarInterval::Year) => ("year", 0),
-        PrecomputedDateInterval::Calendar(CalendarInterval::Month) => ("month", 0),
-        PrecomputedDateInterval::Calendar(CalendarInterval::Week) => ("week", 0),
+        PrecomputedDateInterval::NotApplicable => (None, None),
+        PrecomputedDateInterval::FixedNanoseconds(ns) => (Some(ns), None),
+        PrecomputedDateInterval::Calendar(unit) => (None, Some(unit)),
     }
+}
+
+// What is answered to a fixed and a calendar interval.
+fn answer(
+    alloc: Global,
+    fixed: Option<&str>,
+    calendar: Option<CalendarInterval>,
+) -> Result<Result<Parts, RequestError>, OutOfMemory> {
+    let text = match fixed {
+        Some(fixed) => Some(Text::copy_of(alloc, fixed)?),
+        None => None,
+    };
+    let made = PrecomputedDateInterval::from_date_histogram_source_intervals(
+        alloc,
+        text.as_ref(),
+        calendar,
+    );
+    Ok(made.map(parts))
 }
 
 #[test]
 fn takes_the_one_interval_that_is_set(rt: HostRuntime) -> Result<(), Fail> {
+    for &(fixed, calendar, expected) in TAKEN {
+        assert_eq!(rt; answer(rt.alloc(), fixed, calendar)?, Ok(expected));
+    }
+    Ok(())
+}
+
+#[test]
+fn refuses_other_choices(rt: HostRuntime) -> Result<(), Fail> {
+    for &(fixed, calendar, fault) in REFUSED {
+        let refusal = Err(RequestError::Invalid(fault));
+        assert_eq!(rt; answer(rt.alloc(), fixed, calendar)?, refusal);
+    }
+    Ok(())
+}
+
+#[test]
+fn passes_the_fault_of_a_text_on(rt: HostRuntime) -> Result<(), Fail> {
     let alloc = rt.alloc();
     let unit = DateHistogramParseError::UnitNotRecognized(Text::copy_of(alloc, "y")?);
-    for (fixed, calendar, interval) in [
-        (Some("1ms"), None, Ok(("fixed", 1_000_000))),
-        (
-            Some("106751d"),
-            None,
-            Ok(("fixed", 9_223_286_400_000_000_000)),
-        ),
-        (None, Some(CalendarInterval::Year), Ok(("year", 0))),
-        (None, Some(CalendarInterval::Month), Ok(("month", 0))),
-        (None, Some(CalendarInterval::Week), Ok(("week", 0))),
-        (
-            None,
-            None,
-            Err(RequestError::Invalid(InvalidArgument::IntervalChoice)),
-        ),
-        (
-            Some("2y"),
-            Some(CalendarInterval::Week),
-            Err(RequestError::Invalid(InvalidArgument::IntervalChoice)),
-        ),
-        (
-            Some("0d"),
-            None,
-            Err(RequestError::Invalid(InvalidArgument::BadInterval)),
-        ),
-        (
-            Some("2y"),
-            None,
-            Err(RequestError::Aggregation(AggregationError::from(unit))),
-        ),
-    ] {
-        let text = match fixed {
-            Some(fixed) => Some(Text::copy_of(alloc, fixed)?),
-            None => None,
-        };
-        let made = PrecomputedDateInterval::from_date_histogram_source_intervals(
-            alloc,
-            text.as_ref(),
-            calendar,
-        );
-        assert_eq!(rt; made.map(parts), interval);
-    }
+    let refusal = Err(RequestError::Aggregation(AggregationError::from(unit)));
+    assert_eq!(rt; answer(alloc, Some("2y"), None)?, refusal);
     Ok(())
 }
