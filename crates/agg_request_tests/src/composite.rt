@@ -2,6 +2,7 @@ use agg_request::{CompositeAggregation, CompositeAggregationSource, read_composi
 use agg_values::AfterKey;
 use serde_json::Value;
 use std::alloc::Global;
+use std::process::Abort;
 use std::test::Fail;
 
 // Bodies with what is read: the size, each source and each after value, or the refusal.
@@ -320,23 +321,29 @@ fn read(alloc: Global, body: &str) -> Result<String, Fail> {
     }
 }
 
+// This is read of a body.
+fn expect(rt: &(impl Abort + AllocGlobal), body: &str, expected: &str) -> Result<(), Fail> {
+    let found = read(rt.alloc(), body)?;
+    assert_eq!(rt; found.as_str(), expected, "{body}");
+    Ok(())
+}
+
 #[test]
 fn reads_composites(rt: HostRuntime) -> Result<(), Fail> {
     for &(body, expected) in BODIES {
-        assert_eq!(rt; read(rt.alloc(), body)?.as_str(), expected, "{body}");
+        expect(&rt, body, expected)?;
     }
     Ok(())
 }
 
 #[test]
 fn reads_sources_with_intervals(rt: HostRuntime) -> Result<(), Fail> {
-    let alloc = rt.alloc();
     for (kind, cases) in [("histogram", HISTOGRAMS), ("date_histogram", DATES)] {
         for (source, expected) in cases {
-            let body = format!(in alloc;
+            let body = format!(in rt.alloc();
                 r#"{{"sources":[{{"a":{{"{kind}":{source}}}}}],"size":1}}"#
             )?;
-            assert_eq!(rt; read(alloc, body.as_str())?.as_str(), *expected, "{source}");
+            expect(&rt, &body, expected)?;
         }
     }
     Ok(())

@@ -1,9 +1,10 @@
 //! Which documents small queries match.
 use agg_request::read_query;
-use agg_segment::Matches;
+use agg_segment::{Matches, SegmentReader};
 use agg_segment_tests::given::{Given, segment_of};
 use agg_values::DocId;
 use serde_json::Value;
+use std::process::Abort;
 use std::test::Fail;
 
 // The documents.
@@ -92,18 +93,29 @@ const QUERIES: &[(&str, &[DocId])] = &[
     ),
 ];
 
+// A query matches these documents.
+fn expect_matches(
+    rt: &(impl Abort + AllocGlobal),
+    segment: &SegmentReader,
+    query: &str,
+    documents: &[DocId],
+) -> Result<(), Fail> {
+    let alloc = rt.alloc();
+    let tree = read_query(alloc, &Value::from_str(alloc, query)?)?;
+    let found = Matches::new(alloc, &tree, segment)?;
+    assert_eq!(rt; found.docs(alloc)?.as_slice(), documents, "{query}");
+    for doc in 0..6 {
+        let is_met = documents.contains(&doc);
+        assert_eq!(rt; found.contains(doc), is_met, "{query}, {doc}");
+    }
+    Ok(())
+}
+
 #[test]
 fn queries_match_these_documents(rt: HostRuntime) -> Result<(), Fail> {
-    let alloc = rt.alloc();
-    let segment = segment_of(alloc, DOCUMENTS)?;
+    let segment = segment_of(rt.alloc(), DOCUMENTS)?;
     for &(query, documents) in QUERIES {
-        let tree = read_query(alloc, &Value::from_str(alloc, query)?)?;
-        let found = Matches::new(alloc, &tree, &segment)?;
-        assert_eq!(rt; found.docs(alloc)?.as_slice(), documents, "{query}");
-        for doc in 0..6 {
-            let is_met = documents.contains(&doc);
-            assert_eq!(rt; found.contains(doc), is_met, "{query}, {doc}");
-        }
+        expect_matches(&rt, &segment, query, documents)?;
     }
     Ok(())
 }

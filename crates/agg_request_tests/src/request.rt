@@ -6,6 +6,7 @@ use agg_segment::{QueryTree, Schema};
 use agg_values::Text;
 use serde_json::Value;
 use std::alloc::Global;
+use std::process::Abort;
 use std::test::Fail;
 
 // The unused builders, in order: their names, and whether a query of theirs matches everything.
@@ -226,7 +227,7 @@ fn shown_kind(alloc: Global, aggregation: &Aggregation) -> Result<String, Fail> 
     }
 }
 
-// Puts an aggregation behind what is shown.
+// Appends an aggregation to what is shown.
 fn show(
     alloc: Global,
     shown: &mut String,
@@ -285,31 +286,36 @@ fn read(alloc: Global, text: &str) -> Result<String, Fail> {
     }
 }
 
+// This is read of a text.
+fn expect(rt: &(impl Abort + AllocGlobal), text: &str, expected: &str) -> Result<(), Fail> {
+    let found = read(rt.alloc(), text)?;
+    assert_eq!(rt; found.as_str(), expected, "{text}");
+    Ok(())
+}
+
 #[test]
 fn reads_requests(rt: HostRuntime) -> Result<(), Fail> {
     for &(text, expected) in REQUESTS {
-        assert_eq!(rt; read(rt.alloc(), text)?.as_str(), expected, "{text}");
+        expect(&rt, text, expected)?;
     }
     Ok(())
 }
 
 #[test]
 fn refuses_kinds_that_are_left_out(rt: HostRuntime) -> Result<(), Fail> {
-    let alloc = rt.alloc();
     for &kind in UNSUPPORTED_KINDS {
-        let text = format!(in alloc; r#"{{"a":{{"{kind}":{{"field":"f"}}}}}}"#)?;
-        assert_eq!(rt; read(alloc, &text)?.as_str(), "Unsupported", "{text}");
+        let text = format!(in rt.alloc(); r#"{{"a":{{"{kind}":{{"field":"f"}}}}}}"#)?;
+        expect(&rt, &text, "Unsupported")?;
     }
     Ok(())
 }
 
 #[test]
 fn refuses_what_metrics_may_not_hold(rt: HostRuntime) -> Result<(), Fail> {
-    let alloc = rt.alloc();
     for &kind in METRICS {
         for &member in NO_MEMBERS {
-            let text = format!(in alloc; r#"{{"a":{{"{kind}":{{{member}}}}}"#)?;
-            assert_eq!(rt; read(alloc, &text)?.as_str(), "Unsupported", "{text}");
+            let text = format!(in rt.alloc(); r#"{{"a":{{"{kind}":{{{member}}}}}"#)?;
+            expect(&rt, &text, "Unsupported")?;
         }
     }
     Ok(())
@@ -321,7 +327,7 @@ fn refuses_names_that_buckets_may_not_hold(rt: HostRuntime) -> Result<(), Fail> 
     for &name in RESERVED_NAMES {
         let below = format!(in alloc; r#"{{"{name}":{{"max":{{"field":"f"}}}}}}"#)?;
         let text = format!(in alloc; r#"{{"a":{{"filter":{{"all":{{}}}},"aggs":{below}}}}}"#)?;
-        assert_eq!(rt; read(alloc, &text)?.as_str(), "Unsupported", "{text}");
+        expect(&rt, &text, "Unsupported")?;
     }
     Ok(())
 }

@@ -1,12 +1,10 @@
 //! Documents whose tuples would be too many to walk, and values of which a source reads some.
+use crate::given::{GivenSource, Kind, composite_of};
 use agg_calendar::CalendarInterval;
-use agg_request::{
-    CompositeAggregation, CompositeAggregationSource, DateHistogramCompositeAggregationSource,
-    HistogramCompositeAggregationSource, TermCompositeAggregationSource, count_uncut,
-};
+use agg_request_tree::count_uncut;
 use agg_segment::{Document, FieldValue, SegmentBuilder, SegmentReader};
 use agg_segment_tests::given::{Given, segment_of};
-use agg_values::{ItemList, MissingOrder, NameMap, Order, Text};
+use agg_values::Text;
 use std::alloc::Global;
 use std::test::Fail;
 
@@ -59,51 +57,22 @@ fn a_source_counts_the_values_that_it_reads(rt: HostRuntime) -> Result<(), Fail>
     Ok(())
 }
 
-// How often a composite of each of the three kinds of sources counts a document.
+// How often a composite of one source of each kind counts a document.
 fn counts(
     alloc: Global,
     segment: &SegmentReader,
     doc: u32,
     missing_bucket: bool,
 ) -> Result<[u64; 3], Fail> {
-    let terms = count_one(alloc, terms_of(alloc, "m", missing_bucket)?, segment, doc)?;
-    let numbers = count_one(alloc, numbers_of(alloc, missing_bucket)?, segment, doc)?;
-    let dates = count_one(alloc, dates_of(alloc, missing_bucket)?, segment, doc)?;
-    Ok([terms, numbers, dates])
-}
-
-fn count_one(
-    alloc: Global,
-    source: CompositeAggregationSource,
-    segment: &SegmentReader,
-    doc: u32,
-) -> Result<u64, Fail> {
-    let mut sources = ItemList::new(alloc);
-    sources.push(source)?;
-    count(alloc, sources, segment, doc)
-}
-
-fn numbers_of(alloc: Global, missing_bucket: bool) -> Result<CompositeAggregationSource, Fail> {
-    Ok(CompositeAggregationSource::Histogram(HistogramCompositeAggregationSource {
-        name: Text::copy_of(alloc, "numbers")?,
-        field: Text::copy_of(alloc, "m")?,
-        interval: 10,
-        order: Order::Asc,
-        missing_bucket,
-        missing_order: MissingOrder::Default,
-    }))
-}
-
-fn dates_of(alloc: Global, missing_bucket: bool) -> Result<CompositeAggregationSource, Fail> {
-    Ok(CompositeAggregationSource::DateHistogram(DateHistogramCompositeAggregationSource {
-        name: Text::copy_of(alloc, "dates")?,
-        field: Text::copy_of(alloc, "m")?,
-        fixed_interval: None,
-        calendar_interval: Some(CalendarInterval::Week),
-        order: Order::Asc,
-        missing_bucket,
-        missing_order: MissingOrder::Default,
-    }))
+    let terms = GivenSource::of("m", Kind::Terms, missing_bucket);
+    let numbers = GivenSource::of("m", Kind::Histogram(10), missing_bucket);
+    let weeks = Kind::Dates(None, Some(CalendarInterval::Week));
+    let dates = GivenSource::of("m", weeks, missing_bucket);
+    Ok([
+        count(alloc, &[terms], segment, doc)?,
+        count(alloc, &[numbers], segment, doc)?,
+        count(alloc, &[dates], segment, doc)?,
+    ])
 }
 
 // A document with 65,536 values of the field `a`, each held twice.
@@ -117,45 +86,27 @@ fn one_document(alloc: Global) -> Result<SegmentReader, Fail> {
     Ok(builder.build()?)
 }
 
-fn terms_of(
-    alloc: Global,
-    field: &str,
-    missing_bucket: bool,
-) -> Result<CompositeAggregationSource, Fail> {
-    Ok(CompositeAggregationSource::Terms(TermCompositeAggregationSource {
-        name: Text::copy_of(alloc, field)?,
-        field: Text::copy_of(alloc, field)?,
-        order: Order::Asc,
-        missing_bucket,
-        missing_order: MissingOrder::Default,
-    }))
-}
-
 // How often a composite over these fields counts the one document.
 fn count_of(
     alloc: Global,
     segment: &SegmentReader,
-    fields: &[&str],
+    fields: &[&'static str],
     missing_bucket: bool,
 ) -> Result<u64, Fail> {
-    let mut sources = ItemList::new(alloc);
-    for field in fields {
-        sources.push(terms_of(alloc, field, missing_bucket)?)?;
+    let mut sources = Vec::new(alloc);
+    for &field in fields {
+        sources.push(GivenSource::of(field, Kind::Terms, missing_bucket))?;
     }
-    count(alloc, sources, segment, 0)
+    count(alloc, sources.as_slice(), segment, 0)
 }
 
 // How often a composite of these sources counts a document.
 fn count(
     alloc: Global,
-    sources: ItemList<CompositeAggregationSource>,
+    sources: &[GivenSource],
     segment: &SegmentReader,
     doc: u32,
 ) -> Result<u64, Fail> {
-    let composite = CompositeAggregation {
-        sources,
-        size: 1,
-        after: NameMap::new(alloc),
-    };
+    let composite = composite_of(alloc, sources, 1)?;
     Ok(count_uncut(alloc, &composite, segment, &[doc])?)
 }

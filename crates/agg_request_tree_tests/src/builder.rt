@@ -1,4 +1,4 @@
-use agg_request::{QueryBuildError, QueryBuilder};
+use agg_request_tree::{QueryBuildError, QueryBuilder};
 use agg_segment::{QueryTree, Schema};
 use agg_values::Text;
 use std::alloc::Global;

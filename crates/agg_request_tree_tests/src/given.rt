@@ -1,0 +1,159 @@
+//! Sources, composites and requests, as the tables of tests hold them.
+ghost use Rattle.std.specs.Prelude.{◌≡◌, ◌∷◌, [], IfOk};
+ghost use Rattle.agg_request_tree.specs.Request.{IsPlainComposite};
+
+use agg_calendar::CalendarInterval;
+use agg_request_tree::{
+    Aggregation, AggregationVariants, Aggregations, CompositeAggregation,
+    CompositeAggregationSource, DateHistogramCompositeAggregationSource,
+    HistogramCompositeAggregationSource, TermCompositeAggregationSource,
+};
+use agg_segment_tests::given::Given;
+use agg_values::{
+    Address, CompositeIntermediateKey, ItemList, MissingOrder, NameMap, Order, OutOfMemory, Text,
+};
+use std::alloc::Global;
+
+/// What a source makes keys of: values, or the starts of numbers or of dates.
+#[derive(Clone, Copy)]
+pub enum Kind {
+    Terms,
+    Histogram(i64),
+    Dates(Option<&'static str>, Option<CalendarInterval>),
+}
+
+/// A source.
+#[derive(Clone, Copy)]
+pub struct GivenSource {
+    pub name: &'static str,
+    pub field: &'static str,
+    pub kind: Kind,
+    pub order: Order,
+    pub missing_bucket: bool,
+    pub missing_order: MissingOrder,
+}
+
+impl GivenSource {
+    /// An ascending source of a field, by the field's name.
+    pub fn of(field: &'static str, kind: Kind, missing_bucket: bool) -> GivenSource {
+        GivenSource {
+            name: field,
+            field,
+            kind,
+            order: Order::Asc,
+            missing_bucket,
+            missing_order: MissingOrder::Default,
+        }
+    }
+
+    /// The source itself.
+    pub fn source(self, alloc: Global) -> Result<CompositeAggregationSource, OutOfMemory> {
+        match self.kind {
+            Kind::Terms => self.terms(alloc),
+            Kind::Histogram(interval) => self.histogram(alloc, interval),
+            Kind::Dates(fixed, calendar) => self.dates(alloc, fixed, calendar),
+        }
+    }
+
+    fn terms(self, alloc: Global) -> Result<CompositeAggregationSource, OutOfMemory> {
+        Ok(CompositeAggregationSource::Terms(TermCompositeAggregationSource {
+            name: Text::copy_of(alloc, self.name)?,
+            field: Text::copy_of(alloc, self.field)?,
+            order: self.order,
+            missing_bucket: self.missing_bucket,
+            missing_order: self.missing_order,
+        }))
+    }
+
+    fn histogram(
+        self,
+        alloc: Global,
+        interval: i64,
+    ) -> Result<CompositeAggregationSource, OutOfMemory> {
+        Ok(CompositeAggregationSource::Histogram(HistogramCompositeAggregationSource {
+            name: Text::copy_of(alloc, self.name)?,
+            field: Text::copy_of(alloc, self.field)?,
+            interval,
+            order: self.order,
+            missing_bucket: self.missing_bucket,
+            missing_order: self.missing_order,
+        }))
+    }
+
+    fn dates(
+        self,
+        alloc: Global,
+        fixed: Option<&str>,
+        calendar_interval: Option<CalendarInterval>,
+    ) -> Result<CompositeAggregationSource, OutOfMemory> {
+        let fixed_interval = match fixed {
+            Some(text) => Some(Text::copy_of(alloc, text)?),
+            None => None,
+        };
+        Ok(CompositeAggregationSource::DateHistogram(DateHistogramCompositeAggregationSource {
+            name: Text::copy_of(alloc, self.name)?,
+            field: Text::copy_of(alloc, self.field)?,
+            fixed_interval,
+            calendar_interval,
+            order: self.order,
+            missing_bucket: self.missing_bucket,
+            missing_order: self.missing_order,
+        }))
+    }
+}
+
+/// The key of a value. None is Null.
+pub fn key_of(
+    alloc: Global,
+    given: Option<Given>,
+) -> Result<CompositeIntermediateKey, OutOfMemory> {
+    Ok(match given {
+        Some(Given::Truth(truth)) => CompositeIntermediateKey::Bool(truth),
+        Some(Given::Text(text)) => CompositeIntermediateKey::Str(Text::copy_of(alloc, text)?),
+        Some(Given::Signed(number)) => CompositeIntermediateKey::I64(number),
+        Some(Given::Unsigned(number)) => CompositeIntermediateKey::U64(number),
+        Some(Given::Address(address)) => CompositeIntermediateKey::IpAddr(Address(address)),
+        Some(Given::Date(nanoseconds)) => CompositeIntermediateKey::DateTime(nanoseconds),
+        None => CompositeIntermediateKey::Null,
+    })
+}
+
+/// The composite of these sources without after values.
+pub fn composite_of(
+    alloc: Global,
+    sources: &[GivenSource],
+    size: u32,
+) -> Result<CompositeAggregation, OutOfMemory> {
+    let mut listed = ItemList::new(alloc);
+    for source in sources {
+        listed.push(source.source(alloc)?)?;
+    }
+    Ok(CompositeAggregation {
+        sources: listed,
+        size,
+        after: NameMap::new(alloc),
+    })
+}
+
+/// A composite with no aggregations below it.
+pub fn lone(alloc: Global, composite: CompositeAggregation) -> Aggregation
+    ensures { IsPlainComposite result }
+{
+    Aggregation {
+        agg: AggregationVariants::Composite(composite),
+        sub_aggregation: NameMap::new(alloc),
+    }
+}
+
+/// The request of one aggregation.
+pub fn request_of(
+    alloc: Global,
+    name: &str,
+    aggregation: Aggregation,
+) -> Result<Aggregations, OutOfMemory>
+    ensures { IfOk result (λ request. request ≡ (name.now, aggregation) ∷ []) }
+{
+    let mut request = NameMap::new(alloc);
+    request.insert(Text::copy_of(alloc, name)?, aggregation)?;
+    Ok(request)
+}

@@ -1,0 +1,159 @@
+//! What one source says of itself, of columns and of after values.
+use crate::given::{GivenSource, Kind, key_of};
+use agg_calendar::CalendarInterval;
+use agg_request_tree::CompositeAggregationSource;
+use agg_segment::ColumnType;
+use agg_segment_tests::given::Given;
+use agg_values::{
+    AfterKey, CompositeIntermediateKey, MissingOrder, NameMap, Order, OutOfMemory, Text,
+};
+use std::alloc::Global;
+use std::process::Abort;
+use std::test::Fail;
+
+const NUMBERS: Kind = Kind::Histogram(-5);
+
+const DATES: Kind = Kind::Dates(Some("1d"), Some(CalendarInterval::Month));
+
+const MONTHS: Kind = Kind::Dates(None, Some(CalendarInterval::Month));
+
+// A source of this kind.
+fn source_of(alloc: Global, kind: Kind) -> Result<CompositeAggregationSource, OutOfMemory> {
+    let given = GivenSource {
+        name: "by_a",
+        field: "a",
+        kind,
+        order: Order::Desc,
+        missing_bucket: true,
+        missing_order: MissingOrder::Last,
+    };
+    given.source(alloc)
+}
+
+// The parts of a source are those that it was made of.
+fn expect_parts(rt: &impl Abort, source: &CompositeAggregationSource) {
+    let names = (source.name().as_str(), source.field().as_str());
+    let orders = (
+        source.order(),
+        source.missing_bucket(),
+        source.missing_order(),
+    );
+    let expected = (Order::Desc, true, MissingOrder::Last);
+    assert_eq!(rt; (names, orders), (("by_a", "a"), expected));
+}
+
+// The same of a source and its copy, which are shown alike.
+fn expect_copy(
+    rt: &(impl Abort + AllocGlobal),
+    source: &CompositeAggregationSource,
+) -> Result<(), Fail> {
+    let alloc = rt.alloc();
+    let copy = source.try_clone(alloc)?;
+    expect_parts(rt, source);
+    expect_parts(rt, &copy);
+    let shown = (
+        format!(in alloc; "{copy:?}")?,
+        format!(in alloc; "{source:?}")?,
+    );
+    assert_eq!(rt; shown.0, shown.1);
+    Ok(())
+}
+
+#[test]
+fn a_source_gives_its_parts(rt: HostRuntime) -> Result<(), Fail> {
+    for kind in [Kind::Terms, NUMBERS, DATES, MONTHS] {
+        expect_copy(&rt, &source_of(rt.alloc(), kind)?)?;
+    }
+    Ok(())
+}
+
+// Whether a source of this kind reads columns of this type.
+fn reads(alloc: Global, kind: Kind, column_type: ColumnType) -> Result<bool, OutOfMemory> {
+    Ok(source_of(alloc, kind)?.reads(column_type))
+}
+
+#[test]
+fn a_source_reads_columns_by_type(rt: HostRuntime) -> Result<(), Fail> {
+    let alloc = rt.alloc();
+    for (column_type, numbers, dates) in [
+        (ColumnType::Bool, false, false),
+        (ColumnType::Str, false, false),
+        (ColumnType::I64, true, false),
+        (ColumnType::U64, true, false),
+        (ColumnType::IpAddr, false, false),
+        (ColumnType::DateTime, true, true),
+    ] {
+        let found = (
+            reads(alloc, Kind::Terms, column_type)?,
+            reads(alloc, NUMBERS, column_type)?,
+            reads(alloc, DATES, column_type)?,
+        );
+        assert_eq!(rt; found, (true, numbers, dates), "{column_type:?}");
+    }
+    Ok(())
+}
+
+// A key, None for Null, and whether it is of another type than the keys of a histogram and of a
+// date source.
+const AFTER_VALUES: &[(Option<Given>, bool, bool)] = &[
+    (Some(Given::Truth(true)), true, true),
+    (Some(Given::Text("b")), true, true),
+    (Some(Given::Signed(-1)), false, true),
+    (Some(Given::Unsigned(1)), false, true),
+    (Some(Given::Address(1)), true, true),
+    (Some(Given::Date(1)), true, false),
+    (None, false, false),
+];
+
+// The after key of one source.
+fn after_of(alloc: Global, given: Option<Given>) -> Result<NameMap<AfterKey>, OutOfMemory> {
+    let mut after = NameMap::new(alloc);
+    let key = AfterKey::from(key_of(alloc, given)?);
+    after.insert(Text::copy_of(alloc, "by_a")?, key)?;
+    Ok(after)
+}
+
+// Whether an after key says another type than a source of this kind gives.
+fn is_other(alloc: Global, kind: Kind, after: &NameMap<AfterKey>) -> Result<bool, OutOfMemory> {
+    let source = source_of(alloc, kind)?;
+    Ok(source.is_other_after(source.after_value(after)))
+}
+
+#[test]
+fn a_source_goes_on_from_keys_of_its_type(rt: HostRuntime) -> Result<(), Fail> {
+    let alloc = rt.alloc();
+    for &(given, numbers, dates) in AFTER_VALUES {
+        let after = after_of(alloc, given)?;
+        let found = (
+            is_other(alloc, NUMBERS, &after)?,
+            is_other(alloc, DATES, &after)?,
+        );
+        assert_eq!(rt; found, (numbers, dates));
+    }
+    Ok(())
+}
+
+// Whether a source refuses to go on from an after value that is Null.
+fn refuses_null(
+    alloc: Global,
+    missing_bucket: bool,
+    after: Option<&CompositeIntermediateKey>,
+) -> Result<bool, OutOfMemory> {
+    let source = GivenSource::of("a", Kind::Terms, missing_bucket).source(alloc)?;
+    Ok(source.is_null_after(after))
+}
+
+#[test]
+fn null_is_gone_on_from_where_it_has_a_bucket(rt: HostRuntime) -> Result<(), Fail> {
+    let alloc = rt.alloc();
+    let null = Some(&CompositeIntermediateKey::Null);
+    for (missing_bucket, after, expected) in [
+        (true, null, false),
+        (false, null, true),
+        (false, None, false),
+    ] {
+        let refuses = refuses_null(alloc, missing_bucket, after)?;
+        assert_eq!(rt; refuses, expected);
+    }
+    Ok(())
+}
