@@ -1,9 +1,6 @@
 //! How a program of one's own takes pages: the input stands in memory, and so does what is written.
 #![tactic(auto)]
 
-#[cfg(test)]
-mod tests;
-
 ghost use Rattle.std.specs.Prelude.{IfErr, IfOk};
 ghost use Rattle.agg_embedding.specs.NoPages.{HaveNoPages};
 ghost use Rattle.agg_pages.specs.Answer.{IsPrintedWalk};
