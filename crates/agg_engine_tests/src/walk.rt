@@ -1,0 +1,218 @@
+//! Walks over small snapshots: their pages, and all that a refusal says.
+ghost use Rattle.std.specs.Prelude.{◌≡◌, ◌<◌, IfOk};
+ghost use Rattle.agg_engine.specs.Form.{IsOneComposite};
+
+use agg_cache::LimitsLedger;
+use agg_engine::{Snapshot, Walk, WalkError, walk_pages};
+use agg_request_tree::Aggregations;
+use agg_request_tree_tests::given::{GivenSource, Kind, composite_of, lone, request_of};
+use agg_segment::{QueryTree, Schema};
+use agg_segment_tests::given::{Given, segment_of};
+use agg_values::{AggregationError, InvalidArgument, ItemList, OutOfMemory, Steps, Text};
+use std::alloc::Global;
+use std::marker::Brand;
+use std::process::Abort;
+use std::sync::ledger::{Blank, Ledger};
+use std::test::Fail;
+
+// The values of a document.
+type Values = &'static [(&'static str, Given)];
+
+// The size of a snapshot's page, and the documents of its segments.
+type Documents = (u32, &'static [&'static [Values]]);
+
+// What a walk is asked: a composite's name, its size in the request, how many buckets a page may
+// have, and the snapshots.
+#[derive(Clone, Copy)]
+struct Asked {
+    name: &'static str,
+    size: u32,
+    bucket_limit: Option<u32>,
+    snapshots: &'static [Documents],
+}
+
+const ONE: Values = &[("a", Given::Signed(1))];
+
+const TWO: Values = &[("a", Given::Signed(2))];
+
+const THREE: Values = &[("a", Given::Signed(3))];
+
+const ROOM_FOR_TWO: Documents = (2, &[&[THREE, ONE, TWO, ONE]]);
+
+const TWO_SEGMENTS: Documents = (2, &[&[THREE, ONE], &[TWO, ONE]]);
+
+const TWO_PAGES: &[&str] = &[
+    "{\"g\":{\"after_key\":{\"a\":\"i64:2\"},\"buckets\":[\
+        {\"doc_count\":2,\"key\":{\"a\":1}},{\"doc_count\":1,\"key\":{\"a\":2}}]}}",
+    "{\"g\":{\"buckets\":[{\"doc_count\":1,\"key\":{\"a\":3}}]}}",
+];
+
+// What is asked, the results of its pages, and whether the walk ended.
+const WALKS: &[(Asked, &[&str], bool)] = &[
+    (
+        Asked {
+            name: "g",
+            size: 2,
+            bucket_limit: None,
+            snapshots: &[ROOM_FOR_TWO, ROOM_FOR_TWO],
+        },
+        TWO_PAGES,
+        true,
+    ),
+    (
+        Asked {
+            name: "g",
+            size: 2,
+            bucket_limit: Some(2),
+            snapshots: &[TWO_SEGMENTS, ROOM_FOR_TWO],
+        },
+        TWO_PAGES,
+        true,
+    ),
+    (
+        Asked {
+            name: "g",
+            size: 2,
+            bucket_limit: None,
+            snapshots: &[],
+        },
+        &[],
+        false,
+    ),
+];
+
+// A walk with the one composite g, over these snapshots.
+fn walk(alloc: Global, asked: Asked) -> Result<Result<Walk, WalkError>, Fail> {
+    let request = request_of_size(alloc, asked.size)?;
+    let snapshots = snapshots_of(alloc, asked.snapshots)?;
+    Ok(walk_over::<Brand>(alloc, asked, &request, &snapshots, Blank::new(1)))
+}
+
+fn request_of_size(alloc: Global, size: u32) -> Result<Aggregations, OutOfMemory>
+    ensures { IfOk result (λ request. IsOneComposite request) }
+{
+    let sources = [GivenSource::of("a", Kind::Terms, false)];
+    let composite = composite_of(alloc, &sources, size)?;
+    request_of(alloc, "g", lone(alloc, composite))
+}
+
+fn snapshots_of(alloc: Global, given: &[Documents]) -> Result<ItemList<Snapshot>, Fail> {
+    let mut snapshots = ItemList::new(alloc);
+    for &(page_size, segments) in given {
+        snapshots.push(snapshot_of(alloc, page_size, segments)?)?;
+    }
+    Ok(snapshots)
+}
+
+fn snapshot_of(alloc: Global, page_size: u32, given: &[&[Values]]) -> Result<Snapshot, Fail> {
+    let mut segments = ItemList::new(alloc);
+    for documents in given {
+        segments.push(segment_of(alloc, documents)?)?;
+    }
+    Ok(Snapshot {
+        segments,
+        page_size,
+    })
+}
+
+fn walk_over<L: Ledger>(
+    alloc: Global,
+    asked: Asked,
+    request: &Aggregations,
+    snapshots: &ItemList<Snapshot>,
+    blank: Blank,
+) -> Result<Walk, WalkError>
+    requires form { IsOneComposite request.now }
+    requires name { blank.name ≡ L.name }
+    requires parts { blank.parts ≡ L.parts }
+    requires shared { 0 < L.parts }
+{
+    let mut steps: Steps<L> = Steps::new(blank);
+    let mut limits = LimitsLedger::new(None, asked.bucket_limit);
+    let name = Text::copy_of(alloc, asked.name)?;
+    let (schema, query) = (Schema::new(alloc), QueryTree::All);
+    walk_pages(
+        alloc,
+        &mut limits,
+        &schema,
+        request,
+        &name,
+        &query,
+        snapshots,
+        &mut steps,
+    )
+}
+
+// A walk has pages of these results.
+fn expect_pages(
+    rt: &(impl Abort + AllocGlobal),
+    walk: &Walk,
+    pages: &[&str],
+    ended: bool,
+) -> Result<(), Fail> {
+    let found = walk.pages.as_slice();
+    assert_eq!(rt; (found.len(), walk.ended), (pages.len(), ended));
+    for (page, text) in found.iter().zip(pages) {
+        assert_eq!(rt; page.write_json()?.as_str(), *text);
+    }
+    Ok(())
+}
+
+#[test]
+fn gives_its_pages(rt: HostRuntime) -> Result<(), Fail> {
+    for &(asked, pages, ended) in WALKS {
+        expect_pages(&rt, &walk(rt.alloc(), asked)??, pages, ended)?;
+    }
+    Ok(())
+}
+
+const THREE_BUCKETS: &[Documents] = &[(3, &[&[ONE, TWO], &[THREE]])];
+
+const NO_SNAPSHOT: &[Documents] = &[];
+
+const ONE_SNAPSHOT: &[Documents] = &[ROOM_FOR_TWO];
+
+const NO_ROOM_AT_LAST: &[Documents] = &[ROOM_FOR_TWO, (0, &[])];
+
+// No pages are given, for this reason, where a page may have two buckets.
+fn expect_refusal(
+    rt: &(impl Abort + AllocGlobal),
+    (name, size): (&'static str, u32),
+    snapshots: &'static [Documents],
+    refusal: WalkError,
+) -> Result<(), Fail> {
+    let asked = Asked {
+        name,
+        size,
+        bucket_limit: Some(2),
+        snapshots,
+    };
+    assert_eq!(rt; walk(rt.alloc(), asked)?.err(), Some(refusal));
+    Ok(())
+}
+
+#[test]
+fn says_why_there_are_no_pages(rt: HostRuntime) -> Result<(), Fail> {
+    let limited = AggregationError::BucketLimitExceeded {
+        limit: 2,
+        current: 3,
+    };
+    for (asked, snapshots, refusal) in [
+        (("g", 3), THREE_BUCKETS, WalkError::Aggregation(limited)),
+        (("h", 2), NO_SNAPSHOT, WalkError::UnknownComposite),
+        (("h", 2), ONE_SNAPSHOT, WalkError::UnknownComposite),
+        (
+            ("g", 0),
+            NO_SNAPSHOT,
+            WalkError::Invalid(InvalidArgument::ZeroSize),
+        ),
+        (
+            ("g", 2),
+            NO_ROOM_AT_LAST,
+            WalkError::Invalid(InvalidArgument::ZeroSize),
+        ),
+    ] {
+        expect_refusal(&rt, asked, snapshots, refusal)?;
+    }
+    Ok(())
+}
