@@ -1,10 +1,8 @@
-//! Tests of runs, and of what they read and write.
+//! Tests of runs, of what they read from and write to, and of results by themselves.
 #![tactic(auto)]
 
 #[cfg(test)]
 mod drip;
-#[cfg(test)]
-mod input;
 #[cfg(test)]
 mod program;
 #[cfg(test)]

@@ -86,7 +86,7 @@ const THREE_KEYS_PAGE: &str = "{\"page\":1,\"results\":{\"g\":{\
     {\"doc_count\":1,\"key\":{\"a\":2}},{\"doc_count\":1,\"key\":{\"a\":3}}]}}}\n\
     {\"ended\":false}\n";
 
-// Members of a header and what stands behind it, with the status and what is written.
+// Members of a header and what comes after it, with the status and what is written.
 const MEMBERS: &[(&str, &str, Status, &str)] = &[
     (FROM_TWO, TWO_SNAPSHOTS, Status::Ok, FROM_TWO_PAGES),
     (
@@ -103,7 +103,7 @@ const MEMBERS: &[(&str, &str, Status, &str)] = &[
     ),
 ];
 
-// The name and the size of a header and what stands behind it, with the status and what is written.
+// The name and the size of a header and what comes after it, with the status and what is written.
 const ANSWERS: &[(&str, u32, &str, Status, &str)] = &[
     ("g", 10, "", Status::Ok, "{\"ended\":false}\n"),
     ("g", 10, TWICE, Status::Ok, PAGE),
@@ -195,9 +195,9 @@ fn run_words<R: Source, W: Sink>(
     Ok(run_uncounted(alloc, &texts, builders, source, sink))
 }
 
-// The text of a header and what stands behind it.
-fn input(alloc: Global, name: &str, size: u32, behind: &str) -> Result<String, Fail> {
-    input_with(alloc, name, size, "", behind)
+// The text of a header and what comes after it.
+fn input(alloc: Global, name: &str, size: u32, lines: &str) -> Result<String, Fail> {
+    input_with(alloc, name, size, "", lines)
 }
 
 // The same, with further members of the header.
@@ -206,12 +206,12 @@ fn input_with(
     name: &str,
     size: u32,
     members: &str,
-    behind: &str,
+    lines: &str,
 ) -> Result<String, Fail> {
     let end = format!(in alloc;
         "{size}}}}}}},\"name\":\"{name}\",\"schema\":[\"a\",\"b\"]{members}}}"
     )?;
-    Ok(format!(in alloc; "{COMPOSITE}{end}{behind}")?)
+    Ok(format!(in alloc; "{COMPOSITE}{end}{lines}")?)
 }
 
 // A source that gives the bytes of a text.
@@ -239,8 +239,8 @@ fn expect_answer(
 
 #[test]
 fn answers_each_input(rt: HostRuntime) -> Result<(), Fail> {
-    for &(name, size, behind, status, output) in ANSWERS {
-        let text = input(rt.alloc(), name, size, behind)?;
+    for &(name, size, lines, status, output) in ANSWERS {
+        let text = input(rt.alloc(), name, size, lines)?;
         expect_answer(&rt, &text, status, output)?;
     }
     Ok(())
@@ -248,49 +248,50 @@ fn answers_each_input(rt: HostRuntime) -> Result<(), Fail> {
 
 #[test]
 fn heeds_each_member_of_a_header(rt: HostRuntime) -> Result<(), Fail> {
-    for &(members, behind, status, output) in MEMBERS {
-        let text = input_with(rt.alloc(), "g", 2, members, behind)?;
+    for &(members, lines, status, output) in MEMBERS {
+        let text = input_with(rt.alloc(), "g", 2, members, lines)?;
         expect_answer(&rt, &text, status, output)?;
     }
     Ok(())
 }
 
-// A run over a text, of which a read fails, has this status and writes nothing.
-fn expect_nothing(
+// A source that gives the bytes of a text, but for one read, which fails.
+fn breaking(alloc: Global, text: &str, failing: u64) -> Result<MemorySource, Fail> {
+    let bytes = text.as_bytes().to_vec(alloc)?;
+    Ok(MemorySource::new(bytes, vec![in alloc; failing]?))
+}
+
+// A run over a source has this status and writes nothing.
+fn expect_nothing<R: Source>(
     rt: &(impl Abort + AllocGlobal),
-    text: &str,
-    failing: u64,
+    source: &mut R,
     status: Status,
 ) -> Result<(), Fail> {
     let alloc = rt.alloc();
-    let bytes = text.as_bytes().to_vec(alloc)?;
-    let mut source = MemorySource::new(bytes, vec![in alloc; failing]?);
     let mut sink = MemorySink::new(alloc, Vec::new(alloc))?;
-    let answer = run_words(alloc, &["walk"], &mut source, &mut sink)?;
-    assert_eq!(rt;
-        (answer, sink.bytes().len()),
-        (status, 0),
-        "where read {failing} fails"
-    );
+    let answer = run_words(alloc, &["walk"], source, &mut sink)?;
+    assert_eq!(rt; (answer, sink.bytes().len()), (status, 0));
     Ok(())
 }
 
 #[test]
 fn writes_nothing_where_no_input_was_read(rt: HostRuntime) -> Result<(), Fail> {
-    let whole = input(rt.alloc(), "g", 10, TWICE)?;
-    expect_nothing(&rt, &whole, 1, Status::ReadFault)?;
-    expect_nothing(&rt, &whole, 2, Status::ReadFault)?;
-    expect_nothing(&rt, "{\"request\":{\"g\"", 3, Status::Input)
+    let alloc = rt.alloc();
+    let whole = input(alloc, "g", 10, TWICE)?;
+    for (text, failing, status) in [
+        (whole.as_str(), 1, Status::ReadFault),
+        (whole.as_str(), 2, Status::ReadFault),
+        ("{\"request\":{\"g\"", 3, Status::Input),
+    ] {
+        expect_nothing(&rt, &mut breaking(alloc, text, failing)?, status)?;
+    }
+    Ok(())
 }
 
 #[test]
 fn refuses_one_byte_past_the_limit(rt: HostRuntime) -> Result<(), Fail> {
-    let alloc = rt.alloc();
-    let mut source = SteadySource::new(vec![in alloc; b' '; MAX_INPUT_BYTES + 1]?);
-    let mut sink = MemorySink::new(alloc, Vec::new(alloc))?;
-    let answer = run_words(alloc, &["walk"], &mut source, &mut sink)?;
-    assert_eq!(rt; (answer, sink.bytes().len()), (Status::Input, 0));
-    Ok(())
+    let blanks = vec![in rt.alloc(); b' '; MAX_INPUT_BYTES + 1]?;
+    expect_nothing(&rt, &mut SteadySource::new(blanks), Status::Input)
 }
 
 // A call of a sink that takes a few bytes at a time, the status of a run where it fails, and what
@@ -305,48 +306,66 @@ const HELD: &[(u64, Status, &str)] = &[
     (100, Status::Ok, PAGE),
 ];
 
+// A run over a text holds what was taken before one write failed.
+fn expect_held(
+    rt: &(impl Abort + AllocGlobal),
+    text: &str,
+    call: u64,
+    status: Status,
+    held: &str,
+) -> Result<(), Fail> {
+    let alloc = rt.alloc();
+    let mut source = Drip(steady(alloc, text)?);
+    let mut sink = Sip(MemorySink::new(alloc, vec![in alloc; call]?)?);
+    let answer = run_words(alloc, &["walk"], &mut source, &mut sink)?;
+    assert_eq!(rt;
+        (answer, sink.0.bytes()),
+        (status, held.as_bytes()),
+        "at write {call}"
+    );
+    Ok(())
+}
+
 #[test]
 fn holds_what_was_taken_before_a_write_failed(rt: HostRuntime) -> Result<(), Fail> {
-    let alloc = rt.alloc();
-    let text = input(alloc, "g", 10, TWICE)?;
+    let text = input(rt.alloc(), "g", 10, TWICE)?;
     for &(call, status, held) in HELD {
-        let mut source = Drip(steady(alloc, &text)?);
-        let mut sink = Sip(MemorySink::new(alloc, vec![in alloc; call]?)?);
-        let answer = run_words(alloc, &["walk"], &mut source, &mut sink)?;
-        assert_eq!(rt;
-            (answer, sink.0.bytes()),
-            (status, held.as_bytes()),
-            "at write {call}"
-        );
+        expect_held(&rt, &text, call, status, held)?;
     }
     Ok(())
 }
 
-// Fills a sink until it has room for so many bytes.
-fn fill(rt: &(impl Abort + AllocGlobal), sink: &mut MemorySink, room: usize) -> Result<(), Fail> {
-    let filler = vec![in rt.alloc(); b'.'; MemorySink::ROOM.saturating_sub(room)]?;
-    assert_eq!(rt; write_all(sink, &filler), Ok(()));
+// A sink that has room for so many bytes.
+fn nearly_full(rt: &(impl Abort + AllocGlobal), room: usize) -> Result<MemorySink, Fail> {
+    let alloc = rt.alloc();
+    let mut sink = MemorySink::new(alloc, Vec::new(alloc))?;
+    let filler = vec![in alloc; b'.'; MemorySink::ROOM.saturating_sub(room)]?;
+    assert_eq!(rt; write_all(&mut sink, &filler), Ok(()));
+    Ok(sink)
+}
+
+// A run over a text fills a sink, whose last bytes are these.
+fn expect_full(
+    rt: &(impl Abort + AllocGlobal),
+    text: &str,
+    sink: &mut MemorySink,
+    last: &str,
+) -> Result<(), Fail> {
+    let alloc = rt.alloc();
+    let answer = run_words(alloc, &["walk"], &mut steady(alloc, text)?, sink)?;
+    let found = (sink.bytes().len(), sink.bytes().ends_with(last.as_bytes()));
+    assert_eq!(rt;
+        (answer, found),
+        (Status::WriteFault, (MemorySink::ROOM, true))
+    );
     Ok(())
 }
 
 #[test]
 fn fills_a_sink_to_its_last_byte(rt: HostRuntime) -> Result<(), Fail> {
-    let alloc = rt.alloc();
-    let text = input(alloc, "g", 10, TWICE)?;
-    for (room, held) in [(0, ""), (5, "{\"pag")] {
-        let mut sink = MemorySink::new(alloc, Vec::new(alloc))?;
-        fill(&rt, &mut sink, room)?;
-        let answer = run_words(alloc, &["walk"], &mut steady(alloc, &text)?, &mut sink)?;
-        let found = (
-            answer,
-            sink.bytes().len(),
-            sink.bytes().ends_with(held.as_bytes()),
-        );
-        assert_eq!(rt;
-            found,
-            (Status::WriteFault, MemorySink::ROOM, true),
-            "with room for {room}"
-        );
+    let text = input(rt.alloc(), "g", 10, TWICE)?;
+    for (room, last) in [(0, ""), (5, "{\"pag")] {
+        expect_full(&rt, &text, &mut nearly_full(&rt, room)?, last)?;
     }
     Ok(())
 }
@@ -354,23 +373,20 @@ fn fills_a_sink_to_its_last_byte(rt: HostRuntime) -> Result<(), Fail> {
 // Runs arguments that are no command, where the first read and the first write would fail.
 fn expect_usage(rt: &(impl Abort + AllocGlobal), words: &[&str]) -> Result<(), Fail> {
     let alloc = rt.alloc();
-    let bytes = input(alloc, "g", 10, TWICE)?.into_bytes();
-    let mut source = MemorySource::new(bytes, vec![in alloc; 1]?);
+    let mut source = breaking(alloc, &input(alloc, "g", 10, TWICE)?, 1)?;
     let mut sink = MemorySink::new(alloc, vec![in alloc; 1]?)?;
-    assert_eq!(rt;
-        run_words(alloc, words, &mut source, &mut sink)?,
-        Status::Usage
-    );
+    let status = run_words(alloc, words, &mut source, &mut sink)?;
 
     // Those calls are still to come.
-    assert_eq!(rt; source.read(&mut [0]), Err(Failed));
-    assert_eq!(rt; sink.write(b"."), Err(Failed));
+    let left = (source.read(&mut [0]), sink.write(b"."));
+    assert_eq!(rt; (status, left), (Status::Usage, (Err(Failed), Err(Failed))));
     Ok(())
 }
 
 #[test]
 fn touches_nothing_where_the_arguments_are_no_command(rt: HostRuntime) -> Result<(), Fail> {
-    expect_usage(&rt, &[])?;
-    expect_usage(&rt, &["Walk"])?;
-    expect_usage(&rt, &["walk", "x"])
+    for words in [[].as_slice(), ["Walk"].as_slice(), ["walk", "x"].as_slice()] {
+        expect_usage(&rt, words)?;
+    }
+    Ok(())
 }

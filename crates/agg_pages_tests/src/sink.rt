@@ -6,9 +6,11 @@ use std::test::Fail;
 fn fails_at_the_first_write_alone(rt: HostRuntime) -> Result<(), Fail> {
     let failing = vec![in rt.alloc(); 1]?;
     let mut sink = MemorySink::new(rt.alloc(), failing)?;
-    assert_eq!(rt; write_all(&mut sink, b"lost"), Err(Failed));
-    assert_eq!(rt; write_all(&mut sink, b"kept"), Ok(()));
-    assert_eq!(rt; sink.bytes(), b"kept".as_slice());
+    let answers = (write_all(&mut sink, b"lost"), write_all(&mut sink, b"kept"));
+    assert_eq!(rt;
+        (answers, sink.bytes()),
+        ((Err(Failed), Ok(())), b"kept".as_slice())
+    );
     Ok(())
 }
 
@@ -16,11 +18,10 @@ fn fails_at_the_first_write_alone(rt: HostRuntime) -> Result<(), Fail> {
 fn a_full_sink_takes_no_byte(rt: HostRuntime) -> Result<(), Fail> {
     let mut sink = MemorySink::new(rt.alloc(), Vec::new(rt.alloc()))?;
     let most = vec![in rt.alloc(); 7; MemorySink::ROOM - 1]?;
-    assert_eq!(rt; write_all(&mut sink, &most), Ok(()));
-    assert_eq!(rt; sink.write(b"ab"), Ok(1));
-    assert_eq!(rt; sink.write(b"b"), Err(Failed));
-    assert_eq!(rt; sink.write(b""), Ok(0));
-    assert_eq!(rt; sink.bytes().len(), MemorySink::ROOM);
-    assert_eq!(rt; sink.bytes().last(), Some(&b'a'));
+    let filled = write_all(&mut sink, &most);
+    let answers = [sink.write(b"ab"), sink.write(b"b"), sink.write(b"")];
+    let end = (sink.bytes().len(), sink.bytes().last());
+    assert_eq!(rt; (filled, answers), (Ok(()), [Ok(1), Err(Failed), Ok(0)]));
+    assert_eq!(rt; end, (MemorySink::ROOM, Some(&b'a')));
     Ok(())
 }

@@ -1,5 +1,5 @@
 //! Pages over the documents of several segments, however these are cut.
-use super::sources::{ASCENDING, DESCENDING, expect};
+use super::sources::{ASCENDING, DESCENDING, expect, expect_buckets};
 use agg_pages::Status;
 use std::alloc::Global;
 use std::test::Fail;
@@ -68,13 +68,8 @@ fn snapshot_lines(alloc: Global, cut: &str) -> Result<String, Fail> {
 
 #[test]
 fn pages_over_segments(rt: HostRuntime) -> Result<(), Fail> {
-    let alloc = rt.alloc();
     for &(sources, after, segments, bucket) in BUCKETS {
-        let behind = format!(in alloc; "\nsnapshot 10\n{segments}")?;
-        let page = format!(in alloc;
-            "{{\"page\":1,\"results\":{{\"g\":{{\"buckets\":[{bucket}]}}}}}}\n{{\"ended\":true}}\n"
-        )?;
-        expect(&rt, sources, after, &behind, Status::Ok, &page)?;
+        expect_buckets(&rt, (sources, after), segments, bucket)?;
     }
     Ok(())
 }
@@ -83,7 +78,7 @@ fn pages_over_segments(rt: HostRuntime) -> Result<(), Fail> {
 fn pages_alike_over_each_cut(rt: HostRuntime) -> Result<(), Fail> {
     for &cut in CUTS {
         let snapshots = snapshot_lines(rt.alloc(), cut)?.repeat(rt.alloc(), 3)?;
-        expect(&rt, ASCENDING, "{}", &snapshots, Status::Ok, THREE_PAGES)?;
+        expect(&rt, (ASCENDING, "{}"), &snapshots, Status::Ok, THREE_PAGES)?;
     }
     Ok(())
 }

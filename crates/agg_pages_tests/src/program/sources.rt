@@ -1,4 +1,4 @@
-//! Pages over several sources, over values of every class, and behind after keys.
+//! Pages over several sources, over values of every class, and past after keys.
 use super::expect_answer;
 use agg_pages::Status;
 use std::process::Abort;
@@ -135,12 +135,11 @@ const FAULTS: &[(&str, &str, &str)] = &[
     (ASCENDING, r#"{"a":"null:"}"#, "NullAfter"),
 ];
 
-// Runs a composite of ten groups a page over what stands behind its header.
+// Runs a composite, which has these sources and this after key, over what comes after its header.
 pub(super) fn expect(
     rt: &(impl Abort + AllocGlobal),
-    sources: &str,
-    after: &str,
-    behind: &str,
+    (sources, after): (&str, &str),
+    lines: &str,
     status: Status,
     output: &str,
 ) -> Result<(), Fail> {
@@ -149,31 +148,50 @@ pub(super) fn expect(
         "{{\"composite\":{{\"sources\":[{sources}],\"size\":10,\"after\":{after}}}}}"
     )?;
     let text = format!(in alloc;
-        "{{\"request\":{{\"g\":{composite}}},\"name\":\"g\",\"schema\":[]}}{behind}"
+        "{{\"request\":{{\"g\":{composite}}},\"name\":\"g\",\"schema\":[]}}{lines}"
     )?;
     expect_answer(rt, &text, status, output)
 }
 
+// The page of such a composite over these documents has room left, and these buckets.
+pub(super) fn expect_buckets(
+    rt: &(impl Abort + AllocGlobal),
+    composite: (&str, &str),
+    documents: &str,
+    buckets: &str,
+) -> Result<(), Fail> {
+    let alloc = rt.alloc();
+    let lines = format!(in alloc; "\nsnapshot 10\n{documents}")?;
+    let page = format!(in alloc;
+        "{{\"page\":1,\"results\":{{\"g\":{{\"buckets\":[{buckets}]}}}}}}\n{{\"ended\":true}}\n"
+    )?;
+    expect(rt, composite, &lines, Status::Ok, &page)
+}
+
+// Such a composite is refused for this fault.
+pub(super) fn expect_fault(
+    rt: &(impl Abort + AllocGlobal),
+    composite: (&str, &str),
+    lines: &str,
+    fault: &str,
+) -> Result<(), Fail> {
+    let output = format!(in rt.alloc(); "error: {fault}\n")?;
+    expect(rt, composite, lines, Status::Refused, &output)
+}
+
 #[test]
 fn answers_each_composite(rt: HostRuntime) -> Result<(), Fail> {
-    let alloc = rt.alloc();
     for &(sources, after, documents, buckets) in PAGES {
-        let behind = format!(in alloc; "\nsnapshot 10\n{documents}")?;
-        let page = format!(in alloc;
-            "{{\"page\":1,\"results\":{{\"g\":{{\"buckets\":[{buckets}]}}}}}}\n{{\"ended\":true}}\n"
-        )?;
-        expect(&rt, sources, after, &behind, Status::Ok, &page)?;
+        expect_buckets(&rt, (sources, after), documents, buckets)?;
     }
-    expect(&rt, ASCENDING, "{}", ALIKE, Status::Ok, ALIKE_PAGES)
+    expect(&rt, (ASCENDING, "{}"), ALIKE, Status::Ok, ALIKE_PAGES)
 }
 
 #[test]
 fn refuses_each_fault(rt: HostRuntime) -> Result<(), Fail> {
-    let alloc = rt.alloc();
     for &(sources, after, fault) in FAULTS {
-        let output = format!(in alloc; "error: {fault}\n")?;
-        for behind in ["", "\nsnapshot 10\n{\"a\":1}"] {
-            expect(&rt, sources, after, behind, Status::Refused, &output)?;
+        for lines in ["", "\nsnapshot 10\n{\"a\":1}"] {
+            expect_fault(&rt, (sources, after), lines, fault)?;
         }
     }
     Ok(())
@@ -184,13 +202,6 @@ fn refuses_each_fault(rt: HostRuntime) -> Result<(), Fail> {
 fn refuses_too_many_pairs(rt: HostRuntime) -> Result<(), Fail> {
     let alloc = rt.alloc();
     let values = "1,".repeat(alloc, 65_535)?;
-    let behind = format!(in alloc; "\nsnapshot 10\n{{\"a\":[{values}1],\"b\":[{values}1]}}")?;
-    expect(
-        &rt,
-        BOTH,
-        "{}",
-        &behind,
-        Status::Refused,
-        "error: TooMany\n",
-    )
+    let lines = format!(in alloc; "\nsnapshot 10\n{{\"a\":[{values}1],\"b\":[{values}1]}}")?;
+    expect_fault(&rt, (BOTH, "{}"), &lines, "TooMany")
 }

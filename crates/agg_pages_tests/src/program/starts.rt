@@ -1,5 +1,5 @@
 //! Pages over the starts of numbers and dates.
-use super::sources::expect;
+use super::sources::{expect, expect_buckets, expect_fault};
 use agg_pages::Status;
 use std::test::Fail;
 
@@ -169,39 +169,26 @@ const OUT_OF_RANGE: &[(&str, &str)] = &[
     ),
 ];
 
-#[test]
-fn answers_each_start(rt: HostRuntime) -> Result<(), Fail> {
-    let alloc = rt.alloc();
-    for &(sources, after, documents, buckets) in PAGES {
-        let behind = format!(in alloc; "\nsnapshot 10\n{documents}")?;
-        let page = format!(in alloc;
-            "{{\"page\":1,\"results\":{{\"g\":{{\"buckets\":[{buckets}]}}}}}}\n{{\"ended\":true}}\n"
-        )?;
-        expect(&rt, sources, after, &behind, Status::Ok, &page)?;
-    }
-    expect(
-        &rt,
-        DAYS,
-        "{}",
-        "\nsnapshot 1\n{\"d\":{\"dt\":-1}}",
-        Status::Ok,
-        FULL_DAY,
-    )
-}
-
 // A full page of one day, with its after key.
 const FULL_DAY: &str = "{\"page\":1,\"results\":{\"g\":{\
     \"after_key\":{\"d\":\"dt:-86400000000000\"},\
     \"buckets\":[{\"doc_count\":1,\"key\":{\"d\":-86400000}}]}}}\n{\"ended\":false}\n";
 
 #[test]
+fn answers_each_start(rt: HostRuntime) -> Result<(), Fail> {
+    for &(sources, after, documents, buckets) in PAGES {
+        expect_buckets(&rt, (sources, after), documents, buckets)?;
+    }
+    let lines = "\nsnapshot 1\n{\"d\":{\"dt\":-1}}";
+    expect(&rt, (DAYS, "{}"), lines, Status::Ok, FULL_DAY)
+}
+
+#[test]
 fn refuses_each_interval(rt: HostRuntime) -> Result<(), Fail> {
-    let alloc = rt.alloc();
     for &(kind, after, fault) in FAULTS {
-        let sources = format!(in alloc; "{{\"a\":{kind}}}")?;
-        let output = format!(in alloc; "error: {fault}\n")?;
-        for behind in ["", "\nsnapshot 10\n{\"a\":1}"] {
-            expect(&rt, &sources, after, behind, Status::Refused, &output)?;
+        let sources = format!(in rt.alloc(); "{{\"a\":{kind}}}")?;
+        for lines in ["", "\nsnapshot 10\n{\"a\":1}"] {
+            expect_fault(&rt, (&sources, after), lines, fault)?;
         }
     }
     Ok(())
@@ -209,11 +196,9 @@ fn refuses_each_interval(rt: HostRuntime) -> Result<(), Fail> {
 
 #[test]
 fn refuses_starts_out_of_range(rt: HostRuntime) -> Result<(), Fail> {
-    let alloc = rt.alloc();
     for &(sources, documents) in OUT_OF_RANGE {
-        let behind = format!(in alloc; "\nsnapshot 10\n{documents}")?;
-        let output = "error: BucketOutOfRange\n";
-        expect(&rt, sources, "{}", &behind, Status::Refused, output)?;
+        let lines = format!(in rt.alloc(); "\nsnapshot 10\n{documents}")?;
+        expect_fault(&rt, (sources, "{}"), &lines, "BucketOutOfRange")?;
     }
     Ok(())
 }

@@ -1,4 +1,4 @@
-use agg_pages::input::{Input, InputError, read_input};
+use agg_input::{Input, InputError, read_input};
 use agg_request::NamedBuilder;
 use agg_segment::{ColumnType, SegmentReader};
 use agg_values::Text;
@@ -128,8 +128,8 @@ const SEGMENTS: &[(&str, &[u32])] = &[
     ("{}\n{}\nsegment\n{}\n{}\n{}", &[2, 3]),
 ];
 
-// What stands behind a header, and is no list of snapshots.
-const BEHIND: &[&str] = &[
+// What comes after a header, and is no list of snapshots.
+const AFTER: &[&str] = &[
     "{\"A\":1}",
     "{}",
     "snapshot",
@@ -189,26 +189,34 @@ fn expect_snapshots(
     Ok(())
 }
 
-#[test]
-fn reads(rt: HostRuntime) -> Result<(), Fail> {
-    let text = format!(in rt.alloc();
-        "\n{REQUEST}{SCHEMA}\r\nsnapshot 2\n{{\"A\":1,\"B\":[2,-3]}}\n \t\n{{}}\nsnapshot 07\n"
-    )?;
-    let input = read_text(rt.alloc(), &text)?;
+// An input has one aggregation, one field and these two snapshots.
+fn expect_two_snapshots(rt: &(impl Abort + AllocGlobal), input: &Input) -> Result<(), Fail> {
     let header = &input.header;
     assert_eq!(rt;
         (header.request.len(), header.schema.fields().len()),
         (1, 1)
     );
-    expect_snapshots(&rt, &input, &[(2, &[2]), (7, &[])])
+    expect_snapshots(rt, input, &[(2, &[2]), (7, &[])])
+}
+
+#[test]
+fn reads(rt: HostRuntime) -> Result<(), Fail> {
+    let text = format!(in rt.alloc();
+        "\n{REQUEST}{SCHEMA}\r\nsnapshot 2\n{{\"A\":1,\"B\":[2,-3]}}\n \t\n{{}}\nsnapshot 07\n"
+    )?;
+    expect_two_snapshots(&rt, &read_text(rt.alloc(), &text)?)
+}
+
+// A text is an input of one snapshot, whose segments have so many documents.
+fn expect_counts(rt: &(impl Abort + AllocGlobal), text: &str, counts: &[u32]) -> Result<(), Fail> {
+    expect_snapshots(rt, &read_text(rt.alloc(), text)?, &[(1, counts)])
 }
 
 #[test]
 fn reads_segments(rt: HostRuntime) -> Result<(), Fail> {
-    let alloc = rt.alloc();
     for &(lines, counts) in SEGMENTS {
-        let text = format!(in alloc; "{REQUEST}{SCHEMA}\nsnapshot 1\n{lines}")?;
-        expect_snapshots(&rt, &read_text(alloc, &text)?, &[(1, counts)])?;
+        let text = format!(in rt.alloc(); "{REQUEST}{SCHEMA}\nsnapshot 1\n{lines}")?;
+        expect_counts(&rt, &text, counts)?;
     }
     Ok(())
 }
@@ -224,19 +232,23 @@ fn expect_kinds(rt: &(impl Abort + AllocGlobal), segment: &SegmentReader) -> Res
     Ok(())
 }
 
+// An input has one segment of one document, which has a value of each type.
+fn expect_every_kind(rt: &(impl Abort + AllocGlobal), input: &Input) -> Result<(), Fail> {
+    expect_snapshots(rt, input, &[(1, &[1])])?;
+    for snapshot in input.snapshots.as_slice() {
+        for segment in snapshot.segments.as_slice() {
+            expect_kinds(rt, segment)?;
+        }
+    }
+    Ok(())
+}
+
 #[test]
 fn reads_every_kind_of_value(rt: HostRuntime) -> Result<(), Fail> {
     let alloc = rt.alloc();
     let document = r#"{"B":[{"dt":1},{"ip":"::"},1,"a",null,true]}"#;
     let text = format!(in alloc; "{REQUEST}{SCHEMA}\nsnapshot 1\n{document}")?;
-    let input = read_text(alloc, &text)?;
-    expect_snapshots(&rt, &input, &[(1, &[1])])?;
-    for snapshot in input.snapshots.as_slice() {
-        for segment in snapshot.segments.as_slice() {
-            expect_kinds(&rt, segment)?;
-        }
-    }
-    Ok(())
+    expect_every_kind(&rt, &read_text(alloc, &text)?)
 }
 
 // A text is an input, or isn't.
@@ -248,8 +260,8 @@ fn expect(rt: &(impl Abort + AllocGlobal), text: &str, is_input: bool) -> Result
 
 #[test]
 fn tells_headers(rt: HostRuntime) -> Result<(), Fail> {
-    for &(behind, is_input) in HEADERS {
-        let text = format!(in rt.alloc(); "{REQUEST}{behind}")?;
+    for &(rest, is_input) in HEADERS {
+        let text = format!(in rt.alloc(); "{REQUEST}{rest}")?;
         expect(&rt, &text, is_input)?;
     }
     Ok(())
@@ -275,8 +287,8 @@ fn tells_documents(rt: HostRuntime) -> Result<(), Fail> {
 
 #[test]
 fn tells_snapshots(rt: HostRuntime) -> Result<(), Fail> {
-    for &behind in BEHIND {
-        let text = format!(in rt.alloc(); "{REQUEST}{SCHEMA}\n{behind}")?;
+    for &after in AFTER {
+        let text = format!(in rt.alloc(); "{REQUEST}{SCHEMA}\n{after}")?;
         expect(&rt, &text, false)?;
     }
     Ok(())
