@@ -5,7 +5,7 @@ use Rattle.agg_pages.specs.declared.status.Status.TheVariants.{Ok, Refused, Usag
 use Rattle.agg_pages.specs.declared.status.Status.TheVariants.{Input as NotInput, ReadFault}
 use Rattle.agg_pages.specs.declared.status.Status.TheVariants.{WriteFault, OutOfMemory}
 use Rattle.agg_pages.specs.Answer.{walk_arguments}
-use Rattle.agg_input.specs.Input.{Input, IsInput}
+use Rattle.agg_pages.specs.Input.{Input, IsInput}
 use Rattle.agg_pages.specs.Observed.{Observed, over}
 use Rattle.agg_pages.specs.Run.{GaveInput, IsAnswered, command}
 use Rattle.agg_embedding.specs.NoPages.{HaveNoPages}

@@ -5,10 +5,10 @@ use Rattle.agg_pages.specs.declared.status.Status.TheVariants.{Ok, Refused, Usag
 use Rattle.agg_pages.specs.declared.status.Status.TheVariants.{Input as NotInput, ReadFault}
 use Rattle.agg_pages.specs.declared.status.Status.TheVariants.{WriteFault, OutOfMemory}
 use Rattle.agg_pages.specs.Answer.{IsRefusal}
-use Rattle.agg_input.specs.Input.{AreNoInput, Input, IsInput}
+use Rattle.agg_pages.specs.Input.{AreNoInput, Input, IsInput}
 
 -- bytes have no pages, and a status says why: they are no input, or one whose walk may be refused,
--- or, at a write fault, one; want of memory is free, and no other status comes
+-- or, at a write fault, one; OutOfMemory needs no cause, and no other status comes
 abbrev pub HaveNoPages : {B : Type 0} → List B → (B → List ℕ) → List ℕ → Status → Type 0
 HaveNoPages builders name_of bytes NotInput = AreNoInput builders name_of bytes
 HaveNoPages {B = B} builders name_of bytes Refused =

@@ -4,7 +4,7 @@
 ghost use Rattle.std.specs.Prelude.{IfErr, IfOk};
 ghost use Rattle.agg_embedding.specs.NoPages.{HaveNoPages};
 ghost use Rattle.agg_pages.specs.Answer.{IsPrintedWalk};
-ghost use Rattle.agg_input.specs.Input.{Input, IsInput};
+ghost use Rattle.agg_pages.specs.Input.{Input, IsInput};
 
 use agg_pages::sink::{MemorySink, Sink, StdSink, write_all};
 use agg_pages::source::SteadySource;

@@ -6,3 +6,9 @@ pub mod Output
 pub mod Reading
 pub mod Run
 pub mod Status
+pub use Rattle.agg_input.specs.Header
+pub use Rattle.agg_input.specs.Input
+pub use Rattle.agg_input.specs.Lines
+pub use Rattle.agg_input.specs.PrintedAfterKeys
+pub use Rattle.agg_input.specs.SnapshotLines
+pub use Rattle.agg_document_json.specs.DocumentLine

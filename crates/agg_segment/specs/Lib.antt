@@ -4,3 +4,6 @@ pub mod Marks
 pub mod Query
 pub mod Segment
 pub mod Spans
+pub use Rattle.agg_column.specs.Columns
+pub use Rattle.agg_column.specs.Dictionary
+pub use Rattle.agg_column.specs.Document

@@ -1,6 +1,6 @@
 use Rattle.std.proofs.Common.{◌≡◌, ◌++◌, ◌∷◌, [], Some, ap, sym, ◌∙◌, subst}
 use Rattle.agg_pages.specs.Answer.{IsPrintedWalk}
-use Rattle.agg_input.specs.Input.{IsInput}
+use Rattle.agg_pages.specs.Input.{IsInput}
 use Rattle.agg_embedding.specs.NoPages.{HaveNoPages}
 use Rattle.agg_embedding.proofs.NoPages.{no_pages}
 use Rattle.agg_embedding.proofs.pages_of.Goals as goal
