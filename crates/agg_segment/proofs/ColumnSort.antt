@@ -6,7 +6,7 @@ use Rattle.std.specs.Prelude.{Bool, ◌==◌, ◌&&◌, nat_lt, nat_eq, not, fil
 use Rattle.std.specs.Ordering.{nat_cmp, ordering_then, is_lt}
 use Rattle.std.specs.Cmp.{IsStrictWeakOrder}
 use Rattle.std.specs.List.{All}
-use Rattle.std.specs.List.Sorted.{IsSortedBy, IsSortedByKey, IsStableByKey, ties}
+use Rattle.std.specs.List.Sorted.{IsSortedBy, IsStableBy, ties}
 use Rattle.std.proofs.lemmas.List.Sorted.{sorted_far, ranks_by}
 use Rattle.std.proofs.lemmas.Cmp.{then_total, on_total, nat_cmp_total}
 use Rattle.std.proofs.lemmas.Bool.{cases_order, cases_eq, eq-eqb, ne_eqb, cases_Bool}
@@ -15,16 +15,10 @@ use Rattle.std.proofs.lemmas.List.Elements.{filter_agree, filter-append}
 use Rattle.agg_values.specs.declared.column.ColumnPaginationOrder.{ColumnPaginationOrder}
 use Rattle.agg_values.specs.declared.column.ColumnPaginationOrder.TheVariants as class
 use Rattle.agg_values.specs.Column.{order_rank}
-use Rattle.agg_column.specs.CellOrder.{IsByRank}
 use Rattle.agg_segment.specs.Gatherings.{Raw, raws, column_raws, is_raw_of, is_column, AreAlike}
-use Rattle.agg_segment.specs.Gatherings.{AreSorted}
+use Rattle.agg_segment.specs.Gatherings.{AreSorted, column_cmp}
 use Rattle.agg_segment.specs.declared.gatherings.Gathering.{Gathering}
 use Rattle.agg_segment.proofs.Raws.{filter_none}
-
--- the order by field and class
-abbrev pub column_cmp : Gathering → Gathering → Ordering
-column_cmp c d = ordering_then (nat_cmp c.field d.field)
-    (nat_cmp (order_rank c.class) (order_rank d.class))
 
 -- what comes first in a comparison
 less_then : (f g : ℕ) (o : Ordering) → is_lt (ordering_then (nat_cmp g f) o) ≡ false
@@ -78,7 +72,7 @@ tie_is c d =
     (nat_cmp (order_rank d.class) (order_rank c.class))
     ∙ ap (λ r. (d.field == c.field) && r) (tie_last (order_rank c.class) (order_rank d.class))
 
-column_order : IsStrictWeakOrder (λ x y. is_lt (column_cmp x y))
+pub column_order : IsStrictWeakOrder (λ x y. is_lt (column_cmp x y))
 column_order = ranks_by (then_total (on_total (λ (c : Gathering). c.field) nat_cmp_total)
     (on_total (λ (c : Gathering). order_rank c.class) nat_cmp_total)) (λ (c : Gathering). c)
 
@@ -125,76 +119,63 @@ raws_of field rank doc (c ∷ columns) = elim (cases_Bool (is_column field rank 
       ∙ raws_of field rank doc columns)
 ]
 
-module _ {R : ℕ × ColumnPaginationOrder → ℕ × ColumnPaginationOrder → Ordering}
-    (law : IsByRank R) where
-  by_columns : (c d : Gathering) → R (c.field, c.class) (d.field, d.class) ≡ column_cmp c d
-  by_columns c d = law.is c.field c.class d.field d.class
+pub keys_sorted : (columns : List Gathering)
+    → IsSortedBy (λ x y. is_lt (column_cmp x y)) columns → AreSorted columns
+keys_sorted columns sorted i j d low within =
+    let c = get_or columns i d in
+    let e = get_or columns j d in
+    let first = less_then c.field e.field (nat_cmp (order_rank e.class) (order_rank c.class))
+    (sorted_far (λ x y. is_lt (column_cmp x y)) column_order columns sorted i j d low within) in
+    (first.0, λ same. less_last (order_rank c.class) (order_rank e.class) (first.1 same))
 
-  pub keys_sorted : (columns : List Gathering)
-      → IsSortedByKey (λ (x : Gathering). (x.field, x.class)) R columns → AreSorted columns
-  keys_sorted columns sorted i j d low within =
-      let up : IsSortedBy (λ x y. is_lt (column_cmp x y)) columns = λ k e from below.
-      ap is_lt (sym (by_columns (get_or columns (k + 1) e) (get_or columns k e)))
-      ∙ sorted k e from below in
-      let c = get_or columns i d in
-      let e = get_or columns j d in
-      let first = less_then c.field e.field (nat_cmp (order_rank e.class) (order_rank c.class))
-      (sorted_far (λ x y. is_lt (column_cmp x y)) column_order columns up i j d low within) in
-      (first.0, λ same. less_last (order_rank c.class) (order_rank e.class) (first.1 same))
+-- ties are those of a column of the class
+of_class : (field : ℕ) (k : ColumnPaginationOrder) (old new : List Gathering)
+    → IsStableBy (λ x y. is_lt (column_cmp x y)) old new
+    → filter (is_column field (order_rank k)) new ≡ filter (is_column field (order_rank k)) old
+of_class field k old new stable =
+    let w : Gathering = record { field = field; class = k; before = 0; rows = [] } in
+    sym (filter_agree _ (is_column field (order_rank k)) (tie_is w) new) ∙ stable w
+    ∙ filter_agree _ (is_column field (order_rank k)) (tie_is w) old
 
-  -- ties are those of a column of the class
-  of_class : (field : ℕ) (k : ColumnPaginationOrder) (old new : List Gathering)
-      → IsStableByKey (λ (x : Gathering). (x.field, x.class)) R old new
-      → filter (is_column field (order_rank k)) new ≡ filter (is_column field (order_rank k)) old
-  of_class field k old new stable =
-      let w : Gathering = record { field = field; class = k; before = 0; rows = [] } in
-      let same : (x : Gathering)
-      → ties (λ x y. is_lt (R (x.field, x.class) (y.field, y.class))) w x
-      ≡ is_column field (order_rank k) x =
-      λ x. rw (by_columns w x, by_columns x w) (tie_is w x)
-      in
-      sym (filter_agree _ (is_column field (order_rank k)) same new) ∙ stable w
-      ∙ filter_agree _ (is_column field (order_rank k)) same old
+none_of_rank : (field rank : ℕ) (columns : List Gathering)
+    → ((k : ColumnPaginationOrder) → order_rank k ≢ rank)
+    → filter (is_column field rank) columns ≡ []
+none_of_rank field rank columns none = filter_none (is_column field rank) columns (λ k d l.
+    rw (ne_eqb (order_rank (get_or columns k d).class) rank (none (get_or columns k d).class))
+    (both_no ((get_or columns k d).field == field)))
+  where
+    both_no : (b : Bool) → b && false ≡ false
+    both_no true = refl
+    both_no false = refl
 
-  none_of_rank : (field rank : ℕ) (columns : List Gathering)
-      → ((k : ColumnPaginationOrder) → order_rank k ≢ rank)
-      → filter (is_column field rank) columns ≡ []
-  none_of_rank field rank columns none = filter_none (is_column field rank) columns (λ k d l.
-      rw (ne_eqb (order_rank (get_or columns k d).class) rank (none (get_or columns k d).class))
-      (both_no ((get_or columns k d).field == field)))
-    where
-      both_no : (b : Bool) → b && false ≡ false
-      both_no true = refl
-      both_no false = refl
-
-  pub columns_stable : (old new : List Gathering)
-      → IsStableByKey (λ (x : Gathering). (x.field, x.class)) R old new
-      → (field rank : ℕ) → filter (is_column field rank) new ≡ filter (is_column field rank) old
-  columns_stable old new stable field rank = elim (cases_eq rank 1) [
-    | inl one ↦ rw one (of_class field class.Bool old new stable)
-    | inr not1 ↦ elim (cases_eq rank 2) [
-      | inl two ↦ rw two (of_class field class.Str old new stable)
-      | inr not2 ↦ elim (cases_eq rank 3) [
-        | inl three ↦ rw three (of_class field class.Numeric old new stable)
-        | inr not3 ↦ elim (cases_eq rank 4) [
-          | inl four ↦ rw four (of_class field class.IpAddr old new stable)
-          | inr not4 ↦ elim (cases_eq rank 5) [
-            | inl five ↦ rw five (of_class field class.DateTime old new stable)
-            | inr not5 ↦
-                let none = no_class rank not1 not2 not3 not4 not5 in
-                none_of_rank field rank new none ∙ sym (none_of_rank field rank old none)
-          ]
+pub columns_stable : (old new : List Gathering)
+    → IsStableBy (λ x y. is_lt (column_cmp x y)) old new
+    → (field rank : ℕ) → filter (is_column field rank) new ≡ filter (is_column field rank) old
+columns_stable old new stable field rank = elim (cases_eq rank 1) [
+  | inl one ↦ rw one (of_class field class.Bool old new stable)
+  | inr not1 ↦ elim (cases_eq rank 2) [
+    | inl two ↦ rw two (of_class field class.Str old new stable)
+    | inr not2 ↦ elim (cases_eq rank 3) [
+      | inl three ↦ rw three (of_class field class.Numeric old new stable)
+      | inr not3 ↦ elim (cases_eq rank 4) [
+        | inl four ↦ rw four (of_class field class.IpAddr old new stable)
+        | inr not4 ↦ elim (cases_eq rank 5) [
+          | inl five ↦ rw five (of_class field class.DateTime old new stable)
+          | inr not5 ↦
+              let none = no_class rank not1 not2 not3 not4 not5 in
+              none_of_rank field rank new none ∙ sym (none_of_rank field rank old none)
         ]
       ]
     ]
   ]
+]
 
-  -- sorted columns have the same numbers of each document, in the same order
-  pub keys_alike : (old new : List Gathering)
-      → IsStableByKey (λ (x : Gathering). (x.field, x.class)) R old new
-      → AreAlike (raws new) (raws old)
-  keys_alike old new stable field rank doc =
-      raws_of field rank doc new
-      ∙ ap (λ cs. filter (is_raw_of field rank doc) (raws cs))
-      (columns_stable old new stable field rank)
-      ∙ sym (raws_of field rank doc old)
+-- sorted columns have the same numbers of each document, in the same order
+pub keys_alike : (old new : List Gathering)
+    → IsStableBy (λ x y. is_lt (column_cmp x y)) old new
+    → AreAlike (raws new) (raws old)
+keys_alike old new stable field rank doc =
+    raws_of field rank doc new
+    ∙ ap (λ cs. filter (is_raw_of field rank doc) (raws cs))
+    (columns_stable old new stable field rank)
+    ∙ sym (raws_of field rank doc old)

@@ -4,6 +4,8 @@ use Rattle.std.specs.Prelude.{ℕ, Bool, List, ◌∷◌, ◌++◌, length, get_
 use Rattle.std.specs.Prelude.{if◌then◌else◌, nat_lt}
 use Rattle.std.specs.List.{All, AllPairs, AllZip, Contains}
 use Rattle.std.specs.Map.{values_of}
+use Rattle.std.specs.Ordering.{nat_cmp, ordering_then}
+use Rattle.std.specs.declared.cmp.Ordering.{Ordering}
 use Rattle.agg_values.specs.declared.address.Address.{Address}
 use Rattle.agg_values.specs.declared.column.ColumnPaginationOrder.{ColumnPaginationOrder}
 use Rattle.agg_values.specs.declared.column.ColumnPaginationOrder.TheVariants as class
@@ -137,6 +139,11 @@ IsRaw texts addresses class.Str n = n < texts
 IsRaw texts addresses class.Numeric n = n < 2 ^ 64
 IsRaw texts addresses class.IpAddr n = n < addresses
 IsRaw texts addresses class.DateTime n = n < 2 ^ 64
+
+-- how columns stand by their fields, and those of one field by their classes
+abbrev pub column_cmp : Gathering → Gathering → Ordering
+column_cmp c d =
+    ordering_then (nat_cmp c.field d.field) (nat_cmp (order_rank c.class) (order_rank d.class))
 
 -- columns by field and class
 abbrev pub AreSorted : List Gathering → Type 0

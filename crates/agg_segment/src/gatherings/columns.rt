@@ -7,7 +7,6 @@ ghost use Rattle.agg_values.specs.Names.{name_cmp};
 ghost use Rattle.std.specs.declared.cmp.Ordering.TheVariants.{Less};
 ghost use Rattle.agg_column.specs.Document.{by_class};
 ghost use Rattle.agg_column.specs.Cells.{keys_at};
-ghost use Rattle.agg_column.specs.CellOrder.{IsByRank};
 ghost use Rattle.agg_values.specs.Column.{order_rank};
 ghost use Rattle.agg_column.specs.Signs.{key_mark, AreSigns};
 ghost use Rattle.agg_column.specs.Columns.{column_cells, encoded_key, keys_rank, type_of};
@@ -15,7 +14,7 @@ ghost use Rattle.agg_column.specs.Columns.{AreInOrder};
 ghost use Rattle.agg_segment.specs.Gatherings.{raws, raw_placed};
 ghost use Rattle.agg_column.specs.GatheredNumbers.{raw_key, keyed_rows};
 ghost use Rattle.agg_segment.specs.Gatherings.{kind_of, IsRaw};
-ghost use Rattle.agg_segment.specs.Gatherings.{is_column, AreAlike, AreSorted};
+ghost use Rattle.agg_segment.specs.Gatherings.{column_cmp, is_column, AreAlike, AreSorted};
 ghost use Rattle.agg_column.specs.GatheredNumbers.{IsEncodable};
 ghost use Rattle.agg_segment.specs.Gatherings.{IsWide, AreWide, gathering_classes, column_classes};
 ghost use Rattle.agg_column.specs.Dictionary.{address_at, last_text};
@@ -27,6 +26,7 @@ use super::{Gathering, Gatherings};
 use agg_column::{AddressList, Column, ColumnKeys, Dictionary, Sign};
 use agg_values::{Address, ColumnPaginationOrder, OutOfMemory, Text};
 use std::alloc::Global;
+use std::cmp::Ordering;
 
 impl Gatherings {
     /// The columns of the values, by field and class. The signs are those of the fields' numbers.
@@ -61,15 +61,16 @@ fn sort(columns: &mut Vec<Gathering>) -> Result<(), OutOfMemory>
     ensures alike { AreAlike (raws columns.new.items) (raws columns.old.items) }
     ensures sorted { OnOk result (AreSorted columns.new.items) }
 {
-    keys_are_by_rank();
-    columns.sort_by_key(|c| (c.field, c.class))?;
+    columns.sort_by(column_cmp)?;
     Ok(())
 }
 
-// The keys of the sort are ordered by field and class.
-fn keys_are_by_rank()
-    ensures { IsByRank ⟦<(u32, ColumnPaginationOrder) as Ord>⟧.cmp }
-{}
+// How two columns stand by their fields, and those of one field by their classes.
+fn column_cmp(left: &Gathering, right: &Gathering) -> Ordering
+    ensures { result ≡ column_cmp left.now right.now }
+{
+    left.field.cmp(&right.field).then(left.class.cmp(&right.class))
+}
 
 // The columns of what was gathered and sorted. Each gathering gives its memory back.
 fn encode_all(
