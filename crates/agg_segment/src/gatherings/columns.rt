@@ -69,7 +69,9 @@ fn sort(columns: &mut Vec<Gathering>) -> Result<(), OutOfMemory>
 fn column_cmp(left: &Gathering, right: &Gathering) -> Ordering
     ensures { result ≡ column_cmp left.now right.now }
 {
-    left.field.cmp(&right.field).then(left.class.cmp(&right.class))
+    left.field
+        .cmp(&right.field)
+        .then(left.class.cmp(&right.class))
 }
 
 // The columns of what was gathered and sorted. Each gathering gives its memory back.
