@@ -383,9 +383,12 @@ fn expect_usage(rt: &(impl Abort + AllocGlobal), words: &[&str]) -> Result<(), F
     Ok(())
 }
 
+// Arguments that are no command.
+const NO_COMMANDS: &[&[&str]] = &[&[], &["Walk"], &["walk", "x"]];
+
 #[test]
 fn touches_nothing_where_the_arguments_are_no_command(rt: HostRuntime) -> Result<(), Fail> {
-    for words in [[].as_slice(), ["Walk"].as_slice(), ["walk", "x"].as_slice()] {
+    for words in NO_COMMANDS {
         expect_usage(&rt, words)?;
     }
     Ok(())
