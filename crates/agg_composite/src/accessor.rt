@@ -1,10 +1,11 @@
 //! What a source reads in a segment, and where its after value stands there.
-ghost use Rattle.std.specs.Prelude.{◌≡◌, ℕ, Some, option_map, IfErr, IfOk, OnOk};
+ghost use Rattle.std.specs.Prelude.{◌≡◌, Some, option_map, IfErr, IfOk, OnOk};
 ghost use Rattle.std.specs.Ordering.{nat_cmp};
 ghost use Rattle.agg_values.specs.Column.{class_of, class_rank};
 ghost use Rattle.agg_values.specs.TypedKey.{CompositeIntermediateKey};
-ghost use Rattle.agg_column.specs.Columns.{encoded_key, keys_rank};
+ghost use Rattle.agg_column.specs.Columns.{keys_rank};
 ghost use Rattle.agg_request_tree.specs.Faults.{IsSoundSource};
+ghost use Rattle.agg_composite.specs.Accessors.{AreAccessorsOf, HasNoAccessors};
 
 mod build;
 mod interval;
@@ -27,9 +28,6 @@ pub struct CompositeAccessor<'s> {
     pub column: &'s Column,
     /// What a date source divides the dates by; not applicable for other sources.
     pub date_histogram_interval: PrecomputedDateInterval,
-    // The class of the column's keys.
-    class: ColumnPaginationOrder,
-    ghost of_column: { (n : ℕ) → class_of (encoded_key column.now.keys n) ≡ Some class },
 }
 
 /// The columns that a source reads in a segment, and where its after value stands among their keys.
@@ -55,13 +53,11 @@ impl CompositeAccessor<'_> {
         ensures { (key : CompositeIntermediateKey) → class_of key ≡ Some class
             → result ≡ nat_cmp (keys_rank self.now.column.now.keys) (class_rank key) }
     {
-        self.class.cmp(&class)
+        self.column.column_pagination_order().cmp(&class)
     }
 }
 
 impl<'s> CompositeSourceAccessors<'s> {
-    ghost use Rattle.agg_composite.specs.Accessors.{AreAccessorsOf, HasNoAccessors};
-
     /// The accessors of a source in a segment, for its after value if there is one. Of several
     /// faults the first is named: a Null that the source never has, its interval, an after value
     /// of another type.

@@ -98,10 +98,10 @@ fn accessor_of(column: &Column, interval: PrecomputedDateInterval) -> CompositeA
     ensures interval { result.date_histogram_interval ≡ interval }
     ensures order { AreInKeyOrder result.column.now.keys }
 {
+    let _class = column.column_pagination_order();
     CompositeAccessor {
         column,
         date_histogram_interval: interval,
-        class: column.column_pagination_order(),
     }
 }
 

@@ -5,7 +5,7 @@ use Rattle.agg_composite.proofs.accessor.CompositeAccessor.cmp_class.Goals as go
 
 pub returns : goal.returns
 returns c key is =
-    let accessor = c.args.self.now in
-    let compared : c.cmp.result ≡ ghosts.cmp accessor.class c.args.class = c.cmp.ensures in
-    compared
-    ∙ classes-compare accessor.column.now.keys accessor.class c.args.class (accessor.of_column 0) key is
+    let compared : c.cmp.result ≡ ghosts.cmp c.column_pagination_order.result c.args.class =
+    c.cmp.ensures in
+    compared ∙ classes-compare c.args.self.now.column.now.keys c.column_pagination_order.result
+    c.args.class (c.column_pagination_order.ensures.class 0) key is
