@@ -6,6 +6,8 @@ pub use Rattle.agg_request_tree.specs.BySource
 pub use Rattle.agg_request_tree.specs.Faults
 pub use Rattle.agg_request_tree.specs.FieldNames
 pub use Rattle.agg_request_tree.specs.Groups
+pub use Rattle.agg_request_tree.specs.Matching
+pub use Rattle.agg_request_tree.specs.Metrics
 pub use Rattle.agg_request_tree.specs.Occurrences
 pub use Rattle.agg_request_tree.specs.Page
 pub use Rattle.agg_request_tree.specs.Ranges

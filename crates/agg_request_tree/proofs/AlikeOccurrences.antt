@@ -1,10 +1,8 @@
 -- Documents with the same keys by class have the same occurrences in another order.
-use Rattle.std.proofs.Common.{◌≡◌, ◌∙◌, ℕ, List, [], ◌∷◌, ◌++◌, Bool, true, false, length, map}
-use Rattle.std.proofs.Common.{subst, sym}
-use Rattle.std.specs.List.{AllZip, flat_map}
-use Rattle.std.specs.List.Sorted.{IsPermutation}
+use Rattle.std.proofs.Common.{◌≡◌, ℕ, List, [], ◌∷◌, Bool, map}
+use Rattle.std.proofs.Common.{subst}
 use Rattle.agg_values.specs.Tuple.{KeyTuple}
-use Rattle.agg_values.specs.TypedKey.{CompositeIntermediateKey, canonical_key, typed_number}
+use Rattle.agg_values.specs.TypedKey.{canonical_key, typed_number}
 use Rattle.agg_values.specs.declared.typed_key.CompositeIntermediateKey.TheVariants.{
   Bool as Truth,
   Str,
@@ -15,15 +13,15 @@ use Rattle.agg_values.specs.declared.typed_key.CompositeIntermediateKey.TheVaria
   Null,
 }
 use Rattle.agg_column.specs.Document.{Fields, by_class, of_class}
-use Rattle.agg_request_tree.specs.Alike.{AreAlikeByClass, AreAllAlikeByClass}
-use Rattle.agg_request_tree.specs.Occurrences.{occurrences, occurrences_in}
+use Rattle.agg_request_tree.specs.Alike.{AreAlikeByClass}
+use Rattle.agg_request_tree.specs.Occurrences.{occurrences}
 use Rattle.agg_request_tree.specs.Source.{Sources, field_of, keys_in, missing_bucket_of}
 use Rattle.agg_request_tree.specs.Source.{or_missing, source_values, start_in, values_at}
 use Rattle.agg_request_tree.specs.declared.source.CompositeAggregationSource as kind
 use kind.{CompositeAggregationSource}
 use kind.TheVariants.{Terms, Histogram, DateHistogram}
 use Rattle.agg_request_tree.proofs.Reorderings.{IsReordering, same, later, exchange, joined}
-use Rattle.agg_request_tree.proofs.Reorderings.{IsReordering-append_right, IsReordering-each}
+use Rattle.agg_request_tree.proofs.Reorderings.{IsReordering-each}
 use Rattle.agg_request_tree.proofs.Reorderings.{IsReordering-filter_map, IsReordering-flat_map}
 use Rattle.agg_request_tree.proofs.Reorderings.{IsReordering-further, IsReordering-map}
 use Rattle.agg_request_tree.proofs.Reorderings.{IsReordering-sym}
@@ -59,7 +57,7 @@ by_class-reordering (DateTime ns ∷ ks) =
     (IsReordering-further (of_class ks 4) same)))))
 
 -- the same keys by class are the same keys in another order
-keys-reordering : (ks ls : KeyTuple) → by_class ks ≡ by_class ls → IsReordering ks ls
+pub keys-reordering : (ks ls : KeyTuple) → by_class ks ≡ by_class ls → IsReordering ks ls
 keys-reordering ks ls alike =
     joined (subst (IsReordering ks) alike (by_class-reordering ks))
     (IsReordering-sym (by_class-reordering ls))

@@ -1,20 +1,14 @@
 -- The ascending keys of a list: each of its keys once, in order.
-use Rattle.std.proofs.Common.{◌≡◌, ◌≢◌, ℕ, suc, ◌+◌, ◌-◌, ◌<◌, ◌≤◌, ◌⊎◌, ⊎_elim, inl, inr, cond}
-use Rattle.std.proofs.Common.{List, [], ◌∷◌, ◌++◌, zero, length, get_or, take, map, is_eq, refl}
+use Rattle.std.proofs.Common.{◌≡◌, ℕ, suc, ◌<◌, ◌≤◌, inl, inr, cond}
+use Rattle.std.proofs.Common.{List, [], ◌∷◌, length, is_eq, refl}
 use Rattle.std.proofs.Common.{sym, ap, ◌∙◌, subst, arith, Ordering, Less, Equal, Greater}
 use Rattle.std.specs.Cmp.{IsTotalOrder}
 use Rattle.std.specs.Ordering.{ordering_reverse, match_ordering}
-use Rattle.std.specs.List.{All, AllByRecursion, AllPairs, Contains, count_by}
+use Rattle.std.specs.List.{AllByRecursion, count_by}
 use Rattle.std.specs.List.Sorted.{IsStrictlySortedBy}
 use Rattle.std.proofs.lemmas.Cmp.{tied_itself}
-use Rattle.std.proofs.lemmas.List.{get_or-map, get_or-take, get_or_default, length-append}
-use Rattle.std.proofs.lemmas.List.{length-map, length-take, length-take-le}
 use Rattle.std.proofs.lemmas.List.Sums.{sum_by-cons}
-use Rattle.std.proofs.lemmas.Map.Keys.{Less-from_sorted, sorted_head, sorted_tail}
-use Rattle.std.proofs.lemmas.Bool.{cases_lt}
-use Rattle.agg_request_tree.proofs.Lists.{Has, AllByRecursion-Has, AllByRecursion-append}
-use Rattle.agg_request_tree.proofs.Lists.{AllByRecursion-both, AllByRecursion-from_Has}
-use Rattle.agg_request_tree.proofs.Lists.{AllByRecursion-take, Has-append_left, Has-append_right}
+use Rattle.agg_request_tree.proofs.Lists.{Has}
 use Rattle.agg_request_tree.proofs.Lists.{AllByRecursion-weaker}
 
 -- ascending keys with one more, which changes nothing where it is among them

@@ -1,7 +1,7 @@
 -- Faults of sources and composites, and what is sound.
-use Rattle.std.proofs.Common.{◌≡◌, ◌≢◌, ◌<◌, ◌≤ℤ◌, ◌<ℤ◌, ℕ, ℤ, pos, negsuc, zero, suc}
-use Rattle.std.proofs.Common.{List, [], Option, None, Some, IfNone, length, get_or}
-use Rattle.std.proofs.Common.{refl, subst, sym, arith}
+use Rattle.std.proofs.Common.{◌≢◌, ◌<◌, ◌≤ℤ◌, ◌<ℤ◌, ℤ, pos, negsuc, zero, suc}
+use Rattle.std.proofs.Common.{[], Option, None, Some, IfNone, length, get_or}
+use Rattle.std.proofs.Common.{refl, arith}
 use Rattle.std.specs.List.{All, Any}
 use Rattle.std.proofs.lemmas.Int.{ints}
 use Rattle.agg_values.specs.TypedKey.{CompositeIntermediateKey}

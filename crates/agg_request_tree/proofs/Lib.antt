@@ -1,5 +1,7 @@
 pub mod AlikeCounts
+pub mod AlikeLists
 pub mod AlikeOccurrences
+pub mod AlikeStarts
 pub mod AscendingKeys
 pub mod CheckedRequests
 pub mod Checks
@@ -28,3 +30,4 @@ pub mod SourceColumns
 pub mod SourceEquality
 pub mod SourceKeys
 pub mod UncutLength
+pub mod UncutLists

@@ -1,16 +1,15 @@
 -- Ascending keys: that they differ, that there is one list of the lowest of a kind, and their
 -- fronts.
-use Rattle.std.proofs.Common.{◌≡◌, ◌≢◌, ℕ, suc, ◌+◌, ◌-◌, ◌<◌, ◌≤◌, ◌⊎◌, ⊎_elim, inl, inr, cond}
-use Rattle.std.proofs.Common.{List, [], ◌∷◌, ◌++◌, zero, length, get_or, take, map, is_eq, refl}
+use Rattle.std.proofs.Common.{◌≡◌, ◌≢◌, ℕ, suc, ◌+◌, ◌-◌, ◌<◌, ◌≤◌, ◌⊎◌, ⊎_elim, inl, inr}
+use Rattle.std.proofs.Common.{List, [], ◌∷◌, ◌++◌, zero, length, get_or, take, map, refl}
 use Rattle.std.proofs.Common.{sym, ap, ◌∙◌, subst, arith, Ordering, Less, Equal, Greater}
 use Rattle.std.specs.Cmp.{IsTotalOrder}
-use Rattle.std.specs.Ordering.{ordering_reverse, match_ordering}
-use Rattle.std.specs.List.{All, AllByRecursion, AllPairs, Contains, count_by}
+use Rattle.std.specs.Ordering.{ordering_reverse}
+use Rattle.std.specs.List.{All, AllByRecursion, AllPairs, Contains}
 use Rattle.std.specs.List.Sorted.{IsStrictlySortedBy}
 use Rattle.std.proofs.lemmas.Cmp.{tied_itself}
 use Rattle.std.proofs.lemmas.List.{get_or-map, get_or-take, get_or_default, length-append}
 use Rattle.std.proofs.lemmas.List.{length-map, length-take, length-take-le}
-use Rattle.std.proofs.lemmas.List.Sums.{sum_by-cons}
 use Rattle.std.proofs.lemmas.Map.Keys.{Less-from_sorted, sorted_head, sorted_tail}
 use Rattle.std.proofs.lemmas.Bool.{cases_lt}
 use Rattle.agg_request_tree.proofs.Lists.{Has, AllByRecursion-Has, AllByRecursion-append}

@@ -1,5 +1,5 @@
 -- Documents that differ only in the order of the classes inside a field.
-use Rattle.std.specs.Prelude.{◌≡◌, ℕ, List}
+use Rattle.std.specs.Prelude.{◌≡◌, Bool, ℕ, List}
 use Rattle.std.specs.List.{AllZip}
 use Rattle.agg_column.specs.Document.{Fields, by_class}
 
@@ -11,3 +11,10 @@ AreAlikeByClass document other =
 -- so do two lists of documents, place by place
 abbrev pub AreAllAlikeByClass : List Fields → List Fields → Type 0
 AreAllAlikeByClass = AllZip AreAlikeByClass
+
+-- what builders match is told alike of documents that are alike
+abbrev pub MatchAlike : {B : Type 0} → (B → Fields → Bool) → Type 0
+MatchAlike {B = B} is_match =
+    (builder : B) (document other : Fields)
+    → AreAlikeByClass document other
+    → is_match builder document ≡ is_match builder other

@@ -3,6 +3,8 @@ pub mod BySource
 pub mod Faults
 pub mod FieldNames
 pub mod Groups
+pub mod Matching
+pub mod Metrics
 pub mod Occurrences
 pub mod Page
 pub mod Ranges

@@ -1,11 +1,10 @@
 -- Starts of buckets that lie within i64, and documents for which they do.
-use Rattle.std.specs.Prelude.{FitsSigned, ℤ, List, All, IfSome, Option}
+use Rattle.std.specs.Prelude.{FitsSigned, ℤ, List, All, Any, IfSome, Option}
 use Rattle.std.specs.Int.{w64}
 use Rattle.agg_values.specs.TypedKey.{CompositeIntermediateKey}
 use Rattle.agg_column.specs.Document.{Fields}
+use Rattle.agg_request_tree.specs.Request.{Request, composites_of}
 use Rattle.agg_request_tree.specs.Source.{Sources, field_of, start_in, values_at}
-use Rattle.agg_request_tree.specs.declared.aggregation.AggregationVariants.{AggregationVariants}
-use Rattle.agg_request_tree.specs.declared.aggregation.AggregationVariants.TheVariants.{Composite}
 use Rattle.agg_request_tree.specs.declared.aggregation.CompositeAggregation.{CompositeAggregation}
 use Rattle.agg_request_tree.specs.declared.source.CompositeAggregationSource.{CompositeAggregationSource}
 
@@ -26,7 +25,7 @@ AreInRange sources document =
 abbrev pub HasOwnStartOutOfRange : CompositeAggregation → List Fields → Type 0
 HasOwnStartOutOfRange composite documents = ¬ (All (AreInRange composite.sources) documents)
 
--- some start of a bucket of an aggregation lies outside i64; only composites have starts
-abbrev pub HasStartOutOfRange : {B : Type 0} → AggregationVariants B → List Fields → Type 0
-HasStartOutOfRange (Composite composite) documents = HasOwnStartOutOfRange composite documents
-HasStartOutOfRange _ documents = ⊥
+-- some start of a bucket of a composite of a request, at any depth, lies outside i64
+abbrev pub HasStartOutOfRange : {B : Type 0} → Request B → List Fields → Type 0
+HasStartOutOfRange request documents =
+    Any (λ composite. HasOwnStartOutOfRange composite documents) (composites_of request)

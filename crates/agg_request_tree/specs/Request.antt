@@ -1,5 +1,5 @@
 -- Requests: aggregations by name, each with those below it.
-use Rattle.std.specs.Prelude.{◌≡◌, ◌++◌, ◌∷◌, [], ℕ, List, All, map}
+use Rattle.std.specs.Prelude.{◌≡◌, ◌++◌, ◌∷◌, [], ℕ, List, map}
 use Rattle.std.specs.List.{flat_map}
 use Rattle.agg_values.specs.Names.{Named}
 use Rattle.agg_request_tree.specs.Source.{field_of}
@@ -117,11 +117,7 @@ with_builders of request = map (λ a. (a.0, with_builders_in of a.1)) request
 abbrev pub IsSame : {B : Type 0} → Aggregation B → Aggregation B → Type 0
 IsSame a b = (a ≡ b) × (listed_in own_builder a ≡ [])
 
--- an aggregation is a composite with none below it, which is all that is collected so far
+-- an aggregation is a composite with none below it, which is all that a walk takes so far
 abbrev pub IsPlainComposite : {B : Type 0} → Aggregation B → Type 0
 IsPlainComposite a =
     (composite : CompositeAggregation) × (agg_of a ≡ Composite composite) × (below_of a ≡ [])
-
--- so is each aggregation of a request
-abbrev pub ArePlainComposites : {B : Type 0} → Request B → Type 0
-ArePlainComposites request = All (λ a. IsPlainComposite a.1) request

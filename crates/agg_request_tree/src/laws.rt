@@ -1,18 +1,23 @@
 //! What holds of pages, as their definition says it.
-ghost use Rattle.std.specs.Prelude.{◌≡◌, ◌≢◌, ◌↔◌, ℕ, ◌+◌, ◌*◌, ◌<◌, List, ◌++◌, length, map};
-ghost use Rattle.std.specs.Prelude.{take, flat_map, All, AllPairs, Any, Contains, IsPermutation};
+ghost use Rattle.std.specs.Prelude.{◌≡◌, ◌≢◌, ◌↔◌, Bool, ℕ, ◌+◌, ◌*◌, ◌<◌, List, ◌++◌, length};
+ghost use Rattle.std.specs.Prelude.{map, take, flat_map, All, AllPairs, Any, Contains};
+ghost use Rattle.std.specs.Prelude.{IsPermutation};
+ghost use Rattle.std.specs.List.{AllZip};
 ghost use Rattle.std.specs.List.Sorted.{IsStrictlySortedBy};
 ghost use Rattle.agg_column.specs.Document.{Fields};
 ghost use Rattle.agg_values.specs.KeyOrder.{tuple_order};
 ghost use Rattle.agg_values.specs.Laws.{IsSameness};
-ghost use Rattle.agg_request_tree.specs.Alike.{AreAllAlikeByClass};
+ghost use Rattle.agg_segment.specs.Query.{matches};
+ghost use Rattle.agg_segment.specs.declared.query.QueryTree.{QueryTree};
+ghost use Rattle.agg_request_tree.specs.Alike.{AreAlikeByClass, AreAllAlikeByClass, MatchAlike};
 ghost use Rattle.agg_request_tree.specs.Groups.{Groups, Group};
 ghost use Rattle.agg_request_tree.specs.Occurrences.{past_occurrences, bound_of};
 ghost use Rattle.agg_request_tree.specs.BySource.{after_map};
 ghost use Rattle.agg_request_tree.specs.Page.{Entry, IsPage, MayList, entry_of, group_of};
 ghost use Rattle.agg_request_tree.specs.Page.{tuples_of};
 ghost use Rattle.agg_request_tree.specs.Ranges.{HasStartOutOfRange};
-ghost use Rattle.agg_request_tree.specs.Uncut.{counted, uncut};
+ghost use Rattle.agg_request_tree.specs.Request.{Request};
+ghost use Rattle.agg_request_tree.specs.Uncut.{counted, uncut, uncut_lists_of};
 ghost use Rattle.agg_request_tree.specs.Faults.{HaveOwnNames};
 ghost use Rattle.agg_request_tree.specs.Source.{rules_of, Sources};
 ghost use Rattle.agg_request_tree.specs.Successive.{AreSuccessive, Step};
@@ -127,7 +132,8 @@ pub fn counts_are_of_the_documents()
 {}
 
 /// The order of the classes inside the fields of documents changes no tuple and no count of a page,
-/// nor what an aggregation counts, nor whether a start of a bucket lies outside i64.
+/// nor what a query matches, nor how often an aggregation at any depth lists a document, nor whether
+/// a start of a bucket lies outside i64.
 pub fn classes_count_in_any_order<B>()
     ensures pages { (sources : Sources) (size : ℕ) (bound : KeyTuple)
         → (documents others : List Fields) (page other : List Entry)
@@ -138,12 +144,24 @@ pub fn classes_count_in_any_order<B>()
     ensures counts { (composite : declared.CompositeAggregation) (documents others : List Fields)
         → AreAllAlikeByClass documents others
         → length (counted composite documents) ≡ length (counted composite others) }
-    ensures uncut { (aggregation : variants.AggregationVariants B) (documents others : List Fields)
+    ensures matches { (tree : QueryTree) (document other : Fields)
+        → AreAlikeByClass document other
+        → matches tree document ≡ matches tree other }
+    ensures uncut { (is_match : B → Fields → Bool)
+        → MatchAlike is_match
+        → (aggregation : variants.AggregationVariants B) (documents others : List Fields)
         → AreAllAlikeByClass documents others
-        → AreAllAlikeByClass (uncut aggregation documents) (uncut aggregation others) }
-    ensures starts { (aggregation : variants.AggregationVariants B) (documents others : List Fields)
+        → AreAllAlikeByClass (uncut is_match aggregation documents)
+        (uncut is_match aggregation others) }
+    ensures lists { (is_match : B → Fields → Bool)
+        → MatchAlike is_match
+        → (request : Request B) (documents others : List Fields)
         → AreAllAlikeByClass documents others
-        → HasStartOutOfRange aggregation documents ↔ HasStartOutOfRange aggregation others }
+        → AllZip AreAllAlikeByClass (uncut_lists_of is_match request documents)
+        (uncut_lists_of is_match request others) }
+    ensures starts { (request : Request B) (documents others : List Fields)
+        → AreAllAlikeByClass documents others
+        → HasStartOutOfRange request documents ↔ HasStartOutOfRange request others }
 {}
 
 /// The lowest groups of the past occurrences of all documents, as many as the size, are a page.
