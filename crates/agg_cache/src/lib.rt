@@ -1,8 +1,17 @@
-//! The limits of a walk, the ledger of what is in use, and why a collector refuses documents.
+//! The limits of a walk, the ledger of what is in use, why a collector refuses documents, the ids
+//! of buckets, and the documents that wait for collectors below.
 #![tactic(auto)]
 
+mod bucket_ids;
+mod cache;
+mod cached;
 mod error;
 mod limits;
+mod low_card;
 
+pub use bucket_ids::BucketIdProvider;
+pub use cache::{Batch, SubAggCache};
+pub use cached::{CachedSubAggs, LowCardCachedSubAggs, PUSHES_UNTIL_DUE};
 pub use error::CollectError;
 pub use limits::{BucketId, DEFAULT_BUCKET_LIMIT, DEFAULT_MEMORY_LIMIT, LimitsLedger};
+pub use low_card::LowCardSubAggCache;

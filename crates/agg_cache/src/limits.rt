@@ -66,24 +66,3 @@ impl LimitsLedger {
         self.bucket_limit
     }
 }
-
-#[cfg(test)]
-mod tests {
-    use super::LimitsLedger;
-
-    #[test]
-    fn a_limit_that_is_not_given_is_the_default(rt: HostRuntime) {
-        for (memory_limit, bucket_limit, expected) in [
-            (None, Some(7), (0, 500_000_000, 7)),
-            (Some(9), None, (0, 9, 65_000)),
-        ] {
-            let limits = LimitsLedger::new(memory_limit, bucket_limit);
-            let shown = (
-                limits.in_use(),
-                limits.memory_limit(),
-                limits.bucket_limit(),
-            );
-            assert_eq!(rt; shown, expected);
-        }
-    }
-}

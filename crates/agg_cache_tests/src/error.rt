@@ -1,0 +1,30 @@
+use agg_cache::CollectError;
+use agg_values::{AggregationError, OutOfMemory, TooMany};
+use std::test::Fail;
+
+#[test]
+fn tells_why_documents_are_refused(rt: HostRuntime) -> Result<(), Fail> {
+    let limited = AggregationError::BucketLimitExceeded {
+        limit: 1,
+        current: 2,
+    };
+    for (error, text) in [
+        (
+            CollectError::BucketOutOfRange,
+            "a bucket starts outside 64 bits",
+        ),
+        (CollectError::from(TooMany), "too many occurrences"),
+        (
+            CollectError::from(limited),
+            "bucket limit exceeded: 1 buckets allowed, 2 made",
+        ),
+        (
+            CollectError::CollectorFailed,
+            "the collector has failed before",
+        ),
+        (CollectError::from(OutOfMemory), "out of memory"),
+    ] {
+        assert_eq!(rt; error.to_string(rt.alloc())?.as_str(), text);
+    }
+    Ok(())
+}

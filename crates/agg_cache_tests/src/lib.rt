@@ -1,0 +1,13 @@
+//! Tests of limits, errors, the ids of buckets and documents that wait.
+#![tactic(auto)]
+
+#[cfg(test)]
+mod bucket_ids;
+#[cfg(test)]
+mod cached;
+#[cfg(test)]
+mod error;
+#[cfg(test)]
+mod limits;
+#[cfg(test)]
+mod low_card;
