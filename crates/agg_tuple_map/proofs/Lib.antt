@@ -1,0 +1,2 @@
+pub mod TuplePlaces
+pub mod TupleSteps

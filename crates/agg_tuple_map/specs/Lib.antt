@@ -1,0 +1,2 @@
+pub mod TupleMap
+pub mod formers
