@@ -1,0 +1,7 @@
+use Rattle.std.proofs.Common.{◌≡◌, take}
+use Rattle.agg_intermediate_results.proofs.EmptyPages.{empty_page}
+use Rattle.agg_intermediate_results.proofs.empty.empty_composite.Given as goal
+
+-- the page has the orders of the sources so far
+abbrev pub invariant-loop-source : goal.invariant-loop-source
+invariant-loop-source l = l.page ≡ empty_page (take l.source-index l.source-items) l.composite.size

@@ -1,0 +1,7 @@
+use Rattle.agg_intermediate_results.proofs.ShownPages.{full-last_tuple}
+use Rattle.agg_intermediate_results.proofs.final_results.pages.last_tuple.Goals as goal
+
+pub returns : goal.returns
+returns c =
+    full-last_tuple c.args.size c.args.page.now c.in_ok-tuple.field-0.now c.if-page-size.false
+    c.in_ok-tuple.ensures.value

@@ -1,0 +1,18 @@
+use Rattle.std.proofs.Common.{take}
+use Rattle.std.specs.List.{All}
+use Rattle.agg_intermediate_results.specs.Intermediate.{below_entry}
+use Rattle.agg_intermediate_results.specs.Refusals.{HoldsUnknown}
+use Rattle.agg_intermediate_results.proofs.LeftOver.{IsLeft}
+use Rattle.agg_intermediate_results.proofs.Refusals.{IsUnknownAt}
+use Rattle.agg_intermediate_results.proofs.final_results.unknown_names.+unknown_names.Given as goal
+
+-- no entry so far has one below it
+abbrev pub invariant-entries_hold_unknown-loop-entry :
+    goal.invariant-entries_hold_unknown-loop-entry
+invariant-entries_hold_unknown-loop-entry g l =
+    All (λ e. ¬ (HoldsUnknown l.req (below_entry e.1))) (take l.entry-index l.entries)
+
+-- no name so far is unknown
+abbrev pub invariant-holds_unknown-loop-name : goal.invariant-holds_unknown-loop-name
+invariant-holds_unknown-loop-name g l =
+    IsLeft (IsUnknownAt l.req) l.held.results l.name-iterator

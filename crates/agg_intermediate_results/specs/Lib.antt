@@ -1,0 +1,7 @@
+pub mod Empty
+pub mod Final
+pub mod Intermediate
+pub mod Merging
+pub mod Outcome
+pub mod Refusals
+pub mod Shown

@@ -1,0 +1,53 @@
+-- What a merge did that goes on where a sum is too large: whether one was, is told by a flag.
+use Rattle.std.specs.Prelude.{◌≡◌, ◌≤◌, ◌+◌, ◌^◌, ◌⊎◌, ℕ, Bool, true, false, List, Some, IsSomeAnd}
+use Rattle.std.specs.List.{All}
+use Rattle.std.specs.declared.cmp.Ordering.{Ordering}
+use Rattle.std.specs.declared.cmp.Ordering.TheVariants.{Less}
+use Rattle.agg_values.specs.Names.{value_of}
+use Rattle.agg_values.specs.Tuple.{KeyTuple}
+use Rattle.agg_intermediate_results.specs.Intermediate.{Held, below_entry}
+use Rattle.agg_intermediate_results.specs.Merging.{CountsPass, EitherOrBoth, EntriesMerged}
+use Rattle.agg_intermediate_results.specs.Merging.{IsMerged, JoinNames, MergedTo, ShapesDiffer}
+use Rattle.agg_intermediate_results.specs.Merging.{SomeOfBoth}
+use Rattle.agg_intermediate_results.specs.declared as intermediate
+use intermediate.results.IntermediateAggregationResult.{IntermediateAggregationResult}
+use intermediate.entry.IntermediateTermBucketEntry.{IntermediateTermBucketEntry}
+
+-- nothing differed, and the flag was raised where a sum was too large, and only there
+pub record Merges (was now : Bool) (Differ Pass : Type 0) : Type 0 where
+  pub alike : ¬ Differ
+  pub few : now ≡ false → ¬ Pass
+  pub kept : was ≡ true → now ≡ true
+  pub passed : now ≡ true → (was ≡ true) ⊎ Pass
+
+-- what is below two entries differs in shape
+abbrev pub BelowDiffer : IntermediateTermBucketEntry → IntermediateTermBucketEntry → Type 0
+BelowDiffer e f = SomeOfBoth ShapesDiffer (below_entry e) (below_entry f)
+
+-- a sum of two entries is too large
+abbrev pub EntriesPass : IntermediateTermBucketEntry → IntermediateTermBucketEntry → Type 0
+EntriesPass e f =
+    (2 ^ 64 ≤ e.doc_count + f.doc_count)
+    ⊎ SomeOfBoth CountsPass (below_entry e) (below_entry f)
+
+-- two entries as one, at every depth
+abbrev pub IsMergedEntry : IntermediateTermBucketEntry → IntermediateTermBucketEntry
+    → IntermediateTermBucketEntry → Type 0
+IsMergedEntry e f w = (depth : ℕ) → EntriesMerged (JoinNames (MergedTo depth)) e f w
+
+-- the same, unless a sum was too large
+abbrev pub DoneUnless : Bool → IntermediateTermBucketEntry → IntermediateTermBucketEntry
+    → IntermediateTermBucketEntry → Type 0
+DoneUnless passed e f w = passed ≡ false → IsMergedEntry e f w
+
+-- a result of a name is put over those held
+pub record IsPut (was now : Bool) (name : List ℕ) (value : IntermediateAggregationResult)
+    (held : Held) (w : IntermediateAggregationResult) : Type 0 where
+  pub merges : Merges was now (IsSomeAnd (value_of name held) (λ r. ShapesDiffer r value))
+      (IsSomeAnd (value_of name held) (λ r. CountsPass r value))
+  pub merged : now ≡ false → EitherOrBoth IsMerged (value_of name held) (Some value) (Some w)
+
+-- each entry of a list is below each of another
+abbrev pub AreBelow : {T : Type 0} → (KeyTuple → KeyTuple → Ordering) → List (KeyTuple × T)
+    → List (KeyTuple × T) → Type 0
+AreBelow R lower upper = All (λ f. All (λ e. R e.0 f.0 ≡ Less) lower) upper
