@@ -6,7 +6,7 @@ use Rattle.std.specs.List.{AllByRecursion}
 use Rattle.std.specs.List.Sorted.{IsStrictlySortedBy}
 use Rattle.std.specs.Map.{keys_of}
 use Rattle.std.specs.Ordering.{match_ordering}
-use Rattle.agg_results.specs.Counts.{add_count, merged}
+use Rattle.agg_results.proofs.Counts.{add_count, merged}
 use Rattle.agg_results.proofs.Counts.{Ascend, Ascend-add, all-added}
 use Rattle.agg_results.proofs.Merged.{merge, merge-nothing, add-merge, merged-is_merge, take-merge}
 

@@ -15,7 +15,7 @@ use Rattle.agg_request_tree.specs.Groups.{Groups}
 use Rattle.agg_request_tree.specs.Occurrences.{same_tuple}
 use Rattle.agg_request_tree.proofs.Lists.{AllByRecursion-both, AllByRecursion-weaker, Has}
 use Rattle.agg_request_tree.proofs.Lists.{Contains-from_Has}
-use Rattle.agg_results.specs.Counts.{add_count}
+use Rattle.agg_results.proofs.Counts.{add_count}
 use Rattle.agg_results.proofs.Counts.{all-added}
 use Rattle.agg_results.proofs.Counted.{Ascend-counted, Positive-counted, all-counted}
 use Rattle.agg_results.proofs.Counted.{count_each, counted}

@@ -10,7 +10,19 @@ use Rattle.std.proofs.lemmas.List.{append-nil, take-map}
 use Rattle.std.proofs.lemmas.List.Elements.{recursion_from_All}
 use Rattle.agg_request_tree.proofs.Lists.{AllByRecursion-weaker}
 use Rattle.agg_request_tree.proofs.PageKeys.{IsStrictlySortedBy-take}
-use Rattle.agg_results.specs.Counts.{add_count, merged}
+
+-- ascending counts, with so many more of a key
+abbrev pub add_count : {K : Type 0} → (K → K → Ordering) → List (K × ℕ) → K → ℕ → List (K × ℕ)
+add_count R [] k n = (k, n) ∷ []
+add_count R (e ∷ counts) k n =
+    match_ordering (R k e.0)
+    ((k, n) ∷ e ∷ counts) ((e.0, e.1 + n) ∷ counts) (e ∷ add_count R counts k n)
+
+-- ascending counts, with others added
+abbrev pub merged : {K : Type 0} → (K → K → Ordering) → List (K × ℕ) → List (K × ℕ)
+    → List (K × ℕ)
+merged R counts [] = counts
+merged R counts (e ∷ others) = merged R (add_count R counts e.0 e.1) others
 
 -- the keys of counts ascend
 abbrev pub Ascend : {K : Type 0} → (K → K → Ordering) → List (K × ℕ) → Type 0
@@ -27,7 +39,7 @@ Ascend-take R n es up =
     subst (IsStrictlySortedBy R) (take-map (λ e. e.0) n es)
     (IsStrictlySortedBy-take R n (keys_of es) up)
 
--- a list with one more behind it, in front of others
+-- a list with one more after it, in front of others
 push-append : {X : Type 0} (xs : List X) (x : X) (ys : List X) → (xs ++ x ∷ []) ++ ys ≡ xs ++ x ∷ ys
 push-append [] x ys = refl
 push-append (z ∷ xs) x ys = ap (λ zs. z ∷ zs) (push-append xs x ys)
@@ -71,7 +83,7 @@ module _ {K : Type 0} (R : K → K → Ordering) (total : IsTotalOrder R) where
   above-nothing [] = tt
   above-nothing (k ∷ ks) = (tt, above-nothing ks)
 
-  -- ascending counts above others, added one by one, stand behind them
+  -- ascending counts above others, added one by one, stand after them
   pub merged-end : (es fs : List (K × ℕ)) → AllByRecursion (Below R es) (keys_of fs) → Ascend R fs
       → merged R es fs ≡ es ++ fs
   unfolding IsStrictlySortedBy

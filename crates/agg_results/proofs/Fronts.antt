@@ -1,4 +1,4 @@
--- What stands behind a front of ascending counts.
+-- What comes after a front of ascending counts.
 use Rattle.std.proofs.Common.{◌≡◌, ℕ, ◌+◌, List, take, drop, sym, ap, ◌∙◌, arith, Ordering, Less}
 use Rattle.std.specs.List.{All}
 use Rattle.std.specs.List.Sorted.{IsStrictlySortedBy}

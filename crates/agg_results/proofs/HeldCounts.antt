@@ -10,7 +10,7 @@ use Rattle.std.specs.Ordering.{match_ordering}
 use Rattle.std.proofs.lemmas.Cmp.{alike_right, tied_itself}
 use Rattle.std.proofs.lemmas.List.Sums.{sum_by-cons}
 use Rattle.agg_request_tree.proofs.Lists.{AllByRecursion-weaker}
-use Rattle.agg_results.specs.Counts.{add_count}
+use Rattle.agg_results.proofs.Counts.{add_count}
 use Rattle.agg_results.proofs.Counts.{Ascend, reversed}
 use Rattle.agg_results.proofs.Counted.{count_each, counted, Ascend-counted}
 

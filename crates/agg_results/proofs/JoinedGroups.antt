@@ -15,7 +15,7 @@ use Rattle.agg_request_tree.specs.Occurrences.{occurrences, occurrences_in, past
 use Rattle.agg_request_tree.specs.Occurrences.{same_tuple}
 use Rattle.agg_request_tree.specs.Page.{IsPage, count_in, entry_of}
 use Rattle.agg_request_tree.specs.Source.{Sources, rules_of}
-use Rattle.agg_results.specs.Counts.{merged}
+use Rattle.agg_results.proofs.Counts.{merged}
 use Rattle.agg_results.specs.StandsFor.{GroupsStandFor}
 use Rattle.agg_results.proofs.Counts.{Ascend-merged, merged-nothing}
 use Rattle.agg_results.proofs.Counted.{counted, lowest-merged}
@@ -25,7 +25,7 @@ use Rattle.agg_results.proofs.Merged.{all-merged}
 use Rattle.agg_results.proofs.StandingGroups.{CountsSome, IsPast}
 
 -- tuples that are one occur equally often
-count-tied : {K : Type 0} (R : K → K → Ordering) → IsTotalOrder R → (k l : K) (ks : List K)
+pub count-tied : {K : Type 0} (R : K → K → Ordering) → IsTotalOrder R → (k l : K) (ks : List K)
     → R k l ≡ Equal → count_by (λ x. is_eq (R k x)) ks ≡ count_by (λ x. is_eq (R l x)) ks
 count-tied R total k l [] tied = refl
 count-tied R total k l (x ∷ ks) tied =

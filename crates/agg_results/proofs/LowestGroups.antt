@@ -7,7 +7,8 @@ use Rattle.agg_values.specs.Laws.{IsCanonicalTuple}
 use Rattle.agg_values.specs.Tuple.{KeyTuple}
 use Rattle.agg_column.specs.Document.{Fields}
 use Rattle.agg_request_tree.specs.Groups.{Group, Groups}
-use Rattle.agg_request_tree.specs.Occurrences.{is_past, occurrences, occurrences_in, past_occurrences}
+use Rattle.agg_request_tree.specs.Occurrences.{is_past, occurrences, occurrences_in}
+use Rattle.agg_request_tree.specs.Occurrences.{past_occurrences}
 use Rattle.agg_request_tree.specs.Page.{Entry, IsPage, entry_of, group_of}
 use Rattle.agg_request_tree.specs.Source.{Sources, rules_of}
 use Rattle.agg_request_tree.proofs.PageFromGroups.{IsPage-from_groups, groups-entries}

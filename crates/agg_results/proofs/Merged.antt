@@ -10,7 +10,7 @@ use Rattle.std.proofs.lemmas.Cmp.{alike_right}
 use Rattle.std.proofs.lemmas.List.{take-take}
 use Rattle.std.proofs.lemmas.List.Elements.{All-from_recursion, recursion_from_All}
 use Rattle.agg_request_tree.proofs.Lists.{AllByRecursion-weaker}
-use Rattle.agg_results.specs.Counts.{add_count, merged}
+use Rattle.agg_results.proofs.Counts.{add_count, merged}
 use Rattle.agg_results.proofs.Counts.{Ascend, Ascend-merged, merged-nothing, reversed}
 
 module _ {K : Type 0} (R : K → K → Ordering) where

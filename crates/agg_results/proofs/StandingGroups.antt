@@ -12,7 +12,8 @@ use Rattle.agg_request_tree.specs.Occurrences.{is_past, occurrences_in, past_occ
 use Rattle.agg_request_tree.specs.Page.{Entry, IsPage, count_in, entry_of, group_of}
 use Rattle.agg_request_tree.specs.Source.{Sources, rules_of}
 use Rattle.agg_request_tree.proofs.Lists.{All-from_map, Contains-from_filter}
-use Rattle.agg_request_tree.proofs.PageFromGroups.{Groups-nothing, IsPage-from_groups, count_by-past}
+use Rattle.agg_request_tree.proofs.PageFromGroups.{Groups-nothing, IsPage-from_groups}
+use Rattle.agg_request_tree.proofs.PageFromGroups.{count_by-past}
 use Rattle.agg_results.specs.StandsFor.{GroupsStandFor}
 use Rattle.agg_results.proofs.Counts.{Ascend-take}
 use Rattle.agg_results.proofs.LowestGroups.{Groups-past, groups-page}
@@ -86,7 +87,7 @@ module _ (sources : Sources) (size : ℕ) (bound : KeyTuple) where
 
   -- ---- what follows
 
-  -- what stands behind the page is above it
+  -- what comes after the page is above it
   pub above-page : (documents : List Fields) (groups : List Group)
       → GroupsStandFor sources size bound documents groups
       → All (λ g. All (λ p. tuple_order (rules_of sources) p.0 g.0 ≡ Less) (take size groups))

@@ -1,179 +1,217 @@
--- Results by name that stand for documents: the empty ones, and two as one.
-use Rattle.std.proofs.Common.{◌≡◌, ℕ, ◌^◌, ◌≤◌, List, [], ◌++◌, Option, None, Some, length}
-use Rattle.std.proofs.Common.{get_or, refl, sym, ap, ◌∙◌, subst}
-use Rattle.std.specs.List.{All, Any, Contains}
-use Rattle.std.specs.List.Sorted.{IsStrictlySortedBy}
+-- Results that stand for documents, by the request: two as one, and that their shapes are alike.
+use Rattle.std.proofs.Common.{◌≡◌, ℕ, zero, suc, ◌+◌, List, ◌++◌, Option, None, Some}
+use Rattle.std.proofs.Common.{length, length-append, get_or, refl, sym, ap, ◌∙◌, subst}
+use Rattle.std.specs.Prelude.{Bool, IsSome}
+use Rattle.std.specs.List.{Contains}
 use Rattle.std.specs.Map.{keys_of}
-use Rattle.std.specs.Prelude.{IsSome, option_map}
 use Rattle.std.proofs.lemmas.List.{append-nil}
-use Rattle.std.proofs.lemmas.List.Elements.{All-contains, All-contains_itself}
-use Rattle.std.proofs.lemmas.Map.Made.{keys_of-map_values, lookup-map_values}
-use Rattle.std.specs.BTreeMap.{is_at}
-use Rattle.agg_values.specs.Names.{name_cmp, value_of}
+use Rattle.std.proofs.lemmas.List.Elements.{All-contains, filter-append}
+use Rattle.agg_values.specs.Names.{value_of}
 use Rattle.agg_column.specs.Document.{Fields}
-use Rattle.agg_request_tree.specs.Request.{ArePlainComposites, IsPlainComposite, Request, agg_of}
-use Rattle.agg_request_tree.specs.Uncut.{uncut}
+use Rattle.agg_request_tree.specs.Matching.{filter_matches, matching}
+use Rattle.agg_request_tree.specs.Request.{Request, agg_of, below_of}
 use Rattle.agg_request_tree.specs.declared.aggregation.Aggregation.{Aggregation}
 use Rattle.agg_request_tree.specs.declared.aggregation.AggregationVariants.{AggregationVariants}
-use Rattle.agg_request_tree.specs.declared.aggregation.AggregationVariants.TheVariants.{Composite}
-use Rattle.agg_request_tree.specs.declared.aggregation.CompositeAggregation.{CompositeAggregation}
-use Rattle.agg_request_tree.proofs.Lists.{All-from_Contains}
-use Rattle.agg_request_tree.proofs.UncutLength.{length-counted}
-use Rattle.agg_results.specs.Empty.{empty_result, empty_results}
-use Rattle.agg_results.specs.Intermediate.{AreFlat, Held, IsFlat, held_composite}
-use Rattle.agg_results.specs.Merging.{AreMerged, CountsPass, ShapesDiffer, SomeOfBoth}
-use Rattle.agg_results.specs.Merging.{either_or_both}
-use Rattle.agg_results.specs.StandsFor.{ResultStandsFor, StandsFor}
-use Rattle.agg_results.specs.declared.intermediate.results.IntermediateAggregationResult as declared
-use declared.{IntermediateAggregationResult}
-use Rattle.agg_results.proofs.NameLookups.{entry_of_name, name-found, names-found, value-found}
-use Rattle.agg_results.proofs.StandingComposites.{composites-alike, composites-few}
-use Rattle.agg_results.proofs.StandingComposites.{composites-joined, stands-empty}
+use Rattle.agg_request_tree.specs.declared.aggregation.AggregationVariants.TheVariants as asks
+use Rattle.agg_request_tree.specs.declared.aggregation.filter.FilterQuery.{FilterQuery}
+use Rattle.agg_results.proofs.NameLookups.{entry_of_name, name-found, names-found}
+use Rattle.agg_intermediate_results.specs.Intermediate.{Held, Parts, composite, metric, parts_of}
+use Rattle.agg_intermediate_results.specs.Intermediate as held
+use Rattle.agg_intermediate_results.specs.Merging.{AreMerged, DifferWithin, EitherOrBoth, JoinNames}
+use Rattle.agg_intermediate_results.specs.Merging.{MergedTo}
+use Rattle.agg_intermediate_results.specs.Merging.{PartsDiffer, PartsMerged, ShapesDiffer}
+use Rattle.agg_intermediate_results.specs.Merging.{SomeOfBoth}
+use Rattle.agg_results.specs.StandsFor.{NamesStand, PartsStand, StandsFor, StandsTo}
+use Rattle.agg_intermediate_results.specs.declared as intermediate
+use intermediate.results.IntermediateAggregationResult.{IntermediateAggregationResult}
+use Rattle.agg_results.proofs.Metrics.{metrics-alike, metrics-joined}
+use Rattle.agg_results.proofs.StandingComposites.{composites-alike, composites-joined}
 
--- ---- of one aggregation
+abbrev Result : Type 0
+Result = IntermediateAggregationResult
 
-result-empty : {B : Type 0} (aggregation : AggregationVariants B) (composite : CompositeAggregation)
-    → aggregation ≡ Composite composite
-    → ResultStandsFor aggregation [] (Some (empty_result aggregation))
-result-empty aggregation composite is = rw is (stands-empty composite)
+module _ {B : Type 0} (is_match : B → Fields → Bool) where
+  matching-append : (query : FilterQuery B) (documents others : List Fields)
+      → matching is_match query (documents ++ others)
+      ≡ matching is_match query documents ++ matching is_match query others
+  matching-append query documents others =
+      filter-append (filter_matches is_match query) documents others
 
-result-flat : {B : Type 0} (aggregation : AggregationVariants B) (documents : List Fields)
-    (r : IntermediateAggregationResult) → ResultStandsFor aggregation documents (Some r)
-    → IsFlat (held_composite r)
-result-flat (Composite composite) documents r stand = stand.flat
-result-flat _ documents r stand = absurd stand
+  -- ---- names
 
-results-alike : {B : Type 0} (aggregation : AggregationVariants B) (documents others : List Fields)
-    (r o : IntermediateAggregationResult) → ResultStandsFor aggregation documents (Some r)
-    → ResultStandsFor aggregation others (Some o) → ¬ (ShapesDiffer r o)
-results-alike (Composite composite) documents others r o a b =
-    composites-alike composite documents others (held_composite r) (held_composite o) a b
-results-alike _ documents others r o a b = absurd a
+  module _ (Stands : Aggregation B → List Fields → Option Result → Type 0) where
+    abbrev Names : Request B → List Fields → Held → Type 0
+    Names = NamesStand is_match Stands
 
-results-few : {B : Type 0} (aggregation : AggregationVariants B) (documents others : List Fields)
-    (r o : IntermediateAggregationResult) → ResultStandsFor aggregation documents (Some r)
-    → ResultStandsFor aggregation others (Some o) → CountsPass r o
-    → 2 ^ 64 ≤ length (uncut aggregation (documents ++ others))
-results-few (Composite composite) documents others r o a b pass =
-    subst (λ n. 2 ^ 64 ≤ n) (sym (length-counted composite (documents ++ others)))
-    (composites-few composite documents others (held_composite r) (held_composite o) a b pass)
-results-few _ documents others r o a b pass = absurd a
+    module _ (request : Request B) (documents : List Fields) (held : Held)
+        (stand : Names request documents held) where
+      -- a name that is held is one of the request
+      pub held-asked : (name : List ℕ) → IsSome (value_of name held)
+          → Contains (keys_of request) name
+      held-asked name found =
+          All-contains (Contains (keys_of request)) (keys_of held) name stand.known
+          (name-found held name found)
 
-results-joined : {B : Type 0} (aggregation : AggregationVariants B) (documents others : List Fields)
-    (r o : Option IntermediateAggregationResult) → ResultStandsFor aggregation documents r
-    → ResultStandsFor aggregation others o
-    → ResultStandsFor aggregation (documents ++ others) (either_or_both r o)
-results-joined _ documents others None None a b = λ i. a i ++ b i
-results-joined {B = B} (Composite composite) documents others (Some r) None a b =
-    subst (λ ds. ResultStandsFor {B = B} (Composite composite) ds (Some r))
-    (sym (append-nil documents) ∙ ap (λ ds. documents ++ ds) (sym b)) a
-results-joined {B = B} (Composite composite) documents others None (Some o) a b =
-    subst (λ ds. ResultStandsFor {B = B} (Composite composite) (ds ++ others) (Some o)) (sym a) b
-results-joined (Composite composite) documents others (Some r) (Some o) a b =
-    composites-joined composite documents others (held_composite r) (held_composite o) a b
-results-joined _ documents others (Some r) o a b = absurd a
-results-joined _ documents others None (Some o) a b = absurd b
+      -- what is held under the name of an aggregation stands for the documents
+      pub held-stands : (a : List ℕ × Aggregation B) (name : List ℕ) (r : Result)
+          → Contains request a → a.0 ≡ name → value_of name held ≡ Some r
+          → Stands a.1 documents (Some r)
+      held-stands a name r c is found =
+          subst (Stands a.1 documents) (ap (λ n. value_of n held) is ∙ found)
+          (All-contains (λ b. Stands b.1 documents (value_of b.0 held)) request a stand.each c)
 
--- ---- of a request
+      -- a result that is held has an aggregation
+      pub held-entry : (name : List ℕ) (r : Result) → value_of name held ≡ Some r
+          → (a : List ℕ × Aggregation B) × Contains request a × (a.0 ≡ name)
+          × Stands a.1 documents (Some r)
+      held-entry name r found =
+          let a = entry_of_name request name (held-asked name (subst IsSome (sym found) refl)) in
+          (a.0, a.1, a.2, held-stands a.0 name r a.1 a.2 found)
 
--- the empty results of a request stand for no documents
-pub StandsFor-empty : {B : Type 0} (request : Request B)
-    → IsStrictlySortedBy name_cmp (keys_of request) → ArePlainComposites request
-    → StandsFor request [] (empty_results request)
-StandsFor-empty {B = B} request up plain = record {
-  each = All-from_Contains
-      (λ a. ResultStandsFor (agg_of a.1) [] (value_of a.0 (empty_results request))) request
-      (λ a c. subst (ResultStandsFor (agg_of a.1) []) (sym (found a c)) (own a c));
-  known = subst (All (Contains (keys_of request)))
-      (sym (keys_of-map_values (λ (a : Aggregation B). empty_result (agg_of a)) request))
-      (All-contains_itself (keys_of request));
-}
-  where
-    own : (a : List ℕ × Aggregation B) → Contains request a
-        → ResultStandsFor (agg_of a.1) [] (Some (empty_result (agg_of a.1)))
-    own a c =
-        let is : IsPlainComposite a.1 =
-        All-contains (λ (b : List ℕ × Aggregation B). IsPlainComposite b.1) request a plain c in
-        result-empty (agg_of a.1) is.0 is.1
+    -- what is told of no two results of one aggregation is told of none
+    pub names-apart : (Told : Result → Result → Type 0)
+        → ((a : Aggregation B) (ds es : List Fields) (r o : Result) → Stands a ds (Some r)
+        → Stands a es (Some o) → ¬ (Told r o))
+        → (request : Request B) (documents others : List Fields) (held more : Held)
+        → Names request documents held → Names request others more
+        → ¬ (SomeOfBoth Told held more)
+    names-apart Told apart request documents others held more a b
+        (name, r, o, at_r, at_o, told) =
+        let e = held-entry request documents held a name r at_r in
+        apart e.0.1 documents others r o e.3
+        (held-stands request others more b e.0 name o e.1 e.2 at_o) told
 
-    found : (a : List ℕ × Aggregation B) → Contains request a
-        → value_of a.0 (empty_results request) ≡ Some (empty_result (agg_of a.1))
-    found a c =
-        lookup-map_values (λ (b : Aggregation B). empty_result (agg_of b)) (is_at (name_cmp a.0))
-        request
-        ∙ ap (option_map (λ b. empty_result (agg_of b))) (value-found request a up c)
+    either-asked : (P : Type 0) (Both : Result → Result → Result → Type 0)
+        (r o w : Option Result) → (IsSome r → P) → (IsSome o → P) → EitherOrBoth Both r o w
+        → IsSome w → P
+    either-asked P Both None o w first second is some = second (subst IsSome is some)
+    either-asked P Both (Some r) o w first second is some = first refl
 
-module _ {B : Type 0} (request : Request B) (documents : List Fields) (held : Held)
-    (stand : StandsFor request documents held) where
-  -- a name that is held is one of the request
-  pub held-asked : (name : List ℕ) → IsSome (value_of name held)
-      → Contains (keys_of request) name
-  held-asked name found =
-      All-contains (Contains (keys_of request)) (keys_of held) name stand.known
-      (name-found held name found)
+    -- two as one stand for the documents of both, where results of one aggregation do
+    pub names-joined : (Both : Result → Result → Result → Type 0)
+        → ((a : Aggregation B) (ds es : List Fields) (r o w : Option Result) → Stands a ds r
+        → Stands a es o → EitherOrBoth Both r o w → Stands a (ds ++ es) w)
+        → (request : Request B) (documents others : List Fields) (held more whole : Held)
+        → Names request documents held → Names request others more
+        → JoinNames Both held more whole
+        → Names request (documents ++ others) whole
+    names-joined Both joined request documents others held more whole a b merged = record {
+      each = λ k d within.
+          let e = get_or request k d in
+          joined e.1 documents others (value_of e.0 held) (value_of e.0 more) (value_of e.0 whole)
+          (a.each k d within) (b.each k d within) (merged e.0);
+      known = names-found (Contains (keys_of request)) whole (λ name found.
+          either-asked (Contains (keys_of request) name) Both (value_of name held)
+          (value_of name more) (value_of name whole)
+          (held-asked request documents held a name) (held-asked request others more b name)
+          (merged name) found);
+    }
 
-  -- the result of an aggregation that is held under its name stands for the documents
-  pub held-stands : (a : List ℕ × Aggregation B) (name : List ℕ) (r : IntermediateAggregationResult)
-      → Contains request a → a.0 ≡ name → value_of name held ≡ Some r
-      → ResultStandsFor (agg_of a.1) documents (Some r)
-  held-stands a name r c is found =
-      subst (ResultStandsFor (agg_of a.1) documents) (ap (λ n. value_of n held) is ∙ found)
-      (All-contains (λ b. ResultStandsFor (agg_of b.1) documents (value_of b.0 held)) request a
-      stand.each c)
+  -- ---- one layer
 
-  -- a result that is held has an aggregation that it stands for documents of
-  pub held-entry : (name : List ℕ) (r : IntermediateAggregationResult) → value_of name held ≡ Some r
-      → (a : List ℕ × Aggregation B) × Contains request a × (a.0 ≡ name)
-      × ResultStandsFor (agg_of a.1) documents (Some r)
-  held-entry name r found =
-      let a = entry_of_name request name (held-asked name (subst IsSome (sym found) refl)) in
-      (a.0, a.1, a.2, held-stands a.0 name r a.1 a.2 found)
+  module _ (Below : Request B → List Fields → Held → Type 0) (below : Request B)
+      (documents others : List Fields) where
+    parts-alike : (Differ : Held → Held → Type 0)
+        → ((ds es : List Fields) (held more : Held) → Below below ds held → Below below es more
+        → ¬ (Differ held more))
+        → (agg : AggregationVariants B) (r o : Parts)
+        → PartsStand is_match Below agg below documents r
+        → PartsStand is_match Below agg below others o
+        → ¬ (PartsDiffer Differ r o)
+    parts-alike Differ alike (asks.Filter a) (held.filter m h) (held.filter n k) s t differ =
+        alike (matching is_match a.query documents) (matching is_match a.query others) h k s.1 t.1
+        differ
+    parts-alike Differ alike (asks.Filter a) (held.filter m h) o s t differ = t
+    parts-alike Differ alike (asks.Filter a) r o s t differ = s
+    parts-alike Differ alike (asks.Composite a) (composite c) (composite d) s t differ =
+        composites-alike (Below below) a documents others c d s t Differ alike differ
+    parts-alike Differ alike (asks.Composite a) (composite c) o s t differ = t
+    parts-alike Differ alike (asks.Composite a) r o s t differ = s
+    parts-alike Differ alike agg (metric m) (metric n) s t differ =
+        metrics-alike documents others agg m n s t differ
+    parts-alike Differ alike agg (metric m) o s t differ = t
+    parts-alike Differ alike agg r o s t differ = s
 
-  -- no result has sub-results, where the names ascend
-  pub StandsFor-flat : IsStrictlySortedBy name_cmp (keys_of held) → AreFlat held
-  StandsFor-flat up =
-      All-from_Contains (λ r. IsFlat (held_composite r.1)) held (λ r c.
-      let a = held-entry r.0 r.1 (value-found held r up c) in
-      result-flat (agg_of a.0.1) documents r.1 a.3)
+    parts-joined : (Merged : Held → Held → Held → Type 0)
+        → ((ds es : List Fields) (held more whole : Held) → Below below ds held
+        → Below below es more → Merged held more whole → Below below (ds ++ es) whole)
+        → (agg : AggregationVariants B) (r o w : Parts)
+        → PartsStand is_match Below agg below documents r
+        → PartsStand is_match Below agg below others o
+        → PartsMerged Merged r o w
+        → PartsStand is_match Below agg below (documents ++ others) w
+    parts-joined Merged joined (asks.Filter a) (held.filter m h) (held.filter n k)
+        (held.filter p l) s t is =
+        let both = sym (matching-append a.query documents others) in (
+          is.0 ∙ (λ i. s.0 i + t.0 i)
+              ∙ sym (length-append (matching is_match a.query documents)
+              (matching is_match a.query others)) ∙ ap length both,
+          subst (λ ds. Below below ds l) both
+              (joined (matching is_match a.query documents) (matching is_match a.query others)
+              h k l s.1 t.1 is.1),
+        )
+    parts-joined Merged joined (asks.Filter a) (held.filter m h) (held.filter n k) w s t is =
+        absurd is
+    parts-joined Merged joined (asks.Filter a) (held.filter m h) o w s t is = absurd t
+    parts-joined Merged joined (asks.Filter a) r o w s t is = absurd s
+    parts-joined Merged joined (asks.Composite a) (composite c) (composite d) (composite w) s t is =
+        composites-joined (Below below) a documents others c d s t Merged joined w is
+    parts-joined Merged joined (asks.Composite a) (composite c) (composite d) w s t is = absurd is
+    parts-joined Merged joined (asks.Composite a) (composite c) o w s t is = absurd t
+    parts-joined Merged joined (asks.Composite a) r o w s t is = absurd s
+    parts-joined Merged joined agg (metric m) (metric n) (metric w) s t is =
+        metrics-joined documents others agg m n w s t is
+    parts-joined Merged joined agg (metric m) (metric n) w s t is = absurd is
+    parts-joined Merged joined agg (metric m) o w s t is = absurd t
+    parts-joined Merged joined agg r o w s t is = absurd s
 
-module _ {B : Type 0} (request : Request B) (documents others : List Fields) (held more : Held)
-    (a : StandsFor request documents held) (b : StandsFor request others more) where
-  -- their shapes never differ
-  pub StandsFor-alike : ¬ (SomeOfBoth ShapesDiffer held more)
-  StandsFor-alike differ =
-      let e = held-entry request documents held a differ.0 differ.1 differ.3 in
-      let o = held-stands request others more b e.0 differ.0 differ.2 e.1 e.2 differ.4 in
-      results-alike (agg_of e.0.1) documents others differ.1 differ.2 e.3 o differ.5
+  -- ---- every depth
 
-  -- a count passes only where documents are counted as often
-  pub StandsFor-few : SomeOfBoth CountsPass held more
-      → Any (λ e. 2 ^ 64 ≤ length (uncut (agg_of e.1) (documents ++ others))) request
-  StandsFor-few pass =
-      let e = held-entry request documents held a pass.0 pass.1 pass.3 in
-      let o = held-stands request others more b e.0 pass.0 pass.2 e.1 e.2 pass.4 in (
-        e.1.0,
-        e.0,
-        e.1.1,
-        e.1.2,
-        results-few (agg_of e.0.1) documents others pass.1 pass.2 e.3 o pass.5,
-      )
+  -- the shapes of two results never differ
+  pub result-alike : (depth : ℕ) (a : Aggregation B) (documents others : List Fields) (r o : Result)
+      → StandsTo is_match depth a documents (Some r) → StandsTo is_match depth a others (Some o)
+      → ¬ (DifferWithin depth r o)
+  result-alike zero a documents others r o s t differ = differ
+  result-alike (suc depth) a documents others r o s t differ =
+      parts-alike (NamesStand is_match (StandsTo is_match depth)) (below_of a) documents others
+      (SomeOfBoth (DifferWithin depth))
+      (λ ds es held more. names-apart (StandsTo is_match depth) (DifferWithin depth)
+      (result-alike depth) (below_of a) ds es held more)
+      (agg_of a) (parts_of r) (parts_of o) s t differ
 
-  either-asked : (P : Type 0) (r o : Option IntermediateAggregationResult) → (IsSome r → P)
-      → (IsSome o → P) → IsSome (either_or_both r o) → P
-  either-asked P r None first second some = first some
-  either-asked P r (Some o) first second some = second refl
+  -- two as one stand for the documents of both
+  pub result-joined : (depth : ℕ) (a : Aggregation B) (documents others : List Fields)
+      (r o w : Option Result)
+      → StandsTo is_match depth a documents r → StandsTo is_match depth a others o
+      → EitherOrBoth (MergedTo depth) r o w → StandsTo is_match depth a (documents ++ others) w
+  result-joined zero a documents others r o w s t is = tt
+  result-joined (suc depth) a documents others None o w s t is =
+      subst (λ ds. StandsTo is_match (suc depth) a (ds ++ others) w) (sym s)
+      (subst (StandsTo is_match (suc depth) a others) (sym is) t)
+  result-joined (suc depth) a documents others (Some r) None w s t is =
+      subst (StandsTo is_match (suc depth) a (documents ++ others)) (sym is)
+      (subst (λ ds. StandsTo is_match (suc depth) a ds (Some r))
+      (sym (append-nil documents) ∙ ap (λ ds. documents ++ ds) (sym t)) s)
+  result-joined (suc depth) a documents others (Some r) (Some o) None s t is = absurd is
+  result-joined (suc depth) a documents others (Some r) (Some o) (Some w) s t is =
+      parts-joined (NamesStand is_match (StandsTo is_match depth)) (below_of a) documents others
+      (JoinNames (MergedTo depth))
+      (λ ds es held more whole. names-joined (StandsTo is_match depth) (MergedTo depth)
+      (result-joined depth) (below_of a) ds es held more whole)
+      (agg_of a) (parts_of r) (parts_of o) (parts_of w) s t is
 
-  -- the two as one stand for the documents of both
-  pub StandsFor-joined : (whole : Held) → AreMerged held more whole
-      → StandsFor request (documents ++ others) whole
-  StandsFor-joined whole merged = record {
-    each = λ k d within.
-        let e = get_or request k d in
-        subst (ResultStandsFor (agg_of e.1) (documents ++ others)) (sym (merged e.0))
-        (results-joined (agg_of e.1) documents others (value_of e.0 held) (value_of e.0 more)
-        (a.each k d within) (b.each k d within));
-    known = names-found (Contains (keys_of request)) whole (λ name found.
-        either-asked (Contains (keys_of request) name) (value_of name held) (value_of name more)
-        (held-asked request documents held a name) (held-asked request others more b name)
-        (subst IsSome (merged name) found));
-  }
+  -- ---- a request
+
+  module _ (request : Request B) (documents others : List Fields) (held more : Held)
+      (a : StandsFor is_match request documents held)
+      (b : StandsFor is_match request others more) where
+    pub StandsFor-alike : ¬ (SomeOfBoth ShapesDiffer held more)
+    StandsFor-alike (name, r, o, at_r, at_o, (depth, differ)) =
+        names-apart (StandsTo is_match depth) (DifferWithin depth) (result-alike depth) request
+        documents others held more (a depth) (b depth) (name, r, o, at_r, at_o, differ)
+
+    pub StandsFor-joined : (whole : Held) → AreMerged held more whole
+        → StandsFor is_match request (documents ++ others) whole
+    StandsFor-joined whole merged depth =
+        names-joined (StandsTo is_match depth) (MergedTo depth) (result-joined depth) request
+        documents others held more whole (a depth) (b depth) (merged depth)

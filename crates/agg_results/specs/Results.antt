@@ -1,57 +1,116 @@
--- The results of a request over documents.
-use Rattle.std.specs.Prelude.{◌≡◌, ◌==◌, ℕ, List, Option, None, if◌then◌else◌, length}
-use Rattle.std.specs.Prelude.{map, option_and_then, sum}
-use Rattle.std.specs.List.{AllZip, last_or}
-use Rattle.std.specs.Map.{keys_of}
-use Rattle.agg_values.specs.Names.{value_of, Named}
+-- The results of a request over documents, as they are shown. An aggregation has others below it, so
+-- its result is told down to a depth. What is so at every depth is the whole result, since requests
+-- are finite: no request has two results over the same documents.
+use Rattle.std.specs.Prelude.{◌≡◌, ℕ, zero, suc, ℤ, pos, ◌+ℤ◌, List, [], ◌∷◌, Bool, Option, None}
+use Rattle.std.specs.Prelude.{Some, ◌<◌, ◌^◌, All, length, map, nat_abs, ⊤}
+use Rattle.std.specs.Int.{int_max, int_min}
+use Rattle.std.specs.List.{AllZip}
 use Rattle.agg_values.specs.Tuple.{KeyTuple}
 use Rattle.agg_column.specs.Document.{Fields}
-use Rattle.agg_request_tree.specs.declared.aggregation.CompositeAggregation.{CompositeAggregation}
-use Rattle.agg_request_tree.specs.declared.aggregation.AggregationVariants.{AggregationVariants}
-use Rattle.agg_request_tree.specs.declared.aggregation.AggregationVariants.TheVariants.{Composite}
-use Rattle.agg_request_tree.specs.Groups.{Group}
+use Rattle.agg_request_tree.specs.Matching.{matching}
+use Rattle.agg_request_tree.specs.Metrics.{numbers_of, values_of_field}
 use Rattle.agg_request_tree.specs.Occurrences.{bound_of}
 use Rattle.agg_request_tree.specs.Page.{Entry, IsPage, group_of}
-use Rattle.agg_request_tree.specs.Request.{Request, agg_of}
+use Rattle.agg_request_tree.specs.Request.{Request, agg_of, below_of, listed_of}
+use Rattle.agg_request_tree.specs.Source.{Sources}
+use Rattle.agg_request_tree.specs.declared.aggregation.Aggregation.{Aggregation}
+use Rattle.agg_request_tree.specs.declared.aggregation.AggregationVariants.{AggregationVariants}
+use Rattle.agg_request_tree.specs.declared.aggregation.AggregationVariants.TheVariants as asks
+use Rattle.agg_request_tree.specs.declared.aggregation.CompositeAggregation.{CompositeAggregation}
+use Rattle.agg_final_results.specs.declared.types as final
+use final.AggregationResult.{AggregationResult}
+use final.AggregationResults.{AggregationResults}
+use final.CompositeBucketEntry.{CompositeBucketEntry}
+use Rattle.agg_intermediate_results.specs.Merging.{best}
+use Rattle.agg_intermediate_results.specs.Shown.{Results, last_tuple, shown_bucket, shown_count}
+use Rattle.agg_intermediate_results.specs.Shown.{shown_filter, shown_max, shown_min, shown_page}
+use Rattle.agg_intermediate_results.specs.Shown.{shown_sum}
 
--- the result of a composite: the entries of its page, and the last tuple of a full one
-pub record CompositeResult : Type 0 where
-  pub entries : List Entry
-  pub after : Option KeyTuple
+-- ---- numbers
 
--- the results of a request, by the names of its aggregations
-abbrev pub Results : Type 0
-Results = Named CompositeResult
+-- the best of some numbers, if there are any
+abbrev pub best_of : (ℤ → ℤ → ℤ) → List ℤ → Option ℤ
+best_of better [] = None
+best_of better (n ∷ ns) = best better (Some n) (best_of better ns)
 
--- the last tuple of groups that are as many as a page has room for; without room there is none
-abbrev pub last_tuple : ℕ → List Group → Option KeyTuple
-last_tuple size groups = if length groups == size then last_or None (keys_of groups) else None
+-- the sum of some numbers
+abbrev pub sum_of : List ℤ → ℤ
+sum_of [] = pos 0
+sum_of (n ∷ ns) = n +ℤ sum_of ns
+
+-- the field whose numbers an aggregation adds
+abbrev pub own_added_field : {B : Type 0} → AggregationVariants B → List (List ℕ)
+own_added_field (asks.Sum a) = a.field ∷ []
+own_added_field _ = []
+
+-- each number and date that a sum of a request adds, at any depth, is one of 64 bits, with or
+-- without a sign
+abbrev pub AddsSmallNumbers : {B : Type 0} → Request B → List Fields → Type 0
+AddsSmallNumbers request documents =
+    All (λ field. All (λ n. nat_abs n < 2 ^ 64) (numbers_of field documents))
+    (listed_of own_added_field request)
+
+-- ---- pages
 
 -- the last tuple of a page that has as many entries as it has room for
 abbrev pub after_tuple : ℕ → List Entry → Option KeyTuple
-after_tuple size entries = last_tuple size (map group_of entries)
+after_tuple size page = last_tuple size (map group_of page)
 
--- the result of a composite over documents
-pub record IsCompositeResult (composite : CompositeAggregation) (documents : List Fields)
-    (result : CompositeResult) : Type 0 where
-  pub page : IsPage composite.sources composite.size (bound_of composite.sources composite.after)
-      documents result.entries
-  pub after : result.after ≡ after_tuple composite.size result.entries
+module _ {B : Type 0} (is_match : B → Fields → Bool) where
+  -- ---- of one aggregation, by what is told of the results of those below it
 
--- the result of an aggregation over documents; other kinds have none yet
-abbrev pub IsResult : {B : Type 0} → AggregationVariants B → List Fields → CompositeResult → Type 0
-IsResult (Composite composite) documents result = IsCompositeResult composite documents result
-IsResult _ documents result = ⊥
+  module _ (Below : Request B → List Fields → Results → Type 0) where
+    -- a bucket shows an entry of a page, with the results over the entry's documents
+    abbrev pub IsBucket : Sources → Request B → Entry → CompositeBucketEntry → Type 0
+    IsBucket sources below entry bucket =
+        (inside : Results)
+        × Below below entry.documents inside
+        × (bucket ≡ shown_bucket sources (group_of entry) inside)
 
--- the results of a request over documents: one for each name
-abbrev pub IsResults : {B : Type 0} → Request B → List Fields → Results → Type 0
-IsResults request documents results =
-    AllZip (λ a r. (r.0 ≡ a.0) × IsResult (agg_of a.1) documents r.1) request results
+    -- the result of a composite shows its page
+    abbrev pub IsPageShown : CompositeAggregation → Request B → List Fields → AggregationResult
+        → Type 0
+    IsPageShown composite below documents s =
+        (page : List Entry) × (entries : List CompositeBucketEntry)
+        × IsPage composite.sources composite.size
+        (bound_of composite.sources composite.after) documents page
+        × AllZip (IsBucket composite.sources below) page entries
+        × (s ≡ shown_page composite.sources entries (after_tuple composite.size page))
 
--- the last tuple of a name's page, where that is full
-abbrev pub after_in : List ℕ → Results → Option KeyTuple
-after_in name results = option_and_then (λ r. r.after) (value_of name results)
+    -- the result of a filter shows how many documents match, and the results over these
+    abbrev pub IsFilterShown : List Fields → Request B → AggregationResult → Type 0
+    IsFilterShown matched below s =
+        (inside : Results) × Below below matched inside × (s ≡ shown_filter (length matched) inside)
 
--- the buckets of results: one for each entry
-abbrev pub buckets_in : Results → ℕ
-buckets_in results = sum (map (λ r. length r.1.entries) results)
+    -- the result of an aggregation
+    abbrev pub IsResult : AggregationVariants B → Request B → List Fields → AggregationResult
+        → Type 0
+    IsResult (asks.Filter a) below documents s =
+        IsFilterShown (matching is_match a.query documents) below s
+    IsResult (asks.Composite a) below documents s = IsPageShown a below documents s
+    IsResult (asks.Count a) below documents s =
+        s ≡ shown_count (length (values_of_field a.field documents))
+    IsResult (asks.Max a) below documents s =
+        s ≡ shown_max (best_of int_max (numbers_of a.field documents))
+    IsResult (asks.Min a) below documents s =
+        s ≡ shown_min (best_of int_min (numbers_of a.field documents))
+    IsResult (asks.Sum a) below documents s = s ≡ shown_sum (sum_of (numbers_of a.field documents))
+
+  -- ---- of a request
+
+  -- one result for each name, of which this is told
+  abbrev pub EachHas : (Aggregation B → List Fields → AggregationResult → Type 0) → Request B
+      → List Fields → Results → Type 0
+  EachHas Has request documents results =
+      AllZip (λ a s. (s.0 ≡ a.0) × Has a.1 documents s.1) request results
+
+  -- the result of an aggregation, down to a depth
+  abbrev pub IsResultTo : ℕ → Aggregation B → List Fields → AggregationResult → Type 0
+  IsResultTo zero a documents s = ⊤
+  IsResultTo (suc depth) a documents s =
+      IsResult (EachHas (IsResultTo depth)) (agg_of a) (below_of a) documents s
+
+  -- the results of a request over documents, at every depth
+  abbrev pub AreResults : Request B → List Fields → AggregationResults → Type 0
+  AreResults request documents results =
+      (depth : ℕ) → EachHas (IsResultTo depth) request documents results.0

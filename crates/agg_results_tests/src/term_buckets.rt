@@ -1,4 +1,4 @@
-use crate::held::entry_of;
+use crate::held::{Metric, entry_of};
 use agg_results::IntermediateTermBucketResult;
 use agg_values::IntermediateKey;
 use std::collections::HashMap;
@@ -8,7 +8,7 @@ use std::test::Fail;
 fn a_container_holds_what_it_was_made_of(rt: HostRuntime) -> Result<(), Fail> {
     let alloc = rt.alloc();
     let mut entries = HashMap::new(alloc);
-    entries.insert(IntermediateKey::I64(7), entry_of(alloc, 3))?;
+    entries.insert(IntermediateKey::I64(7), entry_of::<Metric>(alloc, 3, &[])?)?;
     let terms = IntermediateTermBucketResult::from_parts(entries, 2, 1);
     let held = terms.entries().get(&IntermediateKey::I64(7));
     assert_eq!(rt; held.map(|entry| entry.doc_count), Some(3));

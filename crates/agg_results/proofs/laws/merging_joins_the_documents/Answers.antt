@@ -1,17 +1,14 @@
-use Rattle.agg_results.proofs.StandingResults.{StandsFor-alike, StandsFor-few, StandsFor-flat}
-use Rattle.agg_results.proofs.StandingResults.{StandsFor-joined}
+use Rattle.agg_results.proofs.PassingResults.{StandsFor-few}
+use Rattle.agg_results.proofs.StandingResults.{StandsFor-alike, StandsFor-joined}
 use Rattle.agg_results.proofs.laws.merging_joins_the_documents.Goals as goal
 
 pub returns-clause-alike : goal.returns-clause-alike
-returns-clause-alike g c = StandsFor-alike
+returns-clause-alike g c = λ is_match request documents others held more a b.
+    StandsFor-alike is_match request documents others held more a b
 
 pub returns-clause-few : goal.returns-clause-few
 returns-clause-few g c = StandsFor-few
 
 pub returns-clause-joined : goal.returns-clause-joined
-returns-clause-joined g c request documents others held more whole a b merged =
-    StandsFor-joined request documents others held more a b whole merged
-
-pub returns-clause-flat : goal.returns-clause-flat
-returns-clause-flat g c request documents held up stand =
-    StandsFor-flat request documents held stand up
+returns-clause-joined g c = λ is_match request documents others held more whole a b.
+    StandsFor-joined is_match request documents others held more a b whole

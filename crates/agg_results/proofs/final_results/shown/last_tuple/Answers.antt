@@ -1,7 +1,0 @@
-use Rattle.agg_results.proofs.ShownGroups.{full-last_tuple}
-use Rattle.agg_results.proofs.final_results.shown.last_tuple.Goals as goal
-
-pub returns : goal.returns
-returns c =
-    full-last_tuple c.args.size c.args.page.now c.in_ok-tuple.field-0.now c.if-page-size.false
-    c.in_ok-tuple.ensures.value

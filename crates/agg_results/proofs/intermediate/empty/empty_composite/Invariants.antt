@@ -1,7 +1,0 @@
-use Rattle.std.proofs.Common.{◌≡◌, take}
-use Rattle.agg_results.specs.Empty.{empty_page}
-use Rattle.agg_results.proofs.intermediate.empty.empty_composite.Given as goal
-
--- the page has the orders of the sources so far
-abbrev pub invariant-loop-source : goal.invariant-loop-source
-invariant-loop-source l = l.page ≡ empty_page (take l.source-index l.source-items) l.composite.size

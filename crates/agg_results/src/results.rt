@@ -1,9 +1,0 @@
-//! Final results, as they are shown, and their text as JSON.
-mod bucket_count;
-mod json_text;
-mod own_members;
-mod quoted;
-mod result_text;
-mod types;
-
-pub use types::{AggregationResult, AggregationResults, BucketResult, CompositeBucketEntry};
