@@ -1,0 +1,12 @@
+pub mod AscendingKeys
+pub mod EachItem
+pub mod EntryOrder
+pub mod EntryValues
+pub mod GreatestKey
+pub mod InsertionTurns
+pub mod KeyEquality
+pub mod KeyRemoval
+pub mod LowestCounts
+pub mod NewKeys
+pub mod Permutations
+pub mod SortedEntries

@@ -1,0 +1,86 @@
+//! Tests of counts by keys that are arrays, of each capacity.
+ghost use Rattle.std.specs.Prelude.{◌≡◌, ◌≤◌, ◌<◌, ◌∷◌, [], OnOk, length};
+
+use agg_heap_map::{CountError, HeapMap, count_lowest};
+use agg_values::Steps;
+use arrayvec::ArrayVec;
+use std::hash::Hash;
+use std::marker::Brand;
+use std::process::Abort;
+use std::sync::ledger::{Blank, Ledger};
+use std::test::Fail;
+
+// Counts a key among the two lowest.
+fn count<S: Ord + Hash + Clone, L: Ledger>(
+    counts: &mut HeapMap<S, u64>,
+    key: &S,
+    steps: &mut Steps<L>,
+) -> Result<(), CountError>
+    requires clones { (k l : S) → S.is_clone k l → l ≡ k }
+    requires fits { length counts.old ≤ 2 }
+    ensures { OnOk result (length counts.new ≤ 2) }
+{
+    count_lowest(counts, key, 2, steps)
+}
+
+// Of three keys, ascending, the highest is left out.
+fn expect_two<S: Ord + Hash + Clone, L: Ledger>(
+    rt: &(impl Abort + AllocGlobal),
+    keys: (&S, &S, &S),
+    steps: &mut Steps<L>,
+) -> Result<(), Fail>
+    requires clones { (k l : S) → S.is_clone k l → l ≡ k }
+{
+    let mut counts = HeapMap::new(rt.alloc());
+    count(&mut counts, keys.2, steps)?;
+    count(&mut counts, keys.0, steps)?;
+    count(&mut counts, keys.1, steps)?;
+    count(&mut counts, keys.2, steps)?;
+    assert!(rt; counts.size() == 2 && counts.peek_highest() == Some(keys.1));
+    let entries = counts.entries_ascending(rt.alloc())?;
+    assert!(rt; entries.as_slice() == [(keys.0, &1), (keys.1, &1)].as_slice());
+    Ok(())
+}
+
+// A key of one part.
+fn key_of<const N: usize>(part: u64) -> ArrayVec<u64, N>
+    requires { 0 < N }
+    ensures { result.items ≡ part ∷ [] }
+{
+    let mut key: ArrayVec<u64, N> = ArrayVec::new();
+    key.push(part);
+    key
+}
+
+fn expect_capacity<const N: usize, L: Ledger>(
+    rt: &(impl Abort + AllocGlobal),
+    steps: &mut Steps<L>,
+) -> Result<(), Fail>
+    requires some { 0 < N }
+    requires fits { N ≤ 16 }
+{
+    let keys: (ArrayVec<u64, N>, ArrayVec<u64, N>, ArrayVec<u64, N>) = (
+        key_of(5),
+        key_of(6),
+        key_of(7),
+    );
+    expect_two(rt, (&keys.0, &keys.1, &keys.2), steps)
+}
+
+fn expect_over<L: Ledger>(rt: &(impl Abort + AllocGlobal), blank: Blank) -> Result<(), Fail>
+    requires name { blank.name ≡ L.name }
+    requires parts { blank.parts ≡ L.parts }
+    requires shared { 0 < L.parts }
+{
+    let mut steps: Steps<L> = Steps::new(blank);
+    expect_capacity::<1, L>(rt, &mut steps)?;
+    expect_capacity::<2, L>(rt, &mut steps)?;
+    expect_capacity::<4, L>(rt, &mut steps)?;
+    expect_capacity::<8, L>(rt, &mut steps)?;
+    expect_capacity::<16, L>(rt, &mut steps)
+}
+
+#[test]
+fn counts_arrays_of_each_capacity(rt: HostRuntime) -> Result<(), Fail> {
+    expect_over::<Brand>(&rt, Blank::new(1))
+}

@@ -1,0 +1,7 @@
+//! Tests of bounded maps.
+#![tactic(auto)]
+
+#[cfg(test)]
+mod array_keys;
+#[cfg(test)]
+mod two_parts;

@@ -1,0 +1,139 @@
+//! Tests of maps from keys of two parts.
+ghost use Rattle.std.specs.Prelude.{◌≡◌, ◌<◌, IfOk};
+
+use agg_heap_map::DynArrayHeapMap;
+use agg_values::{InvalidArgument, OutOfMemory, Steps};
+use std::alloc::Global;
+use std::marker::Brand;
+use std::process::Abort;
+use std::sync::ledger::{Blank, Ledger};
+use std::test::Fail;
+
+type Map = DynArrayHeapMap<u64, char>;
+
+const A: [u64; 2] = [1, 2];
+
+const B: [u64; 2] = [2, 1];
+
+// The value at a key, which is this one where the key is new.
+fn put<L: Ledger>(
+    map: &mut Map,
+    key: [u64; 2],
+    value: char,
+    steps: &mut Steps<L>,
+) -> Result<char, OutOfMemory>
+    requires { map.old.0 ≡ 2 }
+    ensures { map.new.0 ≡ 2 }
+{
+    Ok(*map.get_or_insert_with(&key, || value, steps)?)
+}
+
+// The value at a key.
+fn value_at<L: Ledger>(map: &mut Map, key: [u64; 2], steps: &mut Steps<L>) -> Option<char>
+    requires { map.old.0 ≡ 2 }
+    ensures { map.new.0 ≡ 2 }
+{
+    Some(*map.get_mut(&key, steps)?)
+}
+
+// A map with two keys.
+fn two_keys<L: Ledger>(alloc: Global, steps: &mut Steps<L>) -> Result<Map, Fail>
+    ensures { IfOk result (λ map. map.0 ≡ 2) }
+{
+    let mut map = Map::try_new(alloc, 2)?;
+    put(&mut map, A, 'a', steps)?;
+    put(&mut map, B, 'b', steps)?;
+    Ok(map)
+}
+
+// A map has so many keys, of which this is the greatest.
+fn expect_highest(rt: &impl Abort, map: &Map, size: usize, highest: [u64; 2]) {
+    assert_eq!(rt;
+        (map.size(), map.peek_highest()),
+        (size, Some(highest.as_slice()))
+    );
+}
+
+// The greatest key goes, and the pair of the other stays.
+fn expect_evicted<L: Ledger>(
+    rt: &(impl Abort + AllocGlobal),
+    steps: &mut Steps<L>,
+) -> Result<(), Fail> {
+    let mut map = two_keys(rt.alloc(), steps)?;
+    expect_highest(rt, &map, 2, B);
+    assert_eq!(rt; map.memory_consumption(), 256);
+    map.evict_highest(steps);
+    expect_highest(rt, &map, 1, A);
+    assert_eq!(rt; map.memory_consumption(), 128);
+    let mut pairs = map.into_iter();
+    let found = pairs
+        .next()
+        .map(|(key, value)| (key.as_slice() == A.as_slice(), value));
+    assert_eq!(rt; (found, pairs.next().is_none()), (Some((true, 'a')), true));
+    Ok(())
+}
+
+// Keys are there or not, and one that was taken out comes again.
+fn expect_found<L: Ledger>(
+    rt: &(impl Abort + AllocGlobal),
+    steps: &mut Steps<L>,
+) -> Result<(), Fail> {
+    let mut map = two_keys(rt.alloc(), steps)?;
+    let found = (
+        value_at(&mut map, B, steps),
+        value_at(&mut map, [1, 3], steps),
+    );
+    assert_eq!(rt; found, (Some('b'), None));
+    map.evict_highest(steps);
+    assert_eq!(rt; value_at(&mut map, B, steps), None);
+    let again = (put(&mut map, B, 'c', steps)?, put(&mut map, A, 'd', steps)?);
+    assert_eq!(rt; again, ('c', 'a'));
+    expect_highest(rt, &map, 2, B);
+    Ok(())
+}
+
+// An empty map has nothing to give.
+fn expect_nothing<L: Ledger>(
+    rt: &(impl Abort + AllocGlobal),
+    steps: &mut Steps<L>,
+) -> Result<(), Fail> {
+    let mut map = Map::try_new(rt.alloc(), 2)?;
+    map.evict_highest(steps);
+    assert_eq!(rt; value_at(&mut map, A, steps), None);
+    assert_eq!(rt; (map.size(), map.peek_highest()), (0, None));
+    assert!(rt; map.into_iter().next().is_none());
+    Ok(())
+}
+
+fn expect_over<L: Ledger>(rt: &(impl Abort + AllocGlobal), blank: Blank) -> Result<(), Fail>
+    requires name { blank.name ≡ L.name }
+    requires parts { blank.parts ≡ L.parts }
+    requires shared { 0 < L.parts }
+{
+    let mut steps: Steps<L> = Steps::new(blank);
+    expect_evicted(rt, &mut steps)?;
+    expect_found(rt, &mut steps)?;
+    expect_nothing(rt, &mut steps)
+}
+
+#[test]
+fn keeps_and_evicts_keys(rt: HostRuntime) -> Result<(), Fail> {
+    expect_over::<Brand>(&rt, Blank::new(1))
+}
+
+// The fault of a dimension.
+fn fault_of(alloc: Global, dimension: usize) -> Option<InvalidArgument> {
+    Map::try_new(alloc, dimension).err()
+}
+
+#[test]
+fn refuses_other_dimensions(rt: HostRuntime) {
+    for (dimension, fault) in [
+        (0, Some(InvalidArgument::NoSource)),
+        (1, None),
+        (16, None),
+        (17, Some(InvalidArgument::TooManySources)),
+    ] {
+        assert_eq!(rt; fault_of(rt.alloc(), dimension), fault, "{dimension}");
+    }
+}
