@@ -1,0 +1,16 @@
+pub mod BucketSteps
+pub mod Counting
+pub mod CutPages
+pub mod Errors
+pub mod Groups
+pub mod Labels
+pub mod LargeNumbers
+pub mod NodeLaws
+pub mod NodeSteps
+pub mod NodeVisits
+pub mod Owners
+pub mod PageParents
+pub mod PageRoom
+pub mod PageSteps
+pub mod Spread
+pub mod StandingNodes

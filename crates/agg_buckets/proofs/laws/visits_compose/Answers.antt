@@ -1,0 +1,8 @@
+use Rattle.agg_buckets.proofs.NodeLaws.{compose-tuples, compose-visits}
+use Rattle.agg_buckets.proofs.laws.visits_compose.Goals as goal
+
+pub returns : goal.returns
+returns g c = record {
+  visits = compose-visits g.S.Ord.cmp g.met.S.Ord.total;
+  tuples = compose-tuples g.S.Ord.cmp g.met.S.Ord.total;
+}

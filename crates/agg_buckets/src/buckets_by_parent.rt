@@ -1,0 +1,162 @@
+//! The buckets of each parent, and what is visited now.
+ghost use Rattle.std.specs.Prelude.{◌≡◌, ◌≤◌, ◌<◌, ◌+◌, ◌-◌, [], ◌∷◌, IfOk, IsErrOf, OnOk, get_or};
+ghost use Rattle.std.specs.Prelude.{length, map, nat_lt};
+ghost use Rattle.std.specs.Map.Iter.{deref_pair};
+
+use crate::bucket::Bucket;
+use crate::page::visit_page;
+use crate::visit_error::VisitError;
+use agg_cache::{BucketId, BucketIdProvider};
+use agg_heap_map::HeapMap;
+use agg_values::{DocId, OutOfMemory, Steps};
+use std::alloc::Global;
+use std::hash::Hash;
+use std::marker::Model;
+use std::sync::ledger::Ledger;
+
+/// The buckets of each parent by tuple, and the documents that were visited under their ids since
+/// these were last forgotten. Contracts see a node.
+#[derive(Drop)]
+pub struct BucketsByParent<S: Ord + Hash> {
+    alloc: Global,
+    parents: Vec<HeapMap<S, Bucket>>,
+    size: usize,
+    ids: BucketIdProvider,
+    pushes: Vec<(BucketId, DocId)>,
+    parent: BucketId,
+    doc: DocId,
+}
+
+impl<S: Ord + Hash> Model for BucketsByParent<S> {
+    ghost use Rattle.std.specs.Prelude.{◌<◌, length};
+    ghost use Rattle.agg_buckets.specs.Node.{Node};
+
+    ghost Value = { Node S };
+
+    ghost view = { λ buckets. record {
+      parents = buckets.parents.items;
+      size = buckets.size;
+      next = buckets.ids;
+      pushes = buckets.pushes.items;
+      parent = buckets.parent;
+      doc = buckets.doc;
+    } };
+
+    ghost invariant = { λ buckets. buckets.parent < length buckets.parents.items };
+}
+
+impl<S: Ord + Hash> BucketsByParent<S> {
+    ghost use Rattle.agg_buckets.specs.Node.{IsNew, Prepares, Takes, TooMany};
+
+    /// One parent without buckets.
+    pub fn new(alloc: Global) -> Result<BucketsByParent<S>, OutOfMemory>
+    where
+        S: Drop,
+        ensures { IfOk result (λ buckets. IsNew buckets) }
+    {
+        let mut parents = Vec::new(alloc);
+        parents.push(HeapMap::new(alloc))?;
+        Ok(BucketsByParent {
+            alloc,
+            parents,
+            size: 0,
+            ids: BucketIdProvider::new(),
+            pushes: Vec::new(alloc),
+            parent: 0,
+            doc: 0,
+        })
+    }
+
+    /// Prepares parents without buckets, up to this one.
+    pub fn prepare(&mut self, max_parent: BucketId) -> Result<(), OutOfMemory>
+    where
+        S: Drop,
+        ensures same { Prepares self.old self.new }
+        ensures prepared { OnOk result (max_parent < length self.new.parents) }
+    {
+        while self.parents.len() <= max_parent as usize {
+            self.parents.push(HeapMap::new(self.alloc))?;
+        }
+        Ok(())
+    }
+
+    /// Whether a parent is prepared.
+    pub fn has_parent(&self, parent: BucketId) -> bool
+        ensures { result ≡ nat_lt parent (length self.now.parents) }
+    {
+        (parent as usize) < self.parents.len()
+    }
+
+    /// Visits documents of this parent from here on, which has so many buckets at most. What was to
+    /// be handed on is forgotten.
+    pub fn begin_parent(&mut self, parent: BucketId, size: usize)
+        requires { parent < length self.old.parents }
+        ensures { self.new ≡ record self.old { parent = parent; size = size; pushes = [] } }
+    {
+        self.parent = parent;
+        self.size = size;
+        self.pushes.clear();
+    }
+
+    /// Visits this document from here on.
+    pub fn begin_document(&mut self, doc: DocId)
+        ensures { self.new ≡ record self.old { doc = doc } }
+    {
+        self.doc = doc;
+    }
+
+    /// Visits a tuple of the document once more, by at most three steps. Nothing is said of what is
+    /// there after an error.
+    pub fn visit<L: Ledger>(&mut self, tuple: &S, steps: &mut Steps<L>) -> Result<(), VisitError>
+    where
+        S: Clone + Drop,
+        requires clones { (t q : S) → S.is_clone t q → q ≡ t }
+        ensures ok { OnOk result (Takes S.cmp (tuple.now ∷ []) self.old self.new) }
+        ensures too_many { IsErrOf result VisitError.TooMany
+            → TooMany S.cmp (tuple.now ∷ []) self.old }
+        ensures most { steps.new ≤ steps.old + 3 }
+        ensures least { steps.old + 1 ≤ steps.new }
+    {
+        let page = &mut self.parents[self.parent as usize];
+        if let Some(id) = visit_page(page, &mut self.ids, tuple, self.size, steps)? {
+            self.pushes.push((id, self.doc))?;
+        }
+        Ok(())
+    }
+
+    /// The buckets of a parent by reference, ascending by their tuples: none where it isn't
+    /// prepared.
+    pub fn of_parent(&self, parent: BucketId) -> Result<Vec<(&S, &Bucket)>, OutOfMemory>
+        ensures { IfOk result
+            (λ buckets. map deref_pair buckets.items ≡ get_or self.now.parents parent []) }
+    {
+        match self.parents.get(parent as usize) {
+            Some(page) => page.entries_ascending(self.alloc),
+            None => Ok(Vec::new(self.alloc)),
+        }
+    }
+
+    /// What was visited under ids since this was last forgotten.
+    pub fn pushes(&self) -> &[(BucketId, DocId)]
+        ensures { result.now ≡ self.now.pushes }
+    {
+        self.pushes.as_slice()
+    }
+
+    /// Forgets what was to be handed on.
+    pub fn clear_pushes(&mut self)
+        ensures { self.new ≡ record self.old { pushes = [] } }
+    {
+        self.pushes.clear();
+    }
+
+    /// How many buckets a parent has: none where it isn't prepared.
+    pub fn num_buckets(&self, parent: BucketId) -> usize
+        ensures { result ≡ length (get_or self.now.parents parent []) }
+    {
+        match self.parents.get(parent as usize) {
+            Some(page) => page.size(),
+            None => 0,
+        }
+    }
+}

@@ -1,0 +1,13 @@
+//! The buckets of a composite, by parent and tuple: at most a page of them for each parent.
+#![tactic(auto)]
+
+mod bucket;
+mod buckets_by_parent;
+mod laws;
+mod page;
+mod visit_error;
+
+pub use bucket::Bucket;
+pub use buckets_by_parent::BucketsByParent;
+pub use laws::{buckets_have_the_cut, cuts_compose, nodes_stay_right, visits_compose};
+pub use visit_error::VisitError;

@@ -1,0 +1,117 @@
+//! The buckets of one parent.
+ghost use Rattle.std.specs.Prelude.{◌≡◌, ◌<◌, ◌≤◌, ◌+◌, ◌⊎◌, None, IfOk, IsErrOf, MatchOption};
+ghost use Rattle.std.specs.Prelude.{OnOk, false, true};
+ghost use Rattle.std.specs.BTreeMap.{insert_entry, is_at};
+ghost use Rattle.std.specs.Map.{lookup};
+ghost use Rattle.agg_buckets.specs.Page.{
+  HasRoom,
+  IsAbove,
+  IsAbsent,
+  IsCountedMore,
+  IsFull,
+  PageTakes,
+  opened,
+};
+
+use crate::bucket::Bucket;
+use crate::visit_error::VisitError;
+use agg_cache::{BucketId, BucketIdProvider};
+use agg_heap_map::HeapMap;
+use agg_values::{OutOfMemory, Steps};
+use std::hash::Hash;
+use std::sync::ledger::Ledger;
+
+/// Visits a tuple: it is looked up once. A new one above a full page is left out, and one below its
+/// greatest takes the place of that one. Answers the id of its bucket.
+pub fn visit_page<S: Ord + Hash + Clone + Drop, L: Ledger>(
+    page: &mut HeapMap<S, Bucket>,
+    ids: &mut BucketIdProvider,
+    tuple: &S,
+    size: usize,
+    steps: &mut Steps<L>,
+) -> Result<Option<BucketId>, VisitError>
+    requires clones { (t q : S) → S.is_clone t q → q ≡ t }
+    ensures ok { IfOk result (PageTakes S.cmp size tuple.now ids.old ids.new page.old page.new) }
+    ensures too_many { IsErrOf result VisitError.TooMany
+        → (4294967295 < ids.old + 1) ⊎ IsFull S.cmp page.old tuple.now }
+    ensures most { steps.new ≤ steps.old + 3 }
+    ensures least { steps.old + 1 ≤ steps.new }
+{
+    if let Some(id) = count_more(page, tuple, steps)? {
+        return Ok(Some(id));
+    }
+    if !make_room(page, tuple, size, steps) {
+        return Ok(None);
+    }
+    let id = ids.next_bucket_id()?;
+    open(page, tuple, id, steps)?;
+    Ok(Some(id))
+}
+
+// Counts a document more in the bucket of a tuple, if there is one, and answers its id. This is one
+// step.
+fn count_more<S: Ord + Hash, L: Ledger>(
+    page: &mut HeapMap<S, Bucket>,
+    tuple: &S,
+    steps: &mut Steps<L>,
+) -> Result<Option<BucketId>, VisitError>
+    ensures ok { IfOk result (λ found. MatchOption found
+        ((page.new ≡ page.old) × IsAbsent S.cmp page.old tuple.now)
+        (λ id. IsCountedMore S.cmp tuple.now id page.old page.new)) }
+    ensures too_many { IsErrOf result VisitError.TooMany → IsFull S.cmp page.old tuple.now }
+    ensures steps { steps.new ≡ steps.old + 1 }
+{
+    let Some(bucket) = page.get_mut(tuple, steps) else {
+        return Ok(None);
+    };
+    bucket.count = bucket.count.checked_add(1).ok_or(VisitError::TooMany)?;
+    Ok(Some(bucket.id))
+}
+
+// Makes room for a new tuple on a full page, in the place of the greatest that is above it. Whether
+// there is room.
+fn make_room<S: Ord + Hash + Drop, L: Ledger>(
+    page: &mut HeapMap<S, Bucket>,
+    tuple: &S,
+    size: usize,
+    steps: &mut Steps<L>,
+) -> bool
+    requires { IsAbsent S.cmp page.old tuple.now }
+    ensures room { result ≡ true → HasRoom S.cmp size tuple.now page.old page.new }
+    ensures none { result ≡ false → (page.new ≡ page.old) × IsAbove S.cmp size page.old tuple.now }
+    ensures most { steps.new ≤ steps.old + 1 }
+    ensures least { steps.old ≤ steps.new }
+{
+    if page.size() < size {
+        return true;
+    }
+    let Some(highest) = page.peek_highest() else {
+        return false;
+    };
+    if highest.cmp(tuple).is_lt() {
+        return false;
+    }
+    page.evict_highest(steps);
+    true
+}
+
+// Opens a bucket of a new tuple, with one document. This is one step.
+fn open<S: Ord + Hash + Clone + Drop, L: Ledger>(
+    page: &mut HeapMap<S, Bucket>,
+    tuple: &S,
+    id: BucketId,
+    steps: &mut Steps<L>,
+) -> Result<(), OutOfMemory>
+    requires clones { (t q : S) → S.is_clone t q → q ≡ t }
+    requires absent { lookup (is_at (S.cmp tuple.now)) page.old ≡ None }
+    ensures ok { OnOk result (page.new ≡ insert_entry S.cmp page.old tuple.now (opened id)) }
+    ensures most { steps.new ≤ steps.old + 1 }
+    ensures least { steps.old ≤ steps.new }
+{
+    page.insert_new(
+        tuple.clone()?,
+        tuple.clone()?,
+        Bucket { count: 1, id },
+        steps,
+    )
+}

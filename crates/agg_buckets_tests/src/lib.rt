@@ -1,0 +1,5 @@
+//! Tests of the buckets of a composite.
+#![tactic(auto)]
+
+#[cfg(test)]
+mod full_page;
