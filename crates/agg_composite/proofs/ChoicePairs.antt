@@ -15,17 +15,17 @@ use Rattle.agg_request_tree.specs.Source.{Sources, field_of, missing_bucket_of, 
 use Rattle.agg_request_tree.specs.Source.{rules_of, source_values, values_at}
 use Rattle.agg_request_tree.specs.declared.source.CompositeAggregationSource.{CompositeAggregationSource}
 use Rattle.agg_request_tree.specs.Source.{after_of}
-use Rattle.agg_composite.specs.Accessors.{AllFit, AreAccessorsOf, keys_held, keys_read, side_to}
+use Rattle.agg_accessor.specs.Accessors.{AllFit, AreAccessorsOf, keys_held, keys_read, side_to}
 use Rattle.agg_composite.specs.Choices.{AreChoicesIn, AreChoicesOf, CanRead, IsChoiceOf}
 use Rattle.agg_composite.specs.Choices.{values_read}
-use Rattle.agg_composite.specs.Encoding.{EncodedTuple, StandFor, StandsFor}
-use Rattle.agg_composite.specs.Lanes.{keys_at}
+use Rattle.agg_accessor.specs.Encoding.{EncodedTuple, StandFor, StandsFor}
+use Rattle.agg_accessor.specs.Lanes.{keys_at}
 use Rattle.agg_composite.specs.Walk.{walked}
-use Rattle.agg_composite.specs.declared.accessor.CompositeSourceAccessors.{CompositeSourceAccessors}
+use Rattle.agg_accessor.specs.declared.accessor.CompositeSourceAccessors.{CompositeSourceAccessors}
 use Rattle.agg_composite.specs.declared.walk.choice.Choice.{Choice}
 use Rattle.agg_composite.proofs.CanonicalKeys.{canonical}
-use Rattle.agg_composite.proofs.FieldColumns.{keys-of_field, starts-of_field}
-use Rattle.agg_composite.proofs.KeysGiven.{keys_in-canonical, range-alike, starts-canonical}
+use Rattle.agg_accessor.proofs.FieldColumns.{keys-of_field, starts-of_field}
+use Rattle.agg_accessor.proofs.KeysGiven.{keys_in-canonical, range-alike, starts-canonical}
 use Rattle.agg_composite.proofs.NullStanding.{null-standing}
 use Rattle.agg_composite.proofs.Pairs.{AllZip-filter, AllZip-flat_map, AllZip-map, AllZip-weaker}
 use Rattle.agg_composite.proofs.PastSides.{is_past-sides, sides_to}

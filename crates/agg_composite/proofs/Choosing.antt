@@ -12,8 +12,7 @@ use Rattle.std.proofs.lemmas.List.Sums.{sum_by-append, sum_by-cons}
 use Rattle.agg_values.specs.TypedKey.{CompositeIntermediateKey}
 use Rattle.agg_values.specs.declared.order.Order.{Order}
 use Rattle.agg_values.specs.declared.order.Order.TheVariants.{Asc, Desc}
-use Rattle.agg_column.specs.Columns.{StandsForKey, StoredColumn, all_keys, column_keys}
-use Rattle.agg_column.specs.Columns.{encoded_key}
+use Rattle.agg_column.specs.Columns.{StandsForKey, StoredColumn, all_keys, column_keys, encoded_key}
 use Rattle.agg_column.specs.declared.keys.ColumnKeys.{ColumnKeys}
 use Rattle.agg_column.specs.declared.keys.ColumnKeys.TheVariants.{Bools}
 use Rattle.agg_request_tree.specs.Faults.{HasInterval}
@@ -23,19 +22,20 @@ use Rattle.agg_request_tree.specs.declared.source.CompositeAggregationSource as 
 use kind.{CompositeAggregationSource}
 use kind.TheVariants.{DateHistogram, Histogram, Terms}
 use Rattle.agg_request_tree.proofs.Faults.{HasInterval-large}
-use Rattle.agg_composite.specs.Accessors.{IsAccessorOf, keys_held}
+use Rattle.agg_accessor.specs.Accessors.{IsAccessorOf, keys_held}
 use Rattle.agg_composite.specs.Choices.{AddsChoices, AreChoicesIn, AreChoicesOf, AreGathered}
 use Rattle.agg_composite.specs.Choices.{CanRead, IsChoiceOf, choice_at, divided_choices}
 use Rattle.agg_composite.specs.Choices.{null_choice, place_in, values_read}
-use Rattle.agg_composite.specs.Lanes.{column_at, column_keys_of, columns_of, in_requested}
-use Rattle.agg_composite.specs.Lanes.{keys_at, lanes}
+use Rattle.agg_accessor.specs.Lanes.{column_at, column_keys_of, columns_of, in_requested}
+use Rattle.agg_accessor.specs.Lanes.{keys_at, lanes}
 use Rattle.agg_composite.specs.Walk.{parts}
-use Rattle.agg_composite.specs.declared.accessor.CompositeAccessor.{CompositeAccessor}
-use Rattle.agg_composite.specs.declared.accessor.CompositeSourceAccessors.{CompositeSourceAccessors}
+use Rattle.agg_accessor.specs.declared.accessor.CompositeAccessor.{CompositeAccessor}
+use Rattle.agg_accessor.specs.declared.accessor.CompositeSourceAccessors.{CompositeSourceAccessors}
 use Rattle.agg_composite.specs.declared.walk.choice.Choice.{Choice}
+use Rattle.agg_accessor.proofs.StartRanges.{in_front}
 use Rattle.agg_composite.proofs.ChosenStarts.{counted-chosen, dates-chosen}
-use Rattle.agg_composite.proofs.KeysGiven.{keys_in-append}
-use Rattle.agg_composite.proofs.LaneKeys.{columns-many, numbers-some}
+use Rattle.agg_accessor.proofs.KeysGiven.{keys_in-append}
+use Rattle.agg_accessor.proofs.LaneKeys.{columns-many, numbers-some}
 use Rattle.agg_composite.proofs.Pairs.{AllZip-append}
 
 -- ---- the numbers of a column
@@ -147,12 +147,6 @@ turn-keys columns turn doc column l is =
     ∙ ap (λ (x : StoredColumn). column_keys x doc) is)
 
 -- what holds of the keys of columns holds of those of the column that is read in a turn
-pub in_front : {A : Type 0} (P : A → Type 0) (xs ys : List A) → AllByRecursion P (xs ++ ys)
-    → AllByRecursion P xs × AllByRecursion P ys
-in_front P [] ys all = (tt, all)
-in_front P (x ∷ xs) ys all =
-    let rest = in_front P xs ys all.1 in ((all.0, rest.0), rest.1)
-
 turn-range : (P : CompositeIntermediateKey → Type 0) (columns : List StoredColumn) (turn doc : ℕ)
     (column : StoredColumn) → turn < length columns → get_or columns turn column ≡ column
     → AllByRecursion P (all_keys columns doc) → AllByRecursion P (column_keys column doc)

@@ -1,13 +1,11 @@
 -- The starts of a column's values are choices of the keys that a source gives for the values.
 use Rattle.std.proofs.Common.{◌≡◌, ◌<◌, ◌^◌, ℕ, ℤ, pos, List, [], ◌∷◌, Bool}
-use Rattle.std.proofs.Common.{true, false, cond, Option, Some, Ok, Result, length}
-use Rattle.std.proofs.Common.{map, inr}
+use Rattle.std.proofs.Common.{Ok, Option, Result, Some, cond, false, inr, length, map, true}
 use Rattle.std.proofs.Common.{refl, sym, ap, ◌∙◌, subst, arith}
 use Rattle.std.specs.Int.{int_div_euclid, w64}
 use Rattle.std.specs.List.{AllByRecursion, cons_option}
 use Rattle.std.specs.Prelude.{◌≤ℤ◌, ◌-ℤ◌, FitsSigned, MatchOption, filter_map, int_lt, option_map}
-use Rattle.std.specs.Prelude.{⊤}
-use Rattle.std.specs.Prelude.{unsigned_abs}
+use Rattle.std.specs.Prelude.{⊤, unsigned_abs}
 use Rattle.std.proofs.lemmas.Int.{ints}
 use Rattle.agg_values.specs.TypedKey.{CompositeIntermediateKey, typed_number}
 use Rattle.agg_values.specs.declared.typed_key.CompositeIntermediateKey.TheVariants as key
@@ -15,7 +13,6 @@ use Rattle.agg_values.specs.declared.request_error.RequestError.{RequestError}
 use Rattle.agg_calendar.specs.Start.{IsUsable, fixed_start}
 use Rattle.agg_calendar.specs.declared.interval.PrecomputedDateInterval as interval
 use interval.{PrecomputedDateInterval}
-use interval.TheVariants.{Calendar, FixedNanoseconds, NotApplicable}
 use Rattle.agg_column.specs.Columns.{StandsForKey, encoded_key, type_of}
 use Rattle.agg_column.specs.declared.keys.ColumnKeys.{ColumnKeys}
 use Rattle.agg_column.specs.declared.keys.ColumnKeys.TheVariants.{Bools, Texts, Signed, Unsigned}
@@ -32,32 +29,14 @@ use dates.{DateHistogramCompositeAggregationSource as Dated}
 use Rattle.agg_request_tree.specs.declared.source.HistogramCompositeAggregationSource as numbers
 use numbers.{HistogramCompositeAggregationSource as Counted}
 use Rattle.agg_composite.specs.Choices.{AreChoicesOf, choice_at}
-use Rattle.agg_composite.specs.Lanes.{keys_at, lanes}
-use Rattle.agg_composite.specs.Places.{moved_up}
-use Rattle.agg_composite.specs.Starts.{by_numbers, by_time, is_within, lane_number, start_number}
-use Rattle.agg_composite.specs.declared.accessor.CompositeSourceAccessors.{CompositeSourceAccessors}
-use Rattle.agg_composite.specs.declared.divisor.Divisor.{Divisor}
-use Rattle.agg_composite.specs.declared.divisor.Divisor.TheVariants.{Nothing, Numbers, Time}
+use Rattle.agg_accessor.specs.Lanes.{keys_at, lanes}
+use Rattle.agg_accessor.specs.Places.{moved_up}
+use Rattle.agg_accessor.specs.Starts.{by_numbers, by_time, is_within, lane_number, start_number}
+use Rattle.agg_accessor.specs.declared.accessor.CompositeSourceAccessors.{CompositeSourceAccessors}
+use Rattle.agg_accessor.specs.declared.divisor.Divisor.{Divisor}
 use Rattle.agg_composite.specs.declared.walk.choice.Choice.{Choice}
-use Rattle.agg_composite.proofs.LaneKeys.{numbers-at}
-
--- ---- divisors
-
-width-at_least : (width : ℤ) → pos 1 ≤ℤ width → int_lt width (pos 1) ≡ false
-width-at_least width least = grind (arith, ints)
-
--- a width that is at least one divides numbers
-pub numbers-divide : (width : ℤ) → pos 1 ≤ℤ width → by_numbers width ≡ Numbers width
-numbers-divide width least =
-    ap (λ b. cond b Nothing (Numbers width)) (width-at_least width least)
-
--- an interval that is usable divides time
-pub time-divides : (interval : PrecomputedDateInterval) → IsUsable interval
-    → by_time interval ≡ Time interval
-time-divides NotApplicable usable = refl
-time-divides (FixedNanoseconds ns) usable =
-    ap (λ b. cond b Nothing (Time (FixedNanoseconds ns))) (width-at_least ns usable)
-time-divides (Calendar unit) usable = refl
+use Rattle.agg_accessor.proofs.Divisors.{numbers-divide, time-divides}
+use Rattle.agg_accessor.proofs.LaneKeys.{numbers-at}
 
 -- ---- starts within i64
 

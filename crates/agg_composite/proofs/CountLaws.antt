@@ -5,7 +5,7 @@ use Rattle.std.specs.BTreeMap.{is_at}
 use Rattle.std.proofs.lemmas.List.{append-nil}
 use Rattle.std.proofs.lemmas.List.Sums.{sum_by-append}
 use Rattle.agg_composite.specs.Counts.{Counts, EncodedCounts}
-use Rattle.agg_composite.specs.Encoding.{EncodedTuple, encoded_tuple_order}
+use Rattle.agg_accessor.specs.Encoding.{EncodedTuple, encoded_tuple_order}
 use Rattle.agg_composite.specs.GroupCounts.{CountsBehind, CountsTooOften}
 
 -- nothing is counted

@@ -14,10 +14,10 @@ use Rattle.std.proofs.lemmas.Cmp.{tied_itself}
 use Rattle.std.proofs.lemmas.Map.Views.{tells_apart}
 use Rattle.agg_request_tree.proofs.Lists.{AllByRecursion-weaker, count-step}
 use Rattle.agg_composite.specs.Counts.{positive}
-use Rattle.agg_composite.specs.Encoding.{encoded_order}
+use Rattle.agg_accessor.specs.Encoding.{encoded_order}
 use Rattle.agg_composite.specs.KeyCounts.{CountsMore, Entries, count_in, counted_again, raised}
-use Rattle.agg_composite.specs.declared.encoded.Encoded.{Encoded}
-use Rattle.agg_composite.proofs.EncodedOrder.{key-exact, key_order-total}
+use Rattle.agg_accessor.specs.declared.encoded.Encoded.{Encoded}
+use Rattle.agg_accessor.proofs.EncodedOrder.{key-exact, key_order-total}
 
 -- whether a key is q
 abbrev pub at : Encoded → Encoded → Bool

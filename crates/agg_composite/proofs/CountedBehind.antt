@@ -12,9 +12,9 @@ use Rattle.agg_composite.specs.declared.visit_error.VisitError.{VisitError}
 use Rattle.agg_request_tree.specs.Source.{Sources}
 use Rattle.agg_composite.specs.Answers.{AnswersEncoded, AnswersFor, CountsFor, TooOftenFor}
 use Rattle.agg_composite.specs.Counts.{Counts, EncodedCounts}
-use Rattle.agg_composite.specs.Encoding.{EncodedTuple, StandFor, encoded_tuple_order}
+use Rattle.agg_accessor.specs.Encoding.{EncodedTuple, StandFor, encoded_tuple_order}
 use Rattle.agg_composite.specs.GroupCounts.{CountsBehind, CountsTooOften}
-use Rattle.agg_composite.specs.declared.accessor.CompositeSourceAccessors.{CompositeSourceAccessors}
+use Rattle.agg_accessor.specs.declared.accessor.CompositeSourceAccessors.{CompositeSourceAccessors}
 use Rattle.agg_composite.proofs.Pairs.{AllZip-append}
 use Rattle.agg_composite.proofs.VisitsInRow.{AreVisits}
 

@@ -13,11 +13,12 @@ use Rattle.agg_request_tree.specs.Occurrences.{bound_of, is_past, occurrences, o
 use Rattle.agg_request_tree.specs.Occurrences.{past_occurrences}
 use Rattle.agg_request_tree.specs.Ranges.{AreInRange}
 use Rattle.agg_request_tree.specs.Source.{Sources, rules_of}
-use Rattle.agg_composite.specs.Accessors.{AllFit}
-use Rattle.agg_composite.specs.Answers.{AnswersDocuments, AreAllInRange, CountsFor}
+use Rattle.agg_accessor.specs.Accessors.{AllFit}
+use Rattle.agg_composite.specs.Answers.{AnswersDocuments, CountsFor}
+use Rattle.agg_accessor.specs.Ranges.{AreAllInRange}
 use Rattle.agg_composite.specs.Answers.{TooOftenFor}
 use Rattle.agg_composite.specs.Counts.{EncodedCounts}
-use Rattle.agg_composite.specs.declared.accessor.CompositeSourceAccessors.{CompositeSourceAccessors}
+use Rattle.agg_accessor.specs.declared.accessor.CompositeSourceAccessors.{CompositeSourceAccessors}
 use Rattle.agg_composite.proofs.Appending.{Appends}
 use Rattle.agg_composite.proofs.CountedBehind.{typed-visits}
 use Rattle.agg_composite.proofs.VisitsInRow.{Returned, SoFar, all-visited, error-visited}

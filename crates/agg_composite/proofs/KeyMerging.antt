@@ -18,17 +18,19 @@ use Rattle.std.proofs.lemmas.List.Elements.{All-append, All-push}
 use Rattle.std.proofs.lemmas.List.Sorted.{ranks_by, sorted_far}
 use Rattle.std.proofs.lemmas.Map.Views.{tells_apart}
 use Rattle.agg_request_tree.proofs.Lists.{AllByRecursion-weaker, count-step}
-use Rattle.agg_composite.specs.Encoding.{encoded_order}
+use Rattle.agg_accessor.specs.Encoding.{encoded_order}
 use Rattle.agg_composite.specs.KeyCounts.{AreAscending, CountsMore, Entries, IsBelow, IsUpTo}
 use Rattle.agg_composite.specs.KeyCounts.{count_in, entries_of, raised}
-use Rattle.agg_composite.specs.declared.encoded.Encoded.{Encoded}
+use Rattle.agg_accessor.specs.declared.encoded.Encoded.{Encoded}
 use Rattle.agg_composite.specs.declared.group_counts.single.KeyCount.{KeyCount}
 use Rattle.agg_composite.proofs.CountedAgain.{at, count-raised, insert-behind, lookup-behind}
 use Rattle.agg_composite.proofs.CountedAgain.{lookup-more, raised-none, raised-twice, sorted-insert}
-use Rattle.agg_composite.proofs.EncodedOrder.{above-apart, below-greater, below-then_upto}
-use Rattle.agg_composite.proofs.EncodedOrder.{below-trans, below-upto, key-exact, key_order-total}
-use Rattle.agg_composite.proofs.EncodedOrder.{lower, nothing, upto-itself, upto-not_less}
-use Rattle.agg_composite.proofs.EncodedOrder.{upto-then_below}
+use Rattle.agg_composite.proofs.KeysBelow.{above-apart, below-greater, below-then_upto}
+use Rattle.agg_composite.proofs.KeysBelow.{below-trans, below-upto}
+use Rattle.agg_accessor.proofs.EncodedOrder.{key-exact, key_order-total}
+use Rattle.agg_composite.proofs.KeysBelow.{lower, upto-itself, upto-not_less}
+use Rattle.agg_accessor.proofs.EncodedOrder.{nothing}
+use Rattle.agg_composite.proofs.KeysBelow.{upto-then_below}
 
 -- ---- counts below a key stand before its place
 

@@ -14,14 +14,14 @@ use Rattle.std.proofs.lemmas.List.Sorted.{sum_by-IsPermutation}
 use Rattle.std.proofs.lemmas.List.Sums.{fold-append, sum_by-append}
 use Rattle.agg_request_tree.proofs.Lists.{count-step}
 use Rattle.agg_composite.specs.Counts.{positive}
-use Rattle.agg_composite.specs.Encoding.{EncodedTuple, encoded_order, encoded_tuple_order}
+use Rattle.agg_accessor.specs.Encoding.{EncodedTuple, encoded_order, encoded_tuple_order}
 use Rattle.agg_composite.specs.GroupCounts.{CountsBehind, CountsTooOften}
 use Rattle.agg_composite.specs.KeyCounts.{CountsMore, Entries, as_tuples, count_in, counted_again}
 use Rattle.agg_composite.specs.KeyCounts.{raised}
-use Rattle.agg_composite.specs.declared.encoded.Encoded.{Encoded}
+use Rattle.agg_accessor.specs.declared.encoded.Encoded.{Encoded}
 use Rattle.agg_composite.proofs.CountedAgain.{all-counted, at, count-positive, count-raised}
 use Rattle.agg_composite.proofs.CountedAgain.{raised-none, raised-positive}
-use Rattle.agg_composite.proofs.EncodedOrder.{nothing}
+use Rattle.agg_accessor.proofs.EncodedOrder.{nothing}
 
 -- whether a tuple is q
 abbrev pub is : EncodedTuple → EncodedTuple → Bool

@@ -11,12 +11,12 @@ use Rattle.std.specs.declared.cmp.Ordering.TheVariants.{Less, Equal, Greater}
 use Rattle.std.specs.declared.vec.Vec.{Vec}
 use Rattle.std.proofs.lemmas.List.{map-append, take_more}
 use Rattle.agg_composite.specs.Counts.{EncodedCounts}
-use Rattle.agg_composite.specs.Encoding.{encoded_order, encoded_tuple_order}
+use Rattle.agg_accessor.specs.Encoding.{encoded_order, encoded_tuple_order}
 use Rattle.agg_composite.specs.GroupCounts.{held}
 use Rattle.agg_composite.specs.KeyCounts.{AreAscending, Entries, as_tuples, entries_of}
-use Rattle.agg_composite.specs.declared.encoded.Encoded.{Encoded}
+use Rattle.agg_accessor.specs.declared.encoded.Encoded.{Encoded}
 use Rattle.agg_composite.specs.declared.group_counts.single.KeyCount.{KeyCount}
-use Rattle.agg_composite.proofs.EncodedOrder.{below-greater}
+use Rattle.agg_composite.proofs.KeysBelow.{below-greater}
 use Rattle.agg_composite.proofs.TupleCounts.{key_order}
 
 module _ {Z : Type 0} where

@@ -21,23 +21,24 @@ use Rattle.agg_request_tree.specs.Occurrences.{bound_of, is_past, occurrences, p
 use Rattle.agg_request_tree.specs.Source.{field_of, keys_in, missing_bucket_of, or_missing, rules_of}
 use Rattle.agg_request_tree.specs.declared.source.CompositeAggregationSource.{CompositeAggregationSource}
 use Rattle.agg_request_tree.specs.Source.{after_of, order_of}
-use Rattle.agg_composite.specs.Accessors.{AllFit, AreAccessorsOf, keys_read}
-use Rattle.agg_composite.specs.Answers.{AnswersEncoded, AnswersFor, AreAllInRange}
+use Rattle.agg_accessor.specs.Accessors.{AllFit, AreAccessorsOf, keys_read}
+use Rattle.agg_composite.specs.Answers.{AnswersEncoded, AnswersFor}
+use Rattle.agg_accessor.specs.Ranges.{AreAllInRange}
 use Rattle.agg_composite.specs.Answers.{CountsFor, TooOftenFor}
 use Rattle.agg_composite.specs.Choices.{AreChoicesOf, CanRead, IsChoiceOf, null_choice}
 use Rattle.agg_composite.specs.Counts.{EncodedCounts}
-use Rattle.agg_composite.specs.Encoding.{StandFor}
-use Rattle.agg_composite.specs.Lanes.{columns_of, in_requested}
+use Rattle.agg_accessor.specs.Encoding.{StandFor}
+use Rattle.agg_accessor.specs.Lanes.{columns_of, in_requested}
 use Rattle.agg_composite.specs.Walk.{walked}
-use Rattle.agg_composite.specs.declared.accessor.CompositeAccessor.{CompositeAccessor}
-use Rattle.agg_composite.specs.declared.accessor.CompositeSourceAccessors.{CompositeSourceAccessors}
+use Rattle.agg_accessor.specs.declared.accessor.CompositeAccessor.{CompositeAccessor}
+use Rattle.agg_accessor.specs.declared.accessor.CompositeSourceAccessors.{CompositeSourceAccessors}
 use Rattle.agg_composite.specs.declared.walk.choice.Choice.{Choice}
 use Rattle.agg_composite.proofs.Appending.{Appends}
 use Rattle.agg_composite.proofs.ChoicePairs.{can-read, canonical-choices, lone_past, past-keys}
 use Rattle.agg_composite.proofs.Choosing.{all_keys-append, length-requested, turn-keys}
 use Rattle.agg_composite.proofs.CountedBehind.{answers-for, typed-visits}
-use Rattle.agg_composite.proofs.FieldColumns.{keys-of_field}
-use Rattle.agg_composite.proofs.KeysGiven.{keys_in-append, keys_in-canonical}
+use Rattle.agg_accessor.proofs.FieldColumns.{keys-of_field}
+use Rattle.agg_accessor.proofs.KeysGiven.{keys_in-append, keys_in-canonical}
 use Rattle.agg_composite.proofs.VisitsInRow.{Returned, SoFar, all-visited, error-visited}
 use Rattle.agg_composite.proofs.VisitsInRow.{first-refused, none-visited, one-visited, then-visited}
 

@@ -7,13 +7,14 @@ use Rattle.std.specs.Map.{keys_of}
 use Rattle.std.proofs.lemmas.List.{map-append, take_more}
 use Rattle.agg_request_tree.specs.Groups.{Group}
 use Rattle.agg_composite.specs.Counts.{EncodedCounts}
-use Rattle.agg_composite.specs.Decoded.{decoded, decoded_groups}
-use Rattle.agg_composite.specs.Encoding.{EncodedTuple}
+use Rattle.agg_accessor.specs.Decoded.{decoded}
+use Rattle.agg_composite.specs.PageEntries.{decoded_groups}
+use Rattle.agg_accessor.specs.Encoding.{EncodedTuple}
 use Rattle.agg_composite.specs.KeyCounts.{as_tuples, entries_of}
 use Rattle.agg_composite.specs.PageEntries.{entry_group}
 use Rattle.agg_composite.specs.declared.group_counts.single.KeyCount.{KeyCount}
 use Rattle.agg_composite.specs.declared.page_entry.PageEntry.{PageEntry}
-use Rattle.agg_composite.specs.declared.request_data.CompositeAggReqData.{CompositeAggReqData}
+use Rattle.agg_accessor.specs.declared.request_data.CompositeAggReqData.{CompositeAggReqData}
 
 -- what holds of each tuple of one key holds of that of a count at the front
 pub key-taken : (P : EncodedTuple → Type 0) (n : ℕ) (counts : List KeyCount)

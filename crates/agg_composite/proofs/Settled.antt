@@ -1,9 +1,7 @@
 -- What a collector has visited once its counts are settled, or when it visits too often.
 use Rattle.std.proofs.Common.{◌≡◌, ℕ, ◌≤◌, ◌^◌, List, [], ◌++◌, Ok, Err, OnOk}
 use Rattle.std.proofs.Common.{IsErrOf, IsErrAnd, Bool, true, false, Result, cond, count_by, refl}
-use Rattle.std.proofs.Common.{sym, ap, ◌∙◌}
-use Rattle.std.proofs.Common.{append_assoc}
-use Rattle.std.proofs.Common.{subst, arith}
+use Rattle.std.proofs.Common.{sym, ap, ◌∙◌, append_assoc, subst, arith}
 use Rattle.std.specs.BTreeMap.{is_at}
 use Rattle.std.specs.List.{AllZip}
 use Rattle.std.specs.Prelude.{MatchBool}
@@ -17,17 +15,18 @@ use Rattle.agg_request_tree.specs.Occurrences.{same_tuple}
 use Rattle.agg_request_tree.specs.Source.{Sources, rules_of}
 use Rattle.agg_composite.specs.Answers.{AnswersFor}
 use Rattle.agg_composite.specs.Counts.{Counts, EncodedCounts}
-use Rattle.agg_composite.specs.Encoding.{EncodedTuple, StandFor, encoded_tuple_order}
+use Rattle.agg_accessor.specs.Encoding.{EncodedTuple, StandFor, encoded_tuple_order}
 use Rattle.agg_composite.specs.GroupCounts.{CountsBehind, CountsTooOften}
-use Rattle.agg_composite.specs.Visits.{AnswersVisits, HasVisited, StandsForTuple}
+use Rattle.agg_composite.specs.Visits.{AnswersVisits, HasVisited}
+use Rattle.agg_accessor.specs.Encoding.{StandsForTuple}
 use Rattle.agg_composite.specs.Visits.{collected}
-use Rattle.agg_composite.specs.declared.accessor.CompositeSourceAccessors.{CompositeSourceAccessors}
-use Rattle.agg_composite.specs.declared.request_data.CompositeAggReqData.{CompositeAggReqData}
+use Rattle.agg_accessor.specs.declared.accessor.CompositeSourceAccessors.{CompositeSourceAccessors}
+use Rattle.agg_accessor.specs.declared.request_data.CompositeAggReqData.{CompositeAggReqData}
 use Rattle.agg_composite.specs.declared.visit_error.VisitError.TheVariants.{OutOfMemory}
 use Rattle.agg_cache.specs.declared.error.CollectError.{CollectError}
 use Rattle.agg_cache.specs.declared.error.CollectError.TheVariants as refusal
 use Rattle.agg_composite.proofs.Pairs.{AllZip-append}
-use Rattle.agg_composite.proofs.SameTuples.{counted-more, counted-stands}
+use Rattle.agg_accessor.proofs.SameTuples.{counted-more, counted-stands}
 use Rattle.agg_composite.proofs.VisitsInRow.{Returned}
 
 -- an encoded tuple that is there too often stands for a tuple that is

@@ -3,8 +3,8 @@ use Rattle.std.proofs.Common.{◌≡◌, ◌+◌, ℕ, List, All, get_or, sym, a
 use Rattle.std.specs.List.Sorted.{IsSorted, IsSortedByKey}
 use Rattle.std.specs.Ordering.{nat_cmp, is_lt, ordering_then}
 use Rattle.std.proofs.lemmas.Cmp.{nat_cmp_total, tied_itself}
-use Rattle.agg_composite.specs.Encoding.{encoded_order}
-use Rattle.agg_composite.specs.declared.encoded.Encoded.{Encoded}
+use Rattle.agg_accessor.specs.Encoding.{encoded_order}
+use Rattle.agg_accessor.specs.declared.encoded.Encoded.{Encoded}
 
 -- at one place the numbers decide
 raw-order : (e f : Encoded) → e.place ≡ f.place → encoded_order e f ≡ nat_cmp e.raw f.raw

@@ -14,11 +14,11 @@ use Rattle.std.proofs.lemmas.Cmp.{eq_by_cmp_equiv, tied_itself}
 use Rattle.std.proofs.lemmas.List.Sums.{sum_by-append, sum_by-cons}
 use Rattle.std.proofs.lemmas.Map.Views.{tells_apart}
 use Rattle.agg_composite.specs.Counts.{positive}
-use Rattle.agg_composite.specs.Encoding.{EncodedTuple, encoded_tuple_order}
+use Rattle.agg_accessor.specs.Encoding.{EncodedTuple, encoded_tuple_order}
 use Rattle.agg_composite.specs.GroupCounts.{CountsBehind, CountsTooOften, held}
-use Rattle.agg_composite.specs.declared.encoded.Encoded.{Encoded}
+use Rattle.agg_accessor.specs.declared.encoded.Encoded.{Encoded}
 use Rattle.agg_composite.proofs.CountedAgain.{count-positive}
-use Rattle.agg_composite.proofs.EncodedOrder.{tuple-exact, tuple_order-total}
+use Rattle.agg_accessor.proofs.EncodedOrder.{tuple-exact, tuple_order-total}
 use Rattle.agg_composite.proofs.KeyTuples.{is}
 
 -- a count with one tuple more behind

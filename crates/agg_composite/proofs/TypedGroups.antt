@@ -24,16 +24,18 @@ use Rattle.agg_request_tree.proofs.Lists.{AllByRecursion-Has, AllByRecursion-fro
 use Rattle.agg_request_tree.proofs.Lists.{All-from_Contains, Contains-from_Has, Contains-map, Has}
 use Rattle.agg_request_tree.proofs.Lists.{Has-from_Contains, count-step, count_by-map}
 use Rattle.agg_request_tree.proofs.Lists.{count_by-positive, count_by-some}
-use Rattle.agg_composite.specs.Accessors.{Fits}
+use Rattle.agg_accessor.specs.Accessors.{Fits}
 use Rattle.agg_composite.specs.Counts.{Counts, EncodedCounts, positive}
-use Rattle.agg_composite.specs.Decoded.{IsEncoded, decoded, decoded_groups}
-use Rattle.agg_composite.specs.Encoding.{EncodedTuple, encoded_tuple_order}
-use Rattle.agg_composite.specs.Visits.{HasVisited, StandsForTuple}
-use Rattle.agg_composite.specs.declared.request_data.CompositeAggReqData.{CompositeAggReqData}
-use Rattle.agg_composite.proofs.DecodedTuples.{decoded-is}
-use Rattle.agg_composite.proofs.EncodedOrder.{tuple-exact, tuple_order-total}
+use Rattle.agg_accessor.specs.Decoded.{IsEncoded, decoded}
+use Rattle.agg_composite.specs.PageEntries.{decoded_groups}
+use Rattle.agg_accessor.specs.Encoding.{EncodedTuple, encoded_tuple_order}
+use Rattle.agg_composite.specs.Visits.{HasVisited}
+use Rattle.agg_accessor.specs.Encoding.{StandsForTuple}
+use Rattle.agg_accessor.specs.declared.request_data.CompositeAggReqData.{CompositeAggReqData}
+use Rattle.agg_accessor.proofs.DecodedTuples.{decoded-is}
+use Rattle.agg_accessor.proofs.EncodedOrder.{tuple-exact, tuple_order-total}
 use Rattle.agg_composite.proofs.KeyTuples.{is}
-use Rattle.agg_composite.proofs.TypedOrder.{tuples_compare}
+use Rattle.agg_accessor.proofs.TypedOrder.{tuples_compare}
 
 -- counts by tests that agree on what is held
 count_by-agree_on : {X : Type 0} (p q : X → Bool) (xs : List X)

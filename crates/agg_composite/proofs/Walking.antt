@@ -1,8 +1,7 @@
 -- A walk, one choice on.
 use Rattle.std.proofs.Common.{◌≡◌, ℕ, ◌+◌, ◌<◌, List, [], ◌∷◌, ◌++◌, Bool, None}
 use Rattle.std.proofs.Common.{Some, Result, true, false, length, map, take, set, refl, sym, ap, ◌∙◌}
-use Rattle.std.proofs.Common.{subst}
-use Rattle.std.proofs.Common.{arith}
+use Rattle.std.proofs.Common.{arith, subst}
 use Rattle.std.proofs.lemmas.List.{append-nil, map-append, take_all, take_more_set}
 use Rattle.std.proofs.lemmas.List.{take-set, take-take}
 use Rattle.std.proofs.lemmas.List.Concat.{flat_map-append}
@@ -12,10 +11,10 @@ use Rattle.std.specs.declared.cmp.Ordering.TheVariants.{Less, Greater}
 use Rattle.agg_composite.specs.declared.visit_error.VisitError.{VisitError}
 use Rattle.agg_composite.specs.Answers.{AnswersEncoded}
 use Rattle.agg_composite.specs.Counts.{EncodedCounts}
-use Rattle.agg_composite.specs.Encoding.{EncodedTuple, encoded_at}
+use Rattle.agg_accessor.specs.Encoding.{EncodedTuple, encoded_at}
 use Rattle.std.specs.Option.{option_map_or}
 use Rattle.agg_composite.specs.Walk.{walked, next_standing, number_tuples, parts}
-use Rattle.agg_composite.specs.declared.encoded.Encoded.{Encoded}
+use Rattle.agg_accessor.specs.declared.encoded.Encoded.{Encoded}
 use Rattle.agg_composite.specs.declared.walk.choice.Choice.{Choice}
 use Rattle.agg_composite.proofs.Appending.{Appends}
 

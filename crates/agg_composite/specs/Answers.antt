@@ -1,6 +1,6 @@
 -- What the parts of a walk answer.
 use Rattle.std.specs.Prelude.{◌≡◌, ◌≤◌, ◌+◌, ◌++◌, ℕ, List, Result, OnOk, IsErrOf, length}
-use Rattle.std.specs.List.{All, AllZip}
+use Rattle.std.specs.List.{AllZip}
 use Rattle.agg_values.specs.Names.{Named}
 use Rattle.agg_values.specs.Tuple.{KeyTuple}
 use Rattle.agg_values.specs.declared.after_key.AfterKey.{AfterKey}
@@ -8,13 +8,13 @@ use Rattle.agg_composite.specs.declared.visit_error.VisitError.{VisitError}
 use Rattle.agg_composite.specs.declared.visit_error.VisitError.TheVariants.{TooMany}
 use Rattle.agg_segment.specs.Segment.{Stored, documents_at}
 use Rattle.agg_request_tree.specs.Occurrences.{bound_of, past_occurrences}
-use Rattle.agg_request_tree.specs.Ranges.{AreInRange}
 use Rattle.agg_request_tree.specs.Source.{Sources}
-use Rattle.agg_composite.specs.Accessors.{AllFit}
+use Rattle.agg_accessor.specs.Accessors.{AllFit}
+pub use Rattle.agg_accessor.specs.Ranges.{AreAllInRange}
 use Rattle.agg_composite.specs.Counts.{EncodedCounts}
-use Rattle.agg_composite.specs.Encoding.{EncodedTuple, StandFor}
+use Rattle.agg_accessor.specs.Encoding.{EncodedTuple, StandFor}
 use Rattle.agg_composite.specs.GroupCounts.{CountsBehind, CountsTooOften}
-use Rattle.agg_composite.specs.declared.accessor.CompositeSourceAccessors.{CompositeSourceAccessors}
+use Rattle.agg_accessor.specs.declared.accessor.CompositeSourceAccessors.{CompositeSourceAccessors}
 
 -- an Ok has visited so many tuples, with a step at each; the error that says too many has its
 -- cause; whatever is answered, steps never fall and are no more than one for each tuple
@@ -54,10 +54,6 @@ abbrev pub AnswersFor : Sources → List CompositeSourceAccessors → List KeyTu
 AnswersFor sources accessors keys held held_now =
     Answers TooMany (CountsFor sources accessors keys held held_now)
     (TooOftenFor sources accessors keys held) (length keys)
-
--- the starts that sources read in documents at places lie within i64
-abbrev pub AreAllInRange : Stored → Sources → List ℕ → Type 0
-AreAllInRange segment sources docs = All (AreInRange sources) (documents_at segment docs)
 
 -- what a walk over documents answers, in each segment where all starts lie within i64 and for each
 -- after key that has the accessors

@@ -11,13 +11,13 @@ use Rattle.agg_request_tree.specs.Faults.{HasInterval}
 use Rattle.agg_request_tree.specs.Ranges.{IsInRange}
 use Rattle.agg_request_tree.specs.Source.{Sources, missing_bucket_of, or_missing, order_of}
 use Rattle.agg_request_tree.specs.declared.source.CompositeAggregationSource.{CompositeAggregationSource}
-use Rattle.agg_composite.specs.Accessors.{IsAccessorOf, keys_held, keys_read, side_at}
-use Rattle.agg_composite.specs.Encoding.{IsItemOf, encoded_at, encoded_null}
-use Rattle.agg_composite.specs.Lanes.{lane_of}
-use Rattle.agg_composite.specs.Starts.{divisor_of, lane_number}
+use Rattle.agg_accessor.specs.Accessors.{IsAccessorOf, keys_held, keys_read, side_at}
+use Rattle.agg_accessor.specs.Encoding.{IsItemOf, encoded_at, encoded_null}
+use Rattle.agg_accessor.specs.Lanes.{lane_of}
+use Rattle.agg_accessor.specs.Starts.{divisor_of, lane_number}
 use Rattle.agg_composite.specs.Walk.{parts}
-use Rattle.agg_composite.specs.declared.accessor.CompositeAccessor.{CompositeAccessor}
-use Rattle.agg_composite.specs.declared.accessor.CompositeSourceAccessors.{CompositeSourceAccessors}
+use Rattle.agg_accessor.specs.declared.accessor.CompositeAccessor.{CompositeAccessor}
+use Rattle.agg_accessor.specs.declared.accessor.CompositeSourceAccessors.{CompositeSourceAccessors}
 use Rattle.agg_composite.specs.declared.walk.choice.Choice.{Choice}
 
 -- ---- a choice

@@ -3,7 +3,7 @@ use Rattle.std.specs.Prelude.{◌≡◌, ℕ, zero, suc, List, Option, None, Som
 use Rattle.std.specs.BTreeMap.{is_at}
 use Rattle.std.specs.List.Sorted.{IsStrictlySortedBy}
 use Rattle.std.specs.Map.{keys_of, lookup}
-use Rattle.agg_composite.specs.Encoding.{EncodedTuple, encoded_tuple_order}
+use Rattle.agg_accessor.specs.Encoding.{EncodedTuple, encoded_tuple_order}
 
 -- encoded tuples, each with a count
 abbrev pub EncodedCounts : Type 0

@@ -3,9 +3,9 @@ use Rattle.std.specs.Prelude.{◌≤◌, ◌^◌, ◌++◌, ℕ, List, fold, map
 use Rattle.std.specs.BTreeMap.{is_at}
 use Rattle.std.specs.declared.vec.Vec.{Vec}
 use Rattle.agg_composite.specs.Counts.{Counts, EncodedCounts}
-use Rattle.agg_composite.specs.Encoding.{EncodedTuple, encoded_tuple_order}
+use Rattle.agg_accessor.specs.Encoding.{EncodedTuple, encoded_tuple_order}
 use Rattle.agg_composite.specs.KeyCounts.{Entries, as_tuples, counted_again, entries_of}
-use Rattle.agg_composite.specs.declared.encoded.Encoded.{Encoded}
+use Rattle.agg_accessor.specs.declared.encoded.Encoded.{Encoded}
 use Rattle.agg_composite.specs.declared.group_counts.GroupCounts.{GroupCounts}
 use Rattle.agg_composite.specs.declared.group_counts.GroupCounts.TheVariants.{Single, Several}
 use Rattle.agg_composite.specs.declared.group_counts.single.SingleCounts.{SingleCounts}

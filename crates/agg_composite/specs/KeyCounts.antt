@@ -7,8 +7,8 @@ use Rattle.std.specs.Map.{keys_of, lookup}
 use Rattle.std.specs.Ordering.{is_gt}
 use Rattle.std.specs.declared.cmp.Ordering.TheVariants.{Less}
 use Rattle.agg_composite.specs.Counts.{EncodedCounts, positive}
-use Rattle.agg_composite.specs.Encoding.{encoded_order}
-use Rattle.agg_composite.specs.declared.encoded.Encoded.{Encoded}
+use Rattle.agg_accessor.specs.Encoding.{encoded_order}
+use Rattle.agg_accessor.specs.declared.encoded.Encoded.{Encoded}
 use Rattle.agg_composite.specs.declared.group_counts.single.KeyCount.{KeyCount}
 
 -- ---- the order of keys

@@ -1,5 +1,5 @@
 -- What a collector has visited, and when it has visited too often.
-use Rattle.std.specs.Prelude.{◌≤◌, ◌^◌, ℕ, List, ◌++◌, Result, Err, count_by, length}
+use Rattle.std.specs.Prelude.{◌≤◌, ◌^◌, ℕ, List, ◌++◌, Result, Ok, Err, count_by, length}
 use Rattle.std.specs.List.{AllZip}
 use Rattle.agg_values.specs.Tuple.{KeyTuple}
 use Rattle.agg_cache.specs.declared.error.CollectError.{CollectError}
@@ -8,14 +8,10 @@ use Rattle.agg_request_tree.specs.Occurrences.{same_tuple}
 use Rattle.agg_request_tree.specs.Source.{rules_of}
 use Rattle.agg_composite.specs.Answers.{Answers}
 use Rattle.agg_composite.specs.Counts.{Counts, EncodedCounts}
-use Rattle.agg_composite.specs.Encoding.{EncodedTuple, StandFor}
-use Rattle.agg_composite.specs.declared.request_data.CompositeAggReqData.{CompositeAggReqData}
+use Rattle.agg_accessor.specs.Encoding.{EncodedTuple, StandsForTuple}
+use Rattle.agg_accessor.specs.declared.request_data.CompositeAggReqData.{CompositeAggReqData}
 use Rattle.agg_composite.specs.declared.visit_error.VisitError.{VisitError}
 use Rattle.agg_composite.specs.declared.visit_error.VisitError.TheVariants as early
-
--- an encoded tuple stands for a tuple of the sources of request data
-abbrev pub StandsForTuple : CompositeAggReqData → EncodedTuple → KeyTuple → Type 0
-StandsForTuple req = StandFor req.req.now.sources req.composite_accessors
 
 -- a collector has visited these tuples: it counts encoded ones that stand for them
 pub record HasVisited (req : CompositeAggReqData) (visited : List KeyTuple) (held : EncodedCounts)
@@ -43,7 +39,12 @@ abbrev pub collected : VisitError → CollectError
 collected early.TooMany = refusal.TooMany
 collected early.OutOfMemory = refusal.OutOfMemory
 
--- a call is refused for its range exactly where not all is in range
+-- a call is refused for its range exactly where not all is in range, and otherwise for too many
+-- occurrences or for memory alone
 abbrev pub AnswersRange : Type 0 → Result (Unit {0}) CollectError → Type 0
+AnswersRange in_range (Ok done) = in_range
 AnswersRange in_range (Err refusal.BucketOutOfRange) = ¬ in_range
-AnswersRange in_range _ = in_range
+AnswersRange in_range (Err refusal.TooMany) = in_range
+AnswersRange in_range (Err refusal.OutOfMemory) = in_range
+AnswersRange in_range (Err (refusal.Aggregation limit)) = ⊥
+AnswersRange in_range (Err refusal.CollectorFailed) = ⊥

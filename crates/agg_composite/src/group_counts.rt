@@ -9,8 +9,8 @@ ghost use Rattle.agg_composite.specs.GroupCounts.{CountsBehind, CountsTooOften};
 ghost use Rattle.agg_composite.specs.GroupCounts.{all_counts, all_keys, held, settled_counts};
 ghost use Rattle.agg_composite.specs.KeyCounts.{as_tuples};
 
-use crate::encoded::Encoded;
 use crate::visit_error::VisitError;
+use agg_accessor::Encoded;
 pub use several::SeveralCounts;
 pub use single::{KeyCount, SingleCounts};
 use std::alloc::Global;

@@ -1,15 +1,15 @@
 //! The lowest of what is counted, as the entries of a page.
 ghost use Rattle.std.specs.Prelude.{◌≡◌, take, map, IfOk, All};
 ghost use Rattle.std.specs.Map.{keys_of};
-ghost use Rattle.agg_composite.specs.Decoded.{IsEncoded, decoded, decoded_groups};
+ghost use Rattle.agg_accessor.specs.Decoded.{IsEncoded, decoded};
+ghost use Rattle.agg_composite.specs.PageEntries.{decoded_groups};
 ghost use Rattle.agg_composite.specs.GroupCounts.{held, settled_counts};
 ghost use Rattle.agg_composite.specs.KeyCounts.{as_tuples, entries_of};
 ghost use Rattle.agg_composite.specs.PageEntries.{entry_group};
 
-use crate::decoding::decode_tuple;
-use crate::encoded::Encoded;
+use crate::PageEntry;
 use crate::group_counts::{GroupCounts, KeyCount, SeveralCounts};
-use crate::{CompositeAggReqData, PageEntry};
+use agg_accessor::{CompositeAggReqData, Encoded, decode_tuple};
 use agg_values::{ItemList, OutOfMemory};
 use std::alloc::Global;
 

@@ -10,9 +10,9 @@ mod many;
 mod place;
 mod visit;
 
-use crate::CompositeSourceAccessors;
 use crate::group_counts::GroupCounts;
 use crate::visit_error::VisitError;
+use agg_accessor::CompositeSourceAccessors;
 use agg_request_tree::CompositeAggregationSource;
 use agg_values::{DocId, Steps};
 use std::alloc::Global;

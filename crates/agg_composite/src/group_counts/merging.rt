@@ -1,19 +1,18 @@
 //! Merges counts with keys in order.
 ghost use Rattle.std.specs.Prelude.{◌≡◌, ◌+◌, ◌≤◌, ◌<◌, ◌^◌, [], ◌∷◌, ◌++◌, ℕ};
-ghost use Rattle.std.specs.Prelude.{count_by, length, slice_get};
-ghost use Rattle.std.specs.Prelude.{All, IfOk, IfSome, IsErrOf, OnOk};
+ghost use Rattle.std.specs.Prelude.{All, IfOk, IfSome, IsErrOf, OnOk, count_by, length, slice_get};
 ghost use Rattle.std.specs.BTreeMap.{insert_entry, is_at};
 ghost use Rattle.std.specs.List.{prefix_len};
 ghost use Rattle.std.specs.List.Sorted.{IsSorted};
 ghost use Rattle.std.specs.Ordering.{is_lt};
-ghost use Rattle.agg_composite.specs.Encoding.{encoded_order};
+ghost use Rattle.agg_accessor.specs.Encoding.{encoded_order};
 ghost use Rattle.agg_composite.specs.KeyCounts.{AreAscending, CountsMore, IsBelow, IsUpTo};
 ghost use Rattle.agg_composite.specs.KeyCounts.{count_in, entries_of};
-ghost use Rattle.agg_composite.specs.declared.encoded.Encoded.{Encoded as Key};
+ghost use Rattle.agg_accessor.specs.declared.encoded.Encoded.{Encoded as Key};
 
-use crate::encoded::Encoded;
 use crate::group_counts::single::KeyCount;
 use crate::visit_error::VisitError;
+use agg_accessor::Encoded;
 use agg_values::OutOfMemory;
 use std::alloc::Global;
 

@@ -1,7 +1,7 @@
 //! Whether keys are at one place: all of one lane, or all Null.
 ghost use Rattle.std.specs.Prelude.{◌≡◌, ℕ, IsTrue, All};
 
-use crate::encoded::Encoded;
+use agg_accessor::Encoded;
 
 /// Whether all keys are at one place.
 pub fn are_at_one_place(keys: &[Encoded]) -> bool

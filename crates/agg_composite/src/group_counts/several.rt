@@ -3,9 +3,9 @@ ghost use Rattle.std.specs.Prelude.{◌≡◌, [], ◌∷◌, IfOk, OnOk, IsErrO
 ghost use Rattle.agg_composite.specs.GroupCounts.{CountsBehind, CountsTooOften, held};
 ghost use Rattle.agg_composite.specs.KeyCounts.{AreAscending, as_tuples, entries_of};
 
-use crate::encoded::Encoded;
 use crate::group_counts::single::KeyCount;
 use crate::visit_error::VisitError;
+use agg_accessor::Encoded;
 use agg_values::OutOfMemory;
 use std::alloc::Global;
 use std::collections::BTreeMap;

@@ -2,10 +2,10 @@
 ghost use Rattle.std.proofs.lemmas.Map.Keys.{IsStrictlySortedBy-prop};
 ghost use Rattle.agg_composite.specs.KeyCounts.{AreAscending};
 
-use crate::encoded::Encoded;
 use crate::group_counts::merging::merge;
 use crate::group_counts::places::are_at_one_place;
 use crate::visit_error::VisitError;
+use agg_accessor::Encoded;
 use std::alloc::Global;
 
 // How many keys wait at least before they are counted.
@@ -30,7 +30,7 @@ pub struct SingleCounts {
 impl SingleCounts {
     ghost use Rattle.std.specs.Prelude.{◌≡◌, [], ◌∷◌, OnOk, IsErrOf};
     ghost use Rattle.std.specs.List.Sorted.{IsPermutation, IsSorted};
-    ghost use Rattle.agg_composite.specs.Encoding.{encoded_order};
+    ghost use Rattle.agg_accessor.specs.Encoding.{encoded_order};
     ghost use Rattle.agg_composite.specs.GroupCounts.{CountsBehind, CountsTooOften};
     ghost use Rattle.agg_composite.specs.GroupCounts.{all_keys, settled_keys};
     ghost use Rattle.agg_composite.specs.KeyCounts.{as_tuples, entries_of, AreAscending};

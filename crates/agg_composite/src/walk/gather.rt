@@ -1,16 +1,15 @@
 //! The choices that a document gives.
 ghost use Rattle.std.specs.Prelude.{◌≡◌, ◌<◌, ◌++◌, ◌^◌, List, length, map, OnOk};
-ghost use Rattle.agg_composite.specs.Accessors.{keys_read};
+ghost use Rattle.agg_accessor.specs.Accessors.{keys_read};
 ghost use Rattle.agg_composite.specs.Choices.{AddsChoices, AreGathered, choice_at};
 ghost use Rattle.agg_composite.specs.Choices.{divided_choices, values_read};
-ghost use Rattle.agg_composite.specs.Starts.{CanDivide, lane_number};
+ghost use Rattle.agg_accessor.specs.Starts.{CanDivide, lane_number};
 
 use super::choice::{Choice, missing_choice, side_of};
 use super::place::place_at;
-use crate::divisor::{DividedColumn, Divisor};
-use crate::encoded::Encoded;
-use crate::lanes::lane_of;
-use crate::{CompositeAccessor, CompositeSourceAccessors};
+use agg_accessor::{
+    CompositeAccessor, CompositeSourceAccessors, DividedColumn, Divisor, Encoded, lane_of,
+};
 use agg_request_tree::CompositeAggregationSource;
 use agg_values::{DocId, Order, OutOfMemory};
 use std::alloc::Global;

@@ -1,23 +1,23 @@
 //! The walk over documents of one source, which needs no choices and no tuple beside the key.
 ghost use Rattle.std.specs.Prelude.{◌≡◌, ◌==◌, ◌&&◌, ◌<◌, ◌^◌, [], ◌∷◌, false, length, map};
 ghost use Rattle.std.specs.declared.cmp.Ordering.TheVariants.{Greater};
-ghost use Rattle.agg_composite.specs.Accessors.{side_at};
-ghost use Rattle.agg_composite.specs.AfterKey.{projected_side};
+ghost use Rattle.agg_accessor.specs.Accessors.{side_at};
+ghost use Rattle.agg_accessor.specs.AfterKey.{projected_side};
 ghost use Rattle.agg_composite.specs.Answers.{AnswersDocuments, AnswersEncoded};
 ghost use Rattle.agg_composite.specs.Choices.{divided_choices, null_choice};
 ghost use Rattle.agg_composite.specs.GroupCounts.{all_counts};
-ghost use Rattle.agg_composite.specs.Starts.{CanDivide, lane_number};
+ghost use Rattle.agg_accessor.specs.Starts.{CanDivide, lane_number};
 ghost use Rattle.agg_composite.specs.Walk.{number_tuples, walked};
 
 use super::choice::{missing_choice, side_in};
 use super::place::place_at;
 use super::visit::visit_one;
-use crate::divisor::{DividedColumn, Divisor};
-use crate::encoded::Encoded;
 use crate::group_counts::GroupCounts;
-use crate::lanes::lane_of;
 use crate::visit_error::VisitError;
-use crate::{CompositeAccessor, CompositeSourceAccessors, PrecomputedAfterKey};
+use agg_accessor::{
+    CompositeAccessor, CompositeSourceAccessors, DividedColumn, Divisor, Encoded,
+    PrecomputedAfterKey, lane_of,
+};
 use agg_request_tree::CompositeAggregationSource;
 use agg_values::{DocId, Order, Steps};
 use std::cmp::Ordering;

@@ -3,9 +3,9 @@ ghost use Rattle.std.specs.Prelude.{[], ◌∷◌};
 ghost use Rattle.agg_composite.specs.Answers.{AnswersEncoded};
 ghost use Rattle.agg_composite.specs.GroupCounts.{all_counts};
 
-use crate::encoded::Encoded;
 use crate::group_counts::GroupCounts;
 use crate::visit_error::VisitError;
+use agg_accessor::Encoded;
 use agg_values::Steps;
 use std::sync::ledger::Ledger;
 

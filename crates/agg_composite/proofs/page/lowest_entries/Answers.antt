@@ -1,6 +1,6 @@
 use Rattle.std.proofs.Common.{All, sym, ap, ◌∙◌, subst}
 use Rattle.std.specs.Map.{keys_of}
-use Rattle.agg_composite.specs.Decoded.{IsEncoded}
+use Rattle.agg_accessor.specs.Decoded.{IsEncoded}
 use Rattle.agg_composite.specs.GroupCounts.{settled_counts}
 use Rattle.agg_composite.specs.KeyCounts.{as_tuples}
 use Rattle.agg_composite.proofs.page.lowest_entries.Goals as goal

@@ -2,11 +2,11 @@ use Rattle.std.proofs.Common.{◌<◌, [], ◌∷◌, length, take, map, get_or,
 use Rattle.std.specs.Map.{keys_of}
 use Rattle.std.proofs.lemmas.List.{take_all}
 use Rattle.std.proofs.lemmas.List.Elements.{recursion_from_All}
-use Rattle.agg_composite.specs.Decoded.{IsEncoded}
+use Rattle.agg_accessor.specs.Decoded.{IsEncoded}
 use Rattle.agg_composite.specs.KeyCounts.{as_tuples, entries_of}
 use Rattle.agg_composite.specs.PageEntries.{entry_group}
 use Rattle.agg_composite.specs.declared.group_counts.single.KeyCount.{KeyCount}
-use Rattle.agg_composite.proofs.EncodedOrder.{nothing}
+use Rattle.agg_accessor.proofs.EncodedOrder.{nothing}
 use Rattle.agg_composite.proofs.PageFront.{groups-front, groups-more, key-taken, key_groups}
 use Rattle.agg_composite.proofs.page.lowest_keys.Goals as goal
 

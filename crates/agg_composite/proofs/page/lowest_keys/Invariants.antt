@@ -1,5 +1,5 @@
 use Rattle.std.proofs.Common.{◌≡◌, map, take}
-use Rattle.agg_composite.specs.Decoded.{decoded_groups}
+use Rattle.agg_composite.specs.PageEntries.{decoded_groups}
 use Rattle.agg_composite.specs.KeyCounts.{as_tuples, entries_of}
 use Rattle.agg_composite.specs.PageEntries.{entry_group}
 use Rattle.agg_composite.proofs.page.lowest_keys.Given as goal

@@ -2,7 +2,8 @@ use Rattle.std.proofs.Common.{◌≡◌, ◌-◌, ◌<◌, ◌++◌, All, length
 use Rattle.std.proofs.Common.{[], ◌∷◌, ap, ◌∙◌, subst, arith}
 use Rattle.std.specs.Map.{keys_of}
 use Rattle.std.proofs.lemmas.List.Elements.{All-head, All-tail}
-use Rattle.agg_composite.specs.Decoded.{IsEncoded, decoded, decoded_groups}
+use Rattle.agg_accessor.specs.Decoded.{IsEncoded, decoded}
+use Rattle.agg_composite.specs.PageEntries.{decoded_groups}
 use Rattle.agg_composite.specs.GroupCounts.{held}
 use Rattle.agg_composite.specs.PageEntries.{entry_group}
 use Rattle.agg_composite.proofs.PageFront.{first-more}

@@ -1,6 +1,7 @@
 use Rattle.std.proofs.Common.{◌≡◌, ◌-◌, ◌≤◌, ◌++◌, length, map, take, All}
 use Rattle.std.specs.Map.{keys_of}
-use Rattle.agg_composite.specs.Decoded.{IsEncoded, decoded_groups}
+use Rattle.agg_accessor.specs.Decoded.{IsEncoded}
+use Rattle.agg_composite.specs.PageEntries.{decoded_groups}
 use Rattle.agg_composite.specs.GroupCounts.{held}
 use Rattle.agg_composite.specs.PageEntries.{entry_group}
 use Rattle.agg_composite.proofs.page.lowest_tuples.Given as goal

@@ -1,9 +1,8 @@
-use Rattle.std.proofs.Common.{◌≡◌, List, [], ◌∷◌, length, get_or, sym, ap}
-use Rattle.std.proofs.Common.{subst, arith}
+use Rattle.std.proofs.Common.{◌≡◌, List, [], ◌∷◌, length, get_or, sym, ap, subst, arith}
 use Rattle.agg_request_tree.specs.Source.{Sources}
 use Rattle.agg_composite.specs.Answers.{AnswersDocuments}
 use Rattle.agg_composite.specs.GroupCounts.{all_counts}
-use Rattle.agg_composite.specs.declared.accessor.CompositeSourceAccessors.{CompositeSourceAccessors}
+use Rattle.agg_accessor.specs.declared.accessor.CompositeSourceAccessors.{CompositeSourceAccessors}
 use Rattle.agg_composite.proofs.walk.visit_documents.Goals as goal
 
 -- a list of one item

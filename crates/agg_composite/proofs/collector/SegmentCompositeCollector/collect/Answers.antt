@@ -1,6 +1,6 @@
 use Rattle.agg_segment.specs.Segment.{documents_at}
 use Rattle.agg_request_tree.specs.Occurrences.{bound_of, past_occurrences}
-use Rattle.agg_composite.specs.Answers.{AreAllInRange}
+use Rattle.agg_accessor.specs.Ranges.{AreAllInRange}
 use Rattle.agg_composite.proofs.Settled.{collected-visits, found, visited-all}
 use Rattle.agg_composite.proofs.collector.SegmentCompositeCollector.collect.Goals as goal
 

@@ -1,7 +1,8 @@
 use Rattle.std.proofs.Common.{All, sym, ap, ◌∙◌, subst, take}
 use Rattle.std.specs.Map.{keys_of}
 use Rattle.std.proofs.lemmas.Result.{IfOk-weaker}
-use Rattle.agg_composite.specs.Decoded.{IsEncoded, decoded_groups}
+use Rattle.agg_accessor.specs.Decoded.{IsEncoded}
+use Rattle.agg_composite.specs.PageEntries.{decoded_groups}
 use Rattle.agg_composite.proofs.TypedGroups.{groups-held, held-encoded}
 use Rattle.agg_composite.proofs.collector.SegmentCompositeCollector.page.Goals as goal
 

@@ -2,13 +2,12 @@ use Rattle.std.proofs.Common.{◌≡◌, List, Ok, Err, length, sym, ap, ◌∙�
 use Rattle.std.proofs.lemmas.Slice.Zip.{AllZip-long}
 use Rattle.agg_segment.specs.Segment.{documents_at}
 use Rattle.agg_request_tree.specs.Occurrences.{bound_of, past_occurrences}
-use Rattle.agg_request_tree.specs.Source.{Sources}
-use Rattle.agg_request_tree.specs.Source.{after_of}
-use Rattle.agg_composite.specs.Accessors.{AreAccessorsOf}
+use Rattle.agg_request_tree.specs.Source.{Sources, after_of}
+use Rattle.agg_accessor.specs.Accessors.{AreAccessorsOf}
 use Rattle.agg_composite.specs.Answers.{AnswersDocuments}
 use Rattle.agg_composite.specs.GroupCounts.{all_counts, settled_counts}
 use Rattle.agg_composite.specs.Visits.{HasVisited}
-use Rattle.agg_composite.specs.declared.accessor.CompositeSourceAccessors.{CompositeSourceAccessors}
+use Rattle.agg_accessor.specs.declared.accessor.CompositeSourceAccessors.{CompositeSourceAccessors}
 use Rattle.agg_composite.proofs.Settled.{refused-visits, settled-visits}
 use Rattle.agg_composite.proofs.collector.SegmentCompositeCollector.visit.Goals as goal
 

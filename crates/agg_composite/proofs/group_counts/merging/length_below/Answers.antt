@@ -2,7 +2,8 @@ use Rattle.std.proofs.Common.{get_or, sym, arith}
 use Rattle.std.specs.Ordering.{nat_cmp}
 use Rattle.std.proofs.lemmas.List.Sums.{prefix_len_is}
 use Rattle.agg_composite.specs.declared.group_counts.single.KeyCount.{KeyCount}
-use Rattle.agg_composite.proofs.EncodedOrder.{not_less-ge, nothing}
+use Rattle.agg_composite.proofs.KeysBelow.{not_less-ge}
+use Rattle.agg_accessor.proofs.EncodedOrder.{nothing}
 use Rattle.agg_composite.proofs.KeyMerging.{is_below}
 use Rattle.agg_composite.proofs.group_counts.merging.length_below.Goals as goal
 

@@ -2,11 +2,11 @@ use Rattle.std.proofs.Common.{rules, ◌<◌, ◌+◌, ◌^◌, ◌++◌, length
 use Rattle.std.proofs.Common.{refl, sym, ap, ◌∙◌, subst, arith}
 use Rattle.std.specs.BTreeMap.{insert_entry}
 use Rattle.agg_composite.specs.declared.visit_error.VisitError.TheVariants.{TooMany}
-use Rattle.agg_composite.specs.Encoding.{encoded_order}
+use Rattle.agg_accessor.specs.Encoding.{encoded_order}
 use Rattle.agg_composite.specs.KeyCounts.{count_in, entries_of}
 use Rattle.agg_composite.proofs.Errors.{error-kept}
 use Rattle.agg_composite.proofs.KeyMerging.{MergesSoFar, merges-none, merges-run, merges-too_many}
-use Rattle.agg_composite.proofs.EncodedOrder.{nothing}
+use Rattle.agg_accessor.proofs.EncodedOrder.{nothing}
 use Rattle.agg_composite.proofs.group_counts.merging.merge.Goals as goal
 
 pub loop-waiting-init : goal.loop-waiting-init

@@ -1,6 +1,6 @@
 use Rattle.std.proofs.Common.{rules, ◌≡◌, ◌+◌, ◌≤◌, ◌^◌, List, [], ◌∷◌, ◌++◌, ap, ◌∙◌, arith}
 use Rattle.std.specs.BTreeMap.{insert_entry}
-use Rattle.agg_composite.specs.Encoding.{encoded_order}
+use Rattle.agg_accessor.specs.Encoding.{encoded_order}
 use Rattle.agg_composite.specs.KeyCounts.{count_in, entries_of}
 use Rattle.agg_composite.specs.declared.group_counts.single.KeyCount.{KeyCount}
 use Rattle.agg_composite.proofs.KeyMerging.{back-ascends, back-begins, count-back, pushed}

@@ -3,7 +3,8 @@ use Rattle.std.proofs.lemmas.Bool.{false_from_ne_true}
 use Rattle.std.proofs.lemmas.List.Sums.{prefix_len_is}
 use Rattle.std.proofs.lemmas.Map.Views.{tells_apart}
 use Rattle.agg_composite.proofs.CountedAgain.{at}
-use Rattle.agg_composite.proofs.EncodedOrder.{differ, key-exact, nothing}
+use Rattle.agg_composite.proofs.KeysBelow.{differ}
+use Rattle.agg_accessor.proofs.EncodedOrder.{key-exact, nothing}
 use Rattle.agg_composite.proofs.group_counts.merging.run_length.Goals as goal
 
 pub returns-then-ne-clause-run : goal.returns-then-ne-clause-run

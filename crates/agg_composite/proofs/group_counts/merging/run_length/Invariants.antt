@@ -1,6 +1,6 @@
 use Rattle.std.proofs.Common.{◌≡◌, ◌-◌, ◌<◌, ◌≤◌, ℕ, true, length, get_or}
 use Rattle.agg_composite.proofs.CountedAgain.{at}
-use Rattle.agg_composite.specs.declared.encoded.Encoded.{Encoded}
+use Rattle.agg_accessor.specs.declared.encoded.Encoded.{Encoded}
 use Rattle.agg_composite.proofs.group_counts.merging.run_length.Given as goal
 
 abbrev pub invariant-loop-length : goal.invariant-loop-length

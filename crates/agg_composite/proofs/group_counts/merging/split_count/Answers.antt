@@ -1,9 +1,9 @@
 use Rattle.std.proofs.Common.{ap, sym, ◌∙◌, subst}
 use Rattle.std.specs.Map.{keys_of}
 use Rattle.std.proofs.lemmas.Map.Keys.{sorted_tail}
-use Rattle.agg_composite.specs.Encoding.{encoded_order}
+use Rattle.agg_accessor.specs.Encoding.{encoded_order}
 use Rattle.agg_composite.specs.KeyCounts.{AreAscending, count_in, entries_of}
-use Rattle.agg_composite.proofs.EncodedOrder.{above-other, differ}
+use Rattle.agg_composite.proofs.KeysBelow.{above-other, differ}
 use Rattle.agg_composite.proofs.KeyMerging.{BeginsFrom, uncounted}
 use Rattle.agg_composite.proofs.group_counts.merging.split_count.Goals as goal
 

@@ -2,7 +2,7 @@ use Rattle.std.proofs.Common.{take}
 use Rattle.agg_column.specs.Columns.{all_keys}
 use Rattle.agg_request_tree.specs.Source.{keys_in}
 use Rattle.agg_composite.specs.Choices.{AddsChoices}
-use Rattle.agg_composite.specs.Lanes.{columns_of, in_requested}
+use Rattle.agg_accessor.specs.Lanes.{columns_of, in_requested}
 use Rattle.agg_composite.proofs.walk.gather.add_values.Given as goal
 
 abbrev pub invariant-loop-turn : goal.invariant-loop-turn

@@ -1,13 +1,13 @@
 use Rattle.std.proofs.Common.{ℕ, [], ◌∷◌, false, map, sym, ◌∙◌, ap, subst}
 use Rattle.agg_values.specs.declared.order.Order.{Order}
 use Rattle.agg_column.specs.declared.keys.ColumnKeys.{ColumnKeys}
-use Rattle.agg_composite.specs.Accessors.{side_at}
+use Rattle.agg_accessor.specs.Accessors.{side_at}
 use Rattle.agg_composite.specs.Answers.{AnswersEncoded}
 use Rattle.agg_composite.specs.Choices.{choice_at}
 use Rattle.agg_composite.specs.GroupCounts.{all_counts}
-use Rattle.agg_composite.specs.Starts.{lane_number}
+use Rattle.agg_accessor.specs.Starts.{lane_number}
 use Rattle.agg_composite.specs.Walk.{walked}
-use Rattle.agg_composite.specs.declared.divisor.Divisor.{Divisor}
+use Rattle.agg_accessor.specs.declared.divisor.Divisor.{Divisor}
 use Rattle.agg_composite.proofs.Walking.{starts-walked}
 use Rattle.agg_composite.proofs.walk.lone.visit_column.Goals as goal
 

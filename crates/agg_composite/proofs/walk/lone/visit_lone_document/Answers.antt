@@ -1,7 +1,7 @@
 use Rattle.std.proofs.Common.{rules, ℕ, ◌<◌, ◌^◌, get_or, sym, ◌∙◌, arith}
 use Rattle.agg_composite.specs.Choices.{divided_choices}
 use Rattle.agg_composite.specs.GroupCounts.{all_counts}
-use Rattle.agg_composite.specs.Lanes.{columns_of, in_requested}
+use Rattle.agg_accessor.specs.Lanes.{columns_of, in_requested}
 use Rattle.agg_composite.proofs.Choosing.{turn-read}
 use Rattle.agg_composite.proofs.LoneDocument.{all-past, all-read, column-error, ends-with-null}
 use Rattle.agg_composite.proofs.LoneDocument.{ends-with-values, ends-without-bucket, lone-can}

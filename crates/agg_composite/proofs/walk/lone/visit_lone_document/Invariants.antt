@@ -3,13 +3,12 @@ use Rattle.agg_values.specs.Names.{Named}
 use Rattle.agg_values.specs.declared.after_key.AfterKey.{AfterKey}
 use Rattle.agg_column.specs.Columns.{all_keys}
 use Rattle.agg_segment.specs.Segment.{Stored}
-use Rattle.agg_request_tree.specs.Source.{keys_in}
-use Rattle.agg_request_tree.specs.Source.{after_of}
-use Rattle.agg_composite.specs.Accessors.{AreAccessorsOf}
+use Rattle.agg_request_tree.specs.Source.{after_of, keys_in}
+use Rattle.agg_accessor.specs.Accessors.{AreAccessorsOf}
 use Rattle.agg_composite.specs.Answers.{CountsFor}
 use Rattle.agg_composite.specs.Choices.{CanRead}
 use Rattle.agg_composite.specs.GroupCounts.{all_counts}
-use Rattle.agg_composite.specs.Lanes.{columns_of, in_requested}
+use Rattle.agg_accessor.specs.Lanes.{columns_of, in_requested}
 use Rattle.agg_composite.proofs.LoneDocument.{lone_in}
 use Rattle.agg_composite.proofs.VisitsInRow.{SoFar}
 use Rattle.agg_composite.proofs.walk.lone.visit_lone_document.Given as goal

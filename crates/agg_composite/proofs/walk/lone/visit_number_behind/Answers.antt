@@ -1,5 +1,5 @@
-use Rattle.agg_composite.specs.AfterKey.{projected_side}
-use Rattle.agg_composite.specs.Encoding.{encoded_at}
+use Rattle.agg_accessor.specs.AfterKey.{projected_side}
+use Rattle.agg_accessor.specs.Encoding.{encoded_at}
 use Rattle.agg_composite.specs.GroupCounts.{all_counts}
 use Rattle.agg_composite.proofs.Walking.{visited-one}
 use Rattle.agg_composite.proofs.walk.lone.visit_number_behind.Goals as goal

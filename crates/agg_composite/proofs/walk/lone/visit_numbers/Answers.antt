@@ -1,9 +1,9 @@
 use Rattle.std.proofs.Common.{List, Ok, sym, ap, ◌∙◌, subst, Ordering}
 use Rattle.std.specs.Ordering.{match_ordering}
 use Rattle.std.specs.declared.cmp.Ordering.TheVariants.{Less, Greater}
-use Rattle.agg_composite.specs.AfterKey.{projected_side}
+use Rattle.agg_accessor.specs.AfterKey.{projected_side}
 use Rattle.agg_composite.specs.Answers.{AnswersEncoded}
-use Rattle.agg_composite.specs.Encoding.{EncodedTuple}
+use Rattle.agg_accessor.specs.Encoding.{EncodedTuple}
 use Rattle.agg_composite.specs.GroupCounts.{all_counts}
 use Rattle.agg_composite.specs.Walk.{number_tuples}
 use Rattle.agg_composite.proofs.CountedBehind.{Counted, TooOften, encoded-visits}

@@ -1,4 +1,4 @@
-use Rattle.agg_composite.specs.AfterKey.{projected_side}
+use Rattle.agg_accessor.specs.AfterKey.{projected_side}
 use Rattle.agg_composite.specs.GroupCounts.{all_counts}
 use Rattle.agg_composite.specs.Walk.{number_tuples}
 use Rattle.agg_composite.proofs.CountedBehind.{Counted, TooOften, encoded-visits}

@@ -1,8 +1,8 @@
 use Rattle.std.proofs.Common.{[], ◌∷◌, Ok, Err, subst}
-use Rattle.agg_composite.specs.Accessors.{side_at}
+use Rattle.agg_accessor.specs.Accessors.{side_at}
 use Rattle.agg_composite.specs.Answers.{AnswersEncoded}
 use Rattle.agg_composite.specs.GroupCounts.{all_counts}
-use Rattle.agg_composite.specs.Starts.{lane_number}
+use Rattle.agg_accessor.specs.Starts.{lane_number}
 use Rattle.agg_composite.specs.Walk.{number_tuples}
 use Rattle.agg_composite.proofs.CountedBehind.{Counted, TooOften, encoded-visits}
 use Rattle.agg_composite.proofs.VisitsInRow.{all-visited, error-visited, one-visited}

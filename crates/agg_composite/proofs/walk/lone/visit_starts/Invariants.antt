@@ -1,6 +1,6 @@
-use Rattle.agg_composite.specs.Accessors.{side_at}
+use Rattle.agg_accessor.specs.Accessors.{side_at}
 use Rattle.agg_composite.specs.GroupCounts.{all_counts}
-use Rattle.agg_composite.specs.Starts.{lane_number}
+use Rattle.agg_accessor.specs.Starts.{lane_number}
 use Rattle.agg_composite.proofs.CountedBehind.{Counted}
 use Rattle.agg_composite.proofs.VisitsInRow.{SoFar}
 use Rattle.agg_composite.proofs.Walking.{start_tuples}

@@ -1,7 +1,7 @@
 use Rattle.std.proofs.Common.{rules, ◌≡◌, ℕ, ◌+◌, ◌<◌, List, Ok, Err, ◌∷◌, length}
 use Rattle.std.proofs.Common.{take, sym, ap, ◌∙◌, subst}
 use Rattle.agg_composite.specs.Answers.{AnswersEncoded}
-use Rattle.agg_composite.specs.Encoding.{EncodedTuple}
+use Rattle.agg_accessor.specs.Encoding.{EncodedTuple}
 use Rattle.agg_composite.specs.GroupCounts.{all_counts}
 use Rattle.agg_composite.specs.Walk.{parts, walked}
 use Rattle.agg_composite.specs.declared.group_counts.GroupCounts.{GroupCounts}

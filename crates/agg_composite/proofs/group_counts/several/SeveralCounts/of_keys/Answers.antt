@@ -1,7 +1,7 @@
 use Rattle.std.proofs.Common.{ap, ◌∙◌}
 use Rattle.agg_composite.specs.GroupCounts.{held}
 use Rattle.agg_composite.specs.declared.group_counts.single.KeyCount.{KeyCount}
-use Rattle.agg_composite.proofs.EncodedOrder.{nothing}
+use Rattle.agg_accessor.proofs.EncodedOrder.{nothing}
 use Rattle.agg_composite.proofs.KeysInMap.{held-more}
 use Rattle.agg_composite.proofs.group_counts.several.SeveralCounts.of_keys.Goals as goal
 

@@ -1,0 +1,14 @@
+pub mod Accessors
+pub mod ClassRanks
+pub mod DecodedTuples
+pub mod Divisors
+pub mod EncodedOrder
+pub mod FieldColumns
+pub mod KeysGiven
+pub mod LaneKeys
+pub mod NullSides
+pub mod Places
+pub mod ReadColumns
+pub mod SameTuples
+pub mod StartRanges
+pub mod TypedOrder

@@ -1,0 +1,9 @@
+pub mod Accessors
+pub mod AfterKey
+pub mod Classes
+pub mod Decoded
+pub mod Encoding
+pub mod Lanes
+pub mod Places
+pub mod Ranges
+pub mod Starts

@@ -1,0 +1,84 @@
+//! Encoded tuples, back as the tuples that they stand for.
+ghost use Rattle.std.specs.Prelude.{◌≡◌, ◌<◌, IfOk, length};
+ghost use Rattle.agg_values.specs.TypedKey.{CompositeIntermediateKey as Key};
+ghost use Rattle.agg_column.specs.Columns.{StandsForKey, encoded_key};
+ghost use Rattle.agg_accessor.specs.Decoded.{IsEncoded, decoded, decoded_key};
+ghost use Rattle.agg_accessor.specs.Encoding.{StandsFor, raw_of};
+ghost use Rattle.agg_accessor.specs.Lanes.{keys_at, lanes};
+
+use crate::encoded::Encoded;
+use crate::lanes::count_of_lanes;
+use crate::numbers::moved_down;
+use crate::{CompositeAccessor, CompositeAggReqData};
+use agg_request_tree::CompositeAggregationSource;
+use agg_values::{CompositeIntermediateKey, Order, OutOfMemory, Tuple};
+use std::alloc::Global;
+
+/// The tuple that an encoded tuple stands for.
+pub fn decode_tuple(
+    alloc: Global,
+    req: &CompositeAggReqData<'_>,
+    encoded: &[Encoded],
+) -> Result<Tuple, OutOfMemory>
+    requires { IsEncoded req.now encoded.now }
+    ensures { IfOk result (λ tuple. tuple ≡ decoded req.now encoded.now) }
+{
+    let sources = req.req.sources.as_slice();
+    let accessors = req.composite_accessors.as_slice();
+    let mut tuple = Tuple::new(alloc);
+    for (i, key) in encoded.iter().enumerate() {
+        let of_source = accessors[i].accessors.as_slice();
+        tuple.push(decode_key(alloc, &sources[i], of_source, *key)?)?;
+    }
+    Ok(tuple)
+}
+
+// The key that an encoded key of a source stands for.
+fn decode_key(
+    alloc: Global,
+    source: &CompositeAggregationSource,
+    accessors: &[CompositeAccessor<'_>],
+    encoded: Encoded,
+) -> Result<CompositeIntermediateKey, OutOfMemory>
+    requires { (key : Key) × StandsFor source.now accessors.now encoded key }
+    ensures { IfOk result (λ key. key ≡ decoded_key source.now accessors.now encoded) }
+{
+    if encoded.place == 0 || encoded.place > count_of_lanes(source, accessors) {
+        return Ok(CompositeIntermediateKey::Null);
+    }
+    let number = number_of(source.order(), encoded.raw);
+    decode_number(alloc, source, accessors, encoded.place - 1, number)
+}
+
+// The key that a number of the lane at a place stands for.
+fn decode_number(
+    alloc: Global,
+    source: &CompositeAggregationSource,
+    accessors: &[CompositeAccessor<'_>],
+    lane: usize,
+    number: u64,
+) -> Result<CompositeIntermediateKey, OutOfMemory>
+    requires lane { lane < length (lanes source.now accessors.now) }
+    requires number { StandsForKey (keys_at source.now accessors.now lane) number }
+    ensures { IfOk result (λ key.
+        key ≡ encoded_key (keys_at source.now accessors.now lane) number) }
+{
+    match source {
+        CompositeAggregationSource::Histogram(_) => {
+            Ok(CompositeIntermediateKey::I64(moved_down(number)))
+        }
+        CompositeAggregationSource::Terms(_) | CompositeAggregationSource::DateHistogram(_) => {
+            accessors[lane].column.decode(alloc, number)
+        }
+    }
+}
+
+// The number that stands in an encoded key, as it is or as its complement.
+fn number_of(order: Order, raw: u64) -> u64
+    ensures { result ≡ raw_of order raw }
+{
+    match order {
+        Order::Asc => raw,
+        Order::Desc => u64::MAX - raw,
+    }
+}

@@ -1,8 +1,0 @@
-use Rattle.agg_composite.proofs.Places.{text_place}
-use Rattle.agg_composite.proofs.after_key.precompute.precompute_text.Goals as goal
-
-pub returns : goal.returns
-returns c =
-    rw c.from.ensures (text_place c.args.column.now.keys c.args.text.now
-    c.term_ord_or_next.result c.requires c.term_ord_or_next.ensures.ascending
-    c.term_ord_or_next.ensures.hit)

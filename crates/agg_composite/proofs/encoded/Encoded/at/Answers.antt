@@ -1,5 +1,0 @@
-use Rattle.std.proofs.Common.{rules}
-use Rattle.agg_composite.proofs.encoded.Encoded.at.Goals as goal
-
-pub returns : goal.returns
-returns c = search rules
