@@ -1,6 +1,6 @@
 -- Why there are no results of a composite over documents.
-use Rattle.std.proofs.Common.{◌≡◌, ◌^◌, ◌≤◌, ℕ, List, Result, IfErr, IsErrAnd}
-use Rattle.std.proofs.Common.{refl, sym, subst, arith}
+use Rattle.std.proofs.Common.{◌≡◌, ◌^◌, ◌≤◌, ◌⊎◌, ℕ, List, Result, Err, IfErr}
+use Rattle.std.proofs.Common.{IsErrAnd, refl, sym, subst, arith, inl, inr}
 use Rattle.std.specs.Prelude.{count_by}
 use Rattle.std.proofs.lemmas.List.Sums.{count_by-le-length}
 use Rattle.std.proofs.lemmas.Result.{err_from_is_err_and}
@@ -13,8 +13,8 @@ use Rattle.agg_request_tree.specs.Source.{rules_of}
 use Rattle.agg_request_tree.specs.declared.aggregation.CompositeAggregation.{CompositeAggregation}
 use Rattle.agg_request_tree.proofs.OccurrencesLength.{past-fewer}
 use Rattle.agg_request_tree.proofs.UncutLength.{length-counted}
+use Rattle.agg_composite.specs.Visits.{AnswersRange}
 use Rattle.agg_engine.specs.PageAnswers.{IsCountRefusal}
-use Rattle.agg_engine.specs.WalkError.{error_from_collect}
 use Rattle.agg_engine.specs.declared.walk.error.WalkError.{WalkError}
 use Rattle.agg_engine.specs.declared.walk.error.WalkError.TheVariants as error
 
@@ -24,6 +24,16 @@ pub caused-by : {T : Type 0} (P : WalkError → Type 0) (result : Result T WalkE
 caused-by P result given kept cause =
     let found = err_from_is_err_and result kept in
     subst (λ r. IfErr r P) (sym found.1) (subst P (sym found.2) cause)
+
+-- a collector of documents in range refuses for too many occurrences or for memory
+pub collected-refusal : (in_range : Type 0) (given : CollectError) → in_range
+    → AnswersRange in_range (Err given)
+    → (given ≡ collect.TooMany) ⊎ (given ≡ collect.OutOfMemory)
+collected-refusal in_range collect.BucketOutOfRange all out = absurd (out all)
+collected-refusal in_range collect.TooMany all answer = inl refl
+collected-refusal in_range (collect.Aggregation part) all none = absurd none
+collected-refusal in_range collect.CollectorFailed all none = absurd none
+collected-refusal in_range collect.OutOfMemory all answer = inr refl
 
 module _ (composite : CompositeAggregation) where
   -- a tuple that stands 2^64 times past a bound is one of too many documents
@@ -40,15 +50,6 @@ module _ (composite : CompositeAggregation) where
         past-fewer composite.sources bound documents,
         length-counted composite documents,
       )
-
-  -- the error of a collector
-  pub collected-refusal : (documents : List Fields) (given : CollectError)
-      → ¬ (given ≡ collect.BucketOutOfRange)
-      → (given ≡ collect.TooMany → IsCountRefusal composite documents 0 error.TooMany)
-      → IsCountRefusal composite documents 0 (error_from_collect given)
-  collected-refusal documents collect.BucketOutOfRange in_range many = in_range refl
-  collected-refusal documents collect.TooMany in_range many = many refl
-  collected-refusal documents collect.OutOfMemory in_range many = tt
 
   -- with more counted before, the same refusal
   pub refusal-later : (documents : List Fields) (counted later : ℕ) (given : WalkError)

@@ -1,11 +1,10 @@
 -- The results of two lists of segments for a page, merged, are those of both as one.
-use Rattle.std.proofs.Common.{◌≡◌, ℕ, ◌+◌, ◌≤◌, ◌^◌, List, [], ◌++◌, Ok, length, take}
+use Rattle.std.proofs.Common.{◌≡◌, ℕ, ◌+◌, ◌^◌, List, ◌++◌, Ok, length, take}
 use Rattle.std.proofs.Common.{drop, length-append, sym, ap, ◌∙◌, subst, arith}
 use Rattle.std.specs.List.{All, filter, flat_map}
-use Rattle.std.specs.Prelude.{⊤}
 use Rattle.std.proofs.lemmas.List.{take-append-drop}
 use Rattle.std.proofs.lemmas.List.Concat.{flat_map-append}
-use Rattle.std.proofs.lemmas.List.Elements.{All-contains, All-from_recursion, filter-append}
+use Rattle.std.proofs.lemmas.List.Elements.{filter-append}
 use Rattle.agg_values.specs.Names.{Named}
 use Rattle.agg_values.specs.declared.after_key.AfterKey.{AfterKey}
 use Rattle.agg_column.specs.Document.{Fields}
@@ -13,20 +12,16 @@ use Rattle.agg_segment.specs.Query.{matches}
 use Rattle.agg_segment.specs.Segment.{Stored, documents_of}
 use Rattle.agg_segment.specs.declared.query.QueryTree.{QueryTree}
 use Rattle.agg_segment.proofs.Encoded.{back_all, front_all}
-use Rattle.agg_request_tree.specs.Request.{agg_of}
-use Rattle.agg_request_tree.specs.Uncut.{counted as counted_by, uncut}
-use Rattle.agg_request_tree.specs.declared.aggregation.Aggregation.{Aggregation}
-use Rattle.agg_request_tree.specs.declared.aggregation.AggregationVariants.{AggregationVariants}
-use Rattle.agg_request_tree.specs.declared.aggregation.AggregationVariants.TheVariants.{Composite}
+use Rattle.agg_request_tree.specs.Uncut.{counted as counted_by}
 use Rattle.agg_request_tree.specs.declared.aggregation.CompositeAggregation.{CompositeAggregation}
-use Rattle.agg_results.specs.Merging.{AreMerged, CountsPass, ShapesDiffer, SomeOfBoth}
-use Rattle.agg_results.specs.declared.intermediate.results.IntermediateAggregationResults as intermediate
-use intermediate.{IntermediateAggregationResults}
-use Rattle.agg_results.proofs.StandingResults.{StandsFor-alike, StandsFor-few, StandsFor-joined}
-use Rattle.agg_request_tree.proofs.RequestTrees.{agg-made}
-use Rattle.agg_engine.specs.PageAnswers.{AnswersMerged, asked}
+use Rattle.agg_intermediate_results.specs.Merging.{AreMerged, CountsPass, ShapesDiffer, SomeOfBoth}
+use Rattle.agg_intermediate_results.specs.declared.results.IntermediateAggregationResults as held
+use held.{IntermediateAggregationResults}
+use Rattle.agg_results.proofs.PassingResults.{StandsFor-few}
+use Rattle.agg_results.proofs.StandingResults.{StandsFor-alike, StandsFor-joined}
+use Rattle.agg_engine.specs.PageAnswers.{AnswersMerged, asked, no_match}
 use Rattle.agg_engine.specs.Walk.{matching_in}
-use Rattle.agg_engine.proofs.OneRequest.{at_size, going_on}
+use Rattle.agg_engine.proofs.OneRequest.{adds-nothing, as_many-one, at_size, going_on}
 
 -- those of two lists of segments
 pub matching-append : (query : QueryTree) (first second : List Stored)
@@ -67,7 +62,7 @@ module _ (name : List ℕ) (composite : CompositeAggregation) (size : ℕ) (afte
   -- their shapes never differ
   pub halves-alike : ¬ (SomeOfBoth ShapesDiffer merged.results more.results)
   halves-alike =
-      StandsFor-alike (asked name composite size after) (matching_in query first)
+      StandsFor-alike no_match (asked name composite size after) (matching_in query first)
       (matching_in query second) merged.results more.results a.merged b.merged
 
   -- no count passes, since few documents are counted
@@ -75,25 +70,15 @@ module _ (name : List ℕ) (composite : CompositeAggregation) (size : ℕ) (afte
   halves-few pass =
       let documents = matching_in query first in
       let others = matching_in query second in
-      let many = StandsFor-few (asked name composite size after) documents others merged.results
-      more.results a.merged b.merged pass in
+      let own = at_size size (going_on after composite) in
+      let many = as_many-one ⊥ name own no_match (documents ++ others) (2 ^ 62)
+      (StandsFor-few no_match (asked name composite size after) documents others merged.results
+      more.results (adds-nothing ⊥ name own (documents ++ others)) a.merged b.merged pass) in
       let counts = counted-append composite documents others in
       let first_is = a.counted_is in
       let second_is = b.counted_is in
       let least = b.few in
-      let few : ¬ (2 ^ 64 ≤ length (uncut {B = ⊤} (Composite composite) (documents ++ others))) =
-      λ passes. omega arith in
-      let own = at_size size (going_on after composite) in
-      let P = λ (e : List ℕ × Aggregation ⊤).
-      ¬ (2 ^ 64 ≤ length (uncut (agg_of e.1) (documents ++ others))) in
-      All-contains P (asked name composite size after) many.1
-      (All-from_recursion P (asked name composite size after) (
-        subst (λ (agg : AggregationVariants ⊤).
-            ¬ (2 ^ 64 ≤ length (uncut agg (documents ++ others))))
-            (sym (agg-made (Composite own) [])) few,
-        tt,
-      ))
-      (many.0, many.2, many.3) many.4
+      omega arith
 
   -- merged, they are the results of all segments
   pub halves-joined : (segments : List Stored) (at : ℕ) → first ≡ take at segments
@@ -111,8 +96,8 @@ module _ (name : List ℕ) (composite : CompositeAggregation) (size : ℕ) (afte
       let second_is = b.counted_is in
       subst (λ ds. AnswersMerged name composite size after ds counted counted_now (Ok whole))
       (sym (ap (matching_in query) split ∙ matching-append query first second)) (record {
-        merged = StandsFor-joined (asked name composite size after) documents others merged.results
-            more.results a.merged b.merged whole.results are;
+        merged = StandsFor-joined no_match (asked name composite size after) documents others
+            merged.results more.results a.merged b.merged whole.results are;
         counted_is = omega arith;
         few = b.few;
         cause = tt;

@@ -1,51 +1,63 @@
--- The merged results of a snapshot stand for its matching documents.
-use Rattle.std.proofs.Common.{◌≡◌, ℕ, List, sym, subst, arith, Ok}
+-- The merged results of a snapshot, whatever the request.
+use Rattle.std.proofs.Common.{◌≡◌, ◌^◌, ℕ, List, Bool, Ok, sym, subst, arith}
 use Rattle.std.specs.List.{All}
 use Rattle.agg_values.specs.Names.{Named}
 use Rattle.agg_values.specs.declared.after_key.AfterKey.{AfterKey}
 use Rattle.agg_column.specs.Document.{Fields}
 use Rattle.agg_segment.specs.declared.query.QueryTree.{QueryTree}
-use Rattle.agg_request_tree.specs.Ranges.{AreInRange, HasOwnStartOutOfRange}
+use Rattle.agg_request_tree.specs.Ranges.{AreInRange, HasStartOutOfRange}
+use Rattle.agg_request_tree.specs.Request.{Request}
+use Rattle.agg_request_tree.specs.Uncut.{CountsTooMany}
 use Rattle.agg_request_tree.specs.declared.aggregation.CompositeAggregation.{CompositeAggregation}
-use Rattle.agg_results.specs.Intermediate.{AreFlat, Held}
+use Rattle.agg_intermediate_results.specs.Intermediate.{Held}
+use Rattle.agg_intermediate_results.specs.declared.results.IntermediateAggregationResults as held
+use held.{IntermediateAggregationResults}
 use Rattle.agg_results.specs.StandsFor.{StandsFor}
-use Rattle.agg_results.specs.declared.intermediate.results.IntermediateAggregationResults as intermediate
-use intermediate.{IntermediateAggregationResults}
-use Rattle.agg_engine.specs.PageAnswers.{AnswersMerged, asked}
+use Rattle.agg_engine.specs.PageAnswers.{AnswersMerged, asked, no_match}
 use Rattle.agg_engine.specs.Snapshot.{SnapshotDocuments}
-use Rattle.agg_engine.specs.Walk.{matching_documents}
-use Rattle.agg_engine.proofs.PageHere.{HasOwnTooMany}
+use Rattle.agg_engine.specs.Walk.{matching_documents, request_after, request_at_size}
+use Rattle.agg_engine.proofs.Builders.{stands-with}
+use Rattle.agg_engine.proofs.OneRequest.{as_many-one, at_size, going_on, one, out_of_range-one}
+use Rattle.agg_engine.proofs.OneRequest.{sized-one}
+
+-- merged results stand for the documents of a snapshot, whose starts are in range and of which few
+-- are counted
+pub record IsMergedOf {B : Type 0} (is_match : B → Fields → Bool) (request : Request B)
+    (documents : List Fields) (merged : Held) : Type 0 where
+  pub stands : StandsFor is_match request documents merged
+  pub range : ¬ (HasStartOutOfRange request documents)
+  pub few : ¬ (CountsTooMany is_match request documents)
 
 -- the merged results of a snapshot
-pub record IsMergedHere (name : List ℕ) (query : QueryTree) (composite : CompositeAggregation)
-    (after : Named AfterKey) (s : SnapshotDocuments) (merged : Held) : Type 0 where
-  pub stands : StandsFor (asked name composite s.page_size after) (matching_documents query s)
-      merged
-  pub flat : AreFlat merged
-  pub range : ¬ (HasOwnStartOutOfRange composite (matching_documents query s))
-  pub few : ¬ (HasOwnTooMany composite (matching_documents query s))
+abbrev pub IsMergedHere : {B : Type 0} → (B → Fields → Bool) → List ℕ → QueryTree → Request B
+    → SnapshotDocuments → Held → Type 0
+IsMergedHere is_match name query now s =
+    IsMergedOf is_match (request_at_size name s.page_size now) (matching_documents query s)
 
 -- those that a call for the results of its segments gives
-pub merged-here : (name : List ℕ) (query : QueryTree) (composite : CompositeAggregation)
-    (after own : Named AfterKey) (s : SnapshotDocuments) (documents : List Fields) (counted : ℕ)
+pub merged-here : {B : Type 0} (is_match : B → Fields → Bool) (name : List ℕ)
+    (query : QueryTree) (request : Request B) (composite : CompositeAggregation)
+    (after given : Named AfterKey) (s : SnapshotDocuments) (documents : List Fields) (counted : ℕ)
     (merged : IntermediateAggregationResults)
-    → AnswersMerged name composite s.page_size own documents 0 counted (Ok merged)
-    → AreFlat merged.results → All (AreInRange composite.sources) documents
-    → own ≡ after → documents ≡ matching_documents query s
-    → IsMergedHere name query composite after s merged.results
-merged-here name query composite after own s documents counted merged answer flat in_range own_is
-    are =
-    record {
-      stands = subst (λ ds. StandsFor (asked name composite s.page_size after) ds merged.results)
-          are
-          (subst (λ k. StandsFor (asked name composite s.page_size k) documents merged.results)
-          own_is answer.merged);
-      flat = flat;
-      range = λ out. out (subst (All (AreInRange composite.sources)) are in_range);
+    → AnswersMerged name composite s.page_size given documents 0 counted (Ok merged)
+    → All (AreInRange composite.sources) documents
+    → request ≡ one B name composite
+    → given ≡ after → documents ≡ matching_documents query s
+    → IsMergedHere is_match name query (request_after name after request) s merged.results
+merged-here {B = B} is_match name query request composite after given s documents counted merged
+    answer in_range request_is given_is are =
+    let sized = at_size s.page_size (going_on after composite) in
+    let here : IsMergedOf is_match (one B name sized) documents merged.results = record {
+      stands = stands-with no_match is_match name sized documents merged.results
+          (subst (λ k. StandsFor no_match (asked name composite s.page_size k) documents
+          merged.results) given_is answer.merged);
+      range = λ out. out_of_range-one B name sized documents out in_range;
       few = λ many.
-          let own_many : HasOwnTooMany composite documents =
-          subst (HasOwnTooMany composite) (sym are) many in
+          let least = as_many-one B name sized is_match documents (2 ^ 32) many in
           let counted_is = answer.counted_is in
           let few = answer.few in
           omega arith;
-    }
+    } in
+    subst (λ (r : Request B). IsMergedOf is_match r (matching_documents query s)
+    merged.results) (sym (sized-one B name request composite after s.page_size request_is))
+    (subst (λ ds. IsMergedOf is_match (one B name sized) ds merged.results) are here)

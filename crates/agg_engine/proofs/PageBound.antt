@@ -1,12 +1,13 @@
 -- The last tuple of a full page, and the after key that is shown for it.
 use Rattle.std.proofs.Common.{◌≡◌, ◌≢◌, ◌==◌, ℕ, List, [], ◌∷◌, Bool, true, false, cond}
-use Rattle.std.proofs.Common.{Option, None, Some, length, map, refl, subst, Ordering}
-use Rattle.std.proofs.Common.{Less, Equal, Greater, rules}
-use Rattle.std.specs.Prelude.{MatchOption, Contains, ⊤, unwrap_or}
-use Rattle.std.specs.Option.{is_some}
+use Rattle.std.proofs.Common.{Option, None, Some, length, map, refl, sym, ap, ◌∙◌, subst, Ordering}
+use Rattle.std.proofs.Common.{Less, Equal, Greater, rules, arith, eq-eqb}
+use Rattle.std.specs.Prelude.{MatchOption, Contains, ⊤}
 use Rattle.std.specs.List.{AllByRecursion, last_or}
 use Rattle.std.specs.Map.{keys_of}
 use Rattle.std.specs.Ordering.{match_ordering}
+use Rattle.std.proofs.lemmas.Bool.Decides.{nat_tests}
+use Rattle.std.proofs.lemmas.List.{length-map}
 use Rattle.std.proofs.lemmas.List.Elements.{recursion_from_All}
 use Rattle.agg_values.specs.Names.{Named, name_cmp, put}
 use Rattle.agg_values.specs.Tuple.{KeyTuple}
@@ -17,16 +18,16 @@ use Rattle.agg_request_tree.specs.Occurrences.{occurrences, occurrences_in}
 use Rattle.agg_request_tree.specs.Page.{Entry, IsPage, MayList, group_of}
 use Rattle.agg_request_tree.specs.Source.{Sources, name_of, source_values}
 use Rattle.agg_request_tree.proofs.PagePast.{past-parts}
-use Rattle.agg_request_tree.proofs.Lists.{AllByRecursion-Has, AllByRecursion-flat_map}
-use Rattle.agg_request_tree.proofs.Lists.{AllByRecursion-map, AllByRecursion-always, Has-from_Contains}
+use Rattle.agg_request_tree.proofs.Lists.{AllByRecursion-Has, AllByRecursion-always}
+use Rattle.agg_request_tree.proofs.Lists.{AllByRecursion-flat_map, AllByRecursion-map}
+use Rattle.agg_request_tree.proofs.Lists.{Has-from_Contains}
 use Rattle.agg_request_tree.proofs.PageKeys.{AllByRecursion-weaker}
-use Rattle.agg_results.specs.Results.{after_tuple}
-use Rattle.agg_results.specs.ShownResults.{shown_after, shown_page}
-use Rattle.agg_results.specs.declared.results.types.AggregationResult as result
+use Rattle.agg_final_results.specs.declared.types.AggregationResult as result
 use result.{the_lemmas}
-use Rattle.agg_results.specs.declared.results.types.CompositeBucketEntry.{CompositeBucketEntry}
-use Rattle.agg_engine.specs.PageAnswers.{IsShown, shown_after_of}
-use Rattle.agg_engine.proofs.OneRequest.{value-own}
+use Rattle.agg_final_results.specs.declared.types.CompositeBucketEntry.{CompositeBucketEntry}
+use Rattle.agg_intermediate_results.specs.Shown.{shown_after, shown_page}
+use Rattle.agg_results.specs.Results.{after_tuple}
+use Rattle.agg_engine.specs.Walk.{after_of_result}
 
 -- ---- the last tuple occurs
 
@@ -109,27 +110,43 @@ after_map-some sources documents tuple some occurs =
 
 -- ---- what is shown
 
--- the after key that a page shows under its name
-pub shown_after-page : (name : List ℕ) (sources : Sources) (entries : List CompositeBucketEntry)
+-- the after key that a page shows
+pub after-shown : (sources : Sources) (entries : List CompositeBucketEntry)
     (last : Option KeyTuple)
-    → shown_after_of name (record { 0 = (name, shown_page sources entries last) ∷ [] })
-    ≡ shown_after sources last
-shown_after-page name sources entries last =
-    rw (value-own name (shown_page sources entries last)) (search (rules, the_lemmas))
+    → after_of_result (Some (shown_page sources entries last)) ≡ shown_after sources last
+after-shown sources entries last = search (rules, the_lemmas)
 
--- where none is shown there is no last tuple
-pub shown-none : (sources : Sources) (next : Option (Named AfterKey)) (last : Option KeyTuple)
-    → IsShown next (shown_after sources last)
-    → ((tuple : KeyTuple) → last ≡ Some tuple → after_map sources tuple ≢ [])
-    → is_some next ≡ false → last ≡ None
-shown-none sources next None is some none = refl
-shown-none sources None (Some tuple) is some none = absurd (some tuple refl is)
-shown-none sources (Some after) (Some tuple) is some none = cc none
+-- a key that is shown is that of the last tuple
+pub shown-tuple : (sources : Sources) (last : Option KeyTuple) (key : Named AfterKey)
+    → key ≡ shown_after sources last → key ≢ []
+    → (tuple : KeyTuple) × (last ≡ Some tuple) × (key ≡ after_map sources tuple)
+shown-tuple sources None key is some = absurd (some is)
+shown-tuple sources (Some tuple) key is some = (tuple, refl, is)
 
--- where one is shown it is that of the last tuple
-pub shown-some : (sources : Sources) (next : Option (Named AfterKey)) (last : Option KeyTuple)
-    (own : Named AfterKey) → IsShown next (shown_after sources last) → is_some next ≡ true
-    → (tuple : KeyTuple) × (last ≡ Some tuple) × (unwrap_or next own ≡ after_map sources tuple)
-shown-some sources None last own is some = cc some
-shown-some sources (Some after) None own is some = absurd (is.1 is.0)
-shown-some sources (Some after) (Some tuple) own is some = (tuple, refl, is.0)
+-- a page has a last tuple only where it is full
+pub last-full : (size : ℕ) (page : List Entry) (tuple : KeyTuple)
+    → after_tuple size page ≡ Some tuple → length page ≡ size
+last-full size page tuple is =
+    sym (length-map page group_of) ∙ by (length (map group_of page) == size) refl is
+  where
+    by : (b : Bool) → (length (map group_of page) == size) ≡ b
+        → cond b (last_or None (keys_of (map group_of page))) None ≡ Some tuple
+        → length (map group_of page) ≡ size
+    by true test last = grind (arith, nat_tests, test)
+    by false test last = cc last
+
+-- and then it has one, where it has room
+pub full-last : (size : ℕ) (page : List Entry) → length page ≡ size → size ≢ 0
+    → (tuple : KeyTuple) × (after_tuple size page ≡ Some tuple)
+full-last size page long room =
+    let test : (length (map group_of page) == size) ≡ true =
+    ap (λ n. n == size) (length-map page group_of ∙ long) ∙ eq-eqb size size refl in
+    let found = last-some page None (λ none. room (sym long ∙ ap length none)) in
+    (found.0, ap (λ b. cond b (last_or None (keys_of (map group_of page))) None) test ∙ found.1)
+  where
+    last-some : (entries : List Entry) (before : Option KeyTuple) → entries ≢ []
+        → (tuple : KeyTuple) × (last_or before (keys_of (map group_of entries)) ≡ Some tuple)
+    last-some [] before some = absurd (some refl)
+    last-some (e ∷ []) before some = (e.tuple, refl)
+    last-some (e ∷ f ∷ entries) before some =
+        last-some (f ∷ entries) (Some e.tuple) (λ none. cc none)

@@ -1,60 +1,64 @@
--- The page of a reached snapshot, as the final results of what its segments gave.
-use Rattle.std.proofs.Common.{◌≡◌, ℕ, List, ◌∷◌, ap, ◌∙◌, subst}
+-- The results of a reached snapshot are what is final of its merged results, whatever the request.
+use Rattle.std.proofs.Common.{◌≤◌, ℕ, List, Bool, ◌∙◌, subst}
 use Rattle.agg_values.specs.Names.{Named}
+use Rattle.agg_values.specs.Nothing.{NoneIs}
 use Rattle.agg_values.specs.declared.after_key.AfterKey.{AfterKey}
+use Rattle.agg_column.specs.Document.{Fields}
 use Rattle.agg_segment.specs.declared.query.QueryTree.{QueryTree}
-use Rattle.agg_request_tree.specs.Page.{Entry}
 use Rattle.agg_request_tree.specs.Request.{Request}
-use Rattle.agg_request_tree.specs.declared.aggregation.CompositeAggregation.{CompositeAggregation}
-use Rattle.agg_results.specs.BucketCount.{results_buckets}
-use Rattle.agg_results.specs.Final.{HoldsOther, HoldsUnknown, final_results}
-use Rattle.agg_results.specs.Intermediate.{Held}
-use Rattle.agg_results.specs.Results.{buckets_in}
-use Rattle.agg_results.specs.ShownResults.{shown_results}
-use Rattle.agg_results.specs.declared.results.types.AggregationResults.{AggregationResults}
+use Rattle.agg_final_results.specs.BucketCount.{results_buckets}
+use Rattle.agg_intermediate_results.specs.Final.{final_results}
+use Rattle.agg_intermediate_results.specs.Intermediate.{Held}
+use Rattle.agg_intermediate_results.specs.Refusals.{HoldsOther, HoldsUnknown}
+use Rattle.agg_results.specs.Results.{AreResults}
+use Rattle.agg_results.proofs.FinalResults.{StandsFor-final}
+use Rattle.agg_results.proofs.StandingRefusals.{StandsFor-known, StandsFor-shapes}
+use Rattle.agg_engine.specs.Refusals.{AreRefusedAt}
 use Rattle.agg_engine.specs.Snapshot.{SnapshotDocuments}
-use Rattle.agg_engine.proofs.FinalPage.{merged-alike, merged-buckets, merged-final, merged-known}
-use Rattle.agg_engine.proofs.FinalPage.{page_here}
-use Rattle.agg_engine.proofs.OneRequest.{one}
-use Rattle.agg_engine.proofs.PageHere.{IsPageHere, results_of}
+use Rattle.agg_engine.specs.Walk.{AreResultsAt, matching_documents, request_after, request_at_size}
+use Rattle.agg_engine.specs.Walk.{with_after, with_size}
+use Rattle.agg_engine.proofs.ChangedRequests.{after-like, size-like}
+use Rattle.agg_engine.proofs.KeptFinals.{final-changed, other-changed, unknown-changed}
 use Rattle.agg_engine.proofs.MergedResults.{IsMergedHere}
-use Rattle.agg_engine.proofs.WalkLoop.{IsWalking}
+use Rattle.agg_engine.proofs.NotRefused.{not-refused}
 
--- at a snapshot
-module _ {B : Type 0} {limit : ℕ} {name : List ℕ} {query : QueryTree} {request : Request B}
-    {snapshots : List SnapshotDocuments} {composite : CompositeAggregation}
-    {after : Named AfterKey} {s : SnapshotDocuments} {rest : List SnapshotDocuments}
-    {pages : List AggregationResults}
-    (w : IsWalking limit name query request snapshots composite after (s ∷ rest) pages) where
-  -- with the merged results of its segments
-  module _ {merged : Held} (h : IsMergedHere name query composite after s merged) where
-    -- no name is unknown
-    pub known-here : ¬ (HoldsUnknown request merged)
-    known-here unknown =
-        merged-known B name query composite after s merged h.stands h.flat
-        (subst (λ (r : Request B). HoldsUnknown r merged) w.request_is unknown)
+-- a request that goes on from an after key, at a snapshot
+module _ {B : Type 0} (is_match : B → Fields → Bool) (limit : ℕ) (name : List ℕ)
+    (query : QueryTree) (request : Request B) (after : Named AfterKey) (s : SnapshotDocuments)
+    (merged : Held)
+    (h : IsMergedHere is_match name query (request_after name after request) s merged) where
+  -- the request as it goes on, and as it stands at the snapshot
+  abbrev now : Request B
+  now = request_after name after request
 
-    -- no result has another shape
-    pub alike-here : ¬ (HoldsOther request merged)
-    alike-here other =
-        merged-alike B name query composite after s merged h.stands
-        (subst (λ (r : Request B). HoldsOther r merged) w.request_is other)
+  abbrev here : Request B
+  here = request_at_size name s.page_size now
 
-    -- the page
-    abbrev pub page : List Entry
-    page = (page_here B name query composite after s merged h.stands).0
+  -- no name is unknown
+  pub known-here : ¬ (HoldsUnknown request merged)
+  known-here unknown =
+      StandsFor-known is_match here (matching_documents query s) merged h.stands
+      (unknown-changed (with_size s.page_size) name (size-like s.page_size) now merged
+      (unknown-changed (with_after after) name (after-like after) request merged unknown))
 
-    pub is_page : IsPageHere B name query composite after s page
-    is_page = (page_here B name query composite after s merged h.stands).1
+  -- no result has another shape
+  pub alike-here : ¬ (HoldsOther request merged)
+  alike-here other =
+      StandsFor-shapes is_match here (matching_documents query s) merged h.stands
+      (other-changed (with_size s.page_size) name (size-like s.page_size) now merged
+      (other-changed (with_after after) name (after-like after) request merged other))
 
-    pub final : final_results request merged ≡ shown_results (one B name composite)
-        (results_of B name query composite after s page)
-    final =
-        ap (λ (r : Request B). final_results r merged) w.request_is
-        ∙ merged-final B name query composite after s merged h.stands page is_page
+  -- what is final is the results of the snapshot
+  pub results-here : AreResultsAt is_match name query now s (final_results request merged)
+  results-here =
+      subst (AreResults is_match here (matching_documents query s))
+      (final-changed (with_size s.page_size) name (size-like s.page_size) now merged
+      ∙ final-changed (with_after after) name (after-like after) request merged)
+      (StandsFor-final is_match here (matching_documents query s) merged h.stands)
 
-    pub buckets : results_buckets (final_results request merged)
-        ≡ buckets_in (results_of B name query composite after s page)
-    buckets =
-        ap (λ (r : Request B). results_buckets (final_results r merged)) w.request_is
-        ∙ merged-buckets B name query composite after s merged h.stands page is_page
+  -- which aren't refused where they have no more buckets than the limit
+  pub fit-here : results_buckets (final_results request merged) ≤ limit
+      → NoneIs (AreRefusedAt is_match limit name query now s)
+  fit-here short =
+      not-refused is_match limit here (matching_documents query s) (final_results request merged)
+      results-here h.range h.few short

@@ -12,6 +12,7 @@ use Rattle.agg_values.specs.declared.request_error.RequestError.{RequestError}
 use Rattle.agg_values.specs.declared.request_error.RequestError.TheVariants.{Aggregation, Invalid}
 use Rattle.agg_values.specs.declared.request_error.RequestError.TheVariants.{OutOfMemory}
 use Rattle.agg_values.specs.TypedKey.{CompositeIntermediateKey}
+use Rattle.agg_column.specs.Document.{Fields}
 use Rattle.agg_segment.specs.declared.query.QueryTree.{QueryTree}
 use Rattle.agg_calendar.specs.Interval.{chosen, fixed}
 use Rattle.agg_calendar.specs.IntervalText.{read_interval}
@@ -69,22 +70,23 @@ module _ (part : AggregationError) where
       source-text source refused
 
 -- a refusal of the request has its cause in the walk
-pub cause-checked : {B : Type 0} (limit : ℕ) (name : List ℕ) (query : QueryTree)
-    (request : Request B) (snapshots : List SnapshotDocuments) (given : RequestError)
+pub cause-checked : {B : Type 0} (is_match : B → Fields → Bool) (limit : ℕ) (name : List ℕ)
+    (query : QueryTree) (request : Request B) (snapshots : List SnapshotDocuments)
+    (given : RequestError)
     → IsCause request given
-    → HasCause limit name query request snapshots (error_from_request given)
-cause-checked limit name query request snapshots (Invalid fault) cause = inl cause
-cause-checked limit name query request snapshots
+    → HasCause is_match limit name query request snapshots (error_from_request given)
+cause-checked is_match limit name query request snapshots (Invalid fault) cause = inl cause
+cause-checked is_match limit name query request snapshots
     (Aggregation (aggregation.DateHistogramParseError part)) cause = cause
-cause-checked limit name query request snapshots (Aggregation (aggregation.MemoryExceeded l n))
-    cause =
+cause-checked is_match limit name query request snapshots
+    (Aggregation (aggregation.MemoryExceeded l n)) cause =
     let text = request-text (aggregation.MemoryExceeded l n) request cause in
     let other = text.1 in cc other
-cause-checked limit name query request snapshots (Aggregation (aggregation.BucketLimitExceeded l n))
-    cause =
+cause-checked is_match limit name query request snapshots
+    (Aggregation (aggregation.BucketLimitExceeded l n)) cause =
     let text = request-text (aggregation.BucketLimitExceeded l n) request cause in
     let other = text.1 in cc other
-cause-checked limit name query request snapshots OutOfMemory cause = tt
+cause-checked is_match limit name query request snapshots OutOfMemory cause = tt
 
 -- ---- accessors
 

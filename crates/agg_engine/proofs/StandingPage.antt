@@ -1,16 +1,18 @@
 -- The intermediate results of a page stand for its documents.
-use Rattle.std.proofs.Common.{◌≡◌, ◌<◌, ◌+◌, ◌^◌, ℕ, List, [], ◌∷◌, Result, Ok, Err, IfErr}
-use Rattle.std.proofs.Common.{IfOk, IsErrAnd, length, refl, sym, subst, inl}
-use Rattle.std.specs.List.{Contains}
-use Rattle.std.specs.Prelude.{⊤}
-use Rattle.std.proofs.lemmas.List.Elements.{All-from_recursion}
-use Rattle.std.proofs.lemmas.Result.{IfOk-weaker, err_from_is_err_and}
+use Rattle.std.proofs.Common.{◌≡◌, ◌≤◌, ◌<◌, ◌+◌, ◌^◌, ℕ, zero, suc, List, [], ◌∷◌, Bool, inl}
+use Rattle.std.proofs.Common.{Result, Ok, Err, IfErr, IfOk, IsErrAnd, Some, length, take}
+use Rattle.std.proofs.Common.{refl, sym, subst, arith}
+use Rattle.std.specs.List.{All, Contains}
+use Rattle.std.proofs.lemmas.List.{length-take-le}
+use Rattle.std.proofs.lemmas.List.Elements.{All-from_recursion, All-map, All-nil, All-weaker}
+use Rattle.std.proofs.lemmas.Result.{err_from_is_err_and}
 use Rattle.agg_values.specs.Names.{Named, value_of}
 use Rattle.agg_values.specs.declared.after_key.AfterKey.{AfterKey}
 use Rattle.agg_column.specs.Document.{Fields}
 use Rattle.agg_request_tree.specs.Groups.{Group}
 use Rattle.agg_request_tree.specs.Occurrences.{bound_of}
-use Rattle.agg_request_tree.specs.Request.{agg_of}
+use Rattle.agg_request_tree.specs.Page.{count_in, documents_with}
+use Rattle.agg_request_tree.specs.Request.{Request, aggregation_of, below_of}
 use Rattle.agg_request_tree.specs.Source.{rules_of}
 use Rattle.agg_request_tree.specs.Uncut.{counted as counted_by}
 use Rattle.agg_request_tree.specs.declared.aggregation.Aggregation.{Aggregation}
@@ -18,68 +20,125 @@ use Rattle.agg_request_tree.specs.declared.aggregation.AggregationVariants.{Aggr
 use Rattle.agg_request_tree.specs.declared.aggregation.AggregationVariants.TheVariants.{Composite}
 use Rattle.agg_request_tree.specs.declared.aggregation.CompositeAggregation.{CompositeAggregation}
 use Rattle.agg_request_tree.proofs.Lists.{Contains-here}
-use Rattle.agg_results.specs.Intermediate.{AreFlat, Held, IsFlat, as_result, composite_of}
-use Rattle.agg_results.specs.Intermediate.{held_composite, plain_entries}
-use Rattle.agg_results.specs.StandsFor.{CompositeStandsFor, GroupsStandFor, ResultStandsFor}
-use Rattle.agg_results.specs.StandsFor.{StandsFor}
-use Rattle.agg_results.specs.declared.intermediate.results.IntermediateAggregationResults as intermediate
-use intermediate.{IntermediateAggregationResults}
-use Rattle.agg_results.proofs.StandingComposites.{counts-plain, entries-plain, stands-made}
-use Rattle.agg_request_tree.proofs.RequestTrees.{agg-made}
-use Rattle.agg_engine.specs.PageAnswers.{AnswersMerged, IsCountRefusal, asked, intermediate_page}
+use Rattle.agg_request_tree.proofs.RequestTrees.{agg-made, below-made}
+use Rattle.agg_intermediate_results.specs.Intermediate.{Held, as_composite, composite_of}
+use Rattle.agg_intermediate_results.specs.Intermediate.{counts_of, parts_of, plain_entry}
+use Rattle.agg_intermediate_results.specs.declared.composite as composites
+use composites.IntermediateCompositeBucketResult.{IntermediateCompositeBucketResult}
+use Rattle.agg_intermediate_results.specs.declared.results as results
+use results.IntermediateAggregationResults.{IntermediateAggregationResults}
+use results.IntermediateBucketResult.TheVariants as buckets
+use Rattle.agg_results.specs.StandsFor.{EntryStands, GroupsStandFor, IsPart, NamesStand, PartsStand}
+use Rattle.agg_results.specs.StandsFor.{StandsFor, StandsTo}
+use Rattle.agg_intermediate_results.proofs.ResultParts.{parts-composite}
+use Rattle.agg_results.proofs.Parts.{length-with}
+use Rattle.agg_results.proofs.StandingComposites.{stands-made}
+use Rattle.agg_engine.specs.PageAnswers.{AnswersMerged, IsCountRefusal, asked, entries_for}
+use Rattle.agg_engine.specs.PageAnswers.{intermediate_page, no_match}
 use Rattle.agg_engine.specs.declared.walk.error.WalkError.{WalkError}
 use Rattle.agg_engine.specs.declared.walk.error.WalkError.TheVariants.{OutOfMemory}
 use Rattle.agg_engine.proofs.OneRequest.{at_size, going_on, value-own}
 
+-- ---- entries with nothing below them
+
+counts-entries : (groups : List Group) → counts_of (entries_for groups) ≡ groups
+counts-entries [] = refl
+counts-entries (g ∷ groups) = λ i. g ∷ counts-entries groups i
+
+part-take : (n : ℕ) (documents : List Fields) → IsPart (take n documents) documents
+part-take zero documents = tt
+part-take (suc n) [] = tt
+part-take (suc n) (d ∷ documents) = inl (refl, part-take n documents)
+
 module _ (name : List ℕ) (composite : CompositeAggregation) (size : ℕ) (after : Named AfterKey)
     (documents : List Fields) where
-  -- the page of these groups, under the name
-  abbrev page_of : List Group → Held
-  page_of = intermediate_page name composite size
-
   -- what the groups of a page stand for
   abbrev pub Stand : List Group → Type 0
   Stand = GroupsStandFor composite.sources size (bound_of composite.sources after) documents
 
+  -- the composite that is asked
+  abbrev sized : CompositeAggregation
+  sized = at_size size (going_on after composite)
+
   module _ (groups : List Group) (stand : Stand groups) where
-    composite-stands : CompositeStandsFor (at_size size (going_on after composite)) documents
-        (composite_of (rules_of composite.sources) size (plain_entries groups))
-    composite-stands =
-        stands-made (at_size size (going_on after composite)) documents
-        (rules_of composite.sources) size (plain_entries groups) (inl (refl, refl))
-        (subst Stand (sym (counts-plain groups)) stand) (entries-plain groups)
+    -- the composite's result
+    abbrev made : IntermediateCompositeBucketResult
+    made = composite_of (rules_of composite.sources) size (entries_for groups)
 
-    -- it stands for the documents
-    pub page-stands : StandsFor (asked name composite size after) documents (page_of groups)
-    page-stands =
-        let own = at_size size (going_on after composite) in
-        let result = as_result (composite_of (rules_of composite.sources) size
-        (plain_entries groups)) in
-        record {
-          each = All-from_recursion (λ (a : List ℕ × Aggregation ⊤).
-              ResultStandsFor (agg_of a.1) documents (value_of a.0 (page_of groups)))
-              (asked name composite size after) (
-                subst (λ (agg : AggregationVariants ⊤).
-                    ResultStandsFor agg documents (value_of name (page_of groups)))
-                    (sym (agg-made (Composite own) []))
-                    (subst (ResultStandsFor {B = ⊤} (Composite own) documents)
-                    (sym (value-own name result)) composite-stands),
-                tt,
-              );
-          known = All-from_recursion (Contains (name ∷ [])) (name ∷ [])
-              (Contains-here name [], tt);
-        }
+    module _ {B : Type 0} (is_match : B → Fields → Bool) where
+      -- the only aggregation
+      abbrev own : Aggregation B
+      own = aggregation_of (Composite sized) []
 
-    -- it has no sub-results
-    pub flat-page : (result : Result IntermediateAggregationResults WalkError)
-        → IfOk result (λ merged. merged.results ≡ page_of groups)
-        → IfOk result (λ merged. AreFlat merged.results)
-    flat-page result is =
-        IfOk-weaker result (λ merged. merged.results ≡ page_of groups)
-        (λ merged. AreFlat merged.results)
-        (λ merged e. subst AreFlat (sym e)
-        (All-from_recursion (λ r. IsFlat (held_composite r.1)) (page_of groups)
-        (composite-stands.flat, tt))) is
+      -- what stands down to a depth below an aggregation
+      abbrev Below : ℕ → Request B → List Fields → Held → Type 0
+      Below depth = NamesStand is_match (StandsTo is_match depth)
+
+      nothing-stands : (depth : ℕ) (part : List Fields) → Below depth (below_of own) part []
+      nothing-stands depth part =
+          subst (λ (below : Request B). Below depth below part [])
+          (sym (below-made (Composite sized) []))
+          (record {
+            each = All-nil (λ (a : List ℕ × Aggregation B).
+                StandsTo is_match depth a.1 part (value_of a.0 []));
+            known = All-nil (Contains []);
+          })
+
+      -- an entry stands for as many documents of its tuple as it counts
+      entry-stands : (depth : ℕ) (g : Group)
+          → (0 < g.1) × (g.1 ≤ count_in composite.sources documents g.0)
+          → EntryStands (Below depth (below_of own)) composite.sources documents
+          (g.0, plain_entry g.1)
+      entry-stands depth g some =
+          let listed = documents_with composite.sources documents g.0 in
+          let long = length-with composite.sources documents g.0 in
+          let count = some.1 in
+          let within : g.1 ≤ length listed = omega arith in (
+            take g.1 listed,
+            part-take g.1 listed,
+            length-take-le g.1 listed within,
+            nothing-stands depth (take g.1 listed),
+          )
+
+      entries-stand : (depth : ℕ)
+          → All (EntryStands (Below depth (below_of own)) composite.sources documents)
+          (entries_for groups)
+      entries-stand depth =
+          All-map (EntryStands (Below depth (below_of own)) composite.sources documents)
+          (λ g. (g.0, plain_entry g.1)) groups
+          (All-weaker
+          (λ g. (0 < g.1) × (g.1 ≤ count_in composite.sources documents g.0))
+          (λ g. EntryStands (Below depth (below_of own)) composite.sources documents
+          (g.0, plain_entry g.1)) (entry-stands depth) groups stand.some)
+
+      result-stands : (depth : ℕ)
+          → StandsTo is_match depth own documents (Some (as_composite made))
+      result-stands zero = tt
+      result-stands (suc depth) =
+          subst (λ (agg : AggregationVariants B).
+          PartsStand is_match (Below depth) agg (below_of own) documents
+          (parts_of (as_composite made)))
+          (sym (agg-made (Composite sized) []))
+          (subst (PartsStand is_match (Below depth) (Composite sized) (below_of own) documents)
+          (sym (parts-composite (buckets.Composite made) made refl))
+          (stands-made (Below depth (below_of own)) sized documents (rules_of composite.sources)
+          size (entries_for groups) (inl (refl, refl))
+          (subst Stand (sym (counts-entries groups)) stand) (entries-stand depth)))
+
+      -- the page stands for the documents
+      pub page-stands : StandsFor is_match (asked name composite size after) documents
+          (intermediate_page name composite size groups)
+      page-stands depth = record {
+        each = All-from_recursion (λ (a : List ℕ × Aggregation B).
+            StandsTo is_match depth a.1 documents
+            (value_of a.0 (intermediate_page name composite size groups)))
+            (asked name composite size after) (
+              subst (StandsTo is_match depth own documents)
+                  (sym (value-own name (as_composite made))) (result-stands depth),
+              tt,
+            );
+        known = All-from_recursion (Contains (name ∷ [])) (name ∷ []) (Contains-here name [], tt);
+      }
 
   -- ---- what a call answers
 
@@ -104,11 +163,11 @@ module _ (name : List ℕ) (composite : CompositeAggregation) (size : ℕ) (afte
     pub answers-page : (groups : List Group) → Stand groups
         → counted_now ≡ counted + length (counted_by composite documents)
         → counted_now < 2 ^ 32 → (result : Result IntermediateAggregationResults WalkError)
-        → IfOk result (λ merged. merged.results ≡ page_of groups)
+        → IfOk result (λ merged. merged.results ≡ intermediate_page name composite size groups)
         → IfErr result (λ error. error ≡ OutOfMemory) → Answers result
     answers-page groups stand counted_is few (Ok merged) is err = record {
-      merged = subst (StandsFor (asked name composite size after) documents) (sym is)
-          (page-stands groups stand);
+      merged = subst (StandsFor no_match (asked name composite size after) documents) (sym is)
+          (page-stands groups stand no_match);
       counted_is = counted_is;
       few = few;
       cause = tt;

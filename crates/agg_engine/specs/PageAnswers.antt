@@ -1,7 +1,7 @@
 -- What calls answer of a page.
-use Rattle.std.specs.Prelude.{◌≡◌, ◌≢◌, ◌≤◌, ◌<◌, ◌+◌, ◌^◌, ℕ, List, [], ◌∷◌, Option, None, Some}
-use Rattle.std.specs.Prelude.{Result, All, IfErr, IfOk, MatchOption, OnOk, length, ⊤}
-use Rattle.agg_values.specs.Names.{Named, value_of}
+use Rattle.std.specs.Prelude.{◌≡◌, ◌≢◌, ◌≤◌, ◌<◌, ◌+◌, ◌^◌, ℕ, List, [], ◌∷◌, Bool, Option}
+use Rattle.std.specs.Prelude.{Result, All, IfErr, IfOk, MatchOption, OnOk, length, map, ⊤}
+use Rattle.agg_values.specs.Names.{Named}
 use Rattle.agg_values.specs.declared.after_key.AfterKey.{AfterKey}
 use Rattle.agg_values.specs.declared.error.InvalidArgument.TheVariants.{NoSource, TooManySources}
 use Rattle.agg_column.specs.Document.{Fields}
@@ -14,18 +14,12 @@ use Rattle.agg_request_tree.specs.Ranges.{HasOwnStartOutOfRange}
 use Rattle.agg_request_tree.specs.Request.{Request, aggregation_of}
 use Rattle.agg_request_tree.specs.Uncut.{counted as counted_by}
 use Rattle.agg_request_tree.specs.Source.{Sources, after_of, rules_of}
-use Rattle.agg_results.specs.Final.{TellsTooMany}
-use Rattle.agg_results.specs.Intermediate.{Held, as_result, composite_of, plain_entries}
+use Rattle.agg_intermediate_results.specs.Intermediate.{Entries, Held, as_composite, composite_of}
+use Rattle.agg_intermediate_results.specs.Intermediate.{plain_entry}
+use Rattle.agg_intermediate_results.specs.Refusals.{TellsTooMany}
+use Rattle.agg_intermediate_results.specs.declared.results.IntermediateAggregationResults as held
+use held.{IntermediateAggregationResults}
 use Rattle.agg_results.specs.StandsFor.{StandsFor}
-use Rattle.agg_results.specs.declared.intermediate.results.IntermediateAggregationResults as intermediate
-use intermediate.{IntermediateAggregationResults}
-use Rattle.agg_results.specs.declared.results.types.AggregationResult.{AggregationResult}
-use Rattle.agg_results.specs.declared.results.types.AggregationResult.TheOpen as opened
-use opened.{BucketResult-F}
-use Rattle.agg_results.specs.declared.results.types.AggregationResult.TheVariants as kind
-use Rattle.agg_results.specs.declared.results.types.AggregationResults.{AggregationResults}
-use Rattle.agg_results.specs.declared.results.types.BucketResult.{BucketResult, out-BucketResult}
-use Rattle.agg_results.specs.declared.results.types.CompositeBucketEntry.{CompositeBucketEntry}
 use Rattle.agg_engine.specs.declared.walk.error.WalkError.{WalkError}
 use Rattle.agg_engine.specs.declared.walk.error.WalkError.TheVariants.{Aggregation, OutOfMemory}
 use Rattle.agg_engine.specs.declared.walk.error.WalkError.TheVariants.{BucketOutOfRange, TooMany}
@@ -55,47 +49,39 @@ IsCountRefusal composite documents counted TooMany =
 IsCountRefusal composite documents counted OutOfMemory = ⊤
 IsCountRefusal composite documents counted _ = ⊥
 
--- the request of one composite under a name, of a size and after an after key, with such builders
-abbrev pub asked_with : (B : Type 0) → List ℕ → CompositeAggregation → ℕ → Named AfterKey
-    → Request B
-asked_with B name composite size after = (
+-- the request of one composite under a name, of a size and after an after key
+abbrev pub asked : {B : Type 0} → List ℕ → CompositeAggregation → ℕ → Named AfterKey → Request B
+asked name composite size after = (
   name,
   aggregation_of (Composite (record composite { size = size; after = after })) [],
 ) ∷ []
 
--- the same, without builders
-abbrev pub asked : List ℕ → CompositeAggregation → ℕ → Named AfterKey → Request ⊤
-asked = asked_with ⊤
+-- what builders match where there are none
+abbrev pub no_match : ⊥ → Fields → Bool
+no_match builder document = absurd builder
+
+-- entries of these groups, with nothing below them
+abbrev pub entries_for : List Group → Entries
+entries_for groups = map (λ g. (g.0, plain_entry g.1)) groups
 
 -- the intermediate results of a name that have these groups as their page
 abbrev pub intermediate_page : List ℕ → CompositeAggregation → ℕ → List Group → Held
 intermediate_page name composite size groups =
-    (name, as_result (composite_of (rules_of composite.sources) size (plain_entries groups))) ∷ []
+    (name, as_composite (composite_of (rules_of composite.sources) size (entries_for groups))) ∷ []
 
 -- what a call for the results of a composite over documents answers, where so many documents were
 -- counted before: an Ok has results that stand for the documents, and has counted these too, and
--- they are not too many with those before; each other answer has its cause
+-- they are not too many with those before; each other answer has its cause. A composite has no
+-- builders
 pub record AnswersMerged (name : List ℕ) (composite : CompositeAggregation) (size : ℕ)
     (after : Named AfterKey) (documents : List Fields) (counted counted_now : ℕ)
     (result : Result IntermediateAggregationResults WalkError) : Type 0 where
-  pub merged : IfOk result
-      (λ merged. StandsFor (asked name composite size after) documents merged.results)
+  pub merged : IfOk result (λ merged.
+      StandsFor no_match (asked name composite size after) documents merged.results)
   pub counted_is : OnOk result
       (counted_now ≡ counted + length (counted_by composite documents))
   pub few : OnOk result (counted_now < 2 ^ 32)
   pub cause : IfErr result (IsCountRefusal composite documents counted)
-
--- the after key that the results of a name show
-abbrev pub shown_after_of : List ℕ → AggregationResults → Named AfterKey
-shown_after_of name results = after_shown (value_of name results.0)
-  where
-    of_buckets : BucketResult-F AggregationResult BucketResult AggregationResults
-        CompositeBucketEntry → Named AfterKey
-    of_buckets (opened.Composite buckets after_key) = after_key
-
-    after_shown : Option AggregationResult → Named AfterKey
-    after_shown None = []
-    after_shown (Some (kind.BucketResult buckets)) = of_buckets (out-BucketResult buckets)
 
 -- whether there is a next after key, and that it is the one that is shown
 abbrev pub IsShown : Option (Named AfterKey) → Named AfterKey → Type 0

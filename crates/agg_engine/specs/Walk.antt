@@ -1,10 +1,10 @@
 -- The walk of a request over snapshots.
-use Rattle.std.specs.Prelude.{◌≡◌, ◌≢◌, ◌⊎◌, ℕ, List, [], ◌∷◌, Bool, true, false}
-use Rattle.std.specs.Prelude.{All, Any, MatchOption, if◌then◌else◌, map, filter}
+use Rattle.std.specs.Prelude.{◌≡◌, ◌≢◌, ◌⊎◌, ℕ, List, [], ◌∷◌, Bool, true, false, Option, None}
+use Rattle.std.specs.Prelude.{Some, All, Any, if◌then◌else◌, map, filter}
 use Rattle.std.specs.List.{flat_map}
 use Rattle.std.specs.BTreeMap.{is_at}
-use Rattle.agg_values.specs.Names.{name_cmp}
-use Rattle.agg_values.specs.Tuple.{KeyTuple}
+use Rattle.agg_values.specs.Names.{Named, name_cmp, value_of}
+use Rattle.agg_values.specs.declared.after_key.AfterKey.{AfterKey}
 use Rattle.agg_values.specs.declared.error.InvalidArgument.{InvalidArgument}
 use Rattle.agg_values.specs.declared.error.InvalidArgument.TheVariants.{ZeroSize}
 use Rattle.agg_values.specs.declared.request_error.RequestError.TheVariants.{Invalid}
@@ -15,13 +15,18 @@ use Rattle.agg_segment.specs.declared.query.QueryTree.{QueryTree}
 use Rattle.agg_request_tree.specs.declared.aggregation.Aggregation.{Aggregation}
 use Rattle.agg_request_tree.specs.declared.aggregation.AggregationVariants.{AggregationVariants}
 use Rattle.agg_request_tree.specs.declared.aggregation.AggregationVariants.TheVariants.{Composite}
-use Rattle.agg_request_tree.specs.BySource.{after_map}
 use Rattle.agg_request_tree.specs.Faults.{IsSoundRequest, RequestHasFault}
-use Rattle.agg_request_tree.specs.Ranges.{HasStartOutOfRange}
 use Rattle.agg_request_tree.specs.Request.{Request, agg_of, aggregation_of, below_of}
-use Rattle.agg_request_tree.specs.Uncut.{CountsTooMany}
 use Rattle.agg_engine.specs.NamedComposite.{NamesComposite}
-use Rattle.agg_results.specs.Results.{IsResults, Results, after_in}
+use Rattle.agg_final_results.specs.declared.types as final
+use final.AggregationResult.{AggregationResult}
+use final.AggregationResult.TheOpen as opened
+use final.AggregationResult.TheVariants.{BucketResult, MetricResult}
+use final.AggregationResults.{AggregationResults}
+use final.BucketResult as buckets
+use final.CompositeBucketEntry.{CompositeBucketEntry}
+use final.FilterBucketResult.{FilterBucketResult}
+use Rattle.agg_results.specs.Results.{AreResults}
 use Rattle.agg_engine.specs.Snapshot.{SnapshotDocuments}
 
 -- the documents of a snapshot: those of its segments, joined
@@ -41,11 +46,11 @@ abbrev pub with_size : {B : Type 0} → ℕ → AggregationVariants B → Aggreg
 with_size size (Composite composite) = Composite (record composite { size = size })
 with_size size other = other
 
--- an aggregation with a tuple as its after key, if it is a composite
-abbrev pub with_after : {B : Type 0} → KeyTuple → AggregationVariants B → AggregationVariants B
-with_after tuple (Composite composite) =
-    Composite (record composite { after = after_map composite.sources tuple })
-with_after tuple other = other
+-- an aggregation with another after key, if it is a composite
+abbrev pub with_after : {B : Type 0} → Named AfterKey → AggregationVariants B
+    → AggregationVariants B
+with_after after (Composite composite) = Composite (record composite { after = after })
+with_after after other = other
 
 -- an aggregation in which what it asks is changed
 abbrev pub changed : {B : Type 0} → (AggregationVariants B → AggregationVariants B)
@@ -62,36 +67,55 @@ request_changed_at change name request =
 abbrev pub request_at_size : {B : Type 0} → List ℕ → ℕ → Request B → Request B
 request_at_size name size = request_changed_at (with_size size) name
 
--- the request that goes on after a tuple
-abbrev pub request_after : {B : Type 0} → List ℕ → KeyTuple → Request B → Request B
-request_after name tuple = request_changed_at (with_after tuple) name
+-- the request that goes on after an after key
+abbrev pub request_after : {B : Type 0} → List ℕ → Named AfterKey → Request B → Request B
+request_after name after = request_changed_at (with_after after) name
 
--- the results of a snapshot
-abbrev pub AreResultsAt : {B : Type 0} → List ℕ → QueryTree → Request B → SnapshotDocuments
-    → Results → Type 0
-AreResultsAt name query request s results =
-    IsResults (request_at_size name s.page_size request) (matching_documents query s) results
+-- ---- after keys
 
--- the walk: each snapshot's results, as long as the page before is full; it has ended where a page
--- isn't full
-abbrev pub IsWalk : {B : Type 0} → List ℕ → QueryTree → Request B
-    → List SnapshotDocuments → List Results → Bool → Type 0
-IsWalk name query request [] [] ended = ended ≡ false
-IsWalk name query request [] (r ∷ rs) ended = ⊥
-IsWalk name query request (s ∷ snapshots) [] ended = ⊥
-IsWalk name query request (s ∷ snapshots) (r ∷ rs) ended =
-    AreResultsAt name query request s r
-    × MatchOption (after_in name r)
-    ((rs ≡ []) × (ended ≡ true))
-    (λ tuple. IsWalk name query (request_after name tuple request) snapshots rs ended)
+-- the after key that the result of a composite shows
+abbrev pub after_of_buckets : opened.BucketResult-F AggregationResult buckets.BucketResult
+    AggregationResults CompositeBucketEntry FilterBucketResult → Named AfterKey
+after_of_buckets (opened.Composite entries after_key) = after_key
+after_of_buckets (opened.Filter filter) = []
 
--- some start of a bucket of a request lies outside i64
-abbrev pub HasOutOfRange : {B : Type 0} → Request B → List Fields → Type 0
-HasOutOfRange request documents = Any (λ a. HasStartOutOfRange (agg_of a.1) documents) request
+-- the after key that a result shows, if it is that of a composite
+abbrev pub after_of_result : Option AggregationResult → Named AfterKey
+after_of_result (Some (BucketResult result)) = after_of_buckets (buckets.out-BucketResult result)
+after_of_result (Some (MetricResult result)) = []
+after_of_result None = []
 
--- some aggregation of a request counts too many documents
-abbrev pub HasTooMany : {B : Type 0} → Request B → List Fields → Type 0
-HasTooMany request documents = Any (λ a. CountsTooMany (agg_of a.1) documents) request
+-- the after key that results show under a name: that of a full page, and none where it isn't full
+abbrev pub after_in : List ℕ → AggregationResults → Named AfterKey
+after_in name results = after_of_result (value_of name results.0)
+
+-- one of two, by whether a page shows an after key, as full ones do
+abbrev pub IfFull : Named AfterKey → Type 0 → Type 0 → Type 0
+IfFull [] WithRoom Full = WithRoom
+IfFull (k ∷ after) WithRoom Full = Full
+
+-- ---- the walk
+
+module _ {B : Type 0} (is_match : B → Fields → Bool) (name : List ℕ) (query : QueryTree) where
+  -- the results of a snapshot
+  abbrev pub AreResultsAt : Request B → SnapshotDocuments → AggregationResults → Type 0
+  AreResultsAt request s results =
+      AreResults is_match (request_at_size name s.page_size request) (matching_documents query s)
+      results
+
+  -- the walk: each snapshot's results, as long as the page before is full; it has ended where a
+  -- page isn't full
+  abbrev pub IsWalk : Request B → List SnapshotDocuments → List AggregationResults → Bool → Type 0
+  IsWalk request [] [] ended = ended ≡ false
+  IsWalk request [] (r ∷ rs) ended = ⊥
+  IsWalk request (s ∷ snapshots) [] ended = ⊥
+  IsWalk request (s ∷ snapshots) (r ∷ rs) ended =
+      AreResultsAt request s r
+      × IfFull (after_in name r)
+      ((rs ≡ []) × (ended ≡ true))
+      (IsWalk (request_after name (after_in name r) request) snapshots rs ended)
+
+-- ---- what may be asked
 
 -- no page size is 0, of snapshots reached or not
 abbrev pub HaveRoom : List SnapshotDocuments → Type 0

@@ -9,8 +9,6 @@ use parsing.{DateHistogramParseError}
 use parsing.TheVariants as parse
 use Rattle.agg_values.specs.declared.request_error.RequestError.{RequestError}
 use Rattle.agg_values.specs.declared.request_error.RequestError.TheVariants as request
-use Rattle.agg_cache.specs.declared.error.CollectError.{CollectError}
-use Rattle.agg_cache.specs.declared.error.CollectError.TheVariants as collect
 use Rattle.agg_engine.specs.declared.walk.error.WalkError.{WalkError}
 use Rattle.agg_engine.specs.declared.walk.error.WalkError.TheVariants.{Invalid, UnknownComposite}
 use Rattle.agg_engine.specs.declared.walk.error.WalkError.TheVariants.{TooMany, OutOfMemory}
@@ -50,12 +48,6 @@ error_name BucketOutOfRange = codes "BucketOutOfRange"
 error_name TooMany = codes "TooMany"
 error_name (Aggregation given) = aggregation_name given
 error_name OutOfMemory = codes "OutOfMemory"
-
--- the error of a walk for that of a collector
-abbrev pub error_from_collect : CollectError → WalkError
-error_from_collect collect.BucketOutOfRange = BucketOutOfRange
-error_from_collect collect.TooMany = TooMany
-error_from_collect collect.OutOfMemory = OutOfMemory
 
 -- the error of a walk for that of a request
 abbrev pub error_from_request : RequestError → WalkError

@@ -1,32 +1,54 @@
 //! What holds of walks, as their definition says it.
-ghost use Rattle.std.specs.Prelude.{◌≡◌, ℕ, List, [], Bool, false};
+ghost use Rattle.std.specs.Prelude.{◌≡◌, ◌≢◌, ◌↔◌, ℕ, List, [], Bool, false, length};
+ghost use Rattle.agg_values.specs.Tuple.{KeyTuple};
+ghost use Rattle.agg_column.specs.Document.{Fields};
 ghost use Rattle.agg_segment.specs.declared.query.QueryTree.{QueryTree};
-ghost use Rattle.agg_results.specs.Results.{Results};
+ghost use Rattle.agg_request_tree.specs.Occurrences.{bound_of};
+ghost use Rattle.agg_request_tree.specs.Page.{Entry, IsPage};
+ghost use Rattle.agg_request_tree.specs.Request.{Request};
+ghost use Rattle.agg_request_tree.specs.declared.aggregation.CompositeAggregation as composites;
+ghost use Rattle.agg_final_results.specs.declared.types.AggregationResults.{AggregationResults};
+ghost use Rattle.agg_results.specs.Results.{AreResults};
+ghost use Rattle.agg_engine.specs.NamedComposite.{IsCompositeNamed};
 ghost use Rattle.agg_engine.specs.Snapshot.{SnapshotDocuments};
-ghost use Rattle.agg_engine.specs.Walk.{IsWalk};
-ghost use Rattle.agg_request_tree.specs.Request.{ArePlainComposites, Request};
+ghost use Rattle.agg_engine.specs.Walk.{IsWalk, after_in};
 
 /// The walk over no snapshot has no page and has not ended.
 pub fn a_walk_over_no_snapshot_has_no_page<B>()
-    ensures walk { (name : List ℕ) (query : QueryTree) (request : Request B)
-        → IsWalk name query request [] [] false }
-    ensures only { (name : List ℕ) (query : QueryTree) (request : Request B)
-        (results : List Results) (ended : Bool)
-        → IsWalk name query request [] results ended
-        → (results ≡ []) × (ended ≡ false) }
+    ensures walk { (is_match : B → Fields → Bool) (name : List ℕ) (query : QueryTree)
+        (request : Request B)
+        → IsWalk is_match name query request [] [] false }
+    ensures only { (is_match : B → Fields → Bool) (name : List ℕ) (query : QueryTree)
+        (request : Request B) (pages : List AggregationResults) (ended : Bool)
+        → IsWalk is_match name query request [] pages ended
+        → (pages ≡ []) × (ended ≡ false) }
 {}
 
-/// A request of plain composites has a walk over every list of snapshots. No request, of whatever
-/// aggregations, has two.
+/// Every request has a walk over every list of snapshots, and only one.
 pub fn each_request_has_one_walk<B>()
-    ensures exists { (name : List ℕ) (query : QueryTree) (request : Request B)
-        (snapshots : List SnapshotDocuments)
-        → ArePlainComposites request
-        → (results : List Results) × (ended : Bool)
-        × IsWalk name query request snapshots results ended }
-    ensures unique { (name : List ℕ) (query : QueryTree) (request : Request B)
-        (snapshots : List SnapshotDocuments) (results others : List Results) (ended other : Bool)
-        → IsWalk name query request snapshots results ended
-        → IsWalk name query request snapshots others other
-        → (results ≡ others) × (ended ≡ other) }
+    ensures exists { (is_match : B → Fields → Bool) (name : List ℕ) (query : QueryTree)
+        (request : Request B) (snapshots : List SnapshotDocuments)
+        → (pages : List AggregationResults) × (ended : Bool)
+        × IsWalk is_match name query request snapshots pages ended }
+    ensures unique { (is_match : B → Fields → Bool) (name : List ℕ) (query : QueryTree)
+        (request : Request B) (snapshots : List SnapshotDocuments)
+        (pages others : List AggregationResults) (ended other : Bool)
+        → IsWalk is_match name query request snapshots pages ended
+        → IsWalk is_match name query request snapshots others other
+        → (pages ≡ others) × (ended ≡ other) }
+{}
+
+/// The results of a request show an after key under the name of a composite with sources and room
+/// exactly where its page is full.
+pub fn a_full_page_shows_its_after_key<B>()
+    ensures { (is_match : B → Fields → Bool) (name : List ℕ) (request : Request B)
+        (documents : List Fields) (results : AggregationResults)
+        (composite : composites.CompositeAggregation) (page : List Entry)
+        → AreResults is_match request documents results
+        → IsCompositeNamed name request composite
+        → composite.sources ≢ []
+        → composite.size ≢ 0
+        → IsPage composite.sources composite.size
+        (bound_of composite.sources composite.after) documents page
+        → after_in name results ≢ [] ↔ length page ≡ composite.size }
 {}

@@ -4,5 +4,7 @@
 mod laws;
 mod walk;
 
-pub use laws::{a_walk_over_no_snapshot_has_no_page, each_request_has_one_walk};
+pub use laws::{
+    a_full_page_shows_its_after_key, a_walk_over_no_snapshot_has_no_page, each_request_has_one_walk,
+};
 pub use walk::{Snapshot, Walk, WalkError, walk_pages};

@@ -15,12 +15,12 @@ ghost use Rattle.agg_values.specs.declared.error.InvalidArgument.{InvalidArgumen
 ghost use Rattle.agg_values.specs.declared.request_error.AggregationError.TheVariants as error;
 ghost use Rattle.agg_values.specs.declared.request_error.DateHistogramParseError as text;
 ghost use Rattle.agg_values.specs.Nothing.{NoneIs};
-ghost use Rattle.agg_results.specs.BucketCount.{results_buckets};
+ghost use Rattle.agg_request_tree.specs.Matching.{built_matches};
+ghost use Rattle.agg_final_results.specs.BucketCount.{results_buckets};
 ghost use Rattle.agg_engine.specs.Form.{IsOneComposite};
 ghost use Rattle.agg_engine.specs.Refusals.{HasCause, IsRefused};
-ghost use Rattle.agg_engine.specs.ShownWalk.{IsShownWalk};
 ghost use Rattle.agg_engine.specs.Snapshot.{snapshots_documents};
-ghost use Rattle.agg_engine.specs.Walk.{MayBeAsked};
+ghost use Rattle.agg_engine.specs.Walk.{IsWalk, MayBeAsked};
 ghost use Rattle.agg_engine.specs.declared.walk.error.WalkError.{WalkError as Refusal};
 
 use agg_cache::LimitsLedger;
@@ -64,18 +64,24 @@ pub fn walk_pages<L: Ledger>(
 ) -> Result<Walk, WalkError>
     requires form { IsOneComposite request.now }
 
-    // An Ok is the walk, as it is shown, of a request that may be asked. No page of it is refused.
-    ensures pages { IfOk result
-        (IsShownWalk name.now query.now request.now (snapshots_documents snapshots.now)) }
+    // An Ok is the walk of a request that may be asked. No page of it is refused.
+    ensures pages { IfOk result (λ walk. IsWalk
+        (built_matches (λ b. tree_for (b.builder.vtable, b.builder.value) schema.now))
+        name.now query.now request.now (snapshots_documents snapshots.now)
+        walk.pages walk.ended) }
     ensures asked { OnOk result
         (MayBeAsked name.now request.now (snapshots_documents snapshots.now)) }
-    ensures fits { OnOk result (NoneIs (IsRefused limits.old.bucket_limit name.now query.now
-        request.now (snapshots_documents snapshots.now))) }
+    ensures fits { OnOk result (NoneIs (IsRefused
+        (built_matches (λ b. tree_for (b.builder.vtable, b.builder.value) schema.now))
+        limits.old.bucket_limit name.now query.now request.now
+        (snapshots_documents snapshots.now))) }
     ensures buckets { IfOk result (λ walk.
         All (λ page. results_buckets page ≤ limits.old.bucket_limit) walk.pages) }
 
     // Each other answer has its cause.
-    ensures cause { IfErr result (HasCause limits.old.bucket_limit name.now query.now request.now
+    ensures cause { IfErr result (HasCause
+        (built_matches (λ b. tree_for (b.builder.vtable, b.builder.value) schema.now))
+        limits.old.bucket_limit name.now query.now request.now
         (snapshots_documents snapshots.now)) }
 
     // No byte is charged. Steps never fall, and a refusal before any snapshot takes none.

@@ -1,6 +1,7 @@
 //! Where the next page begins.
 ghost use Rattle.std.specs.Prelude.{◌≡◌, IfOk, unwrap_or};
-ghost use Rattle.agg_engine.specs.PageAnswers.{IsShown, shown_after_of};
+ghost use Rattle.agg_engine.specs.PageAnswers.{IsShown};
+ghost use Rattle.agg_engine.specs.Walk.{after_in};
 
 use agg_results::{AggregationResult, AggregationResults, BucketResult};
 use agg_values::{AfterKey, NameMap, OutOfMemory, Text};
@@ -25,7 +26,7 @@ pub fn next_after(
     results: &AggregationResults,
     name: &Text,
 ) -> Result<Option<NameMap<AfterKey>>, OutOfMemory>
-    ensures { IfOk result (λ next. IsShown next (shown_after_of name.now results.now)) }
+    ensures { IfOk result (λ next. IsShown next (after_in name.now results.now)) }
 {
     let Some(AggregationResult::BucketResult(BucketResult::Composite { after_key, .. })) = results
         .0

@@ -1,9 +1,8 @@
 ghost use Rattle.std.specs.Prelude.{◌≡◌};
-ghost use Rattle.agg_engine.specs.WalkError.{error_from_collect, error_from_request, error_name};
+ghost use Rattle.agg_engine.specs.WalkError.{error_from_request, error_name};
 ghost use Rattle.agg_engine.specs.WalkError.{aggregation_name, argument_name, parse_name};
 ghost use Rattle.agg_engine.specs.declared.walk.error.WalkError.TheVariants.{OutOfMemory as Memory};
 
-use agg_cache::CollectError;
 use agg_values::{
     AggregationError, DateHistogramParseError, InvalidArgument, OutOfMemory, RequestError,
 };
@@ -84,18 +83,6 @@ impl From<OutOfMemory> for WalkError {
 
     fn from(_error: OutOfMemory) -> WalkError {
         WalkError::OutOfMemory
-    }
-}
-
-impl From<CollectError> for WalkError {
-    ghost from_gives = { λ c e. e ≡ error_from_collect c };
-
-    fn from(error: CollectError) -> WalkError {
-        match error {
-            CollectError::BucketOutOfRange => WalkError::BucketOutOfRange,
-            CollectError::TooMany => WalkError::TooMany,
-            CollectError::OutOfMemory => WalkError::OutOfMemory,
-        }
     }
 }
 

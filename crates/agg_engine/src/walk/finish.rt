@@ -1,6 +1,7 @@
 //! The results of a page.
 ghost use Rattle.std.specs.Prelude.{◌≡◌, IfErr, IfOk, OnOk};
-ghost use Rattle.agg_results.specs.Final.{HaveTooMany, HoldsOther, HoldsUnknown, final_results};
+ghost use Rattle.agg_intermediate_results.specs.Final.{final_results};
+ghost use Rattle.agg_intermediate_results.specs.Refusals.{HaveTooMany, HoldsOther, HoldsUnknown};
 ghost use Rattle.agg_engine.specs.PageAnswers.{IsFinalRefusal};
 
 use super::WalkError;

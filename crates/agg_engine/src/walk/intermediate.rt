@@ -5,8 +5,7 @@ ghost use Rattle.std.specs.Map.{keys_of};
 ghost use Rattle.agg_values.specs.KeyOrder.{tuple_order};
 ghost use Rattle.agg_request_tree.specs.Source.{rules_of};
 ghost use Rattle.agg_composite.specs.PageEntries.{entry_group};
-ghost use Rattle.agg_results.specs.Empty.{empty_page};
-ghost use Rattle.agg_results.specs.Intermediate.{IsFlat, as_result};
+ghost use Rattle.agg_intermediate_results.specs.Intermediate.{as_composite, composite_of};
 ghost use Rattle.agg_engine.specs.PageAnswers.{intermediate_page};
 ghost use Rattle.agg_engine.specs.declared.walk.error.WalkError.TheVariants.{OutOfMemory};
 
@@ -54,7 +53,7 @@ fn with_orders(
     sources: &[CompositeAggregationSource],
     size: u32,
 ) -> Result<IntermediateCompositeBucketResult, WalkError>
-    ensures ok { IfOk result (λ buckets. buckets ≡ empty_page sources.now size) }
+    ensures ok { IfOk result (λ buckets. buckets ≡ composite_of (rules_of sources.now) size []) }
     ensures err { IfErr result (λ error. error ≡ OutOfMemory) }
 {
     let mut buckets = IntermediateCompositeBucketResult::new(alloc, size);
@@ -70,9 +69,8 @@ fn named(
     page: &PageRequest<'_>,
     buckets: IntermediateCompositeBucketResult,
 ) -> Result<IntermediateAggregationResults, WalkError>
-    requires { IsFlat buckets }
     ensures ok { IfOk result
-        (λ made. made.results ≡ (page.now.name.now, as_result buckets) ∷ []) }
+        (λ made. made.results ≡ (page.now.name.now, as_composite buckets) ∷ []) }
     ensures err { IfErr result (λ error. error ≡ OutOfMemory) }
 {
     let mut results = IntermediateAggregationResults::new(alloc);

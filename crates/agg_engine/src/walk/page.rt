@@ -1,7 +1,6 @@
 //! The merged results of a snapshot's segments for a page.
-ghost use Rattle.std.specs.Prelude.{◌≢◌, ◌≤◌, ◌<◌, ◌^◌, All, IfOk};
+ghost use Rattle.std.specs.Prelude.{◌≢◌, ◌≤◌, ◌<◌, ◌^◌, All};
 ghost use Rattle.agg_request_tree.specs.Ranges.{AreInRange};
-ghost use Rattle.agg_results.specs.Intermediate.{AreFlat};
 ghost use Rattle.agg_engine.specs.PageAnswers.{AnswersMerged, HasFewSources, MayGoOnFrom};
 ghost use Rattle.agg_engine.specs.Walk.{matching_in};
 
@@ -46,7 +45,6 @@ pub fn segments_results<L: Ledger>(
         page.now.after.now
         (matching_in page.now.query.now segments.now)
         counted.old counted.new result }
-    ensures flat { IfOk result (λ merged. AreFlat merged.results) }
     ensures later { steps.old ≤ steps.new }
 {
     match segments {

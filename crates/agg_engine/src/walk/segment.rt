@@ -1,5 +1,5 @@
 //! The results of one segment for a page.
-ghost use Rattle.std.specs.Prelude.{◌≡◌, ◌≢◌, ◌≤◌, ◌<◌, ◌+◌, ◌^◌, filter, length, map};
+ghost use Rattle.std.specs.Prelude.{◌≡◌, ◌≢◌, ◌≤◌, ◌<◌, ◌+◌, ◌^◌, ◌⊎◌, filter, length, map};
 ghost use Rattle.std.specs.Prelude.{All, IfErr, IfOk, OnOk};
 ghost use Rattle.agg_values.specs.Names.{Named};
 ghost use Rattle.agg_values.specs.declared.after_key.AfterKey.{AfterKey as After};
@@ -11,17 +11,17 @@ ghost use Rattle.agg_request_tree.specs.Uncut.{counted as counted_by};
 ghost use Rattle.agg_composite.specs.Accessors.{Fits};
 ghost use Rattle.agg_composite.specs.Answers.{AreAllInRange};
 ghost use Rattle.agg_composite.specs.PageEntries.{entry_group};
-ghost use Rattle.agg_results.specs.Intermediate.{AreFlat};
 ghost use Rattle.agg_results.specs.StandsFor.{GroupsStandFor};
 ghost use Rattle.agg_engine.specs.PageAnswers.{AnswersMerged, HasFewSources, IsCountRefusal};
 ghost use Rattle.agg_engine.specs.PageAnswers.{MayGoOnFrom};
-ghost use Rattle.agg_engine.specs.declared.walk.error.WalkError.TheVariants.{OutOfMemory};
+ghost use Rattle.agg_engine.specs.declared.walk.error.WalkError.TheVariants.{OutOfMemory, TooMany};
 
 use super::WalkError;
 use super::accessors::accessors_for;
 use super::intermediate::intermediate_page;
 use super::matching::matching_docs;
 use super::page::PageRequest;
+use agg_cache::CollectError;
 use agg_composite::{CompositeAggReqData, PageEntry, SegmentCompositeCollector};
 use agg_request_tree::{CompositeAggregation, count_uncut};
 use agg_results::IntermediateAggregationResults;
@@ -51,7 +51,6 @@ pub fn segment_results<L: Ledger>(
         page.now.after.now
         (filter (matches page.now.query.now) (documents_of segment.now))
         counted.old counted.new result }
-    ensures flat { IfOk result (λ merged. AreFlat merged.results) }
     ensures later { steps.old ≤ steps.new }
 {
     let docs = matching_docs(alloc, page.query, segment)?;
@@ -127,6 +126,24 @@ fn docs_page<L: Ledger>(
     ensures later { steps.old ≤ steps.new }
 {
     let mut collector = SegmentCompositeCollector::new(alloc, req.req.sources.as_slice().len())?;
-    collector.collect(0, docs, req, steps)?;
+    if let Err(error) = collector.collect(0, docs, req, steps) {
+        return Err(count_refusal(error));
+    }
     Ok(collector.page(0, req)?)
+}
+
+// The refusal of a collector of documents whose starts are in range: it counts too many of a tuple,
+// or memory runs out.
+fn count_refusal(error: CollectError) -> WalkError
+    requires { (error ≡ CollectError.TooMany) ⊎ (error ≡ CollectError.OutOfMemory) }
+    ensures many { error ≡ CollectError.TooMany → result ≡ TooMany }
+    ensures memory { error ≡ CollectError.OutOfMemory → result ≡ OutOfMemory }
+{
+    match error {
+        CollectError::TooMany => WalkError::TooMany,
+        CollectError::OutOfMemory => WalkError::OutOfMemory,
+        CollectError::BucketOutOfRange
+        | CollectError::Aggregation(_)
+        | CollectError::CollectorFailed => unreachable!(),
+    }
 }

@@ -1,10 +1,12 @@
-use Rattle.std.proofs.Common.{◌≡◌, ◌+◌, ◌∷◌, ◌∙◌, drop, unwrap_or, refl, sym, subst, arith, inr}
+use Rattle.std.proofs.Common.{◌≡◌, ◌+◌, ◌∷◌, drop, unwrap_or, refl, sym, subst, arith, inr}
 use Rattle.std.specs.List.{All}
+use Rattle.agg_request_tree.specs.Matching.{built_matches}
 use Rattle.agg_request_tree.specs.Ranges.{AreInRange}
 use Rattle.agg_engine.specs.PageAnswers.{IsCountRefusal, IsStartRefusal, MayGoOnFrom}
 use Rattle.agg_engine.specs.Refusals.{HasCause}
 use Rattle.agg_engine.specs.Snapshot.{snapshot_documents, snapshots_documents}
-use Rattle.agg_engine.specs.Walk.{MayBeAsked, matching_documents, matching_in}
+use Rattle.agg_engine.specs.Walk.{MayBeAsked, matching_documents, matching_in, request_after}
+use Rattle.agg_engine.specs.declared.walk.error.WalkError.{WalkError}
 use Rattle.agg_engine.proofs.CountRefusals.{caused-by}
 use Rattle.agg_engine.proofs.NoNull.{matching-no_Null}
 use Rattle.agg_engine.proofs.Snapshots.{matching_documents-segments, may_be_asked, no_room-some}
@@ -12,11 +14,10 @@ use Rattle.agg_engine.proofs.walk.walk_pages.Given as given
 use Rattle.agg_engine.proofs.walk.walk_pages.Goals as goal
 use Rattle.agg_engine.proofs.walk.walk_pages.Goals.{After-check_starts, In_ok-merged}
 use Rattle.agg_engine.proofs.MergedResults.{IsMergedHere, merged-here}
-use Rattle.agg_engine.proofs.ReachedPage.{alike-here, known-here}
 use Rattle.agg_engine.proofs.WalkLoop.{IsWalking, walking-start, HasFewSources-sound, walking-out}
 use Rattle.agg_engine.proofs.WalkLoop.{walking-at, walking-end}
-use Rattle.agg_engine.proofs.WalkPages.{walking-ended, walking-ended-fits, walking-few}
-use Rattle.agg_engine.proofs.WalkPages.{walking-more}
+use Rattle.agg_engine.proofs.WalkPages.{walking-alike, walking-ended, walking-ended-fits}
+use Rattle.agg_engine.proofs.WalkPages.{walking-few, walking-known, walking-more}
 use Rattle.agg_engine.proofs.WalkRefusals.{cause-merged, cause-starts, cause-final}
 
 -- ---- before the first snapshot
@@ -32,22 +33,36 @@ returns-then-some_page_has_no_room-clause-cause g c =
 
 pub loop-snapshot-init : goal.loop-snapshot-init
 loop-snapshot-init g c =
-    let start = walking-start c.args.limits.now.bucket_limit c.args.name.now c.args.query.now
+    let start = walking-start (built_matches (λ b.
+    (goal.QueryBuilder-dyn g (b.builder.vtable, b.builder.value)).tree_for b.builder.value
+    c.args.schema.now)) c.args.limits.now.bucket_limit c.args.name.now c.args.query.now
     c.args.request.now (snapshots_documents c.args.snapshots.now) c.in-Some.composite.now
     c.requires.form c.in-Some.ensures.named c.in_ok-check_request.ensures.ok in
     record { walking = rw c.new-pages.ensures start; later = omega arith }
+
+-- ---- what is told of the builders of the request
+
+-- the cause of an error
+abbrev Caused : (g : given.Over) (c : After-check_starts g) → WalkError → Type 0
+Caused g c =
+    HasCause (built_matches (λ b.
+    (goal.QueryBuilder-dyn g (b.builder.vtable, b.builder.value)).tree_for b.builder.value
+    c.args.schema.now)) c.args.limits.now.bucket_limit c.args.name.now c.args.query.now
+    c.args.request.now (snapshots_documents c.args.snapshots.now)
 
 -- ---- at a snapshot
 
 -- the walk has come to this snapshot
 here : (g : given.Over) (c : After-check_starts g)
-    → IsWalking c.args.limits.now.bucket_limit c.args.name.now c.args.query.now c.args.request.now
-    (snapshots_documents c.args.snapshots.now) c.in-Some.composite.now
+    → IsWalking (built_matches (λ b.
+    (goal.QueryBuilder-dyn g (b.builder.vtable, b.builder.value)).tree_for b.builder.value
+    c.args.schema.now)) c.args.limits.now.bucket_limit c.args.name.now c.args.query.now
+    c.args.request.now (snapshots_documents c.args.snapshots.now) c.in-Some.composite.now
     (unwrap_or c.loop-snapshot.before c.in-Some.composite.now.after)
     (snapshot_documents c.snapshot-item.result ∷ snapshots_documents
     (drop (c.loop-snapshot.snapshot-index + 1) c.args.snapshots.now)) c.loop-snapshot.pages
 here g c =
-    walking-at c.args.limits.now.bucket_limit c.args.name.now c.args.query.now c.args.request.now
+    walking-at _ c.args.limits.now.bucket_limit c.args.name.now c.args.query.now c.args.request.now
     c.args.snapshots.now _ c.in-Some.composite.now _ c.loop-snapshot.snapshot-index
     c.loop-snapshot.pages c.loop-snapshot.invariant.walking c.as_slice-snapshot-items.ensures
     c.snapshot-item.result (omega arith) c.snapshot-item.is
@@ -55,7 +70,7 @@ here g c =
 pub check_starts-requires : goal.check_starts-requires
 check_starts-requires g c = record {
   after = subst (MayGoOnFrom c.in-Some.composite.now.sources) (sym c.after_key.ensures)
-      c.loop-snapshot.invariant.walking.state.may_go_on;
+      c.loop-snapshot.invariant.walking.may_go_on;
 }
 
 pub segments_results-requires-clause-sources : goal.segments_results-requires-clause-sources
@@ -65,7 +80,7 @@ segments_results-requires-clause-sources g c =
 pub segments_results-requires-clause-after : goal.segments_results-requires-clause-after
 segments_results-requires-clause-after g c =
     subst (MayGoOnFrom c.in-Some.composite.now.sources) (sym c.after_key.ensures)
-    c.loop-snapshot.invariant.walking.state.may_go_on
+    c.loop-snapshot.invariant.walking.may_go_on
 
 -- the walk may be asked
 asked : (g : given.Over) (c : After-check_starts g)
@@ -85,16 +100,19 @@ documents g c =
 
 -- the merged results of its segments
 merged : (g : given.Over) (c : In_ok-merged g)
-    → IsMergedHere c.args.name.now c.args.query.now c.in-Some.composite.now
-    (unwrap_or c.loop-snapshot.before c.in-Some.composite.now.after)
+    → IsMergedHere (built_matches (λ b.
+    (goal.QueryBuilder-dyn g (b.builder.vtable, b.builder.value)).tree_for b.builder.value
+    c.args.schema.now)) c.args.name.now c.args.query.now
+    (request_after c.args.name.now
+    (unwrap_or c.loop-snapshot.before c.in-Some.composite.now.after) c.args.request.now)
     (snapshot_documents c.snapshot-item.result) c.in_ok-merged.merged.results
 merged g c =
-    merged-here c.args.name.now c.args.query.now c.in-Some.composite.now
+    merged-here _ c.args.name.now c.args.query.now c.args.request.now c.in-Some.composite.now
     (unwrap_or c.loop-snapshot.before c.in-Some.composite.now.after) c.after_key.result.now
     (snapshot_documents c.snapshot-item.result)
     (matching_in c.args.query.now c.as_slice-segments.result.now)
     c.segments_results.new.counted c.in_ok-merged.merged c.in_ok-merged.ensures.merged
-    c.in_ok-merged.ensures.flat c.in_ok-check_starts.ensures.ok
+    c.in_ok-check_starts.ensures.ok c.loop-snapshot.invariant.walking.request_is
     c.after_key.ensures
     (documents g ((goal.at.In_ok-merged g c).After-check_starts))
 
@@ -102,9 +120,8 @@ pub returns-in_err-check_starts-clause-cause : goal.returns-in_err-check_starts-
 returns-in_err-check_starts-clause-cause g c =
     let turn = (goal.at.returns-in_err-check_starts-clause-cause g c).After-check_starts in
     let given = c.in_err-check_starts.field-0.0 in
-    caused-by (HasCause c.args.limits.now.bucket_limit c.args.name.now c.args.query.now
-    c.args.request.now (snapshots_documents c.args.snapshots.now))
-    c.from_residual-in_err-check_starts.result given c.from_residual-in_err-check_starts.ensures.1
+    caused-by (Caused g turn) c.from_residual-in_err-check_starts.result given
+    c.from_residual-in_err-check_starts.ensures.1
     (cause-starts (here g turn) (asked g turn) given
     (subst (λ ds. IsStartRefusal c.in-Some.composite.now ds given) (documents g turn)
     c.in_err-check_starts.ensures.err))
@@ -112,9 +129,7 @@ returns-in_err-check_starts-clause-cause g c =
 pub returns-in_err-merged-clause-cause : goal.returns-in_err-merged-clause-cause
 returns-in_err-merged-clause-cause g c =
     let turn = (goal.at.returns-in_err-merged-clause-cause g c).After-check_starts in
-    caused-by (HasCause c.args.limits.now.bucket_limit c.args.name.now c.args.query.now
-    c.args.request.now (snapshots_documents c.args.snapshots.now))
-    c.from_residual-in_err-merged.result c.in_err-merged.field-0.0
+    caused-by (Caused g turn) c.from_residual-in_err-merged.result c.in_err-merged.field-0.0
     c.from_residual-in_err-merged.ensures.1
     (cause-merged (here g turn) (asked g turn)
     (subst (All (AreInRange c.in-Some.composite.now.sources)) (documents g turn)
@@ -124,21 +139,19 @@ returns-in_err-merged-clause-cause g c =
 
 pub page_results-requires-clause-known : goal.page_results-requires-clause-known
 page_results-requires-clause-known g c =
-    known-here (here g (goal.at.page_results-requires-clause-known g c).After-check_starts)
+    walking-known (here g (goal.at.page_results-requires-clause-known g c).After-check_starts)
     (merged g c)
 
 pub page_results-requires-clause-alike : goal.page_results-requires-clause-alike
 page_results-requires-clause-alike g c =
-    alike-here (here g (goal.at.page_results-requires-clause-alike g c).After-check_starts)
+    walking-alike (here g (goal.at.page_results-requires-clause-alike g c).After-check_starts)
     (merged g c)
 
 pub returns-in_err-results-clause-cause : goal.returns-in_err-results-clause-cause
 returns-in_err-results-clause-cause g c =
     let turn = (goal.at.returns-in_err-results-clause-cause g c).In_ok-merged in
     let before = (goal.at.returns-in_err-results-clause-cause g c).After-check_starts in
-    caused-by (HasCause c.args.limits.now.bucket_limit c.args.name.now c.args.query.now
-    c.args.request.now (snapshots_documents c.args.snapshots.now))
-    c.from_residual-in_err-results.result c.in_err-results.field-0.0
+    caused-by (Caused g before) c.from_residual-in_err-results.result c.in_err-results.field-0.0
     c.from_residual-in_err-results.ensures.1
     (cause-final (here g before) (merged g turn) (asked g before) c.in_err-results.field-0.0
     c.in_err-results.ensures.cause)
@@ -149,10 +162,10 @@ pub returns-then-is_none-clause-pages : goal.returns-then-is_none-clause-pages
 returns-then-is_none-clause-pages g c =
     let turn = (goal.at.returns-then-is_none-clause-pages g c).In_ok-merged in
     let before = (goal.at.returns-then-is_none-clause-pages g c).After-check_starts in
-    let out = walking-ended (here g before) (merged g turn) c.in_ok-results.results
-    c.in_ok-before.before c.in_ok-results.ensures.ok c.in_ok-results.ensures.few
-    c.in_ok-before.ensures c.if-is_none.ensures in
-    (out.0, out.1, c.in_ok-push.ensures.ok ∙ out.2)
+    rw c.in_ok-push.ensures.ok
+    (walking-ended (here g before) (merged g turn) c.in_ok-results.results
+    c.in_ok-results.ensures.ok c.in_ok-results.ensures.few c.in_ok-before.before
+    c.in_ok-before.ensures c.if-is_none.ensures)
 
 pub returns-then-is_none-clause-asked : goal.returns-then-is_none-clause-asked
 returns-then-is_none-clause-asked g c =
@@ -163,7 +176,7 @@ returns-then-is_none-clause-fits g c =
     let turn = (goal.at.returns-then-is_none-clause-fits g c).In_ok-merged in
     let before = (goal.at.returns-then-is_none-clause-fits g c).After-check_starts in
     walking-ended-fits (here g before) (merged g turn) c.in_ok-results.results
-    c.in_ok-before.before c.in_ok-results.ensures.ok c.in_ok-results.ensures.few
+    c.in_ok-results.ensures.ok c.in_ok-results.ensures.few c.in_ok-before.before
     c.in_ok-before.ensures c.if-is_none.ensures
 
 pub returns-then-is_none-clause-buckets : goal.returns-then-is_none-clause-buckets
@@ -171,16 +184,15 @@ returns-then-is_none-clause-buckets g c =
     let turn = (goal.at.returns-then-is_none-clause-buckets g c).In_ok-merged in
     let before = (goal.at.returns-then-is_none-clause-buckets g c).After-check_starts in
     rw c.in_ok-push.ensures.ok
-    (walking-few (here g before) (merged g turn) c.in_ok-results.results
-    c.in_ok-before.before c.in_ok-results.ensures.ok c.in_ok-results.ensures.few
-    c.in_ok-before.ensures)
+    (walking-few (here g before) (merged g turn) c.in_ok-results.results c.in_ok-results.ensures.ok
+    c.in_ok-results.ensures.few)
 
 pub loop-snapshot-preserved : goal.loop-snapshot-preserved
 loop-snapshot-preserved g c =
     let turn = (goal.at.loop-snapshot-preserved g c).In_ok-merged in
     let before = (goal.at.loop-snapshot-preserved g c).After-check_starts in
     let more = walking-more (here g before) (merged g turn) c.in_ok-results.results
-    c.in_ok-before.before c.in_ok-results.ensures.ok c.in_ok-results.ensures.few
+    c.in_ok-results.ensures.ok c.in_ok-results.ensures.few c.in_ok-before.before
     c.in_ok-before.ensures (matching-no_Null c.args.query.now c.snapshot-item.result)
     c.in-Some.composite.now.after c.if-is_none.ensures in
     record { walking = rw c.in_ok-push.ensures.ok more; later = omega arith }
@@ -190,7 +202,7 @@ loop-snapshot-preserved g c =
 pub returns-clause-pages : goal.returns-clause-pages
 returns-clause-pages g c =
     let composite = c.in-Some.composite.now in
-    walking-out (walking-end c.args.limits.now.bucket_limit c.args.name.now c.args.query.now
+    walking-out (walking-end _ c.args.limits.now.bucket_limit c.args.name.now c.args.query.now
     c.args.request.now c.args.snapshots.now _ composite
     (unwrap_or c.loop-snapshot.before composite.after) c.loop-snapshot.snapshot-index
     c.loop-snapshot.pages c.loop-snapshot.invariant.walking c.as_slice-snapshot-items.ensures

@@ -1,4 +1,5 @@
 use Rattle.std.proofs.Common.{◌≤◌, drop, unwrap_or}
+use Rattle.agg_request_tree.specs.Matching.{built_matches}
 use Rattle.agg_engine.specs.Snapshot.{snapshots_documents}
 use Rattle.agg_engine.proofs.WalkLoop.{IsWalking}
 use Rattle.agg_engine.proofs.walk.walk_pages.Given as goal
@@ -6,7 +7,9 @@ use Rattle.agg_engine.proofs.walk.walk_pages.Given as goal
 -- the pages so far are those of the walk, which goes on from the after key, and steps didn't fall
 abbrev pub invariant-loop-snapshot : goal.invariant-loop-snapshot
 invariant-loop-snapshot g l = record {
-  walking : IsWalking l.limits.bucket_limit l.name l.query l.request
+  walking : IsWalking (built_matches (λ b.
+      (goal.QueryBuilder-dyn g (b.builder.vtable, b.builder.value)).tree_for
+      b.builder.value l.schema)) l.limits.bucket_limit l.name l.query l.request
       (snapshots_documents l.snapshots) l.composite
       (unwrap_or l.before l.composite.after) (snapshots_documents
       (drop l.snapshot-index l.snapshots))

@@ -8,7 +8,7 @@ use Rattle.agg_request_tree.specs.declared.aggregation.CompositeAggregation.{Com
 use Rattle.agg_composite.specs.PageEntries.{entry_group}
 use Rattle.agg_engine.specs.PageAnswers.{HasFewSources, IsCountRefusal}
 use Rattle.agg_engine.proofs.CountRefusals.{refusal-later}
-use Rattle.agg_engine.proofs.StandingPage.{Stand, answers-page, answers-refused, flat-page}
+use Rattle.agg_engine.proofs.StandingPage.{Stand, answers-page, answers-refused}
 use Rattle.agg_engine.proofs.walk.segment.segment_results.Given as given
 use Rattle.agg_engine.proofs.walk.segment.segment_results.Goals as goal
 use Rattle.agg_engine.proofs.walk.segment.segment_results.Goals.{In_ok-entries}
@@ -85,12 +85,3 @@ returns-clause-merged g c =
     c.args.counted.now c.count_docs.new.counted (map entry_group c.in_ok-entries.entries)
     (stand g turn) counted c.in_ok-count_docs.ensures.few c.intermediate_page.result
     c.intermediate_page.ensures.ok c.intermediate_page.ensures.err
-
-pub returns-clause-flat : goal.returns-clause-flat
-returns-clause-flat g c =
-    let turn = (goal.at.returns-clause-flat g c).In_ok-entries in
-    let page = c.args.page.now in
-    flat-page page.name.now page.composite.now page.size page.after.now
-    (filter (matches page.query.now) (documents_of c.args.segment.now))
-    (map entry_group c.in_ok-entries.entries) (stand g turn) c.intermediate_page.result
-    c.intermediate_page.ensures.ok
