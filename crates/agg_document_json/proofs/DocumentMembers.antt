@@ -42,7 +42,7 @@ not_among name [] h = refl
 not_among name (e ∷ es) h =
     member_later (string_bytes name) e es (less_is_other _ _ h.0) ∙ not_among name es h.1
 
--- ---- values put behind a document
+-- ---- values put after a document
 
 named_here : (name : List ℕ) (values : List FieldValue)
     → map (λ p. p.1) (filter (λ p. bytes_eq name p.0) (named_values name values)) ≡ values

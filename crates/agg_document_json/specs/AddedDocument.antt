@@ -9,7 +9,7 @@ abbrev pub IsRefused : List Fields → Fields → Type 0
 IsRefused documents document =
     (length documents ≡ max_documents) ⊎ IsMixed (documents ++ document ∷ [])
 
--- the document of the line stands behind those that a segment in the making held
+-- the document of the line stands after those that a segment in the making held
 pub record HoldsLine (line : List ℕ) (old new : Gathered) : Type 0 where
   pub document : Fields
   pub stands : IsDocumentLine line document

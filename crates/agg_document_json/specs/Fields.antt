@@ -9,7 +9,7 @@ use Rattle.agg_document_json.specs.DocumentLine.{HaveKeys}
 abbrev pub named_values : List ℕ → List FieldValue → List (List ℕ × FieldValue)
 named_values field values = map (λ value. (field, value)) values
 
--- a document has these values behind those that it had
+-- a document has these values after those that it had
 pub record AddsValues (field : List ℕ) (written : List Data) (old new : List (List ℕ × FieldValue))
     : Type 0 where
   pub values : List FieldValue

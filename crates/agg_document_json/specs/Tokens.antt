@@ -45,7 +45,7 @@ pub record TakesValue (old : List Token) (key : CompositeIntermediateKey) (new :
   pub read : (depth : ℕ) → 0 < depth → converted of_json (value depth old) ≡ Some (seen, new)
   pub shorter : length new < length old
 
--- a field of the open document has these values behind those that it had
+-- a field of the open document has these values after those that it had
 pub record GainsKeys (field : ℕ) (written : List Data) (old new : Gathered) : Type 0 where
   pub keys : List CompositeIntermediateKey
   pub has : HaveKeys written keys

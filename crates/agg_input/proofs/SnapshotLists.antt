@@ -51,7 +51,7 @@ FitSegment-none = record {
 
 -- ---- what lines make of snapshots
 
--- the snapshots before a line, with those that it begins and all lines behind it
+-- the snapshots before a line, with those that it begins and all lines after it
 abbrev pub with_lines : List Line → Made → Made
 with_lines [] made = made
 with_lines (line ∷ lines) made = with_lines lines (with_line line made)

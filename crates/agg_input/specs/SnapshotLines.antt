@@ -1,4 +1,4 @@
--- What the lines behind the header say, and the snapshots that they stand for.
+-- What the lines after the header say, and the snapshots that they stand for.
 use Rattle.std.specs.Prelude.{◌≡◌, ◌≤◌, ◌^◌, ◌&&◌, ℕ, List, [], ◌∷◌, ◌++◌, Bool, false}
 use Rattle.std.specs.Prelude.{Option, None, Some, if◌then◌else◌, length, drop, codes, nat_lt}
 use Rattle.std.specs.Prelude.{nat_eq}
@@ -10,7 +10,7 @@ use Rattle.agg_segment.specs.Segment.{IsMixed, max_documents}
 use Rattle.agg_engine.specs.Snapshot.{SnapshotDocuments}
 use Rattle.agg_document_json.specs.DocumentLine.{IsDocumentLine}
 
--- what a line behind the header says: a snapshot of a page size begins, a segment begins in it, or
+-- what a line after the header says: a snapshot of a page size begins, a segment begins in it, or
 -- a document stands there
 pub data Line : Type 0 where
   begins : ℕ → Line
@@ -56,7 +56,7 @@ abbrev pub unopened_segment : List Fields → List (List Fields)
 unopened_segment [] = []
 unopened_segment (d ∷ ds) = (d ∷ ds) ∷ []
 
--- the segments that begin before the next snapshot, each with the documents behind its line
+-- the segments that begin before the next snapshot, each with the documents after its line
 abbrev pub opened_segments : List Line → List (List Fields)
 opened_segments [] = []
 opened_segments (holds document ∷ lines) = opened_segments lines
@@ -67,7 +67,7 @@ opened_segments (begins size ∷ lines) = []
 abbrev pub leading_segments : List Line → List (List Fields)
 leading_segments lines = unopened_segment (leading_documents lines) ++ opened_segments lines
 
--- the snapshots that begin in these lines, each with the segments behind its line
+-- the snapshots that begin in these lines, each with the segments after its line
 abbrev pub begun_snapshots : List Line → List SnapshotDocuments
 begun_snapshots [] = []
 begun_snapshots (holds document ∷ lines) = begun_snapshots lines
@@ -90,7 +90,7 @@ pub record StandForSnapshots (lines : List Line) : Type 0 where
   pub none : leading_segments lines ≡ []
   pub fit : All SegmentsFit (begun_snapshots lines)
 
--- the snapshots of the lines behind the header
+-- the snapshots of the lines after the header
 abbrev pub AreSnapshots : List (List ℕ) → List SnapshotDocuments → Type 0
 AreSnapshots lines snapshots =
     (said : List Line)

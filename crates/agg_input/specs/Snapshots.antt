@@ -20,7 +20,7 @@ pub record Open : Type 0 where
   pub documents : List Fields
   pub opened : Bool
 
--- the segment of the documents behind the closed ones: one that no line opened has some
+-- the segment of the documents after the closed ones: one that no line opened has some
 abbrev pub last_segment : Bool → List Fields → List (List Fields)
 last_segment true documents = documents ∷ []
 last_segment false documents = unopened_segment documents

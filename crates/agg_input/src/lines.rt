@@ -11,7 +11,7 @@ use std::marker::Model;
 /// The lines of a text that say something, seen by contracts as the list of those that are left.
 #[derive(Drop)]
 pub struct Lines<'a> {
-    // What stands behind the last line feed, None at the end.
+    // What stands after the last line feed, None at the end.
     left: Option<&'a str>,
 }
 
@@ -53,7 +53,7 @@ impl<'a> Iterator for Lines<'a> {
     }
 }
 
-// The first line, and what stands behind its line feed, if it has one.
+// The first line, and what stands after its line feed, if it has one.
 fn cut_line(text: &str) -> (&str, Option<&str>)
     ensures { all_lines_of text.now
         ≡ result.0.now ∷ option_map_or (λ left. all_lines_of left.now) result.1 [] }

@@ -54,7 +54,7 @@ pub struct OpenSnapshot {
     pub page_size: u32,
     /// The closed segments.
     pub segments: ItemList<SegmentReader>,
-    /// The documents behind them.
+    /// The documents after them.
     pub documents: SegmentBuilder,
     /// Whether a line opened a segment for these documents. Else they are one where there are some.
     pub opened: bool,

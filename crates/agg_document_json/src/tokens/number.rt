@@ -61,7 +61,7 @@ fn unsigned(numeral: &Numeral<'_>) -> Option<WholeNumber>
     Some(WholeNumber::Unsigned(numeral.to_u64()?))
 }
 
-// A number behind its minus sign. Zero there is a float.
+// A number after its minus sign. Zero there is a float.
 fn negative(numeral: &Numeral<'_>) -> Option<WholeNumber>
     ensures { IfSome result (λ n. number_from true numeral.now ≡ Some (num_of n)) }
 {

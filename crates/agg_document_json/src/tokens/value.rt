@@ -44,7 +44,7 @@ fn read_number(text: &str) -> Option<FieldValue>
     Some(whole_number(text)?.value())
 }
 
-// A date or an address, behind the brace that begins it.
+// A date or an address, after the brace that begins it.
 fn read_object(alloc: Global, reader: &mut Reader<'_>) -> Result<Option<FieldValue>, OutOfMemory>
     ensures { IfOk result (λ found. IfSome found
         (λ value. TakesValue (SpecToken.begin_object ∷ reader.old) (key_of value) reader.new)) }

@@ -31,7 +31,7 @@ pub fn read_values(
     }
 }
 
-// The items of an array, behind its bracket.
+// The items of an array, after its bracket.
 fn read_items(
     alloc: Global,
     builder: &mut SegmentBuilder,
