@@ -1,5 +1,6 @@
 -- Why a run over bytes in memory gave no pages.
-use Rattle.std.proofs.Common.{◌≡◌, ◌≢◌, ℕ, List, Some, refl, subst, arith}
+use Rattle.std.proofs.Common.{◌≡◌, ◌≢◌, ℕ, List, Option, Some, refl, subst, arith}
+use Rattle.agg_segment.specs.declared.query.QueryTree.{QueryTree}
 use Rattle.agg_pages.specs.declared.status.Status.{Status}
 use Rattle.agg_pages.specs.declared.status.Status.TheVariants.{Ok, Refused, Usage}
 use Rattle.agg_pages.specs.declared.status.Status.TheVariants.{Input as NotInput, ReadFault}
@@ -20,22 +21,23 @@ reads_input : {B : Type 0} (builders : List B) (name_of : B → List ℕ) (bytes
 reads_input builders name_of bytes left i (given, gives, is) =
     subst (λ all. IsInput builders name_of all i) (gives bytes refl).0 is
 
-pub no_pages : {W B : Type 0} (builders : List B) (name_of : B → List ℕ) (sink : Observed W)
-    (bytes left : List ℕ)
+pub no_pages : {W B : Type 0} (builders : List B) (name_of : B → List ℕ)
+    (tree_for : B → List (List ℕ) → Option QueryTree) (sink : Observed W) (bytes left : List ℕ)
     (words : List (List ℕ)) (status : Status) → words ≡ walk_arguments → status ≢ Ok
-    → IsAnswered builders name_of (command words status) (steady bytes left) sink
-    → HaveNoPages builders name_of bytes status
-no_pages builders name_of sink bytes left words Ok walk other answered = absurd (other refl)
-no_pages builders name_of sink bytes left words Refused walk other answered =
+    → IsAnswered builders name_of tree_for (command words status) (steady bytes left) sink
+    → HaveNoPages builders name_of tree_for bytes status
+no_pages builders name_of tree_for sink bytes left words Ok walk other answered =
+    absurd (other refl)
+no_pages builders name_of tree_for sink bytes left words Refused walk other answered =
     let (i, gave, (text, refusal, appended)) = answered.refused refl in
     (i, reads_input builders name_of bytes left i gave, (text, refusal))
-no_pages builders name_of sink bytes left words Usage walk other answered =
+no_pages builders name_of tree_for sink bytes left words Usage walk other answered =
     absurd (answered.usage.0 refl walk)
-no_pages builders name_of sink bytes left words NotInput walk other answered =
+no_pages builders name_of tree_for sink bytes left words NotInput walk other answered =
     (answered.no_input refl bytes refl).0
-no_pages builders name_of sink bytes left words ReadFault walk other answered =
+no_pages builders name_of tree_for sink bytes left words ReadFault walk other answered =
     absurd (omega (arith, answered.read_fault refl))
-no_pages builders name_of sink bytes left words WriteFault walk other answered =
+no_pages builders name_of tree_for sink bytes left words WriteFault walk other answered =
     let (i, gave, written) = answered.prefix refl in
     (i, reads_input builders name_of bytes left i gave)
-no_pages builders name_of sink bytes left words OutOfMemory walk other answered = tt
+no_pages builders name_of tree_for sink bytes left words OutOfMemory walk other answered = tt

@@ -46,8 +46,9 @@ fn pages_of(
 ) -> Result<MemorySink, Status>
     ensures pages { IfOk result
         (λ sink. (i : Input _) × IsInput builders.items (λ b. b.name) bytes.items i
-        × IsPrintedWalk i sink.bytes) }
-    ensures cause { IfErr result (HaveNoPages builders.items (λ b. b.name) bytes.items) }
+        × IsPrintedWalk (λ b. tree_for (b.builder.vtable, b.builder.value)) i sink.bytes) }
+    ensures cause { IfErr result (HaveNoPages builders.items (λ b. b.name)
+        (λ b. tree_for (b.builder.vtable, b.builder.value)) bytes.items) }
 {
     let words = [Text::copy_of(alloc, "walk")?];
     let mut source = SteadySource::new(bytes);

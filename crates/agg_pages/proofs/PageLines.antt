@@ -3,7 +3,7 @@ use Rattle.std.proofs.Common.{◌≡◌, ℕ, ◌+◌, ◌<◌, List, [], ◌∷
 use Rattle.std.proofs.Common.{ap, ◌∙◌, subst, append_assoc, append-nil, arith, add-zero}
 use Rattle.std.proofs.Common.{length-take}
 use Rattle.std.proofs.lemmas.List.{take_more}
-use Rattle.agg_results.specs.declared.results.types.AggregationResults.{AggregationResults}
+use Rattle.agg_final_results.specs.declared.types.AggregationResults.{AggregationResults}
 use Rattle.agg_pages.specs.Output.{page_line, page_lines}
 
 pub page_lines-push : (n : ℕ) (pages : List AggregationResults) (page : AggregationResults)

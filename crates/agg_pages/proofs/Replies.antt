@@ -1,8 +1,9 @@
 -- Replies to inputs, and what bytes and an input say of one another.
-use Rattle.std.proofs.Common.{◌≡◌, ℕ, List, Option, Some, refl}
+use Rattle.std.proofs.Common.{◌≡◌, ◌≢◌, ℕ, List, Option, Some, refl}
 use Rattle.std.proofs.Common.{subst, inl, inr}
 use Rattle.agg_values.specs.declared.request_error.AggregationError.TheVariants as aggregation
 use Rattle.agg_values.specs.declared.request_error.RequestError.TheVariants as error
+use Rattle.agg_segment.specs.declared.query.QueryTree.{QueryTree}
 use Rattle.agg_request_tree.specs.Faults.{HasFault}
 use Rattle.agg_request_tree.specs.Request.{composites_of}
 use Rattle.agg_engine.specs.declared.walk.error.WalkError.{WalkError}
@@ -12,30 +13,39 @@ use Rattle.agg_engine.specs.declared.walk.error.WalkError.TheVariants.{Aggregati
 use Rattle.agg_engine.specs.declared.walk.error.WalkError.TheVariants.{BucketOutOfRange}
 use Rattle.agg_request_tree.proofs.Lists.{none_of_all}
 use Rattle.agg_input.specs.Input.{Input, IsInput}
-use Rattle.agg_pages.specs.Answer.{IsRefusal, IsValid, MayRefuse}
+use Rattle.agg_values.specs.Nothing.{NoneIs}
+use Rattle.agg_engine.specs.Refusals.{HasCause, IsRefused}
+use Rattle.agg_engine.specs.Walk.{IsWalk, MayBeAsked}
+use Rattle.agg_engine.specs.declared.walk.Walk.{Walk}
+use Rattle.agg_pages.specs.Answer.{IsPrintedWalk, IsRefusal, IsValid, MayRefuse, bucket_limit_of}
+use Rattle.agg_pages.specs.Answer.{matches_in}
+use Rattle.agg_pages.specs.Output.{refusal_text, walk_text}
 use Rattle.agg_pages.specs.Reading.{GivesAll}
 use Rattle.agg_input.proofs.Inputs.{IsInput-unique}
 
 -- ---- nothing refuses a valid input
 
-may_not_refuse : {B : Type 0} (i : Input B) (error : WalkError) → IsValid i → ¬ (MayRefuse i error)
-may_not_refuse i (Invalid fault) valid (other, inl asked) =
+may_not_refuse : {B : Type 0} (tree_for : B → List (List ℕ) → Option QueryTree) (i : Input B)
+    (error : WalkError) → IsValid tree_for i → ¬ (MayRefuse tree_for i error)
+may_not_refuse tree_for i (Invalid fault) valid (other, inl asked) =
     none_of_all (λ c. HasFault c (error.Invalid fault)) (composites_of i.header.request)
     (λ k c within. valid.asked.sound k c within (error.Invalid fault)) asked
-may_not_refuse i (Invalid fault) valid (other, inr (is, some)) =
+may_not_refuse tree_for i (Invalid fault) valid (other, inr (is, some)) =
     none_of_all (λ s. s.page_size ≡ 0) i.snapshots valid.asked.room some
-may_not_refuse i UnknownComposite valid (other, unknown) = unknown valid.asked.named
-may_not_refuse i TooMany valid (other, many) = valid.fits TooMany many.1
-may_not_refuse i BucketOutOfRange valid (other, out) = valid.fits BucketOutOfRange out.1
-may_not_refuse i (Aggregation (aggregation.DateHistogramParseError part)) valid (other, text) =
+may_not_refuse tree_for i UnknownComposite valid (other, unknown) = unknown valid.asked.named
+may_not_refuse tree_for i TooMany valid (other, many) = valid.fits TooMany many.1
+may_not_refuse tree_for i BucketOutOfRange valid (other, out) = valid.fits BucketOutOfRange out.1
+may_not_refuse tree_for i (Aggregation (aggregation.DateHistogramParseError part)) valid
+    (other, text) =
     let refusal = error.Aggregation (aggregation.DateHistogramParseError part) in
     none_of_all (λ c. HasFault c refusal) (composites_of i.header.request)
     (λ k c within. valid.asked.sound k c within refusal) text
-may_not_refuse i (Aggregation (aggregation.BucketLimitExceeded limit n)) valid (other, many) =
+may_not_refuse tree_for i (Aggregation (aggregation.BucketLimitExceeded limit n)) valid
+    (other, many) =
     valid.fits (Aggregation (aggregation.BucketLimitExceeded limit n)) many.1
-may_not_refuse i (Aggregation (aggregation.MemoryExceeded limit n)) valid (other, many) =
+may_not_refuse tree_for i (Aggregation (aggregation.MemoryExceeded limit n)) valid (other, many) =
     valid.fits (Aggregation (aggregation.MemoryExceeded limit n)) many.1
-may_not_refuse i OutOfMemory valid (other, any) = other refl
+may_not_refuse tree_for i OutOfMemory valid (other, any) = other refl
 
 -- what a source gave is the one input that it told
 pub given_input : {B : Type 0} (builders : List B) (name_of : B → List ℕ)
@@ -47,7 +57,42 @@ given_input builders name_of left left_now given told i j gives is reads_i reads
     (subst (λ bytes. IsInput builders name_of bytes i) (gives told is).0 reads_i) reads_j
 
 -- nothing refuses a valid input
-pub valid-not_refused : {B : Type 0} (i j : Input B) (text : List ℕ) → i ≡ j → IsValid j
-    → ¬ (IsRefusal i text)
-valid-not_refused i j text same valid (error, may, text_is) =
-    may_not_refuse j error valid (subst (λ k. MayRefuse k error) same may)
+pub valid-not_refused : {B : Type 0} (tree_for : B → List (List ℕ) → Option QueryTree)
+    (i j : Input B) (text : List ℕ) → i ≡ j → IsValid tree_for j → ¬ (IsRefusal tree_for i text)
+valid-not_refused tree_for i j text same valid (error, may, text_is) =
+    may_not_refuse tree_for j error valid (subst (λ k. MayRefuse tree_for k error) same may)
+
+-- ---- what a walk answers is a reply
+
+module _ {B : Type 0} (tree_for : B → List (List ℕ) → Option QueryTree) (i : Input B) (limit : ℕ)
+    (limit_is : limit ≡ bucket_limit_of i) (text : List ℕ) where
+  -- a walk that nothing refuses
+  pub printed-walk : (walk : Walk) → MayBeAsked i.header.name i.header.request i.snapshots
+      → NoneIs (IsRefused (matches_in tree_for i) limit i.header.name i.header.query
+      i.header.request i.snapshots)
+      → IsWalk (matches_in tree_for i) i.header.name i.header.query i.header.request i.snapshots
+      walk.pages walk.ended
+      → text ≡ walk_text walk → IsPrintedWalk tree_for i text
+  printed-walk walk asked fits is said = (
+    record {
+      asked = asked;
+      fits = subst (λ n. NoneIs (IsRefused (matches_in tree_for i) n i.header.name i.header.query
+          i.header.request i.snapshots)) limit_is fits;
+    },
+    (walk, is, said),
+  )
+
+  -- an error that has its cause
+  pub printed-refusal : (error : WalkError) → error ≢ OutOfMemory
+      → HasCause (matches_in tree_for i) limit i.header.name i.header.query i.header.request
+      i.snapshots error
+      → text ≡ refusal_text error → IsRefusal tree_for i text
+  printed-refusal error other cause said = (
+    error,
+    (
+      other,
+      subst (λ n. HasCause (matches_in tree_for i) n i.header.name i.header.query i.header.request
+          i.snapshots error) limit_is cause,
+    ),
+    said,
+  )

@@ -2,12 +2,14 @@
 use Rattle.std.specs.Prelude.{◌≡◌, ◌≢◌, ◌<◌, ◌+◌, ◌⊎◌, ℕ, List, [], ◌∷◌, Bool, true, false}
 use Rattle.std.specs.Prelude.{Option, Some, drop, take, length, codes, unwrap_or}
 use Rattle.agg_values.specs.Nothing.{NoneIs}
+use Rattle.agg_column.specs.Document.{Fields}
+use Rattle.agg_segment.specs.declared.query.QueryTree.{QueryTree}
+use Rattle.agg_request_tree.specs.Matching.{built_matches}
 use Rattle.agg_engine.specs.declared.walk.Walk.{Walk}
 use Rattle.agg_engine.specs.declared.walk.error.WalkError.{WalkError}
 use Rattle.agg_engine.specs.declared.walk.error.WalkError.TheVariants.{OutOfMemory}
-use Rattle.agg_engine.specs.ShownWalk.{IsShownWalk}
 use Rattle.agg_engine.specs.Refusals.{HasCause, IsRefused}
-use Rattle.agg_engine.specs.Walk.{MayBeAsked}
+use Rattle.agg_engine.specs.Walk.{IsWalk, MayBeAsked}
 use Rattle.agg_input.specs.Input.{AreNoInput, Input, max_input_bytes}
 use Rattle.agg_pages.specs.Output.{refusal_text, walk_text}
 
@@ -19,43 +21,50 @@ walk_arguments = codes "walk" ∷ []
 abbrev pub bucket_limit_of : {B : Type 0} → Input B → ℕ
 bucket_limit_of i = unwrap_or i.header.bucket_limit 65000
 
--- an error that a walk of an input may answer, want of memory aside
-abbrev pub MayRefuse : {B : Type 0} → Input B → WalkError → Type 0
-MayRefuse i error =
-    (error ≢ OutOfMemory)
-    × HasCause (bucket_limit_of i) i.header.name i.header.query i.header.request i.snapshots error
+module _ {B : Type 0} (tree_for : B → List (List ℕ) → Option QueryTree) where
+  -- whether what a builder makes for the schema of an input matches a document
+  abbrev pub matches_in : Input B → B → Fields → Bool
+  matches_in i = built_matches (λ builder. tree_for builder i.header.schema)
 
--- a walk of an input that nothing refuses
-pub record IsValid {B : Type 0} (i : Input B) : Type 0 where
-  pub asked : MayBeAsked i.header.name i.header.request i.snapshots
-  pub fits : NoneIs (IsRefused (bucket_limit_of i) i.header.name i.header.query i.header.request
-      i.snapshots)
+  -- an error that a walk of an input may answer, want of memory aside
+  abbrev pub MayRefuse : Input B → WalkError → Type 0
+  MayRefuse i error =
+      (error ≢ OutOfMemory)
+      × HasCause (matches_in i) (bucket_limit_of i) i.header.name i.header.query i.header.request
+      i.snapshots error
 
--- the text is the printed plain walk of an input
-abbrev pub IsPlainWalkText : {B : Type 0} → Input B → List ℕ → Type 0
-IsPlainWalkText i text =
-    (walk : Walk)
-    × IsShownWalk i.header.name i.header.query i.header.request i.snapshots walk
-    × (text ≡ walk_text walk)
+  -- a walk of an input that nothing refuses
+  pub record IsValid (i : Input B) : Type 0 where
+    pub asked : MayBeAsked i.header.name i.header.request i.snapshots
+    pub fits : NoneIs (IsRefused (matches_in i) (bucket_limit_of i) i.header.name i.header.query
+        i.header.request i.snapshots)
 
--- the text is the printed walk of an input that nothing refuses
-abbrev pub IsPrintedWalk : {B : Type 0} → Input B → List ℕ → Type 0
-IsPrintedWalk i text = IsValid i × IsPlainWalkText i text
+  -- the text is the printed plain walk of an input
+  abbrev pub IsPlainWalkText : Input B → List ℕ → Type 0
+  IsPlainWalkText i text =
+      (walk : Walk)
+      × IsWalk (matches_in i) i.header.name i.header.query i.header.request i.snapshots walk.pages
+      walk.ended
+      × (text ≡ walk_text walk)
 
--- the text is a refusal that a walk of an input may answer
-abbrev pub IsRefusal : {B : Type 0} → Input B → List ℕ → Type 0
-IsRefusal i text = (error : WalkError) × MayRefuse i error × (text ≡ refusal_text error)
+  -- the text is the printed walk of an input that nothing refuses
+  abbrev pub IsPrintedWalk : Input B → List ℕ → Type 0
+  IsPrintedWalk i text = IsValid i × IsPlainWalkText i text
 
--- the text answers an input, by a refusal or by the printed walk
-abbrev pub IsReply : {B : Type 0} → Bool → Input B → List ℕ → Type 0
-IsReply true i text = IsRefusal i text
-IsReply false i text = IsPrintedWalk i text
+  -- the text is a refusal that a walk of an input may answer
+  abbrev pub IsRefusal : Input B → List ℕ → Type 0
+  IsRefusal i text = (error : WalkError) × MayRefuse i error × (text ≡ refusal_text error)
 
--- the text is a prefix of an answer to an input
-abbrev pub IsReplyPrefix : {B : Type 0} → Input B → List ℕ → Type 0
-IsReplyPrefix i prefix =
-    (refused : Bool) × (text : List ℕ) × IsReply refused i text
-    × ((count : ℕ) × (prefix ≡ take count text))
+  -- the text answers an input, by a refusal or by the printed walk
+  abbrev pub IsReply : Bool → Input B → List ℕ → Type 0
+  IsReply true i text = IsRefusal i text
+  IsReply false i text = IsPrintedWalk i text
+
+  -- the text is a prefix of an answer to an input
+  abbrev pub IsReplyPrefix : Input B → List ℕ → Type 0
+  IsReplyPrefix i prefix =
+      (refused : Bool) × (text : List ℕ) × IsReply refused i text
+      × ((count : ℕ) × (prefix ≡ take count text))
 
 -- the bytes are no input: all were read, or one past the limit
 abbrev pub IsNoInput : {B : Type 0} → List B → (B → List ℕ) → List ℕ → Option (List ℕ) → Type 0

@@ -1,6 +1,7 @@
 -- How a run answers: the cause of each status, and what is then read and written.
-use Rattle.std.specs.Prelude.{◌≡◌, ◌≢◌, ◌+◌, ◌⊎◌, ◌↔◌, ℕ, List, Some}
+use Rattle.std.specs.Prelude.{◌≡◌, ◌≢◌, ◌+◌, ◌⊎◌, ◌↔◌, ℕ, List, Option, Some}
 use Rattle.std.specs.Io.KnownBytes.{Appends}
+use Rattle.agg_segment.specs.declared.query.QueryTree.{QueryTree}
 use Rattle.agg_pages.specs.declared.status.Status.{Status}
 use Rattle.agg_pages.specs.declared.status.Status.TheVariants.{Ok, Refused, Usage}
 use Rattle.agg_pages.specs.declared.status.Status.TheVariants.{Input as NotInput, ReadFault}
@@ -28,7 +29,7 @@ GaveInput builders name_of source i =
     × GivesAll (bytes_before source) (bytes_after source) bytes
     × IsInput builders name_of bytes i
 
--- a source gave an input, and a sink holds such a text of it behind what it held
+-- a source gave an input, and a sink holds such a text of it after what it held
 abbrev pub HasWritten : {R W B : Type 0} → List B → (B → List ℕ) → (Input B → List ℕ → Type 0)
     → Observed R
     → Observed W → Type 0
@@ -43,31 +44,35 @@ HadNoInput builders name_of source =
     → IsNoInput builders name_of bytes (bytes_after source)
 
 -- a source told that it had a valid input left
-abbrev pub HadValidInput : {R B : Type 0} → List B → (B → List ℕ) → Observed R → Type 0
-HadValidInput {B = B} builders name_of source =
+abbrev pub HadValidInput : {R B : Type 0} → List B → (B → List ℕ)
+    → (B → List (List ℕ) → Option QueryTree) → Observed R → Type 0
+HadValidInput {B = B} builders name_of tree_for source =
     (bytes : List ℕ) × (i : Input B)
-    × (bytes_before source ≡ Some bytes) × IsInput builders name_of bytes i × IsValid i
+    × (bytes_before source ≡ Some bytes) × IsInput builders name_of bytes i × IsValid tree_for i
 
 -- each status has its cause, in what a source gave and a sink took, where a program has these
--- builders
+-- builders, with their names and the queries that they make for a schema
 pub record IsAnswered {R W B : Type 0} (builders : List B) (name_of : B → List ℕ)
-    (command : Command)
+    (tree_for : B → List (List ℕ) → Option QueryTree) (command : Command)
     (source : Observed R) (sink : Observed W) : Type 0 where
   -- status 0: the bytes read are a valid input, and the printed walk of it is written
-  pub ok : command.status ≡ Ok → HasWritten builders name_of IsPrintedWalk source sink
+  pub ok : command.status ≡ Ok
+      → HasWritten builders name_of (IsPrintedWalk tree_for) source sink
   -- each other status has its cause
   pub usage : command.status ≡ Usage ↔ (command.arguments ≢ walk_arguments)
   pub read_fault : command.status ≡ ReadFault → HadFault source
   pub no_input : command.status ≡ NotInput → HadNoInput builders name_of source
-  pub refused : command.status ≡ Refused → HasWritten builders name_of IsRefusal source sink
+  pub refused : command.status ≡ Refused
+      → HasWritten builders name_of (IsRefusal tree_for) source sink
   pub write_fault : command.status ≡ WriteFault → HadFault sink
-  pub prefix : command.status ≡ WriteFault → HasWritten builders name_of IsReplyPrefix source sink
+  pub prefix : command.status ≡ WriteFault
+      → HasWritten builders name_of (IsReplyPrefix tree_for) source sink
   -- a usage touches nothing, and these write nothing
   pub untouched : command.status ≡ Usage → IsUntouched source × IsUntouched sink
   pub quiet : IsUnanswered command.status → IsUntouched sink
   -- whatever the status, no more than one byte past the limit is gone
   pub taken : TakesAtMost (max_input_bytes + 1) (bytes_before source) (bytes_after source)
   -- a valid call without a fault is answered, unless memory is refused
-  pub complete : command.arguments ≡ walk_arguments → HadValidInput builders name_of source
+  pub complete : command.arguments ≡ walk_arguments → HadValidInput builders name_of tree_for source
       → ¬ (HadFault source) → ¬ (HadFault sink)
       → (command.status ≡ Ok) ⊎ (command.status ≡ OutOfMemory)

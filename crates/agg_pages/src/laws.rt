@@ -1,5 +1,6 @@
 //! What holds of printed walks, as their definition says it.
-ghost use Rattle.std.specs.Prelude.{◌≡◌, ℕ, List};
+ghost use Rattle.std.specs.Prelude.{◌≡◌, ℕ, List, Option};
+ghost use Rattle.agg_segment.specs.declared.query.QueryTree.{QueryTree};
 ghost use Rattle.agg_input.specs.Input.{Input};
 ghost use Rattle.agg_pages.specs.Answer.{IsPlainWalkText, IsPrintedWalk, IsValid};
 
@@ -7,9 +8,12 @@ ghost use Rattle.agg_pages.specs.Answer.{IsPlainWalkText, IsPrintedWalk, IsValid
 /// reader of the text may skip what makes an input valid: of a valid input, the text of the plain
 /// walk is the printed walk.
 pub fn a_printed_walk_is_the_plain_walk<B>()
-    ensures plain { (i : Input B) (text : List ℕ) → IsPrintedWalk i text → IsPlainWalkText i text }
-    ensures printed { (i : Input B) (text : List ℕ)
-        → IsValid i → IsPlainWalkText i text → IsPrintedWalk i text }
-    ensures only { (i : Input B) (text other : List ℕ)
-        → IsPlainWalkText i text → IsPlainWalkText i other → text ≡ other }
+    ensures plain { (tree_for : B → List (List ℕ) → Option QueryTree) (i : Input B) (text : List ℕ)
+        → IsPrintedWalk tree_for i text → IsPlainWalkText tree_for i text }
+    ensures printed { (tree_for : B → List (List ℕ) → Option QueryTree) (i : Input B)
+        (text : List ℕ)
+        → IsValid tree_for i → IsPlainWalkText tree_for i text → IsPrintedWalk tree_for i text }
+    ensures only { (tree_for : B → List (List ℕ) → Option QueryTree) (i : Input B)
+        (text other : List ℕ)
+        → IsPlainWalkText tree_for i text → IsPlainWalkText tree_for i other → text ≡ other }
 {}

@@ -36,7 +36,8 @@ pub fn run<R: Source, W: Sink, L: Ledger>(
     sink: &mut W,
     steps: &mut Steps<L>,
 ) -> Status
-    ensures { IsAnswered builders.items (λ b. b.name) (command words.now result)
+    ensures { IsAnswered builders.items (λ b. b.name)
+        (λ b. tree_for (b.builder.vtable, b.builder.value)) (command words.now result)
         (over R.left R.faults source.old source.new) (over W.held W.faults sink.old sink.new) }
 {
     if !is_walk(words) {
@@ -56,7 +57,8 @@ pub fn run_uncounted<R: Source, W: Sink>(
     source: &mut R,
     sink: &mut W,
 ) -> Status
-    ensures { IsAnswered builders.items (λ b. b.name) (command words.now result)
+    ensures { IsAnswered builders.items (λ b. b.name)
+        (λ b. tree_for (b.builder.vtable, b.builder.value)) (command words.now result)
         (over R.left R.faults source.old source.new) (over W.held W.faults sink.old sink.new) }
 {
     run_over::<R, W, Brand>(alloc, words, builders, source, sink, Blank::new(1))
@@ -74,7 +76,8 @@ fn run_over<R: Source, W: Sink, L: Ledger>(
     requires name { blank.name ≡ L.name }
     requires parts { blank.parts ≡ L.parts }
     requires shared { 0 < L.parts }
-    ensures { IsAnswered builders.items (λ b. b.name) (command words.now result)
+    ensures { IsAnswered builders.items (λ b. b.name)
+        (λ b. tree_for (b.builder.vtable, b.builder.value)) (command words.now result)
         (over R.left R.faults source.old source.new) (over W.held W.faults sink.old sink.new) }
 {
     let mut steps: Steps<L> = Steps::new(blank);
@@ -107,7 +110,8 @@ fn answer<R: Source, L: Ledger>(
     ensures ok { IfOk result
         (λ reply. (i : Meant _)
         × GaveInput builders.items (λ b. b.name) (over R.left R.faults source.old source.new) i
-        × IsReply reply.refused i (string_bytes reply.text)) }
+        × IsReply (λ b. tree_for (b.builder.vtable, b.builder.value)) reply.refused i
+        (string_bytes reply.text)) }
     ensures kinds { IfErr result IsUnanswered }
     ensures no_input { result ≡ Err Status.Input
         → HadNoInput builders.items (λ b. b.name) (over R.left R.faults source.old source.new) }
@@ -128,7 +132,8 @@ fn reply_to<L: Ledger>(
 ) -> Result<Reply, OutOfMemory>
     requires { IsOneComposite input.now.header.request }
     ensures { IfOk result
-        (λ reply. IsReply reply.refused (input_of input.now) (string_bytes reply.text)) }
+        (λ reply. IsReply (λ b. tree_for (b.builder.vtable, b.builder.value))
+        reply.refused (input_of input.now) (string_bytes reply.text)) }
 {
     let mut limits = LimitsLedger::new(None, input.header.bucket_limit);
     let header = &input.header;

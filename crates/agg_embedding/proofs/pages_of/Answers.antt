@@ -15,17 +15,19 @@ returns-in-Ok-clause-pages g c =
     ∙ ap (λ sink. sink.bytes ++ text) c.in_ok-sink.ensures in (
       i,
       subst (λ bytes. IsInput c.args.builders.items (λ b. b.name) bytes i) told reads,
-      subst (IsPrintedWalk i) (sym written) walk,
+      subst (IsPrintedWalk _ i) (sym written) walk,
     )
 
 pub returns : goal.returns
 returns g c =
     record {
       pages = tt;
-      cause = subst (λ bytes. HaveNoPages c.args.builders.items (λ b. b.name) bytes
-          c.run_uncounted.result)
+      cause = subst (λ bytes. HaveNoPages c.args.builders.items (λ b. b.name)
+          (λ b. (goal.QueryBuilder-dyn g (b.builder.vtable, b.builder.value)).tree_for
+          b.builder.value)
+          bytes c.run_uncounted.result)
           c.new-source.ensures
-          (no_pages c.args.builders.items (λ b. b.name) _ c.new-source.result _ _
+          (no_pages c.args.builders.items (λ b. b.name) _ _ c.new-source.result _ _
           c.run_uncounted.result
           (ap (λ word. word ∷ []) c.in_ok-copy_of.ensures) c.in_default.not-Ok
           c.run_uncounted.ensures);

@@ -16,7 +16,10 @@ returns-in-Ok g c =
         (given, gives, reads),
         (
           text,
-          subst (λ refused. IsReply refused i text) (written.ok is).0
+          subst (λ refused. IsReply
+              (λ b. (goal.QueryBuilder-dyn g (b.builder.vtable, b.builder.value)).tree_for
+              b.builder.value)
+              refused i text) (written.ok is).0
               replied,
           (written.ok is).1,
         ),
@@ -29,7 +32,10 @@ returns-in-Ok g c =
         (given, gives, reads),
         (
           text,
-          subst (λ refused. IsReply refused i text)
+          subst (λ refused. IsReply
+              (λ b. (goal.QueryBuilder-dyn g (b.builder.vtable, b.builder.value)).tree_for
+              b.builder.value)
+              refused i text)
               (written.refused is).0 replied,
           (written.refused is).1,
         ),
@@ -54,8 +60,14 @@ returns-in-Ok g c =
           elim written.kinds [
             | inl ok ↦ inl ok
             | inr other ↦ elim other [
-              | inl refused ↦ absurd (valid-not_refused i j text same valid
-                  (subst (λ b. IsReply b i text) (written.refused refused).0 replied))
+              | inl refused ↦ absurd (valid-not_refused
+                  (λ b. (goal.QueryBuilder-dyn g (b.builder.vtable, b.builder.value)).tree_for
+                  b.builder.value)
+                  i j text same valid
+                  (subst (λ b. IsReply
+                  (λ b. (goal.QueryBuilder-dyn g (b.builder.vtable, b.builder.value)).tree_for
+                  b.builder.value)
+                  b i text) (written.refused refused).0 replied))
               | inr fault ↦ absurd (no_write_fault (written.fault fault))
             ]
           ];
