@@ -1,5 +1,6 @@
 -- Documents: values with the names of their fields, and the keys that they mean.
-use Rattle.std.specs.Prelude.{◌==◌, ℕ, List, [], ◌∷◌, map, filter, flat_map}
+use Rattle.std.specs.Prelude.{◌==◌, ◌<◌, ◌^◌, ℕ, List, [], ◌∷◌, All, filter, flat_map, map, nat_abs}
+use Rattle.std.specs.Prelude.{⊤}
 use Rattle.std.specs.Map.{values_of}
 use Rattle.std.specs.Str.{bytes_eq}
 use Rattle.agg_values.specs.Column.{class_rank}
@@ -46,3 +47,14 @@ values_in document field = values_of (filter (λ p. bytes_eq field p.0) document
 -- what a document means
 abbrev pub meaning : List (List ℕ × FieldValue) → Fields
 meaning document field = by_class (map key_of (values_in document field))
+
+-- a key that is a number or a date is one of 64 bits, with or without a sign
+abbrev pub IsOf64Bits : CompositeIntermediateKey → Type 0
+IsOf64Bits (key.I64 n) = nat_abs n < 2 ^ 64
+IsOf64Bits (key.U64 n) = n < 2 ^ 64
+IsOf64Bits (key.DateTime ns) = nat_abs ns < 2 ^ 64
+IsOf64Bits _ = ⊤
+
+-- so is each number and date of a document
+abbrev pub HasNumbersOf64Bits : Fields → Type 0
+HasNumbersOf64Bits document = (field : List ℕ) → All IsOf64Bits (document field)

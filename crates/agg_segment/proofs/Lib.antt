@@ -17,6 +17,7 @@ pub mod ListedPlaces
 pub mod Marks
 pub mod MovedKeys
 pub mod NewFields
+pub mod NumbersOf64Bits
 pub mod OrdinalKeys
 pub mod Ordinals
 pub mod Queries

@@ -1,6 +1,7 @@
-ghost use Rattle.std.specs.Prelude.{◌≡◌, ◌≤◌, ◌==◌, ℕ, length, filter};
+ghost use Rattle.std.specs.Prelude.{◌≡◌, ◌≤◌, ◌==◌, ℕ, All, length, filter};
 ghost use Rattle.agg_column.specs.Names.{numbered_names};
 ghost use Rattle.agg_column.specs.Columns.{all_keys, AreInOrder, ClassesAscend};
+ghost use Rattle.agg_column.specs.Document.{HasNumbersOf64Bits};
 ghost use Rattle.agg_segment.specs.Segment.{columns_in, document_at, documents_of};
 ghost use Rattle.agg_segment.specs.Segment.{max_documents};
 
@@ -18,9 +19,10 @@ pub struct SegmentReader {
 }
 
 impl Model for SegmentReader {
-    ghost use Rattle.std.specs.Prelude.{◌≤◌};
+    ghost use Rattle.std.specs.Prelude.{◌≤◌, All};
     ghost use Rattle.agg_column.specs.Columns.{AreInOrder};
-    ghost use Rattle.agg_segment.specs.Segment.{Stored, max_documents};
+    ghost use Rattle.agg_column.specs.Document.{HasNumbersOf64Bits};
+    ghost use Rattle.agg_segment.specs.Segment.{Stored, documents_of, max_documents};
     ghost use Rattle.agg_column.specs.Names.{numbered_names};
 
     ghost Value = { Stored };
@@ -28,7 +30,12 @@ impl Model for SegmentReader {
     ghost view = { λ r.
         record { count = r.count; names = numbered_names r.names; columns = r.columns.items } };
 
-    ghost invariant = { λ r. (r.count ≤ max_documents) × AreInOrder r.columns.items };
+    ghost invariant = { λ r. (r.count ≤ max_documents) × AreInOrder r.columns.items
+        × All HasNumbersOf64Bits (documents_of (record {
+          count = r.count;
+          names = numbered_names r.names;
+          columns = r.columns.items;
+        })) };
 }
 
 impl SegmentReader {
@@ -39,6 +46,11 @@ impl SegmentReader {
     ) -> SegmentReader
         requires few { count ≤ max_documents }
         requires order { AreInOrder columns.items }
+        requires numbers { All HasNumbersOf64Bits (documents_of (record {
+          count = count;
+          names = numbered_names names;
+          columns = columns.items;
+        })) }
         ensures { result
             ≡ record { count = count; names = numbered_names names; columns = columns.items } }
     {
@@ -53,6 +65,7 @@ impl SegmentReader {
     pub fn num_docs(&self) -> u32
         ensures count { result ≡ length (documents_of self.now) }
         ensures bound { result ≤ max_documents }
+        ensures numbers { All HasNumbersOf64Bits (documents_of self.now) }
     {
         self.count
     }

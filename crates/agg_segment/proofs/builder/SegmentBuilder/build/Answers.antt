@@ -1,9 +1,11 @@
 use Rattle.std.proofs.Common.{List, length, ap, ◌∙◌}
 use Rattle.agg_column.specs.Cells.{Placed, keys_at}
 use Rattle.agg_column.specs.Document.{by_class}
+use Rattle.agg_column.specs.Names.{numbered_names}
 use Rattle.agg_segment.specs.Segment.{builder_cells, gathered_documents, documents_of}
 use Rattle.agg_segment.proofs.BuilderKeys.{read_kept}
 use Rattle.agg_segment.proofs.ClosedDocuments.{built_documents}
+use Rattle.agg_segment.proofs.NumbersOf64Bits.{built-64}
 use Rattle.agg_segment.proofs.builder.SegmentBuilder.build.Goals as goal
 
 pub into_columns-requires-clause-kept : goal.into_columns-requires-clause-kept
@@ -42,3 +44,19 @@ returns-clause-built c =
     (c.as_slice.ensures ∙ c.into_kept-texts.ensures.texts)
     (c.deref.ensures.value ∙ c.into_kept-texts.ensures.addresses)))
     ∙ ap gathered_documents c.self.view_is
+
+pub from_parts-requires-clause-numbers : goal.from_parts-requires-clause-numbers
+from_parts-requires-clause-numbers c =
+    built-64 c.deref-2.result.now c.as_slice.result.now c.deref.result.now c.self.inside.columns
+    (rw (
+      c.as_slice.ensures,
+      c.into_kept-texts.ensures.texts,
+      c.deref.ensures.value,
+      c.into_kept-texts.ensures.addresses,
+    ) c.self.invariant.1)
+    (record {
+      count = c.self.inside.count;
+      names = numbered_names c.into_numbers.result;
+      columns = c.in_ok-columns.columns.items;
+    })
+    c.in_ok-columns.ensures.keys

@@ -1,4 +1,6 @@
-use Rattle.std.proofs.Common.{length, sym, ap, ◌∙◌}
+use Rattle.std.proofs.Common.{length, sym, subst, ap, ◌∙◌}
+use Rattle.std.specs.List.{All}
+use Rattle.agg_column.specs.Document.{HasNumbersOf64Bits}
 use Rattle.agg_column.specs.Names.{numbered_names}
 use Rattle.agg_segment.specs.Segment.{Stored, documents_of}
 use Rattle.agg_segment.proofs.ClosedDocuments.{read_count}
@@ -13,3 +15,8 @@ returns-clause-count c =
       columns =
           s.columns.items;
     })) ∙ ap (λ (r : Stored). length (documents_of r)) c.self.view_is
+
+pub returns-clause-numbers : goal.returns-clause-numbers
+returns-clause-numbers c =
+    subst (λ (r : Stored). All HasNumbersOf64Bits (documents_of r)) c.self.view_is
+    c.self.invariant.2
