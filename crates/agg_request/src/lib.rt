@@ -14,7 +14,7 @@ pub use agg_request_tree::{
     FilterAggregation, FilterQuery, HistogramCompositeAggregationSource, MaxAggregation,
     MinAggregation, NamedBuilder, QueryBuildError, QueryBuilder, SumAggregation,
     TermCompositeAggregationSource, a_page_lists_each_tuple_once, a_page_with_room_is_the_last,
-    an_after_key_is_its_tuple, check_request, classes_count_in_any_order, count_uncut,
+    an_after_key_is_its_tuple, check_request, classes_count_in_any_order,
     counts_are_of_the_documents, each_request_has_one_page, get_fast_field_names,
     request_equality_is_sameness, successive_pages_are_one_page,
     successive_pages_end_with_every_tuple, successive_pages_list_each_tuple_once,

@@ -22,11 +22,9 @@ pub mod PageWalk
 pub mod PageWhole
 pub mod PairedLists
 pub mod Pairs
-pub mod ReadColumns
 pub mod Reorderings
 pub mod RequestTrees
 pub mod SameRequests
-pub mod SourceColumns
 pub mod SourceEquality
 pub mod SourceKeys
 pub mod UncutLength

@@ -5,6 +5,7 @@ pub mod FieldNames
 pub mod Groups
 pub mod Matching
 pub mod Metrics
+pub mod Names
 pub mod Occurrences
 pub mod Page
 pub mod Ranges

@@ -2,7 +2,8 @@
 ghost use Rattle.std.specs.Prelude.{◌≡◌, ◌≢◌, All, Any, IfErr, IfNone, IfSome, MatchBool, OnOk};
 ghost use Rattle.agg_request_tree.specs.Faults.{CompositeHasCause, HasCause, HasFault, HasInterval};
 ghost use Rattle.agg_request_tree.specs.Faults.{HaveOwnNames, IsSound, IsSoundRequest};
-ghost use Rattle.agg_request_tree.specs.Request.{composites_in, own_composite};
+ghost use Rattle.agg_request_tree.specs.Names.{NamesAscend};
+ghost use Rattle.agg_request_tree.specs.Request.{below_of, composites_in, own_composite};
 ghost use Rattle.agg_request_tree.specs.Source.{name_of};
 
 mod after;
@@ -24,6 +25,7 @@ const MAX_SOURCES: usize = 16;
 /// several faults is named is free. Memory is taken only for the text of an error.
 pub fn check_request(alloc: Global, request: &Aggregations) -> Result<(), RequestError>
     ensures ok { OnOk result (IsSoundRequest request.now) }
+    ensures names { OnOk result (NamesAscend request.now) }
     ensures err { IfErr result (HasCause request.now) }
 {
     check_aggregations(alloc, request)
@@ -35,6 +37,7 @@ fn check_aggregations<B: Drop>(
     request: &NameMap<Aggregation<B>>,
 ) -> Result<(), RequestError>
     ensures ok { OnOk result (IsSoundRequest request.now) }
+    ensures names { OnOk result (NamesAscend request.now) }
     ensures err { IfErr result (HasCause request.now) }
 {
     for (_, aggregation) in request.iter() {
@@ -50,6 +53,7 @@ fn check_aggregation<B: Drop>(
     aggregation: &Aggregation<B>,
 ) -> Result<(), RequestError>
     ensures ok { OnOk result (All IsSound (composites_in aggregation.now)) }
+    ensures names { OnOk result (NamesAscend (below_of aggregation.now)) }
     ensures err { IfErr result
         (λ error. Any (λ c. CompositeHasCause c error) (composites_in aggregation.now)) }
 {

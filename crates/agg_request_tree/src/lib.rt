@@ -7,7 +7,6 @@ mod builder;
 mod check;
 mod field_names;
 mod laws;
-mod occurrences;
 mod same;
 mod source;
 
@@ -25,7 +24,6 @@ pub use laws::{
     successive_pages_end_with_every_tuple, successive_pages_list_each_tuple_once,
     the_lowest_groups_are_a_page,
 };
-pub use occurrences::count_uncut;
 pub use source::{
     CompositeAggregationSource, DateHistogramCompositeAggregationSource,
     HistogramCompositeAggregationSource, TermCompositeAggregationSource,

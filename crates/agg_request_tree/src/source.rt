@@ -1,13 +1,12 @@
 ghost use Rattle.std.specs.Prelude.{◌≡◌, IfOk, option_map};
 ghost use Rattle.agg_request_tree.specs.Source.{field_of, name_of, order_of};
 ghost use Rattle.agg_request_tree.specs.Source.{missing_order_of, missing_bucket_of};
-ghost use Rattle.agg_request_tree.specs.SourceColumns.{reads_type};
+ghost use Rattle.agg_request_tree.specs.SourceColumns.{reads_class};
 
 mod after;
 
 use agg_calendar::CalendarInterval;
-use agg_segment::ColumnType;
-use agg_values::{MissingOrder, Order, OutOfMemory, Text};
+use agg_values::{ColumnPaginationOrder, MissingOrder, Order, OutOfMemory, Text};
 use std::alloc::Global;
 
 /// A source whose keys are the values of a field.
@@ -194,18 +193,18 @@ impl CompositeAggregationSource {
         }
     }
 
-    /// Whether the values in columns of a type are read.
-    pub fn reads(&self, column_type: ColumnType) -> bool
-        ensures { result ≡ reads_type self.now column_type }
+    /// Whether the values of a class are read.
+    pub fn reads(&self, class: ColumnPaginationOrder) -> bool
+        ensures { result ≡ reads_class self.now class }
     {
         match self {
             CompositeAggregationSource::Terms(_) => true,
             CompositeAggregationSource::Histogram(_) => matches!(
-                column_type,
-                ColumnType::I64 | ColumnType::U64 | ColumnType::DateTime
+                class,
+                ColumnPaginationOrder::Numeric | ColumnPaginationOrder::DateTime
             ),
             CompositeAggregationSource::DateHistogram(_) => {
-                matches!(column_type, ColumnType::DateTime)
+                matches!(class, ColumnPaginationOrder::DateTime)
             }
         }
     }

@@ -8,6 +8,4 @@ mod builder;
 mod check;
 pub mod given;
 #[cfg(test)]
-mod occurrences;
-#[cfg(test)]
 mod source;

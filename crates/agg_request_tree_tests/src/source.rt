@@ -2,10 +2,10 @@
 use crate::given::{GivenSource, Kind, key_of};
 use agg_calendar::CalendarInterval;
 use agg_request_tree::CompositeAggregationSource;
-use agg_segment::ColumnType;
 use agg_segment_tests::given::Given;
 use agg_values::{
-    AfterKey, CompositeIntermediateKey, MissingOrder, NameMap, Order, OutOfMemory, Text,
+    AfterKey, ColumnPaginationOrder, CompositeIntermediateKey, MissingOrder, NameMap, Order,
+    OutOfMemory, Text,
 };
 use std::alloc::Global;
 use std::process::Abort;
@@ -67,28 +67,27 @@ fn a_source_gives_its_parts(rt: HostRuntime) -> Result<(), Fail> {
     Ok(())
 }
 
-// Whether a source of this kind reads columns of this type.
-fn reads(alloc: Global, kind: Kind, column_type: ColumnType) -> Result<bool, OutOfMemory> {
-    Ok(source_of(alloc, kind)?.reads(column_type))
+// Whether a source of this kind reads the values of this class.
+fn reads(alloc: Global, kind: Kind, class: ColumnPaginationOrder) -> Result<bool, OutOfMemory> {
+    Ok(source_of(alloc, kind)?.reads(class))
 }
 
 #[test]
-fn a_source_reads_columns_by_type(rt: HostRuntime) -> Result<(), Fail> {
+fn a_source_reads_values_by_class(rt: HostRuntime) -> Result<(), Fail> {
     let alloc = rt.alloc();
-    for (column_type, numbers, dates) in [
-        (ColumnType::Bool, false, false),
-        (ColumnType::Str, false, false),
-        (ColumnType::I64, true, false),
-        (ColumnType::U64, true, false),
-        (ColumnType::IpAddr, false, false),
-        (ColumnType::DateTime, true, true),
+    for (class, numbers, dates) in [
+        (ColumnPaginationOrder::Bool, false, false),
+        (ColumnPaginationOrder::Str, false, false),
+        (ColumnPaginationOrder::Numeric, true, false),
+        (ColumnPaginationOrder::IpAddr, false, false),
+        (ColumnPaginationOrder::DateTime, true, true),
     ] {
         let found = (
-            reads(alloc, Kind::Terms, column_type)?,
-            reads(alloc, NUMBERS, column_type)?,
-            reads(alloc, DATES, column_type)?,
+            reads(alloc, Kind::Terms, class)?,
+            reads(alloc, NUMBERS, class)?,
+            reads(alloc, DATES, class)?,
         );
-        assert_eq!(rt; found, (true, numbers, dates), "{column_type:?}");
+        assert_eq!(rt; found, (true, numbers, dates), "{class:?}");
     }
     Ok(())
 }

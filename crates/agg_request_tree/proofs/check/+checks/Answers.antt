@@ -2,7 +2,7 @@ use Rattle.std.specs.List.{Any}
 use Rattle.agg_request_tree.specs.Faults.{CompositeHasCause, HasCause}
 use Rattle.agg_request_tree.specs.Request.{below_of, composites_in}
 use Rattle.agg_request_tree.proofs.CheckedRequests.{IsCheckedUpTo-all, IsCheckedUpTo-more}
-use Rattle.agg_request_tree.proofs.CheckedRequests.{IsCheckedUpTo-refused}
+use Rattle.agg_request_tree.proofs.CheckedRequests.{IsCheckedUpTo-refused, NamesAscend-all}
 use Rattle.agg_request_tree.proofs.CheckedRequests.{below-cause, each-refusal, sound-aggregation}
 use Rattle.agg_request_tree.proofs.Checks.{passed_on}
 use Rattle.std.proofs.lemmas.Result.{on_ok_weaker}
@@ -14,6 +14,7 @@ check_aggregations-loop-aggregation-preserved g t c =
     IsCheckedUpTo-more c.args.request.now c.loop-aggregation.aggregation-iterator
     c.in-Some.field-0-0.now c.in-Some.aggregation.now c.next.new.self
     c.loop-aggregation.invariant c.in-Some.ensures.steps c.in_ok-check_aggregation.ensures.ok
+    c.in_ok-check_aggregation.ensures.names
 
 pub check_aggregations-returns-in_err-check_aggregation-clause-err
     : goal.check_aggregations-returns-in_err-check_aggregation-clause-err
@@ -41,3 +42,8 @@ pub check_aggregations-returns-clause-ok : goal.check_aggregations-returns-claus
 check_aggregations-returns-clause-ok g t c =
     IsCheckedUpTo-all c.args.request.now c.loop-aggregation.aggregation-iterator
     c.loop-aggregation.invariant c.in-None.ensures.steps.0
+
+pub check_aggregations-returns-clause-names : goal.check_aggregations-returns-clause-names
+check_aggregations-returns-clause-names g t c =
+    NamesAscend-all c.args.request.now c.loop-aggregation.aggregation-iterator
+    c.loop-aggregation.invariant c.in-None.ensures.steps.0 c.iter-aggregation-items.ensures.ascending
