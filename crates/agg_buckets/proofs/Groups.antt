@@ -10,10 +10,9 @@ use Rattle.std.specs.Option.{unwrap_or}
 use Rattle.std.specs.Ordering.{is_eq, match_ordering}
 use Rattle.std.proofs.lemmas.Cmp.{alike_right}
 use Rattle.std.proofs.lemmas.List.Sums.{sum_by-cons}
-use Rattle.agg_heap_map.specs.Counts.{add_count}
 use Rattle.agg_heap_map.proofs.AscendingKeys.{Ascends, none-above, sorted_from_ascends}
 use Rattle.agg_heap_map.proofs.InsertionTurns.{tied}
-use Rattle.agg_buckets.specs.Cut.{count_each, groups_of}
+use Rattle.agg_buckets.specs.Cut.{add_count, count_each, groups_of}
 use Rattle.agg_buckets.specs.Laws.{CutsCompose, positive}
 use Rattle.agg_buckets.proofs.Owners.{at-flips, at-same}
 use Rattle.agg_buckets.proofs.Spread.{Ascend, Ascend-add, Ascend-groups, cut-spread}

@@ -6,9 +6,8 @@ use Rattle.std.specs.Cmp.{IsTotalOrder}
 use Rattle.std.specs.List.{AllByRecursion}
 use Rattle.std.specs.Ordering.{match_ordering, ordering_reverse}
 use Rattle.std.proofs.lemmas.Cmp.{tied_itself}
-use Rattle.agg_heap_map.specs.Counts.{add_count}
 use Rattle.agg_heap_map.proofs.EachItem.{weaker}
-use Rattle.agg_buckets.specs.Cut.{spread, count_each, groups_of, cut}
+use Rattle.agg_buckets.specs.Cut.{add_count, count_each, cut, groups_of, spread}
 use Rattle.agg_buckets.proofs.Counting.{count_each-append, cut-append}
 
 -- counts with tuples that ascend, each above 0

@@ -1,7 +1,8 @@
 -- How often each tuple stands in a list, and the lowest of these counts.
-use Rattle.std.specs.Prelude.{◌==◌, ℕ, List, [], ◌∷◌, flat_map, if◌then◌else◌, map, replicate, take}
+use Rattle.std.specs.Prelude.{◌==◌, ◌+◌, ℕ, List, [], ◌∷◌, flat_map, if◌then◌else◌, map, replicate}
+use Rattle.std.specs.Prelude.{take}
+use Rattle.std.specs.Ordering.{match_ordering}
 use Rattle.std.specs.declared.cmp.Ordering.{Ordering}
-use Rattle.agg_heap_map.specs.Counts.{add_count}
 use Rattle.agg_buckets.specs.Page.{Page}
 use Rattle.agg_buckets.specs.Visits.{Visit}
 
@@ -16,6 +17,13 @@ tuples_under p visits = flat_map (λ v. if p == v.0.0 then v.0.1 ∷ [] else [])
 -- the tuples of a page, each with the count of its bucket
 abbrev pub counts_of : {S : Type 0} → Page S → List (S × ℕ)
 counts_of page = map (λ e. (e.0, e.1.count)) page
+
+-- ascending counts, with so many more of a key
+abbrev pub add_count : {K : Type 0} → (K → K → Ordering) → List (K × ℕ) → K → ℕ → List (K × ℕ)
+add_count R [] k n = (k, n) ∷ []
+add_count R (e ∷ counts) k n =
+    match_ordering (R k e.0)
+    ((k, n) ∷ e ∷ counts) ((e.0, e.1 + n) ∷ counts) (e ∷ add_count R counts k n)
 
 module _ {S : Type 0} (R : S → S → Ordering) where
   -- counts, with each tuple of a list counted once more

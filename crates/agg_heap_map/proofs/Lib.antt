@@ -6,7 +6,6 @@ pub mod GreatestKey
 pub mod InsertionTurns
 pub mod KeyEquality
 pub mod KeyRemoval
-pub mod LowestCounts
 pub mod NewKeys
 pub mod Permutations
 pub mod SortedEntries

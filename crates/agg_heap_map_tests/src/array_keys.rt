@@ -1,8 +1,8 @@
-//! Tests of counts by keys that are arrays, of each capacity.
-ghost use Rattle.std.specs.Prelude.{◌≡◌, ◌≤◌, ◌<◌, ◌∷◌, [], OnOk, length};
+//! Tests of keys that are arrays, of each capacity.
+ghost use Rattle.std.specs.Prelude.{◌≡◌, ◌≤◌, ◌<◌, ◌∷◌, []};
 
-use agg_heap_map::{CountError, HeapMap, count_lowest};
-use agg_values::Steps;
+use agg_heap_map::HeapMap;
+use agg_values::{OutOfMemory, Steps};
 use arrayvec::ArrayVec;
 use std::hash::Hash;
 use std::marker::Brand;
@@ -10,20 +10,22 @@ use std::process::Abort;
 use std::sync::ledger::{Blank, Ledger};
 use std::test::Fail;
 
-// Counts a key among the two lowest.
-fn count<S: Ord + Hash + Clone, L: Ledger>(
-    counts: &mut HeapMap<S, u64>,
+// Inserts a key that isn't there. Whether it was absent.
+fn insert<S: Ord + Hash + Clone, L: Ledger>(
+    map: &mut HeapMap<S, u64>,
     key: &S,
     steps: &mut Steps<L>,
-) -> Result<(), CountError>
+) -> Result<bool, OutOfMemory>
     requires clones { (k l : S) → S.is_clone k l → l ≡ k }
-    requires fits { length counts.old ≤ 2 }
-    ensures { OnOk result (length counts.new ≤ 2) }
 {
-    count_lowest(counts, key, 2, steps)
+    if map.holds(key) {
+        return Ok(false);
+    }
+    map.insert_new(key.clone()?, key.clone()?, 1, steps)?;
+    Ok(true)
 }
 
-// Of three keys, ascending, the highest is left out.
+// Of three keys, ascending, the highest is evicted.
 fn expect_two<S: Ord + Hash + Clone, L: Ledger>(
     rt: &(impl Abort + AllocGlobal),
     keys: (&S, &S, &S),
@@ -31,13 +33,14 @@ fn expect_two<S: Ord + Hash + Clone, L: Ledger>(
 ) -> Result<(), Fail>
     requires clones { (k l : S) → S.is_clone k l → l ≡ k }
 {
-    let mut counts = HeapMap::new(rt.alloc());
-    count(&mut counts, keys.2, steps)?;
-    count(&mut counts, keys.0, steps)?;
-    count(&mut counts, keys.1, steps)?;
-    count(&mut counts, keys.2, steps)?;
-    assert!(rt; counts.size() == 2 && counts.peek_highest() == Some(keys.1));
-    let entries = counts.entries_ascending(rt.alloc())?;
+    let mut map = HeapMap::new(rt.alloc());
+    for key in [keys.2, keys.0, keys.1] {
+        assert!(rt; insert(&mut map, key, steps)?);
+        assert!(rt; !insert(&mut map, key, steps)?);
+    }
+    assert!(rt; map.size() == 3 && map.peek_highest() == Some(keys.2));
+    map.evict_highest(steps);
+    let entries = map.entries_ascending(rt.alloc())?;
     assert!(rt; entries.as_slice() == [(keys.0, &1), (keys.1, &1)].as_slice());
     Ok(())
 }
@@ -81,6 +84,6 @@ fn expect_over<L: Ledger>(rt: &(impl Abort + AllocGlobal), blank: Blank) -> Resu
 }
 
 #[test]
-fn counts_arrays_of_each_capacity(rt: HostRuntime) -> Result<(), Fail> {
+fn arrays_of_each_capacity_are_keys(rt: HostRuntime) -> Result<(), Fail> {
     expect_over::<Brand>(&rt, Blank::new(1))
 }

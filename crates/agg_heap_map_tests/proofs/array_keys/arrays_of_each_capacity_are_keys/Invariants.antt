@@ -1,4 +1,4 @@
-use Rattle.agg_heap_map_tests.proofs.array_keys.counts_arrays_of_each_capacity.Given as goal
+use Rattle.agg_heap_map_tests.proofs.array_keys.arrays_of_each_capacity_are_keys.Given as goal
 
 -- the ledger is the one of the blank
 abbrev pub ghosts-expect_over : goal.ghosts-expect_over
