@@ -1,9 +1,6 @@
 -- The intermediate results of a request over no documents.
-use Rattle.std.specs.Prelude.{ℕ, zero, suc, [], None, All, map, pos, ⊤}
-use Rattle.std.specs.List.Sorted.{IsStrictlySortedBy}
-use Rattle.std.specs.Map.{keys_of}
-use Rattle.agg_values.specs.Names.{name_cmp}
-use Rattle.agg_request_tree.specs.Request.{Request, below_of}
+use Rattle.std.specs.Prelude.{[], None, map, pos}
+use Rattle.agg_request_tree.specs.Request.{Request}
 use Rattle.agg_request_tree.specs.Source.{rules_of}
 use Rattle.agg_request_tree.specs.declared.aggregation.Aggregation.{Aggregation}
 use Rattle.agg_request_tree.specs.declared.aggregation.Aggregation.TheFolds.{fold-Aggregation}
@@ -34,16 +31,3 @@ empty_result {B = B} =
 -- the empty result of each name
 abbrev pub empty_results : {B : Type 0} → Request B → Held
 empty_results request = map (λ a. (a.0, empty_result a.1)) request
-
--- ---- names in order
-
--- the names of a request ascend, down to a depth
-abbrev pub NamesAscendTo : {B : Type 0} → ℕ → Request B → Type 0
-NamesAscendTo zero request = ⊤
-NamesAscendTo (suc depth) request =
-    IsStrictlySortedBy name_cmp (keys_of request)
-    × All (λ a. NamesAscendTo depth (below_of a.1)) request
-
--- they ascend at every depth, as those of every request in memory do
-abbrev pub NamesAscend : {B : Type 0} → Request B → Type 0
-NamesAscend request = (depth : ℕ) → NamesAscendTo depth request

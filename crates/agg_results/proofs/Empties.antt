@@ -11,14 +11,14 @@ use Rattle.std.proofs.lemmas.List.Elements.{All-contains_itself}
 use Rattle.std.proofs.lemmas.Map.Made.{keys_of-map_values, lookup-map_values}
 use Rattle.agg_values.specs.Names.{name_cmp, value_of}
 use Rattle.agg_column.specs.Document.{Fields}
+use Rattle.agg_request_tree.specs.Names.{NamesAscend, NamesAscendTo}
 use Rattle.agg_request_tree.specs.Request.{Request, agg_of, below_of}
 use Rattle.agg_request_tree.specs.Source.{rules_of}
 use Rattle.agg_request_tree.specs.declared.aggregation.Aggregation.{Aggregation}
 use Rattle.agg_request_tree.specs.declared.aggregation.Aggregation.TheFolds.{fold_out-Aggregation}
 use Rattle.agg_request_tree.specs.declared.aggregation.AggregationVariants.{AggregationVariants}
 use Rattle.agg_request_tree.specs.declared.aggregation.AggregationVariants.TheVariants as asks
-use Rattle.agg_intermediate_results.specs.Empty.{NamesAscend, NamesAscendTo, empty_by, empty_result}
-use Rattle.agg_intermediate_results.specs.Empty.{empty_results}
+use Rattle.agg_intermediate_results.specs.Empty.{empty_by, empty_result, empty_results}
 use Rattle.agg_intermediate_results.specs.Intermediate.{Held, composite_of, parts_of}
 use Rattle.agg_intermediate_results.specs.declared as declared
 use declared.results.IntermediateAggregationResult.{IntermediateAggregationResult}

@@ -1,3 +1,4 @@
+pub mod AddedNumbers
 pub mod Counted
 pub mod CountedGroups
 pub mod Counts

@@ -14,6 +14,7 @@ use Rattle.agg_request_tree.specs.Uncut.{counted, uncut}
 use Rattle.agg_request_tree.specs.declared.aggregation.AggregationVariants.{AggregationVariants}
 use Rattle.agg_request_tree.specs.declared.aggregation.AggregationVariants.TheVariants as asks
 use Rattle.agg_request_tree.specs.declared.aggregation.CompositeAggregation.{CompositeAggregation}
+use Rattle.agg_request_tree.proofs.UncutLength.{length-each}
 use Rattle.agg_request_tree.proofs.UncutLists.{uncut-append}
 use Rattle.agg_intermediate_results.specs.Intermediate.{Held, Parts, TupleEntry, below_entry}
 use Rattle.agg_intermediate_results.specs.Intermediate.{composite, entries_of, metric}
@@ -23,14 +24,15 @@ use Rattle.agg_intermediate_results.specs.declared as declared
 use declared.composite.IntermediateCompositeBucketResult.{IntermediateCompositeBucketResult}
 use declared.metric.IntermediateMetricResult.{IntermediateMetricResult}
 use declared.metric.IntermediateMetricResult.TheVariants as m
-use Rattle.agg_results.specs.Results.{own_added_field, sum_of}
+use Rattle.agg_results.specs.Results.{sum_of}
+use Rattle.agg_results.proofs.AddedNumbers.{own_added_field}
 use Rattle.agg_results.specs.StandsFor.{CompositeStands, EntryStands, IsPart, MetricStands}
 use Rattle.agg_results.specs.StandsFor.{PartsStand}
 use Rattle.agg_results.proofs.FitDocuments.{IsFit, many-numbers}
 use Rattle.agg_results.proofs.Metrics.{count-append, numbers-append, sum-append}
 use Rattle.agg_results.proofs.PartLists.{part-all, part-trans, with-part}
 use Rattle.agg_results.proofs.Parts.{part-append, part-length}
-use Rattle.agg_results.proofs.UncutParts.{length-each, length-numbers, uncut-part}
+use Rattle.agg_results.proofs.UncutParts.{length-numbers, uncut-part}
 
 module _ {B : Type 0} (is_match : B → Fields → Bool) (In : List ℕ → Type 0)
     (ds es whole : List Fields) (part : IsPart (ds ++ es) whole) where

@@ -16,7 +16,7 @@ use Rattle.agg_intermediate_results.specs.Intermediate.{Held, parts_of}
 use Rattle.agg_intermediate_results.specs.Merging.{CountsPass, PassWithin, SomeOfBoth}
 use Rattle.agg_intermediate_results.specs.declared as declared
 use declared.results.IntermediateAggregationResult.{IntermediateAggregationResult}
-use Rattle.agg_results.specs.Results.{AddsSmallNumbers, own_added_field}
+use Rattle.agg_results.proofs.AddedNumbers.{AddsSmallNumbers, own_added_field}
 use Rattle.agg_results.specs.StandsFor.{IsPart, NamesStand, StandsFor, StandsTo}
 use Rattle.agg_results.proofs.FitDocuments.{IsFit, all-left, all-part, all-right}
 use Rattle.agg_results.proofs.FitDocuments.{fit-from_numbers}

@@ -1,8 +1,6 @@
 -- What an aggregation lists of a part of documents, and of documents of which something is so.
-use Rattle.std.proofs.Common.{◌≡◌, ℕ, ◌+◌, List, [], ◌∷◌, ◌++◌, Bool, length, length-append, map}
-use Rattle.std.proofs.Common.{refl, sym, ap, ◌∙◌}
+use Rattle.std.proofs.Common.{◌≡◌, ℕ, List, [], ◌∷◌, ◌++◌, Bool, length, map, refl, sym, ap, ◌∙◌}
 use Rattle.std.specs.List.{AllByRecursion, filter_map, flat_map}
-use Rattle.std.proofs.lemmas.List.{length-map}
 use Rattle.std.proofs.lemmas.List.Elements.{filter_map-append}
 use Rattle.agg_column.specs.Document.{Fields}
 use Rattle.agg_request_tree.specs.Matching.{filter_matches}
@@ -13,6 +11,7 @@ use Rattle.agg_request_tree.specs.declared.aggregation.AggregationVariants.{Aggr
 use Rattle.agg_request_tree.specs.declared.aggregation.AggregationVariants.TheVariants as asks
 use Rattle.agg_request_tree.proofs.Lists.{AllByRecursion-always, AllByRecursion-flat_map}
 use Rattle.agg_request_tree.proofs.Lists.{AllByRecursion-map, AllByRecursion-weaker}
+use Rattle.agg_request_tree.proofs.UncutLength.{length-each}
 use Rattle.agg_results.specs.StandsFor.{IsPart}
 use Rattle.agg_results.proofs.PartLists.{filter-all, part-filter}
 use Rattle.agg_results.proofs.Parts.{part-flat_map}
@@ -32,21 +31,12 @@ module _ {X : Type 0} (elements : Fields → List X) where
       (λ d p. AllByRecursion-map P (λ x. d) (elements d)
       (AllByRecursion-always (λ x. P d) (λ x. p) (elements d))) documents all)
 
-  -- they are as many as all elements
-  pub length-each : (documents : List Fields)
-      → length (once_each elements documents) ≡ length (flat_map elements documents)
-  length-each [] = refl
-  length-each (d ∷ documents) =
-      length-append (map (λ x. d) (elements d)) (once_each elements documents)
-      ∙ (λ i. length-map (elements d) (λ x. d) i + length-each documents i)
-      ∙ sym (length-append (elements d) (flat_map elements documents))
-
-numbers-flat : (field : List ℕ) (documents : List Fields)
+numbers-joined : (field : List ℕ) (documents : List Fields)
     → flat_map (λ (d : Fields). filter_map number_of (d field)) documents
     ≡ numbers_of field documents
-numbers-flat field [] = refl
-numbers-flat field (d ∷ documents) =
-    ap (λ ns. filter_map number_of (d field) ++ ns) (numbers-flat field documents)
+numbers-joined field [] = refl
+numbers-joined field (d ∷ documents) =
+    ap (λ ns. filter_map number_of (d field) ++ ns) (numbers-joined field documents)
     ∙ sym (filter_map-append number_of (d field) (values_of_field field documents))
 
 -- a document for each of its numbers: as many as there are numbers
@@ -55,7 +45,7 @@ pub length-numbers : (field : List ℕ) (documents : List Fields)
     ≡ length (numbers_of field documents)
 length-numbers field documents =
     length-each (λ d. filter_map number_of (d field)) documents
-    ∙ ap length (numbers-flat field documents)
+    ∙ ap length (numbers-joined field documents)
 
 -- ---- what an aggregation lists
 

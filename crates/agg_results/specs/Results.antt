@@ -2,7 +2,7 @@
 -- its result is told down to a depth. What is so at every depth is the whole result, since requests
 -- are finite: no request has two results over the same documents.
 use Rattle.std.specs.Prelude.{◌≡◌, ℕ, zero, suc, ℤ, pos, ◌+ℤ◌, List, [], ◌∷◌, Bool, Option, None}
-use Rattle.std.specs.Prelude.{Some, ◌<◌, ◌^◌, All, length, map, nat_abs, ⊤}
+use Rattle.std.specs.Prelude.{Some, length, map, ⊤}
 use Rattle.std.specs.Int.{int_max, int_min}
 use Rattle.std.specs.List.{AllZip}
 use Rattle.agg_values.specs.Tuple.{KeyTuple}
@@ -11,7 +11,7 @@ use Rattle.agg_request_tree.specs.Matching.{matching}
 use Rattle.agg_request_tree.specs.Metrics.{numbers_of, values_of_field}
 use Rattle.agg_request_tree.specs.Occurrences.{bound_of}
 use Rattle.agg_request_tree.specs.Page.{Entry, IsPage, group_of}
-use Rattle.agg_request_tree.specs.Request.{Request, agg_of, below_of, listed_of}
+use Rattle.agg_request_tree.specs.Request.{Request, agg_of, below_of}
 use Rattle.agg_request_tree.specs.Source.{Sources}
 use Rattle.agg_request_tree.specs.declared.aggregation.Aggregation.{Aggregation}
 use Rattle.agg_request_tree.specs.declared.aggregation.AggregationVariants.{AggregationVariants}
@@ -37,18 +37,6 @@ best_of better (n ∷ ns) = best better (Some n) (best_of better ns)
 abbrev pub sum_of : List ℤ → ℤ
 sum_of [] = pos 0
 sum_of (n ∷ ns) = n +ℤ sum_of ns
-
--- the field whose numbers an aggregation adds
-abbrev pub own_added_field : {B : Type 0} → AggregationVariants B → List (List ℕ)
-own_added_field (asks.Sum a) = a.field ∷ []
-own_added_field _ = []
-
--- each number and date that a sum of a request adds, at any depth, is one of 64 bits, with or
--- without a sign
-abbrev pub AddsSmallNumbers : {B : Type 0} → Request B → List Fields → Type 0
-AddsSmallNumbers request documents =
-    All (λ field. All (λ n. nat_abs n < 2 ^ 64) (numbers_of field documents))
-    (listed_of own_added_field request)
 
 -- ---- pages
 

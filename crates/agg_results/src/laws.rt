@@ -1,24 +1,25 @@
 //! What holds of results that stand for documents, at any depth.
-ghost use Rattle.std.specs.Prelude.{◌≡◌, ◌++◌, ◌^◌, Bool, ℕ, List, [], map, take, drop};
+ghost use Rattle.std.specs.Prelude.{◌≡◌, ◌++◌, ◌^◌, All, Bool, ℕ, List, [], map, take, drop};
 ghost use Rattle.std.specs.Prelude.{IsPermutation};
 ghost use Rattle.agg_values.specs.KeyOrder.{tuple_order};
 ghost use Rattle.agg_values.specs.Tuple.{KeyTuple};
-ghost use Rattle.agg_column.specs.Document.{Fields};
+ghost use Rattle.agg_column.specs.Document.{Fields, HasNumbersOf64Bits};
 ghost use Rattle.agg_request_tree.specs.Groups.{Group, Groups};
+ghost use Rattle.agg_request_tree.specs.Names.{NamesAscend};
 ghost use Rattle.agg_request_tree.specs.Occurrences.{past_occurrences};
 ghost use Rattle.agg_request_tree.specs.Page.{Entry, IsPage, group_of};
 ghost use Rattle.agg_request_tree.specs.Request.{Request};
 ghost use Rattle.agg_request_tree.specs.Source.{Sources, rules_of};
 ghost use Rattle.agg_request_tree.specs.Uncut.{ListsAsMany};
 ghost use Rattle.agg_final_results.specs.declared.types.AggregationResults.{AggregationResults as Final};
-ghost use Rattle.agg_intermediate_results.specs.Empty.{NamesAscend, empty_results};
+ghost use Rattle.agg_intermediate_results.specs.Empty.{empty_results};
 ghost use Rattle.agg_intermediate_results.specs.Final.{final_results};
 ghost use Rattle.agg_intermediate_results.specs.Intermediate.{Held};
 ghost use Rattle.agg_intermediate_results.specs.Merging.{AreMerged, CountsPass, ShapesDiffer};
 ghost use Rattle.agg_intermediate_results.specs.Merging.{SomeOfBoth};
 ghost use Rattle.agg_intermediate_results.specs.Outcome.{AreBelow};
 ghost use Rattle.agg_intermediate_results.specs.Refusals.{HoldsOther, HoldsUnknown};
-ghost use Rattle.agg_results.specs.Results.{AddsSmallNumbers, AreResults};
+ghost use Rattle.agg_results.specs.Results.{AreResults};
 ghost use Rattle.agg_results.specs.StandsFor.{GroupsStandFor, StandsFor};
 
 /// The groups of a page stand for its documents, and so do the lowest groups of the occurrences
@@ -38,7 +39,8 @@ pub fn a_page_stands_for_its_documents()
         → AreBelow (tuple_order (rules_of sources)) (take size groups) (drop size groups) }
 {}
 
-/// The empty result of a request, whose names ascend, stands for no documents.
+/// The empty result of a request stands for no documents. The names of a request ascend, as
+/// `check_request` says of one in memory.
 pub fn the_empty_result_stands_for_none<B>()
     ensures { (is_match : B → Fields → Bool) (request : Request B)
         → NamesAscend request
@@ -47,7 +49,8 @@ pub fn the_empty_result_stands_for_none<B>()
 
 /// What stands for documents merges: the shapes never differ, a sum passes only where some
 /// aggregation lists 2^62 documents or more, and the two as one, trimmed or not, stand for the
-/// documents of both.
+/// documents of both. The numbers of documents are of 64 bits, as `SegmentReader::num_docs` says of
+/// those in a segment.
 pub fn merging_joins_the_documents<B>()
     ensures alike { (is_match : B → Fields → Bool) (request : Request B)
         (documents others : List Fields) (held more : Held)
@@ -56,7 +59,7 @@ pub fn merging_joins_the_documents<B>()
         → ¬ (SomeOfBoth ShapesDiffer held more) }
     ensures few { (is_match : B → Fields → Bool) (request : Request B)
         (documents others : List Fields) (held more : Held)
-        → AddsSmallNumbers request (documents ++ others)
+        → All HasNumbersOf64Bits (documents ++ others)
         → StandsFor is_match request documents held
         → StandsFor is_match request others more
         → SomeOfBoth CountsPass held more

@@ -1,11 +1,11 @@
-//! What two machines hold as one: flat pages, and sides that lack something.
+//! What two machines hold as one: pages with nothing below, and sides that lack something.
 use crate::held::Given::Page;
 use crate::shown::{MergedRow, PAGE, shown_as_one};
 use std::test::Fail;
 
 const MANY: u64 = 4_294_967_195;
 
-// Pages that are flat.
+// Pages with nothing below their entries.
 const PAGES: &[MergedRow] = &[
     (
         PAGE,
