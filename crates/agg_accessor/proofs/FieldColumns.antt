@@ -15,7 +15,7 @@ use Rattle.agg_accessor.proofs.ReadColumns.{keys-read, starts-read}
 
 module _ (segment : Stored) where
   -- the columns of a field have its keys
-  columns-keys : (field : List ℕ) (doc : ℕ)
+  pub columns-keys : (field : List ℕ) (doc : ℕ)
       → all_keys (columns_in segment field) doc ≡ document_at segment doc field
   columns-keys field doc = by_number (number_of segment.names field)
     where

@@ -1,5 +1,6 @@
 pub mod Accessors
 pub mod ClassRanks
+pub mod CutCounts
 pub mod DecodedTuples
 pub mod Divisors
 pub mod EncodedOrder
@@ -7,8 +8,10 @@ pub mod FieldColumns
 pub mod KeysGiven
 pub mod LaneKeys
 pub mod NullSides
+pub mod OccurrenceCounts
 pub mod Places
 pub mod ReadColumns
+pub mod ReadCounts
 pub mod SameTuples
 pub mod StartRanges
 pub mod TypedOrder

@@ -1,15 +1,16 @@
 //! Encoded tuples, back as the tuples that they stand for.
 ghost use Rattle.std.specs.Prelude.{◌≡◌, ◌<◌, IfOk, length};
+ghost use Rattle.agg_values.specs.Tuple.{KeyTuple};
 ghost use Rattle.agg_values.specs.TypedKey.{CompositeIntermediateKey as Key};
 ghost use Rattle.agg_column.specs.Columns.{StandsForKey, encoded_key};
-ghost use Rattle.agg_accessor.specs.Decoded.{IsEncoded, decoded, decoded_key};
-ghost use Rattle.agg_accessor.specs.Encoding.{StandsFor, raw_of};
+ghost use Rattle.agg_accessor.specs.Decoded.{IsEncoded, decoded, decoded_key, decoded_keys};
+ghost use Rattle.agg_accessor.specs.Encoding.{StandFor, StandsFor, raw_of};
 ghost use Rattle.agg_accessor.specs.Lanes.{keys_at, lanes};
 
 use crate::encoded::Encoded;
 use crate::lanes::count_of_lanes;
 use crate::numbers::moved_down;
-use crate::{CompositeAccessor, CompositeAggReqData};
+use crate::{CompositeAccessor, CompositeAggReqData, CompositeSourceAccessors};
 use agg_request_tree::CompositeAggregationSource;
 use agg_values::{CompositeIntermediateKey, Order, OutOfMemory, Tuple};
 use std::alloc::Global;
@@ -24,7 +25,22 @@ pub fn decode_tuple(
     ensures { IfOk result (λ tuple. tuple ≡ decoded req.now encoded.now) }
 {
     let sources = req.req.sources.as_slice();
-    let accessors = req.composite_accessors.as_slice();
+    decode_keys(alloc, sources, req.composite_accessors.as_slice(), encoded)
+}
+
+// The keys that encoded keys stand for, source by source.
+fn decode_keys(
+    alloc: Global,
+    sources: &[CompositeAggregationSource],
+    accessors: &[CompositeSourceAccessors<'_>],
+    encoded: &[Encoded],
+) -> Result<Tuple, OutOfMemory>
+    requires sources { length sources.now ≡ length encoded.now }
+    requires accessors { length accessors.now ≡ length encoded.now }
+    requires stand { (keys : KeyTuple) × StandFor sources.now accessors.now encoded.now keys }
+    ensures { IfOk result (λ tuple.
+        tuple ≡ decoded_keys sources.now accessors.now encoded.now) }
+{
     let mut tuple = Tuple::new(alloc);
     for (i, key) in encoded.iter().enumerate() {
         let of_source = accessors[i].accessors.as_slice();

@@ -6,7 +6,7 @@ ghost use Rattle.agg_accessor.specs.Encoding.{encoded_at, null_place};
 use agg_values::{MissingOrder, Order};
 
 /// A key of a source in a segment, as the walk compares it.
-#[derive(Clone, Copy, Debug, PartialEq, Eq, PartialOrd, Ord)]
+#[derive(Clone, Copy, Debug, Default, PartialEq, Eq, PartialOrd, Ord, Hash)]
 pub struct Encoded {
     /// The place of its lane, from 1 on; Null stands at 0 or behind all lanes.
     pub place: usize,

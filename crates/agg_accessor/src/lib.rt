@@ -9,6 +9,7 @@ mod encoded;
 mod lanes;
 mod laws;
 mod numbers;
+mod occurrences;
 mod ranges;
 mod request_data;
 

@@ -1,12 +1,15 @@
 //! What a collector is asked in a segment.
 ghost use Rattle.std.specs.Prelude.{◌≡◌, ◌+◌, ◌*◌, ◌-◌, ◌^◌, MatchBool, length, min};
+ghost use Rattle.std.specs.Io.Iter.{u64_saturate};
 ghost use Rattle.agg_values.specs.Names.{Named};
 ghost use Rattle.agg_values.specs.declared.after_key.AfterKey.{AfterKey};
-ghost use Rattle.agg_segment.specs.Segment.{Stored};
+ghost use Rattle.agg_segment.specs.Segment.{Stored, documents_at};
+ghost use Rattle.agg_request_tree.specs.Uncut.{counted};
 ghost use Rattle.agg_accessor.specs.Accessors.{Fits};
 ghost use Rattle.agg_accessor.specs.Ranges.{AreAllInRange};
 
 use crate::CompositeSourceAccessors;
+use crate::occurrences::count_occurrences;
 use crate::ranges::are_sources_in_range;
 use agg_request_tree::CompositeAggregation;
 use agg_values::{DocId, ItemList, Text};
@@ -42,5 +45,17 @@ impl<'s> CompositeAggReqData<'s> {
     {
         let sources = self.req.sources.as_slice();
         are_sources_in_range(sources, self.composite_accessors.as_slice(), docs)
+    }
+
+    /// How many documents the composite counts at these places, without bound or size: each once
+    /// for each of its occurrences. The count ends at the greatest u64.
+    pub fn count_occurrences(&self, docs: &[DocId]) -> u64
+        requires { (segment : Stored) × (after : Named AfterKey) × Fits segment after self.now }
+        ensures { (segment : Stored) (after : Named AfterKey) → Fits segment after self.now
+            → result ≡ u64_saturate
+            (length (counted self.now.req.now (documents_at segment docs.now))) }
+    {
+        let sources = self.req.sources.as_slice();
+        count_occurrences(sources, self.composite_accessors.as_slice(), docs)
     }
 }

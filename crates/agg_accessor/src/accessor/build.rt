@@ -4,7 +4,7 @@ ghost use Rattle.std.specs.Prelude.{count_by, length};
 ghost use Rattle.std.specs.Ordering.{is_lt};
 ghost use Rattle.agg_values.specs.Column.{class_of};
 ghost use Rattle.agg_values.specs.KeyOrder.{key_order, null_side};
-ghost use Rattle.agg_column.specs.Columns.{AreInKeyOrder, StandsForKey, encoded_key};
+ghost use Rattle.agg_column.specs.Columns.{StandsForKey, encoded_key};
 ghost use Rattle.agg_segment.specs.Segment.{Stored};
 ghost use Rattle.agg_request_tree.specs.Faults.{IsOfOtherType};
 ghost use Rattle.agg_request_tree.specs.Source.{order_of};
@@ -85,24 +85,14 @@ fn push_if_read<'s>(
         ≡ columns_of accessors.old.items ++ columns_read source.now (column.now ∷ [])) }
     ensures each { OnOk result (All (IsAccessorOf source.now) accessors.new.items) }
 {
-    if !source.reads(column.column_type()) {
+    if !source.reads(column.column_pagination_order()) {
         return Ok(());
     }
-    accessors.push(accessor_of(column, interval))?;
-    Ok(())
-}
-
-// The accessor of a column, whose numbers are in the order of its keys.
-fn accessor_of(column: &Column, interval: PrecomputedDateInterval) -> CompositeAccessor<'_>
-    ensures column { result.column.now ≡ column.now }
-    ensures interval { result.date_histogram_interval ≡ interval }
-    ensures order { AreInKeyOrder result.column.now.keys }
-{
-    let _class = column.column_pagination_order();
-    CompositeAccessor {
+    accessors.push(CompositeAccessor {
         column,
         date_histogram_interval: interval,
-    }
+    })?;
+    Ok(())
 }
 
 /// Accessors without an after value: every key comes behind the start.

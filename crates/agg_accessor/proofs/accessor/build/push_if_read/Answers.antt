@@ -1,20 +1,80 @@
-use Rattle.std.proofs.Common.{sym, subst, ◌∙◌}
+use Rattle.std.proofs.Common.{◌≡◌, ◌++◌, ◌∷◌, [], ℕ, Bool, Some, cond, true, ap, ◌∙◌, sym}
+use Rattle.std.proofs.lemmas.List.{append-nil, map-append}
 use Rattle.std.proofs.lemmas.List.Elements.{All-push}
-use Rattle.agg_column.specs.Columns.{type_of}
-use Rattle.agg_request_tree.specs.SourceColumns.{reads_type}
-use Rattle.agg_accessor.specs.Accessors.{IsAccessorOf, IsIntervalOf}
+use Rattle.agg_values.specs.Column.{class_of}
+use Rattle.agg_values.specs.declared.column.ColumnPaginationOrder.{ColumnPaginationOrder}
+use Rattle.agg_column.specs.Columns.{StoredColumn, encoded_key, type_class, type_of}
+use Rattle.agg_column.specs.declared.keys.ColumnKeys.{ColumnKeys}
+use Rattle.agg_column.specs.declared.keys.ColumnKeys.TheVariants.{Bools, Texts, Signed, Unsigned}
+use Rattle.agg_column.specs.declared.keys.ColumnKeys.TheVariants.{Addresses, Dates}
+use Rattle.agg_request_tree.specs.SourceColumns.{reads_class, reads_type}
+use Rattle.agg_request_tree.specs.declared.source.CompositeAggregationSource as kind
+use kind.{CompositeAggregationSource}
+use Rattle.agg_accessor.specs.Accessors.{IsAccessorOf, columns_read}
+use Rattle.agg_accessor.specs.Lanes.{columns_of}
+use Rattle.agg_accessor.specs.declared.accessor.CompositeAccessor.{CompositeAccessor}
 use Rattle.agg_accessor.proofs.accessor.build.push_if_read.Goals as goal
+
+-- the class of a column's keys is that of its type
+type_class-keys : (keys : ColumnKeys) (class : ColumnPaginationOrder)
+    → ((n : ℕ) → class_of (encoded_key keys n) ≡ Some class) → type_class (type_of keys) ≡ class
+type_class-keys Bools class is = cc (is 0)
+type_class-keys (Texts texts) class is = cc (is 0)
+type_class-keys Signed class is = cc (is 0)
+type_class-keys Unsigned class is = cc (is 0)
+type_class-keys (Addresses addresses) class is = cc (is 0)
+type_class-keys Dates class is = cc (is 0)
+
+-- whether a source reads a column, by the class of its keys
+reads-class : (source : CompositeAggregationSource) (keys : ColumnKeys)
+    (class : ColumnPaginationOrder) (reads : Bool)
+    → ((n : ℕ) → class_of (encoded_key keys n) ≡ Some class) → reads ≡ reads_class source class
+    → reads_type source (type_of keys) ≡ reads
+reads-class source keys class reads is told =
+    ap (reads_class source) (type_class-keys keys class is) ∙ sym told
+
+-- what it reads of one column
+read-one : (source : CompositeAggregationSource) (column : StoredColumn) (reads : Bool)
+    → reads_type source (type_of column.keys) ≡ reads
+    → columns_read source (column ∷ []) ≡ cond reads (column ∷ []) []
+read-one source column reads is = ap (λ (b : Bool). cond b (column ∷ []) []) is
+
+pub returns-then-not-reads-clause-columns : goal.returns-then-not-reads-clause-columns
+returns-then-not-reads-clause-columns c =
+    let source = c.args.source.now in
+    let column = c.args.column.now in
+    let others = columns_of c.args.accessors.now.items in
+    let class = c.column_pagination_order in
+    sym (append-nil others)
+    ∙ ap (λ cs. others ++ cs) (sym (read-one source column _
+    (reads-class source column.keys class.result _ class.ensures.class c.reads.ensures
+    ∙ c.if-not-reads.true)))
+
+pub returns-clause-columns : goal.returns-clause-columns
+returns-clause-columns c =
+    let source = c.args.source.now in
+    let column = c.args.column.now in
+    let others = c.args.accessors.now.items in
+    let class = c.column_pagination_order in
+    let accessor : CompositeAccessor =
+    record { column = c.args.column; date_histogram_interval = c.args.interval } in
+    ap columns_of c.in_ok-push.ensures.items
+    ∙ map-append (λ (a : CompositeAccessor). a.column.now) others (accessor ∷ [])
+    ∙ ap (λ cs. columns_of others ++ cs) (sym (read-one source column true
+    (reads-class source column.keys class.result _ class.ensures.class c.reads.ensures
+    ∙ c.if-not-reads.false)))
 
 pub returns-clause-each : goal.returns-clause-each
 returns-clause-each c =
     let source = c.args.source.now in
-    let own : IsAccessorOf source c.accessor_of.result = record {
-      interval = subst (IsIntervalOf source) (sym c.accessor_of.ensures.interval)
-          c.requires.interval;
-      reads = (λ x. reads_type source (type_of (c.accessor_of.ensures.column x).keys))
-          ∙ (λ x. reads_type source (sym c.column_type.ensures.kind x))
-          ∙ sym c.reads.ensures ∙ c.if-not-reads.false;
-      order = c.accessor_of.ensures.order;
+    let class = c.column_pagination_order in
+    let accessor : CompositeAccessor =
+    record { column = c.args.column; date_histogram_interval = c.args.interval } in
+    let own : IsAccessorOf source accessor = record {
+      interval = c.requires.interval;
+      reads = reads-class source c.args.column.now.keys class.result _ class.ensures.class
+          c.reads.ensures ∙ c.if-not-reads.false;
+      order = class.ensures.order;
     } in
     rw c.in_ok-push.ensures.items (All-push (IsAccessorOf source) c.args.accessors.now.items
-    c.accessor_of.result c.requires.each own)
+    accessor c.requires.each own)
