@@ -1,7 +1,8 @@
--- Counts of encoded tuples are, decoded, the groups of the tuples that these stand for.
+-- The groups of encoded tuples are, decoded, those of the tuples that these stand for.
 use Rattle.std.proofs.Common.{◌≡◌, ◌<◌, ℕ, zero, suc, List, [], ◌∷◌, Bool, cond, ◌+◌, Some}
 use Rattle.std.proofs.Common.{IsSome, is_some, count_by, map, All, Contains, Less, refl, sym, ap}
 use Rattle.std.proofs.Common.{◌∙◌, subst, inl, inr, arith}
+use Rattle.std.specs.BTreeMap.{is_at}
 use Rattle.std.specs.List.{AllByRecursion, AllZip}
 use Rattle.std.specs.List.Sorted.{IsStrictlySortedBy}
 use Rattle.std.specs.Map.{keys_of, lookup}
@@ -25,17 +26,24 @@ use Rattle.agg_request_tree.proofs.Lists.{All-from_Contains, Contains-from_Has, 
 use Rattle.agg_request_tree.proofs.Lists.{Has-from_Contains, count-step, count_by-map}
 use Rattle.agg_request_tree.proofs.Lists.{count_by-positive, count_by-some}
 use Rattle.agg_accessor.specs.Accessors.{Fits}
-use Rattle.agg_composite.specs.Counts.{Counts, EncodedCounts, positive}
 use Rattle.agg_accessor.specs.Decoded.{IsEncoded, decoded}
-use Rattle.agg_composite.specs.PageEntries.{decoded_groups}
-use Rattle.agg_accessor.specs.Encoding.{EncodedTuple, encoded_tuple_order}
-use Rattle.agg_composite.specs.Visits.{HasVisited}
-use Rattle.agg_accessor.specs.Encoding.{StandsForTuple}
+use Rattle.agg_accessor.specs.Encoding.{EncodedTuple, StandsForTuple, encoded_tuple_order}
 use Rattle.agg_accessor.specs.declared.request_data.CompositeAggReqData.{CompositeAggReqData}
 use Rattle.agg_accessor.proofs.DecodedTuples.{decoded-is}
 use Rattle.agg_accessor.proofs.EncodedOrder.{tuple-exact, tuple_order-total}
-use Rattle.agg_composite.proofs.KeyTuples.{is}
 use Rattle.agg_accessor.proofs.TypedOrder.{tuples_compare}
+use Rattle.agg_buckets.specs.Cut.{groups_of}
+use Rattle.agg_buckets.specs.Laws.{CutsCompose, positive}
+use Rattle.agg_buckets.proofs.Groups.{cuts, positive-some}
+use Rattle.agg_composite.specs.PageEntries.{decoded_groups}
+
+-- whether a tuple is this one
+abbrev pub is : EncodedTuple → EncodedTuple → Bool
+is q = is_at (encoded_tuple_order q)
+
+-- the groups of tuples ascend and are counted
+groups-laws : CutsCompose encoded_tuple_order
+groups-laws = cuts encoded_tuple_order tuple_order-total
 
 -- counts by tests that agree on what is held
 count_by-agree_on : {X : Type 0} (p q : X → Bool) (xs : List X)
@@ -46,42 +54,43 @@ count_by-agree_on p q (x ∷ xs) h =
     ∙ (λ i. cond (h x (inl refl) i) 1 0 + count_by-agree_on p q xs (λ y m. h y (inr m)) i)
     ∙ sym (count-step q x xs)
 
--- a held count is above 0
+-- a count that is found is above 0
 from-positive : (n v : ℕ) → positive n ≡ Some v → (0 < v) × (v ≡ n)
 from-positive zero v h = absurd (none-some v h)
 from-positive (suc n) v h = let e = same_Some (suc n) v h in (omega arith, sym e)
 
--- a count above 0 is held
-some-positive : (n : ℕ) → 0 < n → IsSome (positive n)
-some-positive zero h = absurd (omega arith)
-some-positive (suc n) h = refl
+-- ---- the groups of tuples
 
--- ---- what is held was visited
+module _ (tuples : List EncodedTuple) where
+  -- the groups of the tuples
+  abbrev groups : List (EncodedTuple × ℕ)
+  groups = groups_of encoded_tuple_order tuples
 
-module _ (held : EncodedCounts) (tuples : List EncodedTuple) (c : Counts held tuples) where
-  -- an entry has the count of its tuple
-  entry-count : (e : EncodedTuple × ℕ) → Contains held e
+  -- a group has the count of its tuple
+  group-count : (e : EncodedTuple × ℕ) → Contains groups e
       → (0 < e.1) × (e.1 ≡ count_by (is e.0) tuples)
-  entry-count e m =
-      let h = lookup-from_Contains (eq_by_cmp_equiv tuple_order-total) e.0 e.1 held
-      (IsDistinct-from_sorted encoded_tuple_order (keys_of held) c.ascending) m in
-      from-positive (count_by (is e.0) tuples) e.1 (sym (c.counted e.0) ∙ h)
+  group-count e m =
+      let h = lookup-from_Contains (eq_by_cmp_equiv tuple_order-total) e.0 e.1 groups
+      (IsDistinct-from_sorted encoded_tuple_order (keys_of groups)
+      (groups-laws.ascending tuples)) m in
+      from-positive (count_by (is e.0) tuples) e.1 (sym (groups-laws.counted tuples e.0) ∙ h)
 
-  -- the tuple of an entry was visited
-  entry-visited : (e : EncodedTuple × ℕ) → Contains held e → Contains tuples e.0
-  entry-visited e m =
-      let f = entry-count e m in
+  -- the tuple of a group is among the tuples
+  group-tuple : (e : EncodedTuple × ℕ) → Contains groups e → Contains tuples e.0
+  group-tuple e m =
+      let f = group-count e m in
       let r = count_by-some (is e.0) tuples (omega (arith, f.0, f.1)) in
       subst (Contains tuples) (sym (tells_apart tuple-exact e.0 r.0 r.2)) r.1
 
-  -- a visited tuple has an entry
-  visited-entry : (t : EncodedTuple) → Contains tuples t → Contains (keys_of held) t
-  visited-entry t m =
+  -- each of the tuples has a group
+  tuple-group : (t : EncodedTuple) → Contains tuples t → Contains (keys_of groups) t
+  tuple-group t m =
       let h = count_by-positive (is t) tuples t m (ap is_eq (tied_itself tuple_order-total t)) in
-      let s : IsSome (lookup (is t) held) = ap is_some (c.counted t) ∙ some-positive _ h in
-      Contains-keys_from_lookup (tells_apart tuple-exact) t held s
+      let s : IsSome (lookup (is t) groups) =
+      ap is_some (groups-laws.counted tuples t ∙ positive-some (count_by (is t) tuples) h) in
+      Contains-keys_from_lookup (tells_apart tuple-exact) t groups s
 
--- ---- what was visited stands for tuples
+-- ---- tuples that stand for tuples
 
 -- an encoded tuple stands for what it is decoded to
 abbrev StandsForDecoded : CompositeAggReqData → EncodedTuple → Type 0
@@ -110,28 +119,30 @@ module _ (req : CompositeAggReqData) where
       let rest = decoded-all tuples visited stand.1 in
       λ x. first x ∷ rest x
 
-  -- what a collector holds stands for tuples
-  pub held-encoded : (visited : List KeyTuple) (held : EncodedCounts)
-      → HasVisited req visited held → All (IsEncoded req) (keys_of held)
-  held-encoded visited held h =
-      let each = each-stands h.tuples visited h.stand in
-      All-map (IsEncoded req) (λ e. e.0) held
-      (All-from_Contains (λ e. IsEncoded req e.0) held (λ e m. (
+  -- the tuples of groups of tuples that stand for tuples stand for tuples
+  pub groups-encoded : (tuples : List EncodedTuple) (visited : List KeyTuple)
+      → AllZip (StandsForTuple req) tuples visited
+      → All (IsEncoded req) (keys_of (groups_of encoded_tuple_order tuples))
+  groups-encoded tuples visited stand =
+      let each = each-stands tuples visited stand in
+      let of_tuples = groups_of encoded_tuple_order tuples in
+      All-map (IsEncoded req) (λ e. e.0) of_tuples
+      (All-from_Contains (λ e. IsEncoded req e.0) of_tuples (λ e m. (
         decoded req e.0,
-        AllByRecursion-Has (StandsForDecoded req) h.tuples e.0 each
-            (Has-from_Contains h.tuples e.0 (entry-visited held h.tuples h.counts e m)),
+        AllByRecursion-Has (StandsForDecoded req) tuples e.0 each
+            (Has-from_Contains tuples e.0 (group-tuple tuples e m)),
       )))
 
--- ---- the groups
+-- ---- the groups, decoded
 
 module _ (segment : Stored) (after : Named AfterKey) (req : CompositeAggReqData)
-    (fits : Fits segment after req) (held : EncodedCounts) (tuples : List EncodedTuple)
-    (c : Counts held tuples) (each : AllByRecursion (StandsForDecoded req) tuples) where
+    (fits : Fits segment after req) (tuples : List EncodedTuple)
+    (each : AllByRecursion (StandsForDecoded req) tuples) where
   -- the rules of the sources
   abbrev rules : SourceRules
   rules = rules_of req.req.now.sources
 
-  -- a visited tuple stands for what it is decoded to
+  -- each of the tuples stands for what it is decoded to
   stands : (t : EncodedTuple) → Contains tuples t → StandsForDecoded req t
   stands t m = AllByRecursion-Has (StandsForDecoded req) tuples t each
       (Has-from_Contains tuples t m)
@@ -152,7 +163,7 @@ module _ (segment : Stored) (after : Named AfterKey) (req : CompositeAggReqData)
       (λ t m. ap is_eq (same-order q t p (stands t (Contains-from_Has tuples t m))))
 
   -- below as an encoded tuple is below as a decoded one
-  below-decoded : (k : EncodedTuple) → StandsForDecoded req k → (es : EncodedCounts)
+  below-decoded : (k : EncodedTuple) → StandsForDecoded req k → (es : List (EncodedTuple × ℕ))
       → AllByRecursion (λ e. StandsForDecoded req e.0) es
       → AllByRecursion (λ t. encoded_tuple_order k t ≡ Less) (keys_of es)
       → AllByRecursion (λ t. tuple_order rules (decoded req k) t ≡ Less)
@@ -162,7 +173,8 @@ module _ (segment : Stored) (after : Named AfterKey) (req : CompositeAggReqData)
       (same-order k e.0 p all.0 ∙ h.0, below-decoded k p es all.1 h.1)
 
   -- entries in order are groups in order
-  sorted-decoded : (es : EncodedCounts) → AllByRecursion (λ e. StandsForDecoded req e.0) es
+  sorted-decoded : (es : List (EncodedTuple × ℕ))
+      → AllByRecursion (λ e. StandsForDecoded req e.0) es
       → IsStrictlySortedBy encoded_tuple_order (keys_of es)
       → IsStrictlySortedBy (tuple_order rules) (keys_of (decoded_groups req es))
   unfolding IsStrictlySortedBy
@@ -171,7 +183,7 @@ module _ (segment : Stored) (after : Named AfterKey) (req : CompositeAggReqData)
       (below-decoded e.0 all.0 es all.1 h.0, sorted-decoded es all.1 h.1)
 
   -- the tuples of groups are decoded ones
-  keys-decoded : (es : EncodedCounts)
+  keys-decoded : (es : List (EncodedTuple × ℕ))
       → keys_of (decoded_groups req es) ≡ map (decoded req) (keys_of es)
   keys-decoded [] = refl
   keys-decoded (e ∷ es) = ap (λ ts. decoded req e.0 ∷ ts) (keys-decoded es)
@@ -180,39 +192,41 @@ module _ (segment : Stored) (after : Named AfterKey) (req : CompositeAggReqData)
   abbrev IsCounted : Group → Type 0
   IsCounted g = (0 < g.1) × (g.1 ≡ count_by (same_tuple rules g.0) (map (decoded req) tuples))
 
-  -- the tuple of an entry stands for what it is decoded to
-  held-stands : (e : EncodedTuple × ℕ) → Contains held e → StandsForDecoded req e.0
-  held-stands e m = stands e.0 (entry-visited held tuples c e m)
+  -- the tuple of a group stands for what it is decoded to
+  group-stands : (e : EncodedTuple × ℕ) → Contains (groups tuples) e → StandsForDecoded req e.0
+  group-stands e m = stands e.0 (group-tuple tuples e m)
 
   -- the groups of the decoded tuples
-  groups-decoded : Groups rules (map (decoded req) tuples) (decoded_groups req held)
-  groups-decoded = record {
-    ascending = sorted-decoded held (AllByRecursion-from_Has (λ e. StandsForDecoded req e.0) held
-        (λ e m. held-stands e (Contains-from_Has held e m))) c.ascending;
-    counted = All-map IsCounted (λ e. (decoded req e.0, e.1)) held
-        (All-from_Contains (λ e. IsCounted (decoded req e.0, e.1)) held
-        (λ e m. let f = entry-count held tuples c e m in
-        (f.0, f.1 ∙ sym (count-decoded e.0 (held-stands e m)))));
-    occurring = subst (λ ts. All (Contains (map (decoded req) tuples)) ts)
-        (sym (keys-decoded held))
-        (All-map (Contains (map (decoded req) tuples)) (decoded req) (keys_of held)
-        (All-map (λ t. Contains (map (decoded req) tuples) (decoded req t)) (λ e. e.0) held
-        (All-from_Contains (λ e. Contains (map (decoded req) tuples) (decoded req e.0)) held
-        (λ e m. Contains-map (decoded req) tuples e.0 (entry-visited held tuples c e m)))));
-    complete = All-map (Contains (keys_of (decoded_groups req held))) (decoded req) tuples
-        (All-from_Contains (λ t. Contains (keys_of (decoded_groups req held)) (decoded req t))
-        tuples
-        (λ t m. subst (λ ts. Contains ts (decoded req t)) (sym (keys-decoded held))
-        (Contains-map (decoded req) (keys_of held) t (visited-entry held tuples c t m))));
-  }
+  groups-decoded : Groups rules (map (decoded req) tuples) (decoded_groups req (groups tuples))
+  groups-decoded =
+      let all = groups tuples in record {
+        ascending = sorted-decoded all (AllByRecursion-from_Has (λ e. StandsForDecoded req e.0) all
+            (λ e m. group-stands e (Contains-from_Has all e m))) (groups-laws.ascending tuples);
+        counted = All-map IsCounted (λ e. (decoded req e.0, e.1)) all
+            (All-from_Contains (λ e. IsCounted (decoded req e.0, e.1)) all
+            (λ e m. let f = group-count tuples e m in
+            (f.0, f.1 ∙ sym (count-decoded e.0 (group-stands e m)))));
+        occurring = subst (λ ts. All (Contains (map (decoded req) tuples)) ts)
+            (sym (keys-decoded all))
+            (All-map (Contains (map (decoded req) tuples)) (decoded req) (keys_of all)
+            (All-map (λ t. Contains (map (decoded req) tuples) (decoded req t)) (λ e. e.0) all
+            (All-from_Contains (λ e. Contains (map (decoded req) tuples) (decoded req e.0)) all
+            (λ e m. Contains-map (decoded req) tuples e.0 (group-tuple tuples e m)))));
+        complete = All-map (Contains (keys_of (decoded_groups req all))) (decoded req) tuples
+            (All-from_Contains (λ t. Contains (keys_of (decoded_groups req all)) (decoded req t))
+            tuples
+            (λ t m. subst (λ ts. Contains ts (decoded req t)) (sym (keys-decoded all))
+            (Contains-map (decoded req) (keys_of all) t (tuple-group tuples t m))));
+      }
 
--- what a collector holds are, decoded, the groups of what it has visited
-pub groups-held : (segment : Stored) (after : Named AfterKey) (req : CompositeAggReqData)
-    → Fits segment after req → (visited : List KeyTuple) (held : EncodedCounts)
-    → HasVisited req visited held
-    → Groups (rules_of req.req.now.sources) visited (decoded_groups req held)
-groups-held segment after req fits visited held h =
-    subst (λ vs. Groups (rules_of req.req.now.sources) vs (decoded_groups req held))
-    (decoded-all req h.tuples visited h.stand)
-    (groups-decoded segment after req fits held h.tuples h.counts
-    (each-stands req h.tuples visited h.stand))
+-- the groups of tuples are, decoded, those of the tuples that these stand for
+pub groups-typed : (segment : Stored) (after : Named AfterKey) (req : CompositeAggReqData)
+    → Fits segment after req → (tuples : List EncodedTuple) (visited : List KeyTuple)
+    → AllZip (StandsForTuple req) tuples visited
+    → Groups (rules_of req.req.now.sources) visited
+    (decoded_groups req (groups_of encoded_tuple_order tuples))
+groups-typed segment after req fits tuples visited stand =
+    subst (λ vs. Groups (rules_of req.req.now.sources) vs
+    (decoded_groups req (groups_of encoded_tuple_order tuples)))
+    (decoded-all req tuples visited stand)
+    (groups-decoded segment after req fits tuples (each-stands req tuples visited stand))

@@ -1,11 +1,11 @@
 -- Visits in a row: what a list gives is what its elements give, in order.
-use Rattle.std.proofs.Common.{◌≡◌, ℕ, ◌+◌, ◌<◌, ◌≤◌, List, [], ◌∷◌, ◌++◌, Result, Ok, Err}
-use Rattle.std.proofs.Common.{IsErrAnd, length, get_or, take, drop, sym, ap, ◌∙◌, length-append}
+use Rattle.std.proofs.Common.{◌≡◌, ℕ, ◌+◌, ◌*◌, ◌<◌, ◌≤◌, List, [], ◌∷◌, ◌++◌, Result, Ok, Err}
+use Rattle.std.proofs.Common.{IsErrAnd, length, get_or, take, drop, sym, ap, length-append}
 use Rattle.std.proofs.Common.{subst, arith}
 use Rattle.std.proofs.lemmas.List.{take_all}
 use Rattle.std.proofs.lemmas.Result.{err_from_is_err_and}
-use Rattle.agg_composite.specs.declared.visit_error.VisitError.{VisitError}
-use Rattle.agg_composite.specs.declared.visit_error.VisitError.TheVariants.{TooMany}
+use Rattle.agg_buckets.specs.declared.visit_error.VisitError.{VisitError}
+use Rattle.agg_buckets.specs.declared.visit_error.VisitError.TheVariants.{TooMany}
 use Rattle.agg_composite.specs.Answers.{Answers}
 use Rattle.agg_composite.proofs.Appending.{Appends, gives-more, gives-all, length-more}
 use Rattle.agg_composite.proofs.Appending.{length-front}
@@ -22,27 +22,28 @@ pub record AreVisits {Y S : Type 0} (visits : List Y → S → S → Type 0)
   pub more : (ys zs : List Y) (s : S) → refuses ys s → refuses (ys ++ zs) s
   pub after : (ys zs : List Y) (s t : S) → visits ys s t → refuses zs t → refuses (ys ++ zs) s
 
--- what has come of the elements before i: what they give is visited, with a step at each
+-- what has come of the elements before i: what they give is visited, by one to three steps each
 pub record SoFar {X Y S : Type 0} (visits : List Y → S → S → Type 0) (f : List X → List Y)
     (xs : List X) (i : ℕ) (s t : S) (steps steps_now : ℕ) : Type 0 where
   pub visited : visits (f (take i xs)) s t
-  pub ticks : steps_now ≡ steps + length (f (take i xs))
+  pub least : steps + length (f (take i xs)) ≤ steps_now
+  pub most : steps_now ≤ steps + 3 * length (f (take i xs))
 
 -- an error that a call passes on
 pub passed-on : (visits refuses : Type 0) (count steps steps_now : ℕ)
     (error : VisitError) (returned : Returned)
     → (◌≡◌ {A = Returned} (Err error) (Err TooMany) → refuses)
-    → steps ≤ steps_now → steps_now ≤ steps + count
+    → steps ≤ steps_now → steps_now ≤ steps + 3 * count
     → IsErrAnd returned (λ e. e ≡ error)
     → Answers TooMany visits refuses count steps steps_now returned
-passed-on visits refuses count steps steps_now error returned too_many later bounded is_err =
+passed-on visits refuses count steps steps_now error returned too_many later most is_err =
     let given = err_from_is_err_and returned is_err in
     subst (Answers TooMany visits refuses count steps steps_now) (sym given.1) (record {
       ok = tt;
-      ticks = tt;
+      least = tt;
       too_many = λ e. too_many (cc (given.2, e));
       later = later;
-      bounded = bounded;
+      most = most;
     })
 
 -- an error by itself, of another cause than too many
@@ -65,11 +66,22 @@ module _ {Y S : Type 0} (visits : List Y → S → S → Type 0) (refuses : List
   pub none-visited : (s : S) (steps : ℕ) → Answered [] s s steps steps (Ok tt)
   none-visited s steps = record {
     ok = laws.none s;
-    ticks = omega arith;
+    least = omega arith;
     too_many = λ e. absurd (cc e);
     later = omega arith;
-    bounded = omega arith;
+    most = omega arith;
   }
+
+  -- what has come before the first element
+  pub nothing-visited : {X : Type 0} (f : List X → List Y) → f [] ≡ [] → (xs : List X) (s : S)
+      (steps : ℕ) → SoFar visits f xs 0 s s steps steps
+  nothing-visited f none xs s steps =
+      let long : length (f []) ≡ 0 = ap length none in
+      record {
+        visited = subst (λ ys. visits ys s s) (sym none) (laws.none s);
+        least = omega (arith, long);
+        most = omega (arith, long);
+      }
 
   -- two lists in a row, of which the first was visited
   pub then-visited : (ys zs : List Y) (s t u : S) (steps steps_now steps_then : ℕ)
@@ -78,27 +90,23 @@ module _ {Y S : Type 0} (visits : List Y → S → S → Type 0) (refuses : List
       → Answered (ys ++ zs) s u steps steps_then result
   then-visited ys zs s t u steps steps_now steps_then (Ok x) first second =
       let long = length-append ys zs in
-      let before = first.ticks in
-      let behind = second.ticks in
-      let all : steps_then ≡ steps + length (ys ++ zs) = omega (arith, long, before, behind) in
+      let least : steps + length (ys ++ zs) ≤ steps_then =
+      omega (arith, long, first.least, second.least) in
       record {
         ok = laws.both ys zs s t u first.ok second.ok;
-        ticks = all;
+        least = least;
         too_many = λ e. absurd (cc e);
-        later = omega (arith, all);
-        bounded = omega (arith, all);
+        later = omega (arith, least);
+        most = omega (arith, long, first.most, second.most);
       }
   then-visited ys zs s t u steps steps_now steps_then (Err x) first second =
       let long = length-append ys zs in
-      let before = first.ticks in
-      let later = second.later in
-      let bounded = second.bounded in
       record {
         ok = tt;
-        ticks = tt;
+        least = tt;
         too_many = λ e. laws.after ys zs s t first.ok (second.too_many e);
-        later = omega (arith, before, later);
-        bounded = omega (arith, long, before, bounded);
+        later = omega (arith, first.later, second.later);
+        most = omega (arith, long, first.most, second.most);
       }
 
   -- two lists in a row, of which the first was refused
@@ -108,11 +116,10 @@ module _ {Y S : Type 0} (visits : List Y → S → S → Type 0) (refuses : List
       → Answered (ys ++ zs) s t steps steps_now returned
   first-refused ys zs s t steps steps_now error returned first is_err =
       let long = length-append ys zs in
-      let later = first.later in
-      let bounded = first.bounded in
       passed-on (visits (ys ++ zs) s t) (refuses (ys ++ zs) s) (length (ys ++ zs)) steps steps_now
       error returned
-      (λ e. laws.more ys zs s (first.too_many e)) later (omega (arith, long, bounded)) is_err
+      (λ e. laws.more ys zs s (first.too_many e)) first.later
+      (omega (arith, long, first.most)) is_err
 
   module _ {X : Type 0} (f : List X → List Y) (h : Appends f) (xs : List X) (i : ℕ) (s t : S)
       (steps steps_now : ℕ) (so_far : SoFar visits f xs i s t steps steps_now) where
@@ -120,14 +127,14 @@ module _ {Y S : Type 0} (visits : List Y → S → S → Type 0) (refuses : List
     pub all-visited : length xs ≤ i → Answered (f xs) s t steps steps_now (Ok tt)
     all-visited past =
         let e = take_all i xs past in
-        let ticks : steps_now ≡ steps + length (f xs) =
-        so_far.ticks ∙ ap (λ ys. steps + length (f ys)) e in
+        let long : length (f (take i xs)) ≡ length (f xs) = ap (λ ys. length (f ys)) e in
+        let least : steps + length (f xs) ≤ steps_now = omega (arith, so_far.least, long) in
         record {
           ok = subst (λ ys. visits (f ys) s t) e so_far.visited;
-          ticks = ticks;
+          least = least;
           too_many = λ is_err. absurd (cc is_err);
-          later = omega (arith, ticks);
-          bounded = omega (arith, ticks);
+          later = omega (arith, least);
+          most = omega (arith, so_far.most, long);
         }
 
     module _ (d : X) (l : i < length xs) (u : S) (steps_after : ℕ) where
@@ -135,12 +142,12 @@ module _ {Y S : Type 0} (visits : List Y → S → S → Type 0) (refuses : List
       pub one-visited : Answered (f (get_or xs i d ∷ [])) t u steps_now steps_after (Ok tt)
           → SoFar visits f xs (i + 1) s u steps steps_after
       one-visited own =
-          let before = so_far.ticks in
           let more = length-more f h xs i d l in
           record {
             visited = subst (λ ys. visits ys s u) (sym (gives-more f h xs i d l))
                 (laws.both (f (take i xs)) (f (get_or xs i d ∷ [])) s t u so_far.visited own.ok);
-            ticks = omega (arith, before, more, own.ticks);
+            least = omega (arith, so_far.least, more, own.least);
+            most = omega (arith, so_far.most, more, own.most);
           }
 
       -- the error of one element is the error of all
@@ -149,10 +156,7 @@ module _ {Y S : Type 0} (visits : List Y → S → S → Type 0) (refuses : List
           → IsErrAnd returned (λ e. e ≡ error)
           → Answered (f xs) s u steps steps_after returned
       error-visited error returned own is_err =
-          let before = so_far.ticks in
           let front = length-front f h xs i d l in
-          let later = own.later in
-          let bounded = own.bounded in
           let one = f (get_or xs i d ∷ []) in
           let rest = f (drop (i + 1) xs) in
           passed-on (visits (f xs) s u) (refuses (f xs) s) (length (f xs)) steps steps_after error
@@ -160,4 +164,5 @@ module _ {Y S : Type 0} (visits : List Y → S → S → Type 0) (refuses : List
           (λ e. subst (λ ys. refuses ys s) (sym (gives-all f h xs i d l))
           (laws.more (f (take i xs) ++ one) rest s
           (laws.after (f (take i xs)) one s t so_far.visited (own.too_many e))))
-          (omega (arith, before, later)) (omega (arith, before, bounded, front)) is_err
+          (omega (arith, so_far.least, own.later)) (omega (arith, so_far.most, own.most, front))
+          is_err

@@ -1,15 +1,26 @@
 -- The entries that a collector gives of a page.
-use Rattle.std.specs.Prelude.{List, map}
+use Rattle.std.specs.Prelude.{ℕ, List, map}
+use Rattle.agg_values.specs.Tuple.{KeyTuple}
 use Rattle.agg_request_tree.specs.Groups.{Group}
 use Rattle.agg_accessor.specs.Decoded.{decoded}
+use Rattle.agg_accessor.specs.Encoding.{EncodedTuple}
 use Rattle.agg_accessor.specs.declared.request_data.CompositeAggReqData.{CompositeAggReqData}
-use Rattle.agg_composite.specs.Counts.{EncodedCounts}
+use Rattle.agg_buckets.specs.Page.{Page}
+use Rattle.agg_buckets.specs.declared.bucket.Bucket.{Bucket}
 use Rattle.agg_composite.specs.declared.page_entry.PageEntry.{PageEntry}
 
 -- an entry as a group: its key with its count
 abbrev pub entry_group : PageEntry → Group
 entry_group entry = (entry.key, entry.doc_count)
 
+-- an entry as a bucket: its key with its count and its id
+abbrev pub entry_bucket : PageEntry → KeyTuple × Bucket
+entry_bucket entry = (entry.key, record { count = entry.doc_count; id = entry.bucket_id })
+
+-- buckets of encoded tuples, by the tuples that these stand for
+abbrev pub decoded_buckets : CompositeAggReqData → Page EncodedTuple → List (KeyTuple × Bucket)
+decoded_buckets req buckets = map (λ e. (decoded req e.0, e.1)) buckets
+
 -- counts of encoded tuples as groups
-abbrev pub decoded_groups : CompositeAggReqData → EncodedCounts → List Group
+abbrev pub decoded_groups : CompositeAggReqData → List (EncodedTuple × ℕ) → List Group
 decoded_groups req counts = map (λ e. (decoded req e.0, e.1)) counts

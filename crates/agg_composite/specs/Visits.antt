@@ -1,43 +1,35 @@
--- What a collector has visited, and when it has visited too often.
-use Rattle.std.specs.Prelude.{◌≤◌, ◌^◌, ℕ, List, ◌++◌, Result, Ok, Err, count_by, length}
-use Rattle.std.specs.List.{AllZip}
+-- The visits of documents, and when a call is refused for its range.
+use Rattle.std.specs.Prelude.{◌≡◌, ℕ, List, [], ◌∷◌, Result, Ok, Err}
+use Rattle.std.specs.List.{flat_map}
+use Rattle.agg_values.specs.Names.{Named}
 use Rattle.agg_values.specs.Tuple.{KeyTuple}
+use Rattle.agg_values.specs.declared.after_key.AfterKey.{AfterKey}
 use Rattle.agg_cache.specs.declared.error.CollectError.{CollectError}
 use Rattle.agg_cache.specs.declared.error.CollectError.TheVariants as refusal
-use Rattle.agg_request_tree.specs.Occurrences.{same_tuple}
-use Rattle.agg_request_tree.specs.Source.{rules_of}
-use Rattle.agg_composite.specs.Answers.{Answers}
-use Rattle.agg_composite.specs.Counts.{Counts, EncodedCounts}
+use Rattle.agg_segment.specs.Segment.{Stored, documents_at}
+use Rattle.agg_request_tree.specs.Occurrences.{bound_of, past_occurrences}
+use Rattle.agg_request_tree.specs.Source.{Sources}
 use Rattle.agg_accessor.specs.Encoding.{EncodedTuple, StandsForTuple}
 use Rattle.agg_accessor.specs.declared.request_data.CompositeAggReqData.{CompositeAggReqData}
-use Rattle.agg_composite.specs.declared.visit_error.VisitError.{VisitError}
-use Rattle.agg_composite.specs.declared.visit_error.VisitError.TheVariants as early
+use Rattle.agg_buckets.specs.Visits.{Visit, visits_at}
 
--- a collector has visited these tuples: it counts encoded ones that stand for them
-pub record HasVisited (req : CompositeAggReqData) (visited : List KeyTuple) (held : EncodedCounts)
-    : Type 0 where
-  pub tuples : List EncodedTuple
-  pub counts : Counts held tuples
-  pub stand : AllZip (StandsForTuple req) tuples visited
+-- a visit of a document, under a parent and a tuple
+abbrev pub TypedVisit : Type 0
+TypedVisit = Visit KeyTuple
 
--- some tuple stands 2^64 times or more in a list
-abbrev pub IsTooOften : CompositeAggReqData → List KeyTuple → Type 0
-IsTooOften req tuples =
-    (tuple : KeyTuple)
-    × (2 ^ 64 ≤ count_by (same_tuple (rules_of req.req.now.sources) tuple) tuples)
+-- the occurrences of documents that lie past the bound, each visited under a parent, with the number
+-- of its document
+abbrev pub visits_past : Sources → Stored → Named AfterKey → ℕ → List ℕ → List TypedVisit
+visits_past sources segment after parent docs =
+    flat_map
+    (λ doc. visits_at parent doc
+    (past_occurrences sources (bound_of sources after) (documents_at segment (doc ∷ []))))
+    docs
 
--- what visits of tuples behind those visited answer: an Ok has visited them all, with a step at
--- each; the error that says too many comes only where some tuple is visited too often
-abbrev pub AnswersVisits : {E : Type 0} → E → CompositeAggReqData → List KeyTuple → List KeyTuple
-    → EncodedCounts → ℕ → ℕ → Result (Unit {0}) E → Type 0
-AnswersVisits many req visited tuples held =
-    Answers many (HasVisited req (visited ++ tuples) held) (IsTooOften req (visited ++ tuples))
-    (length tuples)
-
--- why a collector refuses documents, where visits of their tuples end early
-abbrev pub collected : VisitError → CollectError
-collected early.TooMany = refusal.TooMany
-collected early.OutOfMemory = refusal.OutOfMemory
+-- a visit of an encoded tuple stands for one of a tuple: under the same parent, of the same document
+abbrev pub StandsForVisit : CompositeAggReqData → Visit EncodedTuple → TypedVisit → Type 0
+StandsForVisit req visit typed =
+    (visit.0.0 ≡ typed.0.0) × StandsForTuple req visit.0.1 typed.0.1 × (visit.1 ≡ typed.1)
 
 -- a call is refused for its range exactly where not all is in range, and otherwise for too many
 -- occurrences or for memory alone

@@ -1,12 +1,11 @@
 -- The tuples of a document's choices that a walk visits.
 use Rattle.std.specs.Prelude.{ℕ, List, [], ◌∷◌, ◌++◌, Bool, true, false, Option, None, Some}
-use Rattle.std.specs.Prelude.{drop, map, take}
+use Rattle.std.specs.Prelude.{drop, take}
 use Rattle.std.specs.List.{flat_map}
 use Rattle.std.specs.Option.{option_map_or}
 use Rattle.std.specs.declared.cmp.Ordering.{Ordering}
 use Rattle.std.specs.declared.cmp.Ordering.TheVariants.{Less, Equal, Greater}
-use Rattle.agg_values.specs.declared.order.Order.{Order}
-use Rattle.agg_accessor.specs.Encoding.{EncodedTuple, encoded_at}
+use Rattle.agg_accessor.specs.Encoding.{EncodedTuple}
 use Rattle.agg_composite.specs.declared.walk.choice.Choice.{Choice}
 
 -- a list cut into parts of these sizes
@@ -26,7 +25,7 @@ abbrev pub if_above : EncodedTuple → Bool → List EncodedTuple
 if_above tuple true = tuple ∷ []
 if_above tuple false = []
 
--- the tuples that a walk visits behind the first keys of a tuple: none behind a key that is below
+-- the tuples that a walk visits after the first keys of a tuple: none after a key that is below
 -- the bound
 abbrev pub walked : List (List Choice) → EncodedTuple → Bool → List EncodedTuple
 walked [] front above = if_above front above
@@ -34,9 +33,3 @@ walked (choices ∷ rest) front above =
     flat_map (λ c.
     option_map_or (walked rest (front ++ c.value ∷ [])) (next_standing above c.side) [])
     choices
-
--- the tuples that a walk over one source visits, for numbers of the lane at a place with their
--- sides
-abbrev pub number_tuples : Order → ℕ → (ℕ → Ordering) → List ℕ → List EncodedTuple
-number_tuples order i side numbers =
-    walked (map (λ n. record { value = encoded_at order i n; side = side n }) numbers ∷ []) [] false

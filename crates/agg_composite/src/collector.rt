@@ -1,65 +1,122 @@
 //! The collector that groups the documents of a segment.
-ghost use Rattle.std.specs.Prelude.{◌≡◌, ◌≤◌, [], List, take, map, IfOk};
+ghost use Rattle.std.specs.Prelude.{◌≡◌, ◌≤◌, ◌<◌, ◌+◌, ◌++◌, ◌^◌, ◌↔◌, [], ◌∷◌, ℕ, List, All};
+ghost use Rattle.std.specs.Prelude.{IfOk, IsErrOf, IsTrue, OnErr, OnOk, false, length, map, take, true};
 ghost use Rattle.agg_values.specs.Names.{Named};
-ghost use Rattle.agg_values.specs.Tuple.{KeyTuple};
 ghost use Rattle.agg_values.specs.declared.after_key.AfterKey.{AfterKey};
-ghost use Rattle.agg_segment.specs.Segment.{Stored, documents_at};
+ghost use Rattle.agg_cache.specs.Waiting.{docs_of, is_id};
+ghost use Rattle.agg_segment.specs.Segment.{Stored};
 ghost use Rattle.agg_request_tree.specs.Faults.{max_sources};
 ghost use Rattle.agg_request_tree.specs.Groups.{Group, Groups};
-ghost use Rattle.agg_request_tree.specs.Occurrences.{bound_of, past_occurrences};
 ghost use Rattle.agg_request_tree.specs.Source.{rules_of};
 ghost use Rattle.agg_accessor.specs.Accessors.{Fits};
+ghost use Rattle.agg_accessor.specs.Encoding.{encoded_tuple_order};
 ghost use Rattle.agg_accessor.specs.Ranges.{AreAllInRange};
-ghost use Rattle.agg_composite.specs.PageEntries.{entry_group};
-ghost use Rattle.agg_composite.specs.Visits.{AnswersRange, AnswersVisits, HasVisited};
 ghost use Rattle.agg_accessor.specs.declared.request_data.CompositeAggReqData as declared;
+ghost use Rattle.agg_buckets.specs.Cut.{tuples_under};
+ghost use Rattle.agg_buckets.specs.Node.{Prepares, TooManyVisits};
+ghost use Rattle.agg_composite.specs.Answers.{Answers};
+ghost use Rattle.agg_composite.specs.PageEntries.{decoded_buckets, entry_bucket, entry_group};
+ghost use Rattle.agg_composite.specs.Visits.{AnswersRange, TypedVisit, visits_past};
 
 use crate::PageEntry;
-use crate::group_counts::GroupCounts;
-use crate::page::lowest_entries;
-use crate::visit_error::VisitError;
-use crate::walk::visit_documents;
+use crate::tuple_buckets::TupleBuckets;
 use agg_accessor::CompositeAggReqData;
-use agg_cache::{BucketId, CollectError};
+use agg_buckets::VisitError;
+use agg_cache::{Batch, BucketId, CachedSubAggs, CollectError, SubAggCache};
 use agg_values::{DocId, ItemList, OutOfMemory, Steps};
 use std::alloc::Global;
 use std::marker::Model;
 use std::sync::ledger::Ledger;
 
-/// Groups the documents of a segment by the tuples of a composite. Contracts see the encoded tuples
-/// that it counts. Each call of one collector has to get the same request data.
+/// Groups the documents of a segment by the tuples of a composite, under parents: at most a page of
+/// buckets for each. It keeps the documents of each bucket under its id, until they are handed on.
+/// Each call of one collector has to get the same request data.
 #[derive(Drop)]
-pub struct SegmentCompositeCollector {
+pub struct SegmentCompositeCollector<C: SubAggCache> {
     alloc: Global,
-    counts: GroupCounts,
+    buckets: TupleBuckets,
+    cache: CachedSubAggs<C>,
+    hands_on: bool,
 }
 
-impl Model for SegmentCompositeCollector {
-    ghost use Rattle.agg_composite.specs.Counts.{EncodedCounts};
-    ghost use Rattle.agg_composite.specs.GroupCounts.{settled_counts};
+impl<C: SubAggCache> Model for SegmentCompositeCollector<C> {
+    ghost use Rattle.agg_composite.specs.Composite.{Composite};
+    ghost use Rattle.agg_composite.specs.TupleBuckets.{node_of, room_of};
 
-    ghost Value = { EncodedCounts };
+    ghost Value = { Composite C };
 
-    ghost view = { λ collector. settled_counts collector.counts };
+    ghost view = { λ collector. record {
+      room = room_of collector.buckets;
+      node = node_of collector.buckets;
+      cache = collector.cache;
+      hands_on = collector.hands_on;
+    } };
 }
 
-impl SegmentCompositeCollector {
-    /// A collector for a composite of so many sources, which has visited nothing.
-    pub fn new(alloc: Global, num_sources: usize) -> Result<SegmentCompositeCollector, OutOfMemory>
+impl<C: SubAggCache> SegmentCompositeCollector<C> {
+    ghost use Rattle.agg_composite.specs.Composite.{AnswersCollect, CompositeFor, CompositeGives};
+    ghost use Rattle.agg_composite.specs.Composite.{CompositeTakes, docs_under, page_of};
+
+    /// A collector for a composite of so many sources, which has visited nothing. It hands documents
+    /// on.
+    pub fn new(
+        alloc: Global,
+        num_sources: usize,
+    ) -> Result<SegmentCompositeCollector<C>, OutOfMemory>
         requires some { 1 ≤ num_sources }
         requires few { num_sources ≤ max_sources }
-        ensures { IfOk result (λ collector. (req : declared.CompositeAggReqData)
-            → HasVisited req [] collector) }
+        ensures empty { IfOk result (λ collector. (req : declared.CompositeAggReqData)
+            → CompositeFor C.waiting req collector [] []) }
+        ensures parents { IfOk result (λ collector. length collector.node.parents ≡ 1) }
+        ensures room { IfOk result (λ collector. num_sources ≤ collector.room) }
+        ensures waiting { IfOk result (λ collector. (id : ℕ) → C.waiting collector.cache.0 id ≡ []) }
+        ensures hands_on { IfOk result (λ collector. collector.hands_on ≡ true) }
     {
         Ok(SegmentCompositeCollector {
             alloc,
-            counts: GroupCounts::new(alloc, num_sources),
+            buckets: TupleBuckets::new(alloc, num_sources)?,
+            cache: CachedSubAggs::new(alloc),
+            hands_on: true,
         })
     }
 
-    /// Visits the tuples of the documents at these places that lie past the bound, and takes a step
-    /// at each. It is refused where a bucket of what the sources read starts outside 64 bits. What
-    /// is held after an error isn't said.
+    /// The same for a composite with nothing below it, which hands no document on.
+    pub fn new_leaf(
+        alloc: Global,
+        num_sources: usize,
+    ) -> Result<SegmentCompositeCollector<C>, OutOfMemory>
+        requires some { 1 ≤ num_sources }
+        requires few { num_sources ≤ max_sources }
+        ensures empty { IfOk result (λ collector. (req : declared.CompositeAggReqData)
+            → CompositeFor C.waiting req collector [] []) }
+        ensures parents { IfOk result (λ collector. length collector.node.parents ≡ 1) }
+        ensures room { IfOk result (λ collector. num_sources ≤ collector.room) }
+        ensures waiting { IfOk result (λ collector. (id : ℕ) → C.waiting collector.cache.0 id ≡ []) }
+        ensures hands_on { IfOk result (λ collector. collector.hands_on ≡ false) }
+    {
+        Ok(SegmentCompositeCollector {
+            alloc,
+            buckets: TupleBuckets::new(alloc, num_sources)?,
+            cache: CachedSubAggs::new(alloc),
+            hands_on: false,
+        })
+    }
+
+    /// Prepares parents up to this one.
+    pub fn prepare_max_bucket(&mut self, max_bucket: BucketId) -> Result<(), OutOfMemory>
+        ensures prepared { OnOk result (max_bucket < length self.new.node.parents) }
+        ensures parents { Prepares self.old.node self.new.node }
+        ensures rest { self.new ≡ record self.old { node = self.new.node } }
+        ensures right { (req : declared.CompositeAggReqData) (visited : List TypedVisit)
+            (given : List (ℕ × ℕ)) → CompositeFor C.waiting req self.old visited given
+            → CompositeFor C.waiting req self.new visited given }
+    {
+        self.buckets.prepare(max_bucket)
+    }
+
+    /// Visits the tuples of the documents at these places that lie past the bound, under a parent,
+    /// by one to three steps each. It is refused where a bucket of what the sources read starts
+    /// outside 64 bits. What is there after another error isn't said.
     pub fn collect<L: Ledger>(
         &mut self,
         parent_bucket_id: BucketId,
@@ -67,73 +124,114 @@ impl SegmentCompositeCollector {
         req: &CompositeAggReqData<'_>,
         steps: &mut Steps<L>,
     ) -> Result<(), CollectError>
-        requires parent { parent_bucket_id ≡ 0 }
+        requires parent { parent_bucket_id < length self.old.node.parents }
         requires fits { (segment : Stored) × (after : Named AfterKey) × Fits segment after req.now }
-        ensures visits { (segment : Stored) (after : Named AfterKey) (visited : List KeyTuple)
-            → Fits segment after req.now
-            → HasVisited req.now visited self.old
-            → AnswersVisits CollectError.TooMany req.now visited
-            (past_occurrences req.now.req.now.sources (bound_of req.now.req.now.sources after)
-            (documents_at segment docs.now))
-            self.new steps.old steps.new result }
+        requires room { length req.now.req.now.sources ≤ self.old.room }
+        ensures visits { (segment : Stored) (after : Named AfterKey) → Fits segment after req.now
+            → AnswersCollect C.waiting req.now
+            (visits_past req.now.req.now.sources segment after parent_bucket_id docs.now)
+            self.old self.new steps.old steps.new result }
+        ensures many { (segment : Stored) (after : Named AfterKey) → Fits segment after req.now
+            → (visited : List TypedVisit) (given : List (ℕ × ℕ))
+            → CompositeFor C.waiting req.now self.old visited given
+            → IsErrOf result CollectError.TooMany
+            → 2 ^ 32 ≤ length visited + length
+            (visits_past req.now.req.now.sources segment after parent_bucket_id docs.now) }
         ensures range { (segment : Stored) (after : Named AfterKey) → Fits segment after req.now
             → AnswersRange (AreAllInRange segment req.now.req.now.sources docs.now) result }
     {
-        let _ = parent_bucket_id;
         if !req.are_starts_in_range(docs) {
             return Err(CollectError::BucketOutOfRange);
         }
-        self.visit(docs, req, steps)?;
+        self.visit(parent_bucket_id, docs, req, steps)?;
         Ok(())
     }
 
     // Visits the tuples of documents whose starts lie within 64 bits.
     fn visit<L: Ledger>(
         &mut self,
+        parent: BucketId,
         docs: &[DocId],
         req: &CompositeAggReqData<'_>,
         steps: &mut Steps<L>,
     ) -> Result<(), VisitError>
-        requires { (segment : Stored) × (after : Named AfterKey) × Fits segment after req.now }
-        ensures { (segment : Stored) (after : Named AfterKey) (visited : List KeyTuple)
-            → Fits segment after req.now
+        requires parent { parent < length self.old.node.parents }
+        requires fits { (segment : Stored) × (after : Named AfterKey) × Fits segment after req.now }
+        requires room { length req.now.req.now.sources ≤ self.old.room }
+        ensures { (segment : Stored) (after : Named AfterKey) → Fits segment after req.now
             → AreAllInRange segment req.now.req.now.sources docs.now
-            → HasVisited req.now visited self.old
-            → AnswersVisits VisitError.TooMany req.now visited
-            (past_occurrences req.now.req.now.sources (bound_of req.now.req.now.sources after)
-            (documents_at segment docs.now))
-            self.new steps.old steps.new result }
+            → (typed : List TypedVisit)
+            → typed ≡ visits_past req.now.req.now.sources segment after parent docs.now
+            → Answers VisitError.TooMany
+            (CompositeTakes C.waiting req.now typed self.old self.new)
+            (TooManyVisits encoded_tuple_order (length typed) self.old.node) (length typed)
+            steps.old steps.new result }
     {
-        let sources = req.req.sources.as_slice();
-        let accessors = req.composite_accessors.as_slice();
-        self.counts.forget_waiting();
-        visit_documents(
-            self.alloc,
-            &mut self.counts,
-            docs,
-            sources,
-            accessors,
-            steps,
-        )?;
-        self.counts.settle()
+        self.buckets.begin_parent(parent, req.size as usize);
+        self.buckets.visit_documents(self.alloc, docs, req, steps)?;
+        if self.hands_on {
+            push_all(&mut self.cache, self.buckets.pushes())?;
+        }
+        Ok(())
     }
 
-    /// The lowest tuples that were visited, as many as the page has room for, each with how often
-    /// it was visited.
+    /// The buckets of a parent, ascending, each with how often its tuple was visited and its id:
+    /// none where the parent isn't prepared.
     pub fn page(
         &self,
         parent_bucket_id: BucketId,
         req: &CompositeAggReqData<'_>,
     ) -> Result<ItemList<PageEntry>, OutOfMemory>
-        requires parent { parent_bucket_id ≡ 0 }
         requires fits { (segment : Stored) × (after : Named AfterKey) × Fits segment after req.now }
-        requires visited { (visited : List KeyTuple) × HasVisited req.now visited self.now }
-        ensures { IfOk result (λ page. (visited : List KeyTuple)
-            → HasVisited req.now visited self.now
-            → (groups : List Group) × Groups (rules_of req.now.req.now.sources) visited groups
+        requires visited { (visited : List TypedVisit) × (given : List (ℕ × ℕ))
+            × CompositeFor C.waiting req.now self.now visited given }
+        ensures buckets { IfOk result (λ page. map entry_bucket page
+            ≡ decoded_buckets req.now (page_of self.now parent_bucket_id)) }
+        ensures groups { IfOk result (λ page. (visited : List TypedVisit) (given : List (ℕ × ℕ))
+            → CompositeFor C.waiting req.now self.now visited given
+            → (groups : List Group)
+            × Groups (rules_of req.now.req.now.sources) (tuples_under parent_bucket_id visited)
+            groups
             × (map entry_group page ≡ take req.now.size groups)) }
+        ensures handed { IfOk result (λ page. (visited : List TypedVisit) (given : List (ℕ × ℕ))
+            → CompositeFor C.waiting req.now self.now visited given
+            → self.now.hands_on ≡ true → ((id : ℕ) → C.waiting self.now.cache.0 id ≡ [])
+            → All (λ entry. docs_of (is_id entry.bucket_id) given
+            ≡ docs_under (rules_of req.now.req.now.sources) parent_bucket_id entry.key visited)
+            page) }
     {
-        let _ = parent_bucket_id;
-        lowest_entries(self.alloc, &self.counts, req)
+        self.buckets.page(self.alloc, parent_bucket_id, req)
     }
+
+    /// Whether enough documents wait to be handed on.
+    pub fn due(&self) -> bool
+        ensures { IsTrue result ↔ (2048 ≤ self.now.cache.1) }
+    {
+        self.cache.due()
+    }
+
+    /// The documents that wait, in batches. None is empty.
+    pub fn take(&mut self) -> Result<ItemList<Batch>, OutOfMemory>
+        ensures ok { IfOk result (λ batches. CompositeGives C.waiting batches self.old self.new) }
+        ensures filled { IfOk result (λ batches. All (λ batch. 0 < length batch.docs) batches) }
+        ensures err { OnErr result
+            ((id : ℕ) → C.waiting self.new.cache.0 id ≡ C.waiting self.old.cache.0 id) }
+        ensures rest { self.new ≡ record self.old { cache = self.new.cache } }
+    {
+        self.cache.take()
+    }
+}
+
+// Keeps documents under ids.
+fn push_all<C: SubAggCache>(
+    cache: &mut CachedSubAggs<C>,
+    pushes: &[(BucketId, DocId)],
+) -> Result<(), OutOfMemory>
+    ensures { OnOk result ((id : ℕ) → C.waiting cache.new.0 id
+        ≡ C.waiting cache.old.0 id ++ docs_of (is_id id) pushes.now) }
+{
+    for (id, doc) in pushes {
+        cache.push(*id, *doc)?;
+    }
+    Ok(())
 }

@@ -2,10 +2,11 @@
 #![tactic(auto)]
 
 mod collector;
-mod group_counts;
+mod laws;
 mod page;
 mod page_entry;
-mod visit_error;
+mod stored_tuple;
+mod tuple_buckets;
 mod walk;
 
 pub use agg_accessor::{
@@ -13,4 +14,5 @@ pub use agg_accessor::{
     encoded_tuples_compare_as_typed,
 };
 pub use collector::SegmentCompositeCollector;
+pub use laws::visits_have_the_occurrences;
 pub use page_entry::PageEntry;

@@ -1,96 +1,49 @@
-//! The lowest of what is counted, as the entries of a page.
-ghost use Rattle.std.specs.Prelude.{◌≡◌, take, map, IfOk, All};
+//! The buckets of a parent, as the entries of a page.
+ghost use Rattle.std.specs.Prelude.{◌≡◌, [], All, IfOk, get_or, map};
 ghost use Rattle.std.specs.Map.{keys_of};
 ghost use Rattle.agg_accessor.specs.Decoded.{IsEncoded, decoded};
-ghost use Rattle.agg_composite.specs.PageEntries.{decoded_groups};
-ghost use Rattle.agg_composite.specs.GroupCounts.{held, settled_counts};
-ghost use Rattle.agg_composite.specs.KeyCounts.{as_tuples, entries_of};
-ghost use Rattle.agg_composite.specs.PageEntries.{entry_group};
+ghost use Rattle.agg_composite.specs.PageEntries.{decoded_buckets, entry_bucket};
 
 use crate::PageEntry;
-use crate::group_counts::{GroupCounts, KeyCount, SeveralCounts};
+use crate::stored_tuple::StoredTuple;
 use agg_accessor::{CompositeAggReqData, Encoded, decode_tuple};
+use agg_buckets::{Bucket, BucketsByParent};
+use agg_cache::BucketId;
 use agg_values::{ItemList, OutOfMemory};
 use std::alloc::Global;
 
-/// The entries of the lowest counts, as many as the page has room for.
-pub fn lowest_entries(
+/// The entries of the buckets of a parent, ascending.
+pub fn entries_of<const N: usize>(
     alloc: Global,
-    counts: &GroupCounts,
+    buckets: &BucketsByParent<StoredTuple<Encoded, N>>,
+    parent: BucketId,
     req: &CompositeAggReqData<'_>,
 ) -> Result<ItemList<PageEntry>, OutOfMemory>
-    requires { All (IsEncoded req.now) (keys_of (settled_counts counts.now)) }
-    ensures { IfOk result (λ page. map entry_group page
-        ≡ take req.now.size (decoded_groups req.now (settled_counts counts.now))) }
+    requires { All (IsEncoded req.now) (keys_of (get_or buckets.now.parents parent [])) }
+    ensures { IfOk result (λ page. map entry_bucket page
+        ≡ decoded_buckets req.now (get_or buckets.now.parents parent [])) }
 {
-    match counts {
-        GroupCounts::Single(single) => lowest_keys(alloc, single.settled(), req),
-        GroupCounts::Several(several) => lowest_tuples(alloc, several, req),
-    }
-}
-
-// The entries of the first counts of keys.
-fn lowest_keys(
-    alloc: Global,
-    counts: &[KeyCount],
-    req: &CompositeAggReqData<'_>,
-) -> Result<ItemList<PageEntry>, OutOfMemory>
-    requires { All (IsEncoded req.now) (keys_of (as_tuples (entries_of counts.now))) }
-    ensures { IfOk result (λ page. map entry_group page
-        ≡ take req.now.size (decoded_groups req.now (as_tuples (entries_of counts.now)))) }
-{
-    let shown = first_counts(counts, req.size as usize);
-    let mut entries = Vec::with_capacity(alloc, shown.len())?;
-    for counted in shown {
-        entries.push(entry(alloc, req, &[counted.key], counted.count)?)?;
+    let of_parent = buckets.of_parent(parent)?;
+    let mut entries = Vec::with_capacity(alloc, of_parent.len())?;
+    for (tuple, bucket) in of_parent.iter() {
+        entries.push(entry(alloc, req, tuple.as_slice(), bucket)?)?;
     }
     Ok(ItemList::from_vec(entries))
 }
 
-// So many of the counts, or all.
-fn first_counts(counts: &[KeyCount], size: usize) -> &[KeyCount]
-    ensures { result.now ≡ take size counts.now }
-{
-    if counts.len() <= size {
-        return counts;
-    }
-    &counts[..size]
-}
-
-// The entries of the first counts of tuples.
-fn lowest_tuples(
-    alloc: Global,
-    counts: &SeveralCounts,
-    req: &CompositeAggReqData<'_>,
-) -> Result<ItemList<PageEntry>, OutOfMemory>
-    requires { All (IsEncoded req.now) (keys_of (held counts.now.tuples.entries)) }
-    ensures { IfOk result (λ page. map entry_group page
-        ≡ take req.now.size (decoded_groups req.now (held counts.now.tuples.entries))) }
-{
-    let size = req.size as usize;
-    let tuples = counts.tuples();
-    let mut entries = Vec::with_capacity(alloc, tuples.len().min(size))?;
-    for (tuple, count) in tuples.iter() {
-        if entries.len() == size {
-            return Ok(ItemList::from_vec(entries));
-        }
-        entries.push(entry(alloc, req, tuple.as_slice(), *count)?)?;
-    }
-    Ok(ItemList::from_vec(entries))
-}
-
-// The entry of an encoded tuple with its count.
+// The entry of an encoded tuple with its bucket.
 fn entry(
     alloc: Global,
     req: &CompositeAggReqData<'_>,
     encoded: &[Encoded],
-    doc_count: u64,
+    bucket: &Bucket,
 ) -> Result<PageEntry, OutOfMemory>
     requires { IsEncoded req.now encoded.now }
-    ensures { IfOk result (λ entry. entry_group entry ≡ (decoded req.now encoded.now, doc_count)) }
+    ensures { IfOk result (λ entry. entry_bucket entry ≡ (decoded req.now encoded.now, bucket.now)) }
 {
     Ok(PageEntry {
         key: decode_tuple(alloc, req, encoded)?,
-        doc_count,
+        doc_count: bucket.count,
+        bucket_id: bucket.id,
     })
 }

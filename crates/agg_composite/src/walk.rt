@@ -1,41 +1,139 @@
 //! The walk over the tuples of documents.
-ghost use Rattle.std.specs.Prelude.{◌≡◌, length};
-ghost use Rattle.agg_composite.specs.Answers.{AnswersDocuments};
-ghost use Rattle.agg_composite.specs.GroupCounts.{all_counts};
+ghost use Rattle.std.specs.Prelude.{◌≡◌, ◌+◌, ◌≤◌, [], ◌∷◌, length, sum, OnOk};
+ghost use Rattle.agg_request_tree.specs.Faults.{max_sources};
+ghost use Rattle.agg_composite.specs.Answers.{AnswersDocuments, AnswersEncoded};
+ghost use Rattle.agg_composite.specs.Walk.{next_standing, parts, walked};
 
 mod choice;
 mod gather;
-mod lone;
-mod many;
 mod place;
-mod visit;
 
-use crate::group_counts::GroupCounts;
-use crate::visit_error::VisitError;
-use agg_accessor::CompositeSourceAccessors;
-use agg_request_tree::CompositeAggregationSource;
+use crate::stored_tuple::StoredTuple;
+use agg_accessor::{CompositeAggReqData, Encoded};
+use agg_buckets::{BucketsByParent, VisitError};
 use agg_values::{DocId, Steps};
+use choice::Choice;
+use gather::Gathered;
 use std::alloc::Global;
+use std::cmp::Ordering;
 use std::sync::ledger::Ledger;
 
 /// Visits the tuples of the documents at these places that lie past the bound, in the order of
 /// their occurrences.
-pub fn visit_documents<L: Ledger>(
+pub fn visit_documents<const N: usize, L: Ledger>(
     alloc: Global,
-    counts: &mut GroupCounts,
+    buckets: &mut BucketsByParent<StoredTuple<Encoded, N>>,
     docs: &[DocId],
-    sources: &[CompositeAggregationSource],
-    accessors: &[CompositeSourceAccessors<'_>],
+    req: &CompositeAggReqData<'_>,
     steps: &mut Steps<L>,
 ) -> Result<(), VisitError>
-    requires { length sources.now ≡ length accessors.now }
-    ensures { AnswersDocuments sources.now accessors.now docs.now
-        (all_counts counts.old) (all_counts counts.new) steps.old steps.new result }
+    requires accessors { length req.now.req.now.sources ≡ length req.now.composite_accessors }
+    requires few { N ≤ max_sources }
+    requires room { length req.now.req.now.sources ≤ N }
+    ensures { AnswersDocuments req.now docs.now buckets.old buckets.new
+        steps.old steps.new result }
 {
-    if let [source] = sources
-        && let [own] = accessors
-    {
-        return lone::visit_lone_documents(counts, docs, source, own, steps);
+    let mut gathered = Gathered::new(alloc);
+    for doc in docs {
+        visit_document(buckets, *doc, req, &mut gathered, steps)?;
     }
-    many::visit_many_documents(alloc, counts, docs, sources, accessors, steps)
+    Ok(())
+}
+
+// Visits the tuples of a document that lie past the bound.
+fn visit_document<const N: usize, L: Ledger>(
+    buckets: &mut BucketsByParent<StoredTuple<Encoded, N>>,
+    doc: DocId,
+    req: &CompositeAggReqData<'_>,
+    gathered: &mut Gathered,
+    steps: &mut Steps<L>,
+) -> Result<(), VisitError>
+    requires accessors { length req.now.req.now.sources ≡ length req.now.composite_accessors }
+    requires few { N ≤ max_sources }
+    requires room { length req.now.req.now.sources ≤ N }
+    ensures { AnswersDocuments req.now (doc ∷ []) buckets.old buckets.new
+        steps.old steps.new result }
+{
+    let sources = req.req.sources.as_slice();
+    let accessors = req.composite_accessors.as_slice();
+    gathered.gather(sources, accessors, doc)?;
+    buckets.begin_document(doc);
+    let rest = Rest {
+        choices: gathered.choices.as_slice(),
+        sizes: gathered.sizes.as_slice(),
+        is_above: false,
+    };
+    walk_from(buckets, &mut StoredTuple::new(), &rest, steps)
+}
+
+// What a walk has left of a document: the choices of the sources that are left, end to end, how
+// many each has, and whether the keys so far are above the bound already; else they are equal to it.
+#[derive(Clone, Copy)]
+struct Rest<'a> {
+    choices: &'a [Choice],
+    sizes: &'a [usize],
+    is_above: bool,
+}
+
+// Visits the tuples that begin with these keys.
+fn walk_from<const N: usize, L: Ledger>(
+    buckets: &mut BucketsByParent<StoredTuple<Encoded, N>>,
+    tuple: &mut StoredTuple<Encoded, N>,
+    rest: &Rest<'_>,
+    steps: &mut Steps<L>,
+) -> Result<(), VisitError>
+    requires sizes { sum rest.now.sizes.now ≤ length rest.now.choices.now }
+    requires few { N ≤ max_sources }
+    requires room { length tuple.old + length rest.now.sizes.now ≤ N }
+    ensures answers { AnswersEncoded
+        (walked (parts rest.now.sizes.now rest.now.choices.now) tuple.old rest.now.is_above)
+        buckets.old buckets.new steps.old steps.new result }
+    ensures same { OnOk result (tuple.new ≡ tuple.old) }
+{
+    let Some((size, sizes)) = rest.sizes.split_first() else {
+        if rest.is_above {
+            return visit(buckets, tuple, steps);
+        }
+        return Ok(());
+    };
+    let (own, choices) = rest.choices.split_at(*size);
+    for choice in own {
+        if let Some(is_above) = standing_with(rest.is_above, choice.side) {
+            let others = Rest {
+                choices,
+                sizes,
+                is_above,
+            };
+            tuple.push(choice.value);
+            walk_from(buckets, tuple, &others, steps)?;
+            tuple.pop();
+        }
+    }
+    Ok(())
+}
+
+// Whether a tuple is above the bound with one more key; None where it is below.
+fn standing_with(was_above: bool, side: Ordering) -> Option<bool>
+    ensures { result ≡ next_standing was_above side }
+{
+    if was_above {
+        return Some(true);
+    }
+    match side {
+        Ordering::Less => None,
+        Ordering::Equal => Some(false),
+        Ordering::Greater => Some(true),
+    }
+}
+
+// Visits a tuple.
+fn visit<const N: usize, L: Ledger>(
+    buckets: &mut BucketsByParent<StoredTuple<Encoded, N>>,
+    tuple: &StoredTuple<Encoded, N>,
+    steps: &mut Steps<L>,
+) -> Result<(), VisitError>
+    ensures { AnswersEncoded (tuple.now ∷ []) buckets.old buckets.new
+        steps.old steps.new result }
+{
+    buckets.visit(tuple, steps)
 }

@@ -6,6 +6,8 @@ mod accessor;
 #[cfg(test)]
 mod after_key;
 #[cfg(test)]
+mod collector;
+#[cfg(test)]
 mod divided_accessor;
 #[cfg(test)]
 mod found;

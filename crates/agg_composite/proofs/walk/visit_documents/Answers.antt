@@ -1,23 +1,28 @@
-use Rattle.std.proofs.Common.{◌≡◌, List, [], ◌∷◌, length, get_or, sym, ap, subst, arith}
-use Rattle.agg_request_tree.specs.Source.{Sources}
-use Rattle.agg_composite.specs.Answers.{AnswersDocuments}
-use Rattle.agg_composite.specs.GroupCounts.{all_counts}
-use Rattle.agg_accessor.specs.declared.accessor.CompositeSourceAccessors.{CompositeSourceAccessors}
+use Rattle.agg_composite.proofs.DocumentsInRow.{all-documents, document-error}
+use Rattle.agg_composite.proofs.DocumentsInRow.{no-documents, one-document}
 use Rattle.agg_composite.proofs.walk.visit_documents.Goals as goal
 
--- a list of one item
-one-item : {A : Type 0} (xs : List A) (x : A) → length xs ≡ 1 → get_or xs 0 x ≡ x → x ∷ [] ≡ xs
-one-item [] x long is = absurd (omega arith)
-one-item (y ∷ []) x long is = ap (λ z. z ∷ []) (sym is)
-one-item (y ∷ z ∷ xs) x long is = absurd (omega arith)
+pub loop-doc-preserved : goal.loop-doc-preserved
+loop-doc-preserved g c =
+    one-document c.args.req.now c.args.docs.now c.loop-doc.doc-index c.args.buckets.now
+    c.loop-doc.buckets c.args.steps.now c.loop-doc.steps c.loop-doc.invariant 0
+    c.loop-doc-test.true c.visit_document.new.buckets c.visit_document.new.steps
+    c.in_ok-visit_document.ensures
+
+pub returns-in_err-visit_document : goal.returns-in_err-visit_document
+returns-in_err-visit_document g c =
+    document-error c.args.req.now c.args.docs.now c.loop-doc.doc-index c.args.buckets.now
+    c.loop-doc.buckets c.args.steps.now c.loop-doc.steps c.loop-doc.invariant 0
+    c.loop-doc-test.true c.visit_document.new.buckets c.visit_document.new.steps
+    c.in_err-visit_document.field-0.0 c.from_residual.result c.in_err-visit_document.ensures
+    c.from_residual.ensures.1
 
 pub returns : goal.returns
 returns g c =
-    let sources = one-item c.args.sources.now c.source-item.result (omega arith)
-    (sym c.source-item.is) in
-    let accessors = one-item c.args.accessors.now c.own-item.result (omega arith)
-    (sym c.own-item.is) in
-    subst (λ (p : Sources × List CompositeSourceAccessors). AnswersDocuments p.0 p.1
-    c.args.docs.now (all_counts c.args.counts.now) (all_counts c.visit_lone_documents.new.counts)
-    c.args.steps.now c.visit_lone_documents.new.steps c.visit_lone_documents.result)
-    (λ j. (sources j, accessors j)) c.visit_lone_documents.ensures
+    all-documents c.args.req.now c.args.docs.now c.loop-doc.doc-index c.args.buckets.now
+    c.loop-doc.buckets c.args.steps.now c.loop-doc.steps c.loop-doc.invariant
+    c.loop-doc-test.false
+
+pub loop-doc-init : goal.loop-doc-init
+loop-doc-init g c =
+    no-documents c.args.req.now c.args.docs.now c.args.buckets.now c.args.steps.now

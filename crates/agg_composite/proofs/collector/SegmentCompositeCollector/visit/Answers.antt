@@ -1,62 +1,79 @@
-use Rattle.std.proofs.Common.{◌≡◌, List, Ok, Err, length, sym, ap, ◌∙◌, subst}
+use Rattle.std.proofs.Common.{◌++◌, Ok, Err, length, sym, ap, ◌∙◌, refl}
 use Rattle.std.proofs.lemmas.Slice.Zip.{AllZip-long}
-use Rattle.agg_segment.specs.Segment.{documents_at}
-use Rattle.agg_request_tree.specs.Occurrences.{bound_of, past_occurrences}
-use Rattle.agg_request_tree.specs.Source.{Sources, after_of}
+use Rattle.agg_cache.specs.Waiting.{docs_of, is_id}
+use Rattle.agg_request_tree.specs.Source.{after_of}
 use Rattle.agg_accessor.specs.Accessors.{AreAccessorsOf}
-use Rattle.agg_composite.specs.Answers.{AnswersDocuments}
-use Rattle.agg_composite.specs.GroupCounts.{all_counts, settled_counts}
-use Rattle.agg_composite.specs.Visits.{HasVisited}
-use Rattle.agg_accessor.specs.declared.accessor.CompositeSourceAccessors.{CompositeSourceAccessors}
-use Rattle.agg_composite.proofs.Settled.{refused-visits, settled-visits}
+use Rattle.agg_accessor.specs.Encoding.{encoded_tuple_order}
+use Rattle.agg_buckets.specs.Node.{TooManyVisits}
+use Rattle.agg_buckets.specs.declared.visit_error.VisitError.TheVariants.{OutOfMemory}
+use Rattle.agg_composite.specs.TupleBuckets.{node_of}
+use Rattle.agg_composite.proofs.Collected.{collector-takes, walked-begun}
+use Rattle.agg_composite.proofs.VisitsInRow.{passed-on}
 use Rattle.agg_composite.proofs.collector.SegmentCompositeCollector.visit.Goals as goal
 
-pub visit_documents-requires : goal.visit_documents-requires
-visit_documents-requires g c =
+pub visit_documents-requires-clause-accessors : goal.visit_documents-requires-clause-accessors
+visit_documents-requires-clause-accessors g c =
     let req = c.args.req.now in
-    let fits = c.requires in
-    ap length c.as_slice-sources.ensures
-    ∙ sym (AllZip-long (λ source a. AreAccessorsOf fits.0 source (after_of fits.1 source) a)
+    let fits = c.requires.fits in
+    sym (AllZip-long (λ source a. AreAccessorsOf fits.0 source (after_of fits.1 source) a)
     req.req.now.sources req.composite_accessors fits.2)
-    ∙ ap length (sym c.as_slice-accessors.ensures)
 
 pub returns-in_err-visit_documents : goal.returns-in_err-visit_documents
-returns-in_err-visit_documents g c = λ segment after visited fit range before.
-    let req = c.args.req.now in
-    let held = all_counts c.forget_waiting.new.self in
-    let mid = all_counts c.visit_documents.new.counts in
-    let steps = c.args.steps.now in
-    let steps_now = c.visit_documents.new.steps in
+returns-in_err-visit_documents g c = rw (← c.self.view_is) (λ segment after fit range typed is.
+    let old = node_of c.self.inside.buckets in
     let error = c.in_err-visit_documents.field-0.0 in
-    let sources = req.req.now.sources in
-    let keys = past_occurrences sources (bound_of sources after)
-    (documents_at segment c.args.docs.now) in
-    let kept : held ≡ c.args.self.now = c.forget_waiting.ensures.all ∙ c.self.view_is in
-    let walked = subst (λ (p : Sources × List CompositeSourceAccessors).
-    AnswersDocuments p.0 p.1 c.args.docs.now held mid steps steps_now (Err error))
-    (λ j. (c.as_slice-sources.ensures j, c.as_slice-accessors.ensures j))
-    c.in_err-visit_documents.ensures in
-    refused-visits req visited keys held mid
-    (subst (HasVisited req visited) (sym kept) before) steps steps_now
-    (settled_counts c.visit_documents.new.counts) error c.from_residual.result
-    (walked segment after fit range) c.from_residual.ensures.1
+    let walked = walked-begun c.args.req.now c.args.docs.now old c.args.parent
+    (node_of c.begin_parent.new.self) (node_of c.visit_documents.new.self) c.args.steps.now
+    c.visit_documents.new.steps (Err error) c.begin_parent.ensures.node
+    c.in_err-visit_documents.ensures.answers segment after fit range typed is in
+    passed-on _ (TooManyVisits encoded_tuple_order (length typed) old) (length typed)
+    c.args.steps.now c.visit_documents.new.steps error c.from_residual.result walked.too_many
+    walked.later walked.most c.from_residual.ensures.1)
 
-pub returns : goal.returns
-returns g c = λ segment after visited fit range before.
-    let req = c.args.req.now in
-    let held = all_counts c.forget_waiting.new.self in
-    let mid = all_counts c.visit_documents.new.counts in
-    let steps = c.args.steps.now in
-    let steps_now = c.visit_documents.new.steps in
-    let sources = req.req.now.sources in
-    let keys = past_occurrences sources (bound_of sources after)
-    (documents_at segment c.args.docs.now) in
-    let kept : held ≡ c.args.self.now = c.forget_waiting.ensures.all ∙ c.self.view_is in
-    let walked = subst (λ (p : Sources × List CompositeSourceAccessors).
-    AnswersDocuments p.0 p.1 c.args.docs.now held mid steps steps_now (Ok tt))
-    (λ j. (c.as_slice-sources.ensures j, c.as_slice-accessors.ensures j))
-    c.in_ok-visit_documents.ensures in
-    settled-visits req visited keys held mid
-    (subst (HasVisited req visited) (sym kept) before) steps steps_now
-    (settled_counts c.settle.new.self) c.settle.result (walked segment after fit range)
-    c.settle.ensures.ok c.settle.ensures.too_many
+pub returns-in_err-push_all : goal.returns-in_err-push_all
+returns-in_err-push_all g c = rw (← c.self.view_is) (λ segment after fit range typed is.
+    let old = node_of c.self.inside.buckets in
+    let walked = walked-begun c.args.req.now c.args.docs.now old c.args.parent
+    (node_of c.begin_parent.new.self) (node_of c.visit_documents.new.self) c.args.steps.now
+    c.visit_documents.new.steps (Ok tt) c.begin_parent.ensures.node
+    c.in_ok-visit_documents.ensures.answers segment after fit range typed is in
+    passed-on _ (TooManyVisits encoded_tuple_order (length typed) old) (length typed)
+    c.args.steps.now c.visit_documents.new.steps OutOfMemory
+    c.from_residual-in_err-push_all.result (λ e. absurd (cc e)) walked.later walked.most
+    c.from_residual-in_err-push_all.ensures.1)
+
+pub returns-in_ok-push_all : goal.returns-in_ok-push_all
+returns-in_ok-push_all g c = rw (← c.self.view_is) (λ segment after fit range typed is.
+    let walked = walked-begun c.args.req.now c.args.docs.now (node_of c.self.inside.buckets)
+    c.args.parent (node_of c.begin_parent.new.self) (node_of c.visit_documents.new.self)
+    c.args.steps.now c.visit_documents.new.steps (Ok tt) c.begin_parent.ensures.node
+    c.in_ok-visit_documents.ensures.answers segment after fit range typed is in
+    record {
+      ok = collector-takes g.C.SubAggCache.waiting c.args.req.now c.args.parent typed _ _ walked.ok
+          (c.in_ok-visit_documents.ensures.room ∙ c.begin_parent.ensures.room) refl
+          (λ hands id. c.in_ok-push_all.ensures id
+          ∙ ap (λ ps. g.C.SubAggCache.waiting c.self.inside.cache.0 id ++ docs_of (is_id id) ps)
+          c.pushes.ensures)
+          (λ none. absurd (cc (sym c.if-self.true ∙ none)));
+      least = walked.least;
+      too_many = λ e. absurd (cc e);
+      later = walked.later;
+      most = walked.most;
+    })
+
+pub returns-else-self : goal.returns-else-self
+returns-else-self g c = rw (← c.self.view_is) (λ segment after fit range typed is.
+    let walked = walked-begun c.args.req.now c.args.docs.now (node_of c.self.inside.buckets)
+    c.args.parent (node_of c.begin_parent.new.self) (node_of c.visit_documents.new.self)
+    c.args.steps.now c.visit_documents.new.steps (Ok tt) c.begin_parent.ensures.node
+    c.in_ok-visit_documents.ensures.answers segment after fit range typed is in
+    record {
+      ok = collector-takes g.C.SubAggCache.waiting c.args.req.now c.args.parent typed _ _ walked.ok
+          (c.in_ok-visit_documents.ensures.room ∙ c.begin_parent.ensures.room) refl
+          (λ hands id. absurd (cc (sym c.if-self.false ∙ hands)))
+          (λ none. refl);
+      least = walked.least;
+      too_many = λ e. absurd (cc e);
+      later = walked.later;
+      most = walked.most;
+    })

@@ -1,0 +1,188 @@
+-- The buckets of a parent: the groups of what was visited under it, as the entries of a page.
+use denote.Ref.{Bor}
+use Rattle.std.proofs.Common.{◌≡◌, ◌==◌, ◌++◌, ◌+◌, ◌<◌, ◌≤◌, ℕ, zero, suc, Bool, true, false}
+use Rattle.std.proofs.Common.{List, [], ◌∷◌, All, length}
+use Rattle.std.proofs.Common.{take, map, get_or, refl, sym, ap, ◌∙◌, subst, arith}
+use Rattle.std.specs.Prelude.{if◌then◌else◌}
+use Rattle.std.specs.List.{AllByRecursion, AllZip}
+use Rattle.std.specs.Map.{keys_of}
+use Rattle.std.specs.Map.Iter.{deref_pair}
+use Rattle.std.proofs.lemmas.List.{get_or-map, length-map, map-append, take_all}
+use Rattle.std.proofs.lemmas.List.{take_more}
+use Rattle.std.proofs.lemmas.List.Elements.{All-from_recursion, recursion_from_All}
+use Rattle.agg_values.specs.Names.{Named}
+use Rattle.agg_values.specs.Tuple.{KeyTuple}
+use Rattle.agg_values.specs.declared.after_key.AfterKey.{AfterKey}
+use Rattle.agg_segment.specs.Segment.{Stored}
+use Rattle.agg_request_tree.specs.Groups.{Group, Groups}
+use Rattle.agg_request_tree.specs.Source.{rules_of}
+use Rattle.agg_request_tree.proofs.Lists.{All-from_map}
+use Rattle.agg_accessor.specs.Accessors.{Fits}
+use Rattle.agg_accessor.specs.Decoded.{IsEncoded, decoded}
+use Rattle.agg_accessor.specs.Encoding.{EncodedTuple, StandsForTuple, encoded_tuple_order}
+use Rattle.agg_accessor.specs.declared.request_data.CompositeAggReqData.{CompositeAggReqData}
+use Rattle.agg_accessor.proofs.EncodedOrder.{tuple-exact, tuple_order-total}
+use Rattle.agg_buckets.specs.Cut.{counts_of, cut, groups_of, tuples_under}
+use Rattle.agg_buckets.specs.Page.{Page}
+use Rattle.agg_buckets.specs.Visits.{Visit}
+use Rattle.agg_buckets.specs.declared.bucket.Bucket.{Bucket}
+use Rattle.agg_buckets.proofs.CutPages.{have-the-cut}
+use Rattle.agg_composite.specs.Composite.{Composite, CompositeFor, page_of}
+use Rattle.agg_composite.specs.PageEntries.{decoded_buckets, decoded_groups, entry_bucket}
+use Rattle.agg_composite.specs.PageEntries.{entry_group}
+use Rattle.agg_composite.specs.Visits.{StandsForVisit, TypedVisit}
+use Rattle.agg_composite.specs.declared.page_entry.PageEntry.{PageEntry}
+use Rattle.agg_composite.proofs.TypedGroups.{groups-encoded, groups-typed}
+
+-- ---- what was visited under a parent
+
+module _ (req : CompositeAggReqData) (parent : ℕ) where
+  stand-if : (b : Bool) (t : EncodedTuple) (k : KeyTuple) (ts : List EncodedTuple)
+      (ks : List KeyTuple) → StandsForTuple req t k → AllZip (StandsForTuple req) ts ks
+      → AllZip (StandsForTuple req)
+      ((if b then t ∷ [] else []) ++ ts) ((if b then k ∷ [] else []) ++ ks)
+  stand-if true t k ts ks one rest = (one, rest)
+  stand-if false t k ts ks one rest = rest
+
+  -- the tuples that were visited under a parent stand for those of the typed visits
+  under-stand : (visits : List (Visit EncodedTuple)) (typed : List TypedVisit)
+      → AllZip (StandsForVisit req) visits typed
+      → AllZip (StandsForTuple req) (tuples_under parent visits) (tuples_under parent typed)
+  under-stand [] [] h = tt
+  under-stand [] (k ∷ typed) h = absurd h
+  under-stand (v ∷ visits) [] h = absurd h
+  under-stand (v ∷ visits) (k ∷ typed) h =
+      subst
+      (λ p. AllZip (StandsForTuple req) (tuples_under parent (v ∷ visits))
+      ((if parent == p then k.0.1 ∷ [] else []) ++ tuples_under parent typed))
+      h.0.0
+      (stand-if (parent == v.0.0) v.0.1 k.0.1 (tuples_under parent visits)
+      (tuples_under parent typed) h.0.1 (under-stand visits typed h.1))
+
+-- the tuples of a page are those of its counts
+keys-counts : (page : Page EncodedTuple) → keys_of (counts_of page) ≡ keys_of page
+keys-counts [] = refl
+keys-counts (e ∷ page) = ap (λ ks. e.0 ∷ ks) (keys-counts page)
+
+-- what holds of the tuples of all counts holds of those of the first
+keys-first : (P : EncodedTuple → Type 0) (n : ℕ) (counts : List (EncodedTuple × ℕ))
+    → AllByRecursion P (keys_of counts) → AllByRecursion P (keys_of (take n counts))
+keys-first P zero counts all = tt
+keys-first P (suc n) [] all = tt
+keys-first P (suc n) (e ∷ counts) all = (all.0, keys-first P n counts all.1)
+
+-- ---- a page as groups
+
+-- a bucket as a group
+abbrev bucket_group : KeyTuple × Bucket → Group
+bucket_group e = (e.0, e.1.count)
+
+groups-entries : (entries : List PageEntry)
+    → map entry_group entries ≡ map bucket_group (map entry_bucket entries)
+groups-entries [] = refl
+groups-entries (e ∷ entries) = ap (λ (gs : List Group). entry_group e ∷ gs) (groups-entries entries)
+
+groups-buckets : (req : CompositeAggReqData) (page : Page EncodedTuple)
+    → map bucket_group (decoded_buckets req page) ≡ decoded_groups req (counts_of page)
+groups-buckets req [] = refl
+groups-buckets req (e ∷ page) =
+    ap (λ (gs : List Group). (decoded req e.0, e.1.count) ∷ gs) (groups-buckets req page)
+
+groups-first : (req : CompositeAggReqData) (n : ℕ) (counts : List (EncodedTuple × ℕ))
+    → decoded_groups req (take n counts) ≡ take n (decoded_groups req counts)
+groups-first req zero counts = refl
+groups-first req (suc n) [] = refl
+groups-first req (suc n) (e ∷ counts) =
+    ap (λ (gs : List Group). (decoded req e.0, e.1) ∷ gs) (groups-first req n counts)
+
+-- ---- references to the buckets of a page
+
+module _ (req : CompositeAggReqData) (shown : List (Bor EncodedTuple × Bor Bucket))
+    (page : Page EncodedTuple) (all : map deref_pair shown ≡ page) (i : ℕ)
+    (e : Bor EncodedTuple × Bor Bucket) (l : i < length shown) (is : e ≡ get_or shown i e) where
+  within : i < length page
+  within =
+      let many = ap length (sym all) ∙ length-map shown deref_pair in
+      omega (arith, many)
+
+  -- the one at a place is to the bucket at that place
+  shown-at : get_or page i (deref_pair e) ≡ deref_pair e
+  shown-at =
+      ap (λ es. get_or es i (deref_pair e)) (sym all)
+      ∙ get_or-map deref_pair shown i e (deref_pair e) l
+      ∙ ap deref_pair (sym is)
+
+  -- and so stands for a tuple where those of the page do
+  pub shown-encoded : All (IsEncoded req) (keys_of page) → IsEncoded req e.0.now
+  shown-encoded encoded =
+      subst (λ (x : EncodedTuple × Bucket). IsEncoded req x.0) shown-at
+      (All-from_map (IsEncoded req) (λ x. x.0) page encoded i (deref_pair e) within)
+
+  -- an entry more is that of one bucket more
+  pub entries-more : (entries entries_now : List PageEntry) (entry : PageEntry) (t : EncodedTuple)
+      → entries_now ≡ entries ++ entry ∷ []
+      → map entry_bucket entries ≡ decoded_buckets req (take i page)
+      → entry_bucket entry ≡ (decoded req t, e.1.now) → t ≡ e.0.now
+      → map entry_bucket entries_now ≡ decoded_buckets req (take (i + 1) page)
+  entries-more entries entries_now entry t pushed so_far one same =
+      ap (map entry_bucket) pushed
+      ∙ map-append entry_bucket entries (entry ∷ [])
+      ∙ (λ j. so_far j ++ one j ∷ [])
+      ∙ (λ j. decoded_buckets req (take i page) ++ (decoded req (same j), e.1.now) ∷ [])
+      ∙ ap (λ (x : EncodedTuple × Bucket). decoded_buckets req (take i page)
+      ++ (decoded req x.0, x.1) ∷ []) (sym shown-at)
+      ∙ sym (map-append _ (take i page) (get_or page i (deref_pair e) ∷ []))
+      ∙ ap (decoded_buckets req) (sym (take_more page i (deref_pair e) within))
+
+-- the entries of all that are shown are those of the page
+pub entries-all : (req : CompositeAggReqData) (shown : List (Bor EncodedTuple × Bor Bucket))
+    (page : Page EncodedTuple) → map deref_pair shown ≡ page → (n : ℕ) → length shown ≤ n
+    → decoded_buckets req (take n page) ≡ decoded_buckets req page
+entries-all req shown page all n l =
+    let many = ap length (sym all) ∙ length-map shown deref_pair in
+    ap (decoded_buckets req) (take_all n page (omega (arith, many)))
+
+-- ---- the page of a collector
+
+module _ {C : Type 0} (waiting : C → ℕ → List ℕ) (req : CompositeAggReqData)
+    (collector : Composite C) (visited : List TypedVisit) (given : List (ℕ × ℕ)) (parent : ℕ)
+    (f : CompositeFor waiting req collector visited given) where
+  -- the encoded tuples that were visited under the parent
+  abbrev encoded_tuples : List EncodedTuple
+  encoded_tuples = tuples_under parent f.visits
+
+  -- the counts of the page are the lowest groups of them
+  page-cut : counts_of (page_of collector parent) ≡ cut encoded_tuple_order req.size encoded_tuples
+  page-cut =
+      have-the-cut encoded_tuple_order tuple_order-total tuple-exact req.size collector.node.parents
+      collector.node.next f.visits f.handed f.buckets parent
+
+  -- its tuples stand for tuples
+  pub page-encoded : All (IsEncoded req) (keys_of (page_of collector parent))
+  page-encoded =
+      let all = recursion_from_All (IsEncoded req)
+      (keys_of (groups_of encoded_tuple_order encoded_tuples))
+      (groups-encoded req encoded_tuples (tuples_under parent visited)
+      (under-stand req parent f.visits visited f.stand)) in
+      subst (All (IsEncoded req))
+      (ap keys_of (sym page-cut) ∙ keys-counts (page_of collector parent))
+      (All-from_recursion (IsEncoded req)
+      (keys_of (cut encoded_tuple_order req.size encoded_tuples))
+      (keys-first (IsEncoded req) req.size (groups_of encoded_tuple_order encoded_tuples) all))
+
+  -- and its entries are the lowest groups of the tuples that were visited under the parent
+  pub page-groups : (segment : Stored) (after : Named AfterKey) → Fits segment after req
+      → (entries : List PageEntry)
+      → map entry_bucket entries ≡ decoded_buckets req (page_of collector parent)
+      → (groups : List Group)
+      × Groups (rules_of req.req.now.sources) (tuples_under parent visited) groups
+      × (map entry_group entries ≡ take req.size groups)
+  page-groups segment after fits entries e = (
+    decoded_groups req (groups_of encoded_tuple_order encoded_tuples),
+    groups-typed segment after req fits encoded_tuples (tuples_under parent visited)
+        (under-stand req parent f.visits visited f.stand),
+    groups-entries entries ∙ ap (map bucket_group) e
+        ∙ groups-buckets req (page_of collector parent)
+        ∙ ap (decoded_groups req) page-cut
+        ∙ groups-first req req.size (groups_of encoded_tuple_order encoded_tuples),
+  )

@@ -1,0 +1,105 @@
+use Rattle.std.proofs.Common.{rules, ◌≡◌, ◌≤◌, ◌+◌, ℕ, List, [], ◌∷◌, Ok, Err, length, sum, arith}
+use Rattle.std.proofs.Common.{length-append, sym, ap, ◌∙◌, subst}
+use Rattle.std.proofs.lemmas.List.Sums.{sum_by-cons}
+use Rattle.agg_accessor.specs.Encoding.{EncodedTuple}
+use Rattle.agg_buckets.specs.Node.{Node}
+use Rattle.agg_composite.specs.Answers.{AnswersEncoded}
+use Rattle.agg_composite.specs.Walk.{parts, walked}
+use Rattle.agg_composite.specs.declared.walk.choice.Choice.{Choice}
+use Rattle.agg_composite.proofs.TuplesInRow.{TooMany, Visited, encoded-visits}
+use Rattle.agg_composite.proofs.VisitsInRow.{SoFar, error-visited, none-visited, one-visited}
+use Rattle.agg_composite.proofs.Walking.{choices-append, taken-away, walked-after, walked-below}
+use Rattle.agg_composite.proofs.walk.+walk_from.Goals as goal
+use Rattle.agg_composite.proofs.walk.+walk_from.Goals.{in-Some-standing_with+in_ok-walk_from}
+use Rattle.agg_composite.proofs.walk.+walk_from.Goals.{in_default-standing_with}
+
+pub walk_from-requires : goal.walk_from-requires
+walk_from-requires g t c κs within =
+    let long = ap length c.push.ensures
+    ∙ length-append c.loop-choice.tuple (_ ∷ []) in
+    let same = ap length c.loop-choice.invariant.same in
+    let sizes : c.in-Some.size.now ∷ c.in-Some.sizes.now ≡ c.args.rest.now.sizes.now =
+    search rules in
+    let all = ap length sizes in
+    let fits : length c.push.new.self + length c.in-Some.sizes.now ≤ g.row.N =
+    omega (arith, long, same, all, c.requires.room) in
+    let total = sum_by-cons (λ n. n) c.in-Some.size.now c.in-Some.sizes.now in
+    let whole = ap sum sizes in
+    let enough : sum c.in-Some.sizes.now ≤ length c.split_at.result.1.now =
+    omega (arith, total, whole, c.requires.sizes, c.split_at.ensures.back_len) in
+    (search rules, (search rules, (search rules, (search rules, (enough, (search rules, fits))))))
+
+pub returns-in_err-walk_from-clause-answers : goal.returns-in_err-walk_from-clause-answers
+returns-in_err-walk_from-clause-answers g t c =
+    let own = c.split_at.result.0.now in
+    let rest = parts c.in-Some.sizes.now c.split_at.result.1.now in
+    let front = c.args.tuple.now in
+    let above = c.args.rest.now.is_above in
+    let standing = c.in-Some-standing_with.is_above in
+    let i = c.loop-choice.choice-index in
+    let now = c.loop-choice.buckets in
+    let after = c.walk_from.new.buckets in
+    let visited : List Choice → List EncodedTuple = λ cs. walked (cs ∷ rest) front above in
+    let error = c.in_err-walk_from.field-0.0 in
+    let sizes : c.in-Some.size.now ∷ c.in-Some.sizes.now ≡ c.args.rest.now.sizes.now =
+    search rules in
+    let rows : own ∷ rest ≡ parts c.args.rest.now.sizes.now c.args.rest.now.choices.now =
+    (λ j. c.split_at.ensures.front j ∷ parts c.in-Some.sizes.now (c.split_at.ensures.back j))
+    ∙ ap (λ ns. parts ns c.args.rest.now.choices.now) sizes in
+    subst (λ (rs : List (List Choice)). AnswersEncoded (walked rs front above) c.args.buckets.now
+    after c.args.steps.now c.walk_from.new.steps c.from_residual.result) rows
+    (error-visited Visited TooMany encoded-visits visited (choices-append rest front above)
+    own i c.args.buckets.now now c.args.steps.now c.loop-choice.steps
+    c.loop-choice.invariant.answers _ c.loop-choice-test.true after c.walk_from.new.steps error
+    c.from_residual.result
+    (subst (λ ts. AnswersEncoded ts now after c.loop-choice.steps c.walk_from.new.steps (Err error))
+    (walked-after _ rest front c.loop-choice.tuple c.push.new.self above standing c.push.ensures
+    c.loop-choice.invariant.same c.in-Some-standing_with.ensures)
+    c.in_err-walk_from.ensures.answers)
+    c.from_residual.ensures.1)
+
+pub loop-choice-preserved : goal.loop-choice-preserved
+loop-choice-preserved g t c =
+    let own = c.split_at.result.0.now in
+    let rest = parts c.in-Some.sizes.now c.split_at.result.1.now in
+    let front = c.args.tuple.now in
+    let above = c.args.rest.now.is_above in
+    let i = c.loop-choice.choice-index in
+    let now = c.loop-choice.buckets in
+    let visited : List Choice → List EncodedTuple = λ cs. walked (cs ∷ rest) front above in
+    elim c.match-standing_with.branch [
+      | in-Some-standing_with+in_ok-walk_from w ↦
+          let after = w.walk_from.new.buckets in
+          let standing = w.in-Some-standing_with.is_above in
+          record {
+            answers =
+                subst (λ (s : Node EncodedTuple × ℕ). SoFar Visited visited own (i + 1)
+                c.args.buckets.now s.0 c.args.steps.now s.1)
+                (λ j. (sym w.buckets-is j, sym w.steps-is j))
+                (one-visited Visited TooMany encoded-visits visited
+                (choices-append rest front above) own i c.args.buckets.now now c.args.steps.now
+                c.loop-choice.steps c.loop-choice.invariant.answers _ c.loop-choice-test.true after
+                w.walk_from.new.steps
+                (subst (λ ts. AnswersEncoded ts now after c.loop-choice.steps w.walk_from.new.steps
+                (Ok tt))
+                (walked-after _ rest front c.loop-choice.tuple w.push.new.self above standing
+                w.push.ensures c.loop-choice.invariant.same w.in-Some-standing_with.ensures)
+                w.in_ok-walk_from.ensures.answers));
+            same = w.tuple-is ∙ w.pop.ensures
+                ∙ taken-away front c.loop-choice.tuple w.push.new.self w.walk_from.new.tuple _
+                w.push.ensures c.loop-choice.invariant.same w.in_ok-walk_from.ensures.same;
+          }
+      | in_default-standing_with w ↦ record {
+        answers =
+            subst (λ (s : Node EncodedTuple × ℕ). SoFar Visited visited own (i + 1)
+            c.args.buckets.now s.0 c.args.steps.now s.1)
+            (λ j. (sym w.buckets-is j, sym w.steps-is j))
+            (one-visited Visited TooMany encoded-visits visited (choices-append rest front above)
+            own i c.args.buckets.now now c.args.steps.now c.loop-choice.steps
+            c.loop-choice.invariant.answers _ c.loop-choice-test.true now c.loop-choice.steps
+            (subst (λ ts. AnswersEncoded ts now now c.loop-choice.steps c.loop-choice.steps (Ok tt))
+            (walked-below _ rest front above w.in_default-standing_with.ensures)
+            (none-visited Visited TooMany encoded-visits now c.loop-choice.steps)));
+        same = w.tuple-is ∙ c.loop-choice.invariant.same;
+      }
+    ]

@@ -1,0 +1,138 @@
+//! The buckets of each parent, by tuples of as many keys as a composite has sources.
+ghost use Rattle.std.specs.Prelude.{◌≡◌, ◌≤◌, ◌<◌, [], ◌∷◌, All, IfOk, OnOk, get_or, length, map};
+ghost use Rattle.std.specs.Map.{keys_of};
+ghost use Rattle.agg_request_tree.specs.Faults.{max_sources};
+ghost use Rattle.agg_accessor.specs.Decoded.{IsEncoded};
+ghost use Rattle.agg_buckets.specs.Node.{IsNew, Prepares};
+ghost use Rattle.agg_composite.specs.Answers.{AnswersDocuments};
+ghost use Rattle.agg_composite.specs.PageEntries.{decoded_buckets, entry_bucket};
+ghost use Rattle.agg_composite.specs.TupleBuckets.{node_of, room_of};
+
+use crate::PageEntry;
+use crate::page::entries_of;
+use crate::stored_tuple::StoredTuple;
+use crate::walk::visit_documents;
+use agg_accessor::{CompositeAggReqData, Encoded};
+use agg_buckets::{BucketsByParent, VisitError};
+use agg_cache::BucketId;
+use agg_values::{DocId, ItemList, OutOfMemory, Steps};
+use std::alloc::Global;
+use std::sync::ledger::Ledger;
+
+/// The buckets of each parent by encoded tuple, with room in each tuple for as many keys as it may
+/// have.
+#[derive(Drop)]
+pub enum TupleBuckets {
+    One(BucketsByParent<StoredTuple<Encoded, 1>>),
+    Two(BucketsByParent<StoredTuple<Encoded, 2>>),
+    Four(BucketsByParent<StoredTuple<Encoded, 4>>),
+    Eight(BucketsByParent<StoredTuple<Encoded, 8>>),
+    Sixteen(BucketsByParent<StoredTuple<Encoded, 16>>),
+}
+
+impl TupleBuckets {
+    /// One parent without buckets, for tuples of so many sources.
+    pub fn new(alloc: Global, num_sources: usize) -> Result<TupleBuckets, OutOfMemory>
+        requires { num_sources ≤ max_sources }
+        ensures empty { IfOk result (λ buckets. IsNew (node_of buckets)) }
+        ensures room { IfOk result (λ buckets. num_sources ≤ room_of buckets) }
+    {
+        let buckets = match num_sources {
+            0 | 1 => TupleBuckets::One(BucketsByParent::new(alloc)?),
+            2 => TupleBuckets::Two(BucketsByParent::new(alloc)?),
+            3 | 4 => TupleBuckets::Four(BucketsByParent::new(alloc)?),
+            5..=8 => TupleBuckets::Eight(BucketsByParent::new(alloc)?),
+            _ => TupleBuckets::Sixteen(BucketsByParent::new(alloc)?),
+        };
+        Ok(buckets)
+    }
+
+    /// Prepares parents without buckets, up to this one.
+    pub fn prepare(&mut self, max_parent: BucketId) -> Result<(), OutOfMemory>
+        ensures same { Prepares (node_of self.old) (node_of self.new) }
+        ensures prepared { OnOk result (max_parent < length (node_of self.new).parents) }
+        ensures room { room_of self.new ≡ room_of self.old }
+    {
+        match self {
+            TupleBuckets::One(buckets) => buckets.prepare(max_parent),
+            TupleBuckets::Two(buckets) => buckets.prepare(max_parent),
+            TupleBuckets::Four(buckets) => buckets.prepare(max_parent),
+            TupleBuckets::Eight(buckets) => buckets.prepare(max_parent),
+            TupleBuckets::Sixteen(buckets) => buckets.prepare(max_parent),
+        }
+    }
+
+    /// Visits documents of this parent from here on, which has so many buckets at most. What was to
+    /// be handed on is forgotten.
+    pub fn begin_parent(&mut self, parent: BucketId, size: usize)
+        requires { parent < length (node_of self.old).parents }
+        ensures node { node_of self.new
+            ≡ record (node_of self.old) { parent = parent; size = size; pushes = [] } }
+        ensures room { room_of self.new ≡ room_of self.old }
+    {
+        match self {
+            TupleBuckets::One(buckets) => buckets.begin_parent(parent, size),
+            TupleBuckets::Two(buckets) => buckets.begin_parent(parent, size),
+            TupleBuckets::Four(buckets) => buckets.begin_parent(parent, size),
+            TupleBuckets::Eight(buckets) => buckets.begin_parent(parent, size),
+            TupleBuckets::Sixteen(buckets) => buckets.begin_parent(parent, size),
+        }
+    }
+
+    /// Visits the tuples of the documents at these places that lie past the bound, in the order of
+    /// their occurrences.
+    pub fn visit_documents<L: Ledger>(
+        &mut self,
+        alloc: Global,
+        docs: &[DocId],
+        req: &CompositeAggReqData<'_>,
+        steps: &mut Steps<L>,
+    ) -> Result<(), VisitError>
+        requires accessors { length req.now.req.now.sources ≡ length req.now.composite_accessors }
+        requires room { length req.now.req.now.sources ≤ room_of self.old }
+        ensures answers { AnswersDocuments req.now docs.now (node_of self.old) (node_of self.new)
+            steps.old steps.new result }
+        ensures room { room_of self.new ≡ room_of self.old }
+    {
+        match self {
+            TupleBuckets::One(buckets) => visit_documents(alloc, buckets, docs, req, steps),
+            TupleBuckets::Two(buckets) => visit_documents(alloc, buckets, docs, req, steps),
+            TupleBuckets::Four(buckets) => visit_documents(alloc, buckets, docs, req, steps),
+            TupleBuckets::Eight(buckets) => visit_documents(alloc, buckets, docs, req, steps),
+            TupleBuckets::Sixteen(buckets) => visit_documents(alloc, buckets, docs, req, steps),
+        }
+    }
+
+    /// What was visited under ids since this was last forgotten.
+    pub fn pushes(&self) -> &[(BucketId, DocId)]
+        ensures { result.now ≡ (node_of self.now).pushes }
+    {
+        match self {
+            TupleBuckets::One(buckets) => buckets.pushes(),
+            TupleBuckets::Two(buckets) => buckets.pushes(),
+            TupleBuckets::Four(buckets) => buckets.pushes(),
+            TupleBuckets::Eight(buckets) => buckets.pushes(),
+            TupleBuckets::Sixteen(buckets) => buckets.pushes(),
+        }
+    }
+
+    /// The buckets of a parent, ascending, as the entries of a page: none where it isn't prepared.
+    pub fn page(
+        &self,
+        alloc: Global,
+        parent: BucketId,
+        req: &CompositeAggReqData<'_>,
+    ) -> Result<ItemList<PageEntry>, OutOfMemory>
+        requires { All (IsEncoded req.now) (keys_of (get_or (node_of self.now).parents parent [])) }
+        ensures { IfOk result (λ page. map entry_bucket page
+            ≡ decoded_buckets req.now (get_or (node_of self.now).parents parent [])) }
+    {
+        match self {
+            TupleBuckets::One(buckets) => entries_of(alloc, buckets, parent, req),
+            TupleBuckets::Two(buckets) => entries_of(alloc, buckets, parent, req),
+            TupleBuckets::Four(buckets) => entries_of(alloc, buckets, parent, req),
+            TupleBuckets::Eight(buckets) => entries_of(alloc, buckets, parent, req),
+            TupleBuckets::Sixteen(buckets) => entries_of(alloc, buckets, parent, req),
+        }
+    }
+}

@@ -1,0 +1,238 @@
+//! Tests of collectors: pages that are full, parents in any order, and what is handed on.
+ghost use Rattle.std.specs.Prelude.{◌≡◌, ◌≤◌, ◌<◌, [], IfOk, OnOk, length};
+ghost use Rattle.agg_values.specs.Names.{Named};
+ghost use Rattle.agg_values.specs.declared.after_key.AfterKey.{AfterKey};
+ghost use Rattle.agg_segment.specs.Segment.{Stored};
+ghost use Rattle.agg_accessor.specs.Accessors.{Fits};
+ghost use Rattle.agg_request_tree.specs.Faults.{max_sources};
+ghost use Rattle.agg_accessor.specs.declared.request_data.CompositeAggReqData as declared;
+ghost use Rattle.agg_composite.specs.Composite.{CompositeFor};
+ghost use Rattle.agg_composite_tests.specs.Right.{IsRight};
+
+use agg_cache::{BucketId, LowCardSubAggCache, SubAggCache};
+use agg_composite::{
+    CompositeAggReqData, CompositeSourceAccessors, PageEntry, SegmentCompositeCollector,
+};
+use agg_request_tree::CompositeAggregation;
+use agg_request_tree_tests::given::{GivenSource, Kind, composite_of};
+use agg_segment::SegmentReader;
+use agg_segment_tests::given::{Given, segment_of};
+use agg_values::{CompositeIntermediateKey, DocId, ItemList, OutOfMemory, Steps, Text};
+use std::alloc::Global;
+use std::marker::Brand;
+use std::process::Abort;
+use std::sync::ledger::{Blank, Ledger};
+use std::test::Fail;
+
+// The values of a document.
+type Values = &'static [(&'static str, Given)];
+
+// A bucket of one or two signed keys: these, how many documents it has, and its id.
+type Shown = (Option<i64>, Option<i64>, u64, BucketId);
+
+const DOCUMENTS: &[Values] = &[
+    &[("a", Given::Signed(5)), ("b", Given::Signed(1))],
+    &[("a", Given::Signed(7)), ("b", Given::Signed(1))],
+    &[("a", Given::Signed(6))],
+    &[("a", Given::Signed(7)), ("b", Given::Signed(2))],
+    &[("a", Given::Signed(5)), ("b", Given::Signed(0))],
+    &[("b", Given::Signed(3))],
+];
+
+// What a collector is asked in a segment, from the first tuple on.
+fn request_in<'s>(
+    alloc: Global,
+    segment: &'s SegmentReader,
+    composite: &'s CompositeAggregation,
+) -> Result<CompositeAggReqData<'s>, Fail>
+    ensures fits { IfOk result (Fits segment.now []) }
+    ensures composite { IfOk result (λ req. req.req.now ≡ composite.now) }
+{
+    let mut accessors = ItemList::new(alloc);
+    for source in composite.sources.as_slice() {
+        let built = CompositeSourceAccessors::build_for_source(alloc, segment, source, None)?;
+        accessors.push(built)?;
+    }
+    Ok(CompositeAggReqData {
+        name: Text::copy_of(alloc, "g")?,
+        req: composite,
+        size: composite.size,
+        composite_accessors: accessors,
+    })
+}
+
+// A collector of so many sources, which hands documents on or doesn't.
+fn new_collector<C: SubAggCache>(
+    alloc: Global,
+    num_sources: usize,
+    hands_on: bool,
+) -> Result<SegmentCompositeCollector<C>, OutOfMemory>
+    requires some { 1 ≤ num_sources }
+    requires few { num_sources ≤ max_sources }
+    ensures empty { IfOk result (λ collector. (req : declared.CompositeAggReqData)
+        → CompositeFor C.waiting req collector [] []) }
+    ensures room { IfOk result (λ collector. num_sources ≤ collector.room) }
+{
+    if hands_on {
+        return SegmentCompositeCollector::new(alloc, num_sources);
+    }
+    SegmentCompositeCollector::new_leaf(alloc, num_sources)
+}
+
+// A collector for a composite, with two parents.
+fn collector_for<C: SubAggCache>(
+    rt: &(impl Abort + AllocGlobal),
+    req: &CompositeAggReqData<'_>,
+    hands_on: bool,
+) -> Result<SegmentCompositeCollector<C>, Fail>
+    ensures right { IfOk result (λ collector. IsRight C.waiting req.now collector) }
+    ensures parents { IfOk result (λ collector. 1 < length collector.node.parents) }
+    ensures room { IfOk result (λ collector. length req.now.req.now.sources ≤ collector.room) }
+{
+    let num_sources = req.req.sources.as_slice().len();
+    assert!(rt; 1 <= num_sources && num_sources <= 16);
+    let mut collector = new_collector(rt.alloc(), num_sources, hands_on)?;
+    collector.prepare_max_bucket(1)?;
+    Ok(collector)
+}
+
+// Collects documents under a parent.
+fn collect<C: SubAggCache, L: Ledger>(
+    collector: &mut SegmentCompositeCollector<C>,
+    parent: BucketId,
+    docs: &[DocId],
+    req: &CompositeAggReqData<'_>,
+    steps: &mut Steps<L>,
+) -> Result<(), Fail>
+    requires right { IsRight C.waiting req.now collector.old }
+    requires parent { parent < length collector.old.node.parents }
+    requires fits { (segment : Stored) × (after : Named AfterKey) × Fits segment after req.now }
+    requires room { length req.now.req.now.sources ≤ collector.old.room }
+    ensures right { OnOk result (IsRight C.waiting req.now collector.new) }
+    ensures parents { OnOk result
+        (length collector.new.node.parents ≡ length collector.old.node.parents) }
+    ensures room { OnOk result (collector.new.room ≡ collector.old.room) }
+{
+    collector.collect(parent, docs, req, steps)?;
+    Ok(())
+}
+
+// A signed key of an entry.
+fn number_of(entry: &PageEntry, index: usize) -> Option<i64> {
+    match entry.key.as_slice().get(index) {
+        Some(CompositeIntermediateKey::I64(number)) => Some(*number),
+        _ => None,
+    }
+}
+
+// What the entries of a parent's page say.
+fn shown<C: SubAggCache>(
+    alloc: Global,
+    collector: &SegmentCompositeCollector<C>,
+    parent: BucketId,
+    req: &CompositeAggReqData<'_>,
+) -> Result<Vec<Shown>, Fail>
+    requires right { IsRight C.waiting req.now collector.now }
+    requires fits { (segment : Stored) × (after : Named AfterKey) × Fits segment after req.now }
+{
+    let mut shown = Vec::new(alloc);
+    for entry in collector.page(parent, req)?.as_slice() {
+        let (first, second) = (number_of(entry, 0), number_of(entry, 1));
+        shown.push((first, second, entry.doc_count, entry.bucket_id))?;
+    }
+    Ok(shown)
+}
+
+// The documents that are handed on, with the ids of their buckets.
+fn taken<C: SubAggCache>(
+    alloc: Global,
+    collector: &mut SegmentCompositeCollector<C>,
+) -> Result<Vec<(BucketId, DocId)>, Fail> {
+    let mut taken = Vec::new(alloc);
+    for batch in collector.take()?.as_slice() {
+        for doc in batch.docs.as_slice() {
+            taken.push((batch.bucket_id, *doc))?;
+        }
+    }
+    Ok(taken)
+}
+
+// A composite with what its collector shows of the parents 1 and 0.
+struct Pages {
+    fields: &'static [&'static str],
+    first: &'static [Shown],
+    second: &'static [Shown],
+    taken: &'static [(BucketId, DocId)],
+}
+
+const PAGES: &[Pages] = &[
+    Pages {
+        fields: &["a"],
+        first: &[(Some(5), None, 2, 0), (Some(6), None, 1, 3)],
+        second: &[(Some(6), None, 1, 2)],
+        taken: &[(0, 0), (0, 4), (1, 1), (2, 2), (3, 2)],
+    },
+    Pages {
+        fields: &["a", "b"],
+        first: &[(Some(5), Some(0), 1, 2), (Some(5), Some(1), 1, 0)],
+        second: &[],
+        taken: &[(0, 0), (1, 1), (2, 4)],
+    },
+];
+
+// A collector shows these pages, and hands these documents on, if it hands any on.
+fn expect_pages<C: SubAggCache, L: Ledger>(
+    rt: &(impl Abort + AllocGlobal),
+    pages: &Pages,
+    hands_on: bool,
+    blank: Blank,
+) -> Result<(), Fail>
+    requires name { blank.name ≡ L.name }
+    requires parts { blank.parts ≡ L.parts }
+    requires shared { 0 < L.parts }
+{
+    let alloc = rt.alloc();
+    let segment = segment_of(alloc, DOCUMENTS)?;
+    let composite = composite_over(alloc, pages.fields)?;
+    let req = request_in(alloc, &segment, &composite)?;
+    let mut steps: Steps<L> = Steps::new(blank);
+    let mut collector: SegmentCompositeCollector<C> = collector_for(rt, &req, hands_on)?;
+    collect(&mut collector, 1, &[0, 1], &req, &mut steps)?;
+    collect(&mut collector, 0, &[2], &req, &mut steps)?;
+    collect(&mut collector, 1, &[2, 3, 4, 5], &req, &mut steps)?;
+    let second = shown(alloc, &collector, 0, &req)?;
+    assert_eq!(rt; shown(alloc, &collector, 1, &req)?.as_slice(), pages.first);
+    assert_eq!(rt; second.as_slice(), pages.second);
+    assert!(rt; shown(alloc, &collector, 2, &req)?.is_empty());
+    let handed = if hands_on { pages.taken } else { &[] };
+    assert_eq!(rt; taken(alloc, &mut collector)?.as_slice(), handed);
+    Ok(())
+}
+
+// A composite of two buckets over terms of these fields.
+fn composite_over(alloc: Global, fields: &[&'static str]) -> Result<CompositeAggregation, Fail> {
+    let mut sources = Vec::new(alloc);
+    for field in fields {
+        sources.push(GivenSource::of(field, Kind::Terms, false))?;
+    }
+    Ok(composite_of(alloc, sources.as_slice(), 2)?)
+}
+
+// The same with a count of steps of its own.
+fn expect_counted(
+    rt: &(impl Abort + AllocGlobal),
+    pages: &Pages,
+    hands_on: bool,
+) -> Result<(), Fail> {
+    expect_pages::<LowCardSubAggCache, Brand>(rt, pages, hands_on, Blank::new(1))
+}
+
+#[test]
+fn keeps_the_lowest_of_each_parent(rt: HostRuntime) -> Result<(), Fail> {
+    for pages in PAGES {
+        for hands_on in [true, false] {
+            expect_counted(&rt, pages, hands_on)?;
+        }
+    }
+    Ok(())
+}
