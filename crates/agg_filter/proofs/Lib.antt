@@ -1,0 +1,5 @@
+mod CollectorCalls
+mod MatchingDocuments
+mod PreparedParents
+mod UnderIds
+mod VisitsTaken

@@ -1,0 +1,149 @@
+-- Parents and the ids of their buckets.
+use Rattle.std.proofs.Common.{◌≡◌, ◌∙◌, refl, sym, ap, subst, ℕ, ◌<◌, ◌≤◌, List, []}
+use Rattle.std.proofs.Common.{◌∷◌, ◌++◌, Bool, true, false, Some, None, length, get_or, arith, zero-add, ◌⊎◌}
+use Rattle.std.proofs.Common.{inl, inr, zero, suc}
+use Rattle.std.specs.Prelude.{Contains, filter, if◌then◌else◌, replicate, slice_get, take}
+use Rattle.std.specs.List.{range_with_len}
+use Rattle.std.proofs.lemmas.List.{append-nil, length-append, take_all}
+use Rattle.std.proofs.lemmas.Bool.{cases_order}
+use Rattle.std.proofs.lemmas.List.FromFn.{get_or-range_with_len, length-range_with_len}
+use Rattle.std.proofs.lemmas.Option.{get_or_from_slice_get, slice_get-get_or, slice_get_past, slice_get_within}
+use Rattle.agg_cache.specs.Waiting.{docs_of, is_id}
+use Rattle.agg_filter.specs.Filter.{Filter, FilterFor, Prepares, id_of, matching_under}
+
+-- each prepared parent's bucket has the parent's number as id
+abbrev pub HasOwnIds : {C : Type 0} → Filter C → Type 0
+HasOwnIds collector = collector.ids ≡ range_with_len 0 (length collector.counts)
+
+lt_or_ge : (a b : ℕ) → (a < b) ⊎ (b ≤ a)
+lt_or_ge a b = elim (cases_order a b) as (λ _. (a < b) ⊎ (b ≤ a)) [
+  | inl same ↦ inr (omega (arith, same))
+  | inr other ↦ elim other as (λ _. (a < b) ⊎ (b ≤ a)) [
+    | inl below ↦ inl below
+    | inr above ↦ inr (omega (arith, above))
+  ]
+]
+
+pub no_id : (n i : ℕ) → n ≤ i → slice_get (range_with_len 0 n) i ≡ None
+no_id n i past =
+    slice_get_past (range_with_len 0 n) i (omega (arith, length-range_with_len 0 n, past))
+
+pub range-at : (n i : ℕ) → i < n → slice_get (range_with_len 0 n) i ≡ Some i
+range-at n i within =
+    let inside : i < length (range_with_len 0 n) = omega (arith, length-range_with_len 0 n) in
+    slice_get-get_or (range_with_len 0 n) i 0 inside
+    ∙ ap Some (get_or-range_with_len 0 n i 0 within ∙ zero-add i)
+
+pub own_id : {C : Type 0} (collector : Filter C) → HasOwnIds collector → (parent : ℕ)
+    → parent < length collector.counts → id_of collector parent ≡ Some parent
+own_id collector own parent within =
+    ap (λ ids. slice_get ids parent) own ∙ range-at (length collector.counts) parent within
+
+pub is_own_id : {C : Type 0} (collector : Filter C) → HasOwnIds collector → (parent id : ℕ)
+    → id_of collector parent ≡ Some id → (id ≡ parent) × (parent < length collector.counts)
+is_own_id collector own parent id is =
+    let n = length collector.counts in
+    let at : slice_get (range_with_len 0 n) parent ≡ Some id =
+    sym (ap (λ ids. slice_get ids parent) own) ∙ is in
+    let within : parent < n = omega (
+      arith,
+      length-range_with_len 0 n,
+      slice_get_within (range_with_len 0 n) parent id at,
+    ) in (
+      sym (get_or_from_slice_get (range_with_len 0 n) parent id 0 at)
+          ∙ get_or-range_with_len 0 n parent 0 within ∙ zero-add parent,
+      within,
+    )
+
+pub contains_own : {C : Type 0} (collector : Filter C) → HasOwnIds collector → (id : ℕ)
+    → id < length collector.counts → Contains collector.ids id
+contains_own collector own id within =
+    let P : List ℕ → Type 0 = λ ids. Contains ids id in
+    let n = length collector.counts in
+    let inside : id < length (range_with_len 0 n) = omega (arith, length-range_with_len 0 n, within) in
+    subst P (sym own) (id, inside, get_or-range_with_len 0 n id id within ∙ zero-add id)
+
+pub is_contained : {C : Type 0} (collector : Filter C) → HasOwnIds collector → (id : ℕ)
+    → Contains collector.ids id → id < length collector.counts
+is_contained collector own id among =
+    let n = length collector.counts in
+    let P : List ℕ → Type 0 = λ ids. Contains ids id in
+    let has = subst P own among in
+    let within : has.0 < n = omega (arith, length-range_with_len 0 n, has.1) in
+    let same = get_or-range_with_len 0 n has.0 id within in
+    omega (arith, within, same, has.2)
+
+-- copies of a number, read with that number as the default
+copies-at : (n i d : ℕ) → get_or (replicate n d) i d ≡ d
+copies-at zero i d = refl
+copies-at (suc n) zero d = refl
+copies-at (suc n) (suc i) d = copies-at n i d
+
+-- counts with zeros after them
+zeros-after : (counts : List ℕ) (k parent : ℕ)
+    → get_or (counts ++ replicate k 0) parent 0 ≡ get_or counts parent 0
+zeros-after [] k parent = copies-at k parent 0
+zeros-after (count ∷ counts) k zero = refl
+zeros-after (count ∷ counts) k (suc parent) = zeros-after counts k parent
+
+-- parents are prepared with counts of 0
+pub prepares : {C : Type 0} (old new : Filter C) (k : ℕ) → HasOwnIds old → HasOwnIds new
+    → new.counts ≡ old.counts ++ replicate k 0
+    → new ≡ record old { counts = new.counts; ids = new.ids } → Prepares old new
+prepares old new k own own_new are rest =
+    let long = ap length are ∙ length-append old.counts (replicate k 0) in
+    record {
+      ids = λ parent id is.
+          let has = is_own_id old own parent id is in
+          own_id new own_new parent (omega (arith, has.1, long)) ∙ ap Some (sym has.0);
+      counts = λ parent. ap (λ cs. get_or cs parent 0) are ∙ zeros-after old.counts k parent;
+      more = omega (arith, long);
+      rest = rest;
+    }
+
+-- counts get zeros after them, or stay as they are where memory is refused
+pub resized : {C : Type 0} (old new : Filter C) (is_done : Bool) (size more_counts : ℕ) → HasOwnIds old
+    → HasOwnIds new → length old.counts ≤ size
+    → new.counts ≡ (if is_done then take size old.counts ++ replicate more_counts 0 else old.counts)
+    → new ≡ record old { counts = new.counts; ids = new.ids } → Prepares old new
+resized old new true size more_counts own own_new more are rest =
+    prepares old new more_counts own own_new
+    (are ∙ ap (λ cs. cs ++ replicate more_counts 0) (take_all size old.counts more)) rest
+resized old new false size more_counts own own_new more are rest =
+    prepares old new 0 own own_new (are ∙ sym (append-nil old.counts)) rest
+
+module _ {C : Type 0} (waiting : C → ℕ → List ℕ) (is_match : ℕ → Bool) (old new : Filter C)
+    (visited given : List (ℕ × ℕ)) (f : FilterFor waiting is_match old visited given) where
+  -- a parent that was not prepared has nothing under its id
+  new-exact : HasOwnIds old → old.hands_on ≡ true → (parent : ℕ)
+      → (parent < length old.counts) ⊎ (length old.counts ≤ parent)
+      → docs_of (is_id parent) given ++ waiting old.cache.0 parent
+      ≡ matching_under is_match parent visited
+  new-exact own hands parent (inl within) =
+      f.exact hands parent parent (own_id old own parent within)
+  new-exact own hands parent (inr past) =
+      f.others hands parent (λ among.
+      absurd (omega (arith, past, is_contained old own parent among)))
+      ∙ sym (ap (filter is_match) (f.unprepared parent past))
+
+  -- a collector that was right is right with more parents
+  pub prepared-right : HasOwnIds old → HasOwnIds new → Prepares old new
+      → FilterFor waiting is_match new visited given
+  prepared-right own own_new more =
+      let cache = ap (λ c. c.cache) more.rest in
+      let hands_on = ap (λ c. c.hands_on) more.rest in
+      record {
+        counted = λ parent. more.counts parent ∙ f.counted parent;
+        exact = λ hands parent id is.
+            let has = is_own_id new own_new parent id is in
+            ap (λ i. docs_of (is_id i) given ++ waiting new.cache.0 i) has.0
+            ∙ ap (λ c. docs_of (is_id parent) given ++ waiting c.0 parent) cache
+            ∙ new-exact own (sym hands_on ∙ hands) parent (lt_or_ge parent (length old.counts));
+        others = λ hands id none.
+            ap (λ c. docs_of (is_id id) given ++ waiting c.0 id) cache
+            ∙ f.others (sym hands_on ∙ hands) id (λ among. none (contains_own new own_new id
+            (omega (arith, is_contained old own id among, more.more))));
+        distinct = λ parent other id is same.
+            sym (is_own_id new own_new parent id is).0 ∙ (is_own_id new own_new other id same).0;
+        unprepared = λ parent past. f.unprepared parent (omega (arith, past, more.more));
+      }

@@ -1,0 +1,7 @@
+use Rattle.agg_filter.proofs.CollectorCalls.{gives-ok}
+use Rattle.agg_filter.proofs.collector.SegmentFilterCollector.take.Goals as goal
+
+pub returns-clause-ok : goal.returns-clause-ok
+returns-clause-ok g c =
+    gives-ok g.C.SubAggCache.waiting c.take.result _ c.args.self.now c.take.new.self
+    c.self.view_is c.take.ensures.ok c.take.ensures.taken

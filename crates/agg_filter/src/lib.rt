@@ -1,0 +1,10 @@
+//! The collector that keeps the documents of a segment that a query matches.
+#![tactic(auto)]
+
+mod collector;
+mod evaluator;
+mod request_data;
+
+pub use collector::SegmentFilterCollector;
+pub use evaluator::DocumentQueryEvaluator;
+pub use request_data::FilterAggReqData;
