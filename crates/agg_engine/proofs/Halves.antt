@@ -1,8 +1,7 @@
 -- The results of two lists of segments for a page, merged, are those of both as one.
-use Rattle.std.proofs.Common.{◌≡◌, ℕ, ◌+◌, ◌^◌, List, ◌++◌, Ok, length, take}
-use Rattle.std.proofs.Common.{drop, length-append, sym, ap, ◌∙◌, subst, arith}
-use Rattle.std.specs.List.{All, filter, flat_map}
-use Rattle.std.proofs.lemmas.List.{take-append-drop}
+use Rattle.std.proofs.Common.{◌≡◌, ℕ, ◌+◌, ◌^◌, ◌<◌, List, ◌++◌, Ok, length}
+use Rattle.std.proofs.Common.{length-append, ap, ◌∙◌, arith}
+use Rattle.std.specs.List.{filter, flat_map}
 use Rattle.std.proofs.lemmas.List.Concat.{flat_map-append}
 use Rattle.std.proofs.lemmas.List.Elements.{filter-append}
 use Rattle.agg_values.specs.Names.{Named}
@@ -11,7 +10,10 @@ use Rattle.agg_column.specs.Document.{Fields}
 use Rattle.agg_segment.specs.Query.{matches}
 use Rattle.agg_segment.specs.Segment.{Stored, documents_of}
 use Rattle.agg_segment.specs.declared.query.QueryTree.{QueryTree}
-use Rattle.agg_segment.proofs.Encoded.{back_all, front_all}
+use Rattle.agg_values.specs.Tuple.{KeyTuple}
+use Rattle.agg_request_tree.specs.Occurrences.{bound_of, is_past, occurrences, occurrences_in}
+use Rattle.agg_request_tree.specs.Occurrences.{past_occurrences}
+use Rattle.agg_request_tree.specs.Source.{Sources, rules_of}
 use Rattle.agg_request_tree.specs.Uncut.{counted as counted_by}
 use Rattle.agg_request_tree.specs.declared.aggregation.CompositeAggregation.{CompositeAggregation}
 use Rattle.agg_intermediate_results.specs.Merging.{AreMerged, CountsPass, ShapesDiffer, SomeOfBoth}
@@ -30,75 +32,64 @@ matching-append query first second =
     ap (filter (matches query)) (flat_map-append documents_of first second)
     ∙ filter-append (matches query) (flat_map documents_of first) (flat_map documents_of second)
 
--- what holds of what matches in all segments holds of it in each of two parts
-pub matching-parts : (P : Fields → Type 0) (query : QueryTree) (segments first second : List Stored)
-    (at : ℕ) → first ≡ take at segments → second ≡ drop at segments
-    → All P (matching_in query segments)
-    → All P (matching_in query first) × All P (matching_in query second)
-matching-parts P query segments first second at front back all =
-    let split : segments ≡ first ++ second =
-    sym (take-append-drop at segments) ∙ (λ i. sym front i ++ sym back i) in
-    let whole = subst (All P)
-    (ap (matching_in query) split ∙ matching-append query first second) all in (
-      front_all P (matching_in query first) (matching_in query second) whole,
-      back_all P (matching_in query first) (matching_in query second) whole,
-    )
-
 -- how many documents a composite counts in two lists of them
-counted-append : (composite : CompositeAggregation) (documents others : List Fields)
+pub counted-append : (composite : CompositeAggregation) (documents others : List Fields)
     → length (counted_by composite (documents ++ others))
     ≡ length (counted_by composite documents) + length (counted_by composite others)
 counted-append composite documents others =
     ap length (flat_map-append _ documents others)
     ∙ length-append (counted_by composite documents) (counted_by composite others)
 
+-- so many occurrences lie past a bound in two lists of them
+past-append : (sources : Sources) (bound : KeyTuple) (documents others : List Fields)
+    → length (past_occurrences sources bound (documents ++ others))
+    ≡ length (past_occurrences sources bound documents)
+    + length (past_occurrences sources bound others)
+past-append sources bound documents others =
+    let past = is_past (rules_of sources) bound in
+    ap (λ tuples. length (filter past tuples))
+    (flat_map-append (occurrences sources) documents others)
+    ∙ ap length (filter-append past (occurrences_in sources documents)
+    (occurrences_in sources others))
+    ∙ length-append (past_occurrences sources bound documents)
+    (past_occurrences sources bound others)
+
 module _ (name : List ℕ) (composite : CompositeAggregation) (size : ℕ) (after : Named AfterKey)
-    (query : QueryTree) (first second : List Stored) (counted between counted_now : ℕ)
+    (documents others : List Fields) (steps between steps_now : ℕ)
     (merged more : IntermediateAggregationResults)
-    (a : AnswersMerged name composite size after (matching_in query first) counted between
-    (Ok merged))
-    (b : AnswersMerged name composite size after (matching_in query second) between counted_now
-    (Ok more)) where
+    (a : AnswersMerged name composite size after documents steps between (Ok merged))
+    (b : AnswersMerged name composite size after others between steps_now (Ok more)) where
   -- their shapes never differ
   pub halves-alike : ¬ (SomeOfBoth ShapesDiffer merged.results more.results)
   halves-alike =
-      StandsFor-alike no_match (asked name composite size after) (matching_in query first)
-      (matching_in query second) merged.results more.results a.merged b.merged
+      StandsFor-alike no_match (asked name composite size after) documents others merged.results
+      more.results a.stands b.stands
 
   -- no count passes, since few documents are counted
-  pub halves-few : ¬ (SomeOfBoth CountsPass merged.results more.results)
-  halves-few pass =
-      let documents = matching_in query first in
-      let others = matching_in query second in
+  pub halves-few : length (counted_by composite (documents ++ others)) < 2 ^ 32
+      → ¬ (SomeOfBoth CountsPass merged.results more.results)
+  halves-few few pass =
       let own = at_size size (going_on after composite) in
       let many = as_many-one ⊥ name own no_match (documents ++ others) (2 ^ 62)
       (StandsFor-few no_match (asked name composite size after) documents others merged.results
-      more.results (adds-nothing ⊥ name own (documents ++ others)) a.merged b.merged pass) in
-      let counts = counted-append composite documents others in
-      let first_is = a.counted_is in
-      let second_is = b.counted_is in
-      let least = b.few in
+      more.results (adds-nothing ⊥ name own (documents ++ others)) a.stands b.stands pass) in
       omega arith
 
-  -- merged, they are the results of all segments
-  pub halves-joined : (segments : List Stored) (at : ℕ) → first ≡ take at segments
-      → second ≡ drop at segments → (whole : IntermediateAggregationResults)
+  -- merged, they are the results of all documents
+  pub halves-joined : (whole : IntermediateAggregationResults)
       → AreMerged merged.results more.results whole.results
-      → AnswersMerged name composite size after (matching_in query segments) counted counted_now
-      (Ok whole)
-  halves-joined segments at front back whole are =
-      let split : segments ≡ first ++ second =
-      sym (take-append-drop at segments) ∙ (λ i. sym front i ++ sym back i) in
-      let documents = matching_in query first in
-      let others = matching_in query second in
+      → AnswersMerged name composite size after (documents ++ others) steps steps_now (Ok whole)
+  halves-joined whole are =
       let counts = counted-append composite documents others in
-      let first_is = a.counted_is in
-      let second_is = b.counted_is in
-      subst (λ ds. AnswersMerged name composite size after ds counted counted_now (Ok whole))
-      (sym (ap (matching_in query) split ∙ matching-append query first second)) (record {
-        merged = StandsFor-joined no_match (asked name composite size after) documents others
-            merged.results more.results a.merged b.merged whole.results are;
-        counted_is = omega arith;
-        few = b.few;
-        cause = tt;
-      })
+      let past = past-append composite.sources (bound_of composite.sources after) documents others
+      in
+      let first_most = a.most in
+      let second_most = b.most in
+      let first_least = a.least in
+      let second_least = b.least in
+      record {
+        stands = StandsFor-joined no_match (asked name composite size after) documents others
+            merged.results more.results a.stands b.stands whole.results are;
+        least = omega arith;
+        most = omega arith;
+      }

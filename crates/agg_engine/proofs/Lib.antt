@@ -4,6 +4,8 @@ pub mod AfterKeys
 pub mod AscendingKeys
 pub mod Builders
 pub mod ChangedRequests
+pub mod CollectedHalves
+pub mod Contexts
 pub mod CountRefusals
 pub mod Halves
 pub mod KeptFinals
@@ -14,11 +16,11 @@ pub mod OneRequest
 pub mod OneWalk
 pub mod PageBound
 pub mod PageShown
-pub mod Ranges
 pub mod ReachedPage
 pub mod RequestFaults
 pub mod Snapshots
 pub mod StandingPage
+pub mod StepsTaken
 pub mod WalkLoop
 pub mod WalkPages
 pub mod WalkRefusals

@@ -1,5 +1,5 @@
 -- The merged results of a snapshot, whatever the request.
-use Rattle.std.proofs.Common.{◌≡◌, ◌^◌, ℕ, List, Bool, Ok, sym, subst, arith}
+use Rattle.std.proofs.Common.{◌≡◌, ◌<◌, ◌^◌, ℕ, List, Bool, length, sym, subst, arith}
 use Rattle.std.specs.List.{All}
 use Rattle.agg_values.specs.Names.{Named}
 use Rattle.agg_values.specs.declared.after_key.AfterKey.{AfterKey}
@@ -7,13 +7,13 @@ use Rattle.agg_column.specs.Document.{Fields}
 use Rattle.agg_segment.specs.declared.query.QueryTree.{QueryTree}
 use Rattle.agg_request_tree.specs.Ranges.{AreInRange, HasStartOutOfRange}
 use Rattle.agg_request_tree.specs.Request.{Request}
-use Rattle.agg_request_tree.specs.Uncut.{CountsTooMany}
+use Rattle.agg_request_tree.specs.Uncut.{CountsTooMany, counted}
 use Rattle.agg_request_tree.specs.declared.aggregation.CompositeAggregation.{CompositeAggregation}
 use Rattle.agg_intermediate_results.specs.Intermediate.{Held}
 use Rattle.agg_intermediate_results.specs.declared.results.IntermediateAggregationResults as held
 use held.{IntermediateAggregationResults}
 use Rattle.agg_results.specs.StandsFor.{StandsFor}
-use Rattle.agg_engine.specs.PageAnswers.{AnswersMerged, asked, no_match}
+use Rattle.agg_engine.specs.PageAnswers.{asked, no_match}
 use Rattle.agg_engine.specs.Snapshot.{SnapshotDocuments}
 use Rattle.agg_engine.specs.Walk.{matching_documents, request_after, request_at_size}
 use Rattle.agg_engine.proofs.Builders.{stands-with}
@@ -37,25 +37,24 @@ IsMergedHere is_match name query now s =
 -- those that a call for the results of its segments gives
 pub merged-here : {B : Type 0} (is_match : B → Fields → Bool) (name : List ℕ)
     (query : QueryTree) (request : Request B) (composite : CompositeAggregation)
-    (after given : Named AfterKey) (s : SnapshotDocuments) (documents : List Fields) (counted : ℕ)
+    (after given : Named AfterKey) (s : SnapshotDocuments) (documents : List Fields)
     (merged : IntermediateAggregationResults)
-    → AnswersMerged name composite s.page_size given documents 0 counted (Ok merged)
+    → StandsFor no_match (asked name composite s.page_size given) documents merged.results
     → All (AreInRange composite.sources) documents
+    → length (counted composite documents) < 2 ^ 32
     → request ≡ one B name composite
     → given ≡ after → documents ≡ matching_documents query s
     → IsMergedHere is_match name query (request_after name after request) s merged.results
-merged-here {B = B} is_match name query request composite after given s documents counted merged
-    answer in_range request_is given_is are =
+merged-here {B = B} is_match name query request composite after given s documents merged stands
+    in_range few request_is given_is are =
     let sized = at_size s.page_size (going_on after composite) in
     let here : IsMergedOf is_match (one B name sized) documents merged.results = record {
       stands = stands-with no_match is_match name sized documents merged.results
           (subst (λ k. StandsFor no_match (asked name composite s.page_size k) documents
-          merged.results) given_is answer.merged);
+          merged.results) given_is stands);
       range = λ out. out_of_range-one B name sized documents out in_range;
       few = λ many.
           let least = as_many-one B name sized is_match documents (2 ^ 32) many in
-          let counted_is = answer.counted_is in
-          let few = answer.few in
           omega arith;
     } in
     subst (λ (r : Request B). IsMergedOf is_match r (matching_documents query s)

@@ -29,7 +29,7 @@ use Rattle.agg_request_tree.specs.Uncut.{uncut_lists_of}
 use Rattle.agg_request_tree.proofs.PageFromGroups.{equal-from_is_eq}
 use Rattle.agg_request_tree.proofs.RequestTrees.{agg-made, below-made, listed-out}
 use Rattle.agg_request_tree.proofs.UncutLists.{uncut_lists-out}
-use Rattle.agg_results.specs.Results.{AddsSmallNumbers, own_added_field}
+use Rattle.agg_results.proofs.AddedNumbers.{AddsSmallNumbers, own_added_field}
 use Rattle.agg_engine.specs.NamedComposite.{IsCompositeNamed}
 use Rattle.agg_engine.specs.Walk.{changed, request_changed_at, request_after, request_at_size}
 use Rattle.agg_engine.specs.Walk.{with_after, with_size}

@@ -26,7 +26,7 @@ use Rattle.agg_request_tree.specs.Request.{Request}
 use Rattle.agg_request_tree.specs.declared.source.CompositeAggregationSource as kind
 use kind.{CompositeAggregationSource}
 use kind.TheVariants.{DateHistogram, Histogram, Terms}
-use Rattle.agg_composite.specs.Accessors.{HasNoAccessors}
+use Rattle.agg_accessor.specs.Accessors.{HasNoAccessors}
 use Rattle.agg_engine.specs.Refusals.{HasCause}
 use Rattle.agg_engine.specs.Snapshot.{SnapshotDocuments}
 use Rattle.agg_engine.specs.WalkError.{error_from_request}

@@ -1,6 +1,6 @@
 -- The intermediate results of a page stand for its documents.
-use Rattle.std.proofs.Common.{◌≡◌, ◌≤◌, ◌<◌, ◌+◌, ◌^◌, ℕ, zero, suc, List, [], ◌∷◌, Bool, inl}
-use Rattle.std.proofs.Common.{Result, Ok, Err, IfErr, IfOk, IsErrAnd, Some, length, take}
+use Rattle.std.proofs.Common.{◌≡◌, ◌≤◌, ◌<◌, ◌+◌, ◌*◌, ℕ, zero, suc, List, [], ◌∷◌, Bool, inl}
+use Rattle.std.proofs.Common.{Result, Ok, Err, IfOk, IsErrAnd, None, Some, length, take}
 use Rattle.std.proofs.Common.{refl, sym, subst, arith}
 use Rattle.std.specs.List.{All, Contains}
 use Rattle.std.proofs.lemmas.List.{length-take-le}
@@ -10,7 +10,7 @@ use Rattle.agg_values.specs.Names.{Named, value_of}
 use Rattle.agg_values.specs.declared.after_key.AfterKey.{AfterKey}
 use Rattle.agg_column.specs.Document.{Fields}
 use Rattle.agg_request_tree.specs.Groups.{Group}
-use Rattle.agg_request_tree.specs.Occurrences.{bound_of}
+use Rattle.agg_request_tree.specs.Occurrences.{bound_of, past_occurrences}
 use Rattle.agg_request_tree.specs.Page.{count_in, documents_with}
 use Rattle.agg_request_tree.specs.Request.{Request, aggregation_of, below_of}
 use Rattle.agg_request_tree.specs.Source.{rules_of}
@@ -33,10 +33,9 @@ use Rattle.agg_results.specs.StandsFor.{StandsFor, StandsTo}
 use Rattle.agg_intermediate_results.proofs.ResultParts.{parts-composite}
 use Rattle.agg_results.proofs.Parts.{length-with}
 use Rattle.agg_results.proofs.StandingComposites.{stands-made}
-use Rattle.agg_engine.specs.PageAnswers.{AnswersMerged, IsCountRefusal, asked, entries_for}
+use Rattle.agg_engine.specs.PageAnswers.{AnswersMerged, asked, entries_for}
 use Rattle.agg_engine.specs.PageAnswers.{intermediate_page, no_match}
 use Rattle.agg_engine.specs.declared.walk.error.WalkError.{WalkError}
-use Rattle.agg_engine.specs.declared.walk.error.WalkError.TheVariants.{OutOfMemory}
 use Rattle.agg_engine.proofs.OneRequest.{at_size, going_on, value-own}
 
 -- ---- entries with nothing below them
@@ -142,39 +141,54 @@ module _ (name : List ℕ) (composite : CompositeAggregation) (size : ℕ) (afte
 
   -- ---- what a call answers
 
-  module _ (counted counted_now : ℕ) where
+  module _ (steps steps_now : ℕ)
+      (most : steps_now ≤ steps + 3 * length (counted_by composite documents)) where
     abbrev Answers : Result IntermediateAggregationResults WalkError → Type 0
-    Answers = AnswersMerged name composite size after documents counted counted_now
+    Answers = AnswersMerged name composite size after documents steps steps_now
 
-    -- a refusal that has its cause
+    -- a refusal
     pub answers-refused : (result : Result IntermediateAggregationResults WalkError)
-        (given : WalkError) → IsErrAnd result (λ e. e ≡ given)
-        → IsCountRefusal composite documents counted given → Answers result
-    answers-refused result given kept cause =
+        (given : WalkError) → IsErrAnd result (λ e. e ≡ given) → Answers result
+    answers-refused result given kept =
         let found = err_from_is_err_and result kept in
-        subst Answers (sym found.1) (record {
-          merged = tt;
-          counted_is = tt;
-          few = tt;
-          cause = subst (IsCountRefusal composite documents counted) (sym found.2) cause;
-        })
+        subst Answers (sym found.1) (record { stands = tt; least = tt; most = most })
 
     -- the page of these groups, unless memory runs out
     pub answers-page : (groups : List Group) → Stand groups
-        → counted_now ≡ counted + length (counted_by composite documents)
-        → counted_now < 2 ^ 32 → (result : Result IntermediateAggregationResults WalkError)
+        → steps + length (past_occurrences composite.sources (bound_of composite.sources after)
+        documents) ≤ steps_now
+        → (result : Result IntermediateAggregationResults WalkError)
         → IfOk result (λ merged. merged.results ≡ intermediate_page name composite size groups)
-        → IfErr result (λ error. error ≡ OutOfMemory) → Answers result
-    answers-page groups stand counted_is few (Ok merged) is err = record {
-      merged = subst (StandsFor no_match (asked name composite size after) documents) (sym is)
+        → Answers result
+    answers-page groups stand least (Ok merged) is = record {
+      stands = subst (StandsFor no_match (asked name composite size after) documents) (sym is)
           (page-stands groups stand no_match);
-      counted_is = counted_is;
-      few = few;
-      cause = tt;
+      least = least;
+      most = most;
     }
-    answers-page groups stand counted_is few (Err error) ok is = record {
-      merged = tt;
-      counted_is = tt;
-      few = tt;
-      cause = subst (IsCountRefusal composite documents counted) (sym is) tt;
+    answers-page groups stand least (Err error) is =
+        record { stands = tt; least = tt; most = most }
+
+-- no results stand for no documents
+module _ (name : List ℕ) (composite : CompositeAggregation) (size : ℕ) (after : Named AfterKey)
+  where
+    none-stands : StandsFor no_match (asked name composite size after) [] []
+    none-stands depth = record {
+      each = All-from_recursion (λ (a : List ℕ × Aggregation ⊥).
+          StandsTo no_match depth a.1 [] (value_of a.0 []))
+          (asked name composite size after) (nothing depth, tt);
+      known = All-nil (Contains (name ∷ []));
+    }
+      where
+        nothing : (depth : ℕ) → StandsTo no_match depth
+            (aggregation_of (Composite (at_size size (going_on after composite))) []) [] None
+        nothing zero = tt
+        nothing (suc depth) = refl
+
+    pub answers-none : (steps : ℕ) (made : IntermediateAggregationResults) → made.results ≡ []
+        → AnswersMerged name composite size after [] steps steps (Ok made)
+    answers-none steps made is = record {
+      stands = subst (StandsFor no_match (asked name composite size after) []) (sym is) none-stands;
+      least = omega arith;
+      most = omega arith;
     }

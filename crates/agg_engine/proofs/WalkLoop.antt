@@ -83,29 +83,19 @@ module _ {B : Type 0} {is_match : B → Fields → Bool} {limit : ℕ} {name : L
 
 -- ---- the places of the list of snapshots
 
-module _ {B : Type 0} (is_match : B → Fields → Bool) (limit : ℕ) (name : List ℕ)
-    (query : QueryTree) (request : Request B) (snapshots items : List Snapshot)
-    (composite : CompositeAggregation) (after : Named AfterKey) (at : ℕ)
-    (pages : List AggregationResults)
-    (w : IsWalking is_match limit name query request (snapshots_documents snapshots) composite
-    after (snapshots_documents (drop at snapshots)) pages) (same : items ≡ snapshots) where
-  -- how far the walk has come, by the snapshots that are left
-  abbrev Walking : List SnapshotDocuments → Type 0
-  Walking rest =
-      IsWalking is_match limit name query request (snapshots_documents snapshots) composite after
-      rest pages
-
-  -- at a snapshot of the list
-  pub walking-at : (s : Snapshot) → at < length items → s ≡ get_or items at s
-      → Walking (snapshot_documents s ∷ snapshots_documents (drop (at + 1) snapshots))
-  walking-at s within item =
+module _ (P : List SnapshotDocuments → Type 0) (snapshots items : List Snapshot) (at : ℕ)
+    (left : P (snapshots_documents (drop at snapshots))) (same : items ≡ snapshots) where
+  -- what holds of the snapshots that are left, at a snapshot of the list
+  pub left-at : (s : Snapshot) → at < length items → s ≡ get_or items at s
+      → P (snapshot_documents s ∷ snapshots_documents (drop (at + 1) snapshots))
+  left-at s within item =
       let cut : drop at snapshots ≡ s ∷ drop (at + 1) snapshots =
       drop_more snapshots at s (subst (λ (l : List Snapshot). at < length l) same within)
       ∙ ap (λ x. x ∷ drop (at + 1) snapshots) (ap (λ l. get_or l at s) (sym same) ∙ sym item) in
-      subst (λ (rest : List Snapshot). Walking (snapshots_documents rest)) cut w
+      subst (λ (rest : List Snapshot). P (snapshots_documents rest)) cut left
 
-  -- after the last snapshot of the list
-  pub walking-end : length items ≤ at → Walking []
-  walking-end past =
-      subst (λ (rest : List Snapshot). Walking (snapshots_documents rest))
-      (drop_all at snapshots (subst (λ (l : List Snapshot). length l ≤ at) same past)) w
+  -- and after the last one
+  pub left-end : length items ≤ at → P []
+  left-end past =
+      subst (λ (rest : List Snapshot). P (snapshots_documents rest))
+      (drop_all at snapshots (subst (λ (l : List Snapshot). length l ≤ at) same past)) left

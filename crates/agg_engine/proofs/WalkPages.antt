@@ -1,6 +1,6 @@
 -- A walk goes on after a full page, and ends with another.
-use Rattle.std.proofs.Common.{◌≡◌, ◌≢◌, ◌≤◌, ℕ, List, [], ◌∷◌, ◌++◌, Bool, true, false, Option}
-use Rattle.std.proofs.Common.{None, Some, sym, ap, ◌∙◌, subst, arith}
+use Rattle.std.proofs.Common.{◌≡◌, ◌≢◌, ◌≤◌, ◌+◌, ◌*◌, ℕ, List, [], ◌∷◌, ◌++◌, Bool, true, false}
+use Rattle.std.proofs.Common.{Option, None, Some, sym, ap, ◌∙◌, subst, arith}
 use Rattle.std.specs.List.{All}
 use Rattle.std.specs.Option.{is_some}
 use Rattle.std.specs.Prelude.{unwrap_or}
@@ -30,6 +30,8 @@ use Rattle.agg_engine.proofs.OneRequest.{at_size, going_on, later-one, named-own
 use Rattle.agg_engine.proofs.PageBound.{after-occurs, shown-tuple}
 use Rattle.agg_engine.proofs.PageShown.{page_shown}
 use Rattle.agg_engine.proofs.ReachedPage.{alike-here, fit-here, known-here, results-here}
+use Rattle.agg_engine.specs.Steps.{counted_of, past_named}
+use Rattle.agg_engine.proofs.StepsTaken.{IsCounting, counting-more}
 use Rattle.agg_engine.proofs.WalkLoop.{IsWalking}
 use Rattle.agg_engine.proofs.WalkState.{WalkState, few-more, state-ended, state-ended-fits}
 use Rattle.agg_engine.proofs.WalkState.{state-more}
@@ -146,3 +148,21 @@ module _ {B : Type 0} {is_match : B → Fields → Bool} {limit : ℕ} {name : L
               (state-more is_match limit name query request snapshots now s rest pages w.state
               results are fits short key.1);
         }
+
+    -- with the steps so far
+    pub counting-page : (own : Named AfterKey) → is_some next ≡ true
+        → (done steps before later : ℕ)
+        → IsCounting is_match name query request snapshots now (s ∷ rest) pages done steps before
+        → later ≤ before + 3 * counted_of is_match request (matching_documents query s)
+        → before + past_named name now (matching_documents query s) ≤ later
+        → IsCounting is_match name query request snapshots
+        (request_after name (unwrap_or next own) request) rest (pages ++ results ∷ []) (done + 1)
+        steps later
+    counting-page own some done steps before later counting most least =
+        let key = some-shown next (after_in name results) own next_is some in
+        subst (λ (r : Request B). IsCounting is_match name query request snapshots r rest
+        (pages ++ results ∷ []) (done + 1) steps later)
+        (later-one B name request composite after (after_in name results) w.request_is
+        ∙ ap (λ k. request_after name k request) (sym key.0))
+        (counting-more is_match name query request snapshots now s rest pages done steps before
+        later counting most results least are key.1)

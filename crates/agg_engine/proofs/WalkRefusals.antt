@@ -1,18 +1,16 @@
--- Why a walk is refused at a snapshot: its starts, the results of its segments, its final results.
+-- Why a walk is refused at a snapshot: the results of its segments, its final results.
 use Rattle.std.proofs.Common.{ℕ, List, ◌∷◌, Bool, sym, subst, arith}
-use Rattle.std.specs.List.{All}
 use Rattle.agg_values.specs.Names.{Named}
 use Rattle.agg_values.specs.declared.after_key.AfterKey.{AfterKey}
 use Rattle.agg_values.specs.declared.request_error.AggregationError.TheVariants as aggregation
 use Rattle.agg_column.specs.Document.{Fields}
 use Rattle.agg_segment.specs.declared.query.QueryTree.{QueryTree}
-use Rattle.agg_request_tree.specs.Ranges.{AreInRange}
 use Rattle.agg_request_tree.specs.Request.{Request}
 use Rattle.agg_request_tree.specs.declared.aggregation.CompositeAggregation.{CompositeAggregation}
 use Rattle.agg_final_results.specs.declared.types.AggregationResults.{AggregationResults}
 use Rattle.agg_intermediate_results.specs.Final.{final_results}
 use Rattle.agg_intermediate_results.specs.Intermediate.{Held}
-use Rattle.agg_engine.specs.PageAnswers.{IsFinalRefusal, IsCountRefusal, IsStartRefusal}
+use Rattle.agg_engine.specs.PageAnswers.{IsFinalRefusal, IsPageRefusal}
 use Rattle.agg_engine.specs.Refusals.{AreRefused, AreRefusedAt, HasCause, IsRefused}
 use Rattle.agg_engine.specs.Snapshot.{SnapshotDocuments}
 use Rattle.agg_engine.specs.Walk.{MayBeAsked, matching_documents, request_after}
@@ -53,37 +51,25 @@ module _ {B : Type 0} {is_match : B → Fields → Bool} {limit : ℕ} {name : L
         (sym (sized-one B name request composite after s.page_size w.request_is)) refused)
 
     -- a refusal of the results of its segments
-    pub cause-merged : MayBeAsked name request snapshots
-        → All (AreInRange composite.sources) (matching_documents query s) → (given : WalkError)
-        → IsCountRefusal composite (matching_documents query s) 0 given
+    pub cause-page : MayBeAsked name request snapshots → (given : WalkError)
+        → IsPageRefusal composite (matching_documents query s) given
         → HasCause is_match limit name query request snapshots given
-    cause-merged asked in_range (error.Invalid fault) refused = absurd refused
-    cause-merged asked in_range error.UnknownComposite refused = absurd refused
-    cause-merged asked in_range error.BucketOutOfRange refused = absurd refused
-    cause-merged asked in_range error.TooMany refused = (
-      asked,
-      own-refused error.TooMany (
-        λ out. out_of_range-one B name sized (matching_documents query s) out in_range,
-        too_many-own B name sized is_match (matching_documents query s) (omega arith),
-      ),
-    )
-    cause-merged asked in_range (error.Aggregation part) refused = absurd refused
-    cause-merged asked in_range error.OutOfMemory refused = tt
-
-    -- a refusal before its documents are counted
-    pub cause-starts : MayBeAsked name request snapshots → (given : WalkError)
-        → IsStartRefusal composite (matching_documents query s) given
-        → HasCause is_match limit name query request snapshots given
-    cause-starts asked (error.Invalid fault) refused = absurd refused
-    cause-starts asked error.UnknownComposite refused = absurd refused
-    cause-starts asked error.BucketOutOfRange refused = (
+    cause-page asked (error.Invalid fault) refused = absurd refused
+    cause-page asked error.UnknownComposite refused = absurd refused
+    cause-page asked error.BucketOutOfRange refused = (
       asked,
       own-refused error.BucketOutOfRange
           (out_of_range-own B name sized (matching_documents query s) refused),
     )
-    cause-starts asked error.TooMany refused = absurd refused
-    cause-starts asked (error.Aggregation part) refused = absurd refused
-    cause-starts asked error.OutOfMemory refused = tt
+    cause-page asked error.TooMany refused = (
+      asked,
+      own-refused error.TooMany (
+        λ out. out_of_range-one B name sized (matching_documents query s) out refused.0,
+        too_many-own B name sized is_match (matching_documents query s) refused.1,
+      ),
+    )
+    cause-page asked (error.Aggregation part) refused = absurd refused
+    cause-page asked error.OutOfMemory refused = tt
 
     -- with the merged results of its segments
     module _ {merged : Held}

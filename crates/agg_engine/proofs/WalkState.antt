@@ -32,7 +32,7 @@ pub record WalkState {B : Type 0} (is_match : B → Fields → Bool) (limit : �
       → IsRefused is_match limit name query request snapshots error
 
 -- a full page goes on
-full : (after : Named AfterKey) (WithRoom Full : Type 0) → after ≢ [] → Full
+pub full : (after : Named AfterKey) (WithRoom Full : Type 0) → after ≢ [] → Full
     → IfFull after WithRoom Full
 full [] WithRoom Full some goes_on = absurd (some refl)
 full (k ∷ after) WithRoom Full some goes_on = goes_on

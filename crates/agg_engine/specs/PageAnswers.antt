@@ -1,6 +1,6 @@
 -- What calls answer of a page.
-use Rattle.std.specs.Prelude.{◌≡◌, ◌≢◌, ◌≤◌, ◌<◌, ◌+◌, ◌^◌, ℕ, List, [], ◌∷◌, Bool, Option}
-use Rattle.std.specs.Prelude.{Result, All, IfErr, IfOk, MatchOption, OnOk, length, map, ⊤}
+use Rattle.std.specs.Prelude.{◌≡◌, ◌≢◌, ◌≤◌, ◌+◌, ◌*◌, ◌^◌, ℕ, List, [], ◌∷◌, Bool, Option}
+use Rattle.std.specs.Prelude.{Result, All, IfOk, MatchOption, OnOk, length, map, ⊤}
 use Rattle.agg_values.specs.Names.{Named}
 use Rattle.agg_values.specs.declared.after_key.AfterKey.{AfterKey}
 use Rattle.agg_values.specs.declared.error.InvalidArgument.TheVariants.{NoSource, TooManySources}
@@ -10,7 +10,8 @@ use Rattle.agg_request_tree.specs.Faults.{HasFault, IsSoundSource}
 use Rattle.agg_request_tree.specs.Groups.{Group}
 use Rattle.agg_request_tree.specs.declared.aggregation.CompositeAggregation.{CompositeAggregation}
 use Rattle.agg_request_tree.specs.declared.aggregation.AggregationVariants.TheVariants.{Composite}
-use Rattle.agg_request_tree.specs.Ranges.{HasOwnStartOutOfRange}
+use Rattle.agg_request_tree.specs.Occurrences.{bound_of, past_occurrences}
+use Rattle.agg_request_tree.specs.Ranges.{AreInRange, HasOwnStartOutOfRange}
 use Rattle.agg_request_tree.specs.Request.{Request, aggregation_of}
 use Rattle.agg_request_tree.specs.Uncut.{counted as counted_by}
 use Rattle.agg_request_tree.specs.Source.{Sources, after_of, rules_of}
@@ -41,13 +42,22 @@ IsStartRefusal composite documents BucketOutOfRange =
 IsStartRefusal composite documents OutOfMemory = ⊤
 IsStartRefusal composite documents _ = ⊥
 
--- why there are no results: with so many counted before, the composite counts too many documents;
--- running out of memory needs no cause
-abbrev pub IsCountRefusal : CompositeAggregation → List Fields → ℕ → WalkError → Type 0
-IsCountRefusal composite documents counted TooMany =
-    2 ^ 32 ≤ counted + length (counted_by composite documents)
-IsCountRefusal composite documents counted OutOfMemory = ⊤
-IsCountRefusal composite documents counted _ = ⊥
+-- why documents aren't collected: the composite counts too many of them; running out of memory
+-- needs no cause
+abbrev pub IsCountRefusal : CompositeAggregation → List Fields → WalkError → Type 0
+IsCountRefusal composite documents TooMany = 2 ^ 32 ≤ length (counted_by composite documents)
+IsCountRefusal composite documents OutOfMemory = ⊤
+IsCountRefusal composite documents _ = ⊥
+
+-- why a page has no results: a bucket starts outside i64, or, where none does, its composite counts
+-- too many documents; running out of memory needs no cause
+abbrev pub IsPageRefusal : CompositeAggregation → List Fields → WalkError → Type 0
+IsPageRefusal composite documents BucketOutOfRange = HasOwnStartOutOfRange composite documents
+IsPageRefusal composite documents TooMany =
+    All (AreInRange composite.sources) documents
+    × (2 ^ 32 ≤ length (counted_by composite documents))
+IsPageRefusal composite documents OutOfMemory = ⊤
+IsPageRefusal composite documents _ = ⊥
 
 -- the request of one composite under a name, of a size and after an after key
 abbrev pub asked : {B : Type 0} → List ℕ → CompositeAggregation → ℕ → Named AfterKey → Request B
@@ -69,19 +79,17 @@ abbrev pub intermediate_page : List ℕ → CompositeAggregation → ℕ → Lis
 intermediate_page name composite size groups =
     (name, as_composite (composite_of (rules_of composite.sources) size (entries_for groups))) ∷ []
 
--- what a call for the results of a composite over documents answers, where so many documents were
--- counted before: an Ok has results that stand for the documents, and has counted these too, and
--- they are not too many with those before; each other answer has its cause. A composite has no
--- builders
+-- what a call for the results of a composite over documents answers: an Ok has results that stand
+-- for the documents, with a step or more for each occurrence past the bound; whatever is answered,
+-- there are at most three steps for each document that is counted. A composite has no builders
 pub record AnswersMerged (name : List ℕ) (composite : CompositeAggregation) (size : ℕ)
-    (after : Named AfterKey) (documents : List Fields) (counted counted_now : ℕ)
+    (after : Named AfterKey) (documents : List Fields) (steps steps_now : ℕ)
     (result : Result IntermediateAggregationResults WalkError) : Type 0 where
-  pub merged : IfOk result (λ merged.
+  pub stands : IfOk result (λ merged.
       StandsFor no_match (asked name composite size after) documents merged.results)
-  pub counted_is : OnOk result
-      (counted_now ≡ counted + length (counted_by composite documents))
-  pub few : OnOk result (counted_now < 2 ^ 32)
-  pub cause : IfErr result (IsCountRefusal composite documents counted)
+  pub least : OnOk result (steps + length (past_occurrences composite.sources
+      (bound_of composite.sources after) documents) ≤ steps_now)
+  pub most : steps_now ≤ steps + 3 * length (counted_by composite documents)
 
 -- whether there is a next after key, and that it is the one that is shown
 abbrev pub IsShown : Option (Named AfterKey) → Named AfterKey → Type 0

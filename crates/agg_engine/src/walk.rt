@@ -2,6 +2,8 @@
 mod accessors;
 mod bound;
 mod checks;
+mod context;
+mod counts;
 mod error;
 mod finish;
 mod intermediate;
@@ -10,7 +12,7 @@ mod page;
 mod ranges;
 mod segment;
 
-ghost use Rattle.std.specs.Prelude.{◌≡◌, ◌≤◌, All, IfErr, IfOk, OnOk, IsErrOf};
+ghost use Rattle.std.specs.Prelude.{◌≡◌, ◌≤◌, ◌+◌, All, IfErr, IfOk, OnOk, IsErrOf};
 ghost use Rattle.agg_values.specs.declared.error.InvalidArgument.{InvalidArgument as Fault};
 ghost use Rattle.agg_values.specs.declared.request_error.AggregationError.TheVariants as error;
 ghost use Rattle.agg_values.specs.declared.request_error.DateHistogramParseError as text;
@@ -20,6 +22,7 @@ ghost use Rattle.agg_final_results.specs.BucketCount.{results_buckets};
 ghost use Rattle.agg_engine.specs.Form.{IsOneComposite};
 ghost use Rattle.agg_engine.specs.Refusals.{HasCause, IsRefused};
 ghost use Rattle.agg_engine.specs.Snapshot.{snapshots_documents};
+ghost use Rattle.agg_engine.specs.Steps.{TakesAtMost, past_pages};
 ghost use Rattle.agg_engine.specs.Walk.{IsWalk, MayBeAsked};
 ghost use Rattle.agg_engine.specs.declared.walk.error.WalkError.{WalkError as Refusal};
 
@@ -84,9 +87,18 @@ pub fn walk_pages<L: Ledger>(
         limits.old.bucket_limit name.now query.now request.now
         (snapshots_documents snapshots.now)) }
 
-    // No byte is charged. Steps never fall, and a refusal before any snapshot takes none.
+    // No byte is charged. Steps never fall. Whatever is answered, there are at most three for each
+    // occurrence of a composite of the request in a reached snapshot. At an Ok there is at least
+    // one for each occurrence past the bound of a page. A refusal before any snapshot takes none.
     ensures limits { limits.new ≡ limits.old }
     ensures later { steps.old ≤ steps.new }
+    ensures most { TakesAtMost
+        (built_matches (λ b. tree_for (b.builder.vtable, b.builder.value) schema.now))
+        query.now name.now request.now (snapshots_documents snapshots.now)
+        steps.old steps.new }
+    ensures least { IfOk result (λ walk. steps.old
+        + past_pages name.now query.now request.now (snapshots_documents snapshots.now) walk.pages
+        ≤ steps.new) }
     ensures faults_first { (fault : Fault) → IsErrOf result (WalkError.Invalid fault)
         → steps.new ≡ steps.old }
     ensures texts_first { (fault : text.DateHistogramParseError)
@@ -112,10 +124,7 @@ pub fn walk_pages<L: Ledger>(
             after: bound::after_key(&before, &composite.after),
             query,
         };
-        let segments = snapshot.segments.as_slice();
-        ranges::check_starts(alloc, &page, segments)?;
-        let mut counted = 0;
-        let merged = segments_results(alloc, &page, segments, &mut counted, steps)?;
+        let merged = segments_results(alloc, &page, snapshot.segments.as_slice(), steps)?;
         let results = page_results(merged, request, limits)?;
         before = bound::next_after(alloc, &results, name)?;
         pages.push(results)?;

@@ -21,11 +21,12 @@ type Values = &'static [(&'static str, Given)];
 // The size of a snapshot's page, and the documents of its segments.
 type Documents = (u32, &'static [&'static [Values]]);
 
-// What a walk is asked: a composite's name, its size in the request, how many buckets a page may
-// have, and the snapshots.
+// What a walk is asked: a composite's name, the names of its sources, which all read the field a,
+// its size in the request, how many buckets a page may have, and the snapshots.
 #[derive(Clone, Copy)]
 struct Asked {
     name: &'static str,
+    sources: &'static [&'static str],
     size: u32,
     bucket_limit: Option<u32>,
     snapshots: &'static [Documents],
@@ -37,9 +38,13 @@ const TWO: Values = &[("a", Given::Signed(2))];
 
 const THREE: Values = &[("a", Given::Signed(3))];
 
+const ONE_SOURCE: &[&str] = &["a"];
+
 const ROOM_FOR_TWO: Documents = (2, &[&[THREE, ONE, TWO, ONE]]);
 
 const TWO_SEGMENTS: Documents = (2, &[&[THREE, ONE], &[TWO, ONE]]);
+
+const THREE_SEGMENTS: Documents = (2, &[&[THREE], &[ONE, TWO], &[ONE]]);
 
 const TWO_PAGES: &[&str] = &[
     "{\"g\":{\"after_key\":{\"a\":\"i64:2\"},\"buckets\":[\
@@ -52,6 +57,7 @@ const WALKS: &[(Asked, &[&str], bool)] = &[
     (
         Asked {
             name: "g",
+            sources: ONE_SOURCE,
             size: 2,
             bucket_limit: None,
             snapshots: &[ROOM_FOR_TWO, ROOM_FOR_TWO],
@@ -62,6 +68,7 @@ const WALKS: &[(Asked, &[&str], bool)] = &[
     (
         Asked {
             name: "g",
+            sources: ONE_SOURCE,
             size: 2,
             bucket_limit: Some(2),
             snapshots: &[TWO_SEGMENTS, ROOM_FOR_TWO],
@@ -72,6 +79,18 @@ const WALKS: &[(Asked, &[&str], bool)] = &[
     (
         Asked {
             name: "g",
+            sources: ONE_SOURCE,
+            size: 2,
+            bucket_limit: None,
+            snapshots: &[THREE_SEGMENTS, TWO_SEGMENTS],
+        },
+        TWO_PAGES,
+        true,
+    ),
+    (
+        Asked {
+            name: "g",
+            sources: ONE_SOURCE,
             size: 2,
             bucket_limit: None,
             snapshots: &[],
@@ -83,15 +102,24 @@ const WALKS: &[(Asked, &[&str], bool)] = &[
 
 // A walk with the one composite g, over these snapshots.
 fn walk(alloc: Global, asked: Asked) -> Result<Result<Walk, WalkError>, Fail> {
-    let request = request_of_size(alloc, asked.size)?;
+    let request = request_with(alloc, asked.sources, asked.size)?;
     let snapshots = snapshots_of(alloc, asked.snapshots)?;
     Ok(walk_over::<Brand>(alloc, asked, &request, &snapshots, Blank::new(1)))
 }
 
-fn request_of_size(alloc: Global, size: u32) -> Result<Aggregations, OutOfMemory>
+// The request of a composite g, whose sources have these names.
+fn request_with(
+    alloc: Global,
+    names: &[&'static str],
+    size: u32,
+) -> Result<Aggregations, OutOfMemory>
     ensures { IfOk result (λ request. IsOneComposite request) }
 {
-    let sources = [GivenSource::of("a", Kind::Terms, false)];
+    let mut sources = Vec::new(alloc);
+    for name in names {
+        let source = GivenSource::of("a", Kind::Terms, false);
+        sources.push(GivenSource { name, ..source })?;
+    }
     let composite = composite_of(alloc, &sources, size)?;
     request_of(alloc, "g", lone(alloc, composite))
 }
@@ -174,15 +202,37 @@ const ONE_SNAPSHOT: &[Documents] = &[ROOM_FOR_TWO];
 
 const NO_ROOM_AT_LAST: &[Documents] = &[ROOM_FOR_TWO, (0, &[])];
 
+// A document with this many values has 4^15 choices of one for each of fifteen sources.
+const FOUR_VALUES: Values = &[
+    ("a", Given::Signed(1)),
+    ("a", Given::Signed(2)),
+    ("a", Given::Signed(3)),
+    ("a", Given::Signed(4)),
+];
+
+const FIFTEEN_SOURCES: &[&str] = &[
+    "a", "b", "c", "d", "e", "f", "g", "h", "i", "j", "k", "l", "m", "n", "o",
+];
+
+// Each segment has 2^31 occurrences.
+const TOO_MANY_TOGETHER: &[Documents] = &[(
+    1,
+    &[&[FOUR_VALUES, FOUR_VALUES], &[FOUR_VALUES, FOUR_VALUES]],
+)];
+
+// The composite's name, the names of its sources, and its size.
+type Composite = (&'static str, &'static [&'static str], u32);
+
 // No pages are given, for this reason, where a page may have two buckets.
 fn expect_refusal(
     rt: &(impl Abort + AllocGlobal),
-    (name, size): (&'static str, u32),
+    (name, sources, size): Composite,
     snapshots: &'static [Documents],
     refusal: WalkError,
 ) -> Result<(), Fail> {
     let asked = Asked {
         name,
+        sources,
         size,
         bucket_limit: Some(2),
         snapshots,
@@ -198,18 +248,35 @@ fn says_why_there_are_no_pages(rt: HostRuntime) -> Result<(), Fail> {
         current: 3,
     };
     for (asked, snapshots, refusal) in [
-        (("g", 3), THREE_BUCKETS, WalkError::Aggregation(limited)),
-        (("h", 2), NO_SNAPSHOT, WalkError::UnknownComposite),
-        (("h", 2), ONE_SNAPSHOT, WalkError::UnknownComposite),
         (
-            ("g", 0),
+            ("g", ONE_SOURCE, 3),
+            THREE_BUCKETS,
+            WalkError::Aggregation(limited),
+        ),
+        (
+            ("h", ONE_SOURCE, 2),
+            NO_SNAPSHOT,
+            WalkError::UnknownComposite,
+        ),
+        (
+            ("h", ONE_SOURCE, 2),
+            ONE_SNAPSHOT,
+            WalkError::UnknownComposite,
+        ),
+        (
+            ("g", ONE_SOURCE, 0),
             NO_SNAPSHOT,
             WalkError::Invalid(InvalidArgument::ZeroSize),
         ),
         (
-            ("g", 2),
+            ("g", ONE_SOURCE, 2),
             NO_ROOM_AT_LAST,
             WalkError::Invalid(InvalidArgument::ZeroSize),
+        ),
+        (
+            ("g", FIFTEEN_SOURCES, 1),
+            TOO_MANY_TOGETHER,
+            WalkError::TooMany,
         ),
     ] {
         expect_refusal(&rt, asked, snapshots, refusal)?;

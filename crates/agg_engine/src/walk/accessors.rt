@@ -1,12 +1,12 @@
 //! The accessors of the sources of a composite.
 ghost use Rattle.std.specs.Prelude.{◌≡◌, option_map, IfErr, IfOk};
 ghost use Rattle.agg_request_tree.specs.Source.{after_of};
-ghost use Rattle.agg_composite.specs.Accessors.{AllFit};
+ghost use Rattle.agg_accessor.specs.Accessors.{AllFit};
 ghost use Rattle.agg_engine.specs.PageAnswers.{MayGoOnFrom};
 ghost use Rattle.agg_engine.specs.declared.walk.error.WalkError.TheVariants.{OutOfMemory};
 
 use super::WalkError;
-use agg_composite::CompositeSourceAccessors;
+use agg_accessor::CompositeSourceAccessors;
 use agg_request_tree::CompositeAggregationSource;
 use agg_segment::SegmentReader;
 use agg_values::{AfterKey, CompositeIntermediateKey, ItemList, NameMap};

@@ -35,7 +35,7 @@ pub fn intermediate_page(
     ensures err { IfErr result (λ error. error ≡ OutOfMemory) }
 {
     let mut buckets = with_orders(alloc, page.composite.sources.as_slice(), page.size)?;
-    for PageEntry { key, doc_count } in entries.into_vec() {
+    for PageEntry { key, doc_count, .. } in entries.into_vec() {
         let entry = IntermediateTermBucketEntry {
             doc_count,
             sub_aggregation: IntermediateAggregationResults::new(alloc),

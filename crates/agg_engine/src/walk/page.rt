@@ -1,11 +1,19 @@
 //! The merged results of a snapshot's segments for a page.
-ghost use Rattle.std.specs.Prelude.{◌≢◌, ◌≤◌, ◌<◌, ◌^◌, All};
+ghost use Rattle.std.specs.Prelude.{◌≡◌, ◌≢◌, ◌≤◌, ◌<◌, ◌^◌, All, IfErr, List, OnOk, length};
+ghost use Rattle.agg_segment.specs.Segment.{Stored};
 ghost use Rattle.agg_request_tree.specs.Ranges.{AreInRange};
-ghost use Rattle.agg_engine.specs.PageAnswers.{AnswersMerged, HasFewSources, MayGoOnFrom};
+ghost use Rattle.agg_request_tree.specs.Uncut.{counted};
+ghost use Rattle.agg_engine.specs.Contexts.{MayBeCollected};
+ghost use Rattle.agg_engine.specs.PageAnswers.{AnswersMerged, HasFewSources, IsPageRefusal};
+ghost use Rattle.agg_engine.specs.PageAnswers.{MayGoOnFrom};
 ghost use Rattle.agg_engine.specs.Walk.{matching_in};
+ghost use Rattle.agg_engine.specs.declared.walk.error.WalkError.TheVariants.{OutOfMemory};
 
 use super::WalkError;
+use super::context::{SegmentContext, segment_contexts};
+use super::counts::check_counts;
 use super::intermediate::out_of_memory;
+use super::ranges::check_starts;
 use super::segment::segment_results;
 use agg_request_tree::CompositeAggregation;
 use agg_results::IntermediateAggregationResults;
@@ -25,35 +33,60 @@ pub struct PageRequest<'a> {
     pub query: &'a QueryTree,
 }
 
-/// The merged results of segments for a page, and in `counted` how many documents they count
-/// besides those counted before. Results are merged in halves, so that no entry is moved more often
-/// than the number of segments can be halved.
+/// The merged results of segments for a page. The starts of all are checked first, and then all are
+/// counted, before any is collected.
 pub fn segments_results<L: Ledger>(
     alloc: Global,
     page: &PageRequest<'_>,
     segments: &[SegmentReader],
-    counted: &mut u64,
     steps: &mut Steps<L>,
 ) -> Result<IntermediateAggregationResults, WalkError>
     requires sources { HasFewSources page.now.composite.now }
     requires after { MayGoOnFrom page.now.composite.now.sources page.now.after.now }
     requires room { page.now.size ≢ 0 }
-    requires few { counted.now < 2 ^ 32 }
-    requires range { All (AreInRange page.now.composite.now.sources)
-        (matching_in page.now.query.now segments.now) }
+    ensures range { OnOk result (All (AreInRange page.now.composite.now.sources)
+        (matching_in page.now.query.now segments.now)) }
+    ensures few { OnOk result (length (counted page.now.composite.now
+        (matching_in page.now.query.now segments.now)) < 2 ^ 32) }
+    ensures cause { IfErr result (IsPageRefusal page.now.composite.now
+        (matching_in page.now.query.now segments.now)) }
     ensures merged { AnswersMerged page.now.name.now page.now.composite.now page.now.size
         page.now.after.now
         (matching_in page.now.query.now segments.now)
-        counted.old counted.new result }
+        steps.old steps.new result }
     ensures later { steps.old ≤ steps.new }
 {
-    match segments {
+    let contexts = segment_contexts(alloc, page, segments)?;
+    check_starts(contexts.as_slice())?;
+    check_counts(contexts.as_slice())?;
+    merged_results(alloc, page, contexts.as_slice(), steps)
+}
+
+// The merged results of segments that may be collected. They are merged in halves, so that no entry
+// is moved more often than the number of segments can be halved.
+fn merged_results<L: Ledger>(
+    alloc: Global,
+    page: &PageRequest<'_>,
+    contexts: &[SegmentContext<'_>],
+    steps: &mut Steps<L>,
+) -> Result<IntermediateAggregationResults, WalkError>
+    requires sources { HasFewSources page.now.composite.now }
+    requires room { page.now.size ≢ 0 }
+    requires contexts { (segments : List Stored) × MayBeCollected page.now segments contexts.now }
+    ensures merged { (segments : List Stored) → MayBeCollected page.now segments contexts.now
+        → AnswersMerged page.now.name.now page.now.composite.now page.now.size
+        page.now.after.now (matching_in page.now.query.now segments)
+        steps.old steps.new result }
+    ensures err { IfErr result (λ error. error ≡ OutOfMemory) }
+    ensures later { steps.old ≤ steps.new }
+{
+    match contexts {
         [] => Ok(IntermediateAggregationResults::new(alloc)),
-        [segment] => segment_results(alloc, page, segment, counted, steps),
+        [context] => segment_results(alloc, page, context, steps),
         _ => {
-            let (first, second) = segments.split_at(segments.len() / 2);
-            let mut merged = segments_results(alloc, page, first, counted, steps)?;
-            let more = segments_results(alloc, page, second, counted, steps)?;
+            let (first, second) = contexts.split_at(contexts.len() / 2);
+            let mut merged = merged_results(alloc, page, first, steps)?;
+            let more = merged_results(alloc, page, second, steps)?;
             match merged.merge_fruits(more) {
                 Ok(()) => Ok(merged),
                 Err(error) => Err(out_of_memory(error)),

@@ -1,10 +1,13 @@
 use Rattle.std.proofs.Common.{◌≤◌, drop, unwrap_or}
 use Rattle.agg_request_tree.specs.Matching.{built_matches}
 use Rattle.agg_engine.specs.Snapshot.{snapshots_documents}
+use Rattle.agg_engine.specs.Walk.{request_after}
+use Rattle.agg_engine.proofs.StepsTaken.{IsCounting}
 use Rattle.agg_engine.proofs.WalkLoop.{IsWalking}
 use Rattle.agg_engine.proofs.walk.walk_pages.Given as goal
 
--- the pages so far are those of the walk, which goes on from the after key, and steps didn't fall
+-- the pages so far are those of the walk, which goes on from the after key, and there are as many
+-- steps as they allow
 abbrev pub invariant-loop-snapshot : goal.invariant-loop-snapshot
 invariant-loop-snapshot g l = record {
   walking : IsWalking (built_matches (λ b.
@@ -14,5 +17,11 @@ invariant-loop-snapshot g l = record {
       (unwrap_or l.before l.composite.after) (snapshots_documents
       (drop l.snapshot-index l.snapshots))
       l.pages;
+  counting : IsCounting (built_matches (λ b.
+      (goal.QueryBuilder-dyn g (b.builder.vtable, b.builder.value)).tree_for
+      b.builder.value l.schema)) l.name l.query l.request (snapshots_documents l.snapshots)
+      (request_after l.name (unwrap_or l.before l.composite.after) l.request)
+      (snapshots_documents (drop l.snapshot-index l.snapshots)) l.pages l.snapshot-index
+      l.initial.steps l.steps;
   later : l.initial.steps ≤ l.steps;
 }

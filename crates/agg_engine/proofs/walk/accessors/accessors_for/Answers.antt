@@ -1,7 +1,7 @@
 use Rattle.std.proofs.Common.{option_map, subst, sym, arith}
 use Rattle.agg_request_tree.specs.Faults.{IsSoundSource}
 use Rattle.agg_request_tree.specs.Source.{after_of}
-use Rattle.agg_composite.specs.Accessors.{AreAccessorsOf}
+use Rattle.agg_accessor.specs.Accessors.{AreAccessorsOf}
 use Rattle.agg_engine.proofs.Accessors.{AllZip-one_more}
 use Rattle.agg_engine.proofs.RequestFaults.{only-memory}
 use Rattle.agg_engine.proofs.walk.accessors.accessors_for.Goals as goal

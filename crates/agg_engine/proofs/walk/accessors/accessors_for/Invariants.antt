@@ -1,5 +1,5 @@
 use Rattle.std.proofs.Common.{take}
-use Rattle.agg_composite.specs.Accessors.{AllFit}
+use Rattle.agg_accessor.specs.Accessors.{AllFit}
 use Rattle.agg_engine.proofs.walk.accessors.accessors_for.Given as goal
 
 -- the accessors of the sources so far

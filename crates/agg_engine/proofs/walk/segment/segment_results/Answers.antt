@@ -1,13 +1,15 @@
-use Rattle.std.proofs.Common.{◌≡◌, ◌+◌, length, map, sym, ap, ◌∙◌, subst, arith}
-use Rattle.std.specs.List.{All, filter}
-use Rattle.agg_segment.specs.Query.{matches}
-use Rattle.agg_segment.specs.Segment.{documents_at, documents_of}
+use Rattle.std.proofs.Common.{◌≡◌, ◌≤◌, ◌+◌, [], ◌∷◌, length, map, sym, subst}
+use Rattle.std.specs.List.{All}
+use Rattle.agg_segment.specs.Segment.{Stored, documents_at}
+use Rattle.agg_request_tree.specs.Occurrences.{bound_of, past_occurrences}
 use Rattle.agg_request_tree.specs.Ranges.{AreInRange}
-use Rattle.agg_request_tree.specs.Uncut.{counted as counted_by}
-use Rattle.agg_request_tree.specs.declared.aggregation.CompositeAggregation.{CompositeAggregation}
 use Rattle.agg_composite.specs.PageEntries.{entry_group}
+use Rattle.agg_engine.specs.Contexts.{MayBeCollected}
 use Rattle.agg_engine.specs.PageAnswers.{HasFewSources, IsCountRefusal}
-use Rattle.agg_engine.proofs.CountRefusals.{refusal-later}
+use Rattle.agg_engine.specs.Walk.{matching_in}
+use Rattle.agg_engine.specs.declared.walk.error.WalkError.TheVariants.{OutOfMemory}
+use Rattle.agg_engine.proofs.Contexts.{by-context, by-page, steps-most}
+use Rattle.agg_engine.proofs.CountRefusals.{caused-by, refusal-memory}
 use Rattle.agg_engine.proofs.StandingPage.{Stand, answers-page, answers-refused}
 use Rattle.agg_engine.proofs.walk.segment.segment_results.Given as given
 use Rattle.agg_engine.proofs.walk.segment.segment_results.Goals as goal
@@ -15,73 +17,84 @@ use Rattle.agg_engine.proofs.walk.segment.segment_results.Goals.{In_ok-entries}
 
 pub docs_page-requires-clause-sources : goal.docs_page-requires-clause-sources
 docs_page-requires-clause-sources g c =
-    subst HasFewSources (sym c.in_ok-req.ensures.composite) c.requires.sources
+    let ready = c.requires.context.1 in
+    subst HasFewSources (sym ready.each.0.composite) c.requires.sources
 
 pub docs_page-requires-clause-fits : goal.docs_page-requires-clause-fits
 docs_page-requires-clause-fits g c =
     let page = c.args.page.now in
-    let segment = c.args.segment.now in (
+    let segment = c.requires.context.0 in
+    let ready = c.requires.context.1 in
+    let is = ready.each.0 in (
       segment,
       page.after.now,
-      c.in_ok-req.ensures.fits,
-      subst (λ (composite : CompositeAggregation).
-          All (AreInRange composite.sources) (documents_at segment c.deref-2.result.now))
-          (sym c.in_ok-req.ensures.composite)
-          (subst (All (AreInRange page.composite.now.sources))
-          (sym (ap (documents_at segment) c.deref-2.ensures.value ∙ c.in_ok-docs.ensures))
-          c.requires.range),
+      is.fits,
+      by-context page segment c.args.context.now is
+          (λ composite ds. All (AreInRange composite.sources) ds) c.deref.result.now
+          c.deref.ensures.value ready.range,
     )
 
-pub returns-in_err-entries-clause-merged : goal.returns-in_err-entries-clause-merged
-returns-in_err-entries-clause-merged g c =
-    let page = c.args.page.now in
-    let segment = c.args.segment.now in
-    let documents = filter (matches page.query.now) (documents_of segment) in
-    let given = c.in_err-entries.field-0.0 in
-    let listed = ap (documents_at segment) c.deref-2.ensures.value ∙ c.in_ok-docs.ensures in
-    answers-refused page.name.now page.composite.now page.size page.after.now documents
-    c.args.counted.now c.count_docs.new.counted c.from_residual-in_err-entries.result given
-    c.from_residual-in_err-entries.ensures.1
-    (refusal-later page.composite.now documents 0 c.args.counted.now given (omega arith)
-    (subst (λ ds. IsCountRefusal page.composite.now ds 0 given) listed
-    (subst (λ (composite : CompositeAggregation).
-    IsCountRefusal composite (documents_at segment c.deref-2.result.now) 0 given)
-    c.in_ok-req.ensures.composite
-    (c.in_err-entries.ensures.cause segment page.after.now c.in_ok-req.ensures.fits))))
-
 -- the entries stand for the documents that match
-stand : (g : given.Over) (c : In_ok-entries g)
+stand : (g : given.Over) (c : In_ok-entries g) (segment : Stored)
+    → MayBeCollected c.args.page.now (segment ∷ []) (c.args.context.now ∷ [])
     → Stand c.args.page.now.name.now c.args.page.now.composite.now c.args.page.now.size
-    c.args.page.now.after.now
-    (filter (matches c.args.page.now.query.now) (documents_of c.args.segment.now))
+    c.args.page.now.after.now (matching_in c.args.page.now.query.now (segment ∷ []))
     (map entry_group c.in_ok-entries.entries)
-stand g c =
+stand g c segment ready =
     let page = c.args.page.now in
-    let segment = c.args.segment.now in
+    let is = ready.each.0 in
     let entries = map entry_group c.in_ok-entries.entries in
-    subst (λ ds. Stand page.name.now page.composite.now page.size page.after.now ds entries)
-    (ap (documents_at segment) c.deref-2.ensures.value ∙ c.in_ok-docs.ensures)
-    (subst (λ (composite : CompositeAggregation). Stand page.name.now composite page.size
-    page.after.now (documents_at segment c.deref-2.result.now) entries)
-    c.in_ok-req.ensures.composite
-    (subst (λ size. Stand page.name.now c.in_ok-req.req.req.now size page.after.now
-    (documents_at segment c.deref-2.result.now) entries) c.in_ok-req.ensures.size
-    (c.in_ok-entries.ensures.page segment page.after.now c.in_ok-req.ensures.fits)))
+    by-page page segment c.args.context.now is
+    (λ composite ds. Stand page.name.now composite page.size page.after.now ds entries)
+    c.deref.result.now c.deref.ensures.value
+    (subst (λ size. Stand page.name.now c.args.context.now.req.req.now size page.after.now
+    (documents_at segment c.deref.result.now) entries) is.size
+    (c.in_ok-entries.ensures.page segment page.after.now is.fits))
 
 pub intermediate_page-requires-clause-ascending : goal.intermediate_page-requires-clause-ascending
-intermediate_page-requires-clause-ascending g c = (stand g c).ascending
+intermediate_page-requires-clause-ascending g c =
+    (stand g c c.requires.context.0 c.requires.context.1).ascending
+
+pub returns-in_err-entries-clause-err : goal.returns-in_err-entries-clause-err
+returns-in_err-entries-clause-err g c =
+    let page = c.args.page.now in
+    let segment = c.requires.context.0 in
+    let ready = c.requires.context.1 in
+    let is = ready.each.0 in
+    let given = c.in_err-entries.field-0.0 in
+    caused-by (λ e. e ≡ OutOfMemory) c.from_residual.result given
+    c.from_residual.ensures.1
+    (refusal-memory page.composite.now (matching_in page.query.now (segment ∷ [])) given ready.few
+    (by-page page segment c.args.context.now is
+    (λ composite ds. IsCountRefusal composite ds given) c.deref.result.now c.deref.ensures.value
+    (c.in_err-entries.ensures.cause segment page.after.now is.fits)))
+
+pub returns-in_err-entries-clause-merged : goal.returns-in_err-entries-clause-merged
+returns-in_err-entries-clause-merged g c = λ segment ready.
+    let page = c.args.page.now in
+    let is = ready.each.0 in
+    answers-refused page.name.now page.composite.now page.size page.after.now
+    (matching_in page.query.now (segment ∷ [])) c.args.steps.now c.docs_page.new.steps
+    (steps-most page segment c.args.context.now is c.deref.result.now c.deref.ensures.value
+    c.args.steps.now c.docs_page.new.steps
+    (c.in_err-entries.ensures.most segment page.after.now is.fits))
+    c.from_residual.result c.in_err-entries.field-0.0
+    c.from_residual.ensures.1
 
 pub returns-clause-merged : goal.returns-clause-merged
-returns-clause-merged g c =
+returns-clause-merged g c = λ segment ready.
     let turn = (goal.at.returns-clause-merged g c).In_ok-entries in
     let page = c.args.page.now in
-    let segment = c.args.segment.now in
-    let documents = filter (matches page.query.now) (documents_of segment) in
-    let counted = subst (λ ds. c.count_docs.new.counted
-    ≡ c.args.counted.now + length (counted_by page.composite.now ds))
-    (ap (documents_at segment) c.deref.ensures.value ∙ c.in_ok-docs.ensures)
-    c.in_ok-count_docs.ensures.counted in
+    let is = ready.each.0 in
+    let documents = matching_in page.query.now (segment ∷ []) in
     answers-page page.name.now page.composite.now page.size page.after.now documents
-    c.args.counted.now c.count_docs.new.counted (map entry_group c.in_ok-entries.entries)
-    (stand g turn) counted c.in_ok-count_docs.ensures.few c.intermediate_page.result
-    c.intermediate_page.ensures.ok c.intermediate_page.ensures.err
+    c.args.steps.now c.docs_page.new.steps
+    (steps-most page segment c.args.context.now is c.deref.result.now c.deref.ensures.value
+    c.args.steps.now c.docs_page.new.steps
+    (c.in_ok-entries.ensures.most segment page.after.now is.fits))
+    (map entry_group c.in_ok-entries.entries) (stand g turn segment ready)
+    (by-page page segment c.args.context.now is
+    (λ composite ds. c.args.steps.now + length (past_occurrences composite.sources
+    (bound_of composite.sources page.after.now) ds) ≤ c.docs_page.new.steps) c.deref.result.now
+    c.deref.ensures.value (c.in_ok-entries.ensures.least segment page.after.now is.fits))
+    c.intermediate_page.result c.intermediate_page.ensures.ok

@@ -1,7 +1,7 @@
 use Rattle.std.proofs.Common.{subst, sym}
-use Rattle.agg_composite.specs.Accessors.{AllFit}
+use Rattle.agg_accessor.specs.Accessors.{AllFit}
 use Rattle.agg_engine.specs.PageAnswers.{MayGoOnFrom}
-use Rattle.agg_engine.proofs.walk.segment.request_data.Goals as goal
+use Rattle.agg_engine.proofs.walk.context.request_data.Goals as goal
 
 pub returns-clause-fits : goal.returns-clause-fits
 returns-clause-fits c =

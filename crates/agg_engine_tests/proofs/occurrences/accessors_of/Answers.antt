@@ -1,0 +1,13 @@
+use Rattle.std.proofs.Common.{[], arith}
+use Rattle.agg_request_tree.specs.Source.{after_of}
+use Rattle.agg_accessor.specs.Accessors.{AreAccessorsOf}
+use Rattle.agg_engine.proofs.Accessors.{AllZip-one_more}
+use Rattle.agg_engine_tests.proofs.occurrences.accessors_of.Goals as goal
+
+pub loop-source-preserved : goal.loop-source-preserved
+loop-source-preserved c =
+    let segment = c.args.segment.now in
+    AllZip-one_more (λ s a. AreAccessorsOf segment s (after_of [] s) a) c.args.sources.now
+    c.loop-source.source-index c.loop-source.accessors c.push.new.self c.source-item.result
+    c.in_ok-build_for_source.field-0 c.loop-source.invariant (omega arith) c.source-item.is
+    c.in_ok-build_for_source.ensures.ok c.in_ok-push.ensures.ok
