@@ -1,7 +1,7 @@
 -- What merging makes of two intermediate results, and when it is refused.
 use Rattle.std.specs.Prelude.{◌*◌, if◌then◌else◌, length, nat_lt, take}
 use Rattle.std.specs.Prelude.{◌≡◌, ◌≢◌, ◌≤◌, ◌<◌, ◌+◌, ◌^◌, ◌⊎◌, ℕ, zero, suc, List, [], ◌∷◌}
-use Rattle.std.specs.Prelude.{Option, None, Some, ℤ, ◌+ℤ◌, IsSomeAnd, Contains, FitsSigned}
+use Rattle.std.specs.Prelude.{Option, None, Some, ◌+ℤ◌, IsSomeAnd, Contains, FitsSigned}
 use Rattle.std.specs.Int.{int_max, int_min}
 use mir.Syntax.{w128}
 use Rattle.std.specs.declared.cmp.Ordering.{Ordering}
@@ -9,6 +9,7 @@ use Rattle.std.specs.declared.cmp.Ordering.TheVariants.{Less, Equal, Greater}
 use Rattle.agg_values.specs.KeyOrder.{tuple_order}
 use Rattle.agg_values.specs.Names.{Named, value_of}
 use Rattle.agg_values.specs.Tuple.{KeyTuple}
+use Rattle.agg_request_tree.specs.Metrics.{best}
 use Rattle.agg_intermediate_results.specs.Intermediate.{Entries, Held, Parts, below_entry}
 use Rattle.agg_intermediate_results.specs.Intermediate.{composite, composite_of, entries_of, filter}
 use Rattle.agg_intermediate_results.specs.Intermediate.{metric, orders_of, parts_of, target_size_of}
@@ -66,12 +67,6 @@ SomeTied {T = T} R Told left right =
     × Contains left e × Contains right f × (R e.0 f.0 ≡ Equal) × Told e.1 f.1
 
 -- ---- metrics
-
--- the better of two, where there are two
-abbrev pub best : (ℤ → ℤ → ℤ) → Option ℤ → Option ℤ → Option ℤ
-best better None b = b
-best better (Some a) None = Some a
-best better (Some a) (Some b) = Some (better a b)
 
 -- two results of a metric as one
 abbrev pub MetricsMerged : IntermediateMetricResult → IntermediateMetricResult

@@ -17,6 +17,7 @@ pub use entry::{IntermediateCompositeBucketEntry, IntermediateTermBucketEntry};
 pub use error::{FinalError, MergeError};
 pub use metric::{
     IntermediateCount, IntermediateMax, IntermediateMetricResult, IntermediateMin, IntermediateSum,
+    greatest, least,
 };
 pub use results::{
     IntermediateAggregationResult, IntermediateAggregationResults, IntermediateBucketResult,

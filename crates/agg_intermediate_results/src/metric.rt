@@ -2,8 +2,8 @@
 ghost use Rattle.std.specs.Prelude.{◌≡◌, ◌≤◌, ◌+◌, ◌^◌, ◌+ℤ◌, false, FitsSigned, IfOk, IsErrOf};
 ghost use Rattle.std.specs.Int.{int_max, int_min};
 ghost use mir.Syntax.{w128};
+ghost use Rattle.agg_request_tree.specs.Metrics.{best};
 ghost use Rattle.agg_intermediate_results.specs.Merging.{MetricsDiffer, MetricsMerged, MetricsPass};
-ghost use Rattle.agg_intermediate_results.specs.Merging.{best};
 ghost use Rattle.agg_intermediate_results.specs.Outcome.{Merges};
 
 use crate::MergeError;
@@ -101,8 +101,8 @@ fn add_sums(sum: i128, more: i128, passed: &mut bool) -> i128
     }
 }
 
-// The greater of two numbers, where there are two.
-fn greatest(held: Option<i128>, more: Option<i128>) -> Option<i128>
+/// The greater of two numbers, where there are two.
+pub fn greatest(held: Option<i128>, more: Option<i128>) -> Option<i128>
     ensures { result ≡ best int_max held more }
 {
     match (held, more) {
@@ -112,8 +112,8 @@ fn greatest(held: Option<i128>, more: Option<i128>) -> Option<i128>
     }
 }
 
-// The lesser of two numbers, where there are two.
-fn least(held: Option<i128>, more: Option<i128>) -> Option<i128>
+/// The lesser of two numbers, where there are two.
+pub fn least(held: Option<i128>, more: Option<i128>) -> Option<i128>
     ensures { result ≡ best int_min held more }
 {
     match (held, more) {

@@ -8,6 +8,7 @@ pub mod Checks
 pub mod Faults
 pub mod FieldNames
 pub mod Lists
+pub mod Metrics
 pub mod OccurrencesLength
 pub mod PageAfter
 pub mod PageCounts

@@ -5,11 +5,10 @@ use mir.Syntax.{w128}
 use Rattle.std.specs.List.{AllByRecursion, filter_map, flat_map}
 use Rattle.std.proofs.lemmas.List.Elements.{filter_map-append}
 use Rattle.agg_column.specs.Document.{Fields}
-use Rattle.agg_request_tree.specs.Metrics.{number_of, numbers_of, values_of_field}
+use Rattle.agg_request_tree.specs.Metrics.{number_of, numbers_of, sum_of, values_of_field}
 use Rattle.agg_request_tree.proofs.Lists.{AllByRecursion-Has, AllByRecursion-append}
 use Rattle.agg_request_tree.proofs.Lists.{AllByRecursion-from_Has, Has, Has-append_left}
 use Rattle.agg_request_tree.proofs.Lists.{Has-append_right, Has-flat_map}
-use Rattle.agg_results.specs.Results.{sum_of}
 use Rattle.agg_results.proofs.SmallSums.{IsSmall, many-summed}
 
 module _ {X : Type 0} (P : X → Type 0) (xs ys : List X) (all : AllByRecursion P (xs ++ ys)) where

@@ -4,8 +4,7 @@ use Rattle.std.proofs.Common.{◌∙◌, arith}
 use Rattle.std.specs.Int.{int_max, int_min}
 use Rattle.std.proofs.lemmas.Int.{clamps, ints}
 use Rattle.agg_request_tree.proofs.Reorderings.{IsReordering, exchange, joined, later, same}
-use Rattle.agg_intermediate_results.specs.Merging.{best}
-use Rattle.agg_results.specs.Results.{best_of, sum_of}
+use Rattle.agg_request_tree.specs.Metrics.{best, best_of, sum_of}
 
 -- which of two is taken first makes no difference
 abbrev pub TakesInAnyOrder : (ℤ → ℤ → ℤ) → Type 0

@@ -7,13 +7,14 @@ use Rattle.std.specs.List.{AllByRecursion, Contains}
 use Rattle.std.proofs.lemmas.List.Elements.{All-contains}
 use Rattle.agg_column.specs.Document.{Fields}
 use Rattle.agg_request_tree.specs.Matching.{matching}
-use Rattle.agg_request_tree.specs.Metrics.{numbers_of}
+use Rattle.agg_request_tree.specs.Metrics.{numbers_of, sum_of}
 use Rattle.agg_request_tree.specs.Page.{documents_with}
 use Rattle.agg_request_tree.specs.Request.{Request}
 use Rattle.agg_request_tree.specs.Uncut.{counted, uncut}
 use Rattle.agg_request_tree.specs.declared.aggregation.AggregationVariants.{AggregationVariants}
 use Rattle.agg_request_tree.specs.declared.aggregation.AggregationVariants.TheVariants as asks
 use Rattle.agg_request_tree.specs.declared.aggregation.CompositeAggregation.{CompositeAggregation}
+use Rattle.agg_request_tree.proofs.Metrics.{count-append, numbers-append, sum-append}
 use Rattle.agg_request_tree.proofs.UncutLength.{length-each}
 use Rattle.agg_request_tree.proofs.UncutLists.{uncut-append}
 use Rattle.agg_intermediate_results.specs.Intermediate.{Held, Parts, TupleEntry, below_entry}
@@ -24,12 +25,10 @@ use Rattle.agg_intermediate_results.specs.declared as declared
 use declared.composite.IntermediateCompositeBucketResult.{IntermediateCompositeBucketResult}
 use declared.metric.IntermediateMetricResult.{IntermediateMetricResult}
 use declared.metric.IntermediateMetricResult.TheVariants as m
-use Rattle.agg_results.specs.Results.{sum_of}
 use Rattle.agg_results.proofs.AddedNumbers.{own_added_field}
 use Rattle.agg_results.specs.StandsFor.{CompositeStands, EntryStands, IsPart, MetricStands}
 use Rattle.agg_results.specs.StandsFor.{PartsStand}
 use Rattle.agg_results.proofs.FitDocuments.{IsFit, many-numbers}
-use Rattle.agg_results.proofs.Metrics.{count-append, numbers-append, sum-append}
 use Rattle.agg_results.proofs.PartLists.{part-all, part-trans, with-part}
 use Rattle.agg_results.proofs.Parts.{part-append, part-length}
 use Rattle.agg_results.proofs.UncutParts.{length-numbers, uncut-part}

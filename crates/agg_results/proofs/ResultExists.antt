@@ -6,7 +6,7 @@ use Rattle.std.specs.List.{AllZip}
 use Rattle.agg_values.specs.Names.{Named}
 use Rattle.agg_column.specs.Document.{Fields}
 use Rattle.agg_request_tree.specs.Matching.{matching}
-use Rattle.agg_request_tree.specs.Metrics.{numbers_of, values_of_field}
+use Rattle.agg_request_tree.specs.Metrics.{best_of, numbers_of, sum_of, values_of_field}
 use Rattle.agg_request_tree.specs.Occurrences.{bound_of}
 use Rattle.agg_request_tree.specs.Page.{Entry, IsPage, group_of}
 use Rattle.agg_request_tree.specs.Request.{Request, agg_of, below_of}
@@ -25,7 +25,7 @@ use final.CompositeBucketEntry.{CompositeBucketEntry}
 use Rattle.agg_intermediate_results.specs.Shown.{Results, shown_bucket, shown_count, shown_filter}
 use Rattle.agg_intermediate_results.specs.Shown.{shown_max, shown_min, shown_page, shown_sum}
 use Rattle.agg_results.specs.Results.{AreResults, EachHas, IsBucket, IsResult, IsResultTo}
-use Rattle.agg_results.specs.Results.{after_tuple, best_of, sum_of}
+use Rattle.agg_results.specs.Results.{after_tuple}
 
 -- the result of an aggregation over documents
 abbrev Result : Type 0

@@ -5,7 +5,7 @@ use mir.Syntax.{w128}
 use Rattle.std.specs.List.{AllByRecursion}
 use Rattle.std.proofs.lemmas.Bool.{cases_lt}
 use Rattle.std.proofs.lemmas.Int.{fits_signed_from_abs, ints}
-use Rattle.agg_results.specs.Results.{sum_of}
+use Rattle.agg_request_tree.specs.Metrics.{sum_of}
 
 -- a number of 64 bits, with or without a sign
 abbrev pub IsSmall : ℤ → Type 0

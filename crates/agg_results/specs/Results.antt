@@ -1,14 +1,13 @@
 -- The results of a request over documents, as they are shown. An aggregation has others below it, so
 -- its result is told down to a depth. What is so at every depth is the whole result, since requests
 -- are finite: no request has two results over the same documents.
-use Rattle.std.specs.Prelude.{◌≡◌, ℕ, zero, suc, ℤ, pos, ◌+ℤ◌, List, [], ◌∷◌, Bool, Option, None}
-use Rattle.std.specs.Prelude.{Some, length, map, ⊤}
+use Rattle.std.specs.Prelude.{◌≡◌, ℕ, zero, suc, List, Bool, Option, length, map, ⊤}
 use Rattle.std.specs.Int.{int_max, int_min}
 use Rattle.std.specs.List.{AllZip}
 use Rattle.agg_values.specs.Tuple.{KeyTuple}
 use Rattle.agg_column.specs.Document.{Fields}
 use Rattle.agg_request_tree.specs.Matching.{matching}
-use Rattle.agg_request_tree.specs.Metrics.{numbers_of, values_of_field}
+use Rattle.agg_request_tree.specs.Metrics.{best_of, numbers_of, sum_of, values_of_field}
 use Rattle.agg_request_tree.specs.Occurrences.{bound_of}
 use Rattle.agg_request_tree.specs.Page.{Entry, IsPage, group_of}
 use Rattle.agg_request_tree.specs.Request.{Request, agg_of, below_of}
@@ -21,22 +20,9 @@ use Rattle.agg_final_results.specs.declared.types as final
 use final.AggregationResult.{AggregationResult}
 use final.AggregationResults.{AggregationResults}
 use final.CompositeBucketEntry.{CompositeBucketEntry}
-use Rattle.agg_intermediate_results.specs.Merging.{best}
 use Rattle.agg_intermediate_results.specs.Shown.{Results, last_tuple, shown_bucket, shown_count}
 use Rattle.agg_intermediate_results.specs.Shown.{shown_filter, shown_max, shown_min, shown_page}
 use Rattle.agg_intermediate_results.specs.Shown.{shown_sum}
-
--- ---- numbers
-
--- the best of some numbers, if there are any
-abbrev pub best_of : (ℤ → ℤ → ℤ) → List ℤ → Option ℤ
-best_of better [] = None
-best_of better (n ∷ ns) = best better (Some n) (best_of better ns)
-
--- the sum of some numbers
-abbrev pub sum_of : List ℤ → ℤ
-sum_of [] = pos 0
-sum_of (n ∷ ns) = n +ℤ sum_of ns
 
 -- ---- pages
 

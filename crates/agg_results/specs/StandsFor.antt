@@ -12,7 +12,7 @@ use Rattle.agg_values.specs.Tuple.{KeyTuple}
 use Rattle.agg_column.specs.Document.{Fields}
 use Rattle.agg_request_tree.specs.Groups.{Group}
 use Rattle.agg_request_tree.specs.Matching.{matching}
-use Rattle.agg_request_tree.specs.Metrics.{numbers_of, values_of_field}
+use Rattle.agg_request_tree.specs.Metrics.{best_of, numbers_of, sum_of, values_of_field}
 use Rattle.agg_request_tree.specs.Occurrences.{bound_of, is_past}
 use Rattle.agg_request_tree.specs.Page.{IsPage, count_in, documents_with, entry_of}
 use Rattle.agg_request_tree.specs.Request.{Request, agg_of, below_of}
@@ -29,7 +29,6 @@ use declared.composite.IntermediateCompositeBucketResult.{IntermediateCompositeB
 use declared.metric.IntermediateMetricResult.{IntermediateMetricResult}
 use declared.metric.IntermediateMetricResult.TheVariants as m
 use declared.results.IntermediateAggregationResult.{IntermediateAggregationResult}
-use Rattle.agg_results.specs.Results.{best_of, sum_of}
 
 -- ---- groups
 
