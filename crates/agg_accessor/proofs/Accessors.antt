@@ -98,7 +98,7 @@ by_head p x xs front (suc i) d l true is rest =
       λ above. inner.1 (omega (arith, above, more)),
     )
 
--- where what passes stands before what doesn't, the count is the place of the first that doesn't
+-- where what passes stands before what doesn't, the count is the index of the first that doesn't
 count_front : {X : Type 0} (p : X → Bool) (xs : List X)
     → ((i j : ℕ) (d : X) → i < j → j < length xs → p (get_or xs j d) ≡ true
     → p (get_or xs i d) ≡ true)
@@ -116,7 +116,7 @@ some_accessor : (accessors : List CompositeAccessor) (i : ℕ) → i < length ac
 some_accessor [] i l = absurd (omega arith)
 some_accessor (a ∷ accessors) i l = a
 
--- ---- classes before and behind that of an after value
+-- ---- classes before and after that of an after value
 
 class_order-total : (order : Order) → IsTotalOrder (class_order order)
 class_order-total Asc = nat_cmp_total
@@ -127,16 +127,16 @@ less_by_test Less is = refl
 less_by_test Equal is = absurd (true≢false (sym is))
 less_by_test Greater is = absurd (true≢false (sym is))
 
--- what is behind something that isn't before a rank is behind the rank
-behind_rank : (order : Order) (first rank here : ℕ) (o : Ordering)
+-- what is after something that isn't before a rank is after the rank
+after_rank : (order : Order) (first rank here : ℕ) (o : Ordering)
     → class_order order first here ≡ Less → class_order order first rank ≡ o → is_lt o ≡ false
     → class_order order here rank ≡ Greater
-behind_rank order first rank here Less later is not_less = absurd (true≢false not_less)
-behind_rank order first rank here Equal later is not_less =
+after_rank order first rank here Less later is not_less = absurd (true≢false not_less)
+after_rank order first rank here Equal later is not_less =
     let total = class_order-total order in
     total.antisymm here rank
     ∙ ap ordering_reverse (sym (total.congr first rank here is) ∙ later)
-behind_rank order first rank here Greater later is not_less =
+after_rank order first rank here Greater later is not_less =
     let total = class_order-total order in
     let before : class_order order rank first ≡ Less =
     total.antisymm rank first ∙ ap ordering_reverse is in
@@ -160,9 +160,9 @@ module _ (order : Order) (accessors : List CompositeAccessor)
   abbrev is_before : CompositeAccessor → Bool
   is_before a = is_of_class_before order k a.column.now.keys
 
-  at_place : (i : ℕ) (d : CompositeAccessor) → i < length accessors
+  at_index : (i : ℕ) (d : CompositeAccessor) → i < length accessors
       → is_before (get_or accessors i d) ≡ is_of_class_before order k (column_at accessors i)
-  at_place i d l =
+  at_index i d l =
       ap (is_of_class_before order k)
       (sym (get_or-map (λ a. a.column.now.keys) accessors i d Bools l))
 
@@ -176,8 +176,8 @@ module _ (order : Order) (accessors : List CompositeAccessor)
       → is_before (get_or accessors j d) ≡ true → is_before (get_or accessors i d) ≡ true
   front i j d l m passes =
       let there : class_order order (keys_rank (column_at accessors j)) (class_rank k) ≡ Less =
-      less_by_test _ (sym (at_place j d m) ∙ passes) in
-      at_place i d (omega (arith, l, m))
+      less_by_test _ (sym (at_index j d m) ∙ passes) in
+      at_index i d (omega (arith, l, m))
       ∙ ap is_lt ((class_order-total order).trans _ _ _ (later i j l m) there)
 
   -- accessors before the count are of classes before
@@ -185,24 +185,24 @@ module _ (order : Order) (accessors : List CompositeAccessor)
       → class_order order (keys_rank (column_at accessors i)) (class_rank k) ≡ Less
   before_index i below l =
       let d : CompositeAccessor = some_accessor accessors i l in
-      less_by_test _ (sym (at_place i d l)
+      less_by_test _ (sym (at_index i d l)
       ∙ (count_front is_before accessors front i d l).0 below)
 
-  -- and those behind it are of classes behind
-  behind_index : (i : ℕ) → count_by is_before accessors < i → i < length accessors
+  -- and those after it are of classes after it
+  after_index : (i : ℕ) → count_by is_before accessors < i → i < length accessors
       → class_order order (keys_rank (column_at accessors i)) (class_rank k) ≡ Greater
-  behind_index i above l =
+  after_index i above l =
       let index : ℕ = count_by is_before accessors in
       let d : CompositeAccessor = some_accessor accessors i l in
       let within : index < length accessors = omega (arith, above, l) in
-      behind_rank order (keys_rank (column_at accessors index)) (class_rank k)
+      after_rank order (keys_rank (column_at accessors index)) (class_rank k)
       (keys_rank (column_at accessors i)) _ (later index i above l) refl
-      (sym (at_place index d within)
+      (sym (at_index index d within)
       ∙ (count_front is_before accessors front index d within).1 (omega arith))
 
 -- ---- sides
 
--- a side by its place beside an index
+-- a side by how one index stands to another
 by_index : (i index : ℕ) (at side : Ordering) → (i < index → side ≡ Less)
     → (i ≡ index → at ≡ side) → (index < i → side ≡ Greater)
     → match_ordering (nat_cmp i index) Less at Greater ≡ side
@@ -213,7 +213,7 @@ by_index i index at side below same above =
     (λ o e. ap (λ p. match_ordering p Less at Greater) o ∙ same e)
     (λ o l. ap (λ p. match_ordering p Less at Greater) o ∙ sym (above l))
 
--- a value before Null is Less, and behind it Greater
+-- a value before Null is Less, and after it Greater
 value_null : (order : Order) (missing : MissingOrder) (k : CompositeIntermediateKey)
     → 0 < class_rank k → (side : ℕ) (o : Ordering) → null_side order missing ≡ side
     → nat_cmp side 1 ≡ ordering_reverse o → (o ≢ Equal) → key_order order missing k Null ≡ o
@@ -227,7 +227,7 @@ value_null order missing k some side Greater is compared n =
 
 module _ (segment : Stored) (source : CompositeAggregationSource)
     (accessors : List CompositeAccessor) (of_field : AreOfField segment source accessors) where
-  -- how a number of the accessor at a place stands to an after value
+  -- how a number of the accessor at an index stands to an after value
   abbrev number_side : CompositeIntermediateKey → ℕ → ℕ → Ordering
   number_side k i number = side_to source (Some k) (encoded_key (column_at accessors i) number)
 
@@ -244,7 +244,7 @@ module _ (segment : Stored) (source : CompositeAggregationSource)
       (omega (arith, below, is)) l) (λ x. cc))
       same
       (λ above. class_side (order_of source) (missing_order_of source) (column_at accessors i)
-      number k Greater some (behind_index (order_of source) accessors of_field.classes k i
+      number k Greater some (after_index (order_of source) accessors of_field.classes k i
       (omega (arith, above, is)) l) (λ x. cc))
 
   has_class : (i number : ℕ) → 0 < class_rank (encoded_key (column_at accessors i) number)
@@ -333,7 +333,7 @@ lane_sides segment (Histogram s) accessors of_field k index is side at i number 
 
 module _ (segment : Stored) (source : CompositeAggregationSource)
     (accessors : List CompositeAccessor) (of_field : AreOfField segment source accessors) where
-  -- accessors that go on behind an after value
+  -- accessors that go on from an after value
   pub after_accessors : (k : CompositeIntermediateKey) (a : CompositeSourceAccessors)
       → a.accessors ≡ accessors
       → a.after_key_accessor_idx ≡ lane_of source (accessors_before source k accessors)

@@ -102,7 +102,7 @@ cut-occurrences-more sources i d document product keys most l p k =
 
 -- ---- of documents: a sum
 
--- how many occurrences the documents at these places have
+-- how many occurrences the documents of these numbers have
 abbrev count_at : Sources → Stored → List ℕ → ℕ
 count_at sources segment docs = length (occurrences_in sources (documents_at segment docs))
 
@@ -117,7 +117,7 @@ count_at-append sources segment xs ys =
     ∙ length-append (occurrences_in sources (documents_at segment xs)) (occurrences_in sources
     (documents_at segment ys))
 
--- the document at one more place adds its occurrences
+-- one more document adds its occurrences
 count_at-more : (sources : Sources) (segment : Stored) (docs : List ℕ) (i : ℕ)
     → i < length docs
     → length (occurrences_in sources (documents_at segment (take (i + 1) docs)))
@@ -153,7 +153,7 @@ cut-sums sum more most =
     ∙ cut-sum more sum most
     ∙ ap (λ n. min n most) (add_comm more sum)
 
--- the documents at the first places and one more, by a sum that is cut at each step
+-- the first documents and one more, by a sum that is cut at each step
 pub cut-count : (sources : Sources) (segment : Stored) (docs : List ℕ) (i count own most : ℕ)
     → i < length docs
     → count ≡ min (length (occurrences_in sources (documents_at segment (take i docs)))) most

@@ -15,7 +15,7 @@ use Rattle.agg_request_tree.specs.Source.{Sources, missing_order_of, order_of}
 use Rattle.agg_request_tree.specs.declared.source.CompositeAggregationSource.{CompositeAggregationSource}
 use Rattle.agg_accessor.specs.Decoded.{decoded, decoded_key, decoded_keys, is_outside}
 use Rattle.agg_accessor.specs.Encoding.{EncodedTuple, StandFor, StandsFor}
-use Rattle.agg_accessor.specs.Encoding.{encoded_null, null_place, raw_of}
+use Rattle.agg_accessor.specs.Encoding.{encoded_null, null_lane, raw_of}
 use Rattle.agg_accessor.specs.Lanes.{keys_at, lanes}
 use Rattle.agg_accessor.specs.Encoding.{StandsForTuple}
 use Rattle.agg_accessor.specs.declared.accessor.CompositeAccessor.{CompositeAccessor}
@@ -32,11 +32,11 @@ raw-twice Asc number fits = refl
 raw-twice Desc number fits = omega arith
 
 -- Null is outside the lanes
-null-outside : (side accessors : ℕ) → is_outside (null_place side accessors) accessors ≡ true
+null-outside : (side accessors : ℕ) → is_outside (null_lane side accessors) accessors ≡ true
 null-outside zero accessors = refl
 null-outside (suc side) accessors = grind (arith, nat_tests)
 
--- the place of a lane is inside
+-- a number of a lane is inside
 pub number-inside : (i accessors : ℕ) → i < accessors → is_outside (i + 1) accessors ≡ false
 number-inside i accessors l = grind (arith, nat_tests)
 
@@ -48,33 +48,33 @@ decoded_key-is source accessors e k (inl p) =
     ap (decoded_key source accessors) p.0
     ∙ (λ x. if null-outside (null_side (order_of source) (missing_order_of source))
     (length (lanes source accessors)) x then Null
-    else encoded_key (keys_at source accessors ((encoded_null source accessors).place - 1))
+    else encoded_key (keys_at source accessors ((encoded_null source accessors).lane - 1))
     (raw_of (order_of source) 0))
     ∙ sym p.1
 decoded_key-is source accessors e k (inr (i, n, l, fits, stands, e_is, k_is)) =
-    let place : i + 1 - 1 ≡ i = omega arith in
+    let index : i + 1 - 1 ≡ i = omega arith in
     ap (decoded_key source accessors) e_is
     ∙ (λ x. if number-inside i (length (lanes source accessors)) l x then Null
-    else encoded_key (keys_at source accessors (place x)) (raw-twice (order_of source) n fits x))
+    else encoded_key (keys_at source accessors (index x)) (raw-twice (order_of source) n fits x))
     ∙ sym k_is
 
 -- the number of an encoded key that isn't outside stands for a key
 pub number-stands : (source : CompositeAggregationSource) (accessors : List CompositeAccessor)
     (e : Encoded) (k : CompositeIntermediateKey) → StandsFor source accessors e k
-    → is_outside e.place (length (lanes source accessors)) ≡ false
-    → StandsForKey (keys_at source accessors (e.place - 1)) (raw_of (order_of source) e.raw)
+    → is_outside e.lane (length (lanes source accessors)) ≡ false
+    → StandsForKey (keys_at source accessors (e.lane - 1)) (raw_of (order_of source) e.raw)
 number-stands source accessors e k (inl p) inside =
-    let outside = ap (λ f. is_outside f.place (length (lanes source accessors))) p.0
+    let outside = ap (λ f. is_outside f.lane (length (lanes source accessors))) p.0
     ∙ null-outside (null_side (order_of source) (missing_order_of source))
     (length (lanes source accessors)) in
     absurd (cc (inside, outside))
 number-stands source accessors e k (inr (i, n, l, fits, stands, e_is, k_is)) inside =
-    let place : i + 1 - 1 ≡ i = omega arith in
-    subst (λ f. StandsForKey (keys_at source accessors (f.place - 1))
+    let index : i + 1 - 1 ≡ i = omega arith in
+    subst (λ f. StandsForKey (keys_at source accessors (f.lane - 1))
     (raw_of (order_of source) f.raw))
     (sym e_is)
     (subst (λ j. StandsForKey (keys_at source accessors j)
-    (raw_of (order_of source) (raw_of (order_of source) n))) (sym place)
+    (raw_of (order_of source) (raw_of (order_of source) n))) (sym index)
     (subst (StandsForKey (keys_at source accessors i))
     (sym (raw-twice (order_of source) n fits)) stands))
 
@@ -116,7 +116,7 @@ as_many (source ∷ sources) (a ∷ accessors) (e ∷ es) [] stand = absurd stan
 as_many (source ∷ sources) (a ∷ accessors) (e ∷ es) (k ∷ ks) stand =
     let rest = as_many sources accessors es ks stand.1 in (omega arith, omega arith)
 
--- the key at a place stands for some key
+-- the key at an index stands for some key
 pub stands-at : (sources : Sources) (accessors : List CompositeSourceAccessors)
     (es : EncodedTuple) (ks : KeyTuple) → StandFor sources accessors es ks
     → (i : ℕ) (source : CompositeAggregationSource) (a : CompositeSourceAccessors) (e : Encoded)

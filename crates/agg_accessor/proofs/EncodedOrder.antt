@@ -12,20 +12,20 @@ use Rattle.agg_accessor.specs.declared.encoded.Encoded.{Encoded}
 
 -- what stands beyond the end of a list of keys
 abbrev pub nothing : Encoded
-nothing = record { place = 0; raw = 0 }
+nothing = record { lane = 0; raw = 0 }
 
 -- the laws of the order of keys
 pub key_order-total : IsTotalOrder encoded_order
-key_order-total = then_total (on_total (λ e. e.place) nat_cmp_total)
+key_order-total = then_total (on_total (λ e. e.lane) nat_cmp_total)
     (on_total (λ e. e.raw) nat_cmp_total)
 
 -- two keys are Equal only where they are the same
 pub key-exact : (e f : Encoded) → encoded_order e f ≡ Equal → e ≡ f
 key-exact e f h =
-    let both = then_equal (nat_cmp e.place f.place) (nat_cmp e.raw f.raw) h in
-    let place = exact_unsigned e.place f.place both.0 in
+    let both = then_equal (nat_cmp e.lane f.lane) (nat_cmp e.raw f.raw) h in
+    let lane = exact_unsigned e.lane f.lane both.0 in
     let raw = exact_unsigned e.raw f.raw both.1 in
-    λ i. record { place = place i; raw = raw i }
+    λ i. record { lane = lane i; raw = raw i }
 
 -- the laws of the order of tuples
 pub tuple_order-total : IsTotalOrder encoded_tuple_order

@@ -9,7 +9,7 @@ use Rattle.agg_segment.proofs.FieldColumns.{field_keys}
 use Rattle.agg_request_tree.specs.Source.{field_of, keys_in}
 use Rattle.agg_request_tree.specs.declared.source.CompositeAggregationSource as kind
 use kind.{CompositeAggregationSource}
-use Rattle.agg_accessor.specs.Accessors.{AreOfField, keys_held, keys_read, starts_in}
+use Rattle.agg_accessor.specs.Accessors.{AreOfField, keys_in_columns, keys_read, starts_in}
 use Rattle.agg_accessor.specs.declared.accessor.CompositeAccessor.{CompositeAccessor}
 use Rattle.agg_accessor.proofs.ReadColumns.{keys-read, starts-read}
 
@@ -36,7 +36,7 @@ module _ (segment : Stored) where
         ∙ ap (keys_in source) (columns-keys (field_of source) doc)
 
     -- so are the starts
-    pub starts-of_field : starts_in source (keys_held source accessors doc)
+    pub starts-of_field : starts_in source (keys_in_columns source accessors doc)
         ≡ starts_in source (document_at segment doc (field_of source))
     starts-of_field =
         ap (λ cs. starts_in source (all_keys cs doc)) of_field.columns

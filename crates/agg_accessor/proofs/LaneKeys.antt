@@ -36,7 +36,7 @@ pub numbers-some : (accessors : List CompositeAccessor) → 0 < length accessors
 numbers-some [] some = absurd (omega arith)
 numbers-some (a ∷ accessors) some = refl
 
--- the same of a place that a lane has
+-- the same of an index that a lane has
 pub numbers-at : (accessors : List CompositeAccessor) (i : ℕ)
     → i < length (lane_of_numbers accessors)
     → get_or (lane_of_numbers accessors) i Bools ≡ Signed
@@ -61,7 +61,7 @@ same-class : (order : Order) → class_order order 3 3 ≡ nat_cmp 0 0
 same-class Asc = refl
 same-class Desc = refl
 
--- its class compares as its place does
+-- its class compares as its index does
 pub numbers-classes : (order : Order) (accessors : List CompositeAccessor) (i j : ℕ)
     → i < length (lane_of_numbers accessors) → j < length (lane_of_numbers accessors)
     → class_order order (keys_rank (get_or (lane_of_numbers accessors) i Bools))

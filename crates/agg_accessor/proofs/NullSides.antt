@@ -18,7 +18,7 @@ use Rattle.agg_accessor.specs.Accessors.{AreAccessorsOf, is_null, side_to}
 use Rattle.agg_accessor.specs.declared.accessor.CompositeSourceAccessors.{CompositeSourceAccessors}
 use Rattle.agg_accessor.proofs.TypedOrder.{decided, null_rank-of_class, null_sides}
 
--- Null before a key is Less, and behind it Greater
+-- Null before a key is Less, and after it Greater
 pub null_key : (order : Order) (missing : MissingOrder) (k : CompositeIntermediateKey)
     → 0 < class_rank k → (side : ℕ) (o : Ordering) → null_side order missing ≡ side
     → nat_cmp side 1 ≡ o → (o ≢ Equal) → key_order order missing Null k ≡ o
@@ -54,7 +54,7 @@ told_by_key source (Some Null) =
 told_by_key source (Some k) =
     some_side (order_of source) (missing_order_of source) k (omega arith)
 
--- Null comes before the after value, is it, or comes behind it, as the accessors say
+-- Null comes before the after value, is it, or comes after it, as the accessors say
 pub null_told : (segment : Stored) (source : CompositeAggregationSource)
     (after : Option CompositeIntermediateKey) (a : CompositeSourceAccessors)
     → AreAccessorsOf segment source after a

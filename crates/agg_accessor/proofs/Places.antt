@@ -37,13 +37,13 @@ use Rattle.agg_accessor.proofs.TypedOrder.{decided, encoded-rank, some_rank, val
 
 -- ---- both orders
 
--- a number compares with that of an exact place
-exact_side : (place number : ℕ) → projected_side Asc (Exact place) number ≡ nat_cmp number place
-exact_side place number = grind (arith, nat_tests)
+-- a number compares with that of an after key
+exact_side : (after number : ℕ) → projected_side Asc (Exact after) number ≡ nat_cmp number after
+exact_side after number = grind (arith, nat_tests)
 
-exact_side-Desc : (place number : ℕ)
-    → projected_side Desc (Exact place) number ≡ nat_cmp place number
-exact_side-Desc place number = grind (arith, nat_tests)
+exact_side-Desc : (after number : ℕ)
+    → projected_side Desc (Exact after) number ≡ nat_cmp after number
+exact_side-Desc after number = grind (arith, nat_tests)
 
 turned : (b : Bool)
     → (if not b then Less else Greater) ≡ ordering_reverse (if b then Less else Greater)
@@ -53,10 +53,10 @@ turned false = refl
 -- in Desc a number stands to a place in reverse
 side-reversed : (place : PrecomputedAfterKey) (number : ℕ)
     → projected_side Desc place number ≡ ordering_reverse (projected_side Asc place number)
-side-reversed (Exact place) number =
-    exact_side-Desc place number ∙ nat_cmp_total.antisymm place number
-    ∙ ap ordering_reverse (sym (exact_side place number))
-side-reversed (Next place) number = turned (nat_lt number place)
+side-reversed (Exact after) number =
+    exact_side-Desc after number ∙ nat_cmp_total.antisymm after number
+    ∙ ap ordering_reverse (sym (exact_side after number))
+side-reversed (Next after) number = turned (nat_lt number after)
 side-reversed AfterLast number = refl
 
 side-in_order : (order : Order) (place : PrecomputedAfterKey) (number : ℕ)
@@ -82,7 +82,7 @@ requested_side order missing keys k place some is number stands =
 
 -- ---- other classes
 
--- a key of a class above those of a column is behind its numbers
+-- a key of a class above those of a column comes after its numbers
 pub class_above : (keys : ColumnKeys) (k : CompositeIntermediateKey)
     → nat_cmp (keys_rank keys) (class_rank k) ≡ Less → IsPlaceOf keys k AfterLast
 class_above keys k is number stands =
@@ -104,51 +104,51 @@ class_below keys k is number stands =
 
 module _ {X : Type 0} (cmp : X → X → Ordering) (total : IsTotalOrder cmp) (items : List X) (x : X)
     (sorted : IsStrictlySortedBy cmp items) where
-  above : (place number : ℕ) (d : X) → place < number → number < length items
-      → cmp x (get_or items place d) ≡ Equal → cmp x (get_or items number d) ≡ Less
-  above place number d later within tied =
-      total.congr x (get_or items place d) (get_or items number d) tied
-      ∙ Less-from_sorted cmp items place number d sorted later within
+  above : (ordinal number : ℕ) (d : X) → ordinal < number → number < length items
+      → cmp x (get_or items ordinal d) ≡ Equal → cmp x (get_or items number d) ≡ Less
+  above ordinal number d later within tied =
+      total.congr x (get_or items ordinal d) (get_or items number d) tied
+      ∙ Less-from_sorted cmp items ordinal number d sorted later within
 
   back : (y : X) → cmp x y ≡ Less → cmp y x ≡ Greater
   back y is = total.antisymm y x ∙ ap ordering_reverse is
 
-  next_above : (place number : ℕ) (d : X) → place ≤ number → number < length items
-      → cmp (get_or items place d) x ≡ Greater → cmp (get_or items number d) x ≡ Greater
-  next_above place number d from within is = elim (cases_eq place number) [
+  next_above : (ordinal number : ℕ) (d : X) → ordinal ≤ number → number < length items
+      → cmp (get_or items ordinal d) x ≡ Greater → cmp (get_or items number d) x ≡ Greater
+  next_above ordinal number d from within is = elim (cases_eq ordinal number) [
     | inl same ↦ (λ i. cmp (get_or items (sym same i) d) x) ∙ is
     | inr other ↦
-        let first : cmp x (get_or items place d) ≡ Less =
-        total.antisymm x (get_or items place d) ∙ ap ordering_reverse is in
+        let first : cmp x (get_or items ordinal d) ≡ Less =
+        total.antisymm x (get_or items ordinal d) ∙ ap ordering_reverse is in
         back (get_or items number d)
-        (total.trans x (get_or items place d) (get_or items number d) first
-        (Less-from_sorted cmp items place number d sorted (omega (arith, from, other)) within))
+        (total.trans x (get_or items ordinal d) (get_or items number d) first
+        (Less-from_sorted cmp items ordinal number d sorted (omega (arith, from, other)) within))
   ]
 
-  -- an item's place stands to a hit as the item does to what was looked for
+  -- an item's ordinal stands to a hit as the item does to what was looked for
   pub hit_side : (found : OrdHit) → IsHit cmp items x found → (number : ℕ) (d : X)
       → number < length items
       → projected_side Asc (hit_place found) number ≡ cmp (get_or items number d) x
-  hit_side (hit.Exact place) (within, below, at) number d l =
-      exact_side place number
-      ∙ by_ranked (number < place) (number ≡ place) (place < number) (nat_cmp number place)
-      (ranked number place (nat_cmp number place) refl)
+  hit_side (hit.Exact ordinal) (within, below, at) number d l =
+      exact_side ordinal number
+      ∙ by_ranked (number < ordinal) (number ≡ ordinal) (ordinal < number) (nat_cmp number ordinal)
+      (ranked number ordinal (nat_cmp number ordinal) refl)
       (λ o before. o ∙ sym (below number before d))
       (λ o same. o ∙ sym ((λ i. cmp (get_or items (same i) d) x) ∙ (λ i. cmp (at d i) x)
       ∙ tied_itself total x))
-      (λ o behind. o ∙ sym (back (get_or items number d) (above place number d behind l
+      (λ o later. o ∙ sym (back (get_or items number d) (above ordinal number d later l
       ((λ i. cmp x (at d i)) ∙ tied_itself total x))))
-  hit_side (hit.Next place) (within, below, at) number d l = elim (cases_lt number place) [
+  hit_side (hit.Next ordinal) (within, below, at) number d l = elim (cases_lt number ordinal) [
     | inl before ↦
-        let is : nat_lt number place ≡ true = grind (arith, nat_tests) in
+        let is : nat_lt number ordinal ≡ true = grind (arith, nat_tests) in
         (λ i. if is i then Less else Greater) ∙ sym (below number before d)
-    | inr behind ↦
-        let is : nat_lt number place ≡ false = grind (arith, nat_tests) in
-        (λ i. if is i then Less else Greater) ∙ sym (next_above place number d behind l (at d))
+    | inr later ↦
+        let is : nat_lt number ordinal ≡ false = grind (arith, nat_tests) in
+        (λ i. if is i then Less else Greater) ∙ sym (next_above ordinal number d later l (at d))
   ]
   hit_side hit.AfterLast below number d l = sym (below number l d)
 
--- a text's hit is its place
+-- the place at a text's hit is the text's
 pub text_place : (keys : ColumnKeys) (text : List ℕ) (found : OrdHit) → keys_rank keys ≡ 2
     → IsStrictlySortedBy name_cmp (texts_of keys) → IsHit name_cmp (texts_of keys) text found
     → IsPlaceOf keys (Str text) (hit_place found)
@@ -166,7 +166,7 @@ then_nothing Less = refl
 then_nothing Equal = refl
 then_nothing Greater = refl
 
--- an address's hit is its place
+-- the place at an address's hit is the address's
 pub address_place : (keys : ColumnKeys) (address : Address) (found : OrdHit) → keys_rank keys ≡ 4
     → IsStrictlySortedBy address_cmp (addresses_of keys)
     → IsHit address_cmp (addresses_of keys) address found

@@ -19,7 +19,7 @@ use Rattle.agg_request_tree.specs.Source.{Sources, order_of, rules_of}
 use Rattle.agg_request_tree.specs.declared.source.CompositeAggregationSource.{CompositeAggregationSource}
 use Rattle.agg_request_tree.proofs.Lists.{count-step}
 use Rattle.agg_accessor.specs.Encoding.{EncodedTuple, StandFor, StandsFor, encoded_order}
-use Rattle.agg_accessor.specs.Encoding.{encoded_tuple_order, null_place, raw_of}
+use Rattle.agg_accessor.specs.Encoding.{encoded_tuple_order, null_lane, raw_of}
 use Rattle.agg_accessor.specs.Lanes.{keys_at, lanes}
 use Rattle.agg_accessor.specs.declared.accessor.CompositeAccessor.{CompositeAccessor}
 use Rattle.agg_accessor.specs.declared.accessor.CompositeSourceAccessors.{CompositeSourceAccessors}
@@ -30,9 +30,9 @@ use Rattle.agg_accessor.specs.declared.encoded.Encoded.{Encoded}
 same-key : (e f : Encoded) → encoded_order e f ≡ Equal → e ≡ f
 same-key e f same =
     let both = then_equal _ _ same in
-    let place = exact_unsigned e.place f.place both.0 in
+    let lane = exact_unsigned e.lane f.lane both.0 in
     let raw = exact_unsigned e.raw f.raw both.1 in
-    λ i. record { place = place i; raw = raw i }
+    λ i. record { lane = lane i; raw = raw i }
 
 same-encoded : (es fs : EncodedTuple) → encoded_tuple_order es fs ≡ Equal → es ≡ fs
 same-encoded [] [] same = refl
@@ -46,8 +46,8 @@ same-encoded (e ∷ es) (f ∷ fs) same =
 
 -- ---- an encoded tuple stands for one tuple
 
--- Null has no place of a lane
-null-apart : (side accessors i : ℕ) → i < accessors → null_place side accessors ≡ i + 1 → ⊥
+-- Null has the number of no lane
+null-apart : (side accessors i : ℕ) → i < accessors → null_lane side accessors ≡ i + 1 → ⊥
 null-apart zero accessors i l e = omega arith
 null-apart (suc side) accessors i l e = omega arith
 
@@ -62,17 +62,17 @@ stands-one : (source : CompositeAggregationSource) (accessors : List CompositeAc
 stands-one source accessors e k l (inl p) (inl q) = p.1 ∙ sym q.1
 stands-one source accessors e k l (inl p) (inr (j, m, l_j, fits_m, in_m, e_is, l_is)) =
     absurd (null-apart _ (length (lanes source accessors)) j l_j
-    (ap (λ x. x.place) (sym p.0 ∙ e_is)))
+    (ap (λ x. x.lane) (sym p.0 ∙ e_is)))
 stands-one source accessors e k l (inr (i, n, l_i, fits_n, in_n, e_is, k_is)) (inl q) =
     absurd (null-apart _ (length (lanes source accessors)) i l_i
-    (ap (λ x. x.place) (sym q.0 ∙ e_is)))
+    (ap (λ x. x.lane) (sym q.0 ∙ e_is)))
 stands-one source accessors e k l (inr (i, n, l_i, fits_n, in_n, e_is, k_is))
     (inr (j, m, l_j, fits_m, in_m, f_is, l_is)) =
     let both = sym e_is ∙ f_is in
-    let places : i + 1 ≡ j + 1 = ap (λ x. x.place) both in
-    let place : i ≡ j = omega (arith, places) in
+    let lane : i + 1 ≡ j + 1 = ap (λ x. x.lane) both in
+    let index : i ≡ j = omega (arith, lane) in
     let number = same-number (order_of source) n m fits_n fits_m (ap (λ x. x.raw) both) in
-    k_is ∙ (λ t. encoded_key (keys_at source accessors (place t)) (number t)) ∙ sym l_is
+    k_is ∙ (λ t. encoded_key (keys_at source accessors (index t)) (number t)) ∙ sym l_is
 
 stand-one : (sources : Sources) (accessors : List CompositeSourceAccessors) (es : EncodedTuple)
     (ks ls : KeyTuple)

@@ -23,7 +23,7 @@ use Rattle.agg_request_tree.specs.declared.source.CompositeAggregationSource as 
 use kind.{CompositeAggregationSource}
 use kind.TheVariants.{DateHistogram, Histogram, Terms}
 use Rattle.agg_request_tree.proofs.Faults.{HasInterval-large}
-use Rattle.agg_accessor.specs.Accessors.{AllFit, AreOfField, IsIntervalOf, keys_held}
+use Rattle.agg_accessor.specs.Accessors.{AllFit, AreOfField, IsIntervalOf, keys_in_columns}
 use Rattle.agg_accessor.specs.Ranges.{AreAllInRange}
 use Rattle.agg_accessor.specs.Lanes.{columns_of, in_requested}
 use Rattle.agg_accessor.specs.Ranges.{AreColumnsWithin, IsDocumentWithin}
@@ -139,7 +139,7 @@ module _ (segment : Stored) (source : CompositeAggregationSource)
       (column_keys a.column.now doc)) accessors =
       λ i d l j k m. subst IsWithin (own-start i d l _) (all i d l j k m) in
       All-from_recursion (IsInRange source) (map canonical_key values)
-      (range-alike source (map canonical_key values) (keys_held source accessors doc)
+      (range-alike source (map canonical_key values) (keys_in_columns source accessors doc)
       (starts-canonical source values ∙ sym (starts-of_field segment source accessors of_field doc))
       (keys-all (IsInRange source) doc
       (in_requested (order_of source) (columns_of accessors))
@@ -156,7 +156,7 @@ module _ (segment : Stored) (source : CompositeAggregationSource)
       (given-all (λ c. All (IsInRange source) (column_keys c doc)) (order_of source)
       (columns_of accessors)
       (keys-each (IsInRange source) doc (in_requested (order_of source) (columns_of accessors))
-      (range-alike source (keys_held source accessors doc) (map canonical_key values)
+      (range-alike source (keys_in_columns source accessors doc) (map canonical_key values)
       (starts-of_field segment source accessors of_field doc ∙ sym (starts-canonical source values))
       (recursion_from_All (IsInRange source) (map canonical_key values) all)))) in
       λ i d l j k m. subst IsWithin (sym (own-start i d l _)) (each i d l j k m)

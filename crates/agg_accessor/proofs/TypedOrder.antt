@@ -39,7 +39,7 @@ use Rattle.agg_request_tree.specs.Source.{after_of}
 use Rattle.agg_accessor.specs.Accessors.{AreAccessorsOf, AreOfField, Fits}
 use Rattle.agg_accessor.specs.Encoding.{EncodedTuple, StandFor, StandsFor, encoded_at}
 use Rattle.agg_accessor.specs.Encoding.{encoded_null, encoded_order, encoded_tuple_order}
-use Rattle.agg_accessor.specs.Encoding.{null_place, raw_of}
+use Rattle.agg_accessor.specs.Encoding.{null_lane, raw_of}
 use Rattle.agg_accessor.specs.Lanes.{class_order, column_at, columns_of, in_requested, keys_at}
 use Rattle.agg_accessor.specs.Lanes.{lanes}
 use Rattle.agg_accessor.specs.Encoding.{StandsForTuple}
@@ -51,7 +51,7 @@ use Rattle.agg_accessor.proofs.LaneKeys.{columns-many, numbers-at, numbers-class
 
 pub encoded_order-total : IsTotalOrder encoded_order
 encoded_order-total =
-    then_total (on_total (λ e. e.place) nat_cmp_total) (on_total (λ e. e.raw) nat_cmp_total)
+    then_total (on_total (λ e. e.lane) nat_cmp_total) (on_total (λ e. e.raw) nat_cmp_total)
 
 -- ---- the keys of a column
 
@@ -104,7 +104,7 @@ column_at-column [] i = refl
 column_at-column (a ∷ accessors) zero = refl
 column_at-column (a ∷ accessors) (suc i) = column_at-column accessors i
 
--- what holds of each accessor's keys holds of those at a place
+-- what holds of each accessor's keys holds of those at an index
 pub each_keys : (P : ColumnKeys → Type 0) (accessors : List CompositeAccessor)
     → All (λ a. P a.column.now.keys) accessors → (i : ℕ) → i < length accessors
     → P (column_at accessors i)
@@ -118,7 +118,7 @@ less a b l = grind (arith, nat_tests)
 pub greater : (a b : ℕ) → b < a → nat_cmp a b ≡ Greater
 greater a b l = grind (arith, nat_tests)
 
--- ranks compare as the places do
+-- ranks compare as the indices do
 ranks-in_order : (columns : List StoredColumn) → ClassesAscend columns → (d : StoredColumn)
     → (i j : ℕ) → i < length columns → j < length columns
     → nat_cmp (keys_rank (get_or columns i d).keys) (keys_rank (get_or columns j d).keys)
@@ -131,7 +131,7 @@ ranks-in_order columns ascend d i j l_i l_j =
     ∙ tied_itself nat_cmp_total (keys_rank (get_or columns j d).keys) ∙ sym o)
     (λ o l. greater _ _ (ascend j i d l l_i) ∙ sym o)
 
--- the place from the end
+-- the index from the end
 from_end : (columns : List StoredColumn) (d : StoredColumn) (i : ℕ) → i < length columns
     → get_or columns i d ≡ get_or (reverse columns) (length columns - 1 - i) d
 from_end columns d i l =
@@ -139,7 +139,7 @@ from_end columns d i l =
     sym (get_or-reverse columns (length columns - 1 - i) d (omega (arith, l))
     ∙ ap (λ k. get_or columns k d) twice)
 
--- the classes of columns compare in the requested order as their places do
+-- the classes of columns compare in the requested order as their indices do
 requested-ranks : (order : Order) (columns : List StoredColumn)
     → ClassesAscend (in_requested order columns) → (d : StoredColumn) (i j : ℕ)
     → i < length columns → j < length columns
@@ -321,15 +321,15 @@ module _ (source : CompositeAggregationSource) (accessors : List CompositeAccess
       elim (null_sides o missing) [
         | inl e ↦ decided (nat_cmp (null_side o missing) (null_rank o missing k)) _ Less
             ((λ x. nat_cmp (e x) (rank x)) ∙ refl) (λ x. cc)
-            ∙ sym (decided (nat_cmp (encoded_null source accessors).place (i + 1))
+            ∙ sym (decided (nat_cmp (encoded_null source accessors).lane (i + 1))
             (nat_cmp 0 (raw_of o n)) Less
-            ((λ x. nat_cmp (null_place (e x) (length (lanes source accessors))) (i + 1))
+            ((λ x. nat_cmp (null_lane (e x) (length (lanes source accessors))) (i + 1))
             ∙ less 0 (i + 1) (omega arith)) (λ x. cc))
         | inr e ↦ decided (nat_cmp (null_side o missing) (null_rank o missing k)) _ Greater
             ((λ x. nat_cmp (e x) (rank x)) ∙ refl) (λ x. cc)
-            ∙ sym (decided (nat_cmp (encoded_null source accessors).place (i + 1))
+            ∙ sym (decided (nat_cmp (encoded_null source accessors).lane (i + 1))
             (nat_cmp 0 (raw_of o n)) Greater
-            ((λ x. nat_cmp (null_place (e x) (length (lanes source accessors))) (i + 1))
+            ((λ x. nat_cmp (null_lane (e x) (length (lanes source accessors))) (i + 1))
             ∙ greater (length (lanes source accessors) + 1) (i + 1) (omega arith)) (λ x. cc))
       ]
 

@@ -54,16 +54,16 @@ pub record IsAccessorOf (source : CompositeAggregationSource) (a : CompositeAcce
 abbrev pub columns_read : CompositeAggregationSource → List StoredColumn → List StoredColumn
 columns_read source columns = filter (λ c. reads_type source (type_of c.keys)) columns
 
--- the keys that the columns of a source's accessors hold of a document, by class ascending
-abbrev pub keys_held : CompositeAggregationSource → List CompositeAccessor → ℕ
+-- the keys of a document in the columns of a source's accessors, by class ascending
+abbrev pub keys_in_columns : CompositeAggregationSource → List CompositeAccessor → ℕ
     → List CompositeIntermediateKey
-keys_held source accessors doc =
+keys_in_columns source accessors doc =
     all_keys (in_requested (order_of source) (columns_of accessors)) doc
 
 -- the keys that the source gives for them
 abbrev pub keys_read : CompositeAggregationSource → List CompositeAccessor → ℕ
     → List CompositeIntermediateKey
-keys_read source accessors doc = keys_in source (keys_held source accessors doc)
+keys_read source accessors doc = keys_in source (keys_in_columns source accessors doc)
 
 -- the starts of the buckets of values, where a source divides them
 abbrev pub starts_in : CompositeAggregationSource → List CompositeIntermediateKey → List ℤ
@@ -100,15 +100,15 @@ accessors_before source Null accessors =
 accessors_before source k accessors =
     count_by (λ a. is_of_class_before (order_of source) k a.column.now.keys) accessors
 
--- the lane behind those before an after value, the first where there is none
+-- the lane after those that come before an after value, the first where there is none
 abbrev pub index_of : CompositeAggregationSource → Option CompositeIntermediateKey
     → List CompositeAccessor → ℕ
 index_of source None accessors = 0
 index_of source (Some after) accessors =
     lane_of source (accessors_before source after accessors)
 
--- how a number of the lane at a place stands to the after value: below before its index, above
--- behind it
+-- how a number of the lane at an index stands to the after value: below before its index, above
+-- after it
 abbrev pub side_at : Order → CompositeSourceAccessors → ℕ → ℕ → Ordering
 side_at order a i number =
     match_ordering (nat_cmp i a.after_key_accessor_idx)

@@ -10,20 +10,20 @@ use Rattle.agg_accessor.specs.declared.after_key.PrecomputedAfterKey.TheVariants
 
 -- whether an after key is at a number
 abbrev pub is_at : PrecomputedAfterKey → ℕ → Bool
-is_at (Exact place) number = place == number
-is_at (Next place) number = false
+is_at (Exact after) number = after == number
+is_at (Next after) number = false
 is_at AfterLast number = false
 
 -- whether it is above a number
 abbrev pub is_above : PrecomputedAfterKey → ℕ → Bool
-is_above (Exact place) number = nat_lt number place
-is_above (Next place) number = nat_lt number place
+is_above (Exact after) number = nat_lt number after
+is_above (Next after) number = nat_lt number after
 is_above AfterLast number = true
 
 -- whether it is below a number
 abbrev pub is_below : PrecomputedAfterKey → ℕ → Bool
-is_below (Exact place) number = nat_lt place number
-is_below (Next place) number = not (nat_lt number place)
+is_below (Exact after) number = nat_lt after number
+is_below (Next after) number = not (nat_lt number after)
 is_below AfterLast number = false
 
 -- whether a number comes before an after key in an order

@@ -14,16 +14,16 @@ use Rattle.agg_accessor.specs.declared.accessor.CompositeSourceAccessors.{Compos
 use Rattle.agg_accessor.specs.declared.encoded.Encoded.{Encoded}
 use Rattle.agg_accessor.specs.declared.request_data.CompositeAggReqData.{CompositeAggReqData}
 
--- whether a place is before or behind so many lanes, which are at the places from 1 on
+-- whether a number is that of none of so many lanes, which are numbered from 1 on
 abbrev pub is_outside : ℕ → ℕ → Bool
-is_outside place lanes = (place == 0) || nat_lt lanes place
+is_outside lane lanes = (lane == 0) || nat_lt lanes lane
 
 -- the key that an encoded key stands for: Null outside the lanes, else that of a number
 abbrev pub decoded_key : CompositeAggregationSource → List CompositeAccessor → Encoded
     → CompositeIntermediateKey
 decoded_key source accessors e =
-    if is_outside e.place (length (lanes source accessors)) then Null
-    else encoded_key (keys_at source accessors (e.place - 1)) (raw_of (order_of source) e.raw)
+    if is_outside e.lane (length (lanes source accessors)) then Null
+    else encoded_key (keys_at source accessors (e.lane - 1)) (raw_of (order_of source) e.raw)
 
 -- the keys that encoded keys stand for, source by source
 abbrev pub decoded_keys : Sources → List CompositeSourceAccessors → EncodedTuple → KeyTuple

@@ -22,9 +22,9 @@ use Rattle.agg_accessor.specs.declared.request_data.CompositeAggReqData.{Composi
 abbrev pub EncodedTuple : Type 0
 EncodedTuple = List Encoded
 
--- by place, and at one place by number
+-- by lane, and in one lane by number
 abbrev pub encoded_order : Encoded → Encoded → Ordering
-encoded_order = then_cmp (on (λ e. e.place) nat_cmp) (on (λ e. e.raw) nat_cmp)
+encoded_order = then_cmp (on (λ e. e.lane) nat_cmp) (on (λ e. e.raw) nat_cmp)
 
 -- the first differing key decides
 abbrev pub encoded_tuple_order : EncodedTuple → EncodedTuple → Ordering
@@ -35,20 +35,20 @@ abbrev pub raw_of : Order → ℕ → ℕ
 raw_of Asc number = number
 raw_of Desc number = 2 ^ 64 - 1 - number
 
--- a number of the lane at a place
+-- a number of the lane at an index
 abbrev pub encoded_at : Order → ℕ → ℕ → Encoded
-encoded_at order i number = record { place = i + 1; raw = raw_of order number }
+encoded_at order i number = record { lane = i + 1; raw = raw_of order number }
 
--- the place of Null, before so many lanes or behind them
-abbrev pub null_place : ℕ → ℕ → ℕ
-null_place zero lanes = 0
-null_place (suc side) lanes = lanes + 1
+-- the number of Null beside those of so many lanes: 0, or one more than they are
+abbrev pub null_lane : ℕ → ℕ → ℕ
+null_lane zero lanes = 0
+null_lane (suc side) lanes = lanes + 1
 
 -- Null of a source with such accessors
 abbrev pub encoded_null : CompositeAggregationSource → List CompositeAccessor → Encoded
 encoded_null source accessors =
     record {
-      place = null_place (null_side (order_of source) (missing_order_of source))
+      lane = null_lane (null_side (order_of source) (missing_order_of source))
           (length (lanes source accessors));
       raw = 0;
     }

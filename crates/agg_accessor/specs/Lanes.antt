@@ -30,7 +30,7 @@ columns_of accessors = map (λ a. a.column.now) accessors
 abbrev pub column_keys_of : List CompositeAccessor → List ColumnKeys
 column_keys_of accessors = map (λ a. a.column.now.keys) accessors
 
--- what the numbers of the column at a place stand for
+-- what the numbers of the column at an index stand for
 abbrev pub column_at : List CompositeAccessor → ℕ → ColumnKeys
 column_at accessors i = get_or (column_keys_of accessors) i Bools
 
@@ -46,12 +46,12 @@ lanes (Terms s) accessors = column_keys_of accessors
 lanes (Histogram s) accessors = lane_of_numbers accessors
 lanes (DateHistogram s) accessors = column_keys_of accessors
 
--- the lane of the accessor at a place
+-- the index of the lane of the accessor at an index
 abbrev pub lane_of : CompositeAggregationSource → ℕ → ℕ
-lane_of (Terms s) place = place
-lane_of (Histogram s) place = 0
-lane_of (DateHistogram s) place = place
+lane_of (Terms s) index = index
+lane_of (Histogram s) index = 0
+lane_of (DateHistogram s) index = index
 
--- what the numbers of the lane at a place stand for
+-- what the numbers of the lane at an index stand for
 abbrev pub keys_at : CompositeAggregationSource → List CompositeAccessor → ℕ → ColumnKeys
 keys_at source accessors i = get_or (lanes source accessors) i Bools

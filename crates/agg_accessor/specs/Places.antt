@@ -14,10 +14,10 @@ use Rattle.agg_accessor.specs.declared.after_key.PrecomputedAfterKey.{Precompute
 use Rattle.agg_accessor.specs.declared.after_key.PrecomputedAfterKey.TheVariants.{AfterLast}
 use Rattle.agg_accessor.specs.declared.after_key.PrecomputedAfterKey.TheVariants.{Exact, Next}
 
--- that of a hit in a list, among the ordinals of its items
+-- that of a hit in a list, at the ordinal of an item
 abbrev pub hit_place : OrdHit → PrecomputedAfterKey
-hit_place (hit.Exact place) = Exact place
-hit_place (hit.Next place) = Next place
+hit_place (hit.Exact ordinal) = Exact ordinal
+hit_place (hit.Next ordinal) = Next ordinal
 hit_place hit.AfterLast = AfterLast
 
 -- that of a number, among unsigned numbers
@@ -36,7 +36,7 @@ signed_place (number.Exact n) = Exact (moved_up n)
 signed_place (number.Next n) = Next (moved_up n)
 signed_place number.AfterLast = AfterLast
 
--- a key stands at a place among the numbers of a column, in ascending order
+-- a place is that of a key among the numbers of a column, in ascending order
 abbrev pub IsPlaceOf : ColumnKeys → CompositeIntermediateKey → PrecomputedAfterKey → Type 0
 IsPlaceOf keys k place =
     (number : ℕ) → StandsForKey keys number

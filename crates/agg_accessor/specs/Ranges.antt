@@ -35,6 +35,6 @@ AreColumnsWithin source accessors docs =
     (λ a. IsColumnWithin (divisor_of source a.date_histogram_interval) a.column.now docs)
     accessors
 
--- the starts that sources read in documents at places lie within i64
+-- the starts that sources read in documents of these numbers lie within i64
 abbrev pub AreAllInRange : Stored → Sources → List ℕ → Type 0
 AreAllInRange segment sources docs = All (AreInRange sources) (documents_at segment docs)

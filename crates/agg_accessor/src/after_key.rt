@@ -61,7 +61,8 @@ impl PrecomputedAfterKey {
     }
 
     /// Where an after key stands among the numbers of an accessor's column, so that each number,
-    /// held or not, stands to it as the key of the number does to the after key.
+    /// whether the column holds it or not, stands to it as the key of the number does to the after
+    /// key.
     pub fn precompute(
         composite_accessor: &CompositeAccessor<'_>,
         source_after_key: &CompositeIntermediateKey,
@@ -87,11 +88,11 @@ impl PrecomputedAfterKey {
 impl From<OrdHit> for PrecomputedAfterKey {
     ghost from_gives = { λ hit place. place ≡ hit_place hit };
 
-    /// The same place.
+    /// The place at its ordinal.
     fn from(hit: OrdHit) -> PrecomputedAfterKey {
         match hit {
-            OrdHit::Exact(place) => PrecomputedAfterKey::Exact(place),
-            OrdHit::Next(place) => PrecomputedAfterKey::Next(place),
+            OrdHit::Exact(ordinal) => PrecomputedAfterKey::Exact(ordinal),
+            OrdHit::Next(ordinal) => PrecomputedAfterKey::Next(ordinal),
             OrdHit::AfterLast => PrecomputedAfterKey::AfterLast,
         }
     }

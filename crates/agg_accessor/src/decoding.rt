@@ -59,32 +59,32 @@ fn decode_key(
     requires { (key : Key) × StandsFor source.now accessors.now encoded key }
     ensures { IfOk result (λ key. key ≡ decoded_key source.now accessors.now encoded) }
 {
-    if encoded.place == 0 || encoded.place > count_of_lanes(source, accessors) {
+    if encoded.lane == 0 || encoded.lane > count_of_lanes(source, accessors) {
         return Ok(CompositeIntermediateKey::Null);
     }
     let number = number_of(source.order(), encoded.raw);
-    decode_number(alloc, source, accessors, encoded.place - 1, number)
+    decode_number(alloc, source, accessors, encoded.lane - 1, number)
 }
 
-// The key that a number of the lane at a place stands for.
+// The key that a number of the lane at an index stands for.
 fn decode_number(
     alloc: Global,
     source: &CompositeAggregationSource,
     accessors: &[CompositeAccessor<'_>],
-    lane: usize,
+    index: usize,
     number: u64,
 ) -> Result<CompositeIntermediateKey, OutOfMemory>
-    requires lane { lane < length (lanes source.now accessors.now) }
-    requires number { StandsForKey (keys_at source.now accessors.now lane) number }
+    requires index { index < length (lanes source.now accessors.now) }
+    requires number { StandsForKey (keys_at source.now accessors.now index) number }
     ensures { IfOk result (λ key.
-        key ≡ encoded_key (keys_at source.now accessors.now lane) number) }
+        key ≡ encoded_key (keys_at source.now accessors.now index) number) }
 {
     match source {
         CompositeAggregationSource::Histogram(_) => {
             Ok(CompositeIntermediateKey::I64(moved_down(number)))
         }
         CompositeAggregationSource::Terms(_) | CompositeAggregationSource::DateHistogram(_) => {
-            accessors[lane].column.decode(alloc, number)
+            accessors[index].column.decode(alloc, number)
         }
     }
 }

@@ -21,14 +21,14 @@ pub fn count_of_lanes(
     }
 }
 
-/// The lane of the accessor at a place.
-pub fn lane_of(source: &CompositeAggregationSource, place: usize) -> usize
-    ensures lane { result ≡ lane_of source.now place }
-    ensures bound { result ≤ place }
+/// The index of the lane of the accessor at an index.
+pub fn lane_of(source: &CompositeAggregationSource, index: usize) -> usize
+    ensures lane { result ≡ lane_of source.now index }
+    ensures bound { result ≤ index }
 {
     match source {
         CompositeAggregationSource::Histogram(_) => 0,
         CompositeAggregationSource::Terms(_) | CompositeAggregationSource::DateHistogram(_) =>
-            place,
+            index,
     }
 }

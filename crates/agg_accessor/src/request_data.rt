@@ -15,7 +15,7 @@ use agg_request_tree::CompositeAggregation;
 use agg_values::{DocId, ItemList, Text};
 
 /// A composite in a segment: how many groups its page has room for, and the accessors of each of
-/// its sources. They say where the page begins, in place of the composite's own after key.
+/// its sources. They say where the page begins, not the composite's own after key.
 #[derive(Drop)]
 pub struct CompositeAggReqData<'s> {
     pub name: Text,
@@ -34,8 +34,8 @@ impl<'s> CompositeAggReqData<'s> {
         parts.saturating_mul(256)
     }
 
-    /// Whether the starts of all values that the sources read in the documents at these places lie
-    /// within 64 bits.
+    /// Whether the starts of all values that the sources read in the documents of these numbers
+    /// lie within 64 bits.
     pub fn are_starts_in_range(&self, docs: &[DocId]) -> bool
         requires { (segment : Stored) × (after : Named AfterKey) × Fits segment after self.now }
         ensures { (segment : Stored) (after : Named AfterKey) → Fits segment after self.now
@@ -47,7 +47,7 @@ impl<'s> CompositeAggReqData<'s> {
         are_sources_in_range(sources, self.composite_accessors.as_slice(), docs)
     }
 
-    /// How many documents the composite counts at these places, without bound or size: each once
+    /// How many documents of these numbers the composite counts, without bound or size: each once
     /// for each of its occurrences. The count ends at the greatest u64.
     pub fn count_occurrences(&self, docs: &[DocId]) -> u64
         requires { (segment : Stored) × (after : Named AfterKey) × Fits segment after self.now }

@@ -95,7 +95,7 @@ fn push_if_read<'s>(
     Ok(())
 }
 
-/// Accessors without an after value: every key comes behind the start.
+/// Accessors without an after value: every key comes after the start.
 pub fn from_the_start<'s>(
     accessors: ItemList<CompositeAccessor<'s>>,
     order: Order,
@@ -116,7 +116,7 @@ pub fn from_the_start<'s>(
     }
 }
 
-/// Accessors that go on behind an after value.
+/// Accessors that go on from an after value.
 pub fn going_on<'s>(
     accessors: ItemList<CompositeAccessor<'s>>,
     source: &CompositeAggregationSource,

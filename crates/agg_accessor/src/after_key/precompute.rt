@@ -15,7 +15,7 @@ use agg_values::{
     u64_to_i64,
 };
 
-/// A place above or below all numbers, so that each comes before Null or behind it.
+/// A place above or below all numbers, so that each comes before Null or after it.
 pub fn precompute_null(missing_order: MissingOrder, order: Order) -> PrecomputedAfterKey
     ensures { (keys : ColumnKeys) (number : ℕ)
         → projected_side order result number
@@ -77,7 +77,7 @@ fn precompute_text(column: &Column, text: &Text) -> PrecomputedAfterKey
     PrecomputedAfterKey::from(column.term_ord_or_next(text))
 }
 
-// An address among the places of a list.
+// An address among the ordinals of a list.
 fn precompute_address(column: &Column, address: Address) -> PrecomputedAfterKey
     requires { HasClassOf column.now.keys (CompositeIntermediateKey.IpAddr address) }
     ensures { IsPlaceOf column.now.keys (CompositeIntermediateKey.IpAddr address) result }
