@@ -17,7 +17,7 @@ module _ {X Y : Type 0} (f : List X → List Y) (h : Appends f) (xs : List X) (i
       ≡ length (f (take i xs)) + length (f (get_or xs i d ∷ []))
   length-more = ap length gives-more ∙ length-append (f (take i xs)) (f (get_or xs i d ∷ []))
 
-  -- a front, the next element's part and those behind are what all give
+  -- a front, the next element's part and those after it are what all give
   pub gives-all : f xs ≡ (f (take i xs) ++ f (get_or xs i d ∷ [])) ++ f (drop (i + 1) xs)
   gives-all =
       ap f (sym (take-append-drop (i + 1) xs))

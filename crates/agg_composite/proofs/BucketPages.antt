@@ -105,7 +105,7 @@ module _ (req : CompositeAggReqData) (shown : List (Bor EncodedTuple × Bor Buck
       let many = ap length (sym all) ∙ length-map shown deref_pair in
       omega (arith, many)
 
-  -- the one at a place is to the bucket at that place
+  -- the one at an index is to the bucket at that index
   shown-at : get_or page i (deref_pair e) ≡ deref_pair e
   shown-at =
       ap (λ es. get_or es i (deref_pair e)) (sym all)

@@ -15,7 +15,8 @@ use Rattle.agg_request_tree.specs.Source.{Sources, field_of, missing_bucket_of, 
 use Rattle.agg_request_tree.specs.Source.{rules_of, source_values, values_at}
 use Rattle.agg_request_tree.specs.declared.source.CompositeAggregationSource.{CompositeAggregationSource}
 use Rattle.agg_request_tree.specs.Source.{after_of}
-use Rattle.agg_accessor.specs.Accessors.{AllFit, AreAccessorsOf, keys_held, keys_read, side_to}
+use Rattle.agg_accessor.specs.Accessors.{AllFit, AreAccessorsOf, keys_in_columns, keys_read}
+use Rattle.agg_accessor.specs.Accessors.{side_to}
 use Rattle.agg_composite.specs.Choices.{AreChoicesIn, AreChoicesOf, CanRead, IsChoiceOf}
 use Rattle.agg_composite.specs.Choices.{values_read}
 use Rattle.agg_accessor.specs.Encoding.{EncodedTuple, StandFor, StandsFor}
@@ -135,13 +136,13 @@ module _ (segment : Stored) (after : Named AfterKey) where
       → All (IsInRange source) (values_at (field_of source) (document_at segment doc))
       → CanRead source a doc
   can-read source a doc fit range =
-      let held = keys_held source a.accessors doc in
+      let keys = keys_in_columns source a.accessors doc in
       let values = document_at segment doc (field_of source) in
       record {
         interval = fit.columns.interval;
         each = fit.columns.each;
-        range = All-from_recursion (IsInRange source) held
-            (range-alike source held (map canonical_key values)
+        range = All-from_recursion (IsInRange source) keys
+            (range-alike source keys (map canonical_key values)
             (starts-of_field segment source a.accessors fit.columns doc
             ∙ sym (starts-canonical source values))
             (recursion_from_All (IsInRange source) (map canonical_key values) range));

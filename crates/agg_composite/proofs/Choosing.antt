@@ -22,10 +22,10 @@ use Rattle.agg_request_tree.specs.declared.source.CompositeAggregationSource as 
 use kind.{CompositeAggregationSource}
 use kind.TheVariants.{DateHistogram, Histogram, Terms}
 use Rattle.agg_request_tree.proofs.Faults.{HasInterval-large}
-use Rattle.agg_accessor.specs.Accessors.{IsAccessorOf, keys_held}
+use Rattle.agg_accessor.specs.Accessors.{IsAccessorOf, keys_in_columns}
 use Rattle.agg_composite.specs.Choices.{AddsChoices, AreChoicesIn, AreChoicesOf, AreGathered}
 use Rattle.agg_composite.specs.Choices.{CanRead, IsChoiceOf, choice_at, divided_choices}
-use Rattle.agg_composite.specs.Choices.{null_choice, place_in, values_read}
+use Rattle.agg_composite.specs.Choices.{index_in, null_choice, values_read}
 use Rattle.agg_accessor.specs.Lanes.{column_at, column_keys_of, columns_of, in_requested}
 use Rattle.agg_accessor.specs.Lanes.{keys_at, lanes}
 use Rattle.agg_composite.specs.Walk.{parts}
@@ -53,7 +53,7 @@ numbers-chosen source a i l (n ∷ numbers) fits stand = (
   numbers-chosen source a i l numbers (λ j. fits (suc j)) stand.1,
 )
 
--- what the column of the accessor at a place stands for
+-- what the column of the accessor at an index stands for
 column-at : (accessors : List CompositeAccessor) (i : ℕ) (accessor : CompositeAccessor)
     → i < length accessors → accessor ≡ get_or accessors i accessor
     → column_at accessors i ≡ accessor.column.now.keys
@@ -61,7 +61,7 @@ column-at accessors i accessor l is =
     get_or-map (λ (x : CompositeAccessor). x.column.now.keys) accessors i accessor Bools l
     ∙ ap (λ (x : CompositeAccessor). x.column.now.keys) (sym is)
 
--- what the lane of the accessor at a place stands for, where each column has a lane
+-- what the lane of the accessor at an index stands for, where each column has a lane
 lane-at : (accessors : List CompositeAccessor) (i : ℕ) (accessor : CompositeAccessor)
     → i < length accessors → accessor ≡ get_or accessors i accessor
     → (i < length (column_keys_of accessors)) × (column_at accessors i ≡ accessor.column.now.keys)
@@ -69,7 +69,7 @@ lane-at accessors i accessor l is =
     let long = columns-many accessors in
     (omega (arith, l, long), column-at accessors i accessor l is)
 
--- the numbers of a document in the accessor at a place are choices of the keys that the source
+-- the numbers of a document in the accessor at an index are choices of the keys that the source
 -- gives for them
 column-chosen : (source : CompositeAggregationSource) (a : CompositeSourceAccessors) (i : ℕ)
     (accessor : CompositeAccessor) (numbers : List ℕ) (doc : ℕ)
@@ -104,7 +104,7 @@ column-chosen (DateHistogram s) a i accessor numbers doc l is fits stand keys in
 -- ---- the accessors of a source, in the order of their classes
 
 requested-at : {A : Type 0} (order : Order) (xs : List A) (turn : ℕ) (d : A) → turn < length xs
-    → get_or (in_requested order xs) turn d ≡ get_or xs (place_in order (length xs) turn) d
+    → get_or (in_requested order xs) turn d ≡ get_or xs (index_in order (length xs) turn) d
 requested-at Asc xs turn d l = refl
 requested-at Desc xs turn d l = get_or-reverse xs turn d l
 
@@ -114,20 +114,20 @@ length-requested Asc xs = refl
 length-requested Desc xs = length-reverse xs
 
 -- the column that is read in a turn
-turn-column : (order : Order) (accessors : List CompositeAccessor) (turn place : ℕ)
+turn-column : (order : Order) (accessors : List CompositeAccessor) (turn index : ℕ)
     (accessor : CompositeAccessor)
-    → turn < length accessors → place < length accessors
-    → place ≡ place_in order (length accessors) turn
-    → accessor ≡ get_or accessors place accessor
+    → turn < length accessors → index < length accessors
+    → index ≡ index_in order (length accessors) turn
+    → accessor ≡ get_or accessors index accessor
     → get_or (in_requested order (columns_of accessors)) turn accessor.column.now
     ≡ accessor.column.now
-turn-column order accessors turn place accessor l within is accessor_is =
+turn-column order accessors turn index accessor l within is accessor_is =
     let column : CompositeAccessor → StoredColumn = λ x. x.column.now in
     let long : length (columns_of accessors) ≡ length accessors = length-map accessors column in
     requested-at order (columns_of accessors) turn accessor.column.now (omega (arith, long, l))
-    ∙ ap (λ n. get_or (columns_of accessors) (place_in order n turn) accessor.column.now) long
+    ∙ ap (λ n. get_or (columns_of accessors) (index_in order n turn) accessor.column.now) long
     ∙ ap (λ n. get_or (columns_of accessors) n accessor.column.now) (sym is)
-    ∙ get_or-map column accessors place accessor accessor.column.now within
+    ∙ get_or-map column accessors index accessor accessor.column.now within
     ∙ ap column (sym accessor_is)
 
 -- what columns read, one more
@@ -190,28 +190,28 @@ pub record TurnRead (source : CompositeAggregationSource) (a : CompositeSourceAc
       → AreChoicesOf source a choices (keys_in source (column_keys column doc))
 
 pub turn-read : (source : CompositeAggregationSource) (a : CompositeSourceAccessors) (order : Order)
-    (accessors : List CompositeAccessor) (turn place doc : ℕ) (found : CompositeAccessor)
+    (accessors : List CompositeAccessor) (turn index doc : ℕ) (found : CompositeAccessor)
     (numbers : List ℕ)
     → order ≡ order_of source → accessors ≡ a.accessors → turn < length accessors
-    → place < length accessors → place ≡ place_in order (length accessors) turn
-    → found ≡ get_or accessors place found
+    → index < length accessors → index ≡ index_in order (length accessors) turn
+    → found ≡ get_or accessors index found
     → ((j : ℕ) → get_or numbers j 0 < 2 ^ 64)
     → All (StandsForKey found.column.now.keys) numbers
     → map (encoded_key found.column.now.keys) numbers ≡ column_keys found.column.now doc
     → TurnRead source a (in_requested order (columns_of accessors)) turn doc found.column.now
-    (divided_choices source a found place numbers)
-turn-read source a order accessors turn place doc found numbers ordered same l within is found_is
+    (divided_choices source a found index numbers)
+turn-read source a order accessors turn index doc found numbers ordered same l within is found_is
     fits stand keys =
-    let own_is : found ≡ get_or a.accessors place found =
-    found_is ∙ ap (λ xs. get_or xs place found) same in
+    let own_is : found ≡ get_or a.accessors index found =
+    found_is ∙ ap (λ xs. get_or xs index found) same in
     let long = length-requested order (columns_of accessors)
     ∙ length-map accessors (λ (x : CompositeAccessor). x.column.now) in
     let long_same = ap length same in
-    let here : place < length a.accessors = omega (arith, within, long_same) in
+    let here : index < length a.accessors = omega (arith, within, long_same) in
     let columns = in_requested order (columns_of accessors) in
     let inside : turn < length columns = omega (arith, long, l) in
     let next : get_or columns turn found.column.now ≡ found.column.now =
-    turn-column order accessors turn place found l within is found_is in
+    turn-column order accessors turn index found l within is found_is in
     record {
       within = inside;
       next = next;
@@ -219,10 +219,11 @@ turn-read source a order accessors turn place doc found numbers ordered same l w
           let all : AllByRecursion (IsInRange source) (all_keys columns doc) =
           subst (AllByRecursion (IsInRange source))
           (sym (λ j. all_keys (in_requested (ordered j) (columns_of (same j))) doc))
-          (recursion_from_All (IsInRange source) (keys_held source a.accessors doc) can.range) in
-          column-chosen source a place found numbers doc here own_is fits stand keys
+          (recursion_from_All (IsInRange source) (keys_in_columns source a.accessors doc)
+          can.range) in
+          column-chosen source a index found numbers doc here own_is fits stand keys
           can.interval
-          (subst (IsAccessorOf source) (sym own_is) (can.each place found here))
+          (subst (IsAccessorOf source) (sym own_is) (can.each index found here))
           (subst (AllByRecursion (IsInRange source)) (sym keys)
           (turn-range (IsInRange source) columns turn doc found.column.now inside next all));
     }

@@ -28,7 +28,8 @@ use Rattle.agg_buckets.proofs.Labels.{docs_of-append}
 use Rattle.agg_buckets.proofs.Owners.{above-none}
 use Rattle.agg_buckets.proofs.StandingNodes.{stay-right}
 use Rattle.agg_composite.specs.Answers.{Answers, AnswersDocuments, TakesVisits}
-use Rattle.agg_composite.specs.Composite.{Composite, CompositeFor, CompositeTakes, bucket_of}
+use Rattle.agg_composite.specs.Composite.{AnswersCollect, Composite, CompositeFor}
+use Rattle.agg_composite.specs.Composite.{CompositeTakes, bucket_of}
 use Rattle.agg_composite.specs.Visits.{StandsForVisit, TypedVisit, visits_past}
 use Rattle.agg_composite.proofs.DocumentsInRow.{visits_compose}
 use Rattle.agg_composite.proofs.Pairs.{AllZip-append}
@@ -196,16 +197,22 @@ refused-too_many : (error : VisitError) → refused error ≡ refusal.TooMany �
 refused-too_many TooMany is = refl
 refused-too_many OutOfMemory is = absurd (cc is)
 
-module _ (visits refuses : Type 0) (count steps steps_now : ℕ) where
-  -- what visits answer, the collector answers
+module _ {C : Type 0} (waiting : C → ℕ → List ℕ) (req : CompositeAggReqData)
+    (typed : List TypedVisit) (old new : Composite C) (steps steps_now : ℕ) where
+  -- what the visits of a collector answer
+  abbrev pub AnswersVisits : Result (Unit {0}) VisitError → Type 0
+  AnswersVisits =
+      Answers TooMany (CompositeTakes waiting req typed old new)
+      (TooManyVisits encoded_tuple_order (length typed) old.node) (length typed) steps steps_now
+
+  -- their error is the collector's
   pub collected-error : (error : VisitError) (returned : Result (Unit {0}) CollectError)
-      → Answers TooMany visits refuses count steps steps_now (Err error)
-      → IsErrAnd returned (λ e. e ≡ refused error)
-      → Answers refusal.TooMany visits refuses count steps steps_now returned
+      → AnswersVisits (Err error) → IsErrAnd returned (λ e. e ≡ refused error)
+      → AnswersCollect waiting req typed old new steps steps_now returned
   collected-error error returned walked is_err =
       let given = err_from_is_err_and returned is_err in
       let same : returned ≡ Err (refused error) = given.1 ∙ ap (λ e. Err e) given.2 in
-      subst (Answers refusal.TooMany visits refuses count steps steps_now) (sym same) (record {
+      subst (AnswersCollect waiting req typed old new steps steps_now) (sym same) (record {
         ok = tt;
         least = tt;
         too_many = λ e. walked.too_many (ap (λ x. Err x) (refused-too_many error (cc e)));
@@ -214,8 +221,8 @@ module _ (visits refuses : Type 0) (count steps steps_now : ℕ) where
       })
 
   -- and where they all were made
-  pub collected-all : Answers TooMany visits refuses count steps steps_now (Ok tt)
-      → Answers refusal.TooMany visits refuses count steps steps_now (Ok tt)
+  pub collected-all : AnswersVisits (Ok tt)
+      → AnswersCollect waiting req typed old new steps steps_now (Ok tt)
   collected-all walked = record {
     ok = walked.ok;
     least = walked.least;

@@ -1,6 +1,6 @@
 -- Walks over documents in a row.
 use Rattle.std.proofs.Common.{◌≡◌, ℕ, ◌+◌, ◌<◌, ◌≤◌, List, [], ◌∷◌, ◌++◌, Ok, Err, IsErrAnd, Result}
-use Rattle.std.proofs.Common.{length, get_or, refl, sym, ap, ◌∙◌, subst, arith, length-append}
+use Rattle.std.proofs.Common.{false, length, get_or, refl, sym, ap, ◌∙◌, subst, arith, length-append}
 use Rattle.std.specs.List.{AllZip}
 use Rattle.std.proofs.lemmas.List.{append-nil, get_or-map, length-map}
 use Rattle.std.proofs.lemmas.List.Concat.{flat_map-append}
@@ -17,6 +17,7 @@ use Rattle.agg_request_tree.specs.Source.{Sources}
 use Rattle.agg_accessor.specs.Accessors.{Fits}
 use Rattle.agg_accessor.specs.Encoding.{EncodedTuple, StandsForTuple, encoded_tuple_order}
 use Rattle.agg_accessor.specs.Ranges.{AreAllInRange}
+use Rattle.agg_accessor.specs.declared.accessor.CompositeSourceAccessors.{CompositeSourceAccessors}
 use Rattle.agg_accessor.specs.declared.request_data.CompositeAggReqData.{CompositeAggReqData}
 use Rattle.agg_accessor.proofs.EncodedOrder.{tuple_order-total}
 use Rattle.agg_buckets.specs.Laws.{VisitsCompose}
@@ -26,6 +27,9 @@ use Rattle.agg_buckets.specs.declared.visit_error.VisitError.{VisitError}
 use Rattle.agg_buckets.specs.declared.visit_error.VisitError.TheVariants.{TooMany}
 use Rattle.agg_buckets.proofs.NodeLaws.{compose-visits}
 use Rattle.agg_composite.specs.Answers.{Answers, AnswersDocuments, AnswersEncoded, TakesVisits}
+use Rattle.agg_composite.specs.Choices.{AreChoicesIn}
+use Rattle.agg_composite.specs.Walk.{parts, walked}
+use Rattle.agg_composite.specs.declared.walk.choice.Choice.{Choice}
 use Rattle.agg_composite.specs.Visits.{StandsForVisit, TypedVisit, visits_past}
 use Rattle.agg_composite.proofs.Appending.{Appends}
 use Rattle.agg_composite.proofs.Pairs.{AllZip-append, AllZip-map}
@@ -53,6 +57,30 @@ visits_past-append sources segment after parent xs ys =
     (λ doc. visits_at parent doc
     (past_occurrences sources (bound_of sources after) (documents_at segment (doc ∷ []))))
     xs ys
+
+-- what was gathered from lists is from those that they are, and so are its parts
+pub gathered-from : (sources sources_are : Sources)
+    (accessors accessors_are : List CompositeSourceAccessors) (doc : ℕ) (sizes sizes_are : List ℕ)
+    (choices choices_are : List Choice) → sources ≡ sources_are → accessors ≡ accessors_are
+    → sizes_are ≡ sizes → choices_are ≡ choices
+    → AreChoicesIn sources accessors doc (parts sizes choices)
+    → AreChoicesIn sources_are accessors_are doc (parts sizes_are choices_are)
+gathered-from sources sources_are accessors accessors_are doc sizes sizes_are choices choices_are
+    is_sources is_accessors is_sizes is_choices read =
+    subst (AreChoicesIn sources_are accessors_are doc)
+    (λ i. parts (sym is_sizes i) (sym is_choices i))
+    (subst (λ xs. AreChoicesIn sources_are xs doc (parts sizes choices)) is_accessors
+    (subst (λ xs. AreChoicesIn xs accessors doc (parts sizes choices)) is_sources read))
+
+-- what a walk from no keys answers, in a document that is begun
+pub walked-answers : (rows : List (List Choice)) (front : EncodedTuple)
+    (start begun new : Node EncodedTuple) (steps steps_now : ℕ)
+    (result : Result (Unit {0}) VisitError) → front ≡ [] → start ≡ begun
+    → AnswersEncoded (walked rows front false) start new steps steps_now result
+    → AnswersEncoded (walked rows [] false) begun new steps steps_now result
+walked-answers rows front start begun new steps steps_now result none is own =
+    subst (λ n. AnswersEncoded (walked rows [] false) n new steps steps_now result) is
+    (subst (λ t. AnswersEncoded (walked rows t false) start new steps steps_now result) none own)
 
 -- the laws of visits
 pub visits_compose : VisitsCompose encoded_tuple_order

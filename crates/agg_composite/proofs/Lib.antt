@@ -12,6 +12,7 @@ pub mod NullStanding
 pub mod Pairs
 pub mod PastSides
 pub mod Product
+pub mod PushedDocuments
 pub mod TuplesInRow
 pub mod TypedGroups
 pub mod VisitsInRow

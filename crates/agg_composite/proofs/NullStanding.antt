@@ -34,7 +34,7 @@ apart order missing k value same =
       | inr two ↦ absurd (omega (arith, e, two))
     ]
 
--- where neither is the other, Null comes before or behind
+-- where neither is the other, Null comes before or after
 by_side : (o : Ordering) → (o ≢ Equal) → missing_standing (is_lt o) false ≡ o
 by_side Less n = refl
 by_side Equal n = absurd (n refl)

@@ -1,4 +1,4 @@
--- Two lists whose elements belong together, place by place.
+-- Two lists whose elements belong together, one by one.
 use Rattle.std.proofs.Common.{◌≡◌, List, [], ◌∷◌, ◌++◌, Bool, true, false, cond, map, filter}
 use Rattle.std.specs.List.{AllZip, flat_map}
 

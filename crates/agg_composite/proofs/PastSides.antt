@@ -25,7 +25,7 @@ sides_to (source ∷ sources) after [] = []
 sides_to (source ∷ sources) after (k ∷ keys) =
     side_to source (after_of after source) k ∷ sides_to sources after keys
 
--- one place more
+-- one key more
 by_first : (x rest : Ordering) (more : Bool) (sides : List Ordering)
     → (is_lt rest || (is_eq rest && more)) ≡ sides_past sides
     → (is_lt (ordering_then x rest) || (is_eq (ordering_then x rest) && more))

@@ -47,7 +47,7 @@ map-cond : {X Y : Type 0} (f : X → Y) (b : Bool) (x : X) (xs : List X)
 map-cond f true x xs = refl
 map-cond f false x xs = refl
 
--- a filter behind a map
+-- a filter after a map
 filter-map : {X Y : Type 0} (p : Y → Bool) (f : X → Y) (xs : List X)
     → filter p (map f xs) ≡ map f (filter (λ x. p (f x)) xs)
 filter-map p f [] = refl
@@ -67,7 +67,7 @@ filter-none (x ∷ xs) = filter-none xs
 
 -- ---- the walk
 
--- the tuples behind a front, where they are past the bound or the front is above it
+-- the tuples after a front, where they are past the bound or the front is above it
 abbrev kept : List (List Choice) → EncodedTuple → Bool → List EncodedTuple
 kept tuples front above =
     map (λ t. front ++ values_of t) (filter (λ t. above || is_past t) tuples)

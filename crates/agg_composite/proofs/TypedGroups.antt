@@ -45,7 +45,7 @@ is q = is_at (encoded_tuple_order q)
 groups-laws : CutsCompose encoded_tuple_order
 groups-laws = cuts encoded_tuple_order tuple_order-total
 
--- counts by tests that agree on what is held
+-- counts by tests that agree on what a list has
 count_by-agree_on : {X : Type 0} (p q : X → Bool) (xs : List X)
     → ((x : X) → Has x xs → p x ≡ q x) → count_by p xs ≡ count_by q xs
 count_by-agree_on p q [] h = refl
@@ -188,7 +188,7 @@ module _ (segment : Stored) (after : Named AfterKey) (req : CompositeAggReqData)
   keys-decoded [] = refl
   keys-decoded (e ∷ es) = ap (λ ts. decoded req e.0 ∷ ts) (keys-decoded es)
 
-  -- the number of an entry is that of its tuple's places
+  -- the number of an entry is how often its tuple is there
   abbrev IsCounted : Group → Type 0
   IsCounted g = (0 < g.1) × (g.1 ≡ count_by (same_tuple rules g.0) (map (decoded req) tuples))
 

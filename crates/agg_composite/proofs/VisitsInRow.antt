@@ -29,6 +29,18 @@ pub record SoFar {X Y S : Type 0} (visits : List Y → S → S → Type 0) (f : 
   pub least : steps + length (f (take i xs)) ≤ steps_now
   pub most : steps_now ≤ steps + 3 * length (f (take i xs))
 
+-- the same, of a state and of steps by other names
+pub same-so_far : {X Y S : Type 0} (visits : List Y → S → S → Type 0) (f : List X → List Y)
+    (xs : List X) (i : ℕ) (s t u : S) (steps steps_now steps_then : ℕ) → u ≡ t
+    → steps_then ≡ steps_now → SoFar visits f xs i s t steps steps_now
+    → SoFar visits f xs i s u steps steps_then
+same-so_far visits f xs i s t u steps steps_now steps_then is taken so_far =
+    record {
+      visited = subst (visits (f (take i xs)) s) (sym is) so_far.visited;
+      least = subst (λ n. steps + length (f (take i xs)) ≤ n) (sym taken) so_far.least;
+      most = subst (λ n. n ≤ steps + 3 * length (f (take i xs))) (sym taken) so_far.most;
+    }
+
 -- an error that a call passes on
 pub passed-on : (visits refuses : Type 0) (count steps steps_now : ℕ)
     (error : VisitError) (returned : Returned)

@@ -1,12 +1,12 @@
 -- A walk, one choice on.
-use Rattle.std.proofs.Common.{◌≡◌, ◌+◌, ◌-◌, List, [], ◌∷◌, ◌++◌, Bool, None, Some, length}
-use Rattle.std.proofs.Common.{take, sym, ap, ◌∙◌, arith, length-append}
+use Rattle.std.proofs.Common.{◌≡◌, ℕ, ◌+◌, ◌-◌, List, [], ◌∷◌, ◌++◌, Bool, None, Some, length}
+use Rattle.std.proofs.Common.{drop, take, sym, ap, ◌∙◌, arith, length-append}
 use Rattle.std.specs.Option.{option_map_or}
 use Rattle.std.proofs.lemmas.List.{append-nil, take-append-le, take_all}
 use Rattle.std.proofs.lemmas.List.Concat.{flat_map-append}
 use Rattle.agg_accessor.specs.Encoding.{EncodedTuple}
 use Rattle.agg_accessor.specs.declared.encoded.Encoded.{Encoded}
-use Rattle.agg_composite.specs.Walk.{next_standing, walked}
+use Rattle.agg_composite.specs.Walk.{next_standing, parts, walked}
 use Rattle.agg_composite.specs.declared.walk.choice.Choice.{Choice}
 use Rattle.agg_composite.proofs.Appending.{Appends}
 
@@ -50,3 +50,10 @@ taken-away front tuple longer now key is same stays =
     ∙ take-append-le (length tuple) tuple (key ∷ []) (omega arith)
     ∙ take_all (length tuple) tuple (omega arith)
     ∙ same
+
+-- the choices of the next source with those of the others after it are all rows
+pub rows-split : (size : ℕ) (sizes all : List ℕ) (own others choices : List Choice)
+    → size ∷ sizes ≡ all → own ≡ take size choices → others ≡ drop size choices
+    → own ∷ parts sizes others ≡ parts all choices
+rows-split size sizes all own others choices is front back =
+    (λ i. front i ∷ parts sizes (back i)) ∙ (λ i. parts (is i) choices)

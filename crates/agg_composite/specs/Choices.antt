@@ -11,7 +11,7 @@ use Rattle.agg_request_tree.specs.Faults.{HasInterval}
 use Rattle.agg_request_tree.specs.Ranges.{IsInRange}
 use Rattle.agg_request_tree.specs.Source.{Sources, missing_bucket_of, or_missing, order_of}
 use Rattle.agg_request_tree.specs.declared.source.CompositeAggregationSource.{CompositeAggregationSource}
-use Rattle.agg_accessor.specs.Accessors.{IsAccessorOf, keys_held, keys_read, side_at}
+use Rattle.agg_accessor.specs.Accessors.{IsAccessorOf, keys_in_columns, keys_read, side_at}
 use Rattle.agg_accessor.specs.Encoding.{IsItemOf, encoded_at, encoded_null}
 use Rattle.agg_accessor.specs.Lanes.{lane_of}
 use Rattle.agg_accessor.specs.Starts.{divisor_of, lane_number}
@@ -34,7 +34,7 @@ null_choice source a =
       side = missing_standing a.skip_missing a.is_after_key_explicit_missing;
     }
 
--- a number of the lane at a place as a choice
+-- a number of the lane at an index as a choice
 abbrev pub choice_at : Order → CompositeSourceAccessors → ℕ → ℕ → Choice
 choice_at order a i number =
     record { value = encoded_at order i number; side = side_at order a i number }
@@ -47,10 +47,10 @@ IsChoiceOf source a =
 
 -- ---- the choices of a source
 
--- the place of the accessor that is read in a turn, of so many
-abbrev pub place_in : Order → ℕ → ℕ → ℕ
-place_in Asc accessors turn = turn
-place_in Desc accessors turn = accessors - 1 - turn
+-- the index of the accessor that is read in a turn, of so many
+abbrev pub index_in : Order → ℕ → ℕ → ℕ
+index_in Asc accessors turn = turn
+index_in Desc accessors turn = accessors - 1 - turn
 
 -- accessors can be read in a document: they are those of a source that has what it divides values
 -- by, and the starts of the keys that they hold lie within i64
@@ -58,7 +58,7 @@ pub record CanRead (source : CompositeAggregationSource) (a : CompositeSourceAcc
     : Type 0 where
   pub interval : HasInterval source
   pub each : All (IsAccessorOf source) a.accessors
-  pub range : All (IsInRange source) (keys_held source a.accessors doc)
+  pub range : All (IsInRange source) (keys_in_columns source a.accessors doc)
 
 -- the keys that a source gives for what accessors read in a document, by class ascending, or Null
 -- where there is none and a missing value has a bucket
@@ -72,19 +72,19 @@ abbrev pub AreChoicesOf : CompositeAggregationSource → CompositeSourceAccessor
     → List CompositeIntermediateKey → Type 0
 AreChoicesOf source a = AllZip (IsChoiceOf source a)
 
--- choices stand behind those that were there, of these keys where the document can be read
+-- choices stand after those that were there, of these keys where the document can be read
 abbrev pub AddsChoices : CompositeAggregationSource → CompositeSourceAccessors → ℕ
     → List CompositeIntermediateKey → List Choice → List Choice → Type 0
 AddsChoices source a doc keys before choices =
     (added : List Choice) × (choices ≡ before ++ added)
     × (CanRead source a doc → AreChoicesOf source a added keys)
 
--- the numbers of a column of the accessor at a place as choices, divided
+-- the numbers of a column of the accessor at an index as choices, divided
 abbrev pub divided_choices : CompositeAggregationSource → CompositeSourceAccessors
     → CompositeAccessor → ℕ → List ℕ → List Choice
-divided_choices source a accessor place numbers =
+divided_choices source a accessor index numbers =
     map
-    (λ n. choice_at (order_of source) a (lane_of source place)
+    (λ n. choice_at (order_of source) a (lane_of source index)
     (lane_number (divisor_of source accessor.date_histogram_interval) accessor.column.now.keys n))
     numbers
 
@@ -98,7 +98,7 @@ AreChoicesIn (source ∷ sources) (a ∷ accessors) doc (choices ∷ rows) =
     × AreChoicesIn sources accessors doc rows
 AreChoicesIn _ _ doc _ = ⊥
 
--- the same, as a flat list with the size of each source's part
+-- the same, end to end, with the size of each source's part
 pub record AreGathered (sources : Sources) (accessors : List CompositeSourceAccessors) (doc : ℕ)
     (sizes : List ℕ) (choices : List Choice) : Type 0 where
   pub whole : sum sizes ≡ length choices

@@ -114,7 +114,7 @@ impl<C: SubAggCache> SegmentCompositeCollector<C> {
         self.buckets.prepare(max_bucket)
     }
 
-    /// Visits the tuples of the documents at these places that lie past the bound, under a parent,
+    /// Visits the tuples of the documents of these numbers that lie past the bound, under a parent,
     /// by one to three steps each. It is refused where a bucket of what the sources read starts
     /// outside 64 bits. What is there after another error isn't said.
     pub fn collect<L: Ledger>(

@@ -79,7 +79,7 @@ impl TupleBuckets {
         }
     }
 
-    /// Visits the tuples of the documents at these places that lie past the bound, in the order of
+    /// Visits the tuples of the documents of these numbers that lie past the bound, in the order of
     /// their occurrences.
     pub fn visit_documents<L: Ledger>(
         &mut self,

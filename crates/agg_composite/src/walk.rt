@@ -6,7 +6,7 @@ ghost use Rattle.agg_composite.specs.Walk.{next_standing, parts, walked};
 
 mod choice;
 mod gather;
-mod place;
+mod index;
 
 use crate::stored_tuple::StoredTuple;
 use agg_accessor::{CompositeAggReqData, Encoded};
@@ -18,8 +18,8 @@ use std::alloc::Global;
 use std::cmp::Ordering;
 use std::sync::ledger::Ledger;
 
-/// Visits the tuples of the documents at these places that lie past the bound, in the order of
-/// their occurrences.
+/// Visits the tuples of the documents of these numbers that lie past the bound, in the order
+/// of their occurrences.
 pub fn visit_documents<const N: usize, L: Ledger>(
     alloc: Global,
     buckets: &mut BucketsByParent<StoredTuple<Encoded, N>>,

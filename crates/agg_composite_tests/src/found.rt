@@ -9,7 +9,7 @@ use std::test::Fail;
 /// Where an after value stands: its place, its accessor, whether Null comes before it and is it.
 pub(crate) type Standing = (PrecomputedAfterKey, usize, bool, bool);
 
-/// Behind all numbers.
+/// After all numbers.
 pub(crate) const ALL: PrecomputedAfterKey = PrecomputedAfterKey::AfterLast;
 
 /// Before all numbers.

@@ -17,16 +17,16 @@ pub struct Choice {
     pub side: Ordering,
 }
 
-/// How a number of the lane at a place stands to the after value.
+/// How a number of the lane at an index stands to the after value.
 pub fn side_of(
     order: Order,
     accessors: &CompositeSourceAccessors<'_>,
-    place: usize,
+    index: usize,
     number: u64,
 ) -> Ordering
-    ensures { result ≡ side_at order accessors.now place number }
+    ensures { result ≡ side_at order accessors.now index number }
 {
-    match place.cmp(&accessors.after_key_accessor_idx) {
+    match index.cmp(&accessors.after_key_accessor_idx) {
         Ordering::Less => Ordering::Less,
         Ordering::Equal => side_in(order, &accessors.after_key, number),
         Ordering::Greater => Ordering::Greater,

@@ -6,7 +6,7 @@ ghost use Rattle.agg_composite.specs.Choices.{divided_choices, values_read};
 ghost use Rattle.agg_accessor.specs.Starts.{CanDivide, lane_number};
 
 use super::choice::{Choice, missing_choice, side_of};
-use super::place::place_at;
+use super::index::index_at;
 use agg_accessor::{
     CompositeAccessor, CompositeSourceAccessors, DividedColumn, Divisor, Encoded, lane_of,
 };
@@ -32,7 +32,7 @@ impl Gathered {
         }
     }
 
-    /// Takes the choices of a document, in place of what was there.
+    /// Takes the choices of a document; those that were there are gone.
     pub fn gather(
         &mut self,
         sources: &[CompositeAggregationSource],
@@ -90,28 +90,28 @@ fn add_values(
     let order = source.order();
     let columns = accessors.accessors.as_slice();
     for turn in 0..columns.len() {
-        let place = place_at(order, columns.len(), turn);
-        let accessor = &columns[place];
+        let index = index_at(order, columns.len(), turn);
+        let accessor = &columns[index];
         let numbers = accessor.column.values_for_doc(doc);
-        add_column(choices, source, accessors, accessor, place, numbers)?;
+        add_column(choices, source, accessors, accessor, index, numbers)?;
     }
     Ok(())
 }
 
-// Appends numbers of the accessor at a place, divided where the source divides them.
+// Appends numbers of the accessor at an index, divided where the source divides them.
 fn add_column(
     choices: &mut Vec<Choice>,
     source: &CompositeAggregationSource,
     accessors: &CompositeSourceAccessors<'_>,
     accessor: &CompositeAccessor<'_>,
-    place: usize,
+    index: usize,
     numbers: &[u64],
 ) -> Result<(), OutOfMemory>
-    requires { place < 2 ^ 63 }
+    requires { index < 2 ^ 63 }
     ensures { OnOk result (choices.new.items ≡ choices.old.items
-        ++ divided_choices source.now accessors.now accessor.now place numbers.now) }
+        ++ divided_choices source.now accessors.now accessor.now index numbers.now) }
 {
-    let (order, lane) = (source.order(), lane_of(source, place));
+    let (order, lane) = (source.order(), lane_of(source, index));
     let column = DividedColumn::new(source, accessor);
     match column.divisor {
         Divisor::Nothing => add_numbers(choices, order, accessors, lane, numbers),
@@ -119,58 +119,58 @@ fn add_column(
     }
 }
 
-// Appends numbers of the lane at a place.
+// Appends numbers of the lane at an index.
 fn add_numbers(
     choices: &mut Vec<Choice>,
     order: Order,
     accessors: &CompositeSourceAccessors<'_>,
-    lane: usize,
+    index: usize,
     numbers: &[u64],
 ) -> Result<(), OutOfMemory>
-    requires { lane < 2 ^ 63 }
+    requires { index < 2 ^ 63 }
     ensures { OnOk result (choices.new.items
-        ≡ choices.old.items ++ map (choice_at order accessors.now lane) numbers.now) }
+        ≡ choices.old.items ++ map (choice_at order accessors.now index) numbers.now) }
 {
     for number in numbers {
-        choices.push(choice_of(order, accessors, lane, *number))?;
+        choices.push(choice_of(order, accessors, index, *number))?;
     }
     Ok(())
 }
 
-// Appends the starts of numbers of a column, in the lane at a place.
+// Appends the starts of numbers of a column, in the lane at an index.
 fn add_starts(
     choices: &mut Vec<Choice>,
     order: Order,
     accessors: &CompositeSourceAccessors<'_>,
-    lane: usize,
+    index: usize,
     column: &DividedColumn<'_>,
     numbers: &[u64],
 ) -> Result<(), OutOfMemory>
-    requires lane { lane < 2 ^ 63 }
+    requires index { index < 2 ^ 63 }
     requires can { CanDivide column.now.divisor }
     ensures { OnOk result (choices.new.items ≡ choices.old.items
-        ++ map (λ n. choice_at order accessors.now lane
+        ++ map (λ n. choice_at order accessors.now index
         (lane_number column.now.divisor column.now.column.now.keys n)) numbers.now) }
 {
     for number in numbers {
         let start = column.lane_number(*number);
-        choices.push(choice_of(order, accessors, lane, start))?;
+        choices.push(choice_of(order, accessors, index, start))?;
     }
     Ok(())
 }
 
-// A number of the lane at a place as a choice.
+// A number of the lane at an index as a choice.
 fn choice_of(
     order: Order,
     accessors: &CompositeSourceAccessors<'_>,
-    lane: usize,
+    index: usize,
     number: u64,
 ) -> Choice
-    requires { lane < 2 ^ 63 }
-    ensures { result ≡ choice_at order accessors.now lane number }
+    requires { index < 2 ^ 63 }
+    ensures { result ≡ choice_at order accessors.now index number }
 {
     Choice {
-        value: Encoded::at(order, lane, number),
-        side: side_of(order, accessors, lane, number),
+        value: Encoded::at(order, index, number),
+        side: side_of(order, accessors, index, number),
     }
 }

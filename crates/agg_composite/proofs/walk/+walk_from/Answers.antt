@@ -1,14 +1,15 @@
-use Rattle.std.proofs.Common.{rules, ◌≡◌, ◌≤◌, ◌+◌, ℕ, List, [], ◌∷◌, Ok, Err, length, sum, arith}
-use Rattle.std.proofs.Common.{length-append, sym, ap, ◌∙◌, subst}
+use Rattle.std.proofs.Common.{rules, ◌≡◌, ◌≤◌, ◌+◌, List, [], ◌∷◌, Ok, Err, length, sum, arith}
+use Rattle.std.proofs.Common.{length-append, ap, ◌∙◌, subst}
 use Rattle.std.proofs.lemmas.List.Sums.{sum_by-cons}
 use Rattle.agg_accessor.specs.Encoding.{EncodedTuple}
-use Rattle.agg_buckets.specs.Node.{Node}
 use Rattle.agg_composite.specs.Answers.{AnswersEncoded}
 use Rattle.agg_composite.specs.Walk.{parts, walked}
 use Rattle.agg_composite.specs.declared.walk.choice.Choice.{Choice}
 use Rattle.agg_composite.proofs.TuplesInRow.{TooMany, Visited, encoded-visits}
-use Rattle.agg_composite.proofs.VisitsInRow.{SoFar, error-visited, none-visited, one-visited}
-use Rattle.agg_composite.proofs.Walking.{choices-append, taken-away, walked-after, walked-below}
+use Rattle.agg_composite.proofs.VisitsInRow.{error-visited, none-visited, one-visited}
+use Rattle.agg_composite.proofs.VisitsInRow.{same-so_far}
+use Rattle.agg_composite.proofs.Walking.{choices-append, rows-split, taken-away, walked-after}
+use Rattle.agg_composite.proofs.Walking.{walked-below}
 use Rattle.agg_composite.proofs.walk.+walk_from.Goals as goal
 use Rattle.agg_composite.proofs.walk.+walk_from.Goals.{in-Some-standing_with+in_ok-walk_from}
 use Rattle.agg_composite.proofs.walk.+walk_from.Goals.{in_default-standing_with}
@@ -44,8 +45,9 @@ returns-in_err-walk_from-clause-answers g t c =
     let sizes : c.in-Some.size.now ∷ c.in-Some.sizes.now ≡ c.args.rest.now.sizes.now =
     search rules in
     let rows : own ∷ rest ≡ parts c.args.rest.now.sizes.now c.args.rest.now.choices.now =
-    (λ j. c.split_at.ensures.front j ∷ parts c.in-Some.sizes.now (c.split_at.ensures.back j))
-    ∙ ap (λ ns. parts ns c.args.rest.now.choices.now) sizes in
+    rows-split c.in-Some.size.now c.in-Some.sizes.now c.args.rest.now.sizes.now own
+    c.split_at.result.1.now c.args.rest.now.choices.now sizes c.split_at.ensures.front
+    c.split_at.ensures.back in
     subst (λ (rs : List (List Choice)). AnswersEncoded (walked rs front above) c.args.buckets.now
     after c.args.steps.now c.walk_from.new.steps c.from_residual.result) rows
     (error-visited Visited TooMany encoded-visits visited (choices-append rest front above)
@@ -73,9 +75,9 @@ loop-choice-preserved g t c =
           let standing = w.in-Some-standing_with.is_above in
           record {
             answers =
-                subst (λ (s : Node EncodedTuple × ℕ). SoFar Visited visited own (i + 1)
-                c.args.buckets.now s.0 c.args.steps.now s.1)
-                (λ j. (sym w.buckets-is j, sym w.steps-is j))
+                same-so_far Visited visited own (i + 1) c.args.buckets.now after
+                c.match-standing_with.buckets c.args.steps.now w.walk_from.new.steps
+                c.match-standing_with.steps w.buckets-is w.steps-is
                 (one-visited Visited TooMany encoded-visits visited
                 (choices-append rest front above) own i c.args.buckets.now now c.args.steps.now
                 c.loop-choice.steps c.loop-choice.invariant.answers _ c.loop-choice-test.true after
@@ -91,9 +93,9 @@ loop-choice-preserved g t c =
           }
       | in_default-standing_with w ↦ record {
         answers =
-            subst (λ (s : Node EncodedTuple × ℕ). SoFar Visited visited own (i + 1)
-            c.args.buckets.now s.0 c.args.steps.now s.1)
-            (λ j. (sym w.buckets-is j, sym w.steps-is j))
+            same-so_far Visited visited own (i + 1) c.args.buckets.now now
+            c.match-standing_with.buckets c.args.steps.now c.loop-choice.steps
+            c.match-standing_with.steps w.buckets-is w.steps-is
             (one-visited Visited TooMany encoded-visits visited (choices-append rest front above)
             own i c.args.buckets.now now c.args.steps.now c.loop-choice.steps
             c.loop-choice.invariant.answers _ c.loop-choice-test.true now c.loop-choice.steps

@@ -1,36 +1,28 @@
-use Rattle.std.proofs.Common.{[], ℕ, List, false, sym, subst, arith}
+use Rattle.std.proofs.Common.{[], arith, false}
 use Rattle.agg_segment.specs.Segment.{document_at}
-use Rattle.agg_request_tree.specs.Source.{Sources}
-use Rattle.agg_accessor.specs.Encoding.{EncodedTuple}
-use Rattle.agg_accessor.specs.declared.accessor.CompositeSourceAccessors.{CompositeSourceAccessors}
-use Rattle.agg_buckets.specs.Node.{Node}
-use Rattle.agg_composite.specs.Answers.{AnswersEncoded}
-use Rattle.agg_composite.specs.Choices.{AreChoicesIn}
 use Rattle.agg_composite.specs.Walk.{parts, walked}
-use Rattle.agg_composite.specs.declared.walk.choice.Choice.{Choice}
 use Rattle.agg_composite.proofs.ChoicePairs.{past-document}
-use Rattle.agg_composite.proofs.DocumentsInRow.{document-answers}
+use Rattle.agg_composite.proofs.DocumentsInRow.{document-answers, gathered-from, walked-answers}
 use Rattle.agg_composite.proofs.walk.visit_document.Goals as goal
 
 pub returns : goal.returns
 returns g c = λ segment after fit range typed is.
     let req = c.args.req.now in
+    let sources = req.req.now.sources in
+    let accessors = req.composite_accessors in
     let doc = c.args.doc in
+    let old = c.args.buckets.now in
     let rows = parts c.as_slice-2.result.now c.as_slice.result.now in
-    let read = subst
-    (λ (p : (Sources × List CompositeSourceAccessors) × (List ℕ × List Choice)).
-    AreChoicesIn p.0.0 p.0.1 doc (parts p.1.0 p.1.1))
-    (λ j. (
-      (c.as_slice-sources.ensures j, c.as_slice-accessors.ensures j),
-      (sym c.as_slice-2.ensures.value j, sym c.as_slice.ensures.value j),
-    ))
-    c.in_ok-gather.ensures.read in
-    document-answers req segment after doc c.args.buckets.now c.walk_from.new.buckets
-    c.args.steps.now c.walk_from.new.steps c.walk_from.result (walked rows [] false)
-    (past-document segment after req.req.now.sources req.composite_accessors doc rows fit
+    let read = gathered-from c.as_slice-sources.result.now sources
+    c.as_slice-accessors.result.now accessors doc c.gather.new.self.sizes.items
+    c.as_slice-2.result.now c.gather.new.self.choices.items c.as_slice.result.now
+    c.as_slice-sources.ensures c.as_slice-accessors.ensures c.as_slice-2.ensures.value
+    c.as_slice.ensures.value c.in_ok-gather.ensures.read in
+    document-answers req segment after doc old c.walk_from.new.buckets c.args.steps.now
+    c.walk_from.new.steps c.walk_from.result (walked rows [] false)
+    (past-document segment after sources accessors doc rows fit
     (range 0 (document_at segment doc) (omega arith)) read)
-    (subst (λ (p : EncodedTuple × Node EncodedTuple).
-    AnswersEncoded (walked rows p.0 false) p.1 c.walk_from.new.buckets c.args.steps.now
-    c.walk_from.new.steps c.walk_from.result)
-    (λ j. (c.new.ensures j, c.begin_document.ensures j)) c.walk_from.ensures.answers)
+    (walked-answers rows c.new.result c.begin_document.new.self (record old { doc = doc })
+    c.walk_from.new.buckets c.args.steps.now c.walk_from.new.steps c.walk_from.result
+    c.new.ensures c.begin_document.ensures c.walk_from.ensures.answers)
     typed is

@@ -12,15 +12,15 @@ loop-turn-preserved c =
     let order = c.order-order.result in
     let columns = c.as_slice-columns.result.now in
     let turn = c.loop-turn.turn in
-    let place = c.place_at-place.result in
-    let accessor = c.index-columns-place.result in
+    let index = c.index_at-index.result in
+    let accessor = c.index-columns-index.result in
     let numbers = c.values_for_doc-numbers.result.now in
-    let choices = divided_choices source a accessor place numbers in
+    let choices = divided_choices source a accessor index numbers in
     let xs = in_requested order (columns_of columns) in
     let fits : (j : ℕ) → get_or numbers j 0 < 2 ^ 64 = search rules in
-    let read = turn-read source a order columns turn place doc c.index-columns-place.result numbers
+    let read = turn-read source a order columns turn index doc c.index-columns-index.result numbers
     c.order-order.ensures c.as_slice-columns.ensures c.loop-turn-test.true
-    c.place_at-place.ensures.bound c.place_at-place.ensures.place c.index-columns-place.is fits
+    c.index_at-index.ensures.bound c.index_at-index.ensures.index c.index-columns-index.is fits
     c.values_for_doc-numbers.ensures.stand c.values_for_doc-numbers.ensures.keys in
     turn-chosen source a xs turn doc accessor.column.now c.args.choices.now.items
     c.loop-turn.choices.items c.add_column.new.choices.items choices read.within read.next
