@@ -1,1 +1,2 @@
 mod BatchesById
+pub mod UnderIds

@@ -3,8 +3,8 @@ use Rattle.std.proofs.Common.{◌≡◌, ◌∙◌, ◌++◌, ap, subst, ℕ, Li
 use Rattle.std.proofs.lemmas.List.{append-nil}
 use Rattle.agg_cache.specs.Waiting.{AreBatchesOf, docs_of, is_id, pairs_of}
 use Rattle.agg_cache.specs.declared.cache.Batch.{Batch}
+use Rattle.agg_cache.proofs.UnderIds.{docs_of-append}
 use Rattle.agg_filter.specs.Filter.{Filter, FilterGives}
-use Rattle.agg_filter.proofs.UnderIds.{docs_of-append}
 
 module _ {C : Type 0} (waiting : C → ℕ → List ℕ) where
   -- a collector whose cache gave all that waits has given it

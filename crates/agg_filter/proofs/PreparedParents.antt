@@ -1,13 +1,14 @@
 -- Parents and the ids of their buckets.
 use Rattle.std.proofs.Common.{◌≡◌, ◌∙◌, refl, sym, ap, subst, ℕ, ◌<◌, ◌≤◌, List, []}
-use Rattle.std.proofs.Common.{◌∷◌, ◌++◌, Bool, true, false, Some, None, length, get_or, arith, zero-add, ◌⊎◌}
-use Rattle.std.proofs.Common.{inl, inr, zero, suc}
+use Rattle.std.proofs.Common.{◌∷◌, ◌++◌, ◌⊎◌, inl, inr, Bool, true, false, Some, None, zero, suc}
+use Rattle.std.proofs.Common.{length, get_or, arith, zero-add}
 use Rattle.std.specs.Prelude.{Contains, filter, if◌then◌else◌, replicate, slice_get, take}
 use Rattle.std.specs.List.{range_with_len}
 use Rattle.std.proofs.lemmas.List.{append-nil, length-append, take_all}
 use Rattle.std.proofs.lemmas.Bool.{cases_order}
 use Rattle.std.proofs.lemmas.List.FromFn.{get_or-range_with_len, length-range_with_len}
-use Rattle.std.proofs.lemmas.Option.{get_or_from_slice_get, slice_get-get_or, slice_get_past, slice_get_within}
+use Rattle.std.proofs.lemmas.Option.{get_or_from_slice_get, slice_get-get_or, slice_get_past}
+use Rattle.std.proofs.lemmas.Option.{slice_get_within}
 use Rattle.agg_cache.specs.Waiting.{docs_of, is_id}
 use Rattle.agg_filter.specs.Filter.{Filter, FilterFor, Prepares, id_of, matching_under}
 
@@ -24,43 +25,44 @@ lt_or_ge a b = elim (cases_order a b) as (λ _. (a < b) ⊎ (b ≤ a)) [
   ]
 ]
 
+-- a parent that isn't prepared has no id
 pub no_id : (n i : ℕ) → n ≤ i → slice_get (range_with_len 0 n) i ≡ None
 no_id n i past =
     slice_get_past (range_with_len 0 n) i (omega (arith, length-range_with_len 0 n, past))
 
+-- a prepared one has its own number
 pub range-at : (n i : ℕ) → i < n → slice_get (range_with_len 0 n) i ≡ Some i
 range-at n i within =
     let inside : i < length (range_with_len 0 n) = omega (arith, length-range_with_len 0 n) in
     slice_get-get_or (range_with_len 0 n) i 0 inside
     ∙ ap Some (get_or-range_with_len 0 n i 0 within ∙ zero-add i)
 
+-- so it is in a collector
 pub own_id : {C : Type 0} (collector : Filter C) → HasOwnIds collector → (parent : ℕ)
     → parent < length collector.counts → id_of collector parent ≡ Some parent
 own_id collector own parent within =
     ap (λ ids. slice_get ids parent) own ∙ range-at (length collector.counts) parent within
 
+-- and only there
 pub is_own_id : {C : Type 0} (collector : Filter C) → HasOwnIds collector → (parent id : ℕ)
     → id_of collector parent ≡ Some id → (id ≡ parent) × (parent < length collector.counts)
 is_own_id collector own parent id is =
     let n = length collector.counts in
     let at : slice_get (range_with_len 0 n) parent ≡ Some id =
     sym (ap (λ ids. slice_get ids parent) own) ∙ is in
-    let within : parent < n = omega (
-      arith,
-      length-range_with_len 0 n,
-      slice_get_within (range_with_len 0 n) parent id at,
-    ) in (
-      sym (get_or_from_slice_get (range_with_len 0 n) parent id 0 at)
-          ∙ get_or-range_with_len 0 n parent 0 within ∙ zero-add parent,
-      within,
-    )
+    let inside = slice_get_within (range_with_len 0 n) parent id at in
+    let within : parent < n = omega (arith, length-range_with_len 0 n, inside) in
+    let own_number = get_or-range_with_len 0 n parent 0 within ∙ zero-add parent in
+    (sym (get_or_from_slice_get (range_with_len 0 n) parent id 0 at) ∙ own_number, within)
 
+-- the ids are the numbers of prepared parents
 pub contains_own : {C : Type 0} (collector : Filter C) → HasOwnIds collector → (id : ℕ)
     → id < length collector.counts → Contains collector.ids id
 contains_own collector own id within =
     let P : List ℕ → Type 0 = λ ids. Contains ids id in
     let n = length collector.counts in
-    let inside : id < length (range_with_len 0 n) = omega (arith, length-range_with_len 0 n, within) in
+    let inside : id < length (range_with_len 0 n) =
+    omega (arith, length-range_with_len 0 n, within) in
     subst P (sym own) (id, inside, get_or-range_with_len 0 n id id within ∙ zero-add id)
 
 pub is_contained : {C : Type 0} (collector : Filter C) → HasOwnIds collector → (id : ℕ)
@@ -102,8 +104,8 @@ prepares old new k own own_new are rest =
     }
 
 -- counts get zeros after them, or stay as they are where memory is refused
-pub resized : {C : Type 0} (old new : Filter C) (is_done : Bool) (size more_counts : ℕ) → HasOwnIds old
-    → HasOwnIds new → length old.counts ≤ size
+pub resized : {C : Type 0} (old new : Filter C) (is_done : Bool) (size more_counts : ℕ)
+    → HasOwnIds old → HasOwnIds new → length old.counts ≤ size
     → new.counts ≡ (if is_done then take size old.counts ++ replicate more_counts 0 else old.counts)
     → new ≡ record old { counts = new.counts; ids = new.ids } → Prepares old new
 resized old new true size more_counts own own_new more are rest =
@@ -114,7 +116,7 @@ resized old new false size more_counts own own_new more are rest =
 
 module _ {C : Type 0} (waiting : C → ℕ → List ℕ) (is_match : ℕ → Bool) (old new : Filter C)
     (visited given : List (ℕ × ℕ)) (f : FilterFor waiting is_match old visited given) where
-  -- a parent that was not prepared has nothing under its id
+  -- what was given or waits under the number of a parent, prepared or not
   new-exact : HasOwnIds old → old.hands_on ≡ true → (parent : ℕ)
       → (parent < length old.counts) ⊎ (length old.counts ≤ parent)
       → docs_of (is_id parent) given ++ waiting old.cache.0 parent

@@ -9,10 +9,10 @@ use Rattle.std.proofs.Math.ListN.{set}
 use Rattle.std.proofs.lemmas.List.{get_or-set_other, get_or-set_same, length-append}
 use Rattle.std.proofs.lemmas.List.{length-set}
 use Rattle.agg_cache.specs.Waiting.{docs_of, is_id, under}
+use Rattle.agg_cache.proofs.UnderIds.{docs_of-append, docs_of-other, docs_of-same}
 use Rattle.agg_filter.specs.Filter.{Filter, FilterFor, FilterTakes, count_of, id_of}
 use Rattle.agg_filter.specs.Filter.{matching_under}
 use Rattle.agg_filter.proofs.PreparedParents.{HasOwnIds, contains_own, is_own_id}
-use Rattle.agg_filter.proofs.UnderIds.{docs_of-append, docs_of-other, docs_of-same}
 use Rattle.agg_filter.proofs.UnderIds.{matching-append, matching-under}
 
 -- the documents of a parent's visits were counted, and came to wait under its id where documents

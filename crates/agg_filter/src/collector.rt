@@ -98,7 +98,7 @@ impl<C: SubAggCache> SegmentFilterCollector<C> {
     }
 
     /// Visits documents under a parent: counts those that match, and keeps them under the parent's
-    /// id. What is there after an error isn't said.
+    /// id. What it counted and keeps after an error isn't said.
     pub fn collect(
         &mut self,
         parent_bucket_id: BucketId,

@@ -59,7 +59,8 @@ impl DocumentQueryEvaluator {
         docs: &[DocId],
         output: &mut ItemList<DocId>,
     ) -> Result<(), OutOfMemory>
-        ensures marked { OnOk result (output.new ≡ output.old ++ filter (mark_at self.now) docs.now) }
+        ensures marked { OnOk result
+            (output.new ≡ output.old ++ filter (mark_at self.now) docs.now) }
         ensures matching { (tree : QueryTree) (segment : Stored)
             → AreMarks (matches tree) segment self.now
             → OnOk result (output.new ≡ output.old ++ filter (is_matching tree segment) docs.now) }

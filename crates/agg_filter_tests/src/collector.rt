@@ -2,7 +2,7 @@ use crate::given::red_in_segment;
 use agg_cache::{Batch, BucketId, CollectError, LowCardSubAggCache};
 use agg_filter::{FilterAggReqData, SegmentFilterCollector};
 use agg_values::DocId;
-use std::alloc::Global;
+use std::process::Abort;
 use std::test::Fail;
 
 // A collector with a cache for few buckets.
@@ -20,40 +20,49 @@ fn collect_all(collector: &mut Collector, req: &FilterAggReqData) -> Result<(), 
     Ok(())
 }
 
-// The documents of the batches of a bucket.
-fn docs_of(alloc: Global, batches: &[Batch], id: Option<BucketId>) -> Result<Vec<DocId>, Fail> {
-    let mut docs = Vec::new(alloc);
+// The documents of the batch of a bucket.
+fn docs_of(batches: &[Batch], id: Option<BucketId>) -> &[DocId] {
     for batch in batches {
         if Some(batch.bucket_id) == id {
-            docs.extend_from_slice(batch.docs.as_slice())?;
+            return batch.docs.as_slice();
         }
     }
-    Ok(docs)
+    &[]
+}
+
+// The parents have these counts and ids, and the batches these documents, if any are handed on.
+fn expect_red(rt: &impl Abort, collector: &Collector, batches: &[Batch], hands_on: bool) {
+    for &(parent, red) in RED {
+        let id = collector.bucket_id(parent);
+        let handed_on = if hands_on { red } else { &[] };
+        assert!(rt; id.is_some());
+        assert_eq!(rt; collector.doc_count(parent), red.len() as u64);
+        assert_eq!(rt; docs_of(batches, id), handed_on);
+    }
+    assert_eq!(rt; (collector.doc_count(3), collector.bucket_id(3)), (0, None));
+}
+
+// A collector counts the red documents under their parents, and hands them on or doesn't.
+fn expect_collected(
+    rt: &(impl Abort + AllocGlobal),
+    mut collector: Collector,
+    hands_on: bool,
+) -> Result<(), Fail> {
+    collect_all(&mut collector, &red_in_segment(rt.alloc())?)?;
+    assert!(rt; !collector.due());
+    let batches = collector.take()?;
+    expect_red(rt, &collector, batches.as_slice(), hands_on);
+    Ok(())
 }
 
 #[test]
 fn counts_and_hands_on_what_matches(rt: HostRuntime) -> Result<(), Fail> {
-    let alloc = rt.alloc();
-    let req = red_in_segment(alloc)?;
-    for (mut collector, hands_on) in [
-        (Collector::new(alloc), true),
-        (Collector::new_leaf(alloc), false),
-    ] {
-        collect_all(&mut collector, &req)?;
-        assert!(rt; !collector.due());
-        let batches = collector.take()?;
-        for &(parent, red) in RED {
-            let id = collector.bucket_id(parent);
-            let handed_on = docs_of(alloc, batches.as_slice(), id)?;
-            assert_eq!(rt;
-                (collector.doc_count(parent), id.is_some()),
-                (red.len() as u64, true)
-            );
-            assert_eq!(rt; handed_on.as_slice(), if hands_on { red } else { &[] });
-        }
-        assert_eq!(rt; (collector.doc_count(3), collector.bucket_id(3)), (0, None));
-    }
-    Ok(())
+    expect_collected(&rt, Collector::new(rt.alloc()), true)
+}
+
+#[test]
+fn a_leaf_counts_what_matches(rt: HostRuntime) -> Result<(), Fail> {
+    expect_collected(&rt, Collector::new_leaf(rt.alloc()), false)
 }
 
 #[test]

@@ -1,8 +1,6 @@
-use crate::given::red_in_segment;
-use agg_filter::{DocumentQueryEvaluator, FilterAggReqData};
+use crate::given::{Values, filter_of, red_in_segment};
 use agg_segment::QueryTree;
-use agg_segment_tests::given::{Given, segment_of};
-use agg_values::{DocId, ItemList, Text};
+use agg_values::{DocId, ItemList};
 use std::test::Fail;
 
 // Numbers of documents, and those of the red ones among them.
@@ -34,21 +32,15 @@ fn tells_each_document(rt: HostRuntime) -> Result<(), Fail> {
 }
 
 // A document without a value.
-const EMPTY: &[(&str, Given)] = &[];
+const EMPTY: Values = &[];
 
 // Documents, and how many bytes a filter of them takes.
-const SIZES: &[(&[&[(&str, Given)]], u64)] = &[(&[], 256), (&[EMPTY; 8], 257), (&[EMPTY; 9], 258)];
+const SIZES: &[(&[Values], u64)] = &[(&[], 256), (&[EMPTY; 8], 257), (&[EMPTY; 9], 258)];
 
 #[test]
 fn takes_a_bit_for_each_document(rt: HostRuntime) -> Result<(), Fail> {
-    let alloc = rt.alloc();
     for &(documents, bytes) in SIZES {
-        let segment = segment_of(alloc, documents)?;
-        let req = FilterAggReqData {
-            name: Text::copy_of(alloc, "all")?,
-            evaluator: DocumentQueryEvaluator::new(alloc, &QueryTree::All, &segment)?,
-            is_top_level: false,
-        };
+        let req = filter_of(rt.alloc(), &QueryTree::All, documents)?;
         assert_eq!(rt; req.get_memory_consumption(), bytes);
     }
     Ok(())
