@@ -1,0 +1,4 @@
+mod ListParts
+mod PreparedParents
+mod TakenValues
+mod VisitsTaken
