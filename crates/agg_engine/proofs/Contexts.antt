@@ -67,7 +67,7 @@ matching-one query segment =
 
 module _ (page : PageRequest) (segment : Stored) (context : SegmentContext)
     (is : IsContextOf page segment context) where
-  -- they are those at the places of its context
+  -- they are those of the numbers in its context
   pub documents-one : documents_at segment context.docs.items
       ≡ matching_in page.query.now (segment ∷ [])
   documents-one = is.docs ∙ sym (matching-one page.query.now segment)
@@ -104,7 +104,7 @@ module _ (page : PageRequest) (segment : Stored) (context : SegmentContext)
 
 -- ---- segment by segment
 
--- at the context at a place
+-- at the context at an index
 module _ (page : PageRequest) (segments : List Stored) (contexts : List SegmentContext)
     (are : AreContextsOf page segments contexts) (i : ℕ) (context : SegmentContext)
     (within : i < length contexts) (item : context ≡ get_or contexts i context) where

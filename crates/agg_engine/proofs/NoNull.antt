@@ -41,7 +41,7 @@ cells-not_Null columns =
     AllByRecursion-map (λ p. p.key ≢ key.Null) _ c.cells
     (AllByRecursion-always _ (λ n. encoded_key-not_Null c.keys n.1) c.cells)) columns)
 
--- the document at a place
+-- the document of a number
 document-no_Null : (segment : Stored) (doc : ℕ) → HasNoNull (document_at segment doc)
 document-no_Null segment doc name = by_number (number_of segment.names name)
   where

@@ -10,8 +10,8 @@ use Rattle.agg_engine.specs.Walk.{matching_in}
 use Rattle.agg_engine.specs.declared.walk.context.SegmentContext.{SegmentContext}
 use Rattle.agg_engine.specs.declared.walk.page.PageRequest.{PageRequest}
 
--- the context of a segment for a page: the places of the documents that match, and the accessors of
--- the page's composite for its after key
+-- the context of a segment for a page: the numbers of the documents that match, and the accessors
+-- of the page's composite for its after key
 pub record IsContextOf (page : PageRequest) (segment : Stored) (context : SegmentContext)
     : Type 0 where
   pub docs : documents_at segment context.docs.items

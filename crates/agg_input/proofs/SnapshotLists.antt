@@ -100,15 +100,15 @@ line_follows (holds document) lines made =
     (append_assoc one.documents (document ∷ []) (leading_documents lines))
 line_follows opens lines made =
     let one = made.current in
-    let behind = leading_documents lines ∷ opened_segments lines in
+    let rest = leading_documents lines ∷ opened_segments lines in
     ap (λ segments. made.closed ++ snapshot one.page_size segments ∷ begun_snapshots lines)
-    (append_assoc one.segments (last_segment one.opened one.documents) behind
-    ∙ ap (λ documents. one.segments ++ (last_segment one.opened documents ++ behind))
+    (append_assoc one.segments (last_segment one.opened one.documents) rest
+    ∙ ap (λ documents. one.segments ++ (last_segment one.opened documents ++ rest))
     (sym (append-nil one.documents)))
 line_follows (begins size) lines made =
-    let behind = begun_snapshots (begins size ∷ lines) in
-    append_assoc made.closed (whole_snapshot made.current ∷ []) behind
-    ∙ ap (λ segments. made.closed ++ snapshot made.current.page_size segments ∷ behind)
+    let rest = begun_snapshots (begins size ∷ lines) in
+    append_assoc made.closed (whole_snapshot made.current ∷ []) rest
+    ∙ ap (λ segments. made.closed ++ snapshot made.current.page_size segments ∷ rest)
     (nothing_follows made.current)
 
 lines_follow : (lines : List Line) (made : Made)
@@ -143,9 +143,9 @@ all_before P [] ys h = All-nil P
 all_before P (x ∷ xs) ys h =
     All-cons P x xs (All-head P x (xs ++ ys) h) (all_before P xs ys (All-tail P x (xs ++ ys) h))
 
-all_behind : {A : Type 0} (P : A → Type 0) (xs ys : List A) → All P (xs ++ ys) → All P ys
-all_behind P [] ys h = h
-all_behind P (x ∷ xs) ys h = all_behind P xs ys (All-tail P x (xs ++ ys) h)
+all_after : {A : Type 0} (P : A → Type 0) (xs ys : List A) → All P (xs ++ ys) → All P ys
+all_after P [] ys h = h
+all_after P (x ∷ xs) ys h = all_after P xs ys (All-tail P x (xs ++ ys) h)
 
 all_segments_fit : (made : Made) → AreFit made → All FitSegment (all_segments made.current)
 all_segments_fit made fit =
@@ -162,12 +162,12 @@ fit_from_snapshots : (made : Made) → All SegmentsFit (snapshots_made made) →
 fit_from_snapshots made h =
     let one = made.current in
     let last = All-head SegmentsFit (whole_snapshot one) []
-    (all_behind SegmentsFit made.closed (whole_snapshot one ∷ []) h) in
+    (all_after SegmentsFit made.closed (whole_snapshot one ∷ []) h) in
     record {
       closed = all_before SegmentsFit made.closed (whole_snapshot one ∷ []) h;
       segments = all_before FitSegment one.segments (last_segment one.opened one.documents) last;
       documents = fit_from_last one.opened one.documents
-          (all_behind FitSegment one.segments (last_segment one.opened one.documents) last);
+          (all_after FitSegment one.segments (last_segment one.opened one.documents) last);
     }
 
 pub AreFit-first : (size : ℕ) → AreFit (first size)
@@ -202,7 +202,7 @@ fit_before opens made fit =
       segments = all_before FitSegment one.segments (last_segment one.opened one.documents)
           fit.segments;
       documents = fit_from_last one.opened one.documents
-          (all_behind FitSegment one.segments (last_segment one.opened one.documents)
+          (all_after FitSegment one.segments (last_segment one.opened one.documents)
           fit.segments);
     }
 fit_before (holds document) made fit = record {

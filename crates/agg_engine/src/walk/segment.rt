@@ -52,7 +52,7 @@ pub fn segment_results<L: Ledger>(
     intermediate_page(alloc, page, entries)
 }
 
-// The lowest groups of the documents at these places of a segment. The collector is let go before
+// The lowest groups of the documents of these numbers in a segment. The collector is let go before
 // they become results.
 fn docs_page<L: Ledger>(
     alloc: Global,
