@@ -24,10 +24,11 @@ const LAST: MissingOrder = MissingOrder::Last;
 
 const DEFAULT: MissingOrder = MissingOrder::Default;
 
-// Behind the lowest number of a column.
+// After the lowest number of a column.
 const LOWEST: PrecomputedAfterKey = PrecomputedAfterKey::Next(1);
 
-// The orders of a source that has a bucket for a missing value, an after value, and where it stands.
+// The orders of a source that has a bucket for a missing value, an after value, and where this one
+// stands.
 const STANDINGS: &[(Order, MissingOrder, Option<&str>, Standing)] = &[
     (Order::Asc, DEFAULT, None, (NONE, 0, false, false)),
     (Order::Desc, DEFAULT, None, (ALL, 0, false, false)),

@@ -68,7 +68,7 @@ fn after_keys_have_their_places(rt: HostRuntime) -> Result<(), Fail> {
 }
 
 #[test]
-fn no_number_is_above_the_place_behind_the_last(rt: HostRuntime) {
+fn no_number_is_above_the_place_after_the_last(rt: HostRuntime) {
     for number in [0, FROM_ZERO, u64::MAX] {
         assert!(rt; !PrecomputedAfterKey::AfterLast.lt(number), "{number}");
     }

@@ -6,7 +6,8 @@ use agg_segment::{ColumnType, SegmentReader};
 use std::alloc::Global;
 use std::test::Fail;
 
-/// Where an after value stands: its place, its accessor, whether Null comes before it and is it.
+/// Where an after value stands: its place among numbers, the index of its lane, whether Null comes
+/// before it, and whether it is Null.
 pub(crate) type Standing = (PrecomputedAfterKey, usize, bool, bool);
 
 /// After all numbers.

@@ -289,8 +289,8 @@ fn interval(alloc: Global, source: &CompositeAggregationSource) -> Result<String
 
 // In which order a source has its values, and whether and where it has a missing one.
 fn shown_orders(alloc: Global, source: &CompositeAggregationSource) -> Result<String, Fail> {
-    let (order, place) = (source.order(), source.missing_order());
-    Ok(format!(in alloc; "{order:?} {} {place:?}", source.missing_bucket())?)
+    let (order, missing_order) = (source.order(), source.missing_order());
+    Ok(format!(in alloc; "{order:?} {} {missing_order:?}", source.missing_bucket())?)
 }
 
 fn shown_source(alloc: Global, source: &CompositeAggregationSource) -> Result<String, Fail> {

@@ -17,7 +17,7 @@ const COMPARED: &[(i64, u64, Ordering)] = &[
     (i64::MAX, u64::MAX, Ordering::Less),
 ];
 
-// Signed numbers, and their places among unsigned ones.
+// Signed numbers, as projected to unsigned ones.
 const TO_UNSIGNED: &[(i64, ProjectedNumber<u64>)] = &[
     (-1, ProjectedNumber::Next(0)),
     (i64::MIN, ProjectedNumber::Next(0)),
@@ -26,7 +26,7 @@ const TO_UNSIGNED: &[(i64, ProjectedNumber<u64>)] = &[
     (i64::MAX, ProjectedNumber::Exact(9_223_372_036_854_775_807)),
 ];
 
-// Unsigned numbers, and their places among signed ones.
+// Unsigned numbers, as projected to signed ones.
 const TO_SIGNED: &[(u64, ProjectedNumber<i64>)] = &[
     (0, ProjectedNumber::Exact(0)),
     (42, ProjectedNumber::Exact(42)),
@@ -40,10 +40,10 @@ fn compares_and_projects_by_value(rt: HostRuntime) {
     for &(left, right, order) in COMPARED {
         assert_eq!(rt; cmp_i64_u64(left, right), order, "{left} and {right}");
     }
-    for &(number, place) in TO_UNSIGNED {
-        assert_eq!(rt; i64_to_u64(number), place, "{number}");
+    for &(number, projected) in TO_UNSIGNED {
+        assert_eq!(rt; i64_to_u64(number), projected, "{number}");
     }
-    for &(number, place) in TO_SIGNED {
-        assert_eq!(rt; u64_to_i64(number), place, "{number}");
+    for &(number, projected) in TO_SIGNED {
+        assert_eq!(rt; u64_to_i64(number), projected, "{number}");
     }
 }

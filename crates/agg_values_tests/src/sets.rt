@@ -10,12 +10,12 @@ use std::test::Fail;
 // Whether a set that holds one value finds each of two others.
 fn finds<T: Eq + Hash + Drop>(
     alloc: Global,
-    held: T,
+    item: T,
     equal: &T,
     other: &T,
 ) -> Result<(bool, bool), Fail> {
     let mut set = HashSet::new(alloc);
-    set.insert(held)?;
+    set.insert(item)?;
     Ok((set.contains(equal), set.contains(other)))
 }
 
