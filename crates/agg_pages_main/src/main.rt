@@ -36,7 +36,7 @@ fn read_words(alloc: Global, rt: &(impl Env + AllocGlobal)) -> Result<Vec<Text>,
     Ok(words_of(alloc, arguments)?)
 }
 
-// The texts of the arguments behind the first, which is the program's name.
+// The texts of the arguments after the first, which is the program's name.
 fn words_of(alloc: Global, mut arguments: Args) -> Result<Vec<Text>, OutOfMemory>
     ensures { IfOk result
         (λ words. words.items ≡ map string_bytes (drop 1 (into_iter_items arguments))) }
