@@ -1,7 +1,7 @@
 -- Values that a metric takes in, one after another.
 use Rattle.std.proofs.Common.{◌≡◌, ◌∙◌, refl, sym, ap, subst, ℕ, ◌+◌, ◌≤◌, ◌^◌, List, [], ◌∷◌}
-use Rattle.std.proofs.Common.{◌++◌, Option, None, Some, ℤ, pos, ◌+ℤ◌, FitsSigned, length, length-append}
-use Rattle.std.proofs.Common.{append-nil, append_assoc}
+use Rattle.std.proofs.Common.{◌++◌, Option, None, Some, ℤ, pos, ◌+ℤ◌, FitsSigned, length}
+use Rattle.std.proofs.Common.{append-nil, append_assoc, length-append}
 use Rattle.std.specs.Prelude.{filter_map, unwrap_or}
 use Rattle.std.specs.Int.{int_max, int_min}
 use Rattle.std.specs.List.{cons_option}
@@ -27,7 +27,8 @@ use Rattle.agg_metric.specs.declared.request_data.StatsType.TheVariants.{Count, 
 pub takes-none : (metric : IntermediateMetricResult) → TakesIn [] metric metric
 takes-none metric kind before is = is ∙ ap (metric_of kind) (sym (append-nil before))
 
-pub takes-both : (xs ys all : List CompositeIntermediateKey) (old between new : IntermediateMetricResult)
+pub takes-both : (xs ys all : List CompositeIntermediateKey)
+    (old between new : IntermediateMetricResult)
     → xs ++ ys ≡ all → TakesIn xs old between → TakesIn ys between new → TakesIn all old new
 takes-both xs ys all old between new are first second kind before is =
     second kind (before ++ xs) (first kind before is)
@@ -140,7 +141,8 @@ module _ (old : IntermediateMetricResult) (key : CompositeIntermediateKey) (numb
       → TakesIn (key ∷ []) old (m.Max (record { value = value }))
   takes-max r of value more =
       subst (λ metric. TakesIn (key ∷ []) metric (m.Max (record { value = value }))) (sym of)
-      (by_kind (λ kind before. m.Max (record { value = value }) ≡ metric_of kind (before ++ key ∷ []))
+      (by_kind
+      (λ kind before. m.Max (record { value = value }) ≡ metric_of kind (before ++ key ∷ []))
       (m.Max r)
       (λ before is. ap (λ v. m.Max (record { value = v })) (more
       ∙ ap (best int_max r.value) (sym told)
@@ -151,7 +153,8 @@ module _ (old : IntermediateMetricResult) (key : CompositeIntermediateKey) (numb
       → TakesIn (key ∷ []) old (m.Min (record { value = value }))
   takes-min r of value more =
       subst (λ metric. TakesIn (key ∷ []) metric (m.Min (record { value = value }))) (sym of)
-      (by_kind (λ kind before. m.Min (record { value = value }) ≡ metric_of kind (before ++ key ∷ []))
+      (by_kind
+      (λ kind before. m.Min (record { value = value }) ≡ metric_of kind (before ++ key ∷ []))
       (m.Min r)
       (λ before is. ap (λ v. m.Min (record { value = v })) (more
       ∙ ap (best int_min r.value) (sym told)

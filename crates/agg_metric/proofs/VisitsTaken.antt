@@ -33,7 +33,8 @@ module _ (segment : Stored) (req : MetricAggReqData) (old : Metric) (visited : L
   values-read (d ∷ ds) = (λ i. sym (f.read d) i ++ values-read ds i)
 
   -- the values of a parent with those of documents that are visited under it
-  values-same : values_under segment req.field parent visited ++ flat_map (all_keys old.columns) docs
+  values-same : values_under segment req.field parent visited
+      ++ flat_map (all_keys old.columns) docs
       ≡ values_under segment req.field parent (visited ++ under parent docs)
   values-same =
       let had = docs_of (is_id parent) visited in
