@@ -22,8 +22,8 @@ pub fn bytes_are_at_most_one_input<B>()
         → one ≡ other }
 {}
 
-/// An after key as it is printed is read as that after key. In the body of a composite with the same
-/// sources, it is an after key whose bound is the tuple that was printed.
+/// An after key as it is printed is read as that after key. In the body of a composite with the
+/// same sources, it is an after key whose bound is the tuple that was printed.
 pub fn a_printed_after_key_gives_its_bound()
     ensures reads { (sources : Sources) (tuple : KeyTuple)
         → All IsWithinType tuple
