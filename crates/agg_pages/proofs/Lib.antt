@@ -1,5 +1,5 @@
 pub mod PageLines
 pub mod PlainWalks
-pub mod Reading
 pub mod Replies
+pub mod Statuses
 pub mod Words

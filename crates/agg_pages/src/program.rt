@@ -38,7 +38,7 @@ pub fn run<R: Source, W: Sink, L: Ledger>(
 ) -> Status
     ensures { IsAnswered builders.items (λ b. b.name)
         (λ b. tree_for (b.builder.vtable, b.builder.value)) (command words.now result)
-        (over R.left R.faults source.old source.new) (over W.held W.faults sink.old sink.new) }
+        (over R.left R.faults source.old source.new) (over W.contents W.faults sink.old sink.new) }
 {
     if !is_walk(words) {
         return Status::Usage;
@@ -59,7 +59,7 @@ pub fn run_uncounted<R: Source, W: Sink>(
 ) -> Status
     ensures { IsAnswered builders.items (λ b. b.name)
         (λ b. tree_for (b.builder.vtable, b.builder.value)) (command words.now result)
-        (over R.left R.faults source.old source.new) (over W.held W.faults sink.old sink.new) }
+        (over R.left R.faults source.old source.new) (over W.contents W.faults sink.old sink.new) }
 {
     run_over::<R, W, Brand>(alloc, words, builders, source, sink, Blank::new(1))
 }
@@ -78,7 +78,7 @@ fn run_over<R: Source, W: Sink, L: Ledger>(
     requires shared { 0 < L.parts }
     ensures { IsAnswered builders.items (λ b. b.name)
         (λ b. tree_for (b.builder.vtable, b.builder.value)) (command words.now result)
-        (over R.left R.faults source.old source.new) (over W.held W.faults sink.old sink.new) }
+        (over R.left R.faults source.old source.new) (over W.contents W.faults sink.old sink.new) }
 {
     let mut steps: Steps<L> = Steps::new(blank);
     run(alloc, words, builders, source, sink, &mut steps)
@@ -164,13 +164,14 @@ fn reply_to<L: Ledger>(
 fn deliver<W: Sink>(sink: &mut W, reply: &Reply) -> Status
     ensures ok { result ≡ Status.Ok
         → (reply.now.refused ≡ false)
-        × Appends (W.held sink.old) (W.held sink.new) (string_bytes reply.now.text) }
+        × Appends (W.contents sink.old) (W.contents sink.new) (string_bytes reply.now.text) }
     ensures refused { result ≡ Status.Refused
         → (reply.now.refused ≡ true)
-        × Appends (W.held sink.old) (W.held sink.new) (string_bytes reply.now.text) }
+        × Appends (W.contents sink.old) (W.contents sink.new) (string_bytes reply.now.text) }
     ensures prefix { result ≡ Status.WriteFault
         → (count : ℕ)
-        × Appends (W.held sink.old) (W.held sink.new) (take count (string_bytes reply.now.text)) }
+        × Appends (W.contents sink.old) (W.contents sink.new)
+        (take count (string_bytes reply.now.text)) }
     ensures fault { result ≡ Status.WriteFault → Rose (W.faults sink.old) (W.faults sink.new) }
     ensures kinds { (result ≡ Status.Ok)
         ⊎ ((result ≡ Status.Refused) ⊎ (result ≡ Status.WriteFault)) }

@@ -16,7 +16,7 @@ pub use writing::write_all;
 /// Where bytes go.
 pub trait Sink {
     /// The bytes that it holds, where it tells them.
-    ghost held: { Self → Option (List ℕ) };
+    ghost contents: { Self → Option (List ℕ) };
 
     /// How many of its calls failed, as far as it counts.
     ghost faults: { Self → ℕ };
@@ -25,6 +25,6 @@ pub trait Sink {
     fn write(&mut self, bytes: &[u8]) -> Result<usize, Failed>
         ensures bound { WritesAtMost result bytes.now }
         ensures some { IfOk result (λ count. 0 < length bytes.now → 0 < count) }
-        ensures bytes { WriteAppends (held self.old) (held self.new) result bytes.now }
+        ensures bytes { WriteAppends (contents self.old) (contents self.new) result bytes.now }
         ensures cause { HasCause (faults self.old) (faults self.new) result };
 }

@@ -156,7 +156,7 @@ const ANSWERS: &[(&str, u32, &str, Status, &str)] = &[
 struct Sip(MemorySink);
 
 impl Sink for Sip {
-    ghost held = { λ sink. Some sink.0.bytes };
+    ghost contents = { λ sink. Some sink.0.bytes };
 
     ghost faults = { λ sink. sink.0.calls.faults };
 
@@ -296,7 +296,7 @@ fn refuses_one_byte_past_the_limit(rt: HostRuntime) -> Result<(), Fail> {
 
 // A call of a sink that takes a few bytes at a time, the status of a run where it fails, and what
 // was taken before.
-const HELD: &[(u64, Status, &str)] = &[
+const TAKEN: &[(u64, Status, &str)] = &[
     (1, Status::WriteFault, ""),
     (
         3,
@@ -307,12 +307,12 @@ const HELD: &[(u64, Status, &str)] = &[
 ];
 
 // A run over a text holds what was taken before one write failed.
-fn expect_held(
+fn expect_taken(
     rt: &(impl Abort + AllocGlobal),
     text: &str,
     call: u64,
     status: Status,
-    held: &str,
+    taken: &str,
 ) -> Result<(), Fail> {
     let alloc = rt.alloc();
     let mut source = Drip(steady(alloc, text)?);
@@ -320,7 +320,7 @@ fn expect_held(
     let answer = run_words(alloc, &["walk"], &mut source, &mut sink)?;
     assert_eq!(rt;
         (answer, sink.0.bytes()),
-        (status, held.as_bytes()),
+        (status, taken.as_bytes()),
         "at write {call}"
     );
     Ok(())
@@ -329,8 +329,8 @@ fn expect_held(
 #[test]
 fn holds_what_was_taken_before_a_write_failed(rt: HostRuntime) -> Result<(), Fail> {
     let text = input(rt.alloc(), "g", 10, TWICE)?;
-    for &(call, status, held) in HELD {
-        expect_held(&rt, &text, call, status, held)?;
+    for &(call, status, taken) in TAKEN {
+        expect_taken(&rt, &text, call, status, taken)?;
     }
     Ok(())
 }

@@ -35,7 +35,7 @@ impl CallCounter {
         }
     }
 
-    /// Whether the next call is a listed one. Behind call `u64::MAX` none is.
+    /// Whether the next call is a listed one. After call `u64::MAX` none is.
     pub fn is_next_listed(&self) -> bool
         ensures { result ≡ is_next_listed self.now }
     {

@@ -56,7 +56,7 @@ impl MemorySink {
 }
 
 impl Sink for MemorySink {
-    ghost held = { λ sink. Some sink.bytes };
+    ghost contents = { λ sink. Some sink.bytes };
 
     ghost faults = { λ sink. sink.calls.faults };
 

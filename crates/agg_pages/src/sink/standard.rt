@@ -60,7 +60,7 @@ impl<W> StdSink<W> {
 }
 
 impl<W: Write> Sink for StdSink<W> {
-    ghost held = { λ _. None };
+    ghost contents = { λ _. None };
 
     ghost faults = { λ sink. sink.faults };
 

@@ -7,9 +7,9 @@ use crate::fault::Failed;
 
 /// Writes all bytes, piece by piece.
 pub fn write_all<W: Sink>(sink: &mut W, bytes: &[u8]) -> Result<(), Failed>
-    ensures ok { OnOk result (Appends (W.held sink.old) (W.held sink.new) bytes.now) }
+    ensures ok { OnOk result (Appends (W.contents sink.old) (W.contents sink.new) bytes.now) }
     ensures err { OnErr result
-        ((count : ℕ) × Appends (W.held sink.old) (W.held sink.new) (take count bytes.now)) }
+        ((count : ℕ) × Appends (W.contents sink.old) (W.contents sink.new) (take count bytes.now)) }
     ensures fault { OnErr result (Rose (W.faults sink.old) (W.faults sink.new)) }
     ensures later { W.faults sink.old ≤ W.faults sink.new }
 {

@@ -5,7 +5,7 @@ use Rattle.agg_pages.specs.declared.source.reading.ReadAllError.TheVariants.{Too
 use Rattle.agg_pages.specs.declared.status.Status.TheVariants.{Input}
 use Rattle.agg_input.specs.Input.{AreNoInput, IsInput, input_of}
 use Rattle.agg_input.proofs.Inputs.{too_long}
-use Rattle.agg_pages.proofs.Reading.{not_input-from_status, too_long-from_status}
+use Rattle.agg_pages.proofs.Statuses.{not_input-from_status, too_long-from_status}
 use Rattle.agg_pages.proofs.program.answer.Goals as goal
 
 pub returns-in_err-bytes-clause-no_input : goal.returns-in_err-bytes-clause-no_input

@@ -1,6 +1,6 @@
 use Rattle.std.proofs.Common.{rules, refl, subst, take, inl, inr, string_bytes, Err, ap}
 use Rattle.agg_pages.specs.Answer.{IsReply}
-use Rattle.agg_pages.proofs.Reading.{no_ok, no_refused, no_usage, no_write_fault}
+use Rattle.agg_pages.proofs.Statuses.{no_ok, no_refused, no_usage, no_write_fault}
 use Rattle.agg_pages.proofs.Replies.{given_input, valid-not_refused}
 use Rattle.agg_pages.proofs.program.run.Goals as goal
 

@@ -5,8 +5,8 @@ use Rattle.agg_pages.proofs.sink.writing.write_all.Given as goal
 
 abbrev pub invariant-loop-rest : goal.invariant-loop-rest
 invariant-loop-rest g l =
-    ((done : List ℕ) × (l.initial.rest ≡ done ++ l.rest) × Appends (g.W.Sink.held l.initial.sink)
-    (g.W.Sink.held l.sink) done)
+    ((done : List ℕ) × (l.initial.rest ≡ done ++ l.rest)
+    × Appends (g.W.Sink.contents l.initial.sink) (g.W.Sink.contents l.sink) done)
     × (g.W.Sink.faults l.initial.sink ≤ g.W.Sink.faults l.sink)
 
 abbrev pub decreases-loop-rest : goal.decreases-loop-rest

@@ -1,4 +1,4 @@
--- Bytes that were not read as an input.
+-- What statuses of a run come from, and which have no answer.
 use Rattle.std.proofs.Common.{◌≡◌, inl, inr, refl}
 use Rattle.agg_document_json.specs.declared.input_error.InputError.{InputError}
 use Rattle.agg_document_json.specs.declared.input_error.InputError.TheVariants as refused
