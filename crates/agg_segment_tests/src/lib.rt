@@ -1,4 +1,5 @@
-//! Tests of segments, and the values and documents of tables, which the tests of crates above use too.
+//! Tests of segments, and the values and documents of tables, which the tests of crates above use
+//! too.
 #![tactic(auto)]
 
 pub mod given;
