@@ -1,20 +1,16 @@
 -- Why there are no results of a composite over documents.
-use Rattle.std.proofs.Common.{◌≡◌, ◌^◌, ◌≤◌, ◌<◌, ◌⊎◌, List, Result, Err, IfErr, length}
-use Rattle.std.proofs.Common.{IsErrAnd, refl, sym, subst, arith, inl, inr}
+use Rattle.std.proofs.Common.{◌≡◌, ◌^◌, ◌≤◌, ◌<◌, List, Result, IfErr, length}
+use Rattle.std.proofs.Common.{IsErrAnd, refl, sym, subst, arith}
 use Rattle.std.specs.List.{All}
 use Rattle.std.proofs.lemmas.Result.{err_from_is_err_and}
 use Rattle.agg_values.specs.Tuple.{KeyTuple}
-use Rattle.agg_cache.specs.declared.error.CollectError.{CollectError}
-use Rattle.agg_cache.specs.declared.error.CollectError.TheVariants as collect
 use Rattle.agg_column.specs.Document.{Fields}
 use Rattle.agg_request_tree.specs.Occurrences.{past_occurrences}
 use Rattle.agg_request_tree.specs.Ranges.{AreInRange}
-use Rattle.agg_request_tree.specs.Source.{rules_of}
 use Rattle.agg_request_tree.specs.Uncut.{counted}
 use Rattle.agg_request_tree.specs.declared.aggregation.CompositeAggregation.{CompositeAggregation}
 use Rattle.agg_request_tree.proofs.OccurrencesLength.{past-fewer}
 use Rattle.agg_request_tree.proofs.UncutLength.{length-counted}
-use Rattle.agg_composite.specs.Visits.{AnswersRange}
 use Rattle.agg_engine.specs.PageAnswers.{IsCountRefusal, IsPageRefusal, IsStartRefusal}
 use Rattle.agg_engine.specs.declared.walk.error.WalkError.{WalkError}
 use Rattle.agg_engine.specs.declared.walk.error.WalkError.TheVariants as error
@@ -25,16 +21,6 @@ pub caused-by : {T : Type 0} (P : WalkError → Type 0) (result : Result T WalkE
 caused-by P result given kept cause =
     let found = err_from_is_err_and result kept in
     subst (λ r. IfErr r P) (sym found.1) (subst P (sym found.2) cause)
-
--- a collector of documents in range refuses for too many occurrences or for memory
-pub collected-refusal : (in_range : Type 0) (given : CollectError) → in_range
-    → AnswersRange in_range (Err given)
-    → (given ≡ collect.TooMany) ⊎ (given ≡ collect.OutOfMemory)
-collected-refusal in_range collect.BucketOutOfRange all out = absurd (out all)
-collected-refusal in_range collect.TooMany all answer = inl refl
-collected-refusal in_range (collect.Aggregation part) all none = absurd none
-collected-refusal in_range collect.CollectorFailed all none = absurd none
-collected-refusal in_range collect.OutOfMemory all answer = inr refl
 
 module _ (composite : CompositeAggregation) where
   -- no more occurrences lie past a bound than documents are counted

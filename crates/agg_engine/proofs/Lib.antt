@@ -2,6 +2,7 @@ pub mod Accessors
 pub mod AddedEntries
 pub mod AfterKeys
 pub mod AscendingKeys
+pub mod Blocks
 pub mod Builders
 pub mod ChangedRequests
 pub mod CollectedHalves

@@ -1,3 +1,4 @@
+pub mod Blocks
 pub mod Contexts
 pub mod Form
 pub mod NamedComposite

@@ -1,5 +1,6 @@
 //! The walk: a page for each reached snapshot.
 mod accessors;
+mod blocks;
 mod bound;
 mod checks;
 mod context;

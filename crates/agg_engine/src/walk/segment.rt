@@ -15,19 +15,17 @@ ghost use Rattle.agg_engine.specs.Walk.{matching_in};
 ghost use Rattle.agg_engine.specs.declared.walk.error.WalkError.TheVariants.{OutOfMemory, TooMany};
 
 use super::WalkError;
+use super::blocks::{LeafCollector, collect_blocks};
 use super::context::SegmentContext;
 use super::intermediate::intermediate_page;
 use super::page::PageRequest;
 use agg_accessor::CompositeAggReqData;
-use agg_cache::{CollectError, LowCardSubAggCache};
-use agg_composite::{PageEntry, SegmentCompositeCollector};
+use agg_cache::CollectError;
+use agg_composite::PageEntry;
 use agg_results::IntermediateAggregationResults;
 use agg_values::{DocId, ItemList, Steps};
 use std::alloc::Global;
 use std::sync::ledger::Ledger;
-
-// A collector with nothing below it, so that nothing waits in its cache.
-type LeafCollector = SegmentCompositeCollector<LowCardSubAggCache>;
 
 /// The results of a segment that may be collected for a page.
 pub fn segment_results<L: Ledger>(
@@ -82,8 +80,8 @@ fn docs_page<L: Ledger>(
     ensures later { steps.old ≤ steps.new }
 {
     let num_sources = req.req.sources.as_slice().len();
-    let mut collector: LeafCollector = SegmentCompositeCollector::new_leaf(alloc, num_sources)?;
-    if let Err(error) = collector.collect(0, docs, req, steps) {
+    let mut collector = LeafCollector::new_leaf(alloc, num_sources)?;
+    if let Err(error) = collect_blocks(&mut collector, docs, req, steps) {
         return Err(count_refusal(error));
     }
     Ok(collector.page(0, req)?)

@@ -1,38 +1,26 @@
-use Rattle.std.proofs.Common.{◌≡◌, ◌⊎◌, [], Err, ap, subst, sym, arith, inl, inr, length}
+use Rattle.std.proofs.Common.{[], Err, ap, subst, sym, arith, inl, inr}
 use Rattle.agg_segment.specs.Segment.{documents_at}
 use Rattle.agg_request_tree.specs.Groups.{Groups}
-use Rattle.agg_request_tree.specs.Occurrences.{bound_of, past_occurrences}
+use Rattle.agg_request_tree.specs.Occurrences.{bound_of}
 use Rattle.agg_request_tree.specs.Source.{rules_of}
 use Rattle.agg_results.specs.StandsFor.{GroupsStandFor}
 use Rattle.agg_results.proofs.StandingGroups.{stands-lowest}
-use Rattle.agg_cache.specs.declared.error.CollectError.TheVariants as collect
-use Rattle.agg_accessor.specs.Ranges.{AreAllInRange}
 use Rattle.agg_composite.specs.Visits.{visits_past}
 use Rattle.agg_composite.proofs.VisitsPast.{length-past, tuples_under-past}
 use Rattle.agg_engine.specs.PageAnswers.{IsCountRefusal}
-use Rattle.agg_engine.proofs.CountRefusals.{collected-refusal, too_many-past}
-use Rattle.agg_engine.proofs.walk.segment.docs_page.Given as given
+use Rattle.agg_engine.proofs.CountRefusals.{too_many-past}
 use Rattle.agg_engine.proofs.walk.segment.docs_page.Goals as goal
-use Rattle.agg_engine.proofs.walk.segment.docs_page.Goals.{In-Err}
-
--- the collector refuses for too many occurrences or for memory
-refused : (g : given.Over) (c : In-Err g)
-    → (c.in-Err.error ≡ collect.TooMany) ⊎ (c.in-Err.error ≡ collect.OutOfMemory)
-refused g c =
-    let own = c.requires.fits in
-    collected-refusal (AreAllInRange own.0 c.args.req.now.req.now.sources c.args.docs.now)
-    c.in-Err.error own.3 (c.in-Err.ensures.range own.0 own.1 own.2)
 
 pub count_refusal-requires : goal.count_refusal-requires
-count_refusal-requires g c = refused g (goal.at.count_refusal-requires g c).In-Err
+count_refusal-requires g c = c.in-Err.ensures.errors
 
 pub returns-in-Err-clause-cause : goal.returns-in-Err-clause-cause
 returns-in-Err-clause-cause g c = λ segment after fits.
     let composite = c.args.req.now.req.now in
     let documents = documents_at segment c.args.docs.now in
-    elim (refused g (goal.at.returns-in-Err-clause-cause g c).In-Err) [
+    elim c.in-Err.ensures.errors [
       | inl many ↦
-          let visits = c.in-Err.ensures.many segment after fits [] []
+          let visits = (c.in-Err.ensures.collects segment after fits).many []
           (c.in_ok-collector.ensures.empty c.args.req.now) (ap Err many) in
           let count = length-past composite.sources segment after 0 c.args.docs.now in
           subst (IsCountRefusal composite documents) (sym (c.count_refusal.ensures.many many))
@@ -45,32 +33,32 @@ returns-in-Err-clause-cause g c = λ segment after fits.
 
 pub returns-in-Err-clause-most : goal.returns-in-Err-clause-most
 returns-in-Err-clause-most g c = λ segment after fits.
-    let most = (c.in-Err.ensures.visits segment after fits).most in
+    let most = (c.in-Err.ensures.collects segment after fits).most in
     let count = length-past c.args.req.now.req.now.sources segment after 0 c.args.docs.now in
     omega arith
 
 pub returns-in-Err-clause-later : goal.returns-in-Err-clause-later
 returns-in-Err-clause-later g c =
-    let fits = c.requires.fits in (c.in-Err.ensures.visits fits.0 fits.1 fits.2).later
+    c.in-Err.ensures.later
 
 pub page-requires-clause-visited : goal.page-requires-clause-visited
 page-requires-clause-visited g c =
     let fits = c.requires.fits in
-    let visits = c.in_default.ensures.visits fits.0 fits.1 fits.2 in (
+    let visits = c.in_default.ensures.collects fits.0 fits.1 fits.2 in (
       visits_past c.args.req.now.req.now.sources fits.0 fits.1 0 c.args.docs.now,
       [],
-      visits.ok.takes [] [] (c.in_ok-collector.ensures.empty c.args.req.now),
+      visits.takes [] (c.in_ok-collector.ensures.empty c.args.req.now),
     )
 
 pub returns-in_err-page-clause-most : goal.returns-in_err-page-clause-most
 returns-in_err-page-clause-most g c = λ segment after fits.
-    let most = (c.in_default.ensures.visits segment after fits).most in
+    let most = (c.in_default.ensures.collects segment after fits).most in
     let count = length-past c.args.req.now.req.now.sources segment after 0 c.args.docs.now in
     omega arith
 
 pub returns-in_err-page-clause-later : goal.returns-in_err-page-clause-later
 returns-in_err-page-clause-later g c =
-    let fits = c.requires.fits in (c.in_default.ensures.visits fits.0 fits.1 fits.2).later
+    c.in_default.ensures.later
 
 pub returns-clause-page : goal.returns-clause-page
 returns-clause-page g c = λ segment after fits.
@@ -79,9 +67,9 @@ returns-clause-page g c = λ segment after fits.
     let docs = c.args.docs.now in
     let documents = documents_at segment docs in
     let bound = bound_of sources after in
-    let visits = c.in_default.ensures.visits segment after fits in
+    let visits = c.in_default.ensures.collects segment after fits in
     let page = c.in_ok-page.ensures.groups (visits_past sources segment after 0 docs) []
-    (visits.ok.takes [] [] (c.in_ok-collector.ensures.empty c.args.req.now)) in
+    (visits.takes [] (c.in_ok-collector.ensures.empty c.args.req.now)) in
     subst (GroupsStandFor sources size bound documents) (sym page.2)
     (stands-lowest sources size bound documents page.0
     (subst (λ tuples. Groups (rules_of sources) tuples page.0)
@@ -89,16 +77,16 @@ returns-clause-page g c = λ segment after fits.
 
 pub returns-clause-least : goal.returns-clause-least
 returns-clause-least g c = λ segment after fits.
-    let least = (c.in_default.ensures.visits segment after fits).least in
+    let least = (c.in_default.ensures.collects segment after fits).least in
     let count = length-past c.args.req.now.req.now.sources segment after 0 c.args.docs.now in
     omega arith
 
 pub returns-clause-most : goal.returns-clause-most
 returns-clause-most g c = λ segment after fits.
-    let most = (c.in_default.ensures.visits segment after fits).most in
+    let most = (c.in_default.ensures.collects segment after fits).most in
     let count = length-past c.args.req.now.req.now.sources segment after 0 c.args.docs.now in
     omega arith
 
 pub returns-clause-later : goal.returns-clause-later
 returns-clause-later g c =
-    let fits = c.requires.fits in (c.in_default.ensures.visits fits.0 fits.1 fits.2).later
+    c.in_default.ensures.later
