@@ -1,10 +1,10 @@
 -- Parents and the ids of their buckets.
 use Rattle.std.proofs.Common.{◌≡◌, ◌∙◌, refl, sym, ap, subst, ℕ, ◌<◌, ◌≤◌, List, []}
 use Rattle.std.proofs.Common.{◌∷◌, ◌++◌, ◌⊎◌, inl, inr, Bool, true, false, Some, None, zero, suc}
-use Rattle.std.proofs.Common.{length, get_or, arith, zero-add}
+use Rattle.std.proofs.Common.{◌-◌, length, get_or, arith, zero-add}
 use Rattle.std.specs.Prelude.{Contains, filter, if◌then◌else◌, replicate, slice_get, take}
 use Rattle.std.specs.List.{range_with_len}
-use Rattle.std.proofs.lemmas.List.{append-nil, length-append, take_all}
+use Rattle.std.proofs.lemmas.List.{append-nil, length-append, length-replicate, take_all}
 use Rattle.std.proofs.lemmas.Bool.{cases_order}
 use Rattle.std.proofs.lemmas.List.FromFn.{get_or-range_with_len, length-range_with_len}
 use Rattle.std.proofs.lemmas.Option.{get_or_from_slice_get, slice_get-get_or, slice_get_past}
@@ -114,6 +114,20 @@ resized old new true size more_counts own own_new more are rest =
 resized old new false size more_counts own own_new more are rest =
     prepares old new 0 own own_new (are ∙ sym (append-nil old.counts)) rest
 
+-- there are no more of them than this
+pub resized-few : (old new : List ℕ) (is_done : Bool) (size more_counts : ℕ)
+    → length old ≤ size → more_counts ≡ size - length old
+    → new ≡ (if is_done then take size old ++ replicate more_counts 0 else old)
+    → length new ≤ size
+resized-few old new true size more_counts few more are =
+    let front = ap length (take_all size old few) in
+    let long = ap length are
+    ∙ length-append (take size old) (replicate more_counts 0) in
+    let zeros = length-replicate {A = ℕ} more_counts 0 in
+    omega (arith, few, more, front, long, zeros)
+resized-few old new false size more_counts few more are =
+    omega (arith, few, ap length are)
+
 module _ {C : Type 0} (waiting : C → ℕ → List ℕ) (is_match : ℕ → Bool) (old new : Filter C)
     (visited given : List (ℕ × ℕ)) (f : FilterFor waiting is_match old visited given) where
   -- what was given or waits under the number of a parent, prepared or not
@@ -130,8 +144,8 @@ module _ {C : Type 0} (waiting : C → ℕ → List ℕ) (is_match : ℕ → Boo
 
   -- a collector that was right is right with more parents
   pub prepared-right : HasOwnIds old → HasOwnIds new → Prepares old new
-      → FilterFor waiting is_match new visited given
-  prepared-right own own_new more =
+      → length new.counts ≤ 4294967295 → FilterFor waiting is_match new visited given
+  prepared-right own own_new more few =
       let cache = ap (λ c. c.cache) more.rest in
       let hands_on = ap (λ c. c.hands_on) more.rest in
       record {
@@ -147,5 +161,7 @@ module _ {C : Type 0} (waiting : C → ℕ → List ℕ) (is_match : ℕ → Boo
             (omega (arith, is_contained old own id among, more.more))));
         distinct = λ parent other id is same.
             sym (is_own_id new own_new parent id is).0 ∙ (is_own_id new own_new other id same).0;
+        low = λ parent id is.
+            let has = is_own_id new own_new parent id is in omega (arith, has.0, has.1, few);
         unprepared = λ parent past. f.unprepared parent (omega (arith, past, more.more));
       }

@@ -117,6 +117,7 @@ module _ {C : Type 0} (waiting : C → ℕ → List ℕ) (is_match : ℕ → Boo
     distinct = λ p q id is same.
         f.distinct p q id (sym (ap (λ ids. slice_get ids p) same-ids) ∙ is)
         (sym (ap (λ ids. slice_get ids q) same-ids) ∙ same);
+    low = λ p id is. f.low p id (sym (ap (λ ids. slice_get ids p) same-ids) ∙ is);
     unprepared = λ p past.
         let differ : parent ≢ p = omega (arith, long, past, v.within) in
         docs_of-append p visited (under parent docs)

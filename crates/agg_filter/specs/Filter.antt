@@ -1,6 +1,6 @@
 -- What a collector holds for the visits of its documents, and what it hands on. A visit is a
 -- parent and a document.
-use Rattle.std.specs.Prelude.{◌≡◌, ◌+◌, ◌++◌, ◌≤◌, ℕ, Bool, true, false, List, [], Option}
+use Rattle.std.specs.Prelude.{◌≡◌, ◌+◌, ◌++◌, ◌<◌, ◌≤◌, ℕ, Bool, true, false, List, [], Option}
 use Rattle.std.specs.Prelude.{Contains, Some, filter, get_or, length, slice_get}
 use Rattle.agg_cache.specs.Waiting.{docs_of, is_id, pairs_of}
 use Rattle.agg_cache.specs.declared.cache.Batch.{Batch}
@@ -28,7 +28,7 @@ matching_under is_match parent visits = filter is_match (docs_of (is_id parent) 
 -- a collector is right for the visits that it made and for what it gave: each count is the number
 -- of the documents that match under its parent; where documents are handed on, those that were
 -- given or wait under its id are these, in order, and there are none under other ids; parents have
--- distinct ids, and one that isn't prepared had no visit
+-- distinct ids, below the greatest number of their type, and one that isn't prepared had no visit
 pub record FilterFor {C : Type 0} (waiting : C → ℕ → List ℕ) (is_match : ℕ → Bool)
     (collector : Filter C) (visited : List (ℕ × ℕ)) (given : List (ℕ × ℕ)) : Type 0 where
   pub counted : (parent : ℕ)
@@ -40,6 +40,7 @@ pub record FilterFor {C : Type 0} (waiting : C → ℕ → List ℕ) (is_match :
       → docs_of (is_id id) given ++ waiting collector.cache.0 id ≡ []
   pub distinct : (parent other id : ℕ) → id_of collector parent ≡ Some id
       → id_of collector other ≡ Some id → parent ≡ other
+  pub low : (parent id : ℕ) → id_of collector parent ≡ Some id → id < 4294967295
   pub unprepared : (parent : ℕ) → length collector.counts ≤ parent
       → docs_of (is_id parent) visited ≡ []
 
