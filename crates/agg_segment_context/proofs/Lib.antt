@@ -1,0 +1,14 @@
+pub mod Accessors
+pub mod Additions
+pub mod Built
+pub mod Contexts
+pub mod Keeps
+pub mod Levels
+pub mod Listed
+pub mod Nodes
+pub mod Own
+pub mod Pages
+pub mod Queries
+pub mod Stays
+pub mod Trees
+pub mod Views

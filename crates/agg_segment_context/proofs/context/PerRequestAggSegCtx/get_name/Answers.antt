@@ -1,0 +1,7 @@
+use Rattle.std.proofs.Common.{◌∙◌}
+use Rattle.agg_segment_context.proofs.Views.{plan-name}
+use Rattle.agg_segment_context.proofs.context.PerRequestAggSegCtx.get_name.Goals as goal
+
+pub returns-clause-request : goal.returns-clause-request
+returns-clause-request c = λ meaning name a is.
+    c.name_at.ensures ∙ plan-name meaning c.args.self.now name a c.args.node.now is

@@ -1,0 +1,10 @@
+use Rattle.std.proofs.Common.{map, take}
+use Rattle.agg_segment_context.proofs.Trees.{AreKept}
+use Rattle.agg_segment_context.proofs.params.AggContextParams.new.Given as goal
+
+-- the trees of the queries so far
+abbrev pub invariant-loop-query : goal.invariant-loop-query
+invariant-loop-query g l =
+    AreKept
+    (λ b. (goal.QueryBuilder-dyn g (b.builder.vtable, b.builder.value)).tree_for b.builder.value
+    l.schema) (take l.query-index (map (λ q. q.now) l.query-items)) l.trees

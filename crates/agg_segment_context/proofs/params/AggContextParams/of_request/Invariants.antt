@@ -1,0 +1,9 @@
+use Rattle.std.proofs.Common.{map, take}
+use Rattle.agg_segment_context.proofs.Trees.{AreKept}
+use Rattle.agg_segment_context.proofs.params.AggContextParams.of_request.Given as goal
+
+-- the trees of the queries so far
+abbrev pub invariant-loop-query : goal.invariant-loop-query
+invariant-loop-query g l =
+    AreKept (λ b. g.B.QueryBuilder.tree_for b l.schema)
+    (take l.query-index (map (λ q. q.now) l.query-items)) l.trees

@@ -1,0 +1,14 @@
+use Rattle.std.proofs.Common.{◌+◌, ◌*◌}
+use Rattle.agg_request_tree.proofs.RequestTrees.{height, levels}
+use Rattle.agg_segment_context.proofs.Nodes.{AreAddedUpTo}
+use Rattle.agg_segment_context.proofs.segment.+nodes.Given as goal
+
+abbrev pub decreases-request_nodes : goal.decreases-request_nodes
+decreases-request_nodes g l = 2 * levels l.request.now + 1
+
+abbrev pub decreases-aggregation_node : goal.decreases-aggregation_node
+decreases-aggregation_node g l = 2 * height l.aggregation.now
+
+abbrev pub invariant-request_nodes-loop-name : goal.invariant-request_nodes-loop-name
+invariant-request_nodes-loop-name g l =
+    AreAddedUpTo l.from l.request l.name-iterator l.nodes l.fn.ctx l.ctx
