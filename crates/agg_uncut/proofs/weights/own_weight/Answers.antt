@@ -1,0 +1,13 @@
+use Rattle.std.proofs.Common.{◌∙◌, ◌-◌, ◌^◌, ◌*◌}
+use Rattle.std.specs.Io.Iter.{u64_saturate}
+use Rattle.agg_segment.specs.Segment.{document_at}
+use Rattle.agg_uncut.specs.Uncut.{times}
+use Rattle.agg_uncut.proofs.CutNumbers.{cut-factors}
+use Rattle.agg_uncut.proofs.weights.own_weight.Goals as goal
+
+pub returns : goal.returns
+returns c segment asks exact of within cut =
+    let own = times asks (document_at segment c.args.doc) in
+    c.saturating_mul.ensures
+    ∙ (λ j. u64_saturate (cut j * c.times.ensures segment asks of within j))
+    ∙ cut-factors exact own (2 ^ 64 - 1)
