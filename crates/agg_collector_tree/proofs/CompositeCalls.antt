@@ -1,0 +1,224 @@
+-- What a composite answers for documents under one parent, and for one batch after another.
+use Rattle.std.proofs.Common.{◌≡◌, ◌≤◌, ◌+◌, ◌^◌, ℕ, List, [], ◌∷◌, ◌++◌, inl, inr}
+use Rattle.std.proofs.Common.{length, refl, sym, ap, ◌∙◌, subst, arith, append-nil, append_assoc}
+use Rattle.std.proofs.Common.{length-append, Result, Ok, Err}
+use Rattle.std.specs.Prelude.{IsErrOf}
+use Rattle.std.proofs.lemmas.List.Concat.{flat_map-append}
+use Rattle.agg_values.specs.Names.{Named}
+use Rattle.agg_values.specs.declared.after_key.AfterKey.{AfterKey}
+use Rattle.agg_cache.specs.Waiting.{under}
+use Rattle.agg_cache.specs.declared.error.CollectError.{CollectError}
+use Rattle.agg_cache.specs.declared.error.CollectError.TheVariants as refusal
+use Rattle.agg_segment.specs.Segment.{Stored, documents_at}
+use Rattle.agg_request_tree.specs.Occurrences.{bound_of, past_occurrences}
+use Rattle.agg_accessor.specs.Ranges.{AreAllInRange}
+use Rattle.agg_accessor.specs.declared.request_data.CompositeAggReqData.{CompositeAggReqData}
+use Rattle.agg_buckets.specs.Visits.{Within, docs_in, visits_at}
+use Rattle.agg_buckets.proofs.Labels.{docs_in-append}
+use Rattle.agg_composite.specs.Composite.{AnswersCollect, Composite, CompositeFor}
+use Rattle.agg_composite.specs.Visits.{AnswersRange, TypedVisit, visits_past}
+use Rattle.agg_collector_tree.specs.Took.{CompositeAnswers, CompositeTook, IsRefusal}
+use Rattle.agg_collector_tree.specs.Tree.{Cache, visits_of, waiting_in}
+use Rattle.agg_collector_tree.proofs.WithinLists.{range-within, within-part}
+
+-- an answer for its range is a refusal of a tree
+range-errors : (in_range : Type 0) (error : CollectError) → AnswersRange in_range (Err error)
+    → IsRefusal error
+range-errors in_range refusal.BucketOutOfRange a = inl refl
+range-errors in_range refusal.TooMany a = inr (inl refl)
+range-errors in_range refusal.OutOfMemory a = inr (inr refl)
+range-errors in_range (refusal.Aggregation limit) a = absurd a
+range-errors in_range refusal.CollectorFailed a = absurd a
+
+module _ (req : CompositeAggReqData) (segment : Stored) (after : Named AfterKey) where
+  -- the documents of pairs are in range
+  abbrev InRange : List (ℕ × ℕ) → Type 0
+  InRange pairs = AreAllInRange segment req.req.now.sources (docs_in pairs)
+
+  -- ---- visits
+
+  abbrev visits : List (ℕ × ℕ) → List TypedVisit
+  visits = visits_of req segment after
+
+  -- the visits of documents under a parent
+  visits-under : (parent : ℕ) (docs : List ℕ)
+      → visits (under parent docs) ≡ visits_past req.req.now.sources segment after parent docs
+  visits-under parent [] = refl
+  visits-under parent (d ∷ docs) =
+      let here = visits_at parent d (past_occurrences req.req.now.sources
+      (bound_of req.req.now.sources after) (documents_at segment (d ∷ []))) in
+      (λ j. append-nil here j ++ visits-under parent docs j)
+
+  pub visits-append : (xs ys : List (ℕ × ℕ)) → visits (xs ++ ys) ≡ visits xs ++ visits ys
+  visits-append xs ys =
+      flat_map-append (λ e. visits_past req.req.now.sources segment after e.0 (e.1 ∷ [])) xs ys
+
+  docs_in-under : (parent : ℕ) (docs : List ℕ) → docs_in (under parent docs) ≡ docs
+  docs_in-under parent [] = refl
+  docs_in-under parent (d ∷ docs) = ap (λ ds. d ∷ ds) (docs_in-under parent docs)
+
+  -- ---- one parent
+
+  under-ok : (parent : ℕ) (docs : List ℕ) (old new : Composite Cache) (steps steps_now : ℕ)
+      (done : Unit {0})
+      → AnswersCollect waiting_in req (visits_past req.req.now.sources segment after parent docs)
+      old new steps steps_now (Ok done)
+      → CompositeTook req segment after (under parent docs) old new steps steps_now
+  under-ok parent docs old new steps steps_now done a = record {
+    takes = λ taken given f.
+        subst (λ vs. CompositeFor waiting_in req new vs given)
+        (ap (λ vs. visits taken ++ vs) (sym (visits-under parent docs))
+        ∙ sym (visits-append taken (under parent docs)))
+        (a.ok.takes (visits taken) given f);
+    room = a.ok.room;
+    hands_on = a.ok.hands_on;
+    least = omega (arith, a.least, ap length (visits-under parent docs));
+    most = omega (arith, a.most, ap length (visits-under parent docs));
+  }
+
+  pub answers-under : (parent : ℕ) (docs : List ℕ) (old new : Composite Cache)
+      (steps steps_now : ℕ) (result : Result (Unit {0}) CollectError)
+      → AnswersCollect waiting_in req (visits_past req.req.now.sources segment after parent docs)
+      old new steps steps_now result
+      → ((visited : List TypedVisit) (given : List (ℕ × ℕ))
+      → CompositeFor waiting_in req old visited given → IsErrOf result refusal.TooMany
+      → 2 ^ 32 ≤ length visited
+      + length (visits_past req.req.now.sources segment after parent docs))
+      → AnswersRange (AreAllInRange segment req.req.now.sources docs) result
+      → CompositeAnswers req segment after (under parent docs) old new steps steps_now result
+  answers-under parent docs old new steps steps_now (Ok done) a many range = record {
+    ok = under-ok parent docs old new steps steps_now done a;
+    errors = tt;
+    range = λ e. absurd (cc e);
+    many = λ e. absurd (cc e);
+    later = a.later;
+    most = omega (arith, a.most, ap length (visits-under parent docs));
+  }
+  answers-under parent docs old new steps steps_now (Err error) a many range = record {
+    ok = tt;
+    errors = range-errors (AreAllInRange segment req.req.now.sources docs) error range;
+    range = λ e all.
+        subst (λ r. AnswersRange (AreAllInRange segment req.req.now.sources docs) r) e range
+        (subst (AreAllInRange segment req.req.now.sources) (docs_in-under parent docs) all);
+    many = λ e taken given f.
+        omega (
+          arith,
+          many (visits taken) given f e,
+          ap length (visits-under parent docs),
+          ap length (visits-append taken (under parent docs)),
+          length-append (visits taken) (visits (under parent docs)),
+        );
+    later = a.later;
+    most = omega (arith, a.most, ap length (visits-under parent docs));
+  }
+
+  -- a composite that was prepared before
+  pub answers-prepared : (pairs : List (ℕ × ℕ)) (old mid new : Composite Cache)
+      (steps steps_now : ℕ) (result : Result (Unit {0}) CollectError)
+      → ((visited : List TypedVisit) (given : List (ℕ × ℕ))
+      → CompositeFor waiting_in req old visited given
+      → CompositeFor waiting_in req mid visited given)
+      → mid ≡ record old { node = mid.node }
+      → CompositeAnswers req segment after pairs mid new steps steps_now result
+      → CompositeAnswers req segment after pairs old new steps steps_now result
+  answers-prepared pairs old mid new steps steps_now (Ok done) right rest a = record {
+    ok = record {
+      takes = λ taken given f. a.ok.takes taken given (right (visits taken) given f);
+      room = a.ok.room ∙ ap (λ (x : Composite Cache). x.room) rest;
+      hands_on = a.ok.hands_on ∙ ap (λ (x : Composite Cache). x.hands_on) rest;
+      least = a.ok.least;
+      most = a.ok.most;
+    };
+    errors = tt;
+    range = a.range;
+    many = λ e taken given f. a.many e taken given (right (visits taken) given f);
+    later = a.later;
+    most = a.most;
+  }
+  answers-prepared pairs old mid new steps steps_now (Err error) right rest a = record {
+    ok = tt;
+    errors = a.errors;
+    range = a.range;
+    many = λ e taken given f. a.many e taken given (right (visits taken) given f);
+    later = a.later;
+    most = a.most;
+  }
+
+  -- ---- batches
+
+  pub took-none : (c : Composite Cache) (steps : ℕ)
+      → CompositeTook req segment after [] c c steps steps
+  took-none c steps = record {
+    takes = λ taken given f.
+        subst (λ ps. CompositeFor waiting_in req c (visits ps) given) (sym (append-nil taken)) f;
+    room = refl;
+    hands_on = refl;
+    least = omega arith;
+    most = omega arith;
+  }
+
+  pub took-both : (xs ys : List (ℕ × ℕ)) (a b c : Composite Cache) (s t u : ℕ)
+      → CompositeTook req segment after xs a b s t → CompositeTook req segment after ys b c t u
+      → CompositeTook req segment after (xs ++ ys) a c s u
+  took-both xs ys a b c s t u p q =
+      let both = ap length (visits-append xs ys) ∙ length-append (visits xs) (visits ys) in
+      record {
+        takes = λ taken given f.
+            subst (λ ps. CompositeFor waiting_in req c (visits ps) given)
+            (append_assoc taken xs ys)
+            (q.takes (taken ++ xs) given (p.takes taken given f));
+        room = q.room ∙ p.room;
+        hands_on = q.hands_on ∙ p.hands_on;
+        least = omega (arith, p.least, q.least, both);
+        most = omega (arith, p.most, q.most, both);
+      }
+
+  -- a refusal in the midst is one of the whole
+  pub refused-part : (xs ys zs all : List (ℕ × ℕ)) → all ≡ xs ++ (ys ++ zs)
+      → (a b c : Composite Cache) (s t u : ℕ) (error : CollectError)
+      → CompositeTook req segment after xs a b s t
+      → CompositeAnswers req segment after ys b c t u (Err error)
+      → CompositeAnswers req segment after all a c s u (Err error)
+  refused-part xs ys zs all is a b c s t u error p q = record {
+    ok = tt;
+    errors = q.errors;
+    range = λ e in_range. q.range e
+        (range-within segment req.req.now.sources (docs_in ys) (docs_in all)
+        (subst (Within (docs_in ys))
+        (sym (ap docs_in is ∙ docs_in-append xs (ys ++ zs)
+        ∙ ap (λ ds. docs_in xs ++ ds) (docs_in-append ys zs)))
+        (within-part (docs_in xs) (docs_in ys) (docs_in zs))) in_range);
+    many = λ e taken given f.
+        omega (
+          arith,
+          q.many e (taken ++ xs) given (p.takes taken given f),
+          ap (λ ps. length (visits (taken ++ ps))) is,
+          ap (λ ps. length (visits ps)) (append_assoc taken xs (ys ++ zs)),
+          ap (λ ps. length (visits ps)) (append_assoc (taken ++ xs) ys zs),
+          ap length (visits-append ((taken ++ xs) ++ ys) zs),
+          length-append (visits ((taken ++ xs) ++ ys)) (visits zs),
+        );
+    later = omega (arith, p.least, q.later);
+    most = omega (
+      arith,
+      p.most,
+      q.most,
+      ap (λ ps. length (visits ps)) is,
+      ap length (visits-append xs (ys ++ zs)),
+      length-append (visits xs) (visits (ys ++ zs)),
+      ap length (visits-append ys zs),
+      length-append (visits ys) (visits zs),
+    );
+  }
+
+  pub answers-ok : (pairs : List (ℕ × ℕ)) (old new : Composite Cache) (steps steps_now : ℕ)
+      (done : Unit {0}) → CompositeTook req segment after pairs old new steps steps_now
+      → CompositeAnswers req segment after pairs old new steps steps_now (Ok done)
+  answers-ok pairs old new steps steps_now done took = record {
+    ok = took;
+    errors = tt;
+    range = λ e. absurd (cc e);
+    many = λ e. absurd (cc e);
+    later = omega (arith, took.least);
+    most = took.most;
+  }

@@ -1,0 +1,85 @@
+-- A tree takes documents, one level at a time.
+use Rattle.std.proofs.Common.{◌≡◌, ◌<◌, ◌+◌, ℕ, List, [], ◌∷◌, ◌++◌, Bool, Option, Some, get_or}
+use Rattle.std.proofs.Common.{set, take, length, map}
+use Rattle.std.proofs.Common.{sym, ap, ◌∙◌, subst, arith, length-set}
+use Rattle.std.proofs.lemmas.List.{get_or-set_same, map-append, take-set, take_more}
+use Rattle.std.specs.Box.{with_value}
+use Rattle.std.specs.declared.boxed.Box.{Box}
+use Rattle.std.specs.declared.alloc.Global.{Global}
+use Rattle.agg_cache.specs.Waiting.{pairs_of}
+use Rattle.agg_cache.specs.declared.cache.Batch.{Batch}
+use Rattle.agg_composite.specs.Composite as c
+use Rattle.agg_filter.specs.Filter as f
+use Rattle.agg_segment_context.specs.declared.context.PerRequestAggSegCtx.{PerRequestAggSegCtx}
+use Rattle.agg_collector_tree.specs.declared.tree.SegmentCollectorTree as declared
+use declared.{SegmentCollectorTree as Tree}
+use declared.{Composite, Filter}
+use Rattle.agg_collector_tree.specs.Step.{TakesAt}
+use Rattle.agg_collector_tree.specs.Tree.{Cache, Held, Takes, held_of}
+use Rattle.agg_collector_tree.proofs.Groups.{AllTake, all-more}
+use Rattle.agg_collector_tree.proofs.Levels.{held-composite, held-filter}
+
+module _ (ctx : PerRequestAggSegCtx) (pairs : List (ℕ × ℕ)) (parents : List ℕ) (all : Bool)
+    (old mid new : Tree)
+    (field : ℕ) (child box : Box Tree Global) (given : Option (List Batch)) (down : List Batch)
+    (some : given ≡ Some down) (same : box ≡ child) (steps steps_mid steps_now : ℕ)
+    (below : Takes ctx (pairs_of down) all (held_of box.value) (held_of new) steps_mid steps_now)
+  where
+    -- a composite, and then the tree below it
+    pub handed-composite : (collector : c.Composite Cache) → mid ≡ Composite field collector child
+        → TakesAt ctx pairs parents all (held_of old) given (held_of mid) steps steps_mid
+        → Takes ctx pairs all (held_of old)
+        (held_of (Composite field collector (with_value box new)))
+        steps steps_now
+    handed-composite collector is at =
+        let here = subst (λ h. TakesAt ctx pairs parents all (held_of old) given h steps steps_mid)
+        (ap held_of is ∙ held-composite field collector child) at in
+        let now = subst (λ g. TakesAt ctx pairs parents all (held_of old) g
+        (Held.composite field collector (held_of child.value)) steps steps_mid) some here in
+        rw (held-composite field collector (with_value box new))
+        (now.1.takes (held_of new) steps_now
+        (subst
+        (λ (b : Box Tree Global). Takes ctx (pairs_of down) all (held_of b.value) (held_of new)
+        steps_mid steps_now) same below))
+
+    -- a filter, and then the tree below it
+    pub handed-filter : (collector : f.Filter Cache) → mid ≡ Filter field collector child
+        → TakesAt ctx pairs parents all (held_of old) given (held_of mid) steps steps_mid
+        → Takes ctx pairs all (held_of old) (held_of (Filter field collector (with_value box new)))
+        steps steps_now
+    handed-filter collector is at =
+        let here = subst (λ h. TakesAt ctx pairs parents all (held_of old) given h steps steps_mid)
+        (ap held_of is ∙ held-filter field collector child) at in
+        let now = subst (λ g. TakesAt ctx pairs parents all (held_of old) g
+        (Held.filter field collector (held_of child.value)) steps steps_mid) some here in
+        rw (held-filter field collector (with_value box new))
+        (now.1.takes (held_of new) steps_now
+        (subst
+        (λ (b : Box Tree Global). Takes ctx (pairs_of down) all (held_of b.value) (held_of new)
+        steps_mid steps_now) same below))
+
+-- ---- several
+
+-- the trees up to an index, one more
+held-more : (trees : List Tree) (i : ℕ) (t : Tree) → i < length trees → t ≡ get_or trees i t
+    → map held_of (take (i + 1) trees) ≡ map held_of (take i trees) ++ held_of t ∷ []
+held-more trees i t l is =
+    ap (map held_of) (take_more trees i t l)
+    ∙ map-append held_of (take i trees) (get_or trees i t ∷ [])
+    ∙ ap (λ n. map held_of (take i trees) ++ held_of n ∷ []) (sym is)
+
+pub all-next : (ctx : PerRequestAggSegCtx) (pairs : List (ℕ × ℕ)) (all : Bool)
+    (olds nows : List Tree) (i : ℕ) (node new : Tree) (steps mid steps_now : ℕ) → i < length olds
+    → length nows ≡ length olds → node ≡ get_or olds i node
+    → AllTake ctx pairs all (map held_of (take i olds)) (map held_of (take i nows)) steps mid
+    → Takes ctx pairs all (held_of node) (held_of new) mid steps_now
+    → AllTake ctx pairs all (map held_of (take (i + 1) olds))
+    (map held_of (take (i + 1) (set nows i new))) steps steps_now
+all-next ctx pairs all olds nows i node new steps mid steps_now l long is each t =
+    let inside : i < length nows = omega (arith, l, long) in
+    let set_inside : i < length (set nows i new) = omega (arith, inside, length-set nows i new) in
+    let here : new ≡ get_or (set nows i new) i new = sym (get_or-set_same nows i new new inside) in
+    let before : take i (set nows i new) ≡ take i nows = take-set nows i new in
+    rw (held-more olds i node l is, held-more (set nows i new) i new set_inside here, before)
+    (all-more ctx pairs all (map held_of (take i olds)) (map held_of (take i nows)) (held_of node)
+    (held_of new) steps mid steps_now each t)

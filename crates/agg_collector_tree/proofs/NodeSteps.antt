@@ -1,0 +1,125 @@
+-- What nodes of the code did by themselves.
+use Rattle.std.proofs.Common.{◌≡◌, ◌<◌, ℕ, List, Bool, false, Some, None, length, sym, ap, ◌∙◌}
+use Rattle.std.proofs.Common.{subst}
+use Rattle.std.specs.Prelude.{slice_get}
+use Rattle.std.specs.List.{All}
+use Rattle.std.specs.declared.boxed.Box.{Box}
+use Rattle.std.specs.declared.alloc.Global.{Global}
+use Rattle.agg_values.specs.Names.{Named}
+use Rattle.agg_values.specs.declared.after_key.AfterKey.{AfterKey}
+use Rattle.agg_cache.specs.declared.cache.Batch.{Batch}
+use Rattle.agg_segment.specs.Marks.{AreMarks}
+use Rattle.agg_segment.specs.Query.{matches}
+use Rattle.agg_segment.specs.Segment.{Stored}
+use Rattle.agg_segment.specs.declared.query.QueryTree.{QueryTree}
+use Rattle.agg_accessor.specs.Accessors as accessor
+use Rattle.agg_accessor.specs.declared.request_data.CompositeAggReqData.{CompositeAggReqData}
+use Rattle.agg_composite.specs.Composite as c
+use Rattle.agg_filter.specs.Filter as f
+use Rattle.agg_filter.specs.Matching.{is_matching}
+use Rattle.agg_filter.specs.declared.request_data.FilterAggReqData.{FilterAggReqData}
+use Rattle.agg_segment_context.specs.Context.{IsMeant, Meaning}
+use Rattle.agg_segment_context.specs.declared.context.PerRequestAggSegCtx.{PerRequestAggSegCtx}
+use Rattle.agg_collector_tree.specs.declared.tree.SegmentCollectorTree as declared
+use declared.{SegmentCollectorTree as Tree}
+use declared.{Composite, Filter}
+use Rattle.agg_collector_tree.specs.Step.{TakesAt}
+use Rattle.agg_collector_tree.specs.Took.{CompositeTook, FilterTook}
+use Rattle.agg_collector_tree.specs.Tree.{Cache, Fits, held_of, waiting_in}
+use Rattle.agg_collector_tree.proofs.CompositeNodes.{composite-hands, composite-keeps}
+use Rattle.agg_collector_tree.proofs.FilterNodes.{filter-hands, filter-keeps}
+use Rattle.agg_collector_tree.proofs.Levels.{held-composite, held-filter}
+use Rattle.agg_collector_tree.proofs.MostFilters.{filter-lower-most}
+use Rattle.agg_collector_tree.proofs.MostSteps.{composite-lower-most}
+use Rattle.agg_collector_tree.proofs.RefusedFilters.{filter-lower}
+use Rattle.agg_collector_tree.proofs.RefusedNodes.{composite-lower}
+
+-- ---- composites
+
+module _ (ctx : PerRequestAggSegCtx) (pairs : List (ℕ × ℕ)) (parents : List ℕ) (all : Bool) (index
+    field : ℕ)
+    (same : index ≡ field) (req : CompositeAggReqData)
+    (at : slice_get ctx.composite_req_data index ≡ Some req)
+    (meant : (meaning : Meaning) × IsMeant meaning ctx) (collector old : c.Composite Cache)
+    (is : old ≡ collector) (now : c.Composite Cache) (steps mid : ℕ)
+    (took : (segment : Stored) (after : Named AfterKey) → accessor.Fits segment after req
+    → CompositeTook req segment after pairs old now steps mid) where
+  took-field : (segment : Stored) (after : Named AfterKey) → accessor.Fits segment after req
+      → CompositeTook req segment after pairs collector now steps mid
+  took-field segment after fits =
+      subst (λ o. CompositeTook req segment after pairs o now steps mid) is (took segment after
+      fits)
+
+  at-field : slice_get ctx.composite_req_data field ≡ Some req
+  at-field = ap (slice_get ctx.composite_req_data) (sym same) ∙ at
+
+  pub node-keeps-composite : all ≡ false → (child : Box Tree Global)
+      → TakesAt ctx pairs parents all (held_of (Composite field collector child)) None
+      (held_of (Composite field now child)) steps mid
+  node-keeps-composite few child =
+      rw (held-composite field collector child, held-composite field now child)
+      (composite-keeps ctx pairs parents all field req at-field meant collector now steps mid
+      took-field few
+      (held_of child.value))
+
+  pub node-hands-composite : (down : List Batch) → All (λ batch. 0 < length batch.docs) down
+      → (b : c.Composite Cache)
+      → c.CompositeGives waiting_in down now b → b ≡ record now { cache = b.cache }
+      → (child : Box Tree Global) → Fits ctx (held_of (Composite field collector child))
+      → TakesAt ctx pairs parents all (held_of (Composite field collector child)) (Some down)
+      (held_of (Composite field b child)) steps mid
+  node-hands-composite down filled b gives rest child fits =
+      let here = subst (Fits ctx) (held-composite field collector child) fits in
+      rw (held-composite field collector child, held-composite field b child)
+      (composite-hands ctx pairs parents all field req at-field meant collector now steps mid
+      took-field down
+      b gives rest (held_of child.value) here
+      (composite-lower ctx pairs parents field req at-field meant collector now steps mid took-field
+      down filled b gives rest (held_of child.value) here.1)
+      (composite-lower-most ctx pairs field req at-field meant collector now steps mid took-field
+      down b gives rest (held_of child.value) here.1))
+
+-- ---- filters
+
+module _ (ctx : PerRequestAggSegCtx) (pairs : List (ℕ × ℕ)) (parents : List ℕ) (all : Bool) (index
+    field : ℕ)
+    (same : index ≡ field) (req : FilterAggReqData)
+    (at : slice_get ctx.filter_req_data index ≡ Some req)
+    (meant : (meaning : Meaning) × IsMeant meaning ctx) (collector old : f.Filter Cache)
+    (is : old ≡ collector) (now : f.Filter Cache) (steps : ℕ)
+    (took : (tree : QueryTree) (segment : Stored) → AreMarks (matches tree) segment req.evaluator
+    → FilterTook (is_matching tree segment) pairs old now) where
+  matched-field : (tree : QueryTree) (segment : Stored) → AreMarks (matches tree) segment
+      req.evaluator
+      → FilterTook (is_matching tree segment) pairs collector now
+  matched-field tree segment marks =
+      subst (λ o. FilterTook (is_matching tree segment) pairs o now) is (took tree segment marks)
+
+  filter-at : slice_get ctx.filter_req_data field ≡ Some req
+  filter-at = ap (slice_get ctx.filter_req_data) (sym same) ∙ at
+
+  pub node-keeps-filter : all ≡ false → (child : Box Tree Global)
+      → TakesAt ctx pairs parents all (held_of (Filter field collector child)) None
+      (held_of (Filter field now child)) steps steps
+  node-keeps-filter few child =
+      rw (held-filter field collector child, held-filter field now child)
+      (filter-keeps ctx pairs parents all field req filter-at meant collector now steps
+      matched-field few
+      (held_of child.value))
+
+  pub node-hands-filter : (down : List Batch) → All (λ batch. 0 < length batch.docs) down
+      → (b : f.Filter Cache)
+      → f.FilterGives waiting_in down now b → b ≡ record now { cache = b.cache }
+      → (child : Box Tree Global) → Fits ctx (held_of (Filter field collector child))
+      → TakesAt ctx pairs parents all (held_of (Filter field collector child)) (Some down)
+      (held_of (Filter field b child)) steps steps
+  node-hands-filter down filled b gives rest child fits =
+      let here = subst (Fits ctx) (held-filter field collector child) fits in
+      rw (held-filter field collector child, held-filter field b child)
+      (filter-hands ctx pairs parents all field req filter-at meant collector now steps
+      matched-field down
+      b gives rest (held_of child.value) here
+      (filter-lower ctx pairs parents field req filter-at meant collector now matched-field
+      down filled b gives rest (held_of child.value) here.1)
+      (filter-lower-most ctx pairs field req filter-at collector now steps matched-field
+      down b gives rest (held_of child.value) here.1))

@@ -1,0 +1,336 @@
+use Rattle.std.proofs.Common.{◌≤◌, length, sym, ap, subst, arith}
+use Rattle.std.specs.Prelude.{IfErr}
+use Rattle.std.proofs.lemmas.Option.{slice_get_within}
+use Rattle.agg_composite.specs.Composite.{Composite}
+use Rattle.agg_metric.specs.Collector.{MetricTakes}
+use Rattle.agg_collector_tree.specs.Taken.{taken_pairs, taken_parents}
+use Rattle.agg_collector_tree.specs.Refusals.{IsRefused}
+use Rattle.agg_collector_tree.specs.Tree.{Cache, Fits, held_of}
+use Rattle.agg_collector_tree.specs.declared.tree.SegmentCollectorTree as declared
+use declared.{SegmentCollectorTree as Tree}
+use Rattle.agg_collector_tree.specs.declared.tree.SegmentCollectorTree.TheViews.{outs-Composite}
+use Rattle.agg_collector_tree.specs.declared.tree.SegmentCollectorTree.TheViews.{outs-Filter}
+use Rattle.agg_collector_tree.specs.declared.tree.SegmentCollectorTree.TheViews.{outs-Metric}
+use Rattle.agg_collector_tree.proofs.MostSteps.{no-steps}
+use Rattle.agg_collector_tree.proofs.NodeBounds.{node-later-composite, node-most-composite}
+use Rattle.agg_collector_tree.proofs.NodeSteps.{node-hands-composite, node-hands-filter}
+use Rattle.agg_collector_tree.proofs.NodeSteps.{node-keeps-composite, node-keeps-filter}
+use Rattle.agg_collector_tree.proofs.Groups.{metric-takes}
+use Rattle.agg_collector_tree.proofs.Levels.{held-metric}
+use Rattle.agg_collector_tree.proofs.NodeData.{composite-data, composite-index, composite-read}
+use Rattle.agg_collector_tree.proofs.NodeData.{filter-data, filter-index, filter-read}
+use Rattle.agg_collector_tree.proofs.NodeRefusals.{node-refused-composite, node-refused-filter}
+use Rattle.agg_collector_tree.proofs.NodeRefusals.{node-refused-metric}
+use Rattle.agg_collector_tree.proofs.PassedErrors.{error-passed}
+use Rattle.agg_collector_tree.proofs.handing.take_at.Goals as goal
+
+pub bounds-as_slice-index : goal.bounds-as_slice-index
+bounds-as_slice-index g c =
+    let x = c.in-Composite in
+    let d = composite-data c.args.ctx.now c.args.node.now c.index_of-index.result x.field-0
+    c.index_of-index.ensures c.requires.fits x.collector x.field-2 x.is in
+    let within = slice_get_within c.args.ctx.now.composite_req_data c.index_of-index.result d.0 d.1
+    in
+    omega (arith, within, ap length c.as_slice.ensures)
+
+pub offset_bounds-as_slice-index : goal.offset_bounds-as_slice-index
+offset_bounds-as_slice-index g c =
+    let within = bounds-as_slice-index g c in
+    omega (arith, within, c.as_slice.type_inv)
+
+pub take_in_composite-requires-clause-fits : goal.take_in_composite-requires-clause-fits
+take_in_composite-requires-clause-fits g c =
+    let x = c.in-Composite in
+    let i = c.index_of-index.result in
+    let r = c.index-as_slice-index.result in
+    let meant = c.requires.meant in
+    let at = (composite-read c.args.ctx.now c.args.node.now i x.field-0 c.index_of-index.ensures
+    c.requires.fits x.collector x.field-2 x.is c.as_slice.result.now c.as_slice.ensures r
+    c.index-as_slice-index.is).0 in
+    (meant.0.segment, meant.0.after_at i, (meant.1.composites i r at).fits)
+
+pub take_in_composite-requires-clause-room : goal.take_in_composite-requires-clause-room
+take_in_composite-requires-clause-room g c =
+    let x = c.in-Composite in
+    let r = c.index-as_slice-index.result in
+    let room = (composite-read c.args.ctx.now c.args.node.now c.index_of-index.result x.field-0
+    c.index_of-index.ensures c.requires.fits x.collector x.field-2 x.is c.as_slice.result.now
+    c.as_slice.ensures r c.index-as_slice-index.is).1 in
+    subst (λ (y : Composite Cache). length r.req.now.sources ≤ y.room) (sym x.collector-is) room
+
+pub returns-in_err-take_in_composite-in-Composite-clause-refused :
+    goal.returns-in_err-take_in_composite-in-Composite-clause-refused
+returns-in_err-take_in_composite-in-Composite-clause-refused g c =
+    let x = c.in-Composite in
+    let i = c.index_of-index.result in
+    let r = c.index-as_slice-index.result in
+    let meant = c.requires.meant in
+    let at = (composite-read c.args.ctx.now c.args.node.now i x.field-0 c.index_of-index.ensures
+    c.requires.fits x.collector x.field-2 x.is c.as_slice.result.now c.as_slice.ensures r
+    c.index-as_slice-index.is).0 in
+    error-passed (λ r. IfErr r (IsRefused c.args.ctx.now (taken_pairs c.args.taken)
+    (taken_parents c.args.taken) (held_of c.args.node.now))) c.from_residual.result
+    c.in_err-take_in_composite-in-Composite.field-0.0 c.from_residual.ensures.1
+    (node-refused-composite c.args.ctx.now (taken_pairs c.args.taken) (taken_parents c.args.taken)
+    c.args.node.now i x.field-0 c.index_of-index.ensures c.requires.fits r at meant x.collector
+    x.field-2 x.is _ x.collector-is c.take_in_composite.new.collector c.args.steps.now
+    c.take_in_composite.new.steps c.in_err-take_in_composite-in-Composite.field-0.0
+    (λ segment after fits. c.in_err-take_in_composite-in-Composite.ensures segment after fits))
+
+pub returns-then-not-due-clause-ok : goal.returns-then-not-due-clause-ok
+returns-then-not-due-clause-ok g c =
+    let x = c.in-Composite in
+    let i = c.index_of-index.result in
+    let r = c.index-as_slice-index.result in
+    let node = c.args.node.now in
+    let now = c.take_in_composite.new.collector in
+    let ctx = c.args.ctx.now in
+    let pairs = taken_pairs c.args.taken in
+    let same = composite-index ctx node i x.field-0 c.index_of-index.ensures c.requires.fits
+    x.collector x.field-2 x.is in
+    let at = (composite-read ctx node i x.field-0 c.index_of-index.ensures
+    c.requires.fits x.collector x.field-2 x.is c.as_slice.result.now c.as_slice.ensures r
+    c.index-as_slice-index.is).0 in
+    rw (x.is, outs-Composite x.field-0 x.collector x.field-2)
+    (node-keeps-composite ctx pairs (taken_parents c.args.taken) c.args.all i x.field-0 same r at
+    c.requires.meant x.collector _
+    x.collector-is now c.args.steps.now c.take_in_composite.new.steps
+    (λ segment after fits.
+    (c.in_ok-take_in_composite-in-Composite.ensures segment after fits).ok)
+    c.if-not-all.true x.field-2)
+
+pub returns-in_ok-take-in-Composite-clause-ok : goal.returns-in_ok-take-in-Composite-clause-ok
+returns-in_ok-take-in-Composite-clause-ok g c =
+    let x = c.in-Composite in
+    let i = c.index_of-index.result in
+    let r = c.index-as_slice-index.result in
+    let node = c.args.node.now in
+    let ctx = c.args.ctx.now in
+    let pairs = taken_pairs c.args.taken in
+    let same = composite-index ctx node i x.field-0 c.index_of-index.ensures c.requires.fits
+    x.collector x.field-2 x.is in
+    let at = (composite-read ctx node i x.field-0 c.index_of-index.ensures
+    c.requires.fits x.collector x.field-2 x.is c.as_slice.result.now c.as_slice.ensures r
+    c.index-as_slice-index.is).0 in
+    rw (x.is, outs-Composite x.field-0 x.collector x.field-2)
+    (node-hands-composite ctx pairs (taken_parents c.args.taken) c.args.all i x.field-0 same r at
+    c.requires.meant x.collector _
+    x.collector-is c.take_in_composite.new.collector c.args.steps.now
+    c.take_in_composite.new.steps
+    (λ segment after fits.
+    (c.in_ok-take_in_composite-in-Composite.ensures segment after fits).ok)
+    c.in_ok-take-in-Composite.field-0 c.in_ok-take-in-Composite.ensures.filled c.take.new.self
+    c.in_ok-take-in-Composite.ensures.ok
+    c.take.ensures.rest x.field-2 (subst (λ (n : Tree). Fits ctx (held_of n)) x.is c.requires.fits))
+
+pub bounds-as_slice-index-in-Filter : goal.bounds-as_slice-index-in-Filter
+bounds-as_slice-index-in-Filter g c =
+    let x = c.in-Filter in
+    let d = filter-data c.args.ctx.now c.args.node.now c.index_of-index.result x.field-0
+    c.index_of-index.ensures c.requires.fits x.collector x.field-2 x.is in
+    let within = slice_get_within c.args.ctx.now.filter_req_data c.index_of-index.result d.0 d.1 in
+    omega (arith, within, ap length c.as_slice-in-Filter.ensures)
+
+pub offset_bounds-as_slice-index-in-Filter : goal.offset_bounds-as_slice-index-in-Filter
+offset_bounds-as_slice-index-in-Filter g c =
+    let within = bounds-as_slice-index-in-Filter g c in
+    omega (arith, within, c.as_slice-in-Filter.type_inv)
+
+pub returns-in_err-take_in_filter-in-Filter-clause-refused :
+    goal.returns-in_err-take_in_filter-in-Filter-clause-refused
+returns-in_err-take_in_filter-in-Filter-clause-refused g c =
+    let x = c.in-Filter in
+    let i = c.index_of-index.result in
+    let r = c.index-as_slice-index-in-Filter.result in
+    let meant = c.requires.meant in
+    let at = filter-read c.args.ctx.now c.args.node.now i x.field-0 c.index_of-index.ensures
+    c.requires.fits x.collector x.field-2 x.is c.as_slice-in-Filter.result.now
+    c.as_slice-in-Filter.ensures r c.index-as_slice-index-in-Filter.is in
+    error-passed (λ r. IfErr r (IsRefused c.args.ctx.now (taken_pairs c.args.taken)
+    (taken_parents c.args.taken) (held_of c.args.node.now)))
+    c.from_residual-in_err-take_in_filter-in-Filter.result
+    c.in_err-take_in_filter-in-Filter.field-0.0
+    c.from_residual-in_err-take_in_filter-in-Filter.ensures.1
+    (node-refused-filter c.args.ctx.now (taken_pairs c.args.taken) (taken_parents c.args.taken)
+    c.args.node.now i x.field-0 c.index_of-index.ensures c.requires.fits r at meant x.collector
+    x.field-2 x.is _ x.collector-is c.take_in_filter.new.collector
+    c.in_err-take_in_filter-in-Filter.field-0.0
+    (λ tree segment marks. c.in_err-take_in_filter-in-Filter.ensures tree segment marks))
+
+pub returns-then-not-due-2-clause-ok : goal.returns-then-not-due-2-clause-ok
+returns-then-not-due-2-clause-ok g c =
+    let x = c.in-Filter in
+    let i = c.index_of-index.result in
+    let r = c.index-as_slice-index-in-Filter.result in
+    let node = c.args.node.now in
+    let ctx = c.args.ctx.now in
+    let pairs = taken_pairs c.args.taken in
+    let same = filter-index ctx node i x.field-0 c.index_of-index.ensures c.requires.fits
+    x.collector x.field-2 x.is in
+    let at = filter-read ctx node i x.field-0 c.index_of-index.ensures
+    c.requires.fits x.collector x.field-2 x.is c.as_slice-in-Filter.result.now
+    c.as_slice-in-Filter.ensures r c.index-as_slice-index-in-Filter.is in
+    rw (x.is, outs-Filter x.field-0 x.collector x.field-2)
+    (node-keeps-filter ctx pairs (taken_parents c.args.taken) c.args.all i x.field-0 same r at
+    c.requires.meant x.collector _
+    x.collector-is c.take_in_filter.new.collector c.args.steps.now
+    (λ tree segment marks.
+    (c.in_ok-take_in_filter-in-Filter.ensures tree segment marks).ok)
+    c.if-not-all-2.true x.field-2)
+
+pub returns-in_ok-take-in-Filter-clause-ok : goal.returns-in_ok-take-in-Filter-clause-ok
+returns-in_ok-take-in-Filter-clause-ok g c =
+    let x = c.in-Filter in
+    let i = c.index_of-index.result in
+    let r = c.index-as_slice-index-in-Filter.result in
+    let node = c.args.node.now in
+    let ctx = c.args.ctx.now in
+    let pairs = taken_pairs c.args.taken in
+    let same = filter-index ctx node i x.field-0 c.index_of-index.ensures c.requires.fits
+    x.collector x.field-2 x.is in
+    let at = filter-read ctx node i x.field-0 c.index_of-index.ensures
+    c.requires.fits x.collector x.field-2 x.is c.as_slice-in-Filter.result.now
+    c.as_slice-in-Filter.ensures r c.index-as_slice-index-in-Filter.is in
+    rw (x.is, outs-Filter x.field-0 x.collector x.field-2)
+    (node-hands-filter ctx pairs (taken_parents c.args.taken) c.args.all i x.field-0 same r at
+    c.requires.meant x.collector _
+    x.collector-is c.take_in_filter.new.collector c.args.steps.now
+    (λ tree segment marks.
+    (c.in_ok-take_in_filter-in-Filter.ensures tree segment marks).ok)
+    c.in_ok-take-in-Filter.field-0 c.in_ok-take-in-Filter.ensures.filled c.take-in-Filter.new.self
+    c.in_ok-take-in-Filter.ensures.ok c.take-in-Filter.ensures.rest x.field-2
+    (subst (λ (n : Tree). Fits ctx (held_of n)) x.is c.requires.fits))
+
+pub returns-in_ok-take_in_metric-in-Metric-clause-ok :
+    goal.returns-in_ok-take_in_metric-in-Metric-clause-ok
+returns-in_ok-take_in_metric-in-Metric-clause-ok g c =
+    let x = c.in-Metric in
+    rw (x.is, outs-Metric x.field-0 x.collector)
+    (rw (held-metric x.field-0 x.collector, held-metric x.field-0 c.take_in_metric.new.collector)
+    (metric-takes c.args.ctx.now (taken_pairs c.args.taken) c.args.all x.field-0 x.collector
+    c.take_in_metric.new.collector c.args.steps.now
+    (subst (λ o. MetricTakes (taken_pairs c.args.taken) o c.take_in_metric.new.collector)
+    x.collector-is c.in_ok-take_in_metric-in-Metric.ensures.ok)))
+
+pub returns-in_err-take_in_metric-in-Metric-clause-refused :
+    goal.returns-in_err-take_in_metric-in-Metric-clause-refused
+returns-in_err-take_in_metric-in-Metric-clause-refused g c =
+    let x = c.in-Metric in
+    let call = c.in_err-take_in_metric-in-Metric in
+    let back = c.from_residual-in_err-take_in_metric-in-Metric in
+    error-passed (λ r. IfErr r (IsRefused c.args.ctx.now (taken_pairs c.args.taken)
+    (taken_parents c.args.taken) (held_of c.args.node.now))) back.result call.field-0.0
+    back.ensures.1
+    (node-refused-metric c.args.ctx.now (taken_pairs c.args.taken) (taken_parents c.args.taken)
+    c.args.node.now c.requires.fits x.field-0 x.collector x.is _ x.collector-is
+    c.take_in_metric.new.collector
+    call.field-0.0 call.ensures)
+
+pub returns-in_err-take_in_composite-in-Composite-clause-most :
+    goal.returns-in_err-take_in_composite-in-Composite-clause-most
+returns-in_err-take_in_composite-in-Composite-clause-most g c =
+    let x = c.in-Composite in
+    node-most-composite c.args.ctx.now (taken_pairs c.args.taken) c.args.node.now
+    c.index_of-index.result x.field-0 c.index_of-index.ensures c.requires.fits c.requires.meant
+    x.collector x.field-2 x.is c.as_slice.result.now c.as_slice.ensures
+    c.index-as_slice-index.result c.index-as_slice-index.is _ c.take_in_composite.new.collector
+    c.args.steps.now c.take_in_composite.new.steps c.take_in_composite.result
+    (λ segment after fits. c.take_in_composite.ensures segment after fits)
+
+pub returns-in_err-take_in_composite-in-Composite-clause-later :
+    goal.returns-in_err-take_in_composite-in-Composite-clause-later
+returns-in_err-take_in_composite-in-Composite-clause-later g c =
+    let x = c.in-Composite in
+    node-later-composite c.args.ctx.now (taken_pairs c.args.taken) c.args.node.now
+    c.index_of-index.result x.field-0 c.index_of-index.ensures c.requires.fits c.requires.meant
+    x.collector x.field-2 x.is c.as_slice.result.now c.as_slice.ensures
+    c.index-as_slice-index.result c.index-as_slice-index.is _ c.take_in_composite.new.collector
+    c.args.steps.now c.take_in_composite.new.steps c.take_in_composite.result
+    (λ segment after fits. c.take_in_composite.ensures segment after fits)
+
+pub returns-then-not-due-clause-most : goal.returns-then-not-due-clause-most
+returns-then-not-due-clause-most g c =
+    let x = c.in-Composite in
+    node-most-composite c.args.ctx.now (taken_pairs c.args.taken) c.args.node.now
+    c.index_of-index.result x.field-0 c.index_of-index.ensures c.requires.fits c.requires.meant
+    x.collector x.field-2 x.is c.as_slice.result.now c.as_slice.ensures
+    c.index-as_slice-index.result c.index-as_slice-index.is _ c.take_in_composite.new.collector
+    c.args.steps.now c.take_in_composite.new.steps c.take_in_composite.result
+    (λ segment after fits. c.take_in_composite.ensures segment after fits)
+
+pub returns-then-not-due-clause-later : goal.returns-then-not-due-clause-later
+returns-then-not-due-clause-later g c =
+    let x = c.in-Composite in
+    node-later-composite c.args.ctx.now (taken_pairs c.args.taken) c.args.node.now
+    c.index_of-index.result x.field-0 c.index_of-index.ensures c.requires.fits c.requires.meant
+    x.collector x.field-2 x.is c.as_slice.result.now c.as_slice.ensures
+    c.index-as_slice-index.result c.index-as_slice-index.is _ c.take_in_composite.new.collector
+    c.args.steps.now c.take_in_composite.new.steps c.take_in_composite.result
+    (λ segment after fits. c.take_in_composite.ensures segment after fits)
+
+pub returns-in_err-take-in-Composite-clause-most : goal.returns-in_err-take-in-Composite-clause-most
+returns-in_err-take-in-Composite-clause-most g c =
+    let x = c.in-Composite in
+    node-most-composite c.args.ctx.now (taken_pairs c.args.taken) c.args.node.now
+    c.index_of-index.result x.field-0 c.index_of-index.ensures c.requires.fits c.requires.meant
+    x.collector x.field-2 x.is c.as_slice.result.now c.as_slice.ensures
+    c.index-as_slice-index.result c.index-as_slice-index.is _ c.take_in_composite.new.collector
+    c.args.steps.now c.take_in_composite.new.steps c.take_in_composite.result
+    (λ segment after fits. c.take_in_composite.ensures segment after fits)
+
+pub returns-in_err-take-in-Composite-clause-later :
+    goal.returns-in_err-take-in-Composite-clause-later
+returns-in_err-take-in-Composite-clause-later g c =
+    let x = c.in-Composite in
+    node-later-composite c.args.ctx.now (taken_pairs c.args.taken) c.args.node.now
+    c.index_of-index.result x.field-0 c.index_of-index.ensures c.requires.fits c.requires.meant
+    x.collector x.field-2 x.is c.as_slice.result.now c.as_slice.ensures
+    c.index-as_slice-index.result c.index-as_slice-index.is _ c.take_in_composite.new.collector
+    c.args.steps.now c.take_in_composite.new.steps c.take_in_composite.result
+    (λ segment after fits. c.take_in_composite.ensures segment after fits)
+
+pub returns-in_ok-take-in-Composite-clause-most : goal.returns-in_ok-take-in-Composite-clause-most
+returns-in_ok-take-in-Composite-clause-most g c =
+    let x = c.in-Composite in
+    node-most-composite c.args.ctx.now (taken_pairs c.args.taken) c.args.node.now
+    c.index_of-index.result x.field-0 c.index_of-index.ensures c.requires.fits c.requires.meant
+    x.collector x.field-2 x.is c.as_slice.result.now c.as_slice.ensures
+    c.index-as_slice-index.result c.index-as_slice-index.is _ c.take_in_composite.new.collector
+    c.args.steps.now c.take_in_composite.new.steps c.take_in_composite.result
+    (λ segment after fits. c.take_in_composite.ensures segment after fits)
+
+pub returns-in_ok-take-in-Composite-clause-later : goal.returns-in_ok-take-in-Composite-clause-later
+returns-in_ok-take-in-Composite-clause-later g c =
+    let x = c.in-Composite in
+    node-later-composite c.args.ctx.now (taken_pairs c.args.taken) c.args.node.now
+    c.index_of-index.result x.field-0 c.index_of-index.ensures c.requires.fits c.requires.meant
+    x.collector x.field-2 x.is c.as_slice.result.now c.as_slice.ensures
+    c.index-as_slice-index.result c.index-as_slice-index.is _ c.take_in_composite.new.collector
+    c.args.steps.now c.take_in_composite.new.steps c.take_in_composite.result
+    (λ segment after fits. c.take_in_composite.ensures segment after fits)
+
+pub returns-in_err-take_in_filter-in-Filter-clause-most :
+    goal.returns-in_err-take_in_filter-in-Filter-clause-most
+returns-in_err-take_in_filter-in-Filter-clause-most g c =
+    no-steps c.args.ctx.now (taken_pairs c.args.taken) (held_of c.args.node.now) c.requires.fits
+    c.args.steps.now
+
+pub returns-then-not-due-2-clause-most : goal.returns-then-not-due-2-clause-most
+returns-then-not-due-2-clause-most g c =
+    no-steps c.args.ctx.now (taken_pairs c.args.taken) (held_of c.args.node.now) c.requires.fits
+    c.args.steps.now
+
+pub returns-in_err-take-in-Filter-clause-most : goal.returns-in_err-take-in-Filter-clause-most
+returns-in_err-take-in-Filter-clause-most g c =
+    no-steps c.args.ctx.now (taken_pairs c.args.taken) (held_of c.args.node.now) c.requires.fits
+    c.args.steps.now
+
+pub returns-in_ok-take-in-Filter-clause-most : goal.returns-in_ok-take-in-Filter-clause-most
+returns-in_ok-take-in-Filter-clause-most g c =
+    no-steps c.args.ctx.now (taken_pairs c.args.taken) (held_of c.args.node.now) c.requires.fits
+    c.args.steps.now
+
+pub returns-in-Group-clause-most : goal.returns-in-Group-clause-most
+returns-in-Group-clause-most g c =
+    no-steps c.args.ctx.now (taken_pairs c.args.taken) (held_of c.args.node.now) c.requires.fits
+    c.args.steps.now

@@ -1,0 +1,49 @@
+use Rattle.std.proofs.Common.{◌+◌, drop, subst, take, Err}
+use Rattle.std.proofs.lemmas.List.{take_all}
+use Rattle.agg_cache.specs.Waiting.{pairs_of, under}
+use Rattle.agg_metric.specs.Collector.{MetricTakes}
+use Rattle.agg_collector_tree.specs.Took.{MetricAnswers}
+use Rattle.agg_collector_tree.proofs.Batches.{pairs_of-more, pairs_of-split}
+use Rattle.agg_collector_tree.proofs.MetricCalls.{answers-ok, refused-part, took-both, took-none}
+use Rattle.agg_collector_tree.proofs.PassedErrors.{error-passed}
+use Rattle.agg_collector_tree.proofs.metric.collect_batches.Goals as goal
+
+pub returns-in_err-collect_under : goal.returns-in_err-collect_under
+returns-in_err-collect_under c =
+    let bs = c.args.batches.now in
+    let b = c.batch-item.result in
+    let i = c.loop-batch.batch-index in
+    let start = c.loop-batch.collector in
+    let now = c.collect_under.new.collector in
+    let error = c.in_err-collect_under.field-0.0 in
+    error-passed (MetricAnswers (pairs_of bs) c.args.collector.now now) c.from_residual.result error
+    c.from_residual.ensures.1
+    (refused-part (pairs_of (take i bs)) (under b.bucket_id b.docs) (pairs_of (drop (i + 1) bs))
+    (pairs_of bs) (pairs_of-split bs i b c.loop-batch-test.true c.batch-item.is)
+    c.args.collector.now start now now error c.loop-batch.invariant
+    (subst (λ docs. MetricAnswers (under b.bucket_id docs) start now (Err error))
+    c.as_slice.ensures c.in_err-collect_under.ensures))
+
+pub loop-batch-init : goal.loop-batch-init
+loop-batch-init c = took-none c.args.collector.now
+
+pub loop-batch-preserved : goal.loop-batch-preserved
+loop-batch-preserved c =
+    let bs = c.args.batches.now in
+    let b = c.batch-item.result in
+    let i = c.loop-batch.batch-index in
+    let start = c.loop-batch.collector in
+    let now = c.collect_under.new.collector in
+    subst (λ ps. MetricTakes ps c.args.collector.now now)
+    (pairs_of-more bs i b c.loop-batch-test.true c.batch-item.is)
+    (took-both (pairs_of (take i bs)) (under b.bucket_id b.docs) c.args.collector.now start now
+    c.loop-batch.invariant
+    (subst (λ docs. MetricTakes (under b.bucket_id docs) start now) c.as_slice.ensures
+    c.in_ok-collect_under.ensures.ok))
+
+pub returns : goal.returns
+returns c =
+    let bs = c.args.batches.now in
+    answers-ok (pairs_of bs) c.args.collector.now c.loop-batch.collector tt
+    (subst (λ all. MetricTakes (pairs_of all) c.args.collector.now c.loop-batch.collector)
+    (take_all c.loop-batch.batch-index bs c.loop-batch-test.false) c.loop-batch.invariant)

@@ -1,0 +1,120 @@
+//! How a tree of collectors is made for the nodes of a context.
+ghost use Rattle.std.specs.Prelude.{◌≡◌, ◌≤◌, [], IfOk, map};
+ghost use Rattle.agg_request_tree.specs.Faults.{max_sources};
+ghost use Rattle.agg_request_tree.specs.Request.{Request};
+ghost use Rattle.agg_segment.specs.declared.query.QueryTree.{QueryTree};
+ghost use Rattle.agg_segment_context.specs.Context.{IsContextOf, IsMeant, Meaning};
+ghost use Rattle.agg_segment_context.specs.Plan.{plan_of, plans_of};
+ghost use Rattle.agg_collector_tree.specs.New.{HasData, HaveData, IsNew, IsNewComposite};
+ghost use Rattle.agg_collector_tree.specs.New.{IsNewFilter};
+ghost use Rattle.agg_collector_tree.specs.Tree.{Fits, IsFlushed, IsFor, IsGroupOf, IsOf, held_of};
+
+use crate::SegmentCollectorTree;
+use agg_cache::LowCardSubAggCache;
+use agg_composite::SegmentCompositeCollector;
+use agg_filter::SegmentFilterCollector;
+use agg_metric::SegmentMetricCollector;
+use agg_segment::SegmentReader;
+use agg_segment_context::{AggKind, AggRefNode, PerRequestAggSegCtx};
+use agg_values::OutOfMemory;
+use std::alloc::Global;
+
+/// The tree of a context's nodes in a segment: new collectors, which took no document.
+pub fn tree_for<'s>(
+    alloc: Global,
+    ctx: &PerRequestAggSegCtx<'_>,
+    segment: &'s SegmentReader,
+) -> Result<SegmentCollectorTree<'s>, OutOfMemory>
+    requires { (meaning : Meaning) × (request : Request QueryTree)
+        × IsContextOf meaning ctx.now request }
+    ensures nodes { IfOk result
+        (λ tree. IsGroupOf (plans_of (map plan_of ctx.now.agg_tree)) (held_of tree)) }
+    ensures fits { IfOk result (λ tree. Fits ctx.now (held_of tree)) }
+    ensures right { IfOk result (λ tree. (meaning : Meaning) → meaning.segment ≡ segment.now
+        → IsMeant meaning ctx.now → IsFor meaning ctx.now (held_of tree) [] 0) }
+    ensures flushed { IfOk result (λ tree. IsFlushed (held_of tree)) }
+{
+    trees_for(alloc, ctx.agg_tree.as_slice(), ctx, segment)
+}
+
+// The trees of nodes, side by side.
+#[cycle(tree)]
+fn trees_for<'s>(
+    alloc: Global,
+    nodes: &[AggRefNode],
+    ctx: &PerRequestAggSegCtx<'_>,
+    segment: &'s SegmentReader,
+) -> Result<SegmentCollectorTree<'s>, OutOfMemory>
+    requires { HaveData ctx.now (plans_of (map plan_of nodes.now)) }
+    ensures nodes { IfOk result
+        (λ tree. IsGroupOf (plans_of (map plan_of nodes.now)) (held_of tree)) }
+    ensures new { IfOk result (λ tree. IsNew ctx.now segment.now (held_of tree)) }
+{
+    let mut trees = Vec::new(alloc);
+    for node in nodes {
+        trees.push(tree_of_node(alloc, node, ctx, segment)?)?;
+    }
+    Ok(SegmentCollectorTree::Group(trees))
+}
+
+// The tree of a node.
+#[cycle(tree)]
+fn tree_of_node<'s>(
+    alloc: Global,
+    node: &AggRefNode,
+    ctx: &PerRequestAggSegCtx<'_>,
+    segment: &'s SegmentReader,
+) -> Result<SegmentCollectorTree<'s>, OutOfMemory>
+    requires { HasData ctx.now (plan_of node.now) }
+    ensures node { IfOk result (λ tree. IsOf (plan_of node.now) (held_of tree)) }
+    ensures new { IfOk result (λ tree. IsNew ctx.now segment.now (held_of tree)) }
+{
+    let index = node.idx_in_req_data;
+    let nodes = node.children.as_slice();
+    let is_leaf = nodes.is_empty();
+    match node.kind {
+        AggKind::Composite => {
+            let req = &ctx.composite_req_data.as_slice()[index];
+            let collector = new_composite(alloc, is_leaf, req.req.sources.as_slice().len())?;
+            let below = trees_for(alloc, nodes, ctx, segment)?;
+            let below = Box::new(alloc, below)?;
+            Ok(SegmentCollectorTree::Composite(index, collector, below))
+        }
+        AggKind::Filter => {
+            let below = trees_for(alloc, nodes, ctx, segment)?;
+            let below = Box::new(alloc, below)?;
+            Ok(SegmentCollectorTree::Filter(index, new_filter(alloc, is_leaf), below))
+        }
+        AggKind::StatsKind(_) => {
+            let req = &ctx.stats_metric_req_data.as_slice()[index];
+            let collector = SegmentMetricCollector::new(alloc, req, segment);
+            Ok(SegmentCollectorTree::Metric(index, collector))
+        }
+    }
+}
+
+// A new collector for a composite of so many sources.
+fn new_composite(
+    alloc: Global,
+    is_leaf: bool,
+    num_sources: usize,
+) -> Result<SegmentCompositeCollector<LowCardSubAggCache>, OutOfMemory>
+    requires some { 1 ≤ num_sources }
+    requires few { num_sources ≤ max_sources }
+    ensures { IfOk result (IsNewComposite is_leaf num_sources) }
+{
+    if is_leaf {
+        return SegmentCompositeCollector::new_leaf(alloc, num_sources);
+    }
+    SegmentCompositeCollector::new(alloc, num_sources)
+}
+
+// A new collector for a filter.
+fn new_filter(alloc: Global, is_leaf: bool) -> SegmentFilterCollector<LowCardSubAggCache>
+    ensures { IsNewFilter is_leaf result }
+{
+    if is_leaf {
+        return SegmentFilterCollector::new_leaf(alloc);
+    }
+    SegmentFilterCollector::new(alloc)
+}
