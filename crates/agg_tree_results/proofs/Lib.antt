@@ -1,0 +1,17 @@
+pub mod AddedEntries
+pub mod ApartNames
+pub mod AscendingKeys
+pub mod BelowNodes
+pub mod CompositeNodes
+pub mod FilterNodes
+pub mod GroupAdds
+pub mod HeldEntries
+pub mod Levels
+pub mod MetricNodes
+pub mod NamedNodes
+pub mod NodeAdds
+pub mod PutNames
+pub mod SideBySide
+pub mod TakenPages
+pub mod TakenVisits
+pub mod YieldedItems

@@ -1,0 +1,10 @@
+use Rattle.agg_tree_results.proofs.ApartNames.{apart-group, names-group}
+use Rattle.agg_tree_results.proofs.laws.a_tree_has_the_names_of_its_request.Goals as goal
+
+pub returns-clause-names : goal.returns-clause-names
+returns-clause-names c = λ meaning ctx request plans h asked group.
+    names-group meaning ctx h request plans asked group
+
+pub returns-clause-apart : goal.returns-clause-apart
+returns-clause-apart c = λ meaning ctx request plans h asked group up.
+    apart-group meaning ctx h request plans asked group up

@@ -1,0 +1,10 @@
+//! The intermediate results of a tree of collectors.
+#![tactic(auto)]
+
+mod collected;
+mod laws;
+mod made;
+mod results;
+
+pub use laws::a_tree_has_the_names_of_its_request;
+pub use results::add_results;

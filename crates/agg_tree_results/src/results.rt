@@ -1,0 +1,90 @@
+//! The intermediate results of a tree of collectors for a parent.
+ghost use Rattle.std.specs.Prelude.{◌≡◌, [], ℕ, List, OnOk, Some};
+ghost use Rattle.agg_segment_context.specs.Context.{IsMeant, Meaning};
+ghost use Rattle.agg_collector_tree.specs.Tree.{Fits, IsFlushed, IsFor, held_of};
+ghost use Rattle.agg_tree_results.specs.Names.{HasNamesApart, names_of};
+ghost use Rattle.agg_tree_results.specs.Results.{Adds, GroupStands, HasOnlyMore, HoldsAll};
+ghost use Rattle.agg_tree_results.specs.Results.{HoldsNone, IsSameBut, MayAdd, NodeStands};
+
+use crate::collected::{bucket_under, metric_under, page_under};
+use crate::made::{add_last, empty_page, filter_result, page_result, put_result};
+use agg_cache::BucketId;
+use agg_collector_tree::SegmentCollectorTree;
+use agg_results::{IntermediateAggregationResult, IntermediateAggregationResults};
+use agg_segment_context::PerRequestAggSegCtx;
+use agg_values::OutOfMemory;
+use std::alloc::Global;
+
+/// Adds the results of the aggregations at the top of a tree for a parent, each under its name:
+/// over the documents that the tree took under the parent, and over none for a parent that isn't
+/// prepared. What is held after an error isn't said.
+pub fn add_results(
+    alloc: Global,
+    node: &SegmentCollectorTree<'_>,
+    ctx: &PerRequestAggSegCtx<'_>,
+    results: &mut IntermediateAggregationResults,
+    parent: BucketId,
+) -> Result<(), OutOfMemory>
+    requires right { (meaning : Meaning) × (taken : List (ℕ × ℕ)) × (visits : ℕ)
+        × IsMeant meaning ctx.now × IsFor meaning ctx.now (held_of node.now) taken visits }
+    requires fits { Fits ctx.now (held_of node.now) }
+    requires flushed { IsFlushed (held_of node.now) }
+    requires apart { HasNamesApart ctx.now (held_of node.now) }
+    requires absent { HoldsNone (names_of ctx.now (held_of node.now)) results.old.results }
+    ensures others { OnOk result (IsSameBut (names_of ctx.now (held_of node.now))
+        results.old.results results.new.results) }
+    ensures known { OnOk result (HasOnlyMore (names_of ctx.now (held_of node.now))
+        results.old.results results.new.results) }
+    ensures held { OnOk result (HoldsAll (names_of ctx.now (held_of node.now))
+        results.new.results) }
+    ensures one { OnOk result (NodeStands ctx.now (held_of node.now) (Some parent)
+        results.new.results) }
+    ensures all { OnOk result (results.old.results ≡ []
+        → GroupStands ctx.now (held_of node.now) (Some parent) results.new.results) }
+{
+    add_results_under(alloc, node, ctx, results, Some(parent))
+}
+
+// The same for a parent, or over no documents without one.
+fn add_results_under(
+    alloc: Global,
+    node: &SegmentCollectorTree<'_>,
+    ctx: &PerRequestAggSegCtx<'_>,
+    results: &mut IntermediateAggregationResults,
+    parent: Option<BucketId>,
+) -> Result<(), OutOfMemory>
+    requires { MayAdd ctx.now (held_of node.now) results.old.results }
+    ensures { OnOk result (Adds ctx.now (held_of node.now) parent
+        results.old.results results.new.results) }
+{
+    match node {
+        SegmentCollectorTree::Composite(index, collector, child) => {
+            let req = &ctx.composite_req_data.as_slice()[*index];
+            let mut buckets = empty_page(alloc, req)?;
+            for entry in page_under(alloc, collector, req, parent)?.into_vec() {
+                let mut below = IntermediateAggregationResults::new(alloc);
+                add_results_under(alloc, child, ctx, &mut below, Some(entry.bucket_id))?;
+                add_last(&mut buckets, entry, below)?;
+            }
+            put_result(alloc, results, &req.name, page_result(buckets))
+        }
+        SegmentCollectorTree::Filter(index, collector, child) => {
+            let req = &ctx.filter_req_data.as_slice()[*index];
+            let (doc_count, id) = bucket_under(collector, parent);
+            let mut below = IntermediateAggregationResults::new(alloc);
+            add_results_under(alloc, child, ctx, &mut below, id)?;
+            put_result(alloc, results, &req.name, filter_result(doc_count, below))
+        }
+        SegmentCollectorTree::Metric(index, collector) => {
+            let req = &ctx.stats_metric_req_data.as_slice()[*index];
+            let value = IntermediateAggregationResult::Metric(metric_under(collector, req, parent));
+            put_result(alloc, results, &req.name, value)
+        }
+        SegmentCollectorTree::Group(children) => {
+            for child in children {
+                add_results_under(alloc, child, ctx, results, parent)?;
+            }
+            Ok(())
+        }
+    }
+}
