@@ -1,0 +1,13 @@
+pub mod AskedNames
+pub mod Contexts
+pub mod Halves
+pub mod JoinedCounts
+pub mod LeastVisits
+pub mod MarkedDocuments
+pub mod PartCounts
+pub mod Refusals
+pub mod SegmentTrees
+pub mod StartRanges
+pub mod TakenParts
+pub mod TakenTrees
+pub mod TreeRanges

@@ -1,0 +1,197 @@
+-- The tree of a segment's context takes the documents of the segment that match.
+use Rattle.std.proofs.Common.{◌≡◌, ◌≤◌, ◌<◌, ◌+◌, ◌*◌, ℕ, List, [], ◌∷◌, false, true, Some}
+use Rattle.std.proofs.Common.{Ok, map, refl, sym, ap, ◌∙◌, subst, arith, append-nil}
+use Rattle.std.specs.List.{All}
+use Rattle.std.proofs.lemmas.List.Elements.{All-filter}
+use Rattle.std.proofs.lemmas.List.FromFn.{length-map-range_with_len}
+use Rattle.agg_cache.specs.Waiting.{docs_of, is_id, under}
+use Rattle.agg_cache.proofs.UnderIds.{docs_of-same}
+use Rattle.agg_column.specs.Document.{HasNumbersOf64Bits}
+use Rattle.agg_segment.specs.Query.{matches}
+use Rattle.agg_segment.specs.Segment.{Stored, document_at, documents_at, documents_of}
+use Rattle.agg_segment.specs.declared.query.QueryTree.{QueryTree}
+use Rattle.agg_request_tree.specs.Ranges.{HasStartOutOfRange}
+use Rattle.agg_request_tree.specs.Request.{Request}
+use Rattle.agg_request_tree.specs.Uncut.{CountsTooMany}
+use Rattle.agg_buckets.specs.Visits.{docs_in}
+use Rattle.agg_intermediate_results.specs.declared.results.IntermediateAggregationResults as held
+use held.{IntermediateAggregationResults}
+use Rattle.agg_results.specs.StandsFor.{StandsFor}
+use Rattle.agg_segment_context.specs.Context.{IsMeant, Meaning}
+use Rattle.agg_segment_context.specs.Plan.{Plans, plan_of, plans_of}
+use Rattle.agg_segment_context.specs.declared.context.PerRequestAggSegCtx.{PerRequestAggSegCtx}
+use Rattle.agg_collector_tree.specs.Counting.{counted_of}
+use Rattle.agg_collector_tree.specs.Tree.{Fits, Held, IsFor, IsGroupOf, Takes}
+use Rattle.agg_tree_results.specs.Names.{HasNamesApart}
+use Rattle.agg_tree_results.specs.Results.{AreDocsOf, GroupStands, IsTrail}
+use Rattle.agg_tree_results.proofs.ApartNames.{apart-group}
+use Rattle.agg_snapshot.specs.Answers.{AnswersResults}
+use Rattle.agg_snapshot.specs.Contexts.{IsContextOf, MayBeCollected}
+use Rattle.agg_snapshot.specs.Documents.{matching_in}
+use Rattle.agg_snapshot.specs.Steps.{past_named}
+use Rattle.agg_snapshot.specs.Trees.{IsRight, MayBeTaken, MayTake, MostSteps}
+use Rattle.agg_snapshot.specs.declared.context.SegmentContext.{SegmentContext}
+use Rattle.agg_snapshot.proofs.Contexts.{documents-here, matching-one}
+use Rattle.agg_snapshot.proofs.LeastVisits.{group-least}
+use Rattle.agg_snapshot.proofs.TakenParts.{may-second, most-both, takes-both}
+
+-- the numbers of pairs under a parent
+docs_in-under : (docs : List ℕ) → docs_in (under 0 docs) ≡ docs
+docs_in-under [] = refl
+docs_in-under (doc ∷ docs) = ap (λ ds. doc ∷ ds) (docs_in-under docs)
+
+-- a tree right after it was made
+pub record IsNew (ctx : PerRequestAggSegCtx) (reader : Stored) (h : Held) : Type 0 where
+  pub nodes : IsGroupOf (plans_of (map plan_of ctx.agg_tree)) h
+  pub fits : Fits ctx h
+  pub right : (meaning : Meaning) → meaning.segment ≡ reader → IsMeant meaning ctx
+      → IsFor meaning ctx h [] 0
+
+module _ (request : Request QueryTree) (query : QueryTree) (segment : Stored)
+    (given : SegmentContext) (ready : MayBeCollected request query (segment ∷ []) (given ∷ []))
+    (docs : List ℕ) (same : docs ≡ given.docs.items) where
+  abbrev pub ctx : PerRequestAggSegCtx
+  ctx = given.aggregations.per_request
+
+  abbrev is : IsContextOf request query segment given
+  is = ready.each.0
+
+  abbrev pub meaning : Meaning
+  meaning = is.meaning
+
+  abbrev plans : Plans
+  plans = plans_of (map plan_of ctx.agg_tree)
+
+  -- the documents that match
+  documents-of : (taken : List ℕ) → taken ≡ docs
+      → documents_at meaning.segment taken ≡ matching_in query (segment ∷ [])
+  documents-of taken taken_are =
+      documents-here request query segment given is meaning is.means.same taken
+      (taken_are ∙ same)
+
+  documents-taken : documents_at meaning.segment (docs_in (under 0 docs))
+      ≡ matching_in query (segment ∷ [])
+  documents-taken = documents-of (docs_in (under 0 docs)) (docs_in-under docs)
+
+  may : MayBeTaken request meaning (under 0 docs)
+  may = record {
+    numbers = subst (All HasNumbersOf64Bits)
+        (sym (matching-one query segment) ∙ sym documents-taken)
+        (All-filter (matches query) HasNumbersOf64Bits (documents_of segment) is.numbers);
+    range = subst (λ ds. ¬ (HasStartOutOfRange request ds)) (sym documents-taken) ready.range;
+    few = subst (λ ds. ¬ (CountsTooMany matches request ds)) (sym documents-taken) ready.few;
+  }
+
+  -- a new tree is right for no documents, and may take those that match
+  pub right-new : (h : Held) → IsNew ctx given.reader.now h → IsRight ctx request meaning h [] 0
+  right-new h new = record {
+    context = is.means.aggregations;
+    nodes = new.nodes;
+    fits = new.fits;
+    right = new.right meaning (is.means.same ∙ sym is.reader) is.means.aggregations.meant;
+  }
+
+  pub may-new : (h : Held) → IsNew ctx given.reader.now h → MayTake ctx h (under 0 docs)
+  may-new h new = record {
+    request = request;
+    meaning = meaning;
+    taken = [];
+    visits = 0;
+    right = right-new h new;
+    all = may;
+  }
+
+  -- whatever is answered to those, the steps are few
+  pub most-taken : (h : Held) → IsNew ctx given.reader.now h → (steps steps_now : ℕ)
+      → MostSteps ctx (under 0 docs) h steps steps_now
+      → steps_now ≤ steps + 3 * counted_of matches request (matching_in query (segment ∷ []))
+  most-taken h new steps steps_now taken =
+      omega (
+        arith,
+        taken.most request meaning [] 0 (right-new h new),
+        ap (counted_of matches request) documents-taken,
+      )
+
+  module _ (old mid : Held) (steps steps_mid : ℕ)
+      (made : IsNew ctx given.reader.now old)
+      (took : Takes ctx (under 0 docs) false old mid steps steps_mid) where
+    -- after those it may be flushed
+    pub may-flush : MayTake ctx mid []
+    may-flush =
+        may-second ctx (under 0 docs) [] old mid steps steps_mid took
+        (subst (MayTake ctx old) (sym (append-nil (under 0 docs))) (may-new old made))
+
+    -- whatever is answered to that, the steps are few
+    pub most-flushed : (steps_now : ℕ) → MostSteps ctx [] mid steps_mid steps_now
+        → steps_now ≤ steps + 3 * counted_of matches request (matching_in query (segment ∷ []))
+    most-flushed steps_now flushed =
+        let both = most-both ctx (under 0 docs) [] old mid steps steps_mid took steps_now flushed in
+        omega (
+          arith,
+          both.most request meaning [] 0 (right-new old made),
+          ap (λ pairs. counted_of matches request (documents_at meaning.segment (docs_in pairs)))
+              (append-nil (under 0 docs)),
+          ap (counted_of matches request) documents-taken,
+        )
+
+    module _ (new : Held) (steps_now : ℕ)
+        (flushed : Takes ctx [] true mid new steps_mid steps_now) where
+      both : Takes ctx (under 0 docs) true old new steps steps_now
+      both =
+          subst (λ pairs. Takes ctx pairs true old new steps steps_now)
+          (append-nil (under 0 docs))
+          (takes-both ctx (under 0 docs) [] old mid steps steps_mid took true new steps_now flushed)
+
+      -- it is right for what it took
+      pub right-flushed : (visits : ℕ) × IsFor meaning ctx new (under 0 docs) visits
+          × (steps + visits ≤ steps_now)
+      right-flushed =
+          let right = right-new old made in
+          let now = both.takes meaning is.means.aggregations.meant [] 0 right.right in
+          (now.0, now.1, omega (arith, now.3))
+
+      pub nodes-flushed : IsGroupOf plans new
+      nodes-flushed = both.group plans made.nodes
+
+      -- its names are apart
+      pub apart-flushed : HasNamesApart ctx new
+      apart-flushed =
+          apart-group meaning ctx new request plans is.means.aggregations.tree nodes-flushed
+          ready.names
+
+      within-taken : AreDocsOf meaning.segment (docs_of (is_id 0) (under 0 docs))
+      within-taken =
+          let long = length-map-range_with_len (document_at segment) 0 segment.count in
+          let count = ap (λ s. s.count) is.means.same in
+          subst (All (λ doc. doc < meaning.segment.count))
+          (sym (docs_of-same 0 docs ∙ same))
+          (subst (λ n. All (λ doc. doc < n) given.docs.items) (long ∙ sym count) is.within)
+
+      -- its results are those of the documents that match
+      pub answers-flushed : (results : IntermediateAggregationResults)
+          → GroupStands ctx new (Some 0) results.results
+          → MostSteps ctx [] mid steps_mid steps_now
+          → AnswersResults request (matching_in query (segment ∷ [])) steps steps_now (Ok results)
+      answers-flushed results stands most =
+          let now = right-flushed in
+          let trail : IsTrail meaning ctx new (Some 0) (under 0 docs) =
+          record {
+            meant = is.means.aggregations.meant;
+            visits = now.0;
+            right = now.1;
+            within = within-taken;
+          } in
+          record {
+            stands = subst (λ ds. StandsFor matches request ds results.results)
+                (documents-of (docs_of (is_id 0) (under 0 docs)) (docs_of-same 0 docs))
+                (stands meaning (under 0 docs) trail request plans is.means.aggregations.tree
+                nodes-flushed);
+            least = λ name. omega (
+              arith,
+              now.2,
+              group-least meaning ctx (under 0 docs) name plans request is.means.aggregations.tree
+                  new nodes-flushed now.0 now.1,
+              ap (past_named name request) documents-taken,
+            );
+            most = most-flushed steps_now most;
+          }

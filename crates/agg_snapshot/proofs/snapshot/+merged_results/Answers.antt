@@ -1,0 +1,148 @@
+use Rattle.std.proofs.Common.{◌≡◌, ◌/◌, List, [], ◌∷◌, Err, Ok, length, take, drop, sym, ap, subst}
+use Rattle.std.proofs.Common.{arith, rules}
+use Rattle.agg_segment.specs.Segment.{Stored}
+use Rattle.agg_segment.specs.declared.query.QueryTree.{QueryTree}
+use Rattle.agg_request_tree.specs.Request.{Request}
+use Rattle.agg_snapshot.specs.Answers.{AnswersResults}
+use Rattle.agg_snapshot.specs.Contexts.{MayBeCollected}
+use Rattle.agg_snapshot.specs.Documents.{matching_in}
+use Rattle.agg_snapshot.proofs.Contexts.{lone-segment, no-item, no-segment, only-item}
+use Rattle.agg_snapshot.proofs.Contexts.{ready-back, ready-front}
+use Rattle.agg_snapshot.proofs.Halves.{answers-none, answers-refused, both-alike, both-few}
+use Rattle.agg_snapshot.proofs.Halves.{both-joined, both-most, first-most, only-memory}
+use Rattle.agg_snapshot.proofs.snapshot.+merged_results.Goals as goal
+
+pub segment_results-requires : goal.segment_results-requires
+segment_results-requires g t c =
+    let request = c.requires.0 in
+    let query = c.requires.1 in
+    let context = c.context-item.result in
+    let one = only-item c.args.contexts.now context (omega arith) c.context-item.is in
+    let ready = subst (MayBeCollected request query c.requires.2) one c.requires.3 in
+    let lone = lone-segment request query c.requires.2 context ready in (
+      request,
+      query,
+      lone.0,
+      subst (λ ss. MayBeCollected request query ss (context ∷ [])) lone.1 ready,
+    )
+
+pub merged_results-requires : goal.merged_results-requires
+merged_results-requires g t c κs within =
+    let request = c.requires.0 in
+    let query = c.requires.1 in
+    let least = c.in_default.len_at_least in
+    let front = c.split_at.ensures.front_len in
+    let half = length c.args.contexts.now / 2 in
+    let ready : (r : Request QueryTree) × (q : QueryTree) × (segments : List Stored)
+    × MayBeCollected r q segments c.split_at.result.0.now = (
+      request,
+      query,
+      take half c.requires.2,
+      ready-front request query c.requires.2 c.args.contexts.now half c.requires.3
+          c.split_at.result.0.now c.split_at.ensures.front,
+    ) in
+    search rules
+
+pub returns-in_err-merged-in_default-clause-results :
+    goal.returns-in_err-merged-in_default-clause-results
+returns-in_err-merged-in_default-clause-results g t c = λ request query segments ready.
+    let contexts = c.args.contexts.now in
+    answers-refused request (matching_in query segments) c.args.steps.now
+    c.merged_results.new.steps c.from_residual.result
+    (λ e. e ≡ c.in_err-merged-in_default.field-0.0)
+    (first-most contexts c.split_at.result.0.now c.split_at.result.1.now (length contexts / 2)
+    c.split_at.ensures.front c.split_at.ensures.back request query segments ready c.args.steps.now
+    c.merged_results.new.steps (Err c.in_err-merged-in_default.field-0.0)
+    c.in_err-merged-in_default.ensures.results) c.from_residual.ensures.1
+
+pub merged_results-requires-in_default : goal.merged_results-requires-in_default
+merged_results-requires-in_default g t c κs within =
+    let request = c.requires.0 in
+    let query = c.requires.1 in
+    let least = c.in_default.len_at_least in
+    let back = c.split_at.ensures.back_len in
+    let half = length c.args.contexts.now / 2 in
+    let ready : (r : Request QueryTree) × (q : QueryTree) × (segments : List Stored)
+    × MayBeCollected r q segments c.split_at.result.1.now = (
+      request,
+      query,
+      drop half c.requires.2,
+      ready-back request query c.requires.2 c.args.contexts.now half c.requires.3
+          c.split_at.result.1.now c.split_at.ensures.back,
+    ) in
+    search rules
+
+pub returns-in_err-more-in_default-clause-results :
+    goal.returns-in_err-more-in_default-clause-results
+returns-in_err-more-in_default-clause-results g t c = λ request query segments ready.
+    let contexts = c.args.contexts.now in
+    answers-refused request (matching_in query segments) c.args.steps.now
+    c.merged_results-in_default.new.steps c.from_residual-in_err-more-in_default.result
+    (λ e. e ≡ c.in_err-more-in_default.field-0.0)
+    (both-most contexts c.split_at.result.0.now c.split_at.result.1.now (length contexts / 2)
+    c.split_at.ensures.front c.split_at.ensures.back request query segments ready c.args.steps.now
+    c.merged_results.new.steps (Ok c.in_ok-merged-in_default.merged)
+    c.in_ok-merged-in_default.ensures.results c.merged_results-in_default.new.steps
+    (Err c.in_err-more-in_default.field-0.0) c.in_err-more-in_default.ensures.results)
+    c.from_residual-in_err-more-in_default.ensures.1
+
+pub out_of_memory-requires : goal.out_of_memory-requires
+out_of_memory-requires g t c =
+    let contexts = c.args.contexts.now in
+    let half = length contexts / 2 in
+    only-memory c.in-Err.error
+    (λ was. both-alike contexts c.split_at.result.0.now c.split_at.result.1.now half
+    c.split_at.ensures.front c.split_at.ensures.back c.requires.0 c.requires.1 c.requires.2
+    c.requires.3 c.args.steps.now c.merged_results.new.steps c.merged_results-in_default.new.steps
+    c.in_ok-merged-in_default.merged c.in_ok-more-in_default.more
+    c.in_ok-merged-in_default.ensures.results c.in_ok-more-in_default.ensures.results
+    (c.in-Err.ensures.mismatch (ap Err was)))
+    (λ was. both-few contexts c.split_at.result.0.now c.split_at.result.1.now half
+    c.split_at.ensures.front c.split_at.ensures.back c.requires.0 c.requires.1 c.requires.2
+    c.requires.3 c.args.steps.now c.merged_results.new.steps c.merged_results-in_default.new.steps
+    c.in_ok-merged-in_default.merged c.in_ok-more-in_default.more
+    c.in_ok-merged-in_default.ensures.results c.in_ok-more-in_default.ensures.results
+    (c.in-Err.ensures.too_many (ap Err was)).1)
+
+pub returns-in-empty-clause-results : goal.returns-in-empty-clause-results
+returns-in-empty-clause-results g t c = λ request query segments given.
+    let ready = subst (MayBeCollected request query segments)
+    (no-item c.args.contexts.now c.in-empty.len_below) given in
+    subst (λ ss. AnswersResults request (matching_in query ss) c.args.steps.now c.args.steps.now
+    (Ok c.new.result)) (sym (no-segment request query segments ready.each))
+    (answers-none request c.args.steps.now c.new.result c.new.ensures)
+
+pub returns-in-len1-clause-results : goal.returns-in-len1-clause-results
+returns-in-len1-clause-results g t c = λ request query segments given.
+    let context = c.context-item.result in
+    let one = only-item c.args.contexts.now context (omega arith) c.context-item.is in
+    let ready = subst (MayBeCollected request query segments) one given in
+    let lone = lone-segment request query segments context ready in
+    subst (λ ss. AnswersResults request (matching_in query ss) c.args.steps.now
+    c.segment_results.new.steps c.segment_results.result) (sym lone.1)
+    (c.segment_results.ensures.results request query lone.0
+    (subst (λ ss. MayBeCollected request query ss (context ∷ [])) lone.1 ready))
+
+pub returns-in-Ok-clause-results : goal.returns-in-Ok-clause-results
+returns-in-Ok-clause-results g t c = λ request query segments ready.
+    let contexts = c.args.contexts.now in
+    both-joined contexts c.split_at.result.0.now c.split_at.result.1.now (length contexts / 2)
+    c.split_at.ensures.front c.split_at.ensures.back request query segments ready c.args.steps.now
+    c.merged_results.new.steps c.merged_results-in_default.new.steps
+    c.in_ok-merged-in_default.merged c.in_ok-more-in_default.more
+    c.in_ok-merged-in_default.ensures.results c.in_ok-more-in_default.ensures.results
+    c.merge_fruits.new.self c.in-Ok.ensures.ok
+
+pub returns-in-Err-clause-results : goal.returns-in-Err-clause-results
+returns-in-Err-clause-results g t c = λ request query segments ready.
+    let contexts = c.args.contexts.now in
+    record {
+      stands = tt;
+      least = λ name. tt;
+      most = both-most contexts c.split_at.result.0.now c.split_at.result.1.now
+          (length contexts / 2) c.split_at.ensures.front c.split_at.ensures.back request query
+          segments ready c.args.steps.now c.merged_results.new.steps
+          (Ok c.in_ok-merged-in_default.merged) c.in_ok-merged-in_default.ensures.results
+          c.merged_results-in_default.new.steps (Ok c.in_ok-more-in_default.more)
+          c.in_ok-more-in_default.ensures.results;
+    }

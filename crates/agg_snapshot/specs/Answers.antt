@@ -1,0 +1,44 @@
+-- What calls answer of a snapshot's segments.
+use Rattle.std.specs.Prelude.{◌≤◌, ◌+◌, ◌*◌, ℕ, List, Result, IfOk, OnOk, ⊤}
+use Rattle.agg_column.specs.Document.{Fields}
+use Rattle.agg_segment.specs.Query.{matches}
+use Rattle.agg_segment.specs.declared.query.QueryTree.{QueryTree}
+use Rattle.agg_request_tree.specs.Ranges.{HasStartOutOfRange}
+use Rattle.agg_request_tree.specs.Request.{Request}
+use Rattle.agg_request_tree.specs.Uncut.{CountsTooMany}
+use Rattle.agg_intermediate_results.specs.declared.results.IntermediateAggregationResults as held
+use held.{IntermediateAggregationResults}
+use Rattle.agg_results.specs.StandsFor.{StandsFor}
+use Rattle.agg_snapshot.specs.Steps.{counted_of, past_named}
+use Rattle.agg_snapshot.specs.declared.error.SnapshotError.{SnapshotError}
+use Rattle.agg_snapshot.specs.declared.error.SnapshotError.TheVariants as error
+
+-- why there are no results over documents: a bucket starts outside i64, or, where none does, some
+-- aggregation counts too many; running out of memory needs no cause
+abbrev pub IsRefusal : Request QueryTree → List Fields → SnapshotError → Type 0
+IsRefusal request documents error.BucketOutOfRange = HasStartOutOfRange request documents
+IsRefusal request documents error.TooMany =
+    (¬ (HasStartOutOfRange request documents)) × CountsTooMany matches request documents
+IsRefusal request documents error.OutOfMemory = ⊤
+
+-- why starts are refused
+abbrev pub IsStartRefusal : Request QueryTree → List Fields → SnapshotError → Type 0
+IsStartRefusal request documents error.BucketOutOfRange = HasStartOutOfRange request documents
+IsStartRefusal request documents _ = ⊥
+
+-- why counts are refused; running out of memory needs no cause
+abbrev pub IsCountRefusal : Request QueryTree → List Fields → SnapshotError → Type 0
+IsCountRefusal request documents error.BucketOutOfRange = ⊥
+IsCountRefusal request documents error.TooMany = CountsTooMany matches request documents
+IsCountRefusal request documents error.OutOfMemory = ⊤
+
+-- results over documents: an Ok stands for them, with a step or more for each occurrence past the
+-- bound of a composite at the top; whatever is answered, there are at most three steps for each
+-- document that composites count
+pub record AnswersResults (request : Request QueryTree) (documents : List Fields)
+    (steps steps_now : ℕ) (result : Result IntermediateAggregationResults SnapshotError)
+    : Type 0 where
+  pub stands : IfOk result (λ results. StandsFor matches request documents results.results)
+  pub least : (name : List ℕ)
+      → OnOk result (steps + past_named name request documents ≤ steps_now)
+  pub most : steps_now ≤ steps + 3 * counted_of matches request documents

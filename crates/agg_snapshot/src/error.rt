@@ -1,0 +1,24 @@
+ghost use Rattle.std.specs.Prelude.{◌≡◌};
+ghost use Rattle.agg_snapshot.specs.declared.error.SnapshotError.{SnapshotError};
+
+use agg_values::OutOfMemory;
+use thiserror::Error;
+
+/// Why a snapshot has no results.
+#[derive(Clone, Copy, Debug, PartialEq, Eq, Error)]
+pub enum SnapshotError {
+    #[error("a bucket starts outside 64 bits")]
+    BucketOutOfRange,
+    #[error("too many occurrences")]
+    TooMany,
+    #[error("out of memory")]
+    OutOfMemory,
+}
+
+impl From<OutOfMemory> for SnapshotError {
+    ghost from_gives = { λ _ error. error ≡ SnapshotError.OutOfMemory };
+
+    fn from(_part: OutOfMemory) -> SnapshotError {
+        SnapshotError::OutOfMemory
+    }
+}

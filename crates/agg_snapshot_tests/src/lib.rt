@@ -1,0 +1,5 @@
+//! Tests of the results of a request over the segments of a snapshot.
+#![tactic(auto)]
+
+#[cfg(test)]
+mod results;
