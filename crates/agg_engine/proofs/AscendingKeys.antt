@@ -1,11 +1,11 @@
 -- Ascending keys, and what is put after them.
-use Rattle.std.proofs.Common.{◌≡◌, ℕ, List, [], ◌∷◌, ◌++◌, None, map, refl, sym, ap, ◌∙◌, subst}
+use Rattle.std.proofs.Common.{◌≡◌, ℕ, List, [], ◌∷◌, ◌++◌, map, refl, sym, ap, ◌∙◌, subst}
 use Rattle.std.proofs.Common.{Ordering, Less, Greater, append_assoc}
-use Rattle.std.specs.BTreeMap.{insert_entry, is_at}
+use Rattle.std.specs.BTreeMap.{insert_entry}
 use Rattle.std.specs.Cmp.{IsTotalOrder}
 use Rattle.std.specs.List.{AllByRecursion}
 use Rattle.std.specs.List.Sorted.{IsStrictlySortedBy}
-use Rattle.std.specs.Map.{keys_of, lookup}
+use Rattle.std.specs.Map.{keys_of}
 use Rattle.std.specs.Ordering.{ordering_reverse}
 use Rattle.std.proofs.lemmas.Cmp.{nat_list_cmp_total}
 use Rattle.std.proofs.lemmas.List.{map-append}
@@ -37,12 +37,6 @@ module _ {K : Type 0} (R : K → K → Ordering) where
   module _ (total : IsTotalOrder R) where
     above : (l k : K) → R l k ≡ Less → R k l ≡ Greater
     above l k below = total.antisymm k l ∙ ap ordering_reverse below
-
-    -- entries below a key don't hold it
-    pub lookup-below : {X : Type 0} (es : List (K × X)) (k : K)
-        → AllByRecursion (λ l. R l k ≡ Less) (keys_of es) → lookup (is_at (R k)) es ≡ None
-    lookup-below [] k below = refl
-    lookup-below (e ∷ es) k below = rw (above e.0 k below.0) (lookup-below es k below.1)
 
     -- an entry above others is put after them
     pub insert-end : {X : Type 0} (es : List (K × X)) (k : K) (x : X)

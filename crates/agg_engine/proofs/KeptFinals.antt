@@ -24,7 +24,7 @@ use Rattle.agg_intermediate_results.specs.Refusals.{HoldsUnknownWithin, IsOther}
 use Rattle.agg_intermediate_results.specs.Shown.{shown_page}
 use Rattle.agg_intermediate_results.specs.declared.results.IntermediateAggregationResult as held
 use held.{IntermediateAggregationResult}
-use Rattle.agg_engine.specs.Walk.{changed, request_changed_at}
+use Rattle.agg_segment_context.specs.Pages.{changed, request_changed_at}
 use Rattle.agg_engine.proofs.ChangedRequests.{AsksLike, IsLike, none-changed, some-changed}
 
 -- ---- of one aggregation

@@ -38,5 +38,7 @@ not-refused is_match limit request documents r is in_range few short (error.Inva
     refused
 not-refused is_match limit request documents r is in_range few short error.UnknownComposite
     refused = refused
+not-refused is_match limit request documents r is in_range few short error.QueryBuild refused =
+    refused
 not-refused is_match limit request documents r is in_range few short error.OutOfMemory refused =
     refused

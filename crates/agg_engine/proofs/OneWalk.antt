@@ -7,12 +7,12 @@ use Rattle.agg_segment.specs.declared.query.QueryTree.{QueryTree}
 use Rattle.agg_request_tree.specs.Request.{Request}
 use Rattle.agg_final_results.specs.declared.types.AggregationResults.{AggregationResults}
 use Rattle.agg_request_tree.proofs.Reorderings.{same}
+use Rattle.agg_segment_context.specs.Pages.{request_after, request_at_size}
 use Rattle.agg_results.proofs.ResultExists.{AreResults-exist}
 use Rattle.agg_results.proofs.ResultOrders.{AreResults-reordering}
 use Rattle.agg_results.specs.Results.{AreResults}
 use Rattle.agg_engine.specs.Snapshot.{SnapshotDocuments}
 use Rattle.agg_engine.specs.Walk.{AreResultsAt, IfFull, IsWalk, after_in, matching_documents}
-use Rattle.agg_engine.specs.Walk.{request_after, request_at_size}
 
 -- a request has one result
 pub AreResults-same : {B : Type 0} (is_match : B → Fields → Bool) (request : Request B)

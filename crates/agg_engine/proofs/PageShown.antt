@@ -19,7 +19,7 @@ use Rattle.agg_intermediate_results.specs.Shown.{Results, shown_after}
 use Rattle.agg_results.specs.Results.{AreResults, EachHas, IsResult, IsResultTo, after_tuple}
 use Rattle.agg_engine.specs.NamedComposite.{IsCompositeNamed}
 use Rattle.agg_engine.specs.Walk.{after_in, after_of_result}
-use Rattle.agg_engine.proofs.OneRequest.{same_agg}
+use Rattle.agg_engine.proofs.NamedPlaces.{same_agg}
 use Rattle.agg_engine.proofs.PageBound.{after-occurs, after-shown, after_map-some, full-last}
 use Rattle.agg_engine.proofs.PageBound.{last-full, shown-tuple}
 

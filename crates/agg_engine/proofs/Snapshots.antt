@@ -1,6 +1,6 @@
 -- Snapshots, as what they stand for.
-use Rattle.std.proofs.Common.{◌≡◌, ◌≢◌, ◌==◌, ℕ, List}
-use Rattle.std.proofs.Common.{arith, true, false, sym, ap, ◌∙◌}
+use Rattle.std.proofs.Common.{◌≡◌, ◌≢◌, ◌==◌, ℕ, List, Option}
+use Rattle.std.proofs.Common.{◌<◌, arith, true, false, get_or, length, eq-eqb, sym, ap, subst, ◌∙◌}
 use Rattle.std.specs.List.{Any, filter, flat_map, list_any}
 use Rattle.std.proofs.lemmas.Bool.Decides.{nat_tests}
 use Rattle.std.proofs.lemmas.List.{get_or-map, length-map}
@@ -13,9 +13,11 @@ use Rattle.agg_segment.specs.declared.query.QueryTree.{QueryTree}
 use Rattle.agg_request_tree.specs.Faults.{IsSoundRequest}
 use Rattle.agg_request_tree.specs.Request.{Request}
 use Rattle.agg_request_tree.specs.declared.aggregation.CompositeAggregation.{CompositeAggregation}
+use Rattle.agg_segment_context.specs.Trees.{EachMakesTree}
+use Rattle.agg_snapshot.specs.Documents.{matching_in}
 use Rattle.agg_engine.specs.NamedComposite.{IsCompositeNamed}
 use Rattle.agg_engine.specs.Snapshot.{SnapshotDocuments, snapshot_documents, snapshots_documents}
-use Rattle.agg_engine.specs.Walk.{HaveRoom, MayBeAsked, matching_documents, matching_in}
+use Rattle.agg_engine.specs.Walk.{HaveRoom, MayBeAsked, matching_documents}
 use Rattle.agg_engine.specs.declared.walk.Snapshot.{Snapshot}
 
 -- every page has room
@@ -44,19 +46,35 @@ module _ (snapshots items : List Snapshot) (same : items ≡ snapshots) where
         grind (arith, nat_tests, found.4),
       )
 
-  -- a sound request with a name of its own, over pages that have room
-  pub may_be_asked : {B : Type 0} (name : List ℕ) (request : Request B)
-      (composite : CompositeAggregation) → IsSoundRequest request
+  -- every page has room
+  pub have_room : list_any (λ (s : Snapshot). s.page_size == 0) items ≡ false
+      → HaveRoom (snapshots_documents snapshots)
+  have_room none =
+      HaveRoom-none snapshots
+      (ap (list_any (λ (s : Snapshot). s.page_size == 0)) (sym same) ∙ none)
+
+  -- a sound request with a name of its own, over pages that have room, whose builders make trees
+  pub may_be_asked : {B : Type 0} (query_for : B → Option QueryTree) (name : List ℕ)
+      (request : Request B) (composite : CompositeAggregation) → IsSoundRequest request
       → IsCompositeNamed name request composite
       → list_any (λ (s : Snapshot). s.page_size == 0) items ≡ false
-      → MayBeAsked name request (snapshots_documents snapshots)
-  may_be_asked name request composite sound named none =
-      record {
-        sound = sound;
-        room = HaveRoom-none snapshots
-            (ap (list_any (λ (s : Snapshot). s.page_size == 0)) (sym same) ∙ none);
-        named = (composite, named);
-      }
+      → EachMakesTree query_for request
+      → MayBeAsked query_for name request (snapshots_documents snapshots)
+  may_be_asked query_for name request composite sound named none each =
+      record { sound = sound; room = have_room none; named = (composite, named); each = each }
+
+-- so has that of each
+pub room-at : (snapshots items others : List Snapshot) → items ≡ snapshots → others ≡ snapshots
+    → list_any (λ (s : Snapshot). s.page_size == 0) items ≡ false → (at : ℕ) (s : Snapshot)
+    → at < length others → s ≡ get_or others at s → s.page_size ≢ 0
+room-at snapshots items others same other none at s within item zero =
+    let all : others ≡ items = other ∙ sym same in
+    let is : s ≡ get_or items at s = item ∙ ap (λ (l : List Snapshot). get_or l at s) all in
+    let empty = ap (λ (x : Snapshot). x.page_size) (sym is) ∙ zero in
+    let some = list_any_at (λ (s : Snapshot). s.page_size == 0) items at s
+    (subst (λ (l : List Snapshot). at < length l) all within)
+    (eq-eqb (get_or items at s).page_size 0 empty) in
+    cc (some, none)
 
 -- the documents of a snapshot that match are those of its segments
 pub matching_documents-segments : (query : QueryTree) (snapshot : Snapshot)

@@ -1,6 +1,6 @@
 -- A walk goes on after a full page, and ends with another.
 use Rattle.std.proofs.Common.{◌≡◌, ◌≢◌, ◌≤◌, ◌+◌, ◌*◌, ℕ, List, [], ◌∷◌, ◌++◌, Bool, true, false}
-use Rattle.std.proofs.Common.{Option, None, Some, sym, ap, ◌∙◌, subst, arith}
+use Rattle.std.proofs.Common.{Option, None, Some, Result, Ok, sym, ap, ◌∙◌, subst, arith}
 use Rattle.std.specs.List.{All}
 use Rattle.std.specs.Option.{is_some}
 use Rattle.std.specs.Prelude.{unwrap_or}
@@ -15,22 +15,20 @@ use Rattle.agg_request_tree.specs.declared.aggregation.CompositeAggregation.{Com
 use Rattle.agg_request_tree.proofs.Faults.{IsSound-intervals, IsSound-names}
 use Rattle.agg_final_results.specs.BucketCount.{results_buckets}
 use Rattle.agg_final_results.specs.declared.types.AggregationResults.{AggregationResults}
-use Rattle.agg_intermediate_results.specs.Final.{final_results}
-use Rattle.agg_intermediate_results.specs.Intermediate.{Held}
-use Rattle.agg_intermediate_results.specs.Refusals.{HaveTooMany, HoldsOther, HoldsUnknown}
-use Rattle.agg_engine.specs.NamedComposite.{IsCompositeNamed}
-use Rattle.agg_engine.specs.PageAnswers.{IsShown, MayGoOnFrom}
-use Rattle.agg_engine.specs.Refusals.{AreRefusedAt, IsRefused}
+use Rattle.agg_segment_context.specs.Pages.{paged, request_after, request_at_size}
+use Rattle.agg_segment_context.specs.declared.params.Page.{Page}
+use Rattle.agg_snapshot.specs.Steps.{counted_of, past_named}
+use Rattle.agg_engine.specs.PageAnswers.{AnswersPage, IsShown, MayGoOnFrom}
+use Rattle.agg_engine.specs.Refusals.{IsRefused}
 use Rattle.agg_engine.specs.Snapshot.{SnapshotDocuments}
-use Rattle.agg_engine.specs.Walk.{AreResultsAt, IsWalk, after_in, matching_documents}
-use Rattle.agg_engine.specs.Walk.{request_after, request_at_size}
+use Rattle.agg_engine.specs.Walk.{IsWalk, after_in, matching_documents}
+use Rattle.agg_engine.specs.declared.walk.error.WalkError.{WalkError}
 use Rattle.agg_engine.proofs.AfterKeys.{HasNoNull, MayGoOnFrom-after}
-use Rattle.agg_engine.proofs.MergedResults.{IsMergedHere}
-use Rattle.agg_engine.proofs.OneRequest.{at_size, going_on, later-one, named-own, sized-one}
+use Rattle.agg_engine.proofs.ChangedCounts.{counted-here, past-sized}
+use Rattle.agg_engine.proofs.NamedPlaces.{sound-named}
 use Rattle.agg_engine.proofs.PageBound.{after-occurs, shown-tuple}
 use Rattle.agg_engine.proofs.PageShown.{page_shown}
-use Rattle.agg_engine.proofs.ReachedPage.{alike-here, fit-here, known-here, results-here}
-use Rattle.agg_engine.specs.Steps.{counted_of, past_named}
+use Rattle.agg_engine.proofs.PagedRequests.{here, here-named, later-key, sized}
 use Rattle.agg_engine.proofs.StepsTaken.{IsCounting, counting-more}
 use Rattle.agg_engine.proofs.WalkLoop.{IsWalking}
 use Rattle.agg_engine.proofs.WalkState.{WalkState, few-more, state-ended, state-ended-fits}
@@ -48,70 +46,90 @@ some-shown : (next : Option (Named AfterKey)) (shown own : Named AfterKey) → I
 some-shown None shown own is some = cc some
 some-shown (Some after) shown own is some = (is.0, λ none. is.1 (is.0 ∙ none))
 
--- at a snapshot, with the merged results of its segments
+-- what a call for a page answers at a snapshot, where a request goes on from an after key
+abbrev pub AnswersAt : {B : Type 0} → (B → Fields → Bool) → ℕ → List ℕ → QueryTree → Request B
+    → Named AfterKey → SnapshotDocuments → ℕ → ℕ → Result AggregationResults WalkError → Type 0
+AnswersAt is_match limit name query request after s =
+    AnswersPage is_match limit (request_at_size name s.page_size (request_after name after request))
+    (matching_documents query s)
+
+-- the page is set, and the documents of its segments are those of the snapshot
+pub answers-at : {B : Type 0} (is_match : B → Fields → Bool) (limit : ℕ) (name : List ℕ)
+    (query : QueryTree) (request : Request B) (after given : Named AfterKey)
+    (s : SnapshotDocuments) (page : Option Page) (documents : List Fields) (steps steps_now : ℕ)
+    (result : Result AggregationResults WalkError)
+    → page ≡ Some (record { name = name; size = s.page_size; after = given }) → given ≡ after
+    → documents ≡ matching_documents query s
+    → AnswersPage is_match limit (paged page request) documents steps steps_now result
+    → AnswersAt is_match limit name query request after s steps steps_now result
+answers-at is_match limit name query request after given s page documents steps steps_now result
+    page_is given_is are answer =
+    subst (λ k. AnswersAt is_match limit name query request k s steps steps_now result) given_is
+    (subst (λ ds. AnswersPage is_match limit
+    (request_at_size name s.page_size (request_after name given request)) ds steps steps_now result)
+    are
+    (subst (λ (p : Option Page). AnswersPage is_match limit (paged p request) documents steps
+    steps_now result) page_is answer))
+
+-- ---- the steps of a page
+
+module _ {B : Type 0} (is_match : B → Fields → Bool) (limit : ℕ) (name : List ℕ)
+    (query : QueryTree) (request : Request B) (after : Named AfterKey) (s : SnapshotDocuments)
+    (steps steps_now : ℕ) where
+  -- at most three for each document that the request counts
+  pub page-most : (result : Result AggregationResults WalkError)
+      → AnswersAt is_match limit name query request after s steps steps_now result
+      → steps_now ≤ steps + 3 * counted_of is_match request (matching_documents query s)
+  page-most result answer =
+      let most = answer.most in
+      let same = counted-here is_match name s.page_size after request (matching_documents query s)
+      in omega arith
+
+  -- an Ok has at least one for each occurrence past its bound
+  pub page-least : (results : AggregationResults)
+      → AnswersAt is_match limit name query request after s steps steps_now (Ok results)
+      → steps + past_named name (request_after name after request) (matching_documents query s)
+      ≤ steps_now
+  page-least results answer =
+      let least = answer.least name in
+      let same = past-sized name s.page_size (request_after name after request)
+      (matching_documents query s) in
+      omega arith
+
+-- ---- after a page
+
 module _ {B : Type 0} {is_match : B → Fields → Bool} {limit : ℕ} {name : List ℕ}
     {query : QueryTree} {request : Request B} {snapshots : List SnapshotDocuments}
     {composite : CompositeAggregation} {after : Named AfterKey} {s : SnapshotDocuments}
     {rest : List SnapshotDocuments} {pages : List AggregationResults}
     (w : IsWalking is_match limit name query request snapshots composite after (s ∷ rest) pages)
-    {merged : Held}
-    (h : IsMergedHere is_match name query (request_after name after request) s merged) where
-  pub walking-known : ¬ (HoldsUnknown request merged)
-  walking-known = known-here is_match limit name query request after s merged h
-
-  pub walking-alike : ¬ (HoldsOther request merged)
-  walking-alike = alike-here is_match limit name query request after s merged h
-
--- and their final results
-module _ {B : Type 0} {is_match : B → Fields → Bool} {limit : ℕ} {name : List ℕ}
-    {query : QueryTree} {request : Request B} {snapshots : List SnapshotDocuments}
-    {composite : CompositeAggregation} {after : Named AfterKey} {s : SnapshotDocuments}
-    {rest : List SnapshotDocuments} {pages : List AggregationResults}
-    (w : IsWalking is_match limit name query request snapshots composite after (s ∷ rest) pages)
-    {merged : Held}
-    (h : IsMergedHere is_match name query (request_after name after request) s merged)
-    (results : AggregationResults) (is : results ≡ final_results request merged)
-    (fit : ¬ (HaveTooMany limit request merged)) where
+    {before later : ℕ} {results : AggregationResults}
+    (answer : AnswersAt is_match limit name query request after s before later (Ok results)) where
   -- the request as it goes on
   abbrev now : Request B
   now = request_after name after request
 
-  are : AreResultsAt is_match name query now s results
-  are =
-      subst (AreResultsAt is_match name query now s) (sym is)
-      (results-here is_match limit name query request after s merged h)
-
-  final_short : results_buckets (final_results request merged) ≤ limit
-  final_short = let few = fit in omega arith
-
-  short : results_buckets results ≤ limit
-  short = subst (λ r. results_buckets r ≤ limit) (sym is) final_short
-
-  fits : NoneIs (AreRefusedAt is_match limit name query now s)
-  fits = fit-here is_match limit name query request after s merged h final_short
-
   -- the pages with this one have no more buckets than the limit
   pub walking-few : All (λ p. results_buckets p ≤ limit) (pages ++ results ∷ [])
   walking-few =
-      few-more is_match limit name query request snapshots now s rest pages w.state results are
-      fits short
+      few-more is_match limit name query request snapshots now s rest pages w.state results
+      answer.results answer.fits answer.buckets
 
   -- a composite goes on from the key that its page shows
   goes_on : All HasNoNull (matching_documents query s) → after_in name results ≢ []
       → MayGoOnFrom composite.sources (after_in name results)
   goes_on no_null some =
-      let sized = at_size s.page_size (going_on after composite) in
+      let asked = sized name request composite w.may.names w.may.named s.page_size after in
       let documents = matching_documents query s in
-      let here = request_at_size name s.page_size now in
-      let named : IsCompositeNamed name here sized =
-      subst (λ (r : Request B). IsCompositeNamed name r sized)
-      (sym (sized-one B name request composite after s.page_size w.request_is))
-      (named-own B name sized) in
-      let page = page_shown is_match name here documents results sized are named in
+      let sound = sound-named name composite request w.may.named w.may.sound in
+      let page = page_shown is_match name
+      (here name request composite w.may.names w.may.named s.page_size after) documents results
+      asked answer.results
+      (here-named name request composite w.may.names w.may.named s.page_size after) in
       let key = shown-tuple composite.sources _ (after_in name results) page.2 some in
       subst (MayGoOnFrom composite.sources) (sym key.2)
-      (MayGoOnFrom-after composite.sources documents key.0 (IsSound-names composite w.sound)
-      (IsSound-intervals composite w.sound) no_null
+      (MayGoOnFrom-after composite.sources documents key.0 (IsSound-names composite sound)
+      (IsSound-intervals composite sound) no_null
       (after-occurs composite.sources s.page_size (bound_of composite.sources after) documents
       page.0 key.0 page.1 key.1))
 
@@ -122,13 +140,15 @@ module _ {B : Type 0} {is_match : B → Fields → Bool} {limit : ℕ} {name : L
         → IsWalk is_match name query request snapshots (pages ++ results ∷ []) true
     walking-ended none =
         state-ended is_match limit name query request snapshots now s rest pages w.state results
-        are fits short (none-shown next (after_in name results) next_is none)
+        answer.results answer.fits answer.buckets (none-shown next (after_in name results) next_is
+        none)
 
     pub walking-ended-fits : is_some next ≡ false
         → NoneIs (IsRefused is_match limit name query request snapshots)
     walking-ended-fits none =
         state-ended-fits is_match limit name query request snapshots now s rest pages w.state
-        results are fits short (none-shown next (after_in name results) next_is none)
+        results answer.results answer.fits answer.buckets (none-shown next (after_in name results)
+        next_is none)
 
     -- a full page
     pub walking-more : All HasNoNull (matching_documents query s) → (own : Named AfterKey)
@@ -138,31 +158,34 @@ module _ {B : Type 0} {is_match : B → Fields → Bool} {limit : ℕ} {name : L
     walking-more no_null own some =
         let key = some-shown next (after_in name results) own next_is some in
         record {
-          request_is = w.request_is;
-          sound = w.sound;
-          may_go_on = subst (MayGoOnFrom composite.sources) (sym key.0) (goes_on no_null key.1);
+          may = record {
+            names = w.may.names;
+            named = w.may.named;
+            sound = w.may.sound;
+            goes_on = subst (MayGoOnFrom composite.sources) (sym key.0) (goes_on no_null key.1);
+          };
           state = subst (λ (r : Request B). WalkState is_match limit name query request snapshots r
               rest (pages ++ results ∷ []))
-              (later-one B name request composite after (after_in name results) w.request_is
+              (later-key name request after (after_in name results)
               ∙ ap (λ k. request_after name k request) (sym key.0))
               (state-more is_match limit name query request snapshots now s rest pages w.state
-              results are fits short key.1);
+              results answer.results answer.fits answer.buckets key.1);
         }
 
     -- with the steps so far
-    pub counting-page : (own : Named AfterKey) → is_some next ≡ true
-        → (done steps before later : ℕ)
+    pub counting-page : (own : Named AfterKey) → is_some next ≡ true → (done steps : ℕ)
         → IsCounting is_match name query request snapshots now (s ∷ rest) pages done steps before
-        → later ≤ before + 3 * counted_of is_match request (matching_documents query s)
-        → before + past_named name now (matching_documents query s) ≤ later
         → IsCounting is_match name query request snapshots
         (request_after name (unwrap_or next own) request) rest (pages ++ results ∷ []) (done + 1)
         steps later
-    counting-page own some done steps before later counting most least =
+    counting-page own some done steps counting =
         let key = some-shown next (after_in name results) own next_is some in
         subst (λ (r : Request B). IsCounting is_match name query request snapshots r rest
         (pages ++ results ∷ []) (done + 1) steps later)
-        (later-one B name request composite after (after_in name results) w.request_is
+        (later-key name request after (after_in name results)
         ∙ ap (λ k. request_after name k request) (sym key.0))
         (counting-more is_match name query request snapshots now s rest pages done steps before
-        later counting most results least are key.1)
+        later counting
+        (page-most is_match limit name query request after s before later (Ok results) answer)
+        results (page-least is_match limit name query request after s before later results answer)
+        answer.results key.1)

@@ -1,105 +1,115 @@
--- Why a walk is refused at a snapshot: the results of its segments, its final results.
-use Rattle.std.proofs.Common.{ℕ, List, ◌∷◌, Bool, sym, subst, arith}
+-- Why a walk is refused at a snapshot.
+use Rattle.std.proofs.Common.{◌≡◌, ◌⊎◌, ℕ, List, ◌∷◌, Bool, Option, Result, Err, IfErr, inl, inr}
+use Rattle.std.proofs.Common.{IsErrAnd, IsErrOf, sym, subst, ◌∙◌}
+use Rattle.std.specs.Prelude.{⊤}
+use Rattle.std.proofs.lemmas.Result.{err_from_is_err_and}
 use Rattle.agg_values.specs.Names.{Named}
 use Rattle.agg_values.specs.declared.after_key.AfterKey.{AfterKey}
 use Rattle.agg_values.specs.declared.request_error.AggregationError.TheVariants as aggregation
 use Rattle.agg_column.specs.Document.{Fields}
 use Rattle.agg_segment.specs.declared.query.QueryTree.{QueryTree}
+use Rattle.agg_request_tree.specs.Matching.{built_matches}
 use Rattle.agg_request_tree.specs.Request.{Request}
 use Rattle.agg_request_tree.specs.declared.aggregation.CompositeAggregation.{CompositeAggregation}
 use Rattle.agg_final_results.specs.declared.types.AggregationResults.{AggregationResults}
-use Rattle.agg_intermediate_results.specs.Final.{final_results}
-use Rattle.agg_intermediate_results.specs.Intermediate.{Held}
-use Rattle.agg_engine.specs.PageAnswers.{IsFinalRefusal, IsPageRefusal}
+use Rattle.agg_segment_context.specs.Pages.{request_after}
+use Rattle.agg_engine.specs.PageAnswers.{AnswersPage}
 use Rattle.agg_engine.specs.Refusals.{AreRefused, AreRefusedAt, HasCause, IsRefused}
 use Rattle.agg_engine.specs.Snapshot.{SnapshotDocuments}
-use Rattle.agg_engine.specs.Walk.{MayBeAsked, matching_documents, request_after}
+use Rattle.agg_engine.specs.Walk.{MayBeAsked}
 use Rattle.agg_engine.specs.declared.walk.error.WalkError.{WalkError}
 use Rattle.agg_engine.specs.declared.walk.error.WalkError.TheVariants as error
-use Rattle.agg_engine.proofs.MergedResults.{IsMergedHere}
-use Rattle.agg_engine.proofs.OneRequest.{at_size, going_on, one, out_of_range-one}
-use Rattle.agg_engine.proofs.OneRequest.{out_of_range-own, sized-one, too_many-own}
-use Rattle.agg_engine.proofs.ReachedPage.{results-here}
 use Rattle.agg_engine.proofs.WalkLoop.{IsWalking}
+use Rattle.agg_engine.proofs.WalkPages.{AnswersAt}
 use Rattle.agg_engine.proofs.WalkState.{state-refused}
 
+-- an error that is handed on has the cause of the error that is given
+pub caused-by : {T : Type 0} (P : WalkError → Type 0) (result : Result T WalkError)
+    (given : WalkError) → IsErrAnd result (λ e. e ≡ given) → P given → IfErr result P
+caused-by P result given kept cause =
+    let found = err_from_is_err_and result kept in
+    subst (λ r. IfErr r P) (sym found.1) (subst P (sym found.2) cause)
+
 -- at a snapshot
-module _ {B : Type 0} {is_match : B → Fields → Bool} {limit : ℕ} {name : List ℕ}
+module _ {B : Type 0} {query_for : B → Option QueryTree} {limit : ℕ} {name : List ℕ}
     {query : QueryTree} {request : Request B} {snapshots : List SnapshotDocuments}
     {composite : CompositeAggregation} {after : Named AfterKey} {s : SnapshotDocuments}
     {rest : List SnapshotDocuments} {pages : List AggregationResults}
-    (w : IsWalking is_match limit name query request snapshots composite after (s ∷ rest) pages)
-  where
-    -- the composite that is asked
-    abbrev sized : CompositeAggregation
-    sized = at_size s.page_size (going_on after composite)
+    (w : IsWalking (built_matches query_for) limit name query request snapshots composite after
+    (s ∷ rest) pages) (asked : MayBeAsked query_for name request snapshots) where
+  abbrev Refused : WalkError → Type 0
+  Refused =
+      AreRefusedAt (built_matches query_for) limit name query (request_after name after request) s
 
-    walking-refused : (given : WalkError)
-        → AreRefusedAt is_match limit name query (request_after name after request) s given
-        → IsRefused is_match limit name query request snapshots given
-    walking-refused given refused =
-        state-refused is_match limit name query request snapshots (request_after name after request)
-        s rest pages w.state given refused
+  refused : (given : WalkError) → Refused given
+      → MayBeAsked query_for name request snapshots
+      × IsRefused (built_matches query_for) limit name query request snapshots given
+  refused given is = (
+    asked,
+    state-refused (built_matches query_for) limit name query request snapshots
+        (request_after name after request) s rest pages w.state given is,
+  )
 
-    -- a refusal of the composite that is asked
-    own-refused : (given : WalkError)
-        → AreRefused is_match limit (one B name sized) (matching_documents query s) given
-        → IsRefused is_match limit name query request snapshots given
-    own-refused given refused =
-        walking-refused given
-        (subst (λ (r : Request B). AreRefused is_match limit r (matching_documents query s) given)
-        (sym (sized-one B name request composite after s.page_size w.request_is)) refused)
+  -- what a call for its page answers has its cause in the walk
+  cause-page : (given : WalkError) → (given ≡ error.OutOfMemory) ⊎ Refused given
+      → HasCause query_for limit name query request snapshots given
+  cause-page given (inr is) = by given is
+    where
+      by : (given : WalkError) → Refused given
+          → HasCause query_for limit name query request snapshots given
+      by error.OutOfMemory is = tt
+      by error.BucketOutOfRange is = refused error.BucketOutOfRange is
+      by error.TooMany is = refused error.TooMany is
+      by (error.Aggregation (aggregation.BucketLimitExceeded l n)) is =
+          refused (error.Aggregation (aggregation.BucketLimitExceeded l n)) is
+      by (error.Aggregation (aggregation.MemoryExceeded l n)) is = absurd is
+      by (error.Aggregation (aggregation.DateHistogramParseError part)) is = absurd is
+      by (error.Invalid fault) is = absurd is
+      by error.UnknownComposite is = absurd is
+      by error.QueryBuild is = absurd is
+  cause-page given (inl is) =
+      subst (HasCause query_for limit name query request snapshots) (sym is) tt
 
-    -- a refusal of the results of its segments
-    pub cause-page : MayBeAsked name request snapshots → (given : WalkError)
-        → IsPageRefusal composite (matching_documents query s) given
-        → HasCause is_match limit name query request snapshots given
-    cause-page asked (error.Invalid fault) refused = absurd refused
-    cause-page asked error.UnknownComposite refused = absurd refused
-    cause-page asked error.BucketOutOfRange refused = (
-      asked,
-      own-refused error.BucketOutOfRange
-          (out_of_range-own B name sized (matching_documents query s) refused),
-    )
-    cause-page asked error.TooMany refused = (
-      asked,
-      own-refused error.TooMany (
-        λ out. out_of_range-one B name sized (matching_documents query s) out refused.0,
-        too_many-own B name sized is_match (matching_documents query s) refused.1,
-      ),
-    )
-    cause-page asked (error.Aggregation part) refused = absurd refused
-    cause-page asked error.OutOfMemory refused = tt
+  pub cause-answer : {before later : ℕ} (given : WalkError)
+      → AnswersAt (built_matches query_for) limit name query request after s before later
+      (Err given)
+      → HasCause query_for limit name query request snapshots given
+  cause-answer given answer = cause-page given answer.cause
 
-    -- with the merged results of its segments
-    module _ {merged : Held}
-        (h : IsMergedHere is_match name query (request_after name after request) s merged) where
-      -- a refusal of its final results
-      pub cause-final : MayBeAsked name request snapshots → (given : WalkError)
-          → IsFinalRefusal limit request merged given
-          → HasCause is_match limit name query request snapshots given
-      cause-final asked (error.Aggregation (aggregation.BucketLimitExceeded given n)) refused =
-          let number = refused.1 in
-          let more = refused.2 in (
-            asked,
-            walking-refused (error.Aggregation (aggregation.BucketLimitExceeded given n)) (
-              h.range,
-              h.few,
-              refused.0,
-              omega arith,
-              (
-                final_results request merged,
-                results-here is_match limit name query request after s merged h,
-                refused.1,
-              ),
-            ),
-          )
-      cause-final asked (error.Aggregation (aggregation.MemoryExceeded given n)) refused =
-          absurd refused
-      cause-final asked (error.Aggregation (aggregation.DateHistogramParseError part)) refused =
-          absurd refused
-      cause-final asked (error.Invalid fault) refused = absurd refused
-      cause-final asked error.UnknownComposite refused = absurd refused
-      cause-final asked error.BucketOutOfRange refused = absurd refused
-      cause-final asked error.TooMany refused = absurd refused
-      cause-final asked error.OutOfMemory refused = tt
+-- ---- what comes before any snapshot
+
+-- an error that comes before any snapshot
+abbrev pub IsFirst : WalkError → Type 0
+IsFirst (error.Invalid fault) = ⊤
+IsFirst error.UnknownComposite = ⊤
+IsFirst error.QueryBuild = ⊤
+IsFirst (error.Aggregation (aggregation.DateHistogramParseError part)) = ⊤
+IsFirst _ = ⊥
+
+module _ {B : Type 0} (is_match : B → Fields → Bool) (limit : ℕ) (request : Request B)
+    (documents : List Fields) where
+  not-refused_first : (given : WalkError) → AreRefused is_match limit request documents given
+      → ¬ (IsFirst given)
+  not-refused_first (error.Invalid fault) refused first = refused
+  not-refused_first error.UnknownComposite refused first = refused
+  not-refused_first error.QueryBuild refused first = refused
+  not-refused_first error.BucketOutOfRange refused first = first
+  not-refused_first error.TooMany refused first = first
+  not-refused_first (error.Aggregation (aggregation.DateHistogramParseError part)) refused first =
+      refused
+  not-refused_first (error.Aggregation (aggregation.MemoryExceeded l n)) refused first = first
+  not-refused_first (error.Aggregation (aggregation.BucketLimitExceeded l n)) refused first = first
+  not-refused_first error.OutOfMemory refused first = refused
+
+  -- a call for a page answers none
+  pub not-first : {T : Type 0} {before later : ℕ} (result : Result T WalkError)
+      (given named : WalkError)
+      → AnswersPage is_match limit request documents before later (Err given)
+      → IsErrAnd result (λ e. e ≡ given) → IsErrOf result named → ¬ (IsFirst named)
+  not-first result given named answer kept is first =
+      let found = err_from_is_err_and result kept in
+      let same : named ≡ given = (let e = sym is ∙ found.1 in cc (e, found.2)) in
+      elim answer.cause [
+        | inl memory ↦ subst IsFirst (same ∙ memory) first
+        | inr refused ↦ not-refused_first given refused (subst IsFirst same first)
+      ]

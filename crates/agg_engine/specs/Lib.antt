@@ -1,6 +1,3 @@
-pub mod Blocks
-pub mod Contexts
-pub mod Form
 pub mod NamedComposite
 pub mod PageAnswers
 pub mod Refusals

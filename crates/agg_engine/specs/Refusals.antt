@@ -1,21 +1,24 @@
 -- Why a walk gave no pages.
-use Rattle.std.specs.Prelude.{◌≡◌, ◌≢◌, ◌<◌, ◌⊎◌, ℕ, List, [], ◌∷◌, Bool, ⊤}
+use Rattle.std.specs.Prelude.{◌≡◌, ◌≢◌, ◌<◌, ◌⊎◌, ℕ, List, [], ◌∷◌, Bool, Option, ⊤}
 use Rattle.agg_values.specs.declared.request_error.AggregationError.TheVariants as aggregation
 use Rattle.agg_column.specs.Document.{Fields}
 use Rattle.agg_segment.specs.declared.query.QueryTree.{QueryTree}
 use Rattle.agg_values.specs.declared.request_error.RequestError.TheVariants as refusal
-use Rattle.agg_request_tree.specs.Faults.{RequestHasFault}
+use Rattle.agg_request_tree.specs.Faults.{IsSoundRequest, RequestHasFault}
+use Rattle.agg_request_tree.specs.Matching.{built_matches}
 use Rattle.agg_values.specs.Nothing.{NoneIs}
 use Rattle.agg_request_tree.specs.Ranges.{HasStartOutOfRange}
 use Rattle.agg_request_tree.specs.Request.{Request}
 use Rattle.agg_request_tree.specs.Uncut.{CountsTooMany}
+use Rattle.agg_segment_context.specs.Pages.{request_after, request_at_size}
+use Rattle.agg_segment_context.specs.Trees.{SomeMakesNone}
 use Rattle.agg_final_results.specs.BucketCount.{results_buckets}
 use Rattle.agg_final_results.specs.declared.types.AggregationResults.{AggregationResults}
 use Rattle.agg_results.specs.Results.{AreResults}
 use Rattle.agg_engine.specs.NamedComposite.{NamesComposite}
 use Rattle.agg_engine.specs.Snapshot.{SnapshotDocuments}
-use Rattle.agg_engine.specs.Walk.{AreResultsAt, HasFault, MayBeAsked, after_in}
-use Rattle.agg_engine.specs.Walk.{matching_documents, request_at_size, request_after}
+use Rattle.agg_engine.specs.Walk.{AreResultsAt, HasFault, HaveRoom, MayBeAsked, after_in}
+use Rattle.agg_engine.specs.Walk.{matching_documents}
 use Rattle.agg_engine.specs.declared.walk.error.WalkError.{WalkError}
 use Rattle.agg_engine.specs.declared.walk.error.WalkError.TheVariants as error
 
@@ -50,13 +53,18 @@ module _ {B : Type 0} (is_match : B → Fields → Bool) (limit : ℕ) where
         × (after_in name r ≢ [])
         × IsRefused (request_after name (after_in name r) request) snapshots error))
 
-    -- an error of a walk has its cause; running out of memory needs none
-    abbrev pub HasCause : Request B → List SnapshotDocuments → WalkError → Type 0
-    HasCause request snapshots (error.Invalid fault) = HasFault request snapshots fault
-    HasCause request snapshots error.UnknownComposite = ¬ (NamesComposite name request)
-    HasCause request snapshots
-        (error.Aggregation (aggregation.DateHistogramParseError part)) =
-        RequestHasFault request (refusal.Aggregation (aggregation.DateHistogramParseError part))
-    HasCause request snapshots error.OutOfMemory = ⊤
-    HasCause request snapshots error =
-        MayBeAsked name request snapshots × IsRefused request snapshots error
+module _ {B : Type 0} (query_for : B → Option QueryTree) (limit : ℕ) (name : List ℕ)
+    (query : QueryTree) where
+  -- an error of a walk has its cause; running out of memory needs none
+  abbrev pub HasCause : Request B → List SnapshotDocuments → WalkError → Type 0
+  HasCause request snapshots (error.Invalid fault) = HasFault request snapshots fault
+  HasCause request snapshots error.UnknownComposite = ¬ (NamesComposite name request)
+  HasCause request snapshots error.QueryBuild =
+      IsSoundRequest request × HaveRoom snapshots × NamesComposite name request
+      × SomeMakesNone query_for request
+  HasCause request snapshots (error.Aggregation (aggregation.DateHistogramParseError part)) =
+      RequestHasFault request (refusal.Aggregation (aggregation.DateHistogramParseError part))
+  HasCause request snapshots error.OutOfMemory = ⊤
+  HasCause request snapshots error =
+      MayBeAsked query_for name request snapshots
+      × IsRefused (built_matches query_for) limit name query request snapshots error

@@ -1,22 +1,19 @@
 -- The walk of a request over snapshots.
 use Rattle.std.specs.Prelude.{◌≡◌, ◌≢◌, ◌⊎◌, ℕ, List, [], ◌∷◌, Bool, true, false, Option, None}
-use Rattle.std.specs.Prelude.{Some, All, Any, if◌then◌else◌, map, filter}
+use Rattle.std.specs.Prelude.{Some, All, Any, filter}
 use Rattle.std.specs.List.{flat_map}
-use Rattle.std.specs.BTreeMap.{is_at}
-use Rattle.agg_values.specs.Names.{Named, name_cmp, value_of}
+use Rattle.agg_values.specs.Names.{Named, value_of}
 use Rattle.agg_values.specs.declared.after_key.AfterKey.{AfterKey}
 use Rattle.agg_values.specs.declared.error.InvalidArgument.{InvalidArgument}
 use Rattle.agg_values.specs.declared.error.InvalidArgument.TheVariants.{ZeroSize}
 use Rattle.agg_values.specs.declared.request_error.RequestError.TheVariants.{Invalid}
 use Rattle.agg_column.specs.Document.{Fields}
 use Rattle.agg_segment.specs.Query.{matches}
-use Rattle.agg_segment.specs.Segment.{Stored, documents_of}
 use Rattle.agg_segment.specs.declared.query.QueryTree.{QueryTree}
-use Rattle.agg_request_tree.specs.declared.aggregation.Aggregation.{Aggregation}
-use Rattle.agg_request_tree.specs.declared.aggregation.AggregationVariants.{AggregationVariants}
-use Rattle.agg_request_tree.specs.declared.aggregation.AggregationVariants.TheVariants.{Composite}
 use Rattle.agg_request_tree.specs.Faults.{IsSoundRequest, RequestHasFault}
-use Rattle.agg_request_tree.specs.Request.{Request, agg_of, aggregation_of, below_of}
+use Rattle.agg_request_tree.specs.Request.{Request}
+use Rattle.agg_segment_context.specs.Pages.{request_after, request_at_size}
+use Rattle.agg_segment_context.specs.Trees.{EachMakesTree}
 use Rattle.agg_engine.specs.NamedComposite.{NamesComposite}
 use Rattle.agg_final_results.specs.declared.types as final
 use final.AggregationResult.{AggregationResult}
@@ -33,43 +30,9 @@ use Rattle.agg_engine.specs.Snapshot.{SnapshotDocuments}
 abbrev pub documents_in : SnapshotDocuments → List Fields
 documents_in snapshot = flat_map (λ documents. documents) snapshot.segments
 
--- the documents of segments that a query matches
-abbrev pub matching_in : QueryTree → List Stored → List Fields
-matching_in query segments = filter (matches query) (flat_map documents_of segments)
-
 -- the documents of a snapshot that a query matches
 abbrev pub matching_documents : QueryTree → SnapshotDocuments → List Fields
 matching_documents query snapshot = filter (matches query) (documents_in snapshot)
-
--- an aggregation with another size, if it is a composite
-abbrev pub with_size : {B : Type 0} → ℕ → AggregationVariants B → AggregationVariants B
-with_size size (Composite composite) = Composite (record composite { size = size })
-with_size size other = other
-
--- an aggregation with another after key, if it is a composite
-abbrev pub with_after : {B : Type 0} → Named AfterKey → AggregationVariants B
-    → AggregationVariants B
-with_after after (Composite composite) = Composite (record composite { after = after })
-with_after after other = other
-
--- an aggregation in which what it asks is changed
-abbrev pub changed : {B : Type 0} → (AggregationVariants B → AggregationVariants B)
-    → Aggregation B → Aggregation B
-changed change a = aggregation_of (change (agg_of a)) (below_of a)
-
--- a request in which the aggregation of a name is changed
-abbrev pub request_changed_at : {B : Type 0} → (AggregationVariants B → AggregationVariants B)
-    → List ℕ → Request B → Request B
-request_changed_at change name request =
-    map (λ a. if is_at (name_cmp name) a.0 then (a.0, changed change a.1) else a) request
-
--- the request of a snapshot: its page size stands in place of the named composite's size
-abbrev pub request_at_size : {B : Type 0} → List ℕ → ℕ → Request B → Request B
-request_at_size name size = request_changed_at (with_size size) name
-
--- the request that goes on after an after key
-abbrev pub request_after : {B : Type 0} → List ℕ → Named AfterKey → Request B → Request B
-request_after name after = request_changed_at (with_after after) name
 
 -- ---- after keys
 
@@ -127,9 +90,11 @@ HasFault request snapshots fault =
     RequestHasFault request (Invalid fault)
     ⊎ ((fault ≡ ZeroSize) × Any (λ s. s.page_size ≡ 0) snapshots)
 
--- a walk that may be asked, whatever its snapshots hold
-pub record MayBeAsked {B : Type 0} (name : List ℕ) (request : Request B)
-    (snapshots : List SnapshotDocuments) : Type 0 where
+-- a walk that may be asked, whatever its snapshots hold, of a request whose builders make these
+-- queries
+pub record MayBeAsked {B : Type 0} (query_for : B → Option QueryTree) (name : List ℕ)
+    (request : Request B) (snapshots : List SnapshotDocuments) : Type 0 where
   pub sound : IsSoundRequest request
   pub room : HaveRoom snapshots
   pub named : NamesComposite name request
+  pub each : EachMakesTree query_for request

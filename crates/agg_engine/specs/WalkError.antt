@@ -9,11 +9,16 @@ use parsing.{DateHistogramParseError}
 use parsing.TheVariants as parse
 use Rattle.agg_values.specs.declared.request_error.RequestError.{RequestError}
 use Rattle.agg_values.specs.declared.request_error.RequestError.TheVariants as request
+use Rattle.agg_segment_context.specs.declared.error.SetupError.{SetupError}
+use Rattle.agg_segment_context.specs.declared.error.SetupError.TheVariants as setup
+use Rattle.agg_snapshot.specs.declared.error.SnapshotError.{SnapshotError}
+use Rattle.agg_snapshot.specs.declared.error.SnapshotError.TheVariants as snapshot
 use Rattle.agg_engine.specs.declared.walk.error.WalkError.{WalkError}
 use Rattle.agg_engine.specs.declared.walk.error.WalkError.TheVariants.{Invalid, UnknownComposite}
 use Rattle.agg_engine.specs.declared.walk.error.WalkError.TheVariants.{TooMany, OutOfMemory}
 use Rattle.agg_engine.specs.declared.walk.error.WalkError.TheVariants.{Aggregation}
 use Rattle.agg_engine.specs.declared.walk.error.WalkError.TheVariants.{BucketOutOfRange}
+use Rattle.agg_engine.specs.declared.walk.error.WalkError.TheVariants.{QueryBuild}
 
 -- the name of an argument's error
 abbrev pub argument_name : InvalidArgument → List ℕ
@@ -44,6 +49,7 @@ aggregation_name (aggregation.BucketLimitExceeded limit current) = codes "Bucket
 abbrev pub error_name : WalkError → List ℕ
 error_name (Invalid given) = argument_name given
 error_name UnknownComposite = codes "UnknownComposite"
+error_name QueryBuild = codes "QueryBuild"
 error_name BucketOutOfRange = codes "BucketOutOfRange"
 error_name TooMany = codes "TooMany"
 error_name (Aggregation given) = aggregation_name given
@@ -54,3 +60,16 @@ abbrev pub error_from_request : RequestError → WalkError
 error_from_request (request.Invalid given) = Invalid given
 error_from_request (request.Aggregation given) = Aggregation given
 error_from_request request.OutOfMemory = OutOfMemory
+
+-- that for one of the builders of a request
+abbrev pub error_from_setup : SetupError → WalkError
+error_from_setup (setup.Invalid given) = Invalid given
+error_from_setup setup.QueryBuild = QueryBuild
+error_from_setup (setup.Aggregation given) = Aggregation given
+error_from_setup setup.OutOfMemory = OutOfMemory
+
+-- and that for one of a snapshot
+abbrev pub error_from_snapshot : SnapshotError → WalkError
+error_from_snapshot snapshot.BucketOutOfRange = BucketOutOfRange
+error_from_snapshot snapshot.TooMany = TooMany
+error_from_snapshot snapshot.OutOfMemory = OutOfMemory

@@ -1,17 +1,9 @@
 //! The walk: a page for each reached snapshot.
-mod accessors;
-mod blocks;
 mod bound;
 mod checks;
-mod context;
-mod counts;
 mod error;
 mod finish;
-mod intermediate;
-mod matching;
 mod page;
-mod ranges;
-mod segment;
 
 ghost use Rattle.std.specs.Prelude.{◌≡◌, ◌≤◌, ◌+◌, All, IfErr, IfOk, OnOk, IsErrOf};
 ghost use Rattle.agg_values.specs.declared.error.InvalidArgument.{InvalidArgument as Fault};
@@ -20,7 +12,6 @@ ghost use Rattle.agg_values.specs.declared.request_error.DateHistogramParseError
 ghost use Rattle.agg_values.specs.Nothing.{NoneIs};
 ghost use Rattle.agg_request_tree.specs.Matching.{built_matches};
 ghost use Rattle.agg_final_results.specs.BucketCount.{results_buckets};
-ghost use Rattle.agg_engine.specs.Form.{IsOneComposite};
 ghost use Rattle.agg_engine.specs.Refusals.{HasCause, IsRefused};
 ghost use Rattle.agg_engine.specs.Snapshot.{snapshots_documents};
 ghost use Rattle.agg_engine.specs.Steps.{TakesAtMost, past_pages};
@@ -31,10 +22,11 @@ use agg_cache::LimitsLedger;
 use agg_request_tree::{Aggregations, check_request};
 use agg_results::AggregationResults;
 use agg_segment::{QueryTree, Schema, SegmentReader};
+use agg_segment_context::AggContextParams;
+use agg_snapshot::PageRequest;
 use agg_values::{InvalidArgument, ItemList, Steps, Text};
 pub use error::WalkError;
-use finish::page_results;
-use page::{PageRequest, segments_results};
+use page::{set_page, snapshot_page};
 use std::alloc::Global;
 use std::sync::ledger::Ledger;
 
@@ -55,7 +47,7 @@ pub struct Walk {
 
 /// Pages over the groups of a named composite. The first snapshot is reached with the request as it
 /// is, and a later one where the page before is full, with that page's last tuple as its bound.
-/// The schema is for builders of queries, which no walk asks yet.
+/// Each builder of the request is asked once for its query, for the schema, before any snapshot.
 pub fn walk_pages<L: Ledger>(
     alloc: Global,
     limits: &mut LimitsLedger,
@@ -66,15 +58,14 @@ pub fn walk_pages<L: Ledger>(
     snapshots: &ItemList<Snapshot>,
     steps: &mut Steps<L>,
 ) -> Result<Walk, WalkError>
-    requires form { IsOneComposite request.now }
-
     // An Ok is the walk of a request that may be asked. No page of it is refused.
     ensures pages { IfOk result (λ walk. IsWalk
         (built_matches (λ b. tree_for (b.builder.vtable, b.builder.value) schema.now))
         name.now query.now request.now (snapshots_documents snapshots.now)
         walk.pages walk.ended) }
-    ensures asked { OnOk result
-        (MayBeAsked name.now request.now (snapshots_documents snapshots.now)) }
+    ensures asked { OnOk result (MayBeAsked
+        (λ b. tree_for (b.builder.vtable, b.builder.value) schema.now)
+        name.now request.now (snapshots_documents snapshots.now)) }
     ensures fits { OnOk result (NoneIs (IsRefused
         (built_matches (λ b. tree_for (b.builder.vtable, b.builder.value) schema.now))
         limits.old.bucket_limit name.now query.now request.now
@@ -84,7 +75,7 @@ pub fn walk_pages<L: Ledger>(
 
     // Each other answer has its cause.
     ensures cause { IfErr result (HasCause
-        (built_matches (λ b. tree_for (b.builder.vtable, b.builder.value) schema.now))
+        (λ b. tree_for (b.builder.vtable, b.builder.value) schema.now)
         limits.old.bucket_limit name.now query.now request.now
         (snapshots_documents snapshots.now)) }
 
@@ -106,8 +97,8 @@ pub fn walk_pages<L: Ledger>(
         → IsErrOf result (WalkError.Aggregation (error.DateHistogramParseError fault))
         → steps.new ≡ steps.old }
     ensures name_first { IsErrOf result WalkError.UnknownComposite → steps.new ≡ steps.old }
+    ensures builders_first { IsErrOf result WalkError.QueryBuild → steps.new ≡ steps.old }
 {
-    let _ = schema;
     check_request(alloc, request)?;
     if checks::some_page_has_no_room(snapshots.as_slice()) {
         return Err(WalkError::Invalid(InvalidArgument::ZeroSize));
@@ -115,18 +106,24 @@ pub fn walk_pages<L: Ledger>(
     let Some(composite) = checks::named_composite(request, name) else {
         return Err(WalkError::UnknownComposite);
     };
+    let mut params = AggContextParams::new(alloc, request, schema)?;
     let mut before = None;
     let mut pages = ItemList::new(alloc);
     for snapshot in snapshots.as_slice() {
+        let after = bound::after_key(&before, &composite.after);
+        set_page(alloc, &mut params, name, snapshot.page_size, after)?;
         let page = PageRequest {
-            name,
-            composite,
-            size: snapshot.page_size,
-            after: bound::after_key(&before, &composite.after),
+            request,
+            params: &params,
             query,
         };
-        let merged = segments_results(alloc, &page, snapshot.segments.as_slice(), steps)?;
-        let results = page_results(merged, request, limits)?;
+        let answer = snapshot_page(alloc, &page, snapshot.segments.as_slice(), limits, steps);
+        let PageRequest {
+            request: _request,
+            params: _params,
+            query: _query,
+        } = page;
+        let results = answer?;
         before = bound::next_after(alloc, &results, name)?;
         pages.push(results)?;
         if before.is_none() {

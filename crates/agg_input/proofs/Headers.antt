@@ -1,4 +1,4 @@
--- A line is of one header at most, and a header's request has the form that a walk takes.
+-- A line is of one header at most, and a header's request has the form that an input takes.
 use Rattle.std.proofs.Common.{◌≡◌, ◌∷◌, ℕ, List, [], false, Option, Some, None}
 use Rattle.std.proofs.Common.{option_and_then, codes, sym, ap, ◌∙◌, subst}
 use Rattle.std.proofs.lemmas.Bool.{false≢true}
@@ -11,7 +11,7 @@ use Rattle.agg_request_tree.specs.Request.{Request, aggregation_of}
 use Rattle.agg_request_json.specs.RequestJson.{IsRequestJson}
 use Rattle.agg_request_tree.specs.declared.aggregation.AggregationVariants.TheVariants.{Composite}
 use Rattle.agg_request_json.proofs.PlainRequests.{one-said, says-one}
-use Rattle.agg_engine.specs.Form.{IsOneComposite}
+use Rattle.agg_input.specs.Form.{IsOneComposite}
 use Rattle.agg_request_tree.proofs.RequestTrees.{made-of_parts}
 use Rattle.agg_input.specs.declared.header.Header.{Header}
 use Rattle.agg_input.specs.Header.{IsBucketLimitOf, IsHeader, IsHeaderLine, IsQueryOf}
@@ -113,7 +113,7 @@ module _ {B : Type 0} (builders : List B) (name_of : B → List ℕ) where
 
   -- ---- what is no request
 
-  -- where a request of another form is read, there is none of the form that a walk takes
+  -- where a request of another form is read, there is none of the form that an input takes
   pub other_form : (d : Data) (request : Request B) → IsRequestJson name_of d builders request
       → ¬ (IsOneComposite request) → NoneIs (IsRequest builders name_of d)
   other_form d request said other b h = other (same-form builders name_of d request b said h).0
@@ -125,7 +125,7 @@ module _ {B : Type 0} (builders : List B) (name_of : B → List ℕ) where
   request_form None request h = absurd h
   request_form (Some d) request h = h.form
 
-  -- the request of a header has the form that a walk takes
+  -- the request of a header has the form that an input takes
   pub header_form : (line : List ℕ) (header : Header B)
       → IsHeaderLine builders name_of line header → IsOneComposite header.request
   header_form line header (d, is, h) =

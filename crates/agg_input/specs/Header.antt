@@ -10,11 +10,11 @@ use Rattle.agg_json.specs.Json.{IsGiven, IsOr, each_item, has_members, small_num
 use Rattle.agg_json.specs.Query.{IsQuery}
 use Rattle.agg_request_tree.specs.Request.{Request}
 use Rattle.agg_request_json.specs.RequestJson.{IsRequestJson}
-use Rattle.agg_engine.specs.Form.{IsOneComposite}
+use Rattle.agg_input.specs.Form.{IsOneComposite}
 use Rattle.agg_input.specs.declared.header.Header.{Header}
 
--- a request: a value says it where these builders are handed in, and it has the form that a walk
--- takes
+-- a request: a value says it where these builders are handed in, and it has the form that
+-- an input takes
 pub record IsRequest {B : Type 0} (builders : List B) (name_of : B → List ℕ) (d : Data)
     (request : Request B) : Type 0 where
   pub said : IsRequestJson name_of d builders request

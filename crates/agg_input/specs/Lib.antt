@@ -1,3 +1,4 @@
+pub mod Form
 pub mod Header
 pub mod Input
 pub mod Lines

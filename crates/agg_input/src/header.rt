@@ -6,7 +6,7 @@ ghost use Rattle.serde_json.specs.Find.{as_str, get};
 ghost use Rattle.serde_json.specs.View.{view};
 ghost use Rattle.agg_json.specs.Json.{text_at};
 ghost use Rattle.agg_request_tree.specs.Request.{IsPlainComposite};
-ghost use Rattle.agg_engine.specs.Form.{IsOneComposite};
+ghost use Rattle.agg_input.specs.Form.{IsOneComposite};
 ghost use Rattle.agg_input.specs.Header.{IsBucketLimitOf, IsHeader, IsHeaderLine, IsQueryOf};
 ghost use Rattle.agg_input.specs.Header.{IsRequest, IsRequestAt, counted_member, header_members};
 ghost use Rattle.agg_input.specs.Header.{texts_of};
@@ -166,7 +166,7 @@ fn text_of(alloc: Global, value: &Value) -> Result<Text, InputError>
     read_text(alloc, value)?.ok_or(InputError::NotInput)
 }
 
-// A request of the form that a walk takes.
+// A request of the form that an input takes.
 fn request_of<B: HasName>(
     alloc: Global,
     builders: Vec<B>,
@@ -183,7 +183,7 @@ fn request_of<B: HasName>(
     Ok(request)
 }
 
-// Whether a request has the form that a walk takes: one composite, with none below it.
+// Whether a request has the form that an input takes: one composite, with none below it.
 fn is_one_composite<B>(request: &NameMap<Aggregation<B>>) -> bool
     ensures { MatchBool result (IsOneComposite request.now) (¬ (IsOneComposite request.now)) }
 {

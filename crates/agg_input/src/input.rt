@@ -1,7 +1,7 @@
 //! The input: a header and then snapshots, a line each.
 
 ghost use Rattle.std.specs.Prelude.{◌≡◌, IfOk, IsErrOf};
-ghost use Rattle.agg_engine.specs.Form.{IsOneComposite};
+ghost use Rattle.agg_input.specs.Form.{IsOneComposite};
 ghost use Rattle.agg_engine.specs.Snapshot.{snapshots_documents};
 ghost use Rattle.agg_input.specs.Input.{AreNoInput, IsInput, IsInputOfLines, input_of};
 ghost use Rattle.agg_values.specs.Nothing.{NoneIs};

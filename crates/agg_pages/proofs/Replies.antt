@@ -1,13 +1,14 @@
 -- Replies to inputs, and what bytes and an input say of one another.
-use Rattle.std.proofs.Common.{◌≡◌, ◌≢◌, ℕ, List, Option, Some, refl}
-use Rattle.std.proofs.Common.{subst, inl, inr}
+use Rattle.std.proofs.Common.{◌≡◌, ◌≢◌, ℕ, List, Option, None, Some, false, true, refl, sym, ap}
+use Rattle.std.proofs.Common.{◌∙◌, subst, inl, inr, is_some}
 use Rattle.agg_values.specs.declared.request_error.AggregationError.TheVariants as aggregation
 use Rattle.agg_values.specs.declared.request_error.RequestError.TheVariants as error
 use Rattle.agg_segment.specs.declared.query.QueryTree.{QueryTree}
 use Rattle.agg_request_tree.specs.Faults.{HasFault}
-use Rattle.agg_request_tree.specs.Request.{composites_of}
+use Rattle.agg_request_tree.specs.Request.{builders_of, composites_of}
 use Rattle.agg_engine.specs.declared.walk.error.WalkError.{WalkError}
-use Rattle.agg_engine.specs.declared.walk.error.WalkError.TheVariants.{Invalid, UnknownComposite}
+use Rattle.agg_engine.specs.declared.walk.error.WalkError.TheVariants.{Invalid, QueryBuild}
+use Rattle.agg_engine.specs.declared.walk.error.WalkError.TheVariants.{UnknownComposite}
 use Rattle.agg_engine.specs.declared.walk.error.WalkError.TheVariants.{TooMany, OutOfMemory}
 use Rattle.agg_engine.specs.declared.walk.error.WalkError.TheVariants.{Aggregation}
 use Rattle.agg_engine.specs.declared.walk.error.WalkError.TheVariants.{BucketOutOfRange}
@@ -18,7 +19,7 @@ use Rattle.agg_engine.specs.Refusals.{HasCause, IsRefused}
 use Rattle.agg_engine.specs.Walk.{IsWalk, MayBeAsked}
 use Rattle.agg_engine.specs.declared.walk.Walk.{Walk}
 use Rattle.agg_pages.specs.Answer.{IsPrintedWalk, IsRefusal, IsValid, MayRefuse, bucket_limit_of}
-use Rattle.agg_pages.specs.Answer.{matches_in}
+use Rattle.agg_pages.specs.Answer.{matches_in, query_in}
 use Rattle.agg_pages.specs.Output.{refusal_text, walk_text}
 use Rattle.agg_pages.specs.Reading.{GivesAll}
 use Rattle.agg_input.proofs.Inputs.{IsInput-unique}
@@ -33,6 +34,11 @@ may_not_refuse tree_for i (Invalid fault) valid (other, inl asked) =
 may_not_refuse tree_for i (Invalid fault) valid (other, inr (is, some)) =
     none_of_all (λ s. s.page_size ≡ 0) i.snapshots valid.asked.room some
 may_not_refuse tree_for i UnknownComposite valid (other, unknown) = unknown valid.asked.named
+may_not_refuse tree_for i QueryBuild valid (other, cause) =
+    none_of_all (λ b. query_in tree_for i b ≡ None) (builders_of i.header.request)
+    (λ k b within made.
+    let some : false ≡ true = sym (ap is_some made) ∙ valid.asked.each k b within in cc some)
+    cause.3
 may_not_refuse tree_for i TooMany valid (other, many) = valid.fits TooMany many.1
 may_not_refuse tree_for i BucketOutOfRange valid (other, out) = valid.fits BucketOutOfRange out.1
 may_not_refuse tree_for i (Aggregation (aggregation.DateHistogramParseError part)) valid
@@ -67,7 +73,8 @@ valid-not_refused tree_for i j text same valid (error, may, text_is) =
 module _ {B : Type 0} (tree_for : B → List (List ℕ) → Option QueryTree) (i : Input B) (limit : ℕ)
     (limit_is : limit ≡ bucket_limit_of i) (text : List ℕ) where
   -- a walk that nothing refuses
-  pub printed-walk : (walk : Walk) → MayBeAsked i.header.name i.header.request i.snapshots
+  pub printed-walk : (walk : Walk)
+      → MayBeAsked (query_in tree_for i) i.header.name i.header.request i.snapshots
       → NoneIs (IsRefused (matches_in tree_for i) limit i.header.name i.header.query
       i.header.request i.snapshots)
       → IsWalk (matches_in tree_for i) i.header.name i.header.query i.header.request i.snapshots
@@ -84,14 +91,14 @@ module _ {B : Type 0} (tree_for : B → List (List ℕ) → Option QueryTree) (i
 
   -- an error that has its cause
   pub printed-refusal : (error : WalkError) → error ≢ OutOfMemory
-      → HasCause (matches_in tree_for i) limit i.header.name i.header.query i.header.request
+      → HasCause (query_in tree_for i) limit i.header.name i.header.query i.header.request
       i.snapshots error
       → text ≡ refusal_text error → IsRefusal tree_for i text
   printed-refusal error other cause said = (
     error,
     (
       other,
-      subst (λ n. HasCause (matches_in tree_for i) n i.header.name i.header.query i.header.request
+      subst (λ n. HasCause (query_in tree_for i) n i.header.name i.header.query i.header.request
           i.snapshots error) limit_is cause,
     ),
     said,

@@ -22,20 +22,24 @@ abbrev pub bucket_limit_of : {B : Type 0} → Input B → ℕ
 bucket_limit_of i = unwrap_or i.header.bucket_limit 65000
 
 module _ {B : Type 0} (tree_for : B → List (List ℕ) → Option QueryTree) where
-  -- whether what a builder makes for the schema of an input matches a document
+  -- the query that a builder makes for the schema of an input
+  abbrev pub query_in : Input B → B → Option QueryTree
+  query_in i builder = tree_for builder i.header.schema
+
+  -- whether what it makes matches a document
   abbrev pub matches_in : Input B → B → Fields → Bool
-  matches_in i = built_matches (λ builder. tree_for builder i.header.schema)
+  matches_in i = built_matches (query_in i)
 
   -- an error that a walk of an input may answer, want of memory aside
   abbrev pub MayRefuse : Input B → WalkError → Type 0
   MayRefuse i error =
       (error ≢ OutOfMemory)
-      × HasCause (matches_in i) (bucket_limit_of i) i.header.name i.header.query i.header.request
+      × HasCause (query_in i) (bucket_limit_of i) i.header.name i.header.query i.header.request
       i.snapshots error
 
   -- a walk of an input that nothing refuses
   pub record IsValid (i : Input B) : Type 0 where
-    pub asked : MayBeAsked i.header.name i.header.request i.snapshots
+    pub asked : MayBeAsked (query_in i) i.header.name i.header.request i.snapshots
     pub fits : NoneIs (IsRefused (matches_in i) (bucket_limit_of i) i.header.name i.header.query
         i.header.request i.snapshots)
 

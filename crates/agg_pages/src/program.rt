@@ -3,7 +3,6 @@
 ghost use Rattle.std.specs.Prelude.{◌≡◌, ◌<◌, ◌+◌, ◌⊎◌, ◌↔◌, ℕ, Err, take, true, false, IfOk};
 ghost use Rattle.std.specs.Prelude.{IfErr, IsTrue, string_bytes};
 ghost use Rattle.std.specs.Io.KnownBytes.{Appends};
-ghost use Rattle.agg_engine.specs.Form.{IsOneComposite};
 ghost use Rattle.agg_engine.specs.Snapshot.{snapshots_documents};
 ghost use Rattle.agg_pages.specs.Answer.{IsReply, walk_arguments};
 ghost use Rattle.agg_pages.specs.Causes.{Rose};
@@ -130,7 +129,6 @@ fn reply_to<L: Ledger>(
     input: &Input,
     steps: &mut Steps<L>,
 ) -> Result<Reply, OutOfMemory>
-    requires { IsOneComposite input.now.header.request }
     ensures { IfOk result
         (λ reply. IsReply (λ b. tree_for (b.builder.vtable, b.builder.value))
         reply.refused (input_of input.now) (string_bytes reply.text)) }

@@ -40,8 +40,8 @@ pub fn next_after(
     Ok(Some(copied(alloc, after_key)?))
 }
 
-// An equal after key.
-fn copied(alloc: Global, after: &NameMap<AfterKey>) -> Result<NameMap<AfterKey>, OutOfMemory>
+/// An equal after key.
+pub fn copied(alloc: Global, after: &NameMap<AfterKey>) -> Result<NameMap<AfterKey>, OutOfMemory>
     ensures { IfOk result (λ copy. copy ≡ after.now) }
 {
     let mut copy = NameMap::new(alloc);

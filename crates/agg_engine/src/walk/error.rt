@@ -1,8 +1,11 @@
 ghost use Rattle.std.specs.Prelude.{◌≡◌};
-ghost use Rattle.agg_engine.specs.WalkError.{error_from_request, error_name};
+ghost use Rattle.agg_engine.specs.WalkError.{error_from_request, error_from_setup};
+ghost use Rattle.agg_engine.specs.WalkError.{error_from_snapshot, error_name};
 ghost use Rattle.agg_engine.specs.WalkError.{aggregation_name, argument_name, parse_name};
 ghost use Rattle.agg_engine.specs.declared.walk.error.WalkError.TheVariants.{OutOfMemory as Memory};
 
+use agg_segment_context::SetupError;
+use agg_snapshot::SnapshotError;
 use agg_values::{
     AggregationError, DateHistogramParseError, InvalidArgument, OutOfMemory, RequestError,
 };
@@ -15,6 +18,8 @@ pub enum WalkError {
     Invalid(InvalidArgument),
     #[error("the name is that of no composite of the request")]
     UnknownComposite,
+    #[error("a builder has no query for the schema")]
+    QueryBuild,
     #[error("a bucket starts outside 64 bits")]
     BucketOutOfRange,
     #[error("too many occurrences")]
@@ -33,6 +38,7 @@ impl WalkError {
         match self {
             WalkError::Invalid(argument) => argument_name(argument),
             WalkError::UnknownComposite => "UnknownComposite",
+            WalkError::QueryBuild => "QueryBuild",
             WalkError::BucketOutOfRange => "BucketOutOfRange",
             WalkError::TooMany => "TooMany",
             WalkError::Aggregation(error) => aggregation_name(error),
@@ -94,6 +100,31 @@ impl From<RequestError> for WalkError {
             RequestError::Invalid(argument) => WalkError::Invalid(argument),
             RequestError::Aggregation(error) => WalkError::Aggregation(error),
             RequestError::OutOfMemory => WalkError::OutOfMemory,
+        }
+    }
+}
+
+impl From<SetupError> for WalkError {
+    ghost from_gives = { λ s e. e ≡ error_from_setup s };
+
+    fn from(error: SetupError) -> WalkError {
+        match error {
+            SetupError::Invalid(argument) => WalkError::Invalid(argument),
+            SetupError::QueryBuild => WalkError::QueryBuild,
+            SetupError::Aggregation(error) => WalkError::Aggregation(error),
+            SetupError::OutOfMemory => WalkError::OutOfMemory,
+        }
+    }
+}
+
+impl From<SnapshotError> for WalkError {
+    ghost from_gives = { λ s e. e ≡ error_from_snapshot s };
+
+    fn from(error: SnapshotError) -> WalkError {
+        match error {
+            SnapshotError::BucketOutOfRange => WalkError::BucketOutOfRange,
+            SnapshotError::TooMany => WalkError::TooMany,
+            SnapshotError::OutOfMemory => WalkError::OutOfMemory,
         }
     }
 }

@@ -1,13 +1,14 @@
 use Rattle.std.proofs.Common.{◌≤◌, drop, unwrap_or}
 use Rattle.agg_request_tree.specs.Matching.{built_matches}
+use Rattle.agg_segment_context.specs.Pages.{request_after}
+use Rattle.agg_segment_context.specs.Trees.{AreTreesOf, built_tree}
 use Rattle.agg_engine.specs.Snapshot.{snapshots_documents}
-use Rattle.agg_engine.specs.Walk.{request_after}
 use Rattle.agg_engine.proofs.StepsTaken.{IsCounting}
 use Rattle.agg_engine.proofs.WalkLoop.{IsWalking}
 use Rattle.agg_engine.proofs.walk.walk_pages.Given as goal
 
--- the pages so far are those of the walk, which goes on from the after key, and there are as many
--- steps as they allow
+-- the pages so far are those of the walk, which goes on from the after key, there are as many steps
+-- as they allow, and the trees are those of the request
 abbrev pub invariant-loop-snapshot : goal.invariant-loop-snapshot
 invariant-loop-snapshot g l = record {
   walking : IsWalking (built_matches (λ b.
@@ -23,5 +24,8 @@ invariant-loop-snapshot g l = record {
       (request_after l.name (unwrap_or l.before l.composite.after) l.request)
       (snapshots_documents (drop l.snapshot-index l.snapshots)) l.pages l.snapshot-index
       l.initial.steps l.steps;
+  trees : AreTreesOf (built_tree (λ b.
+      (goal.QueryBuilder-dyn g (b.builder.vtable, b.builder.value)).tree_for
+      b.builder.value l.schema)) l.request l.params.trees;
   later : l.initial.steps ≤ l.steps;
 }

@@ -3,7 +3,7 @@ use Rattle.std.proofs.lemmas.Result.{err_from_is_err_and}
 use Rattle.std.specs.Prelude.{MatchBool}
 use Rattle.serde_json.specs.View.{view}
 use Rattle.agg_request_json.specs.RequestJson.{IsNoRequest}
-use Rattle.agg_engine.specs.Form.{IsOneComposite}
+use Rattle.agg_input.specs.Form.{IsOneComposite}
 use Rattle.agg_input.proofs.Headers.{other_form}
 use Rattle.agg_input.proofs.header.request_of.Goals as goal
 

@@ -1,8 +1,0 @@
-use Rattle.std.proofs.Common.{take}
-use Rattle.agg_accessor.specs.Accessors.{AllFit}
-use Rattle.agg_engine.proofs.walk.accessors.accessors_for.Given as goal
-
--- the accessors of the sources so far
-abbrev pub invariant-loop-source : goal.invariant-loop-source
-invariant-loop-source l =
-    AllFit l.segment l.after (take l.source-index l.sources) l.accessors

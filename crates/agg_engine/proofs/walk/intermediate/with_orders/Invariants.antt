@@ -1,9 +1,0 @@
-use Rattle.std.proofs.Common.{◌≡◌, [], take}
-use Rattle.agg_request_tree.specs.Source.{rules_of}
-use Rattle.agg_intermediate_results.specs.Intermediate.{composite_of}
-use Rattle.agg_engine.proofs.walk.intermediate.with_orders.Given as goal
-
--- the orders of the sources so far
-abbrev pub invariant-loop-source : goal.invariant-loop-source
-invariant-loop-source l =
-    l.buckets ≡ composite_of (rules_of (take l.source-index l.sources)) l.size []

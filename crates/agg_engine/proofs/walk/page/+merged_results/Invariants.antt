@@ -1,5 +1,0 @@
-use Rattle.std.proofs.Common.{length}
-use Rattle.agg_engine.proofs.walk.page.+merged_results.Given as goal
-
-abbrev pub decreases-merged_results : goal.decreases-merged_results
-decreases-merged_results g l = length l.contexts.now

@@ -1,0 +1,121 @@
+//! Walks of a request with filters beside and below a composite, before any snapshot.
+ghost use Rattle.std.specs.Prelude.{◌≡◌, ◌<◌};
+
+use agg_cache::LimitsLedger;
+use agg_engine::{Snapshot, Walk, WalkError, walk_pages};
+use agg_request_tree::{
+    Aggregation, AggregationVariants, Aggregations, FilterAggregation, NamedBuilder,
+    QueryBuildError, QueryBuilder,
+};
+use agg_request_tree_tests::given::{GivenSource, Kind, composite_of};
+use agg_segment::{QueryTree, Schema};
+use agg_values::{ItemList, NameMap, OutOfMemory, Steps, Text};
+use std::alloc::Global;
+use std::marker::Brand;
+use std::sync::ledger::{Blank, Ledger};
+use std::test::Fail;
+
+// A builder that has a query only where a schema has a field.
+#[derive(Drop)]
+struct AllOfSome {}
+
+impl QueryBuilder for AllOfSome {
+    ghost use Rattle.std.specs.Prelude.{◌==◌, if◌then◌else◌, None, Some, length};
+    ghost use Rattle.agg_segment.specs.declared.query.QueryTree.TheVariants.{All as AllOf};
+
+    ghost tree_for = { λ _ fields. (if (length fields == 0) then None else Some AllOf) };
+
+    fn build_query(&self, _alloc: Global, schema: &Schema) -> Result<QueryTree, QueryBuildError> {
+        if schema.fields().is_empty() {
+            return Err(QueryBuildError::NoTree);
+        }
+        Ok(QueryTree::All)
+    }
+}
+
+// A filter by such a builder.
+fn built_filter(alloc: Global) -> Result<Aggregation, OutOfMemory> {
+    let builder = NamedBuilder {
+        name: Text::copy_of(alloc, "all of some")?,
+        builder: Box::new(alloc, AllOfSome {})?,
+    };
+    Ok(Aggregation {
+        agg: AggregationVariants::Filter(FilterAggregation::new_with_builder(builder)),
+        sub_aggregation: NameMap::new(alloc),
+    })
+}
+
+// The request of a composite g with the filter f below it, and of a filter f beside it.
+fn request_of_three(alloc: Global) -> Result<Aggregations, OutOfMemory> {
+    let sources = [GivenSource::of("a", Kind::Terms, false)];
+    let composite = composite_of(alloc, &sources, 2)?;
+    let mut below = NameMap::new(alloc);
+    below.insert(Text::copy_of(alloc, "f")?, built_filter(alloc)?)?;
+    let mut request = NameMap::new(alloc);
+    let named = Aggregation {
+        agg: AggregationVariants::Composite(composite),
+        sub_aggregation: below,
+    };
+    request.insert(Text::copy_of(alloc, "g")?, named)?;
+    request.insert(Text::copy_of(alloc, "f")?, built_filter(alloc)?)?;
+    Ok(request)
+}
+
+// The walk of the composite of a name over no snapshot, with a schema of these fields.
+fn walk(
+    alloc: Global,
+    name: &'static str,
+    fields: &'static [&'static str],
+) -> Result<Result<Walk, WalkError>, Fail> {
+    let request = request_of_three(alloc)?;
+    let snapshots = ItemList::new(alloc);
+    Ok(walk_over::<Brand>(alloc, (name, fields), &request, &snapshots, Blank::new(1)))
+}
+
+fn walk_over<L: Ledger>(
+    alloc: Global,
+    asked: (&'static str, &'static [&'static str]),
+    request: &Aggregations,
+    snapshots: &ItemList<Snapshot>,
+    blank: Blank,
+) -> Result<Walk, WalkError>
+    requires name { blank.name ≡ L.name }
+    requires parts { blank.parts ≡ L.parts }
+    requires shared { 0 < L.parts }
+{
+    let mut steps: Steps<L> = Steps::new(blank);
+    let mut limits = LimitsLedger::new(None, None);
+    let (name, fields) = asked;
+    let name = Text::copy_of(alloc, name)?;
+    let mut schema = Schema::new(alloc);
+    for field in fields {
+        schema.add_field(Text::copy_of(alloc, field)?)?;
+    }
+    let query = QueryTree::All;
+    walk_pages(
+        alloc,
+        &mut limits,
+        &schema,
+        request,
+        &name,
+        &query,
+        snapshots,
+        &mut steps,
+    )
+}
+
+#[test]
+fn each_builder_is_asked_before_any_snapshot(rt: HostRuntime) -> Result<(), Fail> {
+    let refused = walk(rt.alloc(), "g", &[])?;
+    assert_eq!(rt; refused.err(), Some(WalkError::QueryBuild));
+    let walk = walk(rt.alloc(), "g", &["a"])??;
+    assert_eq!(rt; (walk.pages.as_slice().len(), walk.ended), (0, false));
+    Ok(())
+}
+
+#[test]
+fn a_filter_is_no_composite_to_page_over(rt: HostRuntime) -> Result<(), Fail> {
+    let refused = walk(rt.alloc(), "f", &["a"])?;
+    assert_eq!(rt; refused.err(), Some(WalkError::UnknownComposite));
+    Ok(())
+}
