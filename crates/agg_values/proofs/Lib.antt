@@ -3,6 +3,10 @@ pub mod GroupTexts
 pub mod Groups
 pub mod KeyOrder
 pub mod KeyTexts
+pub mod MadeByName
+pub mod NameOrder
 pub mod NamePlaces
+pub mod NameValues
+pub mod SameOrders
 pub mod TupleOrder
 pub mod ZeroRuns
