@@ -6,6 +6,7 @@ mod bucket_ids;
 mod cache;
 mod cached;
 mod error;
+mod guard;
 mod limits;
 mod low_card;
 
@@ -13,5 +14,6 @@ pub use bucket_ids::BucketIdProvider;
 pub use cache::{Batch, SubAggCache};
 pub use cached::{CachedSubAggs, LowCardCachedSubAggs, PUSHES_UNTIL_DUE};
 pub use error::CollectError;
+pub use guard::AggregationLimitsGuard;
 pub use limits::{BucketId, DEFAULT_BUCKET_LIMIT, DEFAULT_MEMORY_LIMIT, LimitsLedger};
 pub use low_card::LowCardSubAggCache;

@@ -1,5 +1,7 @@
-ghost use Rattle.std.specs.Prelude.{◌≡◌, unwrap_or};
+//! The limits of a walk, and the bytes that its collectors charge.
+ghost use Rattle.std.specs.Prelude.{◌≡◌, ◌≤◌, unwrap_or};
 
+use crate::AggregationLimitsGuard;
 use std::marker::Model;
 
 /// The number of a bucket of a collector.
@@ -14,12 +16,13 @@ pub const DEFAULT_BUCKET_LIMIT: u32 = 65_000;
 /// The limits of a walk, and the bytes that its collectors have charged.
 #[derive(Debug, Drop)]
 pub struct LimitsLedger {
-    in_use: u64,
+    pub(crate) in_use: u64,
     memory_limit: u64,
     bucket_limit: u32,
 }
 
 impl Model for LimitsLedger {
+    ghost use Rattle.std.specs.Prelude.{◌≤◌};
     ghost use Rattle.agg_cache.specs.Limits.{Limits};
 
     ghost Value = { Limits };
@@ -29,6 +32,8 @@ impl Model for LimitsLedger {
       memory_limit = ledger.memory_limit;
       bucket_limit = ledger.bucket_limit;
     } };
+
+    ghost invariant = { λ ledger. ledger.in_use ≤ ledger.memory_limit };
 }
 
 impl LimitsLedger {
@@ -45,9 +50,10 @@ impl LimitsLedger {
         }
     }
 
-    /// The bytes that are charged and not given back.
+    /// The bytes that are charged and not given back, never more than may be in use.
     pub fn in_use(&self) -> u64
-        ensures { result ≡ self.now.in_use }
+        ensures in_use { result ≡ self.now.in_use }
+        ensures within { result ≤ self.now.memory_limit }
     {
         self.in_use
     }
@@ -64,5 +70,12 @@ impl LimitsLedger {
         ensures { result ≡ self.now.bucket_limit }
     {
         self.bucket_limit
+    }
+
+    /// A guard that holds no bytes.
+    pub fn guard(&self) -> AggregationLimitsGuard
+        ensures { result ≡ 0 }
+    {
+        AggregationLimitsGuard::new()
     }
 }

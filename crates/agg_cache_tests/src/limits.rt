@@ -1,4 +1,7 @@
-use agg_cache::LimitsLedger;
+ghost use Rattle.std.specs.Prelude.{◌≤◌};
+
+use agg_cache::{AggregationLimitsGuard, LimitsLedger};
+use agg_values::AggregationError;
 
 // The limits that are given for memory and buckets, and what a new ledger tells.
 const LIMITS: &[(Option<u64>, Option<u32>, (u64, u64, u32))] = &[
@@ -16,5 +19,44 @@ fn a_limit_that_is_not_given_is_the_default(rt: HostRuntime) {
             limits.bucket_limit(),
         );
         assert_eq!(rt; told, expected);
+    }
+}
+
+// A limit, bytes that a guard charges and then more bytes, what comes of these, and what is then in
+// use: a charge above the limit changes nothing.
+const CHARGES: &[(u64, u64, u64, Result<(), u64>, u64)] = &[
+    (1_000, 512, 488, Ok(()), 1_000),
+    (1_000, 512, 489, Err(1_001), 512),
+    (1_000, 1_000, 0, Ok(()), 1_000),
+    (1_000, 1_000, u64::MAX, Err(u64::MAX), 1_000),
+    (u64::MAX, u64::MAX, 1, Err(u64::MAX), u64::MAX),
+];
+
+// What comes of a charge: the bytes that would be in use, where they are too many.
+fn charge(
+    guard: &mut AggregationLimitsGuard,
+    limits: &mut LimitsLedger,
+    bytes: u64,
+) -> Result<(), u64>
+    requires { guard.old ≤ limits.old.in_use }
+    ensures { guard.new ≤ limits.new.in_use }
+{
+    match guard.add_memory_consumed(limits, bytes) {
+        Err(AggregationError::MemoryExceeded { current, .. }) => Err(current),
+        _ => Ok(()),
+    }
+}
+
+#[test]
+fn a_charge_above_the_limit_changes_nothing(rt: HostRuntime) {
+    for &(limit, first, more, expected, in_use) in CHARGES {
+        let mut limits = LimitsLedger::new(Some(limit), None);
+        let mut guard = limits.guard();
+        let before = charge(&mut guard, &mut limits, first);
+        let charged = charge(&mut guard, &mut limits, more);
+        assert_eq!(rt; (before, charged), (Ok(()), expected));
+        assert_eq!(rt; (limits.in_use(), guard.allocated()), (in_use, in_use));
+        guard.give_back(&mut limits);
+        assert_eq!(rt; limits.in_use(), 0);
     }
 }
