@@ -20,7 +20,7 @@ use Rattle.agg_column.specs.declared.sign.Sign.{Sign}
 use Rattle.agg_column.specs.declared.sign.Sign.TheVariants.{Small}
 use Rattle.agg_column.proofs.Classes.{same_classes}
 use Rattle.agg_column.specs.Columns.{type_class}
-use Rattle.agg_segment.proofs.Encoded.{kind_rank}
+use Rattle.agg_segment.proofs.EncodedColumns.{kind_rank}
 use Rattle.agg_column.proofs.KeptCells.{filter_map_is}
 use Rattle.agg_column.proofs.Members.{contains_filter, from_filter}
 

@@ -1,5 +1,5 @@
 -- Columns that are sorted by field and class.
-use Rattle.std.proofs.Common.{◌≡◌, ◌≢◌, ◌+◌, ◌≤◌, ℕ, List, get_or, Ordering}
+use Rattle.std.proofs.Common.{◌≡◌, ◌≢◌, ◌≤◌, ℕ, List, get_or, Ordering}
 use Rattle.std.proofs.Common.{true, false, refl, sym, ap, ◌∙◌, [], zero, suc, map}
 use Rattle.std.proofs.Common.{◌∷◌, ◌++◌, inl, inr, arith}
 use Rattle.std.specs.Prelude.{Bool, ◌==◌, ◌&&◌, nat_lt, nat_eq, not, filter}

@@ -8,7 +8,7 @@ pub mod ClosedDocuments
 pub mod ColumnOrder
 pub mod ColumnSort
 pub mod DocumentKeys
-pub mod Encoded
+pub mod EncodedColumns
 pub mod FieldColumns
 pub mod FieldSigns
 pub mod Fronts

@@ -23,7 +23,7 @@ use Rattle.agg_segment.proofs.AlikeNumbers.{alike_contains, alike_back, alike_al
 use Rattle.agg_segment.proofs.BuilderKeys.{signed_read, dropped, taken}
 use Rattle.agg_segment.proofs.CellKeys.{cells_read, cells_raw}
 use Rattle.agg_segment.proofs.ClosedDocuments.{all_docs, finish_documents, not_mixed}
-use Rattle.agg_segment.proofs.Encoded.{front_all, back_all}
+use Rattle.agg_segment.proofs.EncodedColumns.{front_all, back_all}
 use Rattle.agg_column.proofs.KeptCells.{marks_are}
 use Rattle.agg_segment.proofs.FieldSigns.{marks_joined}
 use Rattle.agg_segment.proofs.DocumentKeys.{keys_none, no_keys_open, map_same}

@@ -1,7 +1,8 @@
 -- The numbers of what was gathered are of 64 bits, and so are those of a segment's documents.
 use Rattle.std.proofs.Common.{◌≡◌, ◌<◌, ◌+◌, ◌^◌, ℕ, List, [], length, map, get_or, refl, subst}
 use Rattle.std.proofs.Common.{sym, true, false, None, Some, arith}
-use Rattle.std.specs.Prelude.{Bool, Option, filter, flat_map, nat_abs, nat_lt, pos, ◌-ℤ◌, if◌then◌else◌}
+use Rattle.std.specs.Prelude.{Bool, Option, filter, flat_map, nat_abs, nat_lt, pos, ◌-ℤ◌}
+use Rattle.std.specs.Prelude.{if◌then◌else◌}
 use Rattle.std.specs.Option.{option_map_or}
 use Rattle.std.specs.List.{All, range_with_len}
 use Rattle.std.proofs.lemmas.Bool.Decides.{nat_tests}
@@ -12,7 +13,6 @@ use Rattle.agg_values.specs.declared.address.Address.{Address}
 use Rattle.agg_values.specs.declared.column.ColumnPaginationOrder.{ColumnPaginationOrder}
 use Rattle.agg_values.specs.declared.column.ColumnPaginationOrder.TheVariants as class
 use Rattle.agg_values.specs.declared.typed_key.CompositeIntermediateKey.TheVariants as key
-use Rattle.agg_values.specs.TypedKey.{CompositeIntermediateKey}
 use Rattle.agg_column.specs.Cells.{Placed, is_at, keys_at, number_of}
 use Rattle.agg_column.specs.Columns.{column_cells}
 use Rattle.agg_column.specs.Document.{HasNumbersOf64Bits, IsOf64Bits, by_class}

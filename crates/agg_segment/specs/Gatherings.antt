@@ -9,7 +9,6 @@ use Rattle.std.specs.declared.cmp.Ordering.{Ordering}
 use Rattle.agg_values.specs.declared.address.Address.{Address}
 use Rattle.agg_values.specs.declared.column.ColumnPaginationOrder.{ColumnPaginationOrder}
 use Rattle.agg_values.specs.declared.column.ColumnPaginationOrder.TheVariants as class
-use Rattle.agg_values.specs.TypedKey.{CompositeIntermediateKey}
 use Rattle.agg_column.specs.Cells.{Placed}
 use Rattle.agg_column.specs.CellOrder.{cell_class}
 use Rattle.agg_values.specs.Column.{order_rank}

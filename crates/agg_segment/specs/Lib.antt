@@ -3,6 +3,7 @@ pub mod Gatherings
 pub mod Marks
 pub mod Query
 pub mod Segment
+pub mod Snapshot
 pub mod Spans
 pub use Rattle.agg_column.specs.Columns
 pub use Rattle.agg_column.specs.Dictionary

@@ -8,6 +8,7 @@ mod query;
 mod schema;
 mod segment;
 mod signs;
+mod snapshot;
 
 pub use agg_column::{
     Column, ColumnType, Document, FieldValue, OrdHit, by_class_keeps_the_keys,
@@ -18,3 +19,4 @@ pub use laws::build_errors_are_equal_by_variant;
 pub use query::{Matches, QueryTree, RangeBound, classes_match_in_any_order};
 pub use schema::Schema;
 pub use segment::SegmentReader;
+pub use snapshot::Snapshot;

@@ -7,8 +7,8 @@ use Rattle.agg_segment.specs.Gatherings.{Raw, raws, raw_placed, IsRaw, IsWide, c
 use Rattle.agg_segment.specs.Gatherings.{gathering_classes}
 use Rattle.agg_segment.specs.declared.gatherings.Gathering.{Gathering}
 use Rattle.agg_column.specs.declared.sign.Sign.TheVariants.{Small}
-use Rattle.agg_segment.proofs.Encoded.{column_is, next_cells, next_classes, rank_is, kept_last}
-use Rattle.agg_segment.proofs.Encoded.{kept_rest, all_last, all_rest}
+use Rattle.agg_segment.proofs.EncodedColumns.{column_is, next_cells, next_classes, rank_is}
+use Rattle.agg_segment.proofs.EncodedColumns.{kept_last, kept_rest, all_last, all_rest}
 use Rattle.agg_segment.proofs.gatherings.columns.encode_all.Goals as goal
 
 pub column_of-requires-clause-kept : goal.column_of-requires-clause-kept

@@ -12,7 +12,6 @@ use Rattle.agg_values.specs.declared.address.Address.{Address}
 use Rattle.agg_values.specs.declared.column.ColumnPaginationOrder.{ColumnPaginationOrder}
 use Rattle.agg_values.specs.declared.column.ColumnPaginationOrder.TheVariants as class
 use Rattle.agg_values.specs.TypedKey.{CompositeIntermediateKey}
-use Rattle.agg_values.specs.declared.typed_key.CompositeIntermediateKey.TheVariants as key
 use Rattle.agg_column.specs.Cells.{Placed}
 use Rattle.agg_values.specs.Column.{order_rank}
 use Rattle.agg_column.specs.Columns.{StoredColumn, column_cells, encoded_key, type_of, keys_rank}
