@@ -1,6 +1,6 @@
 -- Faults of sources and composites, and what is sound.
 use Rattle.std.proofs.Common.{◌≢◌, ◌<◌, ◌≤ℤ◌, ◌<ℤ◌, ℤ, pos, negsuc, zero, suc}
-use Rattle.std.proofs.Common.{[], Option, None, Some, IfNone, length, get_or}
+use Rattle.std.proofs.Common.{[], Option, None, Some, IfNone, IfSome, length, get_or}
 use Rattle.std.proofs.Common.{refl, arith}
 use Rattle.std.specs.List.{All, Any}
 use Rattle.std.proofs.lemmas.Int.{ints}
@@ -147,3 +147,9 @@ IsSound-parts composite some few room names each = none
 pub when-none : {A P Q : Type 0} (o : Option A) → (P → Q) → IfNone o P → IfNone o Q
 when-none None follows fact = follows fact
 when-none (Some x) follows fact = tt
+
+-- what follows of each answer
+pub when-some : {A : Type 0} {P Q : A → Type 0} (o : Option A) → ((x : A) → P x → Q x)
+    → IfSome o P → IfSome o Q
+when-some None follows fact = tt
+when-some (Some x) follows fact = follows x fact

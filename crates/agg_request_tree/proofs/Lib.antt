@@ -3,6 +3,7 @@ pub mod AlikeLists
 pub mod AlikeOccurrences
 pub mod AlikeStarts
 pub mod AscendingKeys
+pub mod BySource
 pub mod CheckedRequests
 pub mod Checks
 pub mod Faults
@@ -28,5 +29,6 @@ pub mod RequestTrees
 pub mod SameRequests
 pub mod SourceEquality
 pub mod SourceKeys
+pub mod SourceOrders
 pub mod UncutLength
 pub mod UncutLists

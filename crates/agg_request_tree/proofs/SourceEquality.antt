@@ -9,10 +9,10 @@ use Rattle.agg_values.specs.contracts.order.OrderPartialEq as order
 use Rattle.agg_values.specs.contracts.order.MissingOrderPartialEq as missing
 use Rattle.agg_values.specs.declared.order.Order.{Order}
 use Rattle.agg_values.specs.declared.order.MissingOrder.{MissingOrder}
-use Rattle.agg_request_tree.specs.contracts.source.CompositeAggregationSourcePartialEq as sources
-use Rattle.agg_request_tree.specs.contracts.source.TermCompositeAggregationSourcePartialEq as terms
-use Rattle.agg_request_tree.specs.contracts.source.HistogramCompositeAggregationSourcePartialEq as steps
 use Rattle.agg_request_tree.specs.contracts.source as of
+use of.CompositeAggregationSourcePartialEq as sources
+use of.TermCompositeAggregationSourcePartialEq as terms
+use of.HistogramCompositeAggregationSourcePartialEq as steps
 use of.DateHistogramCompositeAggregationSourcePartialEq as days
 use Rattle.agg_request_tree.specs.declared.source.CompositeAggregationSource as kinds
 use kinds.{CompositeAggregationSource}

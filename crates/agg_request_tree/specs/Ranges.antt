@@ -6,7 +6,8 @@ use Rattle.agg_column.specs.Document.{Fields}
 use Rattle.agg_request_tree.specs.Request.{Request, composites_of}
 use Rattle.agg_request_tree.specs.Source.{Sources, field_of, start_in, values_at}
 use Rattle.agg_request_tree.specs.declared.aggregation.CompositeAggregation.{CompositeAggregation}
-use Rattle.agg_request_tree.specs.declared.source.CompositeAggregationSource.{CompositeAggregationSource}
+use Rattle.agg_request_tree.specs.declared.source as declared
+use declared.CompositeAggregationSource.{CompositeAggregationSource}
 
 -- a start lies within i64, if there is one
 abbrev pub IsWithin : Option ℤ → Type 0

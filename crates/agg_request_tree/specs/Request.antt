@@ -116,8 +116,3 @@ with_builders of request = map (λ a. (a.0, with_builders_in of a.1)) request
 -- never the same
 abbrev pub IsSame : {B : Type 0} → Aggregation B → Aggregation B → Type 0
 IsSame a b = (a ≡ b) × (listed_in own_builder a ≡ [])
-
--- an aggregation is a composite with none below it, which is all that a walk takes so far
-abbrev pub IsPlainComposite : {B : Type 0} → Aggregation B → Type 0
-IsPlainComposite a =
-    (composite : CompositeAggregation) × (agg_of a ≡ Composite composite) × (below_of a ≡ [])

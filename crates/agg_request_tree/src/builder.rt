@@ -1,8 +1,9 @@
 ghost use Rattle.std.specs.Prelude.{◌≡◌, List, ℕ, Option, None, Some, IfOk, IsErrOf};
 ghost use Rattle.agg_segment.specs.declared.query.QueryTree.{QueryTree as Tree};
+ghost use Rattle.agg_request_tree.specs.declared.builder.QueryBuildError.{QueryBuildError};
 
 use agg_segment::{QueryTree, Schema};
-use agg_values::Text;
+use agg_values::{OutOfMemory, Text};
 use std::alloc::Global;
 use thiserror::Error;
 
@@ -13,6 +14,14 @@ pub enum QueryBuildError {
     NoTree,
     #[error("out of memory")]
     OutOfMemory,
+}
+
+impl From<OutOfMemory> for QueryBuildError {
+    ghost from_gives = { λ _ error. error ≡ QueryBuildError.OutOfMemory };
+
+    fn from(_error: OutOfMemory) -> QueryBuildError {
+        QueryBuildError::OutOfMemory
+    }
 }
 
 /// What makes a query for a schema.

@@ -14,7 +14,7 @@ use crate::{
     CompositeAggregationSource,
 };
 use after::find_after_fault;
-use agg_values::{InvalidArgument, NameMap, RequestError, Text};
+use agg_values::{AfterKey, InvalidArgument, NameMap, RequestError, Text};
 use intervals::check_intervals;
 use std::alloc::Global;
 
@@ -68,42 +68,60 @@ fn check_own<B: Drop>(alloc: Global, agg: &AggregationVariants<B>) -> Result<(),
         (λ error. Any (λ c. CompositeHasCause c error) (own_composite agg.now)) }
 {
     match agg {
-        AggregationVariants::Composite(composite) => check_composite(alloc, composite),
+        AggregationVariants::Composite(composite) => {
+            check_composite(alloc, composite, composite.size, &composite.after)
+        }
         _ => Ok(()),
     }
 }
 
-// The same of a composite. Intervals are read only where there are few.
-fn check_composite(alloc: Global, composite: &CompositeAggregation) -> Result<(), RequestError>
-    ensures ok { OnOk result (IsSound composite.now) }
-    ensures err { IfErr result (CompositeHasCause composite.now) }
-{
-    if let Some(fault) = find_fault(composite) {
-        return Err(RequestError::Invalid(fault));
-    }
-    check_intervals(alloc, composite.sources.as_slice())
-}
-
-// A fault of a composite besides those of its intervals, if it has any. Names are compared only
-// where there are few.
-fn find_fault(composite: &CompositeAggregation) -> Option<InvalidArgument>
-    ensures some { IfSome result (λ fault. HasFault composite.now (RequestError.Invalid fault)) }
-    ensures none { IfNone result (All HasInterval composite.now.sources → IsSound composite.now) }
+/// Whether a composite may be asked with this size and this after key in place of its own: whether
+/// it has no fault then. Which of several faults is named is free. Memory is taken only for the
+/// text of an error.
+pub fn check_composite(
+    alloc: Global,
+    composite: &CompositeAggregation,
+    size: u32,
+    after: &NameMap<AfterKey>,
+) -> Result<(), RequestError>
+    ensures ok { OnOk result (IsSound (record composite.now { size = size; after = after.now })) }
+    ensures err { IfErr result
+        (CompositeHasCause (record composite.now { size = size; after = after.now })) }
 {
     let sources = composite.sources.as_slice();
+    if let Some(fault) = find_fault(sources, size, after) {
+        return Err(RequestError::Invalid(fault));
+    }
+    // Intervals are read only where there are few sources.
+    check_intervals(alloc, sources)
+}
+
+// A fault of the composite with these parts besides those of its intervals, if it has any. Names
+// are compared only where there are few.
+fn find_fault(
+    sources: &[CompositeAggregationSource],
+    size: u32,
+    after: &NameMap<AfterKey>,
+) -> Option<InvalidArgument>
+    ensures some { IfSome result (λ fault. HasFault
+        (record { sources = sources.now; size = size; after = after.now })
+        (RequestError.Invalid fault)) }
+    ensures none { IfNone result (All HasInterval sources.now
+        → IsSound (record { sources = sources.now; size = size; after = after.now })) }
+{
     if sources.is_empty() {
         return Some(InvalidArgument::NoSource);
     }
     if sources.len() > MAX_SOURCES {
         return Some(InvalidArgument::TooManySources);
     }
-    if composite.size == 0 {
+    if size == 0 {
         return Some(InvalidArgument::ZeroSize);
     }
     if has_duplicate(sources) {
         return Some(InvalidArgument::DuplicateSource);
     }
-    find_after_fault(composite)
+    find_after_fault(sources, after)
 }
 
 // Whether two sources have one name.

@@ -132,8 +132,8 @@ pub fn counts_are_of_the_documents()
 {}
 
 /// The order of the classes inside the fields of documents changes no tuple and no count of a page,
-/// nor what a query matches, nor how often an aggregation at any depth lists a document, nor whether
-/// a start of a bucket lies outside i64.
+/// nor what a query matches, nor how often an aggregation at any depth lists a document, nor
+/// whether a start of a bucket lies outside i64.
 pub fn classes_count_in_any_order<B>()
     ensures pages { (sources : Sources) (size : ℕ) (bound : KeyTuple)
         → (documents others : List Fields) (page other : List Entry)

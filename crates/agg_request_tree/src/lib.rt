@@ -4,6 +4,7 @@
 
 mod aggregation;
 mod builder;
+mod by_source;
 mod check;
 mod field_names;
 mod laws;
@@ -15,7 +16,8 @@ pub use aggregation::{
     FilterAggregation, FilterQuery, MaxAggregation, MinAggregation, SumAggregation,
 };
 pub use builder::{NamedBuilder, QueryBuildError, QueryBuilder};
-pub use check::check_request;
+pub use by_source::{after_keys, shown_keys};
+pub use check::{check_composite, check_request};
 pub use field_names::get_fast_field_names;
 pub use laws::{
     a_page_lists_each_tuple_once, a_page_with_room_is_the_last, an_after_key_is_its_tuple,

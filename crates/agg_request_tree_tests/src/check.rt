@@ -3,7 +3,7 @@ use crate::given::{GivenSource, Kind, composite_of, key_of, lone, request_of};
 use agg_calendar::CalendarInterval;
 use agg_request_tree::{
     Aggregation, AggregationVariants, Aggregations, CompositeAggregation, FilterAggregation,
-    check_request,
+    check_composite, check_request,
 };
 use agg_segment::QueryTree;
 use agg_segment_tests::given::Given;
@@ -337,6 +337,18 @@ fn finds_faults(rt: HostRuntime) -> Result<(), Fail> {
             let found = answer(alloc, place, terms_of(alloc, sources, size, after)?)?;
             assert_eq!(rt; found, fault.map(RequestError::Invalid), "{place:?}");
         }
+    }
+    Ok(())
+}
+
+#[test]
+fn finds_faults_of_other_sizes_and_after_keys(rt: HostRuntime) -> Result<(), Fail> {
+    let alloc = rt.alloc();
+    for &(sources, size, after, fault) in COMPOSITES {
+        let composite = terms_of(alloc, sources, 0, &[("a", None)])?;
+        let after = after_of(alloc, after)?;
+        let found = check_composite(alloc, &composite, size, &after).err();
+        assert_eq!(rt; found, fault.map(RequestError::Invalid));
     }
     Ok(())
 }

@@ -1,6 +1,6 @@
 //! Sources, composites and requests, as the tables of tests hold them.
 ghost use Rattle.std.specs.Prelude.{◌≡◌, ◌∷◌, [], IfOk};
-ghost use Rattle.agg_request_tree.specs.Request.{IsPlainComposite};
+ghost use Rattle.agg_request_tree.specs.Request.{agg_of, below_of};
 
 use agg_calendar::CalendarInterval;
 use agg_request_tree::{
@@ -137,7 +137,8 @@ pub fn composite_of(
 
 /// A composite with no aggregations below it.
 pub fn lone(alloc: Global, composite: CompositeAggregation) -> Aggregation
-    ensures { IsPlainComposite result }
+    ensures agg { agg_of result ≡ AggregationVariants.Composite composite }
+    ensures below { below_of result ≡ [] }
 {
     Aggregation {
         agg: AggregationVariants::Composite(composite),

@@ -1,24 +1,28 @@
 //! What the after values of sources may not be.
-ghost use Rattle.std.specs.Prelude.{All, IfNone, IfSome};
-ghost use Rattle.agg_request_tree.specs.Faults.{HasFault, HasInterval, IsSoundSource};
+ghost use Rattle.std.specs.Prelude.{All, Any, IfNone, IfSome};
+ghost use Rattle.agg_request_tree.specs.Faults.{HasInterval, IsSoundSource, SourceHasFault};
 ghost use Rattle.agg_request_tree.specs.Source.{after_of};
 
-use crate::CompositeAggregation;
-use agg_values::{InvalidArgument, RequestError};
+use crate::CompositeAggregationSource;
+use agg_values::{AfterKey, InvalidArgument, NameMap, RequestError};
 
-/// A fault of an after value of a composite, if it has any: a Null where documents without a value
+/// A fault of an after value of a source, if there is any: a Null where documents without a value
 /// have no bucket, or a key of another type than its source's.
-pub fn find_after_fault(composite: &CompositeAggregation) -> Option<InvalidArgument>
-    ensures some { IfSome result (λ fault. HasFault composite.now (RequestError.Invalid fault)) }
+pub fn find_after_fault(
+    sources: &[CompositeAggregationSource],
+    after: &NameMap<AfterKey>,
+) -> Option<InvalidArgument>
+    ensures some { IfSome result (λ fault. Any (λ source. SourceHasFault source
+        (after_of after.now source) (RequestError.Invalid fault)) sources.now) }
     ensures none { IfNone result (All (λ source. HasInterval source
-        → IsSoundSource source (after_of composite.now.after source)) composite.now.sources) }
+        → IsSoundSource source (after_of after.now source)) sources.now) }
 {
-    for source in composite.sources.as_slice() {
-        let after = source.after_value(&composite.after);
-        if source.is_null_after(after) {
+    for source in sources {
+        let value = source.after_value(after);
+        if source.is_null_after(value) {
             return Some(InvalidArgument::NullAfter);
         }
-        if source.is_other_after(after) {
+        if source.is_other_after(value) {
             return Some(InvalidArgument::AfterType);
         }
     }

@@ -1,6 +1,5 @@
 //! What the interval of a source may not be.
 ghost use Rattle.std.specs.Prelude.{All, Any, IfErr, IsOk, OnOk};
-ghost use Rattle.agg_request_tree.specs.declared.source.CompositeAggregationSource.TheVariants as kind;
 ghost use Rattle.agg_request_tree.specs.Faults.{HasInterval, IsIntervalCause};
 ghost use Rattle.agg_request_tree.specs.Source.{interval_of};
 
@@ -48,7 +47,8 @@ fn check_dates(
     source: &DateHistogramCompositeAggregationSource,
 ) -> Result<(), RequestError>
     ensures ok { OnOk result (IsOk (interval_of source.now)) }
-    ensures err { IfErr result (IsIntervalCause (kind.DateHistogram source.now)) }
+    ensures err { IfErr result
+        (IsIntervalCause (CompositeAggregationSource.DateHistogram source.now)) }
 {
     PrecomputedDateInterval::from_date_histogram_source_intervals(
         alloc,

@@ -46,4 +46,5 @@ check_aggregations-returns-clause-ok g t c =
 pub check_aggregations-returns-clause-names : goal.check_aggregations-returns-clause-names
 check_aggregations-returns-clause-names g t c =
     NamesAscend-all c.args.request.now c.loop-aggregation.aggregation-iterator
-    c.loop-aggregation.invariant c.in-None.ensures.steps.0 c.iter-aggregation-items.ensures.ascending
+    c.loop-aggregation.invariant c.in-None.ensures.steps.0
+    c.iter-aggregation-items.ensures.ascending

@@ -4,7 +4,9 @@ use Rattle.agg_request_tree.specs.declared.aggregation.AggregationVariants as va
 use variants.TheVariants.{Composite}
 use Rattle.agg_request_tree_tests.proofs.given.lone.Goals as goal
 
-pub returns : goal.returns
-returns g c =
-    let agg = Composite c.args.composite in
-    (c.args.composite, agg-made agg c.new.result, below-made agg c.new.result ∙ c.new.ensures)
+pub returns-clause-agg : goal.returns-clause-agg
+returns-clause-agg g c = agg-made (Composite c.args.composite) c.new.result
+
+pub returns-clause-below : goal.returns-clause-below
+returns-clause-below g c =
+    below-made (Composite c.args.composite) c.new.result ∙ c.new.ensures

@@ -2,7 +2,8 @@ use Rattle.std.proofs.Common.{Err, ap, subst}
 use Rattle.agg_calendar.specs.Interval.{chosen}
 use Rattle.agg_calendar.specs.Refusal.{HasText, IsAnswer}
 use Rattle.agg_request_tree.specs.Faults.{IsIntervalCause}
-use Rattle.agg_request_tree.specs.declared.source.CompositeAggregationSource.TheVariants.{DateHistogram}
+use Rattle.agg_request_tree.specs.declared.source as declared
+use declared.CompositeAggregationSource.TheVariants.{DateHistogram}
 use Rattle.agg_request_tree.proofs.Checks.{dates-cause, passed_on}
 use Rattle.agg_request_tree.proofs.check.intervals.check_dates.Goals as goal
 

@@ -1,0 +1,10 @@
+use Rattle.std.proofs.Common.{length, ap, sym, ◌∙◌, min}
+use Rattle.agg_request_tree.proofs.BySource.{by_source-end}
+use Rattle.agg_request_tree.proofs.by_source.after_keys.Goals as goal
+
+pub loop-i-init : goal.loop-i-init
+loop-i-init c =
+    c.new-keys.ensures
+    ∙ sym (by_source-end (λ k. record { 0 = k }) c.args.sources.now c.args.tuple.now c.min-i.result
+    (c.min-i.ensures ∙ ap (λ keys. min (length c.args.sources.now) (length keys))
+    c.as_slice-values.ensures))
