@@ -5,7 +5,6 @@ pub mod BuildersTaken
 pub mod CompositeSources
 pub mod NamesBelow
 pub mod Orders
-pub mod PlainRequests
 pub mod PoolMembers
 pub mod PoolReadings
 pub mod RequestReadings

@@ -6,7 +6,6 @@ ghost use Rattle.agg_request.specs.ReadBack.{IsWritten, SaysKind};
 ghost use Rattle.agg_request_json.specs.RequestJson.{IsMetric};
 ghost use Rattle.agg_request_json.specs.RequestJson.{kind_word};
 ghost use Rattle.agg_request.specs.WrittenJson.{data_of_kind, field_members};
-ghost use Rattle.agg_request_tree.specs.declared.aggregation.AggregationVariants.TheVariants as of_kind;
 
 use super::composite::write_composite;
 use super::objects::{field_member, object_of};
@@ -55,7 +54,7 @@ fn write_filter<B: HasName>(
     filter: &FilterAggregation<B>,
 ) -> Result<Value, OutOfMemory>
     ensures { IfOk result (λ value. IsWritten (data_of_kind B.name_of) (SaysKind B.name_of)
-        (view value) (of_kind.Filter filter.now)) }
+        (view value) (AggregationVariants.Filter filter.now)) }
 {
     match filter.query() {
         FilterQuery::Tree(tree) => write_query(alloc, tree),

@@ -7,7 +7,6 @@ ghost use Rattle.agg_json.specs.Json.{alone, EachIs};
 ghost use Rattle.agg_request.specs.ReadBack.{IsWritten};
 ghost use Rattle.agg_request.specs.WrittenJson.{data_of_source, shared_members};
 ghost use Rattle.agg_request.specs.WrittenJson.{source_members, with_text};
-ghost use Rattle.agg_request_tree.specs.declared.source.CompositeAggregationSource.TheVariants as of;
 
 use super::objects::object_of;
 use super::words::{missing_order_word, order_word, unit_word, write_interval};
@@ -71,9 +70,11 @@ fn named(alloc: Global, name: &Text, kind: &str, body: Value) -> Result<Value, O
 // The body of a terms source.
 fn write_terms(alloc: Global, source: &TermCompositeAggregationSource) -> Result<Value, OutOfMemory>
     ensures written { IfOk result
-        (λ value. view value ≡ object (source_members (of.Terms source.now))) }
+        (λ value. view value
+        ≡ object (source_members (CompositeAggregationSource.Terms source.now))) }
     ensures says { IfOk result
-        (λ value. IsSourceBody false source.now.name (view value) (of.Terms source.now)) }
+        (λ value. IsSourceBody false source.now.name (view value)
+        (CompositeAggregationSource.Terms source.now)) }
 {
     let (order, place) = (source.order, source.missing_order);
     let body = shared_members(alloc, &source.field, order, source.missing_bucket, place)?;
@@ -86,9 +87,11 @@ fn write_histogram(
     source: &HistogramCompositeAggregationSource,
 ) -> Result<Value, OutOfMemory>
     ensures written { IfOk result
-        (λ value. view value ≡ object (source_members (of.Histogram source.now))) }
+        (λ value. view value
+        ≡ object (source_members (CompositeAggregationSource.Histogram source.now))) }
     ensures says { IfOk result
-        (λ value. IsSourceBody false source.now.name (view value) (of.Histogram source.now)) }
+        (λ value. IsSourceBody false source.now.name (view value)
+        (CompositeAggregationSource.Histogram source.now)) }
 {
     let (order, place) = (source.order, source.missing_order);
     let mut body = shared_members(alloc, &source.field, order, source.missing_bucket, place)?;
@@ -107,10 +110,11 @@ fn write_date_histogram(
     source: &DateHistogramCompositeAggregationSource,
 ) -> Result<Value, OutOfMemory>
     ensures written { IfOk result
-        (λ value. view value ≡ object (source_members (of.DateHistogram source.now))) }
+        (λ value. view value
+        ≡ object (source_members (CompositeAggregationSource.DateHistogram source.now))) }
     ensures says { IfOk result
         (λ value. IsSourceBody false source.now.name (view value)
-        (of.DateHistogram source.now)) }
+        (CompositeAggregationSource.DateHistogram source.now)) }
 {
     let (order, place) = (source.order, source.missing_order);
     let mut body = shared_members(alloc, &source.field, order, source.missing_bucket, place)?;

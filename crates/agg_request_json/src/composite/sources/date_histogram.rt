@@ -6,7 +6,7 @@ ghost use Rattle.agg_calendar.specs.declared.interval.CalendarInterval.{Calendar
 ghost use Rattle.agg_request_json.specs.CompositeJson.{IsSourceBody, unit_word};
 ghost use Rattle.agg_json.specs.Json.{IsGiven, present};
 ghost use Rattle.agg_json.specs.Reading.{IsReading};
-ghost use Rattle.agg_request_tree.specs.declared.source.CompositeAggregationSource.TheVariants as of;
+ghost use Rattle.agg_request_tree.specs.declared.source.CompositeAggregationSource.TheVariants as s;
 
 use crate::composite::words::{missing_bucket, missing_order, order};
 use agg_calendar::CalendarInterval;
@@ -25,7 +25,7 @@ pub fn read_date_histogram(
     body: &Value,
 ) -> Result<DateHistogramCompositeAggregationSource, ReadError>
     ensures { IsReading (λ lenient dates. IsSourceBody lenient name.now (view body.now)
-        (of.DateHistogram dates)) ⊥ result }
+        (s.DateHistogram dates)) ⊥ result }
 {
     Ok(DateHistogramCompositeAggregationSource {
         name: Text::copy_of(alloc, name)?,

@@ -4,7 +4,7 @@ ghost use Rattle.serde_json.specs.View.{view};
 ghost use Rattle.agg_request_json.specs.CompositeJson.{IsSourceBody, IsIntervalOf};
 ghost use Rattle.agg_json.specs.Json.{HasFloatAt};
 ghost use Rattle.agg_json.specs.Reading.{IsReading};
-ghost use Rattle.agg_request_tree.specs.declared.source.CompositeAggregationSource.TheVariants as of;
+ghost use Rattle.agg_request_tree.specs.declared.source.CompositeAggregationSource.TheVariants as s;
 
 use crate::composite::words::{missing_bucket, missing_order, order};
 use agg_json::ReadError;
@@ -21,7 +21,7 @@ pub fn read_histogram(
     body: &Value,
 ) -> Result<HistogramCompositeAggregationSource, ReadError>
     ensures { IsReading (λ lenient numbers. IsSourceBody lenient name.now (view body.now)
-        (of.Histogram numbers)) (HasFloatAt (codes "interval") (view body.now)) result }
+        (s.Histogram numbers)) (HasFloatAt (codes "interval") (view body.now)) result }
 {
     Ok(HistogramCompositeAggregationSource {
         name: Text::copy_of(alloc, name)?,

@@ -2,7 +2,7 @@
 ghost use Rattle.serde_json.specs.View.{view};
 ghost use Rattle.agg_request_json.specs.CompositeJson.{IsSourceBody};
 ghost use Rattle.agg_json.specs.Reading.{IsReading};
-ghost use Rattle.agg_request_tree.specs.declared.source.CompositeAggregationSource.TheVariants as of;
+ghost use Rattle.agg_request_tree.specs.declared.source.CompositeAggregationSource.TheVariants as s;
 
 use crate::composite::words::{missing_bucket, missing_order, order};
 use agg_json::ReadError;
@@ -19,7 +19,7 @@ pub fn read_terms(
     body: &Value,
 ) -> Result<TermCompositeAggregationSource, ReadError>
     ensures { IsReading (λ lenient terms. IsSourceBody lenient name.now (view body.now)
-        (of.Terms terms)) ⊥ result }
+        (s.Terms terms)) ⊥ result }
 {
     Ok(TermCompositeAggregationSource {
         name: Text::copy_of(alloc, name)?,

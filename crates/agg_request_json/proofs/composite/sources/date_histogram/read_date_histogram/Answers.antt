@@ -8,7 +8,8 @@ use Rattle.agg_request_json.specs.CompositeJson.{order_word, unit_word}
 use Rattle.agg_json.specs.Json.{IsField, IsGiven, present}
 use Rattle.agg_request_tree.specs.declared.source.CompositeAggregationSource.TheVariants as of
 use Rattle.agg_json.proofs.Readings.{refused_part}
-use Rattle.agg_request_json.proofs.composite.sources.date_histogram.read_date_histogram.Goals as goal
+use Rattle.agg_request_json.proofs.composite.sources.date_histogram as function
+use function.read_date_histogram.Goals as goal
 
 pub returns-in_err-read_field : goal.returns-in_err-read_field
 returns-in_err-read_field c =
