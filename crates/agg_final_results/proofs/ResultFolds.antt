@@ -11,8 +11,9 @@ use Rattle.agg_final_results.specs.BucketCount.{result_buckets, results_buckets}
 use Rattle.agg_final_results.specs.ResultsText as text
 use Rattle.agg_final_results.specs.ResultsText.{Texts, braced, bucket_members, bucket_result_text}
 use Rattle.agg_final_results.specs.ResultsText.{bucket_text, composite_members, filter_members}
-use Rattle.agg_final_results.specs.ResultsText.{member_text, members_text, metric_text, object_text, result_text}
-use Rattle.agg_final_results.specs.ResultsText.{results_members, results_text, shown_key_text}
+use Rattle.agg_final_results.specs.ResultsText.{member_text, members_text, metric_text}
+use Rattle.agg_final_results.specs.ResultsText.{object_text, result_text, results_members}
+use Rattle.agg_final_results.specs.ResultsText.{results_text, shown_key_text}
 use Rattle.agg_final_results.specs.declared.types.AggregationResult.TheFolds as folds
 use folds.{fold-roll-AggregationResult, fold-roll-BucketResult}
 use folds.{fold_out-AggregationResults, fold_out-CompositeBucketEntry}

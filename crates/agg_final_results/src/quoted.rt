@@ -5,7 +5,7 @@ ghost use Rattle.json.specs.Print.{quoted};
 ghost use Rattle.agg_final_results.specs.PlainText.{is_plain};
 
 use agg_values::OutOfMemory;
-use serde_json::Value;
+use json::Writer;
 use std::alloc::Global;
 
 /// Appends a quoted text.
@@ -40,10 +40,13 @@ fn write_between_quotes(text: &mut String, s: &str) -> Result<(), OutOfMemory>
 
 // Appends a quoted text, some byte of which needs an escape.
 #[cold]
+#[tactic(auto, unfolding(json::specs::Print::print_from))]
 fn write_escaped(alloc: Global, text: &mut String, s: &str) -> Result<(), OutOfMemory>
     ensures { OnOk result (string_bytes text.new ≡ string_bytes text.old ++ quoted s.now) }
 {
-    let value = Value::String(String::from_str(alloc, s)?);
-    text.push_str(value.to_string(alloc)?.as_str())?;
+    let mut writer = Writer::new(Vec::new(alloc));
+    writer.string(s)?;
+    let quoted = String::from_utf8(writer.into_inner()).unwrap();
+    text.push_str(quoted.as_str())?;
     Ok(())
 }
