@@ -8,9 +8,10 @@ use Rattle.std.specs.Map.{keys_of}
 use Rattle.std.proofs.lemmas.List.{append-nil}
 use Rattle.std.proofs.lemmas.Map.Keys.{sorted_tail}
 use Rattle.agg_values.specs.Tuple.{KeyTuple}
+use Rattle.agg_metric_results.specs.Merges.{Merges}
 use Rattle.agg_intermediate_results.specs.Intermediate.{Entries, TupleEntry}
 use Rattle.agg_intermediate_results.specs.Merging.{ByOrder, JoinEntries, SomeTied}
-use Rattle.agg_intermediate_results.specs.Outcome.{BelowDiffer, DoneUnless, EntriesPass, Merges}
+use Rattle.agg_intermediate_results.specs.Outcome.{BelowDiffer, DoneUnless, EntriesPass}
 use Rattle.agg_intermediate_results.specs.declared as intermediate
 use intermediate.entry.IntermediateTermBucketEntry.{IntermediateTermBucketEntry}
 use Rattle.agg_intermediate_results.proofs.JoinedEntries.{join-nothing_right, join-nothing_left}

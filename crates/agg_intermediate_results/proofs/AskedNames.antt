@@ -7,10 +7,10 @@ use Rattle.std.specs.Map.{keys_of}
 use Rattle.std.proofs.lemmas.Map.Keys.{sorted_tail}
 use Rattle.std.proofs.lemmas.Option.{none-some}
 use Rattle.agg_values.specs.Names.{Named, name_cmp, value_of}
+use Rattle.agg_values.proofs.NameOrder.{Ascends, value-cases, value-first}
+use Rattle.agg_values.proofs.NameOrder.{value-later}
 use Rattle.agg_intermediate_results.specs.Merging.{SomeOfBoth}
 use Rattle.agg_intermediate_results.proofs.LeftOver.{Any-later}
-use Rattle.agg_intermediate_results.proofs.NameOrder.{Ascends, value-cases, value-first}
-use Rattle.agg_intermediate_results.proofs.NameOrder.{value-later}
 
 -- ---- some of a list
 

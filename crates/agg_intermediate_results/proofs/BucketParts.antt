@@ -1,17 +1,16 @@
 -- What merging makes of results that have buckets, from what it makes of their parts.
 use Rattle.std.proofs.Common.{◌≡◌, ℕ, ◌+◌, ◌≤◌, ◌^◌, ◌⊎◌, inr, Bool, true, false, refl, sym}
 use Rattle.std.proofs.Common.{◌∙◌, subst}
-use Rattle.agg_intermediate_results.proofs.ResultParts.{parts-composite, parts-filter}
-use Rattle.agg_intermediate_results.specs.Intermediate.{Entries, Held, Parts, TupleEntry}
-use Rattle.agg_intermediate_results.specs.Intermediate.{below_entry, composite, composite_of}
-use Rattle.agg_intermediate_results.specs.Intermediate.{entries_of, metric, orders_of, parts_of}
-use Rattle.agg_intermediate_results.specs.Intermediate.{parts_of_bucket, target_size_of}
-use Rattle.agg_intermediate_results.specs.Intermediate.{BucketLayer, parts_of_layer}
+use Rattle.agg_metric_results.specs.Merges.{Merges}
+use Rattle.agg_metric_results.specs.declared.metric.IntermediateMetricResult as metrics
+use metrics.{IntermediateMetricResult}
+use Rattle.agg_metric_results.proofs.Outcomes.{merges-as, merges-both}
+use Rattle.agg_intermediate_results.specs.Intermediate.{BucketLayer, Parts, composite, metric, parts_of}
+use Rattle.agg_intermediate_results.specs.Intermediate.{parts_of_bucket, parts_of_layer}
 use Rattle.agg_intermediate_results.specs.Intermediate as held
 use Rattle.agg_intermediate_results.specs.Merging.{AreMerged, CompositesMerged, CountsPass}
 use Rattle.agg_intermediate_results.specs.Merging.{IsMerged, JoinNames, MergedTo, PartsDiffer}
 use Rattle.agg_intermediate_results.specs.Merging.{PartsMerged, PartsPass, ShapesDiffer, SomeOfBoth}
-use Rattle.agg_intermediate_results.specs.Outcome.{Merges}
 use Rattle.agg_intermediate_results.specs.declared as intermediate
 use intermediate.results.IntermediateAggregationResult.{IntermediateAggregationResult}
 use intermediate.results.IntermediateAggregationResult as declared
@@ -21,12 +20,11 @@ use declared.TheViews.{Filter, out-IntermediateBucketResult}
 use intermediate.results.IntermediateAggregationResults.{IntermediateAggregationResults}
 use intermediate.results.IntermediateBucketResult.{IntermediateBucketResult}
 use intermediate.results.IntermediateBucketResult.TheVariants as buckets
-use intermediate.metric.IntermediateMetricResult.{IntermediateMetricResult}
 use intermediate.composite.IntermediateCompositeBucketResult as c
 use c.{IntermediateCompositeBucketResult}
-use Rattle.agg_intermediate_results.proofs.Outcomes.{merges-as, merges-both}
 use Rattle.agg_intermediate_results.proofs.Depths.{differ-from_parts, merged-from_parts}
 use Rattle.agg_intermediate_results.proofs.Depths.{merges-from_parts}
+use Rattle.agg_intermediate_results.proofs.ResultParts.{parts-composite, parts-filter}
 
 abbrev pub PartsMerge : Bool → Bool → Parts → Parts → Type 0
 PartsMerge was now p q =

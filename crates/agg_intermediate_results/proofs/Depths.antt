@@ -1,19 +1,15 @@
 -- What is told of two results at some depth, from what is told of their parts.
 use Rattle.std.proofs.Common.{ℕ, zero, suc, inl, inr, List, Bool, Ordering}
 use Rattle.agg_values.specs.Tuple.{KeyTuple}
-use Rattle.agg_intermediate_results.specs.Intermediate.{Entries, Held, Parts, TupleEntry}
-use Rattle.agg_intermediate_results.specs.Intermediate.{below_entry, composite, composite_of}
-use Rattle.agg_intermediate_results.specs.Intermediate.{entries_of, metric, orders_of, parts_of}
-use Rattle.agg_intermediate_results.specs.Intermediate.{parts_of_bucket, target_size_of}
-use Rattle.agg_intermediate_results.specs.Intermediate.{BucketLayer, parts_of_layer}
+use Rattle.agg_metric_results.specs.Merges.{Merges}
+use Rattle.agg_metric_results.proofs.Outcomes.{merges-as}
+use Rattle.agg_intermediate_results.specs.Intermediate.{Parts, composite, metric, parts_of}
 use Rattle.agg_intermediate_results.specs.Intermediate as held
 use Rattle.agg_intermediate_results.specs.Merging.{CountsPass, DifferWithin, IsMerged, JoinNames}
 use Rattle.agg_intermediate_results.specs.Merging.{MergedTo, PartsDiffer, PartsMerged, PartsPass}
 use Rattle.agg_intermediate_results.specs.Merging.{PassWithin, ShapesDiffer, SomeOfBoth, SomeTied}
-use Rattle.agg_intermediate_results.specs.Outcome.{Merges}
 use Rattle.agg_intermediate_results.specs.declared as intermediate
 use intermediate.results.IntermediateAggregationResult.{IntermediateAggregationResult}
-use Rattle.agg_intermediate_results.proofs.Outcomes.{merges-as}
 
 module _ (r o : IntermediateAggregationResult) where
   raise-tied : {T : Type 0} (R : KeyTuple → KeyTuple → Ordering) (A B : T → T → Type 0)

@@ -6,7 +6,9 @@ use Rattle.agg_values.specs.KeyOrder.{SourceRules}
 use Rattle.agg_values.specs.declared.order.MissingOrder.{MissingOrder}
 use Rattle.agg_values.specs.declared.order.Order.{Order}
 use Rattle.agg_request_tree.specs.Source.{Sources, missing_order_of, order_of, rules_of}
-use Rattle.agg_request_tree.specs.declared.source.CompositeAggregationSource.{CompositeAggregationSource}
+use Rattle.agg_request_tree.specs.declared.source.CompositeAggregationSource as kind
+use kind.{CompositeAggregationSource}
+use Rattle.agg_request_tree.proofs.SourceOrders.{rules_of-more}
 use Rattle.agg_intermediate_results.specs.Intermediate.{Entries, composite_of, entries_of}
 use Rattle.agg_intermediate_results.specs.Intermediate.{orders_of, target_size_of}
 use Rattle.agg_intermediate_results.specs.declared as intermediate
@@ -14,7 +16,6 @@ use intermediate.composite.IntermediateCompositeBucketResult as composite
 use composite.{IntermediateCompositeBucketResult}
 use Rattle.agg_intermediate_results.specs.declared.results.IntermediateAggregationResult as result
 use result.TheViews.{out-roll-IntermediateCompositeBucketResult}
-use Rattle.agg_intermediate_results.proofs.SourceOrders.{rules_of-more}
 
 -- ---- the parts of a composite's result
 

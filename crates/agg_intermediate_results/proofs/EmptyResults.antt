@@ -1,6 +1,8 @@
 -- The empty results of a request, name by name.
 use Rattle.std.proofs.Common.{◌≡◌, ℕ, ◌≤◌, List, [], ◌∷◌, ◌++◌, subst, arith}
 use Rattle.agg_values.specs.Names.{put}
+use Rattle.agg_values.proofs.NameOrder.{Ascends}
+use Rattle.agg_values.proofs.MadeByName.{by_name-all, by_name-more}
 use Rattle.agg_request_tree.specs.Request.{Request}
 use Rattle.agg_request_tree.specs.declared.aggregation.Aggregation.{Aggregation}
 use Rattle.agg_request_tree.proofs.RequestTrees.{levels}
@@ -8,8 +10,6 @@ use Rattle.agg_intermediate_results.specs.Empty.{empty_result, empty_results}
 use Rattle.agg_intermediate_results.specs.Intermediate.{Held}
 use Rattle.agg_intermediate_results.specs.declared as declared
 use declared.results.IntermediateAggregationResult.{IntermediateAggregationResult}
-use Rattle.agg_intermediate_results.proofs.MadeByName.{by_name-all, by_name-more}
-use Rattle.agg_intermediate_results.proofs.NameOrder.{Ascends}
 
 module _ {B : Type 0} where
   abbrev made : List ℕ × Aggregation B → IntermediateAggregationResult

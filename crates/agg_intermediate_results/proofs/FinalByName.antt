@@ -8,6 +8,8 @@ use Rattle.std.specs.Map.{keys_of}
 use Rattle.std.proofs.lemmas.List.{map-append, reverse-append}
 use Rattle.std.proofs.lemmas.Map.Keys.{sorted_head, sorted_tail}
 use Rattle.agg_values.specs.Names.{Named, name_cmp, put, value_of, without}
+use Rattle.agg_values.proofs.NameOrder.{Ascends, apart, between, value-without}
+use Rattle.agg_values.proofs.MadeByName.{by_name, by_name-more}
 use Rattle.agg_request_tree.specs.Request.{Request}
 use Rattle.agg_request_tree.specs.declared.aggregation.Aggregation.{Aggregation}
 use Rattle.agg_request_tree.proofs.RequestTrees.{height, levels}
@@ -16,8 +18,6 @@ use Rattle.agg_intermediate_results.specs.Intermediate.{Held}
 use Rattle.agg_intermediate_results.specs.declared.results.IntermediateAggregationResult as declared
 use declared.{IntermediateAggregationResult}
 use Rattle.agg_final_results.specs.declared.types.AggregationResult.{AggregationResult}
-use Rattle.agg_intermediate_results.proofs.MadeByName.{by_name, by_name-more}
-use Rattle.agg_intermediate_results.proofs.NameOrder.{Ascends, apart, between, value-without}
 
 -- what a name of a request makes of what is held
 abbrev pub final_of : {B : Type 0} → Held → List ℕ × Aggregation B → AggregationResult

@@ -3,20 +3,21 @@ use Rattle.std.proofs.Common.{◌≡◌, ℕ, ◌<◌, inl, inr, Bool, false, sy
 use Rattle.std.specs.List.Sorted.{IsStrictlySortedBy}
 use Rattle.std.specs.Map.{keys_of}
 use Rattle.agg_values.specs.KeyOrder.{SourceRules, tuple_order}
+use Rattle.agg_metric_results.specs.Merges.{Merges}
+use Rattle.agg_metric_results.proofs.Outcomes.{merges-as}
 use Rattle.agg_intermediate_results.specs.Intermediate.{Entries, composite, entries_of, orders_of}
 use Rattle.agg_intermediate_results.specs.Intermediate.{target_size_of}
 use Rattle.agg_intermediate_results.specs.Merging.{BothWithRoom, CompositesMerged, CountsPass}
 use Rattle.agg_intermediate_results.specs.Merging.{EntriesMerged, JoinEntries, JoinNames, MergedTo}
 use Rattle.agg_intermediate_results.specs.Merging.{PagesDiffer, PartsDiffer, PartsPass}
 use Rattle.agg_intermediate_results.specs.Merging.{ShapesDiffer, SomeOfBoth, SomeTied, trimmed_to}
-use Rattle.agg_intermediate_results.specs.Outcome.{BelowDiffer, DoneUnless, EntriesPass, Merges}
+use Rattle.agg_intermediate_results.specs.Outcome.{BelowDiffer, DoneUnless, EntriesPass}
 use Rattle.agg_intermediate_results.specs.declared as intermediate
 use intermediate.composite.IntermediateCompositeBucketResult as c
 use c.{IntermediateCompositeBucketResult}
 use Rattle.agg_intermediate_results.proofs.JoinedEntries.{join-weaker, join-up}
-use Rattle.agg_intermediate_results.proofs.Outcomes.{merges-as}
-use Rattle.agg_intermediate_results.proofs.SameOrders.{same_orders}
 use Rattle.agg_values.proofs.TupleOrder.{tuple_order-total}
+use Rattle.agg_values.proofs.SameOrders.{same_orders}
 
 module _ (c d : IntermediateCompositeBucketResult) (some : 0 < target_size_of c)
     (other_some : 0 < target_size_of d) (alike : ¬ (BothWithRoom (PagesDiffer c d) c d))

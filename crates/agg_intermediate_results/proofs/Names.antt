@@ -10,13 +10,14 @@ use Rattle.std.proofs.lemmas.Cmp.{nat_list_cmp_total}
 use Rattle.std.proofs.lemmas.Map.Lookups.{exact_bytes}
 use Rattle.std.proofs.lemmas.Option.{none-some, same_Some}
 use Rattle.agg_values.specs.Names.{name_cmp, put, value_of, without}
-use Rattle.agg_intermediate_results.proofs.NameValues.{Among, among_keys, among_more, other-gone}
-use Rattle.agg_intermediate_results.proofs.NameValues.{other-put, same_key, sorted-gone, value-gone}
-use Rattle.agg_intermediate_results.proofs.NameValues.{value-put}
+use Rattle.agg_values.proofs.NameValues.{Among, among_keys, among_more, other-gone}
+use Rattle.agg_values.proofs.NameValues.{other-put, same_key, sorted-gone, value-gone}
+use Rattle.agg_values.proofs.NameValues.{value-put}
+use Rattle.agg_metric_results.specs.Merges.{Merges}
 use Rattle.agg_intermediate_results.specs.Intermediate.{Held}
 use Rattle.agg_intermediate_results.specs.Merging.{AreMerged, CountsPass, EitherOrBoth, IsMerged}
 use Rattle.agg_intermediate_results.specs.Merging.{ShapesDiffer, SomeOfBoth}
-use Rattle.agg_intermediate_results.specs.Outcome.{IsPut, Merges}
+use Rattle.agg_intermediate_results.specs.Outcome.{IsPut}
 use Rattle.agg_intermediate_results.specs.declared as intermediate
 use intermediate.results.IntermediateAggregationResult.{IntermediateAggregationResult}
 use Rattle.agg_intermediate_results.proofs.Levels.{levels, levels-gone}

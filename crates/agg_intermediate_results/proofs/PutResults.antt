@@ -3,10 +3,11 @@ use Rattle.std.proofs.Common.{◌≡◌, ℕ, inl, inr, List, Option, None, Some
 use Rattle.std.proofs.Common.{ap, ◌∙◌, subst}
 use Rattle.std.specs.Prelude.{IsSomeAnd}
 use Rattle.agg_values.specs.Names.{value_of}
+use Rattle.agg_metric_results.specs.Merges.{Merges}
 use Rattle.agg_intermediate_results.specs.Intermediate.{Held}
 use Rattle.agg_intermediate_results.specs.Merging.{CountsPass, EitherOrBoth, IsMerged, MergedTo}
 use Rattle.agg_intermediate_results.specs.Merging.{ShapesDiffer}
-use Rattle.agg_intermediate_results.specs.Outcome.{IsPut, Merges}
+use Rattle.agg_intermediate_results.specs.Outcome.{IsPut}
 use Rattle.agg_intermediate_results.specs.declared as intermediate
 use intermediate.results.IntermediateAggregationResult.{IntermediateAggregationResult}
 

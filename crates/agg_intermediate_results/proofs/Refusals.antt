@@ -4,6 +4,7 @@ use Rattle.std.proofs.Common.{sym, subst, ◌∙◌}
 use Rattle.std.specs.List.{Any}
 use Rattle.std.proofs.lemmas.Option.{none-some, same_Some}
 use Rattle.agg_values.specs.Names.{value_of}
+use Rattle.agg_values.proofs.NameOrder.{Ascends}
 use Rattle.agg_request_tree.specs.Request.{Request, agg_of, below_of}
 use Rattle.agg_request_tree.specs.declared.aggregation.Aggregation.{Aggregation}
 use Rattle.agg_intermediate_results.specs.Intermediate.{Held, helds_below, parts_of}
@@ -12,7 +13,6 @@ use Rattle.agg_intermediate_results.specs.Refusals.{IsOther}
 use Rattle.agg_intermediate_results.specs.declared.results.IntermediateAggregationResult as declared
 use declared.{IntermediateAggregationResult}
 use Rattle.agg_intermediate_results.proofs.AskedNames.{IsToldAt, told-entry, value-at}
-use Rattle.agg_intermediate_results.proofs.NameOrder.{Ascends}
 
 abbrev Result : Type 0
 Result = IntermediateAggregationResult

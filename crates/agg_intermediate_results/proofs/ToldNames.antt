@@ -7,13 +7,13 @@ use Rattle.std.proofs.lemmas.Cmp.{nat_list_cmp_total}
 use Rattle.std.proofs.lemmas.Map.Lookups.{exact_bytes}
 use Rattle.std.proofs.lemmas.Option.{none-some, same_Some}
 use Rattle.agg_values.specs.Names.{name_cmp, put, value_of, without}
+use Rattle.agg_values.proofs.NameValues.{first_or_later, other-gone, other-put}
+use Rattle.agg_values.proofs.NameValues.{same_key, value-first, value-put}
 use Rattle.agg_intermediate_results.specs.Intermediate.{Held}
 use Rattle.agg_intermediate_results.specs.Merging.{AreMerged, CountsPass, EitherOrBoth, IsMerged}
 use Rattle.agg_intermediate_results.specs.Merging.{MergedTo, ShapesDiffer, SomeOfBoth}
 use Rattle.agg_intermediate_results.specs.declared as declared
 use declared.results.IntermediateAggregationResult.{IntermediateAggregationResult}
-use Rattle.agg_intermediate_results.proofs.NameValues.{first_or_later, other-gone, other-put}
-use Rattle.agg_intermediate_results.proofs.NameValues.{same_key, value-first, value-put}
 use Rattle.agg_intermediate_results.proofs.PutResults.{either-left, to_depth}
 
 abbrev Result : Type 0

@@ -6,11 +6,11 @@ use Rattle.agg_request_tree.specs.declared.aggregation.Aggregation.{Aggregation}
 use Rattle.agg_request_tree.specs.declared.aggregation.Aggregation.TheFolds.{fold-Aggregation}
 use Rattle.agg_request_tree.specs.declared.aggregation.AggregationVariants.{AggregationVariants}
 use Rattle.agg_request_tree.specs.declared.aggregation.AggregationVariants.TheVariants as asks
+use Rattle.agg_metric_results.specs.declared.metric.IntermediateMetricResult.TheVariants as m
 use Rattle.agg_intermediate_results.specs.Intermediate.{Held, as_composite, as_filter, composite_of}
 use Rattle.agg_intermediate_results.specs.declared as declared
 use declared.results.IntermediateAggregationResult.{IntermediateAggregationResult}
 use declared.results.IntermediateAggregationResult.TheVariants.{Metric}
-use declared.metric.IntermediateMetricResult.TheVariants as m
 
 -- the empty result of what an aggregation asks, with those of the aggregations below it: a page of
 -- its size and orders without entries, no documents, no values

@@ -12,16 +12,16 @@ use Rattle.agg_final_results.specs.declared.types as final
 use final.AggregationResult.{AggregationResult}
 use final.AggregationResults.{AggregationResults}
 use final.CompositeBucketEntry.{CompositeBucketEntry}
+use Rattle.agg_metric_results.specs.MetricShown.{final_metric, shown_count, shown_max, shown_min}
+use Rattle.agg_metric_results.specs.MetricShown.{shown_sum}
 use Rattle.agg_intermediate_results.specs.Intermediate.{Entries, Held, Parts, TupleEntry}
-use Rattle.agg_intermediate_results.specs.Intermediate.{below_entry, composite, counts_of, entries_of}
-use Rattle.agg_intermediate_results.specs.Intermediate.{filter, metric, parts_of, target_size_of}
-use Rattle.agg_intermediate_results.specs.Shown.{Results, last_tuple, shown_bucket, shown_count}
-use Rattle.agg_intermediate_results.specs.Shown.{shown_filter, shown_max, shown_min, shown_page}
-use Rattle.agg_intermediate_results.specs.Shown.{shown_sum}
+use Rattle.agg_intermediate_results.specs.Intermediate.{below_entry, composite, counts_of}
+use Rattle.agg_intermediate_results.specs.Intermediate.{entries_of, filter, metric, parts_of}
+use Rattle.agg_intermediate_results.specs.Intermediate.{target_size_of}
+use Rattle.agg_intermediate_results.specs.Shown.{Results, last_tuple, shown_bucket, shown_filter}
+use Rattle.agg_intermediate_results.specs.Shown.{shown_page}
 use Rattle.agg_intermediate_results.specs.declared as declared
 use declared.composite.IntermediateCompositeBucketResult.{IntermediateCompositeBucketResult}
-use declared.metric.IntermediateMetricResult.{IntermediateMetricResult}
-use declared.metric.IntermediateMetricResult.TheVariants as m
 use declared.results.IntermediateAggregationResult.{IntermediateAggregationResult}
 
 -- the lowest of what is held, as many as the page has room for
@@ -49,13 +49,6 @@ abbrev pub final_page : Sources → Named Finish → IntermediateCompositeBucket
 final_page sources below c =
     shown_page sources (map (final_bucket sources below) (lowest_of c))
     (last_tuple (target_size_of c) (counts_of (lowest_of c)))
-
--- a metric
-abbrev pub final_metric : IntermediateMetricResult → AggregationResult
-final_metric (m.Count r) = shown_count r.count
-final_metric (m.Max r) = shown_max r.value
-final_metric (m.Min r) = shown_min r.value
-final_metric (m.Sum r) = shown_sum r.sum
 
 -- an aggregation whose name isn't held: no documents, no entries, no values
 abbrev pub final_nothing : {B : Type 0} → AggregationVariants B → Named Finish → AggregationResult

@@ -4,6 +4,8 @@ use Rattle.agg_values.specs.KeyOrder.{SourceRules}
 use Rattle.agg_values.specs.Names.{Named}
 use Rattle.agg_values.specs.Tuple.{KeyTuple}
 use Rattle.agg_request_tree.specs.Groups.{Group}
+use Rattle.agg_metric_results.specs.declared.metric.IntermediateMetricResult as metrics
+use metrics.{IntermediateMetricResult}
 use Rattle.agg_intermediate_results.specs.declared.results.IntermediateAggregationResult as declared
 use declared.{IntermediateAggregationResult}
 use declared.TheVariants.{Bucket, Metric}
@@ -13,7 +15,6 @@ use Rattle.agg_intermediate_results.specs.declared as intermediate
 use intermediate.results.IntermediateBucketResult.{IntermediateBucketResult}
 use intermediate.results.IntermediateBucketResult.TheVariants as buckets
 use intermediate.results.IntermediateAggregationResults.{IntermediateAggregationResults}
-use intermediate.metric.IntermediateMetricResult.{IntermediateMetricResult}
 use intermediate.composite.IntermediateCompositeBucketResult as composites
 use composites.{IntermediateCompositeBucketResult, out-IntermediateCompositeBucketResult}
 use composites.{roll-IntermediateCompositeBucketResult}

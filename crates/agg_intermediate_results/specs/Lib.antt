@@ -1,5 +1,6 @@
 pub mod Empty
 pub mod Final
+pub mod FinalError
 pub mod Intermediate
 pub mod Merging
 pub mod Outcome

@@ -1,22 +1,18 @@
 -- What merging makes of two intermediate results, and when it is refused.
 use Rattle.std.specs.Prelude.{◌*◌, if◌then◌else◌, length, nat_lt, take}
 use Rattle.std.specs.Prelude.{◌≡◌, ◌≢◌, ◌≤◌, ◌<◌, ◌+◌, ◌^◌, ◌⊎◌, ℕ, zero, suc, List, [], ◌∷◌}
-use Rattle.std.specs.Prelude.{Option, None, Some, ◌+ℤ◌, IsSomeAnd, Contains, FitsSigned}
-use Rattle.std.specs.Int.{int_max, int_min}
-use mir.Syntax.{w128}
+use Rattle.std.specs.Prelude.{Option, None, Some, IsSomeAnd, Contains}
 use Rattle.std.specs.declared.cmp.Ordering.{Ordering}
 use Rattle.std.specs.declared.cmp.Ordering.TheVariants.{Less, Equal, Greater}
 use Rattle.agg_values.specs.KeyOrder.{tuple_order}
 use Rattle.agg_values.specs.Names.{Named, value_of}
 use Rattle.agg_values.specs.Tuple.{KeyTuple}
-use Rattle.agg_request_tree.specs.Metrics.{best}
+use Rattle.agg_metric_results.specs.MetricMerging.{MetricsDiffer, MetricsMerged, MetricsPass}
 use Rattle.agg_intermediate_results.specs.Intermediate.{Entries, Held, Parts, below_entry}
 use Rattle.agg_intermediate_results.specs.Intermediate.{composite, composite_of, entries_of, filter}
 use Rattle.agg_intermediate_results.specs.Intermediate.{metric, orders_of, parts_of, target_size_of}
 use Rattle.agg_intermediate_results.specs.declared as intermediate
 use intermediate.results.IntermediateAggregationResult.{IntermediateAggregationResult}
-use intermediate.metric.IntermediateMetricResult.{IntermediateMetricResult}
-use intermediate.metric.IntermediateMetricResult.TheVariants.{Count, Max, Min, Sum}
 use intermediate.composite.IntermediateCompositeBucketResult.{IntermediateCompositeBucketResult}
 use intermediate.entry.IntermediateTermBucketEntry.{IntermediateTermBucketEntry}
 
@@ -65,31 +61,6 @@ abbrev pub SomeTied : {T : Type 0} → (KeyTuple → KeyTuple → Ordering) → 
 SomeTied {T = T} R Told left right =
     (e : KeyTuple × T) × (f : KeyTuple × T)
     × Contains left e × Contains right f × (R e.0 f.0 ≡ Equal) × Told e.1 f.1
-
--- ---- metrics
-
--- two results of a metric as one
-abbrev pub MetricsMerged : IntermediateMetricResult → IntermediateMetricResult
-    → IntermediateMetricResult → Type 0
-MetricsMerged (Count m) (Count n) (Count w) = w.count ≡ m.count + n.count
-MetricsMerged (Max m) (Max n) (Max w) = w.value ≡ best int_max m.value n.value
-MetricsMerged (Min m) (Min n) (Min w) = w.value ≡ best int_min m.value n.value
-MetricsMerged (Sum m) (Sum n) (Sum w) = w.sum ≡ m.sum +ℤ n.sum
-MetricsMerged m n w = ⊥
-
--- two metrics are of different kinds
-abbrev pub MetricsDiffer : IntermediateMetricResult → IntermediateMetricResult → Type 0
-MetricsDiffer (Count m) (Count n) = ⊥
-MetricsDiffer (Max m) (Max n) = ⊥
-MetricsDiffer (Min m) (Min n) = ⊥
-MetricsDiffer (Sum m) (Sum n) = ⊥
-MetricsDiffer m n = Unit
-
--- the count of both passes u64, or the sum of both i128
-abbrev pub MetricsPass : IntermediateMetricResult → IntermediateMetricResult → Type 0
-MetricsPass (Count m) (Count n) = 2 ^ 64 ≤ m.count + n.count
-MetricsPass (Sum m) (Sum n) = ¬ (FitsSigned w128 (m.sum +ℤ n.sum))
-MetricsPass m n = ⊥
 
 -- ---- composites
 

@@ -1,10 +1,11 @@
--- What a merge did that goes on where a sum is too large: whether one was, is told by a flag.
-use Rattle.std.specs.Prelude.{◌≡◌, ◌≤◌, ◌+◌, ◌^◌, ◌⊎◌, ℕ, Bool, true, false, List, Some, IsSomeAnd}
+-- What a merge did that goes on where a sum is too large.
+use Rattle.std.specs.Prelude.{◌≡◌, ◌≤◌, ◌+◌, ◌^◌, ◌⊎◌, ℕ, Bool, false, List, Some, IsSomeAnd}
 use Rattle.std.specs.List.{All}
 use Rattle.std.specs.declared.cmp.Ordering.{Ordering}
 use Rattle.std.specs.declared.cmp.Ordering.TheVariants.{Less}
 use Rattle.agg_values.specs.Names.{value_of}
 use Rattle.agg_values.specs.Tuple.{KeyTuple}
+use Rattle.agg_metric_results.specs.Merges.{Merges}
 use Rattle.agg_intermediate_results.specs.Intermediate.{Held, below_entry}
 use Rattle.agg_intermediate_results.specs.Merging.{CountsPass, EitherOrBoth, EntriesMerged}
 use Rattle.agg_intermediate_results.specs.Merging.{IsMerged, JoinNames, MergedTo, ShapesDiffer}
@@ -12,13 +13,6 @@ use Rattle.agg_intermediate_results.specs.Merging.{SomeOfBoth}
 use Rattle.agg_intermediate_results.specs.declared as intermediate
 use intermediate.results.IntermediateAggregationResult.{IntermediateAggregationResult}
 use intermediate.entry.IntermediateTermBucketEntry.{IntermediateTermBucketEntry}
-
--- nothing differed, and the flag was raised where a sum was too large, and only there
-pub record Merges (was now : Bool) (Differ Pass : Type 0) : Type 0 where
-  pub alike : ¬ Differ
-  pub few : now ≡ false → ¬ Pass
-  pub kept : was ≡ true → now ≡ true
-  pub passed : now ≡ true → (was ≡ true) ⊎ Pass
 
 -- what is below two entries differs in shape
 abbrev pub BelowDiffer : IntermediateTermBucketEntry → IntermediateTermBucketEntry → Type 0

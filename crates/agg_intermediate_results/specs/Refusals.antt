@@ -9,6 +9,7 @@ use Rattle.agg_request_tree.specs.Source.{rules_of}
 use Rattle.agg_request_tree.specs.declared.aggregation.AggregationVariants.{AggregationVariants}
 use Rattle.agg_request_tree.specs.declared.aggregation.AggregationVariants.TheVariants as asks
 use Rattle.agg_final_results.specs.BucketCount.{results_buckets}
+use Rattle.agg_metric_results.specs.declared.metric.IntermediateMetricResult.TheVariants as m
 use Rattle.agg_intermediate_results.specs.Final.{final_results}
 use Rattle.agg_intermediate_results.specs.Intermediate.{Held, Parts, composite, entries_of, filter}
 use Rattle.agg_intermediate_results.specs.Intermediate.{helds_below, metric, orders_of, parts_of}
@@ -16,7 +17,6 @@ use Rattle.agg_intermediate_results.specs.Merging.{SomeOfBoth}
 use Rattle.agg_intermediate_results.specs.declared as declared
 use declared.error.FinalError.{FinalError}
 use declared.error.FinalError.TheVariants as error
-use declared.metric.IntermediateMetricResult.TheVariants as m
 
 -- ---- names that aren't asked for
 

@@ -1,5 +1,5 @@
 -- Results as they are shown.
-use Rattle.std.specs.Prelude.{◌==◌, ℕ, ℤ, pos, List, [], Option, None, Some, if◌then◌else◌, length}
+use Rattle.std.specs.Prelude.{◌==◌, ℕ, List, [], Option, None, Some, if◌then◌else◌, length}
 use Rattle.std.specs.List.{last_or}
 use Rattle.std.specs.Map.{keys_of}
 use Rattle.agg_values.specs.Names.{Named}
@@ -11,10 +11,9 @@ use Rattle.agg_request_tree.specs.Groups.{Group}
 use Rattle.agg_request_tree.specs.Source.{Sources}
 use Rattle.agg_final_results.specs.declared.types as final
 use final.AggregationResult.{AggregationResult}
-use final.AggregationResult.TheVariants.{BucketResult, MetricResult}
+use final.AggregationResult.TheVariants.{BucketResult}
 use final.BucketResult.TheVariants as buckets
 use final.CompositeBucketEntry.{CompositeBucketEntry}
-use final.MetricResult.TheVariants as metrics
 
 -- results by name
 abbrev pub Results : Type 0
@@ -50,19 +49,3 @@ shown_filter count below =
       doc_count = count;
       sub_aggregations = record { 0 = below };
     }))
-
--- how many values there are
-abbrev pub shown_count : ℕ → AggregationResult
-shown_count count = MetricResult (metrics.Count (record { value = Some (pos count) }))
-
--- the greatest number, if there is one
-abbrev pub shown_max : Option ℤ → AggregationResult
-shown_max value = MetricResult (metrics.Max (record { value = value }))
-
--- the least number, if there is one
-abbrev pub shown_min : Option ℤ → AggregationResult
-shown_min value = MetricResult (metrics.Min (record { value = value }))
-
--- the sum of the numbers
-abbrev pub shown_sum : ℤ → AggregationResult
-shown_sum sum = MetricResult (metrics.Sum (record { value = Some sum }))

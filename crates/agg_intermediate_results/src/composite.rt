@@ -5,6 +5,7 @@ ghost use Rattle.std.specs.List.{remove, slice_get};
 ghost use Rattle.std.specs.Map.{remove_entry, values_of};
 ghost use Rattle.std_collections.specs.Layout.Columns.{set_value_at};
 ghost use Rattle.agg_values.specs.KeyOrder.{tuple_order};
+ghost use Rattle.agg_metric_results.specs.Merges.{Merges};
 ghost use Rattle.agg_intermediate_results.specs.Intermediate.{Entries, composite, composite_of};
 ghost use Rattle.agg_intermediate_results.specs.Intermediate.{entries_of, orders_of};
 ghost use Rattle.agg_intermediate_results.specs.Intermediate.{target_size_of};
@@ -14,11 +15,11 @@ ghost use Rattle.agg_intermediate_results.specs.Merging.{MergedTo, PagesDiffer, 
 ghost use Rattle.agg_intermediate_results.specs.Merging.{PartsPass, ShapesDiffer, SomeOfBoth};
 ghost use Rattle.agg_intermediate_results.specs.Merging.{SomeTied, trimmed_to};
 ghost use Rattle.agg_intermediate_results.specs.Outcome.{BelowDiffer, EntriesPass, IsMergedEntry};
-ghost use Rattle.agg_intermediate_results.specs.Outcome.{Merges};
-ghost use Rattle.agg_intermediate_results.specs.declared.entry.IntermediateTermBucketEntry.{IntermediateTermBucketEntry};
+ghost use Rattle.agg_intermediate_results.specs.declared.entry.IntermediateTermBucketEntry as held;
 
 use crate::merging::merge_lists;
-use crate::{IntermediateCompositeBucketEntry, IntermediateTermBucketEntry, MergeError};
+use crate::{IntermediateCompositeBucketEntry, IntermediateTermBucketEntry};
+use agg_metric_results::MergeError;
 use agg_tuple_map::TupleMap;
 use agg_values::{MissingOrder, Order, OutOfMemory, Tuple};
 use std::alloc::Global;
@@ -103,17 +104,17 @@ impl IntermediateCompositeBucketResult {
         entry: IntermediateCompositeBucketEntry,
     ) -> Result<(), MergeError>
         requires within { at < length (entries_of self.now) }
-        ensures ok { OnOk result ((e : IntermediateTermBucketEntry)
+        ensures ok { OnOk result ((e : held.IntermediateTermBucketEntry)
             → slice_get (values_of (entries_of self.old)) at ≡ Some e
             → ¬ (BelowDiffer e entry) × ¬ (EntriesPass e entry)
-            × (w : IntermediateTermBucketEntry) × IsMergedEntry e entry w
+            × (w : held.IntermediateTermBucketEntry) × IsMergedEntry e entry w
             × (self.new ≡ composite_of (orders_of self.old) (target_size_of self.old)
             (set_value_at (entries_of self.old) at w))) }
         ensures mismatch { IsErrOf result MergeError.Mismatch
-            → (e : IntermediateTermBucketEntry)
+            → (e : held.IntermediateTermBucketEntry)
             → slice_get (values_of (entries_of self.old)) at ≡ Some e → BelowDiffer e entry }
         ensures too_many { IsErrOf result MergeError.TooMany
-            → (e : IntermediateTermBucketEntry)
+            → (e : held.IntermediateTermBucketEntry)
             → slice_get (values_of (entries_of self.old)) at ≡ Some e
             → ¬ (BelowDiffer e entry) × EntriesPass e entry }
         ensures left { OnErr result (self.new

@@ -1,13 +1,18 @@
 //! Intermediate results over no documents.
-ghost use Rattle.std.specs.Prelude.{◌≡◌, [], IfOk};
+ghost use Rattle.std.specs.Prelude.{◌≡◌, [], IfOk, OnOk};
+ghost use Rattle.std.specs.List.Sorted.{IsStrictlySortedBy};
+ghost use Rattle.std.specs.Map.{keys_of};
+ghost use Rattle.agg_values.specs.Names.{name_cmp};
 ghost use Rattle.agg_request_tree.specs.Source.{rules_of};
 ghost use Rattle.agg_intermediate_results.specs.Empty.{empty_result, empty_results};
 ghost use Rattle.agg_intermediate_results.specs.Intermediate.{composite_of};
 
 use crate::{
     IntermediateAggregationResult, IntermediateAggregationResults, IntermediateBucketResult,
-    IntermediateCompositeBucketResult, IntermediateCount, IntermediateMax,
-    IntermediateMetricResult, IntermediateMin, IntermediateSum,
+    IntermediateCompositeBucketResult,
+};
+use agg_metric_results::{
+    IntermediateCount, IntermediateMax, IntermediateMetricResult, IntermediateMin, IntermediateSum,
 };
 use agg_request_tree::{Aggregation, AggregationVariants, Aggregations, CompositeAggregation};
 use agg_values::{NameMap, OutOfMemory};
@@ -16,12 +21,13 @@ use std::alloc::Global;
 impl IntermediateAggregationResults {
     /// The empty result of each name of a request: of a filter no documents, with the empty results
     /// of those below it, of a composite a page without entries, with its size and orders, and of a
-    /// metric no values.
+    /// metric no values. The names of a request ascend.
     pub fn empty_from_req(
         alloc: Global,
         req: &Aggregations,
     ) -> Result<IntermediateAggregationResults, OutOfMemory>
-        ensures { IfOk result (λ empty. empty.results ≡ empty_results req.now) }
+        ensures empty { IfOk result (λ empty. empty.results ≡ empty_results req.now) }
+        ensures ascending { OnOk result (IsStrictlySortedBy name_cmp (keys_of req.now)) }
     {
         empty_results(alloc, req)
     }
@@ -33,7 +39,8 @@ fn empty_results<B: Drop>(
     alloc: Global,
     aggs: &NameMap<Aggregation<B>>,
 ) -> Result<IntermediateAggregationResults, OutOfMemory>
-    ensures { IfOk result (λ empty. empty.results ≡ empty_results aggs.now) }
+    ensures empty { IfOk result (λ empty. empty.results ≡ empty_results aggs.now) }
+    ensures ascending { OnOk result (IsStrictlySortedBy name_cmp (keys_of aggs.now)) }
 {
     let mut results = NameMap::new(alloc);
     for (name, aggregation) in aggs.iter() {

@@ -1,11 +1,11 @@
 ghost use Rattle.std.specs.Prelude.{◌≡◌, ◌+◌, OnErr, OnOk, IsErrOf};
+ghost use Rattle.agg_metric_results.specs.Merges.{Merges};
 ghost use Rattle.agg_intermediate_results.specs.Intermediate.{below_entry, plain_entry};
 ghost use Rattle.agg_intermediate_results.specs.Merging.{AreMerged};
 ghost use Rattle.agg_intermediate_results.specs.Outcome.{BelowDiffer, DoneUnless, EntriesPass};
-ghost use Rattle.agg_intermediate_results.specs.Outcome.{Merges};
 
-use crate::metric::add_counts;
-use crate::{IntermediateAggregationResults, MergeError};
+use crate::IntermediateAggregationResults;
+use agg_metric_results::{MergeError, add_counts};
 
 /// What is held for one group of a composite.
 pub type IntermediateCompositeBucketEntry = IntermediateTermBucketEntry;

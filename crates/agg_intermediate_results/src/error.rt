@@ -1,21 +1,10 @@
 ghost use Rattle.std.specs.Prelude.{◌≡◌};
+ghost use Rattle.agg_intermediate_results.specs.FinalError.{error_from_merge};
 ghost use Rattle.agg_intermediate_results.specs.declared.error.FinalError.TheVariants as last;
-ghost use Rattle.agg_intermediate_results.specs.declared.error.MergeError.TheVariants as merge;
 
+use agg_metric_results::MergeError;
 use agg_values::{AggregationError, OutOfMemory};
-use std::alloc::AllocFailed;
 use thiserror::Error;
-
-/// Why intermediate results can't be merged.
-#[derive(Clone, Copy, Debug, PartialEq, Eq, Error)]
-pub enum MergeError {
-    #[error("the shapes of two results differ")]
-    Mismatch,
-    #[error("too many occurrences")]
-    TooMany,
-    #[error("out of memory")]
-    OutOfMemory,
-}
 
 /// Why intermediate results have no final ones.
 #[derive(Debug, Drop, PartialEq, Eq, Error)]
@@ -32,26 +21,22 @@ pub enum FinalError {
     OutOfMemory,
 }
 
-impl From<OutOfMemory> for MergeError {
-    ghost from_gives = { λ _ e. e ≡ merge.OutOfMemory };
-
-    fn from(_error: OutOfMemory) -> MergeError {
-        MergeError::OutOfMemory
-    }
-}
-
-impl<T: Drop> From<AllocFailed<T>> for MergeError {
-    ghost from_gives = { λ _ e. e ≡ merge.OutOfMemory };
-
-    fn from(_error: AllocFailed<T>) -> MergeError {
-        MergeError::OutOfMemory
-    }
-}
-
 impl From<OutOfMemory> for FinalError {
     ghost from_gives = { λ _ e. e ≡ last.OutOfMemory };
 
     fn from(_error: OutOfMemory) -> FinalError {
         FinalError::OutOfMemory
+    }
+}
+
+impl From<MergeError> for FinalError {
+    ghost from_gives = { λ m e. e ≡ error_from_merge m };
+
+    fn from(error: MergeError) -> FinalError {
+        match error {
+            MergeError::Mismatch => FinalError::Mismatch,
+            MergeError::TooMany => FinalError::TooMany,
+            MergeError::OutOfMemory => FinalError::OutOfMemory,
+        }
     }
 }

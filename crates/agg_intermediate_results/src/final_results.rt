@@ -5,8 +5,6 @@ ghost use Rattle.agg_intermediate_results.specs.Final.{final_results};
 ghost use Rattle.agg_intermediate_results.specs.Refusals.{IsNotFinal, MayBeFinal};
 
 mod by_name;
-mod keys;
-mod metrics;
 mod other_shapes;
 mod pages;
 mod shown;

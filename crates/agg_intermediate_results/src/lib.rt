@@ -8,17 +8,16 @@ mod error;
 mod final_results;
 mod merged;
 mod merging;
-mod metric;
 mod parts;
 mod results;
 
+pub use agg_metric_results::{
+    IntermediateCount, IntermediateMax, IntermediateMetricResult, IntermediateMin, IntermediateSum,
+    MergeError, greatest, least,
+};
 pub use composite::IntermediateCompositeBucketResult;
 pub use entry::{IntermediateCompositeBucketEntry, IntermediateTermBucketEntry};
-pub use error::{FinalError, MergeError};
-pub use metric::{
-    IntermediateCount, IntermediateMax, IntermediateMetricResult, IntermediateMin, IntermediateSum,
-    greatest, least,
-};
+pub use error::FinalError;
 pub use results::{
     IntermediateAggregationResult, IntermediateAggregationResults, IntermediateBucketResult,
     IntermediateFilterBucketResult,

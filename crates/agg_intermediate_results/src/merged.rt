@@ -4,21 +4,19 @@ ghost use Rattle.std.specs.Prelude.{IsSomeAnd, OnOk};
 ghost use Rattle.std.specs.List.Sorted.{IsStrictlySortedBy};
 ghost use Rattle.std.specs.Map.{keys_of};
 ghost use Rattle.agg_values.specs.Names.{name_cmp, put, value_of, without};
+ghost use Rattle.agg_metric_results.specs.Merges.{Merges};
+ghost use Rattle.agg_metric_results.specs.declared.metric.IntermediateMetricResult as metrics;
 ghost use Rattle.agg_intermediate_results.specs.Intermediate.{parts_of_bucket};
 ghost use Rattle.agg_intermediate_results.specs.Merging.{AreMerged, CountsPass, EitherOrBoth};
 ghost use Rattle.agg_intermediate_results.specs.Merging.{IsMerged, JoinNames, MergedTo};
 ghost use Rattle.agg_intermediate_results.specs.Merging.{PartsDiffer, PartsMerged, PartsPass};
 ghost use Rattle.agg_intermediate_results.specs.Merging.{ShapesDiffer, SomeOfBoth};
-ghost use Rattle.agg_intermediate_results.specs.Outcome.{IsPut, Merges};
-ghost use Rattle.agg_intermediate_results.specs.declared.metric.IntermediateMetricResult.{IntermediateMetricResult};
-ghost use Rattle.agg_intermediate_results.specs.declared.results.IntermediateAggregationResult.TheVariants.{Bucket};
-ghost use Rattle.agg_intermediate_results.specs.declared.results.IntermediateAggregationResult.TheVariants.{Metric};
+ghost use Rattle.agg_intermediate_results.specs.Outcome.{IsPut};
 
-use crate::metric::add_counts;
 use crate::{
     IntermediateAggregationResult, IntermediateAggregationResults, IntermediateBucketResult,
-    IntermediateMetricResult, MergeError,
 };
+use agg_metric_results::{IntermediateMetricResult, MergeError, add_counts};
 use agg_values::{NameMap, OutOfMemory, Text};
 
 impl IntermediateAggregationResults {
@@ -65,7 +63,7 @@ impl IntermediateAggregationResults {
         ensures too_many { ¬ (IsErrOf result MergeError.TooMany) }
     {
         let value = match self.results.remove(&name) {
-            Some(held) => held.merged_with(value, passed)?,
+            Some(held) => merge_results(held, value, passed)?,
             None => value,
         };
         self.results.insert(name, value)?;
@@ -119,46 +117,47 @@ impl IntermediateAggregationResult {
             → ¬ (ShapesDiffer self other) × CountsPass self other }
     {
         let mut passed = false;
-        let merged = self.merged_with(other, &mut passed)?;
+        let merged = merge_results(self, other, &mut passed)?;
         if passed {
             return Err(MergeError::TooMany);
         }
         Ok(merged)
     }
 
-    /// This and another as one. Where a sum is too large, `passed` is raised, and what is answered
-    /// means nothing.
-    #[cycle(merging)]
-    fn merged_with(
-        self,
-        other: IntermediateAggregationResult,
-        passed: &mut bool,
-    ) -> Result<IntermediateAggregationResult, MergeError>
-        ensures ok { IfOk result (λ w. Merges passed.old passed.new (ShapesDiffer self other)
-            (CountsPass self other)) }
-        ensures merged { IfOk result (λ w. passed.new ≡ false → IsMerged self other w) }
-        ensures mismatch { IsErrOf result MergeError.Mismatch → ShapesDiffer self other }
-        ensures too_many { ¬ (IsErrOf result MergeError.TooMany) }
-    {
-        match self {
-            Self::Metric(held) => merge_metric(held, &other, passed),
-            Self::Bucket(held) => {
-                let Some(more) = other.into_bucket() else {
-                    return Err(MergeError::Mismatch);
-                };
-                Ok(Self::Bucket(held.merged_with(more, passed)?))
-            }
-        }
-    }
-
     // The result that has buckets, if it is one.
     fn into_bucket(self) -> Option<IntermediateBucketResult>
-        ensures some { IfSome result (λ b. self ≡ Bucket b) }
-        ensures none { IfNone result ((m : IntermediateMetricResult) × (self ≡ Metric m)) }
+        ensures some { IfSome result (λ b. self ≡ IntermediateAggregationResult.Bucket b) }
+        ensures none { IfNone result ((m : metrics.IntermediateMetricResult)
+            × (self ≡ IntermediateAggregationResult.Metric m)) }
     {
         match self {
             Self::Bucket(bucket) => Some(bucket),
             Self::Metric(_) => None,
+        }
+    }
+}
+
+// Two results as one. Where a sum is too large, `passed` is raised, and what is answered means
+// nothing.
+#[cycle(merging)]
+fn merge_results(
+    left: IntermediateAggregationResult,
+    right: IntermediateAggregationResult,
+    passed: &mut bool,
+) -> Result<IntermediateAggregationResult, MergeError>
+    ensures ok { IfOk result (λ w. Merges passed.old passed.new (ShapesDiffer left right)
+        (CountsPass left right)) }
+    ensures merged { IfOk result (λ w. passed.new ≡ false → IsMerged left right w) }
+    ensures mismatch { IsErrOf result MergeError.Mismatch → ShapesDiffer left right }
+    ensures too_many { ¬ (IsErrOf result MergeError.TooMany) }
+{
+    match left {
+        IntermediateAggregationResult::Metric(held) => merge_metric(held, &right, passed),
+        IntermediateAggregationResult::Bucket(held) => {
+            let Some(more) = right.into_bucket() else {
+                return Err(MergeError::Mismatch);
+            };
+            Ok(IntermediateAggregationResult::Bucket(merge_buckets(held, more, passed)?))
         }
     }
 }
@@ -170,11 +169,12 @@ fn merge_metric(
     passed: &mut bool,
 ) -> Result<IntermediateAggregationResult, MergeError>
     ensures ok { IfOk result (λ w. Merges passed.old passed.new
-        (ShapesDiffer (Metric held) other.now) (CountsPass (Metric held) other.now)) }
-    ensures merged { IfOk result
-        (λ w. passed.new ≡ false → IsMerged (Metric held) other.now w) }
+        (ShapesDiffer (IntermediateAggregationResult.Metric held) other.now)
+        (CountsPass (IntermediateAggregationResult.Metric held) other.now)) }
+    ensures merged { IfOk result (λ w. passed.new ≡ false
+        → IsMerged (IntermediateAggregationResult.Metric held) other.now w) }
     ensures mismatch { IsErrOf result MergeError.Mismatch
-        → ShapesDiffer (Metric held) other.now }
+        → ShapesDiffer (IntermediateAggregationResult.Metric held) other.now }
     ensures too_many { ¬ (IsErrOf result MergeError.TooMany) }
 {
     match other {
@@ -185,48 +185,48 @@ fn merge_metric(
     }
 }
 
-impl IntermediateBucketResult {
-    // The same of results that have buckets.
-    #[cycle(merging)]
-    fn merged_with(
-        self,
-        other: IntermediateBucketResult,
-        passed: &mut bool,
-    ) -> Result<IntermediateBucketResult, MergeError>
-        ensures ok { IfOk result (λ w. Merges passed.old passed.new
-            (PartsDiffer (SomeOfBoth ShapesDiffer) (parts_of_bucket self) (parts_of_bucket other))
-            (PartsPass (SomeOfBoth CountsPass) (parts_of_bucket self) (parts_of_bucket other))) }
-        ensures merged { IfOk result (λ w. passed.new ≡ false
-            → (depth : ℕ) → PartsMerged (JoinNames (MergedTo depth)) (parts_of_bucket self)
-            (parts_of_bucket other) (parts_of_bucket w)) }
-        ensures mismatch { IsErrOf result MergeError.Mismatch
-            → PartsDiffer (SomeOfBoth ShapesDiffer) (parts_of_bucket self)
-            (parts_of_bucket other) }
-        ensures too_many { ¬ (IsErrOf result MergeError.TooMany) }
-    {
-        match (self, other) {
-            (
-                Self::Filter {
-                    doc_count,
-                    mut sub_aggregations,
-                },
-                Self::Filter {
-                    doc_count: more,
-                    sub_aggregations: others,
-                },
-            ) => {
-                let doc_count = add_counts(doc_count, more, passed);
-                sub_aggregations.merge_all(others, passed)?;
-                Ok(Self::Filter {
-                    doc_count,
-                    sub_aggregations,
-                })
-            }
-            (Self::Composite { buckets }, Self::Composite { buckets: others }) => {
-                let buckets = buckets.merged_with(others, passed)?;
-                Ok(Self::Composite { buckets })
-            }
-            _ => Err(MergeError::Mismatch),
+// The same of results that have buckets.
+#[cycle(merging)]
+fn merge_buckets(
+    left: IntermediateBucketResult,
+    right: IntermediateBucketResult,
+    passed: &mut bool,
+) -> Result<IntermediateBucketResult, MergeError>
+    ensures ok { IfOk result (λ w. Merges passed.old passed.new
+        (PartsDiffer (SomeOfBoth ShapesDiffer) (parts_of_bucket left) (parts_of_bucket right))
+        (PartsPass (SomeOfBoth CountsPass) (parts_of_bucket left) (parts_of_bucket right))) }
+    ensures merged { IfOk result (λ w. passed.new ≡ false
+        → (depth : ℕ) → PartsMerged (JoinNames (MergedTo depth)) (parts_of_bucket left)
+        (parts_of_bucket right) (parts_of_bucket w)) }
+    ensures mismatch { IsErrOf result MergeError.Mismatch
+        → PartsDiffer (SomeOfBoth ShapesDiffer) (parts_of_bucket left) (parts_of_bucket right) }
+    ensures too_many { ¬ (IsErrOf result MergeError.TooMany) }
+{
+    match (left, right) {
+        (
+            IntermediateBucketResult::Filter {
+                doc_count,
+                mut sub_aggregations,
+            },
+            IntermediateBucketResult::Filter {
+                doc_count: more,
+                sub_aggregations: others,
+            },
+        ) => {
+            let doc_count = add_counts(doc_count, more, passed);
+            sub_aggregations.merge_all(others, passed)?;
+            Ok(IntermediateBucketResult::Filter {
+                doc_count,
+                sub_aggregations,
+            })
         }
+        (
+            IntermediateBucketResult::Composite { buckets },
+            IntermediateBucketResult::Composite { buckets: others },
+        ) => {
+            let buckets = buckets.merged_with(others, passed)?;
+            Ok(IntermediateBucketResult::Composite { buckets })
+        }
+        _ => Err(MergeError::Mismatch),
     }
 }

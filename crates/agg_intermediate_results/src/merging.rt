@@ -4,13 +4,15 @@ ghost use Rattle.std.specs.Prelude.{OnOk};
 ghost use Rattle.std.specs.List.Sorted.{IsStrictlySortedBy};
 ghost use Rattle.std.specs.Map.{keys_of};
 ghost use Rattle.agg_values.specs.KeyOrder.{tuple_order};
+ghost use Rattle.agg_metric_results.specs.Merges.{Merges};
 ghost use Rattle.agg_intermediate_results.specs.Intermediate.{Entries, TupleEntry};
 ghost use Rattle.agg_intermediate_results.specs.Merging.{JoinEntries, SomeTied};
 ghost use Rattle.agg_intermediate_results.specs.Outcome.{AreBelow, BelowDiffer, DoneUnless};
-ghost use Rattle.agg_intermediate_results.specs.Outcome.{EntriesPass, Merges};
-ghost use Rattle.agg_intermediate_results.specs.declared.entry.IntermediateTermBucketEntry.{IntermediateTermBucketEntry};
+ghost use Rattle.agg_intermediate_results.specs.Outcome.{EntriesPass};
+ghost use Rattle.agg_intermediate_results.specs.declared.entry.IntermediateTermBucketEntry as held;
 
-use crate::{IntermediateTermBucketEntry, MergeError};
+use crate::IntermediateTermBucketEntry;
+use agg_metric_results::MergeError;
 use agg_tuple_map::tuple_ordering;
 use agg_values::{MissingOrder, Order, OutOfMemory, Tuple};
 use std::alloc::Global;
@@ -177,7 +179,7 @@ fn move_both(
     ensures merged { OnOk result ((e : TupleEntry) (f : TupleEntry) (es : Entries) (fs : Entries)
         → left.old.items ≡ e ∷ es
         → right.old.items ≡ f ∷ fs
-        → (w : IntermediateTermBucketEntry)
+        → (w : held.IntermediateTermBucketEntry)
         × (whole.new.items ≡ whole.old.items ++ (e.0, w) ∷ [])
         × DoneUnless passed.new e.1 f.1 w
         × (left.new.items ≡ es) × (right.new.items ≡ fs)) }

@@ -6,8 +6,9 @@ ghost use Rattle.agg_values.specs.Names.{put, value_of, without};
 ghost use Rattle.agg_intermediate_results.specs.Merging.{AreMerged, CountsPass, ShapesDiffer};
 ghost use Rattle.agg_intermediate_results.specs.Merging.{SomeOfBoth};
 
+use crate::IntermediateCompositeBucketResult;
 use crate::merged::merged_over;
-use crate::{IntermediateCompositeBucketResult, IntermediateMetricResult, MergeError};
+use agg_metric_results::{IntermediateMetricResult, MergeError};
 use agg_values::{NameEntries, NameKeys, NameMap, Text};
 use std::alloc::Global;
 
@@ -54,6 +55,11 @@ impl IntermediateAggregationResults {
         IntermediateAggregationResults {
             results: NameMap::new(alloc),
         }
+    }
+
+    /// The allocator that it was made with.
+    pub fn allocator(&self) -> Global {
+        self.results.allocator()
     }
 
     /// The result of a name, None exactly where the name isn't held.

@@ -119,46 +119,39 @@ pub results::IntermediateAggregationResults::put_over-returns-clause-ok :
     goal.results::IntermediateAggregationResults::put_over-returns-clause-ok
 results::IntermediateAggregationResults::put_over-returns-clause-ok = by_name.put-ok
 
-pub results::IntermediateBucketResult::merged_with-returns-in_ok-merge_all-in-Filter-Filter-clause-ok :
-    goal.results::IntermediateBucketResult::merged_with-returns-in_ok-merge_all-in-Filter-Filter-clause-ok
-results::IntermediateBucketResult::merged_with-returns-in_ok-merge_all-in-Filter-Filter-clause-ok =
-    buckets.filters-ok
+pub merged::merge_buckets-returns-in_ok-merge_all-in-Filter-Filter-clause-ok :
+    goal.merged::merge_buckets-returns-in_ok-merge_all-in-Filter-Filter-clause-ok
+merged::merge_buckets-returns-in_ok-merge_all-in-Filter-Filter-clause-ok = buckets.filters-ok
 
-pub results::IntermediateBucketResult::merged_with-returns-in_ok-merge_all-in-Filter-Filter-clause-merged :
-    goal.results::IntermediateBucketResult::merged_with-returns-in_ok-merge_all-in-Filter-Filter-clause-merged
-results::IntermediateBucketResult::merged_with-returns-in_ok-merge_all-in-Filter-Filter-clause-merged =
+pub merged::merge_buckets-returns-in_ok-merge_all-in-Filter-Filter-clause-merged :
+    goal.merged::merge_buckets-returns-in_ok-merge_all-in-Filter-Filter-clause-merged
+merged::merge_buckets-returns-in_ok-merge_all-in-Filter-Filter-clause-merged =
     buckets.filters-merged
 
-pub results::IntermediateBucketResult::merged_with-returns-in_ok-buckets-in-Composite-Composite-clause-ok :
-    goal.results::IntermediateBucketResult::merged_with-returns-in_ok-buckets-in-Composite-Composite-clause-ok
-results::IntermediateBucketResult::merged_with-returns-in_ok-buckets-in-Composite-Composite-clause-ok =
-    buckets.composites-ok
+pub merged::merge_buckets-returns-in_ok-buckets-in-Composite-Composite-clause-ok :
+    goal.merged::merge_buckets-returns-in_ok-buckets-in-Composite-Composite-clause-ok
+merged::merge_buckets-returns-in_ok-buckets-in-Composite-Composite-clause-ok = buckets.composites-ok
 
-pub results::IntermediateBucketResult::merged_with-returns-in_ok-buckets-in-Composite-Composite-clause-merged :
-    goal.results::IntermediateBucketResult::merged_with-returns-in_ok-buckets-in-Composite-Composite-clause-merged
-results::IntermediateBucketResult::merged_with-returns-in_ok-buckets-in-Composite-Composite-clause-merged =
+pub merged::merge_buckets-returns-in_ok-buckets-in-Composite-Composite-clause-merged :
+    goal.merged::merge_buckets-returns-in_ok-buckets-in-Composite-Composite-clause-merged
+merged::merge_buckets-returns-in_ok-buckets-in-Composite-Composite-clause-merged =
     buckets.composites-merged
 
-pub results::IntermediateAggregationResult::merged_with-merged_with-requires :
-    goal.results::IntermediateAggregationResult::merged_with-merged_with-requires
-results::IntermediateAggregationResult::merged_with-merged_with-requires = kinds.requires
+pub merged::merge_results-merge_buckets-requires : goal.merged::merge_results-merge_buckets-requires
+merged::merge_results-merge_buckets-requires = kinds.requires
 
-pub results::IntermediateAggregationResult::merged_with-returns-in_err-merged_with-in-Bucket-clause-mismatch :
-    goal.results::IntermediateAggregationResult::merged_with-returns-in_err-merged_with-in-Bucket-clause-mismatch
-results::IntermediateAggregationResult::merged_with-returns-in_err-merged_with-in-Bucket-clause-mismatch =
-    kinds.mismatch
+pub merged::merge_results-returns-in_err-merge_buckets-in-Bucket-clause-mismatch :
+    goal.merged::merge_results-returns-in_err-merge_buckets-in-Bucket-clause-mismatch
+merged::merge_results-returns-in_err-merge_buckets-in-Bucket-clause-mismatch = kinds.mismatch
 
-pub results::IntermediateAggregationResult::merged_with-returns-in-Metric-clause-merged :
-    goal.results::IntermediateAggregationResult::merged_with-returns-in-Metric-clause-merged
-results::IntermediateAggregationResult::merged_with-returns-in-Metric-clause-merged =
-    kinds.metric-merged
+pub merged::merge_results-returns-in-Metric-clause-merged :
+    goal.merged::merge_results-returns-in-Metric-clause-merged
+merged::merge_results-returns-in-Metric-clause-merged = kinds.metric-merged
 
-pub results::IntermediateAggregationResult::merged_with-returns-in_ok-merged_with-in-Bucket-clause-ok :
-    goal.results::IntermediateAggregationResult::merged_with-returns-in_ok-merged_with-in-Bucket-clause-ok
-results::IntermediateAggregationResult::merged_with-returns-in_ok-merged_with-in-Bucket-clause-ok =
-    kinds.buckets-ok
+pub merged::merge_results-returns-in_ok-merge_buckets-in-Bucket-clause-ok :
+    goal.merged::merge_results-returns-in_ok-merge_buckets-in-Bucket-clause-ok
+merged::merge_results-returns-in_ok-merge_buckets-in-Bucket-clause-ok = kinds.buckets-ok
 
-pub results::IntermediateAggregationResult::merged_with-returns-in_ok-merged_with-in-Bucket-clause-merged :
-    goal.results::IntermediateAggregationResult::merged_with-returns-in_ok-merged_with-in-Bucket-clause-merged
-results::IntermediateAggregationResult::merged_with-returns-in_ok-merged_with-in-Bucket-clause-merged =
-    kinds.buckets-merged
+pub merged::merge_results-returns-in_ok-merge_buckets-in-Bucket-clause-merged :
+    goal.merged::merge_results-returns-in_ok-merge_buckets-in-Bucket-clause-merged
+merged::merge_results-returns-in_ok-merge_buckets-in-Bucket-clause-merged = kinds.buckets-merged

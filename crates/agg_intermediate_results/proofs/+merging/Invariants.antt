@@ -24,9 +24,8 @@ decreases-merging::merge_lists l = 9 * entries_levels l.right.items + 7
 abbrev pub decreases-merging::move_both : goal.decreases-merging::move_both
 decreases-merging::move_both l = 9 * entries_levels l.right.now.items + 5
 
-abbrev pub decreases-results::IntermediateAggregationResult::merged_with :
-    goal.decreases-results::IntermediateAggregationResult::merged_with
-decreases-results::IntermediateAggregationResult::merged_with l = 9 * height l.other + 1
+abbrev pub decreases-merged::merge_results : goal.decreases-merged::merge_results
+decreases-merged::merge_results l = 9 * height l.right + 1
 
 abbrev pub decreases-results::IntermediateAggregationResults::merge_all :
     goal.decreases-results::IntermediateAggregationResults::merge_all
@@ -36,10 +35,8 @@ abbrev pub decreases-results::IntermediateAggregationResults::put_over :
     goal.decreases-results::IntermediateAggregationResults::put_over
 decreases-results::IntermediateAggregationResults::put_over l = 9 * height l.value + 2
 
-abbrev pub decreases-results::IntermediateBucketResult::merged_with :
-    goal.decreases-results::IntermediateBucketResult::merged_with
-decreases-results::IntermediateBucketResult::merged_with l =
-    9 * parts_height (parts_of_bucket l.other)
+abbrev pub decreases-merged::merge_buckets : goal.decreases-merged::merge_buckets
+decreases-merged::merge_buckets l = 9 * parts_height (parts_of_bucket l.right)
 
 abbrev pub invariant-merging::merge_ascending-loop-order :
     goal.invariant-merging::merge_ascending-loop-order

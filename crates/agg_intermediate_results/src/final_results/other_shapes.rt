@@ -1,15 +1,15 @@
 //! Results of another shape than the request asks for.
-ghost use Rattle.std.specs.Prelude.{◌≡◌, ◌↔◌, ◌⊎◌, Any, IsTrue, MatchBool};
-ghost use Rattle.agg_request_tree.specs.Request.{agg_of, below_of};
+ghost use Rattle.std.specs.Prelude.{◌≡◌, ◌↔◌, Any, IsTrue, MatchBool};
 ghost use Rattle.agg_request_tree.specs.Source.{rules_of};
-ghost use Rattle.agg_intermediate_results.specs.Intermediate.{below_entry, composite, filter};
+ghost use Rattle.agg_intermediate_results.specs.Intermediate.{below_entry, composite};
 ghost use Rattle.agg_intermediate_results.specs.Intermediate.{helds_below, metric, parts_of};
 ghost use Rattle.agg_intermediate_results.specs.Refusals.{HoldsOther, IsOther};
 
 use crate::{
     IntermediateAggregationResult, IntermediateAggregationResults, IntermediateBucketResult,
-    IntermediateCompositeBucketResult, IntermediateMetricResult, IntermediateTermBucketEntry,
+    IntermediateCompositeBucketResult, IntermediateTermBucketEntry,
 };
+use agg_metric_results::IntermediateMetricResult;
 use agg_request_tree::{Aggregation, AggregationVariants, CompositeAggregationSource};
 use agg_values::{MissingOrder, NameMap, Order, Tuple};
 

@@ -7,12 +7,11 @@ ghost use Rattle.agg_intermediate_results.specs.Shown.{last_tuple, shown_after, 
 ghost use Rattle.agg_intermediate_results.specs.Shown.{shown_page};
 
 use super::by_name::shown_by_name;
-use super::keys::{after_keys, shown_keys};
 use crate::{IntermediateCompositeBucketResult, IntermediateTermBucketEntry};
 use agg_final_results::{
     AggregationResult, AggregationResults, BucketResult, CompositeBucketEntry,
 };
-use agg_request_tree::{Aggregation, CompositeAggregationSource};
+use agg_request_tree::{Aggregation, CompositeAggregationSource, after_keys, shown_keys};
 use agg_values::{AfterKey, ItemList, NameMap, OutOfMemory, Tuple};
 use std::alloc::Global;
 

@@ -4,13 +4,15 @@ ghost use Rattle.agg_intermediate_results.specs.Final.{final_by_name, final_resu
 ghost use Rattle.agg_intermediate_results.specs.Shown.{shown_filter};
 
 use super::by_name::shown_by_name;
-use super::metrics::shown_metric;
 use super::pages::shown_page;
 use crate::{
     IntermediateAggregationResult, IntermediateAggregationResults, IntermediateBucketResult,
-    IntermediateCount, IntermediateMax, IntermediateMetricResult, IntermediateMin, IntermediateSum,
 };
 use agg_final_results::{AggregationResult, AggregationResults, BucketResult, FilterBucketResult};
+use agg_metric_results::{
+    IntermediateCount, IntermediateMax, IntermediateMetricResult, IntermediateMin, IntermediateSum,
+    shown_metric,
+};
 use agg_request_tree::{Aggregation, AggregationVariants};
 use agg_values::{ItemList, NameMap, OutOfMemory};
 use std::alloc::Global;

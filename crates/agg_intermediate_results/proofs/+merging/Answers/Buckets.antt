@@ -5,22 +5,21 @@ use Rattle.agg_intermediate_results.proofs.BucketParts.{composite-done, composit
 use Rattle.agg_intermediate_results.proofs.BucketParts.{filters-done, filters-merge}
 use Rattle.agg_intermediate_results.proofs.+merging.Goals as goal
 
-pub filters-ok
-    : goal.results::IntermediateBucketResult::merged_with-returns-in_ok-merge_all-in-Filter-Filter-clause-ok
+pub filters-ok : goal.merged::merge_buckets-returns-in_ok-merge_all-in-Filter-Filter-clause-ok
 filters-ok t c =
     let below = rw (
       c.in-Filter-Filter.is-0,
       outs-Filter c.in-Filter-Filter.doc_count
           c.in-Filter-Filter.sub_aggregations,
     ) at c.in_ok-merge_all-in-Filter-Filter.ensures.ok in
-    filters-merge c.args.self c.args.other c.in-Filter-Filter.doc_count c.in-Filter-Filter.more
+    filters-merge c.args.left c.args.right c.in-Filter-Filter.doc_count c.in-Filter-Filter.more
     c.in-Filter-Filter.sub_aggregations c.in-Filter-Filter.others c.in-Filter-Filter.is-0
     c.in-Filter-Filter.is-1 c.args.passed.now c.add_counts-doc_count.new.passed
     c.merge_all.new.passed c.add_counts-doc_count.ensures.merges
     below
 
 pub filters-merged
-    : goal.results::IntermediateBucketResult::merged_with-returns-in_ok-merge_all-in-Filter-Filter-clause-merged
+    : goal.merged::merge_buckets-returns-in_ok-merge_all-in-Filter-Filter-clause-merged
 filters-merged t c =
     let below = rw (
       c.in-Filter-Filter.is-0,
@@ -32,7 +31,7 @@ filters-merged t c =
       outs-Filter c.in-Filter-Filter.doc_count
           c.in-Filter-Filter.sub_aggregations,
     ) at c.in_ok-merge_all-in-Filter-Filter.ensures.merged in
-    filters-done c.args.self c.args.other c.in-Filter-Filter.doc_count c.in-Filter-Filter.more
+    filters-done c.args.left c.args.right c.in-Filter-Filter.doc_count c.in-Filter-Filter.more
     c.in-Filter-Filter.sub_aggregations c.in-Filter-Filter.others c.in-Filter-Filter.is-0
     c.in-Filter-Filter.is-1 c.args.passed.now c.add_counts-doc_count.new.passed
     c.merge_all.new.passed c.add_counts-doc_count.ensures.merges
@@ -40,21 +39,21 @@ filters-merged t c =
     c.add_counts-doc_count.result c.merge_all.new.self c.add_counts-doc_count.ensures.sum done
 
 pub composites-ok
-    : goal.results::IntermediateBucketResult::merged_with-returns-in_ok-buckets-in-Composite-Composite-clause-ok
+    : goal.merged::merge_buckets-returns-in_ok-buckets-in-Composite-Composite-clause-ok
 composites-ok t c =
     let below = rw (c.in-Composite-Composite.is-0, outs-Composite c.in-Composite-Composite.buckets)
     at c.in_ok-buckets-in-Composite-Composite.ensures.ok in
-    composite-parts c.args.self c.args.other c.in-Composite-Composite.buckets
+    composite-parts c.args.left c.args.right c.in-Composite-Composite.buckets
     c.in-Composite-Composite.others
     c.in-Composite-Composite.is-0 c.in-Composite-Composite.is-1
     c.args.passed.now c.merged_with.new.passed below
 
 pub composites-merged
-    : goal.results::IntermediateBucketResult::merged_with-returns-in_ok-buckets-in-Composite-Composite-clause-merged
+    : goal.merged::merge_buckets-returns-in_ok-buckets-in-Composite-Composite-clause-merged
 composites-merged t c =
     let below = rw (c.in-Composite-Composite.is-0, outs-Composite c.in-Composite-Composite.buckets)
     at c.in_ok-buckets-in-Composite-Composite.ensures.merged in
-    λ nay. composite-done c.args.self c.args.other c.in-Composite-Composite.buckets
+    λ nay. composite-done c.args.left c.args.right c.in-Composite-Composite.buckets
     c.in-Composite-Composite.others
     c.in-Composite-Composite.is-0 c.in-Composite-Composite.is-1
     c.in_ok-buckets-in-Composite-Composite.buckets (below nay)

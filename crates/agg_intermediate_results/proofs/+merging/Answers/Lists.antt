@@ -2,11 +2,11 @@
 use Rattle.std.proofs.Common.{ℕ, refl, sym, subst}
 use Rattle.agg_values.proofs.TupleOrder.{tuple_order-total}
 use Rattle.agg_values.specs.KeyOrder.{tuple_order}
+use Rattle.agg_metric_results.proofs.Outcomes.{merges-none}
 use Rattle.agg_intermediate_results.specs.Merging.{JoinEntries}
 use Rattle.agg_intermediate_results.specs.Outcome.{AreBelow, BelowDiffer, DoneUnless, EntriesPass}
 use Rattle.agg_intermediate_results.proofs.BelowLists.{above-untied, below-same, below-untied}
 use Rattle.agg_intermediate_results.proofs.BelowLists.{join-left, join-right}
-use Rattle.agg_intermediate_results.proofs.Outcomes.{merges-none}
 use Rattle.agg_intermediate_results.proofs.+merging.Goals as goal
 use Rattle.agg_intermediate_results.proofs.+merging.Goals.{merging::merge_lists-In_ok-joined}
 use Rattle.agg_intermediate_results.proofs.+merging.Goals.{merging::merge_lists-In_ok-joined-2}

@@ -1,7 +1,7 @@
 -- Results by name.
 use Rattle.std.proofs.Common.{refl, sym, ap, ◌∙◌, subst, arith}
 use Rattle.agg_values.specs.Names.{put}
-use Rattle.agg_intermediate_results.proofs.Exits.{ended}
+use Rattle.agg_metric_results.proofs.Exits.{ended}
 use Rattle.agg_intermediate_results.proofs.Levels.{height-found}
 use Rattle.agg_intermediate_results.proofs.Names.{pushed_none, pushed_some, pushing-start}
 use Rattle.agg_intermediate_results.proofs.Names as names
@@ -23,8 +23,8 @@ put-requires t c =
     let fewer = c.loop-name.invariant.depth in
     omega (arith, found, fewer, c.decreases)
 
-pub put-preserved
-    : goal.results::IntermediateAggregationResults::merge_all-loop-name-preserved-in-Continue-branch-2
+pub put-preserved :
+    goal.results::IntermediateAggregationResults::merge_all-loop-name-preserved-in-Continue-branch-2
 put-preserved t c =
     let first = c.args.self.now.results in
     let others = c.args.other.results in

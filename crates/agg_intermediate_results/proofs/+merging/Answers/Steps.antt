@@ -2,13 +2,14 @@
 use Rattle.std.proofs.Common.{◌++◌, ◌∷◌, [], length, sym, ap, ◌∙◌, subst, arith}
 use Rattle.agg_values.proofs.TupleOrder.{tuple_order-total}
 use Rattle.agg_values.specs.KeyOrder.{tuple_order}
+use Rattle.agg_metric_results.specs.Merges.{Merges}
+use Rattle.agg_metric_results.specs.declared.error.MergeError.TheVariants.{Mismatch}
+use Rattle.agg_metric_results.proofs.Exits.{error-kept}
 use Rattle.agg_intermediate_results.specs.Intermediate.{TupleEntry}
-use Rattle.agg_intermediate_results.specs.Outcome.{BelowDiffer, DoneUnless, EntriesPass, Merges}
-use Rattle.agg_intermediate_results.specs.declared.error.MergeError.TheVariants.{Mismatch}
+use Rattle.agg_intermediate_results.specs.Outcome.{BelowDiffer, DoneUnless, EntriesPass}
 use Rattle.agg_intermediate_results.proofs.AscendingLists.{both_differ, heads, next_both, next_left}
 use Rattle.agg_intermediate_results.proofs.AscendingLists.{next_right}
 use Rattle.agg_intermediate_results.proofs.AscendingLists as entries
-use Rattle.agg_intermediate_results.proofs.Exits.{error-kept}
 use Rattle.agg_intermediate_results.proofs.+merging.Goals as goal
 
 pub left-smaller : goal.merging::merge_ascending-loop-order-smaller-in-Continue-branch-2

@@ -44,7 +44,7 @@ pub empty_results-loop-name-preserved :
 empty_results-loop-name-preserved g t c =
     more g t (goal.at.empty_results-loop-name-preserved g t c).In_ok-insert
 
-pub empty_results-returns : goal.empty_results-returns
-empty_results-returns g t c =
+pub empty_results-returns-clause-empty : goal.empty_results-returns-clause-empty
+empty_results-returns-clause-empty g t c =
     AreMadeUpTo-all c.args.aggs.now c.loop-name.name-iterator c.loop-name.results
     c.loop-name.invariant c.in-None.ensures.steps.0

@@ -1,45 +1,32 @@
-use Rattle.std.proofs.Common.{◌≡◌, Ok, Err, sym, ap, ◌∙◌}
+use Rattle.std.proofs.Common.{sym, ap, ◌∙◌}
 use Rattle.std.specs.List.{insert}
 use Rattle.std.proofs.lemmas.Result.{on_err_weaker, on_ok_weaker}
-use Rattle.std_collections.specs.Layout.BTreeMap.{seek}
 use Rattle.std_collections.specs.Layout.Columns.{set_value_at}
 use Rattle.std_collections.proofs.Seek.{found_at}
 use Rattle.agg_values.specs.KeyOrder.{tuple_order}
 use Rattle.agg_values.proofs.NamePlaces.{missing_stays}
 use Rattle.agg_values.proofs.TupleOrder.{tuple_order-total}
+use Rattle.agg_metric_results.proofs.Exits.{on_err}
 use Rattle.agg_intermediate_results.specs.Intermediate.{composite_of, entries_of, orders_of}
 use Rattle.agg_intermediate_results.specs.Intermediate.{target_size_of}
 use Rattle.agg_intermediate_results.specs.Outcome.{BelowDiffer, EntriesPass, IsMergedEntry}
 use Rattle.agg_intermediate_results.proofs.AddedEntries.{held_there, joined_there, put_there}
 use Rattle.agg_intermediate_results.proofs.AddedEntries.{tied_there, told_there, untied, within}
-use Rattle.agg_intermediate_results.proofs.Exits.{on_err}
 use Rattle.agg_intermediate_results.proofs as proofs
 use proofs.composite.IntermediateCompositeBucketResult.add_entry.Goals as goal
-use Rattle.agg_intermediate_results.proofs.composite.IntermediateCompositeBucketResult.add_entry.Goals.{In-Ok}
-use Rattle.agg_intermediate_results.proofs.composite.IntermediateCompositeBucketResult.add_entry.Goals.{In-Err}
-
-found : (c : In-Ok)
-    → seek (tuple_order (orders_of c.args.self.now) c.args.key) (entries_of c.args.self.now)
-    ≡ Ok c.in-Ok.at
-found c = sym c.search.ensures.place ∙ c.in-Ok.is
-
-missing : (c : In-Err)
-    → seek (tuple_order (orders_of c.args.self.now) c.args.key) (entries_of c.args.self.now)
-    ≡ Err c.in-Err.at
-missing c = sym c.search.ensures.place ∙ c.in-Err.is
 
 pub merge_at-requires : goal.merge_at-requires
 merge_at-requires c =
     let held = c.args.self.now in
     record {
       within = within (tuple_order (orders_of held)) c.args.key (entries_of held) c.in-Ok.at
-          (found (goal.at.merge_at-requires c).In-Ok);
+          (sym c.search.ensures.place ∙ c.in-Ok.is);
     }
 
 pub returns-in_err-insert-in-Err-clause-left : goal.returns-in_err-insert-in-Err-clause-left
 returns-in_err-insert-in-Err-clause-left c =
     let held = c.args.self.now in
-    let at = missing (goal.at.returns-in_err-insert-in-Err-clause-left c).In-Err in
+    let at = sym c.search.ensures.place ∙ c.in-Err.is in
     on_err c.from_residual.result
     (ap (λ m. composite_of m.0 (target_size_of held) m.1) c.in_err-insert-in-Err.ensures.err
     ∙ ap (composite_of (orders_of held) (target_size_of held))
@@ -51,7 +38,7 @@ returns-in-Ok-clause-ok c =
     let held = c.args.self.now in
     let R = tuple_order (orders_of held) in
     let es = entries_of held in
-    let at = found (goal.at.returns-in-Ok-clause-ok c).In-Ok in
+    let at = sym c.search.ensures.place ∙ c.in-Ok.is in
     let there = held_there R c.args.key es c.in-Ok.at at in
     on_ok_weaker c.merge_at.result
     (λ done.
@@ -68,7 +55,7 @@ returns-in-Ok-clause-shapes c =
     let held = c.args.self.now in
     let R = tuple_order (orders_of held) in
     let es = entries_of held in
-    let at = found (goal.at.returns-in-Ok-clause-shapes c).In-Ok in
+    let at = sym c.search.ensures.place ∙ c.in-Ok.is in
     let there = held_there R c.args.key es c.in-Ok.at at in
     on_ok_weaker c.merge_at.result
     (λ done some. (done there.0 there.1).0
@@ -81,7 +68,7 @@ returns-in-Ok-clause-counts c =
     let held = c.args.self.now in
     let R = tuple_order (orders_of held) in
     let es = entries_of held in
-    let at = found (goal.at.returns-in-Ok-clause-counts c).In-Ok in
+    let at = sym c.search.ensures.place ∙ c.in-Ok.is in
     let there = held_there R c.args.key es c.in-Ok.at at in
     on_ok_weaker c.merge_at.result
     (λ done some. (done there.0 there.1).1
@@ -94,7 +81,7 @@ returns-in-Ok-clause-mismatch c = λ is.
     let held = c.args.self.now in
     let R = tuple_order (orders_of held) in
     let es = entries_of held in
-    let at = found (goal.at.returns-in-Ok-clause-mismatch c).In-Ok in
+    let at = sym c.search.ensures.place ∙ c.in-Ok.is in
     let there = held_there R c.args.key es c.in-Ok.at at in
     tied_there R (tuple_order-total (orders_of held)) c.args.key c.args.entry BelowDiffer es
     c.in-Ok.at there.0 at there.1 (c.merge_at.ensures.mismatch is there.0 there.1)
@@ -104,7 +91,7 @@ returns-in-Ok-clause-too_many c = λ is.
     let held = c.args.self.now in
     let R = tuple_order (orders_of held) in
     let es = entries_of held in
-    let at = found (goal.at.returns-in-Ok-clause-too_many c).In-Ok in
+    let at = sym c.search.ensures.place ∙ c.in-Ok.is in
     let there = held_there R c.args.key es c.in-Ok.at at in
     let told = c.merge_at.ensures.too_many is there.0 there.1 in (
       λ some. told.0
@@ -117,7 +104,7 @@ returns-in-Ok-clause-too_many c = λ is.
 pub returns-in-Ok-clause-left : goal.returns-in-Ok-clause-left
 returns-in-Ok-clause-left c =
     let held = c.args.self.now in
-    let at = found (goal.at.returns-in-Ok-clause-left c).In-Ok in
+    let at = sym c.search.ensures.place ∙ c.in-Ok.is in
     on_err_weaker c.merge_at.result
     (λ left. left ∙ ap (composite_of (orders_of held) (target_size_of held))
     (found_at (tuple_order (orders_of held) c.args.key) (entries_of held) c.in-Ok.at at).removes)
@@ -126,7 +113,7 @@ returns-in-Ok-clause-left c =
 pub returns-in_ok-insert-in-Err-clause-ok : goal.returns-in_ok-insert-in-Err-clause-ok
 returns-in_ok-insert-in-Err-clause-ok c =
     let held = c.args.self.now in
-    let at = missing (goal.at.returns-in_ok-insert-in-Err-clause-ok c).In-Err in (
+    let at = sym c.search.ensures.place ∙ c.in-Err.is in (
       insert (entries_of held) c.in-Err.at (c.args.key, c.args.entry),
       ap (λ m. composite_of m.0 (target_size_of held) m.1) c.in_ok-insert-in-Err.ensures.ok,
       put_there (tuple_order (orders_of held)) (tuple_order-total (orders_of held)) c.args.key
@@ -138,11 +125,11 @@ returns-in_ok-insert-in-Err-clause-shapes c =
     let held = c.args.self.now in
     untied (tuple_order (orders_of held)) (tuple_order-total (orders_of held)) c.args.key
     c.args.entry BelowDiffer (entries_of held) c.in-Err.at c.search.ensures.ascending
-    (missing (goal.at.returns-in_ok-insert-in-Err-clause-shapes c).In-Err)
+    (sym c.search.ensures.place ∙ c.in-Err.is)
 
 pub returns-in_ok-insert-in-Err-clause-counts : goal.returns-in_ok-insert-in-Err-clause-counts
 returns-in_ok-insert-in-Err-clause-counts c =
     let held = c.args.self.now in
     untied (tuple_order (orders_of held)) (tuple_order-total (orders_of held)) c.args.key
     c.args.entry EntriesPass (entries_of held) c.in-Err.at c.search.ensures.ascending
-    (missing (goal.at.returns-in_ok-insert-in-Err-clause-counts c).In-Err)
+    (sym c.search.ensures.place ∙ c.in-Err.is)

@@ -1,13 +1,12 @@
-use Rattle.std.proofs.Common.{◌≡◌, [], ap, ◌∙◌}
-use Rattle.agg_values.specs.Names.{put, without}
+use Rattle.std.proofs.Common.{[], ap, ◌∙◌}
+use Rattle.agg_values.specs.Names.{put}
+use Rattle.agg_metric_results.specs.declared.error.MergeError.TheVariants.{Mismatch, TooMany}
+use Rattle.agg_metric_results.proofs.Exits.{error-kept}
 use Rattle.agg_intermediate_results.specs.Merging.{CountsPass, ShapesDiffer}
-use Rattle.agg_intermediate_results.specs.declared.error.MergeError.TheVariants.{Mismatch, TooMany}
-use Rattle.agg_intermediate_results.proofs.Exits.{error-kept}
 use Rattle.agg_intermediate_results.proofs.ToldNames.{first_told, nothing_told, passes_alone}
 use Rattle.agg_intermediate_results.proofs.ToldNames.{past_first, pushed-absent, pushed-merged}
 use Rattle.agg_intermediate_results.proofs as proofs
 use proofs.results.IntermediateAggregationResults.push.Goals as goal
-use Rattle.agg_intermediate_results.proofs.results.IntermediateAggregationResults.push.Goals.{In_ok-insert}
 
 pub returns-in_err-value-clause-mismatch : goal.returns-in_err-value-clause-mismatch
 returns-in_err-value-clause-mismatch c = λ is.
@@ -23,22 +22,19 @@ returns-in_err-value-clause-too_many c = λ is.
     passes_alone c.args.self.now.results c.args.key c.args.value c.remove.result
     c.remove.ensures.value (c.in_err-value.ensures.too_many was)
 
--- what stands under the name
-pushed : (c : In_ok-insert) → c.insert.new.self
-    ≡ put c.args.key c.in_ok-value.value (without c.args.key c.args.self.now.results)
-pushed c = c.in_ok-insert.ensures.ok ∙ ap (put c.args.key c.in_ok-value.value) c.remove.ensures.rest
-
 pub returns-clause-ok : goal.returns-clause-ok
 returns-clause-ok c =
     pushed-merged c.args.self.now.results c.insert.new.self c.args.key c.args.value
     c.in_ok-value.value c.remove.result c.remove.ensures.value
-    (pushed (goal.at.returns-clause-ok c).In_ok-insert) c.in_ok-value.ensures.ok
+    (c.in_ok-insert.ensures.ok
+    ∙ ap (put c.args.key c.in_ok-value.value) c.remove.ensures.rest) c.in_ok-value.ensures.ok
 
 pub returns-clause-absent : goal.returns-clause-absent
 returns-clause-absent c =
     pushed-absent c.args.self.now.results c.insert.new.self c.args.key c.args.value
     c.in_ok-value.value c.remove.result c.remove.ensures.value
-    (pushed (goal.at.returns-clause-absent c).In_ok-insert) c.in_ok-value.ensures.ok
+    (c.in_ok-insert.ensures.ok
+    ∙ ap (put c.args.key c.in_ok-value.value) c.remove.ensures.rest) c.in_ok-value.ensures.ok
 
 pub returns-clause-shapes : goal.returns-clause-shapes
 returns-clause-shapes c =
