@@ -1,6 +1,5 @@
 -- The numbers that the sums of a request add.
-use Rattle.std.proofs.Common.{ℕ, ◌<◌, ◌^◌, List, [], ◌∷◌, ◌++◌, sym, subst}
-use Rattle.std.specs.Prelude.{Bool, nat_abs}
+use Rattle.std.proofs.Common.{ℕ, List, [], ◌∷◌, sym, subst}
 use Rattle.std.specs.List.{All, AllByRecursion, filter_map}
 use Rattle.std.proofs.lemmas.List.Elements.{All-head, All-tail, filter_map-append}
 use Rattle.std.proofs.lemmas.List.Elements.{All-from_recursion}
@@ -49,7 +48,7 @@ small-numbers (key.DateTime ns ∷ keys) small = (
 )
 
 -- the numbers of a field are small where those of each document are of 64 bits
-small-field : (field : List ℕ) (documents : List Fields) → All HasNumbersOf64Bits documents
+pub small-field : (field : List ℕ) (documents : List Fields) → All HasNumbersOf64Bits documents
     → AllByRecursion IsSmall (numbers_of field documents)
 small-field field [] small = tt
 small-field field (d ∷ documents) small =

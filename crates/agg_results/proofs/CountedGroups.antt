@@ -17,8 +17,8 @@ use Rattle.agg_request_tree.proofs.Lists.{AllByRecursion-both, AllByRecursion-we
 use Rattle.agg_request_tree.proofs.Lists.{Contains-from_Has}
 use Rattle.agg_results.proofs.Counts.{add_count}
 use Rattle.agg_results.proofs.Counts.{all-added}
-use Rattle.agg_results.proofs.Counted.{Ascend-counted, Positive-counted, all-counted}
-use Rattle.agg_results.proofs.Counted.{count_each, counted}
+use Rattle.agg_results.proofs.CountedKeys.{Ascend-counted, Positive-counted, all-counted}
+use Rattle.agg_results.proofs.CountedKeys.{count_each, counted}
 use Rattle.agg_results.proofs.HeldCounts.{counted-exact}
 
 module _ {K : Type 0} (R : K → K → Ordering) (total : IsTotalOrder R) where

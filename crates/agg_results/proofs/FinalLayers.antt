@@ -19,19 +19,20 @@ use Rattle.agg_request_tree.specs.declared.aggregation.AggregationVariants.TheVa
 use Rattle.agg_request_tree.specs.declared.aggregation.CompositeAggregation.{CompositeAggregation}
 use Rattle.agg_request_tree.proofs.PageFromGroups.{Groups-nothing, IsPage-from_groups}
 use Rattle.agg_request_tree.proofs.PageFromGroups.{groups-entries}
+use Rattle.agg_metric_results.specs.MetricShown.{final_metric, shown_count, shown_max, shown_min}
+use Rattle.agg_metric_results.specs.MetricShown.{shown_sum}
+use Rattle.agg_metric_results.specs.declared.metric.IntermediateMetricResult as metrics
+use metrics.{IntermediateMetricResult}
+use metrics.TheVariants as m
 use Rattle.agg_intermediate_results.specs.Final.{Finish, final_bucket, final_by}
-use Rattle.agg_intermediate_results.specs.Final.{final_metric, final_nothing, final_page}
-use Rattle.agg_intermediate_results.specs.Final.{finish_all, lowest_of}
+use Rattle.agg_intermediate_results.specs.Final.{final_nothing, final_page, finish_all, lowest_of}
 use Rattle.agg_intermediate_results.specs.Intermediate.{Entries, Held, Parts, TupleEntry}
 use Rattle.agg_intermediate_results.specs.Intermediate.{below_entry, composite, counts_of}
 use Rattle.agg_intermediate_results.specs.Intermediate.{entries_of, filter, metric}
 use Rattle.agg_intermediate_results.specs.Intermediate.{target_size_of}
-use Rattle.agg_intermediate_results.specs.Shown.{Results, last_tuple, shown_count, shown_filter}
-use Rattle.agg_intermediate_results.specs.Shown.{shown_max, shown_min, shown_page, shown_sum}
+use Rattle.agg_intermediate_results.specs.Shown.{Results, last_tuple, shown_filter, shown_page}
 use Rattle.agg_intermediate_results.specs.declared as declared
 use declared.composite.IntermediateCompositeBucketResult.{IntermediateCompositeBucketResult}
-use declared.metric.IntermediateMetricResult.{IntermediateMetricResult}
-use declared.metric.IntermediateMetricResult.TheVariants as m
 use Rattle.agg_results.specs.Results.{IsBucket, IsPageShown, IsResult}
 use Rattle.agg_results.specs.StandsFor.{CompositeStands, EntryStands, HasShapeOf, MetricStands}
 use Rattle.agg_results.specs.StandsFor.{PartsStand}

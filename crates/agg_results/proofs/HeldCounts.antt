@@ -12,7 +12,7 @@ use Rattle.std.proofs.lemmas.List.Sums.{sum_by-cons}
 use Rattle.agg_request_tree.proofs.Lists.{AllByRecursion-weaker}
 use Rattle.agg_results.proofs.Counts.{add_count}
 use Rattle.agg_results.proofs.Counts.{Ascend, reversed}
-use Rattle.agg_results.proofs.Counted.{count_each, counted, Ascend-counted}
+use Rattle.agg_results.proofs.CountedKeys.{count_each, counted, Ascend-counted}
 
 module _ {K : Type 0} (R : K → K → Ordering) (total : IsTotalOrder R) where
   -- how often counts hold a key

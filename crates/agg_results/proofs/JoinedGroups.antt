@@ -18,10 +18,10 @@ use Rattle.agg_request_tree.specs.Source.{Sources, rules_of}
 use Rattle.agg_results.proofs.Counts.{merged}
 use Rattle.agg_results.specs.StandsFor.{GroupsStandFor}
 use Rattle.agg_results.proofs.Counts.{Ascend-merged, merged-nothing}
-use Rattle.agg_results.proofs.Counted.{counted, lowest-merged}
+use Rattle.agg_results.proofs.CountedKeys.{counted, lowest-merged}
 use Rattle.agg_results.proofs.LowestGroups.{IsPage-lowest, lowest-page}
 use Rattle.agg_results.proofs.LowestGroups.{lowest_groups, past_occurrences-append}
-use Rattle.agg_results.proofs.Merged.{all-merged}
+use Rattle.agg_results.proofs.MergedCounts.{all-merged}
 use Rattle.agg_results.proofs.StandingGroups.{CountsSome, IsPast}
 
 -- tuples that are one occur equally often

@@ -7,7 +7,7 @@ use Rattle.std.proofs.lemmas.List.Elements.{All-from_recursion, recursion_from_A
 use Rattle.agg_values.specs.Tuple.{KeyTuple}
 use Rattle.agg_request_tree.specs.Groups.{Group}
 use Rattle.agg_request_tree.proofs.Lists.{AllByRecursion-weaker}
-use Rattle.agg_results.proofs.Merged.{merge, merge-nothing}
+use Rattle.agg_results.proofs.MergedCounts.{merge, merge-nothing}
 use Rattle.agg_intermediate_results.specs.Intermediate.{Entries, TupleEntry}
 use Rattle.agg_intermediate_results.specs.Intermediate.{counts_of}
 use Rattle.agg_intermediate_results.specs.Merging.{ByOrder, JoinEntries}

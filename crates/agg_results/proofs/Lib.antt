@@ -1,5 +1,5 @@
 pub mod AddedNumbers
-pub mod Counted
+pub mod CountedKeys
 pub mod CountedGroups
 pub mod Counts
 pub mod Empties
@@ -12,7 +12,7 @@ pub mod JoinedGroups
 pub mod Joins
 pub mod ListOrders
 pub mod LowestGroups
-pub mod Merged
+pub mod MergedCounts
 pub mod MergedFinals
 pub mod Metrics
 pub mod NameLookups

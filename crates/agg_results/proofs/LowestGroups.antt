@@ -14,7 +14,7 @@ use Rattle.agg_request_tree.specs.Source.{Sources, rules_of}
 use Rattle.agg_request_tree.proofs.PageFromGroups.{IsPage-from_groups, groups-entries}
 use Rattle.agg_request_tree.proofs.PageTuples.{occurrences_in-canonical}
 use Rattle.agg_request_tree.proofs.PageUnique.{IsPage-same}
-use Rattle.agg_results.proofs.Counted.{counted}
+use Rattle.agg_results.proofs.CountedKeys.{counted}
 use Rattle.agg_results.proofs.CountedGroups.{Groups-counted}
 
 -- the past occurrences of two lists of documents

@@ -7,11 +7,11 @@ use Rattle.agg_request_tree.specs.declared.aggregation.AggregationVariants.{Aggr
 use Rattle.agg_request_tree.specs.declared.aggregation.AggregationVariants.TheVariants as asks
 use Rattle.agg_request_tree.proofs.Metrics.{best-append, count-append, max-assoc, min-assoc}
 use Rattle.agg_request_tree.proofs.Metrics.{numbers-append, sum-append}
-use Rattle.agg_intermediate_results.specs.Merging.{MetricsDiffer, MetricsMerged}
+use Rattle.agg_metric_results.specs.MetricMerging.{MetricsDiffer, MetricsMerged}
+use Rattle.agg_metric_results.specs.declared.metric.IntermediateMetricResult as metrics
+use metrics.{IntermediateMetricResult}
+use metrics.TheVariants as m
 use Rattle.agg_results.specs.StandsFor.{MetricStands}
-use Rattle.agg_intermediate_results.specs.declared as intermediate
-use intermediate.metric.IntermediateMetricResult.{IntermediateMetricResult}
-use intermediate.metric.IntermediateMetricResult.TheVariants as m
 
 module _ {B : Type 0} (documents others : List Fields) where
   -- two results of a metric as one are that of the documents of both

@@ -17,14 +17,16 @@ use Rattle.agg_request_tree.specs.declared.aggregation.CompositeAggregation.{Com
 use Rattle.agg_request_tree.proofs.Metrics.{count-append, numbers-append, sum-append}
 use Rattle.agg_request_tree.proofs.UncutLength.{length-each}
 use Rattle.agg_request_tree.proofs.UncutLists.{uncut-append}
+use Rattle.agg_metric_results.specs.MetricMerging.{MetricsPass}
+use Rattle.agg_metric_results.specs.declared.metric.IntermediateMetricResult as metrics
+use metrics.{IntermediateMetricResult}
+use metrics.TheVariants as m
 use Rattle.agg_intermediate_results.specs.Intermediate.{Held, Parts, TupleEntry, below_entry}
 use Rattle.agg_intermediate_results.specs.Intermediate.{composite, entries_of, metric}
 use Rattle.agg_intermediate_results.specs.Intermediate as held
-use Rattle.agg_intermediate_results.specs.Merging.{MetricsPass, PartsPass}
+use Rattle.agg_intermediate_results.specs.Merging.{PartsPass}
 use Rattle.agg_intermediate_results.specs.declared as declared
 use declared.composite.IntermediateCompositeBucketResult.{IntermediateCompositeBucketResult}
-use declared.metric.IntermediateMetricResult.{IntermediateMetricResult}
-use declared.metric.IntermediateMetricResult.TheVariants as m
 use Rattle.agg_results.proofs.AddedNumbers.{own_added_field}
 use Rattle.agg_results.specs.StandsFor.{CompositeStands, EntryStands, IsPart, MetricStands}
 use Rattle.agg_results.specs.StandsFor.{PartsStand}

@@ -22,8 +22,8 @@ use Rattle.agg_final_results.specs.declared.types as final
 use final.AggregationResult.{AggregationResult}
 use final.AggregationResults.{AggregationResults}
 use final.CompositeBucketEntry.{CompositeBucketEntry}
-use Rattle.agg_intermediate_results.specs.Shown.{Results, shown_bucket, shown_count, shown_filter}
-use Rattle.agg_intermediate_results.specs.Shown.{shown_max, shown_min, shown_page, shown_sum}
+use Rattle.agg_metric_results.specs.MetricShown.{shown_count, shown_max, shown_min, shown_sum}
+use Rattle.agg_intermediate_results.specs.Shown.{Results, shown_bucket, shown_filter, shown_page}
 use Rattle.agg_results.specs.Results.{AreResults, EachHas, IsBucket, IsResult, IsResultTo}
 use Rattle.agg_results.specs.Results.{after_tuple}
 

@@ -23,9 +23,9 @@ use Rattle.agg_final_results.specs.declared.types as final
 use final.AggregationResult.{AggregationResult}
 use final.AggregationResults.{AggregationResults}
 use final.CompositeBucketEntry.{CompositeBucketEntry}
-use Rattle.agg_intermediate_results.specs.Shown.{Results, last_tuple, shown_bucket, shown_count}
-use Rattle.agg_intermediate_results.specs.Shown.{shown_filter, shown_max, shown_min, shown_page}
-use Rattle.agg_intermediate_results.specs.Shown.{shown_sum}
+use Rattle.agg_metric_results.specs.MetricShown.{shown_count, shown_max, shown_min, shown_sum}
+use Rattle.agg_intermediate_results.specs.Shown.{Results, last_tuple, shown_bucket, shown_filter}
+use Rattle.agg_intermediate_results.specs.Shown.{shown_page}
 use Rattle.agg_results.specs.Results.{AreResults, EachHas, IsBucket, IsFilterShown, IsPageShown}
 use Rattle.agg_results.specs.Results.{IsResult, IsResultTo}
 use Rattle.agg_results.proofs.ListOrders.{IsReordering-filter}

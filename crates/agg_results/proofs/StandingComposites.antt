@@ -20,7 +20,7 @@ use Rattle.agg_intermediate_results.specs.Merging.{trimmed}
 use Rattle.agg_results.proofs.Counts.{merged}
 use Rattle.agg_results.specs.StandsFor.{GroupsStandFor}
 use Rattle.agg_results.proofs.JoinedGroups.{stands-left, stands-merged, stands-right}
-use Rattle.agg_results.proofs.Merged.{merged-is_merge}
+use Rattle.agg_results.proofs.MergedCounts.{merged-is_merge}
 use Rattle.agg_results.proofs.StandingGroups.{stands-front, stands-nothing}
 use Rattle.agg_intermediate_results.specs.Intermediate.{Entries, Held, TupleEntry, below_entry}
 use Rattle.agg_intermediate_results.specs.Intermediate.{composite_of}

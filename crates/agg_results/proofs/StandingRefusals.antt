@@ -15,6 +15,9 @@ use Rattle.agg_request_tree.specs.declared.aggregation.AggregationVariants.{Aggr
 use Rattle.agg_request_tree.specs.declared.aggregation.AggregationVariants.TheVariants as asks
 use Rattle.agg_request_tree.specs.declared.aggregation.CompositeAggregation.{CompositeAggregation}
 use Rattle.agg_request_tree.proofs.Lists.{Contains-map, none_of_all}
+use Rattle.agg_metric_results.specs.declared.metric.IntermediateMetricResult as metrics
+use metrics.{IntermediateMetricResult}
+use metrics.TheVariants as m
 use Rattle.agg_intermediate_results.specs.Intermediate.{Held, Parts, below_entry, composite}
 use Rattle.agg_intermediate_results.specs.Intermediate.{entries_of, filter, helds_below, metric}
 use Rattle.agg_intermediate_results.specs.Intermediate.{orders_of, parts_of}
@@ -22,8 +25,6 @@ use Rattle.agg_intermediate_results.specs.Refusals.{HoldsOther, HoldsOtherWithin
 use Rattle.agg_intermediate_results.specs.Refusals.{HoldsUnknownWithin, IsOther}
 use Rattle.agg_intermediate_results.specs.declared as declared
 use declared.composite.IntermediateCompositeBucketResult.{IntermediateCompositeBucketResult}
-use declared.metric.IntermediateMetricResult.{IntermediateMetricResult}
-use declared.metric.IntermediateMetricResult.TheVariants as m
 use declared.results.IntermediateAggregationResult.{IntermediateAggregationResult}
 use Rattle.agg_results.specs.StandsFor.{EntryStands, HasShapeOf, MetricStands, NamesStand}
 use Rattle.agg_results.specs.StandsFor.{PartsStand, StandsFor, StandsTo}

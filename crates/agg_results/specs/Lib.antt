@@ -8,3 +8,5 @@ pub use Rattle.agg_intermediate_results.specs.Intermediate
 pub use Rattle.agg_intermediate_results.specs.Merging
 pub use Rattle.agg_intermediate_results.specs.Refusals
 pub use Rattle.agg_intermediate_results.specs.Shown
+pub use Rattle.agg_metric_results.specs.MetricMerging
+pub use Rattle.agg_metric_results.specs.MetricShown

@@ -1,6 +1,6 @@
--- The results of a request over documents, as they are shown. An aggregation has others below it, so
--- its result is told down to a depth. What is so at every depth is the whole result, since requests
--- are finite: no request has two results over the same documents.
+-- The results of a request over documents, as they are shown. An aggregation has others below it,
+-- so its result is told down to a depth. What is so at every depth is the whole result, since
+-- requests are finite: no request has two results over the same documents.
 use Rattle.std.specs.Prelude.{◌≡◌, ℕ, zero, suc, List, Bool, Option, length, map, ⊤}
 use Rattle.std.specs.Int.{int_max, int_min}
 use Rattle.std.specs.List.{AllZip}
@@ -20,9 +20,9 @@ use Rattle.agg_final_results.specs.declared.types as final
 use final.AggregationResult.{AggregationResult}
 use final.AggregationResults.{AggregationResults}
 use final.CompositeBucketEntry.{CompositeBucketEntry}
-use Rattle.agg_intermediate_results.specs.Shown.{Results, last_tuple, shown_bucket, shown_count}
-use Rattle.agg_intermediate_results.specs.Shown.{shown_filter, shown_max, shown_min, shown_page}
-use Rattle.agg_intermediate_results.specs.Shown.{shown_sum}
+use Rattle.agg_metric_results.specs.MetricShown.{shown_count, shown_max, shown_min, shown_sum}
+use Rattle.agg_intermediate_results.specs.Shown.{Results, last_tuple, shown_bucket, shown_filter}
+use Rattle.agg_intermediate_results.specs.Shown.{shown_page}
 
 -- ---- pages
 

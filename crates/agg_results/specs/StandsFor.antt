@@ -21,13 +21,14 @@ use Rattle.agg_request_tree.specs.declared.aggregation.Aggregation.{Aggregation}
 use Rattle.agg_request_tree.specs.declared.aggregation.AggregationVariants.{AggregationVariants}
 use Rattle.agg_request_tree.specs.declared.aggregation.AggregationVariants.TheVariants as asks
 use Rattle.agg_request_tree.specs.declared.aggregation.CompositeAggregation.{CompositeAggregation}
+use Rattle.agg_metric_results.specs.declared.metric.IntermediateMetricResult as metrics
+use metrics.{IntermediateMetricResult}
+use metrics.TheVariants as m
 use Rattle.agg_intermediate_results.specs.Intermediate.{Held, Parts, TupleEntry, below_entry}
 use Rattle.agg_intermediate_results.specs.Intermediate.{composite, counts_of, entries_of, filter}
 use Rattle.agg_intermediate_results.specs.Intermediate.{metric, orders_of, parts_of, target_size_of}
 use Rattle.agg_intermediate_results.specs.declared as declared
 use declared.composite.IntermediateCompositeBucketResult.{IntermediateCompositeBucketResult}
-use declared.metric.IntermediateMetricResult.{IntermediateMetricResult}
-use declared.metric.IntermediateMetricResult.TheVariants as m
 use declared.results.IntermediateAggregationResult.{IntermediateAggregationResult}
 
 -- ---- groups

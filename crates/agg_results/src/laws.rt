@@ -11,7 +11,7 @@ ghost use Rattle.agg_request_tree.specs.Page.{Entry, IsPage, group_of};
 ghost use Rattle.agg_request_tree.specs.Request.{Request};
 ghost use Rattle.agg_request_tree.specs.Source.{Sources, rules_of};
 ghost use Rattle.agg_request_tree.specs.Uncut.{ListsAsMany};
-ghost use Rattle.agg_final_results.specs.declared.types.AggregationResults.{AggregationResults as Final};
+ghost use Rattle.agg_final_results.specs.declared.types.AggregationResults as shown;
 ghost use Rattle.agg_intermediate_results.specs.Empty.{empty_results};
 ghost use Rattle.agg_intermediate_results.specs.Final.{final_results};
 ghost use Rattle.agg_intermediate_results.specs.Intermediate.{Held};
@@ -93,14 +93,14 @@ pub fn final_results_are_those_of_the_documents<B>()
 /// documents.
 pub fn each_request_has_one_result<B>()
     ensures exists { (is_match : B → Fields → Bool) (request : Request B) (documents : List Fields)
-        → (results : Final) × AreResults is_match request documents results }
+        → (results : shown.AggregationResults) × AreResults is_match request documents results }
     ensures unique { (is_match : B → Fields → Bool) (request : Request B) (documents : List Fields)
-        (results others : Final)
+        (results others : shown.AggregationResults)
         → AreResults is_match request documents results
         → AreResults is_match request documents others
         → results ≡ others }
     ensures any_order { (is_match : B → Fields → Bool) (request : Request B)
-        (documents permuted : List Fields) (results others : Final)
+        (documents permuted : List Fields) (results others : shown.AggregationResults)
         → IsPermutation documents permuted
         → AreResults is_match request documents results
         → AreResults is_match request permuted others

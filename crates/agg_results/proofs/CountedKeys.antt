@@ -8,7 +8,8 @@ use Rattle.std.specs.Map.{keys_of}
 use Rattle.std.specs.Ordering.{match_ordering}
 use Rattle.agg_results.proofs.Counts.{add_count, merged}
 use Rattle.agg_results.proofs.Counts.{Ascend, Ascend-add, all-added}
-use Rattle.agg_results.proofs.Merged.{merge, merge-nothing, add-merge, merged-is_merge, take-merge}
+use Rattle.agg_results.proofs.MergedCounts.{merge, merge-nothing, add-merge, merged-is_merge}
+use Rattle.agg_results.proofs.MergedCounts.{take-merge}
 
 module _ {K : Type 0} (R : K → K → Ordering) where
   -- counts, with each key of a list counted once more
