@@ -9,7 +9,7 @@ use Rattle.agg_values.specs.declared.column.ColumnPaginationOrder.{ColumnPaginat
 use Rattle.agg_values.specs.declared.column.ColumnPaginationOrder.TheVariants as class
 use Rattle.agg_column.specs.Columns.{encoded_key, keys_rank}
 use Rattle.agg_column.specs.declared.keys.ColumnKeys.{ColumnKeys}
-use Rattle.agg_accessor.proofs.TypedOrder.{encoded-rank}
+use Rattle.agg_accessor.proofs.KeyClasses.{encoded-rank}
 
 -- the rank of a class, 0 for none
 abbrev rank_of : Option ColumnPaginationOrder → ℕ

@@ -14,7 +14,8 @@ use Rattle.agg_values.specs.TypedKey.{CompositeIntermediateKey}
 use Rattle.agg_column.specs.Document.{Fields}
 use Rattle.agg_column.specs.Columns.{StoredColumn, all_keys, column_keys, encoded_key}
 use Rattle.agg_segment.specs.Segment.{Stored, document_at, documents_at}
-use Rattle.agg_request_tree.specs.declared.source.CompositeAggregationSource.{CompositeAggregationSource}
+use Rattle.agg_request_tree.specs.declared.source.CompositeAggregationSource as kind
+use kind.{CompositeAggregationSource}
 use Rattle.agg_request_tree.specs.Source.{Sources, source_values}
 use Rattle.agg_request_tree.specs.Occurrences.{occurrences, occurrences_in}
 

@@ -12,7 +12,8 @@ use Rattle.agg_values.specs.declared.order.Order.TheVariants.{Asc, Desc}
 use Rattle.agg_values.specs.declared.typed_key.CompositeIntermediateKey.TheVariants.{Null}
 use Rattle.agg_column.specs.Columns.{StandsForKey, encoded_key}
 use Rattle.agg_request_tree.specs.Source.{Sources, missing_order_of, order_of}
-use Rattle.agg_request_tree.specs.declared.source.CompositeAggregationSource.{CompositeAggregationSource}
+use Rattle.agg_request_tree.specs.declared.source.CompositeAggregationSource as kind
+use kind.{CompositeAggregationSource}
 use Rattle.agg_accessor.specs.Decoded.{decoded, decoded_key, decoded_keys, is_outside}
 use Rattle.agg_accessor.specs.Encoding.{EncodedTuple, StandFor, StandsFor}
 use Rattle.agg_accessor.specs.Encoding.{encoded_null, null_lane, raw_of}

@@ -13,10 +13,11 @@ use Rattle.agg_values.specs.declared.order.Order.{Order}
 use Rattle.agg_values.proofs.KeyOrder.{key_order-total}
 use Rattle.agg_segment.specs.Segment.{Stored}
 use Rattle.agg_request_tree.specs.Source.{missing_order_of, order_of}
-use Rattle.agg_request_tree.specs.declared.source.CompositeAggregationSource.{CompositeAggregationSource}
+use Rattle.agg_request_tree.specs.declared.source.CompositeAggregationSource as kind
+use kind.{CompositeAggregationSource}
 use Rattle.agg_accessor.specs.Accessors.{AreAccessorsOf, is_null, side_to}
 use Rattle.agg_accessor.specs.declared.accessor.CompositeSourceAccessors.{CompositeSourceAccessors}
-use Rattle.agg_accessor.proofs.TypedOrder.{decided, null_rank-of_class, null_sides}
+use Rattle.agg_accessor.proofs.KeyComparisons.{decided, null_rank-of_class, null_sides}
 
 -- Null before a key is Less, and after it Greater
 pub null_key : (order : Order) (missing : MissingOrder) (k : CompositeIntermediateKey)

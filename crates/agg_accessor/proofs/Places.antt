@@ -33,7 +33,8 @@ use Rattle.agg_accessor.specs.Places.{IsPlaceOf, hit_place}
 use Rattle.agg_accessor.specs.declared.after_key.PrecomputedAfterKey.{PrecomputedAfterKey}
 use Rattle.agg_accessor.specs.declared.after_key.PrecomputedAfterKey.TheVariants.{AfterLast}
 use Rattle.agg_accessor.specs.declared.after_key.PrecomputedAfterKey.TheVariants.{Exact, Next}
-use Rattle.agg_accessor.proofs.TypedOrder.{decided, encoded-rank, some_rank, values-order}
+use Rattle.agg_accessor.proofs.KeyClasses.{encoded-rank, some_rank}
+use Rattle.agg_accessor.proofs.KeyComparisons.{decided, values-order}
 
 -- ---- both orders
 

@@ -16,7 +16,8 @@ use Rattle.agg_values.proofs.TupleOrder.{tuple_order-total}
 use Rattle.agg_column.specs.Columns.{encoded_key}
 use Rattle.agg_request_tree.specs.Occurrences.{same_tuple}
 use Rattle.agg_request_tree.specs.Source.{Sources, order_of, rules_of}
-use Rattle.agg_request_tree.specs.declared.source.CompositeAggregationSource.{CompositeAggregationSource}
+use Rattle.agg_request_tree.specs.declared.source.CompositeAggregationSource as kind
+use kind.{CompositeAggregationSource}
 use Rattle.agg_request_tree.proofs.Lists.{count-step}
 use Rattle.agg_accessor.specs.Encoding.{EncodedTuple, StandFor, StandsFor, encoded_order}
 use Rattle.agg_accessor.specs.Encoding.{encoded_tuple_order, null_lane, raw_of}

@@ -6,7 +6,8 @@ use Rattle.agg_values.specs.TypedKey.{CompositeIntermediateKey}
 use Rattle.agg_values.specs.declared.typed_key.CompositeIntermediateKey.TheVariants.{Null}
 use Rattle.agg_column.specs.Columns.{encoded_key}
 use Rattle.agg_request_tree.specs.Source.{Sources, order_of}
-use Rattle.agg_request_tree.specs.declared.source.CompositeAggregationSource.{CompositeAggregationSource}
+use Rattle.agg_request_tree.specs.declared.source.CompositeAggregationSource as kind
+use kind.{CompositeAggregationSource}
 use Rattle.agg_accessor.specs.Lanes.{keys_at, lanes}
 use Rattle.agg_accessor.specs.Encoding.{EncodedTuple, StandsForTuple, raw_of}
 use Rattle.agg_accessor.specs.declared.accessor.CompositeAccessor.{CompositeAccessor}

@@ -11,7 +11,8 @@ use Rattle.agg_values.specs.declared.order.Order.{Order}
 use Rattle.agg_values.specs.declared.order.Order.TheVariants.{Asc, Desc}
 use Rattle.agg_column.specs.Columns.{StandsForKey, encoded_key}
 use Rattle.agg_request_tree.specs.Source.{Sources, missing_order_of, order_of}
-use Rattle.agg_request_tree.specs.declared.source.CompositeAggregationSource.{CompositeAggregationSource}
+use Rattle.agg_request_tree.specs.declared.source.CompositeAggregationSource as kind
+use kind.{CompositeAggregationSource}
 use Rattle.agg_accessor.specs.Lanes.{keys_at, lanes}
 use Rattle.agg_accessor.specs.declared.accessor.CompositeAccessor.{CompositeAccessor}
 use Rattle.agg_accessor.specs.declared.accessor.CompositeSourceAccessors.{CompositeSourceAccessors}

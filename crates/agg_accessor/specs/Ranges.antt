@@ -5,7 +5,8 @@ use Rattle.agg_column.specs.Columns.{StoredColumn, column_keys, encoded_key}
 use Rattle.agg_column.specs.declared.keys.ColumnKeys.{ColumnKeys}
 use Rattle.agg_segment.specs.Segment.{Stored, documents_at}
 use Rattle.agg_request_tree.specs.Source.{Sources}
-use Rattle.agg_request_tree.specs.declared.source.CompositeAggregationSource.{CompositeAggregationSource}
+use Rattle.agg_request_tree.specs.declared.source.CompositeAggregationSource as kind
+use kind.{CompositeAggregationSource}
 use Rattle.agg_request_tree.specs.Ranges.{AreInRange, IsWithin}
 use Rattle.agg_accessor.specs.Starts.{divided, divisor_of}
 use Rattle.agg_accessor.specs.declared.accessor.CompositeAccessor.{CompositeAccessor}

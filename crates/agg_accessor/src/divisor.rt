@@ -1,5 +1,5 @@
 //! What sources divide values by, and the starts of buckets as numbers of lanes.
-ghost use Rattle.std.specs.Prelude.{◌≡◌, ◌↔◌, ◌≤ℤ◌, ℤ, IfSome, IsTrue, Option, neg_ℤ, option_map};
+ghost use Rattle.std.specs.Prelude.{◌≡◌, ◌↔◌, ◌≤ℤ◌, ℤ, IfSome, IsTrue, Option, option_map};
 ghost use Rattle.std.specs.Prelude.{pos};
 ghost use Rattle.agg_calendar.specs.Start.{IsUsable, fixed_start, start_of};
 ghost use Rattle.agg_column.specs.Columns.{encoded_key};

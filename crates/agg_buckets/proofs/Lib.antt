@@ -1,5 +1,4 @@
 pub mod BucketSteps
-pub mod Counting
 pub mod CutPages
 pub mod Errors
 pub mod Groups
@@ -14,3 +13,4 @@ pub mod PageRoom
 pub mod PageSteps
 pub mod Spread
 pub mod StandingNodes
+pub mod TupleCounts

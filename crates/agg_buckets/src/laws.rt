@@ -25,7 +25,8 @@ pub fn cuts_compose<S: Ord>()
 {}
 
 /// Buckets that are right for visits are the lowest groups of their tuples, parent by parent, and
-/// visits make of them what the tuples that were there, as often as counted, make with the new ones.
+/// visits make of them what the tuples that were there, as often as counted, make with the new
+/// ones.
 pub fn buckets_have_the_cut<S: Ord>()
     ensures pages { HaveTheCut S.cmp }
     ensures visits { VisitsCut S.cmp }

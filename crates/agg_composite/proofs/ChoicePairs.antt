@@ -13,7 +13,8 @@ use Rattle.agg_request_tree.specs.Occurrences.{bound_of, is_past, occurrences, p
 use Rattle.agg_request_tree.specs.Ranges.{AreInRange, IsInRange}
 use Rattle.agg_request_tree.specs.Source.{Sources, field_of, missing_bucket_of, or_missing}
 use Rattle.agg_request_tree.specs.Source.{rules_of, source_values, values_at}
-use Rattle.agg_request_tree.specs.declared.source.CompositeAggregationSource.{CompositeAggregationSource}
+use Rattle.agg_request_tree.specs.declared.source.CompositeAggregationSource as kind
+use kind.{CompositeAggregationSource}
 use Rattle.agg_request_tree.specs.Source.{after_of}
 use Rattle.agg_accessor.specs.Accessors.{AllFit, AreAccessorsOf, keys_in_columns, keys_read}
 use Rattle.agg_accessor.specs.Accessors.{side_to}

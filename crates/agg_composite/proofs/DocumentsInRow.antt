@@ -1,6 +1,7 @@
 -- Walks over documents in a row.
-use Rattle.std.proofs.Common.{◌≡◌, ℕ, ◌+◌, ◌<◌, ◌≤◌, List, [], ◌∷◌, ◌++◌, Ok, Err, IsErrAnd, Result}
-use Rattle.std.proofs.Common.{false, length, get_or, refl, sym, ap, ◌∙◌, subst, arith, length-append}
+use Rattle.std.proofs.Common.{◌≡◌, ℕ, ◌+◌, ◌<◌, ◌≤◌, List, [], ◌∷◌, ◌++◌, Ok, Err, IsErrAnd}
+use Rattle.std.proofs.Common.{Result, false, length, get_or, refl, sym, ap, ◌∙◌, subst, arith}
+use Rattle.std.proofs.Common.{length-append}
 use Rattle.std.specs.List.{AllZip}
 use Rattle.std.proofs.lemmas.List.{append-nil, get_or-map, length-map}
 use Rattle.std.proofs.lemmas.List.Concat.{flat_map-append}
@@ -31,8 +32,8 @@ use Rattle.agg_composite.specs.Choices.{AreChoicesIn}
 use Rattle.agg_composite.specs.Walk.{parts, walked}
 use Rattle.agg_composite.specs.declared.walk.choice.Choice.{Choice}
 use Rattle.agg_composite.specs.Visits.{StandsForVisit, TypedVisit, visits_past}
-use Rattle.agg_composite.proofs.Appending.{Appends}
 use Rattle.agg_composite.proofs.Pairs.{AllZip-append, AllZip-map}
+use Rattle.agg_composite.proofs.PartsInRow.{Appends}
 use Rattle.agg_composite.proofs.TuplesInRow.{tuples_compose}
 use Rattle.agg_composite.proofs.VisitsInRow.{AreVisits, Returned, SoFar, all-visited, error-visited}
 use Rattle.agg_composite.proofs.VisitsInRow.{nothing-visited, one-visited}
@@ -104,7 +105,8 @@ module _ (req : CompositeAggReqData) where
       parent = q.parent ∙ p.parent;
     };
     more = λ ys zs s p.
-        visits_compose.more (length ys) (length (ys ++ zs)) s (omega (arith, length-append ys zs)) p;
+        visits_compose.more (length ys) (length (ys ++ zs)) s
+        (omega (arith, length-append ys zs)) p;
     after = λ ys zs s t p q.
         let long = AllZip-long (StandsForVisit req) p.visits ys p.stand in
         subst (λ n. TooManyVisits encoded_tuple_order n s)
@@ -191,7 +193,8 @@ module _ (req : CompositeAggReqData) (docs : List ℕ) where
           → AnswersDocuments req (get_or docs i d ∷ []) now then steps_now steps_then result
           → Answers TooMany
           (TakesVisits req
-          (visits_past req.req.now.sources segment after old.parent (get_or docs i d ∷ [])) now then)
+          (visits_past req.req.now.sources segment after old.parent (get_or docs i d ∷ []))
+          now then)
           (AreTooMany
           (visits_past req.req.now.sources segment after old.parent (get_or docs i d ∷ [])) now)
           (length

@@ -13,7 +13,8 @@ use Rattle.agg_values.specs.declared.after_key.AfterKey.{AfterKey}
 use Rattle.agg_values.proofs.KeyOrder.{key_order-total}
 use Rattle.agg_request_tree.specs.Occurrences.{bound_of, is_past}
 use Rattle.agg_request_tree.specs.Source.{Sources, missing_order_of, order_of, rules_of}
-use Rattle.agg_request_tree.specs.declared.source.CompositeAggregationSource.{CompositeAggregationSource}
+use Rattle.agg_request_tree.specs.declared.source.CompositeAggregationSource as kind
+use kind.{CompositeAggregationSource}
 use Rattle.agg_request_tree.specs.Source.{after_of}
 use Rattle.agg_accessor.specs.Accessors.{side_to}
 use Rattle.agg_composite.proofs.Product.{sides_past}
@@ -38,7 +39,8 @@ shift : (a b : ℕ) → nat_lt (suc a) (suc b) ≡ nat_lt a b
 shift a b = grind (arith, nat_tests)
 
 first-side : (source : CompositeAggregationSource) (rules : SourceRules)
-    (o : Option CompositeIntermediateKey) (bound : KeyTuple) (k : CompositeIntermediateKey) (keys : KeyTuple) (sides : List Ordering)
+    (o : Option CompositeIntermediateKey) (bound : KeyTuple) (k : CompositeIntermediateKey)
+    (keys : KeyTuple) (sides : List Ordering)
     → is_past rules bound keys ≡ sides_past sides
     → is_past ((order_of source, missing_order_of source) ∷ rules)
     (option_map_or (λ x. x ∷ bound) o []) (k ∷ keys)

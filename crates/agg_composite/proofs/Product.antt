@@ -11,7 +11,7 @@ use Rattle.std.specs.Option.{option_map_or}
 use Rattle.agg_composite.specs.Walk.{next_standing, walked}
 use Rattle.agg_accessor.specs.declared.encoded.Encoded.{Encoded}
 use Rattle.agg_composite.specs.declared.walk.choice.Choice.{Choice}
-use Rattle.agg_composite.proofs.Walking.{walked_with}
+use Rattle.agg_composite.proofs.WalkSteps.{walked_with}
 
 -- ---- the product of choices
 

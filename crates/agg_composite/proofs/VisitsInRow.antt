@@ -7,8 +7,8 @@ use Rattle.std.proofs.lemmas.Result.{err_from_is_err_and}
 use Rattle.agg_buckets.specs.declared.visit_error.VisitError.{VisitError}
 use Rattle.agg_buckets.specs.declared.visit_error.VisitError.TheVariants.{TooMany}
 use Rattle.agg_composite.specs.Answers.{Answers}
-use Rattle.agg_composite.proofs.Appending.{Appends, gives-more, gives-all, length-more}
-use Rattle.agg_composite.proofs.Appending.{length-front}
+use Rattle.agg_composite.proofs.PartsInRow.{Appends, gives-more, gives-all, length-more}
+use Rattle.agg_composite.proofs.PartsInRow.{length-front}
 
 -- what call results are
 abbrev pub Returned : Type 0

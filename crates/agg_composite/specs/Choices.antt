@@ -10,7 +10,8 @@ use Rattle.agg_values.specs.declared.order.Order.TheVariants.{Asc, Desc}
 use Rattle.agg_request_tree.specs.Faults.{HasInterval}
 use Rattle.agg_request_tree.specs.Ranges.{IsInRange}
 use Rattle.agg_request_tree.specs.Source.{Sources, missing_bucket_of, or_missing, order_of}
-use Rattle.agg_request_tree.specs.declared.source.CompositeAggregationSource.{CompositeAggregationSource}
+use Rattle.agg_request_tree.specs.declared.source.CompositeAggregationSource as kind
+use kind.{CompositeAggregationSource}
 use Rattle.agg_accessor.specs.Accessors.{IsAccessorOf, keys_in_columns, keys_read, side_at}
 use Rattle.agg_accessor.specs.Encoding.{IsItemOf, encoded_at, encoded_null}
 use Rattle.agg_accessor.specs.Lanes.{lane_of}

@@ -17,8 +17,8 @@ use Rattle.agg_buckets.specs.Visits.{Visit, visits_at}
 abbrev pub TypedVisit : Type 0
 TypedVisit = Visit KeyTuple
 
--- the occurrences of documents that lie past the bound, each visited under a parent, with the number
--- of its document
+-- the occurrences of documents that lie past the bound, each visited under a parent, with the
+-- number of its document
 abbrev pub visits_past : Sources → Stored → Named AfterKey → ℕ → List ℕ → List TypedVisit
 visits_past sources segment after parent docs =
     flat_map
@@ -26,7 +26,8 @@ visits_past sources segment after parent docs =
     (past_occurrences sources (bound_of sources after) (documents_at segment (doc ∷ []))))
     docs
 
--- a visit of an encoded tuple stands for one of a tuple: under the same parent, of the same document
+-- a visit of an encoded tuple stands for one of a tuple: under the same parent, of the same
+-- document
 abbrev pub StandsForVisit : CompositeAggReqData → Visit EncodedTuple → TypedVisit → Type 0
 StandsForVisit req visit typed =
     (visit.0.0 ≡ typed.0.0) × StandsForTuple req visit.0.1 typed.0.1 × (visit.1 ≡ typed.1)

@@ -1,6 +1,6 @@
 //! The collector that groups the documents of a segment.
-ghost use Rattle.std.specs.Prelude.{◌≡◌, ◌≤◌, ◌<◌, ◌+◌, ◌++◌, ◌^◌, ◌↔◌, [], ◌∷◌, ℕ, List, All};
-ghost use Rattle.std.specs.Prelude.{IfOk, IsErrOf, IsTrue, OnErr, OnOk, false, length, map, take, true};
+ghost use Rattle.std.specs.Prelude.{◌≡◌, ◌≤◌, ◌<◌, ◌+◌, ◌++◌, ◌^◌, ◌↔◌, [], ℕ, List, All, map};
+ghost use Rattle.std.specs.Prelude.{IfOk, IsErrOf, IsTrue, OnErr, OnOk, false, length, take, true};
 ghost use Rattle.agg_values.specs.Names.{Named};
 ghost use Rattle.agg_values.specs.declared.after_key.AfterKey.{AfterKey};
 ghost use Rattle.agg_cache.specs.Waiting.{docs_of, is_id};
@@ -57,8 +57,8 @@ impl<C: SubAggCache> SegmentCompositeCollector<C> {
     ghost use Rattle.agg_composite.specs.Composite.{AnswersCollect, CompositeFor, CompositeGives};
     ghost use Rattle.agg_composite.specs.Composite.{CompositeTakes, docs_under, page_of};
 
-    /// A collector for a composite of so many sources, which has visited nothing. It hands documents
-    /// on.
+    /// A collector for a composite of so many sources, which has visited nothing. It hands
+    /// documents on.
     pub fn new(
         alloc: Global,
         num_sources: usize,
@@ -69,7 +69,8 @@ impl<C: SubAggCache> SegmentCompositeCollector<C> {
             → CompositeFor C.waiting req collector [] []) }
         ensures parents { IfOk result (λ collector. length collector.node.parents ≡ 1) }
         ensures room { IfOk result (λ collector. num_sources ≤ collector.room) }
-        ensures waiting { IfOk result (λ collector. (id : ℕ) → C.waiting collector.cache.0 id ≡ []) }
+        ensures waiting { IfOk result (λ collector. (id : ℕ)
+            → C.waiting collector.cache.0 id ≡ []) }
         ensures hands_on { IfOk result (λ collector. collector.hands_on ≡ true) }
     {
         Ok(SegmentCompositeCollector {
@@ -91,7 +92,8 @@ impl<C: SubAggCache> SegmentCompositeCollector<C> {
             → CompositeFor C.waiting req collector [] []) }
         ensures parents { IfOk result (λ collector. length collector.node.parents ≡ 1) }
         ensures room { IfOk result (λ collector. num_sources ≤ collector.room) }
-        ensures waiting { IfOk result (λ collector. (id : ℕ) → C.waiting collector.cache.0 id ≡ []) }
+        ensures waiting { IfOk result (λ collector. (id : ℕ)
+            → C.waiting collector.cache.0 id ≡ []) }
         ensures hands_on { IfOk result (λ collector. collector.hands_on ≡ false) }
     {
         Ok(SegmentCompositeCollector {

@@ -39,7 +39,8 @@ fn entry(
     bucket: &Bucket,
 ) -> Result<PageEntry, OutOfMemory>
     requires { IsEncoded req.now encoded.now }
-    ensures { IfOk result (λ entry. entry_bucket entry ≡ (decoded req.now encoded.now, bucket.now)) }
+    ensures { IfOk result (λ entry.
+        entry_bucket entry ≡ (decoded req.now encoded.now, bucket.now)) }
 {
     Ok(PageEntry {
         key: decode_tuple(alloc, req, encoded)?,

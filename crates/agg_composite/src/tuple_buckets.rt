@@ -1,5 +1,5 @@
 //! The buckets of each parent, by tuples of as many keys as a composite has sources.
-ghost use Rattle.std.specs.Prelude.{◌≡◌, ◌≤◌, ◌<◌, [], ◌∷◌, All, IfOk, OnOk, get_or, length, map};
+ghost use Rattle.std.specs.Prelude.{◌≡◌, ◌≤◌, ◌<◌, [], All, IfOk, OnOk, get_or, length, map};
 ghost use Rattle.std.specs.Map.{keys_of};
 ghost use Rattle.agg_request_tree.specs.Faults.{max_sources};
 ghost use Rattle.agg_accessor.specs.Decoded.{IsEncoded};

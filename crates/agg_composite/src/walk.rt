@@ -67,7 +67,8 @@ fn visit_document<const N: usize, L: Ledger>(
 }
 
 // What a walk has left of a document: the choices of the sources that are left, end to end, how
-// many each has, and whether the keys so far are above the bound already; else they are equal to it.
+// many each has, and whether the keys so far are above the bound already; else they are equal to
+// it.
 #[derive(Clone, Copy)]
 struct Rest<'a> {
     choices: &'a [Choice],

@@ -1,7 +1,6 @@
 //! What a source divides its values by, or why that is refused.
 ghost use Rattle.std.specs.Prelude.{IfErr, IfOk, OnOk};
 ghost use Rattle.agg_request_tree.specs.Faults.{HasInterval, IsIntervalFault};
-ghost use Rattle.agg_request_tree.specs.declared.source.CompositeAggregationSource.TheVariants as kind;
 ghost use Rattle.agg_accessor.specs.Accessors.{IsIntervalOf, OrNoMemory};
 
 use agg_calendar::PrecomputedDateInterval;
@@ -35,9 +34,10 @@ fn chosen_interval(
     alloc: Global,
     source: &DateHistogramCompositeAggregationSource,
 ) -> Result<PrecomputedDateInterval, RequestError>
-    ensures ok { IfOk result (IsIntervalOf (kind.DateHistogram source.now)) }
+    ensures ok { IfOk result (IsIntervalOf (CompositeAggregationSource.DateHistogram source.now)) }
     ensures err { IfErr result (λ error.
-        OrNoMemory error (IsIntervalFault (kind.DateHistogram source.now) error)) }
+        OrNoMemory error
+        (IsIntervalFault (CompositeAggregationSource.DateHistogram source.now) error)) }
 {
     PrecomputedDateInterval::from_date_histogram_source_intervals(
         alloc,

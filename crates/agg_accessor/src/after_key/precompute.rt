@@ -1,5 +1,5 @@
 //! After keys on the numbers of columns of their own class, and Null on those of any column.
-ghost use Rattle.std.specs.Prelude.{◌≡◌, ◌<◌, ◌^◌, ℕ};
+ghost use Rattle.std.specs.Prelude.{◌≡◌, ℕ};
 ghost use Rattle.agg_values.specs.KeyOrder.{key_order};
 ghost use Rattle.agg_column.specs.Columns.{StandsForKey, encoded_key};
 ghost use Rattle.agg_column.specs.declared.keys.ColumnKeys.{ColumnKeys};

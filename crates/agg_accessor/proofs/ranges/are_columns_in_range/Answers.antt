@@ -1,5 +1,6 @@
 use Rattle.std.proofs.Common.{get_or, refl, sym, subst}
-use Rattle.agg_request_tree.specs.declared.source.CompositeAggregationSource.{CompositeAggregationSource}
+use Rattle.agg_request_tree.specs.declared.source.CompositeAggregationSource as kind
+use kind.{CompositeAggregationSource}
 use Rattle.agg_accessor.specs.Ranges.{IsDocumentWithin}
 use Rattle.agg_accessor.specs.Starts.{divisor_of}
 use Rattle.agg_accessor.proofs.ranges.are_columns_in_range.Goals as goal

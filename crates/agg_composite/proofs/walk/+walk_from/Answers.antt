@@ -6,10 +6,9 @@ use Rattle.agg_composite.specs.Answers.{AnswersEncoded}
 use Rattle.agg_composite.specs.Walk.{parts, walked}
 use Rattle.agg_composite.specs.declared.walk.choice.Choice.{Choice}
 use Rattle.agg_composite.proofs.TuplesInRow.{TooMany, Visited, encoded-visits}
-use Rattle.agg_composite.proofs.VisitsInRow.{error-visited, none-visited, one-visited}
-use Rattle.agg_composite.proofs.VisitsInRow.{same-so_far}
-use Rattle.agg_composite.proofs.Walking.{choices-append, rows-split, taken-away, walked-after}
-use Rattle.agg_composite.proofs.Walking.{walked-below}
+use Rattle.agg_composite.proofs.VisitsInRow.{error-visited, none-visited, one-visited, same-so_far}
+use Rattle.agg_composite.proofs.WalkSteps.{choices-append, rows-split, taken-away, walked-after}
+use Rattle.agg_composite.proofs.WalkSteps.{walked-below}
 use Rattle.agg_composite.proofs.walk.+walk_from.Goals as goal
 use Rattle.agg_composite.proofs.walk.+walk_from.Goals.{in-Some-standing_with+in_ok-walk_from}
 use Rattle.agg_composite.proofs.walk.+walk_from.Goals.{in_default-standing_with}

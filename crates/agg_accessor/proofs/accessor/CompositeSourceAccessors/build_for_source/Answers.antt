@@ -1,7 +1,7 @@
 use Rattle.std.proofs.Common.{sym, subst}
 use Rattle.std.specs.Prelude.{option_map}
 use Rattle.agg_accessor.specs.Accessors.{AreAccessorsOf}
-use Rattle.agg_accessor.proofs.Accessors.{field_accessors}
+use Rattle.agg_accessor.proofs.AccessorColumns.{field_accessors}
 use Rattle.agg_accessor.proofs.accessor.CompositeSourceAccessors.build_for_source.Goals as goal
 
 pub returns-in-Some-clause-ok : goal.returns-in-Some-clause-ok

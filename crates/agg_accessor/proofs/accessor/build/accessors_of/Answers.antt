@@ -1,5 +1,5 @@
 use Rattle.std.proofs.Common.{◌∙◌, sym}
-use Rattle.agg_accessor.proofs.Accessors.{read_more}
+use Rattle.agg_accessor.proofs.AccessorColumns.{read_more}
 use Rattle.agg_accessor.proofs.accessor.build.accessors_of.Goals as goal
 
 pub loop-column-preserved : goal.loop-column-preserved

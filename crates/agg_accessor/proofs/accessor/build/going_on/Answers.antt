@@ -5,7 +5,7 @@ use Rattle.agg_request_tree.specs.Source.{order_of}
 use Rattle.agg_accessor.specs.Accessors.{accessors_before, side_to}
 use Rattle.agg_accessor.specs.AfterKey.{projected_side}
 use Rattle.agg_accessor.specs.Lanes.{keys_at, lane_of, lanes}
-use Rattle.agg_accessor.proofs.Accessors.{after_accessors, null_by_class}
+use Rattle.agg_accessor.proofs.AfterAccessors.{after_accessors, null_by_class}
 use Rattle.agg_accessor.proofs.accessor.build.going_on.Goals as goal
 
 pub returns : goal.returns

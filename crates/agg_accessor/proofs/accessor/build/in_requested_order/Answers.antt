@@ -1,7 +1,7 @@
 use Rattle.std.proofs.Common.{◌∙◌, sym}
 use Rattle.agg_values.specs.declared.order.Order.TheVariants.{Desc}
 use Rattle.agg_accessor.specs.Lanes.{columns_of, in_requested}
-use Rattle.agg_accessor.proofs.Accessors.{columns-reversed}
+use Rattle.agg_accessor.proofs.AccessorColumns.{columns-reversed}
 use Rattle.agg_accessor.proofs.accessor.build.in_requested_order.Goals as goal
 
 pub returns-in-Desc-clause-columns : goal.returns-in-Desc-clause-columns

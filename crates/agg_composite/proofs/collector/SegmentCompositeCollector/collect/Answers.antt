@@ -1,6 +1,7 @@
 use Rattle.std.proofs.Common.{length, refl}
 use Rattle.agg_composite.specs.Visits.{visits_past}
-use Rattle.agg_composite.proofs.Collected.{collected-all, collected-error, holds, many-visits}
+use Rattle.agg_composite.proofs.CollectorAnswers.{collected-all, collected-error, holds}
+use Rattle.agg_composite.proofs.CollectorAnswers.{many-visits}
 use Rattle.agg_composite.proofs.collector.SegmentCompositeCollector.collect.Goals as goal
 
 pub returns-in_err-visit-clause-visits : goal.returns-in_err-visit-clause-visits

@@ -7,7 +7,7 @@ use Rattle.agg_accessor.specs.Encoding.{encoded_tuple_order}
 use Rattle.agg_buckets.specs.Node.{TooManyVisits}
 use Rattle.agg_buckets.specs.declared.visit_error.VisitError.TheVariants.{OutOfMemory}
 use Rattle.agg_composite.specs.TupleBuckets.{node_of}
-use Rattle.agg_composite.proofs.Collected.{collector-takes, walked-begun}
+use Rattle.agg_composite.proofs.CollectorAnswers.{collector-takes, walked-begun}
 use Rattle.agg_composite.proofs.VisitsInRow.{passed-on}
 use Rattle.agg_composite.proofs.collector.SegmentCompositeCollector.visit.Goals as goal
 

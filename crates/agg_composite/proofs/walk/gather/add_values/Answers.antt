@@ -1,7 +1,7 @@
 use Rattle.std.proofs.Common.{rules, ℕ, ◌<◌, ◌^◌, get_or}
 use Rattle.agg_composite.specs.Choices.{divided_choices}
 use Rattle.agg_accessor.specs.Lanes.{columns_of, in_requested}
-use Rattle.agg_composite.proofs.Choosing.{turn-chosen, turn-read}
+use Rattle.agg_composite.proofs.AccessorTurns.{turn-chosen, turn-read}
 use Rattle.agg_composite.proofs.walk.gather.add_values.Goals as goal
 
 pub loop-turn-preserved : goal.loop-turn-preserved

@@ -1,5 +1,5 @@
 use Rattle.std.proofs.Common.{◌-◌, ◌∙◌, sym, arith}
-use Rattle.agg_composite.proofs.Choosing.{gathered-more}
+use Rattle.agg_composite.proofs.SourceChoices.{gathered-more}
 use Rattle.agg_composite.proofs.walk.gather.Gathered.gather.Goals as goal
 
 pub loop-index-preserved : goal.loop-index-preserved

@@ -1,7 +1,7 @@
 -- What a collector answers, of what its walk answered.
 use Rattle.std.proofs.Common.{◌≡◌, ℕ, ◌+◌, ◌≤◌, List, [], ◌++◌, Bool, true, false, Ok, Err, Result}
-use Rattle.std.proofs.Common.{IsErrAnd, MatchBool, Option, None, Some, length, get_or, refl, sym, ap}
-use Rattle.std.proofs.Common.{◌∙◌, ◌⊎◌, ◌^◌, subst, ⊎_elim, append-nil, append_assoc, arith}
+use Rattle.std.proofs.Common.{IsErrAnd, MatchBool, Option, None, Some, length, get_or, refl, sym}
+use Rattle.std.proofs.Common.{ap, ◌∙◌, ◌⊎◌, ◌^◌, subst, ⊎_elim, append-nil, append_assoc, arith}
 use Rattle.std.proofs.lemmas.List.{append_cancel_left}
 use Rattle.std.proofs.lemmas.Result.{err_from_is_err_and}
 use Rattle.std.proofs.lemmas.Slice.Zip.{AllZip-long}
@@ -16,8 +16,8 @@ use Rattle.agg_accessor.specs.Encoding.{EncodedTuple, encoded_tuple_order}
 use Rattle.agg_accessor.specs.Ranges.{AreAllInRange}
 use Rattle.agg_accessor.specs.declared.request_data.CompositeAggReqData.{CompositeAggReqData}
 use Rattle.agg_accessor.proofs.EncodedOrder.{tuple-exact, tuple_order-total}
-use Rattle.agg_buckets.specs.Node.{BucketsFor, IsGrown, IsPast, IsRightFor, Node, NodeFor, NodeTakes}
-use Rattle.agg_buckets.specs.Node.{Right, TooManyVisits, found}
+use Rattle.agg_buckets.specs.Node.{BucketsFor, IsGrown, IsPast, IsRightFor, Node, NodeFor}
+use Rattle.agg_buckets.specs.Node.{NodeTakes, Right, TooManyVisits, found}
 use Rattle.agg_buckets.specs.Refusals.{refused}
 use Rattle.agg_buckets.specs.Visits.{Owner, Visit, is_owner}
 use Rattle.agg_buckets.specs.declared.bucket.Bucket.{Bucket}

@@ -8,7 +8,7 @@ use Rattle.agg_accessor.specs.Encoding.{EncodedTuple}
 use Rattle.agg_accessor.specs.declared.encoded.Encoded.{Encoded}
 use Rattle.agg_composite.specs.Walk.{next_standing, parts, walked}
 use Rattle.agg_composite.specs.declared.walk.choice.Choice.{Choice}
-use Rattle.agg_composite.proofs.Appending.{Appends}
+use Rattle.agg_composite.proofs.PartsInRow.{Appends}
 
 -- what is visited after one choice
 abbrev pub walked_with : List (List Choice) → EncodedTuple → Bool → Choice → List EncodedTuple
