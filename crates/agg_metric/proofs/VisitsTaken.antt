@@ -12,7 +12,7 @@ use Rattle.agg_column.specs.Columns.{all_keys}
 use Rattle.agg_segment.specs.Segment.{Stored, document_at, documents_at}
 use Rattle.agg_request_tree.specs.Metrics.{values_of_field}
 use Rattle.agg_request_tree.proofs.Metrics.{values-append}
-use Rattle.agg_intermediate_results.specs.declared.metric.IntermediateMetricResult as intermediate
+use Rattle.agg_metric_results.specs.declared.metric.IntermediateMetricResult as intermediate
 use intermediate.{IntermediateMetricResult}
 use Rattle.agg_metric.specs.Collector.{Metric, MetricFor, MetricTakes, values_under}
 use Rattle.agg_metric.specs.Metric.{IsTooMany, TakesIn, TooManyWith, metric_of}

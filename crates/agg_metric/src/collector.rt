@@ -1,5 +1,5 @@
 //! The collector that computes a metric of a field in a segment.
-ghost use Rattle.std.specs.Prelude.{◌≡◌, ◌≤◌, ◌<◌, ℕ, List, [], ◌++◌, IfErr, IsErrOf, OnOk};
+ghost use Rattle.std.specs.Prelude.{◌≡◌, ◌<◌, ℕ, List, [], ◌++◌, IfErr, IsErrOf, OnOk};
 ghost use Rattle.std.specs.Prelude.{length};
 ghost use Rattle.agg_cache.specs.Waiting.{under};
 ghost use Rattle.agg_cache.specs.declared.error.CollectError.{CollectError};
@@ -9,7 +9,7 @@ ghost use Rattle.agg_metric.specs.declared.request_data.MetricAggReqData as decl
 use crate::metric::{metric_of_none, take_documents};
 use crate::{MetricAggReqData, StatsType};
 use agg_cache::{BucketId, CollectError};
-use agg_intermediate_results::IntermediateMetricResult;
+use agg_metric_results::IntermediateMetricResult;
 use agg_segment::{Column, SegmentReader};
 use agg_values::DocId;
 use std::alloc::Global;

@@ -9,7 +9,7 @@ ghost use Rattle.agg_metric.specs.Metric.{TakesIn, TooManyWith, metric_of};
 
 use crate::StatsType;
 use agg_column::FROM_ZERO;
-use agg_intermediate_results::{
+use agg_metric_results::{
     IntermediateCount, IntermediateMax, IntermediateMetricResult, IntermediateMin, IntermediateSum,
     greatest, least,
 };

@@ -1,6 +1,6 @@
 //! A segment of documents with values of all classes, and metrics of its fields.
-use agg_intermediate_results::IntermediateMetricResult;
 use agg_metric::{MetricAggReqData, SegmentMetricCollector, StatsType};
+use agg_metric_results::IntermediateMetricResult;
 use agg_segment::SegmentReader;
 use agg_segment_tests::given::{Given, segment_of};
 use agg_values::Text;
