@@ -5,9 +5,12 @@ pub mod Contexts
 pub mod Keeps
 pub mod Levels
 pub mod Listed
+pub mod NodeLists
 pub mod Nodes
 pub mod Own
+pub mod PagedChecks
 pub mod Pages
+pub mod Parts
 pub mod Queries
 pub mod Stays
 pub mod Trees

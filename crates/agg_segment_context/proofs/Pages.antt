@@ -1,6 +1,6 @@
 -- Requests with the page that is set.
-use Rattle.std.proofs.Common.{◌≡◌, ℕ, List, [], ◌∷◌, Bool, true, false, cond, Option, None, Some}
-use Rattle.std.proofs.Common.{ap, nat_eq, option_map, refl, sym, subst, ◌∙◌}
+use Rattle.std.proofs.Common.{◌≡◌, ℕ, List, [], ◌∷◌, ◌++◌, Bool, true, false, cond, Option, None}
+use Rattle.std.proofs.Common.{Some, ap, nat_eq, option_map, refl, sym, subst, ◌∙◌}
 use Rattle.std.specs.Borrow.{Bor}
 use Rattle.std.specs.BTreeMap.{is_at}
 use Rattle.std.specs.List.{All}
@@ -10,13 +10,15 @@ use Rattle.agg_values.specs.declared.after_key.AfterKey.{AfterKey}
 use Rattle.agg_request_tree.specs.Faults.{IsSound, IsSoundSource}
 use Rattle.agg_request_tree.specs.Source.{Sources, after_of}
 use Rattle.agg_request_tree.specs.Request.{Request, agg_of, aggregation_of, below_of}
+use Rattle.agg_request_tree.specs.Request.{composites_in, composites_of, own_composite}
 use Rattle.agg_request_tree.specs.declared.aggregation.Aggregation.{Aggregation}
 use Rattle.agg_request_tree.specs.declared.aggregation.AggregationVariants as variants
 use variants.{AggregationVariants}
 use variants.TheVariants.{Filter, Composite, Count, Max, Min, Sum}
 use Rattle.agg_request_tree.specs.declared.aggregation.CompositeAggregation.{CompositeAggregation}
 use Rattle.agg_request_tree.proofs.Faults.{IsSound-sources}
-use Rattle.agg_request_tree.proofs.RequestTrees.{agg-made, below-made, made-of_parts}
+use Rattle.agg_request_tree.proofs.RequestTrees.{agg-made, below-made, composites-out}
+use Rattle.agg_request_tree.proofs.RequestTrees.{made-of_parts}
 use Rattle.agg_segment_context.specs.Additions.{paged_agg, paged_composite, paged_each, paged_in}
 use Rattle.agg_segment_context.specs.Pages.{changed, paged, with_after, with_size}
 use Rattle.agg_segment_context.specs.declared.params.Page.{Page}
@@ -68,6 +70,18 @@ sources-paged (Some page) name composite = by (is_at (name_cmp page.name) name)
     by true = refl
     by false = refl
 
+-- the composite with the page's parts, or with its own
+pub with-parts : (o : Option Page) (name : List ℕ) (composite : CompositeAggregation) (size : ℕ)
+    (after : Named AfterKey) → size ≡ (paged_composite o name composite).size
+    → after ≡ (paged_composite o name composite).after
+    → record composite { size = size; after = after } ≡ paged_composite o name composite
+with-parts o name composite size after room begins =
+    λ i. record {
+      sources = sym (sources-paged o name composite) i;
+      size = room i;
+      after = begins i;
+    }
+
 -- each source of a sound composite is sound for the page's after key
 pub sound-sources : (o : Option Page) (name : List ℕ) (composite : CompositeAggregation)
     (sources : Sources) (after : Named AfterKey) → sources ≡ composite.sources
@@ -92,6 +106,14 @@ module _ {B : Type 0} where
   pub below-paged : (page : Option Page) (name : List ℕ) (a : Aggregation B)
       → below_of (paged_in page name a) ≡ below_of a
   below-paged page name a = below-made (paged_agg page name (agg_of a)) (below_of a)
+
+  -- its composites are its own, with the page, and those below it
+  pub composites-paged : (page : Option Page) (name : List ℕ) (a : Aggregation B)
+      → composites_in (paged_in page name a)
+      ≡ own_composite (paged_agg page name (agg_of a)) ++ composites_of (below_of a)
+  composites-paged page name a =
+      composites-out (paged_in page name a)
+      ∙ (λ i. own_composite (agg-paged page name a i) ++ composites_of (below-paged page name a i))
 
   agg-unpaged : (name : List ℕ) (agg : AggregationVariants B) → paged_agg None name agg ≡ agg
   agg-unpaged name (Filter filter) = refl

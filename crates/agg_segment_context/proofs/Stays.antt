@@ -17,7 +17,7 @@ stays-append xs ys i x at =
     slice_get-get_or (xs ++ ys) i x (omega (arith, length-append xs ys))
     ∙ ap (λ z. Some z) (get_or-append xs ys x i within ∙ get_or_from_slice_get xs i x x at)
 
--- what is appended stands behind the others
+-- what is appended stands after the others
 pub at-end : {X : Type 0} (xs : List X) (x : X) → slice_get (xs ++ x ∷ []) (length xs) ≡ Some x
 at-end xs x =
     slice_get-get_or (xs ++ x ∷ []) (length xs) x (omega (arith, length-append xs (x ∷ [])))

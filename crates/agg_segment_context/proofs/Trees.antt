@@ -6,7 +6,7 @@ use Rattle.std.specs.Borrow.{Bor}
 use Rattle.std.specs.List.{All, Any, Contains, flat_map}
 use Rattle.std.specs.Result.{IsErrAnd}
 use Rattle.std.proofs.lemmas.List.{get_or-map, length-map, map-append, take_all, take_more}
-use Rattle.std.proofs.lemmas.List.Elements.{All-append, All-nil}
+use Rattle.std.proofs.lemmas.List.Elements.{All-append}
 use Rattle.std.proofs.lemmas.List.Concat.{flat_map-append, flat_map_single}
 use Rattle.agg_segment.specs.declared.query.QueryTree.{QueryTree}
 use Rattle.agg_request_tree.specs.Request.{Request, builders_of, own_builder, query_builder}
@@ -55,10 +55,6 @@ module _ {B : Type 0} (query_for : B → Option QueryTree) where
   pub record AreKept (queries : List (FilterQuery B)) (trees : List QueryTree) : Type 0 where
     pub kept : trees ≡ map kept_tree queries
     pub each : EachMakes queries
-
-  -- none
-  pub AreKept-none : AreKept [] []
-  AreKept-none = record { kept = refl; each = All-nil (λ (b : B). IsSome (query_for b)) }
 
   -- one more
   pub AreKept-more : (queries : List (FilterQuery B)) (i : ℕ) (query : FilterQuery B)

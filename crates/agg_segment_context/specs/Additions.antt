@@ -76,7 +76,7 @@ abbrev pub GivesFrom : {X : Type 0} → (ℕ → X) → ℕ → List X → Type 
 GivesFrom give index [] = ⊤
 GivesFrom give index (x ∷ xs) = (give index ≡ x) × GivesFrom give (index + 1) xs
 
--- the trees behind those of a context's filters are these
+-- the trees after those of a context's filters are these
 abbrev pub TreesFollow : Origin → PerRequestAggSegCtx → List QueryTree → Type 0
 TreesFollow from ctx trees =
     GivesFrom (slice_get from.trees.now) (length ctx.filter_req_data) (map Some trees)
@@ -85,7 +85,7 @@ TreesFollow from ctx trees =
 abbrev pub afters_of : List CompositeAggregation → List (Named AfterKey)
 afters_of composites = map (λ composite. composite.after) composites
 
--- data was added behind that of a context, of filters with these trees and of composites with these
+-- data was added after that of a context, of filters with these trees and of composites with these
 -- after keys, and more is so of the context now: with a meaning that gives them
 pub record AddsData (segment : Stored) (trees : List QueryTree) (afters : List (Named AfterKey))
     (IsSo : Meaning → PerRequestAggSegCtx → Type 0) (old new : PerRequestAggSegCtx) : Type 0 where

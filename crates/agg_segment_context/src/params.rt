@@ -100,7 +100,7 @@ impl AggContextParams {
     }
 
     /// The page, if one is set.
-    pub(crate) fn page(&self) -> Option<&Page>
+    pub fn page(&self) -> Option<&Page>
         ensures { option_map (λ page. page.now) result ≡ self.now.page }
     {
         self.page.as_ref()

@@ -7,3 +7,5 @@ mod builders;
 mod context;
 #[cfg(test)]
 mod given;
+#[cfg(test)]
+mod paged;

@@ -38,7 +38,8 @@ own_weights asks (w ∷ weights) (d ∷ documents) =
     w * times asks d ∷ own_weights asks weights documents
 own_weights asks _ _ = []
 
--- the lengths of some lists over documents that have these weights come behind those that are there
+-- the lengths of some lists over documents that have these weights come after those that are
+-- there
 pub record AddsLengths (lists : List Fields → List (List Fields)) (documents : List Fields)
     (weights before after : List ℕ) : Type 0 where
   pub adds : (exact : List ℕ) → length exact ≡ length documents

@@ -1,5 +1,5 @@
 //! The data of one aggregation.
-ghost use Rattle.std.specs.Prelude.{◌≡◌, ◌<◌, IfErr, IfOk, length, option_map};
+ghost use Rattle.std.specs.Prelude.{◌≡◌, ◌<◌, IfErr, IfOk, length};
 ghost use Rattle.agg_segment.specs.declared.query.QueryTree.{QueryTree as Tree};
 ghost use Rattle.agg_request_tree.specs.Faults.{IsSound};
 ghost use Rattle.agg_request_tree.specs.Request.{with_own_builder};
@@ -10,12 +10,13 @@ ghost use Rattle.agg_segment_context.specs.Trees.{own_tree};
 
 use super::accessors::accessors_for;
 use super::origin::Origin;
-use crate::{AggKind, Page, PerRequestAggSegCtx, SetupError};
+use crate::paged::page_for;
+use crate::{AggKind, PerRequestAggSegCtx, SetupError};
 use agg_accessor::CompositeAggReqData;
 use agg_filter::{DocumentQueryEvaluator, FilterAggReqData};
 use agg_metric::{MetricAggReqData, StatsType};
 use agg_request_tree::{AggregationVariants, CompositeAggregation};
-use agg_values::{AfterKey, NameMap, Text};
+use agg_values::Text;
 use std::alloc::Global;
 
 /// Adds the data of what an aggregation asks, and gives its kind and its index.
@@ -91,24 +92,6 @@ fn add_composite<'s>(
     };
     ctx.composite_req_data.push(req)?;
     Ok(index)
-}
-
-// The size and the after key of a composite: those of the page, if it is of that name, and else its
-// own.
-fn page_for<'a>(
-    page: Option<&'a Page>,
-    name: &Text,
-    composite: &'a CompositeAggregation,
-) -> (u32, &'a NameMap<AfterKey>)
-    ensures size { result.0 ≡ (paged_composite (option_map (λ p. p.now) page.entry) name.now
-        composite.now).size }
-    ensures after { result.1.now ≡ (paged_composite (option_map (λ p. p.now) page.entry) name.now
-        composite.now).after }
-{
-    match page {
-        Some(page) if page.name == *name => (page.size, &page.after),
-        _ => (composite.size, &composite.after),
-    }
 }
 
 // Adds the data of a metric, which computes this of a field.

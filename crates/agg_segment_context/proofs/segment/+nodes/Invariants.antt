@@ -1,6 +1,6 @@
 use Rattle.std.proofs.Common.{◌+◌, ◌*◌}
 use Rattle.agg_request_tree.proofs.RequestTrees.{height, levels}
-use Rattle.agg_segment_context.proofs.Nodes.{AreAddedUpTo}
+use Rattle.agg_segment_context.proofs.NodeLists.{AreAddedUpTo}
 use Rattle.agg_segment_context.proofs.segment.+nodes.Given as goal
 
 abbrev pub decreases-request_nodes : goal.decreases-request_nodes

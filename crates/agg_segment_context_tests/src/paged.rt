@@ -1,0 +1,124 @@
+//! Which requests may be asked with the page that is set, and the fault of each of the others.
+use crate::given::nested;
+use agg_request_tree::{
+    Aggregation, AggregationVariants, Aggregations, CompositeAggregation, FilterAggregation,
+};
+use agg_request_tree_tests::given::{GivenSource, Kind, composite_of, key_of, lone, request_of};
+use agg_segment::{QueryTree, Schema};
+use agg_segment_context::{AggContextParams, SetupError, check_paged};
+use agg_segment_tests::given::Given;
+use agg_values::{AfterKey, InvalidArgument, NameMap, OutOfMemory, RequestError, Text};
+use std::alloc::Global;
+use std::test::Fail;
+
+// A size, and the value of an after key, if it has one.
+type Asked = (u32, Option<Given>);
+
+const NUMBER: Option<Given> = Some(Given::Signed(1));
+
+const TEXT: Option<Given> = Some(Given::Text("1"));
+
+// What a composite named g asks by itself, the name of the page and what it asks, and the fault.
+const PAGES: &[(Asked, (&str, Asked), Option<InvalidArgument>)] = &[
+    ((0, None), ("g", (1, None)), None),
+    ((1, TEXT), ("g", (1, NUMBER)), None),
+    ((1, TEXT), ("g", (1, None)), None),
+    ((0, TEXT), ("g", (1, NUMBER)), None),
+    ((1, None), ("g", (0, None)), Some(InvalidArgument::ZeroSize)),
+    (
+        (1, NUMBER),
+        ("g", (1, TEXT)),
+        Some(InvalidArgument::AfterType),
+    ),
+    ((1, NUMBER), ("h", (0, TEXT)), None),
+    ((0, None), ("h", (1, None)), Some(InvalidArgument::ZeroSize)),
+    (
+        (1, TEXT),
+        ("h", (1, NUMBER)),
+        Some(InvalidArgument::AfterType),
+    ),
+];
+
+// The after key of a source named a with this value, if there is one.
+fn after_of(alloc: Global, value: Option<Given>) -> Result<NameMap<AfterKey>, OutOfMemory> {
+    let mut after = NameMap::new(alloc);
+    if value.is_some() {
+        let key = AfterKey::from(key_of(alloc, value)?);
+        after.insert(Text::copy_of(alloc, "a")?, key)?;
+    }
+    Ok(after)
+}
+
+// A composite over the numbers of a.
+fn numbers(alloc: Global, (size, after): Asked) -> Result<CompositeAggregation, OutOfMemory> {
+    let histogram = GivenSource::of("a", Kind::Histogram(1), false);
+    let mut composite = composite_of(alloc, &[histogram], size)?;
+    composite.after = after_of(alloc, after)?;
+    Ok(composite)
+}
+
+// What a request has for a page, or no page.
+fn params_of(
+    alloc: Global,
+    request: &Aggregations,
+    page: Option<(&str, Asked)>,
+) -> Result<AggContextParams, SetupError> {
+    let mut params = AggContextParams::new(alloc, request, &Schema::new(alloc))?;
+    if let Some((name, (size, after))) = page {
+        params.set_page(Text::copy_of(alloc, name)?, size, after_of(alloc, after)?);
+    }
+    Ok(params)
+}
+
+#[test]
+fn asks_with_the_page(rt: HostRuntime) -> Result<(), Fail> {
+    let alloc = rt.alloc();
+    for &(own, page, fault) in PAGES {
+        let request = request_of(alloc, "g", lone(alloc, numbers(alloc, own)?))?;
+        let params = params_of(alloc, &request, Some(page))?;
+        let found = check_paged(alloc, &request, &params).err();
+        assert_eq!(rt; found, fault.map(RequestError::Invalid));
+    }
+    Ok(())
+}
+
+#[test]
+fn asks_without_a_page(rt: HostRuntime) -> Result<(), Fail> {
+    let alloc = rt.alloc();
+    let request = nested(alloc)?;
+    let params = params_of(alloc, &request, None)?;
+    assert_eq!(rt; check_paged(alloc, &request, &params), Ok(()));
+    let request = request_of(alloc, "g", lone(alloc, numbers(alloc, (0, None))?))?;
+    let params = params_of(alloc, &request, None)?;
+    let found = check_paged(alloc, &request, &params).err();
+    assert_eq!(rt;
+        found,
+        Some(RequestError::Invalid(InvalidArgument::ZeroSize))
+    );
+    Ok(())
+}
+
+// A request of a filter, with a composite named g below it.
+fn below_a_filter(alloc: Global, own: Asked) -> Result<Aggregations, OutOfMemory> {
+    let filter = Aggregation {
+        agg: AggregationVariants::Filter(FilterAggregation::new_with_tree(QueryTree::All)),
+        sub_aggregation: request_of(alloc, "g", lone(alloc, numbers(alloc, own)?))?,
+    };
+    request_of(alloc, "f", filter)
+}
+
+#[test]
+fn leaves_composites_below_as_they_are(rt: HostRuntime) -> Result<(), Fail> {
+    let alloc = rt.alloc();
+    let request = below_a_filter(alloc, (0, None))?;
+    let params = params_of(alloc, &request, Some(("g", (1, None))))?;
+    let found = check_paged(alloc, &request, &params).err();
+    assert_eq!(rt;
+        found,
+        Some(RequestError::Invalid(InvalidArgument::ZeroSize))
+    );
+    let request = below_a_filter(alloc, (1, NUMBER))?;
+    let params = params_of(alloc, &request, Some(("g", (0, TEXT))))?;
+    assert_eq!(rt; check_paged(alloc, &request, &params), Ok(()));
+    Ok(())
+}
