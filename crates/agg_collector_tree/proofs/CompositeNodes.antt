@@ -14,7 +14,6 @@ use Rattle.agg_accessor.specs.declared.request_data.CompositeAggReqData.{Composi
 use Rattle.agg_composite.specs.Composite.{Composite, CompositeFor, CompositeGives}
 use Rattle.agg_segment_context.specs.Context.{IsMeant, Meaning}
 use Rattle.agg_segment_context.specs.declared.context.PerRequestAggSegCtx.{PerRequestAggSegCtx}
-use Rattle.agg_segment_context.specs.Plan.{Plans}
 use Rattle.agg_collector_tree.specs.Bound.{TakesMost}
 use Rattle.agg_collector_tree.specs.Refusals.{IsRefused}
 use Rattle.agg_collector_tree.specs.Step.{TakesAt}
@@ -22,7 +21,7 @@ use Rattle.agg_collector_tree.specs.Took.{CompositeTook}
 use Rattle.agg_collector_tree.specs.Tree.{Cache, CompositeIsFor, Fits, Held, IsFor, IsHandedTo}
 use Rattle.agg_collector_tree.specs.Tree.{Takes, visits_of, waiting_in}
 use Rattle.agg_collector_tree.proofs.CompositeCalls.{visits-append}
-use Rattle.agg_collector_tree.proofs.Levels.{handed-still, same-composite}
+use Rattle.agg_collector_tree.proofs.Levels.{handed-still, same-itself}
 
 module _ (ctx : PerRequestAggSegCtx) (pairs : List (ℕ × ℕ)) (parents : List ℕ) (all : Bool) (index
     : ℕ)
@@ -131,10 +130,9 @@ module _ (ctx : PerRequestAggSegCtx) (pairs : List (ℕ × ℕ)) (parents : List
     refl,
     record {
       takes = keeps-for h;
-      same = λ plan. same-composite plan index old now h h (λ plans x. x);
-      group = λ plans x. absurd x;
+      nodes = (refl, same-itself h);
       fits = fits-still now h h refl refl
-          (handed-still old.hands_on now.hands_on h h took-once.hands_on (λ x. x)) (λ x. x);
+          (handed-still old.hands_on now.hands_on h h took-once.hands_on (same-itself h)) (λ x. x);
       flushed = λ e. absurd (cc (few, e));
     },
   )
@@ -198,13 +196,12 @@ module _ (ctx : PerRequestAggSegCtx) (pairs : List (ℕ × ℕ)) (parents : List
       below = fits.2;
       takes = λ k then t. record {
         takes = hands-for down b gives h k then t;
-        same = λ plan. same-composite plan index old b h k t.group;
-        group = λ plans x. absurd x;
+        nodes = (refl, t.nodes);
         fits = fits-still b h k (ap (λ (x : Composite Cache). x.room) rest)
             (ap (λ (x : Composite Cache). x.hands_on) rest)
             (handed-still old.hands_on b.hands_on h k
             (ap (λ (x : Composite Cache). x.hands_on) rest ∙ took-once.hands_on)
-            (t.group Plans.none)) t.fits;
+            t.nodes) t.fits;
         flushed = λ e. (gives.emptied, t.flushed e);
       };
     },

@@ -13,14 +13,13 @@ use Rattle.agg_filter.specs.Filter.{Filter, FilterGives}
 use Rattle.agg_filter.specs.Matching.{is_matching}
 use Rattle.agg_filter.specs.declared.request_data.FilterAggReqData.{FilterAggReqData}
 use Rattle.agg_segment_context.specs.Context.{IsMeant, Meaning}
-use Rattle.agg_segment_context.specs.Plan.{Plans}
 use Rattle.agg_segment_context.specs.declared.context.PerRequestAggSegCtx.{PerRequestAggSegCtx}
 use Rattle.agg_collector_tree.specs.Bound.{TakesMost}
 use Rattle.agg_collector_tree.specs.Refusals.{IsRefused}
 use Rattle.agg_collector_tree.specs.Step.{TakesAt}
 use Rattle.agg_collector_tree.specs.Took.{FilterTook}
 use Rattle.agg_collector_tree.specs.Tree.{Cache, Fits, Held, IsFor, IsHandedTo, Takes, waiting_in}
-use Rattle.agg_collector_tree.proofs.Levels.{handed-still, same-filter}
+use Rattle.agg_collector_tree.proofs.Levels.{handed-still, same-itself}
 
 module _ (ctx : PerRequestAggSegCtx) (pairs : List (ℕ × ℕ)) (parents : List ℕ) (all : Bool) (index
     : ℕ)
@@ -69,10 +68,9 @@ module _ (ctx : PerRequestAggSegCtx) (pairs : List (ℕ × ℕ)) (parents : List
     refl,
     record {
       takes = keeps-for h;
-      same = λ plan. same-filter plan index old now h h (λ plans x. x);
-      group = λ plans x. absurd x;
+      nodes = (refl, same-itself h);
       fits = fits-still now h h
-          (handed-still old.hands_on now.hands_on h h took-once.hands_on (λ x. x)) (λ x. x);
+          (handed-still old.hands_on now.hands_on h h took-once.hands_on (same-itself h)) (λ x. x);
       flushed = λ e. absurd (cc (few, e));
     },
   )
@@ -121,12 +119,11 @@ module _ (ctx : PerRequestAggSegCtx) (pairs : List (ℕ × ℕ)) (parents : List
       below = fits.2;
       takes = λ k then t. record {
         takes = hands-for down b gives h k then t;
-        same = λ plan. same-filter plan index old b h k t.group;
-        group = λ plans x. absurd x;
+        nodes = (refl, t.nodes);
         fits = fits-still b h k
             (handed-still old.hands_on b.hands_on h k
             (ap (λ (x : Filter Cache). x.hands_on) rest ∙ took-once.hands_on)
-            (t.group Plans.none)) t.fits;
+            t.nodes) t.fits;
         flushed = λ e. (gives.emptied, t.flushed e);
       };
     },

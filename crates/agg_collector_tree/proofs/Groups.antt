@@ -3,10 +3,8 @@ use Rattle.std.proofs.Common.{◌≡◌, ◌≤◌, ◌+◌, ◌*◌, ℕ, List,
 use Rattle.std.proofs.Common.{refl, subst, arith}
 use Rattle.agg_metric.specs.Collector.{Metric, MetricTakes}
 use Rattle.agg_segment_context.specs.Context.{IsMeant, Meaning}
-use Rattle.agg_segment_context.specs.Plan.{Plan, Plans}
 use Rattle.agg_segment_context.specs.declared.context.PerRequestAggSegCtx.{PerRequestAggSegCtx}
-use Rattle.agg_collector_tree.specs.Tree.{AllFor, AreOf, Held, Helds, IsOf, Takes, helds_of}
-use Rattle.agg_collector_tree.proofs.Levels.{no-node, same-metric}
+use Rattle.agg_collector_tree.specs.Tree.{AllFor, Held, Helds, Takes, helds_of}
 
 module _ (ctx : PerRequestAggSegCtx) (pairs : List (ℕ × ℕ)) (all : Bool) where
   -- ---- metrics
@@ -21,8 +19,7 @@ module _ (ctx : PerRequestAggSegCtx) (pairs : List (ℕ × ℕ)) (all : Bool) wh
       omega arith,
       omega arith,
     );
-    same = λ plan. same-metric plan index old now;
-    group = λ plans x. absurd x;
+    nodes = refl;
     fits = λ f. f;
     flushed = λ e. tt;
   }
@@ -73,21 +70,13 @@ module _ (ctx : PerRequestAggSegCtx) (pairs : List (ℕ × ℕ)) (all : Bool) wh
         omega (arith, sum, most, most_others),
       )
 
-  several-same : (o n : Held) (os ns : Helds) (plans : Plans)
-      → ((plan : Plan) → IsOf plan o → IsOf plan n)
-      → ((plans : Plans) → AreOf plans os → AreOf plans ns)
-      → AreOf plans (Helds.more o os) → AreOf plans (Helds.more n ns)
-  several-same o n os ns Plans.none own others x = absurd x
-  several-same o n os ns (Plans.more plan plans) own others x = (own plan x.0, others plans x.1)
-
   -- trees side by side take documents
   pub group-takes : (os ns : List Held) (steps steps_now : ℕ) → AllTake os ns steps steps_now
       → Takes ctx pairs all (Held.group (helds_of os)) (Held.group (helds_of ns)) steps steps_now
   group-takes [] [] steps steps_now each = record {
     takes = λ meaning is taken visits f.
         (visits, f, omega arith, omega (arith, each), omega (arith, each));
-    same = λ plan x. absurd (no-node plan Helds.none x);
-    group = λ plans x. x;
+    nodes = tt;
     fits = λ f. f;
     flushed = λ e. tt;
   }
@@ -97,8 +86,7 @@ module _ (ctx : PerRequestAggSegCtx) (pairs : List (ℕ × ℕ)) (all : Bool) wh
       let u = group-takes os ns mid steps_now rest in
       record {
         takes = several-for o n (helds_of os) (helds_of ns) steps mid steps_now t u;
-        same = λ plan x. absurd (no-node plan (Helds.more o (helds_of os)) x);
-        group = λ plans. several-same o n (helds_of os) (helds_of ns) plans t.same u.group;
+        nodes = (t.nodes, u.nodes);
         fits = λ f. (t.fits f.0, u.fits f.1);
         flushed = λ e. (t.flushed e, u.flushed e);
       }

@@ -68,6 +68,15 @@ held-more trees i t l is =
     ∙ map-append held_of (take i trees) (get_or trees i t ∷ [])
     ∙ ap (λ n. map held_of (take i trees) ++ held_of n ∷ []) (sym is)
 
+-- those before an index, and the one that is put there
+pub held-next : (trees : List Tree) (i : ℕ) (new : Tree) → i < length trees
+    → map held_of (take (i + 1) (set trees i new)) ≡ map held_of (take i trees) ++ held_of new ∷ []
+held-next trees i new l =
+    let inside : i < length (set trees i new) = omega (arith, l, length-set trees i new) in
+    let here : new ≡ get_or (set trees i new) i new = sym (get_or-set_same trees i new new l) in
+    held-more (set trees i new) i new inside here
+    ∙ ap (λ ts. map held_of ts ++ held_of new ∷ []) (take-set trees i new)
+
 pub all-next : (ctx : PerRequestAggSegCtx) (pairs : List (ℕ × ℕ)) (all : Bool)
     (olds nows : List Tree) (i : ℕ) (node new : Tree) (steps mid steps_now : ℕ) → i < length olds
     → length nows ≡ length olds → node ≡ get_or olds i node
@@ -76,10 +85,6 @@ pub all-next : (ctx : PerRequestAggSegCtx) (pairs : List (ℕ × ℕ)) (all : Bo
     → AllTake ctx pairs all (map held_of (take (i + 1) olds))
     (map held_of (take (i + 1) (set nows i new))) steps steps_now
 all-next ctx pairs all olds nows i node new steps mid steps_now l long is each t =
-    let inside : i < length nows = omega (arith, l, long) in
-    let set_inside : i < length (set nows i new) = omega (arith, inside, length-set nows i new) in
-    let here : new ≡ get_or (set nows i new) i new = sym (get_or-set_same nows i new new inside) in
-    let before : take i (set nows i new) ≡ take i nows = take-set nows i new in
-    rw (held-more olds i node l is, held-more (set nows i new) i new set_inside here, before)
+    rw (held-more olds i node l is, held-next nows i new (omega (arith, l, long)))
     (all-more ctx pairs all (map held_of (take i olds)) (map held_of (take i nows)) (held_of node)
     (held_of new) steps mid steps_now each t)

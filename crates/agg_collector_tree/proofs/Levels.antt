@@ -15,8 +15,8 @@ use declared.{SegmentCollectorTree as Tree}
 use declared.{Composite, Filter, Metric}
 use declared.{Group, the_lemmas}
 use Rattle.agg_collector_tree.specs.Step.{depth, depths}
-use Rattle.agg_collector_tree.specs.Tree.{Cache, AllFit, Fits, Held, Helds, IsGroupOf, IsHandedTo}
-use Rattle.agg_collector_tree.specs.Tree.{IsOf}
+use Rattle.agg_collector_tree.specs.Tree.{AllFit, AreOf, Cache, Fits, HasSameNodes, HaveSameNodes}
+use Rattle.agg_collector_tree.specs.Tree.{Held, Helds, IsGroupOf, IsHandedTo, IsOf}
 use Rattle.agg_collector_tree.specs.Tree.{group_of, held_of, helds_of, nothing}
 
 -- ---- plain data
@@ -48,38 +48,61 @@ is-nothing (Held.metric index collector) x = absurd x
 is-nothing (Held.group Helds.none) x = refl
 is-nothing (Held.group (Helds.more h hs)) x = absurd x
 
--- what is handed on is handed on still
-pub handed-still : (before after : Bool) (h k : Held) → after ≡ before
-    → (IsGroupOf Plans.none h → IsGroupOf Plans.none k) → IsHandedTo before h → IsHandedTo after k
-handed-still before after h k same none (inl on) = inl (same ∙ on)
-handed-still before after h k same none (inr is) =
-    inr (is-nothing k (none (subst (IsGroupOf Plans.none) (sym is) tt)))
-
-pub same-composite : (plan : Plan) (index : ℕ) (a b : c.Composite Cache) (h k : Held)
-    → ((plans : Plans) → IsGroupOf plans h → IsGroupOf plans k)
-    → IsOf plan (Held.composite index a h) → IsOf plan (Held.composite index b k)
-same-composite (Plan.node kind.Composite i below) index a b h k same x = (x.0, same below x.1)
-same-composite (Plan.node kind.Filter i below) index a b h k same x = absurd x
-same-composite (Plan.node (kind.StatsKind computed) i below) index a b h k same x = absurd x
-
-pub same-filter : (plan : Plan) (index : ℕ) (a b : f.Filter Cache) (h k : Held)
-    → ((plans : Plans) → IsGroupOf plans h → IsGroupOf plans k)
-    → IsOf plan (Held.filter index a h) → IsOf plan (Held.filter index b k)
-same-filter (Plan.node kind.Composite i below) index a b h k same x = absurd x
-same-filter (Plan.node kind.Filter i below) index a b h k same x = (x.0, same below x.1)
-same-filter (Plan.node (kind.StatsKind computed) i below) index a b h k same x = absurd x
-
-pub same-metric : (plan : Plan) (index : ℕ) (a b : m.Metric)
-    → IsOf plan (Held.metric index a) → IsOf plan (Held.metric index b)
-same-metric (Plan.node kind.Composite i below) index a b x = absurd x
-same-metric (Plan.node kind.Filter i below) index a b x = absurd x
-same-metric (Plan.node (kind.StatsKind computed) i below) index a b x = x
-
 -- several are no node
 pub no-node : (plan : Plan) (hs : Helds) → IsOf plan (Held.group hs) → ⊥
 no-node (Plan.node kind.Composite i below) hs x = x
 no-node (Plan.node kind.Filter i below) hs x = x
 no-node (Plan.node (kind.StatsKind computed) i below) hs x = x
+
+mutual
+  -- a tree has its own nodes
+  pub same-itself : (h : Held) → HasSameNodes h h
+  same-itself (Held.composite index collector h) = (refl, same-itself h)
+  same-itself (Held.filter index collector h) = (refl, same-itself h)
+  same-itself (Held.metric index collector) = refl
+  same-itself (Held.group hs) = same-each hs
+
+  same-each : (hs : Helds) → HaveSameNodes hs hs
+  same-each Helds.none = tt
+  same-each (Helds.more h hs) = (same-itself h, same-each hs)
+
+mutual
+  -- a tree of the same nodes is that of the same node
+  pub same-plan : (plan : Plan) (h k : Held) → HasSameNodes h k → IsOf plan h → IsOf plan k
+  same-plan (Plan.node kind.Composite i below) (Held.composite j a h) (Held.composite l b k) same
+      is = (is.0 ∙ same.0, same-plans below h k same.1 is.1)
+  same-plan (Plan.node kind.Filter i below) (Held.filter j a h) (Held.filter l b k) same is =
+      (is.0 ∙ same.0, same-plans below h k same.1 is.1)
+  same-plan (Plan.node (kind.StatsKind computed) i below) (Held.metric j a) (Held.metric l b) same
+      is = is ∙ same
+  same-plan plan (Held.composite j a h) (Held.composite l b k) same is = absurd is
+  same-plan plan (Held.filter j a h) (Held.filter l b k) same is = absurd is
+  same-plan plan (Held.metric j a) (Held.metric l b) same is = absurd is
+  same-plan plan (Held.group hs) (Held.group ks) same is = absurd (no-node plan hs is)
+  same-plan plan h k same is = absurd same
+
+  -- or that of the same nodes
+  pub same-plans : (plans : Plans) (h k : Held) → HasSameNodes h k → IsGroupOf plans h
+      → IsGroupOf plans k
+  same-plans plans (Held.group hs) (Held.group ks) same is = same-all plans hs ks same is
+  same-plans plans (Held.group hs) k same is = absurd same
+  same-plans plans h k same is = absurd is
+
+  same-all : (plans : Plans) (hs ks : Helds) → HaveSameNodes hs ks → AreOf plans hs → AreOf plans ks
+  same-all Plans.none Helds.none Helds.none same is = tt
+  same-all (Plans.more plan plans) (Helds.more h hs) (Helds.more k ks) same is =
+      (same-plan plan h k same.0 is.0, same-all plans hs ks same.1 is.1)
+  same-all plans Helds.none Helds.none same is = absurd is
+  same-all plans (Helds.more h hs) (Helds.more k ks) same is = absurd is
+  same-all plans hs ks same is = absurd same
+
+-- what is handed on is handed on still
+pub handed-still : (before after : Bool) (h k : Held) → after ≡ before → HasSameNodes h k
+    → IsHandedTo before h → IsHandedTo after k
+handed-still before after h k same nodes (inl on) = inl (same ∙ on)
+handed-still before after h k same nodes (inr is) =
+    inr (is-nothing k (same-plans Plans.none h k nodes
+    (subst (IsGroupOf Plans.none) (sym is) tt)))
 
 -- ---- one of several
 

@@ -30,5 +30,6 @@ pub mod PreparedTrees
 pub mod RefusedFilters
 pub mod RefusedNodes
 pub mod SmallNumbers
+pub mod TakenParts
 pub mod UncutParts
 pub mod WithinLists

@@ -78,7 +78,8 @@ many-others name a request documents =
 
 module _ (meaning : Meaning) (ctx : PerRequestAggSegCtx) where
   mutual
-    in-more : (plan : Plan) (name : List ℕ) (a : Aggregation QueryTree)
+    -- a list that is too long is so over more documents
+    pub in-more : (plan : Plan) (name : List ℕ) (a : Aggregation QueryTree)
         → IsPlanOf meaning ctx name a plan → (xs ys : List Fields) → Lighter xs ys
         → ListsTooMany a xs → ListsTooMany a ys
     in-more (Plan.node k index below) name a of xs ys l many =
@@ -93,7 +94,7 @@ module _ (meaning : Meaning) (ctx : PerRequestAggSegCtx) where
         (uncut matches (agg_of a) ys) own lower))
         (many-open a xs many)
 
-    -- lists that are too long are so over more documents
+    -- so are those of a request
     pub of-more : (plans : Plans) (request : Request QueryTree)
         → ArePlansOf meaning ctx request plans → (xs ys : List Fields) → Lighter xs ys
         → CountsTooMany matches request xs → CountsTooMany matches request ys

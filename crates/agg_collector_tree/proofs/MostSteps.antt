@@ -33,6 +33,7 @@ use Rattle.agg_collector_tree.specs.Tree.{waiting_in}
 use Rattle.agg_collector_tree.proofs.CompositeCalls.{visits-append}
 use Rattle.agg_collector_tree.proofs.CompositeNodes.{is-for}
 use Rattle.agg_collector_tree.proofs.HandedDocuments.{composite-lighter}
+use Rattle.agg_collector_tree.proofs.Levels.{same-plan, same-plans}
 use Rattle.agg_collector_tree.proofs.MostVisits.{asked-composite, counted_in-out}
 use Rattle.agg_collector_tree.proofs.MostVisits.{in-less, most-group, most-in, none-most, of-less}
 use Rattle.agg_collector_tree.proofs.MostVisits.{own-most}
@@ -96,8 +97,8 @@ module _ (ctx : PerRequestAggSegCtx) (pairs : List (ℕ × ℕ)) where
         omega (
           arith,
           most,
-          most-in meaning ctx plan name a of new (t.same plan at) (t.fits fits) (taken ++ pairs)
-              now.0 now.1,
+          most-in meaning ctx plan name a of new (same-plan plan old new t.nodes at) (t.fits fits)
+              (taken ++ pairs) now.0 now.1,
         );
     group = λ meaning is taken visits f request plans of at.
         let now = t.takes meaning is taken visits f in
@@ -105,8 +106,8 @@ module _ (ctx : PerRequestAggSegCtx) (pairs : List (ℕ × ℕ)) where
         omega (
           arith,
           most,
-          most-group meaning ctx plans request of new (t.group plans at) (t.fits fits)
-              (taken ++ pairs) now.0 now.1,
+          most-group meaning ctx plans request of new (same-plans plans old new t.nodes at)
+              (t.fits fits) (taken ++ pairs) now.0 now.1,
         );
   }
 

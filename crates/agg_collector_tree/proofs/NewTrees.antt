@@ -131,9 +131,6 @@ module _ (ctx : PerRequestAggSegCtx) (segment : Stored) where
   for-more meaning (k ∷ hs) h visits (own, others, first, rest, sum) one =
       (own, others, first, for-more meaning hs h others rest one, sum)
 
-  pub new-none : IsNew ctx segment nothing
-  new-none = record { fits = tt; right = λ meaning same is. refl; flushed = tt }
-
   pub new-more : (hs : List Held) (h : Held) → IsNew ctx segment (Held.group (helds_of hs))
       → IsNew ctx segment h → IsNew ctx segment (Held.group (helds_of (hs ++ h ∷ [])))
   new-more hs h all one = record {

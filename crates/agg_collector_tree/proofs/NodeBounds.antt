@@ -1,5 +1,5 @@
 -- How many steps a composite's node of the code takes at most.
-use Rattle.std.proofs.Common.{◌≡◌, ◌≤◌, ℕ, List, Result, Some, get_or, sym, ap, ◌∙◌, subst}
+use Rattle.std.proofs.Common.{◌≡◌, ◌≤◌, ℕ, List, Result, Some, ap, ◌∙◌, subst}
 use Rattle.std.specs.Prelude.{slice_get}
 use Rattle.std.specs.declared.boxed.Box.{Box}
 use Rattle.std.specs.declared.alloc.Global.{Global}
@@ -16,38 +16,26 @@ use Rattle.agg_collector_tree.specs.declared.tree.SegmentCollectorTree as declar
 use declared.{SegmentCollectorTree as Tree}
 use declared.{Composite}
 use Rattle.agg_collector_tree.specs.Bound.{TakesMost}
-use Rattle.agg_collector_tree.specs.Step.{index_in}
 use Rattle.agg_collector_tree.specs.Took.{CompositeAnswers}
 use Rattle.agg_collector_tree.specs.Tree.{Cache, Fits, held_of}
 use Rattle.agg_collector_tree.proofs.Levels.{held-composite}
 use Rattle.agg_collector_tree.proofs.MostSteps.{composite-own-most}
-use Rattle.agg_collector_tree.proofs.NodeData.{composite-index, composite-read}
 
-module _ (ctx : PerRequestAggSegCtx) (pairs : List (ℕ × ℕ)) (node : Tree) (index field : ℕ)
-    (is_index : index ≡ index_in (held_of node)) (fits : Fits ctx (held_of node))
-    (meant : (meaning : Meaning) × IsMeant meaning ctx) (collector : c.Composite Cache)
-    (child : Box Tree Global) (e : node ≡ Composite field collector child)
-    (read : List CompositeAggReqData) (all : read ≡ ctx.composite_req_data)
-    (req : CompositeAggReqData) (is : req ≡ get_or read index req) (old now : c.Composite Cache)
-    (steps mid : ℕ) (result : Result (Unit {0}) CollectError)
+module _ (ctx : PerRequestAggSegCtx) (pairs : List (ℕ × ℕ)) (node : Tree) (field : ℕ)
+    (req : CompositeAggReqData) (at : slice_get ctx.composite_req_data field ≡ Some req)
+    (fits : Fits ctx (held_of node)) (meant : (meaning : Meaning) × IsMeant meaning ctx)
+    (collector : c.Composite Cache) (child : Box Tree Global)
+    (e : node ≡ Composite field collector child) (old now : c.Composite Cache) (steps mid : ℕ)
+    (result : Result (Unit {0}) CollectError)
     (answers : (segment : Stored) (after : Named AfterKey) → accessor.Fits segment after req
     → CompositeAnswers req segment after pairs old now steps mid result) where
-  -- its data stands at its index
-  at-index : slice_get ctx.composite_req_data index ≡ Some req
-  at-index = (composite-read ctx node index field is_index fits collector child e read all req is).0
-
-  -- whatever it answers, its steps are at most three for each document that is counted
-  pub node-most-composite : TakesMost ctx pairs (held_of node) steps mid
-  node-most-composite =
-      let same = composite-index ctx node index field is_index fits collector child e in
-      let at_field = ap (slice_get ctx.composite_req_data) (sym same) ∙ at-index in
-      rw (e, held-composite field collector child)
-      (composite-own-most ctx pairs field req at_field collector steps mid
-      (λ segment after f. (answers segment after f).most) (held_of child.value)
-      (subst (Fits ctx) (ap held_of e ∙ held-composite field collector child) fits))
-
-  -- and never fewer than before
-  pub node-later-composite : steps ≤ mid
-  node-later-composite =
-      (answers meant.0.segment (meant.0.after_at index)
-      (meant.1.composites index req at-index).fits).later
+  -- whatever it answers, its steps are at most three for each document that is counted, and never
+  -- fewer than before
+  pub node-bounds-composite : TakesMost ctx pairs (held_of node) steps mid × (steps ≤ mid)
+  node-bounds-composite = (
+    rw (e, held-composite field collector child)
+        (composite-own-most ctx pairs field req at collector steps mid
+        (λ segment after f. (answers segment after f).most) (held_of child.value)
+        (subst (Fits ctx) (ap held_of e ∙ held-composite field collector child) fits)),
+    (answers meant.0.segment (meant.0.after_at field) (meant.1.composites field req at).fits).later,
+  )

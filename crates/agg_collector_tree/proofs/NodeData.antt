@@ -1,5 +1,6 @@
 -- The data of a node of a tree.
-use Rattle.std.proofs.Common.{◌≡◌, ◌≤◌, ℕ, List, Some, get_or, length, refl, ap, ◌∙◌, subst}
+use Rattle.std.proofs.Common.{◌≡◌, ◌≤◌, ℕ, List, Some, get_or, length, refl, sym, ap, ◌∙◌}
+use Rattle.std.proofs.Common.{subst}
 use Rattle.std.specs.Prelude.{slice_get}
 use Rattle.std.specs.declared.boxed.Box.{Box}
 use Rattle.std.specs.declared.alloc.Global.{Global}
@@ -25,7 +26,7 @@ read-at list read i x r same at is =
 
 module _ (ctx : PerRequestAggSegCtx) (node : Tree) (index field : ℕ)
     (is_index : index ≡ index_in (held_of node)) (fits : Fits ctx (held_of node)) where
-  pub composite-index : (collector : c.Composite Cache) (child : Box Tree Global)
+  composite-index : (collector : c.Composite Cache) (child : Box Tree Global)
       → node ≡ Composite field collector child → index ≡ field
   composite-index collector child e =
       is_index ∙ ap index_in (ap held_of e ∙ held-composite field collector child)
@@ -42,7 +43,7 @@ module _ (ctx : PerRequestAggSegCtx) (node : Tree) (index field : ℕ)
         all.0.2,
       )
 
-  pub filter-index : (collector : f.Filter Cache) (child : Box Tree Global)
+  filter-index : (collector : f.Filter Cache) (child : Box Tree Global)
       → node ≡ Filter field collector child → index ≡ field
   filter-index collector child e =
       is_index ∙ ap index_in (ap held_of e ∙ held-filter field collector child)
@@ -57,22 +58,25 @@ module _ (ctx : PerRequestAggSegCtx) (node : Tree) (index field : ℕ)
         ap (slice_get ctx.filter_req_data) (filter-index collector child e) ∙ all.0.1,
       )
 
-  -- the data that is read at its index is that data
+  -- what is read at the index is the data of the node
   pub composite-read : (collector : c.Composite Cache) (child : Box Tree Global)
       → node ≡ Composite field collector child → (read : List CompositeAggReqData)
       → read ≡ ctx.composite_req_data → (r : CompositeAggReqData) → r ≡ get_or read index r
-      → (slice_get ctx.composite_req_data index ≡ Some r)
+      → (slice_get ctx.composite_req_data field ≡ Some r)
       × (length r.req.now.sources ≤ collector.room)
   composite-read collector child e read same r is =
       let d = composite-data collector child e in
       let at = read-at ctx.composite_req_data read index d.0 r same d.1 is in
-      let one : d.0 ≡ r = cc (d.1, at) in
-      (at, subst (λ (q : CompositeAggReqData). length q.req.now.sources ≤ collector.room) one d.2)
+      let one : d.0 ≡ r = cc (d.1, at) in (
+        ap (slice_get ctx.composite_req_data) (sym (composite-index collector child e)) ∙ at,
+        subst (λ (q : CompositeAggReqData). length q.req.now.sources ≤ collector.room) one d.2,
+      )
 
   pub filter-read : (collector : f.Filter Cache) (child : Box Tree Global)
       → node ≡ Filter field collector child → (read : List FilterAggReqData)
       → read ≡ ctx.filter_req_data → (r : FilterAggReqData) → r ≡ get_or read index r
-      → slice_get ctx.filter_req_data index ≡ Some r
+      → slice_get ctx.filter_req_data field ≡ Some r
   filter-read collector child e read same r is =
       let d = filter-data collector child e in
-      read-at ctx.filter_req_data read index d.0 r same d.1 is
+      ap (slice_get ctx.filter_req_data) (sym (filter-index collector child e))
+      ∙ read-at ctx.filter_req_data read index d.0 r same d.1 is

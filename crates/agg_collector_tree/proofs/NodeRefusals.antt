@@ -1,5 +1,5 @@
 -- Why nodes of the code refuse documents.
-use Rattle.std.proofs.Common.{◌≡◌, ℕ, List, Some, Err, sym, ap, ◌∙◌, subst}
+use Rattle.std.proofs.Common.{◌≡◌, ℕ, List, Some, Err, ap, ◌∙◌, subst}
 use Rattle.std.specs.Prelude.{slice_get}
 use Rattle.std.specs.declared.boxed.Box.{Box}
 use Rattle.std.specs.declared.alloc.Global.{Global}
@@ -23,51 +23,43 @@ use Rattle.agg_collector_tree.specs.declared.tree.SegmentCollectorTree as declar
 use declared.{SegmentCollectorTree as Tree}
 use declared.{Composite, Filter, Metric}
 use Rattle.agg_collector_tree.specs.Refusals.{IsRefused}
-use Rattle.agg_collector_tree.specs.Step.{index_in}
 use Rattle.agg_collector_tree.specs.Took.{CompositeAnswers, FilterAnswers, MetricAnswers}
 use Rattle.agg_collector_tree.specs.Tree.{Cache, Fits, held_of}
 use Rattle.agg_collector_tree.proofs.Levels.{held-composite, held-filter, held-metric}
-use Rattle.agg_collector_tree.proofs.NodeData.{composite-index, filter-index}
 use Rattle.agg_collector_tree.proofs.RefusedFilters.{filter-refused, metric-refused}
 use Rattle.agg_collector_tree.proofs.RefusedNodes.{composite-refused}
 
 module _ (ctx : PerRequestAggSegCtx) (pairs : List (ℕ × ℕ)) (parents : List ℕ) (node : Tree) where
-  module _ (index field : ℕ) (is_index : index ≡ index_in (held_of node))
-      (fits : Fits ctx (held_of node)) where
-    pub node-refused-composite : (req : CompositeAggReqData)
-        → slice_get ctx.composite_req_data index ≡ Some req
-        → (meaning : Meaning) × IsMeant meaning ctx → (collector : c.Composite Cache)
-        (child : Box Tree Global) → node ≡ Composite field collector child
-        → (old : c.Composite Cache) → old ≡ collector → (now : c.Composite Cache)
-        (steps mid : ℕ) (error : CollectError)
-        → ((segment : Stored) (after : Named AfterKey) → accessor.Fits segment after req
-        → CompositeAnswers req segment after pairs old now steps mid (Err error))
-        → IsRefused ctx pairs parents (held_of node) error
-    node-refused-composite req at meant collector child e old is now steps mid error answers =
-        let same = composite-index ctx node index field is_index fits collector child e in
-        let at_field = ap (slice_get ctx.composite_req_data) (sym same) ∙ at in
-        rw (e, held-composite field collector child)
-        (composite-refused ctx pairs parents field req at_field meant collector now steps mid
-        (held_of child.value) error (λ segment after f.
-        subst (λ o. CompositeAnswers req segment after pairs o now steps mid (Err error)) is
-        (answers segment after f)))
+  pub node-refused-composite : (field : ℕ) (req : CompositeAggReqData)
+      → slice_get ctx.composite_req_data field ≡ Some req
+      → (meaning : Meaning) × IsMeant meaning ctx → (collector : c.Composite Cache)
+      (child : Box Tree Global) → node ≡ Composite field collector child
+      → (old : c.Composite Cache) → old ≡ collector → (now : c.Composite Cache)
+      (steps mid : ℕ) (error : CollectError)
+      → ((segment : Stored) (after : Named AfterKey) → accessor.Fits segment after req
+      → CompositeAnswers req segment after pairs old now steps mid (Err error))
+      → IsRefused ctx pairs parents (held_of node) error
+  node-refused-composite field req at meant collector child e old is now steps mid error answers =
+      rw (e, held-composite field collector child)
+      (composite-refused ctx pairs parents field req at meant collector now steps mid
+      (held_of child.value) error (λ segment after f.
+      subst (λ o. CompositeAnswers req segment after pairs o now steps mid (Err error)) is
+      (answers segment after f)))
 
-    pub node-refused-filter : (req : FilterAggReqData)
-        → slice_get ctx.filter_req_data index ≡ Some req
-        → (meaning : Meaning) × IsMeant meaning ctx → (collector : f.Filter Cache)
-        (child : Box Tree Global) → node ≡ Filter field collector child
-        → (old : f.Filter Cache) → old ≡ collector → (now : f.Filter Cache) (error : CollectError)
-        → ((tree : QueryTree) (segment : Stored) → AreMarks (matches tree) segment req.evaluator
-        → FilterAnswers (is_matching tree segment) pairs parents old now (Err error))
-        → IsRefused ctx pairs parents (held_of node) error
-    node-refused-filter req at meant collector child e old is now error answers =
-        let same = filter-index ctx node index field is_index fits collector child e in
-        let at_field = ap (slice_get ctx.filter_req_data) (sym same) ∙ at in
-        rw (e, held-filter field collector child)
-        (filter-refused ctx pairs parents field req at_field meant collector now
-        (held_of child.value) error (λ tree segment marks.
-        subst (λ o. FilterAnswers (is_matching tree segment) pairs parents o now (Err error)) is
-        (answers tree segment marks)))
+  pub node-refused-filter : (field : ℕ) (req : FilterAggReqData)
+      → slice_get ctx.filter_req_data field ≡ Some req
+      → (meaning : Meaning) × IsMeant meaning ctx → (collector : f.Filter Cache)
+      (child : Box Tree Global) → node ≡ Filter field collector child
+      → (old : f.Filter Cache) → old ≡ collector → (now : f.Filter Cache) (error : CollectError)
+      → ((tree : QueryTree) (segment : Stored) → AreMarks (matches tree) segment req.evaluator
+      → FilterAnswers (is_matching tree segment) pairs parents old now (Err error))
+      → IsRefused ctx pairs parents (held_of node) error
+  node-refused-filter field req at meant collector child e old is now error answers =
+      rw (e, held-filter field collector child)
+      (filter-refused ctx pairs parents field req at meant collector now
+      (held_of child.value) error (λ tree segment marks.
+      subst (λ o. FilterAnswers (is_matching tree segment) pairs parents o now (Err error)) is
+      (answers tree segment marks)))
 
   pub node-refused-metric : Fits ctx (held_of node) → (field : ℕ) (collector : m.Metric)
       → node ≡ Metric field collector → (old : m.Metric) → old ≡ collector → (now : m.Metric)

@@ -1,6 +1,5 @@
 -- What nodes of the code did by themselves.
-use Rattle.std.proofs.Common.{◌≡◌, ◌<◌, ℕ, List, Bool, false, Some, None, length, sym, ap, ◌∙◌}
-use Rattle.std.proofs.Common.{subst}
+use Rattle.std.proofs.Common.{◌≡◌, ◌<◌, ℕ, List, Bool, false, Some, None, length, subst}
 use Rattle.std.specs.Prelude.{slice_get}
 use Rattle.std.specs.List.{All}
 use Rattle.std.specs.declared.boxed.Box.{Box}
@@ -36,10 +35,9 @@ use Rattle.agg_collector_tree.proofs.RefusedNodes.{composite-lower}
 
 -- ---- composites
 
-module _ (ctx : PerRequestAggSegCtx) (pairs : List (ℕ × ℕ)) (parents : List ℕ) (all : Bool) (index
-    field : ℕ)
-    (same : index ≡ field) (req : CompositeAggReqData)
-    (at : slice_get ctx.composite_req_data index ≡ Some req)
+module _ (ctx : PerRequestAggSegCtx) (pairs : List (ℕ × ℕ)) (parents : List ℕ) (all : Bool)
+    (field : ℕ) (req : CompositeAggReqData)
+    (at : slice_get ctx.composite_req_data field ≡ Some req)
     (meant : (meaning : Meaning) × IsMeant meaning ctx) (collector old : c.Composite Cache)
     (is : old ≡ collector) (now : c.Composite Cache) (steps mid : ℕ)
     (took : (segment : Stored) (after : Named AfterKey) → accessor.Fits segment after req
@@ -50,15 +48,12 @@ module _ (ctx : PerRequestAggSegCtx) (pairs : List (ℕ × ℕ)) (parents : List
       subst (λ o. CompositeTook req segment after pairs o now steps mid) is (took segment after
       fits)
 
-  at-field : slice_get ctx.composite_req_data field ≡ Some req
-  at-field = ap (slice_get ctx.composite_req_data) (sym same) ∙ at
-
   pub node-keeps-composite : all ≡ false → (child : Box Tree Global)
       → TakesAt ctx pairs parents all (held_of (Composite field collector child)) None
       (held_of (Composite field now child)) steps mid
   node-keeps-composite few child =
       rw (held-composite field collector child, held-composite field now child)
-      (composite-keeps ctx pairs parents all field req at-field meant collector now steps mid
+      (composite-keeps ctx pairs parents all field req at meant collector now steps mid
       took-field few
       (held_of child.value))
 
@@ -71,20 +66,19 @@ module _ (ctx : PerRequestAggSegCtx) (pairs : List (ℕ × ℕ)) (parents : List
   node-hands-composite down filled b gives rest child fits =
       let here = subst (Fits ctx) (held-composite field collector child) fits in
       rw (held-composite field collector child, held-composite field b child)
-      (composite-hands ctx pairs parents all field req at-field meant collector now steps mid
+      (composite-hands ctx pairs parents all field req at meant collector now steps mid
       took-field down
       b gives rest (held_of child.value) here
-      (composite-lower ctx pairs parents field req at-field meant collector now steps mid took-field
+      (composite-lower ctx pairs parents field req at meant collector now steps mid took-field
       down filled b gives rest (held_of child.value) here.1)
-      (composite-lower-most ctx pairs field req at-field meant collector now steps mid took-field
+      (composite-lower-most ctx pairs field req at meant collector now steps mid took-field
       down b gives rest (held_of child.value) here.1))
 
 -- ---- filters
 
-module _ (ctx : PerRequestAggSegCtx) (pairs : List (ℕ × ℕ)) (parents : List ℕ) (all : Bool) (index
-    field : ℕ)
-    (same : index ≡ field) (req : FilterAggReqData)
-    (at : slice_get ctx.filter_req_data index ≡ Some req)
+module _ (ctx : PerRequestAggSegCtx) (pairs : List (ℕ × ℕ)) (parents : List ℕ) (all : Bool)
+    (field : ℕ) (req : FilterAggReqData)
+    (at : slice_get ctx.filter_req_data field ≡ Some req)
     (meant : (meaning : Meaning) × IsMeant meaning ctx) (collector old : f.Filter Cache)
     (is : old ≡ collector) (now : f.Filter Cache) (steps : ℕ)
     (took : (tree : QueryTree) (segment : Stored) → AreMarks (matches tree) segment req.evaluator
@@ -95,15 +89,12 @@ module _ (ctx : PerRequestAggSegCtx) (pairs : List (ℕ × ℕ)) (parents : List
   matched-field tree segment marks =
       subst (λ o. FilterTook (is_matching tree segment) pairs o now) is (took tree segment marks)
 
-  filter-at : slice_get ctx.filter_req_data field ≡ Some req
-  filter-at = ap (slice_get ctx.filter_req_data) (sym same) ∙ at
-
   pub node-keeps-filter : all ≡ false → (child : Box Tree Global)
       → TakesAt ctx pairs parents all (held_of (Filter field collector child)) None
       (held_of (Filter field now child)) steps steps
   node-keeps-filter few child =
       rw (held-filter field collector child, held-filter field now child)
-      (filter-keeps ctx pairs parents all field req filter-at meant collector now steps
+      (filter-keeps ctx pairs parents all field req at meant collector now steps
       matched-field few
       (held_of child.value))
 
@@ -116,10 +107,10 @@ module _ (ctx : PerRequestAggSegCtx) (pairs : List (ℕ × ℕ)) (parents : List
   node-hands-filter down filled b gives rest child fits =
       let here = subst (Fits ctx) (held-filter field collector child) fits in
       rw (held-filter field collector child, held-filter field b child)
-      (filter-hands ctx pairs parents all field req filter-at meant collector now steps
+      (filter-hands ctx pairs parents all field req at meant collector now steps
       matched-field down
       b gives rest (held_of child.value) here
-      (filter-lower ctx pairs parents field req filter-at meant collector now matched-field
+      (filter-lower ctx pairs parents field req at meant collector now matched-field
       down filled b gives rest (held_of child.value) here.1)
-      (filter-lower-most ctx pairs field req filter-at collector now steps matched-field
+      (filter-lower-most ctx pairs field req at collector now steps matched-field
       down b gives rest (held_of child.value) here.1))

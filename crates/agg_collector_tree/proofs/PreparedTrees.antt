@@ -1,5 +1,6 @@
 -- Trees in which parents were prepared.
-use Rattle.std.proofs.Common.{◌≡◌, ℕ, List, [], Bool, false, append-nil, sym, ap, ◌∙◌, subst, arith}
+use Rattle.std.proofs.Common.{◌≡◌, ◌<◌, ◌+◌, ◌++◌, ℕ, List, [], ◌∷◌, Bool, false, append-nil}
+use Rattle.std.proofs.Common.{length, map, set, take, refl, sym, ap, ◌∙◌, subst, arith}
 use Rattle.std.specs.declared.boxed.Box.{Box}
 use Rattle.std.specs.declared.alloc.Global.{Global}
 use Rattle.agg_accessor.specs.declared.request_data.CompositeAggReqData.{CompositeAggReqData}
@@ -14,11 +15,12 @@ use Rattle.agg_segment_context.specs.declared.context.PerRequestAggSegCtx.{PerRe
 use Rattle.agg_collector_tree.specs.declared.tree.SegmentCollectorTree as declared
 use declared.{SegmentCollectorTree as Tree}
 use declared.{Composite, Filter, Metric}
-use Rattle.agg_collector_tree.specs.Tree.{Cache, Held, IsFor, IsHandedTo, Takes, held_of, visits_of}
-use Rattle.agg_collector_tree.specs.Tree.{waiting_in}
+use Rattle.agg_collector_tree.specs.Prepared.{ArePrepared, IsPrepared}
+use Rattle.agg_collector_tree.specs.Tree.{Cache, Held, IsFor, IsHandedTo, Takes, group_of, held_of}
+use Rattle.agg_collector_tree.specs.Tree.{helds_of, visits_of, waiting_in}
 use Rattle.agg_collector_tree.proofs.Groups.{metric-takes}
-use Rattle.agg_collector_tree.proofs.Levels.{held-composite, held-filter, held-metric}
-use Rattle.agg_collector_tree.proofs.Levels.{same-composite, same-filter}
+use Rattle.agg_collector_tree.proofs.HandedTrees.{held-next}
+use Rattle.agg_collector_tree.proofs.Levels.{held-composite, held-filter, held-metric, same-itself}
 
 module _ (ctx : PerRequestAggSegCtx) (steps field : ℕ) (child : Box Tree Global) where
   pub prepared-composite : (collector old now : c.Composite Cache) → old ≡ collector
@@ -56,9 +58,7 @@ module _ (ctx : PerRequestAggSegCtx) (steps field : ℕ) (child : Box Tree Globa
           omega arith,
           omega arith,
         );
-        same = λ plan. same-composite plan field collector now (held_of child.value)
-            (held_of child.value) (λ plans x. x);
-        group = λ plans x. absurd x;
+        nodes = (refl, same-itself (held_of child.value));
         fits = λ x. (
           (x.0.0, x.0.1, omega (arith, x.0.2, room)),
           subst (λ b. IsHandedTo b (held_of child.value)) (sym on) x.1,
@@ -94,9 +94,7 @@ module _ (ctx : PerRequestAggSegCtx) (steps field : ℕ) (child : Box Tree Globa
           omega arith,
           omega arith,
         );
-        same = λ plan. same-filter plan field collector now (held_of child.value)
-            (held_of child.value) (λ plans x. x);
-        group = λ plans x. absurd x;
+        nodes = (refl, same-itself (held_of child.value));
         fits = λ x. (x.0, subst (λ b. IsHandedTo b (held_of child.value)) (sym on) x.1, x.2);
         flushed = λ e. absurd (cc e);
       }
@@ -115,3 +113,18 @@ prepared-metric ctx steps field collector old now is right prepares =
           subst (m.MetricFor segment req now) (sym (append-nil taken)) (right segment req taken f);
       rest = prepares.rest;
     }))
+
+-- ---- several
+
+are-more : (parent : ℕ) (hs : List Held) (h : Held) → ArePrepared parent (helds_of hs)
+    → IsPrepared parent h → ArePrepared parent (helds_of (hs ++ h ∷ []))
+are-more parent [] h all one = (one, tt)
+are-more parent (k ∷ hs) h all one = (all.0, are-more parent hs h all.1 one)
+
+-- those before an index, and the one that is put there
+pub prepared-next : (parent : ℕ) (trees : List Tree) (i : ℕ) (new : Tree) → i < length trees
+    → IsPrepared parent (group_of (take i trees)) → IsPrepared parent (held_of new)
+    → IsPrepared parent (group_of (take (i + 1) (set trees i new)))
+prepared-next parent trees i new l all one =
+    rw (held-next trees i new l)
+    (are-more parent (map held_of (take i trees)) (held_of new) all one)

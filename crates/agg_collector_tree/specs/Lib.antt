@@ -1,6 +1,7 @@
 pub mod Bound
 pub mod Counting
 pub mod New
+pub mod Prepared
 pub mod Refusals
 pub mod Step
 pub mod Taken

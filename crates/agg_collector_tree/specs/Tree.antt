@@ -88,6 +88,20 @@ abbrev mutual
   AreOf (Plans.more plan plans) (Helds.more h hs) = IsOf plan h × AreOf plans hs
   AreOf _ _ = ⊥
 
+-- two trees have the same nodes: each collector has the index of the other's, at any depth
+abbrev mutual
+  pub HasSameNodes : Held → Held → Type 0
+  HasSameNodes (Held.composite i a h) (Held.composite j b k) = (i ≡ j) × HasSameNodes h k
+  HasSameNodes (Held.filter i a h) (Held.filter j b k) = (i ≡ j) × HasSameNodes h k
+  HasSameNodes (Held.metric i a) (Held.metric j b) = i ≡ j
+  HasSameNodes (Held.group hs) (Held.group ks) = HaveSameNodes hs ks
+  HasSameNodes _ _ = ⊥
+
+  pub HaveSameNodes : Helds → Helds → Type 0
+  HaveSameNodes Helds.none Helds.none = ⊤
+  HaveSameNodes (Helds.more h hs) (Helds.more k ks) = HasSameNodes h k × HaveSameNodes hs ks
+  HaveSameNodes _ _ = ⊥
+
 -- ---- of which context it is
 
 -- a collector hands documents on, or has nothing below it
@@ -183,7 +197,6 @@ pub record Takes (ctx : PerRequestAggSegCtx) (pairs : List (ℕ × ℕ)) (all : 
       × (visits ≤ visits_now)
       × (steps + visits_now ≤ steps_now + visits)
       × (steps_now + 3 * visits ≤ steps + 3 * visits_now)
-  pub same : (plan : Plan) → IsOf plan old → IsOf plan new
-  pub group : (plans : Plans) → IsGroupOf plans old → IsGroupOf plans new
+  pub nodes : HasSameNodes old new
   pub fits : Fits ctx old → Fits ctx new
   pub flushed : all ≡ true → IsFlushed new

@@ -15,7 +15,7 @@ use agg_composite::SegmentCompositeCollector;
 use agg_values::{DocId, Steps};
 use std::sync::ledger::Ledger;
 
-/// Takes documents under parents, which are prepared.
+/// Takes documents under parents, and prepares these first.
 pub(crate) fn take_in_composite<L: Ledger>(
     collector: &mut SegmentCompositeCollector<LowCardSubAggCache>,
     taken: Taken<'_>,

@@ -14,7 +14,7 @@ use agg_cache::{Batch, BucketId, CollectError, LowCardSubAggCache};
 use agg_filter::{FilterAggReqData, SegmentFilterCollector};
 use agg_values::DocId;
 
-/// Takes documents under parents, which are prepared.
+/// Takes documents under parents, and prepares these first.
 pub(crate) fn take_in_filter(
     collector: &mut SegmentFilterCollector<LowCardSubAggCache>,
     taken: Taken<'_>,

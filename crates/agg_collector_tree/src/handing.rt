@@ -16,9 +16,9 @@ use agg_segment_context::PerRequestAggSegCtx;
 use agg_values::{ItemList, Steps};
 use std::sync::ledger::Ledger;
 
-/// Takes documents under parents, which are prepared, in each collector at the top of a tree. A
-/// collector hands what waits on to those below it where that is much, or where all is to be handed
-/// down.
+/// Takes documents under parents in each collector at the top of a tree, which prepares them first.
+/// A collector hands what waits on to those below it where that is much, or where all is to be
+/// handed down.
 #[cycle(hand)]
 pub fn hand<L: Ledger>(
     node: &mut SegmentCollectorTree<'_>,

@@ -8,7 +8,7 @@ use agg_cache::{Batch, BucketId, CollectError};
 use agg_metric::SegmentMetricCollector;
 use agg_values::DocId;
 
-/// Takes documents under parents, which are prepared.
+/// Takes documents under parents, and prepares these first.
 pub(crate) fn take_in_metric(
     collector: &mut SegmentMetricCollector<'_>,
     taken: Taken<'_>,

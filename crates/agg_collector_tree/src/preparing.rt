@@ -1,6 +1,7 @@
 //! How a tree of collectors prepares parents.
 ghost use Rattle.std.specs.Prelude.{◌≡◌, ◌⊎◌, [], ℕ, IfErr, IsErrOf, OnOk, false};
 ghost use Rattle.agg_segment_context.specs.declared.context.PerRequestAggSegCtx as declared;
+ghost use Rattle.agg_collector_tree.specs.Prepared.{IsPrepared};
 ghost use Rattle.agg_collector_tree.specs.Tree.{Takes, group_of, held_of};
 
 use crate::SegmentCollectorTree;
@@ -14,6 +15,7 @@ pub fn prepare(
 ) -> Result<(), CollectError>
     ensures ok { OnOk result ((ctx : declared.PerRequestAggSegCtx) (steps : ℕ)
         → Takes ctx [] false (held_of node.old) (held_of node.new) steps steps) }
+    ensures prepared { OnOk result (IsPrepared max_bucket (held_of node.new)) }
     ensures errors { IfErr result
         (λ error. (error ≡ CollectError.TooMany) ⊎ (error ≡ CollectError.OutOfMemory)) }
     ensures too_many { IsErrOf result CollectError.TooMany → max_bucket ≡ 4294967295 }
@@ -38,6 +40,7 @@ fn prepare_all(
     ensures ok { OnOk result ((ctx : declared.PerRequestAggSegCtx) (steps : ℕ)
         → Takes ctx [] false (group_of children.old.items) (group_of children.new.items) steps
         steps) }
+    ensures prepared { OnOk result (IsPrepared max_bucket (group_of children.new.items)) }
     ensures errors { IfErr result
         (λ error. (error ≡ CollectError.TooMany) ⊎ (error ≡ CollectError.OutOfMemory)) }
     ensures too_many { IsErrOf result CollectError.TooMany → max_bucket ≡ 4294967295 }

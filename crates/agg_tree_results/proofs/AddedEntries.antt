@@ -9,11 +9,11 @@ use Rattle.agg_values.specs.Names.{value_of}
 use Rattle.agg_values.specs.Tuple.{KeyTuple}
 use Rattle.agg_values.proofs.TupleOrder.{tuple_order-total}
 use Rattle.agg_request_tree.proofs.Lists.{Contains-map}
+use Rattle.agg_metric_results.specs.declared.error.MergeError.{MergeError}
+use Rattle.agg_metric_results.specs.declared.error.MergeError.TheVariants as merge
 use Rattle.agg_intermediate_results.specs.Intermediate.{Entries, Held, TupleEntry, composite_of}
 use Rattle.agg_intermediate_results.specs.Intermediate.{entries_of, orders_of, target_size_of}
 use Rattle.agg_intermediate_results.specs.Merging.{JoinEntries, SomeOfBoth, SomeTied}
-use Rattle.agg_intermediate_results.specs.declared.error.MergeError.{MergeError}
-use Rattle.agg_intermediate_results.specs.declared.error.MergeError.TheVariants as merge
 use Rattle.agg_intermediate_results.specs.declared as declared
 use declared.composite.IntermediateCompositeBucketResult.{IntermediateCompositeBucketResult}
 use declared.entry.IntermediateTermBucketEntry.{IntermediateTermBucketEntry}

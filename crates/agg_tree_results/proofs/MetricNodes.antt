@@ -11,9 +11,10 @@ use Rattle.agg_request_tree.specs.Request.{Request, agg_of, below_of}
 use Rattle.agg_request_tree.specs.declared.aggregation.Aggregation.{Aggregation}
 use Rattle.agg_request_tree.specs.declared.aggregation.AggregationVariants.{AggregationVariants}
 use Rattle.agg_request_tree.specs.declared.aggregation.AggregationVariants.TheVariants as asks
+use Rattle.agg_metric_results.specs.declared.metric.IntermediateMetricResult as metrics
+use metrics.{IntermediateMetricResult}
 use Rattle.agg_intermediate_results.specs.Intermediate.{Held as Results, metric}
 use Rattle.agg_intermediate_results.specs.declared as intermediate
-use intermediate.metric.IntermediateMetricResult.{IntermediateMetricResult}
 use intermediate.results.IntermediateAggregationResult.TheVariants as result
 use Rattle.agg_metric.specs.Collector.{Metric, MetricFor}
 use Rattle.agg_metric.specs.Metric.{metric_of}

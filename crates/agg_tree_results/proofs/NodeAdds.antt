@@ -28,10 +28,11 @@ use Rattle.agg_filter.specs.declared.request_data.FilterAggReqData.{FilterAggReq
 use Rattle.agg_metric.specs.Collector.{Metric, MetricFor}
 use Rattle.agg_metric.specs.Metric.{metric_of}
 use Rattle.agg_metric.specs.declared.request_data.MetricAggReqData.{MetricAggReqData}
+use Rattle.agg_metric_results.specs.declared.metric.IntermediateMetricResult as metrics
+use metrics.{IntermediateMetricResult}
 use Rattle.agg_intermediate_results.specs.Intermediate.{Held as Results, as_composite, as_filter}
 use Rattle.agg_intermediate_results.specs.declared as intermediate
 use intermediate.composite.IntermediateCompositeBucketResult.{IntermediateCompositeBucketResult}
-use intermediate.metric.IntermediateMetricResult.{IntermediateMetricResult}
 use intermediate.results.IntermediateAggregationResult.TheVariants as result
 use intermediate.results.IntermediateAggregationResults.{IntermediateAggregationResults}
 use Rattle.agg_segment_context.specs.Context.{IsCompositeMeant}

@@ -9,6 +9,7 @@ use Rattle.std.proofs.lemmas.Cmp.{nat_list_cmp_total}
 use Rattle.std.proofs.lemmas.List.Elements.{All-from_recursion}
 use Rattle.std.proofs.lemmas.Map.Lookups.{exact_bytes}
 use Rattle.agg_values.specs.Names.{name_cmp, put, value_of}
+use Rattle.agg_values.proofs.NameValues.{other-put, same_key, value-put}
 use Rattle.agg_segment.specs.Query.{matches}
 use Rattle.agg_segment.specs.Segment.{documents_at}
 use Rattle.agg_segment.specs.declared.query.QueryTree.{QueryTree}
@@ -17,7 +18,6 @@ use Rattle.agg_request_tree.proofs.Lists.{Contains-here}
 use Rattle.agg_intermediate_results.specs.Intermediate.{Held as Results}
 use Rattle.agg_intermediate_results.specs.declared.results as results
 use results.IntermediateAggregationResult.{IntermediateAggregationResult}
-use Rattle.agg_intermediate_results.proofs.NameValues.{other-put, same_key, value-put}
 use Rattle.agg_results.specs.StandsFor.{StandsTo}
 use Rattle.agg_results.proofs.NameLookups.{name-found, names-found}
 use Rattle.agg_segment_context.specs.Context.{IsPlanOf, Meaning}

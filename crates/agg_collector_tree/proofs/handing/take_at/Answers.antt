@@ -1,8 +1,9 @@
-use Rattle.std.proofs.Common.{◌≤◌, length, sym, ap, subst, arith}
-use Rattle.std.specs.Prelude.{IfErr}
+use Rattle.std.proofs.Common.{◌≡◌, ◌≤◌, Some, length, sym, ap, subst, arith}
+use Rattle.std.specs.Prelude.{IfErr, slice_get}
 use Rattle.std.proofs.lemmas.Option.{slice_get_within}
 use Rattle.agg_composite.specs.Composite.{Composite}
 use Rattle.agg_metric.specs.Collector.{MetricTakes}
+use Rattle.agg_collector_tree.specs.Bound.{TakesMost}
 use Rattle.agg_collector_tree.specs.Taken.{taken_pairs, taken_parents}
 use Rattle.agg_collector_tree.specs.Refusals.{IsRefused}
 use Rattle.agg_collector_tree.specs.Tree.{Cache, Fits, held_of}
@@ -12,17 +13,22 @@ use Rattle.agg_collector_tree.specs.declared.tree.SegmentCollectorTree.TheViews.
 use Rattle.agg_collector_tree.specs.declared.tree.SegmentCollectorTree.TheViews.{outs-Filter}
 use Rattle.agg_collector_tree.specs.declared.tree.SegmentCollectorTree.TheViews.{outs-Metric}
 use Rattle.agg_collector_tree.proofs.MostSteps.{no-steps}
-use Rattle.agg_collector_tree.proofs.NodeBounds.{node-later-composite, node-most-composite}
+use Rattle.agg_collector_tree.proofs.NodeBounds.{node-bounds-composite}
 use Rattle.agg_collector_tree.proofs.NodeSteps.{node-hands-composite, node-hands-filter}
 use Rattle.agg_collector_tree.proofs.NodeSteps.{node-keeps-composite, node-keeps-filter}
 use Rattle.agg_collector_tree.proofs.Groups.{metric-takes}
 use Rattle.agg_collector_tree.proofs.Levels.{held-metric}
-use Rattle.agg_collector_tree.proofs.NodeData.{composite-data, composite-index, composite-read}
-use Rattle.agg_collector_tree.proofs.NodeData.{filter-data, filter-index, filter-read}
+use Rattle.agg_collector_tree.proofs.NodeData.{composite-data, composite-read}
+use Rattle.agg_collector_tree.proofs.NodeData.{filter-data, filter-read}
 use Rattle.agg_collector_tree.proofs.NodeRefusals.{node-refused-composite, node-refused-filter}
 use Rattle.agg_collector_tree.proofs.NodeRefusals.{node-refused-metric}
 use Rattle.agg_collector_tree.proofs.PassedErrors.{error-passed}
+use Rattle.agg_collector_tree.proofs.handing.take_at.Given as given
 use Rattle.agg_collector_tree.proofs.handing.take_at.Goals as goal
+use Rattle.agg_collector_tree.proofs.handing.take_at.Goals.{After-take_in_composite}
+use Rattle.agg_collector_tree.proofs.handing.take_at.Goals.{After-take_in_filter}
+
+-- ---- composites
 
 pub bounds-as_slice-index : goal.bounds-as_slice-index
 bounds-as_slice-index g c =
@@ -38,63 +44,73 @@ offset_bounds-as_slice-index g c =
     let within = bounds-as_slice-index g c in
     omega (arith, within, c.as_slice.type_inv)
 
-pub take_in_composite-requires-clause-fits : goal.take_in_composite-requires-clause-fits
-take_in_composite-requires-clause-fits g c =
+pub take_in_composite-requires : goal.take_in_composite-requires
+take_in_composite-requires g c =
     let x = c.in-Composite in
-    let i = c.index_of-index.result in
-    let r = c.index-as_slice-index.result in
+    let req = c.index-as_slice-index.result in
     let meant = c.requires.meant in
-    let at = (composite-read c.args.ctx.now c.args.node.now i x.field-0 c.index_of-index.ensures
-    c.requires.fits x.collector x.field-2 x.is c.as_slice.result.now c.as_slice.ensures r
-    c.index-as_slice-index.is).0 in
-    (meant.0.segment, meant.0.after_at i, (meant.1.composites i r at).fits)
-
-pub take_in_composite-requires-clause-room : goal.take_in_composite-requires-clause-room
-take_in_composite-requires-clause-room g c =
-    let x = c.in-Composite in
-    let r = c.index-as_slice-index.result in
-    let room = (composite-read c.args.ctx.now c.args.node.now c.index_of-index.result x.field-0
+    let read = composite-read c.args.ctx.now c.args.node.now c.index_of-index.result x.field-0
     c.index_of-index.ensures c.requires.fits x.collector x.field-2 x.is c.as_slice.result.now
-    c.as_slice.ensures r c.index-as_slice-index.is).1 in
-    subst (λ (y : Composite Cache). length r.req.now.sources ≤ y.room) (sym x.collector-is) room
+    c.as_slice.ensures req c.index-as_slice-index.is in
+    record {
+      fits = (
+        meant.0.segment,
+        meant.0.after_at x.field-0,
+        (meant.1.composites x.field-0 req read.0).fits,
+      );
+      room = subst (λ (y : Composite Cache). length req.req.now.sources ≤ y.room)
+          (sym x.collector-is) read.1;
+    }
+
+-- what was read is the data of the composite
+composite-at : (g : given.Over) (c : After-take_in_composite g)
+    → slice_get c.args.ctx.now.composite_req_data c.in-Composite.field-0
+    ≡ Some c.index-as_slice-index.result
+composite-at g c =
+    let x = c.in-Composite in
+    (composite-read c.args.ctx.now c.args.node.now c.index_of-index.result x.field-0
+    c.index_of-index.ensures c.requires.fits x.collector x.field-2 x.is c.as_slice.result.now
+    c.as_slice.ensures c.index-as_slice-index.result c.index-as_slice-index.is).0
+
+-- whatever the composite answers, its steps are few, and none is taken back
+composite-bounds : (g : given.Over) (c : After-take_in_composite g)
+    → TakesMost c.args.ctx.now (taken_pairs c.args.taken) (held_of c.args.node.now)
+    c.args.steps.now c.take_in_composite.new.steps
+    × (c.args.steps.now ≤ c.take_in_composite.new.steps)
+composite-bounds g c =
+    let x = c.in-Composite in
+    node-bounds-composite c.args.ctx.now (taken_pairs c.args.taken) c.args.node.now x.field-0
+    c.index-as_slice-index.result (composite-at g c) c.requires.fits c.requires.meant x.collector
+    x.field-2 x.is _ c.take_in_composite.new.collector c.args.steps.now
+    c.take_in_composite.new.steps c.take_in_composite.result
+    (λ segment after fits. c.take_in_composite.ensures segment after fits)
 
 pub returns-in_err-take_in_composite-in-Composite-clause-refused :
     goal.returns-in_err-take_in_composite-in-Composite-clause-refused
 returns-in_err-take_in_composite-in-Composite-clause-refused g c =
     let x = c.in-Composite in
-    let i = c.index_of-index.result in
-    let r = c.index-as_slice-index.result in
-    let meant = c.requires.meant in
-    let at = (composite-read c.args.ctx.now c.args.node.now i x.field-0 c.index_of-index.ensures
-    c.requires.fits x.collector x.field-2 x.is c.as_slice.result.now c.as_slice.ensures r
-    c.index-as_slice-index.is).0 in
+    let error = c.in_err-take_in_composite-in-Composite.field-0.0 in
+    let point = goal.at.returns-in_err-take_in_composite-in-Composite-clause-refused g c in
+    let here = composite-at g point.After-take_in_composite in
     error-passed (λ r. IfErr r (IsRefused c.args.ctx.now (taken_pairs c.args.taken)
-    (taken_parents c.args.taken) (held_of c.args.node.now))) c.from_residual.result
-    c.in_err-take_in_composite-in-Composite.field-0.0 c.from_residual.ensures.1
+    (taken_parents c.args.taken) (held_of c.args.node.now))) c.from_residual.result error
+    c.from_residual.ensures.1
     (node-refused-composite c.args.ctx.now (taken_pairs c.args.taken) (taken_parents c.args.taken)
-    c.args.node.now i x.field-0 c.index_of-index.ensures c.requires.fits r at meant x.collector
+    c.args.node.now x.field-0 c.index-as_slice-index.result here c.requires.meant x.collector
     x.field-2 x.is _ x.collector-is c.take_in_composite.new.collector c.args.steps.now
-    c.take_in_composite.new.steps c.in_err-take_in_composite-in-Composite.field-0.0
+    c.take_in_composite.new.steps error
     (λ segment after fits. c.in_err-take_in_composite-in-Composite.ensures segment after fits))
 
 pub returns-then-not-due-clause-ok : goal.returns-then-not-due-clause-ok
 returns-then-not-due-clause-ok g c =
     let x = c.in-Composite in
-    let i = c.index_of-index.result in
-    let r = c.index-as_slice-index.result in
-    let node = c.args.node.now in
-    let now = c.take_in_composite.new.collector in
-    let ctx = c.args.ctx.now in
-    let pairs = taken_pairs c.args.taken in
-    let same = composite-index ctx node i x.field-0 c.index_of-index.ensures c.requires.fits
-    x.collector x.field-2 x.is in
-    let at = (composite-read ctx node i x.field-0 c.index_of-index.ensures
-    c.requires.fits x.collector x.field-2 x.is c.as_slice.result.now c.as_slice.ensures r
-    c.index-as_slice-index.is).0 in
+    let here = composite-at g (goal.at.returns-then-not-due-clause-ok g c).After-take_in_composite
+    in
     rw (x.is, outs-Composite x.field-0 x.collector x.field-2)
-    (node-keeps-composite ctx pairs (taken_parents c.args.taken) c.args.all i x.field-0 same r at
-    c.requires.meant x.collector _
-    x.collector-is now c.args.steps.now c.take_in_composite.new.steps
+    (node-keeps-composite c.args.ctx.now (taken_pairs c.args.taken) (taken_parents c.args.taken)
+    c.args.all x.field-0 c.index-as_slice-index.result here
+    c.requires.meant x.collector _ x.collector-is c.take_in_composite.new.collector
+    c.args.steps.now c.take_in_composite.new.steps
     (λ segment after fits.
     (c.in_ok-take_in_composite-in-Composite.ensures segment after fits).ok)
     c.if-not-all.true x.field-2)
@@ -102,26 +118,62 @@ returns-then-not-due-clause-ok g c =
 pub returns-in_ok-take-in-Composite-clause-ok : goal.returns-in_ok-take-in-Composite-clause-ok
 returns-in_ok-take-in-Composite-clause-ok g c =
     let x = c.in-Composite in
-    let i = c.index_of-index.result in
-    let r = c.index-as_slice-index.result in
-    let node = c.args.node.now in
     let ctx = c.args.ctx.now in
-    let pairs = taken_pairs c.args.taken in
-    let same = composite-index ctx node i x.field-0 c.index_of-index.ensures c.requires.fits
-    x.collector x.field-2 x.is in
-    let at = (composite-read ctx node i x.field-0 c.index_of-index.ensures
-    c.requires.fits x.collector x.field-2 x.is c.as_slice.result.now c.as_slice.ensures r
-    c.index-as_slice-index.is).0 in
+    let done = c.in_ok-take-in-Composite in
+    let point = goal.at.returns-in_ok-take-in-Composite-clause-ok g c in
+    let here = composite-at g point.After-take_in_composite in
     rw (x.is, outs-Composite x.field-0 x.collector x.field-2)
-    (node-hands-composite ctx pairs (taken_parents c.args.taken) c.args.all i x.field-0 same r at
-    c.requires.meant x.collector _
-    x.collector-is c.take_in_composite.new.collector c.args.steps.now
-    c.take_in_composite.new.steps
+    (node-hands-composite ctx (taken_pairs c.args.taken) (taken_parents c.args.taken) c.args.all
+    x.field-0 c.index-as_slice-index.result here
+    c.requires.meant x.collector _ x.collector-is c.take_in_composite.new.collector
+    c.args.steps.now c.take_in_composite.new.steps
     (λ segment after fits.
     (c.in_ok-take_in_composite-in-Composite.ensures segment after fits).ok)
-    c.in_ok-take-in-Composite.field-0 c.in_ok-take-in-Composite.ensures.filled c.take.new.self
-    c.in_ok-take-in-Composite.ensures.ok
-    c.take.ensures.rest x.field-2 (subst (λ (n : Tree). Fits ctx (held_of n)) x.is c.requires.fits))
+    done.field-0 done.ensures.filled c.take.new.self done.ensures.ok c.take.ensures.rest x.field-2
+    (subst (λ (n : Tree). Fits ctx (held_of n)) x.is c.requires.fits))
+
+pub returns-in_err-take_in_composite-in-Composite-clause-most :
+    goal.returns-in_err-take_in_composite-in-Composite-clause-most
+returns-in_err-take_in_composite-in-Composite-clause-most g c =
+    let point = goal.at.returns-in_err-take_in_composite-in-Composite-clause-most g c in
+    (composite-bounds g point.After-take_in_composite).0
+
+pub returns-in_err-take_in_composite-in-Composite-clause-later :
+    goal.returns-in_err-take_in_composite-in-Composite-clause-later
+returns-in_err-take_in_composite-in-Composite-clause-later g c =
+    let point = goal.at.returns-in_err-take_in_composite-in-Composite-clause-later g c in
+    (composite-bounds g point.After-take_in_composite).1
+
+pub returns-then-not-due-clause-most : goal.returns-then-not-due-clause-most
+returns-then-not-due-clause-most g c =
+    (composite-bounds g (goal.at.returns-then-not-due-clause-most g c).After-take_in_composite).0
+
+pub returns-then-not-due-clause-later : goal.returns-then-not-due-clause-later
+returns-then-not-due-clause-later g c =
+    (composite-bounds g (goal.at.returns-then-not-due-clause-later g c).After-take_in_composite).1
+
+pub returns-in_err-take-in-Composite-clause-most : goal.returns-in_err-take-in-Composite-clause-most
+returns-in_err-take-in-Composite-clause-most g c =
+    let call = (goal.at.returns-in_err-take-in-Composite-clause-most g c).After-take_in_composite in
+    (composite-bounds g call).0
+
+pub returns-in_err-take-in-Composite-clause-later :
+    goal.returns-in_err-take-in-Composite-clause-later
+returns-in_err-take-in-Composite-clause-later g c =
+    let point = goal.at.returns-in_err-take-in-Composite-clause-later g c in
+    (composite-bounds g point.After-take_in_composite).1
+
+pub returns-in_ok-take-in-Composite-clause-most : goal.returns-in_ok-take-in-Composite-clause-most
+returns-in_ok-take-in-Composite-clause-most g c =
+    let call = (goal.at.returns-in_ok-take-in-Composite-clause-most g c).After-take_in_composite in
+    (composite-bounds g call).0
+
+pub returns-in_ok-take-in-Composite-clause-later : goal.returns-in_ok-take-in-Composite-clause-later
+returns-in_ok-take-in-Composite-clause-later g c =
+    let call = (goal.at.returns-in_ok-take-in-Composite-clause-later g c).After-take_in_composite in
+    (composite-bounds g call).1
+
+-- ---- filters
 
 pub bounds-as_slice-index-in-Filter : goal.bounds-as_slice-index-in-Filter
 bounds-as_slice-index-in-Filter g c =
@@ -136,70 +188,83 @@ offset_bounds-as_slice-index-in-Filter g c =
     let within = bounds-as_slice-index-in-Filter g c in
     omega (arith, within, c.as_slice-in-Filter.type_inv)
 
+-- what was read is the data of the filter
+filter-at : (g : given.Over) (c : After-take_in_filter g)
+    → slice_get c.args.ctx.now.filter_req_data c.in-Filter.field-0
+    ≡ Some c.index-as_slice-index-in-Filter.result
+filter-at g c =
+    let x = c.in-Filter in
+    filter-read c.args.ctx.now c.args.node.now c.index_of-index.result x.field-0
+    c.index_of-index.ensures c.requires.fits x.collector x.field-2 x.is
+    c.as_slice-in-Filter.result.now c.as_slice-in-Filter.ensures
+    c.index-as_slice-index-in-Filter.result c.index-as_slice-index-in-Filter.is
+
 pub returns-in_err-take_in_filter-in-Filter-clause-refused :
     goal.returns-in_err-take_in_filter-in-Filter-clause-refused
 returns-in_err-take_in_filter-in-Filter-clause-refused g c =
     let x = c.in-Filter in
-    let i = c.index_of-index.result in
-    let r = c.index-as_slice-index-in-Filter.result in
-    let meant = c.requires.meant in
-    let at = filter-read c.args.ctx.now c.args.node.now i x.field-0 c.index_of-index.ensures
-    c.requires.fits x.collector x.field-2 x.is c.as_slice-in-Filter.result.now
-    c.as_slice-in-Filter.ensures r c.index-as_slice-index-in-Filter.is in
+    let error = c.in_err-take_in_filter-in-Filter.field-0.0 in
+    let back = c.from_residual-in_err-take_in_filter-in-Filter in
+    let point = goal.at.returns-in_err-take_in_filter-in-Filter-clause-refused g c in
+    let here = filter-at g point.After-take_in_filter in
     error-passed (λ r. IfErr r (IsRefused c.args.ctx.now (taken_pairs c.args.taken)
-    (taken_parents c.args.taken) (held_of c.args.node.now)))
-    c.from_residual-in_err-take_in_filter-in-Filter.result
-    c.in_err-take_in_filter-in-Filter.field-0.0
-    c.from_residual-in_err-take_in_filter-in-Filter.ensures.1
+    (taken_parents c.args.taken) (held_of c.args.node.now))) back.result error back.ensures.1
     (node-refused-filter c.args.ctx.now (taken_pairs c.args.taken) (taken_parents c.args.taken)
-    c.args.node.now i x.field-0 c.index_of-index.ensures c.requires.fits r at meant x.collector
-    x.field-2 x.is _ x.collector-is c.take_in_filter.new.collector
-    c.in_err-take_in_filter-in-Filter.field-0.0
+    c.args.node.now x.field-0 c.index-as_slice-index-in-Filter.result here c.requires.meant
+    x.collector x.field-2 x.is _ x.collector-is c.take_in_filter.new.collector error
     (λ tree segment marks. c.in_err-take_in_filter-in-Filter.ensures tree segment marks))
 
 pub returns-then-not-due-2-clause-ok : goal.returns-then-not-due-2-clause-ok
 returns-then-not-due-2-clause-ok g c =
     let x = c.in-Filter in
-    let i = c.index_of-index.result in
-    let r = c.index-as_slice-index-in-Filter.result in
-    let node = c.args.node.now in
-    let ctx = c.args.ctx.now in
-    let pairs = taken_pairs c.args.taken in
-    let same = filter-index ctx node i x.field-0 c.index_of-index.ensures c.requires.fits
-    x.collector x.field-2 x.is in
-    let at = filter-read ctx node i x.field-0 c.index_of-index.ensures
-    c.requires.fits x.collector x.field-2 x.is c.as_slice-in-Filter.result.now
-    c.as_slice-in-Filter.ensures r c.index-as_slice-index-in-Filter.is in
+    let here = filter-at g (goal.at.returns-then-not-due-2-clause-ok g c).After-take_in_filter in
     rw (x.is, outs-Filter x.field-0 x.collector x.field-2)
-    (node-keeps-filter ctx pairs (taken_parents c.args.taken) c.args.all i x.field-0 same r at
-    c.requires.meant x.collector _
-    x.collector-is c.take_in_filter.new.collector c.args.steps.now
-    (λ tree segment marks.
-    (c.in_ok-take_in_filter-in-Filter.ensures tree segment marks).ok)
+    (node-keeps-filter c.args.ctx.now (taken_pairs c.args.taken) (taken_parents c.args.taken)
+    c.args.all x.field-0 c.index-as_slice-index-in-Filter.result here
+    c.requires.meant x.collector _ x.collector-is c.take_in_filter.new.collector
+    c.args.steps.now
+    (λ tree segment marks. (c.in_ok-take_in_filter-in-Filter.ensures tree segment marks).ok)
     c.if-not-all-2.true x.field-2)
 
 pub returns-in_ok-take-in-Filter-clause-ok : goal.returns-in_ok-take-in-Filter-clause-ok
 returns-in_ok-take-in-Filter-clause-ok g c =
     let x = c.in-Filter in
-    let i = c.index_of-index.result in
-    let r = c.index-as_slice-index-in-Filter.result in
-    let node = c.args.node.now in
     let ctx = c.args.ctx.now in
-    let pairs = taken_pairs c.args.taken in
-    let same = filter-index ctx node i x.field-0 c.index_of-index.ensures c.requires.fits
-    x.collector x.field-2 x.is in
-    let at = filter-read ctx node i x.field-0 c.index_of-index.ensures
-    c.requires.fits x.collector x.field-2 x.is c.as_slice-in-Filter.result.now
-    c.as_slice-in-Filter.ensures r c.index-as_slice-index-in-Filter.is in
+    let done = c.in_ok-take-in-Filter in
+    let point = goal.at.returns-in_ok-take-in-Filter-clause-ok g c in
+    let here = filter-at g point.After-take_in_filter in
     rw (x.is, outs-Filter x.field-0 x.collector x.field-2)
-    (node-hands-filter ctx pairs (taken_parents c.args.taken) c.args.all i x.field-0 same r at
-    c.requires.meant x.collector _
-    x.collector-is c.take_in_filter.new.collector c.args.steps.now
-    (λ tree segment marks.
-    (c.in_ok-take_in_filter-in-Filter.ensures tree segment marks).ok)
-    c.in_ok-take-in-Filter.field-0 c.in_ok-take-in-Filter.ensures.filled c.take-in-Filter.new.self
-    c.in_ok-take-in-Filter.ensures.ok c.take-in-Filter.ensures.rest x.field-2
+    (node-hands-filter ctx (taken_pairs c.args.taken) (taken_parents c.args.taken) c.args.all
+    x.field-0 c.index-as_slice-index-in-Filter.result here
+    c.requires.meant x.collector _ x.collector-is c.take_in_filter.new.collector
+    c.args.steps.now
+    (λ tree segment marks. (c.in_ok-take_in_filter-in-Filter.ensures tree segment marks).ok)
+    done.field-0 done.ensures.filled c.take-in-Filter.new.self done.ensures.ok
+    c.take-in-Filter.ensures.rest x.field-2
     (subst (λ (n : Tree). Fits ctx (held_of n)) x.is c.requires.fits))
+
+pub returns-in_err-take_in_filter-in-Filter-clause-most :
+    goal.returns-in_err-take_in_filter-in-Filter-clause-most
+returns-in_err-take_in_filter-in-Filter-clause-most g c =
+    no-steps c.args.ctx.now (taken_pairs c.args.taken) (held_of c.args.node.now) c.requires.fits
+    c.args.steps.now
+
+pub returns-then-not-due-2-clause-most : goal.returns-then-not-due-2-clause-most
+returns-then-not-due-2-clause-most g c =
+    no-steps c.args.ctx.now (taken_pairs c.args.taken) (held_of c.args.node.now) c.requires.fits
+    c.args.steps.now
+
+pub returns-in_err-take-in-Filter-clause-most : goal.returns-in_err-take-in-Filter-clause-most
+returns-in_err-take-in-Filter-clause-most g c =
+    no-steps c.args.ctx.now (taken_pairs c.args.taken) (held_of c.args.node.now) c.requires.fits
+    c.args.steps.now
+
+pub returns-in_ok-take-in-Filter-clause-most : goal.returns-in_ok-take-in-Filter-clause-most
+returns-in_ok-take-in-Filter-clause-most g c =
+    no-steps c.args.ctx.now (taken_pairs c.args.taken) (held_of c.args.node.now) c.requires.fits
+    c.args.steps.now
+
+-- ---- metrics, and several
 
 pub returns-in_ok-take_in_metric-in-Metric-clause-ok :
     goal.returns-in_ok-take_in_metric-in-Metric-clause-ok
@@ -225,110 +290,6 @@ returns-in_err-take_in_metric-in-Metric-clause-refused g c =
     c.args.node.now c.requires.fits x.field-0 x.collector x.is _ x.collector-is
     c.take_in_metric.new.collector
     call.field-0.0 call.ensures)
-
-pub returns-in_err-take_in_composite-in-Composite-clause-most :
-    goal.returns-in_err-take_in_composite-in-Composite-clause-most
-returns-in_err-take_in_composite-in-Composite-clause-most g c =
-    let x = c.in-Composite in
-    node-most-composite c.args.ctx.now (taken_pairs c.args.taken) c.args.node.now
-    c.index_of-index.result x.field-0 c.index_of-index.ensures c.requires.fits c.requires.meant
-    x.collector x.field-2 x.is c.as_slice.result.now c.as_slice.ensures
-    c.index-as_slice-index.result c.index-as_slice-index.is _ c.take_in_composite.new.collector
-    c.args.steps.now c.take_in_composite.new.steps c.take_in_composite.result
-    (λ segment after fits. c.take_in_composite.ensures segment after fits)
-
-pub returns-in_err-take_in_composite-in-Composite-clause-later :
-    goal.returns-in_err-take_in_composite-in-Composite-clause-later
-returns-in_err-take_in_composite-in-Composite-clause-later g c =
-    let x = c.in-Composite in
-    node-later-composite c.args.ctx.now (taken_pairs c.args.taken) c.args.node.now
-    c.index_of-index.result x.field-0 c.index_of-index.ensures c.requires.fits c.requires.meant
-    x.collector x.field-2 x.is c.as_slice.result.now c.as_slice.ensures
-    c.index-as_slice-index.result c.index-as_slice-index.is _ c.take_in_composite.new.collector
-    c.args.steps.now c.take_in_composite.new.steps c.take_in_composite.result
-    (λ segment after fits. c.take_in_composite.ensures segment after fits)
-
-pub returns-then-not-due-clause-most : goal.returns-then-not-due-clause-most
-returns-then-not-due-clause-most g c =
-    let x = c.in-Composite in
-    node-most-composite c.args.ctx.now (taken_pairs c.args.taken) c.args.node.now
-    c.index_of-index.result x.field-0 c.index_of-index.ensures c.requires.fits c.requires.meant
-    x.collector x.field-2 x.is c.as_slice.result.now c.as_slice.ensures
-    c.index-as_slice-index.result c.index-as_slice-index.is _ c.take_in_composite.new.collector
-    c.args.steps.now c.take_in_composite.new.steps c.take_in_composite.result
-    (λ segment after fits. c.take_in_composite.ensures segment after fits)
-
-pub returns-then-not-due-clause-later : goal.returns-then-not-due-clause-later
-returns-then-not-due-clause-later g c =
-    let x = c.in-Composite in
-    node-later-composite c.args.ctx.now (taken_pairs c.args.taken) c.args.node.now
-    c.index_of-index.result x.field-0 c.index_of-index.ensures c.requires.fits c.requires.meant
-    x.collector x.field-2 x.is c.as_slice.result.now c.as_slice.ensures
-    c.index-as_slice-index.result c.index-as_slice-index.is _ c.take_in_composite.new.collector
-    c.args.steps.now c.take_in_composite.new.steps c.take_in_composite.result
-    (λ segment after fits. c.take_in_composite.ensures segment after fits)
-
-pub returns-in_err-take-in-Composite-clause-most : goal.returns-in_err-take-in-Composite-clause-most
-returns-in_err-take-in-Composite-clause-most g c =
-    let x = c.in-Composite in
-    node-most-composite c.args.ctx.now (taken_pairs c.args.taken) c.args.node.now
-    c.index_of-index.result x.field-0 c.index_of-index.ensures c.requires.fits c.requires.meant
-    x.collector x.field-2 x.is c.as_slice.result.now c.as_slice.ensures
-    c.index-as_slice-index.result c.index-as_slice-index.is _ c.take_in_composite.new.collector
-    c.args.steps.now c.take_in_composite.new.steps c.take_in_composite.result
-    (λ segment after fits. c.take_in_composite.ensures segment after fits)
-
-pub returns-in_err-take-in-Composite-clause-later :
-    goal.returns-in_err-take-in-Composite-clause-later
-returns-in_err-take-in-Composite-clause-later g c =
-    let x = c.in-Composite in
-    node-later-composite c.args.ctx.now (taken_pairs c.args.taken) c.args.node.now
-    c.index_of-index.result x.field-0 c.index_of-index.ensures c.requires.fits c.requires.meant
-    x.collector x.field-2 x.is c.as_slice.result.now c.as_slice.ensures
-    c.index-as_slice-index.result c.index-as_slice-index.is _ c.take_in_composite.new.collector
-    c.args.steps.now c.take_in_composite.new.steps c.take_in_composite.result
-    (λ segment after fits. c.take_in_composite.ensures segment after fits)
-
-pub returns-in_ok-take-in-Composite-clause-most : goal.returns-in_ok-take-in-Composite-clause-most
-returns-in_ok-take-in-Composite-clause-most g c =
-    let x = c.in-Composite in
-    node-most-composite c.args.ctx.now (taken_pairs c.args.taken) c.args.node.now
-    c.index_of-index.result x.field-0 c.index_of-index.ensures c.requires.fits c.requires.meant
-    x.collector x.field-2 x.is c.as_slice.result.now c.as_slice.ensures
-    c.index-as_slice-index.result c.index-as_slice-index.is _ c.take_in_composite.new.collector
-    c.args.steps.now c.take_in_composite.new.steps c.take_in_composite.result
-    (λ segment after fits. c.take_in_composite.ensures segment after fits)
-
-pub returns-in_ok-take-in-Composite-clause-later : goal.returns-in_ok-take-in-Composite-clause-later
-returns-in_ok-take-in-Composite-clause-later g c =
-    let x = c.in-Composite in
-    node-later-composite c.args.ctx.now (taken_pairs c.args.taken) c.args.node.now
-    c.index_of-index.result x.field-0 c.index_of-index.ensures c.requires.fits c.requires.meant
-    x.collector x.field-2 x.is c.as_slice.result.now c.as_slice.ensures
-    c.index-as_slice-index.result c.index-as_slice-index.is _ c.take_in_composite.new.collector
-    c.args.steps.now c.take_in_composite.new.steps c.take_in_composite.result
-    (λ segment after fits. c.take_in_composite.ensures segment after fits)
-
-pub returns-in_err-take_in_filter-in-Filter-clause-most :
-    goal.returns-in_err-take_in_filter-in-Filter-clause-most
-returns-in_err-take_in_filter-in-Filter-clause-most g c =
-    no-steps c.args.ctx.now (taken_pairs c.args.taken) (held_of c.args.node.now) c.requires.fits
-    c.args.steps.now
-
-pub returns-then-not-due-2-clause-most : goal.returns-then-not-due-2-clause-most
-returns-then-not-due-2-clause-most g c =
-    no-steps c.args.ctx.now (taken_pairs c.args.taken) (held_of c.args.node.now) c.requires.fits
-    c.args.steps.now
-
-pub returns-in_err-take-in-Filter-clause-most : goal.returns-in_err-take-in-Filter-clause-most
-returns-in_err-take-in-Filter-clause-most g c =
-    no-steps c.args.ctx.now (taken_pairs c.args.taken) (held_of c.args.node.now) c.requires.fits
-    c.args.steps.now
-
-pub returns-in_ok-take-in-Filter-clause-most : goal.returns-in_ok-take-in-Filter-clause-most
-returns-in_ok-take-in-Filter-clause-most g c =
-    no-steps c.args.ctx.now (taken_pairs c.args.taken) (held_of c.args.node.now) c.requires.fits
-    c.args.steps.now
 
 pub returns-in-Group-clause-most : goal.returns-in-Group-clause-most
 returns-in-Group-clause-most g c =

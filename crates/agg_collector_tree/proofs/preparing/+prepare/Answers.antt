@@ -6,12 +6,13 @@ use Rattle.agg_collector_tree.specs.declared.tree.SegmentCollectorTree.TheViews.
 use Rattle.agg_collector_tree.specs.declared.tree.SegmentCollectorTree.TheViews.{outs-Filter}
 use Rattle.agg_collector_tree.specs.declared.tree.SegmentCollectorTree.TheViews.{outs-Group}
 use Rattle.agg_collector_tree.specs.declared.tree.SegmentCollectorTree.TheViews.{outs-Metric}
+use Rattle.agg_collector_tree.specs.Prepared.{IsPrepared}
 use Rattle.agg_collector_tree.specs.Tree.{Takes, group_of, held_of}
 use Rattle.agg_collector_tree.proofs.Groups.{AllTake, group-takes}
 use Rattle.agg_collector_tree.proofs.HandedTrees.{all-next}
 use Rattle.agg_collector_tree.proofs.Levels.{held-group}
 use Rattle.agg_collector_tree.proofs.PreparedTrees.{prepared-composite, prepared-filter}
-use Rattle.agg_collector_tree.proofs.PreparedTrees.{prepared-metric}
+use Rattle.agg_collector_tree.proofs.PreparedTrees.{prepared-metric, prepared-next}
 use Rattle.agg_collector_tree.proofs.preparing.+prepare.Goals as goal
 
 pub prepare-returns-in_ok-prepare_max_bucket-in-Composite-clause-ok :
@@ -68,6 +69,8 @@ prepare_all-loop-i-preserved t c =
       );
       took = λ ctx steps. all-next ctx [] false xs l.children.items i node new steps steps steps
           inside left.0 read (l.invariant.took ctx steps) (c.in_ok-prepare.ensures.ok ctx steps);
+      prepared = prepared-next c.args.max_bucket l.children.items i new
+          (omega (arith, inside, left.0)) l.invariant.prepared c.in_ok-prepare.ensures.prepared;
     }
 
 pub prepare_all-returns-clause-ok : goal.prepare_all-returns-clause-ok
@@ -82,3 +85,11 @@ prepare_all-returns-clause-ok t c = λ ctx steps.
     (take_all l.i xs past)
     (subst (λ ns. AllTake ctx [] false (map held_of (take l.i xs)) (map held_of ns) steps steps)
     (take_all l.i ys (omega (arith, past, left.0))) (l.invariant.took ctx steps)))
+
+pub prepare_all-returns-clause-prepared : goal.prepare_all-returns-clause-prepared
+prepare_all-returns-clause-prepared t c =
+    let l = c.loop-i in
+    let past : length l.children.items ≤ l.i =
+    omega (arith, c.loop-i-test.false, l.invariant.unvisited.0) in
+    subst (λ ts. IsPrepared c.args.max_bucket (group_of ts)) (take_all l.i l.children.items past)
+    l.invariant.prepared
