@@ -1,5 +1,5 @@
 -- The names of the request that a page asks ascend where those of its own request do.
-use Rattle.std.proofs.Common.{◌≡◌, ℕ, zero, suc, List, [], ◌∷◌, refl, ap, ◌∙◌, sym, subst}
+use Rattle.std.proofs.Common.{◌≡◌, ℕ, zero, suc, List, [], ◌∷◌, refl, ap, sym, subst}
 use Rattle.std.specs.Prelude.{Option}
 use Rattle.std.specs.List.Sorted.{IsStrictlySortedBy}
 use Rattle.std.specs.Map.{keys_of}
@@ -11,6 +11,7 @@ use Rattle.agg_request_tree.specs.Names.{NamesAscend, NamesAscendTo}
 use Rattle.agg_request_tree.specs.Request.{Request, below_of, with_builders, with_builders_in}
 use Rattle.agg_request_tree.specs.declared.aggregation.Aggregation.{Aggregation}
 use Rattle.agg_segment_context.specs.Additions.{paged_each, paged_in}
+use Rattle.agg_segment_context.specs.Pages.{paged}
 use Rattle.agg_segment_context.specs.declared.params.Page.{Page}
 use Rattle.agg_segment_context.proofs.Built.{below-built}
 use Rattle.agg_segment_context.proofs.Pages.{below-paged, paged-each}
@@ -53,11 +54,17 @@ names-paged {B = B} page (suc depth) request names = (
     same-keys [] = refl
     same-keys (a ∷ r) = ap (λ ks. a.0 ∷ ks) (same-keys r)
 
+-- with both
+pub names-asked : {B : Type 0} (page : Option Page) (made : B → QueryTree) (request : Request B)
+    → NamesAscend request → NamesAscend (paged page (with_builders made request))
+names-asked page made request names depth =
+    subst (NamesAscendTo depth) (sym (paged-each page (with_builders made request)))
+    (names-paged page depth (with_builders made request)
+    (names-built made depth request (names depth)))
+
 -- the names of what a page asks
 pub asked-ascend : {B : Type 0} (page : PageRequest B) (request : Request QueryTree)
     → MayBeAsked page → IsAsked page request → NamesAscend request
-asked-ascend page request may asked depth =
-    subst (NamesAscendTo depth)
-    (sym (asked.is ∙ paged-each page.params.now.page (with_builders asked.made page.request.now)))
-    (names-paged page.params.now.page depth (with_builders asked.made page.request.now)
-    (names-built asked.made depth page.request.now (may.names depth)))
+asked-ascend page request may asked =
+    subst (λ (r : Request QueryTree). NamesAscend r) (sym asked.is)
+    (names-asked page.params.now.page asked.made page.request.now may.names)

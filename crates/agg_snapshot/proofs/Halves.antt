@@ -1,6 +1,6 @@
 -- The results of two lists of segments, merged, are those of both as one.
 use Rattle.std.proofs.Common.{◌≡◌, ◌≤◌, ◌+◌, ◌*◌, ◌^◌, ◌++◌, ℕ, List, [], ◌∷◌, Result, Ok, Err}
-use Rattle.std.proofs.Common.{IsErr, IsErrAnd, None, zero, suc, refl, subst, sym, arith}
+use Rattle.std.proofs.Common.{IsErr, None, zero, suc, refl, subst, sym, arith}
 use Rattle.std.proofs.Common.{drop, take}
 use Rattle.std.specs.Prelude.{Contains}
 use Rattle.std.specs.Map.{keys_of}
@@ -15,8 +15,8 @@ use Rattle.agg_request_tree.specs.Request.{Request}
 use Rattle.agg_request_tree.specs.Uncut.{CountsTooMany}
 use Rattle.agg_request_tree.specs.declared.aggregation.Aggregation.{Aggregation}
 use Rattle.agg_values.specs.Names.{value_of}
-use Rattle.agg_intermediate_results.specs.declared.error.MergeError.{MergeError}
-use Rattle.agg_intermediate_results.specs.declared.error.MergeError.TheVariants as merge
+use Rattle.agg_metric_results.specs.declared.error.MergeError.{MergeError}
+use Rattle.agg_metric_results.specs.declared.error.MergeError.TheVariants as merge
 use Rattle.agg_intermediate_results.specs.Merging.{AreMerged, CountsPass, ShapesDiffer, SomeOfBoth}
 use Rattle.agg_intermediate_results.specs.declared.results.IntermediateAggregationResults as held
 use held.{IntermediateAggregationResults}
@@ -38,17 +38,7 @@ use Rattle.agg_snapshot.proofs.PartCounts.{as_many-fewer}
 
 -- ---- two lists of documents
 
--- a refusal after some steps
-pub answers-refused : (request : Request QueryTree) (documents : List Fields)
-    (steps steps_now : ℕ) (result : Result IntermediateAggregationResults SnapshotError)
-    (P : SnapshotError → Type 0)
-    → steps_now ≤ steps + 3 * counted_of matches request documents → IsErrAnd result P
-    → AnswersResults request documents steps steps_now result
-answers-refused request documents steps steps_now (Ok results) P most refused = absurd refused
-answers-refused request documents steps steps_now (Err error) P most refused =
-    record { stands = tt; least = λ name. tt; most = most }
-
--- so for any error
+-- an error after some steps
 pub answers-failed : (request : Request QueryTree) (documents : List Fields)
     (steps steps_now : ℕ) (result : Result IntermediateAggregationResults SnapshotError)
     → steps_now ≤ steps + 3 * counted_of matches request documents → IsErr result
@@ -189,14 +179,14 @@ module _ (contexts first second : List SegmentContext) (half : ℕ)
       between (Ok merged) a steps_now (Ok more) b
 
   -- their shapes never differ
-  pub both-alike : ¬ (SomeOfBoth ShapesDiffer merged.results more.results)
+  both-alike : ¬ (SomeOfBoth ShapesDiffer merged.results more.results)
   both-alike =
       halves-alike request (documents-front request query segments contexts half ready)
       (documents-back request query segments contexts half ready) steps between steps_now merged
       more own rest
 
   -- no count or sum passes
-  pub both-few : ¬ (SomeOfBoth CountsPass merged.results more.results)
+  both-few : ¬ (SomeOfBoth CountsPass merged.results more.results)
   both-few =
       halves-few request (documents-front request query segments contexts half ready)
       (documents-back request query segments contexts half ready) steps between steps_now merged
@@ -204,6 +194,15 @@ module _ (contexts first second : List SegmentContext) (half : ℕ)
       (subst (All HasNumbersOf64Bits) (documents-cut request query segments contexts half ready)
       (numbers-in request query segments contexts ready.each))
       (few-cut request query segments contexts half ready)
+
+  -- so only memory may run out in a merge
+  pub both-memory : (error : MergeError)
+      → (error ≡ merge.Mismatch → SomeOfBoth ShapesDiffer merged.results more.results)
+      → (error ≡ merge.TooMany → SomeOfBoth CountsPass merged.results more.results)
+      → error ≡ merge.OutOfMemory
+  both-memory merge.Mismatch differ pass = absurd (both-alike (differ refl))
+  both-memory merge.TooMany differ pass = absurd (both-few (pass refl))
+  both-memory merge.OutOfMemory differ pass = refl
 
   -- merged, they are the results of all segments
   pub both-joined : (whole : IntermediateAggregationResults)
@@ -216,14 +215,7 @@ module _ (contexts first second : List SegmentContext) (half : ℕ)
       (documents-back request query segments contexts half ready) steps between steps_now merged
       more own rest whole are)
 
--- ---- no segment, and merges
-
--- an error that is neither is of memory
-pub only-memory : (error : MergeError) → ¬ (error ≡ merge.Mismatch) → ¬ (error ≡ merge.TooMany)
-    → error ≡ merge.OutOfMemory
-only-memory merge.Mismatch alike few = absurd (alike refl)
-only-memory merge.TooMany alike few = absurd (few refl)
-only-memory merge.OutOfMemory alike few = refl
+-- ---- no segment
 
 -- no results stand for no documents
 nothing-stands : (depth : ℕ) (a : Aggregation QueryTree) → StandsTo matches depth a [] None

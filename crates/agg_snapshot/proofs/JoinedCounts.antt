@@ -100,11 +100,6 @@ module _ {B : Type 0} (is_match : B → Fields → Bool) where
   counted-append request =
       below-adds (levels request) (node-adds (levels request)) request (omega arith)
 
--- of no documents they count none
-pub counted-none : {B : Type 0} (is_match : B → Fields → Bool) (request : Request B)
-    → counted_of is_match request [] ≡ 0
-counted-none is_match request = let twice = counted-append is_match request [] [] in omega arith
-
 -- the occurrences past a bound in two lists
 pub past-joined : (sources : Sources) (bound : KeyTuple) (xs ys : List Fields)
     → length (past_occurrences sources bound (xs ++ ys))

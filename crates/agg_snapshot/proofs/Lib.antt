@@ -6,6 +6,7 @@ pub mod LeastVisits
 pub mod MarkedDocuments
 pub mod PartCounts
 pub mod Refusals
+pub mod RightTrees
 pub mod SegmentTrees
 pub mod StartRanges
 pub mod TakenParts

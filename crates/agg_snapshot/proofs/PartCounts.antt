@@ -10,19 +10,12 @@ use Rattle.agg_request_tree.specs.declared.aggregation.AggregationVariants as va
 use variants.{AggregationVariants}
 use variants.TheVariants.{Filter, Composite, Count, Max, Min, Sum}
 use Rattle.agg_request_tree.proofs.Lists.{AllByRecursion-append}
+use Rattle.agg_request_tree.proofs.PairedLists.{AllZip-append}
 use Rattle.agg_request_tree.proofs.RequestTrees.{height, height-out, levels}
 use Rattle.agg_request_tree.proofs.UncutLists.{uncut_lists-out}
 use Rattle.agg_results.specs.StandsFor.{IsPart}
 use Rattle.agg_results.proofs.Parts.{part-itself, part-left, part-length, part-right}
 use Rattle.agg_results.proofs.UncutParts.{uncut-part}
-
-AllZip-append : {X Y : Type 0} (R : X → Y → Type 0) (xs us : List X) (ys vs : List Y)
-    → AllZip R xs ys → AllZip R us vs → AllZip R (xs ++ us) (ys ++ vs)
-AllZip-append R [] us [] vs first rest = rest
-AllZip-append R [] us (y ∷ ys) vs first rest = absurd first
-AllZip-append R (x ∷ xs) us [] vs first rest = absurd first
-AllZip-append R (x ∷ xs) us (y ∷ ys) vs first rest =
-    (first.0, AllZip-append R xs us ys vs first.1 rest)
 
 module _ {B : Type 0} (is_match : B → Fields → Bool) where
   -- the lists of an aggregation and of those below it

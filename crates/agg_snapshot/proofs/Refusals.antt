@@ -42,8 +42,3 @@ module _ (request : Request QueryTree) (documents : List Fields) where
   refusal-counts error.BucketOutOfRange in_range refused = absurd refused
   refusal-counts error.TooMany in_range refused = (in_range, refused)
   refusal-counts error.OutOfMemory in_range refused = tt
-
-  -- so is running out of memory
-  pub refusal-memory : (given : SnapshotError) → given ≡ error.OutOfMemory
-      → IsRefusal request documents given
-  refusal-memory given is = subst (IsRefusal request documents) (sym is) tt

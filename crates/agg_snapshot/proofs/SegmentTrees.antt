@@ -1,14 +1,12 @@
 -- The tree of a segment's context takes the documents of the segment that match.
 use Rattle.std.proofs.Common.{◌≡◌, ◌≤◌, ◌<◌, ◌+◌, ◌*◌, ℕ, List, [], ◌∷◌, false, true, Some}
-use Rattle.std.proofs.Common.{Ok, map, refl, sym, ap, ◌∙◌, subst, arith, append-nil}
+use Rattle.std.proofs.Common.{Ok, length, map, refl, sym, ap, ◌∙◌, subst, arith, append-nil}
 use Rattle.std.specs.List.{All}
 use Rattle.std.proofs.lemmas.List.Elements.{All-filter}
-use Rattle.std.proofs.lemmas.List.FromFn.{length-map-range_with_len}
-use Rattle.agg_cache.specs.Waiting.{docs_of, is_id, under}
-use Rattle.agg_cache.proofs.UnderIds.{docs_of-same}
+use Rattle.agg_cache.specs.Waiting.{under}
 use Rattle.agg_column.specs.Document.{HasNumbersOf64Bits}
 use Rattle.agg_segment.specs.Query.{matches}
-use Rattle.agg_segment.specs.Segment.{Stored, document_at, documents_at, documents_of}
+use Rattle.agg_segment.specs.Segment.{Stored, documents_at, documents_of}
 use Rattle.agg_segment.specs.declared.query.QueryTree.{QueryTree}
 use Rattle.agg_request_tree.specs.Ranges.{HasStartOutOfRange}
 use Rattle.agg_request_tree.specs.Request.{Request}
@@ -18,13 +16,13 @@ use Rattle.agg_intermediate_results.specs.declared.results.IntermediateAggregati
 use held.{IntermediateAggregationResults}
 use Rattle.agg_results.specs.StandsFor.{StandsFor}
 use Rattle.agg_segment_context.specs.Context.{IsMeant, Meaning}
-use Rattle.agg_segment_context.specs.Plan.{Plans, plan_of, plans_of}
+use Rattle.agg_segment_context.specs.Plan.{plan_of, plans_of}
 use Rattle.agg_segment_context.specs.declared.context.PerRequestAggSegCtx.{PerRequestAggSegCtx}
 use Rattle.agg_collector_tree.specs.Counting.{counted_of}
 use Rattle.agg_collector_tree.specs.Tree.{Fits, Held, IsFor, IsGroupOf, Takes}
+use Rattle.agg_collector_tree.proofs.TakenParts.{takes-both}
 use Rattle.agg_tree_results.specs.Names.{HasNamesApart}
-use Rattle.agg_tree_results.specs.Results.{AreDocsOf, GroupStands, IsTrail}
-use Rattle.agg_tree_results.proofs.ApartNames.{apart-group}
+use Rattle.agg_tree_results.specs.Results.{GroupStands}
 use Rattle.agg_snapshot.specs.Answers.{AnswersResults}
 use Rattle.agg_snapshot.specs.Contexts.{IsContextOf, MayBeCollected}
 use Rattle.agg_snapshot.specs.Documents.{matching_in}
@@ -33,12 +31,8 @@ use Rattle.agg_snapshot.specs.Trees.{IsRight, MayBeTaken, MayTake, MostSteps}
 use Rattle.agg_snapshot.specs.declared.context.SegmentContext.{SegmentContext}
 use Rattle.agg_snapshot.proofs.Contexts.{documents-here, matching-one}
 use Rattle.agg_snapshot.proofs.LeastVisits.{group-least}
-use Rattle.agg_snapshot.proofs.TakenParts.{may-second, most-both, takes-both}
-
--- the numbers of pairs under a parent
-docs_in-under : (docs : List ℕ) → docs_in (under 0 docs) ≡ docs
-docs_in-under [] = refl
-docs_in-under (doc ∷ docs) = ap (λ ds. doc ∷ ds) (docs_in-under docs)
+use Rattle.agg_snapshot.proofs.RightTrees.{docs_in-under, right-apart, right-more, right-stands}
+use Rattle.agg_snapshot.proofs.TakenParts.{may-second, most-both}
 
 -- a tree right after it was made
 pub record IsNew (ctx : PerRequestAggSegCtx) (reader : Stored) (h : Held) : Type 0 where
@@ -58,9 +52,6 @@ module _ (request : Request QueryTree) (query : QueryTree) (segment : Stored)
 
   abbrev pub meaning : Meaning
   meaning = is.meaning
-
-  abbrev plans : Plans
-  plans = plans_of (map plan_of ctx.agg_tree)
 
   -- the documents that match
   documents-of : (taken : List ℕ) → taken ≡ docs
@@ -143,29 +134,23 @@ module _ (request : Request QueryTree) (query : QueryTree) (segment : Stored)
           (takes-both ctx (under 0 docs) [] old mid steps steps_mid took true new steps_now flushed)
 
       -- it is right for what it took
-      pub right-flushed : (visits : ℕ) × IsFor meaning ctx new (under 0 docs) visits
+      pub right-flushed : (visits : ℕ) × IsRight ctx request meaning new (under 0 docs) visits
           × (steps + visits ≤ steps_now)
       right-flushed =
-          let right = right-new old made in
-          let now = both.takes meaning is.means.aggregations.meant [] 0 right.right in
+          let now = right-more ctx request meaning (under 0 docs) true old new steps steps_now both
+          [] 0 (right-new old made) in
           (now.0, now.1, omega (arith, now.3))
-
-      pub nodes-flushed : IsGroupOf plans new
-      nodes-flushed = both.group plans made.nodes
 
       -- its names are apart
       pub apart-flushed : HasNamesApart ctx new
       apart-flushed =
-          apart-group meaning ctx new request plans is.means.aggregations.tree nodes-flushed
-          ready.names
+          let now = right-flushed in
+          right-apart ctx request meaning new docs now.0 now.1 ready.names
 
-      within-taken : AreDocsOf meaning.segment (docs_of (is_id 0) (under 0 docs))
+      within-taken : All (λ doc. doc < length (documents_of meaning.segment)) docs
       within-taken =
-          let long = length-map-range_with_len (document_at segment) 0 segment.count in
-          let count = ap (λ s. s.count) is.means.same in
-          subst (All (λ doc. doc < meaning.segment.count))
-          (sym (docs_of-same 0 docs ∙ same))
-          (subst (λ n. All (λ doc. doc < n) given.docs.items) (long ∙ sym count) is.within)
+          subst (λ s. All (λ doc. doc < length (documents_of s)) docs) (sym is.means.same)
+          (subst (All (λ doc. doc < length (documents_of segment))) (sym same) is.within)
 
       -- its results are those of the documents that match
       pub answers-flushed : (results : IntermediateAggregationResults)
@@ -174,23 +159,16 @@ module _ (request : Request QueryTree) (query : QueryTree) (segment : Stored)
           → AnswersResults request (matching_in query (segment ∷ [])) steps steps_now (Ok results)
       answers-flushed results stands most =
           let now = right-flushed in
-          let trail : IsTrail meaning ctx new (Some 0) (under 0 docs) =
-          record {
-            meant = is.means.aggregations.meant;
-            visits = now.0;
-            right = now.1;
-            within = within-taken;
-          } in
           record {
             stands = subst (λ ds. StandsFor matches request ds results.results)
-                (documents-of (docs_of (is_id 0) (under 0 docs)) (docs_of-same 0 docs))
-                (stands meaning (under 0 docs) trail request plans is.means.aggregations.tree
-                nodes-flushed);
+                (documents-of docs refl)
+                (right-stands ctx request meaning new docs now.0 now.1 within-taken
+                results.results stands);
             least = λ name. omega (
               arith,
               now.2,
-              group-least meaning ctx (under 0 docs) name plans request is.means.aggregations.tree
-                  new nodes-flushed now.0 now.1,
+              group-least meaning ctx (under 0 docs) name (plans_of (map plan_of ctx.agg_tree))
+                  request now.1.context.tree new now.1.nodes now.0 now.1.right,
               ap (past_named name request) documents-taken,
             );
             most = most-flushed steps_now most;

@@ -1,5 +1,5 @@
 -- A tree takes documents in two parts.
-use Rattle.std.proofs.Common.{◌≡◌, ◌≤◌, ◌+◌, ◌*◌, ◌^◌, ◌++◌, ℕ, List, Bool, false, map, sym, ap}
+use Rattle.std.proofs.Common.{◌≡◌, ◌≤◌, ◌+◌, ◌*◌, ◌^◌, ◌++◌, ℕ, List, false, sym, ap}
 use Rattle.std.proofs.Common.{◌∙◌, subst, arith, take, drop}
 use Rattle.std.specs.List.{All}
 use Rattle.std.proofs.lemmas.List.{append_assoc, map-append, take-append-drop}
@@ -8,20 +8,20 @@ use Rattle.agg_column.specs.Document.{Fields, HasNumbersOf64Bits}
 use Rattle.agg_segment.specs.Query.{matches}
 use Rattle.agg_segment.specs.Segment.{document_at, documents_at}
 use Rattle.agg_segment.specs.declared.query.QueryTree.{QueryTree}
-use Rattle.agg_segment.proofs.Encoded.{front_all}
+use Rattle.agg_segment.proofs.EncodedColumns.{front_all}
 use Rattle.agg_request_tree.specs.Ranges.{HasStartOutOfRange}
 use Rattle.agg_request_tree.specs.Request.{Request}
 use Rattle.agg_request_tree.specs.Uncut.{CountsTooMany}
 use Rattle.agg_buckets.specs.Visits.{docs_in}
 use Rattle.agg_buckets.proofs.Labels.{docs_in-append}
 use Rattle.agg_segment_context.specs.Context.{Meaning}
-use Rattle.agg_segment_context.specs.Plan.{plan_of, plans_of}
 use Rattle.agg_segment_context.specs.declared.context.PerRequestAggSegCtx.{PerRequestAggSegCtx}
 use Rattle.agg_collector_tree.specs.Counting.{counted_of}
-use Rattle.agg_collector_tree.specs.Tree.{Held, IsFor, Takes}
+use Rattle.agg_collector_tree.specs.Tree.{Held, Takes}
 use Rattle.agg_snapshot.specs.Trees.{IsRight, MayBeTaken, MayTake, MostSteps}
 use Rattle.agg_snapshot.proofs.JoinedCounts.{counted-append}
 use Rattle.agg_snapshot.proofs.PartCounts.{as_many-front}
+use Rattle.agg_snapshot.proofs.RightTrees.{right-more}
 use Rattle.agg_snapshot.proofs.StartRanges.{out-front}
 
 -- documents under a parent, in two parts
@@ -105,17 +105,11 @@ module _ (ctx : PerRequestAggSegCtx) (xs ys : List (ℕ × ℕ)) (old : Held) wh
       right-mid : (request : Request QueryTree) (meaning : Meaning) (taken : List (ℕ × ℕ))
           (visits : ℕ) → IsRight ctx request meaning old taken visits
           → (visits_now : ℕ) × IsRight ctx request meaning mid (taken ++ xs) visits_now
+          × (visits ≤ visits_now)
+          × (steps + visits_now ≤ steps_mid + visits)
           × (steps_mid + 3 * visits ≤ steps + 3 * visits_now)
-      right-mid request meaning taken visits right =
-          let now = first.takes meaning right.context.meant taken visits right.right in
-          let is : IsRight ctx request meaning mid (taken ++ xs) now.0 =
-          record {
-            context = right.context;
-            nodes = first.group (plans_of (map plan_of ctx.agg_tree)) right.nodes;
-            fits = first.fits right.fits;
-            right = now.1;
-          } in
-          (now.0, is, now.4)
+      right-mid request meaning =
+          right-more ctx request meaning xs false old mid steps steps_mid first
 
       -- it may take the second
       pub may-second : MayTake ctx old (xs ++ ys) → MayTake ctx mid ys
@@ -131,26 +125,6 @@ module _ (ctx : PerRequestAggSegCtx) (xs ys : List (ℕ × ℕ)) (old : Held) wh
                 may.all;
           }
 
-      -- both parts are taken
-      pub takes-both : (all : Bool) (new : Held) (steps_now : ℕ)
-          → Takes ctx ys all mid new steps_mid steps_now
-          → Takes ctx (xs ++ ys) all old new steps steps_now
-      takes-both all new steps_now second = record {
-        takes = λ meaning meant taken visits right.
-            let a = first.takes meaning meant taken visits right in
-            let b = second.takes meaning meant (taken ++ xs) a.0 a.1 in (
-              b.0,
-              subst (λ pairs. IsFor meaning ctx new pairs b.0) (append_assoc taken xs ys) b.1,
-              omega (arith, a.2, b.2),
-              omega (arith, a.3, b.3),
-              omega (arith, a.4, b.4),
-            );
-        same = λ plan is. second.same plan (first.same plan is);
-        group = λ plans is. second.group plans (first.group plans is);
-        fits = λ fits. second.fits (first.fits fits);
-        flushed = second.flushed;
-      }
-
       -- whatever is answered to the second part, the steps are few
       pub most-both : (steps_now : ℕ) → MostSteps ctx ys mid steps_mid steps_now
           → MostSteps ctx (xs ++ ys) old steps steps_now
@@ -159,7 +133,7 @@ module _ (ctx : PerRequestAggSegCtx) (xs ys : List (ℕ × ℕ)) (old : Held) wh
             let now = right-mid request meaning taken visits right in
             omega (
               arith,
-              now.2,
+              now.4,
               second.most request meaning (taken ++ xs) now.0 now.1,
               counted-same request meaning taken xs ys,
             );

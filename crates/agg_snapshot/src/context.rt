@@ -15,6 +15,7 @@ use std::alloc::Global;
 
 /// What a page is asked: a request, the trees of its filters with the page that is set, and which
 /// documents are counted.
+#[derive(Drop)]
 pub struct PageRequest<'a, B> {
     pub request: &'a NameMap<Aggregation<B>>,
     pub params: &'a AggContextParams,

@@ -12,3 +12,4 @@ mod taking;
 pub use context::PageRequest;
 pub use error::SnapshotError;
 pub use snapshot::snapshot_results;
+pub use taking::{flush, take_blocks};

@@ -91,14 +91,8 @@ fn shown<L: Ledger>(
         query,
     };
     let mut steps: Steps<L> = Steps::new(blank);
-    // A page is no value to be let go, so it is taken apart.
-    let results = snapshot_results(alloc, &page, segments.as_slice(), &mut steps);
-    let PageRequest {
-        request,
-        params: _,
-        query: _,
-    } = page;
-    let results = results?.into_final_result(request, &LimitsLedger::new(None, None))?;
+    let merged = snapshot_results(alloc, &page, segments.as_slice(), &mut steps)?;
+    let results = merged.into_final_result(request, &LimitsLedger::new(None, None))?;
     Ok(results.write_json()?)
 }
 

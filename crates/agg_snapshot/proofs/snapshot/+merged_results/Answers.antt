@@ -1,16 +1,34 @@
-use Rattle.std.proofs.Common.{◌≡◌, ◌/◌, List, [], ◌∷◌, Err, Ok, length, take, drop, sym, ap, subst}
-use Rattle.std.proofs.Common.{arith, rules}
+use Rattle.std.proofs.Common.{◌≤◌, ◌+◌, ◌*◌, ◌/◌, ℕ, List, [], ◌∷◌, Err, Ok, length}
+use Rattle.std.proofs.Common.{take, drop, sym, ap, subst, arith, rules}
+use Rattle.agg_segment.specs.Query.{matches}
 use Rattle.agg_segment.specs.Segment.{Stored}
 use Rattle.agg_segment.specs.declared.query.QueryTree.{QueryTree}
 use Rattle.agg_request_tree.specs.Request.{Request}
 use Rattle.agg_snapshot.specs.Answers.{AnswersResults}
 use Rattle.agg_snapshot.specs.Contexts.{MayBeCollected}
 use Rattle.agg_snapshot.specs.Documents.{matching_in}
+use Rattle.agg_snapshot.specs.Steps.{counted_of}
 use Rattle.agg_snapshot.proofs.Contexts.{lone-segment, no-item, no-segment, only-item}
 use Rattle.agg_snapshot.proofs.Contexts.{ready-back, ready-front}
-use Rattle.agg_snapshot.proofs.Halves.{answers-none, answers-refused, both-alike, both-few}
-use Rattle.agg_snapshot.proofs.Halves.{both-joined, both-most, first-most, only-memory}
+use Rattle.agg_snapshot.proofs.Halves.{answers-failed, answers-none, both-joined, both-memory}
+use Rattle.agg_snapshot.proofs.Halves.{both-most, first-most}
+use Rattle.agg_snapshot.proofs.snapshot.+merged_results.Given as given
 use Rattle.agg_snapshot.proofs.snapshot.+merged_results.Goals as goal
+use Rattle.agg_snapshot.proofs.snapshot.+merged_results.Goals.{After-merged_results-in_default}
+
+-- after the calls for both parts the steps are few
+few : (g : given.Over) (t : ℕ) (c : After-merged_results-in_default g t)
+    (request : Request QueryTree) (query : QueryTree) (segments : List Stored)
+    → MayBeCollected request query segments c.args.contexts.now
+    → c.merged_results-in_default.new.steps
+    ≤ c.args.steps.now + 3 * counted_of matches request (matching_in query segments)
+few g t c request query segments ready =
+    let contexts = c.args.contexts.now in
+    both-most contexts c.split_at.result.0.now c.split_at.result.1.now (length contexts / 2)
+    c.split_at.ensures.front c.split_at.ensures.back request query segments ready c.args.steps.now
+    c.merged_results.new.steps (Ok c.in_ok-merged-in_default.merged)
+    c.in_ok-merged-in_default.ensures.results c.merged_results-in_default.new.steps
+    c.merged_results-in_default.result c.merged_results-in_default.ensures.results
 
 pub segment_results-requires : goal.segment_results-requires
 segment_results-requires g t c =
@@ -47,13 +65,12 @@ pub returns-in_err-merged-in_default-clause-results :
     goal.returns-in_err-merged-in_default-clause-results
 returns-in_err-merged-in_default-clause-results g t c = λ request query segments ready.
     let contexts = c.args.contexts.now in
-    answers-refused request (matching_in query segments) c.args.steps.now
+    answers-failed request (matching_in query segments) c.args.steps.now
     c.merged_results.new.steps c.from_residual.result
-    (λ e. e ≡ c.in_err-merged-in_default.field-0.0)
     (first-most contexts c.split_at.result.0.now c.split_at.result.1.now (length contexts / 2)
     c.split_at.ensures.front c.split_at.ensures.back request query segments ready c.args.steps.now
     c.merged_results.new.steps (Err c.in_err-merged-in_default.field-0.0)
-    c.in_err-merged-in_default.ensures.results) c.from_residual.ensures.1
+    c.in_err-merged-in_default.ensures.results) c.from_residual.ensures.0
 
 pub merged_results-requires-in_default : goal.merged_results-requires-in_default
 merged_results-requires-in_default g t c κs within =
@@ -75,34 +92,23 @@ merged_results-requires-in_default g t c κs within =
 pub returns-in_err-more-in_default-clause-results :
     goal.returns-in_err-more-in_default-clause-results
 returns-in_err-more-in_default-clause-results g t c = λ request query segments ready.
-    let contexts = c.args.contexts.now in
-    answers-refused request (matching_in query segments) c.args.steps.now
+    answers-failed request (matching_in query segments) c.args.steps.now
     c.merged_results-in_default.new.steps c.from_residual-in_err-more-in_default.result
-    (λ e. e ≡ c.in_err-more-in_default.field-0.0)
-    (both-most contexts c.split_at.result.0.now c.split_at.result.1.now (length contexts / 2)
-    c.split_at.ensures.front c.split_at.ensures.back request query segments ready c.args.steps.now
-    c.merged_results.new.steps (Ok c.in_ok-merged-in_default.merged)
-    c.in_ok-merged-in_default.ensures.results c.merged_results-in_default.new.steps
-    (Err c.in_err-more-in_default.field-0.0) c.in_err-more-in_default.ensures.results)
-    c.from_residual-in_err-more-in_default.ensures.1
+    (few g t
+    (goal.at.returns-in_err-more-in_default-clause-results g t c).After-merged_results-in_default
+    request query segments ready)
+    c.from_residual-in_err-more-in_default.ensures.0
 
 pub out_of_memory-requires : goal.out_of_memory-requires
 out_of_memory-requires g t c =
     let contexts = c.args.contexts.now in
-    let half = length contexts / 2 in
-    only-memory c.in-Err.error
-    (λ was. both-alike contexts c.split_at.result.0.now c.split_at.result.1.now half
+    both-memory contexts c.split_at.result.0.now c.split_at.result.1.now (length contexts / 2)
     c.split_at.ensures.front c.split_at.ensures.back c.requires.0 c.requires.1 c.requires.2
     c.requires.3 c.args.steps.now c.merged_results.new.steps c.merged_results-in_default.new.steps
     c.in_ok-merged-in_default.merged c.in_ok-more-in_default.more
     c.in_ok-merged-in_default.ensures.results c.in_ok-more-in_default.ensures.results
-    (c.in-Err.ensures.mismatch (ap Err was)))
-    (λ was. both-few contexts c.split_at.result.0.now c.split_at.result.1.now half
-    c.split_at.ensures.front c.split_at.ensures.back c.requires.0 c.requires.1 c.requires.2
-    c.requires.3 c.args.steps.now c.merged_results.new.steps c.merged_results-in_default.new.steps
-    c.in_ok-merged-in_default.merged c.in_ok-more-in_default.more
-    c.in_ok-merged-in_default.ensures.results c.in_ok-more-in_default.ensures.results
-    (c.in-Err.ensures.too_many (ap Err was)).1)
+    c.in-Err.error (λ was. c.in-Err.ensures.mismatch (ap Err was))
+    (λ was. (c.in-Err.ensures.too_many (ap Err was)).1)
 
 pub returns-in-empty-clause-results : goal.returns-in-empty-clause-results
 returns-in-empty-clause-results g t c = λ request query segments given.
@@ -134,15 +140,9 @@ returns-in-Ok-clause-results g t c = λ request query segments ready.
     c.merge_fruits.new.self c.in-Ok.ensures.ok
 
 pub returns-in-Err-clause-results : goal.returns-in-Err-clause-results
-returns-in-Err-clause-results g t c = λ request query segments ready.
-    let contexts = c.args.contexts.now in
-    record {
-      stands = tt;
-      least = λ name. tt;
-      most = both-most contexts c.split_at.result.0.now c.split_at.result.1.now
-          (length contexts / 2) c.split_at.ensures.front c.split_at.ensures.back request query
-          segments ready c.args.steps.now c.merged_results.new.steps
-          (Ok c.in_ok-merged-in_default.merged) c.in_ok-merged-in_default.ensures.results
-          c.merged_results-in_default.new.steps (Ok c.in_ok-more-in_default.more)
-          c.in_ok-more-in_default.ensures.results;
-    }
+returns-in-Err-clause-results g t c = λ request query segments ready. record {
+  stands = tt;
+  least = λ name. tt;
+  most = few g t (goal.at.returns-in-Err-clause-results g t c).After-merged_results-in_default
+      request query segments ready;
+}

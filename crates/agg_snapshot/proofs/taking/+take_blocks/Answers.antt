@@ -2,8 +2,9 @@ use Rattle.std.proofs.Common.{◌/◌, Err, Ok, OnOk, false, length, subst, rule
 use Rattle.std.specs.declared.result.Result.{Result}
 use Rattle.agg_cache.specs.Waiting.{under}
 use Rattle.agg_collector_tree.specs.Tree.{held_of}
+use Rattle.agg_collector_tree.proofs.TakenParts.{takes-both}
 use Rattle.agg_snapshot.specs.Trees.{MayTake}
-use Rattle.agg_snapshot.proofs.TakenParts.{may-first, may-second, most-both, most-first, takes-both}
+use Rattle.agg_snapshot.proofs.TakenParts.{may-first, may-second, most-both, most-first}
 use Rattle.agg_snapshot.proofs.TakenParts.{under-cut}
 use Rattle.agg_snapshot.proofs.taking.+take_blocks.Goals as goal
 

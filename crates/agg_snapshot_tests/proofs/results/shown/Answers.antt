@@ -3,8 +3,8 @@ use Rattle.agg_request_tree.specs.Faults.{IsSoundRequest}
 use Rattle.agg_segment_context.specs.Pages.{paged}
 use Rattle.agg_snapshot_tests.proofs.results.shown.Goals as goal
 
-pub snapshot_results-results-requires : goal.snapshot_results-results-requires
-snapshot_results-results-requires g c =
+pub snapshot_results-requires : goal.snapshot_results-requires
+snapshot_results-requires g c =
     record {
       asked = record {
         trees = c.in_ok-params.ensures.of;
