@@ -1,0 +1,88 @@
+-- Whether a collector has failed doesn't tell for which documents it is right.
+use Rattle.std.proofs.Common.{◌≡◌, ◌++◌, ℕ, List, Bool, false, true, inl, inr, refl}
+use Rattle.agg_cache.specs.declared.error.CollectError.{CollectError}
+use Rattle.agg_cache.specs.declared.error.CollectError.TheVariants as error
+use Rattle.agg_segment.specs.Segment.{Stored}
+use Rattle.agg_segment.specs.declared.query.QueryTree.{QueryTree}
+use Rattle.agg_request_tree.specs.Request.{Request}
+use Rattle.agg_collectors.specs.Segment.{IsBlockCause, IsRightFor, IsRightForSome, IsTreeCause}
+use Rattle.agg_collectors.specs.Segment.{MayBeUsed, TakesBlock, TakesFew, TakesInTree}
+use Rattle.agg_collectors.specs.declared.segment.AggregationSegmentCollector as declared
+use declared.{AggregationSegmentCollector}
+
+-- a collector that may be used and has not failed is right for some documents
+pub right-usable : (old : AggregationSegmentCollector) → MayBeUsed old → old.has_failed ≡ false
+    → IsRightForSome old
+right-usable old (inl failed) works = absurd (cc (failed, works))
+right-usable old (inr right) works = right
+
+-- a collector is right for the same documents with another mark
+pub right-marked : (old : AggregationSegmentCollector) (has_failed : Bool)
+    (request : Request QueryTree) (segment : Stored) (docs : List ℕ) (visits : ℕ)
+    → IsRightFor request segment docs visits old
+    → IsRightFor request segment docs visits (record old { has_failed = has_failed })
+right-marked old has_failed request segment docs visits r = record {
+  reader = r.reader;
+  meaning = r.meaning;
+  same = r.same;
+  right = r.right;
+  names = r.names;
+  within = r.within;
+  numbers = r.numbers;
+  counts = r.counts;
+  range = r.range;
+  few = r.few;
+}
+
+module _ (old : AggregationSegmentCollector) (docs : List ℕ) where
+  -- the collector as it is marked while it takes documents
+  abbrev marked : AggregationSegmentCollector
+  marked = record old { has_failed = true }
+
+  -- it takes as few steps
+  pub few-marked : (steps steps_now : ℕ) → TakesFew docs marked steps steps_now
+      → TakesFew docs old steps steps_now
+  few-marked steps steps_now few = record {
+    most = λ request segment taken visits r.
+        few.most request segment taken visits
+        (right-marked old true request segment taken visits r);
+  }
+
+  -- it refuses documents for the same causes
+  pub cause-marked : (given : CollectError) → IsTreeCause docs marked given
+      → IsBlockCause docs old given
+  cause-marked error.BucketOutOfRange cause = λ request segment taken visits r.
+      cause request segment taken visits (right-marked old true request segment taken visits r)
+  cause-marked error.TooMany cause = λ request segment taken visits r.
+      cause request segment taken visits (right-marked old true request segment taken visits r)
+  cause-marked error.OutOfMemory cause = tt
+  cause-marked (error.Aggregation part) cause = absurd cause
+  cause-marked error.CollectorFailed cause = absurd cause
+
+  -- what it takes, it takes without a mark
+  pub takes-marked : (new : AggregationSegmentCollector) (steps steps_now : ℕ)
+      → old.has_failed ≡ false → TakesInTree docs marked new steps steps_now
+      → TakesBlock docs old (record new { has_failed = false }) steps steps_now
+  takes-marked new steps steps_now works took = record {
+    working = works;
+    takes = λ request segment taken visits right.
+        let now = took.takes request segment taken visits
+        (right-marked old true request segment taken visits right.right) in (
+          now.0,
+          record {
+            right = right-marked new false request segment (taken ++ docs) now.0 now.1;
+            working = refl;
+          },
+          now.2,
+          now.3,
+          now.4,
+        );
+  }
+
+-- a collector that took documents may be used
+pub usable-taken : (old new : AggregationSegmentCollector) (docs : List ℕ) (steps steps_now : ℕ)
+    → IsRightForSome old → TakesBlock docs old new steps steps_now → MayBeUsed new
+usable-taken old new docs steps steps_now (request, segment, taken, visits, right) took =
+    let now = took.takes request segment taken visits
+    (record { right = right; working = took.working }) in
+    inr (request, segment, taken ++ docs, now.0, now.1.right)

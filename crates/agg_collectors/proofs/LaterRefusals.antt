@@ -1,0 +1,112 @@
+-- Why a tree refuses documents after others that it took.
+use Rattle.std.proofs.Common.{◌≡◌, ◌<◌, ◌++◌, ℕ, List, [], false, inl, inr, sym, ap, ◌∙◌}
+use Rattle.std.proofs.Common.{subst}
+use Rattle.std.specs.Prelude.{slice_get}
+use Rattle.std.specs.List.{Contains}
+use Rattle.std.proofs.lemmas.List.{append_assoc}
+use Rattle.std.proofs.lemmas.List.Elements.{All-contains}
+use Rattle.agg_cache.specs.declared.error.CollectError.{CollectError}
+use Rattle.agg_cache.specs.declared.error.CollectError.TheVariants as refusal
+use Rattle.agg_column.specs.Document.{HasNumbersOf64Bits}
+use Rattle.agg_segment.specs.Segment.{documents_at}
+use Rattle.agg_request_tree.proofs.Lists.{All-from_Contains}
+use Rattle.agg_buckets.specs.Visits.{Within, docs_in}
+use Rattle.agg_buckets.proofs.Labels.{docs_in-append}
+use Rattle.agg_segment_context.specs.Context.{Meaning}
+use Rattle.agg_segment_context.specs.Plan.{Plans}
+use Rattle.agg_segment_context.specs.declared.context.PerRequestAggSegCtx.{PerRequestAggSegCtx}
+use Rattle.agg_collector_tree.specs.Refusals.{AreNotLast, HasStartOutOfRange, IsRefused, ManyTaken}
+use Rattle.agg_collector_tree.specs.Refusals.{RangeTaken, SomeHasStart}
+use Rattle.agg_collector_tree.specs.Tree.{HasSameNodes, HaveSameNodes, Held, Helds, IsGroupOf}
+use Rattle.agg_collector_tree.specs.Tree.{Takes}
+use Rattle.agg_collector_tree.proofs.Levels.{is-nothing, same-plan, same-plans}
+use Rattle.agg_collector_tree.proofs.ManyLists.{in-more, of-more}
+use Rattle.agg_collector_tree.proofs.RefusedNodes.{start-part}
+use Rattle.agg_collector_tree.proofs.SmallNumbers.{all-part}
+use Rattle.agg_collector_tree.proofs.UncutParts.{lighter-within}
+use Rattle.agg_collector_tree.proofs.WithinLists.{within-contains, within-part}
+
+module _ (meaning : Meaning) (ctx : PerRequestAggSegCtx) (docs : List ℕ) where
+  mutual
+    -- what has a start out of range has it in each tree of the same nodes
+    start-same : (h k : Held) → HasSameNodes h k → HasStartOutOfRange meaning ctx k docs
+        → HasStartOutOfRange meaning ctx h docs
+    start-same (Held.composite i a h) (Held.composite j b k) same (inl (req, at, out)) =
+        inl (req, ap (slice_get ctx.composite_req_data) same.0 ∙ at, out)
+    start-same (Held.composite i a h) (Held.composite j b k) same (inr s) =
+        inr (start-same h k same.1 s)
+    start-same (Held.filter i a h) (Held.filter j b k) same s = start-same h k same.1 s
+    start-same (Held.metric i a) (Held.metric j b) same s = s
+    start-same (Held.group hs) (Held.group ks) same s = some-same hs ks same s
+    start-same h k same s = absurd same
+
+    some-same : (hs ks : Helds) → HaveSameNodes hs ks → SomeHasStart meaning ctx ks docs
+        → SomeHasStart meaning ctx hs docs
+    some-same Helds.none Helds.none same s = s
+    some-same (Helds.more h hs) (Helds.more k ks) same (inl s) = inl (start-same h k same.0 s)
+    some-same (Helds.more h hs) (Helds.more k ks) same (inr s) = inr (some-same hs ks same.1 s)
+    some-same hs ks same s = absurd same
+
+module _ (ctx : PerRequestAggSegCtx) (xs ys zs : List (ℕ × ℕ)) (parents all : List ℕ)
+    (some : (parent : ℕ) → Contains parents parent → Contains all parent) (old mid : Held)
+    (steps steps_mid : ℕ) (took : Takes ctx xs false old mid steps steps_mid) where
+  -- those that are taken first are among all
+  front-within : (taken : List (ℕ × ℕ))
+      → Within (docs_in (taken ++ xs ++ ys)) (docs_in (taken ++ (xs ++ (ys ++ zs))))
+  front-within taken =
+      let whole : taken ++ xs ++ ys ++ zs ≡ taken ++ (xs ++ (ys ++ zs)) = simp append_assoc in
+      subst (Within (docs_in (taken ++ xs ++ ys)))
+      (sym (docs_in-append (taken ++ xs ++ ys) zs) ∙ ap docs_in whole)
+      (within-part [] (docs_in (taken ++ xs ++ ys)) (docs_in zs))
+
+  later-range : RangeTaken ctx ys parents mid → RangeTaken ctx (xs ++ (ys ++ zs)) all old
+  later-range r = record {
+    range = λ meaning is taken visits right.
+        let now = took.takes meaning is taken visits right in
+        start-same meaning ctx (docs_in (taken ++ (xs ++ (ys ++ zs)))) old mid took.nodes
+        (start-part meaning ctx (docs_in (taken ++ xs ++ ys))
+        (docs_in (taken ++ (xs ++ (ys ++ zs))))
+        (within-contains _ _ (front-within taken)) mid
+        (r.range meaning is (taken ++ xs) now.0 now.1));
+  }
+
+  none-last : AreNotLast all → AreNotLast parents
+  none-last low =
+      All-from_Contains (λ parent. parent < 4294967295) parents
+      (λ parent here. All-contains (λ parent. parent < 4294967295) all parent low
+      (some parent here))
+
+  later-many : ManyTaken ctx ys parents mid → ManyTaken ctx (xs ++ (ys ++ zs)) all old
+  later-many r = record {
+    some = λ none. r.some (is-nothing mid (same-plans Plans.none old mid took.nodes
+        (subst (IsGroupOf Plans.none) (sym none) tt)));
+    node = λ low meaning is taken small visits right name a plan of at.
+        let now = took.takes meaning is taken visits right in
+        let within = front-within taken in
+        in-more meaning ctx plan name a of
+        (documents_at meaning.segment (docs_in (taken ++ xs ++ ys)))
+        (documents_at meaning.segment (docs_in (taken ++ (xs ++ (ys ++ zs)))))
+        (lighter-within meaning.segment _ _ within)
+        (r.node (none-last low) meaning is (taken ++ xs)
+        (all-part HasNumbersOf64Bits meaning.segment _ _ (within-contains _ _ within) small)
+        now.0 now.1 name a plan of (same-plan plan old mid took.nodes at));
+    group = λ low meaning is taken small visits right request plans of at.
+        let now = took.takes meaning is taken visits right in
+        let within = front-within taken in
+        of-more meaning ctx plans request of
+        (documents_at meaning.segment (docs_in (taken ++ xs ++ ys)))
+        (documents_at meaning.segment (docs_in (taken ++ (xs ++ (ys ++ zs)))))
+        (lighter-within meaning.segment _ _ within)
+        (r.group (none-last low) meaning is (taken ++ xs)
+        (all-part HasNumbersOf64Bits meaning.segment _ _ (within-contains _ _ within) small)
+        now.0 now.1 request plans of (same-plans plans old mid took.nodes at));
+  }
+
+  -- a tree that took some pairs refuses the next ones for a reason to refuse all
+  pub later-refused : (error : CollectError) → IsRefused ctx ys parents mid error
+      → IsRefused ctx (xs ++ (ys ++ zs)) all old error
+  later-refused refusal.BucketOutOfRange r = later-range r
+  later-refused refusal.TooMany r = later-many r
+  later-refused refusal.OutOfMemory r = tt
+  later-refused (refusal.Aggregation limit) r = r
+  later-refused refusal.CollectorFailed r = r

@@ -1,0 +1,114 @@
+use Rattle.std.proofs.Common.{◌≡◌, ◌<◌, ◌++◌, ℕ, List, false, true, length, refl, sym}
+use Rattle.std.proofs.Common.{ap, ◌∙◌, subst}
+use Rattle.std.specs.List.{All}
+use Rattle.std.proofs.lemmas.List.{map-append}
+use Rattle.agg_segment.specs.Query.{matches}
+use Rattle.agg_segment.specs.Segment.{Stored, document_at, documents_at, documents_of}
+use Rattle.agg_segment.specs.declared.query.QueryTree.{QueryTree}
+use Rattle.agg_request_tree.specs.Ranges.{HasStartOutOfRange}
+use Rattle.agg_request_tree.specs.Request.{Request}
+use Rattle.agg_request_tree.specs.Uncut.{CountsTooMany}
+use Rattle.agg_uncut.specs.Uncut.{uncut_lengths}
+use Rattle.agg_collectors.specs.Segment.{IsRightFor}
+use Rattle.agg_collectors.proofs.RightCollectors.{Passes, few-none, few-taken, may-take}
+use Rattle.agg_collectors.proofs.RightCollectors.{right-taken}
+use Rattle.agg_collectors.proofs.segment.AggregationSegmentCollector.take.Given as given
+use Rattle.agg_collectors.proofs.segment.AggregationSegmentCollector.take.Goals as goal
+use Rattle.agg_collectors.proofs.segment.AggregationSegmentCollector.take.Goals.{After-is_too_many}
+
+module _ (g : given.Over) (c : After-is_too_many g) (request : Request QueryTree)
+    (segment : Stored) (taken : List ℕ) (visits : ℕ)
+    (r : IsRightFor request segment taken visits c.args.self.now) where
+  -- no start is out of range in the documents
+  in_range : ¬ (HasStartOutOfRange request (documents_at segment c.args.docs.now))
+  in_range =
+      subst (λ s. ¬ (HasStartOutOfRange request (documents_at s c.args.docs.now))) r.same
+      (c.if-not-are_starts_in_range.ensures r.meaning request r.right.context)
+
+  -- the counts are those of all
+  sums : c.add.new.self
+      ≡ uncut_lengths request (documents_at segment taken ++ documents_at segment c.args.docs.now)
+  sums =
+      c.add.ensures.documents request (documents_at segment taken)
+      (documents_at segment c.args.docs.now) r.counts
+      (c.deref.ensures.value
+      ∙ c.in_ok-counts.ensures r.meaning request (r.same ∙ sym r.reader) r.right.context
+      ∙ ap (λ s. uncut_lengths request (documents_at s c.args.docs.now)) r.reader)
+
+  -- the documents pass where none are too many
+  passes : c.is_too_many.result ≡ false
+      → Passes request segment taken visits c.args.self.now r c.args.docs.now c.add.new.self
+  passes not = record {
+    within = subst (λ s. All (λ doc. doc < length (documents_of s)) c.args.docs.now) r.reader
+        c.requires.within;
+    range = in_range;
+    few = λ many.
+        let yes : c.is_too_many.result ≡ true = (c.is_too_many.ensures.documents request
+        (documents_at segment taken ++ documents_at segment c.args.docs.now) sums).1 many in
+        cc;
+    sums = sums;
+  }
+
+pub returns-then-not-are_starts_in_range-clause-cause :
+    goal.returns-then-not-are_starts_in_range-clause-cause
+returns-then-not-are_starts_in_range-clause-cause g c = λ request segment taken visits r.
+    subst (λ s. HasStartOutOfRange request (documents_at s c.args.docs.now)) r.same
+    (c.if-not-are_starts_in_range.ensures r.meaning request r.right.context)
+
+pub returns-then-not-are_starts_in_range-clause-most :
+    goal.returns-then-not-are_starts_in_range-clause-most
+returns-then-not-are_starts_in_range-clause-most g c =
+    few-none c.args.self.now c.args.docs.now c.args.steps.now
+
+pub uncut_lengths-requires-clause-context : goal.uncut_lengths-requires-clause-context
+uncut_lengths-requires-clause-context g c =
+    let r = c.requires.right.4 in
+    (r.meaning, c.requires.right.0, r.same ∙ sym r.reader, r.right.context)
+
+pub returns-in_err-counts-clause-most : goal.returns-in_err-counts-clause-most
+returns-in_err-counts-clause-most g c =
+    few-none c.args.self.now c.args.docs.now c.args.steps.now
+
+pub returns-then-is_too_many-clause-cause : goal.returns-then-is_too_many-clause-cause
+returns-then-is_too_many-clause-cause g c = λ request segment taken visits r.
+    let at = (goal.at.returns-then-is_too_many-clause-cause g c).After-is_too_many in
+    let documents = documents_at segment taken ++ documents_at segment c.args.docs.now in (
+      in_range g at request segment taken visits r,
+      subst (CountsTooMany matches request)
+          (sym (map-append (document_at segment) taken c.args.docs.now))
+          ((c.if-is_too_many.ensures.documents request documents
+          (sums g at request segment taken visits r)).0 refl),
+    )
+
+pub returns-then-is_too_many-clause-most : goal.returns-then-is_too_many-clause-most
+returns-then-is_too_many-clause-most g c =
+    few-none c.args.self.now c.args.docs.now c.args.steps.now
+
+pub take_blocks-requires : goal.take_blocks-requires
+take_blocks-requires g c =
+    let at = (goal.at.take_blocks-requires g c).After-is_too_many in
+    let r = c.requires.right in
+    may-take r.0 r.1 r.2 r.3 c.args.self.now r.4 c.args.docs.now c.add.new.self
+    (passes g at r.0 r.1 r.2 r.3 r.4 c.if-is_too_many.false)
+
+pub returns-in_err-take_blocks-clause-most : goal.returns-in_err-take_blocks-clause-most
+returns-in_err-take_blocks-clause-most g c =
+    few-taken c.args.self.now c.args.docs.now c.args.steps.now c.take_blocks.new.steps
+    c.in_err-take_blocks.ensures.most
+
+pub returns-clause-ok : goal.returns-clause-ok
+returns-clause-ok g c =
+    let at = (goal.at.returns-clause-ok g c).After-is_too_many in
+    record {
+      takes = λ request segment taken visits r.
+          right-taken request segment taken visits c.args.self.now r c.args.docs.now
+          c.add.new.self
+          (passes g at request segment taken visits r c.if-is_too_many.false)
+          c.take_blocks.new.tree c.args.steps.now c.take_blocks.new.steps
+          c.in_ok-take_blocks.ensures.takes;
+    }
+
+pub returns-clause-most : goal.returns-clause-most
+returns-clause-most g c =
+    few-taken c.args.self.now c.args.docs.now c.args.steps.now c.take_blocks.new.steps
+    c.in_ok-take_blocks.ensures.most

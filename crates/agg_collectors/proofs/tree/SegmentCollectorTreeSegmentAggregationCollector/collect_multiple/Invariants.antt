@@ -1,0 +1,11 @@
+use Rattle.std.proofs.Common.{◌≤◌, false, length, take, zip}
+use Rattle.agg_collector_tree.specs.Tree.{Takes, held_of}
+use Rattle.agg_collectors.proofs.tree.SegmentCollectorTreeSegmentAggregationCollector as of_tree
+use of_tree.collect_multiple.Given as goal
+
+abbrev pub invariant-loop-bucket_id : goal.invariant-loop-bucket_id
+invariant-loop-bucket_id g l = record {
+  took : Takes l.agg_data.per_request (take (length l.yielded) (zip l.bucket_ids l.docs)) false
+      (held_of l.fn.self) (held_of l.self) l.fn.steps l.steps;
+  later : l.fn.steps ≤ l.steps;
+}

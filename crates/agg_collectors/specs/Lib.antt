@@ -1,0 +1,2 @@
+pub mod Fruits
+pub mod Segment

@@ -1,0 +1,106 @@
+//! The collector of a request, whose results over segments are merged and go on elsewhere.
+ghost use Rattle.std.specs.Prelude.{◌≡◌, [], All, IfErr, IfOk, List, false};
+ghost use Rattle.agg_column.specs.Document.{Fields, HasNumbersOf64Bits};
+ghost use Rattle.agg_segment.specs.Query.{matches};
+ghost use Rattle.agg_segment.specs.declared.query.QueryTree.{QueryTree as Tree};
+ghost use Rattle.agg_request_tree.specs.Names.{NamesAscend};
+ghost use Rattle.agg_request_tree.specs.Request.{Request, with_builders};
+ghost use Rattle.agg_intermediate_results.specs.Empty.{empty_results};
+ghost use Rattle.agg_results.specs.StandsFor.{StandsFor};
+ghost use Rattle.agg_segment_context.specs.Pages.{paged};
+ghost use Rattle.agg_segment_context.specs.Trees.{AreOfRequest, AreTreesOf};
+ghost use Rattle.agg_collectors.specs.Fruits.{IsMergeCause, StandForEach, joined};
+ghost use Rattle.agg_collectors.specs.Segment.{CollectorFor, IsSetupCause, MayBeUsed};
+
+use crate::AggregationSegmentCollector;
+use crate::empty::empty_paged;
+use crate::merging::merged;
+use agg_cache::LimitsLedger;
+use agg_request_tree::Aggregations;
+use agg_results::{IntermediateAggregationResults, MergeError};
+use agg_segment::SegmentReader;
+use agg_segment_context::{AggContextParams, SetupError};
+use agg_values::ItemList;
+
+/// A request with its context. Each segment gets a collector, and the results of all segments
+/// become one intermediate result, which can be merged with those of other machines.
+#[derive(Drop)]
+pub struct DistributedAggregationCollector<'a> {
+    agg: &'a Aggregations,
+    context: AggContextParams,
+}
+
+impl<'a> DistributedAggregationCollector<'a> {
+    /// The collector of a request, with a context that was made for it.
+    pub fn from_aggs(
+        agg: &'a Aggregations,
+        context: AggContextParams,
+    ) -> DistributedAggregationCollector<'a>
+        requires { AreOfRequest agg.now context.trees }
+        ensures agg { result.agg.now ≡ agg.now }
+        ensures context { result.context ≡ context }
+    {
+        DistributedAggregationCollector { agg, context }
+    }
+
+    /// The collector of the request in a segment.
+    pub fn for_segment<'s>(
+        &'s self,
+        reader: &'s SegmentReader,
+        limits: &mut LimitsLedger,
+    ) -> Result<AggregationSegmentCollector<'s>, SetupError>
+        requires { AreOfRequest self.now.agg.now self.now.context.trees }
+        ensures ok { IfOk result (λ collector. (made : _ → Tree)
+            → AreTreesOf made self.now.agg.now self.now.context.trees
+            → CollectorFor (paged self.now.context.page (with_builders made self.now.agg.now))
+            reader.now [] 0 collector) }
+        ensures usable { IfOk result MayBeUsed }
+        ensures reader { IfOk result (λ collector. collector.reader.now ≡ reader.now) }
+        ensures cause { IfErr result
+            (IsSetupCause (paged self.now.context.page self.now.agg.now)) }
+        ensures guard { IfOk result (λ collector. collector.guard ≡ 0) }
+        ensures limits { limits.new ≡ limits.old }
+    {
+        let alloc = self.agg.allocator();
+        AggregationSegmentCollector::from_agg_req_and_reader(
+            alloc,
+            self.agg,
+            reader,
+            &self.context,
+            limits,
+        )
+    }
+
+    /// Whether a collector needs the scores of documents. None does.
+    pub fn requires_scoring(&self) -> bool
+        ensures { result ≡ false }
+    {
+        false
+    }
+
+    /// The results of segments, merged in their order; of none, the empty results of the request
+    /// with the page that is set.
+    pub fn merge_fruits(
+        &self,
+        fruits: ItemList<IntermediateAggregationResults>,
+    ) -> Result<IntermediateAggregationResults, MergeError>
+        ensures empty { fruits ≡ [] → IfOk result (λ whole.
+            whole.results ≡ empty_results (paged self.now.context.page self.now.agg.now)) }
+        ensures ok { IfOk result (λ whole. (made : _ → Tree)
+            → NamesAscend self.now.agg.now → (lists : List (List Fields))
+            → StandForEach (paged self.now.context.page (with_builders made self.now.agg.now))
+            lists fruits
+            → StandsFor matches
+            (paged self.now.context.page (with_builders made self.now.agg.now)) (joined lists)
+            whole.results) }
+        ensures cause { IfErr result (λ error. (request : Request Tree)
+            (lists : List (List Fields)) → All HasNumbersOf64Bits (joined lists)
+            → StandForEach request lists fruits → IsMergeCause request (joined lists) error) }
+    {
+        let alloc = self.agg.allocator();
+        if fruits.as_slice().is_empty() {
+            return empty_paged(alloc, self.agg, self.context.page());
+        }
+        merged(alloc, fruits)
+    }
+}
