@@ -10,7 +10,7 @@ use Rattle.agg_segment_context.specs.declared.error.SetupError.{SetupError}
 use Rattle.agg_segment_context.specs.declared.error.SetupError.TheVariants as setup
 use Rattle.agg_engine.specs.NamedComposite.{NamesComposite}
 use Rattle.agg_engine.specs.Refusals.{HasCause}
-use Rattle.agg_engine.specs.Snapshot.{SnapshotDocuments}
+use Rattle.agg_segment.specs.Snapshot.{SnapshotDocuments}
 use Rattle.agg_engine.specs.Walk.{HaveRoom}
 use Rattle.agg_engine.specs.WalkError.{error_from_setup}
 

@@ -19,7 +19,7 @@ use Rattle.agg_segment_context.specs.Pages.{changed, request_after, request_at_s
 use Rattle.agg_segment_context.specs.Pages.{request_changed_at, with_after, with_size}
 use Rattle.agg_snapshot.specs.Steps.{counted_in, counted_of, own_counted, past_named, past_own}
 use Rattle.agg_snapshot.proofs.JoinedCounts.{counted_in-out}
-use Rattle.agg_engine.proofs.ChangedRequests.{AsksLike, after-like, size-like}
+use Rattle.agg_collectors.proofs.ChangedRequests.{AsksLike, after-like, size-like}
 use Rattle.agg_engine.proofs.NamedPlaces.{named-changed}
 
 module _ {B : Type 0} (is_match : B → Fields → Bool) where

@@ -2,10 +2,7 @@ pub mod AfterKeys
 pub mod AscendingKeys
 pub mod BuilderFaults
 pub mod BuiltCounts
-pub mod BuiltRequests
 pub mod ChangedCounts
-pub mod ChangedRequests
-pub mod KeptFinals
 pub mod MergedResults
 pub mod NamedPlaces
 pub mod NoNull

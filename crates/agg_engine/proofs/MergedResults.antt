@@ -1,45 +1,18 @@
 -- The merged results of a request over documents, and what follows of those under the trees that
 -- its builders made.
-use Rattle.std.proofs.Common.{◌≡◌, List, Bool, Option, None, Some, false, refl, sym, subst, ap}
-use Rattle.std.proofs.Common.{◌∙◌}
-use Rattle.std.specs.Prelude.{unwrap_or}
-use Rattle.std.specs.Option.{option_map_or}
+use Rattle.std.proofs.Common.{◌≡◌, List, Bool, sym, subst}
 use Rattle.std.specs.List.{Any}
 use Rattle.agg_column.specs.Document.{Fields}
-use Rattle.agg_segment.specs.Query.{matches, matches_by}
+use Rattle.agg_segment.specs.Query.{matches}
 use Rattle.agg_segment.specs.declared.query.QueryTree.{QueryTree}
-use Rattle.agg_segment.specs.declared.query.QueryTree.TheFolds.{fold-roll-QueryTree}
-use Rattle.agg_segment.specs.declared.query.QueryTree.TheOpen as layer
-use Rattle.agg_segment.specs.declared.query.QueryTree.TheVariants as tree
-use tree.{Empty}
-use Rattle.agg_request_tree.specs.Matching.{built_matches}
 use Rattle.agg_request_tree.specs.Ranges.{HasOwnStartOutOfRange, HasStartOutOfRange}
 use Rattle.agg_request_tree.specs.Request.{Request, with_builders}
 use Rattle.agg_request_tree.specs.Uncut.{CountsTooMany}
 use Rattle.agg_intermediate_results.specs.Intermediate.{Held}
 use Rattle.agg_results.specs.StandsFor.{StandsFor}
-use Rattle.agg_segment_context.specs.Trees.{built_tree}
-use Rattle.agg_engine.proofs.BuiltCounts.{composites-built, lists-built}
-use Rattle.agg_engine.proofs.BuiltRequests.{stands-built}
-
--- nothing matches the empty query
-none-matches : (document : Fields) → false ≡ matches Empty document
-none-matches document =
-    sym (ap (λ query. matches query document) (sym tree.rolls-Empty)
-    ∙ ap (λ (is : Fields → Bool). is document)
-    (fold-roll-QueryTree (Fields → Bool) matches_by layer.Empty))
-
--- what a builder's query matches is what the tree matches that stands in its place
-pub tree-matches : {B : Type 0} (query_for : B → Option QueryTree) (builder : B)
-    (document : Fields)
-    → built_matches query_for builder document ≡ matches (built_tree query_for builder) document
-tree-matches query_for builder document = by (query_for builder)
-  where
-    by : (o : Option QueryTree)
-        → option_map_or (λ tree. matches tree document) o false
-        ≡ matches (unwrap_or o Empty) document
-    by None = none-matches document
-    by (Some tree) = refl
+use Rattle.agg_collectors.proofs.BuiltLists.{lists-built}
+use Rattle.agg_collectors.proofs.BuiltRequests.{stands-built}
+use Rattle.agg_engine.proofs.BuiltCounts.{composites-built}
 
 -- merged results stand for documents, whose starts are in range and of which few are counted
 pub record IsMergedOf {B : Type 0} (is_match : B → Fields → Bool) (request : Request B)

@@ -9,7 +9,7 @@ use Rattle.std.specs.List.Sorted.{IsStrictlySortedBy}
 use Rattle.std.specs.Map.{keys_of}
 use Rattle.std.proofs.lemmas.Map.Lookups.{exact_bytes}
 use Rattle.agg_values.specs.Names.{name_cmp, value_of}
-use Rattle.agg_segment.proofs.Encoded.{back_all, front_all}
+use Rattle.agg_segment.proofs.EncodedColumns.{back_all, front_all}
 use Rattle.agg_request_tree.specs.Faults.{IsSound, IsSoundRequest}
 use Rattle.agg_request_tree.specs.Request.{Request, agg_of, below_of, composites_in, composites_of}
 use Rattle.agg_request_tree.specs.Request.{own_composite}

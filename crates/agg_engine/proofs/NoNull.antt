@@ -16,9 +16,9 @@ use Rattle.agg_column.specs.declared.keys.ColumnKeys.TheVariants.{Addresses, Dat
 use Rattle.agg_segment.specs.declared.query.QueryTree.{QueryTree}
 use Rattle.agg_request_tree.proofs.Lists.{AllByRecursion-always, AllByRecursion-flat_map}
 use Rattle.agg_request_tree.proofs.Lists.{AllByRecursion-map}
-use Rattle.agg_engine.specs.Snapshot.{snapshot_documents}
+use Rattle.agg_segment.specs.Snapshot.{snapshot_documents}
 use Rattle.agg_engine.specs.Walk.{documents_in, matching_documents}
-use Rattle.agg_engine.specs.declared.walk.Snapshot.{Snapshot}
+use Rattle.agg_segment.specs.declared.snapshot.Snapshot.{Snapshot}
 use Rattle.agg_engine.proofs.AfterKeys.{HasNoNull}
 
 -- a key that a number stands for

@@ -11,7 +11,7 @@ use Rattle.agg_segment_context.specs.Pages.{request_after, request_at_size}
 use Rattle.agg_results.proofs.ResultExists.{AreResults-exist}
 use Rattle.agg_results.proofs.ResultOrders.{AreResults-reordering}
 use Rattle.agg_results.specs.Results.{AreResults}
-use Rattle.agg_engine.specs.Snapshot.{SnapshotDocuments}
+use Rattle.agg_segment.specs.Snapshot.{SnapshotDocuments}
 use Rattle.agg_engine.specs.Walk.{AreResultsAt, IfFull, IsWalk, after_in, matching_documents}
 
 -- a request has one result

@@ -25,12 +25,13 @@ use Rattle.agg_snapshot.specs.declared.context.PageRequest.{PageRequest}
 use Rattle.agg_snapshot.specs.declared.error.SnapshotError.{SnapshotError}
 use Rattle.agg_snapshot.specs.declared.error.SnapshotError.TheVariants as snapshot
 use Rattle.agg_snapshot.specs.Steps.{counted_of}
+use Rattle.agg_collectors.proofs.BuiltPages.{built-paged}
 use Rattle.agg_engine.specs.PageAnswers.{AnswersPage, IsFinalRefusal}
 use Rattle.agg_engine.specs.Refusals.{AreRefused}
 use Rattle.agg_engine.specs.WalkError.{error_from_snapshot}
 use Rattle.agg_engine.specs.declared.walk.error.WalkError.{WalkError}
 use Rattle.agg_engine.specs.declared.walk.error.WalkError.TheVariants as error
-use Rattle.agg_engine.proofs.BuiltCounts.{built-paged, counted-built, past-built}
+use Rattle.agg_engine.proofs.BuiltCounts.{counted-built, past-built}
 use Rattle.agg_engine.proofs.MergedResults.{IsMergedOf, many-built, none-built, range-built}
 use Rattle.agg_engine.proofs.ReachedPage.{fit-here, results-here}
 

@@ -11,7 +11,7 @@ use Rattle.agg_values.specs.Names.{Named, name_cmp}
 use Rattle.agg_values.specs.declared.after_key.AfterKey.{AfterKey}
 use Rattle.agg_values.specs.declared.error.InvalidArgument.TheVariants.{NoSource, TooManySources}
 use Rattle.agg_values.specs.declared.request_error.RequestError.TheVariants.{Invalid}
-use Rattle.agg_segment.proofs.Encoded.{back_all, front_all}
+use Rattle.agg_segment.proofs.EncodedColumns.{back_all, front_all}
 use Rattle.agg_request_tree.specs.Faults.{IsSound, IsSoundRequest}
 use Rattle.agg_request_tree.specs.Request.{Request, agg_of, aggregation_of, below_of, composites_in}
 use Rattle.agg_request_tree.specs.Request.{composites_of, own_composite}

@@ -16,9 +16,9 @@ use Rattle.agg_request_tree.specs.declared.aggregation.CompositeAggregation.{Com
 use Rattle.agg_segment_context.specs.Trees.{EachMakesTree}
 use Rattle.agg_snapshot.specs.Documents.{matching_in}
 use Rattle.agg_engine.specs.NamedComposite.{IsCompositeNamed}
-use Rattle.agg_engine.specs.Snapshot.{SnapshotDocuments, snapshot_documents, snapshots_documents}
+use Rattle.agg_segment.specs.Snapshot.{SnapshotDocuments, snapshot_documents, snapshots_documents}
 use Rattle.agg_engine.specs.Walk.{HaveRoom, MayBeAsked, matching_documents}
-use Rattle.agg_engine.specs.declared.walk.Snapshot.{Snapshot}
+use Rattle.agg_segment.specs.declared.snapshot.Snapshot.{Snapshot}
 
 -- every page has room
 HaveRoom-none : (snapshots : List Snapshot)

@@ -9,7 +9,7 @@ use Rattle.agg_request_tree.specs.declared.aggregation.CompositeAggregation.{Com
 use Rattle.agg_final_results.specs.declared.types.AggregationResults.{AggregationResults}
 use Rattle.agg_segment_context.specs.Pages.{request_after}
 use Rattle.agg_snapshot.specs.Steps.{counted_of, past_named}
-use Rattle.agg_engine.specs.Snapshot.{SnapshotDocuments}
+use Rattle.agg_segment.specs.Snapshot.{SnapshotDocuments}
 use Rattle.agg_engine.specs.Steps.{TakesAtMost, counted_over, past_pages}
 use Rattle.agg_engine.specs.Walk.{AreResultsAt, IsWalk, after_in, matching_documents}
 use Rattle.agg_engine.proofs.PagedRequests.{after-own}

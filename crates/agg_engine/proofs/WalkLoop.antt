@@ -18,9 +18,9 @@ use Rattle.agg_segment_context.specs.Pages.{paged, request_after}
 use Rattle.agg_segment_context.specs.declared.params.Page.{Page}
 use Rattle.agg_engine.specs.NamedComposite.{IsCompositeNamed}
 use Rattle.agg_engine.specs.PageAnswers.{MayGoOnFrom}
-use Rattle.agg_engine.specs.Snapshot.{SnapshotDocuments, snapshot_documents, snapshots_documents}
+use Rattle.agg_segment.specs.Snapshot.{SnapshotDocuments, snapshot_documents, snapshots_documents}
 use Rattle.agg_engine.specs.Walk.{IsWalk}
-use Rattle.agg_engine.specs.declared.walk.Snapshot.{Snapshot}
+use Rattle.agg_segment.specs.declared.snapshot.Snapshot.{Snapshot}
 use Rattle.agg_engine.proofs.NamedPlaces.{sound-named}
 use Rattle.agg_engine.proofs.PagedRequests.{after-own, here-sound}
 use Rattle.agg_engine.proofs.WalkState.{WalkState, state-out, state-start}

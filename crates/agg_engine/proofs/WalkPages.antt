@@ -20,7 +20,7 @@ use Rattle.agg_segment_context.specs.declared.params.Page.{Page}
 use Rattle.agg_snapshot.specs.Steps.{counted_of, past_named}
 use Rattle.agg_engine.specs.PageAnswers.{AnswersPage, IsShown, MayGoOnFrom}
 use Rattle.agg_engine.specs.Refusals.{IsRefused}
-use Rattle.agg_engine.specs.Snapshot.{SnapshotDocuments}
+use Rattle.agg_segment.specs.Snapshot.{SnapshotDocuments}
 use Rattle.agg_engine.specs.Walk.{IsWalk, after_in, matching_documents}
 use Rattle.agg_engine.specs.declared.walk.error.WalkError.{WalkError}
 use Rattle.agg_engine.proofs.AfterKeys.{HasNoNull, MayGoOnFrom-after}

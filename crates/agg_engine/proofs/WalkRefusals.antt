@@ -15,7 +15,7 @@ use Rattle.agg_final_results.specs.declared.types.AggregationResults.{Aggregatio
 use Rattle.agg_segment_context.specs.Pages.{request_after}
 use Rattle.agg_engine.specs.PageAnswers.{AnswersPage}
 use Rattle.agg_engine.specs.Refusals.{AreRefused, AreRefusedAt, HasCause, IsRefused}
-use Rattle.agg_engine.specs.Snapshot.{SnapshotDocuments}
+use Rattle.agg_segment.specs.Snapshot.{SnapshotDocuments}
 use Rattle.agg_engine.specs.Walk.{MayBeAsked}
 use Rattle.agg_engine.specs.declared.walk.error.WalkError.{WalkError}
 use Rattle.agg_engine.specs.declared.walk.error.WalkError.TheVariants as error

@@ -13,7 +13,7 @@ use Rattle.agg_final_results.specs.BucketCount.{results_buckets}
 use Rattle.agg_final_results.specs.declared.types.AggregationResults.{AggregationResults}
 use Rattle.agg_segment_context.specs.Pages.{request_after}
 use Rattle.agg_engine.specs.Refusals.{AreRefusedAt, IsRefused}
-use Rattle.agg_engine.specs.Snapshot.{SnapshotDocuments}
+use Rattle.agg_segment.specs.Snapshot.{SnapshotDocuments}
 use Rattle.agg_engine.specs.Walk.{AreResultsAt, IfFull, IsWalk, after_in}
 use Rattle.agg_engine.specs.declared.walk.error.WalkError.{WalkError}
 use Rattle.agg_engine.proofs.OneWalk.{results-same}

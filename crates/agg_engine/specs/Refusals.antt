@@ -16,7 +16,7 @@ use Rattle.agg_final_results.specs.BucketCount.{results_buckets}
 use Rattle.agg_final_results.specs.declared.types.AggregationResults.{AggregationResults}
 use Rattle.agg_results.specs.Results.{AreResults}
 use Rattle.agg_engine.specs.NamedComposite.{NamesComposite}
-use Rattle.agg_engine.specs.Snapshot.{SnapshotDocuments}
+use Rattle.agg_segment.specs.Snapshot.{SnapshotDocuments}
 use Rattle.agg_engine.specs.Walk.{AreResultsAt, HasFault, HaveRoom, MayBeAsked, after_in}
 use Rattle.agg_engine.specs.Walk.{matching_documents}
 use Rattle.agg_engine.specs.declared.walk.error.WalkError.{WalkError}

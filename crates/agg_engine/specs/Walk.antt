@@ -24,7 +24,7 @@ use final.BucketResult as buckets
 use final.CompositeBucketEntry.{CompositeBucketEntry}
 use final.FilterBucketResult.{FilterBucketResult}
 use Rattle.agg_results.specs.Results.{AreResults}
-use Rattle.agg_engine.specs.Snapshot.{SnapshotDocuments}
+use Rattle.agg_segment.specs.Snapshot.{SnapshotDocuments}
 
 -- the documents of a snapshot: those of its segments, joined
 abbrev pub documents_in : SnapshotDocuments → List Fields

@@ -10,7 +10,7 @@ ghost use Rattle.agg_request_tree.specs.declared.aggregation.CompositeAggregatio
 ghost use Rattle.agg_final_results.specs.declared.types.AggregationResults.{AggregationResults};
 ghost use Rattle.agg_results.specs.Results.{AreResults};
 ghost use Rattle.agg_engine.specs.NamedComposite.{IsCompositeNamed};
-ghost use Rattle.agg_engine.specs.Snapshot.{SnapshotDocuments};
+ghost use Rattle.agg_segment.specs.Snapshot.{SnapshotDocuments};
 ghost use Rattle.agg_engine.specs.Walk.{IsWalk, after_in};
 
 /// The walk over no snapshot has no page and has not ended.

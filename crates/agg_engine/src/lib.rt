@@ -4,7 +4,16 @@
 mod laws;
 mod walk;
 
+pub use agg_collectors::{
+    AggregationCollector, AggregationSegmentCollector, DistributedAggregationCollector,
+    SegmentAggregationCollector,
+};
+pub use agg_segment::Snapshot;
+pub use agg_segment_context::{
+    AggContextParams, AggKind, AggRefNode, AggTreeViewNode, AggregationsSegmentCtx,
+    PerRequestAggSegCtx, SetupError,
+};
 pub use laws::{
     a_full_page_shows_its_after_key, a_walk_over_no_snapshot_has_no_page, each_request_has_one_walk,
 };
-pub use walk::{Snapshot, Walk, WalkError, walk_pages};
+pub use walk::{Walk, WalkError, walk_pages};

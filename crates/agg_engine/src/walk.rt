@@ -13,7 +13,7 @@ ghost use Rattle.agg_values.specs.Nothing.{NoneIs};
 ghost use Rattle.agg_request_tree.specs.Matching.{built_matches};
 ghost use Rattle.agg_final_results.specs.BucketCount.{results_buckets};
 ghost use Rattle.agg_engine.specs.Refusals.{HasCause, IsRefused};
-ghost use Rattle.agg_engine.specs.Snapshot.{snapshots_documents};
+ghost use Rattle.agg_segment.specs.Snapshot.{snapshots_documents};
 ghost use Rattle.agg_engine.specs.Steps.{TakesAtMost, past_pages};
 ghost use Rattle.agg_engine.specs.Walk.{IsWalk, MayBeAsked};
 ghost use Rattle.agg_engine.specs.declared.walk.error.WalkError.{WalkError as Refusal};
@@ -21,7 +21,7 @@ ghost use Rattle.agg_engine.specs.declared.walk.error.WalkError.{WalkError as Re
 use agg_cache::LimitsLedger;
 use agg_request_tree::{Aggregations, check_request};
 use agg_results::AggregationResults;
-use agg_segment::{QueryTree, Schema, SegmentReader};
+use agg_segment::{QueryTree, Schema, Snapshot};
 use agg_segment_context::AggContextParams;
 use agg_snapshot::PageRequest;
 use agg_values::{InvalidArgument, ItemList, Steps, Text};
@@ -29,13 +29,6 @@ pub use error::WalkError;
 use page::{set_page, snapshot_page};
 use std::alloc::Global;
 use std::sync::ledger::Ledger;
-
-/// An index at one moment: its segments, and how many groups the page over it has room for.
-#[derive(Drop)]
-pub struct Snapshot {
-    pub segments: ItemList<SegmentReader>,
-    pub page_size: u32,
-}
 
 /// The pages of a walk, one for each reached snapshot.
 #[derive(Drop)]
@@ -48,6 +41,7 @@ pub struct Walk {
 /// Pages over the groups of a named composite. The first snapshot is reached with the request as it
 /// is, and a later one where the page before is full, with that page's last tuple as its bound.
 /// Each builder of the request is asked once for its query, for the schema, before any snapshot.
+/// An Ok is the walk of a request that may be asked, and no page of it is refused.
 pub fn walk_pages<L: Ledger>(
     alloc: Global,
     limits: &mut LimitsLedger,
@@ -58,7 +52,6 @@ pub fn walk_pages<L: Ledger>(
     snapshots: &ItemList<Snapshot>,
     steps: &mut Steps<L>,
 ) -> Result<Walk, WalkError>
-    // An Ok is the walk of a request that may be asked. No page of it is refused.
     ensures pages { IfOk result (λ walk. IsWalk
         (built_matches (λ b. tree_for (b.builder.vtable, b.builder.value) schema.now))
         name.now query.now request.now (snapshots_documents snapshots.now)
@@ -118,11 +111,6 @@ pub fn walk_pages<L: Ledger>(
             query,
         };
         let answer = snapshot_page(alloc, &page, snapshot.segments.as_slice(), limits, steps);
-        let PageRequest {
-            request: _request,
-            params: _params,
-            query: _query,
-        } = page;
         let results = answer?;
         before = bound::next_after(alloc, &results, name)?;
         pages.push(results)?;

@@ -3,7 +3,8 @@ use Rattle.agg_segment.specs.Query.{matches}
 use Rattle.agg_segment_context.specs.Pages.{paged}
 use Rattle.agg_segment_context.specs.Trees.{built_tree}
 use Rattle.agg_snapshot.specs.Documents.{matching_in}
-use Rattle.agg_engine.proofs.MergedResults.{merged-built, tree-matches}
+use Rattle.agg_collectors.proofs.BuiltTrees.{tree-matches}
+use Rattle.agg_engine.proofs.MergedResults.{merged-built}
 use Rattle.agg_engine.proofs.PageResults.{answers-final, answers-refused, asked-built}
 use Rattle.agg_engine.proofs.ReachedPage.{alike-here, known-here}
 use Rattle.agg_engine.proofs.walk.page.snapshot_page.Goals as goal

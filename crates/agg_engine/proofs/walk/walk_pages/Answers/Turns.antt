@@ -8,7 +8,7 @@ use Rattle.agg_segment_context.specs.Trees.{AreTreesOf, built_tree}
 use Rattle.agg_snapshot.specs.Documents.{matching_in}
 use Rattle.agg_final_results.specs.declared.types.AggregationResults.{AggregationResults}
 use Rattle.agg_engine.specs.PageAnswers.{AnswersPage}
-use Rattle.agg_engine.specs.Snapshot.{SnapshotDocuments, snapshot_documents, snapshots_documents}
+use Rattle.agg_segment.specs.Snapshot.{SnapshotDocuments, snapshot_documents, snapshots_documents}
 use Rattle.agg_engine.specs.Steps.{TakesAtMost}
 use Rattle.agg_engine.specs.Walk.{MayBeAsked}
 use Rattle.agg_engine.specs.declared.walk.error.WalkError.{WalkError}
