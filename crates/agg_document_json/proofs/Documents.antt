@@ -15,7 +15,8 @@ use Rattle.agg_column.specs.Document.{Fields, by_class}
 use Rattle.agg_json.specs.Json.{only_member, only_named}
 use Rattle.agg_document_json.proofs.Beside.{AllZip-unique}
 use Rattle.agg_document_json.specs.DocumentLine.{HasKey, IsAddressKey, IsDocument, IsDocumentLine}
-use Rattle.agg_document_json.specs.DocumentLine.{IsField, address_text_of, date_of, field_values, plain_key}
+use Rattle.agg_document_json.specs.DocumentLine.{IsField, address_text_of, date_of}
+use Rattle.agg_document_json.specs.DocumentLine.{field_values, plain_key}
 use Rattle.agg_values.specs.Nothing.{NoneIs}
 
 pub same_value : {A : Type 0} (a b : A) → Some a ≡ Some b → a ≡ b

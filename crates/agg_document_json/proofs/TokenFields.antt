@@ -16,10 +16,12 @@ use Rattle.agg_column.specs.Document.{Fields, by_class}
 use Rattle.agg_segment.specs.Segment.{Gathered, IsNameOf, open_document, with_key}
 use Rattle.agg_column.proofs.Classes.{by_class_more}
 use Rattle.agg_document_json.specs.DocumentLine.{HasKey, field_values, values_among}
-use Rattle.agg_document_json.specs.Tokens.{GainsKeys, TakesItem, TakesItems, TakesValue, TakesValues}
+use Rattle.agg_document_json.specs.Tokens.{GainsKeys, TakesItem, TakesItems, TakesValue}
+use Rattle.agg_document_json.specs.Tokens.{TakesValues}
 use Rattle.agg_document_json.proofs.Beside.{AllZip-append}
 use Rattle.agg_document_json.proofs.Documents.{none_is_some}
-use Rattle.agg_document_json.proofs.TokenTurns.{converted-array, item_read, items_before, items_over}
+use Rattle.agg_document_json.proofs.TokenTurns.{converted-array, item_read, items_before}
+use Rattle.agg_document_json.proofs.TokenTurns.{items_over}
 use Rattle.agg_document_json.proofs.TokenTurns.{none_before, one_more_item}
 
 -- ---- keys in the open document

@@ -20,7 +20,8 @@ use Rattle.agg_document_json.specs.Tokens.{AreDistinct, TakesMembers, TakesValue
 use Rattle.agg_document_json.proofs.DistinctNumbers.{distinct_front, last_is_new}
 use Rattle.agg_document_json.proofs.Documents.{none_is_some, same_value}
 use Rattle.agg_document_json.proofs.TokenFields.{same_name}
-use Rattle.agg_document_json.proofs.TokenTurns.{converted-object, member_read, members_over, whole_read}
+use Rattle.agg_document_json.proofs.TokenTurns.{converted-object, member_read, members_over}
+use Rattle.agg_document_json.proofs.TokenTurns.{whole_read}
 
 -- the members before these were taken
 pub record HasTakenMembers (old now : List Token) (fields : List ℕ) (after : Gathered) : Type 0
