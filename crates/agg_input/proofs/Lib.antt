@@ -5,5 +5,6 @@ pub mod KeyMembers
 pub mod LinesLemmas
 pub mod PrintedAfterKeys
 pub mod Queries
+pub mod Requests
 pub mod SnapshotLists
 pub mod SnapshotSteps

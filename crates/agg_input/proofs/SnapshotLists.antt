@@ -10,7 +10,7 @@ use Rattle.agg_column.specs.Document.{Fields}
 use Rattle.agg_segment.specs.Segment.{HasSign, IsMixed}
 use Rattle.agg_column.specs.Signs.{sign_of}
 use Rattle.agg_column.specs.declared.sign.Sign.{Sign}
-use Rattle.agg_engine.specs.Snapshot.{SnapshotDocuments}
+use Rattle.agg_segment.specs.Snapshot.{SnapshotDocuments}
 use Rattle.agg_input.specs.SnapshotLines.{FitSegment, Line, SegmentsFit, StandForSnapshots, begins}
 use Rattle.agg_input.specs.SnapshotLines.{begun_snapshots, holds, leading_documents, opens}
 use Rattle.agg_input.specs.SnapshotLines.{opened_segments}

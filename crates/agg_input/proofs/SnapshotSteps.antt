@@ -10,7 +10,7 @@ use Rattle.json.specs.Word.{after_number, word}
 use Rattle.serde_json.specs.Read.{read}
 use Rattle.agg_column.specs.Document.{Fields}
 use Rattle.agg_segment.specs.Segment.{Gathered, gathered_documents}
-use Rattle.agg_engine.specs.Snapshot.{SnapshotDocuments, snapshots_documents}
+use Rattle.agg_segment.specs.Snapshot.{SnapshotDocuments, snapshots_documents}
 use Rattle.agg_input.specs.declared.snapshots.OpenSnapshot.{OpenSnapshot}
 use Rattle.agg_input.specs.declared.snapshots.SnapshotsBuilder.{SnapshotsBuilder}
 use Rattle.agg_document_json.specs.declared.tokens.LineRoom.{LineRoom}

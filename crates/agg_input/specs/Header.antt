@@ -10,20 +10,12 @@ use Rattle.agg_json.specs.Json.{IsGiven, IsOr, each_item, has_members, small_num
 use Rattle.agg_json.specs.Query.{IsQuery}
 use Rattle.agg_request_tree.specs.Request.{Request}
 use Rattle.agg_request_json.specs.RequestJson.{IsRequestJson}
-use Rattle.agg_input.specs.Form.{IsOneComposite}
 use Rattle.agg_input.specs.declared.header.Header.{Header}
-
--- a request: a value says it where these builders are handed in, and it has the form that
--- an input takes
-pub record IsRequest {B : Type 0} (builders : List B) (name_of : B → List ℕ) (d : Data)
-    (request : Request B) : Type 0 where
-  pub said : IsRequestJson name_of d builders request
-  pub form : IsOneComposite request
 
 -- the request of this member, which has to be there
 abbrev pub IsRequestAt : {B : Type 0} → List B → (B → List ℕ) → Option Data → Request B → Type 0
 IsRequestAt builders name_of found request =
-    IsSomeAnd found (λ d. IsRequest builders name_of d request)
+    IsSomeAnd found (λ d. IsRequestJson name_of d builders request)
 
 -- an array of texts
 abbrev pub texts_of : Data → Option (List (List ℕ))

@@ -1,7 +1,7 @@
 -- What the bytes of an input stand for.
 use Rattle.std.specs.Prelude.{◌≤◌, ℕ, List, [], ◌∷◌, IsTrue, length}
 use Rattle.std.specs.Str.{is_utf8}
-use Rattle.agg_engine.specs.Snapshot.{SnapshotDocuments, snapshots_documents}
+use Rattle.agg_segment.specs.Snapshot.{SnapshotDocuments, snapshots_documents}
 use Rattle.agg_input.specs.declared.input.Input as stored
 use Rattle.agg_input.specs.declared.header.Header.{Header}
 use Rattle.agg_input.specs.Header.{IsHeaderLine}

@@ -1,4 +1,3 @@
-pub mod Form
 pub mod Header
 pub mod Input
 pub mod Lines

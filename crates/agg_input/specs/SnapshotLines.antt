@@ -7,7 +7,7 @@ use Rattle.std.specs.Str.{all_ascii_digits}
 use Rattle.std.specs.Str.Parse.{digits_value}
 use Rattle.agg_column.specs.Document.{Fields}
 use Rattle.agg_segment.specs.Segment.{IsMixed, max_documents}
-use Rattle.agg_engine.specs.Snapshot.{SnapshotDocuments}
+use Rattle.agg_segment.specs.Snapshot.{SnapshotDocuments}
 use Rattle.agg_document_json.specs.DocumentLine.{IsDocumentLine}
 
 -- what a line after the header says: a snapshot of a page size begins, a segment begins in it, or

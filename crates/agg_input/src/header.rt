@@ -1,22 +1,17 @@
 //! The header: what a walk is asked for.
-ghost use Rattle.std.specs.Prelude.{◌≡◌, ◌≤◌, Some, None, IfOk, IsErrOf, MatchBool};
+ghost use Rattle.std.specs.Prelude.{◌≡◌, ◌≤◌, Some, None, IfOk, IsErrOf};
 ghost use Rattle.std.specs.Prelude.{codes};
 ghost use Rattle.std.specs.Prelude.{option_and_then};
 ghost use Rattle.serde_json.specs.Find.{as_str, get};
 ghost use Rattle.serde_json.specs.View.{view};
 ghost use Rattle.agg_json.specs.Json.{text_at};
-ghost use Rattle.agg_request_tree.specs.Request.{IsPlainComposite};
-ghost use Rattle.agg_input.specs.Form.{IsOneComposite};
 ghost use Rattle.agg_input.specs.Header.{IsBucketLimitOf, IsHeader, IsHeaderLine, IsQueryOf};
-ghost use Rattle.agg_input.specs.Header.{IsRequest, IsRequestAt, counted_member, header_members};
-ghost use Rattle.agg_input.specs.Header.{texts_of};
+ghost use Rattle.agg_input.specs.Header.{IsRequestAt, counted_member, header_members, texts_of};
 ghost use Rattle.agg_values.specs.Nothing.{NoneIs};
 
 use agg_document_json::{InputError, parse};
 use agg_json::json_value::{has_members, read_text, small_number};
-use agg_request::{
-    Aggregation, AggregationVariants, HasName, NamedBuilder, read_query, read_request,
-};
+use agg_request::{Aggregation, HasName, NamedBuilder, read_query, read_request};
 use agg_segment::{QueryTree, Schema};
 use agg_values::{NameMap, Text};
 use serde_json::Value;
@@ -88,7 +83,7 @@ fn request_in<B: HasName>(
         → NoneIs (IsRequestAt builders.items B.name_of
         (get (codes "request") (view value.now))) }
 {
-    request_of(alloc, builders, member(value, "request")?)
+    Ok(read_request(alloc, member(value, "request")?, builders)?)
 }
 
 // The name of a header.
@@ -164,46 +159,6 @@ fn text_of(alloc: Global, value: &Value) -> Result<Text, InputError>
     ensures not_input { IsErrOf result InputError.NotInput → as_str (view value.now) ≡ None }
 {
     read_text(alloc, value)?.ok_or(InputError::NotInput)
-}
-
-// A request of the form that an input takes.
-fn request_of<B: HasName>(
-    alloc: Global,
-    builders: Vec<B>,
-    value: &Value,
-) -> Result<NameMap<Aggregation<B>>, InputError>
-    ensures ok { IfOk result (IsRequest builders.items B.name_of (view value.now)) }
-    ensures not_input { IsErrOf result InputError.NotInput
-        → NoneIs (IsRequest builders.items B.name_of (view value.now)) }
-{
-    let request = read_request(alloc, value, builders)?;
-    if !is_one_composite(&request) {
-        return Err(InputError::NotInput);
-    }
-    Ok(request)
-}
-
-// Whether a request has the form that an input takes: one composite, with none below it.
-fn is_one_composite<B>(request: &NameMap<Aggregation<B>>) -> bool
-    ensures { MatchBool result (IsOneComposite request.now) (¬ (IsOneComposite request.now)) }
-{
-    let mut aggregations = request.iter();
-    let Some((_, first)) = aggregations.next() else {
-        return false;
-    };
-    if aggregations.next().is_some() {
-        return false;
-    }
-    is_plain(first)
-}
-
-// Whether an aggregation is a composite with none below it.
-fn is_plain<B>(aggregation: &Aggregation<B>) -> bool
-    ensures { MatchBool result (IsPlainComposite aggregation.now)
-        (¬ (IsPlainComposite aggregation.now)) }
-{
-    matches!(aggregation.agg, AggregationVariants::Composite(_))
-        && aggregation.sub_aggregation.is_empty()
 }
 
 // An array of texts.

@@ -1,8 +1,7 @@
 //! The input: a header and then snapshots, a line each.
 
 ghost use Rattle.std.specs.Prelude.{◌≡◌, IfOk, IsErrOf};
-ghost use Rattle.agg_input.specs.Form.{IsOneComposite};
-ghost use Rattle.agg_engine.specs.Snapshot.{snapshots_documents};
+ghost use Rattle.agg_segment.specs.Snapshot.{snapshots_documents};
 ghost use Rattle.agg_input.specs.Input.{AreNoInput, IsInput, IsInputOfLines, input_of};
 ghost use Rattle.agg_values.specs.Nothing.{NoneIs};
 
@@ -10,8 +9,8 @@ use crate::header::{Header, read_header};
 use crate::lines::Lines;
 use crate::snapshots::read_snapshots;
 use agg_document_json::InputError;
-use agg_engine::Snapshot;
 use agg_request::{HasName, NamedBuilder};
+use agg_segment::Snapshot;
 use agg_values::ItemList;
 use std::alloc::Global;
 use std::str::from_utf8;
@@ -33,8 +32,6 @@ pub fn read_input<B: HasName>(
     bytes: &[u8],
 ) -> Result<Input<B>, InputError>
     ensures ok { IfOk result (λ i. IsInput builders.items B.name_of bytes.now (input_of i)) }
-    ensures form { IfOk result
-        (λ i. IsOneComposite i.header.request) }
     ensures not_input { IsErrOf result InputError.NotInput
         → AreNoInput builders.items B.name_of bytes.now }
 {
@@ -55,8 +52,6 @@ fn read_lines<B: HasName>(
 ) -> Result<Input<B>, InputError>
     ensures ok { IfOk result
         (λ i. IsInputOfLines builders.items B.name_of lines.entry (input_of i)) }
-    ensures form { IfOk result
-        (λ i. IsOneComposite i.header.request) }
     ensures not_input { IsErrOf result InputError.NotInput
         → NoneIs (IsInputOfLines builders.items B.name_of lines.entry) }
 {

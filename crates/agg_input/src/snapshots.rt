@@ -2,8 +2,8 @@
 ghost use Rattle.std.specs.Prelude.{◌≡◌, ◌≢◌, ◌∷◌, ◌++◌, [], List, Err, IfOk, OnOk, IsErrOf};
 ghost use Rattle.std.specs.Prelude.{map};
 ghost use Rattle.agg_segment.specs.Segment.{documents_of, gathered_documents};
-ghost use Rattle.agg_engine.specs.Snapshot.{SnapshotDocuments, snapshot_documents};
-ghost use Rattle.agg_engine.specs.Snapshot.{snapshots_documents};
+ghost use Rattle.agg_segment.specs.Snapshot.{SnapshotDocuments, snapshot_documents};
+ghost use Rattle.agg_segment.specs.Snapshot.{snapshots_documents};
 ghost use Rattle.agg_values.specs.Nothing.{NoneIs};
 ghost use Rattle.agg_input.specs.SnapshotLines.{AreSnapshots, begins};
 ghost use Rattle.agg_input.specs.Snapshots.{AreFit, CannotFollow, TakesLine, begun, made_by};
@@ -13,8 +13,7 @@ ghost use Rattle.agg_input.specs.Snapshots.{whole_snapshot, with_line, with_segm
 use crate::line::{begun_size, is_segment_line, is_snapshot_line};
 use crate::lines::Lines;
 use agg_document_json::{InputError, LineRoom, read_document};
-use agg_engine::Snapshot;
-use agg_segment::{SegmentBuilder, SegmentReader};
+use agg_segment::{SegmentBuilder, SegmentReader, Snapshot};
 use agg_values::ItemList;
 use std::alloc::Global;
 use std::mem;

@@ -60,16 +60,25 @@ const REQUESTS: &[(&str, bool)] = &[
     ),
     (
         r#"{"a":{"composite":{"sources":[],"size":1},"aggs":{"n":{"max":{"field":"b"}}}}}"#,
+        true,
+    ),
+    (r#"{"a":{"filter":{"all":{}}}}"#, true),
+    (r#"{"a":{"filter":{"builder":"any_field"}}}"#, false),
+    (r#"{"a":{"value_count":{"field":"b"}}}"#, true),
+    (
+        r#"{"a":{"min":{"field":"b"},"aggs":{"n":{"max":{"field":"b"}}}}}"#,
         false,
     ),
-    (r#"{"a":{"filter":{"all":{}}}}"#, false),
-    (r#"{"a":{"filter":{"builder":"any_field"}}}"#, false),
-    (r#"{"a":{"value_count":{"field":"b"}}}"#, false),
+    (r#"{"a":{"avg":{"field":"b"}}}"#, false),
     (
         r#"{"a":{"composite":{"sources":[],"size":1}},"b":{}}"#,
         false,
     ),
-    ("{}", false),
+    (
+        r#"{"a":{"composite":{"sources":[],"size":1}},"b":{"sum":{"field":"b"}}}"#,
+        true,
+    ),
+    ("{}", true),
 ];
 
 // Documents, and whether they are such.

@@ -2,7 +2,6 @@ use Rattle.std.proofs.Common.{sym, subst}
 use Rattle.std.proofs.lemmas.Result.{err_from_is_err_and}
 use Rattle.agg_input.specs.declared.input.Input.{Input as Stored}
 use Rattle.agg_input.specs.Input.{IsInputOfLines, input_of}
-use Rattle.agg_input.proofs.Headers.{header_form}
 use Rattle.agg_input.proofs.Inputs.{no_header_lines, no_snapshot_lines}
 use Rattle.agg_input.proofs.input.read_lines.Goals as goal
 
@@ -34,8 +33,3 @@ returns-clause-ok g c =
     subst (λ lines. IsInputOfLines c.args.builders.items g.B.HasName.name_of lines (input_of i))
     (sym step)
     (c.in_ok-header.ensures.ok, c.in_ok-snapshots.ensures.ok)
-
-pub returns-clause-form : goal.returns-clause-form
-returns-clause-form g c =
-    header_form c.args.builders.items g.B.HasName.name_of c.in_ok-first.first.now
-    c.in_ok-header.header c.in_ok-header.ensures.ok

@@ -1,6 +1,6 @@
 use Rattle.std.proofs.Common.{◌≡◌, ◌∷◌, sym, ◌∙◌, subst}
 use Rattle.std.proofs.lemmas.Result.{err_from_is_err_and, IfOk-weaker}
-use Rattle.agg_engine.specs.Snapshot.{snapshots_documents}
+use Rattle.agg_segment.specs.Snapshot.{snapshots_documents}
 use Rattle.agg_input.specs.SnapshotLines.{AreSnapshots}
 use Rattle.agg_input.specs.Snapshots.{made_by, snapshots_made}
 use Rattle.agg_input.proofs.SnapshotSteps.{HasTaken, HasTaken-all, HasTaken-first, HasTaken-more}
