@@ -1,0 +1,13 @@
+-- What is gone from the rest was written, and the count of faults hasn't fallen.
+use Rattle.std.proofs.Common.{◌≡◌, ◌≤◌, ℕ, List, ◌++◌, length}
+use Rattle.std.specs.Io.KnownBytes.{Appends}
+use Rattle.agg_streams.proofs.sink.writing.write_all.Given as goal
+
+abbrev pub invariant-loop-rest : goal.invariant-loop-rest
+invariant-loop-rest g l =
+    ((done : List ℕ) × (l.initial.rest ≡ done ++ l.rest)
+    × Appends (g.W.Sink.contents l.initial.sink) (g.W.Sink.contents l.sink) done)
+    × (g.W.Sink.faults l.initial.sink ≤ g.W.Sink.faults l.sink)
+
+abbrev pub decreases-loop-rest : goal.decreases-loop-rest
+decreases-loop-rest g l = length l.rest
