@@ -1,6 +1,5 @@
 pub mod Answer
-pub mod Causes
-pub mod Memory
+pub mod AnyField
 pub mod Observed
 pub mod Output
 pub mod Reading
@@ -12,3 +11,5 @@ pub use Rattle.agg_input.specs.Lines
 pub use Rattle.agg_input.specs.PrintedAfterKeys
 pub use Rattle.agg_input.specs.SnapshotLines
 pub use Rattle.agg_document_json.specs.DocumentLine
+pub use Rattle.agg_streams.specs.Causes
+pub use Rattle.agg_streams.specs.Memory

@@ -1,6 +1,6 @@
 -- A source or a sink over a call.
 use Rattle.std.specs.Prelude.{◌≡◌, ℕ, List, Option}
-use Rattle.agg_pages.specs.Causes.{Rose}
+use Rattle.agg_streams.specs.Causes.{Rose}
 
 -- a source or a sink as a call found and left it: the bytes that it tells, and its count of faults
 pub record Observed (T : Type 0) : Type 0 where

@@ -3,9 +3,9 @@
 ghost use Rattle.std.specs.Prelude.{◌≡◌, ◌<◌, ◌+◌, ◌⊎◌, ◌↔◌, ℕ, Err, take, true, false, IfOk};
 ghost use Rattle.std.specs.Prelude.{IfErr, IsTrue, string_bytes};
 ghost use Rattle.std.specs.Io.KnownBytes.{Appends};
-ghost use Rattle.agg_engine.specs.Snapshot.{snapshots_documents};
+ghost use Rattle.agg_segment.specs.Snapshot.{snapshots_documents};
 ghost use Rattle.agg_pages.specs.Answer.{IsReply, walk_arguments};
-ghost use Rattle.agg_pages.specs.Causes.{Rose};
+ghost use Rattle.agg_streams.specs.Causes.{Rose};
 ghost use Rattle.agg_input.specs.Input.{Input as Meant, input_of, max_input_bytes};
 ghost use Rattle.agg_pages.specs.Observed.{over};
 ghost use Rattle.agg_pages.specs.Reading.{TakesAtMost};
@@ -13,13 +13,13 @@ ghost use Rattle.agg_pages.specs.Run.{GaveInput, HadNoInput, IsAnswered, command
 ghost use Rattle.agg_pages.specs.Status.{IsUnanswered};
 
 use crate::output::{refusal_text, walk_text};
-use crate::sink::{Sink, write_all};
 use crate::source::{Source, read_all};
 use crate::status::Status;
 use agg_cache::LimitsLedger;
 use agg_engine::{WalkError, walk_pages};
 use agg_input::{Input, read_input};
 use agg_request::NamedBuilder;
+use agg_streams::sink::{Sink, write_all};
 use agg_values::{OutOfMemory, Steps, Text};
 use std::alloc::Global;
 use std::marker::Brand;

@@ -6,9 +6,10 @@ ghost use Rattle.std.specs.Prelude.{◌≡◌, ◌⊎◌, ◌↔◌, IfOk, IfErr
 ghost use Rattle.std.specs.IoError.{error_kind};
 ghost use Rattle.std.specs.Vec.Iter.{into_iter_items};
 
-use agg_pages::sink::StdSink;
-use agg_pages::source::StdSource;
-use agg_pages::{Status, run_uncounted};
+use agg_pages::sink::{Sink, StdSink};
+use agg_pages::source::{Source, StdSource};
+use agg_pages::{AnyField, Status, run_uncounted};
+use agg_request::NamedBuilder;
 use agg_values::{OutOfMemory, Text};
 use std::alloc::Global;
 use std::env::{self, Args};
@@ -24,8 +25,25 @@ fn main(rt: HostRuntime) -> ExitCode {
     };
     let mut source = StdSource::new(rt.stdin());
     let mut sink = StdSink::new(rt.stdout());
-    let status = run_uncounted(alloc, &words, Vec::new(alloc), &mut source, &mut sink);
-    ExitCode::from(status.code())
+    match run_program(alloc, &words, &mut source, &mut sink) {
+        Ok(status) => ExitCode::from(status.code()),
+        Err(_) => ExitCode::from(Status::OutOfMemory.code()),
+    }
+}
+
+// The status of a run, with the builder that filters of a request may ask for.
+fn run_program<R: Source, W: Sink>(
+    alloc: Global,
+    words: &[Text],
+    source: &mut R,
+    sink: &mut W,
+) -> Result<Status, OutOfMemory> {
+    let mut builders = Vec::new(alloc);
+    builders.push(NamedBuilder {
+        name: Text::copy_of(alloc, "any_field")?,
+        builder: Box::new(alloc, AnyField)?,
+    })?;
+    Ok(run_uncounted(alloc, words, builders, source, sink))
 }
 
 // The arguments without the program's name, or the status where they cannot be read.

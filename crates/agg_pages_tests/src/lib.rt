@@ -1,15 +1,14 @@
-//! Tests of runs, of what they read from and write to, and of results by themselves.
+//! Tests of runs and of what they read, and the runs that other tests use too.
 #![tactic(auto)]
 
 #[cfg(test)]
 mod drip;
+pub mod given;
+#[cfg(test)]
+mod nested;
 #[cfg(test)]
 mod program;
 #[cfg(test)]
-mod sink;
+mod requests;
 #[cfg(test)]
 mod source;
-#[cfg(test)]
-mod standard_sink;
-#[cfg(test)]
-mod standard_source;

@@ -1,16 +1,10 @@
-mod segments;
-mod sources;
-mod starts;
-
-ghost use Rattle.std.specs.Prelude.{None, Some};
+ghost use Rattle.std.specs.Prelude.{Some};
 
 use crate::drip::Drip;
+use crate::given::{answer_to, run_words, steady};
 use agg_pages::sink::{MemorySink, Sink, write_all};
 use agg_pages::source::{MAX_INPUT_BYTES, MemorySource, Source, SteadySource};
-use agg_pages::{Failed, Status, run_uncounted};
-use agg_request::{NamedBuilder, QueryBuildError, QueryBuilder};
-use agg_segment::{QueryTree, Schema};
-use agg_values::Text;
+use agg_pages::{Failed, Status};
 use std::alloc::Global;
 use std::process::Abort;
 use std::test::Fail;
@@ -165,36 +159,6 @@ impl Sink for Sip {
     }
 }
 
-// A builder that has no query for any schema.
-#[derive(Drop)]
-struct NoQuery;
-
-impl QueryBuilder for NoQuery {
-    ghost tree_for = { λ _ _. None };
-
-    fn build_query(&self, _alloc: Global, _schema: &Schema) -> Result<QueryTree, QueryBuildError> {
-        Err(QueryBuildError::NoTree)
-    }
-}
-
-fn run_words<R: Source, W: Sink>(
-    alloc: Global,
-    words: &[&str],
-    source: &mut R,
-    sink: &mut W,
-) -> Result<Status, Fail> {
-    let mut texts = Vec::new(alloc);
-    for word in words {
-        texts.push(Text::copy_of(alloc, word)?)?;
-    }
-    let mut builders = Vec::new(alloc);
-    builders.push(NamedBuilder {
-        name: Text::copy_of(alloc, "unasked")?,
-        builder: Box::new(alloc, NoQuery)?,
-    })?;
-    Ok(run_uncounted(alloc, &texts, builders, source, sink))
-}
-
 // The text of a header and what comes after it.
 fn input(alloc: Global, name: &str, size: u32, lines: &str) -> Result<String, Fail> {
     input_with(alloc, name, size, "", lines)
@@ -214,11 +178,6 @@ fn input_with(
     Ok(format!(in alloc; "{COMPOSITE}{end}{lines}")?)
 }
 
-// A source that gives the bytes of a text.
-fn steady(alloc: Global, text: &str) -> Result<SteadySource, Fail> {
-    Ok(SteadySource::new(text.as_bytes().to_vec(alloc)?))
-}
-
 // A run over a text has this status, and writes this.
 fn expect_answer(
     rt: &(impl Abort + AllocGlobal),
@@ -226,11 +185,9 @@ fn expect_answer(
     status: Status,
     output: &str,
 ) -> Result<(), Fail> {
-    let alloc = rt.alloc();
-    let mut sink = MemorySink::new(alloc, Vec::new(alloc))?;
-    let answer = run_words(alloc, &["walk"], &mut steady(alloc, text)?, &mut sink)?;
+    let (answer, written) = answer_to(rt.alloc(), text)?;
     assert_eq!(rt;
-        (answer, sink.bytes()),
+        (answer, written.as_slice()),
         (status, output.as_bytes()),
         "at {text}"
     );

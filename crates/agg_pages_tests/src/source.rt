@@ -1,6 +1,5 @@
 use crate::drip::Drip;
-use agg_pages::Failed;
-use agg_pages::source::{MemorySource, ReadAllError, Source, SteadySource, read_all};
+use agg_pages::source::{MemorySource, ReadAllError, SteadySource, read_all};
 use std::test::Fail;
 
 #[test]
@@ -25,18 +24,5 @@ fn reads_nothing_of_what_breaks_off(rt: HostRuntime) -> Result<(), Fail> {
     let mut broken = MemorySource::new(bytes, vec![in rt.alloc(); 2]?);
     let all = read_all(rt.alloc(), &mut broken);
     assert_eq!(rt; all.err(), Some(ReadAllError::ReadFault));
-    Ok(())
-}
-
-#[test]
-fn fails_at_the_second_read_alone(rt: HostRuntime) -> Result<(), Fail> {
-    let bytes = b"abcd".to_vec(rt.alloc())?;
-    let failing = vec![in rt.alloc(); 2]?;
-    let mut source = MemorySource::new(bytes, failing);
-    let mut buf = [0; 3];
-    for read in [Ok(3), Err(Failed), Ok(1), Ok(0)] {
-        assert_eq!(rt; source.read(&mut buf), read);
-    }
-    assert_eq!(rt; buf.as_slice(), b"dbc".as_slice());
     Ok(())
 }

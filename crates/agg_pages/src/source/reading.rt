@@ -1,10 +1,10 @@
 ghost use Rattle.std.specs.Prelude.{◌≡◌, ◌≤◌, ◌<◌, ◌+◌, ℕ, List, Some, IfOk, IsErrOf, length, drop};
-ghost use Rattle.agg_pages.specs.Causes.{Rose};
+ghost use Rattle.agg_streams.specs.Causes.{Rose};
 ghost use Rattle.agg_pages.specs.Reading.{GivesAll, TakesAtMost};
 
 use super::Source;
-use crate::fault::Failed;
 use agg_input::MAX_INPUT_BYTES;
+use agg_streams::Failed;
 use std::alloc::{AllocError, Global};
 
 // How many bytes one read asks for at most.

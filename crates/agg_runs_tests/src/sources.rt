@@ -1,7 +1,6 @@
 //! Pages over several sources, over values of every class, and past after keys.
-use super::expect_answer;
+use crate::composite::{ASCENDING, DESCENDING, expect, expect_buckets, expect_fault};
 use agg_pages::Status;
-use std::process::Abort;
 use std::test::Fail;
 
 // Two sources, and documents with a number for each.
@@ -15,11 +14,7 @@ const ALL_PAIRS: &str = "{\"doc_count\":1,\"key\":{\"a\":1,\"b\":1}},\
 const FROM_TWO: &str = "{\"doc_count\":1,\"key\":{\"a\":2,\"b\":1}},\
     {\"doc_count\":1,\"key\":{\"a\":2,\"b\":2}}";
 
-// A source over values of every class, its reverse, and such values.
-pub(super) const ASCENDING: &str = r#"{"a":{"terms":{"field":"a"}}}"#;
-
-pub(super) const DESCENDING: &str = r#"{"a":{"terms":{"field":"a","order":"desc"}}}"#;
-
+// Values of every class.
 const EACH_CLASS: &str = "{\"a\":{\"dt\":1000000}}\n{\"a\":{\"ip\":\"1.2.3.4\"}}\n\
     {\"a\":[5,\"x\"]}\n{\"a\":true}";
 
@@ -134,50 +129,6 @@ const FAULTS: &[(&str, &str, &str)] = &[
     (TWICE_NAMED, "{}", "DuplicateSource"),
     (ASCENDING, r#"{"a":"null:"}"#, "NullAfter"),
 ];
-
-// Runs a composite, which has these sources and this after key, over what comes after its header.
-pub(super) fn expect(
-    rt: &(impl Abort + AllocGlobal),
-    (sources, after): (&str, &str),
-    lines: &str,
-    status: Status,
-    output: &str,
-) -> Result<(), Fail> {
-    let alloc = rt.alloc();
-    let composite = format!(in alloc;
-        "{{\"composite\":{{\"sources\":[{sources}],\"size\":10,\"after\":{after}}}}}"
-    )?;
-    let text = format!(in alloc;
-        "{{\"request\":{{\"g\":{composite}}},\"name\":\"g\",\"schema\":[]}}{lines}"
-    )?;
-    expect_answer(rt, &text, status, output)
-}
-
-// The page of such a composite over these documents has room left, and these buckets.
-pub(super) fn expect_buckets(
-    rt: &(impl Abort + AllocGlobal),
-    composite: (&str, &str),
-    documents: &str,
-    buckets: &str,
-) -> Result<(), Fail> {
-    let alloc = rt.alloc();
-    let lines = format!(in alloc; "\nsnapshot 10\n{documents}")?;
-    let page = format!(in alloc;
-        "{{\"page\":1,\"results\":{{\"g\":{{\"buckets\":[{buckets}]}}}}}}\n{{\"ended\":true}}\n"
-    )?;
-    expect(rt, composite, &lines, Status::Ok, &page)
-}
-
-// Such a composite is refused for this fault.
-pub(super) fn expect_fault(
-    rt: &(impl Abort + AllocGlobal),
-    composite: (&str, &str),
-    lines: &str,
-    fault: &str,
-) -> Result<(), Fail> {
-    let output = format!(in rt.alloc(); "error: {fault}\n")?;
-    expect(rt, composite, lines, Status::Refused, &output)
-}
 
 #[test]
 fn answers_each_composite(rt: HostRuntime) -> Result<(), Fail> {

@@ -1,5 +1,5 @@
 //! Pages over the starts of numbers and dates.
-use super::sources::{expect, expect_buckets, expect_fault};
+use crate::composite::{expect, expect_buckets, expect_fault};
 use agg_pages::Status;
 use std::test::Fail;
 

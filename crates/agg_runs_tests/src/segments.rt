@@ -1,5 +1,5 @@
 //! Pages over the documents of several segments, however these are cut.
-use super::sources::{ASCENDING, DESCENDING, expect, expect_buckets};
+use crate::composite::{ASCENDING, DESCENDING, expect, expect_buckets};
 use agg_pages::Status;
 use std::alloc::Global;
 use std::test::Fail;
