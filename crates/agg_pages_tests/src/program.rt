@@ -178,8 +178,8 @@ fn input_with(
     Ok(format!(in alloc; "{COMPOSITE}{end}{lines}")?)
 }
 
-// A run over a text has this status, and writes this.
-fn expect_answer(
+/// A run over a text has this status, and writes this.
+pub fn expect_answer(
     rt: &(impl Abort + AllocGlobal),
     text: &str,
     status: Status,

@@ -1,5 +1,5 @@
 //! Runs of whole requests: several aggregations, and one inside another.
-use crate::given::answer_to;
+use crate::program::expect_answer;
 use agg_pages::Status;
 use std::test::Fail;
 
@@ -48,12 +48,10 @@ const ANSWERS: &[(&str, &str, Status, &str)] = &[
 #[test]
 fn answers_each_request(rt: HostRuntime) -> Result<(), Fail> {
     for &(request, name, expected, output) in ANSWERS {
-        let alloc = rt.alloc();
-        let text = format!(in alloc;
+        let text = format!(in rt.alloc();
             "{{\"request\":{request},\"name\":\"{name}\",\"schema\":[]}}{SNAPSHOTS}"
         )?;
-        let (status, written) = answer_to(alloc, &text)?;
-        assert_eq!(rt; (status, written.as_slice()), (expected, output.as_bytes()));
+        expect_answer(&rt, &text, expected, output)?;
     }
     Ok(())
 }
