@@ -1,0 +1,5 @@
+use Rattle.agg_collectors_tests.proofs.segment.results_of_segments_become_one.Given as goal
+
+-- the ledger is the one of the blank
+abbrev pub ghosts-shown : goal.ghosts-shown
+ghosts-shown g a = record { name = a.blank.name; parts = a.blank.parts }
