@@ -7,6 +7,7 @@ ghost use Rattle.std.specs.List.Sorted.{IsPermutation, IsStrictlySortedBy};
 ghost use Rattle.std.specs.Map.{keys_of, lookup};
 ghost use Rattle.std.specs.Map.Iter.{ShowsInOrder, deref_pair};
 ghost use Rattle.std.specs.Option.{option_copied_mut};
+ghost use Rattle.agg_heap_map.specs.EntryOrder.{copied_pair};
 
 use agg_values::{OutOfMemory, Steps};
 use std::alloc::Global;
@@ -146,13 +147,17 @@ impl<S: Ord + Hash, V> HeapMap<S, V> {
         self.map.iter()
     }
 
-    /// The entries by reference, in the order of their keys. They are sorted at each call.
-    pub fn entries_ascending(&self, alloc: Global) -> Result<Vec<(&S, &V)>, OutOfMemory>
-        ensures entries { IfOk result (λ entries. map deref_pair entries.items ≡ self.now) }
+    /// Copies of the keys with the values by reference, in the order of the keys. They are sorted
+    /// at each call, which is faster over copies than over references.
+    pub fn entries_ascending(&self, alloc: Global) -> Result<Vec<(S, &V)>, OutOfMemory>
+    where
+        S: Clone + Drop,
+        requires clones { (t q : S) → S.is_clone t q → q ≡ t }
+        ensures entries { IfOk result (λ entries. map copied_pair entries.items ≡ self.now) }
         ensures ordered { IfOk result (λ _. IsStrictlySortedBy S.cmp (keys_of self.now)) }
     {
-        let mut entries = entries_of(alloc, &self.map)?;
-        entries.sort_unstable_by(|left, right| left.0.cmp(right.0));
+        let mut entries = copies_of(alloc, &self.map)?;
+        entries.sort_unstable_by(|left, right| left.0.cmp(&right.0));
         Ok(entries)
     }
 
@@ -169,12 +174,17 @@ impl<S: Ord + Hash, V> HeapMap<S, V> {
     }
 }
 
-// References to the entries of a hash map.
-fn entries_of<S: Eq + Hash, V>(
+// Copies of the keys of a hash map with its values by reference.
+fn copies_of<S: Eq + Hash + Clone + Drop, V>(
     alloc: Global,
     hash_map: &HashMap<S, V>,
-) -> Result<Vec<(&S, &V)>, OutOfMemory>
-    ensures { IfOk result (λ entries. map deref_pair entries.items ≡ hash_map.now.entries) }
+) -> Result<Vec<(S, &V)>, OutOfMemory>
+    requires clones { (t q : S) → S.is_clone t q → q ≡ t }
+    ensures { IfOk result (λ entries. map copied_pair entries.items ≡ hash_map.now.entries) }
 {
-    Ok(hash_map.iter().collect(alloc)?)
+    let mut entries = Vec::with_capacity(alloc, hash_map.len())?;
+    for (key, value) in hash_map.iter() {
+        entries.push((key.clone()?, value))?;
+    }
+    Ok(entries)
 }
