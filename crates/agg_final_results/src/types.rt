@@ -73,7 +73,7 @@ impl AggregationResults {
     {
         let mut text = String::new(self.0.allocator());
         self.append_json(&mut text)?;
-        Ok(Text::from_string(text))
+        Text::from_string(text)
     }
 
     /// Appends the text of `write_json`. After an error a part of it may have been appended.

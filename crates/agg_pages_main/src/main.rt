@@ -62,7 +62,7 @@ fn words_of(alloc: Global, mut arguments: Args) -> Result<Vec<Text>, OutOfMemory
     let mut words = Vec::new(alloc);
     arguments.next();
     for argument in arguments {
-        words.push(Text::from_string(argument))?;
+        words.push(Text::from_string(argument)?)?;
     }
     Ok(words)
 }

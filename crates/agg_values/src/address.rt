@@ -28,7 +28,8 @@ impl Address {
         ensures text { IfOk result (λ text. text ≡ address_text self.now.0) }
         ensures reads_back { IfOk result (λ text. IsAddressText text self.now.0) }
     {
-        Ok(Text::from_string(ipv6_of(*self).to_string(alloc)?))
+        let text = ipv6_of(*self).to_string(alloc)?;
+        Text::from_string(text)
     }
 }
 
@@ -78,6 +79,6 @@ fn ipv6_number(ip: Ipv6Addr) -> u128
 pub(crate) fn shown_text(alloc: Global, address: Address) -> Result<Text, OutOfMemory>
     ensures { IfOk result (λ text. text ≡ shown_address address.0) }
 {
-    let ip = ipv6_of(address).to_canonical();
-    Ok(Text::from_string(ip.to_string(alloc)?))
+    let text = ipv6_of(address).to_canonical().to_string(alloc)?;
+    Text::from_string(text)
 }

@@ -37,7 +37,7 @@ impl AfterKey {
         ensures text { IfOk result (λ text. text ≡ key_text self.now.0) }
         ensures reads_back { IfOk result (λ text. IsKeyText text self.now.0) }
     {
-        Ok(Text::from_string(written_key(alloc, &self.0)?))
+        Text::from_string(written_key(alloc, &self.0)?)
     }
 }
 

@@ -11,7 +11,7 @@ fn orders_texts_by_their_bytes(rt: HostRuntime) -> Result<(), Fail> {
         ("b", "ab", Ordering::Greater),
         ("z", "é", Ordering::Less),
     ] {
-        let copy = Text::from_string(String::from_str(alloc, left)?);
+        let copy = Text::from_string(String::from_str(alloc, left)?)?;
         let text = copy.try_clone(alloc)?;
         assert_eq!(rt; text, copy);
         let other = Text::copy_of(alloc, right)?;
