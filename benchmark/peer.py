@@ -1,7 +1,7 @@
-"""The walk of an input, as a script would do it: json and Counter, and no checks."""
+"""The walk of an input, as a script would do it: json, Counter and lists, and no checks."""
 import json
 import sys
-from collections import Counter
+from collections import Counter, defaultdict
 from datetime import datetime, timezone
 from itertools import product
 
@@ -35,6 +35,12 @@ def start(interval, nanoseconds):
     return Date(day * DAY if interval else nanoseconds)
 
 
+def held(document, field):
+    """The values of a field in a document."""
+    values = document.get(field, [])
+    return values if isinstance(values, list) else [values]
+
+
 class Source:
     """Where keys come from: the numbers, texts and dates of a field, or the starts of its dates;
     and None where a document has no value."""
@@ -47,9 +53,7 @@ class Source:
         self.interval = body.get("calendar_interval")
 
     def values(self, document):
-        held = document.get(self.field, [])
-        held = held if isinstance(held, list) else [held]
-        keys = [self.key(value) for value in held]
+        keys = [self.key(value) for value in held(document, self.field)]
         return keys or ([None] if self.has_missing else [])
 
     def key(self, value):
@@ -62,6 +66,104 @@ class Source:
         if self.descends:
             return (value is None, value is not None and Descending(value))
         return (value is not None, value)
+
+
+def after_text(value):
+    kinds = {type(None): "null", str: "str", Date: "dt", int: "i64"}
+    return f"{kinds[type(value)]}:{'' if value is None else value}"
+
+
+def shown(value):
+    """A date as milliseconds, rounded toward zero, and any other value as it is."""
+    return int(value / 10**6) if isinstance(value, Date) else value
+
+
+class Composite:
+    """A page of the groups of documents, with the results below each group."""
+
+    def __init__(self, body, below):
+        self.sources = [Source(source) for source in body["sources"]]
+        self.size, self.bound, self.below = body["size"], None, below
+
+    def keys(self, document):
+        return product(*(source.values(document) for source in self.sources))
+
+    def groups(self, documents):
+        """The documents of each key, or just their number where nothing stands below."""
+        if not self.below:
+            return Counter(key for document in documents for key in self.keys(document))
+        groups = defaultdict(list)
+        for document in documents:
+            for key in self.keys(document):
+                groups[key].append(document)
+        return groups
+
+    def rank(self, key):
+        return tuple(source.rank(value) for source, value in zip(self.sources, key))
+
+    def named(self, values):
+        return {source.name: value for source, value in zip(self.sources, values)}
+
+    def bucket(self, key, group):
+        count = len(group) if self.below else group
+        shown_key = self.named(map(shown, key))
+        return {"doc_count": count, "key": shown_key, **results(self.below, group)}
+
+    def result(self, documents):
+        groups = self.groups(documents)
+        ranked = ((self.rank(key), key) for key in groups)
+        left = (entry for entry in ranked if self.bound is None or self.bound < entry[0])
+        page = sorted(left)[:self.size]
+        result = {"buckets": [self.bucket(key, groups[key]) for _, key in page]}
+        if len(page) == self.size:
+            self.last, key = page[-1]
+            result["after_key"] = self.named(map(after_text, key))
+        return result
+
+
+class Range:
+    """The documents that hold a number from one bound up to below another, counted."""
+
+    def __init__(self, body, below):
+        self.field, self.below = body["field"], below
+        self.low, self.high = (int(body[bound].split(":")[1]) for bound in ("gte", "lt"))
+
+    def matches(self, document):
+        return any(self.low <= value < self.high for value in held(document, self.field))
+
+    def result(self, documents):
+        matching = [document for document in documents if self.matches(document)]
+        return {"doc_count": len(matching), **results(self.below, matching)}
+
+
+class Metric:
+    """The sum or the number of the numbers of a field."""
+
+    def __init__(self, kind, body):
+        self.of, self.field = {"sum": sum, "value_count": len}[kind], body["field"]
+
+    def result(self, documents):
+        values = [value for document in documents for value in held(document, self.field)]
+        return {"value": self.of(values)}
+
+
+def aggregation(written):
+    below = aggregations(written.get("aggs", {}))
+    if "composite" in written:
+        return Composite(written["composite"], below)
+    if "filter" in written:
+        return Range(written["filter"]["range"], below)
+    [(kind, body)] = written.items()
+    return Metric(kind, body)
+
+
+def aggregations(written):
+    return {name: aggregation(one) for name, one in written.items()}
+
+
+def results(asked, documents):
+    """The results of aggregations over documents, by name."""
+    return {name: one.result(documents) for name, one in asked.items()}
 
 
 def snapshots(lines):
@@ -78,44 +180,20 @@ def snapshots(lines):
         yield size, documents
 
 
-def after_text(value):
-    kinds = {type(None): "null", str: "str", Date: "dt", int: "i64"}
-    return f"{kinds[type(value)]}:{'' if value is None else value}"
-
-
-def shown(value):
-    """A date as milliseconds, rounded toward zero, and any other value as it is."""
-    return int(value / 10**6) if isinstance(value, Date) else value
-
-
-def bucket(count, names, values):
-    return {"doc_count": count, "key": dict(zip(names, map(shown, values)))}
-
-
 def walk(lines):
     header = json.loads(next(lines))
-    name = header["name"]
-    sources = [Source(source) for source in header["request"][name]["composite"]["sources"]]
-    bound, number, ended = None, 0, False
+    asked, name = aggregations(header["request"]), header["name"]
+    paged, number, ended = asked[name], 0, False
     for size, documents in snapshots(lines):
-        counts = Counter(
-            values
-            for document in documents
-            for values in product(*(source.values(document) for source in sources))
-        )
-        ranked = ((tuple(s.rank(v) for s, v in zip(sources, values)), values) for values in counts)
-        page = sorted(entry for entry in ranked if bound is None or bound < entry[0])[:size]
-        number, ended = number + 1, len(page) < size
-        names = [source.name for source in sources]
-        results = {"buckets": [bucket(counts[values], names, values) for _, values in page]}
-        if not ended:
-            bound = page[-1][0]
-            results = {"after_key": dict(zip(names, map(after_text, page[-1][1]))), **results}
-        yield {"page": number, "results": {name: results}}
+        paged.size = size
+        page = results(asked, documents)
+        number, ended = number + 1, "after_key" not in page[name]
+        yield {"page": number, "results": page}
         if ended:
             break
+        paged.bound = paged.last
     yield {"ended": ended}
 
 
 for line in walk(sys.stdin):
-    print(json.dumps(line, separators=(",", ":")))
+    print(json.dumps(line, separators=(",", ":"), sort_keys=True))
