@@ -2,4 +2,12 @@
 #![tactic(auto)]
 
 #[cfg(test)]
+mod collector;
+#[cfg(test)]
+mod distributed;
+#[cfg(test)]
+mod given;
+#[cfg(test)]
 mod segment;
+#[cfg(test)]
+mod tree;

@@ -1,91 +1,201 @@
-//! Tests of collectors in segments, whose results become one.
+//! Tests of the collector of a request in a segment: what it tells of itself, and what is in use
+//! after it ends.
 ghost use Rattle.std.specs.Prelude.{◌≡◌, ◌<◌};
-ghost use Rattle.agg_segment_context.specs.Trees.{AreOfRequest};
+ghost use Rattle.agg_collectors.specs.Segment.{MayBeUsed};
 
+use crate::given::{FIRST, REQUEST, Values, context_of, request_of};
 use agg_cache::{CollectError, LimitsLedger};
-use agg_collectors::AggregationCollector;
-use agg_request::{Aggregations, read_aggregations};
-use agg_results::IntermediateAggregationResults;
-use agg_segment::{Schema, SegmentReader};
-use agg_segment_context::AggContextParams;
+use agg_collectors::AggregationSegmentCollector;
+use agg_metric::StatsType;
+use agg_request::Aggregations;
+use agg_segment::SegmentReader;
+use agg_segment_context::{AggKind, AggRefNode};
 use agg_segment_tests::given::{Given, segment_of};
-use agg_values::{ItemList, Steps, Text};
-use serde_json::Value;
+use agg_values::{AggregationError, Steps};
+use std::alloc::AllocError;
 use std::marker::Brand;
 use std::process::Abort;
 use std::sync::ledger::{Blank, Ledger};
 use std::test::Fail;
 
-// The values of a document.
-type Values = &'static [(&'static str, Given)];
-
-const FIRST: &[Values] = &[
-    &[("colour", Given::Text("red")), ("size", Given::Signed(1))],
-    &[("colour", Given::Text("blue")), ("size", Given::Signed(3))],
-];
-
-const SECOND: &[Values] = &[
-    &[("colour", Given::Text("blue")), ("size", Given::Signed(5))],
-    &[("colour", Given::Text("red")), ("size", Given::Signed(7))],
-];
-
-// Colours, with the sum of the sizes of each, and beside them the greatest size.
-const REQUEST: &str = r#"{"g":{"composite":{"sources":[{"colour":{"terms":{"field":"colour"}}}],
-    "size":2},"aggs":{"s":{"sum":{"field":"size"}}}},"m":{"max":{"field":"size"}}}"#;
-
-const RESULTS: &str = concat!(
-    r#"{"g":{"after_key":{"colour":"str:red"},"buckets":["#,
-    r#"{"doc_count":2,"key":{"colour":"blue"},"s":{"value":8}},"#,
-    r#"{"doc_count":2,"key":{"colour":"red"},"s":{"value":8}}]},"m":{"value":7}}"#,
-);
-
-// The results of two documents of a segment, one taken by itself and one in a block.
-fn fruit<L: Ledger>(
-    rt: &impl Abort,
-    collector: &AggregationCollector<'_>,
-    reader: &SegmentReader,
-    steps: &mut Steps<L>,
-) -> Result<IntermediateAggregationResults, CollectError>
-    requires { AreOfRequest collector.now.agg.now collector.now.context.trees }
-{
-    let mut limits = LimitsLedger::new(None, None);
-    let Ok(mut segment) = collector.for_segment(reader, &mut limits) else {
-        return Err(CollectError::OutOfMemory);
-    };
-    assert!(rt; 2 <= reader.num_docs());
-    segment.collect(1, &mut limits, steps)?;
-    segment.collect_block(&[0], &mut limits, steps)?;
-    segment.harvest(&mut limits, steps)
+// The kinds of nodes, each before those below it.
+fn add_kinds(nodes: &[AggRefNode], kinds: &mut Vec<AggKind>) -> Result<(), AllocError> {
+    for node in nodes {
+        kinds.push(node.kind)?;
+        add_kinds(node.children.as_slice(), kinds)?;
+    }
+    Ok(())
 }
 
-// The final results of two segments.
-fn shown<L: Ledger>(
+const KINDS: [AggKind; 3] = [
+    AggKind::Composite,
+    AggKind::StatsKind(StatsType::Sum),
+    AggKind::StatsKind(StatsType::Max),
+];
+
+#[test]
+fn tells_of_its_segment(rt: HostRuntime) -> Result<(), Fail> {
+    let alloc = rt.alloc();
+    let request = request_of(alloc, REQUEST)?;
+    let context = context_of(alloc, &request, None)?;
+    let reader = segment_of(alloc, FIRST)?;
+    let collector = AggregationSegmentCollector::from_agg_req_and_reader(
+        alloc,
+        &request,
+        &reader,
+        &context,
+        &mut LimitsLedger::new(None, None),
+    )?;
+    assert_eq!(rt; (collector.num_docs(), collector.allocated()), (2, 0));
+    let data = &collector.segment_data().per_request;
+    assert_eq!(rt; data.composite_req_data.as_slice().len(), 1);
+    let mut kinds = Vec::new(alloc);
+    add_kinds(data.agg_tree.as_slice(), &mut kinds)?;
+    assert_eq!(rt; kinds.as_slice(), KINDS.as_slice());
+    Ok(())
+}
+
+// The bytes that are in use before a collector is made.
+const IN_USE: u64 = 512;
+
+// A ledger with these bytes in use.
+fn ledger_in_use() -> Result<LimitsLedger, AggregationError> {
+    let mut limits = LimitsLedger::new(None, None);
+    let mut guard = limits.guard();
+    guard.add_memory_consumed(&mut limits, IN_USE)?;
+    Ok(limits)
+}
+
+// Groups by tens.
+const TENS: &str = r#"{"g":{"composite":{"sources":[{"h":{"histogram":{"field":"h",
+    "interval":10}}}],"size":2}}}"#;
+
+// The bucket of the second document would start below the least number of 64 bits.
+const OUT_OF_RANGE: &[Values] = &[
+    &[("h", Given::Signed(1))],
+    &[("h", Given::Signed(i64::MIN))],
+];
+
+// A collector refuses a block, and then a document and a block that it would have taken.
+fn expect_refusals<L: Ledger>(
+    rt: &impl Abort,
+    collector: &mut AggregationSegmentCollector<'_>,
+    reader: &SegmentReader,
+    limits: &mut LimitsLedger,
+    steps: &mut Steps<L>,
+)
+    requires usable { MayBeUsed collector.old }
+    requires reader { collector.old.reader.now ≡ reader.now }
+    ensures usable { MayBeUsed collector.new }
+    ensures guard { collector.new.guard ≡ collector.old.guard }
+    ensures limits { limits.new ≡ limits.old }
+{
+    assert!(rt; 2 <= reader.num_docs());
+    let refused = collector.collect_block(&[0, 1], limits, steps);
+    assert_eq!(rt; refused, Err(CollectError::BucketOutOfRange));
+    let document = collector.collect(0, limits, steps);
+    assert_eq!(rt; document, Err(CollectError::CollectorFailed));
+    let block = collector.collect_block(&[0], limits, steps);
+    assert_eq!(rt; block, Err(CollectError::CollectorFailed));
+}
+
+// Why a collector has no results.
+fn refused_results<L: Ledger>(
+    collector: AggregationSegmentCollector<'_>,
+    limits: &mut LimitsLedger,
+    steps: &mut Steps<L>,
+) -> Option<CollectError>
+    requires usable { MayBeUsed collector }
+    requires guard { collector.guard ≡ 0 }
+{
+    match collector.harvest(limits, steps) {
+        Ok(_) => None,
+        Err(error) => Some(error),
+    }
+}
+
+// After that it has no results, and nothing more is in use.
+fn expect_end<L: Ledger>(
+    rt: &impl Abort,
+    collector: AggregationSegmentCollector<'_>,
+    reader: &SegmentReader,
+    limits: &mut LimitsLedger,
+    steps: &mut Steps<L>,
+)
+    requires usable { MayBeUsed collector }
+    requires reader { collector.reader.now ≡ reader.now }
+    requires guard { collector.guard ≡ 0 }
+{
+    let mut collector = collector;
+    expect_refusals(rt, &mut collector, reader, limits, steps);
+    let error = refused_results(collector, limits, steps);
+    assert_eq!(rt; error, Some(CollectError::CollectorFailed));
+    assert_eq!(rt; limits.in_use(), IN_USE);
+}
+
+// The collector of a request fails so in a segment with such a bucket.
+fn expect_failed<L: Ledger>(
     rt: &(impl Abort + AllocGlobal),
     request: &Aggregations,
     blank: Blank,
-) -> Result<Text, Fail>
+) -> Result<(), Fail>
     requires name { blank.name ≡ L.name }
     requires parts { blank.parts ≡ L.parts }
     requires shared { 0 < L.parts }
 {
     let alloc = rt.alloc();
-    let context = AggContextParams::new(alloc, request, &Schema::new(alloc))?;
-    let collector = AggregationCollector::from_aggs(request, context);
+    let context = context_of(alloc, request, None)?;
+    let reader = segment_of(alloc, OUT_OF_RANGE)?;
+    let mut limits = ledger_in_use()?;
     let mut steps: Steps<L> = Steps::new(blank);
-    let first = segment_of(alloc, FIRST)?;
-    let second = segment_of(alloc, SECOND)?;
-    let mut fruits = ItemList::new(alloc);
-    fruits.push(fruit(rt, &collector, &first, &mut steps)?)?;
-    fruits.push(fruit(rt, &collector, &second, &mut steps)?)?;
-    let results = collector.merge_fruits(fruits, &LimitsLedger::new(None, None))?;
-    Ok(results.write_json()?)
+    let collector = AggregationSegmentCollector::from_agg_req_and_reader(
+        alloc,
+        request,
+        &reader,
+        &context,
+        &mut limits,
+    )?;
+    expect_end(rt, collector, &reader, &mut limits, &mut steps);
+    Ok(())
 }
 
 #[test]
-fn results_of_segments_become_one(rt: HostRuntime) -> Result<(), Fail> {
+fn answers_nothing_more_after_it_failed(rt: HostRuntime) -> Result<(), Fail> {
+    let request = request_of(rt.alloc(), TENS)?;
+    expect_failed::<Brand>(&rt, &request, Blank::new(1))
+}
+
+// Nothing more is in use after a collector that took documents is abandoned.
+fn expect_abandoned<L: Ledger>(
+    rt: &(impl Abort + AllocGlobal),
+    request: &Aggregations,
+    blank: Blank,
+) -> Result<(), Fail>
+    requires name { blank.name ≡ L.name }
+    requires parts { blank.parts ≡ L.parts }
+    requires shared { 0 < L.parts }
+{
     let alloc = rt.alloc();
-    let request = read_aggregations(alloc, &Value::from_str(alloc, REQUEST)?, Vec::new(alloc))?;
-    let found = shown::<Brand>(&rt, &request, Blank::new(1))?;
-    assert_eq!(rt; found.as_str(), RESULTS);
+    let context = context_of(alloc, request, None)?;
+    let reader = segment_of(alloc, FIRST)?;
+    let mut limits = ledger_in_use()?;
+    let mut steps: Steps<L> = Steps::new(blank);
+    let mut collector = AggregationSegmentCollector::from_agg_req_and_reader(
+        alloc,
+        request,
+        &reader,
+        &context,
+        &mut limits,
+    )?;
+    assert!(rt; 2 <= reader.num_docs());
+    collector.collect_block(&[1, 0], &mut limits, &mut steps)?;
+    collector.abandon(&mut limits);
+    assert_eq!(rt; limits.in_use(), IN_USE);
     Ok(())
+}
+
+#[test]
+fn gives_back_where_it_is_abandoned(rt: HostRuntime) -> Result<(), Fail> {
+    let request = request_of(rt.alloc(), REQUEST)?;
+    expect_abandoned::<Brand>(&rt, &request, Blank::new(1))
 }

@@ -1,0 +1,5 @@
+use Rattle.agg_collectors_tests.proofs.segment.gives_back_where_it_is_abandoned.Given as goal
+
+-- the ledger is the one of the blank
+abbrev pub ghosts-expect_abandoned : goal.ghosts-expect_abandoned
+ghosts-expect_abandoned g a = record { name = a.blank.name; parts = a.blank.parts }

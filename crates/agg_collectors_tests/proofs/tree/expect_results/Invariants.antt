@@ -1,0 +1,10 @@
+use Rattle.agg_collector_tree.specs.Tree.{IsFlushed, held_of}
+use Rattle.agg_collectors_tests.specs.Trees.{IsTreeFor}
+use Rattle.agg_collectors_tests.proofs.tree.expect_results.Given as goal
+
+-- the tree is as it was
+abbrev pub invariant-loop-asked : goal.invariant-loop-asked
+invariant-loop-asked g l = record {
+  tree : IsTreeFor l.agg_data.per_request (held_of l.tree);
+  flushed : IsFlushed (held_of l.tree);
+}

@@ -1,0 +1,7 @@
+use Rattle.agg_collectors_tests.proofs.TakingTrees.{tree-new}
+use Rattle.agg_collectors_tests.proofs.tree.tree_in.Goals as goal
+
+pub returns : goal.returns
+returns c =
+    tree-new c.args.agg_data.now.per_request c.args.reader.now c.tree_for.result c.requires
+    c.tree_for.ensures.nodes c.tree_for.ensures.fits c.tree_for.ensures.right

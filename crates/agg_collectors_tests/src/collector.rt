@@ -1,0 +1,71 @@
+//! Tests of the collector of a request, whose results over segments become one final result.
+ghost use Rattle.std.specs.Prelude.{◌≡◌, ◌<◌, IfOk};
+ghost use Rattle.agg_segment_context.specs.Trees.{AreOfRequest};
+
+use crate::given::{FIRST, REQUEST, RESULTS, SECOND, Values, context_of, fruit, request_of};
+use agg_cache::LimitsLedger;
+use agg_collectors::AggregationCollector;
+use agg_request::Aggregations;
+use agg_results::IntermediateAggregationResults;
+use agg_segment_tests::given::segment_of;
+use agg_values::{ItemList, Steps, Text};
+use std::alloc::Global;
+use std::marker::Brand;
+use std::process::Abort;
+use std::sync::ledger::{Blank, Ledger};
+use std::test::Fail;
+
+// The collector of a request.
+fn collector_of<'a>(
+    alloc: Global,
+    request: &'a Aggregations,
+) -> Result<AggregationCollector<'a>, Fail>
+    ensures { IfOk result (λ collector. AreOfRequest collector.agg.now collector.context.trees) }
+{
+    let context = context_of(alloc, request, None)?;
+    Ok(AggregationCollector::from_aggs(request, context))
+}
+
+// The results over a segment of two documents.
+fn fruit_of<L: Ledger>(
+    rt: &(impl Abort + AllocGlobal),
+    collector: &AggregationCollector<'_>,
+    documents: &[Values],
+    steps: &mut Steps<L>,
+) -> Result<IntermediateAggregationResults, Fail>
+    requires { AreOfRequest collector.now.agg.now collector.now.context.trees }
+{
+    let reader = segment_of(rt.alloc(), documents)?;
+    let mut limits = LimitsLedger::new(None, None);
+    let segment = collector.for_segment(&reader, &mut limits)?;
+    Ok(fruit(rt, segment, &reader, &mut limits, steps)?)
+}
+
+// The final results of two segments.
+fn shown<L: Ledger>(
+    rt: &(impl Abort + AllocGlobal),
+    request: &Aggregations,
+    blank: Blank,
+) -> Result<Text, Fail>
+    requires name { blank.name ≡ L.name }
+    requires parts { blank.parts ≡ L.parts }
+    requires shared { 0 < L.parts }
+{
+    let alloc = rt.alloc();
+    let collector = collector_of(alloc, request)?;
+    assert!(rt; !collector.requires_scoring());
+    let mut steps: Steps<L> = Steps::new(blank);
+    let mut fruits = ItemList::new(alloc);
+    fruits.push(fruit_of(rt, &collector, FIRST, &mut steps)?)?;
+    fruits.push(fruit_of(rt, &collector, SECOND, &mut steps)?)?;
+    let results = collector.merge_fruits(fruits, &LimitsLedger::new(None, None))?;
+    Ok(results.write_json()?)
+}
+
+#[test]
+fn results_of_segments_become_one(rt: HostRuntime) -> Result<(), Fail> {
+    let request = request_of(rt.alloc(), REQUEST)?;
+    let found = shown::<Brand>(&rt, &request, Blank::new(1))?;
+    assert_eq!(rt; found.as_str(), RESULTS);
+    Ok(())
+}

@@ -1,0 +1,133 @@
+//! Tests of the collector of a request, whose results over segments go on elsewhere.
+ghost use Rattle.std.specs.Prelude.{◌≡◌, ◌<◌, IfOk};
+ghost use Rattle.agg_segment_context.specs.Trees.{AreOfRequest};
+
+use crate::given::{FIRST, REQUEST, RESULTS, SECOND, Values, context_of, fruit, request_of};
+use agg_cache::LimitsLedger;
+use agg_collectors::DistributedAggregationCollector;
+use agg_request::Aggregations;
+use agg_results::IntermediateAggregationResults;
+use agg_segment_tests::given::segment_of;
+use agg_values::{ItemList, Steps, Text};
+use std::alloc::Global;
+use std::marker::Brand;
+use std::process::Abort;
+use std::sync::ledger::{Blank, Ledger};
+use std::test::Fail;
+
+// The results over no documents, whatever the page is.
+const EMPTY: &str = r#"{"g":{"buckets":[]},"m":{"value":null}}"#;
+
+// The results over the first segment, by the size of the request.
+const OF_OWN_SIZE: &str = concat!(
+    r#"{"g":{"after_key":{"colour":"str:red"},"buckets":["#,
+    r#"{"doc_count":1,"key":{"colour":"blue"},"s":{"value":3}},"#,
+    r#"{"doc_count":1,"key":{"colour":"red"},"s":{"value":1}}]},"m":{"value":3}}"#,
+);
+
+// The page that is set, if one is, and the results over the first segment.
+const PAGES: &[(Option<(&str, u32)>, &str)] = &[
+    (None, OF_OWN_SIZE),
+    (
+        Some(("g", 1)),
+        concat!(
+            r#"{"g":{"after_key":{"colour":"str:blue"},"buckets":["#,
+            r#"{"doc_count":1,"key":{"colour":"blue"},"s":{"value":3}}]},"m":{"value":3}}"#,
+        ),
+    ),
+    (Some(("m", 1)), OF_OWN_SIZE),
+];
+
+// The collector of a request, with a page that is set, if one is given.
+fn collector_of<'a>(
+    alloc: Global,
+    request: &'a Aggregations,
+    page: Option<(&str, u32)>,
+) -> Result<DistributedAggregationCollector<'a>, Fail>
+    ensures { IfOk result (λ collector. AreOfRequest collector.agg.now collector.context.trees) }
+{
+    let context = context_of(alloc, request, page)?;
+    Ok(DistributedAggregationCollector::from_aggs(request, context))
+}
+
+// The results over a segment of two documents.
+fn fruit_of<L: Ledger>(
+    rt: &(impl Abort + AllocGlobal),
+    collector: &DistributedAggregationCollector<'_>,
+    documents: &[Values],
+    steps: &mut Steps<L>,
+) -> Result<IntermediateAggregationResults, Fail>
+    requires { AreOfRequest collector.now.agg.now collector.now.context.trees }
+{
+    let reader = segment_of(rt.alloc(), documents)?;
+    let mut limits = LimitsLedger::new(None, None);
+    let segment = collector.for_segment(&reader, &mut limits)?;
+    Ok(fruit(rt, segment, &reader, &mut limits, steps)?)
+}
+
+// Intermediate results, as they are shown in the end.
+fn shown(request: &Aggregations, held: IntermediateAggregationResults) -> Result<Text, Fail> {
+    let results = held.into_final_result(request, &LimitsLedger::new(None, None))?;
+    Ok(results.write_json()?)
+}
+
+// The results of two segments, merged.
+fn merged<L: Ledger>(
+    rt: &(impl Abort + AllocGlobal),
+    request: &Aggregations,
+    blank: Blank,
+) -> Result<Text, Fail>
+    requires name { blank.name ≡ L.name }
+    requires parts { blank.parts ≡ L.parts }
+    requires shared { 0 < L.parts }
+{
+    let alloc = rt.alloc();
+    let collector = collector_of(alloc, request, None)?;
+    assert!(rt; !collector.requires_scoring());
+    let mut steps: Steps<L> = Steps::new(blank);
+    let mut fruits = ItemList::new(alloc);
+    fruits.push(fruit_of(rt, &collector, FIRST, &mut steps)?)?;
+    fruits.push(fruit_of(rt, &collector, SECOND, &mut steps)?)?;
+    shown(request, collector.merge_fruits(fruits)?)
+}
+
+#[test]
+fn results_of_segments_are_merged(rt: HostRuntime) -> Result<(), Fail> {
+    let request = request_of(rt.alloc(), REQUEST)?;
+    let found = merged::<Brand>(&rt, &request, Blank::new(1))?;
+    assert_eq!(rt; found.as_str(), RESULTS);
+    Ok(())
+}
+
+// The results of no segment are empty. They have the size of the page, since they merge with those
+// of a segment, which two pages of different sizes don't.
+fn expect_page<L: Ledger>(
+    rt: &(impl Abort + AllocGlobal),
+    request: &Aggregations,
+    asked: (Option<(&str, u32)>, &str),
+    blank: Blank,
+) -> Result<(), Fail>
+    requires name { blank.name ≡ L.name }
+    requires parts { blank.parts ≡ L.parts }
+    requires shared { 0 < L.parts }
+{
+    let (page, text) = asked;
+    let alloc = rt.alloc();
+    let collector = collector_of(alloc, request, page)?;
+    let mut steps: Steps<L> = Steps::new(blank);
+    let empty = collector.merge_fruits(ItemList::new(alloc))?;
+    assert_eq!(rt; shown(request, empty)?.as_str(), EMPTY);
+    let mut whole = collector.merge_fruits(ItemList::new(alloc))?;
+    whole.merge_fruits(fruit_of(rt, &collector, FIRST, &mut steps)?)?;
+    assert_eq!(rt; shown(request, whole)?.as_str(), text);
+    Ok(())
+}
+
+#[test]
+fn results_of_no_segment_have_the_size_of_the_page(rt: HostRuntime) -> Result<(), Fail> {
+    let request = request_of(rt.alloc(), REQUEST)?;
+    for &asked in PAGES {
+        expect_page::<Brand>(&rt, &request, asked, Blank::new(1))?;
+    }
+    Ok(())
+}

@@ -1,0 +1,147 @@
+//! Tests of the trait of collectors in a segment, by a tree of them.
+ghost use Rattle.std.specs.Prelude.{◌≡◌, ◌<◌, IfOk, OnOk};
+ghost use Rattle.agg_collector_tree.specs.Tree.{IsFlushed, held_of};
+ghost use Rattle.agg_segment_context.specs.Trees.{AreOfRequest};
+ghost use Rattle.agg_collectors_tests.specs.Trees.{IsContextIn, IsTreeFor};
+
+use crate::given::{FIRST, context_of, request_of};
+use agg_cache::{BucketId, CollectError, LimitsLedger};
+use agg_collector_tree::{SegmentCollectorTree, tree_for};
+use agg_collectors::SegmentAggregationCollector;
+use agg_request::Aggregations;
+use agg_results::IntermediateAggregationResults;
+use agg_segment::SegmentReader;
+use agg_segment_context::{AggContextParams, AggregationsSegmentCtx, check_paged, segment_context};
+use agg_segment_tests::given::segment_of;
+use agg_values::{OutOfMemory, Steps};
+use std::alloc::Global;
+use std::marker::Brand;
+use std::process::Abort;
+use std::sync::ledger::{Blank, Ledger};
+use std::test::Fail;
+
+// What is red with the number of sizes, colours with the sum of the sizes of each, and the greatest
+// size.
+const REQUEST: &str = r#"{"f":{"filter":{"term":{"field":"colour","value":"str:red"}},
+    "aggs":{"n":{"value_count":{"field":"size"}}}},
+    "g":{"composite":{"sources":[{"colour":{"terms":{"field":"colour"}}}],"size":2},
+    "aggs":{"s":{"sum":{"field":"size"}}}},"m":{"max":{"field":"size"}}}"#;
+
+// Parents, and the results for each. The last isn't prepared.
+const RESULTS: &[(BucketId, &str)] = &[
+    (
+        0,
+        concat!(
+            r#"{"f":{"doc_count":1,"n":{"value":1}},"#,
+            r#""g":{"after_key":{"colour":"str:red"},"buckets":["#,
+            r#"{"doc_count":1,"key":{"colour":"blue"},"s":{"value":3}},"#,
+            r#"{"doc_count":1,"key":{"colour":"red"},"s":{"value":1}}]},"m":{"value":3}}"#,
+        ),
+    ),
+    (
+        1,
+        concat!(
+            r#"{"f":{"doc_count":0,"n":{"value":0}},"#,
+            r#""g":{"buckets":[{"doc_count":1,"key":{"colour":"blue"},"s":{"value":3}}]},"#,
+            r#""m":{"value":3}}"#,
+        ),
+    ),
+    (
+        2,
+        r#"{"f":{"doc_count":0,"n":{"value":0}},"g":{"buckets":[]},"m":{"value":null}}"#,
+    ),
+];
+
+// What the aggregations of a request are asked in a segment.
+fn data_in<'s>(
+    alloc: Global,
+    request: &'s Aggregations,
+    reader: &'s SegmentReader,
+    context: &AggContextParams,
+) -> Result<AggregationsSegmentCtx<'s>, Fail>
+    requires { AreOfRequest request.now context.now.trees }
+    ensures { IfOk result (λ agg_data. IsContextIn reader.now agg_data.per_request) }
+{
+    check_paged(alloc, request, context)?;
+    Ok(segment_context(alloc, request, reader, context)?)
+}
+
+// A new tree for these.
+fn tree_in<'s>(
+    alloc: Global,
+    agg_data: &AggregationsSegmentCtx<'_>,
+    reader: &'s SegmentReader,
+) -> Result<SegmentCollectorTree<'s>, OutOfMemory>
+    requires { IsContextIn reader.now agg_data.now.per_request }
+    ensures { IfOk result (λ tree. IsTreeFor agg_data.now.per_request (held_of tree)) }
+{
+    tree_for(alloc, &agg_data.per_request, reader)
+}
+
+// A tree takes the document 1 under the first parent, and then both documents under two parents.
+// At last nothing waits in it.
+fn take_all<L: Ledger>(
+    tree: &mut SegmentCollectorTree<'_>,
+    agg_data: &AggregationsSegmentCtx<'_>,
+    steps: &mut Steps<L>,
+) -> Result<(), CollectError>
+    requires { IsTreeFor agg_data.now.per_request (held_of tree.old) }
+    ensures tree { OnOk result (IsTreeFor agg_data.now.per_request (held_of tree.new)) }
+    ensures flushed { OnOk result (IsFlushed (held_of tree.new)) }
+{
+    let mut limits = LimitsLedger::new(None, None);
+    let mut guard = limits.guard();
+    tree.prepare_max_bucket(1, agg_data)?;
+    tree.collect(0, &[1], agg_data, &mut limits, &mut guard, steps)?;
+    tree.collect_multiple(&[1, 0], &[1, 0], agg_data, &mut limits, &mut guard, steps)?;
+    tree.flush(agg_data, &mut limits, &mut guard, steps)
+}
+
+// A tree adds these results for a parent, as they are shown.
+fn expect_shown(
+    rt: &(impl Abort + AllocGlobal),
+    tree: &mut SegmentCollectorTree<'_>,
+    agg_data: &AggregationsSegmentCtx<'_>,
+    request: &Aggregations,
+    asked: (BucketId, &str),
+) -> Result<(), Fail>
+    requires tree { IsTreeFor agg_data.now.per_request (held_of tree.old) }
+    requires flushed { IsFlushed (held_of tree.old) }
+    ensures { tree.new ≡ tree.old }
+{
+    let (parent, text) = asked;
+    let mut results = IntermediateAggregationResults::new(rt.alloc());
+    tree.add_intermediate_aggregation_result(agg_data, &mut results, parent)?;
+    let found = results.into_final_result(request, &LimitsLedger::new(None, None))?;
+    assert_eq!(rt; found.write_json()?.as_str(), text);
+    Ok(())
+}
+
+// A tree has these results for its parents.
+fn expect_results<L: Ledger>(
+    rt: &(impl Abort + AllocGlobal),
+    request: &Aggregations,
+    blank: Blank,
+) -> Result<(), Fail>
+    requires name { blank.name ≡ L.name }
+    requires parts { blank.parts ≡ L.parts }
+    requires shared { 0 < L.parts }
+{
+    let alloc = rt.alloc();
+    let reader = segment_of(alloc, FIRST)?;
+    let context = context_of(alloc, request, None)?;
+    let agg_data = data_in(alloc, request, &reader, &context)?;
+    let mut tree = tree_in(alloc, &agg_data, &reader)?;
+    let mut steps: Steps<L> = Steps::new(blank);
+    take_all(&mut tree, &agg_data, &mut steps)?;
+    for &asked in RESULTS {
+        expect_shown(rt, &mut tree, &agg_data, request, asked)?;
+    }
+    Ok(())
+}
+
+#[test]
+fn has_results_for_each_parent(rt: HostRuntime) -> Result<(), Fail> {
+    let request = request_of(rt.alloc(), REQUEST)?;
+    expect_results::<Brand>(&rt, &request, Blank::new(1))
+}
