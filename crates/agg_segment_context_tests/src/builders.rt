@@ -60,8 +60,7 @@ impl QueryBuilder for Noted {
 
     ghost tree_for = { λ _ _. Some AllOf };
 
-    fn build_query(&self, alloc: Global, schema: &Schema) -> Result<QueryTree, QueryBuildError> {
-        let _ = (alloc, schema);
+    fn build_query(&self, _alloc: Global, _schema: &Schema) -> Result<QueryTree, QueryBuildError> {
         let before = self.asked.get().wrapping_mul(10);
         self.asked.set(before.wrapping_add(self.digit));
         Ok(QueryTree::All)
@@ -69,7 +68,7 @@ impl QueryBuilder for Noted {
 }
 
 // A filter whose builder has this digit, with these aggregations below it.
-fn noted(
+fn filter_by(
     digit: u32,
     asked: &Rc<Cell<u32>>,
     sub_aggregation: NameMap<Aggregation<Noted>>,
@@ -93,14 +92,14 @@ fn asks_each_builder_once_in_order(rt: HostRuntime) -> Result<(), Fail> {
     let mut below = NameMap::new(alloc);
     below.insert(
         Text::copy_of(alloc, "x")?,
-        noted(2, &asked, NameMap::new(alloc))?,
+        filter_by(2, &asked, NameMap::new(alloc))?,
     )?;
     let mut request = NameMap::new(alloc);
     request.insert(
         Text::copy_of(alloc, "b")?,
-        noted(3, &asked, NameMap::new(alloc))?,
+        filter_by(3, &asked, NameMap::new(alloc))?,
     )?;
-    request.insert(Text::copy_of(alloc, "a")?, noted(1, &asked, below)?)?;
+    request.insert(Text::copy_of(alloc, "a")?, filter_by(1, &asked, below)?)?;
     let _params = AggContextParams::of_request(alloc, &request, &Schema::new(alloc))?;
     assert_eq!(rt; asked.get(), 123);
     Ok(())
