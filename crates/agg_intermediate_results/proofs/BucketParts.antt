@@ -5,8 +5,8 @@ use Rattle.agg_metric_results.specs.Merges.{Merges}
 use Rattle.agg_metric_results.specs.declared.metric.IntermediateMetricResult as metrics
 use metrics.{IntermediateMetricResult}
 use Rattle.agg_metric_results.proofs.Outcomes.{merges-as, merges-both}
-use Rattle.agg_intermediate_results.specs.Intermediate.{BucketLayer, Parts, composite, metric, parts_of}
-use Rattle.agg_intermediate_results.specs.Intermediate.{parts_of_bucket, parts_of_layer}
+use Rattle.agg_intermediate_results.specs.Intermediate.{BucketLayer, Parts, composite, metric}
+use Rattle.agg_intermediate_results.specs.Intermediate.{parts_of, parts_of_bucket, parts_of_layer}
 use Rattle.agg_intermediate_results.specs.Intermediate as held
 use Rattle.agg_intermediate_results.specs.Merging.{AreMerged, CompositesMerged, CountsPass}
 use Rattle.agg_intermediate_results.specs.Merging.{IsMerged, JoinNames, MergedTo, PartsDiffer}

@@ -1,4 +1,5 @@
-use Rattle.std.proofs.Common.{◌≡◌, ◌∙◌, ℕ, List, IfOk, Ok, Err, Result, string_bytes, ap, subst, rules}
+use Rattle.std.proofs.Common.{◌≡◌, ◌∙◌, ℕ, List, IfOk, Ok, Err, Result, string_bytes, ap, subst}
+use Rattle.std.proofs.Common.{rules}
 use Rattle.std.specs.Net.Addr.{ipv6_segments}
 use Rattle.std.specs.Net.Text.{ipv6_text}
 use Rattle.agg_values.specs.Address.{address_text}
