@@ -1,7 +1,6 @@
 //! The buckets of each parent, and what is visited now.
 ghost use Rattle.std.specs.Prelude.{◌≡◌, ◌≤◌, ◌<◌, ◌+◌, [], ◌∷◌, IfOk, IsErrOf, OnOk, get_or};
-ghost use Rattle.std.specs.Prelude.{length, map, nat_lt};
-ghost use Rattle.agg_heap_map.specs.EntryOrder.{copied_pair};
+ghost use Rattle.std.specs.Prelude.{length, nat_lt};
 
 use crate::bucket::Bucket;
 use crate::page::visit_page;
@@ -124,14 +123,13 @@ impl<S: Ord + Hash> BucketsByParent<S> {
         Ok(())
     }
 
-    /// The buckets of a parent by reference, ascending by their tuples, of which these are copies:
-    /// none where it isn't prepared.
-    pub fn of_parent(&self, parent: BucketId) -> Result<Vec<(S, &Bucket)>, OutOfMemory>
+    /// A copy of the buckets of a parent with their tuples, ascending: none where it isn't
+    /// prepared.
+    pub fn of_parent(&self, parent: BucketId) -> Result<Vec<(S, Bucket)>, OutOfMemory>
     where
         S: Clone + Drop,
         requires clones { (t q : S) → S.is_clone t q → q ≡ t }
-        ensures { IfOk result
-            (λ buckets. map copied_pair buckets.items ≡ get_or self.now.parents parent []) }
+        ensures { IfOk result (λ buckets. buckets.items ≡ get_or self.now.parents parent []) }
     {
         match self.parents.get(parent as usize) {
             Some(page) => page.entries_ascending(self.alloc),

@@ -48,7 +48,7 @@ fn expect_page(
     let page = buckets.of_parent(parent)?;
     assert!(rt; page.len() == 2 && buckets.num_buckets(parent) == 2);
     for (entry, (key, count, id)) in page.iter().zip(expected) {
-        assert!(rt; entry_of(&entry.0, entry.1) == (Some(key), count, id));
+        assert!(rt; entry_of(&entry.0, &entry.1) == (Some(key), count, id));
     }
     Ok(())
 }

@@ -1,5 +1,4 @@
 -- The buckets of a parent: the groups of what was visited under it, as the entries of a page.
-use denote.Ref.{Bor}
 use Rattle.std.proofs.Common.{◌≡◌, ◌==◌, ◌++◌, ◌+◌, ◌<◌, ◌≤◌, ℕ, zero, suc, Bool, true, false}
 use Rattle.std.proofs.Common.{List, [], ◌∷◌, All, length}
 use Rattle.std.proofs.Common.{take, map, get_or, refl, sym, ap, ◌∙◌, subst, arith}
@@ -21,7 +20,6 @@ use Rattle.agg_accessor.specs.Decoded.{IsEncoded, decoded}
 use Rattle.agg_accessor.specs.Encoding.{EncodedTuple, StandsForTuple, encoded_tuple_order}
 use Rattle.agg_accessor.specs.declared.request_data.CompositeAggReqData.{CompositeAggReqData}
 use Rattle.agg_accessor.proofs.EncodedOrder.{tuple-exact, tuple_order-total}
-use Rattle.agg_heap_map.specs.EntryOrder.{copied_pair}
 use Rattle.agg_buckets.specs.Cut.{counts_of, cut, groups_of, tuples_under}
 use Rattle.agg_buckets.specs.Page.{Page}
 use Rattle.agg_buckets.specs.Visits.{Visit}
@@ -95,52 +93,31 @@ groups-first req (suc n) [] = refl
 groups-first req (suc n) (e ∷ counts) =
     ap (λ (gs : List Group). (decoded req e.0, e.1) ∷ gs) (groups-first req n counts)
 
--- ---- copies of the tuples of a page, with references to the buckets
+-- ---- the bucket at an index of a page
 
-module _ (req : CompositeAggReqData) (shown : List (EncodedTuple × Bor Bucket))
-    (page : Page EncodedTuple) (all : map copied_pair shown ≡ page) (i : ℕ)
-    (e : EncodedTuple × Bor Bucket) (l : i < length shown) (is : e ≡ get_or shown i e) where
-  within : i < length page
-  within =
-      let many = ap length (sym all) ∙ length-map shown copied_pair in
-      omega (arith, many)
-
-  -- the one at an index is to the bucket at that index
-  shown-at : get_or page i (copied_pair e) ≡ copied_pair e
-  shown-at =
-      ap (λ es. get_or es i (copied_pair e)) (sym all)
-      ∙ get_or-map copied_pair shown i e (copied_pair e) l
-      ∙ ap copied_pair (sym is)
-
-  -- and so stands for a tuple where those of the page do
-  pub shown-encoded : All (IsEncoded req) (keys_of page) → IsEncoded req e.0
-  shown-encoded encoded =
-      subst (λ (x : EncodedTuple × Bucket). IsEncoded req x.0) shown-at
-      (All-from_map (IsEncoded req) (λ x. x.0) page encoded i (copied_pair e) within)
+module _ (req : CompositeAggReqData) (page : Page EncodedTuple) (i : ℕ) (e : EncodedTuple × Bucket)
+    (l : i < length page) (is : e ≡ get_or page i e) where
+  -- its tuple stands for one where those of the page do
+  pub bucket-encoded : All (IsEncoded req) (keys_of page) → IsEncoded req e.0
+  bucket-encoded encoded =
+      subst (λ (x : EncodedTuple × Bucket). IsEncoded req x.0) (sym is)
+      (All-from_map (IsEncoded req) (λ x. x.0) page encoded i e l)
 
   -- an entry more is that of one bucket more
   pub entries-more : (entries entries_now : List PageEntry) (entry : PageEntry) (t : EncodedTuple)
       → entries_now ≡ entries ++ entry ∷ []
       → map entry_bucket entries ≡ decoded_buckets req (take i page)
-      → entry_bucket entry ≡ (decoded req t, e.1.now) → t ≡ e.0
+      → entry_bucket entry ≡ (decoded req t, e.1) → t ≡ e.0
       → map entry_bucket entries_now ≡ decoded_buckets req (take (i + 1) page)
   entries-more entries entries_now entry t pushed so_far one same =
       ap (map entry_bucket) pushed
       ∙ map-append entry_bucket entries (entry ∷ [])
       ∙ (λ j. so_far j ++ one j ∷ [])
-      ∙ (λ j. decoded_buckets req (take i page) ++ (decoded req (same j), e.1.now) ∷ [])
+      ∙ (λ j. decoded_buckets req (take i page) ++ (decoded req (same j), e.1) ∷ [])
       ∙ ap (λ (x : EncodedTuple × Bucket). decoded_buckets req (take i page)
-      ++ (decoded req x.0, x.1) ∷ []) (sym shown-at)
-      ∙ sym (map-append _ (take i page) (get_or page i (copied_pair e) ∷ []))
-      ∙ ap (decoded_buckets req) (sym (take_more page i (copied_pair e) within))
-
--- the entries of all that are shown are those of the page
-pub entries-all : (req : CompositeAggReqData) (shown : List (EncodedTuple × Bor Bucket))
-    (page : Page EncodedTuple) → map copied_pair shown ≡ page → (n : ℕ) → length shown ≤ n
-    → decoded_buckets req (take n page) ≡ decoded_buckets req page
-entries-all req shown page all n l =
-    let many = ap length (sym all) ∙ length-map shown copied_pair in
-    ap (decoded_buckets req) (take_all n page (omega (arith, many)))
+      ++ (decoded req x.0, x.1) ∷ []) is
+      ∙ sym (map-append _ (take i page) (get_or page i e ∷ []))
+      ∙ ap (decoded_buckets req) (sym (take_more page i e l))
 
 -- ---- the page of a collector
 

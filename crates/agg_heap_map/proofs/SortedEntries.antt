@@ -1,6 +1,6 @@
 -- Entries that are sorted by their keys.
 use Rattle.std.proofs.Common.{◌≡◌, ℕ, suc, ◌<◌, false, List, [], ◌∷◌, length, get_or}
-use Rattle.std.proofs.Common.{map, add-one, refl, sym, ap, ◌∙◌, subst, arith, Ordering, Less, Equal}
+use Rattle.std.proofs.Common.{add-one, refl, sym, ap, ◌∙◌, subst, arith, Ordering, Less, Equal}
 use Rattle.std.proofs.Common.{Greater, is_lt}
 use Rattle.std.specs.BTreeMap.{insert_entry}
 use Rattle.std.specs.Cmp.{IsTotalOrder}
@@ -8,7 +8,6 @@ use Rattle.std.specs.List.{AllByRecursion}
 use Rattle.std.specs.List.Sorted.{IsPermutation, IsSortedBy}
 use Rattle.std.specs.Map.{keys_of}
 use Rattle.std.specs.Ordering.{eq_by_cmp, is_eq, ordering_reverse}
-use Rattle.std.proofs.lemmas.List.{get_or-map, length-map}
 use Rattle.std.proofs.lemmas.Map.Keys.{IsDistinct-head, IsDistinct-tail}
 use Rattle.agg_heap_map.specs.EntryOrder.{ascending}
 use Rattle.agg_heap_map.proofs.AscendingKeys.{Ascends}
@@ -58,30 +57,15 @@ module _ {K X : Type 0} (R : K → K → Ordering) (total : IsTotalOrder R) wher
   ascending-itself (e ∷ es) up =
       ap (λ fs. insert_entry R fs e.0 e.1) (ascending-itself es up.1) ∙ insert-first e es up.0
 
-  module _ {Y : Type 0} (entry : Y → K × X) where
-    none_below-at : (shown : List Y) (r : Y)
-        → IsSortedBy (λ a b. is_lt (R (entry a).0 (entry b).0)) shown
-        → NoneBelow (map entry shown)
-    none_below-at shown r sorted k d h =
-        let long : length (map entry shown) ≡ length shown = length-map shown entry in
-        let next : suc k < length shown = omega (arith, h, long) in
-        let here : k < length shown = omega (arith, next) in
-        rw (get_or-map entry shown (suc k) r d next, get_or-map entry shown k r d here)
-        (subst (λ n. is_lt (R (entry (get_or shown n r)).0 (entry (get_or shown k r)).0) ≡ false)
-        (add-one k) (sorted k r (omega arith) (omega (arith, next))))
+  none_below : (es : List (K × X)) → IsSortedBy (λ a b. is_lt (R a.0 b.0)) es → NoneBelow es
+  none_below es sorted k d h =
+      subst (λ n. is_lt (R (get_or es n d).0 (get_or es k d).0) ≡ false) (add-one k)
+      (sorted k d (omega (arith, h)) (omega (arith, h)))
 
-    none_below : (shown : List Y) → IsSortedBy (λ a b. is_lt (R (entry a).0 (entry b).0)) shown
-        → NoneBelow (map entry shown)
-    none_below [] sorted k d h = absurd (omega arith)
-    none_below (r ∷ shown) sorted k d h = none_below-at (r ∷ shown) r sorted k d h
-
-    -- what stands for entries, sorted by their keys, shows the entries in order
-    pub sorted-ascending : (es : List (K × X)) (shown : List Y) → EachOnce R es
-        → IsPermutation es (map entry shown)
-        → IsSortedBy (λ a b. is_lt (R (entry a).0 (entry b).0)) shown
-        → map entry shown ≡ ascending R es
-    sorted-ascending es shown once m sorted =
-        let fs : List (K × X) = map entry shown in
-        let once_there = EachOnce-permutation R total es fs m once in
-        let up = sorted-ascends fs (none_below shown sorted) once_there in
-        sym (ascending-same R total es fs m once ∙ ascending-itself fs up)
+  -- entries in another order, sorted by their keys, are those in order
+  pub sorted-ascending : (es fs : List (K × X)) → EachOnce R es → IsPermutation es fs
+      → IsSortedBy (λ a b. is_lt (R a.0 b.0)) fs → fs ≡ ascending R es
+  sorted-ascending es fs once m sorted =
+      let once_there = EachOnce-permutation R total es fs m once in
+      let up = sorted-ascends fs (none_below fs sorted) once_there in
+      sym (ascending-same R total es fs m once ∙ ascending-itself fs up)

@@ -1,15 +1,10 @@
 -- Entries in the order of their keys, and a heap of a map's keys.
-use denote.Ref.{Bor}
 use Rattle.std.specs.Prelude.{Bool, List, [], ◌∷◌}
 use Rattle.std.specs.BinaryHeap.{IsHeap}
 use Rattle.std.specs.BTreeMap.{insert_entry}
 use Rattle.std.specs.List.{IsDistinct}
 use Rattle.std.specs.List.Sorted.{IsPermutation}
 use Rattle.std.specs.declared.cmp.Ordering.{Ordering}
-
--- a copy of a key, with a value by reference, as an entry
-abbrev pub copied_pair : {K X : Type 0} → K × Bor X → K × X
-copied_pair e = (e.0, e.1.now)
 
 -- the entries in the order of their keys
 abbrev pub ascending : {K X : Type 0} → (K → K → Ordering) → List (K × X) → List (K × X)

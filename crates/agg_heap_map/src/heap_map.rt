@@ -1,13 +1,12 @@
 //! The body of bounded maps, over keys of any type.
 ghost use Rattle.std.specs.Prelude.{◌≡◌, ◌+◌, ◌-◌, [], None, Some, IfOk, MatchOption, OnErr, OnOk};
-ghost use Rattle.std.specs.Prelude.{is_some, length, map, slice_get, take};
+ghost use Rattle.std.specs.Prelude.{is_some, length, slice_get, take};
 ghost use Rattle.std.specs.BTreeMap.{insert_entry, is_at};
 ghost use Rattle.std.specs.Borrow.{sem};
 ghost use Rattle.std.specs.List.Sorted.{IsPermutation, IsStrictlySortedBy};
 ghost use Rattle.std.specs.Map.{keys_of, lookup};
 ghost use Rattle.std.specs.Map.Iter.{ShowsInOrder, deref_pair};
 ghost use Rattle.std.specs.Option.{option_copied_mut};
-ghost use Rattle.agg_heap_map.specs.EntryOrder.{copied_pair};
 
 use agg_values::{OutOfMemory, Steps};
 use std::alloc::Global;
@@ -147,13 +146,14 @@ impl<S: Ord + Hash, V> HeapMap<S, V> {
         self.map.iter()
     }
 
-    /// Copies of the keys with the values by reference, in the order of the keys. They are sorted
-    /// at each call, which is faster over copies than over references.
-    pub fn entries_ascending(&self, alloc: Global) -> Result<Vec<(S, &V)>, OutOfMemory>
+    /// A copy of the entries, in the order of the keys. They are sorted at each call, which is
+    /// faster over copies than over references.
+    pub fn entries_ascending(&self, alloc: Global) -> Result<Vec<(S, V)>, OutOfMemory>
     where
         S: Clone + Drop,
+        V: Copy,
         requires clones { (t q : S) → S.is_clone t q → q ≡ t }
-        ensures entries { IfOk result (λ entries. map copied_pair entries.items ≡ self.now) }
+        ensures entries { IfOk result (λ entries. entries.items ≡ self.now) }
         ensures ordered { IfOk result (λ _. IsStrictlySortedBy S.cmp (keys_of self.now)) }
     {
         let mut entries = copies_of(alloc, &self.map)?;
@@ -174,17 +174,17 @@ impl<S: Ord + Hash, V> HeapMap<S, V> {
     }
 }
 
-// Copies of the keys of a hash map with its values by reference.
-fn copies_of<S: Eq + Hash + Clone + Drop, V>(
+// A copy of the entries of a hash map.
+fn copies_of<S: Eq + Hash + Clone + Drop, V: Copy>(
     alloc: Global,
     hash_map: &HashMap<S, V>,
-) -> Result<Vec<(S, &V)>, OutOfMemory>
+) -> Result<Vec<(S, V)>, OutOfMemory>
     requires clones { (t q : S) → S.is_clone t q → q ≡ t }
-    ensures { IfOk result (λ entries. map copied_pair entries.items ≡ hash_map.now.entries) }
+    ensures { IfOk result (λ entries. entries.items ≡ hash_map.now.entries) }
 {
     let mut entries = Vec::with_capacity(alloc, hash_map.len())?;
     for (key, value) in hash_map.iter() {
-        entries.push((key.clone()?, value))?;
+        entries.push((key.clone()?, *value))?;
     }
     Ok(entries)
 }

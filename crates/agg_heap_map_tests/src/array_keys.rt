@@ -43,7 +43,7 @@ fn expect_two<'k, S: Ord + Hash + Clone, L: Ledger>(
     let entries = map.entries_ascending(rt.alloc())?;
     assert!(rt; entries.len() == 2);
     for (entry, key) in entries.iter().zip([keys.0, keys.1]) {
-        assert!(rt; &entry.0 == key && *entry.1 == 1);
+        assert!(rt; &entry.0 == key && entry.1 == 1);
     }
     Ok(())
 }

@@ -59,6 +59,13 @@ impl IntermediateCompositeBucketResult {
         self.entries.add_order(order, missing_order)
     }
 
+    /// Makes room for so many more entries.
+    pub fn reserve(&mut self, additional: usize) -> Result<(), OutOfMemory>
+        ensures { self.new ≡ self.old }
+    {
+        self.entries.reserve(additional)
+    }
+
     /// Adds an entry; where the tuple is held, the two are merged. After an error the tuple isn't
     /// held. A tuple above all that are held is found to be so at once.
     pub fn add_entry(

@@ -61,7 +61,9 @@ fn add_results_under(
         SegmentCollectorTree::Composite(index, collector, child) => {
             let req = &ctx.composite_req_data.as_slice()[*index];
             let mut buckets = empty_page(alloc, req)?;
-            for entry in page_under(alloc, collector, req, parent)?.into_vec() {
+            let entries = page_under(alloc, collector, req, parent)?.into_vec();
+            buckets.reserve(entries.len())?;
+            for entry in entries {
                 let mut below = IntermediateAggregationResults::new(alloc);
                 add_results_under(alloc, child, ctx, &mut below, Some(entry.bucket_id))?;
                 add_last(&mut buckets, entry, below)?;

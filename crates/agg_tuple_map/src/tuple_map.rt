@@ -129,6 +129,14 @@ impl<T: Drop> TupleMap<T> {
         Ok(())
     }
 
+    /// Makes room for so many more entries.
+    pub fn reserve(&mut self, additional: usize) -> Result<(), OutOfMemory>
+        ensures { self.new ≡ self.old }
+    {
+        self.entries.reserve(additional)?;
+        Ok(())
+    }
+
     /// Puts a tuple with its value in the place where it would go.
     pub fn insert(&mut self, at: usize, key: Tuple, value: T) -> Result<(), OutOfMemory>
         requires { seek (tuple_order self.now.0 key) self.now.1 ≡ Err at }
