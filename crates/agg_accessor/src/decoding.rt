@@ -41,7 +41,7 @@ fn decode_keys(
     ensures { IfOk result (λ tuple.
         tuple ≡ decoded_keys sources.now accessors.now encoded.now) }
 {
-    let mut tuple = Tuple::new(alloc);
+    let mut tuple = Tuple::with_capacity(alloc, encoded.len())?;
     for (i, key) in encoded.iter().enumerate() {
         let of_source = accessors[i].accessors.as_slice();
         tuple.push(decode_key(alloc, &sources[i], of_source, *key)?)?;

@@ -16,7 +16,7 @@ pub fn shown_keys(
     ensures { IfOk result (λ keys. keys ≡ by_source shown_key sources.now tuple.now) }
 {
     let values = tuple.as_slice();
-    let mut keys = NameMap::new(alloc);
+    let mut keys = NameMap::with_capacity(alloc, sources.len())?;
     for i in (0..sources.len().min(values.len())).rev() {
         let shown = CompositeKey::from_intermediate(alloc, values[i].try_clone(alloc)?)?;
         keys.insert(sources[i].name().try_clone(alloc)?, shown)?;

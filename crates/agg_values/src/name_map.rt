@@ -46,6 +46,15 @@ impl<T> NameMap<T> {
         }
     }
 
+    /// The empty map, with room for some names.
+    pub fn with_capacity(alloc: Global, capacity: usize) -> Result<NameMap<T>, OutOfMemory>
+        ensures { IfOk result (λ map. map ≡ []) }
+    {
+        Ok(NameMap {
+            entries: Vec::with_capacity(alloc, capacity)?,
+        })
+    }
+
     /// The allocator that the map was made with.
     pub fn allocator(&self) -> Global {
         *self.entries.allocator()

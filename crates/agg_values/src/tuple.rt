@@ -36,6 +36,15 @@ impl Tuple {
         }
     }
 
+    /// The empty tuple, with room for some keys.
+    pub fn with_capacity(alloc: Global, capacity: usize) -> Result<Tuple, OutOfMemory>
+        ensures { IfOk result (λ tuple. tuple ≡ []) }
+    {
+        Ok(Tuple {
+            keys: Vec::with_capacity(alloc, capacity)?,
+        })
+    }
+
     /// Appends a key.
     pub fn push(&mut self, key: CompositeIntermediateKey) -> Result<(), OutOfMemory>
         ensures ok { OnOk result (self.new ≡ self.old ++ key ∷ []) }
@@ -55,21 +64,12 @@ impl Tuple {
     pub fn try_clone(&self, alloc: Global) -> Result<Tuple, OutOfMemory>
         ensures { IfOk result (λ tuple. tuple ≡ self.now) }
     {
-        let mut tuple = with_room(alloc, self.keys.len())?;
+        let mut tuple = Tuple::with_capacity(alloc, self.keys.len())?;
         for key in self.as_slice() {
             tuple.push(key.try_clone(alloc)?)?;
         }
         Ok(tuple)
     }
-}
-
-// The empty tuple, with room for some keys.
-fn with_room(alloc: Global, len: usize) -> Result<Tuple, OutOfMemory>
-    ensures { IfOk result (λ tuple. tuple ≡ []) }
-{
-    Ok(Tuple {
-        keys: Vec::with_capacity(alloc, len)?,
-    })
 }
 
 impl PartialEq for Tuple {

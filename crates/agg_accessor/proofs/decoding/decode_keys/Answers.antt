@@ -7,7 +7,7 @@ use Rattle.agg_accessor.proofs.decoding.decode_keys.Goals as goal
 
 pub loop-i-init : goal.loop-i-init
 loop-i-init c =
-    c.new-tuple.ensures ∙ sym (decoded-none c.args.sources.now c.args.accessors.now)
+    c.in_ok-tuple.ensures ∙ sym (decoded-none c.args.sources.now c.args.accessors.now)
 
 pub decode_key-requires : goal.decode_key-requires
 decode_key-requires c =
