@@ -1,5 +1,5 @@
 //! The choices that a document gives.
-ghost use Rattle.std.specs.Prelude.{◌≡◌, ◌<◌, ◌++◌, ◌^◌, length, map, OnOk};
+ghost use Rattle.std.specs.Prelude.{◌≡◌, ◌<◌, ◌++◌, ◌^◌, [], length, map, OnOk};
 ghost use Rattle.agg_accessor.specs.Accessors.{keys_read};
 ghost use Rattle.agg_composite.specs.Choices.{AddsChoices, AreGathered, choice_at};
 ghost use Rattle.agg_composite.specs.Choices.{divided_choices, values_read};
@@ -25,7 +25,10 @@ pub struct Gathered {
 
 impl Gathered {
     /// No choices.
-    pub fn new(alloc: Global) -> Gathered {
+    pub fn new(alloc: Global) -> Gathered
+        ensures choices { result.choices.items ≡ [] }
+        ensures sizes { result.sizes.items ≡ [] }
+    {
         Gathered {
             choices: Vec::new(alloc),
             sizes: Vec::new(alloc),
