@@ -1,0 +1,10 @@
+pub mod CompositeCounts
+pub mod CountsOut
+pub mod Distinct
+pub mod KeySums
+pub mod Lawful
+pub mod LawfulRequests
+pub mod Roofs
+pub mod Sums
+pub mod WithinLists
+pub mod WorkedCases

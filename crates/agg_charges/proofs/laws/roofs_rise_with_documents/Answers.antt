@@ -1,0 +1,11 @@
+use Rattle.agg_charges.proofs.Roofs.{roof-any_order, roof-more, roof-within}
+use Rattle.agg_charges.proofs.laws.roofs_rise_with_documents.Goals as goal
+
+pub returns-clause-within : goal.returns-clause-within
+returns-clause-within g c = roof-within
+
+pub returns-clause-more : goal.returns-clause-more
+returns-clause-more g c = roof-more
+
+pub returns-clause-any_order : goal.returns-clause-any_order
+returns-clause-any_order g c = roof-any_order

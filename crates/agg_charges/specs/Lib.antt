@@ -1,0 +1,4 @@
+pub mod Charges
+pub mod Distinct
+pub mod Roof
+pub mod Within

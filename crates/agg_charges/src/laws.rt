@@ -1,0 +1,40 @@
+//! What holds of roofs, as their definition says it.
+ghost use Rattle.std.specs.Prelude.{◌≡◌, ◌≤◌, Bool, ℕ, List, ◌++◌, IsPermutation};
+ghost use Rattle.agg_column.specs.Document.{Fields};
+ghost use Rattle.agg_request_tree.specs.Request.{Request};
+ghost use Rattle.agg_charges.specs.Charges.{fixed_charge};
+ghost use Rattle.agg_charges.specs.Roof.{IsSettled, low_roof, roof};
+ghost use Rattle.agg_charges.specs.Within.{Within};
+
+/// The low roof of a request is at least its fixed charge and at most its roof. Where the request
+/// is settled, the two roofs are the same.
+pub fn low_roofs_are_at_most_roofs<B>()
+    ensures fixed { (is_match : B → Fields → Bool) (request : Request B)
+        → (documents : ℕ) (matches : List Fields)
+        → fixed_charge request documents ≤ low_roof is_match request documents matches }
+    ensures lower { (is_match : B → Fields → Bool) (request : Request B)
+        → (documents : ℕ) (matches : List Fields)
+        → low_roof is_match request documents matches
+        ≤ roof is_match request documents matches }
+    ensures settled { (is_match : B → Fields → Bool) (request : Request B)
+        → (documents : ℕ) (matches : List Fields)
+        → IsSettled is_match request matches
+        → low_roof is_match request documents matches
+        ≡ roof is_match request documents matches }
+{}
+
+/// A roof doesn't fall where documents are added, and is the same for any order of them.
+pub fn roofs_rise_with_documents<B>()
+    ensures within { (is_match : B → Fields → Bool) (request : Request B)
+        → (documents : ℕ) (matches others : List Fields)
+        → Within matches others
+        → roof is_match request documents matches ≤ roof is_match request documents others }
+    ensures more { (is_match : B → Fields → Bool) (request : Request B)
+        → (documents : ℕ) (matches others : List Fields)
+        → roof is_match request documents matches
+        ≤ roof is_match request documents (matches ++ others) }
+    ensures any_order { (is_match : B → Fields → Bool) (request : Request B)
+        → (documents : ℕ) (matches others : List Fields)
+        → IsPermutation matches others
+        → roof is_match request documents matches ≡ roof is_match request documents others }
+{}

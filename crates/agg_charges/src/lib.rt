@@ -1,0 +1,7 @@
+//! What requests are charged in memory: the fixed charge of a request in a segment, its roof and
+//! its low roof, and their laws.
+#![tactic(auto)]
+
+mod laws;
+
+pub use laws::{low_roofs_are_at_most_roofs, roofs_rise_with_documents};
