@@ -1,53 +1,18 @@
 -- Lists without repeats, by a test of which elements are the same.
-use Rattle.std.proofs.Common.{◌≡◌, ◌≤◌, ◌<◌, ◌||◌, ◌+◌, ℕ, Bool, true, false, cond, List, [], ◌∷◌}
-use Rattle.std.proofs.Common.{◌⊎◌, length, refl, sym, ap, ◌∙◌, ⊎_elim, inl, inr, arith}
+use Rattle.std.proofs.Common.{◌≡◌, ◌≤◌, ◌<◌, ◌||◌, ◌&&◌, ◌+◌, ℕ, Bool, true, false, cond}
+use Rattle.std.proofs.Common.{List, [], ◌∷◌, length, refl, sym, ap, ◌∙◌, ⊎_elim, arith}
 use Rattle.std.specs.Cmp.{IsEquivalence}
 use Rattle.std.specs.Prelude.{if◌then◌else◌}
-use Rattle.std.specs.List.{count_by, list_any, sum_by}
+use Rattle.std.specs.List.{AllByRecursion, Contains, IsDistinct, count_by, list_all, list_any}
+use Rattle.std.specs.List.{sum_by}
+use Rattle.std.proofs.lemmas.List.Folds.{list_any_at}
+use Rattle.std.proofs.lemmas.Map.Keys.{IsDistinct-head, IsDistinct-tail}
 use Rattle.std.proofs.lemmas.Bool.{cond_both}
 use Rattle.std.proofs.lemmas.List.Sums.{sum_by-cons}
 use Rattle.agg_charges.specs.Distinct.{distinct}
+use Rattle.agg_charges.proofs.Tests.{absorbed, added, both, by_answer, clash, known, not_true}
+use Rattle.agg_charges.proofs.Tests.{neither, second, weaker}
 use Rattle.agg_charges.proofs.Sums.{sum_by-at_most, sum_by-constant, sum_by-swap}
-
--- ---- answers
-
--- a test answers true or false
-pub by_answer : (t : Bool) → (t ≡ true) ⊎ (t ≡ false)
-by_answer true = inl refl
-by_answer false = inr refl
-
--- what isn't true is false
-not_true : (t : Bool) → (t ≡ true → ⊥) → t ≡ false
-not_true true never = absurd (never refl)
-not_true false never = refl
-
-absorbed : (s t : Bool) → (s ≡ true → t ≡ true) → t ≡ (s || t)
-absorbed true t implied = implied refl
-absorbed false t implied = refl
-
-second : (s t : Bool) → (s || t) ≡ true → s ≡ false → t ≡ true
-second true t either not = absurd (cc)
-second false t either not = either
-
-weaker : (s t u : Bool) → (s || t) ≡ true → (t ≡ true → u ≡ true) → (s || u) ≡ true
-weaker true t u either implied = refl
-weaker false t u either implied = implied either
-
-neither : (s t : Bool) → (s || t) ≡ false → (s ≡ false) × (t ≡ false)
-neither true t none = absurd (cc)
-neither false t none = (refl, none)
-
-known : (s t : Bool) → s ≡ true → (s || t) ≡ true
-known true t is = refl
-known false t is = absurd (cc)
-
-added : (s t : Bool) → t ≡ true → (s || t) ≡ true
-added true t is = refl
-added false t is = is
-
-clash : (t : Bool) → t ≡ true → t ≡ false → ⊥
-clash true is none = cc
-clash false is none = cc
 
 module _ {X : Type 0} (same : X → X → Bool) (laws : IsEquivalence same) where
   -- no element is the same as a later one
@@ -221,3 +186,67 @@ module _ {X : Type 0} (same : X → X → Bool) (laws : IsEquivalence same) wher
         ap {B = ℕ} (λ t. cond t 1 0) other,
       ))))
       (by_answer (same x y))
+
+  -- ---- elements of one list in another
+
+  -- what is the same as an element is an element of what has them all
+  pub any-held : (z : X) (xs ys : List X)
+      → AllByRecursion (λ x. list_any (same x) ys ≡ true) xs → list_any (same z) xs ≡ true
+      → list_any (same z) ys ≡ true
+  any-held z [] ys held has = absurd (cc)
+  any-held z (x ∷ xs) ys held has = ⊎_elim (λ is. any-same z x ys is ∙ held.0)
+      (λ other.
+      any-held z xs ys held.1 (second (same z x) (list_any (same z) xs) has other))
+      (by_answer (same z x))
+
+  -- an element of a list is the same as one
+  pub any-contained : (z : X) (xs : List X) → Contains xs z → list_any (same z) xs ≡ true
+  any-contained z xs c =
+      list_any_at (same z) xs c.0 z c.1 (ap (same z) c.2 ∙ laws.refl z)
+
+  -- lists that are apart and have each other's elements have one sum
+  pub sum_by-exchanged : (f : X → ℕ) → Alike f → (xs ys : List X) → Apart xs → Apart ys
+      → ((z : X) → list_any (same z) xs ≡ true → list_any (same z) ys ≡ true)
+      → ((z : X) → list_any (same z) ys ≡ true → list_any (same z) xs ≡ true)
+      → sum_by f xs ≡ sum_by f ys
+  sum_by-exchanged f alike xs ys apart others there back = omega (
+    arith,
+    sum_by-apart f alike xs ys apart there,
+    sum_by-apart f alike ys xs others back,
+  )
+
+  -- a list that is distinct is apart
+  pub Apart-distinct : (xs : List X) → IsDistinct same xs → Apart xs
+  Apart-distinct [] differ = tt
+  Apart-distinct (x ∷ xs) differ = (
+    none x xs (IsDistinct-head same x xs differ),
+    Apart-distinct xs (IsDistinct-tail same x xs differ),
+  )
+    where
+      none : (x : X) (ys : List X) → AllByRecursion (λ y. same x y ≡ false) ys
+          → list_any (same x) ys ≡ false
+      none x [] others = refl
+      none x (y ∷ ys) others = ap (λ t. t || list_any (same x) ys) others.0 ∙ none x ys others.1
+
+  -- ---- tests that all pass
+
+  module _ (passes : X → Bool) where
+    -- where all pass, so does what is the same as one
+    pub passes-any : ((x y : X) → same x y ≡ true → passes x ≡ passes y) → (z : X) (xs : List X)
+        → list_all passes xs ≡ true → list_any (same z) xs ≡ true → passes z ≡ true
+    passes-any alike z [] all has = absurd (cc)
+    passes-any alike z (x ∷ xs) all has =
+        let parts = both (passes x) (list_all passes xs) all in
+        ⊎_elim (λ is. alike z x is ∙ parts.0)
+        (λ other.
+        passes-any alike z xs parts.1 (second (same z x) (list_any (same z) xs) has other))
+        (by_answer (same z x))
+
+    -- all pass where each does that is the same as one
+    pub list_all-each : (xs : List X)
+        → ((z : X) → list_any (same z) xs ≡ true → passes z ≡ true)
+        → list_all passes xs ≡ true
+    list_all-each [] each = refl
+    list_all-each (x ∷ xs) each =
+        (λ i. each x (known (same x x) (list_any (same x) xs) (laws.refl x)) i
+        && list_all-each xs (λ z has. each z (added (same z x) (list_any (same z) xs) has)) i)

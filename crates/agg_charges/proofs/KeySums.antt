@@ -1,14 +1,17 @@
 -- The keys of elements, each once, and sums over the elements of each key.
 use Rattle.std.proofs.Common.{◌≡◌, ◌≤◌, ◌*◌, ℕ, Bool, true, cond, List, map, length, replicate}
-use Rattle.std.proofs.Common.{refl, sym, ap, ◌∙◌, arith}
+use Rattle.std.proofs.Common.{refl, sym, ap, ◌∙◌, arith, [], ◌∷◌}
 use Rattle.std.specs.Cmp.{IsEquivalence}
-use Rattle.std.specs.List.{count_by, filter, flat_map, list_any, sum_by}
+use Rattle.std.specs.List.{All, AllByRecursion, Contains, count_by, filter, flat_map, list_all}
+use Rattle.std.specs.List.{list_any, sum_by}
+use Rattle.std.proofs.lemmas.List.Elements.{recursion_from_All}
 use Rattle.std.proofs.Math.Nat.{mul-le-mul_right}
 use Rattle.std.proofs.lemmas.List.Folds.{sum_by-replicate}
 use Rattle.agg_charges.specs.Distinct.{distinct}
 use Rattle.agg_charges.specs.Within.{Within}
 use Rattle.agg_charges.proofs.Distinct.{any-counted, any-distinct, count_by-some, distinct-apart}
-use Rattle.agg_charges.proofs.Distinct.{sum_by-apart, sum_by-places}
+use Rattle.agg_charges.proofs.Distinct.{Alike, Apart, any-contained, any-held, list_all-each}
+use Rattle.agg_charges.proofs.Distinct.{passes-any, sum_by-apart, sum_by-exchanged, sum_by-places}
 use Rattle.agg_charges.proofs.Sums.{sum_by-at_most, sum_by-constant, sum_by-copies, sum_by-flat_map}
 use Rattle.agg_charges.proofs.Sums.{sum_by-same, sum_by-swap, sum_by-times}
 use Rattle.agg_charges.proofs.WithinLists.{Within-filter, Within-flat_map, Within-length}
@@ -65,6 +68,36 @@ module _ {X K : Type 0} (same : K → K → Bool) (laws : IsEquivalence same) (k
             (λ x. sum_by-copies f x (keys x)),
         sum_by-flat_map f (λ x. map (λ k. x) (keys x)) xs,
       )
+
+  -- keys that are the same have the same elements
+  pub with_key-alike : {Y : Type 0} (g : List X → Y) (xs : List X) (k l : K) → same k l ≡ true
+      → g (with_key xs k) ≡ g (with_key xs l)
+  with_key-alike g xs k l is =
+      ap (λ test. g (flat_map (λ x. replicate (count_by test (keys x)) x) xs))
+      (λ i z. laws.congr k l z is i)
+
+  -- keys that are apart, and are those that pass, have the sums of the keys that do
+  pub sum_by-other_keys : (f : K → ℕ) → Alike same laws f → (xs : List X) (ks : List K)
+      → Apart same laws ks → All (Contains (passing xs)) ks → All (Contains ks) (passing xs)
+      → sum_by f (keys_of xs) ≡ sum_by f ks
+  sum_by-other_keys f alike xs ks apart occurring complete =
+      sum_by-exchanged same laws f alike (keys_of xs) ks
+      (distinct-apart same laws (passing xs)) apart
+      (λ k has.
+      any-held same laws k (passing xs) ks (each (passing xs) ks complete)
+      (sym (any-distinct same laws k (passing xs)) ∙ has))
+      (λ k has.
+      any-distinct same laws k (passing xs)
+      ∙ any-held same laws k ks (passing xs) (each ks (passing xs) occurring) has)
+    where
+      held : (ls ms : List K) → AllByRecursion (Contains ms) ls
+          → AllByRecursion (λ l. list_any (same l) ms ≡ true) ls
+      held [] ms all = tt
+      held (l ∷ ls) ms all = (any-contained same laws l ms all.0, held ls ms all.1)
+
+      each : (ls ms : List K) → All (Contains ms) ls
+          → AllByRecursion (λ l. list_any (same l) ms ≡ true) ls
+      each ls ms all = held ls ms (recursion_from_All (Contains ms) ls all)
 
   -- ---- how many keys
 
@@ -125,20 +158,26 @@ module _ {X K : Type 0} (same : K → K → Bool) (laws : IsEquivalence same) (k
       sum_by-constant 1 (keys_of ys),
     )
 
-    -- and what doesn't fall from a list to one that it is within has at most as much over its keys
+    -- and what is at most as much for each key is so over all keys
     pub sum_by-keys_within : (g : List X → ℕ)
-        → ((us vs : List X) → Within us vs → g us ≤ g vs)
+        → ((k : K) → g (with_key xs k) ≤ g (with_key ys k))
         → sum_by (λ k. g (with_key xs k)) (keys_of xs)
         ≤ sum_by (λ k. g (with_key ys k)) (keys_of ys)
     sum_by-keys_within g rises = omega (
       arith,
-      sum_by-at_most (λ k. g (with_key xs k)) (λ k. g (with_key ys k)) (keys_of xs)
-          (λ k. rises (with_key xs k) (with_key ys k) (Within-with_key k)),
-      sum_by-apart same laws (λ k. g (with_key ys k)) alike (keys_of xs) (keys_of ys)
-          (distinct-apart same laws (passing xs)) any-within,
+      sum_by-at_most (λ k. g (with_key xs k)) (λ k. g (with_key ys k)) (keys_of xs) rises,
+      sum_by-apart same laws (λ k. g (with_key ys k)) (with_key-alike g ys) (keys_of xs)
+          (keys_of ys) (distinct-apart same laws (passing xs)) any-within,
     )
-      where
-        alike : (k l : K) → same k l ≡ true → g (with_key ys k) ≡ g (with_key ys l)
-        alike k l is =
-            ap (λ test. g (flat_map (λ x. replicate (count_by test (keys x)) x) ys))
-            (λ i z. laws.congr k l z is i)
+
+    -- what passes for each key of the other list, where it then does here, passes for each key
+    pub list_all-keys_within : (test : List X → Bool)
+        → ((k : K) → test (with_key ys k) ≡ true → test (with_key xs k) ≡ true)
+        → list_all (λ k. test (with_key ys k)) (keys_of ys) ≡ true
+        → list_all (λ k. test (with_key xs k)) (keys_of xs) ≡ true
+    list_all-keys_within test here all =
+        list_all-each same laws (λ k. test (with_key xs k)) (keys_of xs)
+        (λ k has.
+        here k
+        (passes-any same laws (λ l. test (with_key ys l)) (with_key-alike test ys) k (keys_of ys)
+        all (any-within k has)))

@@ -1,5 +1,5 @@
 -- Laws of what aggregations count, which hold of several together where they hold of each.
-use Rattle.std.proofs.Common.{◌≡◌, ◌≤◌, ◌+◌, ◌&&◌, ◌||◌, ℕ, Bool, true, false, List, [], ◌∷◌}
+use Rattle.std.proofs.Common.{◌≡◌, ◌≤◌, ◌+◌, ◌&&◌, ℕ, true, false, List, [], ◌∷◌}
 use Rattle.std.proofs.Common.{refl, sym, arith}
 use Rattle.std.specs.List.{AllByRecursion, sum_by}
 use Rattle.std.proofs.lemmas.List.Sums.{sum_by-cons}
@@ -7,6 +7,7 @@ use Rattle.agg_values.specs.Names.{Named}
 use Rattle.agg_column.specs.Document.{Fields}
 use Rattle.agg_charges.specs.Roof.{Counts, nothing, together}
 use Rattle.agg_charges.specs.Within.{Within}
+use Rattle.agg_charges.proofs.Tests.{both, neither}
 use Rattle.agg_charges.proofs.Sums.{sum_by-both, sum_by-none}
 
 -- what aggregations count keeps to the laws
@@ -25,6 +26,12 @@ pub record Lawful (c : Counts) : Type 0 where
   pub lower : (documents : List Fields) → c.low_bytes documents ≤ c.bytes documents
   pub settled : (documents : List Fields) → c.is_settled documents ≡ true
       → c.low_bytes documents ≡ c.bytes documents
+  -- what is settled over a list is over each list within it
+  pub settles : (documents others : List Fields) → Within documents others
+      → c.is_settled others ≡ true → c.is_settled documents ≡ true
+  -- lists within each other have the same low bytes
+  pub low_same : (documents others : List Fields) → Within documents others
+      → Within others documents → c.low_bytes documents ≡ c.low_bytes others
 
 -- without a composite nothing is counted
 pub bare-bytes : (c : Counts) → Lawful c → c.has_composite ≡ false → (documents : List Fields)
@@ -37,16 +44,6 @@ pub bare-low_bytes : (c : Counts) → Lawful c → c.has_composite ≡ false
 bare-low_bytes c lawful none documents =
     omega (arith, lawful.lower documents, bare-bytes c lawful none documents)
 
--- both of two tests pass
-pub both : (s t : Bool) → (s && t) ≡ true → (s ≡ true) × (t ≡ true)
-both true t pass = (refl, pass)
-both false t pass = absurd (cc)
-
--- neither of two tests passes
-neither : (s t : Bool) → (s || t) ≡ false → (s ≡ false) × (t ≡ false)
-neither true t none = absurd (cc)
-neither false t none = (refl, none)
-
 -- nothing keeps to the laws
 pub Lawful-nothing : Lawful nothing
 Lawful-nothing = record {
@@ -57,6 +54,8 @@ Lawful-nothing = record {
   rises = λ documents others inside. omega arith;
   lower = λ documents. omega arith;
   settled = λ documents pass. refl;
+  settles = λ documents others inside pass. refl;
+  low_same = λ documents others inside back. refl;
 }
 
 -- so do several aggregations together, each of which does
@@ -126,4 +125,15 @@ Lawful-together (c ∷ each) lawful =
             first.settled documents parts.0,
             rest.settled documents parts.1,
           );
+      settles = λ documents others inside pass.
+          let parts = both (c.1.is_settled others) ((together each).is_settled others) pass in
+          (λ i. first.settles documents others inside parts.0 i
+          && rest.settles documents others inside parts.1 i);
+      low_same = λ documents others inside back. omega (
+        arith,
+        low documents,
+        low others,
+        first.low_same documents others inside back,
+        rest.low_same documents others inside back,
+      );
     }

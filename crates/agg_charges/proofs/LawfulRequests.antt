@@ -35,6 +35,13 @@ module _ {B : Type 0} (is_match : B → Fields → Bool) where
             (Within-filter documents others inside matches);
         lower = λ documents. lawful.lower (those documents);
         settled = λ documents pass. lawful.settled (those documents) pass;
+        settles = λ documents others inside pass.
+            lawful.settles (those documents) (those others)
+            (Within-filter documents others inside matches) pass;
+        low_same = λ documents others inside back.
+            lawful.low_same (those documents) (those others)
+            (Within-filter documents others inside matches)
+            (Within-filter others documents back matches);
       }
   Lawful-by (Composite composite) below lawful = Lawful-composite composite below lawful
   Lawful-by (Count metric) below lawful = Lawful-nothing

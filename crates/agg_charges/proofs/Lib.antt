@@ -1,4 +1,5 @@
 pub mod CompositeCounts
+pub mod CompositeTuples
 pub mod CountsOut
 pub mod Distinct
 pub mod KeySums
@@ -6,5 +7,6 @@ pub mod Lawful
 pub mod LawfulRequests
 pub mod Roofs
 pub mod Sums
+pub mod Tests
 pub mod WithinLists
 pub mod WorkedCases

@@ -50,3 +50,19 @@ module _ {B : Type 0} (is_match : B → Fields → Bool) (request : Request B) (
     roof-within others matches
         (Within-permutation others matches (IsPermutation-sym matches others moved)),
   )
+
+  -- so is a low roof
+  pub low-any_order : (matches others : List Fields) → IsPermutation matches others
+      → low_roof is_match request documents matches
+      ≡ low_roof is_match request documents others
+  low-any_order matches others moved =
+      ap (λ n. fixed_charge request documents + n)
+      ((Lawful-request is_match request).low_same matches others
+      (Within-permutation matches others moved)
+      (Within-permutation others matches (IsPermutation-sym matches others moved)))
+
+module _ {B : Type 0} (is_match : B → Fields → Bool) (request : Request B) where
+  -- what is settled over a list is over each list within it
+  pub settled-within : (matches others : List Fields) → Within matches others
+      → IsSettled is_match request others → IsSettled is_match request matches
+  settled-within = (Lawful-request is_match request).settles

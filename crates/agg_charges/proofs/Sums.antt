@@ -95,3 +95,12 @@ pub sum_by-copies : {X Y : Type 0} (f : X → ℕ) (x : X) (ys : List Y)
 sum_by-copies f x [] = grind arith
 sum_by-copies f x (y ∷ ys) =
     grind (arith, sum_by-cons f x (map (λ y. x) ys), sum_by-copies f x ys)
+
+-- elements made of others
+pub sum_by-map : {X Y : Type 0} (f : Y → ℕ) (made : X → Y) (xs : List X)
+    → sum_by f (map made xs) ≡ sum_by (λ x. f (made x)) xs
+sum_by-map f made [] = refl
+sum_by-map f made (x ∷ xs) =
+    sum_by-cons f (made x) (map made xs)
+    ∙ ap (λ n. f (made x) + n) (sum_by-map f made xs)
+    ∙ sym (sum_by-cons (λ x. f (made x)) x xs)

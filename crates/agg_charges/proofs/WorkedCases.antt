@@ -1,5 +1,6 @@
--- The worked cases of the definitions: one composite, and one below another.
-use Rattle.std.proofs.Common.{◌≡◌, ℕ, ℤ, pos, Bool, false, List, [], ◌∷◌, ◌++◌, ◌+◌, ap, ◌∙◌}
+-- The worked cases of the definitions: a composite, by itself and below another, a metric and a
+-- filter.
+use Rattle.std.proofs.Common.{◌≡◌, ℕ, ℤ, pos, Bool, true, false, List, [], ◌∷◌, ◌++◌, ◌+◌, ap, ◌∙◌}
 use Rattle.std.specs.Prelude.{if◌then◌else◌, sum}
 use Rattle.std.specs.Str.{bytes_eq}
 use Rattle.agg_values.specs.declared.order.Order.TheVariants.{Asc}
@@ -9,7 +10,9 @@ use Rattle.agg_column.specs.Document.{Fields}
 use Rattle.agg_request_tree.specs.Request.{Request, aggregation_of}
 use Rattle.agg_request_tree.specs.declared.aggregation.AggregationVariants as variants
 use variants.{AggregationVariants}
-use variants.TheVariants.{Composite}
+use variants.TheVariants.{Composite, Count, Filter}
+use Rattle.agg_request_tree.specs.declared.aggregation.filter.FilterQuery.TheVariants as by
+use by.{CustomBuilder}
 use Rattle.agg_request_tree.specs.declared.source.CompositeAggregationSource as kind
 use kind.{CompositeAggregationSource}
 use kind.TheVariants.{Terms}
@@ -18,11 +21,10 @@ use Rattle.agg_charges.specs.Roof.{IsSettled, counts_by, counts_of, low_roof, ro
 use Rattle.agg_charges.specs.Roof.{together}
 use Rattle.agg_charges.proofs.CountsOut.{counts-made, listed-made}
 
--- a name
+-- two names
 abbrev a : List ℕ
 a = 97 ∷ []
 
--- another
 abbrev b : List ℕ
 b = 98 ∷ []
 
@@ -36,117 +38,127 @@ terms field = Terms (record {
   missing_order = nulls.Default;
 })
 
--- a document with 1 in each field but b
+-- a document with this value of b, and 1 in each other field
 abbrev document : ℤ → Fields
 document n field = if bytes_eq field b then I64 n ∷ [] else I64 (pos 1) ∷ []
 
--- six documents, and the first three of them
-abbrev six : List Fields
-six =
-    document (pos 1) ∷ document (pos 2) ∷ document (pos 3) ∷ document (pos 4)
-    ∷ document (pos 5) ∷ document (pos 6) ∷ []
-
+-- documents with three values of b, and with six
 abbrev three : List Fields
 three = document (pos 1) ∷ document (pos 2) ∷ document (pos 3) ∷ []
 
+abbrev six : List Fields
+six = document (pos 4) ∷ document (pos 5) ∷ document (pos 6) ∷ three
+
+-- a page of the values of a field
+abbrev page : {B : Type 0} → List ℕ → ℕ → AggregationVariants B
+page field size = Composite (record {
+  sources = terms field ∷ [];
+  size = size;
+  after = [];
+})
+
 module _ {B : Type 0} (is_match : B → Fields → Bool) where
-  -- a page of the values of a field
-  abbrev page : List ℕ → ℕ → AggregationVariants B
-  page field size = Composite (record {
-    sources = terms field ∷ [];
-    size = size;
-    after = [];
-  })
+  -- ---- one aggregation
 
-  -- ---- six values, in a page of a size
+  abbrev single : AggregationVariants B → Request B
+  single agg = (a, aggregation_of agg []) ∷ []
 
-  abbrev single : ℕ → Request B
-  single size = (b, aggregation_of (page b size) []) ∷ []
+  single-charge : (agg : AggregationVariants B) (documents : ℕ)
+      → fixed_charge (single agg) documents ≡ sum (node_charge documents agg ∷ [])
+  single-charge agg documents =
+      ap (λ list. sum (list ++ [])) (listed-made (λ agg. node_charge documents agg ∷ []) agg [])
 
-  single-charge : (size : ℕ) → fixed_charge (single size) 6 ≡ 512
-  single-charge size =
+  single-counts : (agg : AggregationVariants B)
+      → counts_of is_match (single agg) ≡ together ((a, counts_by is_match agg (together [])) ∷ [])
+  single-counts agg = ap (λ c. together ((a, c) ∷ [])) (counts-made is_match agg [])
+
+  -- six values in a page of five, and in a page of ten
+  six-in_five : roof is_match (single (page b 5)) 6 six ≡ 992
+  six-in_five i = single-charge (page b 5) 6 i + (single-counts (page b 5) i).bytes six
+
+  six-in_ten : roof is_match (single (page b 10)) 6 six ≡ 1088
+  six-in_ten i = single-charge (page b 10) 6 i + (single-counts (page b 10) i).bytes six
+
+  -- ---- one below another
+
+  abbrev nested : AggregationVariants B → AggregationVariants B → Request B
+  nested agg inner = (a, aggregation_of agg (single inner)) ∷ []
+
+  nested-charge : (agg inner : AggregationVariants B) (documents : ℕ)
+      → fixed_charge (nested agg inner) documents
+      ≡ sum (node_charge documents agg ∷ node_charge documents inner ∷ [])
+  nested-charge agg inner documents =
       ap (λ list. sum (list ++ []))
-      (listed-made (λ agg. node_charge 6 agg ∷ []) (page b size) [])
+      (listed-made (λ agg. node_charge documents agg ∷ []) agg (single inner)
+      ∙ ap (λ list. node_charge documents agg ∷ (list ++ []))
+      (listed-made (λ agg. node_charge documents agg ∷ []) inner []))
 
-  single-counts : (size : ℕ)
-      → counts_of is_match (single size)
-      ≡ together ((b, counts_by is_match (page b size) (together [])) ∷ [])
-  single-counts size =
-      ap (λ c. together ((b, c) ∷ [])) (counts-made is_match (page b size) [])
-
-  -- five buckets where there is room for five
-  single-five : roof is_match (single 5) 6 six ≡ 992
-  single-five i = single-charge 5 i + (single-counts 5 i).bytes six
-
-  -- and six where there is room for ten
-  single-ten : roof is_match (single 10) 6 six ≡ 1088
-  single-ten i = single-charge 10 i + (single-counts 10 i).bytes six
-
-  -- ---- three values, in a page of one below a page of a size
-
-  abbrev nested : ℕ → Request B
-  nested size = (a, aggregation_of (page a size) ((b, aggregation_of (page b 1) []) ∷ [])) ∷ []
-
-  nested-charge : (size : ℕ) → fixed_charge (nested size) 3 ≡ 1024
-  nested-charge size =
-      ap (λ list. sum (list ++ []))
-      (listed-made (λ agg. node_charge 3 agg ∷ []) (page a size)
-      ((b, aggregation_of (page b 1) []) ∷ [])
-      ∙ ap (λ list. node_charge {B = B} 3 (page a size) ∷ (list ++ []))
-      (listed-made (λ agg. node_charge 3 agg ∷ []) (page b 1) []))
-
-  nested-counts : (size : ℕ)
-      → counts_of is_match (nested size)
+  nested-counts : (agg inner : AggregationVariants B)
+      → counts_of is_match (nested agg inner)
       ≡ together ((
         a,
-        counts_by is_match (page a size)
-            (together ((b, counts_by is_match (page b 1) (together [])) ∷ [])),
+        counts_by is_match agg
+            (together ((a, counts_by is_match inner (together [])) ∷ [])),
       ) ∷ [])
-  nested-counts size =
+  nested-counts agg inner =
       ap (λ c. together ((a, c) ∷ []))
-      (counts-made is_match (page a size) ((b, aggregation_of (page b 1) []) ∷ [])
-      ∙ ap (λ c. counts_by is_match (page a size) (together ((b, c) ∷ [])))
-      (counts-made is_match (page b 1) []))
+      (counts-made is_match agg (single inner)
+      ∙ ap (counts_by is_match agg) (single-counts inner))
 
-  -- a bucket of each: there is room for the one value of a
-  nested-ten : roof is_match (nested 10) 3 three ≡ 1216
-  nested-ten i = nested-charge 10 i + (nested-counts 10 i).bytes three
+  -- a page of one below a page with room for its value: a bucket of each
+  roomy : roof is_match (nested (page a 10) (page b 1)) 3 three ≡ 1216
+  roomy i =
+      nested-charge (page a 10) (page b 1) 3 i
+      + (nested-counts (page a 10) (page b 1) i).bytes three
 
-  nested-low : low_roof is_match (nested 10) 3 three ≡ 1216
-  nested-low i = nested-charge 10 i + (nested-counts 10 i).low_bytes three
+  roomy-low : low_roof is_match (nested (page a 10) (page b 1)) 3 three ≡ 1216
+  roomy-low i =
+      nested-charge (page a 10) (page b 1) 3 i
+      + (nested-counts (page a 10) (page b 1) i).low_bytes three
 
-  nested-settled : IsSettled is_match (nested 10) three
-  nested-settled i = (nested-counts 10 i).is_settled three
+  roomy-settled : IsSettled is_match (nested (page a 10) (page b 1)) three
+  roomy-settled i = (nested-counts (page a 10) (page b 1) i).is_settled three
 
-  -- ---- three values in a page of one, above a page of one
+  -- a page of one below a page without room for its three values: a bucket there, and one for each
+  -- of the three places of the uncut list below, which the low roof doesn't have
+  crowded : roof is_match (nested (page b 1) (page a 1)) 3 three ≡ 1408
+  crowded i =
+      nested-charge (page b 1) (page a 1) 3 i
+      + (nested-counts (page b 1) (page a 1) i).bytes three
 
-  abbrev crowded : Request B
-  crowded = (b, aggregation_of (page b 1) ((a, aggregation_of (page a 1) []) ∷ [])) ∷ []
+  crowded-low : low_roof is_match (nested (page b 1) (page a 1)) 3 three ≡ 1120
+  crowded-low i =
+      nested-charge (page b 1) (page a 1) 3 i
+      + (nested-counts (page b 1) (page a 1) i).low_bytes three
 
-  crowded-charge : fixed_charge crowded 3 ≡ 1024
-  crowded-charge =
-      ap (λ list. sum (list ++ []))
-      (listed-made (λ agg. node_charge 3 agg ∷ []) (page b 1)
-      ((a, aggregation_of (page a 1) []) ∷ [])
-      ∙ ap (λ list. node_charge {B = B} 3 (page b 1) ∷ (list ++ []))
-      (listed-made (λ agg. node_charge 3 agg ∷ []) (page a 1) []))
+  -- a page below a metric: nothing is counted
+  abbrev metric : AggregationVariants B
+  metric = Count (record { field = a })
 
-  crowded-counts : counts_of is_match crowded
-      ≡ together ((
-        b,
-        counts_by is_match (page b 1)
-            (together ((a, counts_by is_match (page a 1) (together [])) ∷ [])),
-      ) ∷ [])
-  crowded-counts =
-      ap (λ c. together ((b, c) ∷ []))
-      (counts-made is_match (page b 1) ((a, aggregation_of (page a 1) []) ∷ [])
-      ∙ ap (λ c. counts_by is_match (page b 1) (together ((a, c) ∷ [])))
-      (counts-made is_match (page a 1) []))
+  measured : roof is_match (nested metric (page b 1)) 3 three ≡ 768
+  measured i =
+      nested-charge metric (page b 1) 3 i + (nested-counts metric (page b 1) i).bytes three
 
-  -- one bucket, and one for each of the three places of the uncut list below it
-  crowded-roof : roof is_match crowded 3 three ≡ 1408
-  crowded-roof i = crowded-charge i + (crowded-counts i).bytes three
+  measured-settled : IsSettled is_match (nested metric (page b 1)) three
+  measured-settled i = (nested-counts metric (page b 1) i).is_settled three
 
-  -- of which the low roof has the first alone
-  crowded-low : low_roof is_match crowded 3 three ≡ 1120
-  crowded-low i = crowded-charge i + (crowded-counts i).low_bytes three
+-- ---- a page below a filter, in a segment of nine documents
+
+-- a builder that says itself whether it matches
+abbrev told : Bool → Fields → Bool
+told builder document = builder
+
+abbrev kept : Bool → AggregationVariants Bool
+kept builder = Filter (record { query = CustomBuilder builder })
+
+-- where it matches, a bucket of each value
+kept-all : roof told (nested told (kept true) (page b 10)) 9 three ≡ 1058
+kept-all i =
+    nested-charge told (kept true) (page b 10) 9 i
+    + (nested-counts told (kept true) (page b 10) i).bytes three
+
+-- and none where it doesn't
+kept-none : roof told (nested told (kept false) (page b 10)) 9 three ≡ 770
+kept-none i =
+    nested-charge told (kept false) (page b 10) 9 i
+    + (nested-counts told (kept false) (page b 10) i).bytes three

@@ -1,4 +1,5 @@
 pub mod Charges
 pub mod Distinct
+pub mod Laws
 pub mod Roof
 pub mod Within

@@ -4,4 +4,6 @@
 
 mod laws;
 
-pub use laws::{low_roofs_are_at_most_roofs, roofs_rise_with_documents};
+pub use laws::{
+    low_roofs_are_at_most_roofs, roofs_rise_with_documents, tuples_are_those_of_the_groups,
+};

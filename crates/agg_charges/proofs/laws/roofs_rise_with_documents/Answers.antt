@@ -1,4 +1,5 @@
-use Rattle.agg_charges.proofs.Roofs.{roof-any_order, roof-more, roof-within}
+use Rattle.agg_charges.proofs.Roofs.{low-any_order, roof-any_order, roof-more, roof-within}
+use Rattle.agg_charges.proofs.Roofs.{settled-within}
 use Rattle.agg_charges.proofs.laws.roofs_rise_with_documents.Goals as goal
 
 pub returns-clause-within : goal.returns-clause-within
@@ -9,3 +10,9 @@ returns-clause-more g c = roof-more
 
 pub returns-clause-any_order : goal.returns-clause-any_order
 returns-clause-any_order g c = roof-any_order
+
+pub returns-clause-low_any_order : goal.returns-clause-low_any_order
+returns-clause-low_any_order g c = low-any_order
+
+pub returns-clause-settled : goal.returns-clause-settled
+returns-clause-settled g c = settled-within
