@@ -59,13 +59,13 @@ page_under-requires-clause-visited t c =
 entries-are : (t : ℕ) (c : After-into_iter-entry-iterator t)
     → c.in_ok-page_under-in-Composite.field-0 ≡ c.into_iter-entry-iterator.result.rest.items
 entries-are t c =
-    sym (c.into_iter-entry-iterator.ensures.into_iter_gives.0 ∙ c.into_vec-entry-items.ensures)
+    sym (c.into_iter-entry-iterator.ensures.into_iter_gives.0 ∙ c.into_vec-entries.ensures)
 
 pub loop-entry-init : goal.loop-entry-init
 loop-entry-init t c = record {
   holds = holds-none c.args.ctx.now (held_of c.in-Composite.child.value)
       c.index-as_slice-index.result.req.now.sources c.index-as_slice-index.result.size
-      c.in_ok-buckets-in-Composite.buckets c.in_ok-buckets-in-Composite.ensures;
+      c.reserve.new.self (c.reserve.ensures ∙ c.in_ok-buckets-in-Composite.ensures);
   rest = refl;
 }
 
