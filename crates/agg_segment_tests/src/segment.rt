@@ -7,6 +7,7 @@ use agg_segment::{
 use agg_values::{Address, ColumnPaginationOrder, CompositeIntermediateKey, OutOfMemory, Text};
 use std::alloc::Global;
 use std::cmp::Ordering;
+use std::process::Abort;
 use std::test::Fail;
 
 const FROM_ZERO: u64 = 9_223_372_036_854_775_808;
@@ -43,40 +44,58 @@ fn numbers<'s>(segment: &'s SegmentReader, field: &Text, doc: u32) -> &'s [u64] 
     }
 }
 
+// Adds a document's values one after another, and what is answered where it is finished.
+fn finish_with(
+    alloc: Global,
+    builder: &mut SegmentBuilder,
+    values: &[(&str, Given)],
+) -> Result<Result<(), BuildError>, OutOfMemory> {
+    push_all(alloc, builder, values)?;
+    Ok(builder.finish())
+}
+
+// The segment of one document.
+fn of_one(alloc: Global, values: &[(&str, Given)]) -> Result<SegmentReader, Fail> {
+    let mut builder = SegmentBuilder::new(alloc);
+    finish_with(alloc, &mut builder, values)??;
+    Ok(builder.build()?)
+}
+
+// The columns of a field with values of every class, and their numbers.
+const COLUMNS: &[(ColumnType, &[u64])] = &[
+    (ColumnType::Bool, &[1]),
+    (ColumnType::Str, &[1, 0]),
+    (ColumnType::I64, &[FROM_ZERO + 4, FROM_ZERO - 5]),
+    (ColumnType::IpAddr, &[0]),
+    (ColumnType::DateTime, &[FROM_ZERO + 3]),
+];
+
+fn expect_of_each_class(rt: &impl Abort, columns: &[Column]) {
+    assert_eq!(rt; columns.len(), COLUMNS.len());
+    for (column, &expected) in columns.iter().zip(COLUMNS) {
+        assert_eq!(rt; (column.column_type(), column.values_for_doc(0)), expected);
+    }
+}
+
 #[test]
 fn interleaved_classes_have_columns_of_their_own(rt: HostRuntime) -> Result<(), Fail> {
-    let mut builder = SegmentBuilder::new(rt.alloc());
-    push_all(rt.alloc(), &mut builder, &OF_EACH_CLASS)?;
-    builder.finish()?;
-    let segment = builder.build()?;
     let field = Text::copy_of(rt.alloc(), "a")?;
-    let expected = [
-        (ColumnType::Bool, [1].as_slice()),
-        (ColumnType::Str, [1, 0].as_slice()),
-        (ColumnType::I64, [FROM_ZERO + 4, FROM_ZERO - 5].as_slice()),
-        (ColumnType::IpAddr, [0].as_slice()),
-        (ColumnType::DateTime, [FROM_ZERO + 3].as_slice()),
-    ];
-    assert_eq!(rt; segment.columns(&field).len(), expected.len());
-    for (column, (kind, numbers)) in segment.columns(&field).iter().zip(expected) {
-        assert_eq!(rt; column.column_type(), kind);
-        assert_eq!(rt; column.values_for_doc(0), numbers);
-    }
+    let segment = of_one(rt.alloc(), &OF_EACH_CLASS)?;
+    expect_of_each_class(&rt, segment.columns(&field));
     Ok(())
 }
 
 #[test]
 fn mixed_numbers_are_refused(rt: HostRuntime) -> Result<(), Fail> {
-    let mut builder = SegmentBuilder::new(rt.alloc());
-    push_all(rt.alloc(), &mut builder, &OF_EACH_CLASS)?;
-    builder.finish()?;
-    push_all(
-        rt.alloc(),
-        &mut builder,
-        &[("a", Given::Unsigned(FROM_ZERO))],
-    )?;
-    assert_eq!(rt; builder.finish(), Err(BuildError::MixedNumbers));
-    assert_eq!(rt; builder.build()?.num_docs(), 1);
+    let alloc = rt.alloc();
+    let mut builder = SegmentBuilder::new(alloc);
+    let large = [("a", Given::Unsigned(FROM_ZERO))];
+    let answers = (
+        finish_with(alloc, &mut builder, &OF_EACH_CLASS)?,
+        finish_with(alloc, &mut builder, &large)?,
+    );
+    let taken = builder.build()?.num_docs();
+    assert_eq!(rt; (answers, taken), ((Ok(()), MIX), 1));
     Ok(())
 }
 
@@ -129,15 +148,24 @@ const MIXED: &[(&[Added], u32)] = &[
 
 const MIX: Result<(), BuildError> = Err(BuildError::MixedNumbers);
 
+// Adds documents, each with its answer.
+fn expect_answers(
+    rt: &(impl Abort + AllocGlobal),
+    builder: &mut SegmentBuilder,
+    documents: &[Added],
+) -> Result<(), Fail> {
+    for &(values, answer) in documents {
+        let added = builder.add_document(document_of(rt.alloc(), values)?);
+        assert_eq!(rt; added, answer);
+    }
+    Ok(())
+}
+
 #[test]
 fn documents_that_mix_numbers_are_left_out(rt: HostRuntime) -> Result<(), Fail> {
-    let alloc = rt.alloc();
     for &(documents, taken) in MIXED {
-        let mut builder = SegmentBuilder::new(alloc);
-        for &(values, answer) in documents {
-            let added = builder.add_document(document_of(alloc, values)?);
-            assert_eq!(rt; added, answer);
-        }
+        let mut builder = SegmentBuilder::new(rt.alloc());
+        expect_answers(&rt, &mut builder, documents)?;
         assert_eq!(rt; builder.build()?.num_docs(), taken);
     }
     Ok(())
@@ -158,160 +186,209 @@ fn a_document_too_many_is_refused(rt: HostRuntime) -> Result<(), Fail> {
 fn layouts(alloc: Global) -> Result<SegmentReader, Fail> {
     let mut builder = SegmentBuilder::new(alloc);
     for doc in 0..9 {
-        let number = Given::Unsigned(doc);
-        let values = [
-            ("each", number),
-            ("most", number),
-            ("most", Given::Unsigned(9)),
-            ("few", number),
-        ];
-        let count = match doc {
-            0 | 8 => 4,
-            3 => 1,
-            _ => 3,
-        };
-        push_all(alloc, &mut builder, &values[..count])?;
-        builder.finish()?;
+        finish_layout(alloc, &mut builder, doc)??;
     }
     Ok(builder.build()?)
 }
 
-#[test]
-fn documents_have_their_numbers(rt: HostRuntime) -> Result<(), Fail> {
-    let segment = layouts(rt.alloc())?;
-    let expected = [
-        ("each", 0, [0].as_slice()),
-        ("each", 8, [8].as_slice()),
-        ("each", 9, [].as_slice()),
-        ("most", 0, [0, 9].as_slice()),
-        ("most", 3, [].as_slice()),
-        ("most", 4, [4, 9].as_slice()),
-        ("most", 8, [8, 9].as_slice()),
-        ("most", 9, [].as_slice()),
-        ("few", 0, [0].as_slice()),
-        ("few", 1, [].as_slice()),
-        ("few", 8, [8].as_slice()),
-        ("few", 9, [].as_slice()),
-        ("none", 0, [].as_slice()),
+fn finish_layout(
+    alloc: Global,
+    builder: &mut SegmentBuilder,
+    doc: u64,
+) -> Result<Result<(), BuildError>, OutOfMemory> {
+    let number = Given::Unsigned(doc);
+    let values = [
+        ("each", number),
+        ("most", number),
+        ("most", Given::Unsigned(9)),
+        ("few", number),
     ];
-    for (name, doc, wanted) in expected {
-        let found = numbers(&segment, &Text::copy_of(rt.alloc(), name)?, doc);
-        assert_eq!(rt; found.len(), wanted.len());
-        for (found, wanted) in found.iter().zip(wanted) {
-            assert_eq!(rt; found.wrapping_sub(FROM_ZERO), *wanted);
-        }
+    let count = match doc {
+        0 | 8 => 4,
+        3 => 1,
+        _ => 3,
+    };
+    finish_with(alloc, builder, &values[..count])
+}
+
+// The numbers of a document in a field.
+type Numbers = (&'static str, u32, &'static [u64]);
+
+const LAYOUTS: &[Numbers] = &[
+    ("each", 0, &[FROM_ZERO]),
+    ("each", 8, &[FROM_ZERO + 8]),
+    ("each", 9, &[]),
+    ("most", 0, &[FROM_ZERO, FROM_ZERO + 9]),
+    ("most", 3, &[]),
+    ("most", 4, &[FROM_ZERO + 4, FROM_ZERO + 9]),
+    ("most", 8, &[FROM_ZERO + 8, FROM_ZERO + 9]),
+    ("most", 9, &[]),
+    ("few", 0, &[FROM_ZERO]),
+    ("few", 1, &[]),
+    ("few", 8, &[FROM_ZERO + 8]),
+    ("few", 9, &[]),
+    ("none", 0, &[]),
+];
+
+fn expect_numbers(
+    rt: &(impl Abort + AllocGlobal),
+    segment: &SegmentReader,
+    expected: &[Numbers],
+) -> Result<(), Fail> {
+    for &(name, doc, wanted) in expected {
+        let found = numbers(segment, &Text::copy_of(rt.alloc(), name)?, doc);
+        assert_eq!(rt; found, wanted, "{name} of {doc}");
     }
     Ok(())
 }
 
 #[test]
-fn open_documents_are_discarded(rt: HostRuntime) -> Result<(), Fail> {
-    let alloc = rt.alloc();
-    let mut builder = SegmentBuilder::new(alloc);
+fn documents_have_their_numbers(rt: HostRuntime) -> Result<(), Fail> {
+    expect_numbers(&rt, &layouts(rt.alloc())?, LAYOUTS)
+}
+
+// Adds two documents and one whose values are discarded, and opens another.
+fn push_some(alloc: Global, builder: &mut SegmentBuilder) -> Result<(), Fail> {
     for (number, is_kept) in [(1, true), (4, true), (5, false)] {
-        push_all(alloc, &mut builder, &[("a", Given::Unsigned(number))])?;
+        push_all(alloc, builder, &[("a", Given::Unsigned(number))])?;
         if !is_kept {
             builder.discard();
         }
         builder.finish()?;
     }
-    push_all(alloc, &mut builder, &[("a", Given::Unsigned(6))])?;
-    let segment = builder.build()?;
-    assert_eq!(rt; segment.num_docs(), 3);
-    let field = Text::copy_of(alloc, "a")?;
-    for (doc, wanted) in [
-        (0, [FROM_ZERO + 1].as_slice()),
-        (1, [FROM_ZERO + 4].as_slice()),
-        (2, [].as_slice()),
-        (3, [].as_slice()),
-    ] {
-        assert_eq!(rt; numbers(&segment, &field, doc), wanted);
-    }
+    push_all(alloc, builder, &[("a", Given::Unsigned(6))])?;
     Ok(())
 }
 
-fn text_hit(column: &Column, text: &Text) -> Option<OrdHit> {
+const KEPT: &[Numbers] = &[
+    ("a", 0, &[FROM_ZERO + 1]),
+    ("a", 1, &[FROM_ZERO + 4]),
+    ("a", 2, &[]),
+    ("a", 3, &[]),
+];
+
+#[test]
+fn open_documents_are_discarded(rt: HostRuntime) -> Result<(), Fail> {
+    let mut builder = SegmentBuilder::new(rt.alloc());
+    push_some(rt.alloc(), &mut builder)?;
+    let segment = builder.build()?;
+    assert_eq!(rt; segment.num_docs(), 3);
+    expect_numbers(&rt, &segment, KEPT)
+}
+
+// Texts and addresses, and where they are among those of a segment.
+const HITS: &[(&str, u128, OrdHit)] = &[
+    ("a", 1, OrdHit::Next(0)),
+    ("b", 2, OrdHit::Exact(0)),
+    ("c", 3, OrdHit::Next(1)),
+    ("d", 4, OrdHit::Exact(1)),
+    ("e", 5, OrdHit::AfterLast),
+];
+
+fn text_hit(columns: &[Column], text: &Text) -> Option<OrdHit> {
+    let column = columns.first()?;
     match column.column_type() {
         ColumnType::Str => Some(column.term_ord_or_next(text)),
         _ => None,
     }
 }
 
-fn address_hit(column: &Column, address: Address) -> Option<OrdHit> {
+fn address_hit(columns: &[Column], address: Address) -> Option<OrdHit> {
+    let column = columns.first()?;
     match column.column_type() {
         ColumnType::IpAddr => Some(column.address_or_next(address)),
         _ => None,
     }
 }
 
+fn expect_text_hits(rt: &(impl Abort + AllocGlobal), columns: &[Column]) -> Result<(), Fail> {
+    for &(text, _, hit) in HITS {
+        let found = text_hit(columns, &Text::copy_of(rt.alloc(), text)?);
+        assert_eq!(rt; (columns.len(), found), (1, Some(hit)), "{text}");
+    }
+    Ok(())
+}
+
+fn expect_address_hits(rt: &impl Abort, columns: &[Column]) {
+    for &(_, address, hit) in HITS {
+        let found = address_hit(columns, Address(address));
+        assert_eq!(rt; (columns.len(), found), (1, Some(hit)), "{address}");
+    }
+}
+
 #[test]
 fn hits_are_the_first_places_not_below(rt: HostRuntime) -> Result<(), Fail> {
-    let mut builder = SegmentBuilder::new(rt.alloc());
-    for (text, address) in [("d", 4), ("b", 2), ("d", 4)] {
-        let values = [("a", Given::Text(text)), ("b", Given::Address(address))];
-        push_all(rt.alloc(), &mut builder, &values)?;
-    }
-    builder.finish()?;
-    let segment = builder.build()?;
-    let expected = [
-        ("a", 1, OrdHit::Next(0)),
-        ("b", 2, OrdHit::Exact(0)),
-        ("c", 3, OrdHit::Next(1)),
-        ("d", 4, OrdHit::Exact(1)),
-        ("e", 5, OrdHit::AfterLast),
-    ];
-    let texts = segment.columns(&Text::copy_of(rt.alloc(), "a")?);
-    let addresses = segment.columns(&Text::copy_of(rt.alloc(), "b")?);
-    assert_eq!(rt; (texts.len(), addresses.len()), (1, 1));
-    for (text, address, hit) in expected {
-        let text = Text::copy_of(rt.alloc(), text)?;
-        for column in texts {
-            assert_eq!(rt; text_hit(column, &text), Some(hit));
-        }
-        for column in addresses {
-            assert_eq!(rt; address_hit(column, Address(address)), Some(hit));
-        }
-    }
+    let alloc = rt.alloc();
+    let (texts, addresses) = (Text::copy_of(alloc, "a")?, Text::copy_of(alloc, "b")?);
+    let segment = of_one(
+        alloc,
+        &[
+            ("a", Given::Text("d")),
+            ("b", Given::Address(4)),
+            ("a", Given::Text("b")),
+            ("b", Given::Address(2)),
+            ("a", Given::Text("d")),
+            ("b", Given::Address(4)),
+        ],
+    )?;
+    expect_address_hits(&rt, segment.columns(&addresses));
+    expect_text_hits(&rt, segment.columns(&texts))
+}
+
+// A column of a large and of a small number is unsigned, and the small one is a signed key.
+fn expect_unsigned(rt: &(impl Abort + AllocGlobal), column: &Column) -> Result<(), Fail> {
+    let kind = column.column_type();
+    let numbers = column.values_for_doc(0);
+    let class = kind.column_pagination_order();
+    assert_eq!(rt;
+        (kind, class),
+        (ColumnType::U64, ColumnPaginationOrder::Numeric)
+    );
+    assert_eq!(rt; numbers, [FROM_ZERO, 7].as_slice());
+    let (large, small) = (numbers[0], numbers[1]);
+    let order = column.compare(large, small);
+    let signed = column.decode(rt.alloc(), small)?;
+    let unsigned = column.decode(rt.alloc(), large)?;
+    let is_signed = matches!(signed, CompositeIntermediateKey::I64(7));
+    let is_unsigned = matches!(unsigned, CompositeIntermediateKey::U64(FROM_ZERO));
+    assert_eq!(rt;
+        (order, is_signed, is_unsigned),
+        (Ordering::Greater, true, true)
+    );
     Ok(())
 }
 
 #[test]
 fn a_large_number_makes_a_column_unsigned(rt: HostRuntime) -> Result<(), Fail> {
-    let mut builder = SegmentBuilder::new(rt.alloc());
-    let values = [("a", Given::Unsigned(FROM_ZERO)), ("a", Given::Unsigned(7))];
-    push_all(rt.alloc(), &mut builder, &values)?;
-    builder.finish()?;
-    let segment = builder.build()?;
-    let columns = segment.columns(&Text::copy_of(rt.alloc(), "a")?);
+    let alloc = rt.alloc();
+    let field = Text::copy_of(alloc, "a")?;
+    let segment = of_one(
+        alloc,
+        &[("a", Given::Unsigned(FROM_ZERO)), ("a", Given::Unsigned(7))],
+    )?;
+    let columns = segment.columns(&field);
     assert_eq!(rt; columns.len(), 1);
     for column in columns {
-        assert_eq!(rt; column.column_type(), ColumnType::U64);
-        let class = column.column_type().column_pagination_order();
-        assert_eq!(rt; class, ColumnPaginationOrder::Numeric);
-        let numbers = column.values_for_doc(0);
-        assert_eq!(rt; numbers, [FROM_ZERO, 7].as_slice());
-        let (large, small) = (numbers[0], numbers[1]);
-        assert_eq!(rt; column.compare(large, small), Ordering::Greater);
-        let key = column.decode(rt.alloc(), small)?;
-        assert!(rt; matches!(key, CompositeIntermediateKey::I64(7)));
-        let key = column.decode(rt.alloc(), large)?;
-        assert!(rt; matches!(key, CompositeIntermediateKey::U64(FROM_ZERO)));
+        expect_unsigned(&rt, column)?;
     }
     Ok(())
 }
 
 #[test]
-fn values_schemas_and_laws_are_called(rt: HostRuntime) -> Result<(), Fail> {
-    let alloc = rt.alloc();
-    for value in [
-        FieldValue::Bool(true),
-        FieldValue::Str(Text::copy_of(alloc, "a")?),
-    ] {
-        assert_eq!(rt; value.try_clone(alloc)?, value);
+fn copied_values_are_equal(rt: HostRuntime) -> Result<(), Fail> {
+    for given in [Given::Truth(true), Given::Text("a")] {
+        let value = given.value(rt.alloc())?;
+        assert_eq!(rt; value.try_clone(rt.alloc())?, value);
     }
-    let mut schema = Schema::new(alloc);
-    schema.add_field(Text::copy_of(alloc, "a")?)?;
-    schema.add_field(Text::copy_of(alloc, "a")?)?;
+    Ok(())
+}
+
+#[test]
+fn schemas_and_laws_are_called(rt: HostRuntime) -> Result<(), Fail> {
+    let mut schema = Schema::new(rt.alloc());
+    for _ in 0..2 {
+        schema.add_field(Text::copy_of(rt.alloc(), "a")?)?;
+    }
     assert_eq!(rt; schema.fields().len(), 2);
     by_class_keeps_the_keys();
     classes_match_in_any_order();

@@ -14,8 +14,8 @@ const WRITTEN: &[(u128, &str)] = &[
 fn writes_the_recommended_text(rt: HostRuntime) -> Result<(), Fail> {
     for &(number, text) in WRITTEN {
         let written = Address(number).write(rt.alloc())?;
-        assert_eq!(rt; written.as_str(), text);
-        assert_eq!(rt; Address(number).to_string(rt.alloc())?.as_str(), text);
+        let shown = Address(number).to_string(rt.alloc())?;
+        assert_eq!(rt; (written.as_str(), shown.as_str()), (text, text));
     }
     Ok(())
 }
@@ -63,6 +63,11 @@ fn writes_what_it_read(rt: HostRuntime) -> Result<(), Fail> {
         let written = rewritten(rt.alloc(), text)?.ok_or("refused")?;
         assert_eq!(rt; written.as_str(), canonical, "{text}");
     }
+    Ok(())
+}
+
+#[test]
+fn refuses_other_texts(rt: HostRuntime) -> Result<(), Fail> {
     for &text in REFUSED {
         assert_eq!(rt; rewritten(rt.alloc(), text)?, None, "{text}");
     }

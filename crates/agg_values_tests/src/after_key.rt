@@ -1,26 +1,31 @@
-use agg_values::{Address, AfterKey, CompositeIntermediateKey, KeyTextError, Text};
+use crate::given::Given;
+use agg_values::{AfterKey, CompositeIntermediateKey, KeyTextError, OutOfMemory, Text};
+use std::alloc::Global;
+use std::process::Abort;
 use std::test::Fail;
+
+// What is read of a text.
+fn read(alloc: Global, text: &str) -> Result<Result<AfterKey, KeyTextError>, OutOfMemory> {
+    Ok(AfterKey::read(alloc, &Text::copy_of(alloc, text)?))
+}
+
+// Texts, and the keys that are read of them.
+const READ: &[(&str, Given)] = &[
+    ("str:a:b", Given::Text("a:b")),
+    ("null:x", Given::Null),
+    ("u64:5", Given::Unsigned(5)),
+    ("i64:+007", Given::Signed(7)),
+    ("dt:-1", Given::Date(-1)),
+    ("bool:false", Given::Truth(false)),
+    ("ip:1.2.3.4", Given::Address(0xffff_0102_0304)),
+];
 
 #[test]
 fn reads_each_kind(rt: HostRuntime) -> Result<(), Fail> {
     let alloc = rt.alloc();
-    for (text, key) in [
-        (
-            "str:a:b",
-            CompositeIntermediateKey::Str(Text::copy_of(alloc, "a:b")?),
-        ),
-        ("null:x", CompositeIntermediateKey::Null),
-        ("u64:5", CompositeIntermediateKey::U64(5)),
-        ("i64:+007", CompositeIntermediateKey::I64(7)),
-        ("dt:-1", CompositeIntermediateKey::DateTime(-1)),
-        ("bool:false", CompositeIntermediateKey::Bool(false)),
-        (
-            "ip:1.2.3.4",
-            CompositeIntermediateKey::IpAddr(Address(0xffff_0102_0304)),
-        ),
-    ] {
-        let read = AfterKey::read(alloc, &Text::copy_of(alloc, text)?)?;
-        assert_eq!(rt; read, AfterKey(key), "{text}");
+    for &(text, given) in READ {
+        let key = AfterKey(given.key(alloc)?);
+        assert_eq!(rt; read(alloc, text)?, Ok(key), "{text}");
     }
     Ok(())
 }
@@ -44,40 +49,40 @@ const REFUSED: &[(&str, KeyTextError)] = &[
 
 #[test]
 fn answers_the_first_refusal(rt: HostRuntime) -> Result<(), Fail> {
-    let alloc = rt.alloc();
     for &(text, refusal) in REFUSED {
-        let read = AfterKey::read(alloc, &Text::copy_of(alloc, text)?);
-        assert_eq!(rt; read, Err(refusal), "{text}");
+        assert_eq!(rt; read(rt.alloc(), text)?, Err(refusal), "{text}");
     }
+    Ok(())
+}
+
+// Keys, and their texts.
+const WRITTEN: &[(Given, &str)] = &[
+    (Given::Truth(true), "bool:true"),
+    (Given::Text(":é\"\n:"), "str::é\"\n:"),
+    (Given::Signed(i64::MIN), "i64:-9223372036854775808"),
+    (Given::Unsigned(u64::MAX), "u64:18446744073709551615"),
+    (Given::Date(-1), "dt:-1"),
+    (Given::Address(1), "ip:::1"),
+    (Given::Null, "null:"),
+];
+
+// A key's text is this, and is read as the key.
+fn expect_text(
+    rt: &(impl Abort + AllocGlobal),
+    key: &CompositeIntermediateKey,
+    text: &str,
+) -> Result<(), Fail> {
+    let alloc = rt.alloc();
+    let written = AfterKey::from(key.try_clone(alloc)?).write(alloc)?;
+    let read = CompositeIntermediateKey::from(AfterKey::read(alloc, &written)?);
+    assert_eq!(rt; (written.as_str(), &read), (text, key));
     Ok(())
 }
 
 #[test]
 fn reads_what_it_wrote(rt: HostRuntime) -> Result<(), Fail> {
-    let alloc = rt.alloc();
-    for (key, text) in [
-        (CompositeIntermediateKey::Bool(true), "bool:true"),
-        (
-            CompositeIntermediateKey::Str(Text::copy_of(alloc, ":é\"\n:")?),
-            "str::é\"\n:",
-        ),
-        (
-            CompositeIntermediateKey::I64(i64::MIN),
-            "i64:-9223372036854775808",
-        ),
-        (
-            CompositeIntermediateKey::U64(u64::MAX),
-            "u64:18446744073709551615",
-        ),
-        (CompositeIntermediateKey::DateTime(-1), "dt:-1"),
-        (CompositeIntermediateKey::IpAddr(Address(1)), "ip:::1"),
-        (CompositeIntermediateKey::Null, "null:"),
-    ] {
-        let copy = key.try_clone(alloc)?;
-        let written = AfterKey::from(key).write(alloc)?;
-        assert_eq!(rt; written.as_str(), text);
-        let read = AfterKey::read(alloc, &written)?;
-        assert_eq!(rt; CompositeIntermediateKey::from(read), copy, "{text}");
+    for &(given, text) in WRITTEN {
+        expect_text(&rt, &given.key(rt.alloc())?, text)?;
     }
     Ok(())
 }

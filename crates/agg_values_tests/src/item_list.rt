@@ -10,7 +10,7 @@ fn lists_its_items(rt: HostRuntime) -> Result<(), Fail> {
     let mut others = ItemList::from_vec(Vec::new(list.allocator()));
     others.push(4)?;
     let items = list.into_vec();
-    assert_eq!(rt; items.as_slice(), [3, 1, 2].as_slice());
-    assert_eq!(rt; others.as_slice(), [4].as_slice());
+    let found = (items.as_slice(), others.as_slice());
+    assert_eq!(rt; found, ([3, 1, 2].as_slice(), [4].as_slice()));
     Ok(())
 }

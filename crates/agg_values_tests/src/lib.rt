@@ -10,6 +10,8 @@ mod column;
 #[cfg(test)]
 mod composite_key;
 #[cfg(test)]
+mod given;
+#[cfg(test)]
 mod item_list;
 #[cfg(test)]
 mod key;

@@ -1,32 +1,64 @@
 use agg_values::{NameMap, Text};
+use std::process::Abort;
 use std::test::Fail;
 
-#[test]
-fn holds_a_value_by_name(rt: HostRuntime) -> Result<(), Fail> {
-    let alloc = rt.alloc();
-    let mut map = NameMap::new(alloc);
-    assert!(rt; map.is_empty());
-    for (name, value, old) in [
-        ("b", 1, None),
-        ("a", 2, None),
-        ("b", 3, Some(1)),
-        ("é", 4, None),
-    ] {
+// Names that are inserted, with their values and the values that they had.
+const INSERTED: &[(&str, i32, Option<i32>)] = &[
+    ("b", 1, None),
+    ("a", 2, None),
+    ("b", 3, Some(1)),
+    ("é", 4, None),
+];
+
+fn expect_inserts(rt: &impl Abort, map: &mut NameMap<i32>) -> Result<(), Fail> {
+    for &(name, value, old) in INSERTED {
         let name = Text::copy_of(map.allocator(), name)?;
         assert_eq!(rt; map.insert(name, value)?, old);
     }
-    for (name, value) in [("a", Some(2)), ("b", Some(3)), ("c", None)] {
-        let found = map.get(&Text::copy_of(alloc, name)?).copied();
+    Ok(())
+}
+
+// Names, and their values.
+const FOUND: &[(&str, Option<i32>)] = &[("a", Some(2)), ("b", Some(3)), ("c", None)];
+
+fn expect_values(rt: &impl Abort, map: &NameMap<i32>) -> Result<(), Fail> {
+    for &(name, value) in FOUND {
+        let found = map.get(&Text::copy_of(map.allocator(), name)?).copied();
         assert_eq!(rt; found, value, "{name}");
     }
-    assert_eq!(rt; map.keys().count(), map.len());
-    let mut names = String::new(alloc);
+    Ok(())
+}
+
+// A map's names, one after the other, are these.
+fn expect_names(rt: &impl Abort, map: &NameMap<i32>, expected: &str) -> Result<(), Fail> {
+    let mut names = String::new(map.allocator());
     for (name, _) in map.iter() {
         names.push_str(name.as_str())?;
     }
-    assert_eq!(rt; names.as_str(), "abé");
-    assert_eq!(rt; map.remove(&Text::copy_of(alloc, "c")?), None);
-    assert_eq!(rt; map.remove(&Text::copy_of(alloc, "b")?), Some(3));
-    assert_eq!(rt; map.len(), 2);
+    let is_each_counted = map.keys().count() == map.len();
+    assert_eq!(rt; (names.as_str(), is_each_counted), (expected, true));
+    Ok(())
+}
+
+// Names that are removed, and the values that they had.
+const REMOVED: &[(&str, Option<i32>)] = &[("c", None), ("b", Some(3))];
+
+fn expect_removals(rt: &impl Abort, map: &mut NameMap<i32>) -> Result<(), Fail> {
+    for &(name, value) in REMOVED {
+        let name = Text::copy_of(map.allocator(), name)?;
+        assert_eq!(rt; map.remove(&name), value);
+    }
+    Ok(())
+}
+
+#[test]
+fn holds_a_value_by_name(rt: HostRuntime) -> Result<(), Fail> {
+    let mut map = NameMap::new(rt.alloc());
+    let was_empty = map.is_empty();
+    expect_inserts(&rt, &mut map)?;
+    expect_values(&rt, &map)?;
+    expect_names(&rt, &map, "abé")?;
+    expect_removals(&rt, &mut map)?;
+    assert_eq!(rt; (was_empty, map.len()), (true, 2));
     Ok(())
 }

@@ -36,13 +36,21 @@ const TO_SIGNED: &[(u64, ProjectedNumber<i64>)] = &[
 ];
 
 #[test]
-fn compares_and_projects_by_value(rt: HostRuntime) {
+fn compares_by_value(rt: HostRuntime) {
     for &(left, right, order) in COMPARED {
         assert_eq!(rt; cmp_i64_u64(left, right), order, "{left} and {right}");
     }
+}
+
+#[test]
+fn projects_signed_numbers_by_value(rt: HostRuntime) {
     for &(number, projected) in TO_UNSIGNED {
         assert_eq!(rt; i64_to_u64(number), projected, "{number}");
     }
+}
+
+#[test]
+fn projects_unsigned_numbers_by_value(rt: HostRuntime) {
     for &(number, projected) in TO_SIGNED {
         assert_eq!(rt; u64_to_i64(number), projected, "{number}");
     }

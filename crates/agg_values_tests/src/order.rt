@@ -3,6 +3,8 @@ use agg_values::{
     composite_intermediate_key_ordering,
 };
 use std::alloc::Global;
+use std::cmp::Ordering;
+use std::process::Abort;
 use std::test::Fail;
 
 // Null and a key of each class, ascending.
@@ -23,39 +25,35 @@ fn ascending(alloc: Global) -> Result<Vec<CompositeIntermediateKey>, Fail> {
     Ok(keys)
 }
 
-#[test]
-fn orders_classes_and_null(rt: HostRuntime) -> Result<(), Fail> {
-    let keys = ascending(rt.alloc())?;
+// How two keys compare: ascending, as by default, and descending with Null first.
+type Orderings = (Ordering, Ordering, Ordering);
+
+fn orderings(left: &CompositeIntermediateKey, right: &CompositeIntermediateKey) -> Orderings {
+    (
+        composite_intermediate_key_ordering(left, right, Order::Asc, MissingOrder::Default),
+        composite_intermediate_key_ordering(left, right, Order::default(), MissingOrder::default()),
+        composite_intermediate_key_ordering(left, right, Order::Desc, MissingOrder::First),
+    )
+}
+
+// How the keys at two places compare.
+fn expected(i: usize, j: usize) -> Orderings {
+    let places = i.cmp(&j);
+    let some_null = i == 0 || j == 0;
+    let first = if some_null { places } else { places.reverse() };
+    (places, places.reverse(), first)
+}
+
+fn expect_ascending(rt: &impl Abort, keys: &[CompositeIntermediateKey]) {
     for (i, left) in keys.iter().enumerate() {
         for (j, right) in keys.iter().enumerate() {
-            let places = i.cmp(&j);
-            let asc = composite_intermediate_key_ordering(
-                left,
-                right,
-                Order::Asc,
-                MissingOrder::Default,
-            );
-            let desc = composite_intermediate_key_ordering(
-                left,
-                right,
-                Order::default(),
-                MissingOrder::default(),
-            );
-            let first = composite_intermediate_key_ordering(
-                left,
-                right,
-                Order::Desc,
-                MissingOrder::First,
-            );
-            let some_null = i == 0 || j == 0;
-            assert_eq!(rt; asc, places, "{i} and {j}");
-            assert_eq!(rt; desc, places.reverse(), "{i} and {j}");
-            assert_eq!(rt;
-                first,
-                if some_null { places } else { places.reverse() },
-                "{i} and {j}"
-            );
+            assert_eq!(rt; orderings(left, right), expected(i, j), "{i} and {j}");
         }
     }
+}
+
+#[test]
+fn orders_classes_and_null(rt: HostRuntime) -> Result<(), Fail> {
+    expect_ascending(&rt, ascending(rt.alloc())?.as_slice());
     Ok(())
 }

@@ -1,20 +1,23 @@
-use agg_values::{Key, OrderTarget, Text};
+use agg_values::{OrderTarget, Text};
+use std::process::Abort;
 use std::test::Fail;
+
+// A text is read as this target, which is displayed as the text.
+fn expect_target(
+    rt: &(impl Abort + AllocGlobal),
+    text: &str,
+    target: &OrderTarget,
+) -> Result<(), Fail> {
+    let read = OrderTarget::from_text(Text::copy_of(rt.alloc(), text)?);
+    let shown = read.to_string(rt.alloc())?;
+    assert_eq!(rt; (shown.as_str(), &read == target), (text, true));
+    Ok(())
+}
 
 #[test]
 fn reads_and_displays_targets(rt: HostRuntime) -> Result<(), Fail> {
-    let alloc = rt.alloc();
-    for (text, target) in [
-        ("_key", OrderTarget::Key),
-        ("_count", OrderTarget::default()),
-        (
-            "prices",
-            OrderTarget::SubAggregation(Text::copy_of(alloc, "prices")?),
-        ),
-    ] {
-        let read = OrderTarget::from_text(Text::copy_of(alloc, text)?);
-        assert_eq!(rt; read.to_string(alloc)?.as_str(), text);
-        assert!(rt; read == target, "{text}");
-    }
-    Ok(())
+    expect_target(&rt, "_key", &OrderTarget::Key)?;
+    expect_target(&rt, "_count", &OrderTarget::default())?;
+    let prices = Text::copy_of(rt.alloc(), "prices")?;
+    expect_target(&rt, "prices", &OrderTarget::SubAggregation(prices))
 }

@@ -13,34 +13,46 @@ fn misread(text: Text) -> Result<(), AggregationError> {
     Ok(())
 }
 
-// The errors of a request, by number.
-fn refused(alloc: Global, number: u8) -> Result<(), RequestError> {
-    match number {
-        0 => Err(InvalidArgument::NoSource)?,
-        1 => misread(Text::copy_of(alloc, "5")?)?,
-        2 => Err(OutOfMemory)?,
-        _ => limited(2)?,
+// The part of a request whose error is passed on.
+#[derive(Clone, Copy)]
+enum Part {
+    Argument,
+    Interval,
+    Memory,
+    Limit,
+}
+
+fn refused(alloc: Global, part: Part) -> Result<(), RequestError> {
+    match part {
+        Part::Argument => Err(InvalidArgument::NoSource)?,
+        Part::Interval => misread(Text::copy_of(alloc, "5")?)?,
+        Part::Memory => Err(OutOfMemory)?,
+        Part::Limit => limited(2)?,
     }
     Ok(())
+}
+
+// The error of a request for that of its part.
+fn error_for(alloc: Global, part: Part) -> Result<RequestError, OutOfMemory> {
+    Ok(match part {
+        Part::Argument => RequestError::Invalid(InvalidArgument::NoSource),
+        Part::Interval => {
+            let unit = DateHistogramParseError::UnitMissing(Text::copy_of(alloc, "5")?);
+            RequestError::Aggregation(AggregationError::from(unit))
+        }
+        Part::Memory => RequestError::OutOfMemory,
+        Part::Limit => RequestError::Aggregation(AggregationError::MemoryExceeded {
+            limit: 1,
+            current: 2,
+        }),
+    })
 }
 
 #[test]
 fn passes_the_errors_of_its_parts_on(rt: HostRuntime) -> Result<(), Fail> {
     let alloc = rt.alloc();
-    let unit = DateHistogramParseError::UnitMissing(Text::copy_of(alloc, "5")?);
-    for (number, error) in [
-        (0, RequestError::Invalid(InvalidArgument::NoSource)),
-        (1, RequestError::Aggregation(AggregationError::from(unit))),
-        (2, RequestError::OutOfMemory),
-        (
-            3,
-            RequestError::Aggregation(AggregationError::MemoryExceeded {
-                limit: 1,
-                current: 2,
-            }),
-        ),
-    ] {
-        assert_eq!(rt; refused(alloc, number), Err(error));
+    for part in [Part::Argument, Part::Interval, Part::Memory, Part::Limit] {
+        assert_eq!(rt; refused(alloc, part), Err(error_for(alloc, part)?));
     }
     Ok(())
 }

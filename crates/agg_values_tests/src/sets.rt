@@ -1,25 +1,67 @@
 //! A set finds a value that is equal to the one that it holds, and no other.
 use agg_values::{
-    Address, CompositeIntermediateKey, CompositeKey, IntermediateKey, Key, Text, Tuple,
+    Address, CompositeIntermediateKey, CompositeKey, IntermediateKey, Key, OutOfMemory, Text, Tuple,
 };
 use std::alloc::Global;
 use std::collections::HashSet;
 use std::hash::Hash;
+use std::process::Abort;
 use std::test::Fail;
 
-// Whether a set that holds one value finds each of two others.
-fn finds<T: Eq + Hash + Drop>(
-    alloc: Global,
+// A set that holds one value finds an equal one and not another.
+fn expect_found<T: Eq + Hash + Drop>(
+    rt: &(impl Abort + AllocGlobal),
+    kind: &str,
     item: T,
     equal: &T,
     other: &T,
-) -> Result<(bool, bool), Fail> {
-    let mut set = HashSet::new(alloc);
+) -> Result<(), Fail> {
+    let mut set = HashSet::new(rt.alloc());
     set.insert(item)?;
-    Ok((set.contains(equal), set.contains(other)))
+    let found = (set.contains(equal), set.contains(other));
+    assert_eq!(rt; found, (true, false), "{kind}");
+    Ok(())
 }
 
-fn tuple_of(alloc: Global, key: CompositeIntermediateKey) -> Result<Tuple, Fail> {
+#[test]
+fn sets_find_equal_keys(rt: HostRuntime) -> Result<(), Fail> {
+    expect_found(&rt, "address", Address(1), &Address(1), &Address(2))?;
+    expect_found(
+        &rt,
+        "typed key",
+        CompositeIntermediateKey::I64(5),
+        &CompositeIntermediateKey::I64(5),
+        &CompositeIntermediateKey::U64(5),
+    )?;
+    expect_found(
+        &rt,
+        "shown key",
+        CompositeKey::I64(5),
+        &CompositeKey::I64(5),
+        &CompositeKey::U64(5),
+    )
+}
+
+#[test]
+fn sets_find_equal_keys_of_buckets(rt: HostRuntime) -> Result<(), Fail> {
+    expect_found(&rt, "bucket key", Key::I64(5), &Key::I64(5), &Key::U64(5))?;
+    expect_found(
+        &rt,
+        "intermediate key",
+        IntermediateKey::Bool(true),
+        &IntermediateKey::Bool(true),
+        &IntermediateKey::Bool(false),
+    )
+}
+
+#[test]
+fn sets_find_equal_texts(rt: HostRuntime) -> Result<(), Fail> {
+    let equal = Text::copy_of(rt.alloc(), "a")?;
+    let other = Text::copy_of(rt.alloc(), "b")?;
+    expect_found(&rt, "text", Text::copy_of(rt.alloc(), "a")?, &equal, &other)
+}
+
+fn tuple_of(alloc: Global, key: CompositeIntermediateKey) -> Result<Tuple, OutOfMemory> {
     let mut tuple = Tuple::new(alloc);
     tuple.push(CompositeIntermediateKey::Null)?;
     tuple.push(key)?;
@@ -27,74 +69,10 @@ fn tuple_of(alloc: Global, key: CompositeIntermediateKey) -> Result<Tuple, Fail>
 }
 
 #[test]
-fn sets_find_equal_keys(rt: HostRuntime) -> Result<(), Fail> {
+fn sets_find_equal_tuples(rt: HostRuntime) -> Result<(), Fail> {
     let alloc = rt.alloc();
-    for (kind, found) in [
-        (
-            "address",
-            finds(alloc, Address(1), &Address(1), &Address(2))?,
-        ),
-        (
-            "typed key",
-            finds(
-                alloc,
-                CompositeIntermediateKey::I64(5),
-                &CompositeIntermediateKey::I64(5),
-                &CompositeIntermediateKey::U64(5),
-            )?,
-        ),
-        (
-            "shown key",
-            finds(
-                alloc,
-                CompositeKey::I64(5),
-                &CompositeKey::I64(5),
-                &CompositeKey::U64(5),
-            )?,
-        ),
-        (
-            "bucket key",
-            finds(alloc, Key::I64(5), &Key::I64(5), &Key::U64(5))?,
-        ),
-        (
-            "intermediate key",
-            finds(
-                alloc,
-                IntermediateKey::Bool(true),
-                &IntermediateKey::Bool(true),
-                &IntermediateKey::Bool(false),
-            )?,
-        ),
-    ] {
-        assert_eq!(rt; found, (true, false), "{kind}");
-    }
-    Ok(())
-}
-
-#[test]
-fn sets_find_equal_lists(rt: HostRuntime) -> Result<(), Fail> {
-    let alloc = rt.alloc();
-    for (kind, found) in [
-        (
-            "text",
-            finds(
-                alloc,
-                Text::copy_of(alloc, "a")?,
-                &Text::copy_of(alloc, "a")?,
-                &Text::copy_of(alloc, "b")?,
-            )?,
-        ),
-        (
-            "tuple",
-            finds(
-                alloc,
-                tuple_of(alloc, CompositeIntermediateKey::I64(5))?,
-                &tuple_of(alloc, CompositeIntermediateKey::I64(5))?,
-                &tuple_of(alloc, CompositeIntermediateKey::U64(5))?,
-            )?,
-        ),
-    ] {
-        assert_eq!(rt; found, (true, false), "{kind}");
-    }
-    Ok(())
+    let equal = tuple_of(alloc, CompositeIntermediateKey::I64(5))?;
+    let other = tuple_of(alloc, CompositeIntermediateKey::U64(5))?;
+    let held = tuple_of(alloc, CompositeIntermediateKey::I64(5))?;
+    expect_found(&rt, "tuple", held, &equal, &other)
 }

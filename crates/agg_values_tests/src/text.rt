@@ -1,21 +1,35 @@
-use agg_values::Text;
+use agg_values::{OutOfMemory, Text};
+use std::alloc::Global;
 use std::cmp::Ordering;
 use std::test::Fail;
 
+// Two texts, and how they compare.
+const COMPARED: &[(&str, &str, Ordering)] = &[
+    ("", "a", Ordering::Less),
+    ("a", "a", Ordering::Equal),
+    ("b", "ab", Ordering::Greater),
+    ("z", "é", Ordering::Less),
+];
+
+fn compared(alloc: Global, left: &str, right: &str) -> Result<Ordering, OutOfMemory> {
+    let left = Text::copy_of(alloc, left)?;
+    Ok(left.cmp(&Text::copy_of(alloc, right)?))
+}
+
 #[test]
 fn orders_texts_by_their_bytes(rt: HostRuntime) -> Result<(), Fail> {
-    let alloc = rt.alloc();
-    for (left, right, order) in [
-        ("", "a", Ordering::Less),
-        ("a", "a", Ordering::Equal),
-        ("b", "ab", Ordering::Greater),
-        ("z", "é", Ordering::Less),
-    ] {
-        let copy = Text::from_string(String::from_str(alloc, left)?)?;
-        let text = copy.try_clone(alloc)?;
-        assert_eq!(rt; text, copy);
-        let other = Text::copy_of(alloc, right)?;
-        assert_eq!(rt; text.cmp(&other), order, "{left} and {right}");
+    for &(left, right, order) in COMPARED {
+        let found = compared(rt.alloc(), left, right)?;
+        assert_eq!(rt; found, order, "{left} and {right}");
+    }
+    Ok(())
+}
+
+#[test]
+fn copies_are_equal(rt: HostRuntime) -> Result<(), Fail> {
+    for &(given, _, _) in COMPARED {
+        let text = Text::from_string(String::from_str(rt.alloc(), given)?)?;
+        assert_eq!(rt; text.try_clone(rt.alloc())?, text);
     }
     Ok(())
 }

@@ -1,14 +1,19 @@
-use agg_values::{CompositeIntermediateKey, Text, Tuple};
+use agg_values::{CompositeIntermediateKey, OutOfMemory, Text, Tuple};
+use std::alloc::Global;
 use std::test::Fail;
 
-#[test]
-fn copies_its_keys(rt: HostRuntime) -> Result<(), Fail> {
-    let alloc = rt.alloc();
+// A text and Null.
+fn two_keys(alloc: Global) -> Result<Tuple, OutOfMemory> {
     let mut tuple = Tuple::new(alloc);
     tuple.push(CompositeIntermediateKey::Str(Text::copy_of(alloc, "é")?))?;
     tuple.push(CompositeIntermediateKey::Null)?;
-    let copy = tuple.try_clone(alloc)?;
-    assert_eq!(rt; copy.as_slice().len(), 2);
-    assert_eq!(rt; copy, tuple);
+    Ok(tuple)
+}
+
+#[test]
+fn copies_its_keys(rt: HostRuntime) -> Result<(), Fail> {
+    let tuple = two_keys(rt.alloc())?;
+    let copy = tuple.try_clone(rt.alloc())?;
+    assert_eq!(rt; (copy.as_slice().len(), &copy), (2, &tuple));
     Ok(())
 }

@@ -1,26 +1,30 @@
-use agg_values::{CompositeIntermediateKey, Text, canonical};
+use crate::given::Given;
+use agg_values::canonical;
 use std::test::Fail;
+
+// Keys, and the same keys with signed numbers where they fit.
+const CANONICAL: &[(Given, Given)] = &[
+    (Given::Unsigned(5), Given::Signed(5)),
+    (Given::Unsigned(u64::MAX), Given::Unsigned(u64::MAX)),
+    (Given::Text("5"), Given::Text("5")),
+];
 
 #[test]
 fn makes_numbers_signed_where_they_fit(rt: HostRuntime) -> Result<(), Fail> {
     let alloc = rt.alloc();
-    for (key, same) in [
-        (
-            CompositeIntermediateKey::U64(5),
-            CompositeIntermediateKey::I64(5),
-        ),
-        (
-            CompositeIntermediateKey::U64(u64::MAX),
-            CompositeIntermediateKey::U64(u64::MAX),
-        ),
-        (
-            CompositeIntermediateKey::Str(Text::copy_of(alloc, "5")?),
-            CompositeIntermediateKey::Str(Text::copy_of(alloc, "5")?),
-        ),
-    ] {
-        let copy = key.try_clone(alloc)?;
-        assert_eq!(rt; copy, key);
-        assert_eq!(rt; canonical(key), same);
+    for &(given, same) in CANONICAL {
+        let signed = canonical(given.key(alloc)?);
+        assert_eq!(rt; signed, same.key(alloc)?);
+    }
+    Ok(())
+}
+
+#[test]
+fn copies_are_equal(rt: HostRuntime) -> Result<(), Fail> {
+    let alloc = rt.alloc();
+    for &(given, _) in CANONICAL {
+        let key = given.key(alloc)?;
+        assert_eq!(rt; key.try_clone(alloc)?, key);
     }
     Ok(())
 }
