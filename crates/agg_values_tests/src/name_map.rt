@@ -53,7 +53,7 @@ fn expect_removals(rt: &impl Abort, map: &mut NameMap<i32>) -> Result<(), Fail> 
 
 #[test]
 fn holds_a_value_by_name(rt: HostRuntime) -> Result<(), Fail> {
-    let mut map = NameMap::new(rt.alloc());
+    let mut map = NameMap::with_capacity(rt.alloc(), 2)?;
     let was_empty = map.is_empty();
     expect_inserts(&rt, &mut map)?;
     expect_values(&rt, &map)?;

@@ -4,7 +4,7 @@ use std::test::Fail;
 
 // A text and Null.
 fn two_keys(alloc: Global) -> Result<Tuple, OutOfMemory> {
-    let mut tuple = Tuple::new(alloc);
+    let mut tuple = Tuple::with_capacity(alloc, 2)?;
     tuple.push(CompositeIntermediateKey::Str(Text::copy_of(alloc, "é")?))?;
     tuple.push(CompositeIntermediateKey::Null)?;
     Ok(tuple)
