@@ -2,7 +2,7 @@
 use crate::found::{ALL, NONE, Standing, standing, types};
 use agg_composite::{CompositeSourceAccessors, PrecomputedAfterKey};
 use agg_request_tree::{CompositeAggregationSource, TermCompositeAggregationSource};
-use agg_segment::ColumnType;
+use agg_segment::{ColumnType, SegmentReader};
 use agg_segment_tests::given::{Given, segment_of};
 use agg_values::{
     CompositeIntermediateKey, InvalidArgument, MissingOrder, Order, OutOfMemory, RequestError, Text,
@@ -85,38 +85,59 @@ fn source(
     }))
 }
 
+// Where an after value stands in a source of these orders that has a bucket for a missing value.
+fn standing_by(
+    alloc: Global,
+    segment: &SegmentReader,
+    (order, missing_order): (Order, MissingOrder),
+    after: Option<&str>,
+) -> Result<Standing, Fail> {
+    let source = source(alloc, order, missing_order, true)?;
+    standing(alloc, segment, &source, after)
+}
+
 #[test]
 fn accessors_say_where_an_after_value_stands(rt: HostRuntime) -> Result<(), Fail> {
-    let alloc = rt.alloc();
-    let segment = segment_of(alloc, &[MIXED])?;
+    let segment = segment_of(rt.alloc(), &[MIXED])?;
     for &(order, missing_order, after, expected) in STANDINGS {
-        let source = source(alloc, order, missing_order, true)?;
-        let found = standing(alloc, &segment, &source, after)?;
+        let found = standing_by(rt.alloc(), &segment, (order, missing_order), after)?;
         assert_eq!(rt; found, expected, "{order:?} {missing_order:?} {after:?}");
     }
     Ok(())
 }
 
+// The types of the columns that a source of this order reads.
+fn types_by(alloc: Global, segment: &SegmentReader, order: Order) -> Result<Vec<ColumnType>, Fail> {
+    let source = source(alloc, order, DEFAULT, false)?;
+    types(alloc, segment, &source)
+}
+
 #[test]
 fn accessors_stand_in_the_requested_order(rt: HostRuntime) -> Result<(), Fail> {
-    let alloc = rt.alloc();
-    let segment = segment_of(alloc, &[MIXED])?;
+    let segment = segment_of(rt.alloc(), &[MIXED])?;
     for &(order, expected) in TYPES {
-        let source = source(alloc, order, DEFAULT, false)?;
-        let found = types(alloc, &segment, &source)?;
+        let found = types_by(rt.alloc(), &segment, order)?;
         assert_eq!(rt; found.as_slice(), expected, "{order:?}");
     }
     Ok(())
 }
 
-#[test]
-fn null_is_no_after_value_without_a_missing_bucket(rt: HostRuntime) -> Result<(), Fail> {
-    let alloc = rt.alloc();
-    let segment = segment_of(alloc, &[MIXED])?;
+// Why Null is no after value of a source without a bucket for a missing value.
+fn fault_of_null(
+    alloc: Global,
+    segment: &SegmentReader,
+) -> Result<Option<RequestError>, OutOfMemory> {
     let source = source(alloc, Order::Asc, DEFAULT, false)?;
     let null = CompositeIntermediateKey::Null;
-    let refused = CompositeSourceAccessors::build_for_source(alloc, &segment, &source, Some(&null));
+    let refused = CompositeSourceAccessors::build_for_source(alloc, segment, &source, Some(&null));
+    Ok(refused.err())
+}
+
+#[test]
+fn null_is_no_after_value_without_a_missing_bucket(rt: HostRuntime) -> Result<(), Fail> {
+    let segment = segment_of(rt.alloc(), &[MIXED])?;
+    let fault = fault_of_null(rt.alloc(), &segment)?;
     let reason = RequestError::Invalid(InvalidArgument::NullAfter);
-    assert_eq!(rt; refused.err(), Some(reason));
+    assert_eq!(rt; fault, Some(reason));
     Ok(())
 }

@@ -2,9 +2,10 @@
 use crate::given::key;
 use agg_calendar::PrecomputedDateInterval;
 use agg_composite::{CompositeAccessor, PrecomputedAfterKey};
-use agg_segment::Column;
+use agg_segment::{Column, SegmentReader};
 use agg_segment_tests::given::{Given, segment_of};
 use agg_values::{CompositeIntermediateKey, MissingOrder, Order, Text};
+use std::process::Abort;
 use std::test::Fail;
 
 const FROM_ZERO: u64 = 9_223_372_036_854_775_808;
@@ -54,14 +55,26 @@ fn place(column: &Column, key: &CompositeIntermediateKey, order: Order) -> Preco
     PrecomputedAfterKey::precompute(&accessor, key, MissingOrder::Default, order)
 }
 
+// Where the key that a text says stands among the numbers of the one column of a field.
+fn place_in(
+    rt: &(impl Abort + AllocGlobal),
+    segment: &SegmentReader,
+    field: &str,
+    after: &str,
+    order: Order,
+) -> Result<PrecomputedAfterKey, Fail> {
+    let name = Text::copy_of(rt.alloc(), field)?;
+    let key = key(rt.alloc(), after)?;
+    let columns = segment.columns(&name);
+    assert_eq!(rt; columns.len(), 1, "{field}");
+    Ok(place(&columns[0], &key, order))
+}
+
 #[test]
 fn after_keys_have_their_places(rt: HostRuntime) -> Result<(), Fail> {
-    let alloc = rt.alloc();
-    let segment = segment_of(alloc, &[VALUES])?;
+    let segment = segment_of(rt.alloc(), &[VALUES])?;
     for &(name, after, order, expected) in PLACES {
-        let columns = segment.columns(&Text::copy_of(alloc, name)?);
-        assert_eq!(rt; columns.len(), 1, "{name}");
-        let found = place(&columns[0], &key(alloc, after)?, order);
+        let found = place_in(&rt, &segment, name, after, order)?;
         assert_eq!(rt; found, expected, "{name} after {after}");
     }
     Ok(())

@@ -180,7 +180,73 @@ const PAGES: &[Pages] = &[
     },
 ];
 
-// A collector shows these pages, and hands these documents on, if it hands any on.
+// A collector takes documents under both parents.
+fn collect_all<C: SubAggCache, L: Ledger>(
+    collector: &mut SegmentCompositeCollector<C>,
+    req: &CompositeAggReqData<'_>,
+    steps: &mut Steps<L>,
+) -> Result<(), Fail>
+    requires right { IsRight C.waiting req.now collector.old }
+    requires parents { 1 < length collector.old.node.parents }
+    requires fits { (segment : Stored) × (after : Named AfterKey) × Fits segment after req.now }
+    requires room { length req.now.req.now.sources ≤ collector.old.room }
+    ensures right { OnOk result (IsRight C.waiting req.now collector.new) }
+{
+    collect(collector, 1, &[0, 1], req, steps)?;
+    collect(collector, 0, &[2], req, steps)?;
+    collect(collector, 1, &[2, 3, 4, 5], req, steps)
+}
+
+// A collector shows these pages, and none of the parent 2.
+fn expect_shown<C: SubAggCache>(
+    rt: &(impl Abort + AllocGlobal),
+    pages: &Pages,
+    collector: &SegmentCompositeCollector<C>,
+    req: &CompositeAggReqData<'_>,
+) -> Result<(), Fail>
+    requires right { IsRight C.waiting req.now collector.now }
+    requires fits { (segment : Stored) × (after : Named AfterKey) × Fits segment after req.now }
+{
+    let alloc = rt.alloc();
+    let first = shown(alloc, collector, 1, req)?;
+    let second = shown(alloc, collector, 0, req)?;
+    let none = shown(alloc, collector, 2, req)?;
+    assert_eq!(rt;
+        (first.as_slice(), second.as_slice(), none.len()),
+        (pages.first, pages.second, 0)
+    );
+    Ok(())
+}
+
+// A collector hands these documents on.
+fn expect_taken<C: SubAggCache>(
+    rt: &(impl Abort + AllocGlobal),
+    collector: &mut SegmentCompositeCollector<C>,
+    expected: &[(BucketId, DocId)],
+) -> Result<(), Fail> {
+    let taken = taken(rt.alloc(), collector)?;
+    assert_eq!(rt; taken.as_slice(), expected);
+    Ok(())
+}
+
+// A new collector shows these pages, and hands these documents on, if it hands any on.
+fn expect_pages_of<C: SubAggCache, L: Ledger>(
+    rt: &(impl Abort + AllocGlobal),
+    pages: &Pages,
+    hands_on: bool,
+    req: &CompositeAggReqData<'_>,
+    steps: &mut Steps<L>,
+) -> Result<(), Fail>
+    requires fits { (segment : Stored) × (after : Named AfterKey) × Fits segment after req.now }
+{
+    let mut collector: SegmentCompositeCollector<C> = collector_for(rt, req, hands_on)?;
+    collect_all(&mut collector, req, steps)?;
+    expect_shown(rt, pages, &collector, req)?;
+    let handed = if hands_on { pages.taken } else { &[] };
+    expect_taken(rt, &mut collector, handed)
+}
+
+// So does the collector of a composite.
 fn expect_pages<C: SubAggCache, L: Ledger>(
     rt: &(impl Abort + AllocGlobal),
     pages: &Pages,
@@ -191,22 +257,11 @@ fn expect_pages<C: SubAggCache, L: Ledger>(
     requires parts { blank.parts ≡ L.parts }
     requires shared { 0 < L.parts }
 {
-    let alloc = rt.alloc();
-    let segment = segment_of(alloc, DOCUMENTS)?;
-    let composite = composite_over(alloc, pages.fields)?;
-    let req = request_in(alloc, &segment, &composite)?;
     let mut steps: Steps<L> = Steps::new(blank);
-    let mut collector: SegmentCompositeCollector<C> = collector_for(rt, &req, hands_on)?;
-    collect(&mut collector, 1, &[0, 1], &req, &mut steps)?;
-    collect(&mut collector, 0, &[2], &req, &mut steps)?;
-    collect(&mut collector, 1, &[2, 3, 4, 5], &req, &mut steps)?;
-    let second = shown(alloc, &collector, 0, &req)?;
-    assert_eq!(rt; shown(alloc, &collector, 1, &req)?.as_slice(), pages.first);
-    assert_eq!(rt; second.as_slice(), pages.second);
-    assert!(rt; shown(alloc, &collector, 2, &req)?.is_empty());
-    let handed = if hands_on { pages.taken } else { &[] };
-    assert_eq!(rt; taken(alloc, &mut collector)?.as_slice(), handed);
-    Ok(())
+    let segment = segment_of(rt.alloc(), DOCUMENTS)?;
+    let composite = composite_over(rt.alloc(), pages.fields)?;
+    let req = request_in(rt.alloc(), &segment, &composite)?;
+    expect_pages_of::<C, L>(rt, pages, hands_on, &req, &mut steps)
 }
 
 // A composite of two buckets over terms of these fields.

@@ -1,13 +1,11 @@
 //! The accessors of sources that divide values.
 use crate::found::{ALL, NONE, Standing, standing, types};
 use agg_composite::PrecomputedAfterKey;
-use agg_request_tree::{
-    CompositeAggregationSource, DateHistogramCompositeAggregationSource,
-    HistogramCompositeAggregationSource,
-};
-use agg_segment::ColumnType;
+use agg_request_tree::CompositeAggregationSource;
+use agg_request_tree_tests::given::{GivenSource, Kind};
+use agg_segment::{ColumnType, SegmentReader};
 use agg_segment_tests::given::{Given, segment_of};
-use agg_values::{MissingOrder, Order, Text};
+use agg_values::{MissingOrder, Order, OutOfMemory};
 use std::alloc::Global;
 use std::test::Fail;
 
@@ -70,66 +68,71 @@ const DATES: &[(Order, Option<&str>, Standing)] = &[
     (Order::Desc, None, (ALL, 0, false, false)),
 ];
 
+// A histogram of fives of a field, which has a bucket for a missing value.
 fn histogram(
     alloc: Global,
-    field: &str,
-    interval: i64,
+    field: &'static str,
     order: Order,
     missing_order: MissingOrder,
-) -> Result<CompositeAggregationSource, Fail> {
-    Ok(CompositeAggregationSource::Histogram(HistogramCompositeAggregationSource {
-        name: Text::copy_of(alloc, "by")?,
-        field: Text::copy_of(alloc, field)?,
-        interval,
+) -> Result<CompositeAggregationSource, OutOfMemory> {
+    let given = GivenSource::of(field, Kind::Histogram(5), true);
+    let histogram = GivenSource {
         order,
-        missing_bucket: true,
         missing_order,
-    }))
+        ..given
+    };
+    histogram.source(alloc)
 }
 
-fn dates(
-    alloc: Global,
-    fixed_interval: Option<&str>,
-    order: Order,
-    missing_bucket: bool,
-) -> Result<CompositeAggregationSource, Fail> {
-    let fixed_interval = match fixed_interval {
-        Some(text) => Some(Text::copy_of(alloc, text)?),
-        None => None,
-    };
-    Ok(CompositeAggregationSource::DateHistogram(DateHistogramCompositeAggregationSource {
-        name: Text::copy_of(alloc, "by")?,
-        field: Text::copy_of(alloc, "mixed")?,
-        fixed_interval,
-        calendar_interval: None,
-        order,
-        missing_bucket,
-        missing_order: MissingOrder::Default,
-    }))
+// A source of days of the mixed field, which has a bucket for a missing value.
+fn days(alloc: Global, order: Order) -> Result<CompositeAggregationSource, OutOfMemory> {
+    let given = GivenSource::of("mixed", Kind::Dates(Some("1d"), None), true);
+    GivenSource { order, ..given }.source(alloc)
+}
+
+// The types of the columns that a histogram of this order reads.
+fn types_by(alloc: Global, segment: &SegmentReader, order: Order) -> Result<Vec<ColumnType>, Fail> {
+    let source = histogram(alloc, "mixed", order, DEFAULT)?;
+    types(alloc, segment, &source)
 }
 
 #[test]
 fn histograms_read_what_they_divide(rt: HostRuntime) -> Result<(), Fail> {
-    let alloc = rt.alloc();
-    let segment = segment_of(alloc, &[VALUES])?;
+    let segment = segment_of(rt.alloc(), &[VALUES])?;
     for (order, expected) in [
         (Order::Asc, [ColumnType::I64, ColumnType::DateTime]),
         (Order::Desc, [ColumnType::DateTime, ColumnType::I64]),
     ] {
-        let source = histogram(alloc, "mixed", 5, order, DEFAULT)?;
-        let found = types(alloc, &segment, &source)?;
+        let found = types_by(rt.alloc(), &segment, order)?;
         assert_eq!(rt; found.as_slice(), expected.as_slice(), "{order:?}");
     }
     Ok(())
 }
 
+// The types of the columns that a source of days reads.
+fn types_by_days(alloc: Global, segment: &SegmentReader) -> Result<Vec<ColumnType>, Fail> {
+    let source = days(alloc, Order::Asc)?;
+    types(alloc, segment, &source)
+}
+
 #[test]
 fn date_sources_read_dates(rt: HostRuntime) -> Result<(), Fail> {
-    let alloc = rt.alloc();
-    let source = dates(alloc, Some("1d"), Order::Asc, true)?;
-    let found = types(alloc, &segment_of(alloc, &[VALUES])?, &source)?;
+    let segment = segment_of(rt.alloc(), &[VALUES])?;
+    let found = types_by_days(rt.alloc(), &segment)?;
     assert_eq!(rt; found.as_slice(), [ColumnType::DateTime].as_slice());
     Ok(())
+}
+
+// Where an after value stands in a histogram of a field, which has these orders.
+fn standing_in_starts(
+    alloc: Global,
+    segment: &SegmentReader,
+    field: &'static str,
+    (order, missing_order): (Order, MissingOrder),
+    after: &str,
+) -> Result<Standing, Fail> {
+    let source = histogram(alloc, field, order, missing_order)?;
+    standing(alloc, segment, &source, Some(after))
 }
 
 #[test]
@@ -138,21 +141,34 @@ fn after_numbers_stand_among_starts(rt: HostRuntime) -> Result<(), Fail> {
     let segment = segment_of(alloc, &[VALUES])?;
     for field in ["signed", "large", "dates"] {
         for &(order, missing_order, after, expected) in NUMBERS {
-            let source = histogram(alloc, field, 5, order, missing_order)?;
-            let found = standing(alloc, &segment, &source, Some(after))?;
-            assert_eq!(rt; found, expected, "{source:?} {after}");
+            let orders = (order, missing_order);
+            let found = standing_in_starts(alloc, &segment, field, orders, after)?;
+            assert_eq!(rt;
+                found,
+                expected,
+                "{field} {order:?} {missing_order:?} {after}"
+            );
         }
     }
     Ok(())
 }
 
+// Where an after value stands in a date source of this order.
+fn standing_in_days(
+    alloc: Global,
+    segment: &SegmentReader,
+    order: Order,
+    after: Option<&str>,
+) -> Result<Standing, Fail> {
+    let source = days(alloc, order)?;
+    standing(alloc, segment, &source, after)
+}
+
 #[test]
 fn after_dates_stand_among_starts(rt: HostRuntime) -> Result<(), Fail> {
-    let alloc = rt.alloc();
-    let segment = segment_of(alloc, &[VALUES])?;
+    let segment = segment_of(rt.alloc(), &[VALUES])?;
     for &(order, after, expected) in DATES {
-        let source = dates(alloc, Some("1d"), order, true)?;
-        let found = standing(alloc, &segment, &source, after)?;
+        let found = standing_in_days(rt.alloc(), &segment, order, after)?;
         assert_eq!(rt; found, expected, "{order:?} {after:?}");
     }
     Ok(())

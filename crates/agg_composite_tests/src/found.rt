@@ -1,9 +1,9 @@
 //! What the accessors of a source say.
 use crate::given::key;
-use agg_composite::{CompositeSourceAccessors, PrecomputedAfterKey};
+use agg_composite::{CompositeAccessor, CompositeSourceAccessors, PrecomputedAfterKey};
 use agg_request_tree::CompositeAggregationSource;
 use agg_segment::{ColumnType, SegmentReader};
-use std::alloc::Global;
+use std::alloc::{AllocError, Global};
 use std::test::Fail;
 
 /// Where an after value stands: its place among numbers, the index of its lane, whether Null comes
@@ -43,8 +43,15 @@ pub(crate) fn types(
     source: &CompositeAggregationSource,
 ) -> Result<Vec<ColumnType>, Fail> {
     let built = CompositeSourceAccessors::build_for_source(alloc, segment, source, None)?;
+    Ok(types_of(alloc, built.accessors.as_slice())?)
+}
+
+fn types_of(
+    alloc: Global,
+    accessors: &[CompositeAccessor<'_>],
+) -> Result<Vec<ColumnType>, AllocError> {
     let mut types = Vec::new(alloc);
-    for accessor in built.accessors.as_slice() {
+    for accessor in accessors {
         types.push(accessor.column.column_type())?;
     }
     Ok(types)
