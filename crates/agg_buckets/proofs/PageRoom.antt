@@ -12,6 +12,7 @@ use Rattle.std.proofs.lemmas.Bool.{cases_Bool}
 use Rattle.std.proofs.lemmas.List.{take_all, take_more}
 use Rattle.std.proofs.lemmas.Map.{none_passes_from_lookup}
 use Rattle.std.proofs.lemmas.Option.{get_or_from_slice_get, slice_get_within}
+use Rattle.agg_heap_map.specs.Eviction.{GreatestIsBelow, TakesGreatest}
 use Rattle.agg_heap_map.proofs.AscendingKeys.{Ascends, all-inserted, ascends-inserted}
 use Rattle.agg_heap_map.proofs.AscendingKeys.{ascends_from_sorted, sorted_from_ascends}
 use Rattle.agg_heap_map.proofs.EachItem.{weaker}
@@ -89,25 +90,25 @@ module _ {S : Type 0} (R : S → S → Ordering) (total : IsTotalOrder R) where
       ∙ less-by (R e.0 t) not_less (subst (λ o. is_eq o ≡ false) (total.antisymm t e.0) apart)
 
   -- what the greatest tuple says of a new one, where as many buckets are there as fit
-  module _ (size : ℕ) (page : Page S) (x t : S) (none : IsAbsent R page t)
-      (last : (b : Bucket) × (slice_get page (length page - 1) ≡ Some (x, b)))
+  module _ (size : ℕ) (page : Page S) (t : S) (none : IsAbsent R page t)
       (full : size ≤ length page) where
-    front-is : page ≡ take (length page - 1) page ++ (x, last.0) ∷ []
-    front-is = last-splits page (x, last.0) last.1
-
-    pub above-highest : R x t ≡ Less → IsAbove R size page t
-    above-highest less =
+    pub above-page : GreatestIsBelow R t page → IsAbove R size page t
+    above-page (inl empty) =
         is-above R size page t full
-        (above-last page (take (length page - 1) page) (x, last.0) t none.ordered front-is less)
+        (subst (AllByRecursion (λ f. R f.0 t ≡ Less)) (sym empty) tt)
+    above-page (inr last) =
+        is-above R size page t full
+        (above-last page (take (length page - 1) page) last.0 t none.ordered
+        (last-splits page last.0 last.1) last.2)
 
-    pub room-made : (new : Page S) → new ≡ take (length page - 1) page → is_lt (R x t) ≡ false
-        → HasRoom R size t page new
-    room-made new is not_less =
+    pub room-made : (new : Page S) → TakesGreatest R t page new → HasRoom R size t page new
+    room-made new takes =
+        let is = last-splits page takes.1 takes.2 in
         inr (
-          (x, last.0),
-          front-is ∙ ap (λ es. es ++ (x, last.0) ∷ []) (sym is),
+          takes.1,
+          is ∙ ap (λ es. es ++ takes.1 ∷ []) (sym takes.0),
           full,
-          below-last page (take (length page - 1) page) (x, last.0) t none front-is not_less,
+          below-last page (take (length page - 1) page) takes.1 t none is takes.3,
         )
 
   -- ---- a new tuple's bucket

@@ -6,7 +6,7 @@ use crate::bucket::Bucket;
 use crate::page::visit_page;
 use crate::visit_error::VisitError;
 use agg_cache::{BucketId, BucketIdProvider};
-use agg_heap_map::HeapMap;
+use agg_heap_map::LazyHeapMap;
 use agg_values::{DocId, OutOfMemory, Steps};
 use std::alloc::Global;
 use std::hash::Hash;
@@ -18,7 +18,7 @@ use std::sync::ledger::Ledger;
 #[derive(Drop)]
 pub struct BucketsByParent<S: Ord + Hash> {
     alloc: Global,
-    parents: Vec<HeapMap<S, Bucket>>,
+    parents: Vec<LazyHeapMap<S, Bucket>>,
     size: usize,
     ids: BucketIdProvider,
     pushes: Vec<(BucketId, DocId)>,
@@ -54,7 +54,7 @@ impl<S: Ord + Hash> BucketsByParent<S> {
         ensures { IfOk result (λ buckets. IsNew buckets) }
     {
         let mut parents = Vec::new(alloc);
-        parents.push(HeapMap::new(alloc))?;
+        parents.push(LazyHeapMap::new(alloc))?;
         Ok(BucketsByParent {
             alloc,
             parents,
@@ -74,7 +74,7 @@ impl<S: Ord + Hash> BucketsByParent<S> {
         ensures prepared { OnOk result (max_parent < length self.new.parents) }
     {
         while self.parents.len() <= max_parent as usize {
-            self.parents.push(HeapMap::new(self.alloc))?;
+            self.parents.push(LazyHeapMap::new(self.alloc))?;
         }
         Ok(())
     }

@@ -16,7 +16,7 @@ ghost use Rattle.agg_buckets.specs.Page.{
 use crate::bucket::Bucket;
 use crate::visit_error::VisitError;
 use agg_cache::{BucketId, BucketIdProvider};
-use agg_heap_map::HeapMap;
+use agg_heap_map::LazyHeapMap;
 use agg_values::{OutOfMemory, Steps};
 use std::hash::Hash;
 use std::sync::ledger::Ledger;
@@ -24,7 +24,7 @@ use std::sync::ledger::Ledger;
 /// Visits a tuple: it is looked up once. A new one above a full page is left out, and one below its
 /// greatest takes the place of that one. Answers the id of its bucket.
 pub fn visit_page<S: Ord + Hash + Clone + Drop, L: Ledger>(
-    page: &mut HeapMap<S, Bucket>,
+    page: &mut LazyHeapMap<S, Bucket>,
     ids: &mut BucketIdProvider,
     tuple: &S,
     size: usize,
@@ -40,7 +40,7 @@ pub fn visit_page<S: Ord + Hash + Clone + Drop, L: Ledger>(
     if let Some(id) = count_more(page, tuple, steps)? {
         return Ok(Some(id));
     }
-    if !make_room(page, tuple, size, steps) {
+    if !make_room(page, tuple, size, steps)? {
         return Ok(None);
     }
     let id = ids.next_bucket_id()?;
@@ -51,7 +51,7 @@ pub fn visit_page<S: Ord + Hash + Clone + Drop, L: Ledger>(
 // Counts a document more in the bucket of a tuple, if there is one, and answers its id. This is one
 // step.
 fn count_more<S: Ord + Hash, L: Ledger>(
-    page: &mut HeapMap<S, Bucket>,
+    page: &mut LazyHeapMap<S, Bucket>,
     tuple: &S,
     steps: &mut Steps<L>,
 ) -> Result<Option<BucketId>, VisitError>
@@ -70,34 +70,30 @@ fn count_more<S: Ord + Hash, L: Ledger>(
 
 // Makes room for a new tuple on a full page, in the place of the greatest that is above it. Whether
 // there is room.
-fn make_room<S: Ord + Hash + Drop, L: Ledger>(
-    page: &mut HeapMap<S, Bucket>,
+fn make_room<S: Ord + Hash + Clone + Drop, L: Ledger>(
+    page: &mut LazyHeapMap<S, Bucket>,
     tuple: &S,
     size: usize,
     steps: &mut Steps<L>,
-) -> bool
-    requires { IsAbsent S.cmp page.old tuple.now }
-    ensures room { result ≡ true → HasRoom S.cmp size tuple.now page.old page.new }
-    ensures none { result ≡ false → (page.new ≡ page.old) × IsAbove S.cmp size page.old tuple.now }
+) -> Result<bool, OutOfMemory>
+    requires clones { (t q : S) → S.is_clone t q → q ≡ t }
+    requires absent { IsAbsent S.cmp page.old tuple.now }
+    ensures room { IfOk result (λ room. room ≡ true
+        → HasRoom S.cmp size tuple.now page.old page.new) }
+    ensures none { IfOk result (λ room. room ≡ false
+        → (page.new ≡ page.old) × IsAbove S.cmp size page.old tuple.now) }
     ensures most { steps.new ≤ steps.old + 1 }
     ensures least { steps.old ≤ steps.new }
 {
     if page.size() < size {
-        return true;
+        return Ok(true);
     }
-    let Some(highest) = page.peek_highest() else {
-        return false;
-    };
-    if highest.cmp(tuple).is_lt() {
-        return false;
-    }
-    page.evict_highest(steps);
-    true
+    page.evict_above(tuple, steps)
 }
 
 // Opens a bucket of a new tuple, with one document. This is one step.
 fn open<S: Ord + Hash + Clone + Drop, L: Ledger>(
-    page: &mut HeapMap<S, Bucket>,
+    page: &mut LazyHeapMap<S, Bucket>,
     tuple: &S,
     id: BucketId,
     steps: &mut Steps<L>,
@@ -108,10 +104,5 @@ fn open<S: Ord + Hash + Clone + Drop, L: Ledger>(
     ensures most { steps.new ≤ steps.old + 1 }
     ensures least { steps.old ≤ steps.new }
 {
-    page.insert_new(
-        tuple.clone()?,
-        tuple.clone()?,
-        Bucket { count: 1, id },
-        steps,
-    )
+    page.insert_new(tuple.clone()?, Bucket { count: 1, id }, steps)
 }

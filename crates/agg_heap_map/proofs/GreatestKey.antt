@@ -2,7 +2,7 @@
 use Rattle.std.proofs.Common.{◌≡◌, ◌-◌, ◌<◌, get_or, Bool, true, false, ◌||◌, List, [], ◌∷◌}
 use Rattle.std.proofs.Common.{◌++◌, Some, length, length-append, take, refl, sym, ap, ◌∙◌, subst}
 use Rattle.std.proofs.Common.{arith, Ordering, Less, Equal, Greater, is_lt}
-use Rattle.std.specs.BinaryHeap.{IsUpperBound}
+use Rattle.std.specs.BinaryHeap.{IsHeap, IsUpperBound}
 use Rattle.std.specs.Cmp.{IsTotalOrder, IsEquivalence}
 use Rattle.std.specs.List.{AllByRecursion, IsDistinct, list_any, slice_get}
 use Rattle.std.specs.List.Sorted.{IsPermutation}
@@ -14,7 +14,7 @@ use Rattle.std.proofs.lemmas.List.{take_at}
 use Rattle.std.proofs.lemmas.List.Sorted.{IsPermutation-sym, IsPermutation-trans, IsPermutation-map}
 use Rattle.std.proofs.lemmas.List.Sorted.{list_any-IsPermutation, length_permutation}
 use Rattle.std.proofs.lemmas.Map.Keys.{IsDistinct-IsPermutation, IsDistinct-head, IsDistinct-tail}
-use Rattle.agg_heap_map.specs.EntryOrder.{ascending}
+use Rattle.agg_heap_map.specs.EntryOrder.{HaveSameKeys, ascending}
 use Rattle.agg_heap_map.proofs.EachItem.{both, moved, on_entries, weaker}
 use Rattle.agg_heap_map.proofs.EntryOrder.{ascending-same, ascending-last}
 use Rattle.agg_heap_map.proofs.KeyRemoval.{Split, keys-left, remove_key-permutation, split}
@@ -152,6 +152,12 @@ item-front : {K : Type 0} (items : List K) (x : K) → 0 < length items → x �
 item-front [] x some is = absurd (omega arith)
 item-front (y ∷ items) x some is = (items, ap (λ k. k ∷ items) (sym is))
 
+-- the items of a heap show this one
+abbrev pub Shows : {K : Type 0} → (K → K → Ordering) → List K → K → Type 0
+Shows {K} R items x =
+    ((0 < length items) × ((d : K) → x ≡ get_or items 0 d))
+    × (IsHeap R items → IsUpperBound R x items)
+
 module _ {K X : Type 0} (R : K → K → Ordering) (total : IsTotalOrder R) (eq : K → K → Bool)
     (laws : IsEquivalence eq) (ties : (k l : K) → eq k l ≡ eq_by_cmp R k l) where
   -- what a heap shows first is the last key of the map's entries in order
@@ -165,3 +171,9 @@ module _ {K X : Type 0} (R : K → K → Ordering) (total : IsTotalOrder R) (eq 
       (subst (IsPermutation (keys_of es)) f.1 same)
       (let u : IsUpperBound R x (x ∷ f.0) = subst (IsUpperBound R x) f.1 upper in u.1) in
       (g.0, last-of (ascending R es) (ascending R (remove_entry (eq x) es)) (x, g.0) g.1)
+
+  pub shown : (es : List (K × X)) (items : List K) (x : K)
+      → HaveSameKeys R eq (keys_of es) items → Shows R items x
+      → (v : X) × (slice_get (ascending R es) (length (ascending R es) - 1) ≡ Some (x, v))
+  shown es items x keys shows =
+      peeked es items x keys.once keys.same shows.0.0 (shows.0.1 x) (shows.1 keys.heap)

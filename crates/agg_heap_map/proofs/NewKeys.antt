@@ -1,7 +1,8 @@
 -- Entries and a heap's items with one more key.
-use Rattle.std.proofs.Common.{◌≡◌, Bool, List, ◌∷◌, sym, ap, ◌∙◌, Ordering}
+use Rattle.std.proofs.Common.{◌≡◌, Bool, List, ◌∷◌, Option, Some, None, sym, ap, ◌∙◌, Ordering}
 use Rattle.std.specs.BTreeMap.{insert_entry}
 use Rattle.std.specs.Cmp.{IsTotalOrder}
+use Rattle.std.specs.HashMap.{HashMap, PutsEntry}
 use Rattle.std.specs.List.{IsDistinct}
 use Rattle.std.specs.List.Sorted.{IsPermutation}
 use Rattle.std.specs.Map.{keys_of}
@@ -11,6 +12,13 @@ use Rattle.std.proofs.lemmas.List.Sorted.{IsPermutation-cons}
 use Rattle.agg_heap_map.specs.EntryOrder.{ascending}
 use Rattle.agg_heap_map.proofs.EntryOrder.{ascending-same}
 use Rattle.agg_heap_map.proofs.KeyEquality.{once_by_cmp}
+
+-- a new key's entry
+pub puts-new : {K X S : Type 0} (eq : K → K → Bool) (m n : HashMap K X S) (k : K) (v : X)
+    (old : Option X) → old ≡ None → PutsEntry eq m n k v old
+    → IsPermutation ((k, v) ∷ m.entries) n.entries
+puts-new eq m n k v None is puts = puts
+puts-new eq m n k v (Some x) is puts = cc
 
 -- fs are the entries gs with one more, and gs are es in some order
 pub one_more-entries : {K X : Type 0} (R : K → K → Ordering) (total : IsTotalOrder R)

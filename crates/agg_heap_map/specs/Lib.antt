@@ -1,4 +1,6 @@
 pub mod Borrows
 pub mod DynBorrows
 pub mod EntryOrder
+pub mod Eviction
 pub mod Insertion
+pub mod LazyBorrows

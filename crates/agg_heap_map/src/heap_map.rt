@@ -5,12 +5,12 @@ ghost use Rattle.std.specs.BTreeMap.{insert_entry, is_at};
 ghost use Rattle.std.specs.Borrow.{sem};
 ghost use Rattle.std.specs.List.Sorted.{IsPermutation, IsStrictlySortedBy};
 ghost use Rattle.std.specs.Map.{keys_of, lookup};
-ghost use Rattle.std.specs.Map.Iter.{ShowsInOrder, deref_pair};
 ghost use Rattle.std.specs.Option.{option_copied_mut};
 
+use crate::map_and_heap::{evict, put_new};
 use agg_values::{OutOfMemory, Steps};
 use std::alloc::Global;
-use std::collections::hash_map::{IntoIter, Iter};
+use std::collections::hash_map::IntoIter;
 use std::collections::{BinaryHeap, HashMap};
 use std::hash::Hash;
 use std::marker::Model;
@@ -86,29 +86,8 @@ impl<S: Ord + Hash, V> HeapMap<S, V> {
         self.map.contains_key(key)
     }
 
-    /// Inserts a key that isn't there, and its twin for the heap. This is one step. Where memory is
-    /// refused, nothing changes.
-    pub fn insert_new<L: Ledger>(
-        &mut self,
-        key: S,
-        twin: S,
-        value: V,
-        steps: &mut Steps<L>,
-    ) -> Result<(), OutOfMemory>
-    where
-        S: Drop,
-        V: Drop,
-        requires absent { lookup (is_at (S.cmp key)) self.old ≡ None }
-        requires twin { twin ≡ key }
-        ensures ok { OnOk result (self.new ≡ insert_entry S.cmp self.old key value) }
-        ensures err { OnErr result (self.new ≡ self.old) }
-        ensures steps { steps.new ≡ steps.old + 1 }
-    {
-        steps.tick();
-        self.put_new(key, twin, value)
-    }
-
-    /// The same, where no step is counted.
+    /// Inserts a key that isn't there, and its twin for the heap. Where memory is refused, nothing
+    /// changes.
     pub fn put_new(&mut self, key: S, twin: S, value: V) -> Result<(), OutOfMemory>
     where
         S: Drop,
@@ -118,10 +97,7 @@ impl<S: Ord + Hash, V> HeapMap<S, V> {
         ensures ok { OnOk result (self.new ≡ insert_entry S.cmp self.old key value) }
         ensures err { OnErr result (self.new ≡ self.old) }
     {
-        self.map.reserve(1)?;
-        self.heap.push(twin)?;
-        self.map.insert(key, value)?;
-        Ok(())
+        put_new(&mut self.map, &mut self.heap, key, twin, value)
     }
 
     /// Takes the greatest key out. This is one step.
@@ -133,32 +109,7 @@ impl<S: Ord + Hash, V> HeapMap<S, V> {
         ensures steps { steps.new ≡ steps.old + 1 }
     {
         steps.tick();
-        if let Some(key) = self.heap.pop() {
-            self.map.remove(&key);
-        }
-    }
-
-    /// The entries by reference, in no stated order.
-    pub fn iter(&self) -> Iter<'_, S, V>
-        ensures entries { IsPermutation self.now result }
-        ensures runs { ShowsInOrder (deref_pair {K = S} {X = V}) }
-    {
-        self.map.iter()
-    }
-
-    /// A copy of the entries, in the order of the keys. They are sorted at each call, which is
-    /// faster over copies than over references.
-    pub fn entries_ascending(&self, alloc: Global) -> Result<Vec<(S, V)>, OutOfMemory>
-    where
-        S: Clone + Drop,
-        V: Copy,
-        requires clones { (t q : S) → S.is_clone t q → q ≡ t }
-        ensures entries { IfOk result (λ entries. entries.items ≡ self.now) }
-        ensures ordered { IfOk result (λ _. IsStrictlySortedBy S.cmp (keys_of self.now)) }
-    {
-        let mut entries = copies_of(alloc, &self.map)?;
-        entries.sort_unstable_by(|left, right| left.0.cmp(&right.0));
-        Ok(entries)
+        evict(&mut self.map, &mut self.heap);
     }
 
     /// The entries, in no stated order.
@@ -172,19 +123,4 @@ impl<S: Ord + Hash, V> HeapMap<S, V> {
         drop(heap);
         map.into_iter()
     }
-}
-
-// A copy of the entries of a hash map.
-fn copies_of<S: Eq + Hash + Clone + Drop, V: Copy>(
-    alloc: Global,
-    hash_map: &HashMap<S, V>,
-) -> Result<Vec<(S, V)>, OutOfMemory>
-    requires clones { (t q : S) → S.is_clone t q → q ≡ t }
-    ensures { IfOk result (λ entries. entries.items ≡ hash_map.now.entries) }
-{
-    let mut entries = Vec::with_capacity(alloc, hash_map.len())?;
-    for (key, value) in hash_map.iter() {
-        entries.push((key.clone()?, *value))?;
-    }
-    Ok(entries)
 }

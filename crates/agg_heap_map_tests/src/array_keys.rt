@@ -1,7 +1,7 @@
 //! Tests of keys that are arrays, of each capacity.
 ghost use Rattle.std.specs.Prelude.{◌≡◌, ◌≤◌, ◌<◌, ◌∷◌, []};
 
-use agg_heap_map::HeapMap;
+use agg_heap_map::LazyHeapMap;
 use agg_values::{OutOfMemory, Steps};
 use arrayvec::ArrayVec;
 use std::hash::Hash;
@@ -12,20 +12,38 @@ use std::test::Fail;
 
 // Inserts a key that isn't there. Whether it was absent.
 fn insert<S: Ord + Hash + Clone, L: Ledger>(
-    map: &mut HeapMap<S, u64>,
+    map: &mut LazyHeapMap<S, u64>,
     key: &S,
     steps: &mut Steps<L>,
 ) -> Result<bool, OutOfMemory>
     requires clones { (k l : S) → S.is_clone k l → l ≡ k }
 {
-    if map.holds(key) {
+    if let Some(value) = map.get_mut(key, steps) {
+        *value = 2;
         return Ok(false);
     }
-    map.insert_new(key.clone()?, key.clone()?, 1, steps)?;
+    map.insert_new(key.clone()?, 1, steps)?;
     Ok(true)
 }
 
-// Of three keys, ascending, the highest is evicted.
+// A map has these two keys, each of which was inserted twice.
+fn expect_entries<'k, S: Ord + Hash + Clone>(
+    rt: &(impl Abort + AllocGlobal),
+    map: &LazyHeapMap<S, u64>,
+    keys: [&'k S; 2],
+) -> Result<(), Fail>
+    requires clones { (k l : S) → S.is_clone k l → l ≡ k }
+{
+    let entries = map.entries_ascending(rt.alloc())?;
+    assert!(rt; entries.len() == 2 && map.size() == 2);
+    for (entry, key) in entries.iter().zip(keys) {
+        assert!(rt; &entry.0 == key && entry.1 == 2);
+    }
+    Ok(())
+}
+
+// Of three keys, ascending, the highest is evicted, at first without a heap, and in the end with
+// one. A key that is above all stays out.
 fn expect_two<'k, S: Ord + Hash + Clone, L: Ledger>(
     rt: &(impl Abort + AllocGlobal),
     keys: (&'k S, &'k S, &'k S),
@@ -33,19 +51,20 @@ fn expect_two<'k, S: Ord + Hash + Clone, L: Ledger>(
 ) -> Result<(), Fail>
     requires clones { (k l : S) → S.is_clone k l → l ≡ k }
 {
-    let mut map = HeapMap::new(rt.alloc());
-    for key in [keys.2, keys.0, keys.1] {
-        assert!(rt; insert(&mut map, key, steps)?);
-        assert!(rt; !insert(&mut map, key, steps)?);
+    let mut map = LazyHeapMap::new(rt.alloc());
+    assert!(rt; !map.evict_above(keys.0, steps)?);
+    let mut full = LazyHeapMap::new(rt.alloc());
+    for key in [keys.2, keys.0] {
+        assert!(rt; insert(&mut map, key, steps)? && insert(&mut full, key, steps)?);
+        assert!(rt; !insert(&mut map, key, steps)? && !insert(&mut full, key, steps)?);
     }
-    assert!(rt; map.size() == 3 && map.peek_highest() == Some(keys.2));
-    map.evict_highest(steps);
-    let entries = map.entries_ascending(rt.alloc())?;
-    assert!(rt; entries.len() == 2);
-    for (entry, key) in entries.iter().zip([keys.0, keys.1]) {
-        assert!(rt; &entry.0 == key && entry.1 == 1);
-    }
-    Ok(())
+    assert!(rt; full.evict_above(keys.1, steps)?);
+    assert!(rt; insert(&mut full, keys.1, steps)? && !insert(&mut full, keys.1, steps)?);
+    assert!(rt; !full.evict_above(keys.2, steps)?);
+    expect_entries(rt, &full, [keys.0, keys.1])?;
+    assert!(rt; map.evict_above(keys.1, steps)?);
+    assert!(rt; insert(&mut map, keys.1, steps)? && !insert(&mut map, keys.1, steps)?);
+    expect_entries(rt, &map, [keys.0, keys.1])
 }
 
 // A key of one part.

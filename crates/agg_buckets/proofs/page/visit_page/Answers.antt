@@ -1,4 +1,4 @@
-use Rattle.std.proofs.Common.{◌≡◌, refl, subst}
+use Rattle.std.proofs.Common.{◌≡◌, rules, subst}
 use Rattle.agg_buckets.specs.Page.{HasRoom, IsAbsent, IsCountedMore, opened}
 use Rattle.agg_buckets.proofs.PageRoom.{absent-room, takes-new}
 use Rattle.agg_buckets.proofs.PageSteps.{takes-more}
@@ -22,7 +22,7 @@ open-requires-clause-absent g c =
     let none : (c.count_more.new.page ≡ old) × IsAbsent R old t =
     rw c.in_default.is at c.in_ok-id.ensures.ok in
     let room = subst (λ page. HasRoom R c.args.size t page mid) none.0
-    (c.if-not-make_room.ensures.room refl) in
+    (c.in_ok-make_room.ensures.room (search rules)) in
     absent-room R g.met.S.Ord.total c.args.size t (opened 0) old mid none.1 room
 
 pub returns-clause-ok : goal.returns-clause-ok
@@ -34,7 +34,7 @@ returns-clause-ok g c =
     let none : (c.count_more.new.page ≡ old) × IsAbsent R old t =
     rw c.in_default.is at c.in_ok-id.ensures.ok in
     let room = subst (λ page. HasRoom R c.args.size t page mid) none.0
-    (c.if-not-make_room.ensures.room refl) in
+    (c.in_ok-make_room.ensures.room (search rules)) in
     takes-new R g.met.S.Ord.total c.args.size c.args.ids.now c.next_bucket_id.new.self t
     c.in_ok-id-2.id old mid c.open.new.page none.1 room c.in_ok-id-2.ensures.next
     c.in_ok-id-2.ensures.id c.in_ok-open.ensures.ok

@@ -1,11 +1,11 @@
-use Rattle.std.proofs.Common.{◌≡◌, ◌-◌, ◌<◌, ◌≤◌, get_or, [], Option, Some, None, refl}
+use Rattle.std.proofs.Common.{◌≡◌, ◌-◌, ◌≤◌, [], Option, Some, None, refl}
 use Rattle.std.proofs.Common.{subst, length, arith}
 use denote.Ref.{Bor}
-use Rattle.std.specs.BinaryHeap.{heap_items, IsHeap, IsUpperBound}
+use Rattle.std.specs.BinaryHeap.{heap_items}
 use Rattle.std.specs.List.{slice_get}
 use Rattle.std.specs.Option.{MatchOption}
 use Rattle.agg_heap_map.specs.EntryOrder.{ascending}
-use Rattle.agg_heap_map.proofs.GreatestKey.{no_entries, peeked}
+use Rattle.agg_heap_map.proofs.GreatestKey.{Shows, no_entries, shown}
 use Rattle.agg_heap_map.proofs.heap_map.HeapMap.peek_highest.Goals as goal
 
 pub returns : goal.returns
@@ -25,11 +25,9 @@ returns g c =
       | Some x ↦ λ is.
           let first = c.peek.ensures.item.3 in
           let all = c.peek.ensures.greatest in
-          let here : (0 < length items) × ((d : g.row.S.Denot) → x.now ≡ get_or items 0 d) =
-          rw is at first in
-          let upper : IsHeap R items → IsUpperBound R x.now items = rw is at all in
-          peeked R met.Ord.total g.S.PartialEq.eq met.Eq.laws met.Ord.matches_eq es items x.now
-          keys.once keys.same here.0 (here.1 x.now) (upper keys.heap)
+          let shows : Shows R items x.now = (rw is at first, rw is at all) in
+          shown R met.Ord.total g.S.PartialEq.eq met.Eq.laws met.Ord.matches_eq es items x.now keys
+          shows
     ] in
     subst (λ fs.
     MatchOption c.peek.result (fs ≡ [])

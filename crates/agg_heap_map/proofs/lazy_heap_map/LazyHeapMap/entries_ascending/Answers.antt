@@ -7,7 +7,7 @@ use Rattle.std.proofs.lemmas.List.Sorted.{ranks_by}
 use Rattle.agg_heap_map.proofs.AscendingKeys.{ascending-sorted}
 use Rattle.agg_heap_map.proofs.KeyEquality.{once_by_cmp}
 use Rattle.agg_heap_map.proofs.SortedEntries.{sorted-ascending}
-use Rattle.agg_heap_map.proofs.heap_map.HeapMap.entries_ascending.Goals as goal
+use Rattle.agg_heap_map.proofs.lazy_heap_map.LazyHeapMap.entries_ascending.Goals as goal
 
 pub returns : goal.returns
 returns g c =
@@ -15,7 +15,7 @@ returns g c =
     let met = g.met.S in
     let es = c.self.inside.map.entries in
     let copies = c.sort_unstable_by.new.self.items in
-    let once = once_by_cmp R g.S.PartialEq.eq met.Ord.matches_eq _ c.self.invariant.once in
+    let once = once_by_cmp R g.S.PartialEq.eq met.Ord.matches_eq _ c.self.invariant.0 in
     let permuted : IsPermutation es copies =
     subst (λ fs. IsPermutation fs copies) c.in_ok-entries.ensures
     c.sort_unstable_by.ensures.permutation in

@@ -1,23 +1,22 @@
-use Rattle.std.proofs.Common.{◌≡◌, ◌∷◌, Option, Some, None, sym, ap, ◌∙◌, subst, rules}
+use Rattle.std.proofs.Common.{◌≡◌, ◌∷◌, None, sym, ap, ◌∙◌, subst, rules}
 use Rattle.std.specs.BinaryHeap.{IsHeap, heap_items}
 use Rattle.std.specs.BTreeMap.{is_at}
-use Rattle.std.specs.HashMap.{HashMap, PutsEntry}
 use Rattle.std.specs.List.Sorted.{IsPermutation}
 use Rattle.std.specs.Map.{lookup}
 use Rattle.agg_heap_map.specs.EntryOrder.{HaveSameKeys, ascending}
 use Rattle.agg_heap_map.proofs.EntryOrder.{ascending-same}
 use Rattle.agg_heap_map.proofs.EntryValues.{lookup-ascending}
 use Rattle.agg_heap_map.proofs.KeyEquality.{once_by_cmp}
-use Rattle.agg_heap_map.proofs.NewKeys.{one_more-entries, one_more-keys, reordered-keys}
-use Rattle.agg_heap_map.proofs.heap_map.HeapMap.put_new.Goals as goal
+use Rattle.agg_heap_map.proofs.NewKeys.{one_more-entries, one_more-keys, puts-new, reordered-keys}
+use Rattle.agg_heap_map.proofs.map_and_heap.put_new.Goals as goal
 
-pub invariant_of-self-in_err-push : goal.invariant_of-self-in_err-push
-invariant_of-self-in_err-push g c =
-    let keys = c.self.invariant in
-    let items : heap_items c.push.new.self ≡ heap_items c.self.inside.heap = search rules in
+pub returns-in_err-push-clause-same_keys : goal.returns-in_err-push-clause-same_keys
+returns-in_err-push-clause-same_keys g c =
+    let keys = c.requires.same_keys in
+    let items : heap_items c.push.new.self ≡ heap_items c.args.heap.now = search rules in
     subst (HaveSameKeys g.S.Ord.cmp g.S.PartialEq.eq _) (sym items)
     (record {
-      same = reordered-keys c.self.inside.map.entries c.reserve.new.self.entries _ keys.same
+      same = reordered-keys c.args.map.now.entries c.reserve.new.self.entries _ keys.same
           c.reserve.ensures.entries.0;
       once = c.reserve.ensures.unique;
       heap = keys.heap;
@@ -27,36 +26,29 @@ pub returns-in_err-push-clause-err : goal.returns-in_err-push-clause-err
 returns-in_err-push-clause-err g c =
     let R = g.S.Ord.cmp in
     let met = g.met.S in
-    let es = c.self.inside.map.entries in
-    let once = once_by_cmp R g.S.PartialEq.eq met.Ord.matches_eq _ c.self.invariant.once in
-    let same : ascending R c.reserve.new.self.entries ≡ c.args.self.now =
+    let es = c.args.map.now.entries in
+    let once = once_by_cmp R g.S.PartialEq.eq met.Ord.matches_eq _ c.requires.same_keys.once in
+    let same : ascending R c.reserve.new.self.entries ≡ ascending R es =
     sym (ascending-same R met.Ord.total es c.reserve.new.self.entries c.reserve.ensures.entries.0
-    once) ∙ c.self.view_is in
+    once) in
     search (rules, same)
 
--- a new key's entry
-puts-new : {K X S : Type 0} (eq : K → K → _) (m n : HashMap K X S) (k : K) (v : X) (old : Option X)
-    → old ≡ None → PutsEntry eq m n k v old → IsPermutation ((k, v) ∷ m.entries) n.entries
-puts-new eq m n k v None is puts = puts
-puts-new eq m n k v (Some x) is puts = cc
-
-pub invariant_of-self-2 : goal.invariant_of-self-2
-invariant_of-self-2 g c =
+pub returns-clause-same_keys : goal.returns-clause-same_keys
+returns-clause-same_keys g c =
     let R = g.S.Ord.cmp in
     let met = g.met.S in
     let k = c.args.key in
-    let es = c.self.inside.map.entries in
-    let keys = c.self.invariant in
+    let es = c.args.map.now.entries in
+    let keys = c.requires.same_keys in
     let test : g.S.PartialEq.eq k ≡ is_at (R k) = λ i l. met.Ord.matches_eq k l i in
     let absent : lookup (g.S.PartialEq.eq k) es ≡ None =
-    ap (λ t. lookup t es) test ∙ sym (lookup-ascending R met.Ord.total es k)
-    ∙ ap (lookup (is_at (R k))) c.self.view_is ∙ c.requires.absent in
+    ap (λ t. lookup t es) test ∙ sym (lookup-ascending R met.Ord.total es k) ∙ c.requires.absent in
     let new : c.in_ok-insert.field-0 ≡ None = c.in_ok-insert.ensures.old
     ∙ c.reserve.ensures.entries.2 k ∙ absent in
     let puts =
     puts-new g.S.PartialEq.eq c.reserve.new.self c.insert.new.self k c.args.value
     c.in_ok-insert.field-0 new c.in_ok-insert.ensures.entries in
-    let items = heap_items c.self.inside.heap in
+    let items = heap_items c.args.heap.now in
     let more = heap_items c.push.new.self in
     let twin : IsPermutation (c.args.twin ∷ items) more = search rules in
     let pushed : IsPermutation (k ∷ items) more =
@@ -74,11 +66,10 @@ returns-clause-ok g c =
     let R = g.S.Ord.cmp in
     let met = g.met.S in
     let k = c.args.key in
-    let es = c.self.inside.map.entries in
+    let es = c.args.map.now.entries in
     let test : g.S.PartialEq.eq k ≡ is_at (R k) = λ i l. met.Ord.matches_eq k l i in
     let absent : lookup (g.S.PartialEq.eq k) es ≡ None =
-    ap (λ t. lookup t es) test ∙ sym (lookup-ascending R met.Ord.total es k)
-    ∙ ap (lookup (is_at (R k))) c.self.view_is ∙ c.requires.absent in
+    ap (λ t. lookup t es) test ∙ sym (lookup-ascending R met.Ord.total es k) ∙ c.requires.absent in
     let new : c.in_ok-insert.field-0 ≡ None = c.in_ok-insert.ensures.old
     ∙ c.reserve.ensures.entries.2 k ∙ absent in
     let puts =
@@ -86,5 +77,4 @@ returns-clause-ok g c =
     c.in_ok-insert.field-0 new c.in_ok-insert.ensures.entries in
     one_more-entries R met.Ord.total g.S.PartialEq.eq met.Ord.matches_eq es
     c.reserve.new.self.entries c.insert.new.self.entries k c.args.value
-    c.self.invariant.once c.reserve.ensures.entries.0 c.insert.ensures.unique puts
-    ∙ ap (λ hs. Rattle.std.specs.BTreeMap.insert_entry R hs k c.args.value) c.self.view_is
+    c.requires.same_keys.once c.reserve.ensures.entries.0 c.insert.ensures.unique puts
