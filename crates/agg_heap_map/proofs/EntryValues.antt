@@ -3,7 +3,7 @@ use Rattle.std.proofs.Common.{◌≡◌, Bool, true, false, cond, List, [], ◌�
 use Rattle.std.proofs.Common.{Ordering, Less, Equal, Greater}
 use Rattle.std.specs.BTreeMap.{insert_entry, is_at}
 use Rattle.std.specs.Cmp.{IsTotalOrder}
-use Rattle.std.specs.List.{AllByRecursion}
+use Rattle.std.specs.List.{AllByRecursion, IsDistinct}
 use Rattle.std.specs.Map.{keys_of, lookup, set_value}
 use Rattle.std.specs.Ordering.{eq_by_cmp, is_eq, match_ordering}
 use Rattle.std.proofs.lemmas.Bool.{false≢true}
@@ -13,6 +13,7 @@ use Rattle.agg_heap_map.specs.EntryOrder.{ascending}
 use Rattle.agg_heap_map.proofs.EachItem.{moved, on_entries}
 use Rattle.agg_heap_map.proofs.EntryOrder.{EachOnce, ascending-permutes}
 use Rattle.agg_heap_map.proofs.InsertionTurns.{Apart, tied}
+use Rattle.agg_heap_map.proofs.KeyEquality.{once_by_cmp}
 
 module _ {K X : Type 0} (R : K → K → Ordering) (total : IsTotalOrder R) where
   -- ---- another value
@@ -141,3 +142,20 @@ module _ {K X : Type 0} (R : K → K → Ordering) (total : IsTotalOrder R) wher
   lookup-put es k v =
       lookup-added es k k v
       ∙ ap (λ o. cond (is_eq o) (Some v) (lookup (is_at (R k)) es)) (tied_itself total k)
+
+-- ---- by a hash map's own test of keys
+
+module _ {K X : Type 0} (R : K → K → Ordering) (total : IsTotalOrder R) (eq : K → K → Bool)
+    (ties : (k l : K) → eq k l ≡ eq_by_cmp R k l) where
+  pub lookup-by_eq : (es : List (K × X)) (k : K)
+      → lookup (eq k) es ≡ lookup (is_at (R k)) (ascending R es)
+  lookup-by_eq es k =
+      let test : eq k ≡ is_at (R k) = λ i l. ties k l i in
+      ap (λ t. lookup t es) test ∙ sym (lookup-ascending R total es k)
+
+  pub set-by_eq : (es : List (K × X)) (k : K) (w : X) → IsDistinct eq (keys_of es)
+      → ascending R (set_value (eq k) es w) ≡ set_value (is_at (R k)) (ascending R es) w
+  set-by_eq es k w once =
+      let test : eq k ≡ is_at (R k) = λ i l. ties k l i in
+      ap (λ t. ascending R (set_value t es w)) test
+      ∙ ascending-set R total es k w (once_by_cmp R eq ties (keys_of es) once)

@@ -1,8 +1,7 @@
-use Rattle.std.proofs.Common.{◌≡◌, None, sym, ap, ◌∙◌}
-use Rattle.std.specs.BTreeMap.{is_at}
+use Rattle.std.proofs.Common.{◌≡◌, None, ◌∙◌}
 use Rattle.std.specs.Map.{lookup}
 use Rattle.std.proofs.lemmas.List.Sorted.{IsPermutation-refl}
-use Rattle.agg_heap_map.proofs.EntryValues.{lookup-ascending}
+use Rattle.agg_heap_map.proofs.EntryValues.{lookup-by_eq}
 use Rattle.agg_heap_map.proofs.NewKeys.{one_more-entries, puts-new}
 use Rattle.agg_heap_map.proofs.map_and_heap.put_cloned.Goals as goal
 
@@ -12,9 +11,8 @@ returns-in_ok-insert-in-None-clause-ok g c =
     let met = g.met.S in
     let k = c.args.key in
     let es = c.args.map.now.entries in
-    let test : g.S.PartialEq.eq k ≡ is_at (R k) = λ i l. met.Ord.matches_eq k l i in
     let absent : lookup (g.S.PartialEq.eq k) es ≡ None =
-    ap (λ t. lookup t es) test ∙ sym (lookup-ascending R met.Ord.total es k) ∙ c.requires.absent in
+    lookup-by_eq R met.Ord.total g.S.PartialEq.eq met.Ord.matches_eq es k ∙ c.requires.absent in
     let new : c.in_ok-insert-in-None.field-0 ≡ None = c.in_ok-insert-in-None.ensures.old ∙ absent in
     let puts =
     puts-new g.S.PartialEq.eq c.args.map.now c.insert.new.self k c.args.value

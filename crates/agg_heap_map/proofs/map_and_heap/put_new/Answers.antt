@@ -1,11 +1,10 @@
-use Rattle.std.proofs.Common.{◌≡◌, ◌∷◌, None, sym, ap, ◌∙◌, subst, rules}
+use Rattle.std.proofs.Common.{◌≡◌, ◌∷◌, None, sym, ◌∙◌, subst, rules}
 use Rattle.std.specs.BinaryHeap.{IsHeap, heap_items}
-use Rattle.std.specs.BTreeMap.{is_at}
 use Rattle.std.specs.List.Sorted.{IsPermutation}
 use Rattle.std.specs.Map.{lookup}
 use Rattle.agg_heap_map.specs.EntryOrder.{HaveSameKeys, ascending}
 use Rattle.agg_heap_map.proofs.EntryOrder.{ascending-same}
-use Rattle.agg_heap_map.proofs.EntryValues.{lookup-ascending}
+use Rattle.agg_heap_map.proofs.EntryValues.{lookup-by_eq}
 use Rattle.agg_heap_map.proofs.KeyEquality.{once_by_cmp}
 use Rattle.agg_heap_map.proofs.NewKeys.{one_more-entries, one_more-keys, puts-new, reordered-keys}
 use Rattle.agg_heap_map.proofs.map_and_heap.put_new.Goals as goal
@@ -40,9 +39,8 @@ returns-clause-same_keys g c =
     let k = c.args.key in
     let es = c.args.map.now.entries in
     let keys = c.requires.same_keys in
-    let test : g.S.PartialEq.eq k ≡ is_at (R k) = λ i l. met.Ord.matches_eq k l i in
     let absent : lookup (g.S.PartialEq.eq k) es ≡ None =
-    ap (λ t. lookup t es) test ∙ sym (lookup-ascending R met.Ord.total es k) ∙ c.requires.absent in
+    lookup-by_eq R met.Ord.total g.S.PartialEq.eq met.Ord.matches_eq es k ∙ c.requires.absent in
     let new : c.in_ok-insert.field-0 ≡ None = c.in_ok-insert.ensures.old
     ∙ c.reserve.ensures.entries.2 k ∙ absent in
     let puts =
@@ -67,9 +65,8 @@ returns-clause-ok g c =
     let met = g.met.S in
     let k = c.args.key in
     let es = c.args.map.now.entries in
-    let test : g.S.PartialEq.eq k ≡ is_at (R k) = λ i l. met.Ord.matches_eq k l i in
     let absent : lookup (g.S.PartialEq.eq k) es ≡ None =
-    ap (λ t. lookup t es) test ∙ sym (lookup-ascending R met.Ord.total es k) ∙ c.requires.absent in
+    lookup-by_eq R met.Ord.total g.S.PartialEq.eq met.Ord.matches_eq es k ∙ c.requires.absent in
     let new : c.in_ok-insert.field-0 ≡ None = c.in_ok-insert.ensures.old
     ∙ c.reserve.ensures.entries.2 k ∙ absent in
     let puts =
