@@ -46,18 +46,52 @@ fn count_block(
     Ok(())
 }
 
+// The sums of all blocks.
+fn sums_in(
+    rt: &(impl Abort + AllocGlobal),
+    ctx: &PerRequestAggSegCtx<'_>,
+    segment: &SegmentReader,
+) -> Result<UncutCounts, Fail>
+    requires { IsContextIn segment.now ctx.now }
+{
+    let mut sums = UncutCounts::new(uncut_lengths(rt.alloc(), ctx, segment, &[])?);
+    for block in BLOCKS {
+        count_block(rt, ctx, segment, *block, &mut sums)?;
+    }
+    Ok(sums)
+}
+
+// These are the sums in a context.
+fn expect_sums(
+    rt: &(impl Abort + AllocGlobal),
+    ctx: &PerRequestAggSegCtx<'_>,
+    segment: &SegmentReader,
+) -> Result<(), Fail>
+    requires { IsContextIn segment.now ctx.now }
+{
+    let sums = sums_in(rt, ctx, segment)?;
+    assert_eq!(rt;
+        (sums.as_slice(), sums.is_too_many()),
+        ([7, 8, 4].as_slice(), false)
+    );
+    Ok(())
+}
+
+// So they are in that of a composite.
+fn expect_sums_of(
+    rt: &(impl Abort + AllocGlobal),
+    segment: &SegmentReader,
+    colours: &CompositeAggregation,
+) -> Result<(), Fail> {
+    let num_sources = colours.sources.as_slice().len();
+    assert!(rt; 1 <= num_sources && num_sources <= 16 && colours.size != 0);
+    let ctx = context_of(rt.alloc(), segment, colours)?;
+    expect_sums(rt, &ctx, segment)
+}
+
 #[test]
 fn counts_documents(rt: HostRuntime) -> Result<(), Fail> {
     let segment = segment(rt.alloc())?;
     let colours = colours(rt.alloc())?;
-    let num_sources = colours.sources.as_slice().len();
-    assert!(rt; 1 <= num_sources && num_sources <= 16 && colours.size != 0);
-    let ctx = context_of(rt.alloc(), &segment, &colours)?;
-    let mut sums = UncutCounts::new(uncut_lengths(rt.alloc(), &ctx, &segment, &[])?);
-    for block in BLOCKS {
-        count_block(&rt, &ctx, &segment, *block, &mut sums)?;
-    }
-    assert_eq!(rt; sums.as_slice(), [7, 8, 4].as_slice());
-    assert!(rt; !sums.is_too_many());
-    Ok(())
+    expect_sums_of(&rt, &segment, &colours)
 }
