@@ -3,7 +3,7 @@ use agg_request_tree::{
 };
 use agg_segment::{QueryTree, Schema};
 use agg_segment_context::{AggContextParams, SetupError};
-use agg_values::{NameMap, Text};
+use agg_values::{NameMap, OutOfMemory, Text};
 use std::alloc::{AllocError, Global};
 use std::cell::Cell;
 use std::rc::Rc;
@@ -28,9 +28,9 @@ impl QueryBuilder for AllOfSome {
     }
 }
 
-#[test]
-fn asks_the_builders_of_a_request(rt: HostRuntime) -> Result<(), Fail> {
-    let alloc = rt.alloc();
+// A filter f by such a builder.
+fn filter_f(alloc: Global) -> Result<NameMap<Aggregation<AllOfSome>>, OutOfMemory> {
+    let name = Text::copy_of(alloc, "f")?;
     let mut request = NameMap::new(alloc);
     let filter = Aggregation {
         agg: AggregationVariants::Filter(FilterAggregation::of(FilterQuery::CustomBuilder(
@@ -38,12 +38,29 @@ fn asks_the_builders_of_a_request(rt: HostRuntime) -> Result<(), Fail> {
         ))),
         sub_aggregation: NameMap::new(alloc),
     };
-    request.insert(Text::copy_of(alloc, "f")?, filter)?;
+    request.insert(name, filter)?;
+    Ok(request)
+}
+
+// Why a request has no context under a schema of these fields, if it has none.
+fn refusal(
+    alloc: Global,
+    request: &NameMap<Aggregation<AllOfSome>>,
+    fields: &[&str],
+) -> Result<Option<SetupError>, OutOfMemory> {
     let mut schema = Schema::new(alloc);
-    let refused = AggContextParams::of_request(alloc, &request, &schema);
-    assert_eq!(rt; refused.err(), Some(SetupError::QueryBuild));
-    schema.add_field(Text::copy_of(alloc, "a")?)?;
-    let _params = AggContextParams::of_request(alloc, &request, &schema)?;
+    for field in fields {
+        schema.add_field(Text::copy_of(alloc, field)?)?;
+    }
+    Ok(AggContextParams::of_request(alloc, request, &schema).err())
+}
+
+#[test]
+fn asks_the_builders_of_a_request(rt: HostRuntime) -> Result<(), Fail> {
+    let request = filter_f(rt.alloc())?;
+    let refused = refusal(rt.alloc(), &request, &[])?;
+    let taken = refusal(rt.alloc(), &request, &["a"])?;
+    assert_eq!(rt; (refused, taken), (Some(SetupError::QueryBuild), None));
     Ok(())
 }
 
@@ -85,22 +102,49 @@ fn filter_by(
     })
 }
 
+// Adds such a filter to others, under a name.
+fn add_filter(
+    filters: &mut NameMap<Aggregation<Noted>>,
+    (name, digit): (&str, u32),
+    asked: &Rc<Cell<u32>>,
+    below: NameMap<Aggregation<Noted>>,
+) -> Result<(), OutOfMemory> {
+    let filter = filter_by(digit, asked, below)?;
+    filters.insert(Text::copy_of(filters.allocator(), name)?, filter)?;
+    Ok(())
+}
+
+// A filter a with a filter x below it, and a filter b, which is added first.
+fn filters(
+    alloc: Global,
+    asked: &Rc<Cell<u32>>,
+) -> Result<NameMap<Aggregation<Noted>>, OutOfMemory> {
+    let mut request = NameMap::new(alloc);
+    add_filter(&mut request, ("b", 3), asked, NameMap::new(alloc))?;
+    add_filter(&mut request, ("a", 1), asked, filter_x(alloc, asked)?)?;
+    Ok(request)
+}
+
+fn filter_x(
+    alloc: Global,
+    asked: &Rc<Cell<u32>>,
+) -> Result<NameMap<Aggregation<Noted>>, OutOfMemory> {
+    let mut request = NameMap::new(alloc);
+    add_filter(&mut request, ("x", 2), asked, NameMap::new(alloc))?;
+    Ok(request)
+}
+
+// Makes the context of a request under a schema without fields.
+fn ask(alloc: Global, request: &NameMap<Aggregation<Noted>>) -> Result<(), SetupError> {
+    let _params = AggContextParams::of_request(alloc, request, &Schema::new(alloc))?;
+    Ok(())
+}
+
 #[test]
 fn asks_each_builder_once_in_order(rt: HostRuntime) -> Result<(), Fail> {
     let alloc = rt.alloc();
     let asked = Rc::new(alloc, Cell::new(0))?;
-    let mut below = NameMap::new(alloc);
-    below.insert(
-        Text::copy_of(alloc, "x")?,
-        filter_by(2, &asked, NameMap::new(alloc))?,
-    )?;
-    let mut request = NameMap::new(alloc);
-    request.insert(
-        Text::copy_of(alloc, "b")?,
-        filter_by(3, &asked, NameMap::new(alloc))?,
-    )?;
-    request.insert(Text::copy_of(alloc, "a")?, filter_by(1, &asked, below)?)?;
-    let _params = AggContextParams::of_request(alloc, &request, &Schema::new(alloc))?;
+    ask(alloc, &filters(alloc, &asked)?)?;
     assert_eq!(rt; asked.get(), 123);
     Ok(())
 }

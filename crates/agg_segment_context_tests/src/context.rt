@@ -6,8 +6,9 @@ use agg_segment_context::{
     AggContextParams, AggKind, AggRefNode, AggTreeViewNode, AggregationsSegmentCtx,
     PerRequestAggSegCtx, segment_context,
 };
-use agg_values::{NameMap, Text};
+use agg_values::{NameMap, OutOfMemory, Text};
 use std::alloc::{AllocError, Global};
+use std::process::Abort;
 use std::test::Fail;
 
 // The context of a request in a segment.
@@ -34,14 +35,30 @@ fn write_views(views: &[AggTreeViewNode], text: &mut String) -> Result<(), Alloc
     Ok(())
 }
 
+// Views, written so.
+fn text_of(alloc: Global, views: &[AggTreeViewNode]) -> Result<String, AllocError> {
+    let mut text = String::new(alloc);
+    write_views(views, &mut text)?;
+    Ok(text)
+}
+
+// The views of a request in a segment, written so.
+fn views_in(alloc: Global, request: &Aggregations, reader: &SegmentReader) -> Result<String, Fail> {
+    let ctx = context_in(alloc, request, reader)?;
+    views_of(alloc, &ctx.per_request)
+}
+
+fn views_of(alloc: Global, ctx: &PerRequestAggSegCtx<'_>) -> Result<String, Fail> {
+    let views = ctx.get_view_tree()?;
+    Ok(text_of(alloc, views.as_slice())?)
+}
+
 #[test]
 fn shows_the_nodes_of_a_request(rt: HostRuntime) -> Result<(), Fail> {
     let alloc = rt.alloc();
     let request = nested(alloc)?;
     let reader = two_documents(alloc)?;
-    let ctx = context_in(alloc, &request, &reader)?;
-    let mut text = String::new(alloc);
-    write_views(ctx.per_request.get_view_tree()?.as_slice(), &mut text)?;
+    let text = views_in(alloc, &request, &reader)?;
     assert_eq!(rt;
         text.as_str(),
         "g Composite(f Filter(h Composite())s Metric())"
@@ -65,30 +82,67 @@ fn kind_below(
     }
 }
 
-#[test]
-fn finds_children_by_name(rt: HostRuntime) -> Result<(), Fail> {
+// The first node has this name, and children of these names and kinds.
+fn expect_children(
+    rt: &(impl Abort + AllocGlobal),
+    ctx: &PerRequestAggSegCtx<'_>,
+) -> Result<(), Fail> {
     let alloc = rt.alloc();
-    let request = nested(alloc)?;
-    let reader = two_documents(alloc)?;
-    let ctx = context_in(alloc, &request, &reader)?;
-    let pr = &ctx.per_request;
-    let Some(node) = pr.agg_tree.as_slice().first() else {
+    let Some(node) = ctx.agg_tree.as_slice().first() else {
         return Err(Fail::new("there is no node"));
     };
-    assert_eq!(rt; pr.get_name(node).map(|name| name.as_str()), Some("g"));
-    assert_eq!(rt; kind_below(alloc, node, "f", pr)?, Some(AggKind::Filter));
+    let name = ctx.get_name(node).map(|name| name.as_str());
+    let kinds = [
+        kind_below(alloc, node, "f", ctx)?,
+        kind_below(alloc, node, "s", ctx)?,
+        kind_below(alloc, node, "h", ctx)?,
+    ];
     let sum = AggKind::StatsKind(StatsType::Sum);
-    assert_eq!(rt; kind_below(alloc, node, "s", pr)?, Some(sum));
-    assert_eq!(rt; kind_below(alloc, node, "h", pr)?, None);
+    assert_eq!(rt;
+        (name, kinds),
+        (Some("g"), [Some(AggKind::Filter), Some(sum), None])
+    );
+    Ok(())
+}
+
+// So has that of a request in a segment.
+fn expect_children_in(
+    rt: &(impl Abort + AllocGlobal),
+    request: &Aggregations,
+    reader: &SegmentReader,
+) -> Result<(), Fail> {
+    let ctx = context_in(rt.alloc(), request, reader)?;
+    expect_children(rt, &ctx.per_request)
+}
+
+#[test]
+fn finds_children_by_name(rt: HostRuntime) -> Result<(), Fail> {
+    let request = nested(rt.alloc())?;
+    let reader = two_documents(rt.alloc())?;
+    expect_children_in(&rt, &request, &reader)
+}
+
+// Sets the page of a composite of a name, with this size.
+fn set_page(
+    alloc: Global,
+    params: &mut AggContextParams,
+    name: &str,
+    size: u32,
+) -> Result<(), OutOfMemory> {
+    params.set_page(Text::copy_of(alloc, name)?, size, NameMap::new(alloc));
+    Ok(())
+}
+
+// Sets two pages, one after the other.
+fn set_pages(alloc: Global, request: &Aggregations) -> Result<(), Fail> {
+    let mut params = AggContextParams::new(alloc, request, &Schema::new(alloc))?;
+    set_page(alloc, &mut params, "g", 3)?;
+    set_page(alloc, &mut params, "h", 5)?;
     Ok(())
 }
 
 #[test]
 fn takes_a_page(rt: HostRuntime) -> Result<(), Fail> {
-    let alloc = rt.alloc();
-    let request = nested(alloc)?;
-    let mut params = AggContextParams::new(alloc, &request, &Schema::new(alloc))?;
-    params.set_page(Text::copy_of(alloc, "g")?, 3, NameMap::new(alloc));
-    params.set_page(Text::copy_of(alloc, "h")?, 5, NameMap::new(alloc));
-    Ok(())
+    let request = nested(rt.alloc())?;
+    set_pages(rt.alloc(), &request)
 }

@@ -2,7 +2,7 @@
 use agg_request_tree::{
     Aggregation, AggregationVariants, Aggregations, FilterAggregation, SumAggregation,
 };
-use agg_request_tree_tests::given::{GivenSource, Kind, composite_of, lone, request_of};
+use agg_request_tree_tests::given::{GivenSource, Kind, composite_of, request_of};
 use agg_segment::{BuildError, QueryTree, SegmentReader};
 use agg_segment_tests::given::{Given, segment_of};
 use agg_values::{NameMap, OutOfMemory, Text};
@@ -22,22 +22,45 @@ pub(crate) fn two_documents(alloc: Global) -> Result<SegmentReader, BuildError> 
 /// A composite g over a, below it a filter f of the documents with a value in b and the sum s of a,
 /// and below the filter a composite h over b.
 pub(crate) fn nested(alloc: Global) -> Result<Aggregations, OutOfMemory> {
-    let terms = [GivenSource::of("b", Kind::Terms, false)];
-    let innermost = lone(alloc, composite_of(alloc, &terms, 10)?);
-    let filter = Aggregation {
-        agg: AggregationVariants::Filter(FilterAggregation::new_with_tree(QueryTree::Exists {
-            field: Text::copy_of(alloc, "b")?,
-        })),
-        sub_aggregation: request_of(alloc, "h", innermost)?,
-    };
-    let mut below = request_of(alloc, "f", filter)?;
-    below.insert(Text::copy_of(alloc, "s")?, sum_of(alloc, "a")?)?;
-    let terms = [GivenSource::of("a", Kind::Terms, false)];
-    let outermost = Aggregation {
+    request_of(alloc, "g", terms_of(alloc, "a", filter_and_sum(alloc)?)?)
+}
+
+// A composite over the terms of a field, with these aggregations below it.
+fn terms_of(
+    alloc: Global,
+    field: &'static str,
+    sub_aggregation: Aggregations,
+) -> Result<Aggregation, OutOfMemory> {
+    let terms = [GivenSource::of(field, Kind::Terms, false)];
+    Ok(Aggregation {
         agg: AggregationVariants::Composite(composite_of(alloc, &terms, 10)?),
-        sub_aggregation: below,
+        sub_aggregation,
+    })
+}
+
+fn filter_and_sum(alloc: Global) -> Result<Aggregations, OutOfMemory> {
+    let mut both = request_of(alloc, "f", filter_of(alloc, "b", composite_h(alloc)?)?)?;
+    both.insert(Text::copy_of(alloc, "s")?, sum_of(alloc, "a")?)?;
+    Ok(both)
+}
+
+fn composite_h(alloc: Global) -> Result<Aggregations, OutOfMemory> {
+    request_of(alloc, "h", terms_of(alloc, "b", NameMap::new(alloc))?)
+}
+
+// The filter of the documents with a value in a field, with these aggregations below it.
+fn filter_of(
+    alloc: Global,
+    field: &str,
+    sub_aggregation: Aggregations,
+) -> Result<Aggregation, OutOfMemory> {
+    let tree = QueryTree::Exists {
+        field: Text::copy_of(alloc, field)?,
     };
-    request_of(alloc, "g", outermost)
+    Ok(Aggregation {
+        agg: AggregationVariants::Filter(FilterAggregation::new_with_tree(tree)),
+        sub_aggregation,
+    })
 }
 
 // The sum of a field.

@@ -70,13 +70,30 @@ fn params_of(
     Ok(params)
 }
 
+// The fault of a request that is asked with this page, or with none.
+fn fault_of(
+    alloc: Global,
+    request: &Aggregations,
+    page: Option<(&str, Asked)>,
+) -> Result<Option<RequestError>, SetupError> {
+    let params = params_of(alloc, request, page)?;
+    Ok(check_paged(alloc, request, &params).err())
+}
+
+// The same of a request of one composite named g, which asks this by itself.
+fn fault_of_one(
+    alloc: Global,
+    own: Asked,
+    page: Option<(&str, Asked)>,
+) -> Result<Option<RequestError>, SetupError> {
+    let request = request_of(alloc, "g", lone(alloc, numbers(alloc, own)?))?;
+    fault_of(alloc, &request, page)
+}
+
 #[test]
 fn asks_with_the_page(rt: HostRuntime) -> Result<(), Fail> {
-    let alloc = rt.alloc();
     for &(own, page, fault) in PAGES {
-        let request = request_of(alloc, "g", lone(alloc, numbers(alloc, own)?))?;
-        let params = params_of(alloc, &request, Some(page))?;
-        let found = check_paged(alloc, &request, &params).err();
+        let found = fault_of_one(rt.alloc(), own, Some(page))?;
         assert_eq!(rt; found, fault.map(RequestError::Invalid));
     }
     Ok(())
@@ -84,41 +101,33 @@ fn asks_with_the_page(rt: HostRuntime) -> Result<(), Fail> {
 
 #[test]
 fn asks_without_a_page(rt: HostRuntime) -> Result<(), Fail> {
-    let alloc = rt.alloc();
-    let request = nested(alloc)?;
-    let params = params_of(alloc, &request, None)?;
-    assert_eq!(rt; check_paged(alloc, &request, &params), Ok(()));
-    let request = request_of(alloc, "g", lone(alloc, numbers(alloc, (0, None))?))?;
-    let params = params_of(alloc, &request, None)?;
-    let found = check_paged(alloc, &request, &params).err();
-    assert_eq!(rt;
-        found,
-        Some(RequestError::Invalid(InvalidArgument::ZeroSize))
-    );
+    let of_nested = fault_of(rt.alloc(), &nested(rt.alloc())?, None)?;
+    let of_one = fault_of_one(rt.alloc(), (0, None), None)?;
+    let zero_size = RequestError::Invalid(InvalidArgument::ZeroSize);
+    assert_eq!(rt; (of_nested, of_one), (None, Some(zero_size)));
     Ok(())
 }
 
-// A request of a filter, with a composite named g below it.
-fn below_a_filter(alloc: Global, own: Asked) -> Result<Aggregations, OutOfMemory> {
-    let filter = Aggregation {
+// A filter, with a composite named g below it.
+fn below_a_filter(alloc: Global, own: Asked) -> Result<Aggregation, OutOfMemory> {
+    let sub_aggregation = request_of(alloc, "g", lone(alloc, numbers(alloc, own)?))?;
+    Ok(Aggregation {
         agg: AggregationVariants::Filter(FilterAggregation::new_with_tree(QueryTree::All)),
-        sub_aggregation: request_of(alloc, "g", lone(alloc, numbers(alloc, own)?))?,
-    };
-    request_of(alloc, "f", filter)
+        sub_aggregation,
+    })
+}
+
+// The fault of a request of such a filter, where the composite asks this by itself.
+fn fault_below(alloc: Global, own: Asked, page: Asked) -> Result<Option<RequestError>, SetupError> {
+    let request = request_of(alloc, "f", below_a_filter(alloc, own)?)?;
+    fault_of(alloc, &request, Some(("g", page)))
 }
 
 #[test]
 fn leaves_composites_below_as_they_are(rt: HostRuntime) -> Result<(), Fail> {
-    let alloc = rt.alloc();
-    let request = below_a_filter(alloc, (0, None))?;
-    let params = params_of(alloc, &request, Some(("g", (1, None))))?;
-    let found = check_paged(alloc, &request, &params).err();
-    assert_eq!(rt;
-        found,
-        Some(RequestError::Invalid(InvalidArgument::ZeroSize))
-    );
-    let request = below_a_filter(alloc, (1, NUMBER))?;
-    let params = params_of(alloc, &request, Some(("g", (0, TEXT))))?;
-    assert_eq!(rt; check_paged(alloc, &request, &params), Ok(()));
+    let with_own_fault = fault_below(rt.alloc(), (0, None), (1, None))?;
+    let with_none = fault_below(rt.alloc(), (1, NUMBER), (0, TEXT))?;
+    let zero_size = RequestError::Invalid(InvalidArgument::ZeroSize);
+    assert_eq!(rt; (with_own_fault, with_none), (Some(zero_size), None));
     Ok(())
 }
