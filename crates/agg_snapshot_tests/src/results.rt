@@ -92,8 +92,9 @@ fn shown<L: Ledger>(
     };
     let mut steps: Steps<L> = Steps::new(blank);
     let merged = snapshot_results(alloc, &page, segments.as_slice(), &mut steps)?;
-    let results = merged.into_final_result(request, &LimitsLedger::new(None, None))?;
-    Ok(results.write_json()?)
+    let limits = LimitsLedger::new(None, None);
+    let text = merged.into_final_result(request, &limits)?.write_json();
+    Ok(text?)
 }
 
 // The segments of these documents.
@@ -105,14 +106,27 @@ fn segments_of(alloc: Global, given: &[&[Values]]) -> Result<ItemList<SegmentRea
     Ok(segments)
 }
 
+// The results of a request over the documents of segments that a query matches.
+fn shown_for(
+    alloc: Global,
+    request: &Aggregations,
+    query: &str,
+    given: &[&[Values]],
+) -> Result<Text, Fail> {
+    let query = read_query(alloc, &Value::from_str(alloc, query)?)?;
+    let segments = segments_of(alloc, given)?;
+    shown::<Brand>(alloc, request, &query, &segments, Blank::new(1))
+}
+
+fn request_of(alloc: Global, text: &str) -> Result<Aggregations, Fail> {
+    Ok(read_aggregations(alloc, &Value::from_str(alloc, text)?, Vec::new(alloc))?)
+}
+
 #[test]
 fn gives_results_of_all_segments(rt: HostRuntime) -> Result<(), Fail> {
-    let alloc = rt.alloc();
-    let request = read_aggregations(alloc, &Value::from_str(alloc, REQUEST)?, Vec::new(alloc))?;
+    let request = request_of(rt.alloc(), REQUEST)?;
     for &(query, given, text) in ROWS {
-        let query = read_query(alloc, &Value::from_str(alloc, query)?)?;
-        let segments = segments_of(alloc, given)?;
-        let found = shown::<Brand>(alloc, &request, &query, &segments, Blank::new(1))?;
+        let found = shown_for(rt.alloc(), &request, query, given)?;
         assert_eq!(rt; found.as_str(), text);
     }
     Ok(())

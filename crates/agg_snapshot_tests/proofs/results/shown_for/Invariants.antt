@@ -1,4 +1,4 @@
-use Rattle.agg_snapshot_tests.proofs.results.gives_results_of_all_segments.Given as goal
+use Rattle.agg_snapshot_tests.proofs.results.shown_for.Given as goal
 
 -- the ledger is the one of the blank
 abbrev pub ghosts-shown : goal.ghosts-shown
