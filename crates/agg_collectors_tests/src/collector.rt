@@ -2,11 +2,13 @@
 ghost use Rattle.std.specs.Prelude.{◌≡◌, ◌<◌, IfOk};
 ghost use Rattle.agg_segment_context.specs.Trees.{AreOfRequest};
 
-use crate::given::{FIRST, REQUEST, RESULTS, SECOND, Values, context_of, fruit, request_of};
+use crate::given::{
+    FIRST, REQUEST, RESULTS, SECOND, Values, context_of, fruit, request_of, text_of,
+};
 use agg_cache::LimitsLedger;
 use agg_collectors::AggregationCollector;
 use agg_request::Aggregations;
-use agg_results::IntermediateAggregationResults;
+use agg_results::{AggregationResults, IntermediateAggregationResults};
 use agg_segment_tests::given::segment_of;
 use agg_values::{ItemList, Steps, Text};
 use std::alloc::Global;
@@ -42,6 +44,21 @@ fn fruit_of<L: Ledger>(
 }
 
 // The final results of two segments.
+fn results_of<L: Ledger>(
+    rt: &(impl Abort + AllocGlobal),
+    collector: &AggregationCollector<'_>,
+    steps: &mut Steps<L>,
+) -> Result<AggregationResults, Fail>
+    requires { AreOfRequest collector.now.agg.now collector.now.context.trees }
+{
+    let mut fruits = ItemList::new(rt.alloc());
+    for documents in [FIRST, SECOND] {
+        fruits.push(fruit_of(rt, collector, documents, steps)?)?;
+    }
+    Ok(collector.merge_fruits(fruits, &LimitsLedger::new(None, None))?)
+}
+
+// The same of the collector of a request, as they are shown.
 fn shown<L: Ledger>(
     rt: &(impl Abort + AllocGlobal),
     request: &Aggregations,
@@ -51,15 +68,10 @@ fn shown<L: Ledger>(
     requires parts { blank.parts ≡ L.parts }
     requires shared { 0 < L.parts }
 {
-    let alloc = rt.alloc();
-    let collector = collector_of(alloc, request)?;
-    assert!(rt; !collector.requires_scoring());
     let mut steps: Steps<L> = Steps::new(blank);
-    let mut fruits = ItemList::new(alloc);
-    fruits.push(fruit_of(rt, &collector, FIRST, &mut steps)?)?;
-    fruits.push(fruit_of(rt, &collector, SECOND, &mut steps)?)?;
-    let results = collector.merge_fruits(fruits, &LimitsLedger::new(None, None))?;
-    Ok(results.write_json()?)
+    let collector = collector_of(rt.alloc(), request)?;
+    assert!(rt; !collector.requires_scoring());
+    text_of(&results_of(rt, &collector, &mut steps)?)
 }
 
 #[test]

@@ -2,7 +2,7 @@
 ghost use Rattle.std.specs.Prelude.{◌≡◌, ◌<◌, IfOk};
 ghost use Rattle.agg_segment_context.specs.Trees.{AreOfRequest};
 
-use crate::given::{FIRST, REQUEST, RESULTS, SECOND, Values, context_of, fruit, request_of};
+use crate::given::{FIRST, REQUEST, RESULTS, SECOND, Values, context_of, fruit, request_of, shown};
 use agg_cache::LimitsLedger;
 use agg_collectors::DistributedAggregationCollector;
 use agg_request::Aggregations;
@@ -65,13 +65,22 @@ fn fruit_of<L: Ledger>(
     Ok(fruit(rt, segment, &reader, &mut limits, steps)?)
 }
 
-// Intermediate results, as they are shown in the end.
-fn shown(request: &Aggregations, held: IntermediateAggregationResults) -> Result<Text, Fail> {
-    let results = held.into_final_result(request, &LimitsLedger::new(None, None))?;
-    Ok(results.write_json()?)
+// The results of two segments, merged.
+fn whole_of<L: Ledger>(
+    rt: &(impl Abort + AllocGlobal),
+    collector: &DistributedAggregationCollector<'_>,
+    steps: &mut Steps<L>,
+) -> Result<IntermediateAggregationResults, Fail>
+    requires { AreOfRequest collector.now.agg.now collector.now.context.trees }
+{
+    let mut fruits = ItemList::new(rt.alloc());
+    for documents in [FIRST, SECOND] {
+        fruits.push(fruit_of(rt, collector, documents, steps)?)?;
+    }
+    Ok(collector.merge_fruits(fruits)?)
 }
 
-// The results of two segments, merged.
+// The same of the collector of a request, as they are shown.
 fn merged<L: Ledger>(
     rt: &(impl Abort + AllocGlobal),
     request: &Aggregations,
@@ -81,14 +90,10 @@ fn merged<L: Ledger>(
     requires parts { blank.parts ≡ L.parts }
     requires shared { 0 < L.parts }
 {
-    let alloc = rt.alloc();
-    let collector = collector_of(alloc, request, None)?;
-    assert!(rt; !collector.requires_scoring());
     let mut steps: Steps<L> = Steps::new(blank);
-    let mut fruits = ItemList::new(alloc);
-    fruits.push(fruit_of(rt, &collector, FIRST, &mut steps)?)?;
-    fruits.push(fruit_of(rt, &collector, SECOND, &mut steps)?)?;
-    shown(request, collector.merge_fruits(fruits)?)
+    let collector = collector_of(rt.alloc(), request, None)?;
+    assert!(rt; !collector.requires_scoring());
+    shown(request, whole_of(rt, &collector, &mut steps)?)
 }
 
 #[test]
@@ -97,6 +102,28 @@ fn results_of_segments_are_merged(rt: HostRuntime) -> Result<(), Fail> {
     let found = merged::<Brand>(&rt, &request, Blank::new(1))?;
     assert_eq!(rt; found.as_str(), RESULTS);
     Ok(())
+}
+
+// The results of no segment, as they are shown.
+fn shown_of_none(
+    alloc: Global,
+    collector: &DistributedAggregationCollector<'_>,
+    request: &Aggregations,
+) -> Result<Text, Fail> {
+    shown(request, collector.merge_fruits(ItemList::new(alloc))?)
+}
+
+// The results of no segment, with those of the first merged into them.
+fn merged_into_none<L: Ledger>(
+    rt: &(impl Abort + AllocGlobal),
+    collector: &DistributedAggregationCollector<'_>,
+    steps: &mut Steps<L>,
+) -> Result<IntermediateAggregationResults, Fail>
+    requires { AreOfRequest collector.now.agg.now collector.now.context.trees }
+{
+    let mut whole = collector.merge_fruits(ItemList::new(rt.alloc()))?;
+    whole.merge_fruits(fruit_of(rt, collector, FIRST, steps)?)?;
+    Ok(whole)
 }
 
 // The results of no segment are empty. They have the size of the page, since they merge with those
@@ -112,14 +139,11 @@ fn expect_page<L: Ledger>(
     requires shared { 0 < L.parts }
 {
     let (page, text) = asked;
-    let alloc = rt.alloc();
-    let collector = collector_of(alloc, request, page)?;
     let mut steps: Steps<L> = Steps::new(blank);
-    let empty = collector.merge_fruits(ItemList::new(alloc))?;
-    assert_eq!(rt; shown(request, empty)?.as_str(), EMPTY);
-    let mut whole = collector.merge_fruits(ItemList::new(alloc))?;
-    whole.merge_fruits(fruit_of(rt, &collector, FIRST, &mut steps)?)?;
-    assert_eq!(rt; shown(request, whole)?.as_str(), text);
+    let collector = collector_of(rt.alloc(), request, page)?;
+    let empty = shown_of_none(rt.alloc(), &collector, request)?;
+    let whole = shown(request, merged_into_none(rt, &collector, &mut steps)?)?;
+    assert_eq!(rt; (empty.as_str(), whole.as_str()), (EMPTY, text));
     Ok(())
 }
 

@@ -6,7 +6,7 @@ ghost use Rattle.agg_collectors.specs.Segment.{MayBeUsed};
 use agg_cache::{CollectError, LimitsLedger};
 use agg_collectors::AggregationSegmentCollector;
 use agg_request::{Aggregations, read_aggregations};
-use agg_results::IntermediateAggregationResults;
+use agg_results::{AggregationResults, IntermediateAggregationResults};
 use agg_segment::{Schema, SegmentReader};
 use agg_segment_context::AggContextParams;
 use agg_segment_tests::given::Given;
@@ -79,8 +79,38 @@ pub(crate) fn fruit<L: Ledger>(
     requires guard { collector.guard ≡ 0 }
 {
     let mut collector = collector;
+    take_two(rt, &mut collector, reader, limits, steps)?;
+    collector.harvest(limits, steps)
+}
+
+// A collector takes two documents of its segment, one by itself and one in a block.
+fn take_two<L: Ledger>(
+    rt: &impl Abort,
+    collector: &mut AggregationSegmentCollector<'_>,
+    reader: &SegmentReader,
+    limits: &mut LimitsLedger,
+    steps: &mut Steps<L>,
+) -> Result<(), CollectError>
+    requires usable { MayBeUsed collector.old }
+    requires reader { collector.old.reader.now ≡ reader.now }
+    ensures usable { MayBeUsed collector.new }
+    ensures guard { collector.new.guard ≡ collector.old.guard }
+{
     assert!(rt; 2 <= reader.num_docs());
     collector.collect(1, limits, steps)?;
-    collector.collect_block(&[0], limits, steps)?;
-    collector.harvest(limits, steps)
+    collector.collect_block(&[0], limits, steps)
+}
+
+/// Intermediate results, as they are shown in the end.
+pub(crate) fn shown(
+    request: &Aggregations,
+    held: IntermediateAggregationResults,
+) -> Result<Text, Fail> {
+    let results = held.into_final_result(request, &LimitsLedger::new(None, None))?;
+    text_of(&results)
+}
+
+/// Final results, as they are shown.
+pub(crate) fn text_of(results: &AggregationResults) -> Result<Text, Fail> {
+    Ok(results.write_json()?)
 }

@@ -1,6 +1,7 @@
 //! Tests of the collector of a request in a segment: what it tells of itself, and what is in use
 //! after it ends.
 ghost use Rattle.std.specs.Prelude.{◌≡◌, ◌<◌};
+ghost use Rattle.agg_segment_context.specs.Trees.{AreOfRequest};
 ghost use Rattle.agg_collectors.specs.Segment.{MayBeUsed};
 
 use crate::given::{FIRST, REQUEST, Values, context_of, request_of};
@@ -9,7 +10,7 @@ use agg_collectors::AggregationSegmentCollector;
 use agg_metric::StatsType;
 use agg_request::Aggregations;
 use agg_segment::SegmentReader;
-use agg_segment_context::{AggKind, AggRefNode};
+use agg_segment_context::{AggContextParams, AggKind, AggRefNode};
 use agg_segment_tests::given::{Given, segment_of};
 use agg_values::{AggregationError, Steps};
 use std::alloc::AllocError;
@@ -33,26 +34,49 @@ const KINDS: [AggKind; 3] = [
     AggKind::StatsKind(StatsType::Max),
 ];
 
-#[test]
-fn tells_of_its_segment(rt: HostRuntime) -> Result<(), Fail> {
+// A collector tells this of its segment.
+fn expect_told(
+    rt: &(impl Abort + AllocGlobal),
+    collector: &AggregationSegmentCollector<'_>,
+) -> Result<(), Fail> {
+    let data = &collector.segment_data().per_request;
+    let mut kinds = Vec::new(rt.alloc());
+    add_kinds(data.agg_tree.as_slice(), &mut kinds)?;
+    let num_composites = data.composite_req_data.as_slice().len();
+    assert_eq!(rt;
+        (collector.num_docs(), collector.allocated(), num_composites),
+        (2, 0, 1)
+    );
+    assert_eq!(rt; kinds.as_slice(), KINDS.as_slice());
+    Ok(())
+}
+
+// So does the collector of a request in the first segment.
+fn expect_told_by(
+    rt: &(impl Abort + AllocGlobal),
+    request: &Aggregations,
+    context: &AggContextParams,
+) -> Result<(), Fail>
+    requires { AreOfRequest request.now context.now.trees }
+{
     let alloc = rt.alloc();
-    let request = request_of(alloc, REQUEST)?;
-    let context = context_of(alloc, &request, None)?;
+    let mut limits = LimitsLedger::new(None, None);
     let reader = segment_of(alloc, FIRST)?;
     let collector = AggregationSegmentCollector::from_agg_req_and_reader(
         alloc,
-        &request,
+        request,
         &reader,
-        &context,
-        &mut LimitsLedger::new(None, None),
+        context,
+        &mut limits,
     )?;
-    assert_eq!(rt; (collector.num_docs(), collector.allocated()), (2, 0));
-    let data = &collector.segment_data().per_request;
-    assert_eq!(rt; data.composite_req_data.as_slice().len(), 1);
-    let mut kinds = Vec::new(alloc);
-    add_kinds(data.agg_tree.as_slice(), &mut kinds)?;
-    assert_eq!(rt; kinds.as_slice(), KINDS.as_slice());
-    Ok(())
+    expect_told(rt, &collector)
+}
+
+#[test]
+fn tells_of_its_segment(rt: HostRuntime) -> Result<(), Fail> {
+    let request = request_of(rt.alloc(), REQUEST)?;
+    let context = context_of(rt.alloc(), &request, None)?;
+    expect_told_by(&rt, &request, &context)
 }
 
 // The bytes that are in use before a collector is made.
@@ -134,6 +158,28 @@ fn expect_end<L: Ledger>(
 }
 
 // The collector of a request fails so in a segment with such a bucket.
+fn expect_failed_in<L: Ledger>(
+    rt: &(impl Abort + AllocGlobal),
+    request: &Aggregations,
+    context: &AggContextParams,
+    steps: &mut Steps<L>,
+) -> Result<(), Fail>
+    requires { AreOfRequest request.now context.now.trees }
+{
+    let alloc = rt.alloc();
+    let mut limits = ledger_in_use()?;
+    let reader = segment_of(alloc, OUT_OF_RANGE)?;
+    let collector = AggregationSegmentCollector::from_agg_req_and_reader(
+        alloc,
+        request,
+        &reader,
+        context,
+        &mut limits,
+    )?;
+    expect_end(rt, collector, &reader, &mut limits, steps);
+    Ok(())
+}
+
 fn expect_failed<L: Ledger>(
     rt: &(impl Abort + AllocGlobal),
     request: &Aggregations,
@@ -143,20 +189,9 @@ fn expect_failed<L: Ledger>(
     requires parts { blank.parts ≡ L.parts }
     requires shared { 0 < L.parts }
 {
-    let alloc = rt.alloc();
-    let context = context_of(alloc, request, None)?;
-    let reader = segment_of(alloc, OUT_OF_RANGE)?;
-    let mut limits = ledger_in_use()?;
     let mut steps: Steps<L> = Steps::new(blank);
-    let collector = AggregationSegmentCollector::from_agg_req_and_reader(
-        alloc,
-        request,
-        &reader,
-        &context,
-        &mut limits,
-    )?;
-    expect_end(rt, collector, &reader, &mut limits, &mut steps);
-    Ok(())
+    let context = context_of(rt.alloc(), request, None)?;
+    expect_failed_in(rt, request, &context, &mut steps)
 }
 
 #[test]
@@ -165,7 +200,49 @@ fn answers_nothing_more_after_it_failed(rt: HostRuntime) -> Result<(), Fail> {
     expect_failed::<Brand>(&rt, &request, Blank::new(1))
 }
 
-// Nothing more is in use after a collector that took documents is abandoned.
+// A collector is abandoned after it took two documents.
+fn abandon_after_two<L: Ledger>(
+    rt: &impl Abort,
+    collector: AggregationSegmentCollector<'_>,
+    reader: &SegmentReader,
+    limits: &mut LimitsLedger,
+    steps: &mut Steps<L>,
+) -> Result<(), CollectError>
+    requires usable { MayBeUsed collector }
+    requires reader { collector.reader.now ≡ reader.now }
+    requires guard { collector.guard ≡ 0 }
+{
+    let mut collector = collector;
+    assert!(rt; 2 <= reader.num_docs());
+    let taken = collector.collect_block(&[1, 0], limits, steps);
+    collector.abandon(limits);
+    taken
+}
+
+// Nothing more is in use after the collector of a request is abandoned so.
+fn expect_abandoned_in<L: Ledger>(
+    rt: &(impl Abort + AllocGlobal),
+    request: &Aggregations,
+    context: &AggContextParams,
+    steps: &mut Steps<L>,
+) -> Result<(), Fail>
+    requires { AreOfRequest request.now context.now.trees }
+{
+    let alloc = rt.alloc();
+    let mut limits = ledger_in_use()?;
+    let reader = segment_of(alloc, FIRST)?;
+    let collector = AggregationSegmentCollector::from_agg_req_and_reader(
+        alloc,
+        request,
+        &reader,
+        context,
+        &mut limits,
+    )?;
+    let taken = abandon_after_two(rt, collector, &reader, &mut limits, steps);
+    assert_eq!(rt; (taken, limits.in_use()), (Ok(()), IN_USE));
+    Ok(())
+}
+
 fn expect_abandoned<L: Ledger>(
     rt: &(impl Abort + AllocGlobal),
     request: &Aggregations,
@@ -175,23 +252,9 @@ fn expect_abandoned<L: Ledger>(
     requires parts { blank.parts ≡ L.parts }
     requires shared { 0 < L.parts }
 {
-    let alloc = rt.alloc();
-    let context = context_of(alloc, request, None)?;
-    let reader = segment_of(alloc, FIRST)?;
-    let mut limits = ledger_in_use()?;
     let mut steps: Steps<L> = Steps::new(blank);
-    let mut collector = AggregationSegmentCollector::from_agg_req_and_reader(
-        alloc,
-        request,
-        &reader,
-        &context,
-        &mut limits,
-    )?;
-    assert!(rt; 2 <= reader.num_docs());
-    collector.collect_block(&[1, 0], &mut limits, &mut steps)?;
-    collector.abandon(&mut limits);
-    assert_eq!(rt; limits.in_use(), IN_USE);
-    Ok(())
+    let context = context_of(rt.alloc(), request, None)?;
+    expect_abandoned_in(rt, request, &context, &mut steps)
 }
 
 #[test]

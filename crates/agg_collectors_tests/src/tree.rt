@@ -4,7 +4,7 @@ ghost use Rattle.agg_collector_tree.specs.Tree.{IsFlushed, held_of};
 ghost use Rattle.agg_segment_context.specs.Trees.{AreOfRequest};
 ghost use Rattle.agg_collectors_tests.specs.Trees.{IsContextIn, IsTreeFor};
 
-use crate::given::{FIRST, context_of, request_of};
+use crate::given::{FIRST, context_of, request_of, shown};
 use agg_cache::{BucketId, CollectError, LimitsLedger};
 use agg_collector_tree::{SegmentCollectorTree, tree_for};
 use agg_collectors::SegmentAggregationCollector;
@@ -57,6 +57,18 @@ fn data_in<'s>(
     alloc: Global,
     request: &'s Aggregations,
     reader: &'s SegmentReader,
+) -> Result<AggregationsSegmentCtx<'s>, Fail>
+    ensures { IfOk result (λ agg_data. IsContextIn reader.now agg_data.per_request) }
+{
+    let context = context_of(alloc, request, None)?;
+    data_with(alloc, request, reader, &context)
+}
+
+// The same with this context.
+fn data_with<'s>(
+    alloc: Global,
+    request: &'s Aggregations,
+    reader: &'s SegmentReader,
     context: &AggContextParams,
 ) -> Result<AggregationsSegmentCtx<'s>, Fail>
     requires { AreOfRequest request.now context.now.trees }
@@ -97,27 +109,56 @@ fn take_all<L: Ledger>(
     tree.flush(agg_data, &mut limits, &mut guard, steps)
 }
 
-// A tree adds these results for a parent, as they are shown.
-fn expect_shown(
-    rt: &(impl Abort + AllocGlobal),
+// The results that a tree adds for a parent.
+fn results_for(
+    alloc: Global,
     tree: &mut SegmentCollectorTree<'_>,
     agg_data: &AggregationsSegmentCtx<'_>,
-    request: &Aggregations,
-    asked: (BucketId, &str),
-) -> Result<(), Fail>
+    parent: BucketId,
+) -> Result<IntermediateAggregationResults, CollectError>
     requires tree { IsTreeFor agg_data.now.per_request (held_of tree.old) }
     requires flushed { IsFlushed (held_of tree.old) }
     ensures { tree.new ≡ tree.old }
 {
-    let (parent, text) = asked;
-    let mut results = IntermediateAggregationResults::new(rt.alloc());
+    let mut results = IntermediateAggregationResults::new(alloc);
     tree.add_intermediate_aggregation_result(agg_data, &mut results, parent)?;
-    let found = results.into_final_result(request, &LimitsLedger::new(None, None))?;
-    assert_eq!(rt; found.write_json()?.as_str(), text);
+    Ok(results)
+}
+
+// A tree has the results for each parent.
+fn expect_rows(
+    rt: &(impl Abort + AllocGlobal),
+    tree: &mut SegmentCollectorTree<'_>,
+    agg_data: &AggregationsSegmentCtx<'_>,
+    request: &Aggregations,
+) -> Result<(), Fail>
+    requires tree { IsTreeFor agg_data.now.per_request (held_of tree.old) }
+    requires flushed { IsFlushed (held_of tree.old) }
+{
+    for &asked in RESULTS {
+        let (parent, text) = asked;
+        let found = shown(request, results_for(rt.alloc(), tree, agg_data, parent)?)?;
+        assert_eq!(rt; found.as_str(), text);
+    }
     Ok(())
 }
 
-// A tree has these results for its parents.
+// So has a new tree that took documents.
+fn expect_rows_of_new<L: Ledger>(
+    rt: &(impl Abort + AllocGlobal),
+    agg_data: &AggregationsSegmentCtx<'_>,
+    reader: &SegmentReader,
+    request: &Aggregations,
+    steps: &mut Steps<L>,
+) -> Result<(), Fail>
+    requires { IsContextIn reader.now agg_data.now.per_request }
+{
+    let mut tree = tree_in(rt.alloc(), agg_data, reader)?;
+    take_all(&mut tree, agg_data, steps)?;
+    expect_rows(rt, &mut tree, agg_data, request)
+}
+
+// So has that of a request in the first segment.
 fn expect_results<L: Ledger>(
     rt: &(impl Abort + AllocGlobal),
     request: &Aggregations,
@@ -127,17 +168,10 @@ fn expect_results<L: Ledger>(
     requires parts { blank.parts ≡ L.parts }
     requires shared { 0 < L.parts }
 {
-    let alloc = rt.alloc();
-    let reader = segment_of(alloc, FIRST)?;
-    let context = context_of(alloc, request, None)?;
-    let agg_data = data_in(alloc, request, &reader, &context)?;
-    let mut tree = tree_in(alloc, &agg_data, &reader)?;
     let mut steps: Steps<L> = Steps::new(blank);
-    take_all(&mut tree, &agg_data, &mut steps)?;
-    for &asked in RESULTS {
-        expect_shown(rt, &mut tree, &agg_data, request, asked)?;
-    }
-    Ok(())
+    let reader = segment_of(rt.alloc(), FIRST)?;
+    let agg_data = data_in(rt.alloc(), request, &reader)?;
+    expect_rows_of_new(rt, &agg_data, &reader, request, &mut steps)
 }
 
 #[test]
