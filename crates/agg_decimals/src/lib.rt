@@ -1,0 +1,14 @@
+//! Decimal texts as whole numbers of their last place, both ways.
+#![tactic(auto)]
+
+mod error;
+mod laws;
+mod places;
+mod read;
+mod write;
+
+pub use error::DecimalError;
+pub use laws::decimal_texts_are_read_back;
+pub use places::Places;
+pub use read::read_decimal;
+pub use write::write_decimal;
