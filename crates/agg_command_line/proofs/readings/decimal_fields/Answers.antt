@@ -1,0 +1,21 @@
+use Rattle.std.proofs.Common.{◌∙◌, ap, [], Bor, map}
+use Rattle.clap.specs.Words.{Text}
+use Rattle.agg_command_line.specs.Asked.{ReadsDecimal}
+use Rattle.agg_command_line.proofs.Zips.{is_among, zip_more}
+use Rattle.agg_command_line.proofs.readings.decimal_fields.Goals as goal
+
+pub loop-text-preserved : goal.loop-text-preserved
+loop-text-preserved c =
+    zip_more ReadsDecimal c.deref-text-items.result.now c.loop-text.text-index
+    (record { ref_ptr = (0, 0); now = [] }) c.loop-text.read.items c.push.new.self.items
+    c.in-Ok.decimal c.loop-text-test.true c.in-Ok-push.ensures.items
+    c.loop-text.invariant c.in-Ok.ensures.ok
+
+pub returns-in-Err-clause-told : goal.returns-in-Err-clause-told
+returns-in-Err-clause-told c =
+    let given = ap (map (λ (text : Bor Text). text.now)) c.deref-text-items.ensures.value
+    ∙ c.in_ok-texts.ensures in (
+      is_among c.deref-text-items.result.now _ c.loop-text.text-index
+          (record { ref_ptr = (0, 0); now = [] }) c.loop-text-test.true given,
+      c.in-Err.ensures.err,
+    )

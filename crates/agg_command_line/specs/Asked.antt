@@ -1,0 +1,116 @@
+-- What the matches of `group` ask.
+use Rattle.std.specs.Prelude.{◌≡◌, ◌≤◌, ◌<◌, ◌^◌, ℕ, List, [], ◌++◌, length, map, codes}
+use Rattle.std.specs.Prelude.{Bool, true, false, if◌then◌else◌, Option, Some, None, option_map}
+use Rattle.std.specs.Prelude.{option_and_then, unwrap_or}
+use Rattle.std.specs.List.{AllZip}
+use Rattle.std.specs.Str.{bytes_eq}
+use Rattle.std.specs.Str.Parse.{IsNumeral, digits_value, without_leading_plus}
+use Rattle.clap.specs.Words.{Row, Text, all_of, first_of, one_of}
+use Rattle.agg_words.specs.By as by_text
+use Rattle.agg_words.specs.Condition as condition_text
+use Rattle.agg_words.specs.DateField as date_text
+use Rattle.agg_words.specs.DecimalField.{IsDecimalField}
+use Rattle.agg_words.specs.declared.by.BySpec.{BySpec}
+use Rattle.agg_words.specs.declared.condition.Condition.{Condition}
+use Rattle.agg_words.specs.declared.date_field.DateField.{DateField}
+use Rattle.agg_words.specs.declared.decimal_field.DecimalField.{DecimalField}
+use Rattle.agg_command_line.specs.declared.options.Chosen.{Chosen}
+use Rattle.agg_command_line.specs.declared.options.Chosen.TheVariants.{Group}
+use Rattle.agg_command_line.specs.declared.options.GroupOptions.{GroupOptions}
+use Rattle.agg_command_line.specs.declared.options.InputFormat.{InputFormat}
+use Rattle.agg_command_line.specs.declared.options.InputFormat.TheVariants as input
+use Rattle.agg_words.specs.declared.metric.Metric.{Metric}
+use Rattle.agg_words.specs.declared.metric.MetricKind.{MetricKind}
+use Rattle.agg_words.specs.declared.metric.MetricKind.TheVariants.{Count, Sum, Min, Max}
+use Rattle.agg_command_line.specs.declared.options.OutputFormat.{OutputFormat}
+use Rattle.agg_command_line.specs.declared.options.OutputFormat.TheVariants as output
+
+-- the values of all uses of an option
+abbrev pub texts_of : Text → List Row → List Text
+texts_of id rows = unwrap_or (all_of id rows) []
+
+-- what a contract sees of a column
+abbrev pub column : Metric → MetricKind × Text
+column c = (c.kind, c.field.now)
+
+-- the columns of a kind
+abbrev pub columns_of : MetricKind → List Text → List (MetricKind × Text)
+columns_of kind fields = map (λ field. (kind, field)) fields
+
+-- the columns in the order of their kinds
+abbrev pub all_columns : List Row → List (MetricKind × Text)
+all_columns rows =
+    columns_of Count (texts_of (codes "count") rows)
+    ++ columns_of Sum (texts_of (codes "sum") rows)
+    ++ columns_of Min (texts_of (codes "min") rows)
+    ++ columns_of Max (texts_of (codes "max") rows)
+
+-- the format of records by its name
+abbrev pub input_format_of : Text → Option InputFormat
+input_format_of name =
+    if bytes_eq name (codes "jsonl") then Some input.JsonLines
+    else if bytes_eq name (codes "json") then Some input.Json
+    else if bytes_eq name (codes "csv") then Some input.Csv
+    else if bytes_eq name (codes "tsv") then Some input.Tsv
+    else None
+
+-- the format of groups by its name
+abbrev pub output_format_of : Text → Option OutputFormat
+output_format_of name =
+    if bytes_eq name (codes "table") then Some output.Table
+    else if bytes_eq name (codes "jsonl") then Some output.JsonLines
+    else if bytes_eq name (codes "csv") then Some output.Csv
+    else None
+
+-- a flag is set where its value is `true`, and else isn't
+pub record ReadsFlag (id : Text) (rows : List Row) (flag : Bool) : Type 0 where
+  pub is_set : one_of id rows ≡ Some (codes "true") → flag ≡ true
+  pub is_unset : one_of id rows ≡ Some (codes "false") → flag ≡ false
+  pub is_absent : one_of id rows ≡ None → flag ≡ false
+
+-- the size of a page is the number that its digits write
+abbrev pub ReadsSize : List Row → ℕ → Type 0
+ReadsSize rows size =
+    (text : Text) → one_of (codes "size") rows ≡ Some text
+    → IsNumeral 10 (without_leading_plus text)
+    → digits_value 10 (without_leading_plus text) < 2 ^ 32
+    → size ≡ digits_value 10 (without_leading_plus text)
+
+-- a text of `--by` stands for this
+abbrev pub ReadsBy : Text → BySpec → Type 0
+ReadsBy text by = by_text.by_of text ≡ Some (by_text.parts by)
+
+-- a text of `--where` stands for this
+abbrev pub ReadsCondition : Text → Condition → Type 0
+ReadsCondition text condition =
+    condition_text.condition_of text ≡ Some (condition_text.parts condition)
+
+-- a text of `--date` stands for this
+abbrev pub ReadsDate : Text → DateField → Type 0
+ReadsDate text date = date_text.date_field_of text ≡ Some (date_text.parts date)
+
+-- a text of `--decimal` stands for this
+abbrev pub ReadsDecimal : Text → DecimalField → Type 0
+ReadsDecimal text decimal = IsDecimalField text decimal.field.now decimal.places
+
+-- the options are what the matches ask
+pub record Asks (rows : List Row) (options : GroupOptions) : Type 0 where
+  pub files : map (λ file. file.now) options.files.items ≡ texts_of (codes "file") rows
+  pub by : AllZip ReadsBy (texts_of (codes "by") rows) options.by.items
+  pub few : length options.by.items ≤ 16
+  pub conditions : AllZip ReadsCondition (texts_of (codes "where") rows) options.conditions.items
+  pub metrics : map column options.metrics.items ≡ all_columns rows
+  pub total : ReadsFlag (codes "total") rows options.has_total
+  pub size : ReadsSize rows options.size
+  pub after : option_map (λ text. text.now) options.after ≡ first_of (codes "after") rows
+  pub all : ReadsFlag (codes "all") rows options.is_all
+  pub dates : AllZip ReadsDate (texts_of (codes "date") rows) options.dates.items
+  pub decimals : AllZip ReadsDecimal (texts_of (codes "decimal") rows) options.decimals.items
+  pub texts : map (λ field. field.now) options.texts.items ≡ texts_of (codes "text") rows
+  pub from : options.from ≡ option_and_then input_format_of (first_of (codes "from") rows)
+  pub to : options.to ≡ option_and_then output_format_of (first_of (codes "to") rows)
+
+-- the words chose `group`, with these options
+abbrev pub IsAsked : Option (Text × List Row) → Chosen → Type 0
+IsAsked None chosen = ⊥
+IsAsked (Some (name, rows)) (Group options) = (name ≡ codes "group") × Asks rows options

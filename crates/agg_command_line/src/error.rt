@@ -1,0 +1,117 @@
+ghost use Rattle.std.specs.Prelude.{◌≡◌, false};
+ghost use Rattle.agg_command_line.specs.declared.error.CommandLineError.TheVariants.{OutOfMemory};
+ghost use Rattle.agg_command_line.specs.Mistakes.{IsHelp, names_value};
+
+use agg_words::{BySpecError, ConditionError, DateFieldError, DecimalFieldError};
+use clap::error::ErrorKind;
+use std::alloc::{AllocError, AllocFailed};
+use std::{error, fmt, io};
+
+/// Why the words ask nothing: help or the version was wanted, a word is wrong, or memory ran out.
+#[derive(Debug, Drop)]
+pub enum CommandLineError<'a> {
+    /// Help, the version or a mistake, as clap prints it.
+    Shown(clap::Error),
+    /// No command is named.
+    NoCommand,
+    /// A text of `--by` is wrong.
+    By(&'a str, BySpecError<'a>),
+    /// More than 16 times `--by`.
+    TooManyBy,
+    /// A text of `--where` is wrong.
+    Where(&'a str, ConditionError),
+    /// A text of `--date` is wrong.
+    Date(&'a str, DateFieldError),
+    /// A text of `--decimal` is wrong.
+    Decimal(&'a str, DecimalFieldError),
+    OutOfMemory,
+}
+
+impl CommandLineError<'_> {
+    /// What the program exits with, unless memory ran out: 0 after help and the version, else 2.
+    pub fn exit_code(&self) -> u8
+        ensures shown { IsHelp self.now → result ≡ 0 }
+        ensures mistake { ¬ IsHelp self.now → result ≡ 2 }
+    {
+        match self {
+            CommandLineError::Shown(error) => { if error.use_stderr() { 2 } else { 0 } }
+            _ => 2,
+        }
+    }
+
+    /// Writes help and the version to standard output, and a mistake to standard error.
+    pub fn print<R: Print + Eprint>(&self, rt: &R) -> io::Result<()> {
+        match self {
+            CommandLineError::Shown(error) => error.print(rt),
+            other => rt.eprint(other),
+        }
+    }
+}
+
+impl From<clap::Error> for CommandLineError<'_> {
+    ghost from_gives = { λ error told. names_value told ≡ false };
+
+    fn from(error: clap::Error) -> Self {
+        match error.kind() {
+            ErrorKind::OutOfMemory => CommandLineError::OutOfMemory,
+            _ => CommandLineError::Shown(error),
+        }
+    }
+}
+
+impl From<AllocError> for CommandLineError<'_> {
+    ghost from_gives = { λ _ told. told ≡ OutOfMemory };
+
+    fn from(_error: AllocError) -> Self {
+        CommandLineError::OutOfMemory
+    }
+}
+
+impl<T: Drop> From<AllocFailed<T>> for CommandLineError<'_> {
+    ghost from_gives = { λ _ told. told ≡ OutOfMemory };
+
+    fn from(_error: AllocFailed<T>) -> Self {
+        CommandLineError::OutOfMemory
+    }
+}
+
+impl fmt::Display for CommandLineError<'_> {
+    fn fmt<W: fmt::Write>(&self, f: &mut fmt::Formatter<W>) -> fmt::Result {
+        match self {
+            CommandLineError::Shown(error) => fmt::Display::fmt(error, f),
+            CommandLineError::NoCommand => {
+                write!(f, "error: no command is named; expected 'group'\n{MORE}")
+            }
+            CommandLineError::By(text, why) => write_invalid(f, text, "--by <SPEC>", why),
+            CommandLineError::TooManyBy => write!(
+                f,
+                "error: '--by <SPEC>' may be used 16 times at most\n{MORE}"
+            ),
+            CommandLineError::Where(text, why) => write_invalid(f, text, "--where <COND>", why),
+            CommandLineError::Date(text, why) => {
+                write_invalid(f, text, "--date <FIELD[=UNIT]>", why)
+            }
+            CommandLineError::Decimal(text, why) => {
+                write_invalid(f, text, "--decimal <FIELD=PLACES>", why)
+            }
+            CommandLineError::OutOfMemory => f.write_str("error: out of memory\n"),
+        }
+    }
+}
+
+impl error::Error for CommandLineError<'_> {}
+
+const MORE: &str = "\nFor more information, try '--help'.\n";
+
+// A mistake in a value, as clap tells it.
+fn write_invalid<W: fmt::Write>(
+    f: &mut fmt::Formatter<W>,
+    text: &str,
+    option: &str,
+    why: &impl fmt::Display,
+) -> fmt::Result {
+    write!(
+        f,
+        "error: invalid value '{text}' for '{option}': {why}\n{MORE}"
+    )
+}

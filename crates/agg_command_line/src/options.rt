@@ -1,0 +1,51 @@
+use agg_words::{BySpec, Condition, DateField, DecimalField, Metric};
+
+/// What the words ask.
+#[derive(Debug, Drop)]
+pub enum Chosen<'a> {
+    /// `group`: one page of groups, or all pages.
+    Group(GroupOptions<'a>),
+}
+
+/// The options of `group`.
+#[derive(Debug, Drop)]
+pub struct GroupOptions<'a> {
+    /// The files to read; none stands for standard input, as does `-`.
+    pub files: Vec<&'a str>,
+    /// What groups are made by, 1 to 16 of them.
+    pub by: Vec<BySpec<'a>>,
+    pub conditions: Vec<Condition<'a>>,
+    /// The columns of numbers, in the order of their kinds.
+    pub metrics: Vec<Metric<'a>>,
+    pub has_total: bool,
+    /// How many groups a page has, 1 at least.
+    pub size: u32,
+    /// The values of the group that the page begins after.
+    pub after: Option<&'a str>,
+    pub is_all: bool,
+    pub dates: Vec<DateField<'a>>,
+    pub decimals: Vec<DecimalField<'a>>,
+    /// The fields that hold texts, also where these look like numbers.
+    pub texts: Vec<&'a str>,
+    /// The format of the input, where it is not told by the names of files.
+    pub from: Option<InputFormat>,
+    /// The format of the output, where it is not told by where it goes.
+    pub to: Option<OutputFormat>,
+}
+
+/// How records are written.
+#[derive(Clone, Copy, Debug, PartialEq, Eq)]
+pub enum InputFormat {
+    JsonLines,
+    Json,
+    Csv,
+    Tsv,
+}
+
+/// How groups are written.
+#[derive(Clone, Copy, Debug, PartialEq, Eq)]
+pub enum OutputFormat {
+    Table,
+    JsonLines,
+    Csv,
+}

@@ -1,0 +1,95 @@
+//! The values of single arguments.
+ghost use Rattle.std.specs.Prelude.{◌≡◌, IfOk, map, option_map, option_and_then, codes};
+ghost use Rattle.clap.specs.Words.{first_of, found_of, rows_of};
+ghost use Rattle.agg_command_line.specs.Asked as spec;
+ghost use Rattle.agg_command_line.specs.Asked.{ReadsFlag, ReadsSize};
+
+use crate::{InputFormat, OutputFormat};
+use clap::ArgMatches;
+use std::alloc::{AllocError, Global};
+
+/// The values of all uses of an option.
+pub(crate) fn texts<'a>(
+    alloc: Global,
+    matches: &ArgMatches<'a>,
+    id: &str,
+) -> Result<Vec<&'a str>, AllocError>
+    ensures { IfOk result (λ texts. map (λ text. text.now) texts.items
+        ≡ spec.texts_of id.now (rows_of (found_of matches.now))) }
+{
+    match matches.get_strs(id) {
+        Some(texts) => texts.to_vec(alloc),
+        None => Ok(Vec::new(alloc)),
+    }
+}
+
+/// The value of an option that is used once.
+pub(crate) fn text<'a>(matches: &ArgMatches<'a>, id: &str) -> Option<&'a str>
+    ensures { option_map (λ text. text.now) result
+        ≡ first_of id.now (rows_of (found_of matches.now)) }
+{
+    matches.get_str(id)
+}
+
+/// Whether an option without a value is used.
+pub(crate) fn is_used(matches: &ArgMatches<'_>, id: &str) -> bool
+    ensures { ReadsFlag id.now (rows_of (found_of matches.now)) result }
+{
+    matches.get_flag(id)
+}
+
+/// How many groups a page has.
+pub(crate) fn size(matches: &ArgMatches<'_>) -> u32
+    ensures { ReadsSize (rows_of (found_of matches.now)) result }
+{
+    matches.get_one::<u32>("size").unwrap_or(20)
+}
+
+/// How records are written.
+pub(crate) fn from(matches: &ArgMatches<'_>) -> Option<InputFormat>
+    ensures { result ≡ option_and_then
+        spec.input_format_of
+        (first_of (codes "from") (rows_of (found_of matches.now))) }
+{
+    match text(matches, "from") {
+        Some(name) => input_format(name),
+        None => None,
+    }
+}
+
+/// How groups are written.
+pub(crate) fn to(matches: &ArgMatches<'_>) -> Option<OutputFormat>
+    ensures { result ≡ option_and_then
+        spec.output_format_of
+        (first_of (codes "to") (rows_of (found_of matches.now))) }
+{
+    match text(matches, "to") {
+        Some(name) => output_format(name),
+        None => None,
+    }
+}
+
+#[tactic(auto, using(crate::proofs::Names::other))]
+fn input_format(name: &str) -> Option<InputFormat>
+    ensures { result ≡ spec.input_format_of name.now }
+{
+    match name {
+        "jsonl" => Some(InputFormat::JsonLines),
+        "json" => Some(InputFormat::Json),
+        "csv" => Some(InputFormat::Csv),
+        "tsv" => Some(InputFormat::Tsv),
+        _ => None,
+    }
+}
+
+#[tactic(auto, using(crate::proofs::Names::other))]
+fn output_format(name: &str) -> Option<OutputFormat>
+    ensures { result ≡ spec.output_format_of name.now }
+{
+    match name {
+        "table" => Some(OutputFormat::Table),
+        "jsonl" => Some(OutputFormat::JsonLines),
+        "csv" => Some(OutputFormat::Csv),
+        _ => None,
+    }
+}

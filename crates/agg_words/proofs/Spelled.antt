@@ -1,0 +1,83 @@
+-- What a text of `--by` is written from is what it stands for.
+use Rattle.std.proofs.Common.{◌≡◌, ◌++◌, ◌==◌, ℕ, List, [], ◌∷◌, Bool, true, false, Some, None}
+use Rattle.std.proofs.Common.{Option, refl, append-nil, codes}
+use Rattle.std.proofs.lemmas.List.{append_assoc}
+use Rattle.agg_words.specs.Cut.{Lacks, LacksIfAny, cut}
+use Rattle.agg_words.specs.By.{Parts, IsPlain, words_of, words_after, words_text, name_text}
+use Rattle.agg_words.specs.By.{interval_text, head_text, by_text, by_of, with_name, with_field}
+use Rattle.agg_words.specs.declared.by.Missing.{Missing}
+use Rattle.agg_words.specs.declared.by.Missing.TheVariants.{NoGroup, ByOrder, First, Last}
+use Rattle.agg_words.proofs.Cuts.{lacks_append, cut-none, cut-at}
+
+-- the words are cut off and read
+words_cut : (head : List ℕ) (d : Bool) (m : Missing) → Lacks 44 head
+    → ((cut 44 (head ++ words_text d m)).0 ≡ head)
+    × (words_after (cut 44 (head ++ words_text d m)).1 ≡ Some (d, m))
+unfolding words_of
+words_cut head false NoGroup l =
+    let at = cut-none 44 head l in
+    rw (append-nil head, at) (refl, refl)
+words_cut head true NoGroup l =
+    let at = cut-at 44 head (codes "desc") l in
+    rw at (refl, refl)
+words_cut head false ByOrder l =
+    let at = cut-at 44 head (codes "missing") l in
+    rw at (refl, refl)
+words_cut head false First l =
+    let at = cut-at 44 head (codes "missing=first") l in
+    rw at (refl, refl)
+words_cut head false Last l =
+    let at = cut-at 44 head (codes "missing=last") l in
+    rw at (refl, refl)
+words_cut head true ByOrder l =
+    let at = cut-at 44 head (codes "desc,missing") l in
+    rw at (refl, refl)
+words_cut head true First l =
+    let at = cut-at 44 head (codes "desc,missing=first") l in
+    rw at (refl, refl)
+words_cut head true Last l =
+    let at = cut-at 44 head (codes "desc,missing=last") l in
+    rw at (refl, refl)
+
+-- the interval is cut off
+interval_cut : (field : List ℕ) (interval : Option (List ℕ)) → Lacks 58 field
+    → cut 58 (field ++ interval_text interval) ≡ (field, interval)
+interval_cut field None l = let at = cut-none 58 field l in rw (append-nil field) at
+interval_cut field (Some text) l = cut-at 58 field text l
+
+-- a part that is not there has no byte
+lacks_interval : (c : ℕ) (interval : Option (List ℕ)) → ((58 == c) ≡ false)
+    → LacksIfAny c interval → Lacks c (interval_text interval)
+lacks_interval c None colon l = tt
+lacks_interval c (Some text) colon l = (colon, l)
+
+lacks_name : (name : Option (List ℕ)) → LacksIfAny 44 name → Lacks 44 (name_text name)
+lacks_name None l = tt
+lacks_name (Some name) l = lacks_append 44 name (61 ∷ []) l (refl, tt)
+
+-- the name is cut off
+name_cut : (words : Bool × Missing) (name : Option (List ℕ)) (rest : List ℕ)
+    → LacksIfAny 61 name → Lacks 61 rest
+    → with_name words (cut 61 (name_text name ++ rest)) ≡ with_field words name (cut 58 rest)
+name_cut words None rest n l = let at = cut-none 61 rest l in rw at refl
+name_cut words (Some name) rest n l =
+    let shape = append_assoc name (61 ∷ []) rest in
+    let at = cut-at 61 name rest n in
+    rw (shape, at) refl
+
+pub stands : (p : Parts) → IsPlain p → by_of (by_text p) ≡ Some p
+stands p plain =
+    let rest = p.field ++ interval_text p.interval in
+    let rest_comma : Lacks 44 rest =
+    lacks_append 44 p.field (interval_text p.interval) plain.field_comma
+    (lacks_interval 44 p.interval refl plain.interval_comma) in
+    let rest_equals : Lacks 61 rest =
+    lacks_append 61 p.field (interval_text p.interval) plain.field_equals
+    (lacks_interval 61 p.interval refl plain.interval_equals) in
+    let head_comma : Lacks 44 (head_text p) =
+    lacks_append 44 (name_text p.name) rest
+    (lacks_name p.name plain.name_comma) rest_comma in
+    let words = words_cut (head_text p) p.is_descending p.missing head_comma in
+    let named = name_cut (p.is_descending, p.missing) p.name rest plain.name_equals rest_equals in
+    let ends = interval_cut p.field p.interval plain.field_colon in
+    rw (words.0, words.1, named, ends, plain.filled) refl

@@ -1,0 +1,7 @@
+use Rattle.agg_words.proofs.Prefixes.{after_prefix-strips}
+use Rattle.agg_words.proofs.condition.after_prefix.Goals as goal
+
+pub returns : goal.returns
+returns c =
+    after_prefix-strips c.args.prefix.now c.args.text.now c.strip_prefix.result
+    c.strip_prefix.ensures.cases

@@ -1,0 +1,5 @@
+pub mod By
+pub mod Condition
+pub mod Cut
+pub mod DateField
+pub mod DecimalField

@@ -1,0 +1,13 @@
+ghost use Rattle.std.specs.Prelude.{◌≡◌, ◌<◌, option_map};
+ghost use Rattle.agg_words.specs.Cut as spec;
+
+/// A text up to the first of a character, and what stands after that.
+pub(crate) fn cut(text: &str, delimiter: char) -> (&str, Option<&str>)
+    requires { delimiter < 128 }
+    ensures { (result.0.now, option_map (λ rest. rest.now) result.1) ≡ spec.cut delimiter text.now }
+{
+    match text.split_once(delimiter) {
+        Some((front, rest)) => (front, Some(rest)),
+        None => (text, None),
+    }
+}
