@@ -1,0 +1,4 @@
+pub mod Shown
+pub mod Types
+pub mod Values
+pub mod Wholes

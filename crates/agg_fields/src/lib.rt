@@ -1,0 +1,18 @@
+//! What the fields of records hold, the values that their texts and numbers stand for, and how
+//! values are shown.
+#![tactic(auto)]
+
+mod error;
+mod field_type;
+mod field_types;
+mod laws;
+mod read;
+mod shown;
+mod whole;
+
+pub use error::ValueError;
+pub use field_type::FieldType;
+pub use field_types::FieldTypes;
+pub use laws::{shown_values_are_read_back, whole_numbers_are_as_they_are_written};
+pub use read::{value_of_number, value_of_string, value_of_text};
+pub use shown::{write_number, write_shown_key, write_value};
