@@ -1,0 +1,9 @@
+use Rattle.std.proofs.Common.{arith}
+use Rattle.agg_tables.proofs.CellLists.{group-more}
+use Rattle.agg_tables.proofs.cells.cells_of_group.Goals as goal
+
+pub loop-column-preserved : goal.loop-column-preserved
+loop-column-preserved c =
+    group-more c.args.entry.now c.as_slice-column-items.result.now c.loop-column.column-index
+    c.column-item.result c.loop-column.cells.items _ _ (omega arith) c.column-item.is
+    c.in_ok-push.ensures.items c.in_ok-group_cell.ensures c.loop-column.invariant

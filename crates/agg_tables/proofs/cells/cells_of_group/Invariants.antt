@@ -1,0 +1,9 @@
+use Rattle.std.proofs.Common.{map, take}
+use Rattle.agg_tables.specs.Cells.{shown_by}
+use Rattle.agg_tables.specs.Groups.{ShowsGroup}
+use Rattle.agg_tables.proofs.cells.cells_of_group.Given as goal
+
+-- the cells so far are those of the columns so far
+abbrev pub invariant-loop-column : goal.invariant-loop-column
+invariant-loop-column l =
+    ShowsGroup (take l.column-index l.column-items) l.entry (map shown_by l.cells.items)

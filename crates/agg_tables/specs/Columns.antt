@@ -1,0 +1,16 @@
+-- What columns show.
+use Rattle.std.specs.Prelude.{ℕ, List, Bool, true, false, codes}
+use Rattle.agg_tables.specs.declared.columns.Column.{Column}
+use Rattle.agg_tables.specs.declared.columns.Column.TheVariants as column
+
+-- what stands above a column
+abbrev pub header_of : Column → List ℕ
+header_of (column.Key name of) = name
+header_of column.Count = codes "count"
+header_of (column.Metric name of) = name
+
+-- whether a column shows a key
+abbrev pub is_key : Column → Bool
+is_key (column.Key name of) = true
+is_key column.Count = false
+is_key (column.Metric name of) = false

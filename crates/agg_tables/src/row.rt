@@ -1,0 +1,51 @@
+//! The lines of output.
+ghost use Rattle.std.specs.Prelude.{◌≡◌, map, option_map};
+ghost use Rattle.agg_tables.specs.Cells.{is_total, shown_by, shown_cells, shown_text};
+
+/// What a line shows in a column.
+#[derive(Debug, Drop)]
+pub enum Cell {
+    Text(String),
+    /// A number, as JSON has it.
+    Number(String),
+    Bool(bool),
+    /// No value.
+    Missing,
+}
+
+impl Cell {
+    /// The text that the cell shows, None where it has no value.
+    pub fn text(&self) -> Option<&str>
+        ensures { option_map (λ text. text.now) result ≡ shown_text (shown_by self.now) }
+    {
+        match self {
+            Cell::Text(text) | Cell::Number(text) => Some(text.as_str()),
+            Cell::Bool(true) => Some("true"),
+            Cell::Bool(false) => Some("false"),
+            Cell::Missing => None,
+        }
+    }
+}
+
+/// A line of output: a group, or the totals of all documents.
+#[derive(Debug, Drop)]
+pub struct Row {
+    pub(crate) is_total: bool,
+    pub(crate) cells: Vec<Cell>,
+}
+
+impl Row {
+    /// Whether the line has the totals of all documents.
+    pub fn is_total(&self) -> bool
+        ensures { result ≡ is_total self.now }
+    {
+        self.is_total
+    }
+
+    /// The cells, one for each column.
+    pub fn cells(&self) -> &[Cell]
+        ensures { map shown_by result.now ≡ shown_cells self.now }
+    {
+        self.cells.as_slice()
+    }
+}
