@@ -1,0 +1,11 @@
+pub mod Appended
+pub mod ArrayItems
+pub mod AskedNames
+pub mod Gains
+pub mod HeaderPlaces
+pub mod HeldObjects
+pub mod LineRecords
+pub mod Marks
+pub mod ObjectValues
+pub mod RowValues
+pub mod TableRows

@@ -1,0 +1,35 @@
+use Rattle.std.proofs.Common.{◌≡◌, ◌∷◌, ◌∙◌, [], Some, None, ap, arith}
+use Rattle.std.specs.Prelude.{option_and_then}
+use Rattle.std.proofs.lemmas.Grind.{common_steps}
+use Rattle.json.specs.Json.{after_end_array, if_last, max_depth, value}
+use Rattle.json.specs.Lex.{tokens}
+use Rattle.json.specs.Token.{Token}
+use Rattle.agg_records.proofs.ArrayItems.{all_items, no_items_yet, one_item_more}
+use Rattle.agg_records.proofs.array.read_array.Goals as goal
+
+pub items-init : goal.items-init
+items-init c = no_items_yet c.args.asked.now c.next.new.self c.args.into.now
+
+pub items-preserved : goal.items-preserved
+items-preserved c =
+    let l = c.items in
+    let going : (after_end_array l.reader ≡ None) × (c.take_end_array.new.self ≡ l.reader) =
+    grind arith in
+    let took = c.in_default-read_item.ensures in
+    one_item_more c.args.asked.now c.next.new.self l.reader c.read_item.new.reader
+    c.args.into.now l.into c.read_item.new.into going.0 (rw (← going.1) took.shorter)
+    l.invariant (rw (← going.1) took.holds)
+
+pub returns : goal.returns
+returns c =
+    let l = c.items in
+    let closes : after_end_array l.reader ≡ Some c.take_end_array.new.self = grind arith in
+    let ended : c.take_end_array.new.self ≡ [] = grind (arith, common_steps) in
+    let opens : tokens c.args.text.now ≡ Token.begin_array ∷ c.next.new.self = grind arith in
+    record {
+      objects = l.invariant.objects;
+      is = ap (option_and_then (λ p. if_last p.0 p.1)) (ap (value max_depth) opens
+          ∙ all_items c.args.asked.now c.next.new.self l.reader c.args.into.now l.into l.invariant
+          (closes ∙ ap Some ended));
+      holds = l.invariant.holds;
+    }

@@ -1,0 +1,17 @@
+use Rattle.std.proofs.Common.{◌≡◌, ◌∙◌, true, subst, rules}
+use Rattle.std.specs.Result.{is_ok}
+use Rattle.csv.specs.Records.{fields_of}
+use Rattle.agg_records.specs.Table.{IsPlaceOf}
+use Rattle.agg_records.proofs.HeaderPlaces.{places_more}
+use Rattle.agg_records.proofs.cells.places_of.Goals as goal
+
+pub loop-field-preserved : goal.loop-field-preserved
+loop-field-preserved c =
+    let l = c.loop-field in
+    let header = fields_of c.args.header.now in
+    let good : is_ok c.push.result ≡ true = search rules in
+    let items = rw good at c.push.ensures.items in
+    places_more header c.args.asked.now l.field-index c.field-item.result l.places.items
+    c.in-Ok.place c.push.new.self.items c.loop-field-test.true c.field-item.is items l.invariant
+    (subst (λ name. IsPlaceOf header name c.in-Ok.place)
+    (c.as_bytes.ensures.value ∙ c.as_str.ensures) c.in-Ok.ensures)

@@ -1,0 +1,17 @@
+use Rattle.std.proofs.Common.{subst}
+use Rattle.json.specs.Value.{value_view}
+use Rattle.agg_records.specs.Objects.{field_values}
+use Rattle.agg_records.specs.Values.{Gains, values_of_fields}
+use Rattle.agg_records.proofs.Appended.{holds_closed}
+use Rattle.agg_records.proofs.objects.try_object.Goals as goal
+
+pub returns-clause-taken : goal.returns-clause-taken
+returns-clause-taken c = λ taken.
+    let values = field_values (value_view c.args.object.now) in
+    let start = c.forget_open.new.self in
+    holds_closed (values_of_fields values c.args.asked.now) c.args.records.now c.close.new.self
+    start.built.items start.builder c.push_object.new.builder
+    c.forget_open.ensures.held c.forget_open.ensures.opened
+    (subst (λ asked. Gains (values_of_fields values asked) start.builder
+    c.push_object.new.builder) c.as_slice.ensures c.in_ok-push_object.ensures.ok)
+    c.in_ok-push_object.ensures.documents (c.in_ok-close.ensures.closed taken)

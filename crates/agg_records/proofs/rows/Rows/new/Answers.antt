@@ -1,0 +1,23 @@
+use Rattle.std.proofs.Common.{◌≡◌, ◌∙◌, ap, false, sym, refl, inr}
+use Rattle.csv.specs.Reading.{Reached, builder_config, builder_names_headers, builder_trim}
+use Rattle.csv.specs.Reading.{strip_bom, with_config, with_names_headers}
+use Rattle.csv.specs.declared.parser.Config.{Config}
+use Rattle.agg_records.proofs.rows.Rows.new.Goals as goal
+
+pub returns : goal.returns
+unfolding Reached
+returns c =
+    let fr = c.from_reader.ensures in
+    let parted = with_config c.new.result
+    (record (builder_config c.new.result) { delimiter = c.args.delimiter }) in
+    let built : c.has_headers.result.now ≡ with_names_headers parted false =
+    c.has_headers.ensures ∙ ap (λ b. with_names_headers b false) c.delimiter.ensures in
+    record {
+      untrimmed = fr.trim ∙ ap builder_trim built ∙ c.new.ensures.trim;
+      ready = inr (inr (fr.has_headers ∙ ap builder_names_headers built, fr.headers));
+      config = fr.config ∙ ap builder_config built
+          ∙ ap (λ (k : Config). record k { delimiter = c.args.delimiter }) c.new.ensures.config;
+      left = strip_bom c.args.bytes.now;
+      source = fr.source;
+      reached = (sym fr.state, refl);
+    }

@@ -1,0 +1,33 @@
+use Rattle.std.proofs.Common.{List, ℕ, [], ◌∷◌, Option, inl, subst}
+use Rattle.std.proofs.lemmas.Result.{on_ok_weaker}
+use Rattle.csv.specs.Records.{Row, fields_of}
+use Rattle.agg_records.specs.Table.{ArePlaces, HoldsRows}
+use Rattle.agg_records.specs.declared.asked.AskedField.{AskedField}
+use Rattle.agg_records.proofs.TableRows.{rows_later}
+use Rattle.agg_records.proofs.table.read_rows.Goals as goal
+
+pub returns : goal.returns
+returns c =
+    let asked = c.args.asked.now in
+    let row = c.next_row.new.rows.row in
+    let header = fields_of row in
+    let places = c.in_ok-places.places.items in
+    let under : ArePlaces header c.as_slice.result.now places =
+    subst (λ (r : Row). ArePlaces (fields_of r) c.as_slice.result.now places) c.row-2.ensures
+    c.in_ok-places.ensures in
+    let placed : ArePlaces header asked places =
+    subst (λ (fields : List AskedField). ArePlaces header fields places) c.as_slice.ensures under in
+    on_ok_weaker c.read_rest.result (λ rest delimiter text has.
+    let here = c.in_ok-next_row.ensures.more c.if-not-branch.false delimiter text [] has in
+    let (more, records, held) = rest delimiter text (header ∷ []) here in
+    inl (record {
+      header = header;
+      rows = more;
+      records = records;
+      places = places;
+      placed = placed;
+      holds = rows_later asked places more c.args.into.now c.see_header.new.records
+          c.read_rest.new.into c.see_header.ensures
+          (subst (λ (ps : List (Option ℕ)). HoldsRows asked ps more c.see_header.new.records
+          c.read_rest.new.into) c.as_slice-2.ensures.value held);
+    })) c.read_rest.ensures

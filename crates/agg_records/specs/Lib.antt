@@ -1,0 +1,11 @@
+pub mod Asked
+pub mod Cells
+pub mod Encodings
+pub mod Formats
+pub mod Held
+pub mod JsonRecords
+pub mod Lines
+pub mod Objects
+pub mod Rows
+pub mod Table
+pub mod Values

@@ -1,0 +1,80 @@
+//! One JSON array of objects.
+ghost use Rattle.std.specs.Prelude.{◌<◌, length, OnOk};
+ghost use Rattle.agg_records.specs.JsonRecords.{HoldsArray, HoldsNext};
+
+use crate::objects::add_object;
+use crate::place::{line_of, offset_of};
+use crate::{AskedFields, RecordCause, RecordError, Records};
+use json::{Error, MAX_DEPTH, Reader, Scratch, Token, Value};
+use std::alloc::Global;
+
+/// Appends the records of an array of objects.
+pub fn read_array(
+    alloc: Global,
+    text: &str,
+    asked: &AskedFields,
+    into: &mut Records,
+) -> Result<(), RecordError>
+    ensures { OnOk result (HoldsArray asked.now text.now into.old into.new) }
+{
+    let mut scratch = Scratch::new(alloc);
+    let Ok(mut reader) = Reader::new(text, &mut scratch) else {
+        return Err(RecordError::of(RecordCause::OutOfMemory));
+    };
+    let Some(Token::BeginArray) = reader.next() else {
+        return Err(fault(text, 0, RecordError::of(RecordCause::NotAnArray)));
+    };
+    'items: while !reader.take_end_array() {
+        let start = reader.offset();
+        if let Err(error) = read_item(alloc, &mut reader, asked, into) {
+            let offset = match error.cause {
+                RecordCause::NotJson => reader.offset(),
+                _ => offset_in(alloc, text, start, asked, &error),
+            };
+            return Err(fault(text, offset, error));
+        }
+    }
+    if reader.next().is_some() {
+        let error = RecordError::of(RecordCause::NotJson);
+        return Err(fault(text, reader.offset(), error));
+    }
+    Ok(())
+}
+
+// Appends the record that is the next item.
+fn read_item(
+    alloc: Global,
+    reader: &mut Reader<'_>,
+    asked: &AskedFields,
+    into: &mut Records,
+) -> Result<(), RecordError>
+    ensures holds { OnOk result
+        (HoldsNext asked.now reader.old reader.new into.old into.new) }
+    ensures shorter { OnOk result (length reader.new < length reader.old) }
+{
+    match Value::read(alloc, reader, MAX_DEPTH - 1) {
+        Ok(value) => add_object(alloc, into, asked, &value),
+        Err(Error::OutOfMemory) => Err(RecordError::of(RecordCause::OutOfMemory)),
+        Err(_) => Err(RecordError::of(RecordCause::NotJson)),
+    }
+}
+
+// The byte where the record is wrong that begins at a byte of a text.
+fn offset_in(
+    alloc: Global,
+    text: &str,
+    start: usize,
+    asked: &AskedFields,
+    error: &RecordError,
+) -> usize {
+    match text.get(start..) {
+        Some(record) => start.saturating_add(offset_of(alloc, record, asked, error)),
+        None => start,
+    }
+}
+
+// The error at a byte of a text.
+fn fault(text: &str, offset: usize, error: RecordError) -> RecordError {
+    let (line, column) = line_of(text.as_bytes(), offset);
+    error.at(line, column)
+}

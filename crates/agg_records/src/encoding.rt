@@ -1,0 +1,29 @@
+//! How a text begins: a mark of its byte order, or the first bytes of another encoding.
+ghost use Rattle.std.specs.Prelude.{◌≡◌, ◌↔◌, IsErrOf, IsTrue, OnOk, false};
+ghost use Rattle.csv.specs.Reading.{strip_bom};
+ghost use Rattle.agg_records.specs.Encodings.{begins_as_gzip, begins_as_utf16};
+
+use crate::RecordCause;
+
+/// Refuses UTF-16, told by its byte order mark, and gzip.
+pub fn refuse_other_encodings(bytes: &[u8]) -> Result<(), RecordCause>
+    ensures utf16 { IsErrOf result RecordCause.Utf16 ↔ IsTrue (begins_as_utf16 bytes.now) }
+    ensures gzip { IsErrOf result RecordCause.Gzip ↔ IsTrue (begins_as_gzip bytes.now) }
+    ensures ok { OnOk result
+        ((begins_as_utf16 bytes.now ≡ false) × (begins_as_gzip bytes.now ≡ false)) }
+{
+    if bytes.starts_with(b"\xFF\xFE") || bytes.starts_with(b"\xFE\xFF") {
+        return Err(RecordCause::Utf16);
+    }
+    if bytes.starts_with(b"\x1F\x8B") {
+        return Err(RecordCause::Gzip);
+    }
+    Ok(())
+}
+
+/// The text without the byte order mark that it may begin with.
+pub fn without_mark(bytes: &[u8]) -> &[u8]
+    ensures { result.now ≡ strip_bom bytes.now }
+{
+    bytes.strip_prefix(b"\xEF\xBB\xBF").unwrap_or(bytes)
+}

@@ -1,0 +1,59 @@
+//! JSON lines: an object on each line.
+ghost use Rattle.std.specs.Prelude.{◌≡◌, OnOk};
+ghost use Rattle.agg_records.specs.JsonRecords.{HoldsText};
+ghost use Rattle.agg_records.specs.Lines.{HoldsLines, is_blank, lines_of};
+
+use crate::objects::add_object;
+use crate::place::offset_of;
+use crate::{AskedFields, RecordCause, RecordError, Records};
+use json::{Error, Scratch, Value};
+use std::alloc::Global;
+
+/// Appends the records of the lines of a text. Blank lines are passed over.
+pub fn read_lines(
+    alloc: Global,
+    text: &str,
+    asked: &AskedFields,
+    into: &mut Records,
+) -> Result<(), RecordError>
+    ensures { OnOk result (HoldsLines asked.now (lines_of text.now) into.old into.new) }
+{
+    let mut scratch = Scratch::new(alloc);
+    let mut number = 0u64;
+    for line in text.split('\n') {
+        number = number.saturating_add(1);
+        if !is_blank(line) {
+            if let Err(error) = read_line(alloc, line, &mut scratch, asked, into) {
+                let column = offset_of(alloc, line, asked, &error).saturating_add(1);
+                return Err(error.at(number, column));
+            }
+        }
+    }
+    Ok(())
+}
+
+// Appends the record of a line.
+fn read_line(
+    alloc: Global,
+    line: &str,
+    scratch: &mut Scratch,
+    asked: &AskedFields,
+    into: &mut Records,
+) -> Result<(), RecordError>
+    ensures { OnOk result (HoldsText asked.now line.now into.old into.new) }
+{
+    match Value::parse(alloc, line, scratch) {
+        Ok(value) => add_object(alloc, into, asked, &value),
+        Err(Error::OutOfMemory) => Err(RecordError::of(RecordCause::OutOfMemory)),
+        Err(_) => Err(RecordError::of(RecordCause::NotJson)),
+    }
+}
+
+// Whether a line has nothing but blanks.
+fn is_blank(line: &str) -> bool
+    ensures { result ≡ is_blank line.now }
+{
+    line.as_bytes()
+        .iter()
+        .all(|b| *b == b' ' || *b == b'\t' || *b == b'\r')
+}

@@ -1,0 +1,54 @@
+//! Records of each format.
+ghost use Rattle.std.specs.Prelude.{◌≡◌, IfOk, IsErrAnd, IsTrue, OnOk};
+ghost use Rattle.csv.specs.Reading.{strip_bom};
+ghost use Rattle.agg_records.specs.Encodings.{begins_as_gzip, begins_as_utf16};
+ghost use Rattle.agg_records.specs.Formats.{HoldsRecords};
+
+use crate::array::read_array;
+use crate::encoding::{refuse_other_encodings, without_mark};
+use crate::lines::read_lines;
+use crate::place::line_of;
+use crate::table::read_table;
+use crate::{AskedFields, RecordCause, RecordError, RecordFormat, Records};
+use std::alloc::Global;
+use std::str::from_utf8;
+
+/// Appends the records of a text. After an error some of them may have been appended.
+pub fn read_records(
+    alloc: Global,
+    format: RecordFormat,
+    bytes: &[u8],
+    asked: &AskedFields,
+    into: &mut Records,
+) -> Result<(), RecordError>
+    ensures held { OnOk result (HoldsRecords format asked.now bytes.now into.old into.new) }
+    ensures utf16 { IsTrue (begins_as_utf16 bytes.now)
+        → IsErrAnd result (λ error. error.cause ≡ RecordCause.Utf16) }
+    ensures gzip { IsTrue (begins_as_gzip bytes.now)
+        → IsErrAnd result (λ error. error.cause ≡ RecordCause.Gzip) }
+{
+    if let Err(cause) = refuse_other_encodings(bytes) {
+        return Err(RecordError::of(cause));
+    }
+    into.number_fields(asked)?;
+    match format {
+        RecordFormat::Csv => read_table(alloc, b',', bytes, asked, into),
+        RecordFormat::Tsv => read_table(alloc, b'\t', bytes, asked, into),
+        RecordFormat::JsonLines => read_lines(alloc, text_of(bytes)?, asked, into),
+        RecordFormat::Json => read_array(alloc, text_of(bytes)?, asked, into),
+    }
+}
+
+// The text that bytes are, without a byte order mark.
+fn text_of(bytes: &[u8]) -> Result<&str, RecordError>
+    ensures { IfOk result (λ text. text.now ≡ strip_bom bytes.now) }
+{
+    let bytes = without_mark(bytes);
+    match from_utf8(bytes) {
+        Ok(text) => Ok(text),
+        Err(error) => {
+            let (line, column) = line_of(bytes, error.valid_up_to());
+            Err(RecordError::of(RecordCause::NotText).at(line, column))
+        }
+    }
+}

@@ -1,0 +1,75 @@
+//! The value that a JSON value or a cell is, by the type of its field.
+ghost use Rattle.std.specs.Prelude.{◌≡◌, Some, Ok, IfOk, option_map, option_to_list};
+ghost use Rattle.json.specs.Value.{value_view};
+ghost use Rattle.agg_column.specs.declared.document.FieldValue.{FieldValue};
+ghost use Rattle.agg_records.specs.Cells.{cell_values};
+ghost use Rattle.agg_records.specs.Objects.{alone, bool_value as value_of_bool, single_values};
+
+use crate::RecordCause;
+use agg_column::FieldValue;
+use agg_fields::{FieldType, ValueError, value_of_number, value_of_string, value_of_text};
+use json::Value;
+use std::alloc::Global;
+use std::str::from_utf8;
+
+/// The value of a JSON value that is no array. `null` is none.
+pub fn value_of_item(
+    alloc: Global,
+    item: &Value<'_>,
+    of: FieldType,
+) -> Result<Option<FieldValue>, RecordCause>
+    ensures { IfOk result
+        (λ found. single_values of (value_view item.now) ≡ Some (option_to_list found)) }
+{
+    match item {
+        Value::Null => Ok(None),
+        Value::Bool(b) => bool_value(alloc, *b, of),
+        Value::Number(text) => told(alloc, text, value_of_number(alloc, text, of)),
+        Value::String(text) => told(alloc, text, value_of_string(alloc, text, of)),
+        Value::Array(_) => Err(RecordCause::HoldsArray),
+        Value::Object(_) => Err(RecordCause::HoldsObject),
+    }
+}
+
+/// The value of a cell. An empty one has none.
+pub fn value_of_cell(
+    alloc: Global,
+    cell: &[u8],
+    of: FieldType,
+) -> Result<Option<FieldValue>, RecordCause>
+    ensures { IfOk result (λ found. cell_values of cell.now ≡ Some (option_to_list found)) }
+{
+    if cell.is_empty() {
+        return Ok(None);
+    }
+    match from_utf8(cell) {
+        Ok(text) => told(alloc, text, value_of_text(alloc, text, of)),
+        Err(_) => Err(RecordCause::NotText),
+    }
+}
+
+// A plain field holds `true` and `false` as they are, and a field of texts their words.
+fn bool_value(alloc: Global, b: bool, of: FieldType) -> Result<Option<FieldValue>, RecordCause>
+    ensures { IfOk result
+        (λ found. option_map alone (value_of_bool of b) ≡ Some (option_to_list found)) }
+{
+    if let FieldType::Plain = of {
+        return Ok(Some(FieldValue::Bool(b)));
+    }
+    let word = if b { "true" } else { "false" };
+    told(alloc, word, value_of_string(alloc, word, of))
+}
+
+// The value, or why a text is none.
+fn told(
+    alloc: Global,
+    text: &str,
+    value: Result<FieldValue, ValueError>,
+) -> Result<Option<FieldValue>, RecordCause>
+    ensures { IfOk result (λ found. (v : FieldValue) × (value ≡ Ok v) × (found ≡ Some v)) }
+{
+    match value {
+        Ok(value) => Ok(Some(value)),
+        Err(why) => Err(RecordCause::of_value(alloc, text, why)),
+    }
+}
