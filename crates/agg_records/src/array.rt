@@ -1,5 +1,6 @@
 //! One JSON array of objects.
-ghost use Rattle.std.specs.Prelude.{◌<◌, length, OnOk};
+ghost use Rattle.std.specs.Prelude.{◌<◌, length, OnOk, IfErr, ◌≡◌, false};
+ghost use Rattle.agg_records.specs.Encodings.{is_encoding};
 ghost use Rattle.agg_records.specs.JsonRecords.{HoldsArray, HoldsNext};
 
 use crate::objects::add_object;
@@ -15,7 +16,8 @@ pub fn read_array(
     asked: &AskedFields,
     into: &mut Records,
 ) -> Result<(), RecordError>
-    ensures { OnOk result (HoldsArray asked.now text.now into.old into.new) }
+    ensures ok { OnOk result (HoldsArray asked.now text.now into.old into.new) }
+    ensures cause { IfErr result (λ error. is_encoding error.cause ≡ false) }
 {
     let mut scratch = Scratch::new(alloc);
     let Ok(mut reader) = Reader::new(text, &mut scratch) else {
@@ -51,6 +53,7 @@ fn read_item(
     ensures holds { OnOk result
         (HoldsNext asked.now reader.old reader.new into.old into.new) }
     ensures shorter { OnOk result (length reader.new < length reader.old) }
+    ensures cause { IfErr result (λ error. is_encoding error.cause ≡ false) }
 {
     match Value::read(alloc, reader, MAX_DEPTH - 1) {
         Ok(value) => add_object(alloc, into, asked, &value),
@@ -74,7 +77,9 @@ fn offset_in(
 }
 
 // The error at a byte of a text.
-fn fault(text: &str, offset: usize, error: RecordError) -> RecordError {
+fn fault(text: &str, offset: usize, error: RecordError) -> RecordError
+    ensures { result.cause ≡ error.cause }
+{
     let (line, column) = line_of(text.as_bytes(), offset);
     error.at(line, column)
 }

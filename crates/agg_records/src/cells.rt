@@ -1,10 +1,11 @@
 //! Rows of cells as documents: the cells under the asked names.
-ghost use Rattle.std.specs.Prelude.{◌≡◌, true, false, IfOk, OnOk, option_and_then, option_map};
-ghost use Rattle.std.specs.Prelude.{◌↔◌, Some, IsTrue};
+ghost use Rattle.std.specs.Prelude.{◌≡◌, true, false, IfOk, OnOk, option_and_then, option_map, ◌↔◌};
+ghost use Rattle.std.specs.Prelude.{Some, IsTrue, IfErr};
 ghost use Rattle.csv.specs.Records.{field_at, fields_of};
 ghost use Rattle.agg_segment.specs.Segment.{gathered_documents};
 ghost use Rattle.agg_records.specs.Cells.{cell_at, cell_values, values_at, row_document};
 ghost use Rattle.agg_records.specs.Cells.{values_of_row};
+ghost use Rattle.agg_records.specs.Encodings.{is_encoding};
 ghost use Rattle.agg_records.specs.Held.{Holds, held_documents};
 ghost use Rattle.agg_records.specs.Table.{ArePlaces, IsPlaceOf};
 ghost use Rattle.agg_records.specs.Values.{Gains, named_values};
@@ -23,8 +24,9 @@ pub fn add_row(
     places: &[Option<usize>],
     row: &ByteRecord,
 ) -> Result<(), RecordError>
-    ensures { OnOk result (Holds (row_document asked.now places.now (fields_of row.now))
+    ensures ok { OnOk result (Holds (row_document asked.now places.now (fields_of row.now))
         records.old records.new) }
+    ensures cause { IfErr result (λ error. is_encoding error.cause ≡ false) }
 {
     if try_row(alloc, records, asked, places, row)? {
         return Ok(());
@@ -48,6 +50,7 @@ fn try_row(
         records.old records.new) }
     ensures left { IfOk result (λ taken. taken ≡ false
         → held_documents records.new ≡ held_documents records.old) }
+    ensures cause { IfErr result (λ error. is_encoding error.cause ≡ false) }
 {
     records.forget_open();
     push_row(alloc, &mut records.builder, asked.as_slice(), places, row)?;
@@ -65,6 +68,7 @@ fn push_row(
     ensures ok { OnOk result
         (Gains (values_of_row asked.now places.now (fields_of row.now)) builder.old builder.new) }
     ensures documents { gathered_documents builder.new ≡ gathered_documents builder.old }
+    ensures cause { IfErr result (λ error. is_encoding error.cause ≡ false) }
 {
     for index in 0..asked.len() {
         let field = &asked[index];
@@ -96,6 +100,7 @@ fn push_cell(
         (values_at field.now.of (option_map (λ bytes. bytes.now) cell.entry)))
         builder.old builder.new) }
     ensures documents { gathered_documents builder.new ≡ gathered_documents builder.old }
+    ensures cause { IfErr result (λ cause. is_encoding cause ≡ false) }
 {
     let Some(cell) = cell else {
         return Ok(());
@@ -113,8 +118,9 @@ pub fn places_of(
     header: &ByteRecord,
     asked: &[AskedField],
 ) -> Result<Vec<Option<usize>>, RecordError>
-    ensures { IfOk result
+    ensures ok { IfOk result
         (λ places. ArePlaces (fields_of header.now) asked.now places.items) }
+    ensures cause { IfErr result (λ error. is_encoding error.cause ≡ false) }
 {
     let mut places = Vec::new(alloc);
     for field in asked {
@@ -131,7 +137,8 @@ pub fn places_of(
 
 // The place of the one cell of a header that is this name.
 fn place_of(header: &ByteRecord, name: &[u8]) -> Result<Option<usize>, RecordCause>
-    ensures { IfOk result (λ place. IsPlaceOf (fields_of header.now) name.now place) }
+    ensures ok { IfOk result (λ place. IsPlaceOf (fields_of header.now) name.now place) }
+    ensures cause { IfErr result (λ cause. is_encoding cause ≡ false) }
 {
     let mut found = None;
     for place in 0..header.len() {

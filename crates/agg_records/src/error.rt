@@ -1,5 +1,6 @@
 //! Where and why records cannot be read.
-ghost use Rattle.std.specs.Prelude.{◌≡◌};
+ghost use Rattle.std.specs.Prelude.{◌≡◌, false};
+ghost use Rattle.agg_records.specs.Encodings.{is_encoding};
 
 use agg_fields::ValueError;
 use agg_values::{OutOfMemory, Text};
@@ -46,6 +47,8 @@ pub enum RecordCause {
 }
 
 impl From<OutOfMemory> for RecordCause {
+    ghost from_gives = { λ _ cause. is_encoding cause ≡ false };
+
     fn from(_error: OutOfMemory) -> RecordCause {
         RecordCause::OutOfMemory
     }
@@ -53,7 +56,9 @@ impl From<OutOfMemory> for RecordCause {
 
 impl RecordCause {
     /// That a value is none of its field. The message shows the first bytes of its text.
-    pub(crate) fn of_value(alloc: Global, text: &str, why: ValueError) -> RecordCause {
+    pub(crate) fn of_value(alloc: Global, text: &str, why: ValueError) -> RecordCause
+        ensures { is_encoding result ≡ false }
+    {
         if let ValueError::OutOfMemory = why {
             return RecordCause::OutOfMemory;
         }
@@ -77,6 +82,8 @@ pub struct RecordError {
 }
 
 impl From<OutOfMemory> for RecordError {
+    ghost from_gives = { λ _ error. is_encoding error.cause ≡ false };
+
     fn from(_error: OutOfMemory) -> RecordError {
         RecordError::of(RecordCause::OutOfMemory)
     }
@@ -96,7 +103,9 @@ impl RecordError {
     }
 
     /// Of a field, and of no line.
-    pub(crate) fn of_field(alloc: Global, field: &Text, cause: RecordCause) -> RecordError {
+    pub(crate) fn of_field(alloc: Global, field: &Text, cause: RecordCause) -> RecordError
+        ensures { is_encoding cause ≡ false → is_encoding result.cause ≡ false }
+    {
         match field.try_clone(alloc) {
             Ok(field) => RecordError {
                 line: 0,
@@ -109,12 +118,16 @@ impl RecordError {
     }
 
     /// The same on a line.
-    pub(crate) fn on_line(self, line: u64) -> RecordError {
+    pub(crate) fn on_line(self, line: u64) -> RecordError
+        ensures { result.cause ≡ self.cause }
+    {
         RecordError { line, ..self }
     }
 
     /// The same at a place of a line.
-    pub(crate) fn at(self, line: u64, column: usize) -> RecordError {
+    pub(crate) fn at(self, line: u64, column: usize) -> RecordError
+        ensures { result.cause ≡ self.cause }
+    {
         RecordError {
             line,
             column: Some(column),
@@ -123,6 +136,7 @@ impl RecordError {
     }
 }
 
+// To stand after the name of a file and a colon.
 impl fmt::Display for RecordError {
     fn fmt<W: fmt::Write>(&self, f: &mut fmt::Formatter<W>) -> fmt::Result {
         if self.line > 0 {
@@ -130,8 +144,8 @@ impl fmt::Display for RecordError {
             if let Some(column) = self.column {
                 write!(f, "{column}:")?;
             }
-            f.write_str(" ")?;
         }
+        f.write_str(" ")?;
         if let Some(field) = &self.field {
             write!(f, "{}: ", field.as_str())?;
         }

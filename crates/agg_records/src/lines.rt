@@ -1,5 +1,6 @@
 //! JSON lines: an object on each line.
-ghost use Rattle.std.specs.Prelude.{◌≡◌, OnOk};
+ghost use Rattle.std.specs.Prelude.{◌≡◌, OnOk, IfErr, false};
+ghost use Rattle.agg_records.specs.Encodings.{is_encoding};
 ghost use Rattle.agg_records.specs.JsonRecords.{HoldsText};
 ghost use Rattle.agg_records.specs.Lines.{HoldsLines, is_blank, lines_of};
 
@@ -16,7 +17,8 @@ pub fn read_lines(
     asked: &AskedFields,
     into: &mut Records,
 ) -> Result<(), RecordError>
-    ensures { OnOk result (HoldsLines asked.now (lines_of text.now) into.old into.new) }
+    ensures ok { OnOk result (HoldsLines asked.now (lines_of text.now) into.old into.new) }
+    ensures cause { IfErr result (λ error. is_encoding error.cause ≡ false) }
 {
     let mut scratch = Scratch::new(alloc);
     let mut number = 0u64;
@@ -40,7 +42,8 @@ fn read_line(
     asked: &AskedFields,
     into: &mut Records,
 ) -> Result<(), RecordError>
-    ensures { OnOk result (HoldsText asked.now line.now into.old into.new) }
+    ensures ok { OnOk result (HoldsText asked.now line.now into.old into.new) }
+    ensures cause { IfErr result (λ error. is_encoding error.cause ≡ false) }
 {
     match Value::parse(alloc, line, scratch) {
         Ok(value) => add_object(alloc, into, asked, &value),

@@ -1,7 +1,8 @@
 //! Objects as documents: the values of the asked members.
-ghost use Rattle.std.specs.Prelude.{◌≡◌, true, false, IfOk, OnOk, option_map};
+ghost use Rattle.std.specs.Prelude.{◌≡◌, true, false, IfOk, OnOk, option_map, IfErr};
 ghost use Rattle.json.specs.Value.{items_view, value_view};
 ghost use Rattle.agg_segment.specs.Segment.{IsNameOf, gathered_documents};
+ghost use Rattle.agg_records.specs.Encodings.{is_encoding};
 ghost use Rattle.agg_records.specs.Held.{Holds, held_documents};
 ghost use Rattle.agg_records.specs.Objects.{field_values, item_values, member_values};
 ghost use Rattle.agg_records.specs.Objects.{object_document, single_values};
@@ -23,8 +24,9 @@ pub fn add_object(
     asked: &AskedFields,
     value: &Value<'_>,
 ) -> Result<(), RecordError>
-    ensures { OnOk result
+    ensures ok { OnOk result
         (Holds (object_document asked.now (value_view value.now)) records.old records.new) }
+    ensures cause { IfErr result (λ error. is_encoding error.cause ≡ false) }
 {
     let Value::Object(members) = value else {
         return Err(RecordError::of(RecordCause::NotAnObject));
@@ -51,6 +53,7 @@ fn try_object(
         records.old records.new) }
     ensures left { IfOk result (λ taken. taken ≡ false
         → held_documents records.new ≡ held_documents records.old) }
+    ensures cause { IfErr result (λ error. is_encoding error.cause ≡ false) }
 {
     records.forget_open();
     push_object(alloc, &mut records.builder, asked.as_slice(), object)?;
@@ -81,6 +84,7 @@ fn push_object(
         (values_of_fields (field_values (value_view object.now)) asked.now)
         builder.old builder.new) }
     ensures documents { gathered_documents builder.new ≡ gathered_documents builder.old }
+    ensures cause { IfErr result (λ error. is_encoding error.cause ≡ false) }
 {
     for field in asked {
         if let Err(cause) = push_field(alloc, builder, object, field) {
@@ -101,6 +105,7 @@ fn push_field(
         (option_map (named_values field.now.name) (field_values (value_view object.now) field.now))
         builder.old builder.new) }
     ensures documents { gathered_documents builder.new ≡ gathered_documents builder.old }
+    ensures cause { IfErr result (λ cause. is_encoding cause ≡ false) }
 {
     match member_of(object, field) {
         Some(member) => push_member(alloc, builder, field, member),
@@ -120,6 +125,7 @@ fn push_member(
         (member_values field.now.of (value_view member.now)))
         builder.old builder.new) }
     ensures documents { gathered_documents builder.new ≡ gathered_documents builder.old }
+    ensures cause { IfErr result (λ cause. is_encoding cause ≡ false) }
 {
     let number = builder.field(field.name.as_str())?;
     match member {
@@ -141,6 +147,7 @@ fn push_items(
         (item_values field.now.of (items_view items.now)))
         builder.old builder.new) }
     ensures documents { gathered_documents builder.new ≡ gathered_documents builder.old }
+    ensures cause { IfErr result (λ cause. is_encoding cause ≡ false) }
 {
     for item in items {
         push_item(alloc, builder, number, field, item)?;
@@ -162,6 +169,7 @@ fn push_item(
         builder.old builder.new) }
     ensures documents { gathered_documents builder.new ≡ gathered_documents builder.old }
     ensures names { builder.new.names ≡ builder.old.names }
+    ensures cause { IfErr result (λ cause. is_encoding cause ≡ false) }
 {
     if let Some(value) = value_of_item(alloc, item, field.of)? {
         builder.push(number, value)?;

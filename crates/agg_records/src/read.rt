@@ -1,7 +1,7 @@
 //! Records of each format.
-ghost use Rattle.std.specs.Prelude.{◌≡◌, IfOk, IsErrAnd, IsTrue, OnOk};
+ghost use Rattle.std.specs.Prelude.{◌≡◌, IfOk, IsErrAnd, IsTrue, OnOk, IfErr, false, ◌↔◌};
 ghost use Rattle.csv.specs.Reading.{strip_bom};
-ghost use Rattle.agg_records.specs.Encodings.{begins_as_gzip, begins_as_utf16};
+ghost use Rattle.agg_records.specs.Encodings.{begins_as_gzip, begins_as_utf16, is_encoding};
 ghost use Rattle.agg_records.specs.Formats.{HoldsRecords};
 
 use crate::array::read_array;
@@ -22,10 +22,10 @@ pub fn read_records(
     into: &mut Records,
 ) -> Result<(), RecordError>
     ensures held { OnOk result (HoldsRecords format asked.now bytes.now into.old into.new) }
-    ensures utf16 { IsTrue (begins_as_utf16 bytes.now)
-        → IsErrAnd result (λ error. error.cause ≡ RecordCause.Utf16) }
-    ensures gzip { IsTrue (begins_as_gzip bytes.now)
-        → IsErrAnd result (λ error. error.cause ≡ RecordCause.Gzip) }
+    ensures utf16 { IsErrAnd result (λ error. error.cause ≡ RecordCause.Utf16)
+        ↔ IsTrue (begins_as_utf16 bytes.now) }
+    ensures gzip { IsErrAnd result (λ error. error.cause ≡ RecordCause.Gzip)
+        ↔ IsTrue (begins_as_gzip bytes.now) }
 {
     if let Err(cause) = refuse_other_encodings(bytes) {
         return Err(RecordError::of(cause));
@@ -41,7 +41,8 @@ pub fn read_records(
 
 // The text that bytes are, without a byte order mark.
 fn text_of(bytes: &[u8]) -> Result<&str, RecordError>
-    ensures { IfOk result (λ text. text.now ≡ strip_bom bytes.now) }
+    ensures ok { IfOk result (λ text. text.now ≡ strip_bom bytes.now) }
+    ensures cause { IfErr result (λ error. is_encoding error.cause ≡ false) }
 {
     let bytes = without_mark(bytes);
     match from_utf8(bytes) {

@@ -1,8 +1,9 @@
 //! The rows of a text of cells, one after the other.
-ghost use Rattle.std.specs.Prelude.{◌≡◌, ◌++◌, ◌∷◌, [], ℕ, List, true, false, IfOk};
+ghost use Rattle.std.specs.Prelude.{◌≡◌, ◌++◌, ◌∷◌, [], ℕ, List, true, false, IfOk, IfErr};
 ghost use Rattle.csv.specs.Reading.{AreRecords, strip_bom};
 ghost use Rattle.csv.specs.Records.{fields_of};
 ghost use Rattle.csv.specs.declared.parser.State.TheVariants as st;
+ghost use Rattle.agg_records.specs.Encodings.{is_encoding};
 
 use crate::RecordCause;
 use csv::{ByteRecord, ErrorKind, Reader, ReaderBuilder};
@@ -43,6 +44,7 @@ impl<'a> Rows<'a> {
             → (delimiter : ℕ) (text : List ℕ) (rows : List (List (List ℕ)))
             → HasRead delimiter text rows self.old
             → AreRecords (cells_config delimiter) st.StartRecord (strip_bom text) rows) }
+        ensures cause { IfErr result (λ cause. is_encoding cause ≡ false) }
     {
         let start = self.reader.position().byte();
         match self.reader.read_byte_record(&mut self.row) {
@@ -77,7 +79,9 @@ impl<'a> Rows<'a> {
 }
 
 // What an error of the reader of cells is.
-fn cause_of(kind: ErrorKind) -> RecordCause {
+fn cause_of(kind: ErrorKind) -> RecordCause
+    ensures { is_encoding result ≡ false }
+{
     match kind {
         ErrorKind::UnequalLengths {
             expected_len,

@@ -1,8 +1,9 @@
 //! The value that a JSON value or a cell is, by the type of its field.
-ghost use Rattle.std.specs.Prelude.{◌≡◌, Some, Ok, IfOk, option_map, option_to_list};
+ghost use Rattle.std.specs.Prelude.{◌≡◌, Some, Ok, IfOk, option_map, option_to_list, IfErr, false};
 ghost use Rattle.json.specs.Value.{value_view};
 ghost use Rattle.agg_column.specs.declared.document.FieldValue.{FieldValue};
 ghost use Rattle.agg_records.specs.Cells.{cell_values};
+ghost use Rattle.agg_records.specs.Encodings.{is_encoding};
 ghost use Rattle.agg_records.specs.Objects.{alone, bool_value as value_of_bool, single_values};
 
 use crate::RecordCause;
@@ -18,8 +19,9 @@ pub fn value_of_item(
     item: &Value<'_>,
     of: FieldType,
 ) -> Result<Option<FieldValue>, RecordCause>
-    ensures { IfOk result
+    ensures ok { IfOk result
         (λ found. single_values of (value_view item.now) ≡ Some (option_to_list found)) }
+    ensures cause { IfErr result (λ cause. is_encoding cause ≡ false) }
 {
     match item {
         Value::Null => Ok(None),
@@ -37,7 +39,8 @@ pub fn value_of_cell(
     cell: &[u8],
     of: FieldType,
 ) -> Result<Option<FieldValue>, RecordCause>
-    ensures { IfOk result (λ found. cell_values of cell.now ≡ Some (option_to_list found)) }
+    ensures ok { IfOk result (λ found. cell_values of cell.now ≡ Some (option_to_list found)) }
+    ensures cause { IfErr result (λ cause. is_encoding cause ≡ false) }
 {
     if cell.is_empty() {
         return Ok(None);
@@ -50,8 +53,9 @@ pub fn value_of_cell(
 
 // A plain field holds `true` and `false` as they are, and a field of texts their words.
 fn bool_value(alloc: Global, b: bool, of: FieldType) -> Result<Option<FieldValue>, RecordCause>
-    ensures { IfOk result
+    ensures ok { IfOk result
         (λ found. option_map alone (value_of_bool of b) ≡ Some (option_to_list found)) }
+    ensures cause { IfErr result (λ cause. is_encoding cause ≡ false) }
 {
     if let FieldType::Plain = of {
         return Ok(Some(FieldValue::Bool(b)));
@@ -66,7 +70,8 @@ fn told(
     text: &str,
     value: Result<FieldValue, ValueError>,
 ) -> Result<Option<FieldValue>, RecordCause>
-    ensures { IfOk result (λ found. (v : FieldValue) × (value ≡ Ok v) × (found ≡ Some v)) }
+    ensures ok { IfOk result (λ found. (v : FieldValue) × (value ≡ Ok v) × (found ≡ Some v)) }
+    ensures cause { IfErr result (λ cause. is_encoding cause ≡ false) }
 {
     match value {
         Ok(value) => Ok(Some(value)),

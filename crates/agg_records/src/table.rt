@@ -1,8 +1,9 @@
 //! Rows of CSV and TSV under a header.
-ghost use Rattle.std.specs.Prelude.{◌≡◌, ◌++◌, ◌∷◌, [], ℕ, List, true, false, IfOk, OnOk};
+ghost use Rattle.std.specs.Prelude.{◌≡◌, ◌++◌, ◌∷◌, [], ℕ, List, true, false, IfOk, OnOk, IfErr};
 ghost use Rattle.csv.specs.Reading.{AreRecords, strip_bom};
 ghost use Rattle.csv.specs.Records.{fields_of};
 ghost use Rattle.csv.specs.declared.parser.State.TheVariants as st;
+ghost use Rattle.agg_records.specs.Encodings.{is_encoding};
 ghost use Rattle.agg_records.specs.Held.{held_documents};
 ghost use Rattle.agg_records.specs.Rows.{HasRead, cells_config};
 ghost use Rattle.agg_records.specs.Table.{HoldsRows, ReadsTable};
@@ -24,7 +25,8 @@ pub fn read_table(
     asked: &AskedFields,
     into: &mut Records,
 ) -> Result<(), RecordError>
-    ensures { OnOk result (ReadsTable delimiter bytes.now asked.now into.old into.new) }
+    ensures ok { OnOk result (ReadsTable delimiter bytes.now asked.now into.old into.new) }
+    ensures cause { IfErr result (λ error. is_encoding error.cause ≡ false) }
 {
     let mut rows = Rows::new(alloc, delimiter, bytes);
     let read = read_rows(alloc, &mut rows, asked, into);
@@ -45,8 +47,9 @@ fn read_rows(
     asked: &AskedFields,
     into: &mut Records,
 ) -> Result<(), RecordError>
-    ensures { OnOk result ((delimiter : ℕ) (text : List ℕ) → HasRead delimiter text [] rows.old
+    ensures ok { OnOk result ((delimiter : ℕ) (text : List ℕ) → HasRead delimiter text [] rows.old
         → ReadsTable delimiter text asked.now into.old into.new) }
+    ensures cause { IfErr result (λ error. is_encoding error.cause ≡ false) }
 {
     if !next_row(rows)? {
         return Ok(());
@@ -64,11 +67,12 @@ fn read_rest(
     places: &[Option<usize>],
     into: &mut Records,
 ) -> Result<(), RecordError>
-    ensures { OnOk result ((delimiter : ℕ) (text : List ℕ) (before : List (List (List ℕ)))
+    ensures ok { OnOk result ((delimiter : ℕ) (text : List ℕ) (before : List (List (List ℕ)))
         → HasRead delimiter text before rows.old
         → (more : List (List (List ℕ)))
         × AreRecords (cells_config delimiter) st.StartRecord (strip_bom text) (before ++ more)
         × HoldsRows asked.now places.now more into.old into.new) }
+    ensures cause { IfErr result (λ error. is_encoding error.cause ≡ false) }
 {
     'rows: for _ in 0..u64::MAX {
         if !next_row(rows)? {
@@ -89,6 +93,7 @@ fn next_row(rows: &mut Rows<'_>) -> Result<bool, RecordError>
         → (delimiter : ℕ) (text : List ℕ) (before : List (List (List ℕ)))
         → HasRead delimiter text before rows.old
         → AreRecords (cells_config delimiter) st.StartRecord (strip_bom text) before) }
+    ensures cause { IfErr result (λ error. is_encoding error.cause ≡ false) }
 {
     match rows.read() {
         Ok(found) => Ok(found),
@@ -98,7 +103,8 @@ fn next_row(rows: &mut Rows<'_>) -> Result<bool, RecordError>
 
 // Keeps the names of a header.
 fn see_header(records: &mut Records, header: &ByteRecord) -> Result<(), RecordError>
-    ensures { held_documents records.new ≡ held_documents records.old }
+    ensures held { held_documents records.new ≡ held_documents records.old }
+    ensures cause { IfErr result (λ error. is_encoding error.cause ≡ false) }
 {
     for place in 0..header.len() {
         if let Some(cell) = header.get(place) {
@@ -110,7 +116,8 @@ fn see_header(records: &mut Records, header: &ByteRecord) -> Result<(), RecordEr
 
 // Keeps a name, if it is a text.
 fn see_cell(records: &mut Records, cell: &[u8]) -> Result<(), RecordError>
-    ensures { held_documents records.new ≡ held_documents records.old }
+    ensures held { held_documents records.new ≡ held_documents records.old }
+    ensures cause { IfErr result (λ error. is_encoding error.cause ≡ false) }
 {
     match from_utf8(cell) {
         Ok(name) => Ok(records.see_name(name)?),

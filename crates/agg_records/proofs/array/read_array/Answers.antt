@@ -20,8 +20,8 @@ items-preserved c =
     c.args.into.now l.into c.read_item.new.into going.0 (rw (← going.1) took.shorter)
     l.invariant (rw (← going.1) took.holds)
 
-pub returns : goal.returns
-returns c =
+pub returns-clause-ok : goal.returns-clause-ok
+returns-clause-ok c =
     let l = c.items in
     let closes : after_end_array l.reader ≡ Some c.take_end_array.new.self = grind arith in
     let ended : c.take_end_array.new.self ≡ [] = grind (arith, common_steps) in

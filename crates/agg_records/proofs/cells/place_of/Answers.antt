@@ -3,8 +3,8 @@ use Rattle.csv.specs.Records.{fields_of}
 use Rattle.agg_records.proofs.HeaderPlaces.{IsPlaceBefore, place_of_all}
 use Rattle.agg_records.proofs.cells.place_of.Goals as goal
 
-pub returns : goal.returns
-returns c =
+pub returns-clause-ok : goal.returns-clause-ok
+returns-clause-ok c =
     let header = fields_of c.args.header.now in
     let l = c.loop-place in
     let whole : l.place ≡ length header =

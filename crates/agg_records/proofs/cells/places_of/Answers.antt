@@ -14,4 +14,4 @@ loop-field-preserved c =
     places_more header c.args.asked.now l.field-index c.field-item.result l.places.items
     c.in-Ok.place c.push.new.self.items c.loop-field-test.true c.field-item.is items l.invariant
     (subst (λ name. IsPlaceOf header name c.in-Ok.place)
-    (c.as_bytes.ensures.value ∙ c.as_str.ensures) c.in-Ok.ensures)
+    (c.as_bytes.ensures.value ∙ c.as_str.ensures) c.in-Ok.ensures.ok)

@@ -16,8 +16,8 @@ loop-line-preserved-in_default c =
     (one_line asked (without_blank (texts_of l.yielded)) line.now c.args.into.now l.into
     c.read_line.new.into l.invariant (search rules))
 
-pub returns : goal.returns
-returns c =
+pub returns-clause-ok : goal.returns-clause-ok
+returns-clause-ok c =
     let l = c.loop-line in
     let split = c.split-line-items in
     let cut = YieldsList-at c.into_iter-line-iterator.ensures.into_iter_gives

@@ -6,15 +6,15 @@ use Rattle.agg_records.specs.declared.asked.AskedField.{AskedField}
 use Rattle.agg_records.proofs.TableRows.{rows_later}
 use Rattle.agg_records.proofs.table.read_rows.Goals as goal
 
-pub returns : goal.returns
-returns c =
+pub returns-clause-ok : goal.returns-clause-ok
+returns-clause-ok c =
     let asked = c.args.asked.now in
     let row = c.next_row.new.rows.row in
     let header = fields_of row in
     let places = c.in_ok-places.places.items in
     let under : ArePlaces header c.as_slice.result.now places =
     subst (λ (r : Row). ArePlaces (fields_of r) c.as_slice.result.now places) c.row-2.ensures
-    c.in_ok-places.ensures in
+    c.in_ok-places.ensures.ok in
     let placed : ArePlaces header asked places =
     subst (λ (fields : List AskedField). ArePlaces header fields places) c.as_slice.ensures under in
     on_ok_weaker c.read_rest.result (λ rest delimiter text has.
@@ -27,7 +27,7 @@ returns c =
       places = places;
       placed = placed;
       holds = rows_later asked places more c.args.into.now c.see_header.new.records
-          c.read_rest.new.into c.see_header.ensures
+          c.read_rest.new.into c.see_header.ensures.held
           (subst (λ (ps : List (Option ℕ)). HoldsRows asked ps more c.see_header.new.records
           c.read_rest.new.into) c.as_slice-2.ensures.value held);
-    })) c.read_rest.ensures
+    })) c.read_rest.ensures.ok

@@ -1,0 +1,69 @@
+//! Why a grouping can't be asked.
+use agg_fields::ValueError;
+use agg_values::{OutOfMemory, Text};
+use std::alloc::{AllocError, AllocFailed};
+use thiserror::Error;
+
+/// Why a grouping can't be asked, with the words that are wrong.
+#[derive(Debug, Drop, Error)]
+pub enum GroupingError {
+    /// An interval that divides neither the numbers nor the dates of its field.
+    #[error("--by {}:{}: {why}", field.as_str(), interval.as_str())]
+    Interval {
+        field: Text,
+        interval: Text,
+        why: IntervalFault,
+    },
+    /// A value that its field can't have.
+    #[error("--where: {}: '{}' {why}", field.as_str(), value.as_str())]
+    Value {
+        field: Text,
+        value: Text,
+        why: ValueError,
+    },
+    /// A value of a key to go on after that its field can't have.
+    #[error("--after: {}: a value {why}", field.as_str())]
+    AfterValue {
+        field: Text,
+        why: ValueError,
+    },
+    /// Values of a key after the last source.
+    #[error("--after: {} has more values than there are groups by", .0.as_str())]
+    ExtraValue(Text),
+    /// A field that is said to hold two things.
+    #[error("{}: only one of --date, --decimal and --text may name a field", .0.as_str())]
+    TwoTypes(Text),
+    #[error("out of memory")]
+    OutOfMemory,
+}
+
+/// What is wrong with an interval.
+#[derive(Clone, Copy, Debug, PartialEq, Eq, Error)]
+pub enum IntervalFault {
+    #[error("dates are divided by 1d, 12h, 30m, year, month or week")]
+    OfDates,
+    #[error("numbers are divided by a whole number from 1 on, and --date FIELD reads dates")]
+    OfNumbers,
+    #[error("the interval has more decimals than the field, or is not above 0")]
+    OfDecimals,
+    #[error("a text field has no intervals")]
+    OfTexts,
+}
+
+impl From<OutOfMemory> for GroupingError {
+    fn from(_error: OutOfMemory) -> GroupingError {
+        GroupingError::OutOfMemory
+    }
+}
+
+impl From<AllocError> for GroupingError {
+    fn from(_error: AllocError) -> GroupingError {
+        GroupingError::OutOfMemory
+    }
+}
+
+impl<T: Drop> From<AllocFailed<T>> for GroupingError {
+    fn from(_error: AllocFailed<T>) -> GroupingError {
+        GroupingError::OutOfMemory
+    }
+}

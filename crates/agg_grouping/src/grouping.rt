@@ -1,0 +1,33 @@
+//! What a grouping asks.
+ghost use Rattle.std.specs.Prelude.{◌≡◌};
+ghost use Rattle.agg_grouping.specs.Sources.{column_name};
+ghost use Rattle.agg_words.specs.By.{parts};
+
+use agg_fields::FieldTypes;
+use agg_values::{OutOfMemory, Text};
+use agg_words::{BySpec, Condition, Metric};
+use std::alloc::Global;
+
+/// The name of a metric's column, such as `sum(amount)`.
+pub fn metric_name(alloc: Global, metric: &Metric<'_>) -> Result<Text, OutOfMemory> {
+    Text::from_string(format!(in alloc; "{}({})", metric.kind.word(), metric.field)?)
+}
+
+/// What the column of groups is called.
+pub fn column_of<'a>(by: &BySpec<'a>) -> &'a str
+    ensures { result.now ≡ column_name (parts by.now) }
+{
+    by.name.unwrap_or(by.field)
+}
+
+/// How records are grouped, and what is told of each group.
+#[derive(Drop)]
+pub struct Grouping<'a> {
+    pub by: Vec<BySpec<'a>>,
+    /// Those that a record has to meet.
+    pub conditions: Vec<Condition<'a>>,
+    pub metrics: Vec<Metric<'a>>,
+    /// Whether the metrics of all records are told too.
+    pub has_total: bool,
+    pub types: FieldTypes,
+}

@@ -1,0 +1,231 @@
+//! The sources of a composite.
+ghost use Rattle.std.specs.Prelude.{◌≡◌, IfOk};
+ghost use Rattle.agg_grouping.specs.Sources.{asked_for, described, description_of, has_group};
+ghost use Rattle.agg_grouping.specs.Sources.{order_asked, standing_of};
+ghost use Rattle.agg_words.specs.By.{parts};
+
+use crate::column_of;
+use crate::error::{GroupingError, IntervalFault};
+use agg_calendar::{CalendarInterval, PrecomputedDateInterval};
+use agg_decimals::{Places, read_decimal};
+use agg_fields::{FieldType, FieldTypes};
+use agg_request_tree::{
+    CompositeAggregationSource, DateHistogramCompositeAggregationSource,
+    HistogramCompositeAggregationSource, TermCompositeAggregationSource,
+};
+use agg_values::{MissingOrder, Order, OutOfMemory, RequestError, Text};
+use agg_words::{BySpec, Missing};
+use std::alloc::Global;
+
+/// The source that groups are made by.
+pub fn source_of(
+    alloc: Global,
+    by: &BySpec<'_>,
+    types: &FieldTypes,
+) -> Result<CompositeAggregationSource, GroupingError>
+    ensures { IfOk result (λ source. described source ≡ asked_for (parts by.now)) }
+{
+    let parts = SourceParts::new(alloc, by)?;
+    let Some(interval) = by.interval else {
+        return Ok(parts.terms());
+    };
+    let of = types.get(&parts.field);
+    match Division::read(alloc, interval, of)? {
+        Ok(division) => Ok(parts.divided(division)),
+        Err(why) => Err(GroupingError::Interval {
+            field: Text::copy_of(alloc, by.field)?,
+            interval: Text::copy_of(alloc, interval)?,
+            why,
+        }),
+    }
+}
+
+/// What the values of a source are divided by.
+#[derive(Drop)]
+enum Division {
+    Width(i64),
+    Fixed(Text),
+    Calendar(CalendarInterval),
+}
+
+impl Division {
+    // The division that an interval is, for a field of that type.
+    fn read(
+        alloc: Global,
+        interval: &str,
+        of: FieldType,
+    ) -> Result<Result<Division, IntervalFault>, OutOfMemory> {
+        Ok(match of {
+            FieldType::Date | FieldType::DateNumber(_) => Division::of_dates(alloc, interval)?,
+            FieldType::Decimal(places) => Division::of_decimals(interval, places),
+            FieldType::Plain => Division::of_numbers(interval),
+            FieldType::Text => Err(IntervalFault::OfTexts),
+        })
+    }
+
+    fn of_dates(
+        alloc: Global,
+        interval: &str,
+    ) -> Result<Result<Division, IntervalFault>, OutOfMemory> {
+        let unit = match interval {
+            "year" => CalendarInterval::Year,
+            "month" => CalendarInterval::Month,
+            "week" => CalendarInterval::Week,
+            _ => return Division::of_time(alloc, interval),
+        };
+        Ok(Ok(Division::Calendar(unit)))
+    }
+
+    fn of_time(
+        alloc: Global,
+        interval: &str,
+    ) -> Result<Result<Division, IntervalFault>, OutOfMemory> {
+        let text = Text::copy_of(alloc, interval)?;
+        match PrecomputedDateInterval::from_date_histogram_source_intervals(
+            alloc,
+            Some(&text),
+            None,
+        ) {
+            Ok(_) => Ok(Ok(Division::Fixed(text))),
+            Err(RequestError::OutOfMemory) => Err(OutOfMemory),
+            Err(_) => Ok(Err(IntervalFault::OfDates)),
+        }
+    }
+
+    fn of_numbers(interval: &str) -> Result<Division, IntervalFault> {
+        match interval.parse::<i64>() {
+            Ok(width) if width > 0 => Ok(Division::Width(width)),
+            _ => Err(IntervalFault::OfNumbers),
+        }
+    }
+
+    fn of_decimals(interval: &str, places: Places) -> Result<Division, IntervalFault> {
+        match read_decimal(interval, places) {
+            Ok(width) if width > 0 => Ok(Division::Width(width)),
+            _ => Err(IntervalFault::OfDecimals),
+        }
+    }
+}
+
+// A source but for what its values are divided by.
+#[derive(Drop)]
+struct SourceParts {
+    name: Text,
+    field: Text,
+    order: Order,
+    missing_bucket: bool,
+    missing_order: MissingOrder,
+}
+
+impl SourceParts {
+    fn new(alloc: Global, by: &BySpec<'_>) -> Result<SourceParts, OutOfMemory>
+        ensures { IfOk result (λ made. description_of made ≡ asked_for (parts by.now)) }
+    {
+        let (missing_bucket, missing_order) = missing_rule(by.missing);
+        Ok(SourceParts {
+            name: Text::copy_of(alloc, column_of(by))?,
+            field: Text::copy_of(alloc, by.field)?,
+            order: order_of(by.is_descending),
+            missing_bucket,
+            missing_order,
+        })
+    }
+
+    // A source of the values themselves.
+    fn terms(self) -> CompositeAggregationSource
+        ensures { described result ≡ description_of self }
+    {
+        let SourceParts {
+            name,
+            field,
+            order,
+            missing_bucket,
+            missing_order,
+        } = self;
+        CompositeAggregationSource::Terms(TermCompositeAggregationSource {
+            name,
+            field,
+            order,
+            missing_bucket,
+            missing_order,
+        })
+    }
+
+    // A source of the starts of intervals.
+    fn divided(self, division: Division) -> CompositeAggregationSource
+        ensures { described result ≡ description_of self }
+    {
+        match division {
+            Division::Width(interval) => self.histogram(interval),
+            Division::Fixed(text) => self.dates(Some(text), None),
+            Division::Calendar(unit) => self.dates(None, Some(unit)),
+        }
+    }
+
+    fn histogram(self, interval: i64) -> CompositeAggregationSource
+        ensures { described result ≡ description_of self }
+    {
+        let SourceParts {
+            name,
+            field,
+            order,
+            missing_bucket,
+            missing_order,
+        } = self;
+        CompositeAggregationSource::Histogram(HistogramCompositeAggregationSource {
+            name,
+            field,
+            interval,
+            order,
+            missing_bucket,
+            missing_order,
+        })
+    }
+
+    fn dates(
+        self,
+        fixed_interval: Option<Text>,
+        calendar_interval: Option<CalendarInterval>,
+    ) -> CompositeAggregationSource
+        ensures { described result ≡ description_of self }
+    {
+        let SourceParts {
+            name,
+            field,
+            order,
+            missing_bucket,
+            missing_order,
+        } = self;
+        CompositeAggregationSource::DateHistogram(DateHistogramCompositeAggregationSource {
+            name,
+            field,
+            fixed_interval,
+            calendar_interval,
+            order,
+            missing_bucket,
+            missing_order,
+        })
+    }
+}
+
+fn order_of(is_descending: bool) -> Order
+    ensures { result ≡ order_asked is_descending }
+{
+    if is_descending {
+        Order::Desc
+    } else {
+        Order::Asc
+    }
+}
+
+// Whether records without a value have a group, and where it stands.
+fn missing_rule(missing: Missing) -> (bool, MissingOrder)
+    ensures { result ≡ (has_group missing, standing_of missing) }
+{
+    match missing {
+        Missing::NoGroup => (false, MissingOrder::Default),
+        Missing::ByOrder => (true, MissingOrder::Default),
+        Missing::First => (true, MissingOrder::First),
+        Missing::Last => (true, MissingOrder::Last),
+    }
+}
