@@ -1,0 +1,32 @@
+//! What is asked of records, and where they are.
+use agg_grouping::Grouping;
+use agg_records::RecordFormat;
+use agg_tables::OutputFormat;
+
+/// The records of a file.
+#[derive(Drop)]
+pub struct RecordFile<'a> {
+    /// Its name in messages.
+    pub name: &'a str,
+    pub format: RecordFormat,
+    pub bytes: Vec<u8>,
+}
+
+/// What is asked of records.
+#[derive(Drop)]
+pub struct Asked<'a> {
+    pub grouping: Grouping<'a>,
+    pub pages: Pages<'a>,
+    pub output: OutputFormat,
+}
+
+/// Which pages of the groups are written.
+#[derive(Clone, Copy, Debug)]
+pub struct Pages<'a> {
+    /// How many groups a page has room for.
+    pub size: u32,
+    /// The key after which the first page begins.
+    pub after: Option<&'a str>,
+    /// Whether all pages are written, or the first one alone.
+    pub is_all: bool,
+}

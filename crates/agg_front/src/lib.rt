@@ -1,0 +1,20 @@
+//! Groups the records of files: reads them, pages over their groups, and writes what is asked.
+#![tactic(auto)]
+
+mod after;
+mod asked;
+mod columns;
+mod failure;
+mod format;
+mod grouped;
+mod index;
+mod page;
+mod report;
+mod written;
+
+pub use after::{after_of, write_after};
+pub use asked::{Asked, Pages, RecordFile};
+pub use failure::Failure;
+pub use format::format_of;
+pub use grouped::{check_asked, group};
+pub use report::Report;
