@@ -1,0 +1,99 @@
+//! What the options ask.
+use agg_command_line::{GroupOptions, OutputFormat as Chosen};
+use agg_fields::{FieldType, FieldTypes};
+use agg_front::{Asked, Failure, Pages};
+use agg_grouping::{Grouping, GroupingError};
+use agg_tables::OutputFormat;
+use agg_values::Text;
+use agg_words::DateField;
+use std::alloc::Global;
+
+// How many groups are made at once where all pages are written.
+const PAGE_OF_ALL: u32 = 100_000;
+
+/// What the options ask, with a table for a terminal where they don't tell the format.
+pub fn asked_of<'a>(
+    alloc: Global,
+    options: GroupOptions<'a>,
+    is_terminal: bool,
+) -> Result<Asked<'a>, Failure> {
+    let types = types_of(alloc, &options)?;
+    let GroupOptions {
+        by,
+        conditions,
+        metrics,
+        has_total,
+        size,
+        after,
+        is_all,
+        to,
+        ..
+    } = options;
+    Ok(Asked {
+        grouping: Grouping {
+            by,
+            conditions,
+            metrics,
+            has_total,
+            types,
+        },
+        pages: Pages {
+            size: if is_all { size.max(PAGE_OF_ALL) } else { size },
+            after,
+            is_all,
+        },
+        output: output_of(to, is_terminal),
+    })
+}
+
+fn output_of(to: Option<Chosen>, is_terminal: bool) -> OutputFormat {
+    match to {
+        Some(Chosen::Table) => OutputFormat::Table,
+        Some(Chosen::JsonLines) => OutputFormat::JsonLines,
+        Some(Chosen::Csv) => OutputFormat::Csv,
+        None if is_terminal => OutputFormat::Table,
+        None => OutputFormat::JsonLines,
+    }
+}
+
+// The types of the fields that the options name.
+fn types_of(alloc: Global, options: &GroupOptions<'_>) -> Result<FieldTypes, Failure> {
+    let mut types = FieldTypes::new(alloc);
+    for date in options.dates.iter() {
+        let of = type_of_date(date);
+        set_type(alloc, &mut types, date.field, of)?;
+    }
+    for decimal in options.decimals.iter() {
+        set_type(
+            alloc,
+            &mut types,
+            decimal.field,
+            FieldType::Decimal(decimal.places),
+        )?;
+    }
+    for field in options.texts.iter() {
+        set_type(alloc, &mut types, field, FieldType::Text)?;
+    }
+    Ok(types)
+}
+
+fn type_of_date(date: &DateField<'_>) -> FieldType {
+    match date.unit {
+        Some(unit) => FieldType::DateNumber(unit),
+        None => FieldType::Date,
+    }
+}
+
+// Sets the type of a field, which has none so far.
+fn set_type(
+    alloc: Global,
+    types: &mut FieldTypes,
+    field: &str,
+    of: FieldType,
+) -> Result<(), Failure> {
+    let name = Text::copy_of(alloc, field)?;
+    match types.set(name, of)? {
+        None => Ok(()),
+        Some(_) => Err(Failure::from(GroupingError::TwoTypes(Text::copy_of(alloc, field)?))),
+    }
+}
