@@ -14,7 +14,8 @@ use agg_streams::sink::{Sink, write_all};
 use agg_values::{AfterKey, ItemList, NameMap, OutOfMemory, Text};
 use std::alloc::Global;
 
-/// Groups the records of files, and writes the pages that are asked for, each as soon as it is made.
+/// Groups the records of files, and writes the pages that are asked for, each as soon as it is
+/// made.
 pub fn group<W: Sink>(
     alloc: Global,
     asked: &Asked<'_>,
