@@ -44,8 +44,8 @@ single_values of null = Some []
 single_values of (boolean b) = option_map alone (bool_value of b)
 single_values of (number text) = option_map alone (value_read (numeral_value of text))
 single_values of (string text) = option_map alone (value_read (string_value of text))
-single_values of (array items) = None
-single_values of (object members) = None
+single_values of (array _) = None
+single_values of (object _) = None
 
 -- the values of the items of an array
 abbrev pub item_values : FieldType → Items → Option (List FieldValue)
@@ -59,7 +59,7 @@ member_values of (boolean b) = single_values of (boolean b)
 member_values of (number text) = single_values of (number text)
 member_values of (string text) = single_values of (string text)
 member_values of (array items) = item_values of items
-member_values of (object members) = single_values of (object members)
+member_values of (object inner) = single_values of (object inner)
 
 -- the values of a member that may be missing
 abbrev pub values_of_member : FieldType → Option Json → Option (List FieldValue)
