@@ -1,0 +1,142 @@
+use agg_dates::DateUnit;
+use agg_decimals::Places;
+use agg_words::{
+    BySpec, BySpecError, Condition, ConditionError, DateField, DateFieldError, DecimalField,
+    DecimalFieldError, Missing, Test, read_by, read_condition, read_date_field, read_decimal_field,
+};
+use std::test::Fail;
+
+// A source by its field alone.
+const SHOP: BySpec<'static> = BySpec {
+    name: None,
+    field: "shop",
+    interval: None,
+    is_descending: false,
+    missing: Missing::NoGroup,
+};
+
+// Texts of `--by`, and what they stand for.
+const BY: &[(&str, Result<BySpec<'static>, BySpecError<'static>>)] = &[
+    ("shop", Ok(SHOP)),
+    (
+        "month=day:month,desc,missing=first",
+        Ok(BySpec {
+            name: Some("month"),
+            field: "day",
+            interval: Some("month"),
+            is_descending: true,
+            missing: Missing::First,
+        }),
+    ),
+    (
+        "shop,missing",
+        Ok(BySpec {
+            missing: Missing::ByOrder,
+            ..SHOP
+        }),
+    ),
+    (
+        "shop,missing=last",
+        Ok(BySpec {
+            missing: Missing::Last,
+            ..SHOP
+        }),
+    ),
+    (
+        "customer.city:10",
+        Ok(BySpec {
+            field: "customer.city",
+            interval: Some("10"),
+            ..SHOP
+        }),
+    ),
+    ("", Err(BySpecError::NoField)),
+    ("=shop", Err(BySpecError::NoName)),
+    ("shop:", Err(BySpecError::NoInterval)),
+    ("shop,", Err(BySpecError::UnknownWords(""))),
+    ("shop,asc", Err(BySpecError::UnknownWords("asc"))),
+    (
+        "shop,missing,desc",
+        Err(BySpecError::UnknownWords("missing,desc")),
+    ),
+];
+
+// Texts of `--where`, and what they stand for: the field and its test.
+const CONDITIONS: &[(&str, Result<(&str, Test<'static>), ConditionError>)] = &[
+    ("shop=Leith", Ok(("shop", Test::Is("Leith")))),
+    ("shop=", Ok(("shop", Test::Is("")))),
+    ("shop=a=b", Ok(("shop", Test::Is("a=b")))),
+    ("shop!=Leith", Ok(("shop", Test::IsNot("Leith")))),
+    ("items<3", Ok(("items", Test::Below("3")))),
+    ("items<=3", Ok(("items", Test::AtMost("3")))),
+    ("items>3", Ok(("items", Test::Above("3")))),
+    ("items>=3", Ok(("items", Test::AtLeast("3")))),
+    ("shop?", Ok(("shop", Test::Exists))),
+    ("shop", Err(ConditionError::NoTest)),
+    ("", Err(ConditionError::NoTest)),
+    ("=3", Err(ConditionError::NoField)),
+    ("shop!3", Err(ConditionError::LoneExclamation)),
+    ("shop?3", Err(ConditionError::AfterQuestion)),
+];
+
+// Texts of `--date`, and what they stand for.
+const DATES: &[(&str, Result<(&str, Option<DateUnit>), DateFieldError>)] = &[
+    ("day", Ok(("day", None))),
+    ("day=millis", Ok(("day", Some(DateUnit::Millis)))),
+    ("day=days", Err(DateFieldError::UnknownUnit)),
+    ("=millis", Err(DateFieldError::NoField)),
+];
+
+// Texts of `--decimal`, and what they stand for.
+const DECIMALS: &[(&str, Result<(&str, u32), DecimalFieldError>)] = &[
+    ("amount=2", Ok(("amount", 2))),
+    ("amount=18", Ok(("amount", 18))),
+    ("amount", Err(DecimalFieldError::NoPlaces)),
+    ("amount=19", Err(DecimalFieldError::NotPlaces)),
+    ("amount=", Err(DecimalFieldError::NotPlaces)),
+    ("=2", Err(DecimalFieldError::NoField)),
+];
+
+#[test]
+fn reads_sources(rt: HostRuntime) -> Result<(), Fail> {
+    for &(text, expected) in BY {
+        assert_eq!(rt; read_by(text), expected, "{text}");
+    }
+    Ok(())
+}
+
+#[test]
+fn reads_conditions(rt: HostRuntime) -> Result<(), Fail> {
+    for &(text, expected) in CONDITIONS {
+        assert_eq!(rt; read_condition(text).map(of_condition), expected, "{text}");
+    }
+    Ok(())
+}
+
+fn of_condition(condition: Condition<'_>) -> (&str, Test<'_>) {
+    (condition.field, condition.test)
+}
+
+#[test]
+fn reads_fields_of_dates(rt: HostRuntime) -> Result<(), Fail> {
+    for &(text, expected) in DATES {
+        assert_eq!(rt; read_date_field(text).map(of_date), expected, "{text}");
+    }
+    Ok(())
+}
+
+fn of_date(date: DateField<'_>) -> (&str, Option<DateUnit>) {
+    (date.field, date.unit)
+}
+
+#[test]
+fn reads_fields_of_decimals(rt: HostRuntime) -> Result<(), Fail> {
+    for &(text, expected) in DECIMALS {
+        let read = match read_decimal_field(text) {
+            Ok(decimal) => Ok((decimal.field, Places::get(decimal.places))),
+            Err(why) => Err(why),
+        };
+        assert_eq!(rt; read, expected, "{text}");
+    }
+    Ok(())
+}
