@@ -1,1 +1,4 @@
+pub mod Fields
+pub mod Query
+pub mod Request
 pub mod Sources

@@ -1,4 +1,14 @@
-//! The query of the conditions that records have to meet.
+//! The queries of conditions.
+ghost use Rattle.std.specs.Prelude.{◌≡◌, ◌∷◌, ◌++◌, [], Ok, IfOk, IfErr, OnOk, not};
+ghost use Rattle.agg_column.specs.Document.{Fields};
+ghost use Rattle.agg_fields.specs.Values.{text_value};
+ghost use Rattle.agg_segment.specs.Query.{holds, matches};
+ghost use Rattle.agg_words.specs.Condition.{parts};
+ghost use Rattle.agg_grouping.specs.Query.{RefusesCondition, RefusesText, bound_at, holds_between};
+ghost use Rattle.agg_grouping.specs.Query.{holds_text, is_one_of, meets, no_bound};
+ghost use Rattle.agg_grouping.specs.Query.{plain_values, truth_of};
+
+use crate::boolean::{none_of, some_of};
 use crate::error::GroupingError;
 use agg_column::FieldValue;
 use agg_fields::{FieldType, FieldTypes, ValueError, value_of_text};
@@ -7,33 +17,16 @@ use agg_values::{ItemList, OutOfMemory, Text};
 use agg_words::{Condition, Test};
 use std::alloc::Global;
 
-/// The query that matches the records that meet all conditions.
-pub fn query_of(
-    alloc: Global,
-    conditions: &[Condition<'_>],
-    types: &FieldTypes,
-) -> Result<QueryTree, GroupingError> {
-    if conditions.is_empty() {
-        return Ok(QueryTree::All);
-    }
-    let mut must = ItemList::new(alloc);
-    for condition in conditions {
-        let tree = tree_of(alloc, condition, types)?;
-        must.push(tree)?;
-    }
-    Ok(QueryTree::Boolean {
-        must,
-        should: ItemList::new(alloc),
-        must_not: ItemList::new(alloc),
-    })
-}
-
-// The query of one condition.
-fn tree_of(
+/// The query of one condition.
+pub(crate) fn tree_of(
     alloc: Global,
     condition: &Condition<'_>,
     types: &FieldTypes,
-) -> Result<QueryTree, GroupingError> {
+) -> Result<QueryTree, GroupingError>
+    ensures met { IfOk result (λ tree. (document : Fields)
+        → matches tree document ≡ meets types.now (parts condition.now) document) }
+    ensures cause { IfErr result (RefusesCondition types.now (parts condition.now)) }
+{
     let field = Text::copy_of(alloc, condition.field)?;
     let asked = Asked {
         alloc,
@@ -41,12 +34,12 @@ fn tree_of(
         field: condition.field,
     };
     match condition.test {
-        Test::Is(value) => asked.equal(value),
-        Test::IsNot(value) => asked.unequal(value),
-        Test::Below(value) => asked.below(value, End::Without),
-        Test::AtMost(value) => asked.below(value, End::With),
-        Test::Above(value) => asked.above(value, End::Without),
-        Test::AtLeast(value) => asked.above(value, End::With),
+        Test::Is(text) => asked.equal(text),
+        Test::IsNot(text) => asked.unequal(text),
+        Test::Below(text) => asked.below(text, End::Without),
+        Test::AtMost(text) => asked.below(text, End::With),
+        Test::Above(text) => asked.above(text, End::Without),
+        Test::AtLeast(text) => asked.above(text, End::With),
         Test::Exists => Ok(QueryTree::Exists { field }),
     }
 }
@@ -61,7 +54,10 @@ struct Asked<'a> {
 
 impl Asked<'_> {
     // The value that a text is in the field.
-    fn value(&self, text: &str) -> Result<FieldValue, GroupingError> {
+    fn value(&self, text: &str) -> Result<FieldValue, GroupingError>
+        ensures value { IfOk result (λ value. text_value self.now.of text.now ≡ Ok value) }
+        ensures cause { IfErr result (RefusesText self.now.of self.now.field.now text.now) }
+    {
         match value_of_text(self.alloc, text, self.of) {
             Ok(value) => Ok(value),
             Err(ValueError::OutOfMemory) => Err(GroupingError::OutOfMemory),
@@ -73,54 +69,79 @@ impl Asked<'_> {
         }
     }
 
-    fn name(&self) -> Result<Text, OutOfMemory> {
+    fn name(&self) -> Result<Text, OutOfMemory>
+        ensures { IfOk result (λ name. name ≡ self.now.field.now) }
+    {
         Text::copy_of(self.alloc, self.field)
     }
 
-    fn term(&self, value: FieldValue) -> Result<QueryTree, OutOfMemory> {
+    fn term(&self, value: FieldValue) -> Result<QueryTree, OutOfMemory>
+        ensures { IfOk result (λ tree. tree ≡ QueryTree.Term self.now.field.now value) }
+    {
         Ok(QueryTree::Term {
             field: self.name()?,
             value,
         })
     }
 
-    // A plain field may hold a text that looks like a number or a truth value.
-    fn equal(&self, text: &str) -> Result<QueryTree, GroupingError> {
+    // The query of what a text means.
+    fn equal(&self, text: &str) -> Result<QueryTree, GroupingError>
+        ensures met { IfOk result (λ tree. (document : Fields) → matches tree document
+            ≡ holds_text self.now.of text.now self.now.field.now document) }
+        ensures cause { IfErr result (RefusesText self.now.of self.now.field.now text.now) }
+    {
         let value = self.value(text)?;
-        let is_value = self.term(value)?;
-        if self.of != FieldType::Plain {
-            return Ok(is_value);
+        match self.of {
+            FieldType::Plain => Ok(self.plain(value, text)?),
+            _ => Ok(self.term(value)?),
         }
-        let is_text = self.term(FieldValue::Str(Text::copy_of(self.alloc, text)?))?;
-        let mut should = ItemList::new(self.alloc);
-        should.push(is_value)?;
-        should.push(is_text)?;
-        if let Some(truth) = truth_of(text) {
-            let is_truth = self.term(FieldValue::Bool(truth))?;
-            should.push(is_truth)?;
-        }
-        Ok(QueryTree::Boolean {
-            must: ItemList::new(self.alloc),
-            should,
-            must_not: ItemList::new(self.alloc),
-        })
     }
 
-    fn unequal(&self, text: &str) -> Result<QueryTree, GroupingError> {
+    // The query of a value, the very text, and the truth value whose word it is.
+    fn plain(&self, value: FieldValue, text: &str) -> Result<QueryTree, OutOfMemory>
+        ensures { IfOk result (λ tree. (document : Fields) → matches tree document
+            ≡ holds (is_one_of (value ∷ plain_values text.now)) self.now.field.now document) }
+    {
+        let mut should = ItemList::new(self.alloc);
+        self.push_term(&mut should, value)?;
+        self.push_term(&mut should, FieldValue::Str(Text::copy_of(self.alloc, text)?))?;
+        let Some(truth) = truth_of(text) else {
+            return Ok(some_of(self.alloc, should));
+        };
+        self.push_term(&mut should, FieldValue::Bool(truth))?;
+        Ok(some_of(self.alloc, should))
+    }
+
+    // Appends the query of a value.
+    fn push_term(
+        &self,
+        trees: &mut ItemList<QueryTree>,
+        value: FieldValue,
+    ) -> Result<(), OutOfMemory>
+        ensures { OnOk result
+            (trees.new ≡ trees.old ++ QueryTree.Term self.now.field.now value ∷ []) }
+    {
+        let tree = self.term(value)?;
+        trees.push(tree)
+    }
+
+    // The query of what does not hold what a text means.
+    fn unequal(&self, text: &str) -> Result<QueryTree, GroupingError>
+        ensures met { IfOk result (λ tree. (document : Fields) → matches tree document
+            ≡ not (holds_text self.now.of text.now self.now.field.now document)) }
+        ensures cause { IfErr result (RefusesText self.now.of self.now.field.now text.now) }
+    {
         let equal = self.equal(text)?;
-        let mut must = ItemList::new(self.alloc);
-        must.push(QueryTree::All)?;
-        let mut must_not = ItemList::new(self.alloc);
-        must_not.push(equal)?;
-        Ok(QueryTree::Boolean {
-            must,
-            should: ItemList::new(self.alloc),
-            must_not,
-        })
+        Ok(none_of(self.alloc, equal)?)
     }
 
     // The query of the values below a text's, with that value or without it.
-    fn below(&self, text: &str, end: End) -> Result<QueryTree, GroupingError> {
+    fn below(&self, text: &str, end: End) -> Result<QueryTree, GroupingError>
+        ensures met { IfOk result (λ tree. (document : Fields) → matches tree document
+            ≡ holds_between no_bound (bound_at end) (text_value self.now.of text.now)
+            self.now.field.now document) }
+        ensures cause { IfErr result (RefusesText self.now.of self.now.field.now text.now) }
+    {
         let value = self.value(text)?;
         Ok(QueryTree::Range {
             field: self.name()?,
@@ -130,7 +151,12 @@ impl Asked<'_> {
     }
 
     // The query of the values above a text's, with that value or without it.
-    fn above(&self, text: &str, end: End) -> Result<QueryTree, GroupingError> {
+    fn above(&self, text: &str, end: End) -> Result<QueryTree, GroupingError>
+        ensures met { IfOk result (λ tree. (document : Fields) → matches tree document
+            ≡ holds_between (bound_at end) no_bound (text_value self.now.of text.now)
+            self.now.field.now document) }
+        ensures cause { IfErr result (RefusesText self.now.of self.now.field.now text.now) }
+    {
         let value = self.value(text)?;
         Ok(QueryTree::Range {
             field: self.name()?,
@@ -148,7 +174,9 @@ enum End {
 }
 
 impl End {
-    fn at(self, value: FieldValue) -> RangeBound {
+    fn at(self, value: FieldValue) -> RangeBound
+        ensures { result ≡ bound_at self value }
+    {
         match self {
             End::With => RangeBound::Included(value),
             End::Without => RangeBound::Excluded(value),
@@ -157,7 +185,10 @@ impl End {
 }
 
 // The truth value of a word.
-fn truth_of(text: &str) -> Option<bool> {
+#[tactic(auto, using(agg_words::proofs::Words::other))]
+fn truth_of(text: &str) -> Option<bool>
+    ensures { result ≡ truth_of text.now }
+{
     match text {
         "true" => Some(true),
         "false" => Some(false),

@@ -1,4 +1,6 @@
 //! Why a grouping can't be asked.
+ghost use Rattle.std.specs.Prelude.{◌≡◌};
+
 use agg_fields::ValueError;
 use agg_values::{OutOfMemory, Text};
 use std::alloc::{AllocError, AllocFailed};
@@ -21,6 +23,9 @@ pub enum GroupingError {
         value: Text,
         why: ValueError,
     },
+    /// A text that says no query.
+    #[error("--query: {0}")]
+    Query(QueryFault),
     /// A value of a key to go on after that its field can't have.
     #[error("--after: {}: a value {why}", field.as_str())]
     AfterValue {
@@ -50,19 +55,44 @@ pub enum IntervalFault {
     OfTexts,
 }
 
+/// What is wrong with the text of a query.
+#[derive(Clone, Copy, Debug, PartialEq, Eq, Error)]
+pub enum QueryFault {
+    #[error("no JSON: line {line}, column {column}")]
+    NoJson { line: usize, column: usize },
+    #[error(
+        "not a query: it is an object with one member: all, empty, term, range, exists or bool"
+    )]
+    NoQuery,
+    #[error("not supported")]
+    Unsupported,
+}
+
 impl From<OutOfMemory> for GroupingError {
+    ghost use Rattle.agg_grouping.specs.declared.error.GroupingError.TheVariants as refusal;
+
+    ghost from_gives = { λ _ error. error ≡ refusal.OutOfMemory };
+
     fn from(_error: OutOfMemory) -> GroupingError {
         GroupingError::OutOfMemory
     }
 }
 
 impl From<AllocError> for GroupingError {
+    ghost use Rattle.agg_grouping.specs.declared.error.GroupingError.TheVariants as refusal;
+
+    ghost from_gives = { λ _ error. error ≡ refusal.OutOfMemory };
+
     fn from(_error: AllocError) -> GroupingError {
         GroupingError::OutOfMemory
     }
 }
 
 impl<T: Drop> From<AllocFailed<T>> for GroupingError {
+    ghost use Rattle.agg_grouping.specs.declared.error.GroupingError.TheVariants as refusal;
+
+    ghost from_gives = { λ _ error. error ≡ refusal.OutOfMemory };
+
     fn from(_error: AllocFailed<T>) -> GroupingError {
         GroupingError::OutOfMemory
     }

@@ -1,5 +1,6 @@
 //! What a grouping asks.
-ghost use Rattle.std.specs.Prelude.{◌≡◌};
+ghost use Rattle.std.specs.Prelude.{◌≡◌, IfOk};
+ghost use Rattle.agg_grouping.specs.Request.{metric_name};
 ghost use Rattle.agg_grouping.specs.Sources.{column_name};
 ghost use Rattle.agg_words.specs.By.{parts};
 
@@ -9,7 +10,9 @@ use agg_words::{BySpec, Condition, Metric};
 use std::alloc::Global;
 
 /// The name of a metric's column, such as `sum(amount)`.
-pub fn metric_name(alloc: Global, metric: &Metric<'_>) -> Result<Text, OutOfMemory> {
+pub fn metric_name(alloc: Global, metric: &Metric<'_>) -> Result<Text, OutOfMemory>
+    ensures { IfOk result (λ name. name ≡ metric_name metric.now) }
+{
     Text::from_string(format!(in alloc; "{}({})", metric.kind.word(), metric.field)?)
 }
 
@@ -26,6 +29,8 @@ pub struct Grouping<'a> {
     pub by: Vec<BySpec<'a>>,
     /// Those that a record has to meet.
     pub conditions: Vec<Condition<'a>>,
+    /// The JSON of a query that a record has to match too.
+    pub query: Option<&'a str>,
     pub metrics: Vec<Metric<'a>>,
     /// Whether the metrics of all records are told too.
     pub has_total: bool,

@@ -1,15 +1,17 @@
 //! What a grouping of records asks, and the request, the query and the fields that it stands for.
 #![tactic(auto)]
 
+mod boolean;
 mod condition;
 mod error;
 mod fields;
 mod grouping;
+mod query;
 mod request;
 mod source;
 
-pub use condition::query_of;
-pub use error::{GroupingError, IntervalFault};
+pub use error::{GroupingError, IntervalFault, QueryFault};
 pub use fields::asked_fields;
 pub use grouping::{Grouping, column_of, metric_name};
+pub use query::query_of;
 pub use request::{GROUPS, Page, TOTAL, request_of};

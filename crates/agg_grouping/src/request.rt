@@ -1,7 +1,7 @@
 //! The request that a grouping stands for.
-ghost use Rattle.std.specs.Prelude.{◌≡◌, IfOk, map};
-ghost use Rattle.agg_grouping.specs.Sources.{asked_for, described};
-ghost use Rattle.agg_words.specs.By.{parts};
+ghost use Rattle.std.specs.Prelude.{◌≡◌, IfOk, IfErr};
+ghost use Rattle.agg_grouping.specs.Request.{AreGroupsOf, AreMetricsOf, HasNoRequest};
+ghost use Rattle.agg_grouping.specs.Request.{IsCompositeOf, IsRequestOf, IsTotalOf, of_kind};
 
 use crate::error::GroupingError;
 use crate::source::source_of;
@@ -34,16 +34,20 @@ pub fn request_of<B: Drop>(
     alloc: Global,
     grouping: &Grouping<'_>,
     page: Page,
-) -> Result<NameMap<Aggregation<B>>, GroupingError> {
+) -> Result<NameMap<Aggregation<B>>, GroupingError>
+    ensures asked { IfOk result (IsRequestOf grouping.now page) }
+    ensures cause { IfErr result (HasNoRequest grouping.now) }
+{
     let mut request = NameMap::new(alloc);
     let groups = groups_of(alloc, grouping, page)?;
     let name = Text::copy_of(alloc, GROUPS)?;
     request.insert(name, groups)?;
-    if grouping.has_total {
-        let total = total_of(alloc, &grouping.metrics)?;
-        let name = Text::copy_of(alloc, TOTAL)?;
-        request.insert(name, total)?;
+    if !grouping.has_total {
+        return Ok(request);
     }
+    let total = total_of(alloc, grouping)?;
+    let name = Text::copy_of(alloc, TOTAL)?;
+    request.insert(name, total)?;
     Ok(request)
 }
 
@@ -52,7 +56,10 @@ fn groups_of<B: Drop>(
     alloc: Global,
     grouping: &Grouping<'_>,
     page: Page,
-) -> Result<Aggregation<B>, GroupingError> {
+) -> Result<Aggregation<B>, GroupingError>
+    ensures asked { IfOk result (AreGroupsOf grouping.now page) }
+    ensures cause { IfErr result (HasNoRequest grouping.now) }
+{
     let composite = composite_of(alloc, grouping, page)?;
     Ok(Aggregation {
         agg: AggregationVariants::Composite(composite),
@@ -61,11 +68,16 @@ fn groups_of<B: Drop>(
 }
 
 // All records, with their metrics.
-fn total_of<B: Drop>(alloc: Global, metrics: &[Metric<'_>]) -> Result<Aggregation<B>, OutOfMemory> {
+fn total_of<B: Drop>(
+    alloc: Global,
+    grouping: &Grouping<'_>,
+) -> Result<Aggregation<B>, OutOfMemory>
+    ensures { IfOk result (IsTotalOf grouping.now) }
+{
     let all = FilterAggregation::of(FilterQuery::Tree(QueryTree::All));
     Ok(Aggregation {
         agg: AggregationVariants::Filter(all),
-        sub_aggregation: metrics_of(alloc, metrics)?,
+        sub_aggregation: metrics_of(alloc, &grouping.metrics)?,
     })
 }
 
@@ -74,10 +86,8 @@ fn composite_of(
     grouping: &Grouping<'_>,
     page: Page,
 ) -> Result<CompositeAggregation, GroupingError>
-    ensures sources { IfOk result (λ composite. map described composite.sources
-        ≡ map (λ by. asked_for (parts by)) grouping.now.by.items) }
-    ensures size { IfOk result (λ composite. composite.size ≡ page.size) }
-    ensures after { IfOk result (λ composite. composite.after ≡ page.after) }
+    ensures asked { IfOk result (IsCompositeOf grouping.now page) }
+    ensures cause { IfErr result (HasNoRequest grouping.now) }
 {
     let mut sources = ItemList::new(alloc);
     for by in grouping.by.iter() {
@@ -96,7 +106,9 @@ fn composite_of(
 fn metrics_of<B: Drop>(
     alloc: Global,
     metrics: &[Metric<'_>],
-) -> Result<NameMap<Aggregation<B>>, OutOfMemory> {
+) -> Result<NameMap<Aggregation<B>>, OutOfMemory>
+    ensures { IfOk result (AreMetricsOf metrics.now) }
+{
     let mut below = NameMap::new(alloc);
     for metric in metrics {
         let name = metric_name(alloc, metric)?;
@@ -112,7 +124,9 @@ fn metrics_of<B: Drop>(
 fn variant_of<B>(
     alloc: Global,
     metric: &Metric<'_>,
-) -> Result<AggregationVariants<B>, OutOfMemory> {
+) -> Result<AggregationVariants<B>, OutOfMemory>
+    ensures { IfOk result (λ agg. agg ≡ of_kind metric.now.kind metric.now.field.now) }
+{
     let field = Text::copy_of(alloc, metric.field)?;
     Ok(match metric.kind {
         MetricKind::Count => AggregationVariants::Count(CountAggregation { field }),

@@ -1,7 +1,11 @@
 //! The sources of a composite.
-ghost use Rattle.std.specs.Prelude.{◌≡◌, IfOk};
-ghost use Rattle.agg_grouping.specs.Sources.{asked_for, described, description_of, has_group};
-ghost use Rattle.agg_grouping.specs.Sources.{order_asked, standing_of};
+ghost use Rattle.std.specs.Prelude.{◌≡◌, Ok, IfOk, IfErr};
+ghost use Rattle.agg_decimals.specs.Decimal.{decimal_of};
+ghost use Rattle.agg_grouping.specs.Sources.{HasNoSource, date_division, date_source};
+ghost use Rattle.agg_grouping.specs.Sources.{decimal_division, division_asked, divided_source};
+ghost use Rattle.agg_grouping.specs.Sources.{fixed_division, has_group, number_division};
+ghost use Rattle.agg_grouping.specs.Sources.{order_asked, source_asked, source_parts, standing_of};
+ghost use Rattle.agg_grouping.specs.Sources.{values_source, width_source};
 ghost use Rattle.agg_words.specs.By.{parts};
 
 use crate::column_of;
@@ -23,7 +27,8 @@ pub fn source_of(
     by: &BySpec<'_>,
     types: &FieldTypes,
 ) -> Result<CompositeAggregationSource, GroupingError>
-    ensures { IfOk result (λ source. described source ≡ asked_for (parts by.now)) }
+    ensures source { IfOk result (λ source. source_asked types.now (parts by.now) ≡ Ok source) }
+    ensures cause { IfErr result (HasNoSource types.now (parts by.now)) }
 {
     let parts = SourceParts::new(alloc, by)?;
     let Some(interval) = by.interval else {
@@ -54,32 +59,38 @@ impl Division {
         alloc: Global,
         interval: &str,
         of: FieldType,
-    ) -> Result<Result<Division, IntervalFault>, OutOfMemory> {
-        Ok(match of {
-            FieldType::Date | FieldType::DateNumber(_) => Division::of_dates(alloc, interval)?,
-            FieldType::Decimal(places) => Division::of_decimals(interval, places),
-            FieldType::Plain => Division::of_numbers(interval),
-            FieldType::Text => Err(IntervalFault::OfTexts),
-        })
+    ) -> Result<Result<Division, IntervalFault>, OutOfMemory>
+        ensures { IfOk result (λ read. read ≡ division_asked of interval.now) }
+    {
+        match of {
+            FieldType::Date | FieldType::DateNumber(_) => Division::of_dates(alloc, interval),
+            FieldType::Decimal(places) => Ok(Division::of_decimals(interval, places)),
+            FieldType::Plain => Ok(Division::of_numbers(interval)),
+            FieldType::Text => Ok(Err(IntervalFault::OfTexts)),
+        }
     }
 
+    #[tactic(auto, using(agg_words::proofs::Words::other))]
     fn of_dates(
         alloc: Global,
         interval: &str,
-    ) -> Result<Result<Division, IntervalFault>, OutOfMemory> {
-        let unit = match interval {
-            "year" => CalendarInterval::Year,
-            "month" => CalendarInterval::Month,
-            "week" => CalendarInterval::Week,
-            _ => return Division::of_time(alloc, interval),
-        };
-        Ok(Ok(Division::Calendar(unit)))
+    ) -> Result<Result<Division, IntervalFault>, OutOfMemory>
+        ensures { IfOk result (λ read. read ≡ date_division interval.now) }
+    {
+        match interval {
+            "year" => Ok(Ok(Division::Calendar(CalendarInterval::Year))),
+            "month" => Ok(Ok(Division::Calendar(CalendarInterval::Month))),
+            "week" => Ok(Ok(Division::Calendar(CalendarInterval::Week))),
+            _ => Division::of_time(alloc, interval),
+        }
     }
 
     fn of_time(
         alloc: Global,
         interval: &str,
-    ) -> Result<Result<Division, IntervalFault>, OutOfMemory> {
+    ) -> Result<Result<Division, IntervalFault>, OutOfMemory>
+        ensures { IfOk result (λ read. read ≡ fixed_division interval.now) }
+    {
         let text = Text::copy_of(alloc, interval)?;
         match PrecomputedDateInterval::from_date_histogram_source_intervals(
             alloc,
@@ -92,14 +103,18 @@ impl Division {
         }
     }
 
-    fn of_numbers(interval: &str) -> Result<Division, IntervalFault> {
+    fn of_numbers(interval: &str) -> Result<Division, IntervalFault>
+        ensures { result ≡ number_division interval.now }
+    {
         match interval.parse::<i64>() {
             Ok(width) if width > 0 => Ok(Division::Width(width)),
             _ => Err(IntervalFault::OfNumbers),
         }
     }
 
-    fn of_decimals(interval: &str, places: Places) -> Result<Division, IntervalFault> {
+    fn of_decimals(interval: &str, places: Places) -> Result<Division, IntervalFault>
+        ensures { result ≡ decimal_division (decimal_of places interval.now) }
+    {
         match read_decimal(interval, places) {
             Ok(width) if width > 0 => Ok(Division::Width(width)),
             _ => Err(IntervalFault::OfDecimals),
@@ -119,7 +134,7 @@ struct SourceParts {
 
 impl SourceParts {
     fn new(alloc: Global, by: &BySpec<'_>) -> Result<SourceParts, OutOfMemory>
-        ensures { IfOk result (λ made. description_of made ≡ asked_for (parts by.now)) }
+        ensures { IfOk result (λ made. made ≡ source_parts (parts by.now)) }
     {
         let (missing_bucket, missing_order) = missing_rule(by.missing);
         Ok(SourceParts {
@@ -133,7 +148,7 @@ impl SourceParts {
 
     // A source of the values themselves.
     fn terms(self) -> CompositeAggregationSource
-        ensures { described result ≡ description_of self }
+        ensures { result ≡ values_source self }
     {
         let SourceParts {
             name,
@@ -153,7 +168,7 @@ impl SourceParts {
 
     // A source of the starts of intervals.
     fn divided(self, division: Division) -> CompositeAggregationSource
-        ensures { described result ≡ description_of self }
+        ensures { result ≡ divided_source self division }
     {
         match division {
             Division::Width(interval) => self.histogram(interval),
@@ -163,7 +178,7 @@ impl SourceParts {
     }
 
     fn histogram(self, interval: i64) -> CompositeAggregationSource
-        ensures { described result ≡ description_of self }
+        ensures { result ≡ width_source self interval }
     {
         let SourceParts {
             name,
@@ -187,7 +202,7 @@ impl SourceParts {
         fixed_interval: Option<Text>,
         calendar_interval: Option<CalendarInterval>,
     ) -> CompositeAggregationSource
-        ensures { described result ≡ description_of self }
+        ensures { result ≡ date_source self fixed_interval calendar_interval }
     {
         let SourceParts {
             name,

@@ -3,3 +3,4 @@ pub mod Condition
 pub mod Cut
 pub mod DateField
 pub mod DecimalField
+pub mod Metric

@@ -1,3 +1,6 @@
+ghost use Rattle.std.specs.Prelude.{◌≡◌};
+ghost use Rattle.agg_words.specs.Metric.{word_of};
+
 /// What a metric tells of a field's values.
 #[derive(Clone, Copy, Debug, PartialEq, Eq)]
 pub enum MetricKind {
@@ -13,7 +16,9 @@ pub enum MetricKind {
 
 impl MetricKind {
     /// The word for it.
-    pub fn word(self) -> &'static str {
+    pub fn word(self) -> &'static str
+        ensures { result.now ≡ word_of self }
+    {
         match self {
             MetricKind::Count => "count",
             MetricKind::Sum => "sum",
