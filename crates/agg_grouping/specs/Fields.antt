@@ -35,6 +35,13 @@ fields_asked grouping query =
     map (λ by. by.field.now) grouping.by.items
     ++ (map (λ metric. metric.field.now) grouping.metrics.items ++ fields_in query)
 
+-- under each of these names stands its type, and under each other what stood there before
+abbrev pub AreAdded : Named FieldType → List (List ℕ) → Named FieldType → Named FieldType → Type 0
+AreAdded types names before now =
+    (name : List ℕ)
+    → value_of name now
+    ≡ (if is_among name names then Some (type_of types name) else value_of name before)
+
 -- under each name stands its type where it is one of those fields, and else nothing
 abbrev pub AreFieldsOf : Grouping → QueryTree → Named FieldType → Type 0
 AreFieldsOf grouping query fields =

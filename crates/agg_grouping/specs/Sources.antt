@@ -1,5 +1,6 @@
 -- The sources that a grouping asks for.
-use Rattle.std.specs.Prelude.{◌≡◌, ℕ, ℤ, pos, ◌^◌, int_lt, List, length, Bool, true, false, ◌&&◌}
+use Rattle.std.specs.Prelude.{◌≡◌, ℕ, ℤ, pos, neg_ℤ, ◌^◌, int_lt, List, length, ◌&&◌, not}
+use Rattle.std.specs.Prelude.{Bool, true, false}
 use Rattle.std.specs.Prelude.{Option, Some, None, Result, Ok, Err, codes, is_ok, nat_lt, unwrap_or}
 use Rattle.std.specs.Prelude.{if◌then◌else◌, ⊤, Any}
 use Rattle.std.specs.Str.{all_ascii_digits, bytes_eq}
@@ -117,21 +118,29 @@ date_division text =
     else if bytes_eq text (codes "week") then Ok (Calendar Week)
     else fixed_division text
 
--- whether digits are written, after a sign or none, and their number has 64 bits
-abbrev pub is_whole_number : List ℕ → Bool
-is_whole_number text =
+-- whether a text is digits, after a sign or none
+abbrev pub is_numeral : List ℕ → Bool
+is_numeral text =
     nat_lt 0 (length (without_leading_sign text)) && all_ascii_digits (without_leading_sign text)
-    && int_lt (signed_digits_value 10 text) (pos (2 ^ 63))
 
--- numbers are divided by a whole number above zero
+-- whether a number has 64 bits with its sign
+abbrev pub has_64_bits : ℤ → Bool
+has_64_bits n = not (int_lt n (neg_ℤ (pos (2 ^ 63)))) && int_lt n (pos (2 ^ 63))
+
+-- a width is above zero
+abbrev pub width_division : IntervalFault → ℤ → Result Division IntervalFault
+width_division why n = if int_lt (pos 0) n then Ok (Width n) else Err why
+
+-- numbers are divided by a whole number
 abbrev pub number_division : List ℕ → Result Division IntervalFault
 number_division text =
     let n = signed_digits_value 10 text in
-    if is_whole_number text && int_lt (pos 0) n then Ok (Width n) else Err fault.OfNumbers
+    if is_numeral text && has_64_bits n then width_division fault.OfNumbers n
+    else Err fault.OfNumbers
 
--- decimals are divided by a number of their last place above zero
+-- decimals are divided by a number of their last place
 abbrev pub decimal_division : Result ℤ DecimalError → Result Division IntervalFault
-decimal_division (Ok n) = if int_lt (pos 0) n then Ok (Width n) else Err fault.OfDecimals
+decimal_division (Ok n) = width_division fault.OfDecimals n
 decimal_division (Err why) = Err fault.OfDecimals
 
 -- what the values of a field of a type are divided by

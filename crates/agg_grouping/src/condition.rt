@@ -3,10 +3,10 @@ ghost use Rattle.std.specs.Prelude.{◌≡◌, ◌∷◌, ◌++◌, [], Ok, IfOk
 ghost use Rattle.agg_column.specs.Document.{Fields};
 ghost use Rattle.agg_fields.specs.Values.{text_value};
 ghost use Rattle.agg_segment.specs.Query.{holds, matches};
-ghost use Rattle.agg_words.specs.Condition.{parts};
-ghost use Rattle.agg_grouping.specs.Query.{RefusesCondition, RefusesText, bound_at, holds_between};
-ghost use Rattle.agg_grouping.specs.Query.{holds_text, is_one_of, meets, no_bound};
-ghost use Rattle.agg_grouping.specs.Query.{plain_values, truth_of};
+ghost use Rattle.agg_words.specs.Condition.{demand, parts};
+ghost use Rattle.agg_grouping.specs.Query.{RefusesCondition, RefusesTest, RefusesText, bound_at};
+ghost use Rattle.agg_grouping.specs.Query.{holds_between, holds_text, is_one_of, meets, no_bound};
+ghost use Rattle.agg_grouping.specs.Query.{passes, plain_values, truth_of};
 
 use crate::boolean::{none_of, some_of};
 use crate::error::GroupingError;
@@ -33,15 +33,7 @@ pub(crate) fn tree_of(
         of: types.get(&field),
         field: condition.field,
     };
-    match condition.test {
-        Test::Is(text) => asked.equal(text),
-        Test::IsNot(text) => asked.unequal(text),
-        Test::Below(text) => asked.below(text, End::Without),
-        Test::AtMost(text) => asked.below(text, End::With),
-        Test::Above(text) => asked.above(text, End::Without),
-        Test::AtLeast(text) => asked.above(text, End::With),
-        Test::Exists => Ok(QueryTree::Exists { field }),
-    }
+    asked.tree(condition.test)
 }
 
 // A field that is asked about.
@@ -53,6 +45,26 @@ struct Asked<'a> {
 }
 
 impl Asked<'_> {
+    // The query of a test.
+    fn tree(&self, test: Test<'_>) -> Result<QueryTree, GroupingError>
+        ensures met { IfOk result (λ tree. (document : Fields) → matches tree document
+            ≡ passes self.now.of (demand test.entry) self.now.field.now document) }
+        ensures cause { IfErr result
+            (RefusesTest self.now.of (demand test.entry) self.now.field.now) }
+    {
+        match test {
+            Test::Is(text) => self.equal(text),
+            Test::IsNot(text) => self.unequal(text),
+            Test::Below(text) => self.below(text, End::Without),
+            Test::AtMost(text) => self.below(text, End::With),
+            Test::Above(text) => self.above(text, End::Without),
+            Test::AtLeast(text) => self.above(text, End::With),
+            Test::Exists => Ok(QueryTree::Exists {
+                field: self.name()?,
+            }),
+        }
+    }
+
     // The value that a text is in the field.
     fn value(&self, text: &str) -> Result<FieldValue, GroupingError>
         ensures value { IfOk result (λ value. text_value self.now.of text.now ≡ Ok value) }

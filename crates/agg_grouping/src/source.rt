@@ -5,7 +5,7 @@ ghost use Rattle.agg_grouping.specs.Sources.{HasNoSource, date_division, date_so
 ghost use Rattle.agg_grouping.specs.Sources.{decimal_division, division_asked, divided_source};
 ghost use Rattle.agg_grouping.specs.Sources.{fixed_division, has_group, number_division};
 ghost use Rattle.agg_grouping.specs.Sources.{order_asked, source_asked, source_parts, standing_of};
-ghost use Rattle.agg_grouping.specs.Sources.{values_source, width_source};
+ghost use Rattle.agg_grouping.specs.Sources.{values_source, width_division, width_source};
 ghost use Rattle.agg_words.specs.By.{parts};
 
 use crate::column_of;
@@ -107,8 +107,8 @@ impl Division {
         ensures { result ≡ number_division interval.now }
     {
         match interval.parse::<i64>() {
-            Ok(width) if width > 0 => Ok(Division::Width(width)),
-            _ => Err(IntervalFault::OfNumbers),
+            Ok(width) => Division::of_width(width, IntervalFault::OfNumbers),
+            Err(_) => Err(IntervalFault::OfNumbers),
         }
     }
 
@@ -116,8 +116,19 @@ impl Division {
         ensures { result ≡ decimal_division (decimal_of places interval.now) }
     {
         match read_decimal(interval, places) {
-            Ok(width) if width > 0 => Ok(Division::Width(width)),
-            _ => Err(IntervalFault::OfDecimals),
+            Ok(width) => Division::of_width(width, IntervalFault::OfDecimals),
+            Err(_) => Err(IntervalFault::OfDecimals),
+        }
+    }
+
+    // The division by a width, which has to be above zero.
+    fn of_width(width: i64, fault: IntervalFault) -> Result<Division, IntervalFault>
+        ensures { result ≡ width_division fault width }
+    {
+        if width > 0 {
+            Ok(Division::Width(width))
+        } else {
+            Err(fault)
         }
     }
 }

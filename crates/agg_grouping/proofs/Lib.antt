@@ -1,0 +1,4 @@
+pub mod AddedFields
+pub mod MatchedTerms
+pub mod NamedMetrics
+pub mod Widths

@@ -1,0 +1,64 @@
+-- Texts of widths.
+use Rattle.std.proofs.Common.{◌≡◌, ◌≢◌, ◌∙◌, refl, ap, ℕ, ℤ, List, Bool, true, false, Option, Some, None}
+use Rattle.std.proofs.Common.{Result, Ok, Err, FitsSigned, w64, length, arith, cond, is_ok, nat_lt}
+use Rattle.std.specs.Str.{all_ascii_digits}
+use Rattle.std.specs.Str.Parse.{IsNumeral, digits_value, signed_digits_value, without_leading_sign}
+use Rattle.std.proofs.lemmas.Bool.Decides.{nat_tests}
+use Rattle.std.proofs.lemmas.Int.{ints}
+use Rattle.std.proofs.lemmas.Str.Parse.{IsNumeralModel, numerals_by_value, tells_all_ascii_digits}
+use Rattle.agg_values.specs.declared.request_error.RequestError.{RequestError}
+use Rattle.agg_values.specs.declared.request_error.RequestError.TheVariants as refusal
+use Rattle.agg_calendar.specs.Refusal.{IsAnswer}
+use Rattle.agg_grouping.specs.Sources.{has_64_bits, is_numeral, number_division, width_division}
+use Rattle.agg_grouping.specs.declared.error.IntervalFault.TheVariants as fault
+
+own : IsNumeralModel (λ ds. all_ascii_digits ds ≡ true) (digits_value 10)
+own = numerals_by_value (λ ds. all_ascii_digits ds ≡ true) tells_all_ascii_digits
+
+numeral_test : (text : List ℕ) → IsNumeral 10 (without_leading_sign text) → is_numeral text ≡ true
+numeral_test text numeral =
+    let digits : all_ascii_digits (without_leading_sign text) ≡ true =
+    own.from (without_leading_sign text) numeral.1 in
+    let some = numeral.0 in
+    grind (arith, nat_tests, digits, some)
+
+numeral_fact : (text : List ℕ) → is_numeral text ≡ true → IsNumeral 10 (without_leading_sign text)
+numeral_fact text h =
+    let some : nat_lt 0 (length (without_leading_sign text)) ≡ true = grind h in
+    let digits : all_ascii_digits (without_leading_sign text) ≡ true = grind h in
+    (grind (arith, nat_tests, some), own.to (without_leading_sign text) digits)
+
+bits_test : (n : ℤ) → FitsSigned w64 n → has_64_bits n ≡ true
+bits_test n fits = grind (arith, ints, fits)
+
+bits_fact : (n : ℤ) → has_64_bits n ≡ true → FitsSigned w64 n
+bits_fact n h = grind (arith, ints, h)
+
+-- a number that was read is a width, if it is above zero
+pub read_number : (text : List ℕ) (n : ℤ) → IsNumeral 10 (without_leading_sign text)
+    → FitsSigned w64 (signed_digits_value 10 text) → n ≡ signed_digits_value 10 text
+    → width_division fault.OfNumbers n ≡ number_division text
+read_number text n numeral fits is =
+    rw (is, numeral_test text numeral, bits_test (signed_digits_value 10 text) fits) refl
+
+-- where none was read there is none
+pub no_number : (text : List ℕ)
+    → ¬ (IsNumeral 10 (without_leading_sign text) × FitsSigned w64 (signed_digits_value 10 text))
+    → Err fault.OfNumbers ≡ number_division text
+no_number text unread = by_test (is_numeral text) (has_64_bits n) refl refl
+  where
+    n : ℤ
+    n = signed_digits_value 10 text
+
+    by_test : (b c : Bool) → is_numeral text ≡ b → has_64_bits n ≡ c
+        → Err fault.OfNumbers ≡ number_division text
+    by_test true true e f = absurd (unread (numeral_fact text e, bits_fact n f))
+    by_test true false e f = rw (e, f) refl
+    by_test false c e f = rw e refl
+
+-- an answer other than want of memory is the right one
+pub right_refusal : {T : Type 0} (right : Result T RequestError) (error : RequestError)
+    → error ≢ refusal.OutOfMemory → IsAnswer right (Err error) → is_ok right ≡ false
+right_refusal right (refusal.Invalid part) other answer = ap is_ok answer
+right_refusal right (refusal.Aggregation part) other answer = ap is_ok answer
+right_refusal right refusal.OutOfMemory other answer = absurd (other refl)

@@ -1,0 +1,20 @@
+use Rattle.std.proofs.Common.{◌≡◌, ◌∙◌, ap, subst, IfOk, IfErr}
+use Rattle.agg_column.specs.Document.{Fields}
+use Rattle.agg_segment.specs.Query.{matches}
+use Rattle.agg_fields.specs.Types.{type_of}
+use Rattle.agg_words.specs.Condition.{demand}
+use Rattle.agg_grouping.specs.Query.{RefusesTest, passes}
+use Rattle.agg_grouping.proofs.condition.tree_of.Goals as goal
+
+pub returns-clause-met : goal.returns-clause-met
+returns-clause-met c =
+    let condition = c.args.condition.now in
+    subst (λ of. IfOk c.tree.result (λ tree. (document : Fields) → matches tree document
+    ≡ passes of (demand condition.test) condition.field.now document))
+    (c.get.ensures ∙ ap (type_of c.args.types.now) c.in_ok-field.ensures) c.tree.ensures.met
+
+pub returns-clause-cause : goal.returns-clause-cause
+returns-clause-cause c =
+    let condition = c.args.condition.now in
+    subst (λ of. IfErr c.tree.result (RefusesTest of (demand condition.test) condition.field.now))
+    (c.get.ensures ∙ ap (type_of c.args.types.now) c.in_ok-field.ensures) c.tree.ensures.cause
