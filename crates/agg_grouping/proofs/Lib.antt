@@ -1,4 +1,6 @@
 pub mod AddedFields
+pub mod AskedQueries
 pub mod MatchedTerms
 pub mod NamedMetrics
+pub mod Refusals
 pub mod Widths

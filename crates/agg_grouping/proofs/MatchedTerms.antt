@@ -22,7 +22,7 @@ use Rattle.agg_grouping.specs.Query.{truth_of}
 
 -- ---- truth values
 
-and_true : (b : Bool) → (b && true) ≡ b
+pub and_true : (b : Bool) → (b && true) ≡ b
 and_true true = refl
 and_true false = refl
 

@@ -18,6 +18,8 @@ use Rattle.agg_segment.specs.declared.query.QueryTree.TheVariants.{All}
 use Rattle.agg_segment.specs.declared.query.RangeBound.{RangeBound}
 use Rattle.agg_segment.specs.declared.query.RangeBound.TheVariants.{Unbounded, Included, Excluded}
 use Rattle.agg_json.specs.Query.{HasUnsupportedQuery, IsQuery}
+use Rattle.agg_json.specs.declared.read_error.ReadError.{ReadError}
+use Rattle.agg_json.specs.declared.read_error.ReadError.TheVariants as reading
 use Rattle.agg_fields.specs.Types.{type_of}
 use Rattle.agg_fields.specs.Values.{text_value}
 use Rattle.agg_fields.specs.declared.error.ValueError.{ValueError}
@@ -166,6 +168,12 @@ SaysNoQuery text (fault.NoJson line column) = read text ≡ None
 SaysNoQuery text fault.NoQuery = (d : Data) × (read text ≡ Some d) × NoneIs (IsQuery d)
 SaysNoQuery text fault.Unsupported =
     (d : Data) × (read text ≡ Some d) × HasUnsupportedQuery d × NoneIs (IsQuery d)
+
+-- what a reader of queries refuses, as it is told
+abbrev pub refusal_of : ReadError → GroupingError
+refusal_of reading.Unsupported = error.Query fault.Unsupported
+refusal_of reading.OutOfMemory = error.OutOfMemory
+refusal_of _ = error.Query fault.NoQuery
 
 -- the text of a query is refused
 abbrev pub RefusesSaid : List ℕ → GroupingError → Type 0

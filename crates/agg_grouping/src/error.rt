@@ -2,6 +2,7 @@
 ghost use Rattle.std.specs.Prelude.{◌≡◌};
 
 use agg_fields::ValueError;
+use agg_json::ReadError;
 use agg_values::{OutOfMemory, Text};
 use std::alloc::{AllocError, AllocFailed};
 use thiserror::Error;
@@ -95,5 +96,21 @@ impl<T: Drop> From<AllocFailed<T>> for GroupingError {
 
     fn from(_error: AllocFailed<T>) -> GroupingError {
         GroupingError::OutOfMemory
+    }
+}
+
+impl From<ReadError> for GroupingError {
+    ghost use Rattle.agg_grouping.specs.Query.{refusal_of};
+
+    ghost from_gives = { λ error refusal. refusal ≡ refusal_of error };
+
+    fn from(error: ReadError) -> GroupingError {
+        match error {
+            ReadError::Unsupported => GroupingError::Query(QueryFault::Unsupported),
+            ReadError::Grammar | ReadError::UnknownBuilder => {
+                GroupingError::Query(QueryFault::NoQuery)
+            }
+            ReadError::OutOfMemory => GroupingError::OutOfMemory,
+        }
     }
 }

@@ -11,7 +11,7 @@ use crate::Grouping;
 use crate::boolean::all_of;
 use crate::condition::tree_of;
 use crate::error::{GroupingError, QueryFault};
-use agg_json::{ReadError, read_query};
+use agg_json::read_query;
 use agg_segment::QueryTree;
 use agg_values::ItemList;
 use serde_json::{Category, Value};
@@ -54,14 +54,7 @@ fn query_said(alloc: Global, text: &str) -> Result<QueryTree, GroupingError>
     ensures cause { IfErr result (RefusesSaid text.now) }
 {
     let value = parse(alloc, text)?;
-    match read_query(alloc, &value) {
-        Ok(query) => Ok(query),
-        Err(ReadError::OutOfMemory) => Err(GroupingError::OutOfMemory),
-        Err(ReadError::Unsupported) => Err(GroupingError::Query(QueryFault::Unsupported)),
-        Err(ReadError::Grammar | ReadError::UnknownBuilder) => {
-            Err(GroupingError::Query(QueryFault::NoQuery))
-        }
-    }
+    Ok(read_query(alloc, &value)?)
 }
 
 // The JSON value of a text.
