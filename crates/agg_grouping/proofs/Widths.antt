@@ -3,12 +3,10 @@ use Rattle.std.proofs.Common.{◌≡◌, ◌≢◌, ◌∙◌, refl, ap, ℕ, �
 use Rattle.std.proofs.Common.{Result, Ok, Err, FitsSigned, w64, length, arith, cond, is_ok, nat_lt}
 use Rattle.std.specs.Str.{all_ascii_digits}
 use Rattle.std.specs.Str.Parse.{IsNumeral, digits_value, signed_digits_value, without_leading_sign}
+use Rattle.std.proofs.lemmas.Bool.{and_parts}
 use Rattle.std.proofs.lemmas.Bool.Decides.{nat_tests}
 use Rattle.std.proofs.lemmas.Int.{ints}
 use Rattle.std.proofs.lemmas.Str.Parse.{IsNumeralModel, numerals_by_value, tells_all_ascii_digits}
-use Rattle.agg_values.specs.declared.request_error.RequestError.{RequestError}
-use Rattle.agg_values.specs.declared.request_error.RequestError.TheVariants as refusal
-use Rattle.agg_calendar.specs.Refusal.{IsAnswer}
 use Rattle.agg_grouping.specs.Sources.{has_64_bits, is_numeral, number_division, width_division}
 use Rattle.agg_grouping.specs.declared.error.IntervalFault.TheVariants as fault
 
@@ -24,9 +22,10 @@ numeral_test text numeral =
 
 numeral_fact : (text : List ℕ) → is_numeral text ≡ true → IsNumeral 10 (without_leading_sign text)
 numeral_fact text h =
-    let some : nat_lt 0 (length (without_leading_sign text)) ≡ true = grind h in
-    let digits : all_ascii_digits (without_leading_sign text) ≡ true = grind h in
-    (grind (arith, nat_tests, some), own.to (without_leading_sign text) digits)
+    let digits = without_leading_sign text in
+    let tests = and_parts (nat_lt 0 (length digits)) (all_ascii_digits digits) h in
+    let some = tests.0 in
+    (grind (arith, nat_tests, some), own.to digits tests.1)
 
 bits_test : (n : ℤ) → FitsSigned w64 n → has_64_bits n ≡ true
 bits_test n fits = grind (arith, ints, fits)
@@ -55,10 +54,3 @@ no_number text unread = by_test (is_numeral text) (has_64_bits n) refl refl
     by_test true true e f = absurd (unread (numeral_fact text e, bits_fact n f))
     by_test true false e f = rw (e, f) refl
     by_test false c e f = rw e refl
-
--- an answer other than want of memory is the right one
-pub right_refusal : {T : Type 0} (right : Result T RequestError) (error : RequestError)
-    → error ≢ refusal.OutOfMemory → IsAnswer right (Err error) → is_ok right ≡ false
-right_refusal right (refusal.Invalid part) other answer = ap is_ok answer
-right_refusal right (refusal.Aggregation part) other answer = ap is_ok answer
-right_refusal right refusal.OutOfMemory other answer = absurd (other refl)
