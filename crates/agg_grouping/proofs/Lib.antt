@@ -1,5 +1,6 @@
 pub mod AddedFields
 pub mod AskedQueries
+pub mod AskedRequests
 pub mod AskedSources
 pub mod MatchedTerms
 pub mod NamedMetrics

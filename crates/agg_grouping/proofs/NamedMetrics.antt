@@ -1,6 +1,7 @@
 -- Metrics that are put under their names one by one.
 use Rattle.std.proofs.Common.{◌≡◌, ◌<◌, ◌+◌, ◌∙◌, refl, sym, ap, subst, ℕ, List, [], ◌∷◌, ◌++◌}
 use Rattle.std.proofs.Common.{Bool, true, false, Some, codes, get_or, length, map, take, drop}
+use Rattle.std.proofs.Common.{arith}
 use Rattle.std.specs.BTreeMap.{is_at}
 use Rattle.std.specs.List.{All, Contains}
 use Rattle.std.specs.Ordering.{match_ordering}
@@ -13,13 +14,15 @@ use Rattle.std.proofs.lemmas.List.Elements.{All-weaker, Contains-append_left, Co
 use Rattle.std.proofs.lemmas.Map.Lookups.{exact_bytes}
 use Rattle.agg_values.specs.Names.{Named, name_cmp, put, value_of}
 use Rattle.agg_values.proofs.NameValues.{other-put, same_key, value-put}
-use Rattle.agg_request_tree.specs.Request.{Request}
+use Rattle.agg_request_tree.specs.Request.{Request, aggregation_of}
 use Rattle.agg_request_tree.specs.declared.aggregation.Aggregation.{Aggregation}
+use Rattle.agg_request_tree.specs.declared.aggregation.AggregationVariants.{AggregationVariants}
 use Rattle.agg_words.specs.Metric.{word_of}
 use Rattle.agg_words.specs.declared.metric.Metric.{Metric}
 use Rattle.agg_words.specs.declared.metric.MetricKind.{MetricKind}
 use Rattle.agg_words.specs.declared.metric.MetricKind.TheVariants.{Count, Sum, Min, Max}
-use Rattle.agg_grouping.specs.Request.{AreMetricsOf, metric_asked, metric_name, named_metric, of_kind}
+use Rattle.agg_grouping.specs.Request.{AreMetricsOf, metric_asked, metric_name, named_metric}
+use Rattle.agg_grouping.specs.Request.{of_kind}
 
 -- ---- names
 
@@ -27,24 +30,28 @@ use Rattle.agg_grouping.specs.Request.{AreMetricsOf, metric_asked, metric_name, 
 abbrev pub name_by : MetricKind → List ℕ → List ℕ
 name_by kind field = word_of kind ++ (codes "(" ++ (field ++ codes ")"))
 
+-- the same text has the same byte at a place
+byte_same : {xs ys : List ℕ} (i : ℕ) → xs ≡ ys → get_or xs i 0 ≡ get_or ys i 0
+byte_same i e = ap (λ (text : List ℕ). get_or text i 0) e
+
 -- a name tells the kind and the field
 pub name_tells : (k l : MetricKind) (f g : List ℕ) → name_by k f ≡ name_by l g → (k ≡ l) × (f ≡ g)
 name_tells Count Count f g e = (refl, append_cancel_right f g (codes ")") (ap (drop 6) e))
 name_tells Sum Sum f g e = (refl, append_cancel_right f g (codes ")") (ap (drop 4) e))
 name_tells Min Min f g e = (refl, append_cancel_right f g (codes ")") (ap (drop 4) e))
 name_tells Max Max f g e = (refl, append_cancel_right f g (codes ")") (ap (drop 4) e))
-name_tells Count Sum f g e = absurd cc
-name_tells Count Min f g e = absurd cc
-name_tells Count Max f g e = absurd cc
-name_tells Sum Count f g e = absurd cc
-name_tells Sum Min f g e = absurd cc
-name_tells Sum Max f g e = absurd cc
-name_tells Min Count f g e = absurd cc
-name_tells Min Sum f g e = absurd cc
-name_tells Min Max f g e = absurd cc
-name_tells Max Count f g e = absurd cc
-name_tells Max Sum f g e = absurd cc
-name_tells Max Min f g e = absurd cc
+name_tells Count Sum f g e = absurd (omega (arith, byte_same 0 e))
+name_tells Count Min f g e = absurd (omega (arith, byte_same 0 e))
+name_tells Count Max f g e = absurd (omega (arith, byte_same 0 e))
+name_tells Sum Count f g e = absurd (omega (arith, byte_same 0 e))
+name_tells Sum Min f g e = absurd (omega (arith, byte_same 0 e))
+name_tells Sum Max f g e = absurd (omega (arith, byte_same 0 e))
+name_tells Min Count f g e = absurd (omega (arith, byte_same 0 e))
+name_tells Min Sum f g e = absurd (omega (arith, byte_same 0 e))
+name_tells Min Max f g e = absurd (omega (arith, byte_same 1 e))
+name_tells Max Count f g e = absurd (omega (arith, byte_same 0 e))
+name_tells Max Sum f g e = absurd (omega (arith, byte_same 0 e))
+name_tells Max Min f g e = absurd (omega (arith, byte_same 1 e))
 
 -- metrics of one name ask the same
 pub same_metric : {B : Type 0} (m n : Metric) → metric_name m ≡ metric_name n
@@ -71,7 +78,8 @@ All-put {B = B} P (e ∷ entries) name a new all =
         (All-tail P e entries all)
     by_order Greater is later more = All-cons P e later (All-head P e entries all) more
 
-module _ {B : Type 0} (m : Metric) (below now : Request B) (is : now ≡ put (metric_name m) (metric_asked m) below) where
+module _ {B : Type 0} (m : Metric) (below now : Request B)
+    (is : now ≡ put (metric_name m) (metric_asked m) below) where
   -- a metric that is put stands under its name
   own_value : value_of (metric_name m) now ≡ Some (metric_asked m)
   own_value =
@@ -93,38 +101,43 @@ module _ {B : Type 0} (m : Metric) (below now : Request B) (is : now ≡ put (me
           (metric_asked m) e ∙ before)
 
 -- one metric more
-pub metrics-more : {B : Type 0} (metrics : List Metric) (i : ℕ) (m : Metric)
-    (below now : Request B) → i < length metrics → m ≡ get_or metrics i m
-    → AreMetricsOf (take i metrics) below → now ≡ put (metric_name m) (metric_asked m) below
+pub metrics-more : {B : Type 0} (metrics : List Metric) (i : ℕ) (d : Metric)
+    (below now : Request B) → i < length metrics → AreMetricsOf (take i metrics) below
+    → now ≡ put (metric_name (get_or metrics i d)) (metric_asked (get_or metrics i d)) below
     → AreMetricsOf (take (i + 1) metrics) now
-metrics-more {B = B} metrics i m below now within at so_far is = record {
-  each = All-more (λ n. value_of (metric_name n) now ≡ Some (metric_asked n)) metrics i m within
+metrics-more {B = B} metrics i d below now within so_far is = record {
+  each = All-more (λ n. value_of (metric_name n) now ≡ Some (metric_asked n)) metrics i d within
       (All-weaker (λ n. value_of (metric_name n) below ≡ Some (metric_asked n))
       (λ n. value_of (metric_name n) now ≡ Some (metric_asked n)) (kept_value m below now is)
-      (take i metrics) so_far.each)
-      (subst (λ n. value_of (metric_name n) now ≡ Some (metric_asked n)) at
-      (own_value m below now is));
+      (take i metrics) so_far.each) (own_value m below now is);
   others = subst (λ entries. All (Contains entries) now) (sym named)
-      (subst (λ entries. All (Contains (earlier ++ named_metric m ∷ [])) entries) (sym is)
-      (All-put (Contains (earlier ++ named_metric m ∷ [])) below (metric_name m) (metric_asked m)
+      (subst (All (Contains later)) (sym is)
+      (All-put (Contains later) below (metric_name m) (metric_asked m)
       (Contains-push earlier (named_metric m))
-      (All-weaker (Contains earlier) (Contains (earlier ++ named_metric m ∷ []))
+      (All-weaker (Contains earlier) (Contains later)
       (λ entry there. Contains-append_left earlier (named_metric m ∷ []) entry there) below
       so_far.others)));
 }
   where
+    m : Metric
+    m = get_or metrics i d
+
     earlier : List (List ℕ × Aggregation B)
     earlier = map named_metric (take i metrics)
 
-    named : map named_metric (take (i + 1) metrics) ≡ earlier ++ named_metric m ∷ []
-    named = map_more named_metric metrics i m within
-        ∙ ap (λ n. earlier ++ named_metric n ∷ []) (sym at)
+    later : List (List ℕ × Aggregation B)
+    later = earlier ++ named_metric m ∷ []
 
--- none yet
-pub metrics-none : {B : Type 0} (metrics : List Metric) (below : Request B) → below ≡ []
-    → AreMetricsOf (take 0 metrics) below
-metrics-none metrics below none = record {
-  each = All-nil (λ n. value_of (metric_name n) below ≡ Some (metric_asked n));
-  others = subst (λ entries. All (Contains (map named_metric (take 0 metrics))) entries) (sym none)
-      (All-nil (Contains (map named_metric (take 0 metrics))));
-}
+    named : map named_metric (take (i + 1) metrics) ≡ later
+    named = map_more named_metric metrics i d within
+
+-- the same of a metric by its parts
+pub metrics-inserted : {B : Type 0} (metrics : List Metric) (i : ℕ) (d : Metric)
+    (below now : Request B) (name : List ℕ) (agg : AggregationVariants B) (none : Request B)
+    → i < length metrics → AreMetricsOf (take i metrics) below
+    → now ≡ put name (aggregation_of agg none) below → name ≡ metric_name (get_or metrics i d)
+    → agg ≡ of_kind (get_or metrics i d).kind (get_or metrics i d).field.now → none ≡ []
+    → AreMetricsOf (take (i + 1) metrics) now
+metrics-inserted metrics i d below now name agg none within so_far is name_is agg_is none_is =
+    metrics-more metrics i d below now within so_far
+    (is ∙ (λ j. put (name_is j) (aggregation_of (agg_is j) (none_is j)) below))

@@ -1,5 +1,6 @@
 //! The request that a grouping stands for.
-ghost use Rattle.std.specs.Prelude.{◌≡◌, IfOk, IfErr};
+ghost use Rattle.std.specs.Prelude.{◌≡◌, IfOk, IfErr, OnOk};
+ghost use Rattle.agg_values.specs.Names.{put};
 ghost use Rattle.agg_grouping.specs.Request.{AreGroupsOf, AreMetricsOf, HasNoRequest};
 ghost use Rattle.agg_grouping.specs.Request.{IsCompositeOf, IsRequestOf, IsTotalOf, of_kind};
 
@@ -41,13 +42,13 @@ pub fn request_of<B: Drop>(
     let mut request = NameMap::new(alloc);
     let groups = groups_of(alloc, grouping, page)?;
     let name = Text::copy_of(alloc, GROUPS)?;
-    request.insert(name, groups)?;
+    put(&mut request, name, groups)?;
     if !grouping.has_total {
         return Ok(request);
     }
     let total = total_of(alloc, grouping)?;
     let name = Text::copy_of(alloc, TOTAL)?;
-    request.insert(name, total)?;
+    put(&mut request, name, total)?;
     Ok(request)
 }
 
@@ -116,7 +117,7 @@ fn metrics_of<B: Drop>(
             agg: variant_of(alloc, metric)?,
             sub_aggregation: NameMap::new(alloc),
         };
-        below.insert(name, aggregation)?;
+        put(&mut below, name, aggregation)?;
     }
     Ok(below)
 }
@@ -134,4 +135,16 @@ fn variant_of<B>(
         MetricKind::Min => AggregationVariants::Min(MinAggregation { field }),
         MetricKind::Max => AggregationVariants::Max(MaxAggregation { field }),
     })
+}
+
+// Puts an aggregation under a name.
+fn put<B: Drop>(
+    aggregations: &mut NameMap<Aggregation<B>>,
+    name: Text,
+    aggregation: Aggregation<B>,
+) -> Result<(), OutOfMemory>
+    ensures { OnOk result (aggregations.new ≡ put name aggregation aggregations.old) }
+{
+    aggregations.insert(name, aggregation)?;
+    Ok(())
 }

@@ -1,0 +1,58 @@
+-- The request of a grouping.
+use Rattle.std.proofs.Common.{◌≡◌, ◌∙◌, refl, sym, ap, subst, ℕ, List, [], ◌∷◌, Bool, true, false}
+use Rattle.std.proofs.Common.{codes}
+use Rattle.agg_values.specs.Names.{put}
+use Rattle.agg_segment.specs.declared.query.QueryTree.TheVariants as tree
+use Rattle.agg_request_tree.specs.Request.{Request, aggregation_of, below_of}
+use Rattle.agg_request_tree.specs.declared.aggregation.Aggregation.{Aggregation}
+use Rattle.agg_request_tree.specs.declared.aggregation.AggregationVariants.TheVariants as agg
+use Rattle.agg_request_tree.specs.declared.aggregation.CompositeAggregation.{CompositeAggregation}
+use Rattle.agg_request_tree.specs.declared.aggregation.filter.FilterAggregation.{FilterAggregation}
+use Rattle.agg_request_tree.specs.declared.aggregation.filter.FilterQuery.TheVariants.{Tree}
+use Rattle.agg_request_tree.proofs.RequestTrees.{agg-made, below-made}
+use Rattle.agg_words.specs.declared.metric.Metric.{Metric}
+use Rattle.agg_grouping.specs.Request.{AreGroupsOf, AreMetricsOf, AreTotals, IsCompositeOf}
+use Rattle.agg_grouping.specs.Request.{IsRequestOf, IsTotalOf}
+use Rattle.agg_grouping.specs.declared.grouping.Grouping.{Grouping}
+use Rattle.agg_grouping.specs.declared.request.Page.{Page}
+
+-- the groups of a composite with the metrics below
+pub groups-made : {B : Type 0} (grouping : Grouping) (page : Page)
+    (composite : CompositeAggregation) (metrics : List Metric) (below : Request B)
+    → IsCompositeOf grouping page composite → metrics ≡ grouping.metrics.items
+    → AreMetricsOf metrics below
+    → AreGroupsOf grouping page (aggregation_of (agg.Composite composite) below)
+groups-made grouping page composite metrics below is same are = record {
+  composite = composite;
+  is_composite = is;
+  asked = agg-made (agg.Composite composite) below;
+  metrics = subst (AreMetricsOf grouping.metrics.items)
+      (sym (below-made (agg.Composite composite) below)) (subst (λ m. AreMetricsOf m below) same are);
+}
+
+-- the total of a filter that all match, with the metrics below
+pub total-made : {B : Type 0} (grouping : Grouping) (all : FilterAggregation B)
+    (metrics : List Metric) (below : Request B) → all.query ≡ Tree tree.All
+    → metrics ≡ grouping.metrics.items → AreMetricsOf metrics below
+    → IsTotalOf grouping (aggregation_of (agg.Filter all) below)
+total-made grouping all metrics below is same are = record {
+  asked = agg-made (agg.Filter all) below ∙ ap (λ query. agg.Filter (record { query = query })) is;
+  metrics = subst (AreMetricsOf grouping.metrics.items)
+      (sym (below-made (agg.Filter all) below)) (subst (λ m. AreMetricsOf m below) same are);
+}
+
+-- a request with a total
+pub with_total : {B : Type 0} (grouping : Grouping) (page : Page) (none some request : Request B)
+    (name total_name : List ℕ) (groups total : Aggregation B) → grouping.has_total ≡ true
+    → none ≡ [] → name ≡ codes "groups" → total_name ≡ codes "total"
+    → AreGroupsOf grouping page groups → IsTotalOf grouping total → some ≡ put name groups none
+    → request ≡ put total_name total some → IsRequestOf grouping page request
+with_total grouping page none some request name total_name groups total has_total empty is
+    total_is are is_total first second = record {
+  groups = groups;
+  totals = (codes "total", total) ∷ [];
+  are_groups = are;
+  are_totals = subst (λ b. AreTotals b grouping ((codes "total", total) ∷ [])) (sym has_total)
+      (total, is_total, refl);
+  entries = rw (second, first, empty, is, total_is) refl;
+}

@@ -1,0 +1,10 @@
+use Rattle.std.proofs.Common.{◌≡◌, Ok, map, take}
+use Rattle.agg_words.specs.By.{parts}
+use Rattle.agg_grouping.specs.Sources.{source_asked}
+use Rattle.agg_grouping.proofs.request.composite_of.Given as goal
+
+-- the sources so far are those that are asked for
+abbrev pub invariant-loop-by : goal.invariant-loop-by
+invariant-loop-by l =
+    map Ok l.sources
+    ≡ map (λ by. source_asked l.grouping.types (parts by)) (take l.by-index l.grouping.by.items)
