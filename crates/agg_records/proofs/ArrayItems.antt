@@ -1,16 +1,19 @@
 -- The items of an array, read one after the other.
 use Rattle.std.proofs.Common.{◌≡◌, ◌<◌, ◌≤◌, ◌-◌, ℕ, List, [], ◌∷◌, ◌++◌, length, refl, ap, ◌∙◌}
-use Rattle.std.proofs.Common.{arith}
+use Rattle.std.proofs.Common.{arith, map}
 use Rattle.std.specs.Prelude.{Option, Some, None}
 use Rattle.json.specs.Json.{Items, Json, after_end_array, array, item, items, max_depth}
 use Rattle.json.specs.Json.{no_items, parse_map, value}
 use Rattle.json.specs.Token.{Token}
 use Rattle.json.specs.Value.{items_of}
 use Rattle.json.proofs.Grammar.{items_end, items_more, value-begin_array}
-use Rattle.agg_records.specs.JsonRecords.{HoldsNext, HoldsObjects}
+use Rattle.agg_records.specs.Documents.{AreRead}
+use Rattle.agg_records.specs.Held.{Adds}
+use Rattle.agg_records.specs.JsonRecords.{HoldsNext}
+use Rattle.agg_records.specs.Objects.{object_document}
 use Rattle.agg_records.specs.declared.asked.AskedField.{AskedField}
 use Rattle.agg_records.specs.declared.records.Records.{Records}
-use Rattle.agg_records.proofs.HeldObjects.{no_objects, one_object}
+use Rattle.agg_records.proofs.HeldDocuments.{adds_none, adds_one}
 
 -- items with these before them
 abbrev pub before : List Json → Items → Items
@@ -43,7 +46,7 @@ pub record HasItems (asked : List AskedField) (start now : List Token) (old new 
   pub enough : length now ≤ turns
   pub read : items (value (max_depth - 1)) (length start) start
       ≡ parse_map (before objects) (items (value (max_depth - 1)) turns now)
-  pub holds : HoldsObjects asked objects old new
+  pub adds : Adds (AreRead (map (object_document asked) objects)) old new
 
 pub no_items_yet : (asked : List AskedField) (start : List Token) (records : Records)
     → HasItems asked start start records records
@@ -52,7 +55,7 @@ no_items_yet asked start records = record {
   turns = length start;
   enough = omega arith;
   read = same_map (items (value (max_depth - 1)) (length start) start);
-  holds = no_objects asked records;
+  adds = adds_none records;
 }
 
 pub one_item_more : (asked : List AskedField) (start here next : List Token)
@@ -68,7 +71,8 @@ one_item_more asked start here next old now new going shorter has took =
       enough = omega (arith, has.enough, shorter);
       read = has.read ∙ ap (parse_map (before has.objects)) turn
           ∙ one_more has.objects took.object (items p (has.turns - 1) next);
-      holds = one_object asked has.objects took.object old now new has.holds took.holds;
+      adds = adds_one (object_document asked) has.objects took.object old now new has.adds
+          took.holds;
     }
 
 -- the whole array, where its bracket comes next and nothing after it

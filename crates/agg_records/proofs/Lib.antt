@@ -3,7 +3,7 @@ pub mod ArrayItems
 pub mod AskedNames
 pub mod Gains
 pub mod HeaderPlaces
-pub mod HeldObjects
+pub mod HeldDocuments
 pub mod LineRecords
 pub mod Marks
 pub mod ObjectValues

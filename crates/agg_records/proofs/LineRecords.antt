@@ -1,15 +1,10 @@
--- Lines of a text, whose records were appended one after the other.
+-- Lines that were cut off a text, one more at the end.
 use Rattle.std.proofs.Common.{◌≡◌, ℕ, Bool, true, false, List, [], ◌∷◌, ◌++◌, Bor, cond, map}
-use Rattle.std.proofs.Common.{sym, ap, ◌∙◌}
-use Rattle.std.specs.Prelude.{Some, filter, not}
+use Rattle.std.proofs.Common.{ap, ◌∙◌}
+use Rattle.std.specs.Prelude.{filter, not}
 use Rattle.std.proofs.lemmas.List.{map-append}
 use Rattle.std.proofs.lemmas.List.Elements.{filter-append}
-use Rattle.json.specs.Json.{document}
-use Rattle.agg_records.specs.JsonRecords.{HoldsText}
-use Rattle.agg_records.specs.Lines.{HoldsLines, is_blank, without_blank}
-use Rattle.agg_records.specs.declared.asked.AskedField.{AskedField}
-use Rattle.agg_records.specs.declared.records.Records.{Records}
-use Rattle.agg_records.proofs.HeldObjects.{one_object}
+use Rattle.agg_records.specs.Lines.{is_blank, without_blank}
 
 -- lines that were cut off a text
 abbrev pub texts_of : List (Bor (List ℕ)) → List (List ℕ)
@@ -34,15 +29,3 @@ filled_line lines line filled =
     with_last lines line
     ∙ ap (λ ls. without_blank (texts_of lines) ++ ls)
     (one_left (λ line. not (is_blank line)) line.now (ap not filled))
-
-pub one_line : (asked : List AskedField) (lines : List (List ℕ)) (line : List ℕ)
-    (old now new : Records) → HoldsLines asked lines old now → HoldsText asked line now new
-    → HoldsLines asked (lines ++ line ∷ []) old new
-one_line asked lines line old now new first next = record {
-  objects = first.objects ++ next.object ∷ [];
-  are = map-append document lines (line ∷ [])
-      ∙ ap (λ l. l ++ document line ∷ []) first.are
-      ∙ ap (λ d. map Some first.objects ++ d ∷ []) next.is
-      ∙ sym (map-append Some first.objects (next.object ∷ []));
-  holds = one_object asked first.objects next.object old now new first.holds next.holds;
-}

@@ -1,18 +1,19 @@
--- The records of a text in each format.
+-- The documents of a text in each format.
 use Rattle.std.specs.Prelude.{ℕ, List}
 use Rattle.csv.specs.Reading.{strip_bom}
-use Rattle.agg_records.specs.JsonRecords.{HoldsArray}
-use Rattle.agg_records.specs.Lines.{HoldsLines, lines_of}
-use Rattle.agg_records.specs.Table.{ReadsTable}
+use Rattle.agg_column.specs.Document.{Fields}
+use Rattle.agg_records.specs.JsonRecords.{AreItemDocuments}
+use Rattle.agg_records.specs.Lines.{AreLineDocuments, lines_of}
+use Rattle.agg_records.specs.Table.{AreTableDocuments}
 use Rattle.agg_records.specs.declared.asked.AskedField.{AskedField}
 use Rattle.agg_records.specs.declared.format.RecordFormat.{RecordFormat}
 use Rattle.agg_records.specs.declared.format.RecordFormat.TheVariants as format
-use Rattle.agg_records.specs.declared.records.Records.{Records}
 
--- the documents of a text in a format stand in order after those that the records held
-abbrev pub HoldsRecords : RecordFormat → List AskedField → List ℕ → Records → Records → Type 0
-HoldsRecords format.JsonLines asked bytes old new =
-    HoldsLines asked (lines_of (strip_bom bytes)) old new
-HoldsRecords format.Json asked bytes old new = HoldsArray asked (strip_bom bytes) old new
-HoldsRecords format.Csv asked bytes old new = ReadsTable 44 bytes asked old new
-HoldsRecords format.Tsv asked bytes old new = ReadsTable 9 bytes asked old new
+-- these are the documents of a text in a format, by the asked fields
+abbrev pub AreDocumentsOf : RecordFormat → List AskedField → List ℕ → List Fields → Type 0
+AreDocumentsOf format.JsonLines asked bytes documents =
+    AreLineDocuments asked (lines_of (strip_bom bytes)) documents
+AreDocumentsOf format.Json asked bytes documents =
+    AreItemDocuments asked (strip_bom bytes) documents
+AreDocumentsOf format.Csv asked bytes documents = AreTableDocuments 44 bytes asked documents
+AreDocumentsOf format.Tsv asked bytes documents = AreTableDocuments 9 bytes asked documents

@@ -9,6 +9,12 @@ abbrev pub held_documents : Records → List Fields
 held_documents records =
     flat_map documents_of records.built.items ++ gathered_documents records.builder
 
+-- documents like these stand in order after those that the records held
+abbrev pub Adds : (List Fields → Type 0) → Records → Records → Type 0
+Adds Are old new =
+    (documents : List Fields) × Are documents
+    × (held_documents new ≡ held_documents old ++ documents)
+
 -- a document stands after those that the records held
 pub record Holds (document : Option Fields) (old new : Records) : Type 0 where
   pub read : Fields

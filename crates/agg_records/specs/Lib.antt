@@ -1,5 +1,6 @@
 pub mod Asked
 pub mod Cells
+pub mod Documents
 pub mod Encodings
 pub mod Formats
 pub mod Held

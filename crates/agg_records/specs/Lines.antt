@@ -1,10 +1,10 @@
--- The lines of a text, and their records.
-use Rattle.std.specs.Prelude.{◌≡◌, ◌==◌, ◌||◌, ℕ, List, Bool, Some, filter, map, not}
+-- The lines of a text, and their documents.
+use Rattle.std.specs.Prelude.{◌==◌, ◌||◌, ℕ, List, Bool, filter, map, not}
 use Rattle.std.specs.List.{list_all, slice_split}
-use Rattle.json.specs.Json.{Json, document}
-use Rattle.agg_records.specs.JsonRecords.{HoldsObjects}
+use Rattle.agg_column.specs.Document.{Fields}
+use Rattle.agg_records.specs.Documents.{AreRead}
+use Rattle.agg_records.specs.JsonRecords.{text_document}
 use Rattle.agg_records.specs.declared.asked.AskedField.{AskedField}
-use Rattle.agg_records.specs.declared.records.Records.{Records}
 
 -- the lines of a text: cut at each line feed
 abbrev pub all_lines_of : List ℕ → List (List ℕ)
@@ -22,9 +22,6 @@ without_blank lines = filter (λ line. not (is_blank line)) lines
 abbrev pub lines_of : List ℕ → List (List ℕ)
 lines_of text = without_blank (all_lines_of text)
 
--- each line is an object, and their documents stand in order after those that the records held
-pub record HoldsLines (asked : List AskedField) (lines : List (List ℕ)) (old new : Records)
-    : Type 0 where
-  pub objects : List Json
-  pub are : map document lines ≡ map Some objects
-  pub holds : HoldsObjects asked objects old new
+-- each line is an object, and these are their documents
+abbrev pub AreLineDocuments : List AskedField → List (List ℕ) → List Fields → Type 0
+AreLineDocuments asked lines documents = AreRead (map (text_document asked) lines) documents

@@ -1,7 +1,8 @@
 //! One JSON array of objects.
 ghost use Rattle.std.specs.Prelude.{◌<◌, length, OnOk, IfErr, ◌≡◌, false};
 ghost use Rattle.agg_records.specs.Encodings.{is_encoding};
-ghost use Rattle.agg_records.specs.JsonRecords.{HoldsArray, HoldsNext};
+ghost use Rattle.agg_records.specs.Held.{Adds};
+ghost use Rattle.agg_records.specs.JsonRecords.{AreItemDocuments, HoldsNext};
 
 use crate::objects::add_object;
 use crate::place::{line_of, offset_of};
@@ -16,7 +17,7 @@ pub fn read_array(
     asked: &AskedFields,
     into: &mut Records,
 ) -> Result<(), RecordError>
-    ensures ok { OnOk result (HoldsArray asked.now text.now into.old into.new) }
+    ensures ok { OnOk result (Adds (AreItemDocuments asked.now text.now) into.old into.new) }
     ensures cause { IfErr result (λ error. is_encoding error.cause ≡ false) }
 {
     let mut scratch = Scratch::new(alloc);

@@ -1,8 +1,9 @@
 //! JSON lines: an object on each line.
 ghost use Rattle.std.specs.Prelude.{◌≡◌, OnOk, IfErr, false};
 ghost use Rattle.agg_records.specs.Encodings.{is_encoding};
-ghost use Rattle.agg_records.specs.JsonRecords.{HoldsText};
-ghost use Rattle.agg_records.specs.Lines.{HoldsLines, is_blank, lines_of};
+ghost use Rattle.agg_records.specs.Held.{Adds, Holds};
+ghost use Rattle.agg_records.specs.JsonRecords.{text_document};
+ghost use Rattle.agg_records.specs.Lines.{AreLineDocuments, is_blank, lines_of};
 
 use crate::objects::add_object;
 use crate::place::offset_of;
@@ -17,7 +18,8 @@ pub fn read_lines(
     asked: &AskedFields,
     into: &mut Records,
 ) -> Result<(), RecordError>
-    ensures ok { OnOk result (HoldsLines asked.now (lines_of text.now) into.old into.new) }
+    ensures ok { OnOk result
+        (Adds (AreLineDocuments asked.now (lines_of text.now)) into.old into.new) }
     ensures cause { IfErr result (λ error. is_encoding error.cause ≡ false) }
 {
     let mut scratch = Scratch::new(alloc);
@@ -42,7 +44,7 @@ fn read_line(
     asked: &AskedFields,
     into: &mut Records,
 ) -> Result<(), RecordError>
-    ensures ok { OnOk result (HoldsText asked.now line.now into.old into.new) }
+    ensures ok { OnOk result (Holds (text_document asked.now line.now) into.old into.new) }
     ensures cause { IfErr result (λ error. is_encoding error.cause ≡ false) }
 {
     match Value::parse(alloc, line, scratch) {

@@ -1,8 +1,10 @@
 //! Records of each format.
-ghost use Rattle.std.specs.Prelude.{◌≡◌, IfOk, IsErrAnd, IsTrue, OnOk, IfErr, false, ◌↔◌};
+ghost use Rattle.std.specs.Prelude.{◌≡◌, ◌++◌, ◌↔◌, List, IfOk, IsErrAnd, IsTrue, OnOk, IfErr, false};
 ghost use Rattle.csv.specs.Reading.{strip_bom};
 ghost use Rattle.agg_records.specs.Encodings.{begins_as_gzip, begins_as_utf16, is_encoding};
-ghost use Rattle.agg_records.specs.Formats.{HoldsRecords};
+ghost use Rattle.agg_column.specs.Document.{Fields};
+ghost use Rattle.agg_records.specs.Formats.{AreDocumentsOf};
+ghost use Rattle.agg_records.specs.Held.{held_documents};
 
 use crate::array::read_array;
 use crate::encoding::{refuse_other_encodings, without_mark};
@@ -21,7 +23,9 @@ pub fn read_records(
     asked: &AskedFields,
     into: &mut Records,
 ) -> Result<(), RecordError>
-    ensures held { OnOk result (HoldsRecords format asked.now bytes.now into.old into.new) }
+    ensures held { OnOk result ((documents : List Fields)
+        × AreDocumentsOf format asked.now bytes.now documents
+        × (held_documents into.new ≡ held_documents into.old ++ documents)) }
     ensures utf16 { IsErrAnd result (λ error. error.cause ≡ RecordCause.Utf16)
         ↔ IsTrue (begins_as_utf16 bytes.now) }
     ensures gzip { IsErrAnd result (λ error. error.cause ≡ RecordCause.Gzip)

@@ -1,12 +1,15 @@
 //! Rows of CSV and TSV under a header.
-ghost use Rattle.std.specs.Prelude.{◌≡◌, ◌++◌, ◌∷◌, [], ℕ, List, true, false, IfOk, OnOk, IfErr};
+ghost use Rattle.std.specs.Prelude.{◌≡◌, ◌++◌, ◌∷◌, [], ℕ, List, true, false, map};
+ghost use Rattle.std.specs.Prelude.{IfOk, OnOk, IfErr};
 ghost use Rattle.csv.specs.Reading.{AreRecords, strip_bom};
 ghost use Rattle.csv.specs.Records.{fields_of};
 ghost use Rattle.csv.specs.declared.parser.State.TheVariants as st;
+ghost use Rattle.agg_records.specs.Cells.{row_document};
+ghost use Rattle.agg_records.specs.Documents.{AreRead};
 ghost use Rattle.agg_records.specs.Encodings.{is_encoding};
-ghost use Rattle.agg_records.specs.Held.{held_documents};
+ghost use Rattle.agg_records.specs.Held.{Adds, held_documents};
 ghost use Rattle.agg_records.specs.Rows.{HasRead, cells_config};
-ghost use Rattle.agg_records.specs.Table.{HoldsRows, ReadsTable};
+ghost use Rattle.agg_records.specs.Table.{AreTableDocuments};
 
 use crate::cells::{add_row, places_of};
 use crate::place::line_of_row;
@@ -25,7 +28,8 @@ pub fn read_table(
     asked: &AskedFields,
     into: &mut Records,
 ) -> Result<(), RecordError>
-    ensures ok { OnOk result (ReadsTable delimiter bytes.now asked.now into.old into.new) }
+    ensures ok { OnOk result
+        (Adds (AreTableDocuments delimiter bytes.now asked.now) into.old into.new) }
     ensures cause { IfErr result (λ error. is_encoding error.cause ≡ false) }
 {
     let mut rows = Rows::new(alloc, delimiter, bytes);
@@ -48,7 +52,7 @@ fn read_rows(
     into: &mut Records,
 ) -> Result<(), RecordError>
     ensures ok { OnOk result ((delimiter : ℕ) (text : List ℕ) → HasRead delimiter text [] rows.old
-        → ReadsTable delimiter text asked.now into.old into.new) }
+        → Adds (AreTableDocuments delimiter text asked.now) into.old into.new) }
     ensures cause { IfErr result (λ error. is_encoding error.cause ≡ false) }
 {
     if !next_row(rows)? {
@@ -71,7 +75,7 @@ fn read_rest(
         → HasRead delimiter text before rows.old
         → (more : List (List (List ℕ)))
         × AreRecords (cells_config delimiter) st.StartRecord (strip_bom text) (before ++ more)
-        × HoldsRows asked.now places.now more into.old into.new) }
+        × Adds (AreRead (map (row_document asked.now places.now) more)) into.old into.new) }
     ensures cause { IfErr result (λ error. is_encoding error.cause ≡ false) }
 {
     'rows: for _ in 0..u64::MAX {

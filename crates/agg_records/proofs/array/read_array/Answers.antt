@@ -26,10 +26,14 @@ returns-clause-ok c =
     let closes : after_end_array l.reader ≡ Some c.take_end_array.new.self = grind arith in
     let ended : c.take_end_array.new.self ≡ [] = grind (arith, common_steps) in
     let opens : tokens c.args.text.now ≡ Token.begin_array ∷ c.next.new.self = grind arith in
-    record {
-      objects = l.invariant.objects;
-      is = ap (option_and_then (λ p. if_last p.0 p.1)) (ap (value max_depth) opens
-          ∙ all_items c.args.asked.now c.next.new.self l.reader c.args.into.now l.into l.invariant
-          (closes ∙ ap Some ended));
-      holds = l.invariant.holds;
-    }
+    let (documents, read, added) = l.invariant.adds in (
+      documents,
+      record {
+        objects = l.invariant.objects;
+        is = ap (option_and_then (λ p. if_last p.0 p.1)) (ap (value max_depth) opens
+            ∙ all_items c.args.asked.now c.next.new.self l.reader c.args.into.now l.into
+            l.invariant (closes ∙ ap Some ended));
+        read = read;
+      },
+      added,
+    )

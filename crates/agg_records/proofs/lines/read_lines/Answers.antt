@@ -1,8 +1,11 @@
 use Rattle.std.proofs.Common.{◌≡◌, false, sym, subst, ap, lit<, rules}
 use Rattle.std.proofs.lemmas.Iterator.Consumers.{YieldsList-at, YieldsList-end}
 use Rattle.std.proofs.lemmas.Iterator.Splits.{YieldsList-from_str_split}
-use Rattle.agg_records.specs.Lines.{HoldsLines, is_blank, without_blank}
-use Rattle.agg_records.proofs.LineRecords.{filled_line, one_line, texts_of}
+use Rattle.agg_records.specs.Held.{Adds}
+use Rattle.agg_records.specs.JsonRecords.{text_document}
+use Rattle.agg_records.specs.Lines.{AreLineDocuments, is_blank, without_blank}
+use Rattle.agg_records.proofs.HeldDocuments.{adds_one}
+use Rattle.agg_records.proofs.LineRecords.{filled_line, texts_of}
 use Rattle.agg_records.proofs.lines.read_lines.Goals as goal
 
 pub loop-line-preserved-in_default : goal.loop-line-preserved-in_default
@@ -11,10 +14,10 @@ loop-line-preserved-in_default c =
     let line = c.in-Some.line in
     let asked = c.args.asked.now in
     let filled : is_blank line.now ≡ false = search rules in
-    subst (λ ls. HoldsLines asked ls c.args.into.now c.read_line.new.into)
+    subst (λ ls. Adds (AreLineDocuments asked ls) c.args.into.now c.read_line.new.into)
     (sym (filled_line l.yielded line filled))
-    (one_line asked (without_blank (texts_of l.yielded)) line.now c.args.into.now l.into
-    c.read_line.new.into l.invariant (search rules))
+    (adds_one (text_document asked) (without_blank (texts_of l.yielded)) line.now c.args.into.now
+    l.into c.read_line.new.into l.invariant (search rules))
 
 pub returns-clause-ok : goal.returns-clause-ok
 returns-clause-ok c =
@@ -24,5 +27,5 @@ returns-clause-ok c =
     (YieldsList-from_str_split 10 c.args.text.now (lit< tt) split.ensures.text
     split.ensures.has_more split.ensures.pattern) in
     let end = YieldsList-end cut l.yielded _ l.yielded_by _ _ c.in-None.is c.next.ensures.steps in
-    subst (λ ls. HoldsLines c.args.asked.now ls c.args.into.now l.into) (ap without_blank end.0)
-    l.invariant
+    subst (λ ls. Adds (AreLineDocuments c.args.asked.now ls) c.args.into.now l.into)
+    (ap without_blank end.0) l.invariant

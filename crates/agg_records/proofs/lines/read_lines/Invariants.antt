@@ -1,7 +1,9 @@
 use Rattle.std.proofs.Common.{map}
-use Rattle.agg_records.specs.Lines.{HoldsLines, without_blank}
+use Rattle.agg_records.specs.Held.{Adds}
+use Rattle.agg_records.specs.Lines.{AreLineDocuments, without_blank}
 use Rattle.agg_records.proofs.lines.read_lines.Given as goal
 
 abbrev pub invariant-loop-line : goal.invariant-loop-line
 invariant-loop-line l =
-    HoldsLines l.asked (without_blank (map (λ line. line.now) l.yielded)) l.initial.into l.into
+    Adds (AreLineDocuments l.asked (without_blank (map (λ line. line.now) l.yielded)))
+    l.initial.into l.into

@@ -1,10 +1,20 @@
-use Rattle.std.proofs.Common.{List, ℕ, [], ◌∷◌, Option, inl, subst}
+use Rattle.std.proofs.Common.{List, ℕ, [], ◌∷◌, Option, append-nil, inl, inr, map, refl, subst, sym}
 use Rattle.std.proofs.lemmas.Result.{on_ok_weaker}
 use Rattle.csv.specs.Records.{Row, fields_of}
-use Rattle.agg_records.specs.Table.{ArePlaces, HoldsRows}
+use Rattle.agg_records.specs.Cells.{row_document}
+use Rattle.agg_records.specs.Documents.{AreRead}
+use Rattle.agg_records.specs.Held.{Adds, held_documents}
+use Rattle.agg_records.specs.Table.{ArePlaces}
 use Rattle.agg_records.specs.declared.asked.AskedField.{AskedField}
-use Rattle.agg_records.proofs.TableRows.{rows_later}
+use Rattle.agg_records.proofs.HeldDocuments.{adds_later}
 use Rattle.agg_records.proofs.table.read_rows.Goals as goal
+
+pub returns-then-not-branch-clause-ok : goal.returns-then-not-branch-clause-ok
+returns-then-not-branch-clause-ok c = λ delimiter text has. (
+  [],
+  inr (c.in_ok-next_row.ensures.end c.if-not-branch.true delimiter text [] has, refl),
+  sym (append-nil (held_documents c.args.into.now)),
+)
 
 pub returns-clause-ok : goal.returns-clause-ok
 returns-clause-ok c =
@@ -20,14 +30,18 @@ returns-clause-ok c =
     on_ok_weaker c.read_rest.result (λ rest delimiter text has.
     let here = c.in_ok-next_row.ensures.more c.if-not-branch.false delimiter text [] has in
     let (more, records, held) = rest delimiter text (header ∷ []) here in
-    inl (record {
-      header = header;
-      rows = more;
-      records = records;
-      places = places;
-      placed = placed;
-      holds = rows_later asked places more c.args.into.now c.see_header.new.records
-          c.read_rest.new.into c.see_header.ensures.held
-          (subst (λ (ps : List (Option ℕ)). HoldsRows asked ps more c.see_header.new.records
-          c.read_rest.new.into) c.as_slice-2.ensures.value held);
-    })) c.read_rest.ensures.ok
+    let (documents, read, added) = adds_later c.args.into.now c.see_header.new.records
+    c.read_rest.new.into c.see_header.ensures.held
+    (subst (λ (ps : List (Option ℕ)). Adds (AreRead (map (row_document asked ps) more))
+    c.see_header.new.records c.read_rest.new.into) c.as_slice-2.ensures.value held) in (
+      documents,
+      inl (record {
+        header = header;
+        rows = more;
+        records = records;
+        places = places;
+        placed = placed;
+        read = read;
+      }),
+      added,
+    )) c.read_rest.ensures.ok
