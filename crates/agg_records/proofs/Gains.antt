@@ -36,7 +36,7 @@ named-joined name (Some xs) (Some ys) = ap Some (map-append (λ value. (name, va
 
 -- ---- values that are added
 
-with_values-append : (xs ys : List (List ℕ × FieldValue)) (document : Fields)
+pub with_values-append : (xs ys : List (List ℕ × FieldValue)) (document : Fields)
     → with_values (xs ++ ys) document ≡ with_values ys (with_values xs document)
 with_values-append [] ys document = refl
 with_values-append (x ∷ xs) ys document =

@@ -1,3 +1,4 @@
+pub mod AddedFields
 pub mod Appended
 pub mod ArrayItems
 pub mod AskedNames
@@ -6,6 +7,12 @@ pub mod HeaderPlaces
 pub mod HeldDocuments
 pub mod LineRecords
 pub mod Marks
+pub mod MemberPlaces
+pub mod ObjectMembers
 pub mod ObjectValues
+pub mod ReadItems
 pub mod RowValues
+pub mod SoleDocuments
 pub mod TableRows
+pub mod TakenMembers
+pub mod TakenValues

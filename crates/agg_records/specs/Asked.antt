@@ -8,6 +8,10 @@ use Rattle.agg_records.specs.declared.asked.AskedField.{AskedField}
 abbrev pub path_of : List ℕ → List (List ℕ)
 path_of name = slice_split (λ b. b == 46) name
 
+-- the path of a field is its name cut at its points
+abbrev pub IsCut : AskedField → Type 0
+IsCut field = field.path.items ≡ path_of field.name
+
 -- a field of this name is among these
 abbrev pub IsAsked : List ℕ → List AskedField → Type 0
 IsAsked name fields = Any (λ field. field.name ≡ name) fields

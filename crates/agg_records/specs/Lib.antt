@@ -9,4 +9,5 @@ pub mod Lines
 pub mod Objects
 pub mod Rows
 pub mod Table
+pub mod Tokens
 pub mod Values

@@ -1,6 +1,7 @@
 //! The fields that are read of records.
 ghost use Rattle.std.specs.Prelude.{IfOk, OnErr, OnOk, ◌≡◌};
-ghost use Rattle.agg_records.specs.Asked.{Asks, path_of};
+ghost use Rattle.std.specs.List.{All};
+ghost use Rattle.agg_records.specs.Asked.{Asks, IsCut, path_of};
 
 use agg_fields::FieldType;
 use agg_values::{OutOfMemory, Text};
@@ -11,7 +12,7 @@ use std::marker::Model;
 #[derive(Drop)]
 pub struct AskedField {
     pub name: Text,
-    pub path: Vec<Text>,
+    pub(crate) path: Vec<Text>,
     pub of: FieldType,
 }
 
@@ -24,11 +25,15 @@ pub struct AskedFields {
 
 impl Model for AskedFields {
     ghost use Rattle.std.specs.Prelude.{List};
+    ghost use Rattle.std.specs.List.{All};
+    ghost use Rattle.agg_records.specs.Asked.{IsCut};
     ghost use Rattle.agg_records.specs.declared.asked.AskedField.{AskedField};
 
     ghost Value = { List AskedField };
 
     ghost view = { λ asked. asked.fields.items };
+
+    ghost invariant = { λ asked. All IsCut asked.fields.items };
 }
 
 impl AskedFields {
@@ -54,7 +59,8 @@ impl AskedFields {
 
     /// The fields.
     pub fn as_slice(&self) -> &[AskedField]
-        ensures { result.now ≡ self.now }
+        ensures same { result.now ≡ self.now }
+        ensures cut { All IsCut result.now }
     {
         self.fields.as_slice()
     }

@@ -1,12 +1,13 @@
 //! JSON lines: an object on each line.
-ghost use Rattle.std.specs.Prelude.{◌≡◌, OnOk, IfErr, false};
+ghost use Rattle.std.specs.Prelude.{◌≡◌, IfErr, IfOk, OnOk, false, true};
 ghost use Rattle.agg_records.specs.Encodings.{is_encoding};
-ghost use Rattle.agg_records.specs.Held.{Adds, Holds};
+ghost use Rattle.agg_records.specs.Held.{Adds, Holds, held_documents};
 ghost use Rattle.agg_records.specs.JsonRecords.{text_document};
 ghost use Rattle.agg_records.specs.Lines.{AreLineDocuments, is_blank, lines_of};
 
 use crate::objects::add_object;
 use crate::place::offset_of;
+use crate::tokens::push_text;
 use crate::{AskedFields, RecordCause, RecordError, Records};
 use json::{Error, Scratch, Value};
 use std::alloc::Global;
@@ -47,11 +48,39 @@ fn read_line(
     ensures ok { OnOk result (Holds (text_document asked.now line.now) into.old into.new) }
     ensures cause { IfErr result (λ error. is_encoding error.cause ≡ false) }
 {
+    if add_tokens(alloc, line, scratch, asked, into)? {
+        return Ok(());
+    }
     match Value::parse(alloc, line, scratch) {
         Ok(value) => add_object(alloc, into, asked, &value),
         Err(Error::OutOfMemory) => Err(RecordError::of(RecordCause::OutOfMemory)),
         Err(_) => Err(RecordError::of(RecordCause::NotJson)),
     }
+}
+
+// Appends the record of a line, read from its tokens. False where it has to be read from its tree of
+// values, as that of an object whose names are looked at.
+fn add_tokens(
+    alloc: Global,
+    line: &str,
+    scratch: &mut Scratch,
+    asked: &AskedFields,
+    into: &mut Records,
+) -> Result<bool, RecordError>
+    ensures taken { IfOk result (λ taken. taken ≡ true
+        → Holds (text_document asked.now line.now) into.old into.new) }
+    ensures left { IfOk result (λ taken. taken ≡ false
+        → held_documents into.new ≡ held_documents into.old) }
+    ensures cause { IfErr result (λ error. is_encoding error.cause ≡ false) }
+{
+    if into.wants_names() {
+        return Ok(false);
+    }
+    into.forget_open();
+    if !push_text(alloc, &mut into.builder, asked.as_slice(), line, scratch) {
+        return Ok(false);
+    }
+    Ok(into.close(asked)?)
 }
 
 // Whether a line has nothing but blanks.

@@ -155,7 +155,8 @@ fn push_items(
     Ok(())
 }
 
-fn push_item(
+/// Appends the value of a member or an item that is no array. `null` is none.
+pub fn push_item(
     alloc: Global,
     builder: &mut SegmentBuilder,
     number: u32,

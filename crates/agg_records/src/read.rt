@@ -1,5 +1,6 @@
 //! Records of each format.
-ghost use Rattle.std.specs.Prelude.{◌≡◌, ◌++◌, ◌↔◌, List, IfOk, IsErrAnd, IsTrue, OnOk, IfErr, false};
+ghost use Rattle.std.specs.Prelude.{◌≡◌, ◌++◌, ◌↔◌, List, IfOk, IfErr, IsErrAnd, IsTrue, OnOk};
+ghost use Rattle.std.specs.Prelude.{false};
 ghost use Rattle.csv.specs.Reading.{strip_bom};
 ghost use Rattle.agg_records.specs.Encodings.{begins_as_gzip, begins_as_utf16, is_encoding};
 ghost use Rattle.agg_column.specs.Document.{Fields};

@@ -108,14 +108,19 @@ impl Records {
         Ok(())
     }
 
+    // Whether the names of the next object are looked at.
+    pub(crate) fn wants_names(&self) -> bool {
+        self.named < NAMING_OBJECTS && self.names.len() < MAX_NAMES
+    }
+
     // Whether the names of one more object are looked at.
     pub(crate) fn looks_at_names(&mut self) -> bool
         ensures { held_documents self.new ≡ held_documents self.old }
     {
-        if self.named >= NAMING_OBJECTS || self.names.len() >= MAX_NAMES {
+        if !self.wants_names() {
             return false;
         }
-        self.named += 1;
+        self.named = self.named.saturating_add(1);
         true
     }
 

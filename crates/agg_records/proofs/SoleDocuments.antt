@@ -1,0 +1,160 @@
+-- A text has at most one list of documents.
+use Rattle.std.proofs.Common.{◌≡◌, ℕ, List, [], ◌∷◌, map, refl, sym, ap, ◌∙◌, subst}
+use Rattle.std.proofs.Common.{inl, inr}
+use Rattle.std.specs.Prelude.{Option, Some, None}
+use Rattle.std.proofs.lemmas.Option.{none-some}
+use Rattle.json.specs.Json.{Items, Json, array, boolean, item, no_items, null, number}
+use Rattle.json.specs.Json.{object, string}
+use Rattle.json.specs.Value.{items_of}
+use Rattle.csv.specs.Machine.{Read, next_record}
+use Rattle.csv.specs.Reading.{AreRecords, Reached, strip_bom}
+use Rattle.csv.specs.declared.parser.Config.{Config}
+use Rattle.csv.specs.declared.parser.State.{State}
+use Rattle.agg_column.specs.Document.{Fields}
+use Rattle.agg_records.specs.Cells.{row_document}
+use Rattle.agg_records.specs.Documents.{AreRead}
+use Rattle.agg_records.specs.Formats.{AreDocumentsOf}
+use Rattle.agg_records.specs.JsonRecords.{AreItemDocuments}
+use Rattle.agg_records.specs.Objects.{object_document}
+use Rattle.agg_records.specs.Table.{ArePlaces, AreTableDocuments, IsPlaceOf}
+use Rattle.agg_records.specs.declared.asked.AskedField.{AskedField}
+use Rattle.agg_records.specs.declared.format.RecordFormat.{RecordFormat}
+use Rattle.agg_records.specs.declared.format.RecordFormat.TheVariants as format
+
+-- ---- documents that were read
+
+abbrev given : List (Option Fields) → List Fields
+given [] = []
+given (None ∷ read) = given read
+given (Some d ∷ read) = d ∷ given read
+
+given-some : (documents : List Fields) → given (map Some documents) ≡ documents
+given-some [] = refl
+given-some (d ∷ ds) = ap (λ l. d ∷ l) (given-some ds)
+
+read_once : (read : List (Option Fields)) (first second : List Fields)
+    → AreRead read first → AreRead read second → first ≡ second
+read_once read first second a b =
+    sym (given-some first) ∙ ap given (sym a ∙ b) ∙ given-some second
+
+-- ---- an array of objects
+
+abbrev listed : Items → List Json
+listed no_items = []
+listed (item j js) = j ∷ listed js
+
+listed-items_of : (js : List Json) → listed (items_of js) ≡ js
+listed-items_of [] = refl
+listed-items_of (j ∷ js) = ap (λ l. j ∷ l) (listed-items_of js)
+
+abbrev in_array : Option Json → List Json
+in_array None = []
+in_array (Some null) = []
+in_array (Some (boolean b)) = []
+in_array (Some (number text)) = []
+in_array (Some (string text)) = []
+in_array (Some (array items)) = listed items
+in_array (Some (object inner)) = []
+
+items_once : (asked : List AskedField) (text : List ℕ) (first second : List Fields)
+    → AreItemDocuments asked text first → AreItemDocuments asked text second → first ≡ second
+items_once asked text first second a b =
+    let same : a.objects ≡ b.objects =
+    sym (listed-items_of a.objects) ∙ ap in_array (sym a.is ∙ b.is)
+    ∙ listed-items_of b.objects in
+    read_once (map (object_document asked) b.objects) first second
+    (subst (λ js. AreRead (map (object_document asked) js) first) same a.read) b.read
+
+-- ---- rows
+
+some_is : {A : Type 0} (x y : A) → Some x ≡ Some y → x ≡ y
+some_is x y e = cc e
+
+rows_once : (config : Config) (s : State) (text : List ℕ) (first second : List (List (List ℕ)))
+    → AreRecords config s text first → AreRecords config s text second → first ≡ second
+unfolding Reached
+rows_once config s text [] [] a b = refl
+rows_once config s text [] (row ∷ rows) (t, left, (at, is), over) (u, more, (p, next, here, rest), end) =
+    let none : next_record config s [] [] text ≡ None =
+    subst (λ (q : State). next_record config q [] [] text ≡ None) (sym at)
+    (subst (λ xs. next_record config t [] [] xs ≡ None) (sym is) over) in
+    absurd (none-some p (sym none ∙ next))
+rows_once config s text (row ∷ rows) [] (u, more, (p, next, here, rest), end) (t, left, (at, is), over) =
+    let none : next_record config s [] [] text ≡ None =
+    subst (λ (q : State). next_record config q [] [] text ≡ None) (sym at)
+    (subst (λ xs. next_record config t [] [] xs ≡ None) (sym is) over) in
+    absurd (none-some p (sym none ∙ next))
+rows_once config s text (row ∷ rows) (other ∷ others) (t, left, (p, next, is, rest), over)
+    (u, more, (q, second, has, later), end) =
+    let same : p ≡ q = some_is p q (sym next ∙ second) in
+    let here : row ≡ other = is ∙ ap (λ (r : Read). r.0) same ∙ sym has in
+    let there : rows ≡ others =
+    rows_once config p.1 p.2 rows others (t, left, rest, over)
+    (subst (λ (r : Read). AreRecords config r.1 r.2 others) (sym same) (u, more, later, end)) in
+    ap (λ r. r ∷ rows) here ∙ ap (λ rs. other ∷ rs) there
+
+-- ---- places
+
+place_once : (header : List (List ℕ)) (name : List ℕ) (first second : Option ℕ)
+    → IsPlaceOf header name first → IsPlaceOf header name second → first ≡ second
+place_once header name None None a b = refl
+place_once header name None (Some i) a b = absurd (a i b.0)
+place_once header name (Some i) None a b = absurd (b i a.0)
+place_once header name (Some i) (Some j) a b = ap Some (b.1 i a.0)
+
+places_once : (header : List (List ℕ)) (asked : List AskedField) (first second : List (Option ℕ))
+    → ArePlaces header asked first → ArePlaces header asked second → first ≡ second
+places_once header [] [] [] a b = refl
+places_once header [] [] (q ∷ qs) a b = absurd b
+places_once header [] (p ∷ ps) second a b = absurd a
+places_once header (field ∷ fields) [] second a b = absurd a
+places_once header (field ∷ fields) (p ∷ ps) [] a b = absurd b
+places_once header (field ∷ fields) (p ∷ ps) (q ∷ qs) a b =
+    ap (λ r. r ∷ ps) (place_once header field.name p q a.0 b.0)
+    ∙ ap (λ rs. q ∷ rs) (places_once header fields ps qs a.1 b.1)
+
+-- ---- a table
+
+abbrev first_row : List (List (List ℕ)) → List (List ℕ)
+first_row [] = []
+first_row (row ∷ rows) = row
+
+abbrev rows_after : List (List (List ℕ)) → List (List (List ℕ))
+rows_after [] = []
+rows_after (row ∷ rows) = rows
+
+abbrev is_some_row : List (List (List ℕ)) → Option ℕ
+is_some_row [] = None
+is_some_row (row ∷ rows) = Some 0
+
+table_once : (delimiter : ℕ) (text : List ℕ) (asked : List AskedField)
+    (first second : List Fields) → AreTableDocuments delimiter text asked first
+    → AreTableDocuments delimiter text asked second → first ≡ second
+table_once delimiter text asked first second (inl a) (inl b) =
+    let rows : a.header ∷ a.rows ≡ b.header ∷ b.rows =
+    rows_once _ _ (strip_bom text) (a.header ∷ a.rows) (b.header ∷ b.rows) a.records b.records in
+    let headers : a.header ≡ b.header = ap first_row rows in
+    let places : a.places ≡ b.places =
+    places_once b.header asked a.places b.places
+    (subst (λ h. ArePlaces h asked a.places) headers a.placed) b.placed in
+    read_once (map (row_document asked b.places) b.rows) first second
+    (subst (λ rs. AreRead (map (row_document asked b.places) rs) first) (ap rows_after rows)
+    (subst (λ ps. AreRead (map (row_document asked ps) a.rows) first) places a.read)) b.read
+table_once delimiter text asked first second (inl a) (inr (none, is)) =
+    let rows = rows_once _ _ (strip_bom text) (a.header ∷ a.rows) [] a.records none in
+    absurd (none-some 0 (sym (ap is_some_row rows)))
+table_once delimiter text asked first second (inr (none, is)) (inl b) =
+    let rows = rows_once _ _ (strip_bom text) (b.header ∷ b.rows) [] b.records none in
+    absurd (none-some 0 (sym (ap is_some_row rows)))
+table_once delimiter text asked first second (inr (none, is)) (inr (never, has)) = is ∙ sym has
+
+-- ---- each format
+
+pub documents_once : (f : RecordFormat) (asked : List AskedField) (bytes : List ℕ)
+    (first second : List Fields) → AreDocumentsOf f asked bytes first
+    → AreDocumentsOf f asked bytes second → first ≡ second
+documents_once format.JsonLines asked bytes first second a b = read_once _ first second a b
+documents_once format.Json asked bytes first second a b =
+    items_once asked (strip_bom bytes) first second a b
+documents_once format.Csv asked bytes first second a b = table_once 44 bytes asked first second a b
+documents_once format.Tsv asked bytes first second a b = table_once 9 bytes asked first second a b
