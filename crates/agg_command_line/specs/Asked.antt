@@ -1,7 +1,9 @@
--- What the matches of `group` ask.
+-- What the matches of a command ask.
 use Rattle.std.specs.Prelude.{◌≡◌, ◌≤◌, ◌<◌, ◌^◌, ℕ, List, [], ◌++◌, length, map, codes}
 use Rattle.std.specs.Prelude.{Bool, true, false, if◌then◌else◌, Option, Some, None, option_map}
 use Rattle.std.specs.Prelude.{option_and_then, unwrap_or}
+use Rattle.std.specs.Prelude.{IfSome, IsSome}
+use Rattle.std.specs.Borrow.{Bor}
 use Rattle.std.specs.List.{AllZip}
 use Rattle.std.specs.Str.{bytes_eq}
 use Rattle.std.specs.Str.Parse.{IsNumeral, digits_value, without_leading_plus}
@@ -15,7 +17,7 @@ use Rattle.agg_words.specs.declared.condition.Condition.{Condition}
 use Rattle.agg_words.specs.declared.date_field.DateField.{DateField}
 use Rattle.agg_words.specs.declared.decimal_field.DecimalField.{DecimalField}
 use Rattle.agg_command_line.specs.declared.options.Chosen.{Chosen}
-use Rattle.agg_command_line.specs.declared.options.Chosen.TheVariants.{Group}
+use Rattle.agg_command_line.specs.declared.options.Chosen.TheVariants as chosen
 use Rattle.agg_command_line.specs.declared.options.GroupOptions.{GroupOptions}
 use Rattle.agg_command_line.specs.declared.options.InputFormat.{InputFormat}
 use Rattle.agg_command_line.specs.declared.options.InputFormat.TheVariants as input
@@ -68,13 +70,18 @@ pub record ReadsFlag (id : Text) (rows : List Row) (flag : Bool) : Type 0 where
   pub is_unset : one_of id rows ≡ Some (codes "false") → flag ≡ false
   pub is_absent : one_of id rows ≡ None → flag ≡ false
 
--- the size of a page is the number that its digits write
-abbrev pub ReadsSize : List Row → ℕ → Type 0
-ReadsSize rows size =
-    (text : Text) → one_of (codes "size") rows ≡ Some text
+-- a number is the one that the digits of an option's value write
+abbrev pub ReadsNumber : Text → List Row → ℕ → Type 0
+ReadsNumber id rows number =
+    (text : Text) → one_of id rows ≡ Some text
     → IsNumeral 10 (without_leading_plus text)
     → digits_value 10 (without_leading_plus text) < 2 ^ 32
-    → size ≡ digits_value 10 (without_leading_plus text)
+    → number ≡ digits_value 10 (without_leading_plus text)
+
+-- there is a number where the option is used, which is the one that its digits write
+pub record ReadsOptionalNumber (id : Text) (rows : List Row) (number : Option ℕ) : Type 0 where
+  pub is_absent : one_of id rows ≡ None → number ≡ None
+  pub value : IfSome number (ReadsNumber id rows)
 
 -- a text of `--by` stands for this
 abbrev pub ReadsBy : Text → BySpec → Type 0
@@ -93,24 +100,49 @@ ReadsDate text date = date_text.date_field_of text ≡ Some (date_text.parts dat
 abbrev pub ReadsDecimal : Text → DecimalField → Type 0
 ReadsDecimal text decimal = IsDecimalField text decimal.field.now decimal.places
 
+-- the groups with the most documents begin at the first group, and have no further page
+abbrev pub IsAlone : GroupOptions → Type 0
+IsAlone options = IsSome options.top → (options.after ≡ None) × (options.is_all ≡ false)
+
 -- the options are what the matches ask
 pub record Asks (rows : List Row) (options : GroupOptions) : Type 0 where
   pub files : map (λ file. file.now) options.files.items ≡ texts_of (codes "file") rows
   pub by : AllZip ReadsBy (texts_of (codes "by") rows) options.by.items
   pub few : length options.by.items ≤ 16
   pub conditions : AllZip ReadsCondition (texts_of (codes "where") rows) options.conditions.items
+  pub query : option_map (λ text. text.now) options.query ≡ first_of (codes "query") rows
   pub metrics : map column options.metrics.items ≡ all_columns rows
   pub total : ReadsFlag (codes "total") rows options.has_total
-  pub size : ReadsSize rows options.size
+  pub size : ReadsNumber (codes "size") rows options.size
   pub after : option_map (λ text. text.now) options.after ≡ first_of (codes "after") rows
   pub all : ReadsFlag (codes "all") rows options.is_all
+  pub top : ReadsOptionalNumber (codes "top") rows options.top
+  pub alone : IsAlone options
   pub dates : AllZip ReadsDate (texts_of (codes "date") rows) options.dates.items
   pub decimals : AllZip ReadsDecimal (texts_of (codes "decimal") rows) options.decimals.items
   pub texts : map (λ field. field.now) options.texts.items ≡ texts_of (codes "text") rows
   pub from : options.from ≡ option_and_then input_format_of (first_of (codes "from") rows)
   pub to : options.to ≡ option_and_then output_format_of (first_of (codes "to") rows)
 
--- the words chose `group`, with these options
+-- the matches of one file ask for it, or for standard input where it is none
+abbrev pub AsksFile : List Row → Option (Bor Text) → Type 0
+AsksFile rows file = option_map (λ name. name.now) file ≡ first_of (codes "file") rows
+
+-- the name of the command that was chosen
+abbrev pub command_name : Chosen → Text
+command_name (chosen.Group _) = codes "group"
+command_name (chosen.Request _) = codes "request"
+command_name (chosen.Walk _) = codes "walk"
+command_name (chosen.Check _) = codes "check"
+
+-- the matches of the command that was chosen ask this
+abbrev pub AsksChosen : List Row → Chosen → Type 0
+AsksChosen rows (chosen.Group options) = Asks rows options
+AsksChosen rows (chosen.Request options) = Asks rows options
+AsksChosen rows (chosen.Walk file) = AsksFile rows file
+AsksChosen rows (chosen.Check file) = AsksFile rows file
+
+-- the words chose this command, and ask this of it
 abbrev pub IsAsked : Option (Text × List Row) → Chosen → Type 0
-IsAsked None chosen = ⊥
-IsAsked (Some (name, rows)) (Group options) = (name ≡ codes "group") × Asks rows options
+IsAsked None asked = ⊥
+IsAsked (Some (name, rows)) asked = (name ≡ command_name asked) × AsksChosen rows asked

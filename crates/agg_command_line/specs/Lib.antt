@@ -2,3 +2,4 @@ pub mod Adds
 pub mod Asked
 pub mod CommandLine
 pub mod Mistakes
+pub mod OptionRules

@@ -1,20 +1,38 @@
-ghost use Rattle.std.specs.Prelude.{◌≡◌, IfOk, codes, map, string_bytes};
+ghost use Rattle.std.specs.Prelude.{◌≡◌, ◌∷◌, [], IfOk, codes, map, string_bytes};
 ghost use Rattle.clap.specs.Words.{app_of, new_app, subcommand_of, subcommand_rows_of};
-ghost use Rattle.agg_command_line.specs.Adds.{HasNoGlobals};
+ghost use Rattle.agg_command_line.specs.Adds.{AddsRules, HasNoGlobals};
 ghost use Rattle.agg_command_line.specs.CommandLine as spec;
 ghost use Rattle.agg_command_line.specs.CommandLine.{Formats};
 
-use crate::arguments::{with_fields, with_formats, with_grouping, with_metrics, with_page};
+use crate::arguments::{FormatNames, file, files, format_names, with_options};
 use clap::{ArgMatches, Command, Error};
 use std::alloc::{AllocError, Global};
 
 const VERSION: &str = "0.1.0";
 
-const EXAMPLES: &str = "\
+const GROUP_EXAMPLES: &str = "\
 Examples:
   peslumok group sales.csv --by shop --decimal amount=2 --sum amount
   peslumok group sales.csv --date day --by day:month,desc --size 12
   peslumok group sales.jsonl --by shop --where 'items>=10' --all --to csv";
+
+const REQUEST_EXAMPLES: &str = "\
+Examples:
+  peslumok request --by shop --sum items --total
+  peslumok request --by items:10,desc --where 'shop=Leith'
+  (peslumok request --by shop; echo snapshot 20; cat sales.jsonl) | peslumok walk";
+
+const WALK_EXAMPLES: &str = "\
+Examples:
+  peslumok walk sales_pages.jsonl
+  peslumok walk < sales_pages.jsonl
+  (peslumok request --by shop; echo snapshot 20; cat sales.jsonl) | peslumok walk";
+
+const CHECK_EXAMPLES: &str = "\
+Examples:
+  peslumok check sales_pages.jsonl
+  peslumok check < sales_pages.jsonl
+  peslumok check sales_pages.jsonl && peslumok walk sales_pages.jsonl";
 
 /// The matches of a command line's words, a function of them.
 pub(crate) fn matches_of<'a>(alloc: Global, words: &'a [String]) -> Result<ArgMatches<'a>, Error>
@@ -26,15 +44,20 @@ pub(crate) fn matches_of<'a>(alloc: Global, words: &'a [String]) -> Result<ArgMa
     command.try_get_matches_from(words)
 }
 
-// The program and its command.
+// The program and its commands.
 fn root<'a>(alloc: Global) -> Result<Command<'a>, AllocError>
     ensures { IfOk result (λ command. (formats : Formats)
         × (app_of command ≡ spec.peslumok formats)) }
 {
-    let below = group(alloc)?;
-    let program = bare(alloc)?;
-    let command = program.subcommand(below)?;
-    Ok(command)
+    let formats = format_names();
+    let grouping = group(alloc, formats)?;
+    let requesting = request(alloc, formats)?;
+    let (walking, checking) = (walk(alloc)?, check(alloc)?);
+    let grouped = bare(alloc)?.subcommand(grouping)?;
+    let requested = grouped.subcommand(requesting)?;
+    let walked = requested.subcommand(walking)?;
+    let checked = walked.subcommand(checking)?;
+    Ok(checked)
 }
 
 // The program before it has a command.
@@ -52,25 +75,58 @@ fn bare<'a>(alloc: Global) -> Result<Command<'a>, AllocError>
 }
 
 // `group` and its arguments.
-fn group<'a>(alloc: Global) -> Result<Command<'a>, AllocError>
-    ensures app { IfOk result (λ command. (formats : Formats)
-        × (app_of command ≡ spec.group_app formats)) }
+fn group<'a>(alloc: Global, formats: FormatNames<'a>) -> Result<Command<'a>, AllocError>
+    ensures app { IfOk result (λ command. app_of command
+        ≡ spec.group_app formats.entry.inputs formats.entry.outputs) }
     ensures local { IfOk result HasNoGlobals }
 {
-    let grouping = with_grouping(alloc, bare_group(alloc))?;
-    let metrics = with_metrics(alloc, grouping)?;
-    let page = with_page(alloc, metrics)?;
-    let fields = with_fields(alloc, page)?;
-    let formats = with_formats(alloc, fields)?;
-    Ok(formats)
+    let about = "Groups records, and writes one page of groups or all pages";
+    let command = bare_command(alloc, "group", about, GROUP_EXAMPLES);
+    let named = command.arg(files(alloc))?;
+    with_options(alloc, named, formats)
 }
 
-// `group` before it has arguments.
-fn bare_group<'a>(alloc: Global) -> Command<'a>
-    ensures app { app_of result ≡ new_app (codes "group") }
+// `request` and its arguments.
+fn request<'a>(alloc: Global, formats: FormatNames<'a>) -> Result<Command<'a>, AllocError>
+    ensures app { IfOk result (λ command. app_of command
+        ≡ spec.request_app formats.entry.inputs formats.entry.outputs) }
+    ensures local { IfOk result HasNoGlobals }
+{
+    let about = "Writes the header for 'walk' that the options of 'group' stand for";
+    let command = bare_command(alloc, "request", about, REQUEST_EXAMPLES);
+    with_options(alloc, command, formats)
+}
+
+// `walk` and its argument.
+fn walk<'a>(alloc: Global) -> Result<Command<'a>, AllocError>
+    ensures app { IfOk result (λ command. app_of command ≡ spec.file_app (codes "walk")) }
+    ensures local { IfOk result HasNoGlobals }
+{
+    let about = "Writes the pages of a request over snapshots of documents, as JSON lines";
+    with_file(alloc, bare_command(alloc, "walk", about, WALK_EXAMPLES))
+}
+
+// `check` and its argument.
+fn check<'a>(alloc: Global) -> Result<Command<'a>, AllocError>
+    ensures app { IfOk result (λ command. app_of command ≡ spec.file_app (codes "check")) }
+    ensures local { IfOk result HasNoGlobals }
+{
+    let about = "Tells what is wrong with an input of 'walk'";
+    with_file(alloc, bare_command(alloc, "check", about, CHECK_EXAMPLES))
+}
+
+// A command with one file.
+fn with_file<'a>(alloc: Global, command: Command<'a>) -> Result<Command<'a>, AllocError>
+    ensures { IfOk result (AddsRules (spec.file_rule ∷ []) command.entry) }
+{
+    let named = command.arg(file(alloc))?;
+    Ok(named)
+}
+
+// A command before it has arguments.
+fn bare_command<'a>(alloc: Global, name: &'a str, about: &'a str, examples: &'a str) -> Command<'a>
+    ensures app { app_of result ≡ new_app name.entry.now }
     ensures local { HasNoGlobals result }
 {
-    Command::new(alloc, "group")
-        .about("Groups records, and writes one page of groups or all pages")
-        .after_help(EXAMPLES)
+    Command::new(alloc, name).about(about).after_help(examples)
 }

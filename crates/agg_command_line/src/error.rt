@@ -18,6 +18,10 @@ pub enum CommandLineError<'a> {
     By(&'a str, BySpecError<'a>),
     /// More than 16 times `--by`.
     TooManyBy,
+    /// `--top` beside `--after`.
+    TopWithAfter,
+    /// `--top` beside `--all`.
+    TopWithAll,
     /// A text of `--where` is wrong.
     Where(&'a str, ConditionError),
     /// A text of `--date` is wrong.
@@ -80,13 +84,15 @@ impl fmt::Display for CommandLineError<'_> {
         match self {
             CommandLineError::Shown(error) => fmt::Display::fmt(error, f),
             CommandLineError::NoCommand => {
-                write!(f, "error: no command is named; expected 'group'\n{MORE}")
+                write!(f, "error: no command is named; expected {COMMANDS}\n{MORE}")
             }
             CommandLineError::By(text, why) => write_invalid(f, text, "--by <SPEC>", why),
             CommandLineError::TooManyBy => write!(
                 f,
                 "error: '--by <SPEC>' may be used 16 times at most\n{MORE}"
             ),
+            CommandLineError::TopWithAfter => write_conflict(f, "--after <VALUES>"),
+            CommandLineError::TopWithAll => write_conflict(f, "--all"),
             CommandLineError::Where(text, why) => write_invalid(f, text, "--where <COND>", why),
             CommandLineError::Date(text, why) => {
                 write_invalid(f, text, "--date <FIELD[=UNIT]>", why)
@@ -101,6 +107,8 @@ impl fmt::Display for CommandLineError<'_> {
 
 impl error::Error for CommandLineError<'_> {}
 
+const COMMANDS: &str = "'group', 'request', 'walk' or 'check'";
+
 const MORE: &str = "\nFor more information, try '--help'.\n";
 
 // A mistake in a value, as clap tells it.
@@ -113,5 +121,13 @@ fn write_invalid<W: fmt::Write>(
     write!(
         f,
         "error: invalid value '{text}' for '{option}': {why}\n{MORE}"
+    )
+}
+
+// A mistake in the choice of options, as clap tells it.
+fn write_conflict<W: fmt::Write>(f: &mut fmt::Formatter<W>, option: &str) -> fmt::Result {
+    write!(
+        f,
+        "error: the argument '--top <N>' cannot be used with '{option}'\n{MORE}"
     )
 }

@@ -4,6 +4,8 @@
 mod arguments;
 mod command;
 mod error;
+mod named_option;
+mod option_value;
 mod options;
 mod read;
 mod readings;

@@ -1,13 +1,14 @@
-ghost use Rattle.std.specs.Prelude.{IfOk, IfErr, map, string_bytes};
+ghost use Rattle.std.specs.Prelude.{◌≡◌, IfOk, IfErr, Some, true, map, string_bytes};
 ghost use Rattle.clap.specs.Words.{found_of, rows_of, subcommand_of};
 ghost use Rattle.agg_command_line.specs.Asked.{Asks, IsAsked};
 ghost use Rattle.agg_command_line.specs.CommandLine.{Formats, peslumok};
-ghost use Rattle.agg_command_line.specs.Mistakes.{IsTold, Tells};
+ghost use Rattle.agg_command_line.specs.Mistakes.{IsTold, Tells, TellsOf, names_value};
 
 use crate::command::matches_of;
-use crate::readings::{by_specs, conditions, date_fields, decimal_fields, metric_columns};
-use crate::values::{from, is_used, size, text, texts, to};
+use crate::readings::{metric_columns, read_all};
+use crate::values::{from, is_used, size, text, texts, to, top};
 use crate::{Chosen, CommandLineError, GroupOptions};
+use agg_words::BySpec;
 use clap::ArgMatches;
 use std::alloc::Global;
 
@@ -26,16 +27,32 @@ pub fn read_command_line<'a>(
         Ok(matches) => matches,
         Err(error) => return Err(CommandLineError::from(error)),
     };
-    let Some(group) = matches.subcommand_matches("group") else {
+    let Some((name, found)) = matches.subcommand() else {
         return Err(CommandLineError::NoCommand);
     };
-    match group_options(alloc, group) {
-        Ok(options) => Ok(Chosen::Group(options)),
-        Err(error) => Err(error),
+    chosen(alloc, name, found)
+}
+
+// What the matches of the command `name` ask.
+fn chosen<'a>(
+    alloc: Global,
+    name: &str,
+    found: &ArgMatches<'a>,
+) -> Result<Chosen<'a>, CommandLineError<'a>>
+    ensures asked { IfOk result (IsAsked (Some (name.now, rows_of (found_of found.now)))) }
+    ensures told { IfErr result (λ told. names_value told ≡ true
+        → TellsOf (Some (name.now, rows_of (found_of found.now))) told) }
+{
+    match name {
+        "group" => Ok(Chosen::Group(group_options(alloc, found)?)),
+        "request" => Ok(Chosen::Request(group_options(alloc, found)?)),
+        "walk" => Ok(Chosen::Walk(text(found, "file"))),
+        "check" => Ok(Chosen::Check(text(found, "file"))),
+        _ => Err(CommandLineError::NoCommand),
     }
 }
 
-// The options of `group`.
+// The options of `group` or `request`.
 fn group_options<'a>(
     alloc: Global,
     matches: &ArgMatches<'a>,
@@ -43,21 +60,31 @@ fn group_options<'a>(
     ensures asked { IfOk result (Asks (rows_of (found_of matches.now))) }
     ensures told { IfErr result (Tells (rows_of (found_of matches.now))) }
 {
-    let by = by_specs(alloc, matches)?;
+    let by = read_all::<BySpec>(alloc, matches)?;
     if by.len() > 16 {
         return Err(CommandLineError::TooManyBy);
+    }
+    let (top, after) = (top(matches), text(matches, "after"));
+    let is_all = is_used(matches, "all");
+    if top.is_some() && after.is_some() {
+        return Err(CommandLineError::TopWithAfter);
+    }
+    if top.is_some() && is_all {
+        return Err(CommandLineError::TopWithAll);
     }
     Ok(GroupOptions {
         files: texts(alloc, matches, "file")?,
         by,
-        conditions: conditions(alloc, matches)?,
+        conditions: read_all(alloc, matches)?,
+        query: text(matches, "query"),
         metrics: metric_columns(alloc, matches)?,
         has_total: is_used(matches, "total"),
         size: size(matches),
-        after: text(matches, "after"),
-        is_all: is_used(matches, "all"),
-        dates: date_fields(alloc, matches)?,
-        decimals: decimal_fields(alloc, matches)?,
+        after,
+        is_all,
+        top,
+        dates: read_all(alloc, matches)?,
+        decimals: read_all(alloc, matches)?,
         texts: texts(alloc, matches, "text")?,
         from: from(matches),
         to: to(matches),

@@ -6,100 +6,29 @@ ghost use Rattle.agg_command_line.specs.Asked as spec;
 ghost use Rattle.agg_command_line.specs.Mistakes.{Tells};
 
 use crate::CommandLineError;
+use crate::option_value::OptionValue;
 use crate::values::texts;
-use agg_words::{
-    BySpec, Condition, DateField, DecimalField, Metric, MetricKind, read_by, read_condition,
-    read_date_field, read_decimal_field,
-};
+use agg_words::{Metric, MetricKind};
 use clap::ArgMatches;
 use std::alloc::{AllocError, Global};
 
-/// What texts of `--by` stand for.
-pub(crate) fn by_specs<'a>(
+/// What the texts of the option stand for that has values of this kind.
+pub(crate) fn read_all<'a, T: OptionValue<'a>>(
     alloc: Global,
     matches: &ArgMatches<'a>,
-) -> Result<Vec<BySpec<'a>>, CommandLineError<'a>>
+) -> Result<Vec<T>, CommandLineError<'a>>
     ensures read { IfOk result (λ read. AllZip
-        spec.ReadsBy
-        (spec.texts_of (codes "by") (rows_of (found_of matches.now)))
+        T.stands_for
+        (spec.texts_of T.option_name (rows_of (found_of matches.now)))
         read.items) }
     ensures told { IfErr result (Tells (rows_of (found_of matches.now))) }
 {
     let mut read = Vec::new(alloc);
-    let texts = texts(alloc, matches, "by")?;
+    let texts = texts(alloc, matches, T::option())?;
     for text in &texts {
-        match read_by(text) {
-            Ok(by) => read.push(by)?,
-            Err(why) => return Err(CommandLineError::By(*text, why)),
-        }
-    }
-    Ok(read)
-}
-
-/// What texts of `--where` stand for.
-pub(crate) fn conditions<'a>(
-    alloc: Global,
-    matches: &ArgMatches<'a>,
-) -> Result<Vec<Condition<'a>>, CommandLineError<'a>>
-    ensures read { IfOk result (λ read. AllZip
-        spec.ReadsCondition
-        (spec.texts_of (codes "where") (rows_of (found_of matches.now)))
-        read.items) }
-    ensures told { IfErr result (Tells (rows_of (found_of matches.now))) }
-{
-    let mut read = Vec::new(alloc);
-    let texts = texts(alloc, matches, "where")?;
-    for text in &texts {
-        match read_condition(text) {
-            Ok(condition) => read.push(condition)?,
-            Err(why) => return Err(CommandLineError::Where(*text, why)),
-        }
-    }
-    Ok(read)
-}
-
-/// What texts of `--date` stand for.
-pub(crate) fn date_fields<'a>(
-    alloc: Global,
-    matches: &ArgMatches<'a>,
-) -> Result<Vec<DateField<'a>>, CommandLineError<'a>>
-    ensures read { IfOk result (λ read. AllZip
-        spec.ReadsDate
-        (spec.texts_of (codes "date") (rows_of (found_of matches.now)))
-        read.items) }
-    ensures told { IfErr result (Tells (rows_of (found_of matches.now))) }
-{
-    let mut read = Vec::new(alloc);
-    let texts = texts(alloc, matches, "date")?;
-    for text in &texts {
-        match read_date_field(text) {
-            Ok(date) => read.push(date)?,
-            Err(why) => return Err(CommandLineError::Date(*text, why)),
-        }
-    }
-    Ok(read)
-}
-
-/// What texts of `--decimal` stand for.
-pub(crate) fn decimal_fields<'a>(
-    alloc: Global,
-    matches: &ArgMatches<'a>,
-) -> Result<Vec<DecimalField<'a>>, CommandLineError<'a>>
-    ensures read { IfOk result (λ read. AllZip
-        spec.ReadsDecimal
-        (spec.texts_of (codes "decimal") (rows_of (found_of matches.now)))
-        read.items) }
-    ensures told { IfErr result (Tells (rows_of (found_of matches.now))) }
-{
-    let mut read = Vec::new(alloc);
-    let texts = texts(alloc, matches, "decimal")?;
-    for text in &texts {
-        match read_decimal_field(text) {
-            Ok(decimal) => match read.push(decimal) {
-                Ok(()) => {}
-                Err(_) => return Err(CommandLineError::OutOfMemory),
-            },
-            Err(why) => return Err(CommandLineError::Decimal(*text, why)),
+        match T::read(text) {
+            Ok(value) => read.push(value)?,
+            Err(error) => return Err(error),
         }
     }
     Ok(read)

@@ -1,7 +1,7 @@
 //! The kinds of arguments.
 ghost use Rattle.std.specs.Prelude.{◌≡◌, Some, false};
 ghost use Rattle.clap.specs.Words.{rule_of};
-ghost use Rattle.agg_command_line.specs.CommandLine as spec;
+ghost use Rattle.agg_command_line.specs.OptionRules as spec;
 
 use clap::{Arg, ArgAction};
 use std::alloc::Global;
@@ -27,6 +27,14 @@ pub(crate) fn one<'a>(alloc: Global, name: &'a str, value: &'a str, help: &'a st
         .long(name)
         .value_name(value)
         .help(help)
+}
+
+/// An option that is used once, with a number from 1 on.
+pub(crate) fn number<'a>(alloc: Global, name: &'a str, value: &'a str, help: &'a str) -> Arg<'a>
+    ensures rule { rule_of result ≡ spec.number_rule name.entry.now }
+    ensures local { result.global ≡ false }
+{
+    one(alloc, name, value, help).value_parser(clap::value_parser!(u32).range(1..))
 }
 
 /// An option without a value.

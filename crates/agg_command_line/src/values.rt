@@ -2,7 +2,7 @@
 ghost use Rattle.std.specs.Prelude.{◌≡◌, IfOk, map, option_map, option_and_then, codes};
 ghost use Rattle.clap.specs.Words.{first_of, found_of, rows_of};
 ghost use Rattle.agg_command_line.specs.Asked as spec;
-ghost use Rattle.agg_command_line.specs.Asked.{ReadsFlag, ReadsSize};
+ghost use Rattle.agg_command_line.specs.Asked.{ReadsFlag, ReadsNumber, ReadsOptionalNumber};
 
 use crate::{InputFormat, OutputFormat};
 use clap::ArgMatches;
@@ -40,9 +40,16 @@ pub(crate) fn is_used(matches: &ArgMatches<'_>, id: &str) -> bool
 
 /// How many groups a page has.
 pub(crate) fn size(matches: &ArgMatches<'_>) -> u32
-    ensures { ReadsSize (rows_of (found_of matches.now)) result }
+    ensures { ReadsNumber (codes "size") (rows_of (found_of matches.now)) result }
 {
     matches.get_one::<u32>("size").unwrap_or(20)
+}
+
+/// How many of the greatest groups there are.
+pub(crate) fn top(matches: &ArgMatches<'_>) -> Option<u32>
+    ensures { ReadsOptionalNumber (codes "top") (rows_of (found_of matches.now)) result }
+{
+    matches.get_one::<u32>("top")
 }
 
 /// How records are written.

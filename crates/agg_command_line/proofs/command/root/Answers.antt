@@ -1,12 +1,21 @@
-use Rattle.std.proofs.Common.{ap, ap₂, ◌∙◌}
-use Rattle.clap.specs.Words.{App, with_subcommand}
+use Rattle.agg_command_line.proofs.Added.{adds_command}
 use Rattle.agg_command_line.proofs.command.root.Goals as goal
 
 pub returns : goal.returns
 returns c =
-    let group_is = c.in_ok-below.ensures.app in
-    let group_top = ap (λ (app : App). app.top) group_is.1 in (
-      group_is.0,
-      c.in_ok-command.ensures.shape c.in_ok-below.ensures.local
-          ∙ ap₂ with_subcommand c.in_ok-program.ensures group_top,
+    let names = c.format_names-formats in
+    let grouped = adds_command _ _ _ _ _ c.in_ok-grouped.ensures
+    c.in_ok-grouping.ensures.local c.in_ok-bare.ensures c.in_ok-grouping.ensures.app in
+    let requested = adds_command _ _ _ _ _ c.in_ok-requested.ensures
+    c.in_ok-requesting.ensures.local grouped c.in_ok-requesting.ensures.app in
+    let walked = adds_command _ _ _ _ _ c.in_ok-walked.ensures
+    c.in_ok-walking.ensures.local requested c.in_ok-walking.ensures.app in (
+      record {
+        inputs = names.result.inputs;
+        outputs = names.result.outputs;
+        are_inputs = names.ensures.inputs;
+        are_outputs = names.ensures.outputs;
+      },
+      adds_command _ _ _ _ _ c.in_ok-checked.ensures
+          c.in_ok-checking.ensures.local walked c.in_ok-checking.ensures.app,
     )
