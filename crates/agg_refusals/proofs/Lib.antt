@@ -1,0 +1,2 @@
+pub mod SeenRequests
+pub mod SoundRequests

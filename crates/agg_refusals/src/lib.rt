@@ -1,0 +1,8 @@
+//! Refusals of walks in words, and where in a request they come from.
+#![tactic(auto)]
+
+mod place;
+mod words;
+
+pub use place::{RefusedComposite, refused_composite, refused_source};
+pub use words::{write_interval_fault, write_refusal};
