@@ -1,0 +1,2 @@
+pub mod FilterRequests
+pub mod HeaderMembers
