@@ -5,27 +5,28 @@ use Rattle.std.proofs.Common.{take}
 use Rattle.std.specs.BTreeMap.{is_at}
 use Rattle.std.specs.List.{flat_map}
 use Rattle.std.specs.Str.{bytes_eq}
-use Rattle.std.proofs.lemmas.Bool.{false_from_ne_true}
+use Rattle.std.proofs.lemmas.Bool.{false≢true, false_from_ne_true}
 use Rattle.std.proofs.lemmas.Cmp.{nat_list_cmp_total}
-use Rattle.std.proofs.lemmas.List.{map-append}
+use Rattle.std.proofs.lemmas.List.{map_more}
 use Rattle.std.proofs.lemmas.List.Folds.{list_any-append}
 use Rattle.std.proofs.lemmas.Map.Lookups.{exact_bytes}
 use Rattle.std.proofs.lemmas.Slice.Eq.{bytes_eq-Decides}
 use Rattle.agg_values.specs.Names.{Named, name_cmp, put, value_of}
 use Rattle.agg_values.proofs.NameValues.{other-put, same_key, value-put}
+use Rattle.agg_segment.specs.declared.query.QueryTree.{QueryTree}
+use Rattle.agg_segment.specs.declared.query.QueryTree.TheVariants.{Boolean, rolls-Boolean}
+use Rattle.agg_segment.specs.declared.query.QueryTree.TheOpen as layer
+use Rattle.agg_segment.specs.declared.query.QueryTree.TheFolds.{fold-roll-QueryTree}
 use Rattle.agg_json.specs.Json.{is_among}
 use Rattle.agg_fields.specs.Types.{type_of}
 use Rattle.agg_fields.specs.declared.field_type.FieldType.{FieldType}
-use Rattle.agg_grouping.specs.Fields.{AreAdded}
+use Rattle.agg_grouping.specs.Fields.{AreAdded, all_of, fields_by, fields_in}
 
 -- a type that is put stands under its name
 pub added-put : (types before now : Named FieldType) (field : List ℕ)
     → now ≡ put field (type_of types field) before → AreAdded types (field ∷ []) before now
 added-put types before now field is name = by_name (bytes_eq name field) refl
   where
-    put_there : Option FieldType
-    put_there = value_of name (put field (type_of types field) before)
-
     by_name : (b : Bool) → bytes_eq name field ≡ b
         → value_of name now
         ≡ cond (bytes_eq name field || false) (Some (type_of types name)) (value_of name before)
@@ -33,8 +34,12 @@ added-put types before now field is name = by_name (bytes_eq name field) refl
         let same : name ≡ field = (bytes_eq-Decides name field).0 e in
         rw (is, e, same) (value-put nat_list_cmp_total exact_bytes before field (type_of types field))
     by_name false e =
-        rw (is, e) (other-put nat_list_cmp_total exact_bytes before field name (type_of types field)
-        (false_from_ne_true (is_at (name_cmp name) field) (λ at. ?)))
+        let apart : is_at (name_cmp name) field ≡ false =
+        false_from_ne_true (is_at (name_cmp name) field)
+        (λ at. false≢true (sym e ∙ (bytes_eq-Decides name field).1
+        (same_key nat_list_cmp_total exact_bytes name field at))) in
+        rw (is, e)
+        (other-put nat_list_cmp_total exact_bytes before field name (type_of types field) apart)
 
 -- none more
 pub added-none : (types fields : Named FieldType) → AreAdded types [] fields fields
@@ -57,3 +62,45 @@ added-then types before mid now names others first then name =
     either true false = refl
     either false true = refl
     either false false = refl
+
+-- ---- of lists
+
+-- the field of one item more
+pub added-item : {X : Type 0} (field_of : X → List ℕ) (xs : List X) (i : ℕ) (d : X)
+    (types before mid now : Named FieldType) (field : List ℕ) → i < length xs
+    → AreAdded types (map field_of (take i xs)) before mid → AreAdded types (field ∷ []) mid now
+    → field ≡ field_of (get_or xs i d) → AreAdded types (map field_of (take (i + 1) xs)) before now
+added-item field_of xs i d types before mid now field within so_far added is =
+    subst (λ names. AreAdded types names before now) (sym (map_more field_of xs i d within))
+    (added-then types before mid now (map field_of (take i xs)) (field_of (get_or xs i d) ∷ [])
+    so_far (subst (λ name. AreAdded types (name ∷ []) mid now) is added))
+
+-- ---- of queries
+
+-- the fields of the parts of a Boolean query
+parts-map : (trees : List QueryTree) → all_of (map fields_in trees) ≡ flat_map fields_in trees
+parts-map [] = refl
+parts-map (tree ∷ trees) = ap (λ names. fields_in tree ++ names) (parts-map trees)
+
+pub fields-Boolean : (must should must_not : List QueryTree)
+    → fields_in (Boolean must should must_not)
+    ≡ flat_map fields_in must ++ (flat_map fields_in should ++ flat_map fields_in must_not)
+fields-Boolean must should must_not =
+    ap fields_in (sym (rolls-Boolean must should must_not))
+    ∙ fold-roll-QueryTree (List (List ℕ)) fields_by (layer.Boolean must should must_not)
+    ∙ (λ i. parts-map must i ++ (parts-map should i ++ parts-map must_not i))
+
+-- those of all three parts are those of the query
+pub added-Boolean : (types before one two now : Named FieldType) (query : QueryTree)
+    (must should must_not : List QueryTree) → query ≡ Boolean must should must_not
+    → AreAdded types (flat_map fields_in must) before one
+    → AreAdded types (flat_map fields_in should) one two
+    → AreAdded types (flat_map fields_in must_not) two now
+    → AreAdded types (fields_in query) before now
+added-Boolean types before one two now query must should must_not is first second third =
+    subst (λ names. AreAdded types names before now)
+    (sym (ap fields_in is ∙ fields-Boolean must should must_not))
+    (added-then types before one now (flat_map fields_in must)
+    (flat_map fields_in should ++ flat_map fields_in must_not) first
+    (added-then types one two now (flat_map fields_in should) (flat_map fields_in must_not)
+    second third))

@@ -1,0 +1,9 @@
+use Rattle.std.proofs.Common.{◌∙◌, ap}
+use Rattle.agg_values.specs.Names.{put}
+use Rattle.agg_grouping.proofs.AddedFields.{added-put}
+use Rattle.agg_grouping.proofs.fields.ask.Goals as goal
+
+pub returns : goal.returns
+returns c =
+    added-put c.args.types.now c.args.fields.now c.insert.new.self c.args.field
+    (c.in_ok-insert.ensures.ok ∙ ap (λ of. put c.args.field of c.args.fields.now) c.get-of.ensures)

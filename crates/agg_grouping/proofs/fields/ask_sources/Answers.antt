@@ -1,0 +1,8 @@
+use Rattle.agg_grouping.proofs.AddedFields.{added-item}
+use Rattle.agg_grouping.proofs.fields.ask_sources.Goals as goal
+
+pub loop-by-preserved : goal.loop-by-preserved
+loop-by-preserved c =
+    added-item (λ by. by.field.now) c.args.sources.now c.loop-by.by-index _ c.args.types.now
+    c.args.fields.now c.loop-by.fields c.ask.new.fields c.in_ok-field.field c.loop-by-test.true
+    c.loop-by.invariant c.in_ok-ask.ensures c.in_ok-field.ensures
