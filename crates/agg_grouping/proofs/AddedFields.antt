@@ -1,6 +1,6 @@
 -- Fields that are put into a map one by one.
 use Rattle.std.proofs.Common.{◌≡◌, ◌<◌, ◌+◌, ◌∙◌, refl, sym, ap, subst, ℕ, List, [], ◌∷◌, ◌++◌}
-use Rattle.std.proofs.Common.{Bool, true, false, ◌||◌, cond, Option, Some, None, get_or, length, map}
+use Rattle.std.proofs.Common.{Bool, true, false, ◌||◌, cond, Some, get_or, length, map}
 use Rattle.std.proofs.Common.{take}
 use Rattle.std.specs.BTreeMap.{is_at}
 use Rattle.std.specs.List.{flat_map}
@@ -32,7 +32,8 @@ added-put types before now field is name = by_name (bytes_eq name field) refl
         ≡ cond (bytes_eq name field || false) (Some (type_of types name)) (value_of name before)
     by_name true e =
         let same : name ≡ field = (bytes_eq-Decides name field).0 e in
-        rw (is, e, same) (value-put nat_list_cmp_total exact_bytes before field (type_of types field))
+        rw (is, e, same)
+        (value-put nat_list_cmp_total exact_bytes before field (type_of types field))
     by_name false e =
         let apart : is_at (name_cmp name) field ≡ false =
         false_from_ne_true (is_at (name_cmp name) field)
@@ -56,7 +57,8 @@ added-then types before mid now names others first then name =
     (sym (list_any-append (bytes_eq name) names others))
   where
     either : (a b : Bool)
-        → cond b (Some (type_of types name)) (cond a (Some (type_of types name)) (value_of name before))
+        → cond b (Some (type_of types name))
+        (cond a (Some (type_of types name)) (value_of name before))
         ≡ cond (a || b) (Some (type_of types name)) (value_of name before)
     either true true = refl
     either true false = refl

@@ -1,9 +1,9 @@
 -- The request of a grouping.
-use Rattle.std.proofs.Common.{◌≡◌, ◌∙◌, refl, sym, ap, subst, ℕ, List, [], ◌∷◌, Bool, true, false}
+use Rattle.std.proofs.Common.{◌≡◌, ◌∙◌, refl, sym, ap, subst, ℕ, List, [], ◌∷◌, true}
 use Rattle.std.proofs.Common.{codes}
 use Rattle.agg_values.specs.Names.{put}
 use Rattle.agg_segment.specs.declared.query.QueryTree.TheVariants as tree
-use Rattle.agg_request_tree.specs.Request.{Request, aggregation_of, below_of}
+use Rattle.agg_request_tree.specs.Request.{Request, aggregation_of}
 use Rattle.agg_request_tree.specs.declared.aggregation.Aggregation.{Aggregation}
 use Rattle.agg_request_tree.specs.declared.aggregation.AggregationVariants.TheVariants as agg
 use Rattle.agg_request_tree.specs.declared.aggregation.CompositeAggregation.{CompositeAggregation}
@@ -27,7 +27,8 @@ groups-made grouping page composite metrics below is same are = record {
   is_composite = is;
   asked = agg-made (agg.Composite composite) below;
   metrics = subst (AreMetricsOf grouping.metrics.items)
-      (sym (below-made (agg.Composite composite) below)) (subst (λ m. AreMetricsOf m below) same are);
+      (sym (below-made (agg.Composite composite) below))
+      (subst (λ m. AreMetricsOf m below) same are);
 }
 
 -- the total of a filter that all match, with the metrics below
@@ -49,10 +50,10 @@ pub with_total : {B : Type 0} (grouping : Grouping) (page : Page) (none some req
     → request ≡ put total_name total some → IsRequestOf grouping page request
 with_total grouping page none some request name total_name groups total has_total empty is
     total_is are is_total first second = record {
-  groups = groups;
-  totals = (codes "total", total) ∷ [];
-  are_groups = are;
-  are_totals = subst (λ b. AreTotals b grouping ((codes "total", total) ∷ [])) (sym has_total)
-      (total, is_total, refl);
-  entries = rw (second, first, empty, is, total_is) refl;
-}
+      groups = groups;
+      totals = (codes "total", total) ∷ [];
+      are_groups = are;
+      are_totals = subst (λ b. AreTotals b grouping ((codes "total", total) ∷ [])) (sym has_total)
+          (total, is_total, refl);
+      entries = rw (second, first, empty, is, total_is) refl;
+    }

@@ -1,5 +1,5 @@
 -- The source that is asked for.
-use Rattle.std.proofs.Common.{◌≡◌, ◌∙◌, refl, sym, ap, ℕ, List, Some, Ok, Err}
+use Rattle.std.proofs.Common.{◌≡◌, ◌∙◌, sym, ap, ℕ, List, Some, Ok, Err}
 use Rattle.agg_values.specs.Names.{Named}
 use Rattle.agg_request_tree.specs.declared.source.CompositeAggregationSource as source
 use source.{CompositeAggregationSource}

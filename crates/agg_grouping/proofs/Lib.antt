@@ -4,5 +4,6 @@ pub mod AskedRequests
 pub mod AskedSources
 pub mod MatchedTerms
 pub mod NamedMetrics
+pub mod NoBuilders
 pub mod Refusals
 pub mod Widths

@@ -1,8 +1,7 @@
 -- What queries of queries match.
 use Rattle.std.proofs.Common.{◌≡◌, ◌≢◌, ◌∙◌, refl, sym, ap, Bool, true, false, ◌&&◌, ◌||◌, not}
-use Rattle.std.proofs.Common.{ℕ, List, [], ◌∷◌, ◌++◌, map, length, Result, Ok, Some, None}
+use Rattle.std.proofs.Common.{ℕ, List, [], ◌∷◌, ◌++◌, map, length, Ok, Some, None}
 use Rattle.std.specs.List.{list_any}
-use Rattle.agg_values.specs.TypedKey.{CompositeIntermediateKey}
 use Rattle.agg_column.specs.Document.{Fields}
 use Rattle.agg_column.specs.declared.document.FieldValue.{FieldValue}
 use Rattle.agg_column.specs.declared.document.FieldValue.TheVariants as field_value
@@ -14,7 +13,6 @@ use Rattle.agg_segment.specs.declared.query.QueryTree.TheOpen as layer
 use Rattle.agg_segment.specs.declared.query.QueryTree.TheFolds.{fold-roll-QueryTree}
 use Rattle.agg_segment.proofs.Queries.{matches-must, matches-should}
 use Rattle.agg_fields.specs.Values.{text_value}
-use Rattle.agg_fields.specs.declared.error.ValueError.{ValueError}
 use Rattle.agg_fields.specs.declared.field_type.FieldType.{FieldType}
 use Rattle.agg_fields.specs.declared.field_type.FieldType.TheVariants as kind
 use Rattle.agg_grouping.specs.Query.{holds_text, is_one_of, other_values, plain_values}

@@ -8,11 +8,11 @@ use Rattle.std.specs.Ordering.{match_ordering}
 use Rattle.std.specs.declared.cmp.Ordering.{Ordering}
 use Rattle.std.specs.declared.cmp.Ordering.TheVariants.{Less, Equal, Greater}
 use Rattle.std.proofs.lemmas.Cmp.{nat_list_cmp_total}
-use Rattle.std.proofs.lemmas.List.{append_cancel_right, map_more, take_more}
+use Rattle.std.proofs.lemmas.List.{append_cancel_right, map_more}
 use Rattle.std.proofs.lemmas.List.Elements.{All-cons, All-head, All-more, All-nil, All-tail}
 use Rattle.std.proofs.lemmas.List.Elements.{All-weaker, Contains-append_left, Contains-push}
 use Rattle.std.proofs.lemmas.Map.Lookups.{exact_bytes}
-use Rattle.agg_values.specs.Names.{Named, name_cmp, put, value_of}
+use Rattle.agg_values.specs.Names.{name_cmp, put, value_of}
 use Rattle.agg_values.proofs.NameValues.{other-put, same_key, value-put}
 use Rattle.agg_request_tree.specs.Request.{Request, aggregation_of}
 use Rattle.agg_request_tree.specs.declared.aggregation.Aggregation.{Aggregation}

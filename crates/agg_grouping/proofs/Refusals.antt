@@ -1,5 +1,5 @@
 -- Why something of a grouping isn't made.
-use Rattle.std.proofs.Common.{◌≡◌, ◌≢◌, ◌<◌, ◌⊎◌, inl, inr, sym, subst, ℕ, List, get_or, length}
+use Rattle.std.proofs.Common.{◌≡◌, ◌≢◌, ◌<◌, ◌⊎◌, inl, inr, subst, ℕ, List, get_or, length}
 use Rattle.std.proofs.Common.{Result, Err, Some}
 use Rattle.std.proofs.lemmas.List.{get_or_default}
 use Rattle.std.specs.List.{Any}
@@ -24,8 +24,9 @@ any_at P xs i d within holds =
     (i, get_or xs i d, within, get_or_default xs i (get_or xs i d) d within, holds)
 
 -- a condition that is refused is one of the grouping's
-pub condition_refused : (grouping : Grouping) (refusal : GroupingError) (conditions : List Condition)
-    (i : ℕ) (d : Condition) → conditions ≡ grouping.conditions.items → i < length conditions
+pub condition_refused : (grouping : Grouping) (refusal : GroupingError)
+    (conditions : List Condition) (i : ℕ) (d : Condition)
+    → conditions ≡ grouping.conditions.items → i < length conditions
     → RefusesCondition grouping.types (parts (get_or conditions i d)) refusal
     → RefusesConditions grouping refusal
 condition_refused grouping error.OutOfMemory conditions i d are within refused = tt

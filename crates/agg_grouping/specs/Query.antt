@@ -43,17 +43,16 @@ truth_of word =
     if bytes_eq word (codes "true") then Some true
     else if bytes_eq word (codes "false") then Some false else None
 
--- a truth value as a list of one, none as no value
+-- the value of a truth value, if there is one
 abbrev pub truth_values : Option Bool → List FieldValue
 truth_values None = []
 truth_values (Some b) = field_value.Bool b ∷ []
 
--- what a text means in a plain field beside the value that it stands for: the very text, and a
--- truth value
+-- what a text means in a plain field beside its value: the very text, and a truth value
 abbrev pub plain_values : List ℕ → List FieldValue
 plain_values text = field_value.Str text ∷ truth_values (truth_of text)
 
--- what a text means beside that value in a field of a type
+-- what a text means beside its value in a field of a type
 abbrev pub other_values : FieldType → List ℕ → List FieldValue
 other_values Plain text = plain_values text
 other_values _ text = []
@@ -134,14 +133,14 @@ pub record IsQueryOf (grouping : Grouping) (query : QueryTree) : Type 0 where
 
 -- ---- why there is none
 
--- a text stands for no value of a field of a type, for this reason
+-- a text stands for no value of a field of a type, and why; or memory is refused
 abbrev pub RefusesText : FieldType → List ℕ → List ℕ → GroupingError → Type 0
 RefusesText of field text error.OutOfMemory = ⊤
 RefusesText of field text (error.Value its_field its_text why) =
     (its_field ≡ field) × (its_text ≡ text) × (text_value of text ≡ Err why)
 RefusesText of field text _ = ⊥
 
--- the text of a test does
+-- the text of a test is refused so
 abbrev pub RefusesTest : FieldType → Demand → List ℕ → GroupingError → Type 0
 RefusesTest of (is text) field refusal = RefusesText of field text refusal
 RefusesTest of (is_not text) field refusal = RefusesText of field text refusal
@@ -151,12 +150,12 @@ RefusesTest of (above text) field refusal = RefusesText of field text refusal
 RefusesTest of (at_least text) field refusal = RefusesText of field text refusal
 RefusesTest of exists field refusal = refusal ≡ error.OutOfMemory
 
--- a condition is refused for its text, by the types of fields
+-- the text of a condition is refused so, by the types of fields
 abbrev pub RefusesCondition : Named FieldType → Parts → GroupingError → Type 0
 RefusesCondition types condition =
     RefusesTest (type_of types condition.field) condition.test condition.field
 
--- some condition of a grouping is; memory is a reason always
+-- the text of some condition of a grouping is refused so, or memory is
 abbrev pub RefusesConditions : Grouping → GroupingError → Type 0
 RefusesConditions grouping error.OutOfMemory = ⊤
 RefusesConditions grouping refusal =
@@ -175,13 +174,13 @@ refusal_of reading.Unsupported = error.Query fault.Unsupported
 refusal_of reading.OutOfMemory = error.OutOfMemory
 refusal_of _ = error.Query fault.NoQuery
 
--- the text of a query is refused
+-- a text is refused that says no query, or memory is
 abbrev pub RefusesSaid : List ℕ → GroupingError → Type 0
 RefusesSaid text error.OutOfMemory = ⊤
 RefusesSaid text (error.Query why) = SaysNoQuery text why
 RefusesSaid text _ = ⊥
 
--- it is there, and refused
+-- a text is given, and refused so
 abbrev pub RefusesGiven : Option (List ℕ) → GroupingError → Type 0
 RefusesGiven None refusal = ⊥
 RefusesGiven (Some text) refusal = RefusesSaid text refusal

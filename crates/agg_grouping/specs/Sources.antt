@@ -2,7 +2,7 @@
 use Rattle.std.specs.Prelude.{◌≡◌, ℕ, ℤ, pos, neg_ℤ, ◌^◌, int_lt, List, length, ◌&&◌, not}
 use Rattle.std.specs.Prelude.{Bool, true, false}
 use Rattle.std.specs.Prelude.{Option, Some, None, Result, Ok, Err, codes, is_ok, nat_lt, unwrap_or}
-use Rattle.std.specs.Prelude.{if◌then◌else◌, ⊤, Any}
+use Rattle.std.specs.Prelude.{if◌then◌else◌, ⊤}
 use Rattle.std.specs.Str.{all_ascii_digits, bytes_eq}
 use Rattle.std.specs.Str.Parse.{signed_digits_value, without_leading_sign}
 use Rattle.agg_values.specs.Names.{Named}
@@ -32,7 +32,7 @@ use Rattle.agg_words.specs.By.{Parts}
 use Rattle.agg_words.specs.declared.by.Missing.{Missing}
 use Rattle.agg_words.specs.declared.by.Missing.TheVariants as missing
 
--- ---- but for the intervals
+-- ---- sources
 
 -- a source is called as its field, where it has no name of its own
 abbrev pub column_name : Parts → List ℕ

@@ -116,7 +116,10 @@ impl Asked<'_> {
     {
         let mut should = ItemList::new(self.alloc);
         self.push_term(&mut should, value)?;
-        self.push_term(&mut should, FieldValue::Str(Text::copy_of(self.alloc, text)?))?;
+        self.push_term(
+            &mut should,
+            FieldValue::Str(Text::copy_of(self.alloc, text)?),
+        )?;
         let Some(truth) = truth_of(text) else {
             return Ok(some_of(self.alloc, should));
         };

@@ -61,9 +61,8 @@ pub enum IntervalFault {
 pub enum QueryFault {
     #[error("no JSON: line {line}, column {column}")]
     NoJson { line: usize, column: usize },
-    #[error(
-        "not a query: it is an object with one member: all, empty, term, range, exists or bool"
-    )]
+    #[error("not a query: it is an object with one member: all, empty, term, range, exists or \
+        bool")]
     NoQuery,
     #[error("not supported")]
     Unsupported,

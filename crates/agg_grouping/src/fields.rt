@@ -117,11 +117,7 @@ fn ask_one(
 }
 
 // Asks for a field too, which is taken.
-fn ask(
-    fields: &mut NameMap<FieldType>,
-    field: Text,
-    types: &FieldTypes,
-) -> Result<(), OutOfMemory>
+fn ask(fields: &mut NameMap<FieldType>, field: Text, types: &FieldTypes) -> Result<(), OutOfMemory>
     ensures { OnOk result (AreAdded types.now (field ∷ []) fields.old fields.new) }
 {
     let of = types.get(&field);

@@ -32,10 +32,7 @@ pub fn query_of(alloc: Global, grouping: &Grouping<'_>) -> Result<QueryTree, Gro
 }
 
 // The query of each condition.
-fn trees_of(
-    alloc: Global,
-    grouping: &Grouping<'_>,
-) -> Result<ItemList<QueryTree>, GroupingError>
+fn trees_of(alloc: Global, grouping: &Grouping<'_>) -> Result<ItemList<QueryTree>, GroupingError>
     ensures met { IfOk result (λ trees. (document : Fields)
         → all_match matches trees document ≡ meets_all grouping.now document) }
     ensures cause { IfErr result (RefusesConditions grouping.now) }

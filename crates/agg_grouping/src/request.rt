@@ -69,10 +69,7 @@ fn groups_of<B: Drop>(
 }
 
 // All records, with their metrics.
-fn total_of<B: Drop>(
-    alloc: Global,
-    grouping: &Grouping<'_>,
-) -> Result<Aggregation<B>, OutOfMemory>
+fn total_of<B: Drop>(alloc: Global, grouping: &Grouping<'_>) -> Result<Aggregation<B>, OutOfMemory>
     ensures { IfOk result (IsTotalOf grouping.now) }
 {
     let all = FilterAggregation::of(FilterQuery::Tree(QueryTree::All));
@@ -122,10 +119,7 @@ fn metrics_of<B: Drop>(
     Ok(below)
 }
 
-fn variant_of<B>(
-    alloc: Global,
-    metric: &Metric<'_>,
-) -> Result<AggregationVariants<B>, OutOfMemory>
+fn variant_of<B>(alloc: Global, metric: &Metric<'_>) -> Result<AggregationVariants<B>, OutOfMemory>
     ensures { IfOk result (λ agg. agg ≡ of_kind metric.now.kind metric.now.field.now) }
 {
     let field = Text::copy_of(alloc, metric.field)?;

@@ -1,9 +1,10 @@
-use Rattle.std.proofs.Common.{◌≢◌, arith, length, rules}
+use Rattle.std.proofs.Common.{◌≢◌, arith, length}
 use Rattle.std.proofs.lemmas.Bool.Decides.{nat_tests}
 use Rattle.agg_grouping.proofs.MatchedTerms.{matches-all}
 use Rattle.agg_grouping.proofs.boolean.all_of.Goals as goal
 
 pub returns : goal.returns
 returns c document =
-    let some : length c.args.must ≢ 0 = grind (arith, nat_tests, c.as_slice.ensures, c.is_empty.ensures, c.if-is_empty.false) in
+    let some : length c.args.must ≢ 0 =
+    grind (arith, nat_tests, c.as_slice.ensures, c.is_empty.ensures, c.if-is_empty.false) in
     matches-all c.args.must c.new.result c.new-2.result document some c.new-2.ensures

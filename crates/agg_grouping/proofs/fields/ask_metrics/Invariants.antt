@@ -5,4 +5,5 @@ use Rattle.agg_grouping.proofs.fields.ask_metrics.Given as goal
 -- the fields so far are asked for
 abbrev pub invariant-loop-metric : goal.invariant-loop-metric
 invariant-loop-metric l =
-    AreAdded l.types (map (λ metric. metric.field.now) (take l.metric-index l.metrics)) l.fn.fields l.fields
+    AreAdded l.types (map (λ metric. metric.field.now) (take l.metric-index l.metrics)) l.fn.fields
+    l.fields

@@ -1,4 +1,3 @@
-use Rattle.std.proofs.Common.{◌≡◌}
 use Rattle.agg_grouping.proofs.AskedQueries.{no_text, with_text}
 use Rattle.agg_grouping.proofs.query.query_of.Goals as goal
 

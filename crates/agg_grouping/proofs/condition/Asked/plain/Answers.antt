@@ -1,8 +1,6 @@
-use Rattle.std.proofs.Common.{◌≡◌, ◌∙◌, ◌∷◌, [], map, ap, sym, refl}
-use Rattle.agg_column.specs.declared.document.FieldValue.TheVariants as field_value
-use Rattle.agg_segment.specs.Query.{holds, matches, some_matches}
-use Rattle.agg_segment.specs.declared.query.QueryTree.TheVariants.{Term}
-use Rattle.agg_grouping.specs.Query.{is_one_of, plain_values}
+use Rattle.std.proofs.Common.{◌∙◌, ◌∷◌, ap, sym}
+use Rattle.agg_segment.specs.Query.{matches, some_matches}
+use Rattle.agg_grouping.specs.Query.{plain_values}
 use Rattle.agg_grouping.proofs.MatchedTerms.{some-terms, three-terms, two-terms}
 use Rattle.agg_grouping.proofs.condition.Asked.plain.Goals as goal
 

@@ -1,0 +1,9 @@
+use Rattle.agg_grouping.proofs.NoBuilders.{request-alike, request-none}
+use Rattle.agg_grouping.proofs.laws.groupings_have_no_builders.Goals as goal
+
+pub returns-clause-none : goal.returns-clause-none
+returns-clause-none g c = request-none
+
+pub returns-clause-same : goal.returns-clause-same
+returns-clause-same g c grouping page request makes others is =
+    request-alike makes others grouping page request is
