@@ -8,6 +8,7 @@ pub mod HeldDocuments
 pub mod LineRecords
 pub mod Marks
 pub mod MemberPlaces
+pub mod NoDocuments
 pub mod ObjectMembers
 pub mod ObjectValues
 pub mod ReadItems

@@ -75,7 +75,8 @@ at_path : (first : List ℕ) (rest : List (List ℕ)) (ms : List (List ℕ × Js
     (j : Json) → bytes_eq k first ≡ false
     → member_at (first ∷ rest) (object_of (ms ++ (k, j) ∷ []))
     ≡ member_at (first ∷ rest) (object_of ms)
-at_path first rest ms k j apart = ap (option_and_then (member_at rest)) (get-other first ms k j apart)
+at_path first rest ms k j apart =
+    ap (option_and_then (member_at rest)) (get-other first ms k j apart)
 
 -- a member of no field leaves the field's member as it is
 pub member_of-other : (field : AskedField) (ms : List (List ℕ × Json)) (k : List ℕ) (j : Json)

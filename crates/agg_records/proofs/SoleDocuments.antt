@@ -39,15 +39,15 @@ read_once read first second a b =
 
 -- ---- an array of objects
 
-abbrev listed : Items → List Json
+abbrev pub listed : Items → List Json
 listed no_items = []
 listed (item j js) = j ∷ listed js
 
-listed-items_of : (js : List Json) → listed (items_of js) ≡ js
+pub listed-items_of : (js : List Json) → listed (items_of js) ≡ js
 listed-items_of [] = refl
 listed-items_of (j ∷ js) = ap (λ l. j ∷ l) (listed-items_of js)
 
-abbrev in_array : Option Json → List Json
+abbrev pub in_array : Option Json → List Json
 in_array None = []
 in_array (Some null) = []
 in_array (Some (boolean b)) = []
@@ -70,20 +70,22 @@ items_once asked text first second a b =
 some_is : {A : Type 0} (x y : A) → Some x ≡ Some y → x ≡ y
 some_is x y e = cc e
 
+no_row : (config : Config) (s t : State) (text left : List ℕ) (row : Read) → s ≡ t → text ≡ left
+    → next_record config t [] [] left ≡ None → next_record config s [] [] text ≡ Some row → ⊥
+no_row config s t text left row at is over next =
+    let none : next_record config s [] [] text ≡ None =
+    subst (λ (q : State). next_record config q [] [] text ≡ None) (sym at)
+    (subst (λ xs. next_record config t [] [] xs ≡ None) (sym is) over) in
+    none-some row (sym none ∙ next)
+
 rows_once : (config : Config) (s : State) (text : List ℕ) (first second : List (List (List ℕ)))
     → AreRecords config s text first → AreRecords config s text second → first ≡ second
 unfolding Reached
 rows_once config s text [] [] a b = refl
-rows_once config s text [] (row ∷ rows) (t, left, (at, is), over) (u, more, (p, next, here, rest), end) =
-    let none : next_record config s [] [] text ≡ None =
-    subst (λ (q : State). next_record config q [] [] text ≡ None) (sym at)
-    (subst (λ xs. next_record config t [] [] xs ≡ None) (sym is) over) in
-    absurd (none-some p (sym none ∙ next))
-rows_once config s text (row ∷ rows) [] (u, more, (p, next, here, rest), end) (t, left, (at, is), over) =
-    let none : next_record config s [] [] text ≡ None =
-    subst (λ (q : State). next_record config q [] [] text ≡ None) (sym at)
-    (subst (λ xs. next_record config t [] [] xs ≡ None) (sym is) over) in
-    absurd (none-some p (sym none ∙ next))
+rows_once config s text [] (row ∷ rows) (t, left, (at, is), over) (u, more, later, end) =
+    absurd (no_row config s t text left later.0 at is over later.1)
+rows_once config s text (row ∷ rows) [] (u, more, later, end) (t, left, (at, is), over) =
+    absurd (no_row config s t text left later.0 at is over later.1)
 rows_once config s text (row ∷ rows) (other ∷ others) (t, left, (p, next, is, rest), over)
     (u, more, (q, second, has, later), end) =
     let same : p ≡ q = some_is p q (sym next ∙ second) in
@@ -153,8 +155,8 @@ table_once delimiter text asked first second (inr (none, is)) (inr (never, has))
 pub documents_once : (f : RecordFormat) (asked : List AskedField) (bytes : List ℕ)
     (first second : List Fields) → AreDocumentsOf f asked bytes first
     → AreDocumentsOf f asked bytes second → first ≡ second
-documents_once format.JsonLines asked bytes first second a b = read_once _ first second a b
+documents_once format.JsonLines asked bytes first second a b = read_once _ first second a.1 b.1
 documents_once format.Json asked bytes first second a b =
-    items_once asked (strip_bom bytes) first second a b
+    items_once asked (strip_bom bytes) first second a.1 b.1
 documents_once format.Csv asked bytes first second a b = table_once 44 bytes asked first second a b
 documents_once format.Tsv asked bytes first second a b = table_once 9 bytes asked first second a b

@@ -155,14 +155,16 @@ module _ (asked : List AskedField) (start ts s r : List Token) (seen : List Bool
       ≡ field_values (object_of more) (get_or asked i d)
   same_at i d within apart =
       ap (values_of_member (get_or asked i d).of)
-      (sym (member_of-other (get_or asked i d) has.taken k took.seen (only.others i d within apart)))
+      (sym (member_of-other (get_or asked i d) has.taken k took.seen
+      (only.others i d within apart)))
 
   before_at : AreSame (field_values (object_of has.taken)) (field_values (object_of more))
       (take at asked)
   before_at =
       same_all (field_values (object_of has.taken)) (field_values (object_of more)) (take at asked)
       (λ i d within.
-      let long : length (take at asked) ≡ at = length-take-le at asked (omega (arith, only.within)) in
+      let long : length (take at asked) ≡ at =
+      length-take-le at asked (omega (arith, only.within)) in
       let less : i < at = omega (arith, within, long) in
       subst (λ f. field_values (object_of has.taken) f ≡ field_values (object_of more) f)
       (sym (get_or-take at asked i d less))
@@ -203,10 +205,10 @@ module _ (asked : List AskedField) (start ts s r : List Token) (seen : List Bool
       (gains_between (field_values (object_of has.taken)) (field_values (object_of more))
       (take at asked) field (drop (suc at) asked) old now new before_at behind_at apart_behind
       none_yet
-      (subst (λ fields. Gains (values_of_fields (field_values (object_of has.taken)) fields) old now)
-      parts has.gains)
-      (subst (λ o. Gains (option_map (named_values field.name) (values_of_member field.of o)) now new)
-      (sym (member_of-last field has.taken k took.seen named)) took.gains))
+      (subst (λ fields. Gains (values_of_fields (field_values (object_of has.taken)) fields) old
+      now) parts has.gains)
+      (subst (λ o. Gains (option_map (named_values field.name) (values_of_member field.of o)) now
+      new) (sym (member_of-last field has.taken k took.seen named)) took.gains))
 
   pub one_field : HasTaken asked start r (slice_set seen at true) old new
   one_field =

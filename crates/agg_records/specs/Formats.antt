@@ -1,5 +1,6 @@
 -- The documents of a text in each format.
 use Rattle.std.specs.Prelude.{ℕ, List}
+use Rattle.std.specs.Str.{IsUtf8}
 use Rattle.csv.specs.Reading.{strip_bom}
 use Rattle.agg_column.specs.Document.{Fields}
 use Rattle.agg_records.specs.JsonRecords.{AreItemDocuments}
@@ -12,8 +13,8 @@ use Rattle.agg_records.specs.declared.format.RecordFormat.TheVariants as format
 -- these are the documents of a text in a format, by the asked fields
 abbrev pub AreDocumentsOf : RecordFormat → List AskedField → List ℕ → List Fields → Type 0
 AreDocumentsOf format.JsonLines asked bytes documents =
-    AreLineDocuments asked (lines_of (strip_bom bytes)) documents
+    IsUtf8 (strip_bom bytes) × AreLineDocuments asked (lines_of (strip_bom bytes)) documents
 AreDocumentsOf format.Json asked bytes documents =
-    AreItemDocuments asked (strip_bom bytes) documents
+    IsUtf8 (strip_bom bytes) × AreItemDocuments asked (strip_bom bytes) documents
 AreDocumentsOf format.Csv asked bytes documents = AreTableDocuments 44 bytes asked documents
 AreDocumentsOf format.Tsv asked bytes documents = AreTableDocuments 9 bytes asked documents

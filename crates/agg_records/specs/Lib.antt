@@ -2,6 +2,7 @@ pub mod Asked
 pub mod Cells
 pub mod Documents
 pub mod Encodings
+pub mod Faults
 pub mod Formats
 pub mod Held
 pub mod JsonRecords

@@ -16,7 +16,7 @@ use Rattle.agg_records.specs.declared.tokens.Place.TheVariants as place
 
 -- ---- which field a member is of
 
--- a member of this name is not of the field: neither by its whole name, nor at the first of its path
+-- a member of this name is none of the field: not by its whole name, nor first on its path
 pub record IsOther (name : List ℕ) (field : AskedField) : Type 0 where
   pub whole : bytes_eq name field.name ≡ false
   pub first : List ℕ

@@ -1,8 +1,14 @@
 //! One JSON array of objects.
-ghost use Rattle.std.specs.Prelude.{◌<◌, length, OnOk, IfErr, ◌≡◌, false};
+ghost use Rattle.std.specs.Prelude.{◌≡◌, ◌<◌, ◌-◌, List, Some, None, IfErr, OnOk, length};
+ghost use Rattle.std.specs.Prelude.{false, true};
+ghost use Rattle.json.specs.Json.{Json, max_depth, value};
+ghost use Rattle.json.specs.Token.{Token as SpecToken};
+ghost use Rattle.agg_values.specs.Nothing.{NoneIs};
 ghost use Rattle.agg_records.specs.Encodings.{is_encoding};
+ghost use Rattle.agg_records.specs.Faults.{is_fault};
 ghost use Rattle.agg_records.specs.Held.{Adds};
 ghost use Rattle.agg_records.specs.JsonRecords.{AreItemDocuments, HoldsNext};
+ghost use Rattle.agg_records.specs.Objects.{object_document};
 
 use crate::objects::add_object;
 use crate::place::{line_of, offset_of};
@@ -19,6 +25,8 @@ pub fn read_array(
 ) -> Result<(), RecordError>
     ensures ok { OnOk result (Adds (AreItemDocuments asked.now text.now) into.old into.new) }
     ensures cause { IfErr result (λ error. is_encoding error.cause ≡ false) }
+    ensures none { IfErr result (λ error. is_fault error.cause ≡ true
+        → NoneIs (AreItemDocuments asked.now text.now)) }
 {
     let mut scratch = Scratch::new(alloc);
     let Ok(mut reader) = Reader::new(text, &mut scratch) else {
@@ -55,6 +63,10 @@ fn read_item(
         (HoldsNext asked.now reader.old reader.new into.old into.new) }
     ensures shorter { OnOk result (length reader.new < length reader.old) }
     ensures cause { IfErr result (λ error. is_encoding error.cause ≡ false) }
+    ensures none { IfErr result (λ error. is_fault error.cause ≡ true
+        → (object : Json) (rest : List SpecToken)
+        → value (max_depth - 1) reader.old ≡ Some (object, rest)
+        → object_document asked.now object ≡ None) }
 {
     match Value::read(alloc, reader, MAX_DEPTH - 1) {
         Ok(value) => add_object(alloc, into, asked, &value),

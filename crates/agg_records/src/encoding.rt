@@ -1,7 +1,8 @@
 //! How a text begins: a mark of its byte order, or the first bytes of another encoding.
-ghost use Rattle.std.specs.Prelude.{◌≡◌, ◌↔◌, IsErrOf, IsTrue, OnOk, false};
+ghost use Rattle.std.specs.Prelude.{◌≡◌, ◌↔◌, IfErr, IsErrOf, IsTrue, OnOk, false};
 ghost use Rattle.csv.specs.Reading.{strip_bom};
 ghost use Rattle.agg_records.specs.Encodings.{begins_as_gzip, begins_as_utf16};
+ghost use Rattle.agg_records.specs.Faults.{is_fault};
 
 use crate::RecordCause;
 
@@ -11,6 +12,7 @@ pub fn refuse_other_encodings(bytes: &[u8]) -> Result<(), RecordCause>
     ensures gzip { IsErrOf result RecordCause.Gzip ↔ IsTrue (begins_as_gzip bytes.now) }
     ensures ok { OnOk result
         ((begins_as_utf16 bytes.now ≡ false) × (begins_as_gzip bytes.now ≡ false)) }
+    ensures no_fault { IfErr result (λ cause. is_fault cause ≡ false) }
 {
     if bytes.starts_with(b"\xFF\xFE") || bytes.starts_with(b"\xFE\xFF") {
         return Err(RecordCause::Utf16);

@@ -1,6 +1,7 @@
 //! Where and why records cannot be read.
-ghost use Rattle.std.specs.Prelude.{◌≡◌, false};
+ghost use Rattle.std.specs.Prelude.{◌≡◌, ◌≢◌, false, true};
 ghost use Rattle.agg_records.specs.Encodings.{is_encoding};
+ghost use Rattle.agg_records.specs.Faults.{is_fault};
 
 use agg_fields::ValueError;
 use agg_values::{OutOfMemory, Text};
@@ -47,7 +48,7 @@ pub enum RecordCause {
 }
 
 impl From<OutOfMemory> for RecordCause {
-    ghost from_gives = { λ _ cause. is_encoding cause ≡ false };
+    ghost from_gives = { λ _ cause. (is_encoding cause ≡ false) × (is_fault cause ≡ false) };
 
     fn from(_error: OutOfMemory) -> RecordCause {
         RecordCause::OutOfMemory
@@ -57,7 +58,8 @@ impl From<OutOfMemory> for RecordCause {
 impl RecordCause {
     /// That a value is none of its field. The message shows the first bytes of its text.
     pub(crate) fn of_value(alloc: Global, text: &str, why: ValueError) -> RecordCause
-        ensures { is_encoding result ≡ false }
+        ensures encoding { is_encoding result ≡ false }
+        ensures fault { is_fault result ≡ true → why ≢ ValueError.OutOfMemory }
     {
         if let ValueError::OutOfMemory = why {
             return RecordCause::OutOfMemory;
@@ -82,7 +84,8 @@ pub struct RecordError {
 }
 
 impl From<OutOfMemory> for RecordError {
-    ghost from_gives = { λ _ error. is_encoding error.cause ≡ false };
+    ghost from_gives = { λ _ error.
+        (is_encoding error.cause ≡ false) × (is_fault error.cause ≡ false) };
 
     fn from(_error: OutOfMemory) -> RecordError {
         RecordError::of(RecordCause::OutOfMemory)
@@ -104,7 +107,8 @@ impl RecordError {
 
     /// Of a field, and of no line.
     pub(crate) fn of_field(alloc: Global, field: &Text, cause: RecordCause) -> RecordError
-        ensures { is_encoding cause ≡ false → is_encoding result.cause ≡ false }
+        ensures encoding { is_encoding cause ≡ false → is_encoding result.cause ≡ false }
+        ensures fault { is_fault result.cause ≡ true → is_fault cause ≡ true }
     {
         match field.try_clone(alloc) {
             Ok(field) => RecordError {

@@ -1,6 +1,8 @@
 //! JSON lines: an object on each line.
-ghost use Rattle.std.specs.Prelude.{◌≡◌, IfErr, IfOk, OnOk, false, true};
+ghost use Rattle.std.specs.Prelude.{◌≡◌, None, IfErr, IfOk, OnOk, false, true};
+ghost use Rattle.agg_values.specs.Nothing.{NoneIs};
 ghost use Rattle.agg_records.specs.Encodings.{is_encoding};
+ghost use Rattle.agg_records.specs.Faults.{is_fault};
 ghost use Rattle.agg_records.specs.Held.{Adds, Holds, held_documents};
 ghost use Rattle.agg_records.specs.JsonRecords.{text_document};
 ghost use Rattle.agg_records.specs.Lines.{AreLineDocuments, is_blank, lines_of};
@@ -22,6 +24,8 @@ pub fn read_lines(
     ensures ok { OnOk result
         (Adds (AreLineDocuments asked.now (lines_of text.now)) into.old into.new) }
     ensures cause { IfErr result (λ error. is_encoding error.cause ≡ false) }
+    ensures none { IfErr result (λ error. is_fault error.cause ≡ true
+        → NoneIs (AreLineDocuments asked.now (lines_of text.now))) }
 {
     let mut scratch = Scratch::new(alloc);
     let mut number = 0u64;
@@ -47,6 +51,8 @@ fn read_line(
 ) -> Result<(), RecordError>
     ensures ok { OnOk result (Holds (text_document asked.now line.now) into.old into.new) }
     ensures cause { IfErr result (λ error. is_encoding error.cause ≡ false) }
+    ensures none { IfErr result (λ error. is_fault error.cause ≡ true
+        → text_document asked.now line.now ≡ None) }
 {
     if add_tokens(alloc, line, scratch, asked, into)? {
         return Ok(());
@@ -58,8 +64,8 @@ fn read_line(
     }
 }
 
-// Appends the record of a line, read from its tokens. False where it has to be read from its tree of
-// values, as that of an object whose names are looked at.
+// Appends the record of a line, read from its tokens. False where it has to be read from its tree
+// of values, as that of an object whose names are looked at.
 fn add_tokens(
     alloc: Global,
     line: &str,
@@ -72,6 +78,7 @@ fn add_tokens(
     ensures left { IfOk result (λ taken. taken ≡ false
         → held_documents into.new ≡ held_documents into.old) }
     ensures cause { IfErr result (λ error. is_encoding error.cause ≡ false) }
+    ensures memory { IfErr result (λ error. is_fault error.cause ≡ false) }
 {
     if into.wants_names() {
         return Ok(false);

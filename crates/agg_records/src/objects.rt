@@ -1,8 +1,9 @@
 //! Objects as documents: the values of the asked members.
-ghost use Rattle.std.specs.Prelude.{◌≡◌, true, false, IfOk, OnOk, option_map, IfErr};
+ghost use Rattle.std.specs.Prelude.{◌≡◌, None, true, false, IfErr, IfOk, OnOk, option_map};
 ghost use Rattle.json.specs.Value.{items_view, value_view};
 ghost use Rattle.agg_segment.specs.Segment.{IsNameOf, gathered_documents};
 ghost use Rattle.agg_records.specs.Encodings.{is_encoding};
+ghost use Rattle.agg_records.specs.Faults.{is_fault};
 ghost use Rattle.agg_records.specs.Held.{Holds, held_documents};
 ghost use Rattle.agg_records.specs.Objects.{field_values, item_values, member_values};
 ghost use Rattle.agg_records.specs.Objects.{object_document, single_values};
@@ -27,6 +28,8 @@ pub fn add_object(
     ensures ok { OnOk result
         (Holds (object_document asked.now (value_view value.now)) records.old records.new) }
     ensures cause { IfErr result (λ error. is_encoding error.cause ≡ false) }
+    ensures none { IfErr result (λ error. is_fault error.cause ≡ true
+        → object_document asked.now (value_view value.now) ≡ None) }
 {
     let Value::Object(members) = value else {
         return Err(RecordError::of(RecordCause::NotAnObject));
@@ -54,6 +57,8 @@ fn try_object(
     ensures left { IfOk result (λ taken. taken ≡ false
         → held_documents records.new ≡ held_documents records.old) }
     ensures cause { IfErr result (λ error. is_encoding error.cause ≡ false) }
+    ensures none { IfErr result (λ error. is_fault error.cause ≡ true
+        → document_of_fields (field_values (value_view object.now)) asked.now ≡ None) }
 {
     records.forget_open();
     push_object(alloc, &mut records.builder, asked.as_slice(), object)?;
@@ -85,6 +90,8 @@ fn push_object(
         builder.old builder.new) }
     ensures documents { gathered_documents builder.new ≡ gathered_documents builder.old }
     ensures cause { IfErr result (λ error. is_encoding error.cause ≡ false) }
+    ensures none { IfErr result (λ error. is_fault error.cause ≡ true
+        → values_of_fields (field_values (value_view object.now)) asked.now ≡ None) }
 {
     for field in asked {
         if let Err(cause) = push_field(alloc, builder, object, field) {
@@ -106,6 +113,8 @@ fn push_field(
         builder.old builder.new) }
     ensures documents { gathered_documents builder.new ≡ gathered_documents builder.old }
     ensures cause { IfErr result (λ cause. is_encoding cause ≡ false) }
+    ensures none { IfErr result (λ cause. is_fault cause ≡ true
+        → field_values (value_view object.now) field.now ≡ None) }
 {
     match member_of(object, field) {
         Some(member) => push_member(alloc, builder, field, member),
@@ -126,6 +135,8 @@ fn push_member(
         builder.old builder.new) }
     ensures documents { gathered_documents builder.new ≡ gathered_documents builder.old }
     ensures cause { IfErr result (λ cause. is_encoding cause ≡ false) }
+    ensures none { IfErr result (λ cause. is_fault cause ≡ true
+        → member_values field.now.of (value_view member.now) ≡ None) }
 {
     let number = builder.field(field.name.as_str())?;
     match member {
@@ -148,9 +159,13 @@ fn push_items(
         builder.old builder.new) }
     ensures documents { gathered_documents builder.new ≡ gathered_documents builder.old }
     ensures cause { IfErr result (λ cause. is_encoding cause ≡ false) }
+    ensures none { IfErr result (λ cause. is_fault cause ≡ true
+        → item_values field.now.of (items_view items.now) ≡ None) }
 {
     for item in items {
-        push_item(alloc, builder, number, field, item)?;
+        if let Err(cause) = push_item(alloc, builder, number, field, item) {
+            return Err(cause);
+        }
     }
     Ok(())
 }
@@ -171,6 +186,8 @@ pub fn push_item(
     ensures documents { gathered_documents builder.new ≡ gathered_documents builder.old }
     ensures names { builder.new.names ≡ builder.old.names }
     ensures cause { IfErr result (λ cause. is_encoding cause ≡ false) }
+    ensures none { IfErr result (λ cause. is_fault cause ≡ true
+        → single_values field.now.of (value_view item.now) ≡ None) }
 {
     if let Some(value) = value_of_item(alloc, item, field.of)? {
         builder.push(number, value)?;

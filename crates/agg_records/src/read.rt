@@ -1,9 +1,12 @@
 //! Records of each format.
 ghost use Rattle.std.specs.Prelude.{◌≡◌, ◌++◌, ◌↔◌, List, IfOk, IfErr, IsErrAnd, IsTrue, OnOk};
-ghost use Rattle.std.specs.Prelude.{false};
+ghost use Rattle.std.specs.Prelude.{false, true};
+ghost use Rattle.std.specs.Str.{IsUtf8};
 ghost use Rattle.csv.specs.Reading.{strip_bom};
 ghost use Rattle.agg_records.specs.Encodings.{begins_as_gzip, begins_as_utf16, is_encoding};
 ghost use Rattle.agg_column.specs.Document.{Fields};
+ghost use Rattle.agg_values.specs.Nothing.{NoneIs};
+ghost use Rattle.agg_records.specs.Faults.{is_fault, is_json};
 ghost use Rattle.agg_records.specs.Formats.{AreDocumentsOf};
 ghost use Rattle.agg_records.specs.Held.{held_documents};
 
@@ -31,6 +34,8 @@ pub fn read_records(
         ↔ IsTrue (begins_as_utf16 bytes.now) }
     ensures gzip { IsErrAnd result (λ error. error.cause ≡ RecordCause.Gzip)
         ↔ IsTrue (begins_as_gzip bytes.now) }
+    ensures none { IfErr result (λ error. is_fault error.cause ≡ true
+        → is_json format ≡ true → NoneIs (AreDocumentsOf format asked.now bytes.now)) }
 {
     if let Err(cause) = refuse_other_encodings(bytes) {
         return Err(RecordError::of(cause));
@@ -46,7 +51,9 @@ pub fn read_records(
 
 // The text that bytes are, without a byte order mark.
 fn text_of(bytes: &[u8]) -> Result<&str, RecordError>
-    ensures ok { IfOk result (λ text. text.now ≡ strip_bom bytes.now) }
+    ensures ok { IfOk result (λ text.
+        (text.now ≡ strip_bom bytes.now) × IsUtf8 (strip_bom bytes.now)) }
+    ensures none { IfErr result (λ error. ¬ (IsUtf8 (strip_bom bytes.now))) }
     ensures cause { IfErr result (λ error. is_encoding error.cause ≡ false) }
 {
     let bytes = without_mark(bytes);

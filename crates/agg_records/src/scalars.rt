@@ -1,10 +1,16 @@
 //! The value that a JSON value or a cell is, by the type of its field.
-ghost use Rattle.std.specs.Prelude.{◌≡◌, Some, Ok, IfOk, option_map, option_to_list, IfErr, false};
+ghost use Rattle.std.specs.Prelude.{◌≡◌, ◌≢◌, Some, None, Ok, Err, IfOk, IfErr, false, true};
+ghost use Rattle.std.specs.Prelude.{option_map, option_to_list};
 ghost use Rattle.json.specs.Value.{value_view};
 ghost use Rattle.agg_column.specs.declared.document.FieldValue.{FieldValue};
+ghost use Rattle.agg_fields.specs.Values as spec;
+ghost use Rattle.agg_fields.specs.declared.error.ValueError.{ValueError};
 ghost use Rattle.agg_records.specs.Cells.{cell_values};
 ghost use Rattle.agg_records.specs.Encodings.{is_encoding};
+ghost use Rattle.agg_records.specs.Faults.{is_fault};
 ghost use Rattle.agg_records.specs.Objects.{alone, bool_value as value_of_bool, single_values};
+ghost use Rattle.agg_records.specs.Objects.{bool_word as word_of_bool};
+ghost use Rattle.agg_records.specs.Values.{value_read};
 
 use crate::RecordCause;
 use agg_column::FieldValue;
@@ -22,12 +28,14 @@ pub fn value_of_item(
     ensures ok { IfOk result
         (λ found. single_values of (value_view item.now) ≡ Some (option_to_list found)) }
     ensures cause { IfErr result (λ cause. is_encoding cause ≡ false) }
+    ensures none { IfErr result (λ cause. is_fault cause ≡ true
+        → single_values of (value_view item.now) ≡ None) }
 {
     match item {
         Value::Null => Ok(None),
         Value::Bool(b) => bool_value(alloc, *b, of),
         Value::Number(text) => told(alloc, text, value_of_number(alloc, text, of)),
-        Value::String(text) => told(alloc, text, value_of_string(alloc, text, of)),
+        Value::String(text) => string_value(alloc, text, of),
         Value::Array(_) => Err(RecordCause::HoldsArray),
         Value::Object(_) => Err(RecordCause::HoldsObject),
     }
@@ -56,12 +64,30 @@ fn bool_value(alloc: Global, b: bool, of: FieldType) -> Result<Option<FieldValue
     ensures ok { IfOk result
         (λ found. option_map alone (value_of_bool of b) ≡ Some (option_to_list found)) }
     ensures cause { IfErr result (λ cause. is_encoding cause ≡ false) }
+    ensures none { IfErr result (λ cause. is_fault cause ≡ true → value_of_bool of b ≡ None) }
 {
     if let FieldType::Plain = of {
         return Ok(Some(FieldValue::Bool(b)));
     }
-    let word = if b { "true" } else { "false" };
-    told(alloc, word, value_of_string(alloc, word, of))
+    string_value(alloc, bool_word(b), of)
+}
+
+// The word of a truth value.
+fn bool_word(b: bool) -> &'static str
+    ensures { result.now ≡ word_of_bool b }
+{
+    if b { "true" } else { "false" }
+}
+
+// The value of a JSON string.
+fn string_value(alloc: Global, text: &str, of: FieldType) -> Result<Option<FieldValue>, RecordCause>
+    ensures ok { IfOk result (λ found. option_map alone (value_read (spec.string_value of text.now))
+        ≡ Some (option_to_list found)) }
+    ensures cause { IfErr result (λ cause. is_encoding cause ≡ false) }
+    ensures none { IfErr result (λ cause. is_fault cause ≡ true
+        → value_read (spec.string_value of text.now) ≡ None) }
+{
+    told(alloc, text, value_of_string(alloc, text, of))
 }
 
 // The value, or why a text is none.
@@ -72,6 +98,8 @@ fn told(
 ) -> Result<Option<FieldValue>, RecordCause>
     ensures ok { IfOk result (λ found. (v : FieldValue) × (value ≡ Ok v) × (found ≡ Some v)) }
     ensures cause { IfErr result (λ cause. is_encoding cause ≡ false) }
+    ensures none { IfErr result (λ cause. is_fault cause ≡ true
+        → (why : ValueError) × (value ≡ Err why) × (why ≢ ValueError.OutOfMemory)) }
 {
     match value {
         Ok(value) => Ok(Some(value)),

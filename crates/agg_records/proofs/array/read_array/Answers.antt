@@ -1,10 +1,12 @@
-use Rattle.std.proofs.Common.{◌≡◌, ◌∷◌, ◌∙◌, [], Some, None, ap, arith}
-use Rattle.std.specs.Prelude.{option_and_then}
+use Rattle.std.proofs.Common.{◌≡◌, ◌∷◌, ◌-◌, ◌∙◌, [], Some, None, ap, arith, rules, sym, true}
+use Rattle.std.specs.Prelude.{is_some, option_and_then}
 use Rattle.std.proofs.lemmas.Grind.{common_steps}
 use Rattle.json.specs.Json.{after_end_array, if_last, max_depth, value}
 use Rattle.json.specs.Lex.{tokens}
 use Rattle.json.specs.Token.{Token}
+use Rattle.agg_records.specs.Faults.{is_fault}
 use Rattle.agg_records.proofs.ArrayItems.{all_items, no_items_yet, one_item_more}
+use Rattle.agg_records.proofs.NoDocuments.{none_after, none_with, some_token}
 use Rattle.agg_records.proofs.array.read_array.Goals as goal
 
 pub items-init : goal.items-init
@@ -37,3 +39,25 @@ returns-clause-ok c =
       },
       added,
     )
+
+pub returns-in-Err-clause-none : goal.returns-in-Err-clause-none
+returns-in-Err-clause-none c = λ fault.
+    let l = c.items in
+    let opens : tokens c.args.text.now ≡ Token.begin_array ∷ c.next.new.self = grind arith in
+    let going : (after_end_array l.reader ≡ None) × (c.take_end_array.new.self ≡ l.reader) =
+    grind arith in
+    none_with c.args.asked.now c.args.text.now c.next.new.self l.reader l.invariant.objects opens
+    l.invariant.read going.0 (λ j rest one.
+    c.in-Err.ensures.none (ap is_fault (sym c.fault-in-Err.ensures) ∙ fault) j rest
+    (ap (value (max_depth - 1)) going.1 ∙ one))
+
+pub returns-then-is_some-clause-none : goal.returns-then-is_some-clause-none
+returns-then-is_some-clause-none c = λ _.
+    let l = c.items in
+    let opens : tokens c.args.text.now ≡ Token.begin_array ∷ c.next.new.self = grind arith in
+    let closes : after_end_array l.reader ≡ Some c.take_end_array.new.self = grind arith in
+    let found : is_some c.next-2.result ≡ true = search rules in
+    let (t, is) = some_token c.take_end_array.new.self c.next-2.new.self c.next-2.result
+    c.next-2.ensures.value found in
+    none_after c.args.asked.now c.args.text.now c.next.new.self l.reader l.invariant.objects opens
+    l.invariant.read t c.next-2.new.self (closes ∙ ap Some is)

@@ -1,11 +1,14 @@
-use Rattle.std.proofs.Common.{◌≡◌, false, sym, subst, ap, lit<, rules}
+use Rattle.std.proofs.Common.{◌≡◌, ◌∙◌, false, length, sym, subst, ap, lit<, rules}
 use Rattle.std.proofs.lemmas.Iterator.Consumers.{YieldsList-at, YieldsList-end}
+use Rattle.std.proofs.lemmas.Iterator.Consumers.{YieldsList-turn}
 use Rattle.std.proofs.lemmas.Iterator.Splits.{YieldsList-from_str_split}
+use Rattle.agg_records.specs.Faults.{is_fault}
 use Rattle.agg_records.specs.Held.{Adds}
 use Rattle.agg_records.specs.JsonRecords.{text_document}
-use Rattle.agg_records.specs.Lines.{AreLineDocuments, is_blank, without_blank}
+use Rattle.agg_records.specs.Lines.{AreLineDocuments, all_lines_of, is_blank, without_blank}
 use Rattle.agg_records.proofs.HeldDocuments.{adds_one}
 use Rattle.agg_records.proofs.LineRecords.{filled_line, texts_of}
+use Rattle.agg_records.proofs.NoDocuments.{none_of_lines}
 use Rattle.agg_records.proofs.lines.read_lines.Goals as goal
 
 pub loop-line-preserved-in_default : goal.loop-line-preserved-in_default
@@ -29,3 +32,18 @@ returns-clause-ok c =
     let end = YieldsList-end cut l.yielded _ l.yielded_by _ _ c.in-None.is c.next.ensures.steps in
     subst (λ ls. Adds (AreLineDocuments c.args.asked.now ls) c.args.into.now l.into)
     (ap without_blank end.0) l.invariant
+
+pub returns-in-Err-clause-none : goal.returns-in-Err-clause-none
+returns-in-Err-clause-none c = λ fault.
+    let l = c.loop-line in
+    let line = c.in-Some.line in
+    let split = c.split-line-items in
+    let cut = YieldsList-at c.into_iter-line-iterator.ensures.into_iter_gives
+    (YieldsList-from_str_split 10 c.args.text.now (lit< tt) split.ensures.text
+    split.ensures.has_more split.ensures.pattern) in
+    let turn = YieldsList-turn cut l.yielded _ l.yielded_by _ _ line c.in-Some.is
+    c.next.ensures.steps in
+    let filled : is_blank line.now ≡ false = search rules in
+    none_of_lines (text_document c.args.asked.now) (all_lines_of c.args.text.now)
+    (length l.yielded) line.now turn.0 turn.1 filled
+    (c.in-Err.ensures.none (ap is_fault (sym c.at.ensures) ∙ fault))

@@ -1,16 +1,22 @@
 use Rattle.std.proofs.Common.{ap, ◌∙◌}
 use Rattle.agg_column.specs.Cells.{number_of}
+use Rattle.agg_records.proofs.NoDocuments.{no_item}
 use Rattle.agg_records.proofs.ObjectValues.{gains_item}
 use Rattle.agg_records.proofs.objects.push_items.Goals as goal
 
 pub loop-item-preserved : goal.loop-item-preserved
 loop-item-preserved c =
     let l = c.loop-item in
-    let pushed = c.in_ok-push_item.ensures in record {
+    let pushed = c.push_item.ensures in record {
       numbered = ap (λ names. number_of names c.args.field.now.name) pushed.names
           ∙ l.invariant.numbered;
       documents = pushed.documents ∙ l.invariant.documents;
       gained = gains_item c.args.field.now.name c.args.field.now.of c.args.items.now l.item-index
           c.item-item.result c.args.builder.now l.builder c.push_item.new.builder
-          c.loop-item-test.true c.item-item.is l.invariant.gained pushed.ok;
+          c.loop-item-test.true c.item-item.is l.invariant.gained c.in_default.ensures.ok;
     }
+
+pub returns-in-Err-clause-none : goal.returns-in-Err-clause-none
+returns-in-Err-clause-none c = λ fault.
+    no_item c.args.field.now.of c.args.items.now c.loop-item.item-index c.item-item.result
+    c.loop-item-test.true c.item-item.is (c.in-Err.ensures.none fault)

@@ -1,8 +1,11 @@
-use Rattle.std.proofs.Common.{sym, subst}
-use Rattle.std.proofs.lemmas.Result.{on_ok_weaker}
+use Rattle.std.proofs.Common.{◌≡◌, sym, subst, true}
+use Rattle.std.proofs.lemmas.Result.{IfErr-weaker, on_ok_weaker}
+use Rattle.agg_values.specs.Nothing.{NoneIs}
+use Rattle.agg_records.specs.Faults.{is_fault, is_json}
 use Rattle.agg_records.specs.Formats.{AreDocumentsOf}
-use Rattle.agg_records.specs.Held.{Adds}
+use Rattle.agg_records.specs.JsonRecords.{AreItemDocuments}
 use Rattle.agg_records.specs.Lines.{AreLineDocuments, lines_of}
+use Rattle.agg_records.specs.declared.error.RecordError.{RecordError}
 use Rattle.agg_records.proofs.HeldDocuments.{adds_later}
 use Rattle.agg_records.proofs.read.read_records.Goals as goal
 
@@ -10,11 +13,61 @@ pub returns-in_ok-text_of-in-JsonLines-clause-held :
     goal.returns-in_ok-text_of-in-JsonLines-clause-held
 returns-in_ok-text_of-in-JsonLines-clause-held c =
     let asked = c.args.asked.now in
-    let now = c.number_fields.new.self in
-    let new = c.read_lines.new.into in
+    let text = c.in_ok-text_of-in-JsonLines.ensures.ok in
     on_ok_weaker c.read_lines.result (λ added.
-    adds_later c.args.into.now now new c.number_fields.ensures.held
-    (subst (λ format. Adds (AreDocumentsOf format asked c.args.bytes.now) now new)
-    (sym c.in-JsonLines.is)
-    (subst (λ text. Adds (AreLineDocuments asked (lines_of text)) now new)
-    c.in_ok-text_of-in-JsonLines.ensures.ok added))) c.read_lines.ensures.ok
+    let (documents, are, held) = adds_later c.args.into.now c.number_fields.new.self
+    c.read_lines.new.into c.number_fields.ensures.held added in (
+      documents,
+      subst (λ format. AreDocumentsOf format asked c.args.bytes.now documents)
+          (sym c.in-JsonLines.is)
+          (text.1, subst (λ t. AreLineDocuments asked (lines_of t) documents) text.0 are),
+      held,
+    )) c.read_lines.ensures.ok
+
+pub returns-in_ok-text_of-in-Json-clause-held :
+    goal.returns-in_ok-text_of-in-Json-clause-held
+returns-in_ok-text_of-in-Json-clause-held c =
+    let asked = c.args.asked.now in
+    let text = c.in_ok-text_of-in-Json.ensures.ok in
+    on_ok_weaker c.read_array.result (λ added.
+    let (documents, are, held) = adds_later c.args.into.now c.number_fields.new.self
+    c.read_array.new.into c.number_fields.ensures.held added in (
+      documents,
+      subst (λ format. AreDocumentsOf format asked c.args.bytes.now documents) (sym c.in-Json.is)
+          (text.1, subst (λ t. AreItemDocuments asked t documents) text.0 are),
+      held,
+    )) c.read_array.ensures.ok
+
+pub returns-in_ok-text_of-in-JsonLines-clause-none :
+    goal.returns-in_ok-text_of-in-JsonLines-clause-none
+returns-in_ok-text_of-in-JsonLines-clause-none c =
+    let asked = c.args.asked.now in
+    let bytes = c.args.bytes.now in
+    let text = c.in_ok-text_of-in-JsonLines in
+    IfErr-weaker c.read_lines.result
+    (λ (error : RecordError). is_fault error.cause ≡ true
+    → NoneIs (AreLineDocuments asked (lines_of text.field-0.now)))
+    (λ (error : RecordError). is_fault error.cause ≡ true → is_json c.args.format ≡ true
+    → NoneIs (AreDocumentsOf c.args.format asked bytes))
+    (λ error none fault json documents are.
+    none fault documents (subst (λ t. AreLineDocuments asked (lines_of t) documents)
+    (sym text.ensures.ok.0)
+    (subst (λ format. AreDocumentsOf format asked bytes documents) c.in-JsonLines.is are).1))
+    c.read_lines.ensures.none
+
+pub returns-in_ok-text_of-in-Json-clause-none :
+    goal.returns-in_ok-text_of-in-Json-clause-none
+returns-in_ok-text_of-in-Json-clause-none c =
+    let asked = c.args.asked.now in
+    let bytes = c.args.bytes.now in
+    let text = c.in_ok-text_of-in-Json in
+    IfErr-weaker c.read_array.result
+    (λ (error : RecordError). is_fault error.cause ≡ true
+    → NoneIs (AreItemDocuments asked text.field-0.now))
+    (λ (error : RecordError). is_fault error.cause ≡ true → is_json c.args.format ≡ true
+    → NoneIs (AreDocumentsOf c.args.format asked bytes))
+    (λ error none fault json documents are.
+    none fault documents (subst (λ t. AreItemDocuments asked t documents)
+    (sym text.ensures.ok.0)
+    (subst (λ format. AreDocumentsOf format asked bytes documents) c.in-Json.is are).1))
+    c.read_array.ensures.none

@@ -1,0 +1,218 @@
+-- Texts that have no documents.
+use Rattle.std.proofs.Common.{◌≡◌, ◌<◌, ◌≤◌, ◌-◌, ℕ, zero, suc, Bool, true, false, cond, List, []}
+use Rattle.std.proofs.Common.{◌∷◌, ◌++◌, map, length, get_or, refl, sym, ap, ◌∙◌, arith}
+use Rattle.std.specs.Prelude.{Option, Some, None, is_some, not}
+use Rattle.std.specs.Prelude.{option_and_then, option_map}
+use Rattle.std.proofs.lemmas.Option.{none-some}
+use mathlib.Core.Bool.{true≢false}
+use Rattle.json.specs.Json.{Items, Json, after_end_array, array, document, if_last, item, items}
+use Rattle.json.specs.Json.{max_depth, no_items, parse_map, value}
+use Rattle.json.specs.Lex.{tokens}
+use Rattle.json.specs.Reads.{Yields, token_of}
+use Rattle.json.specs.Token.{Token}
+use Rattle.json.specs.Value.{items_of, items_view, value_view}
+use Rattle.json.specs.declared.token.Token as tok
+use Rattle.json.specs.declared.value.Value.{Value}
+use Rattle.json.proofs.Grammar.{items_end, items_fail, items_more, value-begin_array, value_is}
+use Rattle.agg_values.specs.Nothing.{NoneIs}
+use Rattle.agg_column.specs.Document.{Fields}
+use Rattle.agg_column.specs.declared.document.FieldValue.{FieldValue}
+use Rattle.agg_fields.specs.declared.field_type.FieldType.{FieldType}
+use Rattle.agg_records.specs.Documents.{AreRead}
+use Rattle.agg_records.specs.JsonRecords.{AreItemDocuments}
+use Rattle.agg_records.specs.Lines.{is_blank, without_blank}
+use Rattle.agg_records.specs.Objects.{item_values, object_document, single_values}
+use Rattle.agg_records.specs.Values.{joined, named_values, values_of_fields}
+use Rattle.agg_records.specs.declared.asked.AskedField.{AskedField}
+use Rattle.agg_records.proofs.ReadItems.{HasRead, before}
+use Rattle.agg_records.proofs.SoleDocuments.{in_array, listed, listed-items_of}
+
+-- ---- values
+
+joined-none : {A : Type 0} (first : Option (List A)) → joined first None ≡ None
+joined-none None = refl
+joined-none (Some xs) = refl
+
+pub no_item : {A : Type 0} (of : FieldType) (vs : List (Value A)) (at : ℕ) (v : Value A)
+    → at < length vs → v ≡ get_or vs at v → single_values of (value_view v) ≡ None
+    → item_values of (items_view vs) ≡ None
+no_item of [] at v within is none = absurd (omega (arith, within))
+no_item of (first ∷ vs) zero v within is none =
+    ap (λ o. joined o (item_values of (items_view vs)))
+    (ap (λ w. single_values of (value_view w)) (sym is) ∙ none)
+no_item of (first ∷ vs) (suc at) v within is none =
+    ap (joined (single_values of (value_view first)))
+    (no_item of vs at v (omega (arith, within)) is none)
+    ∙ joined-none (single_values of (value_view first))
+
+pub no_field : (values : AskedField → Option (List FieldValue)) (fields : List AskedField) (at : ℕ)
+    (field : AskedField) → at < length fields → field ≡ get_or fields at field
+    → values field ≡ None → values_of_fields values fields ≡ None
+no_field values [] at field within is none = absurd (omega (arith, within))
+no_field values (first ∷ fields) zero field within is none =
+    ap (λ o. joined (option_map (named_values first.name) o) (values_of_fields values fields))
+    (ap values (sym is) ∙ none)
+no_field values (first ∷ fields) (suc at) field within is none =
+    ap (joined (option_map (named_values first.name) (values first)))
+    (no_field values fields at field (omega (arith, within)) is none)
+    ∙ joined-none (option_map (named_values first.name) (values first))
+
+-- ---- documents
+
+-- whether all of these can be read
+abbrev pub all_there : List (Option Fields) → Bool
+all_there [] = true
+all_there (None ∷ read) = false
+all_there (Some d ∷ read) = all_there read
+
+there : (documents : List Fields) → all_there (map Some documents) ≡ true
+there [] = refl
+there (d ∷ ds) = there ds
+
+pub none_read : (read : List (Option Fields)) → all_there read ≡ false → NoneIs (AreRead read)
+none_read read none = λ documents are.
+    absurd (true≢false (sym (there documents) ∙ ap all_there (sym are) ∙ none))
+
+later : (first : Option Fields) (read : List (Option Fields)) → all_there read ≡ false
+    → all_there (first ∷ read) ≡ false
+later None read none = refl
+later (Some d) read none = none
+
+-- ---- lines
+
+module _ (f : List ℕ → Option Fields) where
+  here_or_later : (x : List ℕ) (rest : List (List ℕ)) (b : Bool)
+      → all_there (map f rest) ≡ false → all_there (map f (cond (not b) (x ∷ rest) rest)) ≡ false
+  here_or_later x rest true none = none
+  here_or_later x rest false none = later (f x) (map f rest) none
+
+  no_line : (lines : List (List ℕ)) (at : ℕ) (line : List ℕ) → at < length lines
+      → line ≡ get_or lines at line → is_blank line ≡ false → f line ≡ None
+      → all_there (map f (without_blank lines)) ≡ false
+  no_line [] at line within is filled none = absurd (omega (arith, within))
+  no_line (x ∷ xs) zero line within is filled none =
+      ap (λ b. all_there (map f (cond (not b) (x ∷ without_blank xs) (without_blank xs))))
+      (ap is_blank (sym is) ∙ filled)
+      ∙ ap (λ o. all_there (o ∷ map f (without_blank xs))) (ap f (sym is) ∙ none)
+  no_line (x ∷ xs) (suc at) line within is filled none =
+      here_or_later x (without_blank xs) (is_blank x)
+      (no_line xs at line (omega (arith, within)) is filled none)
+
+  -- a line that isn't blank and has no document
+  pub none_of_lines : (lines : List (List ℕ)) (at : ℕ) (line : List ℕ) → at < length lines
+      → line ≡ get_or lines at line → is_blank line ≡ false → f line ≡ None
+      → NoneIs (AreRead (map f (without_blank lines)))
+  none_of_lines lines at line within is filled none =
+      none_read (map f (without_blank lines)) (no_line lines at line within is filled none)
+
+-- ---- arrays
+
+no_object : (f : Json → Option Fields) (js : List Json) (j : Json) (more : List Json)
+    → f j ≡ None → all_there (map f (js ++ j ∷ more)) ≡ false
+no_object f [] j more none = ap (λ o. all_there (o ∷ map f more)) none
+no_object f (first ∷ js) j more none =
+    later (f first) (map f (js ++ j ∷ more)) (no_object f js j more none)
+
+listed-before : (js : List Json) (rest : Items) → listed (before js rest) ≡ js ++ listed rest
+listed-before [] rest = refl
+listed-before (j ∷ js) rest = ap (λ l. j ∷ l) (listed-before js rest)
+
+abbrev last : Option (Json × List Token) → Option Json
+last o = option_and_then (λ p. if_last p.0 p.1) o
+
+-- the tokens after items
+abbrev left_of : Option (Items × List Token) → List Token
+left_of None = []
+left_of (Some p) = p.1
+
+abbrev items_in : Option (Items × List Token) → Items
+items_in None = no_items
+items_in (Some p) = p.0
+
+abbrev is_empty : List Token → Bool
+is_empty [] = true
+is_empty (t ∷ ts) = false
+
+array_parts : (js : List Json) (r : Option (Items × List Token)) (objects : List Json)
+    → last (parse_map array (parse_map (before js) r)) ≡ Some (array (items_of objects))
+    → (more : Items) × (r ≡ Some (more, [])) × (objects ≡ js ++ listed more)
+array_parts js None objects is = absurd (none-some (array (items_of objects)) is)
+array_parts js (Some (more, t ∷ ts)) objects is = absurd (none-some (array (items_of objects)) is)
+array_parts js (Some (more, [])) objects is = (
+  more,
+  refl,
+  sym (listed-items_of objects) ∙ ap in_array (sym is) ∙ listed-before js more,
+)
+
+module _ (asked : List AskedField) (text : List ℕ) (start here : List Token) (js : List Json)
+    (opens : tokens text ≡ Token.begin_array ∷ start)
+    (has : HasRead (value (max_depth - 1)) start here js) where
+  read_up_to : document text
+      ≡ last (parse_map array (parse_map (before js) (items (value (max_depth - 1)) has.turns here)))
+  read_up_to =
+      ap (λ ts. last (value max_depth ts)) opens
+      ∙ ap last (value-begin_array max_depth start (omega arith))
+      ∙ ap (λ r. last (parse_map array r)) has.is
+
+  parts : (documents : List Fields) (are : AreItemDocuments asked text documents)
+      → (more : Items) × (items (value (max_depth - 1)) has.turns here ≡ Some (more, []))
+      × (are.objects ≡ js ++ listed more)
+  parts documents are =
+      array_parts js (items (value (max_depth - 1)) has.turns here) are.objects
+      (sym read_up_to ∙ are.is)
+
+  -- tokens after the bracket
+  pub none_after : (t : Token) (ts : List Token) → after_end_array here ≡ Some (t ∷ ts)
+      → NoneIs (AreItemDocuments asked text)
+  none_after t ts closes = λ documents are.
+      let (more, is, objects) = parts documents are in
+      let ended : Some (no_items, t ∷ ts) ≡ Some (more, []) =
+      sym (items_end (value (max_depth - 1)) has.turns here (t ∷ ts) has.enough closes) ∙ is in
+      absurd (true≢false (sym (ap (λ o. is_empty (left_of o)) ended)))
+
+  module _ (going : after_end_array here ≡ None)
+      (bad : (j : Json) (rest : List Token)
+      → value (max_depth - 1) here ≡ Some (j, rest) → object_document asked j ≡ None)
+    where
+      some_turns : (j : Json) (rest : List Token)
+          → value (max_depth - 1) here ≡ Some (j, rest) → 0 < has.turns
+      some_turns j rest is = some here has.enough is
+        where
+          some : (ts : List Token) → length ts ≤ has.turns
+              → value (max_depth - 1) ts ≡ Some (j, rest) → 0 < has.turns
+          some [] enough one =
+              absurd (none-some (j, rest) (sym (value_is (max_depth - 1) []) ∙ one))
+          some (t ∷ ts) enough one = omega (arith, enough)
+
+      next_item : (j : Json) (more : Items) (r : Option (Items × List Token))
+          → parse_map (item j) r ≡ Some (more, []) → (rest : Items) × (more ≡ item j rest)
+      next_item j more None is = absurd (none-some (more, []) is)
+      next_item j more (Some p) is = (p.0, sym (ap items_in is))
+
+      by_next : (documents : List Fields) (are : AreItemDocuments asked text documents)
+          (next : Option (Json × List Token)) → value (max_depth - 1) here ≡ next → ⊥
+      by_next documents are None is =
+          let (more, all, objects) = parts documents are in
+          none-some (more, [])
+          (sym (items_fail (value (max_depth - 1)) has.turns here going is) ∙ all)
+      by_next documents are (Some (j, rest)) is =
+          let p = value (max_depth - 1) in
+          let (more, all, objects) = parts documents are in
+          let (others, shape) = next_item j more (items p (has.turns - 1) rest)
+          (sym (items_more p has.turns here rest j (some_turns j rest is) going is) ∙ all) in
+          let whole : are.objects ≡ js ++ j ∷ listed others =
+          objects ∙ ap (λ m. js ++ listed m) shape in
+          none_read (map (object_document asked) are.objects)
+          (ap (λ l. all_there (map (object_document asked) l)) whole
+          ∙ no_object (object_document asked) js j (listed others) (bad j rest is))
+          documents are.read
+
+      -- an item that is no object with a document
+      pub none_with : NoneIs (AreItemDocuments asked text)
+      none_with = λ documents are. by_next documents are (value (max_depth - 1) here) refl
+
+-- a token that comes next
+pub some_token : (old new : List Token) (next : Option tok.Token) → Yields old next new
+    → is_some next ≡ true → (t : Token) × (old ≡ t ∷ new)
+some_token old new None yields is = absurd (true≢false (sym is))
+some_token old new (Some t) yields is = (token_of t, yields)
