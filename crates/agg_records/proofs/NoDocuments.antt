@@ -5,15 +5,17 @@ use Rattle.std.specs.Prelude.{Option, Some, None, is_some, not}
 use Rattle.std.specs.Prelude.{option_and_then, option_map}
 use Rattle.std.proofs.lemmas.Option.{none-some}
 use mathlib.Core.Bool.{true≢false}
-use Rattle.json.specs.Json.{Items, Json, after_end_array, array, document, if_last, item, items}
-use Rattle.json.specs.Json.{max_depth, no_items, parse_map, value}
+use Rattle.json.specs.Json.{Items, Json, Members, after_end_array, array, boolean, document}
+use Rattle.json.specs.Json.{if_last, item, items, max_depth, members, no_items, null, number}
+use Rattle.json.specs.Json.{object, parse_map, string, value}
 use Rattle.json.specs.Lex.{tokens}
 use Rattle.json.specs.Reads.{Yields, token_of}
 use Rattle.json.specs.Token.{Token}
 use Rattle.json.specs.Value.{items_of, items_view, value_view}
 use Rattle.json.specs.declared.token.Token as tok
 use Rattle.json.specs.declared.value.Value.{Value}
-use Rattle.json.proofs.Grammar.{items_end, items_fail, items_more, value-begin_array, value_is}
+use Rattle.json.proofs.Grammar.{items_end, items_fail, items_more, value-begin_array}
+use Rattle.json.proofs.Grammar.{value-begin_object, value_is}
 use Rattle.agg_values.specs.Nothing.{NoneIs}
 use Rattle.agg_column.specs.Document.{Fields}
 use Rattle.agg_column.specs.declared.document.FieldValue.{FieldValue}
@@ -147,8 +149,8 @@ array_parts js (Some (more, [])) objects is = (
 module _ (asked : List AskedField) (text : List ℕ) (start here : List Token) (js : List Json)
     (opens : tokens text ≡ Token.begin_array ∷ start)
     (has : HasRead (value (max_depth - 1)) start here js) where
-  read_up_to : document text
-      ≡ last (parse_map array (parse_map (before js) (items (value (max_depth - 1)) has.turns here)))
+  read_up_to : document text ≡ last (parse_map array (parse_map (before js)
+      (items (value (max_depth - 1)) has.turns here)))
   read_up_to =
       ap (λ ts. last (value max_depth ts)) opens
       ∙ ap last (value-begin_array max_depth start (omega arith))
@@ -216,3 +218,72 @@ pub some_token : (old new : List Token) (next : Option tok.Token) → Yields old
     → is_some next ≡ true → (t : Token) × (old ≡ t ∷ new)
 some_token old new None yields is = absurd (true≢false (sym is))
 some_token old new (Some t) yields is = (token_of t, yields)
+
+abbrev is_array : Json → Bool
+is_array null = false
+is_array (boolean b) = false
+is_array (number text) = false
+is_array (string text) = false
+is_array (array list) = true
+is_array (object inner) = false
+
+abbrev json_in : Option (Json × List Token) → Json
+json_in None = null
+json_in (Some p) = p.0
+
+abbrev or_null : Option Json → Json
+or_null None = null
+or_null (Some j) = j
+
+not_same : (j : Json) (js : Items) (ts rest : List Token) → is_array j ≡ false
+    → ◌≡◌ {A = Option (Json × List Token)} (Some (j, ts)) (Some (array js, rest)) → ⊥
+not_same j js ts rest no_array same =
+    true≢false (sym (ap (λ o. is_array (json_in o)) same) ∙ no_array)
+
+no_object_is : (r : Option (Members × List Token)) (js : Items) (rest : List Token)
+    → parse_map object r ≡ Some (array js, rest) → ⊥
+no_object_is None js rest same = none-some (array js, rest) same
+no_object_is (Some p) js rest same = not_same (object p.0) js p.1 rest refl same
+
+not_array : (ts : List Token) → ((rest : List Token) → ts ≡ Token.begin_array ∷ rest → ⊥)
+    → (js : Items) (rest : List Token) → value max_depth ts ≡ Some (array js, rest) → ⊥
+not_array [] other js rest is =
+    none-some (array js, rest) (sym (value_is max_depth []) ∙ is)
+not_array (Token.begin_array ∷ ts) other js rest is = other ts refl
+not_array (Token.begin_object ∷ ts) other js rest is =
+    no_object_is (members (value (max_depth - 1)) (length ts) ts) js rest
+    (sym (value-begin_object max_depth ts (omega arith)) ∙ is)
+not_array (Token.end_object ∷ ts) other js rest is =
+    none-some (array js, rest) (sym (value_is max_depth (Token.end_object ∷ ts)) ∙ is)
+not_array (Token.end_array ∷ ts) other js rest is =
+    none-some (array js, rest) (sym (value_is max_depth (Token.end_array ∷ ts)) ∙ is)
+not_array (Token.key s ∷ ts) other js rest is =
+    none-some (array js, rest) (sym (value_is max_depth (Token.key s ∷ ts)) ∙ is)
+not_array (Token.bad ∷ ts) other js rest is =
+    none-some (array js, rest) (sym (value_is max_depth (Token.bad ∷ ts)) ∙ is)
+not_array (Token.string s ∷ ts) other js rest is =
+    not_same (string s) js ts rest refl (sym (value_is max_depth (Token.string s ∷ ts)) ∙ is)
+not_array (Token.number s ∷ ts) other js rest is =
+    not_same (number s) js ts rest refl (sym (value_is max_depth (Token.number s ∷ ts)) ∙ is)
+not_array (Token.boolean b ∷ ts) other js rest is =
+    not_same (boolean b) js ts rest refl (sym (value_is max_depth (Token.boolean b ∷ ts)) ∙ is)
+not_array (Token.null ∷ ts) other js rest is =
+    not_same null js ts rest refl (sym (value_is max_depth (Token.null ∷ ts)) ∙ is)
+
+-- a text that begins with no bracket of an array
+pub none_without : (asked : List AskedField) (text : List ℕ)
+    → ((rest : List Token) → tokens text ≡ Token.begin_array ∷ rest → ⊥)
+    → NoneIs (AreItemDocuments asked text)
+none_without asked text other = λ documents are.
+    by documents are (value max_depth (tokens text)) refl
+  where
+    by : (documents : List Fields) (are : AreItemDocuments asked text documents)
+        (r : Option (Json × List Token)) → value max_depth (tokens text) ≡ r → ⊥
+    by documents are None is =
+        none-some (array (items_of are.objects)) (sym (ap last is) ∙ are.is)
+    by documents are (Some (j, t ∷ ts)) is =
+        none-some (array (items_of are.objects)) (sym (ap last is) ∙ are.is)
+    by documents are (Some (j, [])) is =
+        let shape : j ≡ array (items_of are.objects) = ap or_null (sym (ap last is) ∙ are.is) in
+        not_array (tokens text) other (items_of are.objects) []
+        (is ∙ ap (λ x. Some (x, [])) shape)

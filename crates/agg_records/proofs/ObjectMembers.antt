@@ -7,6 +7,7 @@ use Rattle.std.proofs.lemmas.Slice.Eq.{bytes_eq-Decides}
 use Rattle.json.specs.Find.{get, later_or}
 use Rattle.json.specs.Json.{Json, Members, member, no_members, object, parse_map}
 use Rattle.json.specs.Token.{Token}
+use Rattle.agg_records.specs.Asked.{path_of}
 use Rattle.agg_records.specs.Objects.{member_at, member_of}
 use Rattle.agg_records.specs.Tokens.{IsOther}
 use Rattle.agg_records.specs.declared.asked.AskedField.{AskedField}
@@ -85,7 +86,8 @@ pub member_of-other : (field : AskedField) (ms : List (List ℕ × Json)) (k : L
 member_of-other field ms k j other =
     let d = object_of ms in
     let more = object_of (ms ++ (k, j) ∷ []) in
-    ap (λ o. later_or o (member_at field.path.items more)) (get-other field.name ms k j other.whole)
+    ap (λ o. later_or o (member_at (path_of field.name) more))
+    (get-other field.name ms k j other.whole)
     ∙ ap (λ path. later_or (get field.name d) (member_at path more)) other.path
     ∙ ap (later_or (get field.name d)) (at_path other.first other.rest ms k j other.begins)
     ∙ ap (λ path. later_or (get field.name d) (member_at path d)) (sym other.path)
@@ -95,11 +97,11 @@ pub member_of-last : (field : AskedField) (ms : List (List ℕ × Json)) (k : Li
     → field.name ≡ k → member_of field (object_of (ms ++ (k, j) ∷ [])) ≡ Some j
 member_of-last field ms k j named =
     let more = object_of (ms ++ (k, j) ∷ []) in
-    ap (λ n. later_or (get n more) (member_at field.path.items more)) named
-    ∙ ap (λ o. later_or o (member_at field.path.items more)) (get-last k ms j)
+    ap (λ n. later_or (get n more) (member_at (path_of field.name) more)) named
+    ∙ ap (λ o. later_or o (member_at (path_of field.name) more)) (get-last k ms j)
 
 -- no member is none of a field's whose path isn't empty
 pub member_of-none : (field : AskedField) (first : List ℕ) (rest : List (List ℕ))
-    → field.path.items ≡ first ∷ rest → member_of field (object_of []) ≡ None
+    → path_of field.name ≡ first ∷ rest → member_of field (object_of []) ≡ None
 member_of-none field first rest path =
     ap (λ p. later_or (get field.name (object_of [])) (member_at p (object_of []))) path

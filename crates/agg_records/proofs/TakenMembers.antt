@@ -16,7 +16,7 @@ use Rattle.json.specs.Token.{Token}
 use Rattle.json.proofs.Grammar.{members_end, members_more, read_key-shorter, value-begin_object}
 use Rattle.agg_column.specs.declared.document.FieldValue.{FieldValue}
 use Rattle.agg_segment.specs.Segment.{Gathered}
-use Rattle.agg_records.specs.Asked.{IsCut, path_of}
+use Rattle.agg_records.specs.Asked.{path_of}
 use Rattle.agg_records.specs.Objects.{field_values, member_of, values_of_member}
 use Rattle.agg_records.specs.Tokens.{IsOnlyOf, IsOther, TakesMembers, TakesText, TakesValue}
 use Rattle.agg_records.specs.Values.{Gains, joined, named_values, values_of_fields}
@@ -65,11 +65,11 @@ some_part : (parts : List (List ℕ)) → 0 < length parts
 some_part [] some = absurd (omega (arith, some))
 some_part (first ∷ rest) some = (first, rest, refl)
 
-no_member_yet : (field : AskedField) → IsCut field → member_of field (object_of []) ≡ None
-no_member_yet field cut =
+no_member_yet : (field : AskedField) → member_of field (object_of []) ≡ None
+no_member_yet field =
     let (first, rest, is) = some_part (path_of field.name)
     (omega (arith, length-slice_split (λ b. b == 46) field.name)) in
-    member_of-none field first rest (cut ∙ is)
+    member_of-none field first rest is
 
 none_given : (fields : List AskedField) → values_of_fields (λ _. Some []) fields ≡ Some []
 none_given [] = refl
@@ -77,11 +77,11 @@ none_given (field ∷ fields) =
     ap (joined (Some [])) (none_given fields)
 
 pub no_members_yet : (asked : List AskedField) (start : List Token) (seen : List Bool)
-    (builder : Gathered) → All IsCut asked → HasTaken asked start start seen builder builder
-no_members_yet asked start seen builder cut =
+    (builder : Gathered) → HasTaken asked start start seen builder builder
+no_members_yet asked start seen builder =
     let none : (i : ℕ) (d : AskedField) → i < length asked
     → member_of (get_or asked i d) (object_of []) ≡ None =
-    λ i d within. no_member_yet (get_or asked i d) (cut i d within) in
+    λ i d within. no_member_yet (get_or asked i d) in
     let F = field_values (object_of []) in
     record {
       taken = [];

@@ -22,7 +22,6 @@ pub record StandsLast (name : List ℕ) (of : FieldType) (old new : List AskedFi
   pub field : AskedField
   pub named : field.name ≡ name
   pub holds : field.of ≡ of
-  pub cut : field.path.items ≡ path_of name
   pub added : new ≡ old ++ field ∷ []
 
 -- a name was there already, or its field stands at the end

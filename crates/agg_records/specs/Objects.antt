@@ -10,6 +10,7 @@ use Rattle.agg_column.specs.declared.document.FieldValue.TheVariants as value
 use Rattle.agg_fields.specs.Values.{numeral_value, string_value}
 use Rattle.agg_fields.specs.declared.field_type.FieldType.{FieldType}
 use Rattle.agg_fields.specs.declared.field_type.FieldType.TheVariants as of
+use Rattle.agg_records.specs.Asked.{path_of}
 use Rattle.agg_records.specs.Values.{document_of_fields, joined, value_read}
 use Rattle.agg_records.specs.declared.asked.AskedField.{AskedField}
 
@@ -20,7 +21,7 @@ member_at (name ∷ path) d = option_and_then (member_at path) (get name d)
 
 -- the member of a field: the one of its very name, or else the one at the end of its path
 abbrev pub member_of : AskedField → Json → Option Json
-member_of field d = later_or (get field.name d) (member_at field.path.items d)
+member_of field d = later_or (get field.name d) (member_at (path_of field.name) d)
 
 -- the word of a truth value
 abbrev pub bool_word : Bool → List ℕ

@@ -8,6 +8,7 @@ use Rattle.json.specs.Json.{value}
 use Rattle.json.specs.Token.{Token}
 use Rattle.agg_fields.specs.declared.field_type.FieldType.{FieldType}
 use Rattle.agg_segment.specs.Segment.{Gathered}
+use Rattle.agg_records.specs.Asked.{path_of}
 use Rattle.agg_records.specs.Objects.{field_values, item_values, member_values, single_values}
 use Rattle.agg_records.specs.Values.{Gains, named_values, values_of_fields}
 use Rattle.agg_records.specs.declared.asked.AskedField.{AskedField}
@@ -21,7 +22,7 @@ pub record IsOther (name : List ℕ) (field : AskedField) : Type 0 where
   pub whole : bytes_eq name field.name ≡ false
   pub first : List ℕ
   pub rest : List (List ℕ)
-  pub path : field.path.items ≡ first ∷ rest
+  pub path : path_of field.name ≡ first ∷ rest
   pub begins : bytes_eq name first ≡ false
 
 -- a member of this name is of the one field at a place, by its whole name

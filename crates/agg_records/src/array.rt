@@ -1,7 +1,8 @@
 //! One JSON array of objects.
-ghost use Rattle.std.specs.Prelude.{◌≡◌, ◌<◌, ◌-◌, List, Some, None, IfErr, OnOk, length};
-ghost use Rattle.std.specs.Prelude.{false, true};
+ghost use Rattle.std.specs.Prelude.{◌≡◌, ◌≢◌, ◌<◌, ◌-◌, ◌∷◌, ◌↔◌, List, Some, None, IfErr, IsTrue};
+ghost use Rattle.std.specs.Prelude.{OnOk, false, length, true};
 ghost use Rattle.json.specs.Json.{Json, max_depth, value};
+ghost use Rattle.json.specs.Reads.{token_of};
 ghost use Rattle.json.specs.Token.{Token as SpecToken};
 ghost use Rattle.agg_values.specs.Nothing.{NoneIs};
 ghost use Rattle.agg_records.specs.Encodings.{is_encoding};
@@ -32,9 +33,9 @@ pub fn read_array(
     let Ok(mut reader) = Reader::new(text, &mut scratch) else {
         return Err(RecordError::of(RecordCause::OutOfMemory));
     };
-    let Some(Token::BeginArray) = reader.next() else {
+    if !take_begin_array(&mut reader) {
         return Err(fault(text, 0, RecordError::of(RecordCause::NotAnArray)));
-    };
+    }
     'items: while !reader.take_end_array() {
         let start = reader.offset();
         if let Err(error) = read_item(alloc, &mut reader, asked, into) {
@@ -50,6 +51,24 @@ pub fn read_array(
         return Err(fault(text, reader.offset(), error));
     }
     Ok(())
+}
+
+// Takes the bracket that begins an array. False where anything else comes next.
+fn take_begin_array(reader: &mut Reader<'_>) -> bool
+    ensures begins { IsTrue result → reader.old ≡ SpecToken.begin_array ∷ reader.new }
+    ensures other { result ≡ false
+        → (rest : List SpecToken) → reader.old ≢ SpecToken.begin_array ∷ rest }
+{
+    match reader.next() {
+        Some(token) => is_begin_array(token),
+        None => false,
+    }
+}
+
+fn is_begin_array(token: Token<'_>) -> bool
+    ensures { IsTrue result ↔ (token_of token.entry ≡ SpecToken.begin_array) }
+{
+    matches!(token, Token::BeginArray)
 }
 
 // Appends the record that is the next item.

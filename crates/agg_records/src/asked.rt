@@ -59,6 +59,13 @@ impl AskedFields {
 
     /// The fields.
     pub fn as_slice(&self) -> &[AskedField]
+        ensures { result.now ≡ self.now }
+    {
+        self.fields.as_slice()
+    }
+
+    // The fields, whose paths are their names cut at points.
+    pub(crate) fn cut(&self) -> &[AskedField]
         ensures same { result.now ≡ self.now }
         ensures cut { All IsCut result.now }
     {

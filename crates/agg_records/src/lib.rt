@@ -25,4 +25,4 @@ pub use error::{RecordCause, RecordError};
 pub use format::RecordFormat;
 pub use laws::a_text_has_one_list_of_documents;
 pub use read::read_records;
-pub use records::{MAX_NAMES, Records};
+pub use records::Records;

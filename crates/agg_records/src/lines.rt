@@ -84,7 +84,7 @@ fn add_tokens(
         return Ok(false);
     }
     into.forget_open();
-    if !push_text(alloc, &mut into.builder, asked.as_slice(), line, scratch) {
+    if !push_text(alloc, &mut into.builder, asked.cut(), line, scratch) {
         return Ok(false);
     }
     Ok(into.close(asked)?)

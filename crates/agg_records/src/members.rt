@@ -1,6 +1,7 @@
 //! The members of an object that are asked for.
 ghost use Rattle.std.specs.Prelude.{◌≡◌, option_map};
 ghost use Rattle.json.specs.Value.{value_view};
+ghost use Rattle.agg_records.specs.Asked.{IsCut};
 ghost use Rattle.agg_records.specs.Objects.{member_at as at_path, member_of as of_field};
 
 use crate::AskedField;
@@ -9,6 +10,7 @@ use json::Value;
 
 /// The member of a field: the one of its very name, or else the one at the end of its path.
 pub fn member_of<'v, 'a>(object: &'v Value<'a>, field: &AskedField) -> Option<&'v Value<'a>>
+    requires { IsCut field.now }
     ensures { option_map (λ v. value_view v.now) result
         ≡ of_field field.now (value_view object.now) }
 {

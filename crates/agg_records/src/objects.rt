@@ -1,7 +1,9 @@
 //! Objects as documents: the values of the asked members.
 ghost use Rattle.std.specs.Prelude.{◌≡◌, None, true, false, IfErr, IfOk, OnOk, option_map};
+ghost use Rattle.std.specs.List.{All};
 ghost use Rattle.json.specs.Value.{items_view, value_view};
 ghost use Rattle.agg_segment.specs.Segment.{IsNameOf, gathered_documents};
+ghost use Rattle.agg_records.specs.Asked.{IsCut};
 ghost use Rattle.agg_records.specs.Encodings.{is_encoding};
 ghost use Rattle.agg_records.specs.Faults.{is_fault};
 ghost use Rattle.agg_records.specs.Held.{Holds, held_documents};
@@ -61,7 +63,7 @@ fn try_object(
         → document_of_fields (field_values (value_view object.now)) asked.now ≡ None) }
 {
     records.forget_open();
-    push_object(alloc, &mut records.builder, asked.as_slice(), object)?;
+    push_object(alloc, &mut records.builder, asked.cut(), object)?;
     Ok(records.close(asked)?)
 }
 
@@ -85,6 +87,7 @@ fn push_object(
     asked: &[AskedField],
     object: &Value<'_>,
 ) -> Result<(), RecordError>
+    requires { All IsCut asked.now }
     ensures ok { OnOk result (Gains
         (values_of_fields (field_values (value_view object.now)) asked.now)
         builder.old builder.new) }
@@ -108,6 +111,7 @@ fn push_field(
     object: &Value<'_>,
     field: &AskedField,
 ) -> Result<(), RecordCause>
+    requires { IsCut field.now }
     ensures ok { OnOk result (Gains
         (option_map (named_values field.now.name) (field_values (value_view object.now) field.now))
         builder.old builder.new) }

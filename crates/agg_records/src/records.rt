@@ -10,8 +10,8 @@ use agg_values::{OutOfMemory, Text};
 use std::alloc::Global;
 use std::mem;
 
-/// How many names of fields are kept for a message.
-pub const MAX_NAMES: usize = 20;
+// How many names of fields are kept for a message.
+const MAX_NAMES: usize = 20;
 
 // Of how many objects the names are looked at.
 const NAMING_OBJECTS: u32 = 1_000;

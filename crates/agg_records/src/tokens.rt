@@ -94,6 +94,7 @@ fn push_members(
 
 // Which field a member of a name is of.
 fn place_of(asked: &[AskedField], name: &str) -> Place
+    requires { All IsCut asked.now }
     ensures { IsPlaceOf asked.now name.now result }
 {
     let mut found = None;
@@ -116,6 +117,7 @@ fn place_of(asked: &[AskedField], name: &str) -> Place
 
 // Whether a member of a name may have values of a field.
 fn may_hold(field: &AskedField, name: &str) -> bool
+    requires { IsCut field.now }
     ensures { result ≡ false → IsOther name.now field.now }
 {
     if name == field.name.as_str() {

@@ -13,5 +13,5 @@ returns-clause-taken c = λ taken.
     c.close.new.self start.built.items start.builder c.push_row.new.builder
     c.forget_open.ensures.held c.forget_open.ensures.opened
     (subst (λ asked. Gains (values_of_row asked c.args.places.now cells) start.builder
-    c.push_row.new.builder) c.as_slice.ensures.same c.in_ok-push_row.ensures.ok)
+    c.push_row.new.builder) c.as_slice.ensures c.in_ok-push_row.ensures.ok)
     c.in_ok-push_row.ensures.documents (c.in_ok-close.ensures.closed taken)

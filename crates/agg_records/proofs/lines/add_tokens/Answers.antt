@@ -16,7 +16,7 @@ returns-clause-taken c = λ taken.
     let start = c.forget_open.new.self in
     let made = c.push_text.new.builder in
     let took : TakesText asked line start.builder made =
-    subst (λ fields. TakesText fields line start.builder made) c.as_slice.ensures.same
+    subst (λ fields. TakesText fields line start.builder made) c.cut.ensures.same
     (c.push_text.ensures.taken (search rules)) in
     subst (λ d. Holds (option_and_then (object_document asked) d) old c.close.new.self)
     (sym took.is)

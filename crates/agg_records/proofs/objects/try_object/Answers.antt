@@ -13,5 +13,5 @@ returns-clause-taken c = λ taken.
     start.built.items start.builder c.push_object.new.builder
     c.forget_open.ensures.held c.forget_open.ensures.opened
     (subst (λ asked. Gains (values_of_fields values asked) start.builder
-    c.push_object.new.builder) c.as_slice.ensures.same c.in_ok-push_object.ensures.ok)
+    c.push_object.new.builder) c.cut.ensures.same c.in_ok-push_object.ensures.ok)
     c.in_ok-push_object.ensures.documents (c.in_ok-close.ensures.closed taken)

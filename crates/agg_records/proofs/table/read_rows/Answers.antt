@@ -26,7 +26,7 @@ returns-clause-ok c =
     subst (λ (r : Row). ArePlaces (fields_of r) c.as_slice.result.now places) c.row-2.ensures
     c.in_ok-places.ensures.ok in
     let placed : ArePlaces header asked places =
-    subst (λ (fields : List AskedField). ArePlaces header fields places) c.as_slice.ensures.same
+    subst (λ (fields : List AskedField). ArePlaces header fields places) c.as_slice.ensures
     under in
     on_ok_weaker c.read_rest.result (λ rest delimiter text has.
     let here = c.in_ok-next_row.ensures.more c.if-not-branch.false delimiter text [] has in

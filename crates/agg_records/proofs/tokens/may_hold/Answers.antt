@@ -1,4 +1,4 @@
-use Rattle.std.proofs.Common.{◌≡◌, rules}
+use Rattle.std.proofs.Common.{◌≡◌, ◌∙◌, rules, sym}
 use Rattle.std.specs.Prelude.{Some, slice_get}
 use Rattle.agg_records.proofs.MemberPlaces.{first_part}
 use Rattle.agg_records.proofs.tokens.may_hold.Goals as goal
@@ -13,6 +13,6 @@ returns-in-Some c = λ apart.
       whole = search rules;
       first = first;
       rest = rest;
-      path = is;
+      path = sym c.requires ∙ is;
       begins = search rules;
     }

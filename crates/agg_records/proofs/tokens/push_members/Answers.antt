@@ -9,7 +9,7 @@ use Rattle.agg_records.proofs.tokens.push_members.Goals as goal
 
 pub members-init : goal.members-init
 members-init c = record {
-  taken = no_members_yet c.args.asked.now c.args.reader.now _ c.args.builder.now c.requires;
+  taken = no_members_yet c.args.asked.now c.args.reader.now _ c.args.builder.now;
   documents = refl;
 }
 

@@ -24,7 +24,6 @@ returns-clause-ok c =
         field = record { name = c.args.name; path = path; of = c.args.of };
         named = refl;
         holds = refl;
-        cut = search rules;
         added = search rules;
       },
     )
