@@ -20,13 +20,13 @@ const REQUEST_EXAMPLES: &str = "\
 Examples:
   peslumok request --by shop --sum items --total
   peslumok request --by items:10,desc --where 'shop=Leith'
-  (peslumok request --by shop; echo snapshot 20; cat sales.jsonl) | peslumok walk";
+  (peslumok request --by shop; echo snapshot 20; cat orders.jsonl) | peslumok walk";
 
 const WALK_EXAMPLES: &str = "\
 Examples:
   peslumok walk sales_pages.jsonl
   peslumok walk < sales_pages.jsonl
-  (peslumok request --by shop; echo snapshot 20; cat sales.jsonl) | peslumok walk";
+  (peslumok request --by shop; echo snapshot 20; cat orders.jsonl) | peslumok walk";
 
 const CHECK_EXAMPLES: &str = "\
 Examples:
