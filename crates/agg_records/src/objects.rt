@@ -167,9 +167,7 @@ fn push_items(
         → item_values field.now.of (items_view items.now) ≡ None) }
 {
     for item in items {
-        if let Err(cause) = push_item(alloc, builder, number, field, item) {
-            return Err(cause);
-        }
+        push_item(alloc, builder, number, field, item)?;
     }
     Ok(())
 }
