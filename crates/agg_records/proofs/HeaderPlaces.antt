@@ -5,8 +5,8 @@ use Rattle.std.proofs.lemmas.Option.{none-some}
 use Rattle.csv.specs.Records.{field_at}
 use Rattle.agg_records.specs.Table.{ArePlaces, IsPlaceOf}
 use Rattle.agg_records.specs.declared.asked.AskedField.{AskedField}
+use Rattle.agg_records.proofs.HeldDocuments.{zip_more}
 use Rattle.std.proofs.Common.{◌++◌, take, get_or, sym, ap, ◌∙◌, subst}
-use Rattle.std.specs.List.{AllZip}
 use Rattle.std.proofs.lemmas.List.{take_more}
 
 -- the same for the cells before a place
@@ -29,13 +29,6 @@ pub place_of_all : (header : List (List ℕ)) (name : List ℕ) (place : Option 
 place_of_all header name None before = λ i is. before i (field_within header i name is) is
 place_of_all header name (Some place) before =
     (before.0, λ i is. before.1 i (field_within header i name is) is)
-
-zip_more : {X Y : Type 0} (P : X → Y → Type 0) (xs : List X) (ys : List Y) (x : X) (y : Y)
-    → AllZip P xs ys → P x y → AllZip P (xs ++ x ∷ []) (ys ++ y ∷ [])
-zip_more P [] [] x y all here = (here, tt)
-zip_more P [] (b ∷ ys) x y all here = absurd all
-zip_more P (a ∷ xs) [] x y all here = absurd all
-zip_more P (a ∷ xs) (b ∷ ys) x y all here = (all.0, zip_more P xs ys x y all.1 here)
 
 -- one field more
 pub places_more : (header : List (List ℕ)) (asked : List AskedField) (at : ℕ)

@@ -13,6 +13,7 @@ pub mod ObjectMembers
 pub mod ObjectValues
 pub mod ReadItems
 pub mod RowValues
+pub mod SingleDocuments
 pub mod SoleDocuments
 pub mod TableRows
 pub mod TakenMembers

@@ -1,6 +1,6 @@
 -- Texts that have no documents.
 use Rattle.std.proofs.Common.{◌≡◌, ◌<◌, ◌≤◌, ◌-◌, ℕ, zero, suc, Bool, true, false, cond, List, []}
-use Rattle.std.proofs.Common.{◌∷◌, ◌++◌, map, length, get_or, refl, sym, ap, ◌∙◌, arith}
+use Rattle.std.proofs.Common.{◌∷◌, ◌++◌, map, length, get_or, refl, sym, ap, ◌∙◌, arith, subst}
 use Rattle.std.specs.Prelude.{Option, Some, None, is_some, not}
 use Rattle.std.specs.Prelude.{option_and_then, option_map}
 use Rattle.std.proofs.lemmas.Option.{none-some}
@@ -20,7 +20,7 @@ use Rattle.agg_values.specs.Nothing.{NoneIs}
 use Rattle.agg_column.specs.Document.{Fields}
 use Rattle.agg_column.specs.declared.document.FieldValue.{FieldValue}
 use Rattle.agg_fields.specs.declared.field_type.FieldType.{FieldType}
-use Rattle.agg_records.specs.Documents.{AreRead}
+use Rattle.agg_records.specs.Documents.{AreRead, IsRead}
 use Rattle.agg_records.specs.JsonRecords.{AreItemDocuments}
 use Rattle.agg_records.specs.Lines.{is_blank, without_blank}
 use Rattle.agg_records.specs.Objects.{item_values, object_document, single_values}
@@ -61,59 +61,48 @@ no_field values (first ∷ fields) (suc at) field within is none =
 
 -- ---- documents
 
--- whether all of these can be read
-abbrev pub all_there : List (Option Fields) → Bool
-all_there [] = true
-all_there (None ∷ read) = false
-all_there (Some d ∷ read) = all_there read
+-- what can't be read has no document
+pub unread : (read : Option Fields) → read ≡ None → (document : Fields) → IsRead read document → ⊥
+unread read none document is = none-some document (sym none ∙ is.is)
 
-there : (documents : List Fields) → all_there (map Some documents) ≡ true
-there [] = refl
-there (d ∷ ds) = there ds
+none_first : (first : Option Fields) (rest : List (Option Fields)) → NoneIs (IsRead first)
+    → (documents : List Fields) → AreRead (first ∷ rest) documents → ⊥
+none_first first rest none [] are = are
+none_first first rest none (d ∷ ds) are = none d are.0
 
-pub none_read : (read : List (Option Fields)) → all_there read ≡ false → NoneIs (AreRead read)
-none_read read none = λ documents are.
-    absurd (true≢false (sym (there documents) ∙ ap all_there (sym are) ∙ none))
-
-later : (first : Option Fields) (read : List (Option Fields)) → all_there read ≡ false
-    → all_there (first ∷ read) ≡ false
-later None read none = refl
-later (Some d) read none = none
+none_later : (first : Option Fields) (rest : List (Option Fields)) → NoneIs (AreRead rest)
+    → (documents : List Fields) → AreRead (first ∷ rest) documents → ⊥
+none_later first rest none [] are = are
+none_later first rest none (d ∷ ds) are = none ds are.1
 
 -- ---- lines
 
 module _ (f : List ℕ → Option Fields) where
-  here_or_later : (x : List ℕ) (rest : List (List ℕ)) (b : Bool)
-      → all_there (map f rest) ≡ false → all_there (map f (cond (not b) (x ∷ rest) rest)) ≡ false
+  here_or_later : (x : List ℕ) (rest : List (List ℕ)) (b : Bool) → NoneIs (AreRead (map f rest))
+      → NoneIs (AreRead (map f (cond (not b) (x ∷ rest) rest)))
   here_or_later x rest true none = none
-  here_or_later x rest false none = later (f x) (map f rest) none
-
-  no_line : (lines : List (List ℕ)) (at : ℕ) (line : List ℕ) → at < length lines
-      → line ≡ get_or lines at line → is_blank line ≡ false → f line ≡ None
-      → all_there (map f (without_blank lines)) ≡ false
-  no_line [] at line within is filled none = absurd (omega (arith, within))
-  no_line (x ∷ xs) zero line within is filled none =
-      ap (λ b. all_there (map f (cond (not b) (x ∷ without_blank xs) (without_blank xs))))
-      (ap is_blank (sym is) ∙ filled)
-      ∙ ap (λ o. all_there (o ∷ map f (without_blank xs))) (ap f (sym is) ∙ none)
-  no_line (x ∷ xs) (suc at) line within is filled none =
-      here_or_later x (without_blank xs) (is_blank x)
-      (no_line xs at line (omega (arith, within)) is filled none)
+  here_or_later x rest false none = none_later (f x) (map f rest) none
 
   -- a line that isn't blank and has no document
   pub none_of_lines : (lines : List (List ℕ)) (at : ℕ) (line : List ℕ) → at < length lines
-      → line ≡ get_or lines at line → is_blank line ≡ false → f line ≡ None
+      → line ≡ get_or lines at line → is_blank line ≡ false → NoneIs (IsRead (f line))
       → NoneIs (AreRead (map f (without_blank lines)))
-  none_of_lines lines at line within is filled none =
-      none_read (map f (without_blank lines)) (no_line lines at line within is filled none)
+  none_of_lines [] at line within is filled none = absurd (omega (arith, within))
+  none_of_lines (x ∷ xs) zero line within is filled none =
+      subst (λ b. NoneIs (AreRead (map f (cond (not b) (x ∷ without_blank xs)
+      (without_blank xs))))) (sym (ap is_blank (sym is) ∙ filled))
+      (none_first (f x) (map f (without_blank xs)) (subst (λ l. NoneIs (IsRead (f l))) is none))
+  none_of_lines (x ∷ xs) (suc at) line within is filled none =
+      here_or_later x (without_blank xs) (is_blank x)
+      (none_of_lines xs at line (omega (arith, within)) is filled none)
 
 -- ---- arrays
 
 no_object : (f : Json → Option Fields) (js : List Json) (j : Json) (more : List Json)
-    → f j ≡ None → all_there (map f (js ++ j ∷ more)) ≡ false
-no_object f [] j more none = ap (λ o. all_there (o ∷ map f more)) none
+    → NoneIs (IsRead (f j)) → NoneIs (AreRead (map f (js ++ j ∷ more)))
+no_object f [] j more none = none_first (f j) (map f more) none
 no_object f (first ∷ js) j more none =
-    later (f first) (map f (js ++ j ∷ more)) (no_object f js j more none)
+    none_later (f first) (map f (js ++ j ∷ more)) (no_object f js j more none)
 
 listed-before : (js : List Json) (rest : Items) → listed (before js rest) ≡ js ++ listed rest
 listed-before [] rest = refl
@@ -174,7 +163,7 @@ module _ (asked : List AskedField) (text : List ℕ) (start here : List Token) (
 
   module _ (going : after_end_array here ≡ None)
       (bad : (j : Json) (rest : List Token)
-      → value (max_depth - 1) here ≡ Some (j, rest) → object_document asked j ≡ None)
+      → value (max_depth - 1) here ≡ Some (j, rest) → NoneIs (IsRead (object_document asked j)))
     where
       some_turns : (j : Json) (rest : List Token)
           → value (max_depth - 1) here ≡ Some (j, rest) → 0 < has.turns
@@ -204,10 +193,8 @@ module _ (asked : List AskedField) (text : List ℕ) (start here : List Token) (
           (sym (items_more p has.turns here rest j (some_turns j rest is) going is) ∙ all) in
           let whole : are.objects ≡ js ++ j ∷ listed others =
           objects ∙ ap (λ m. js ++ listed m) shape in
-          none_read (map (object_document asked) are.objects)
-          (ap (λ l. all_there (map (object_document asked) l)) whole
-          ∙ no_object (object_document asked) js j (listed others) (bad j rest is))
-          documents are.read
+          no_object (object_document asked) js j (listed others) (bad j rest is) documents
+          (subst (λ l. AreRead (map (object_document asked) l) documents) whole are.read)
 
       -- an item that is no object with a document
       pub none_with : NoneIs (AreItemDocuments asked text)
@@ -227,7 +214,7 @@ is_array (string text) = false
 is_array (array list) = true
 is_array (object inner) = false
 
-abbrev json_in : Option (Json × List Token) → Json
+abbrev pub json_in : Option (Json × List Token) → Json
 json_in None = null
 json_in (Some p) = p.0
 

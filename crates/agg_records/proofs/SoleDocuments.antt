@@ -23,19 +23,19 @@ use Rattle.agg_records.specs.declared.format.RecordFormat.TheVariants as format
 
 -- ---- documents that were read
 
-abbrev given : List (Option Fields) → List Fields
-given [] = []
-given (None ∷ read) = given read
-given (Some d ∷ read) = d ∷ given read
-
-given-some : (documents : List Fields) → given (map Some documents) ≡ documents
-given-some [] = refl
-given-some (d ∷ ds) = ap (λ l. d ∷ l) (given-some ds)
+pub some_is : {A : Type 0} (x y : A) → Some x ≡ Some y → x ≡ y
+some_is x y e = cc e
 
 read_once : (read : List (Option Fields)) (first second : List Fields)
     → AreRead read first → AreRead read second → first ≡ second
-read_once read first second a b =
-    sym (given-some first) ∙ ap given (sym a ∙ b) ∙ given-some second
+read_once [] [] [] a b = refl
+read_once [] [] (e ∷ es) a b = absurd b
+read_once [] (d ∷ ds) second a b = absurd a
+read_once (o ∷ os) [] second a b = absurd a
+read_once (o ∷ os) (d ∷ ds) [] a b = absurd b
+read_once (o ∷ os) (d ∷ ds) (e ∷ es) a b =
+    ap (λ x. x ∷ ds) (some_is d e (sym a.0.is ∙ b.0.is))
+    ∙ ap (λ l. e ∷ l) (read_once os ds es a.1 b.1)
 
 -- ---- an array of objects
 
@@ -66,9 +66,6 @@ items_once asked text first second a b =
     (subst (λ js. AreRead (map (object_document asked) js) first) same a.read) b.read
 
 -- ---- rows
-
-some_is : {A : Type 0} (x y : A) → Some x ≡ Some y → x ≡ y
-some_is x y e = cc e
 
 no_row : (config : Config) (s t : State) (text left : List ℕ) (row : Read) → s ≡ t → text ≡ left
     → next_record config t [] [] left ≡ None → next_record config s [] [] text ≡ Some row → ⊥

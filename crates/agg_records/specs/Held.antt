@@ -1,7 +1,8 @@
 -- The documents of records that were read.
-use Rattle.std.specs.Prelude.{◌≡◌, ◌++◌, ◌∷◌, [], List, Option, Some, flat_map}
+use Rattle.std.specs.Prelude.{◌≡◌, ◌++◌, ◌∷◌, [], List, Option, flat_map}
 use Rattle.agg_column.specs.Document.{Fields}
 use Rattle.agg_segment.specs.Segment.{documents_of, gathered_documents}
+use Rattle.agg_records.specs.Documents.{IsRead}
 use Rattle.agg_records.specs.declared.records.Records.{Records}
 
 -- the documents of the records: those of the built segments, and those of the open one
@@ -18,5 +19,5 @@ Adds Are old new =
 -- a document stands after those that the records held
 pub record Holds (document : Option Fields) (old new : Records) : Type 0 where
   pub read : Fields
-  pub is : document ≡ Some read
+  pub is : IsRead document read
   pub added : held_documents new ≡ held_documents old ++ read ∷ []

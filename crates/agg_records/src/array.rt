@@ -5,6 +5,7 @@ ghost use Rattle.json.specs.Json.{Json, max_depth, value};
 ghost use Rattle.json.specs.Reads.{token_of};
 ghost use Rattle.json.specs.Token.{Token as SpecToken};
 ghost use Rattle.agg_values.specs.Nothing.{NoneIs};
+ghost use Rattle.agg_records.specs.Documents.{IsRead};
 ghost use Rattle.agg_records.specs.Encodings.{is_encoding};
 ghost use Rattle.agg_records.specs.Faults.{is_fault};
 ghost use Rattle.agg_records.specs.Held.{Adds};
@@ -85,7 +86,7 @@ fn read_item(
     ensures none { IfErr result (λ error. is_fault error.cause ≡ true
         → (object : Json) (rest : List SpecToken)
         → value (max_depth - 1) reader.old ≡ Some (object, rest)
-        → object_document asked.now object ≡ None) }
+        → NoneIs (IsRead (object_document asked.now object))) }
 {
     match Value::read(alloc, reader, MAX_DEPTH - 1) {
         Ok(value) => add_object(alloc, into, asked, &value),

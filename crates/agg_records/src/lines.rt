@@ -1,6 +1,7 @@
 //! JSON lines: an object on each line.
-ghost use Rattle.std.specs.Prelude.{◌≡◌, None, IfErr, IfOk, OnOk, false, true};
+ghost use Rattle.std.specs.Prelude.{◌≡◌, IfErr, IfOk, OnOk, false, true};
 ghost use Rattle.agg_values.specs.Nothing.{NoneIs};
+ghost use Rattle.agg_records.specs.Documents.{IsRead};
 ghost use Rattle.agg_records.specs.Encodings.{is_encoding};
 ghost use Rattle.agg_records.specs.Faults.{is_fault};
 ghost use Rattle.agg_records.specs.Held.{Adds, Holds, held_documents};
@@ -52,7 +53,7 @@ fn read_line(
     ensures ok { OnOk result (Holds (text_document asked.now line.now) into.old into.new) }
     ensures cause { IfErr result (λ error. is_encoding error.cause ≡ false) }
     ensures none { IfErr result (λ error. is_fault error.cause ≡ true
-        → text_document asked.now line.now ≡ None) }
+        → NoneIs (IsRead (text_document asked.now line.now))) }
 {
     if add_tokens(alloc, line, scratch, asked, into)? {
         return Ok(());

@@ -1,9 +1,11 @@
 //! Objects as documents: the values of the asked members.
-ghost use Rattle.std.specs.Prelude.{◌≡◌, None, true, false, IfErr, IfOk, OnOk, option_map};
+ghost use Rattle.std.specs.Prelude.{◌≡◌, [], None, true, false, IfErr, IfOk, OnOk, option_map};
 ghost use Rattle.std.specs.List.{All};
 ghost use Rattle.json.specs.Value.{items_view, value_view};
+ghost use Rattle.agg_values.specs.Nothing.{NoneIs};
 ghost use Rattle.agg_segment.specs.Segment.{IsNameOf, gathered_documents};
 ghost use Rattle.agg_records.specs.Asked.{IsCut};
+ghost use Rattle.agg_records.specs.Documents.{IsRead};
 ghost use Rattle.agg_records.specs.Encodings.{is_encoding};
 ghost use Rattle.agg_records.specs.Faults.{is_fault};
 ghost use Rattle.agg_records.specs.Held.{Holds, held_documents};
@@ -31,7 +33,7 @@ pub fn add_object(
         (Holds (object_document asked.now (value_view value.now)) records.old records.new) }
     ensures cause { IfErr result (λ error. is_encoding error.cause ≡ false) }
     ensures none { IfErr result (λ error. is_fault error.cause ≡ true
-        → object_document asked.now (value_view value.now) ≡ None) }
+        → NoneIs (IsRead (object_document asked.now (value_view value.now)))) }
 {
     let Value::Object(members) = value else {
         return Err(RecordError::of(RecordCause::NotAnObject));
@@ -58,9 +60,16 @@ fn try_object(
         records.old records.new) }
     ensures left { IfOk result (λ taken. taken ≡ false
         → held_documents records.new ≡ held_documents records.old) }
+    ensures fresh { IfOk result (λ taken. taken ≡ false
+        → gathered_documents records.new.builder ≡ []) }
+    ensures mixed { IfOk result (λ taken. taken ≡ false
+        → gathered_documents records.old.builder ≡ []
+        → NoneIs (IsRead
+        (document_of_fields (field_values (value_view object.now)) asked.now))) }
     ensures cause { IfErr result (λ error. is_encoding error.cause ≡ false) }
     ensures none { IfErr result (λ error. is_fault error.cause ≡ true
-        → document_of_fields (field_values (value_view object.now)) asked.now ≡ None) }
+        → NoneIs (IsRead
+        (document_of_fields (field_values (value_view object.now)) asked.now))) }
 {
     records.forget_open();
     push_object(alloc, &mut records.builder, asked.cut(), object)?;

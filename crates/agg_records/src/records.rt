@@ -1,7 +1,8 @@
 //! Records in the making: the segments of their documents.
 ghost use Rattle.std.specs.Prelude.{◌≡◌, ◌++◌, ◌∷◌, [], true, false, flat_map, IfOk, OnOk};
 ghost use Rattle.agg_segment.specs.Segment.{documents_of, gathered_documents, no_fields};
-ghost use Rattle.agg_segment.specs.Segment.{open_document};
+ghost use Rattle.agg_segment.specs.Segment.{IsMixed, open_document};
+ghost use Rattle.agg_records.specs.Documents.{FitsSegment};
 ghost use Rattle.agg_records.specs.Held.{held_documents};
 
 use crate::AskedFields;
@@ -63,6 +64,8 @@ impl Records {
     pub(crate) fn forget_open(&mut self)
         ensures held { held_documents self.new ≡ held_documents self.old }
         ensures opened { open_document self.new.builder ≡ no_fields }
+        ensures closed { gathered_documents self.new.builder
+            ≡ gathered_documents self.old.builder }
     {
         self.builder.discard();
     }
@@ -76,11 +79,22 @@ impl Records {
             → held_documents self.new ≡ held_documents self.old) }
         ensures opened { IfOk result (λ taken. taken ≡ false
             → open_document self.new.builder ≡ no_fields) }
+        ensures fresh { IfOk result (λ taken. taken ≡ false
+            → gathered_documents self.new.builder ≡ []) }
+        ensures fits { IfOk result (λ taken. taken ≡ true
+            → FitsSegment (open_document self.old.builder)) }
+        ensures mixed { IfOk result (λ taken. taken ≡ false
+            → gathered_documents self.old.builder ≡ []
+            → IsMixed (open_document self.old.builder ∷ [])) }
     {
         match self.builder.finish() {
             Ok(()) => Ok(true),
             Err(BuildError::OutOfMemory) => Err(OutOfMemory),
-            Err(BuildError::MixedNumbers) | Err(BuildError::TooManyDocuments) => {
+            Err(BuildError::MixedNumbers) => {
+                self.begin_segment(asked)?;
+                Ok(false)
+            }
+            Err(BuildError::TooManyDocuments) => {
                 self.begin_segment(asked)?;
                 Ok(false)
             }
@@ -91,6 +105,7 @@ impl Records {
     fn begin_segment(&mut self, asked: &AskedFields) -> Result<(), OutOfMemory>
         ensures held { OnOk result (held_documents self.new ≡ held_documents self.old) }
         ensures opened { OnOk result (open_document self.new.builder ≡ no_fields) }
+        ensures fresh { OnOk result (gathered_documents self.new.builder ≡ []) }
     {
         let full = mem::replace(&mut self.builder, SegmentBuilder::new(self.alloc));
         self.built.push(built_from(full)?)?;
@@ -101,6 +116,8 @@ impl Records {
     pub(crate) fn number_fields(&mut self, asked: &AskedFields) -> Result<(), OutOfMemory>
         ensures held { held_documents self.new ≡ held_documents self.old }
         ensures opened { open_document self.new.builder ≡ open_document self.old.builder }
+        ensures closed { gathered_documents self.new.builder
+            ≡ gathered_documents self.old.builder }
     {
         for field in asked.as_slice() {
             self.builder.field(field.name.as_str())?;

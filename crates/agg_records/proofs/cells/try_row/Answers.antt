@@ -15,3 +15,4 @@ returns-clause-taken c = λ taken.
     (subst (λ asked. Gains (values_of_row asked c.args.places.now cells) start.builder
     c.push_row.new.builder) c.as_slice.ensures c.in_ok-push_row.ensures.ok)
     c.in_ok-push_row.ensures.documents (c.in_ok-close.ensures.closed taken)
+    (c.in_ok-close.ensures.fits taken)

@@ -22,4 +22,5 @@ returns-clause-taken c = λ taken.
     (sym took.is)
     (holds_closed (values_of_fields (field_values (object took.seen)) asked) old c.close.new.self
     start.built.items start.builder made c.forget_open.ensures.held c.forget_open.ensures.opened
-    took.gains c.push_text.ensures.documents (c.in_ok-close.ensures.closed taken))
+    took.gains c.push_text.ensures.documents (c.in_ok-close.ensures.closed taken)
+    (c.in_ok-close.ensures.fits taken))
