@@ -1,0 +1,3 @@
+pub mod Mistakes
+pub mod RequestBuilders
+pub mod Verdicts

@@ -1,0 +1,36 @@
+-- Whether a walk of bytes goes on to its pages, and whether a mistake is found.
+use Rattle.std.specs.Prelude.{ℕ, List, [], ◌∷◌, Bool, true, false, codes}
+use Rattle.std.specs.List.{list_any}
+use Rattle.agg_engine.specs.Walk.{MayBeAsked}
+use Rattle.agg_input.specs.Input.{Input, IsInput}
+use Rattle.agg_pages.specs.AnyField.{any_field}
+use Rattle.agg_check.specs.declared.finding.Finding.{Finding}
+use Rattle.agg_check.specs.declared.finding.Severity.{Severity}
+use Rattle.agg_check.specs.declared.finding.Severity.TheVariants.{Mistake, Warning}
+use Rattle.agg_check.specs.declared.verdict.BuilderName.{BuilderName}
+
+-- whether this severity is that of a mistake
+abbrev pub is_of_mistakes : Severity → Bool
+is_of_mistakes Mistake = true
+is_of_mistakes Warning = false
+
+-- whether a finding is a mistake
+abbrev pub is_mistake : Finding → Bool
+is_mistake finding = is_of_mistakes finding.severity
+
+-- whether there is a mistake among findings
+abbrev pub has_mistake : List Finding → Bool
+has_mistake found = list_any is_mistake found
+
+-- the builders of the program: the one that asks for a value in any field
+abbrev pub known_builders : List BuilderName
+known_builders = record { name = codes "any_field" } ∷ []
+
+-- the request of an input may be asked, and each of its pages has room
+abbrev pub MayBeWalked : Input BuilderName → Type 0
+MayBeWalked i =
+    MayBeAsked (λ builder. any_field i.header.schema) i.header.name i.header.request i.snapshots
+
+-- a walk of the bytes goes on to its pages: they are an input that may be walked
+abbrev pub GoesOn : List ℕ → Type 0
+GoesOn bytes = (i : Input BuilderName) × IsInput known_builders (λ b. b.name) bytes i × MayBeWalked i
