@@ -21,11 +21,13 @@ pub fn asked_of<'a>(
     let GroupOptions {
         by,
         conditions,
+        query,
         metrics,
         has_total,
         size,
         after,
         is_all,
+        top,
         to,
         ..
     } = options;
@@ -33,6 +35,7 @@ pub fn asked_of<'a>(
         grouping: Grouping {
             by,
             conditions,
+            query,
             metrics,
             has_total,
             types,
@@ -41,6 +44,7 @@ pub fn asked_of<'a>(
             size: if is_all { size.max(PAGE_OF_ALL) } else { size },
             after,
             is_all,
+            top,
         },
         output: output_of(to, is_terminal),
     })

@@ -1,59 +1,98 @@
 //! The files of the command line.
+use crate::progress::Progress;
 use agg_command_line::InputFormat;
 use agg_front::{Failure, RecordFile, format_of};
 use agg_records::RecordFormat;
 use agg_values::Text;
 use std::alloc::Global;
-use std::fs;
+use std::fs::File;
 use std::io::{self, ErrorKind, Read};
-use std::rt::Files;
+use std::rt::{Clock, Files};
+
+// How many bytes are read at a time.
+const PIECE_BYTES: u64 = 1_048_576;
 
 /// Reads the files, or standard input where there is none.
-pub fn read_files<'a, R: Files + Input + AllocGlobal>(
+pub fn read_files<'a, R: Files + Input + Clock + Eprint + AllocGlobal>(
     rt: &R,
     names: &[&'a str],
     from: Option<InputFormat>,
+    progress: &mut Progress<'_, R>,
 ) -> Result<Vec<RecordFile<'a>>, Failure> {
     let mut files = Vec::new(rt.alloc());
     if names.is_empty() {
-        let file = read_file(rt, "-", from)?;
+        let file = read_records(rt, "-", from, progress)?;
         files.push(file)?;
     }
     for name in names {
-        let file = read_file(rt, name, from)?;
+        let file = read_records(rt, name, from, progress)?;
         files.push(file)?;
     }
     Ok(files)
 }
 
-// Reads a file, or standard input for `-`.
-fn read_file<'a, R: Files + Input + AllocGlobal>(
+// Reads a file of records.
+fn read_records<'a, R: Files + Input + Clock + Eprint + AllocGlobal>(
     rt: &R,
     name: &'a str,
     from: Option<InputFormat>,
+    progress: &mut Progress<'_, R>,
 ) -> Result<RecordFile<'a>, Failure> {
-    let shown = if name == "-" { "standard input" } else { name };
-    let bytes = match bytes_of(rt, name) {
-        Ok(bytes) => bytes,
-        Err(error) => return Err(unreadable(rt.alloc(), shown, &error)),
-    };
+    let bytes = read_file(rt, name, progress)?;
     let format = match from {
         Some(from) => record_format(from),
         None => format_of(name, bytes.as_slice()),
     };
     Ok(RecordFile {
-        name: shown,
+        name: shown_name(name),
         format,
         bytes,
     })
 }
 
-fn bytes_of<R: Files + Input + AllocGlobal>(rt: &R, name: &str) -> io::Result<Vec<u8>> {
-    if name != "-" {
-        return fs::read(rt, name);
+/// Reads a file, or standard input for `-`.
+pub fn read_file<R: Files + Input + Clock + Eprint + AllocGlobal>(
+    rt: &R,
+    name: &str,
+    progress: &mut Progress<'_, R>,
+) -> Result<Vec<u8>, Failure> {
+    match bytes_of(rt, name, progress) {
+        Ok(bytes) => Ok(bytes),
+        Err(error) => Err(unreadable(rt.alloc(), shown_name(name), &error)),
     }
-    let mut bytes = Vec::new(rt.alloc());
-    rt.reader().read_to_end(&mut bytes)?;
+}
+
+/// The name of a file in messages.
+pub fn shown_name(name: &str) -> &str {
+    if name == "-" { "standard input" } else { name }
+}
+
+fn bytes_of<R: Files + Input + Clock + Eprint + AllocGlobal>(
+    rt: &R,
+    name: &str,
+    progress: &mut Progress<'_, R>,
+) -> io::Result<Vec<u8>> {
+    if name == "-" {
+        return read_all(rt.alloc(), &mut rt.reader(), progress);
+    }
+    let mut file = File::open(rt, name)?;
+    read_all(rt.alloc(), &mut file, progress)
+}
+
+// Reads a reader to its end.
+fn read_all<S: Read, R: Clock + Eprint>(
+    alloc: Global,
+    source: &mut S,
+    progress: &mut Progress<'_, R>,
+) -> io::Result<Vec<u8>> {
+    let mut bytes = Vec::new(alloc);
+    for _ in 0..u64::MAX {
+        let count = source.by_ref().take(PIECE_BYTES).read_to_end(&mut bytes)?;
+        if count == 0 {
+            break;
+        }
+        progress.add_bytes(count);
+    }
     Ok(bytes)
 }
 

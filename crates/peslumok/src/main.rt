@@ -2,18 +2,28 @@
 #![tactic(auto)]
 
 mod asked;
+mod check;
 mod files;
+mod group;
 mod messages;
+mod output;
+mod progress;
+mod request;
+mod stop;
+mod walk;
 
-use agg_command_line::{Chosen, CommandLineError, GroupOptions, read_command_line};
-use agg_front::{Failure, Report, check_asked, group};
-use agg_streams::sink::StdSink;
-use asked::asked_of;
-use files::read_files;
+use agg_command_line::{Chosen, CommandLineError, read_command_line};
+use agg_front::Failure;
+use check::check_file;
+use group::group_files;
 use messages::{complain, tell};
+use progress::Progress;
+use request::write_request;
 use std::env;
 use std::io::IsTerminal;
 use std::process::ExitCode;
+use stop::Stop;
+use walk::walk_file;
 
 fn main(rt: HostRuntime) -> ExitCode {
     let Ok(arguments) = env::args(&rt) else {
@@ -23,27 +33,44 @@ fn main(rt: HostRuntime) -> ExitCode {
         return complain(&rt, 6, &Failure::OutOfMemory);
     };
     match read_command_line(rt.alloc(), words.as_slice()) {
-        Ok(Chosen::Group(options)) => answer(&rt, options),
+        Ok(chosen) => answer(&rt, chosen),
         Err(error) => show(&rt, &error),
     }
 }
 
-// Groups the records of files, and tells what there is to tell beside the groups.
-fn answer(rt: &HostRuntime, options: GroupOptions<'_>) -> ExitCode {
-    match group_files(rt, options) {
-        Ok(report) => tell(rt, &report),
-        Err(failure) => complain(rt, failure.code(), &failure),
+// Does what was chosen, and tells what there is to tell beside the answer.
+fn answer(rt: &HostRuntime, chosen: Chosen<'_>) -> ExitCode {
+    let mut progress = Progress::new(rt, rt.stderr().is_terminal());
+    let ended = do_chosen(rt, chosen, &mut progress);
+    progress.wipe();
+    match ended {
+        Ok(code) => code,
+        Err(stop) => stop.tell(rt),
     }
 }
 
-// Groups the records of files.
-fn group_files(rt: &HostRuntime, options: GroupOptions<'_>) -> Result<Report, Failure> {
-    let (names, from) = (options.files.clone()?, options.from);
-    let asked = asked_of(rt.alloc(), options, rt.stdout().is_terminal())?;
-    check_asked(rt.alloc(), &asked)?;
-    let files = read_files(rt, names.as_slice(), from)?;
-    let mut sink = StdSink::new(rt.stdout());
-    group(rt.alloc(), &asked, files, &mut sink)
+// Does what was chosen.
+fn do_chosen(
+    rt: &HostRuntime,
+    chosen: Chosen<'_>,
+    progress: &mut Progress<'_, HostRuntime>,
+) -> Result<ExitCode, Stop> {
+    match chosen {
+        Chosen::Group(options) => {
+            let report = group_files(rt, options, progress)?;
+            progress.wipe();
+            Ok(tell(rt, &report))
+        }
+        Chosen::Request(options) => {
+            write_request(rt, options, progress)?;
+            Ok(ExitCode::SUCCESS)
+        }
+        Chosen::Walk(file) => {
+            walk_file(rt, file, progress)?;
+            Ok(ExitCode::SUCCESS)
+        }
+        Chosen::Check(file) => check_file(rt, file, progress),
+    }
 }
 
 // Shows help, the version or what is wrong with the words.
