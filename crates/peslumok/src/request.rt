@@ -49,7 +49,7 @@ fn header_of(alloc: Global, asked: &Asked<'_>) -> Result<String, Stop> {
     if !may_be_written(&request) {
         return Err(Stop::NoHeader);
     }
-    Ok(header_line(alloc, &request, &name, &schema, &query)?)
+    Ok(header_line(alloc, &request, &name, &schema, query)?)
 }
 
 // The request of the page that is asked for.
