@@ -1,4 +1,6 @@
 //! What is asked of records, and where they are.
+ghost use Rattle.std.specs.Prelude.{◌≡◌, None};
+
 use agg_grouping::Grouping;
 use agg_records::RecordFormat;
 use agg_tables::OutputFormat;
@@ -29,4 +31,21 @@ pub struct Pages<'a> {
     pub after: Option<&'a str>,
     /// Whether all pages are written, or the first one alone.
     pub is_all: bool,
+    /// How many groups are written in place of pages: those with the most documents, if so.
+    pub top: Option<u32>,
+}
+
+// How many groups are made at once where those with the most documents are looked for.
+const PAGE_OF_TOP: u32 = 100_000;
+
+impl Pages<'_> {
+    /// How many groups are made at once.
+    pub fn room(&self) -> u32
+        ensures { self.now.top ≡ None → result ≡ self.now.size }
+    {
+        match self.top {
+            Some(_) => self.size.max(PAGE_OF_TOP),
+            None => self.size,
+        }
+    }
 }

@@ -1,53 +1,97 @@
 //! The columns of the output.
+ghost use Rattle.std.specs.Prelude.{◌≡◌, ◌++◌, IfErr, IfOk, IfNone, IfSome, OnOk, map};
+ghost use Rattle.agg_fields.specs.Types.{type_of};
+ghost use Rattle.agg_tables.specs.Columns.{header_of};
+ghost use Rattle.agg_front.specs.Columns as spec;
+
 use crate::failure::Failure;
-use agg_fields::FieldType;
+use agg_fields::{FieldType, FieldTypes};
 use agg_grouping::{Grouping, column_of, metric_name};
 use agg_tables::{Column, Columns};
 use agg_values::{OutOfMemory, Text};
-use agg_words::MetricKind;
+use agg_words::{BySpec, Metric, MetricKind};
 use std::alloc::Global;
 
 /// A column for each source, the number of records, and a column for each metric, each of a name of
 /// its own.
-pub fn columns_of(alloc: Global, grouping: &Grouping<'_>) -> Result<Columns, Failure> {
+pub fn columns_of(alloc: Global, grouping: &Grouping<'_>) -> Result<Columns, Failure>
+    ensures columns { IfOk result (λ columns. columns ≡ spec.columns_asked grouping.now) }
+    ensures apart { OnOk result (spec.HaveOwnHeaders (spec.columns_asked grouping.now)) }
+    ensures cause { IfErr result (spec.HaveNoColumns (spec.columns_asked grouping.now)) }
+{
     let columns = all_columns(alloc, grouping)?;
-    for (place, column) in columns.as_slice().iter().enumerate() {
-        if has_header(&columns.as_slice()[..place], column.header()) {
-            return Err(Failure::SameColumn(Text::copy_of(alloc, column.header())?));
-        }
+    match shared_header(columns.as_slice()) {
+        Some(header) => Err(Failure::SameColumn(Text::copy_of(alloc, header)?)),
+        None => Ok(columns),
     }
-    Ok(columns)
 }
 
-fn has_header(columns: &[Column], header: &str) -> bool {
+// The name that two columns have, if any two have one.
+fn shared_header(columns: &[Column]) -> Option<&str>
+    ensures shared { IfSome result (λ name. spec.ShareHeader name.now columns.now) }
+    ensures apart { IfNone result (spec.HaveOwnHeaders columns.now) }
+{
+    for (place, column) in columns.iter().enumerate() {
+        if has_header(&columns[..place], column.header()) {
+            return Some(column.header());
+        }
+    }
+    None
+}
+
+// Whether a column has this name.
+fn has_header(columns: &[Column], header: &str) -> bool
+    ensures { result ≡ spec.has_header header.now columns.now }
+{
     columns.iter().any(|column| column.header() == header)
 }
 
-fn all_columns(alloc: Global, grouping: &Grouping<'_>) -> Result<Columns, OutOfMemory> {
+fn all_columns(alloc: Global, grouping: &Grouping<'_>) -> Result<Columns, OutOfMemory>
+    ensures { IfOk result (λ columns. columns ≡ spec.columns_asked grouping.now) }
+{
     let mut columns = Columns::new(alloc);
     for by in grouping.by.iter() {
-        let field = Text::copy_of(alloc, by.field)?;
-        let column = Column::Key {
-            name: Text::copy_of(alloc, column_of(by))?,
-            of: grouping.types.get(&field),
-        };
+        let column = key_column(alloc, by, &grouping.types)?;
         columns.push(column)?;
     }
     columns.push(Column::Count)?;
     for metric in grouping.metrics.iter() {
-        let field = Text::copy_of(alloc, metric.field)?;
-        let column = Column::Metric {
-            name: metric_name(alloc, metric)?,
-            of: type_of_metric(metric.kind, grouping.types.get(&field)),
-        };
+        let column = metric_column(alloc, metric, &grouping.types)?;
         columns.push(column)?;
     }
     Ok(columns)
 }
 
+// The column of a source.
+fn key_column(alloc: Global, by: &BySpec<'_>, types: &FieldTypes) -> Result<Column, OutOfMemory>
+    ensures { IfOk result (λ column. column ≡ spec.key_column types.now by.now) }
+{
+    Ok(Column::Key {
+        name: Text::copy_of(alloc, column_of(by))?,
+        of: types.get(&Text::copy_of(alloc, by.field)?),
+    })
+}
+
+// The column of a metric.
+fn metric_column(
+    alloc: Global,
+    metric: &Metric<'_>,
+    types: &FieldTypes,
+) -> Result<Column, OutOfMemory>
+    ensures { IfOk result (λ column. column ≡ spec.metric_column types.now metric.now) }
+{
+    let of = types.get(&Text::copy_of(alloc, metric.field)?);
+    Ok(Column::Metric {
+        name: metric_name(alloc, metric)?,
+        of: metric_type(metric.kind, of),
+    })
+}
+
 // The type in which a metric of a field is shown: a number of values is no value of the field, and
 // neither is a sum of dates.
-fn type_of_metric(kind: MetricKind, of: FieldType) -> FieldType {
+fn metric_type(kind: MetricKind, of: FieldType) -> FieldType
+    ensures { result ≡ spec.metric_type kind of }
+{
     match (kind, of) {
         (MetricKind::Count, _) => FieldType::Plain,
         (MetricKind::Sum, FieldType::Date | FieldType::DateNumber(_)) => FieldType::Plain,

@@ -1,4 +1,8 @@
 //! Why groups weren't written to their end.
+ghost use Rattle.std.specs.Prelude.{◌≡◌};
+ghost use Rattle.agg_front.specs.Codes.{code_of, failure_of_grouping, failure_of_walk};
+ghost use Rattle.agg_front.specs.declared.failure.Failure.TheVariants as failure;
+
 use agg_engine::WalkError;
 use agg_grouping::GroupingError;
 use agg_records::RecordError;
@@ -33,7 +37,9 @@ pub enum Failure {
 
 impl Failure {
     /// The exit code of a run that ends so.
-    pub fn code(&self) -> u8 {
+    pub fn code(&self) -> u8
+        ensures { result ≡ code_of self.now }
+    {
         match self {
             Failure::Refused(_) => 1,
             Failure::Usage(_) | Failure::SameColumn(_) => 2,
@@ -46,30 +52,40 @@ impl Failure {
 }
 
 impl From<OutOfMemory> for Failure {
+    ghost from_gives = { λ _ why. why ≡ failure.OutOfMemory };
+
     fn from(_error: OutOfMemory) -> Failure {
         Failure::OutOfMemory
     }
 }
 
 impl From<AllocError> for Failure {
+    ghost from_gives = { λ _ why. why ≡ failure.OutOfMemory };
+
     fn from(_error: AllocError) -> Failure {
         Failure::OutOfMemory
     }
 }
 
 impl<T: Drop> From<AllocFailed<T>> for Failure {
+    ghost from_gives = { λ _ why. why ≡ failure.OutOfMemory };
+
     fn from(_error: AllocFailed<T>) -> Failure {
         Failure::OutOfMemory
     }
 }
 
 impl From<Failed> for Failure {
+    ghost from_gives = { λ _ why. why ≡ failure.Unwritten };
+
     fn from(_error: Failed) -> Failure {
         Failure::Unwritten
     }
 }
 
 impl From<WalkError> for Failure {
+    ghost from_gives = { λ error why. why ≡ failure_of_walk error };
+
     fn from(error: WalkError) -> Failure {
         match error {
             WalkError::OutOfMemory => Failure::OutOfMemory,
@@ -79,6 +95,8 @@ impl From<WalkError> for Failure {
 }
 
 impl From<GroupingError> for Failure {
+    ghost from_gives = { λ error why. why ≡ failure_of_grouping error };
+
     fn from(error: GroupingError) -> Failure {
         match error {
             GroupingError::OutOfMemory => Failure::OutOfMemory,

@@ -1,17 +1,25 @@
 //! A whole grouping: records in, pages out.
-use crate::after::{after_of, write_after};
+ghost use Rattle.std.specs.Prelude.{◌≡◌, ℕ, IfOk, List, length};
+ghost use Rattle.std.specs.Io.KnownBytes.{Appends};
+ghost use Rattle.agg_column.specs.Document.{Fields};
+ghost use Rattle.agg_segment.specs.Snapshot.{snapshots_documents};
+ghost use Rattle.agg_front.specs.Answer.{AreRead, IsAnswered, IsWritten};
+ghost use Rattle.agg_front.specs.Asking.{AskAll, AskFor};
+ghost use Rattle.agg_front.specs.Index.{AreOneOf};
+
 use crate::asked::{Asked, RecordFile};
-use crate::columns::columns_of;
 use crate::failure::Failure;
 use crate::index::{Index, records_of};
-use crate::page::{Question, walk_page};
+use crate::page::Question;
+use crate::pages::write_pages;
 use crate::report::Report;
-use crate::written::PageWriter;
-use agg_engine::Snapshot;
-use agg_grouping::{Grouping, Page, asked_fields, query_of};
+use crate::top::top_text;
+use agg_fields::FieldType;
+use agg_grouping::{Grouping, asked_fields, query_of};
 use agg_records::AskedFields;
+use agg_segment::QueryTree;
 use agg_streams::sink::{Sink, write_all};
-use agg_values::{AfterKey, ItemList, NameMap, OutOfMemory, Text};
+use agg_values::{NameMap, OutOfMemory, Text};
 use std::alloc::Global;
 
 /// Groups the records of files, and writes the pages that are asked for, each as soon as it is
@@ -21,107 +29,84 @@ pub fn group<W: Sink>(
     asked: &Asked<'_>,
     files: Vec<RecordFile<'_>>,
     sink: &mut W,
-) -> Result<Report, Failure> {
-    let index = index_of(alloc, asked, files)?;
-    let next = write_answer(alloc, asked, index.snapshots(), sink)?;
+) -> Result<Report, Failure>
+    ensures { IfOk result (λ report. asked.now.pages.top ≡ None
+        → IsAnswered asked.now files.entry.items report
+        (W.contents sink.old) (W.contents sink.new)) }
+{
+    let query = query_of(alloc, &asked.grouping)?;
+    let index = index_of(alloc, asked, &query, files)?;
+    let question = Question {
+        grouping: &asked.grouping,
+        query: &query,
+        snapshots: index.snapshots(),
+    };
+    let next = write_answer(alloc, asked, &question, sink)?;
     Ok(index.into_report(next))
 }
 
-/// Checks what is asked, before any record is read.
-pub fn check_asked(alloc: Global, asked: &Asked<'_>) -> Result<(), Failure> {
-    query_of(alloc, &asked.grouping.conditions, &asked.grouping.types)?;
-    first_after(alloc, asked)?;
-    columns_of(alloc, &asked.grouping)?;
-    Ok(())
+// Writes what is asked for of the groups. Answers the text of the key after which the next page
+// begins, where there is one.
+fn write_answer<W: Sink>(
+    alloc: Global,
+    asked: &Asked<'_>,
+    question: &Question<'_, '_>,
+    sink: &mut W,
+) -> Result<Option<Text>, Failure>
+    requires one { length question.now.snapshots.now ≡ 1 }
+    requires same { question.now.grouping.now ≡ asked.now.grouping }
+    ensures { IfOk result (λ told. asked.now.pages.top ≡ None → (documents : List Fields)
+        → AreOneOf documents asked.now.pages.size
+        (snapshots_documents question.now.snapshots.now)
+        → (text : List ℕ) × Appends (W.contents sink.old) (W.contents sink.new) text
+        × IsWritten asked.now question.now.query.now documents told text) }
+{
+    let Some(count) = asked.pages.top else {
+        return write_pages(alloc, asked, question, sink);
+    };
+    let text = top_text(alloc, asked, question, count)?;
+    write_all(sink, text.as_bytes())?;
+    Ok(None)
 }
 
 // The records of files, in segments.
 fn index_of(
     alloc: Global,
     asked: &Asked<'_>,
+    query: &QueryTree,
     files: Vec<RecordFile<'_>>,
-) -> Result<Index, Failure> {
-    let fields = fields_of(alloc, &asked.grouping)?;
+) -> Result<Index, Failure>
+    ensures { IfOk result (λ index. (documents : List Fields) × (room : ℕ)
+        × AreRead asked.now.grouping query.now files.entry.items documents index.unseen.items
+        × AreOneOf documents room (snapshots_documents index.snapshots)
+        × (asked.now.pages.top ≡ None → room ≡ asked.now.pages.size)) }
+{
+    let fields = fields_of(alloc, &asked.grouping, query)?;
     let records = records_of(alloc, files, &fields)?;
-    Ok(Index::of(alloc, records, &fields, asked.pages.size)?)
-}
-
-// Writes the pages that are asked for of these snapshots.
-fn write_answer<W: Sink>(
-    alloc: Global,
-    asked: &Asked<'_>,
-    snapshots: &ItemList<Snapshot>,
-    sink: &mut W,
-) -> Result<Option<Text>, Failure> {
-    let query = query_of(alloc, &asked.grouping.conditions, &asked.grouping.types)?;
-    let after = first_after(alloc, asked)?;
-    let question = Question {
-        grouping: &asked.grouping,
-        query: &query,
-        snapshots,
-    };
-    write_pages(alloc, asked, &question, after, sink)
-}
-
-// The key after which the first page begins.
-fn first_after(alloc: Global, asked: &Asked<'_>) -> Result<NameMap<AfterKey>, Failure> {
-    match asked.pages.after {
-        Some(text) => Ok(after_of(alloc, text, &asked.grouping)?),
-        None => Ok(NameMap::new(alloc)),
-    }
+    let room = asked.pages.room();
+    Ok(Index::of(alloc, records, &fields, room)?)
 }
 
 // The fields that are read of records.
-fn fields_of(alloc: Global, grouping: &Grouping<'_>) -> Result<AskedFields, OutOfMemory> {
-    let mut fields = AskedFields::new(alloc);
-    for (name, of) in asked_fields(alloc, grouping)?.iter() {
-        fields.ask(alloc, name.try_clone(alloc)?, *of)?;
-    }
-    Ok(fields)
-}
-
-// Writes the pages that are asked for. Answers the text of the key after which the next one begins,
-// where there is one.
-fn write_pages<W: Sink>(
+fn fields_of(
     alloc: Global,
-    asked: &Asked<'_>,
-    question: &Question<'_, '_>,
-    first: NameMap<AfterKey>,
-    sink: &mut W,
-) -> Result<Option<Text>, Failure> {
-    let mut writer = PageWriter {
-        alloc,
-        columns: columns_of(alloc, &asked.grouping)?,
-        output: asked.output,
-        text: String::new(alloc),
-    };
-    let mut after = first;
-    for number in 0..u64::MAX {
-        let page = Page {
-            size: asked.pages.size,
-            after,
-        };
-        let walk = walk_page(alloc, question, page)?;
-        let is_last = walk.ended || !asked.pages.is_all;
-        after = writer.write_page(&walk, number == 0, is_last)?;
-        write_all(sink, writer.text.as_bytes())?;
-        if is_last {
-            return next_text(alloc, &after, &asked.grouping);
-        }
-    }
-    Ok(None)
-}
-
-// The text of the key after which the next page begins, where there is one.
-fn next_text(
-    alloc: Global,
-    after: &NameMap<AfterKey>,
     grouping: &Grouping<'_>,
-) -> Result<Option<Text>, Failure> {
-    if after.is_empty() {
-        return Ok(None);
+    query: &QueryTree,
+) -> Result<AskedFields, OutOfMemory>
+    ensures { IfOk result (AskAll grouping.now query.now) }
+{
+    let fields = asked_fields(alloc, grouping, query)?;
+    ask_all(alloc, &fields)
+}
+
+// Asks for fields, each with its type.
+fn ask_all(alloc: Global, fields: &NameMap<FieldType>) -> Result<AskedFields, OutOfMemory>
+    ensures { IfOk result (AskFor fields.now) }
+{
+    let mut asked = AskedFields::new(alloc);
+    for (name, of) in fields.iter() {
+        let name = name.try_clone(alloc)?;
+        asked.ask(alloc, name, *of)?;
     }
-    let mut text = String::new(alloc);
-    write_after(alloc, &mut text, after, grouping)?;
-    Ok(Some(Text::from_string(text)?))
+    Ok(asked)
 }

@@ -1,10 +1,17 @@
 //! The records of all files, kept for as many pages as are asked for.
+ghost use Rattle.std.specs.Prelude.{◌≡◌, IfErr, IfOk, flat_map};
+ghost use Rattle.std.specs.List.{range_with_len};
+ghost use Rattle.agg_records.specs.Held.{held_documents};
+ghost use Rattle.agg_segment.specs.Segment.{documents_of};
+ghost use Rattle.agg_segment.specs.Snapshot.{snapshots_documents};
+ghost use Rattle.agg_front.specs.Files.{AreDocumentsOfFiles, AreUnreadable, IsUnreadable};
+ghost use Rattle.agg_front.specs.Index.{AreOneOf, has_keys, is_seen, unseen_names};
+
 use crate::RecordFile;
 use crate::failure::Failure;
 use crate::report::Report;
-use agg_engine::Snapshot;
 use agg_records::{AskedFields, RecordCause, RecordError, Records, read_records};
-use agg_segment::SegmentReader;
+use agg_segment::{Column, SegmentReader, Snapshot};
 use agg_values::{ItemList, OutOfMemory, Text};
 use std::alloc::Global;
 
@@ -14,7 +21,11 @@ pub fn records_of(
     alloc: Global,
     files: Vec<RecordFile<'_>>,
     asked: &AskedFields,
-) -> Result<Records, Failure> {
+) -> Result<Records, Failure>
+    ensures held { IfOk result
+        (λ records. AreDocumentsOfFiles asked.now files.entry.items (held_documents records)) }
+    ensures cause { IfErr result (AreUnreadable files.entry.items) }
+{
     let mut records = Records::new(alloc);
     for file in files {
         let RecordFile {
@@ -31,13 +42,15 @@ pub fn records_of(
 }
 
 // Why the records of a file can't be read.
-fn refusal(alloc: Global, name: &str, error: RecordError) -> Failure {
+fn refusal(alloc: Global, name: &str, error: RecordError) -> Failure
+    ensures { IsUnreadable name.now result }
+{
     if let RecordCause::OutOfMemory = error.cause {
         return Failure::OutOfMemory;
     }
     match Text::copy_of(alloc, name) {
         Ok(name) => Failure::Record { name, error },
-        Err(error) => Failure::from(error),
+        Err(_) => Failure::OutOfMemory,
     }
 }
 
@@ -56,7 +69,12 @@ impl Index {
         records: Records,
         asked: &AskedFields,
         page_size: u32,
-    ) -> Result<Index, OutOfMemory> {
+    ) -> Result<Index, OutOfMemory>
+        ensures snapshots { IfOk result (λ index.
+            AreOneOf (held_documents records) page_size (snapshots_documents index.snapshots)) }
+        ensures unseen { IfOk result (λ index.
+            index.unseen.items ≡ unseen_names (held_documents records) asked.now) }
+    {
         let names = copies_of(alloc, records.names())?;
         let segments = records.into_segments()?;
         let unseen = unseen_of(alloc, asked, segments.as_slice())?;
@@ -73,12 +91,17 @@ impl Index {
     }
 
     /// The one snapshot.
-    pub fn snapshots(&self) -> &ItemList<Snapshot> {
+    pub fn snapshots(&self) -> &ItemList<Snapshot>
+        ensures { result.now ≡ self.now.snapshots }
+    {
         &self.snapshots
     }
 
     /// What there is to tell, with the key after which the next page begins.
-    pub fn into_report(self, next: Option<Text>) -> Report {
+    pub fn into_report(self, next: Option<Text>) -> Report
+        ensures unseen { result.unseen ≡ self.unseen }
+        ensures next { result.next ≡ next }
+    {
         let Index { unseen, names, .. } = self;
         Report {
             unseen,
@@ -96,15 +119,18 @@ fn copies_of(alloc: Global, names: &[Text]) -> Result<Vec<Text>, OutOfMemory> {
     Ok(copies)
 }
 
-// The asked fields that have a value in no record.
+// The names of the asked fields that have a value in no record.
 fn unseen_of(
     alloc: Global,
     asked: &AskedFields,
     segments: &[SegmentReader],
-) -> Result<Vec<Text>, OutOfMemory> {
+) -> Result<Vec<Text>, OutOfMemory>
+    ensures { IfOk result (λ unseen.
+        unseen.items ≡ unseen_names (flat_map documents_of segments.now) asked.now) }
+{
     let mut unseen = Vec::new(alloc);
     for field in asked.as_slice() {
-        if !has_values(segments, &field.name) {
+        if !is_seen(segments, &field.name) {
             unseen.push(field.name.try_clone(alloc)?)?;
         }
     }
@@ -112,8 +138,38 @@ fn unseen_of(
 }
 
 // Whether a field has a value in some record.
-fn has_values(segments: &[SegmentReader], field: &Text) -> bool {
-    segments
-        .iter()
-        .any(|segment| !segment.columns(field).is_empty())
+fn is_seen(segments: &[SegmentReader], field: &Text) -> bool
+    ensures { result ≡ is_seen (flat_map documents_of segments.now) field.now }
+{
+    for segment in segments {
+        if has_values(segment, field) {
+            return true;
+        }
+    }
+    false
+}
+
+// Whether a field has a value in some document of a segment.
+fn has_values(segment: &SegmentReader, field: &Text) -> bool
+    ensures { result ≡ is_seen (documents_of segment.now) field.now }
+{
+    let count = segment.num_docs();
+    for column in segment.columns(field) {
+        if has_keys(column, count) {
+            return true;
+        }
+    }
+    false
+}
+
+// Whether a column has a value of one of so many documents.
+fn has_keys(column: &Column, count: u32) -> bool
+    ensures { result ≡ has_keys column.now (range_with_len 0 count) }
+{
+    for doc in 0..count {
+        if !column.values_for_doc(doc).is_empty() {
+            return true;
+        }
+    }
+    false
 }

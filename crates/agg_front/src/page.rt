@@ -1,9 +1,14 @@
 //! A page of the groups.
-ghost use Rattle.std.specs.Prelude.{◌≡◌, ◌<◌};
+ghost use Rattle.std.specs.Prelude.{◌≡◌, ◌<◌, IfOk, List, length};
+ghost use Rattle.agg_column.specs.Document.{Fields};
+ghost use Rattle.agg_segment.specs.Snapshot.{snapshots_documents};
+ghost use Rattle.agg_front.specs.Index.{AreOneOf};
+ghost use Rattle.agg_front.specs.Pages.{IsPageOf, IsPageWalk};
 
 use crate::failure::Failure;
 use agg_cache::LimitsLedger;
 use agg_engine::{Snapshot, Walk, walk_pages};
+use agg_final_results::AggregationResults;
 use agg_grouping::{GROUPS, Grouping, Page, request_of};
 use agg_segment::{QueryTree, Schema};
 use agg_values::{ItemList, Steps, Text};
@@ -19,8 +24,27 @@ pub struct Question<'q, 'a> {
     pub snapshots: &'q ItemList<Snapshot>,
 }
 
+/// The results of a page of the groups.
+pub fn page_of(
+    alloc: Global,
+    question: &Question<'_, '_>,
+    page: Page,
+) -> Result<AggregationResults, Failure>
+    requires { length question.now.snapshots.now ≡ 1 }
+    ensures { IfOk result (λ results. (documents : List Fields)
+        → AreOneOf documents page.size (snapshots_documents question.now.snapshots.now)
+        → IsPageOf question.now.grouping.now question.now.query.now documents page results) }
+{
+    let Walk { pages, .. } = walk_page(alloc, question, page)?;
+    let mut pages = pages.into_vec();
+    Ok(pages.remove(0))
+}
+
 /// The walk over a page of the groups.
-pub fn walk_page(alloc: Global, question: &Question<'_, '_>, page: Page) -> Result<Walk, Failure> {
+pub fn walk_page(alloc: Global, question: &Question<'_, '_>, page: Page) -> Result<Walk, Failure>
+    ensures { IfOk result (λ walk. IsPageWalk question.now.grouping.now question.now.query.now
+        (snapshots_documents question.now.snapshots.now) page walk.pages walk.ended) }
+{
     walk_over::<Brand>(alloc, question, page, Blank::new(1))
 }
 
@@ -34,6 +58,8 @@ fn walk_over<L: Ledger>(
     requires name { blank.name ≡ L.name }
     requires parts { blank.parts ≡ L.parts }
     requires shared { 0 < L.parts }
+    ensures { IfOk result (λ walk. IsPageWalk question.now.grouping.now question.now.query.now
+        (snapshots_documents question.now.snapshots.now) page walk.pages walk.ended) }
 {
     let mut steps: Steps<L> = Steps::new(blank);
     let mut limits = LimitsLedger::new(None, Some(u32::MAX));

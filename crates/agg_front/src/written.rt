@@ -1,7 +1,13 @@
 //! The text of a page.
-use agg_engine::Walk;
+ghost use Rattle.std.specs.Prelude.{◌≡◌, ◌++◌, IfOk, List, OnOk, option_map, string_bytes};
+ghost use Rattle.std.specs.List.{AllZip};
+ghost use Rattle.agg_front.specs.Pages.{next_after};
+ghost use Rattle.agg_tables.specs.declared.row.Row.{Row as Line};
+ghost use Rattle.agg_front.specs.Written.{AreRowsOf, AreTotalRows, IsGroupRow, IsPageText};
+ghost use Rattle.agg_front.specs.Written.{groups_in, total_in, total_written};
+
 use agg_final_results::{
-    AggregationResult, AggregationResults, BucketResult, CompositeBucketEntry,
+    AggregationResult, AggregationResults, BucketResult, CompositeBucketEntry, FilterBucketResult,
 };
 use agg_grouping::{GROUPS, TOTAL};
 use agg_tables::{Columns, OutputFormat, Row, cells_of_group, cells_of_total, write_rows};
@@ -20,24 +26,19 @@ pub struct PageWriter {
 
 impl PageWriter {
     /// Makes the text of a page: its rows after the header, and after the last page the row of all
-    /// records. Answers the key after which the next page begins, empty where none does.
+    /// records.
     pub fn write_page(
         &mut self,
-        walk: &Walk,
+        page: &AggregationResults,
         is_first: bool,
         is_last: bool,
-    ) -> Result<NameMap<AfterKey>, OutOfMemory> {
-        let mut rows = Vec::new(self.alloc);
-        let mut after = NameMap::new(self.alloc);
-        for page in walk.pages.as_slice() {
-            if let Some((groups, key)) = groups_of(self.alloc, page)? {
-                add_rows(self.alloc, &mut rows, &self.columns, groups)?;
-                after = copy_of(self.alloc, key)?;
-            }
-            if is_last {
-                add_total(self.alloc, &mut rows, &self.columns, page)?;
-            }
-        }
+    ) -> Result<(), OutOfMemory>
+        ensures text { OnOk result (IsPageText self.old.columns self.old.output is_first is_last
+            page.now (string_bytes self.new.text)) }
+        ensures columns { self.new.columns ≡ self.old.columns }
+        ensures output { self.new.output ≡ self.old.output }
+    {
+        let rows = rows_of_page(self.alloc, &self.columns, page, is_last)?;
         self.text.clear();
         write_rows(
             self.alloc,
@@ -46,61 +47,118 @@ impl PageWriter {
             &self.columns,
             rows.as_slice(),
             is_first,
-        )?;
-        Ok(after)
+        )
     }
 }
 
-// The groups of a page, and the key after which the next one begins.
+/// The key after which the page after a page begins, empty where there is none.
+pub fn next_after(
+    alloc: Global,
+    page: &AggregationResults,
+) -> Result<NameMap<AfterKey>, OutOfMemory>
+    ensures { IfOk result (λ after. after ≡ next_after page.now) }
+{
+    let name = Text::copy_of(alloc, GROUPS)?;
+    let Some(AggregationResult::BucketResult(BucketResult::Composite { after_key, .. })) = page
+        .0
+        .get(&name)
+    else {
+        return Ok(NameMap::new(alloc));
+    };
+    copy_of(alloc, after_key)
+}
+
+// The same key once more.
+fn copy_of(alloc: Global, after: &NameMap<AfterKey>) -> Result<NameMap<AfterKey>, OutOfMemory>
+    ensures { IfOk result (λ copy. copy ≡ after.now) }
+{
+    let mut copy = NameMap::new(alloc);
+    for (source, key) in after.iter() {
+        copy.insert(source.try_clone(alloc)?, AfterKey(key.0.try_clone(alloc)?))?;
+    }
+    Ok(copy)
+}
+
+// The rows of a page: that of each group, and on the last page that of all records.
+fn rows_of_page(
+    alloc: Global,
+    columns: &Columns,
+    page: &AggregationResults,
+    is_last: bool,
+) -> Result<Vec<Row>, OutOfMemory>
+    ensures { IfOk result (λ rows. AreRowsOf columns.now is_last page.now rows.items) }
+{
+    let groups = groups_of(alloc, page)?;
+    let mut rows = rows_of_groups(alloc, columns, groups)?;
+    let total = if is_last {
+        total_of(alloc, page)?
+    } else {
+        None
+    };
+    add_total(alloc, &mut rows, columns, total)?;
+    Ok(rows)
+}
+
+// The groups of a page.
 fn groups_of(
     alloc: Global,
     page: &AggregationResults,
-) -> Result<Option<(&[CompositeBucketEntry], &NameMap<AfterKey>)>, OutOfMemory> {
+) -> Result<&[CompositeBucketEntry], OutOfMemory>
+    ensures { IfOk result (λ groups. groups.now ≡ groups_in page.now) }
+{
     let name = Text::copy_of(alloc, GROUPS)?;
     match page.0.get(&name) {
-        Some(AggregationResult::BucketResult(BucketResult::Composite { buckets, after_key })) => {
-            Ok(Some((buckets.as_slice(), after_key)))
+        Some(AggregationResult::BucketResult(BucketResult::Composite { buckets, .. })) => {
+            Ok(buckets.as_slice())
         }
+        _ => Ok(&[]),
+    }
+}
+
+// The total of a page, where it has one.
+fn total_of(
+    alloc: Global,
+    page: &AggregationResults,
+) -> Result<Option<&FilterBucketResult>, OutOfMemory>
+    ensures { IfOk result (λ total. option_map (λ t. t.now) total ≡ total_in page.now) }
+{
+    let name = Text::copy_of(alloc, TOTAL)?;
+    match page.0.get(&name) {
+        Some(AggregationResult::BucketResult(BucketResult::Filter(total))) => Ok(Some(total)),
         _ => Ok(None),
     }
 }
 
-// Appends a row for each group.
-fn add_rows(
+// A row for each group.
+fn rows_of_groups(
     alloc: Global,
-    rows: &mut Vec<Row>,
     columns: &Columns,
     groups: &[CompositeBucketEntry],
-) -> Result<(), OutOfMemory> {
-    rows.reserve(groups.len())?;
+) -> Result<Vec<Row>, OutOfMemory>
+    ensures { IfOk result (λ rows. AllZip (IsGroupRow columns.now) groups.now rows.items) }
+{
+    let mut rows = Vec::with_capacity(alloc, groups.len())?;
     for group in groups {
-        rows.push(cells_of_group(alloc, columns, group)?)?;
+        let row = cells_of_group(alloc, columns, group)?;
+        rows.push(row)?;
     }
-    Ok(())
+    Ok(rows)
 }
 
-// Appends the row of all records, where the page has it.
+// Appends the row of a total, where there is one.
 fn add_total(
     alloc: Global,
     rows: &mut Vec<Row>,
     columns: &Columns,
-    page: &AggregationResults,
-) -> Result<(), OutOfMemory> {
-    let name = Text::copy_of(alloc, TOTAL)?;
-    if let Some(AggregationResult::BucketResult(BucketResult::Filter(all))) = page.0.get(&name) {
-        let row = cells_of_total(alloc, columns, all.doc_count, &all.sub_aggregations)?;
+    total: Option<&FilterBucketResult>,
+) -> Result<(), OutOfMemory>
+    ensures { OnOk result ((totals : List Line)
+        × AreTotalRows columns.now (option_map (λ t. t.now) total.entry) totals
+        × (rows.new.items ≡ rows.old.items ++ totals)) }
+{
+    if let Some(total) = total {
+        let row = cells_of_total(alloc, columns, total.doc_count, &total.sub_aggregations)?;
         rows.push(row)?;
     }
     Ok(())
-}
-
-// The same key once more.
-fn copy_of(alloc: Global, key: &NameMap<AfterKey>) -> Result<NameMap<AfterKey>, OutOfMemory> {
-    let mut copy = NameMap::new(alloc);
-    for (name, value) in key.iter() {
-        let name = name.try_clone(alloc)?;
-        let value = AfterKey(value.0.try_clone(alloc)?);
-        copy.insert(name, value)?;
-    }
-    Ok(copy)
 }

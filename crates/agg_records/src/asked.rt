@@ -1,5 +1,5 @@
 //! The fields that are read of records.
-ghost use Rattle.std.specs.Prelude.{IfOk, OnErr, OnOk, ◌≡◌};
+ghost use Rattle.std.specs.Prelude.{IfOk, OnErr, OnOk, [], ◌≡◌};
 ghost use Rattle.std.specs.List.{All};
 ghost use Rattle.agg_records.specs.Asked.{Asks, IsCut, path_of};
 
@@ -38,7 +38,9 @@ impl Model for AskedFields {
 
 impl AskedFields {
     /// No fields.
-    pub fn new(alloc: Global) -> AskedFields {
+    pub fn new(alloc: Global) -> AskedFields
+        ensures { result ≡ [] }
+    {
         AskedFields {
             fields: Vec::new(alloc),
         }

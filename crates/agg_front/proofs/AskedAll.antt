@@ -1,0 +1,76 @@
+-- Fields that are asked for, one after another.
+use Rattle.std.proofs.Common.{◌≡◌, ◌++◌, ◌∷◌, ◌∙◌, [], ℕ, zero, suc, List, Less, Greater}
+use Rattle.std.proofs.Common.{ap, append_assoc, arith, map, subst, sym, inl, inr}
+use Rattle.std.specs.Prelude.{All}
+use Rattle.std.specs.List.{AllByRecursion}
+use Rattle.std.specs.List.Sorted.{IsStrictlySortedBy}
+use Rattle.std.specs.Map.{keys_of}
+use Rattle.std.specs.Ordering.{ordering_reverse}
+use Rattle.std.proofs.lemmas.Cmp.{nat_list_cmp_total}
+use Rattle.std.proofs.lemmas.List.{map-append}
+use Rattle.std.proofs.lemmas.List.Elements.{All-push}
+use Rattle.agg_values.specs.Names.{Named, name_cmp}
+use Rattle.agg_fields.specs.declared.field_type.FieldType.{FieldType}
+use Rattle.agg_records.specs.Asked.{Asks, IsAsked, StandsLast, path_of}
+use Rattle.agg_records.specs.declared.asked.AskedField.{AskedField}
+use Rattle.agg_engine.proofs.AscendingKeys.{below-before}
+use Rattle.agg_front.specs.Asking.{named_type}
+
+-- each name is cut at its points
+abbrev pub AreCut : List AskedField → Type 0
+AreCut asked = All (λ field. field.path.items ≡ path_of field.name) asked
+
+-- no name is below itself
+not-below : (name other : List ℕ) → other ≡ name → name_cmp other name ≡ Less → ⊥
+not-below name other same below =
+    let own : name_cmp name name ≡ Less = subst (λ n. name_cmp n name ≡ Less) same below in
+    let turned : Less ≡ Greater =
+    sym own ∙ nat_list_cmp_total.antisymm name name ∙ ap ordering_reverse own in
+    cc turned
+
+-- a name above those that are asked for is none of them
+not-asked : (name : List ℕ) (asked : List AskedField)
+    → AllByRecursion (λ other. name_cmp other name ≡ Less) (keys_of (map named_type asked))
+    → ¬ (IsAsked name asked)
+not-asked name [] below has = absurd (omega (arith, has.2))
+not-asked name (first ∷ asked) below (zero, field, within, is, named) =
+    not-below name first.name (ap (λ (f : AskedField). f.name) is ∙ named) below.0
+not-asked name (first ∷ asked) below (suc k, field, within, is, named) =
+    not-asked name asked below.1 (k, field, omega (arith, within), is, named)
+
+module _ (fields : Named FieldType) (old new : List AskedField) (left rest : Named FieldType)
+    (name : List ℕ) (of : FieldType) (up : IsStrictlySortedBy name_cmp (keys_of fields))
+    (so_far : fields ≡ map named_type old ++ left) (next : left ≡ (name, of) ∷ rest) where
+  last : Asks name of old new → StandsLast name of old new
+  last (inl (asked, same)) =
+      absurd (not-asked name old
+      (below-before name_cmp (map named_type old) (name, of) rest
+      (subst (λ es. IsStrictlySortedBy name_cmp (keys_of es))
+      (so_far ∙ ap (λ es. map named_type old ++ es) next) up)) asked)
+  last (inr (not_asked, stands)) = stands
+
+  -- one field more is asked for
+  pub ask-more : Asks name of old new → fields ≡ map named_type new ++ rest
+  ask-more asks =
+      let stands = last asks in
+      so_far ∙ ap (λ es. map named_type old ++ es) next
+      ∙ (λ i. map named_type old ++ (sym stands.named i, sym stands.holds i) ∷ rest)
+      ∙ sym (append_assoc (map named_type old) (named_type stands.field ∷ []) rest)
+      ∙ ap (λ es. es ++ rest) (sym (map-append named_type old (stands.field ∷ [])))
+      ∙ ap (λ (asked : List AskedField). map named_type asked ++ rest) (sym stands.added)
+
+  pub cut-more : AreCut old → Asks name of old new → AreCut new
+  cut-more cut asks =
+      let stands = last asks in
+      subst AreCut (sym stands.added)
+      (All-push (λ (field : AskedField). field.path.items ≡ path_of field.name) old stands.field cut
+      (stands.cut ∙ ap path_of (sym stands.named)))
+
+-- no field is asked for yet
+pub ask-start : (fields items iterator : Named FieldType) (asked : List AskedField) → asked ≡ []
+    → items ≡ fields → iterator ≡ items
+    → (fields ≡ map named_type asked ++ iterator) × AreCut asked
+ask-start fields items iterator asked none are is = (
+  sym (ap (λ (some : List AskedField). map named_type some ++ iterator) none ∙ is ∙ are),
+  subst AreCut (sym none) (λ k d within. absurd (omega (arith, within))),
+)

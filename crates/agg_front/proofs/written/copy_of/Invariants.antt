@@ -1,0 +1,7 @@
+use Rattle.std.proofs.Common.{◌≡◌, ◌++◌}
+use Rattle.agg_front.proofs.written.copy_of.Given as goal
+
+-- the entries so far are copied
+abbrev pub invariant-loop-source : goal.invariant-loop-source
+invariant-loop-source l =
+    l.after ≡ l.copy ++ l.source-iterator

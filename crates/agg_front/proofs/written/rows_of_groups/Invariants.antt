@@ -1,0 +1,9 @@
+use Rattle.std.proofs.Common.{take}
+use Rattle.std.specs.List.{AllZip}
+use Rattle.agg_front.specs.Written.{IsGroupRow}
+use Rattle.agg_front.proofs.written.rows_of_groups.Given as goal
+
+-- the rows so far are those of the groups so far
+abbrev pub invariant-loop-group : goal.invariant-loop-group
+invariant-loop-group l =
+    AllZip (IsGroupRow l.columns) (take l.group-index l.groups) l.rows.items

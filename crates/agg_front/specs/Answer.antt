@@ -1,0 +1,81 @@
+-- What is answered of the records of files.
+use Rattle.std.specs.Prelude.{◌≡◌, ◌≢◌, [], ℕ, List, Option, None, Some, true}
+use Rattle.std.specs.Io.KnownBytes.{Appends}
+use Rattle.agg_values.specs.Names.{Named}
+use Rattle.agg_values.specs.declared.after_key.AfterKey.{AfterKey}
+use Rattle.agg_column.specs.Document.{Fields}
+use Rattle.agg_segment.specs.declared.query.QueryTree.{QueryTree}
+use Rattle.agg_final_results.specs.declared.types.AggregationResults.{AggregationResults}
+use Rattle.agg_records.specs.declared.asked.AskedField.{AskedField}
+use Rattle.agg_grouping.specs.Query.{IsQueryOf}
+use Rattle.agg_grouping.specs.declared.grouping.Grouping.{Grouping}
+use Rattle.agg_tables.specs.declared.columns.Column.{Column}
+use Rattle.agg_tables.specs.declared.output.OutputFormat.{OutputFormat}
+use Rattle.agg_front.specs.After.{HaveOwnColumns, IsAfterText, NamesFirst}
+use Rattle.agg_front.specs.Asking.{AskAll}
+use Rattle.agg_front.specs.Check.{BeginsAfter, after_asked}
+use Rattle.agg_front.specs.Columns.{columns_asked}
+use Rattle.agg_front.specs.Files.{AreDocumentsOfFiles}
+use Rattle.agg_front.specs.Index.{unseen_names}
+use Rattle.agg_front.specs.Pages.{ArePages, last_after}
+use Rattle.agg_front.specs.Written.{IsTextOf}
+use Rattle.agg_front.specs.declared.asked.Asked.{Asked}
+use Rattle.agg_front.specs.declared.asked.Pages.{Pages}
+use Rattle.agg_front.specs.declared.asked.RecordFile.{RecordFile}
+use Rattle.agg_front.specs.declared.report.Report.{Report}
+
+-- files hold documents, in the fields that are asked for; in some of these no document has a value
+pub record AreRead (grouping : Grouping) (query : QueryTree) (files : List RecordFile)
+    (documents : List Fields) (unseen : List (List ℕ)) : Type 0 where
+  pub fields : List AskedField
+  pub ask : AskAll grouping query fields
+  pub are_documents : AreDocumentsOfFiles fields files documents
+  pub unseen_is : unseen ≡ unseen_names documents fields
+
+-- the text that is told of a key, where it has one: it is read as the key, if that names the first
+-- sources, and no two sources are called the same
+abbrev pub TellsKey : Grouping → Option (List ℕ) → Named AfterKey → Type 0
+TellsKey grouping None key = key ≡ []
+TellsKey grouping (Some text) key =
+    (key ≢ [])
+    × (HaveOwnColumns grouping.by.items → NamesFirst grouping.by.items key
+    → IsAfterText grouping text key)
+
+-- the text of the key after which the next page begins, as the command line takes it: it is read as
+-- the key, if that names the first sources; there is no text where no page comes
+abbrev pub TellsNext : Grouping → Option (List ℕ) → Named AfterKey → Type 0
+TellsNext grouping None next = next ≡ []
+TellsNext grouping (Some text) next =
+    (next ≢ []) × (NamesFirst grouping.by.items next → IsAfterText grouping text next)
+
+module _ (grouping : Grouping) (query : QueryTree) (documents : List Fields) where
+  -- the pages of documents after a key that are asked for, their text in columns, and the key that
+  -- the last of them shows
+  pub record AreWritten (asked : Pages) (format : OutputFormat) (columns : List Column)
+      (after next : Named AfterKey) (text : List ℕ) : Type 0 where
+    pub pages : List AggregationResults
+    pub are_pages : ArePages grouping query documents asked.is_all asked.size after pages
+    pub is_text : IsTextOf columns format true pages text
+    pub shown : next ≡ last_after pages
+
+-- the text of the pages of documents that are asked for, and that of the key after the last one
+pub record IsWritten (asked : Asked) (query : QueryTree) (documents : List Fields)
+    (told : Option (List ℕ)) (text : List ℕ) : Type 0 where
+  pub first : Named AfterKey
+  pub begins : BeginsAfter asked.grouping (after_asked asked) first
+  pub next : Named AfterKey
+  pub written : AreWritten asked.grouping query documents asked.pages asked.output
+      (columns_asked asked.grouping) first next text
+  pub tells : TellsNext asked.grouping told next
+
+-- a sink took the text of the pages that are asked for of the documents of files, and a report
+-- tells in which fields no document has a value
+pub record IsAnswered (asked : Asked) (files : List RecordFile) (report : Report)
+    (old new : Option (List ℕ)) : Type 0 where
+  pub query : QueryTree
+  pub is_query : IsQueryOf asked.grouping query
+  pub documents : List Fields
+  pub are_read : AreRead asked.grouping query files documents report.unseen.items
+  pub text : List ℕ
+  pub is_written : IsWritten asked query documents report.next text
+  pub taken : Appends old new text

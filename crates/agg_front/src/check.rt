@@ -1,0 +1,31 @@
+//! What is asked, before any record is read.
+ghost use Rattle.std.specs.Prelude.{IfOk, OnOk};
+ghost use Rattle.agg_front.specs.Check.{BeginsAfter, MayBeAsked, after_asked};
+
+use crate::after::after_of;
+use crate::asked::Asked;
+use crate::columns::columns_of;
+use crate::failure::Failure;
+use agg_grouping::query_of;
+use agg_values::{AfterKey, NameMap};
+use std::alloc::Global;
+
+/// Checks what is asked, before any record is read.
+pub fn check_asked(alloc: Global, asked: &Asked<'_>) -> Result<(), Failure>
+    ensures { OnOk result (MayBeAsked asked.now) }
+{
+    query_of(alloc, &asked.grouping)?;
+    first_after(alloc, asked)?;
+    columns_of(alloc, &asked.grouping)?;
+    Ok(())
+}
+
+/// The key after which the first page begins.
+pub fn first_after(alloc: Global, asked: &Asked<'_>) -> Result<NameMap<AfterKey>, Failure>
+    ensures { IfOk result (BeginsAfter asked.now.grouping (after_asked asked.now)) }
+{
+    match asked.pages.after {
+        Some(text) => Ok(after_of(alloc, text, &asked.grouping)?),
+        None => Ok(NameMap::new(alloc)),
+    }
+}
