@@ -33,4 +33,5 @@ MayBeWalked i =
 
 -- a walk of the bytes goes on to its pages: they are an input that may be walked
 abbrev pub GoesOn : List ℕ → Type 0
-GoesOn bytes = (i : Input BuilderName) × IsInput known_builders (λ b. b.name) bytes i × MayBeWalked i
+GoesOn bytes =
+    (i : Input BuilderName) × IsInput known_builders (λ b. b.name) bytes i × MayBeWalked i
