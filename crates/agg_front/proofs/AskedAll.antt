@@ -1,24 +1,18 @@
 -- Fields that are asked for, one after another.
 use Rattle.std.proofs.Common.{◌≡◌, ◌++◌, ◌∷◌, ◌∙◌, [], ℕ, zero, suc, List, Less, Greater}
 use Rattle.std.proofs.Common.{ap, append_assoc, arith, map, subst, sym, inl, inr}
-use Rattle.std.specs.Prelude.{All}
 use Rattle.std.specs.List.{AllByRecursion}
 use Rattle.std.specs.List.Sorted.{IsStrictlySortedBy}
 use Rattle.std.specs.Map.{keys_of}
 use Rattle.std.specs.Ordering.{ordering_reverse}
 use Rattle.std.proofs.lemmas.Cmp.{nat_list_cmp_total}
 use Rattle.std.proofs.lemmas.List.{map-append}
-use Rattle.std.proofs.lemmas.List.Elements.{All-push}
 use Rattle.agg_values.specs.Names.{Named, name_cmp}
 use Rattle.agg_fields.specs.declared.field_type.FieldType.{FieldType}
-use Rattle.agg_records.specs.Asked.{Asks, IsAsked, StandsLast, path_of}
+use Rattle.agg_records.specs.Asked.{Asks, IsAsked, StandsLast}
 use Rattle.agg_records.specs.declared.asked.AskedField.{AskedField}
 use Rattle.agg_engine.proofs.AscendingKeys.{below-before}
 use Rattle.agg_front.specs.Asking.{named_type}
-
--- each name is cut at its points
-abbrev pub AreCut : List AskedField → Type 0
-AreCut asked = All (λ field. field.path.items ≡ path_of field.name) asked
 
 -- no name is below itself
 not-below : (name other : List ℕ) → other ≡ name → name_cmp other name ≡ Less → ⊥
@@ -59,18 +53,9 @@ module _ (fields : Named FieldType) (old new : List AskedField) (left rest : Nam
       ∙ ap (λ es. es ++ rest) (sym (map-append named_type old (stands.field ∷ [])))
       ∙ ap (λ (asked : List AskedField). map named_type asked ++ rest) (sym stands.added)
 
-  pub cut-more : AreCut old → Asks name of old new → AreCut new
-  cut-more cut asks =
-      let stands = last asks in
-      subst AreCut (sym stands.added)
-      (All-push (λ (field : AskedField). field.path.items ≡ path_of field.name) old stands.field cut
-      (stands.cut ∙ ap path_of (sym stands.named)))
-
 -- no field is asked for yet
 pub ask-start : (fields items iterator : Named FieldType) (asked : List AskedField) → asked ≡ []
     → items ≡ fields → iterator ≡ items
-    → (fields ≡ map named_type asked ++ iterator) × AreCut asked
-ask-start fields items iterator asked none are is = (
-  sym (ap (λ (some : List AskedField). map named_type some ++ iterator) none ∙ is ∙ are),
-  subst AreCut (sym none) (λ k d within. absurd (omega (arith, within))),
-)
+    → fields ≡ map named_type asked ++ iterator
+ask-start fields items iterator asked none are is =
+    sym (ap (λ (some : List AskedField). map named_type some ++ iterator) none ∙ is ∙ are)

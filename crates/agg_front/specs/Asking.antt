@@ -1,9 +1,8 @@
 -- The fields that are read of records.
-use Rattle.std.specs.Prelude.{◌≡◌, ℕ, List, All, map}
+use Rattle.std.specs.Prelude.{◌≡◌, ℕ, List, map}
 use Rattle.agg_values.specs.Names.{Named}
 use Rattle.agg_segment.specs.declared.query.QueryTree.{QueryTree}
 use Rattle.agg_fields.specs.declared.field_type.FieldType.{FieldType}
-use Rattle.agg_records.specs.Asked.{path_of}
 use Rattle.agg_records.specs.declared.asked.AskedField.{AskedField}
 use Rattle.agg_grouping.specs.Fields.{AreFieldsOf}
 use Rattle.agg_grouping.specs.declared.grouping.Grouping.{Grouping}
@@ -12,10 +11,9 @@ use Rattle.agg_grouping.specs.declared.grouping.Grouping.{Grouping}
 abbrev pub named_type : AskedField → List ℕ × FieldType
 named_type field = (field.name, field.of)
 
--- the fields of these names and types are asked for, in order, each with its name cut at its points
-pub record AskFor (fields : Named FieldType) (asked : List AskedField) : Type 0 where
-  pub named : map named_type asked ≡ fields
-  pub cut : All (λ field. field.path.items ≡ path_of field.name) asked
+-- the fields of these names and types are asked for, in order
+abbrev pub AskFor : Named FieldType → List AskedField → Type 0
+AskFor fields asked = map named_type asked ≡ fields
 
 -- the fields of a grouping and of its query are asked for
 pub record AskAll (grouping : Grouping) (query : QueryTree) (asked : List AskedField)

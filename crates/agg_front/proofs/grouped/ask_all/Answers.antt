@@ -1,6 +1,6 @@
 use Rattle.std.proofs.Common.{subst}
 use Rattle.agg_records.specs.Asked.{Asks}
-use Rattle.agg_front.proofs.AskedAll.{ask-more, ask-start, cut-more}
+use Rattle.agg_front.proofs.AskedAll.{ask-more, ask-start}
 use Rattle.agg_front.proofs.grouped.ask_all.Goals as goal
 
 pub loop-name-init : goal.loop-name-init
@@ -12,11 +12,7 @@ loop-name-init c =
 pub loop-name-preserved : goal.loop-name-preserved
 loop-name-preserved c =
     let asks = subst (λ name. Asks name c.in-Some.of.now c.loop-name.asked c.ask.new.self)
-    c.in_ok-name.ensures c.in_ok-ask.ensures.ok in (
-      ask-more c.args.fields.now c.loop-name.asked c.ask.new.self c.loop-name.name-iterator
-          c.next.new.self c.in-Some.name.now c.in-Some.of.now c.iter-name-items.ensures.ascending
-          c.loop-name.invariant.0 c.in-Some.ensures.steps asks,
-      cut-more c.args.fields.now c.loop-name.asked c.ask.new.self c.loop-name.name-iterator
-          c.next.new.self c.in-Some.name.now c.in-Some.of.now c.iter-name-items.ensures.ascending
-          c.loop-name.invariant.0 c.in-Some.ensures.steps c.loop-name.invariant.1 asks,
-    )
+    c.in_ok-name.ensures c.in_ok-ask.ensures.ok in
+    ask-more c.args.fields.now c.loop-name.asked c.ask.new.self c.loop-name.name-iterator
+    c.next.new.self c.in-Some.name.now c.in-Some.of.now c.iter-name-items.ensures.ascending
+    c.loop-name.invariant c.in-Some.ensures.steps asks
