@@ -1,26 +1,9 @@
--- Whether a walk of bytes goes on to its pages, and whether a mistake is found.
-use Rattle.std.specs.Prelude.{ℕ, List, [], ◌∷◌, Bool, true, false, codes}
-use Rattle.std.specs.List.{list_any}
+-- Whether a walk of bytes goes on to its pages.
+use Rattle.std.specs.Prelude.{ℕ, List, [], ◌∷◌, codes}
 use Rattle.agg_engine.specs.Walk.{MayBeAsked}
 use Rattle.agg_input.specs.Input.{Input, IsInput}
 use Rattle.agg_pages.specs.AnyField.{any_field}
-use Rattle.agg_check.specs.declared.finding.Finding.{Finding}
-use Rattle.agg_check.specs.declared.finding.Severity.{Severity}
-use Rattle.agg_check.specs.declared.finding.Severity.TheVariants.{Mistake, Warning}
 use Rattle.agg_check.specs.declared.verdict.BuilderName.{BuilderName}
-
--- whether this severity is that of a mistake
-abbrev pub is_of_mistakes : Severity → Bool
-is_of_mistakes Mistake = true
-is_of_mistakes Warning = false
-
--- whether a finding is a mistake
-abbrev pub is_mistake : Finding → Bool
-is_mistake finding = is_of_mistakes finding.severity
-
--- whether there is a mistake among findings
-abbrev pub has_mistake : List Finding → Bool
-has_mistake found = list_any is_mistake found
 
 -- the builders of the program: the one that asks for a value in any field
 abbrev pub known_builders : List BuilderName

@@ -2,12 +2,13 @@
 ghost use Rattle.std.specs.Prelude.{◌≡◌, IfOk, IfSome, MatchOption, false, true};
 ghost use Rattle.agg_input.specs.Input.{AreNoInput, IsInput, input_of};
 ghost use Rattle.agg_check.specs.Check.{known_builders as known};
-ghost use Rattle.agg_check.specs.Check.{GoesOn, MayBeWalked, has_mistake, is_mistake};
+ghost use Rattle.agg_check.specs.Check.{GoesOn, MayBeWalked};
+ghost use Rattle.agg_findings.specs.Findings.{has_mistake, is_mistake};
 
-use crate::lines::{check_lines, header_line};
 use crate::refused::refusal_finding;
 use crate::verdict::{BuilderName, known_builders, refusal_of};
 use crate::{Finding, Severity};
+use agg_findings::{check_lines, header_line};
 use agg_input::{Input, InputError, MAX_INPUT_BYTES, read_input};
 use agg_values::{OutOfMemory, Text};
 use memchr::{memchr_iter, memrchr};
@@ -90,7 +91,7 @@ fn findings_of(alloc: Global, bytes: &[u8]) -> Result<Vec<Finding>, OutOfMemory>
         return only(alloc, mistake(alloc, 1, 1, what)?);
     }
     match from_utf8(bytes) {
-        Ok(text) => Ok(check_lines(alloc, text)?.list),
+        Ok(text) => check_lines(alloc, text),
         Err(error) => {
             let (line, column) = place_of(bytes, error.valid_up_to());
             only(

@@ -2,16 +2,8 @@
 #![tactic(auto)]
 
 mod check;
-mod finding;
-mod findings;
-mod grammar;
-mod lines;
-mod object;
-mod path;
 mod refused;
-mod scalar;
 mod verdict;
-mod words;
 
+pub use agg_findings::{Finding, Severity};
 pub use check::check_input;
-pub use finding::{Finding, Severity};

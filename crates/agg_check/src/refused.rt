@@ -1,11 +1,10 @@
 //! The finding for a request that is refused.
 ghost use Rattle.std.specs.Prelude.{◌≡◌, IfOk, true};
-ghost use Rattle.agg_check.specs.Check.{is_mistake};
+ghost use Rattle.agg_findings.specs.Findings.{is_mistake};
 
-use crate::path::Path;
 use crate::verdict::BuilderName;
-use crate::{Finding, Severity};
 use agg_engine::WalkError;
+use agg_findings::{Finding, Path, Severity};
 use agg_input::Header;
 use agg_refusals::{refused_composite, refused_source, write_refusal};
 use agg_values::{OutOfMemory, Text};

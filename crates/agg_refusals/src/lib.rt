@@ -5,4 +5,4 @@ mod place;
 mod words;
 
 pub use place::{RefusedComposite, refused_composite, refused_source};
-pub use words::{write_interval_fault, write_refusal};
+pub use words::write_refusal;

@@ -2,14 +2,12 @@
 
 use crate::place::{RefusedComposite, refused_composite, refused_source};
 use agg_engine::WalkError;
+use agg_interval_faults::write_interval_fault;
 use agg_request_tree::{
     Aggregation, AggregationVariants, CompositeAggregation, CompositeAggregationSource,
     DateHistogramCompositeAggregationSource,
 };
-use agg_values::{
-    AggregationError, DateHistogramParseError, InvalidArgument, NameMap, OutOfMemory, RequestError,
-    Text,
-};
+use agg_values::{AggregationError, InvalidArgument, NameMap, OutOfMemory, RequestError, Text};
 use std::alloc::Global;
 
 /// Appends why a walk is refused, in words: the composite and the source of the request that it
@@ -195,39 +193,4 @@ fn write_dates(
         }
         _ => Ok(out.push_str("fixed_interval and calendar_interval are both there")?),
     }
-}
-
-/// Appends why a text is no fixed interval.
-pub fn write_interval_fault(
-    out: &mut String,
-    text: &Text,
-    fault: &RequestError,
-) -> Result<(), OutOfMemory> {
-    write!(out, "interval '{}': ", text.as_str())?;
-    match fault {
-        RequestError::Aggregation(AggregationError::DateHistogramParseError(part)) => {
-            write_text_fault(out, part)
-        }
-        _ => Ok(out.push_str("one millisecond is the least")?),
-    }
-}
-
-// What is wrong with the text.
-fn write_text_fault(out: &mut String, part: &DateHistogramParseError) -> Result<(), OutOfMemory> {
-    match part {
-        DateHistogramParseError::UnitNotRecognized(unit) => {
-            write!(out, "'{}' is no unit; use ms, s, m, h or d", unit.as_str())?;
-        }
-        DateHistogramParseError::NumberMissing(_) => {
-            out.push_str("a number up to 9223372036854775807 has to stand in front")?;
-        }
-        DateHistogramParseError::UnitMissing(_) => {
-            out.push_str("no unit stands after the number; use ms, s, m, h or d")?;
-        }
-        DateHistogramParseError::OutOfBounds(_) => {
-            out.push_str("more than 9223372036854775807 nanoseconds")?;
-        }
-        DateHistogramParseError::InvalidOffset(_) => out.push_str("this is no offset")?,
-    }
-    Ok(())
 }

@@ -1,5 +1,5 @@
 ghost use Rattle.std.specs.Prelude.{◌≡◌};
-ghost use Rattle.agg_check.specs.Check.{is_mistake};
+ghost use Rattle.agg_findings.specs.Findings.{is_mistake};
 
 use agg_values::Text;
 use std::fmt;

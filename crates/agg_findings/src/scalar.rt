@@ -5,7 +5,7 @@ use crate::grammar::Form;
 use crate::path::Path;
 use crate::words::word_fault;
 use agg_calendar::PrecomputedDateInterval;
-use agg_refusals::write_interval_fault;
+use agg_interval_faults::write_interval_fault;
 use agg_values::{
     Address, AfterKey, CompositeIntermediateKey, KeyTextError, OutOfMemory, RequestError, Text,
 };

@@ -1,5 +1,6 @@
 //! The lines of an input: a header, and then snapshots with their documents.
 
+use crate::Finding;
 use crate::findings::Findings;
 use crate::grammar::{Form, Shape};
 use crate::object::check_value;
@@ -24,7 +25,7 @@ enum Stage {
 }
 
 /// What was found in the lines of a text.
-pub fn check_lines(alloc: Global, text: &str) -> Result<Findings, OutOfMemory> {
+pub fn check_lines(alloc: Global, text: &str) -> Result<Vec<Finding>, OutOfMemory> {
     let mut found = Findings::new(alloc);
     let mut scratch = Scratch::new(alloc);
     let mut stage = Stage::Header;
@@ -40,7 +41,7 @@ pub fn check_lines(alloc: Global, text: &str) -> Result<Findings, OutOfMemory> {
         found.at(0, NO_HEADER)?;
     }
     found.tell_unseen()?;
-    Ok(found)
+    Ok(found.list)
 }
 
 /// The number and the text of the first line that says something.
