@@ -27,7 +27,8 @@ impl<'p> Path<'p> {
             Path::Member(Path::Root(""), name) => Ok(out.push_str(name.as_str())?),
             Path::Member(outer, name) => {
                 outer.write(out)?;
-                Ok(write!(out, ".{}", name.as_str())?)
+                out.push('.')?;
+                Ok(out.push_str(name.as_str())?)
             }
             Path::Item(outer, index) => {
                 outer.write(out)?;
@@ -104,7 +105,12 @@ fn item_place(alloc: Global, text: &str, index: usize) -> Option<usize> {
     let mut reader = Reader::new(text, &mut scratch).ok()?;
     reader.next()?;
     for _ in 0..index {
-        reader.skip_value(MAX_DEPTH).ok()?;
+        skip_value(&mut reader)?;
     }
     Some(reader.offset())
+}
+
+// Reads past a value, if there is one.
+fn skip_value(reader: &mut Reader<'_>) -> Option<()> {
+    reader.skip_value(MAX_DEPTH).ok()
 }
