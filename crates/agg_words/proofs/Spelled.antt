@@ -4,7 +4,7 @@ use Rattle.std.proofs.Common.{Option, refl, append-nil, codes}
 use Rattle.std.proofs.lemmas.List.{append_assoc}
 use Rattle.agg_words.specs.Cut.{Lacks, LacksIfAny, cut}
 use Rattle.agg_words.specs.By.{Parts, IsPlain, words_of, words_after, words_text, name_text}
-use Rattle.agg_words.specs.By.{interval_text, head_text, by_text, by_of, with_name, with_field}
+use Rattle.agg_words.specs.By.{interval_text, head_text, by_text, by_of, name_and_rest}
 use Rattle.agg_words.specs.declared.by.Missing.{Missing}
 use Rattle.agg_words.specs.declared.by.Missing.TheVariants.{NoGroup, ByOrder, First, Last}
 use Rattle.agg_words.proofs.Cuts.{lacks_append, cut-none, cut-at}
@@ -56,11 +56,10 @@ lacks_name None l = tt
 lacks_name (Some name) l = lacks_append 44 name (61 ∷ []) l (refl, tt)
 
 -- the name is cut off
-name_cut : (words : Bool × Missing) (name : Option (List ℕ)) (rest : List ℕ)
-    → LacksIfAny 61 name → Lacks 61 rest
-    → with_name words (cut 61 (name_text name ++ rest)) ≡ with_field words name (cut 58 rest)
-name_cut words None rest n l = let at = cut-none 61 rest l in rw at refl
-name_cut words (Some name) rest n l =
+name_cut : (name : Option (List ℕ)) (rest : List ℕ)
+    → LacksIfAny 61 name → Lacks 61 rest → name_and_rest (cut 61 (name_text name ++ rest)) ≡ (name, rest)
+name_cut None rest n l = let at = cut-none 61 rest l in rw at refl
+name_cut (Some name) rest n l =
     let shape = append_assoc name (61 ∷ []) rest in
     let at = cut-at 61 name rest n in
     rw (shape, at) refl
@@ -78,6 +77,6 @@ stands p plain =
     lacks_append 44 (name_text p.name) rest
     (lacks_name p.name plain.name_comma) rest_comma in
     let words = words_cut (head_text p) p.is_descending p.missing head_comma in
-    let named = name_cut (p.is_descending, p.missing) p.name rest plain.name_equals rest_equals in
+    let named = name_cut p.name rest plain.name_equals rest_equals in
     let ends = interval_cut p.field p.interval plain.field_colon in
     rw (words.0, words.1, named, ends, plain.filled) refl

@@ -1,11 +1,13 @@
 -- The texts of `--by`: [NAME=]FIELD[:INTERVAL][,desc][,missing|missing=first|missing=last]
-use Rattle.std.specs.Prelude.{◌≡◌, ℕ, List, [], ◌∷◌, ◌++◌, length, codes, option_map}
-use Rattle.std.specs.Prelude.{Bool, true, false, ◌==◌, ◌&&◌, not, if◌then◌else◌}
-use Rattle.std.specs.Prelude.{Option, Some, None}
+use Rattle.std.specs.Prelude.{◌≡◌, ◌<◌, ℕ, List, [], ◌∷◌, ◌++◌, length, codes, option_map}
+use Rattle.std.specs.Prelude.{Bool, IsTrue, IsFalse, true, false, ◌==◌, ◌&&◌, not, if◌then◌else◌}
+use Rattle.std.specs.Prelude.{Option, Some, None, IsSomeAnd, option_and_then}
 use Rattle.std.specs.Option.{option_map_or}
 use Rattle.std.specs.Str.{bytes_eq}
 use Rattle.agg_words.specs.Cut.{cut, Lacks, LacksIfAny}
 use Rattle.agg_words.specs.declared.by.BySpec.{BySpec}
+use Rattle.agg_words.specs.declared.by.BySpecError.{BySpecError}
+use Rattle.agg_words.specs.declared.by.BySpecError.TheVariants as error
 use Rattle.agg_words.specs.declared.by.Missing.{Missing}
 use Rattle.agg_words.specs.declared.by.Missing.TheVariants.{NoGroup, ByOrder, First, Last}
 
@@ -37,36 +39,54 @@ is_blank part = option_map_or (λ text. length text == 0) part false
 abbrev pub is_filled : Parts → Bool
 is_filled p = not (length p.field == 0) && (not (is_blank p.name) && not (is_blank p.interval))
 
+-- parts that stand for something
 abbrev pub filled : Parts → Option Parts
 filled p = if is_filled p then Some p else None
 
--- a field, and its interval after a colon
-abbrev pub with_field : Bool × Missing → Option (List ℕ) → List ℕ × Option (List ℕ) → Option Parts
-with_field words name cut_field = filled (record {
-  name = name;
-  field = cut_field.0;
-  interval = cut_field.1;
+-- the name before an equals sign, where one stands there, and what stands after it
+abbrev pub name_and_rest : List ℕ × Option (List ℕ) → Option (List ℕ) × List ℕ
+name_and_rest (head, None) = (None, head)
+name_and_rest (name, Some rest) = (Some name, rest)
+
+-- the parts of what stands before the first comma, with what the words say
+abbrev pub parts_of : Option (List ℕ) × List ℕ → Bool × Missing → Parts
+parts_of named words = record {
+  name = named.0;
+  field = (cut 58 named.1).0;
+  interval = (cut 58 named.1).1;
   is_descending = words.0;
   missing = words.1;
-})
-
--- a name before an equals sign, and then the field
-abbrev pub with_name : Bool × Missing → List ℕ × Option (List ℕ) → Option Parts
-with_name words (head, None) = with_field words None (cut 58 head)
-with_name words (name, Some rest) = with_field words (Some name) (cut 58 rest)
+}
 
 -- what stands after the first comma; nothing stands for the defaults
 abbrev pub words_after : Option (List ℕ) → Option (Bool × Missing)
 words_after None = Some (false, NoGroup)
 words_after (Some words) = words_of words
 
-abbrev pub with_words : List ℕ → Option (Bool × Missing) → Option Parts
-with_words head None = None
-with_words head (Some words) = with_name words (cut 61 head)
+-- the parts of a text whose words are known; they may be empty
+abbrev pub written : List ℕ → Option Parts
+written text =
+    option_map (parts_of (name_and_rest (cut 61 (cut 44 text).0))) (words_after (cut 44 text).1)
 
 -- what a text stands for, if it is one of `--by`
 abbrev pub by_of : List ℕ → Option Parts
-by_of text = with_words (cut 44 text).0 (words_after (cut 44 text).1)
+by_of text = option_and_then filled (written text)
+
+-- what stands after the first comma are these words, and they are unknown
+pub record AreUnknownWords (after_comma : Option (List ℕ)) (words : List ℕ) : Type 0 where
+  pub written : after_comma ≡ Some words
+  pub unknown : words_of words ≡ None
+
+-- why a text is none of `--by`: its words are unknown, or else its field is empty, or else its
+-- name is, or only its interval
+abbrev pub IsByFault : List ℕ → BySpecError → Type 0
+IsByFault text (error.UnknownWords words) = AreUnknownWords (cut 44 text).1 words.now
+IsByFault text error.NoField = IsSomeAnd (written text) (λ p. length p.field ≡ 0)
+IsByFault text error.NoName =
+    IsSomeAnd (written text) (λ p. (0 < length p.field) × IsTrue (is_blank p.name))
+IsByFault text error.NoInterval =
+    IsSomeAnd (written text) (λ p.
+    (0 < length p.field) × IsFalse (is_blank p.name) × IsTrue (is_blank p.interval))
 
 -- what a contract sees of a spec
 abbrev pub parts : BySpec → Parts

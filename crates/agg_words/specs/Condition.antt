@@ -1,10 +1,13 @@
 -- The texts of `--where`: FIELD=VALUE, FIELD!=VALUE, FIELD<VALUE, FIELD<=VALUE, FIELD>VALUE,
 -- FIELD>=VALUE or FIELD?
-use Rattle.std.specs.Prelude.{ℕ, List, length, take, drop, codes, Bool, ◌==◌, ◌||◌, nat_eq}
+use Rattle.std.specs.Prelude.{◌≡◌, ◌<◌, ℕ, List, length, take, drop, codes, Bool, ◌==◌, ◌||◌}
+use Rattle.std.specs.Prelude.{nat_eq, slice_get, IsSomeAnd}
 use Rattle.std.specs.Prelude.{if◌then◌else◌, Option, Some, None, option_map, option_and_then}
 use Rattle.std.specs.List.{position, starts_with}
 use Rattle.std.specs.Str.{bytes_eq}
 use Rattle.agg_words.specs.declared.condition.Condition.{Condition}
+use Rattle.agg_words.specs.declared.condition.ConditionError.{ConditionError}
+use Rattle.agg_words.specs.declared.condition.ConditionError.TheVariants as error
 use Rattle.agg_words.specs.declared.condition.Test.{Test}
 use Rattle.agg_words.specs.declared.condition.Test.TheVariants.{Is, IsNot, Below, AtMost, Above}
 use Rattle.agg_words.specs.declared.condition.Test.TheVariants.{AtLeast, Exists}
@@ -62,6 +65,20 @@ with_field (field, rest) =
 -- what a text stands for, if it is one of `--where`
 abbrev pub condition_of : List ℕ → Option Parts
 condition_of text = option_and_then with_field (at_sign text)
+
+-- after a field that is not empty stands this sign, and no test
+pub record LacksTest (sign : ℕ) (parts : List ℕ × List ℕ) : Type 0 where
+  pub some_field : 0 < length parts.0
+  pub sign_after : slice_get parts.1 0 ≡ Some sign
+  pub no_test : test_of parts.1 ≡ None
+
+-- why a text is none of `--where`: it has no sign, or else no field before it, or else `!` or `?`
+-- stands there and begins no test
+abbrev pub IsConditionFault : List ℕ → ConditionError → Type 0
+IsConditionFault text error.NoTest = at_sign text ≡ None
+IsConditionFault text error.NoField = IsSomeAnd (at_sign text) (λ parts. length parts.0 ≡ 0)
+IsConditionFault text error.LoneExclamation = IsSomeAnd (at_sign text) (LacksTest 33)
+IsConditionFault text error.AfterQuestion = IsSomeAnd (at_sign text) (LacksTest 63)
 
 -- what a contract sees of a test
 abbrev pub demand : Test → Demand

@@ -1,10 +1,12 @@
 -- The texts of `--date`: FIELD[=seconds|millis|nanos]
-use Rattle.std.specs.Prelude.{ℕ, List, length, ◌==◌, if◌then◌else◌, option_map}
+use Rattle.std.specs.Prelude.{◌≡◌, ◌<◌, ℕ, List, length, ◌==◌, if◌then◌else◌, option_map}
 use Rattle.std.specs.Prelude.{Option, Some, None}
 use Rattle.agg_dates.specs.Units.{unit_of}
 use Rattle.agg_dates.specs.declared.unit.DateUnit.{DateUnit}
 use Rattle.agg_words.specs.Cut.{cut}
 use Rattle.agg_words.specs.declared.date_field.DateField.{DateField}
+use Rattle.agg_words.specs.declared.date_field.DateFieldError.{DateFieldError}
+use Rattle.agg_words.specs.declared.date_field.DateFieldError.TheVariants.{NoField, UnknownUnit}
 
 -- what a text stands for
 pub record Parts : Type 0 where
@@ -25,6 +27,12 @@ with_unit (field, word) =
 -- what a text stands for, if it is one of `--date`
 abbrev pub date_field_of : List ℕ → Option Parts
 date_field_of text = with_unit (cut 61 text)
+
+-- why a text is none of `--date`: no field is named, or only its unit is unknown
+abbrev pub IsDateFieldFault : List ℕ → DateFieldError → Type 0
+IsDateFieldFault text NoField = length (cut 61 text).0 ≡ 0
+IsDateFieldFault text UnknownUnit =
+    (0 < length (cut 61 text).0) × (unit_after (cut 61 text).1 ≡ None)
 
 -- what a contract sees of a field
 abbrev pub parts : DateField → Parts

@@ -1,7 +1,9 @@
 -- The texts of `--decimal`: FIELD=PLACES
-use Rattle.std.specs.Prelude.{◌≡◌, ◌≤◌, ◌<◌, ℕ, List, length, Some}
+use Rattle.std.specs.Prelude.{◌≡◌, ◌≤◌, ◌<◌, ℕ, List, length, Some, None, IsSomeAnd}
 use Rattle.std.specs.Str.Parse.{IsNumeral, digits_value, without_leading_plus}
 use Rattle.agg_words.specs.Cut.{cut}
+use Rattle.agg_words.specs.declared.decimal_field.DecimalFieldError.{DecimalFieldError}
+use Rattle.agg_words.specs.declared.decimal_field.DecimalFieldError.TheVariants as error
 
 -- digits write a number of places, 18 at most
 pub record IsPlaces (text : List ℕ) (places : ℕ) : Type 0 where
@@ -15,3 +17,13 @@ pub record IsDecimalField (text field : List ℕ) (places : ℕ) : Type 0 where
   pub is_cut : cut 61 text ≡ (field, Some digits)
   pub some_field : 0 < length field
   pub writes_places : IsPlaces digits places
+
+-- why a text is none of `--decimal`: no field is named, or else nothing stands after an equals
+-- sign, or what stands there is no number of places
+abbrev pub IsDecimalFieldFault : List ℕ → DecimalFieldError → Type 0
+IsDecimalFieldFault text error.NoField = length (cut 61 text).0 ≡ 0
+IsDecimalFieldFault text error.NoPlaces =
+    (0 < length (cut 61 text).0) × ((cut 61 text).1 ≡ None)
+IsDecimalFieldFault text error.NotPlaces =
+    (0 < length (cut 61 text).0)
+    × IsSomeAnd (cut 61 text).1 (λ digits. (n : ℕ) → ¬ IsPlaces digits n)

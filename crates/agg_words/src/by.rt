@@ -1,6 +1,6 @@
-ghost use Rattle.std.specs.Prelude.{◌≡◌, Some, None, IfSome, MatchResult, option_map};
+ghost use Rattle.std.specs.Prelude.{◌≡◌, Some, None, IfErr, MatchResult, option_map};
 ghost use Rattle.agg_words.specs.By as spec;
-ghost use Rattle.agg_words.specs.By.{Parts};
+ghost use Rattle.agg_words.specs.By.{AreUnknownWords, Parts};
 ghost use Rattle.agg_words.specs.Cut.{cut as cut_of};
 
 use crate::cut::cut;
@@ -48,27 +48,39 @@ pub enum BySpecError<'a> {
 /// What a text of `--by` stands for: `[NAME=]FIELD[:INTERVAL][,desc][,missing]`, where `missing`
 /// may be `missing=first` or `missing=last`.
 pub fn read_by(text: &str) -> Result<BySpec<'_>, BySpecError<'_>>
-    ensures { MatchResult
+    ensures stands { MatchResult
         result
         (λ by. spec.by_of text.now ≡ Some (spec.parts by))
         (λ error. spec.by_of text.now ≡ None) }
+    ensures cause { IfErr result (spec.IsByFault text.now) }
 {
-    let (head, words) = cut(text, ',');
-    let (is_descending, missing) = match words {
-        None => (false, Missing::NoGroup),
-        Some(words) => read_words(words).ok_or(BySpecError::UnknownWords(words))?,
+    let by = match split_parts(text) {
+        Ok(by) => by,
+        Err(words) => return Err(BySpecError::UnknownWords(words)),
     };
-    let (name, rest) = split_name(head);
-    let (field, interval) = cut(rest, ':');
-    if field.is_empty() {
+    if by.field.is_empty() {
         return Err(BySpecError::NoField);
     }
-    if is_blank(name) {
+    if is_blank(by.name) {
         return Err(BySpecError::NoName);
     }
-    if is_blank(interval) {
+    if is_blank(by.interval) {
         return Err(BySpecError::NoInterval);
     }
+    Ok(by)
+}
+
+// The parts of a text, which may be empty, or its unknown words.
+fn split_parts(text: &str) -> Result<BySpec<'_>, &str>
+    ensures { MatchResult
+        result
+        (λ by. spec.written text.now ≡ Some (spec.parts by))
+        (λ words. AreUnknownWords (cut_of 44 text.now).1 words.now) }
+{
+    let (head, words) = cut(text, ',');
+    let (is_descending, missing) = read_optional_words(words)?;
+    let (name, rest) = split_name(head);
+    let (field, interval) = cut(rest, ':');
     Ok(BySpec {
         name,
         field,
@@ -78,10 +90,23 @@ pub fn read_by(text: &str) -> Result<BySpec<'_>, BySpecError<'_>>
     })
 }
 
+// What the words after the first comma say, if any stand there, or else the unknown words.
+fn read_optional_words(words: Option<&str>) -> Result<(bool, Missing), &str>
+    ensures { MatchResult
+        result
+        (λ said. spec.words_after (option_map (λ words. words.now) words.entry) ≡ Some said)
+        (λ unknown. AreUnknownWords (option_map (λ words. words.now) words.entry) unknown.now) }
+{
+    match words {
+        None => Ok((false, Missing::NoGroup)),
+        Some(words) => read_words(words).ok_or(words),
+    }
+}
+
 // The name before an equals sign, and what stands after it.
 fn split_name(head: &str) -> (Option<&str>, &str)
-    ensures none { result.0 ≡ None → (cut_of 61 head.now).1 ≡ None × (result.1.now ≡ head.now) }
-    ensures some { IfSome result.0 (λ name. cut_of 61 head.now ≡ (name.now, Some result.1.now)) }
+    ensures { (option_map (λ name. name.now) result.0, result.1.now)
+        ≡ spec.name_and_rest (cut_of 61 head.now) }
 {
     match cut(head, '=') {
         (name, Some(rest)) => (Some(name), rest),

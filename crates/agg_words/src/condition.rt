@@ -1,4 +1,4 @@
-ghost use Rattle.std.specs.Prelude.{◌≡◌, Some, None, MatchResult, option_map};
+ghost use Rattle.std.specs.Prelude.{◌≡◌, Some, None, IfErr, MatchResult, option_map};
 ghost use Rattle.std.specs.List.{position};
 ghost use Rattle.agg_words.specs.Condition as spec;
 
@@ -45,10 +45,11 @@ pub enum ConditionError {
 
 /// What a text of `--where` stands for. The first of `=`, `!`, `<`, `>` and `?` ends the field.
 pub fn read_condition(text: &str) -> Result<Condition<'_>, ConditionError>
-    ensures { MatchResult
+    ensures stands { MatchResult
         result
         (λ condition. spec.condition_of text.now ≡ Some (spec.parts condition))
         (λ error. spec.condition_of text.now ≡ None) }
+    ensures cause { IfErr result (spec.IsConditionFault text.now) }
 {
     let Some((field, rest)) = split_at_sign(text) else {
         return Err(ConditionError::NoTest);

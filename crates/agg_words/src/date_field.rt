@@ -1,4 +1,4 @@
-ghost use Rattle.std.specs.Prelude.{◌≡◌, Some, None, MatchResult};
+ghost use Rattle.std.specs.Prelude.{◌≡◌, Some, None, MatchResult, IfErr};
 ghost use Rattle.agg_words.specs.DateField as spec;
 
 use crate::cut::cut;
@@ -23,10 +23,11 @@ pub enum DateFieldError {
 
 /// What a text of `--date` stands for: `FIELD[=UNIT]`.
 pub fn read_date_field(text: &str) -> Result<DateField<'_>, DateFieldError>
-    ensures { MatchResult
+    ensures stands { MatchResult
         result
         (λ date. spec.date_field_of text.now ≡ Some (spec.parts date))
         (λ error. spec.date_field_of text.now ≡ None) }
+    ensures cause { IfErr result (spec.IsDateFieldFault text.now) }
 {
     let (field, word) = cut(text, '=');
     if field.is_empty() {

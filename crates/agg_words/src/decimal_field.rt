@@ -1,5 +1,5 @@
 ghost use Rattle.std.specs.Prelude.{ℕ, List, IfOk, IfErr, MatchOption};
-ghost use Rattle.agg_words.specs.DecimalField.{IsDecimalField, IsPlaces};
+ghost use Rattle.agg_words.specs.DecimalField.{IsDecimalField, IsDecimalFieldFault, IsPlaces};
 
 use crate::cut::cut;
 use agg_decimals::Places;
@@ -29,6 +29,7 @@ pub fn read_decimal_field(text: &str) -> Result<DecimalField<'_>, DecimalFieldEr
         IsDecimalField text.now decimal.field.now decimal.places) }
     ensures err { IfErr result (λ error. (field : List ℕ) (places : ℕ)
         → ¬ IsDecimalField text.now field places) }
+    ensures cause { IfErr result (IsDecimalFieldFault text.now) }
 {
     let (field, digits) = cut(text, '=');
     if field.is_empty() {

@@ -1,0 +1,7 @@
+use Rattle.std.proofs.Common.{refl}
+use Rattle.agg_words.proofs.by.split_parts.Goals as goal
+
+pub returns : goal.returns
+returns c =
+    rw (← c.cut.ensures, c.in_ok-is_descending.ensures, ← c.split_name.ensures, ← c.cut-2.ensures)
+    refl
