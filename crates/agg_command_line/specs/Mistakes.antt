@@ -4,10 +4,10 @@ use Rattle.std.specs.Prelude.{Bool, true, false, Option, Some, None, length}
 use Rattle.std.specs.Prelude.{Contains, IsSome, codes}
 use Rattle.clap.specs.Words.{Row, Text, first_of, kind_of, subcommand_of}
 use Rattle.clap.specs.declared.error.ErrorKind.TheVariants.{DisplayHelp, DisplayVersion}
-use Rattle.agg_words.specs.By.{by_of}
-use Rattle.agg_words.specs.Condition.{condition_of}
-use Rattle.agg_words.specs.DateField.{date_field_of}
-use Rattle.agg_words.specs.DecimalField.{IsDecimalField}
+use Rattle.agg_words.specs.By.{IsByFault, by_of}
+use Rattle.agg_words.specs.Condition.{IsConditionFault, condition_of}
+use Rattle.agg_words.specs.DateField.{IsDateFieldFault, date_field_of}
+use Rattle.agg_words.specs.DecimalField.{IsDecimalField, IsDecimalFieldFault}
 use Rattle.agg_command_line.specs.Asked.{ReadsFlag, ReadsOptionalNumber, texts_of}
 use Rattle.agg_command_line.specs.CommandLine.{Formats, peslumok}
 use Rattle.agg_command_line.specs.declared.error.CommandLineError.{CommandLineError}
@@ -17,20 +17,25 @@ use Rattle.agg_command_line.specs.declared.error.CommandLineError.TheVariants as
 abbrev pub HasTop : List Row → Type 0
 HasTop rows = (number : ℕ) × ReadsOptionalNumber (codes "top") rows (Some number)
 
--- an error is of these matches: the text that it names is among them, and is none of its kind
+-- an error is of these matches: the text that it names is among them, and is none of its kind, for
+-- the cause that it tells
 abbrev pub Tells : List Row → CommandLineError → Type 0
 Tells rows (error.By text why) =
     Contains (texts_of (codes "by") rows) text.now × (by_of text.now ≡ None)
+    × IsByFault text.now why
 Tells rows error.TooManyBy = 16 < length (texts_of (codes "by") rows)
 Tells rows error.TopWithAfter = HasTop rows × IsSome (first_of (codes "after") rows)
 Tells rows error.TopWithAll = HasTop rows × ReadsFlag (codes "all") rows true
 Tells rows (error.Where text why) =
     Contains (texts_of (codes "where") rows) text.now × (condition_of text.now ≡ None)
+    × IsConditionFault text.now why
 Tells rows (error.Date text why) =
     Contains (texts_of (codes "date") rows) text.now × (date_field_of text.now ≡ None)
+    × IsDateFieldFault text.now why
 Tells rows (error.Decimal text why) =
     Contains (texts_of (codes "decimal") rows) text.now
     × ((field : Text) (places : ℕ) → ¬ IsDecimalField text.now field places)
+    × IsDecimalFieldFault text.now why
 Tells rows error.OutOfMemory = ⊤
 Tells rows error.NoCommand = ⊥
 Tells rows (error.Shown message) = ⊥

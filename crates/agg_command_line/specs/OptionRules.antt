@@ -8,14 +8,13 @@ use Rattle.agg_command_line.specs.declared.named_option.NamedOption.{NamedOption
 use Rattle.agg_command_line.specs.declared.named_option.Usage.{Usage}
 use Rattle.agg_command_line.specs.declared.named_option.Usage.TheVariants as usage
 
--- an option that may be used many times, each time with a value
-abbrev pub many_rule : Text → Rule
-many_rule name =
-    record (new_rule name) { long = Some name; action = Some Append; value_names = 1 }
-
 -- an option that is used once, with a value
 abbrev pub one_rule : Text → Rule
 one_rule name = record (new_rule name) { long = Some name; value_names = 1 }
+
+-- an option that may be used many times, each time with a value
+abbrev pub many_rule : Text → Rule
+many_rule name = record (one_rule name) { action = Some Append }
 
 -- an option that is used once, with a number from 1 to what 32 bits hold
 abbrev pub number_rule : Text → Rule

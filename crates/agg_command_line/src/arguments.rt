@@ -206,8 +206,7 @@ pub(crate) fn files<'a>(alloc: Global) -> Arg<'a>
     ensures rule { rule_of result ≡ spec.files_rule }
     ensures local { result.global ≡ false }
 {
-    Arg::new(alloc, "file")
-        .value_name("FILE")
+    file(alloc)
         .action(ArgAction::Append)
         .help("Files to read; standard input if there is none, or for -")
 }

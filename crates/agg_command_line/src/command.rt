@@ -1,6 +1,6 @@
-ghost use Rattle.std.specs.Prelude.{◌≡◌, ◌∷◌, [], IfOk, codes, map, string_bytes};
+ghost use Rattle.std.specs.Prelude.{◌≡◌, IfOk, map, string_bytes};
 ghost use Rattle.clap.specs.Words.{app_of, new_app, subcommand_of, subcommand_rows_of};
-ghost use Rattle.agg_command_line.specs.Adds.{AddsRules, HasNoGlobals};
+ghost use Rattle.agg_command_line.specs.Adds.{HasNoGlobals};
 ghost use Rattle.agg_command_line.specs.CommandLine as spec;
 ghost use Rattle.agg_command_line.specs.CommandLine.{Formats};
 
@@ -22,11 +22,15 @@ Examples:
   peslumok request --by items:10,desc --where 'shop=Leith'
   (peslumok request --by shop; echo snapshot 20; cat orders.jsonl) | peslumok walk";
 
+const WALK_ABOUT: &str = "Writes the pages of a request over snapshots of documents, as JSON lines";
+
 const WALK_EXAMPLES: &str = "\
 Examples:
   peslumok walk sales_pages.jsonl
   peslumok walk < sales_pages.jsonl
   (peslumok request --by shop; echo snapshot 20; cat orders.jsonl) | peslumok walk";
+
+const CHECK_ABOUT: &str = "Tells what is wrong with an input of 'walk'";
 
 const CHECK_EXAMPLES: &str = "\
 Examples:
@@ -52,7 +56,8 @@ fn root<'a>(alloc: Global) -> Result<Command<'a>, AllocError>
     let formats = format_names();
     let grouping = group(alloc, formats)?;
     let requesting = request(alloc, formats)?;
-    let (walking, checking) = (walk(alloc)?, check(alloc)?);
+    let walking = file_command(alloc, "walk", WALK_ABOUT, WALK_EXAMPLES)?;
+    let checking = file_command(alloc, "check", CHECK_ABOUT, CHECK_EXAMPLES)?;
     let grouped = bare(alloc)?.subcommand(grouping)?;
     let requested = grouped.subcommand(requesting)?;
     let walked = requested.subcommand(walking)?;
@@ -97,28 +102,17 @@ fn request<'a>(alloc: Global, formats: FormatNames<'a>) -> Result<Command<'a>, A
     with_options(alloc, command, formats)
 }
 
-// `walk` and its argument.
-fn walk<'a>(alloc: Global) -> Result<Command<'a>, AllocError>
-    ensures app { IfOk result (λ command. app_of command ≡ spec.file_app (codes "walk")) }
-    ensures local { IfOk result HasNoGlobals }
-{
-    let about = "Writes the pages of a request over snapshots of documents, as JSON lines";
-    with_file(alloc, bare_command(alloc, "walk", about, WALK_EXAMPLES))
-}
-
-// `check` and its argument.
-fn check<'a>(alloc: Global) -> Result<Command<'a>, AllocError>
-    ensures app { IfOk result (λ command. app_of command ≡ spec.file_app (codes "check")) }
-    ensures local { IfOk result HasNoGlobals }
-{
-    let about = "Tells what is wrong with an input of 'walk'";
-    with_file(alloc, bare_command(alloc, "check", about, CHECK_EXAMPLES))
-}
-
 // A command with one file.
-fn with_file<'a>(alloc: Global, command: Command<'a>) -> Result<Command<'a>, AllocError>
-    ensures { IfOk result (AddsRules (spec.file_rule ∷ []) command.entry) }
+fn file_command<'a>(
+    alloc: Global,
+    name: &'a str,
+    about: &'a str,
+    examples: &'a str,
+) -> Result<Command<'a>, AllocError>
+    ensures app { IfOk result (λ command. app_of command ≡ spec.file_app name.entry.now) }
+    ensures local { IfOk result HasNoGlobals }
 {
+    let command = bare_command(alloc, name, about, examples);
     let named = command.arg(file(alloc))?;
     Ok(named)
 }

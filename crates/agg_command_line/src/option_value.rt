@@ -1,5 +1,5 @@
 //! The values of options that have a grammar of their own.
-ghost use Rattle.std.specs.Prelude.{◌≡◌, ℕ, List, Contains, IfOk, IfErr, codes};
+ghost use Rattle.std.specs.Prelude.{ℕ, List, Contains, IfOk, IfErr, codes};
 ghost use Rattle.clap.specs.Words.{Row};
 ghost use Rattle.agg_command_line.specs.Asked as spec;
 ghost use Rattle.agg_command_line.specs.Mistakes.{Tells};
@@ -12,13 +12,10 @@ use agg_words::{
 
 /// What the texts of one option stand for.
 pub(crate) trait OptionValue<'a>: Sized + Drop {
+    // The name of the option.
     ghost option_name: { List ℕ };
 
     ghost stands_for: { List ℕ → Self → Type 0 };
-
-    /// The name of the option.
-    fn option() -> &'static str
-        ensures { result.now ≡ option_name };
 
     /// What a text stands for.
     fn read(text: &'a str) -> Result<Self, CommandLineError<'a>>
@@ -31,12 +28,6 @@ impl<'a> OptionValue<'a> for BySpec<'a> {
     ghost option_name = { codes "by" };
 
     ghost stands_for = { spec.ReadsBy };
-
-    fn option() -> &'static str
-        ensures { result.now ≡ codes "by" }
-    {
-        "by"
-    }
 
     fn read(text: &'a str) -> Result<Self, CommandLineError<'a>> {
         match read_by(text) {
@@ -51,12 +42,6 @@ impl<'a> OptionValue<'a> for Condition<'a> {
 
     ghost stands_for = { spec.ReadsCondition };
 
-    fn option() -> &'static str
-        ensures { result.now ≡ codes "where" }
-    {
-        "where"
-    }
-
     fn read(text: &'a str) -> Result<Self, CommandLineError<'a>> {
         match read_condition(text) {
             Ok(condition) => Ok(condition),
@@ -70,12 +55,6 @@ impl<'a> OptionValue<'a> for DateField<'a> {
 
     ghost stands_for = { spec.ReadsDate };
 
-    fn option() -> &'static str
-        ensures { result.now ≡ codes "date" }
-    {
-        "date"
-    }
-
     fn read(text: &'a str) -> Result<Self, CommandLineError<'a>> {
         match read_date_field(text) {
             Ok(date) => Ok(date),
@@ -88,12 +67,6 @@ impl<'a> OptionValue<'a> for DecimalField<'a> {
     ghost option_name = { codes "decimal" };
 
     ghost stands_for = { spec.ReadsDecimal };
-
-    fn option() -> &'static str
-        ensures { result.now ≡ codes "decimal" }
-    {
-        "decimal"
-    }
 
     fn read(text: &'a str) -> Result<Self, CommandLineError<'a>> {
         match read_decimal_field(text) {

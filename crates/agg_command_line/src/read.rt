@@ -60,7 +60,7 @@ fn group_options<'a>(
     ensures asked { IfOk result (Asks (rows_of (found_of matches.now))) }
     ensures told { IfErr result (Tells (rows_of (found_of matches.now))) }
 {
-    let by = read_all::<BySpec>(alloc, matches)?;
+    let by = read_all::<BySpec>(alloc, matches, "by")?;
     if by.len() > 16 {
         return Err(CommandLineError::TooManyBy);
     }
@@ -75,7 +75,7 @@ fn group_options<'a>(
     Ok(GroupOptions {
         files: texts(alloc, matches, "file")?,
         by,
-        conditions: read_all(alloc, matches)?,
+        conditions: read_all(alloc, matches, "where")?,
         query: text(matches, "query"),
         metrics: metric_columns(alloc, matches)?,
         has_total: is_used(matches, "total"),
@@ -83,8 +83,8 @@ fn group_options<'a>(
         after,
         is_all,
         top,
-        dates: read_all(alloc, matches)?,
-        decimals: read_all(alloc, matches)?,
+        dates: read_all(alloc, matches, "date")?,
+        decimals: read_all(alloc, matches, "decimal")?,
         texts: texts(alloc, matches, "text")?,
         from: from(matches),
         to: to(matches),

@@ -12,19 +12,21 @@ use agg_words::{Metric, MetricKind};
 use clap::ArgMatches;
 use std::alloc::{AllocError, Global};
 
-/// What the texts of the option stand for that has values of this kind.
+/// What the texts of an option stand for.
 pub(crate) fn read_all<'a, T: OptionValue<'a>>(
     alloc: Global,
     matches: &ArgMatches<'a>,
+    option: &str,
 ) -> Result<Vec<T>, CommandLineError<'a>>
+    requires { option.now ≡ T.option_name }
     ensures read { IfOk result (λ read. AllZip
         T.stands_for
-        (spec.texts_of T.option_name (rows_of (found_of matches.now)))
+        (spec.texts_of option.now (rows_of (found_of matches.now)))
         read.items) }
     ensures told { IfErr result (Tells (rows_of (found_of matches.now))) }
 {
     let mut read = Vec::new(alloc);
-    let texts = texts(alloc, matches, T::option())?;
+    let texts = texts(alloc, matches, option)?;
     for text in &texts {
         match T::read(text) {
             Ok(value) => read.push(value)?,

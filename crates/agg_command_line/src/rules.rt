@@ -11,11 +11,7 @@ pub(crate) fn many<'a>(alloc: Global, name: &'a str, value: &'a str, help: &'a s
     ensures rule { rule_of result ≡ spec.many_rule name.entry.now }
     ensures local { result.global ≡ false }
 {
-    Arg::new(alloc, name)
-        .long(name)
-        .action(ArgAction::Append)
-        .value_name(value)
-        .help(help)
+    one(alloc, name, value, help).action(ArgAction::Append)
 }
 
 /// An option that is used once, with a value.

@@ -58,10 +58,7 @@ pub(crate) fn from(matches: &ArgMatches<'_>) -> Option<InputFormat>
         spec.input_format_of
         (first_of (codes "from") (rows_of (found_of matches.now))) }
 {
-    match text(matches, "from") {
-        Some(name) => input_format(name),
-        None => None,
-    }
+    text(matches, "from").and_then(input_format)
 }
 
 /// How groups are written.
@@ -70,10 +67,7 @@ pub(crate) fn to(matches: &ArgMatches<'_>) -> Option<OutputFormat>
         spec.output_format_of
         (first_of (codes "to") (rows_of (found_of matches.now))) }
 {
-    match text(matches, "to") {
-        Some(name) => output_format(name),
-        None => None,
-    }
+    text(matches, "to").and_then(output_format)
 }
 
 #[tactic(auto, using(crate::proofs::Names::other))]

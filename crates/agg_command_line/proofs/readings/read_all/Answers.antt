@@ -15,7 +15,7 @@ pub returns-in-Err-clause-told : goal.returns-in-Err-clause-told
 returns-in-Err-clause-told g c =
     let rows = rows_of (found_of c.args.matches.now) in
     let given = ap (map (λ (text : Bor Text). text.now)) c.deref-text-items.ensures.value
-    ∙ c.in_ok-texts.ensures ∙ ap (λ (name : Text). texts_of name rows) c.option.ensures in
+    ∙ c.in_ok-texts.ensures ∙ ap (λ (name : Text). texts_of name rows) c.requires in
     c.in-Err.ensures.told rows
     (is_among c.deref-text-items.result.now _ c.loop-text.text-index
     (record { ref_ptr = (0, 0); now = [] }) c.loop-text-test.true given)
