@@ -1,5 +1,6 @@
 pub mod Adds
 pub mod Asked
 pub mod CommandLine
+pub mod Messages
 pub mod Mistakes
 pub mod OptionRules

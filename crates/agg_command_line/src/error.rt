@@ -1,5 +1,8 @@
-ghost use Rattle.std.specs.Prelude.{◌≡◌, false};
+ghost use Rattle.std.specs.Prelude.{◌≡◌, false, OnOk, IfSome};
+ghost use Rattle.std.specs.Fmt.{WritesOnOk};
+ghost use Rattle.std.specs.Io.KnownBytes.{Appends};
 ghost use Rattle.agg_command_line.specs.declared.error.CommandLineError.TheVariants.{OutOfMemory};
+ghost use Rattle.agg_command_line.specs.Messages.{conflict_with, message_of};
 ghost use Rattle.agg_command_line.specs.Mistakes.{IsHelp, names_value};
 
 use agg_words::{BySpecError, ConditionError, DateFieldError, DecimalFieldError};
@@ -43,11 +46,22 @@ impl CommandLineError<'_> {
         }
     }
 
-    /// Writes help and the version to standard output, and a mistake to standard error.
-    pub fn print<R: Print + Eprint>(&self, rt: &R) -> io::Result<()> {
+    /// Writes help and the version to the first writer, as standard output, and a mistake to the
+    /// second one, as standard error.
+    pub fn print<O: io::Write, E: io::Write>(
+        &self,
+        output: &mut O,
+        errors: &mut E,
+    ) -> io::Result<()>
+        ensures help { IsHelp self.now → errors.new ≡ errors.old }
+        ensures mistake { ¬ IsHelp self.now → output.new ≡ output.old }
+        ensures message { OnOk result (IfSome
+            (message_of self.now)
+            (Appends (E.contents errors.old) (E.contents errors.new))) }
+    {
         match self {
-            CommandLineError::Shown(error) => error.print(rt),
-            other => rt.eprint(other),
+            CommandLineError::Shown(error) if !error.use_stderr() => write!(output, "{error}"),
+            other => write!(errors, "{other}"),
         }
     }
 }
@@ -80,6 +94,8 @@ impl<T: Drop> From<AllocFailed<T>> for CommandLineError<'_> {
 }
 
 impl fmt::Display for CommandLineError<'_> {
+    ghost output = { message_of };
+
     fn fmt<W: fmt::Write>(&self, f: &mut fmt::Formatter<W>) -> fmt::Result {
         match self {
             CommandLineError::Shown(error) => fmt::Display::fmt(error, f),
@@ -125,7 +141,9 @@ fn write_invalid<W: fmt::Write>(
 }
 
 // A mistake in the choice of options, as clap tells it.
-fn write_conflict<W: fmt::Write>(f: &mut fmt::Formatter<W>, option: &str) -> fmt::Result {
+fn write_conflict<W: fmt::Write>(f: &mut fmt::Formatter<W>, option: &str) -> fmt::Result
+    ensures { WritesOnOk W.write_str_gives f.old result (conflict_with option.now) f.new }
+{
     write!(
         f,
         "error: the argument '--top <N>' cannot be used with '{option}'\n{MORE}"

@@ -78,7 +78,7 @@ fn show(rt: &HostRuntime, error: &CommandLineError<'_>) -> ExitCode {
     if let CommandLineError::OutOfMemory = error {
         return complain(rt, 6, &Failure::OutOfMemory);
     }
-    match error.print(rt) {
+    match error.print(&mut rt.stdout(), &mut rt.stderr()) {
         Ok(()) => ExitCode::from(error.exit_code()),
         Err(_) => ExitCode::from(5),
     }
