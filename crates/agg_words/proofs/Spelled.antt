@@ -14,30 +14,14 @@ words_cut : (head : List ℕ) (d : Bool) (m : Missing) → Lacks 44 head
     → ((cut 44 (head ++ words_text d m)).0 ≡ head)
     × (words_after (cut 44 (head ++ words_text d m)).1 ≡ Some (d, m))
 unfolding words_of
-words_cut head false NoGroup l =
-    let at = cut-none 44 head l in
-    rw (append-nil head, at) (refl, refl)
-words_cut head true NoGroup l =
-    let at = cut-at 44 head (codes "desc") l in
-    rw at (refl, refl)
-words_cut head false ByOrder l =
-    let at = cut-at 44 head (codes "missing") l in
-    rw at (refl, refl)
-words_cut head false First l =
-    let at = cut-at 44 head (codes "missing=first") l in
-    rw at (refl, refl)
-words_cut head false Last l =
-    let at = cut-at 44 head (codes "missing=last") l in
-    rw at (refl, refl)
-words_cut head true ByOrder l =
-    let at = cut-at 44 head (codes "desc,missing") l in
-    rw at (refl, refl)
-words_cut head true First l =
-    let at = cut-at 44 head (codes "desc,missing=first") l in
-    rw at (refl, refl)
-words_cut head true Last l =
-    let at = cut-at 44 head (codes "desc,missing=last") l in
-    rw at (refl, refl)
+words_cut head false NoGroup l = rw (append-nil head, cut-none 44 head l) (refl, refl)
+words_cut head true NoGroup l = rw (cut-at 44 head (codes "desc") l) (refl, refl)
+words_cut head false ByOrder l = rw (cut-at 44 head (codes "missing") l) (refl, refl)
+words_cut head false First l = rw (cut-at 44 head (codes "missing=first") l) (refl, refl)
+words_cut head false Last l = rw (cut-at 44 head (codes "missing=last") l) (refl, refl)
+words_cut head true ByOrder l = rw (cut-at 44 head (codes "desc,missing") l) (refl, refl)
+words_cut head true First l = rw (cut-at 44 head (codes "desc,missing=first") l) (refl, refl)
+words_cut head true Last l = rw (cut-at 44 head (codes "desc,missing=last") l) (refl, refl)
 
 -- the interval is cut off
 interval_cut : (field : List ℕ) (interval : Option (List ℕ)) → Lacks 58 field
