@@ -1,0 +1,14 @@
+pub mod Cancelled
+pub mod CompositeBytes
+pub mod CompositeNodes
+pub mod CountedNodes
+pub mod DocumentLists
+pub mod FilterBytes
+pub mod LabelSums
+pub mod NumberSums
+pub mod PageIds
+pub mod ParentPages
+pub mod ParentVisits
+pub mod TreeLaws
+pub mod TreeLeast
+pub mod TreeMost

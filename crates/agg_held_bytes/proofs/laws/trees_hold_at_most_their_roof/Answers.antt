@@ -1,0 +1,8 @@
+use Rattle.agg_held_bytes.proofs.TreeLaws.{most, most-one}
+use Rattle.agg_held_bytes.proofs.laws.trees_hold_at_most_their_roof.Goals as goal
+
+pub returns-clause-parents : goal.returns-clause-parents
+returns-clause-parents c = most
+
+pub returns-clause-one_parent : goal.returns-clause-one_parent
+returns-clause-one_parent c = most-one

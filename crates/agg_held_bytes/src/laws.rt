@@ -1,0 +1,54 @@
+//! The bytes of the buckets of a tree, and those that its request counts over what the tree took.
+ghost use Rattle.std.specs.Prelude.{◌≡◌, ◌≤◌, ℕ, List};
+ghost use Rattle.std.specs.List.{All};
+ghost use Rattle.agg_buckets.specs.Visits.{docs_in};
+ghost use Rattle.agg_charges.specs.Roof.{counts_of};
+ghost use Rattle.agg_collector_tree.specs.Tree.{Held, IsFlushed};
+ghost use Rattle.agg_held_bytes.specs.HeldBytes.{held_bytes};
+ghost use Rattle.agg_held_bytes.specs.Trees.{AreOfSegment, AreUnder, HasIds, IsTreeOf};
+ghost use Rattle.agg_held_bytes.specs.Trees.{over_parents};
+ghost use Rattle.agg_request_tree.specs.Request.{Request};
+ghost use Rattle.agg_segment.specs.Query.{matches};
+ghost use Rattle.agg_segment.specs.Segment.{documents_at};
+ghost use Rattle.agg_segment.specs.declared.query.QueryTree.{QueryTree};
+ghost use Rattle.agg_segment_context.specs.Context.{Meaning};
+ghost use Rattle.agg_segment_context.specs.declared.context.PerRequestAggSegCtx as declared;
+
+/// Whatever waits in caches, a tree holds at most the bytes of the buckets that its request counts
+/// over the documents that were taken under each parent, and at most those of the documents that
+/// were taken where they all were under parent 0.
+pub fn trees_hold_at_most_their_roof()
+    ensures parents { (meaning : Meaning) (ctx : declared.PerRequestAggSegCtx)
+        → (request : Request QueryTree) (held : Held) (taken : List (ℕ × ℕ))
+        → IsTreeOf meaning ctx request held taken
+        → (parents : ℕ) → AreUnder parents taken
+        → held_bytes ctx held
+        ≤ over_parents (counts_of matches request).bytes meaning.segment taken parents }
+    ensures one_parent { (meaning : Meaning) (ctx : declared.PerRequestAggSegCtx)
+        → (request : Request QueryTree) (held : Held) (taken : List (ℕ × ℕ))
+        → IsTreeOf meaning ctx request held taken
+        → All (λ e. e.0 ≡ 0) taken
+        → held_bytes ctx held
+        ≤ (counts_of matches request).bytes (documents_at meaning.segment (docs_in taken)) }
+{}
+
+/// Where nothing waits in caches, a tree holds at least the low bytes of the buckets that its
+/// request counts over them, if they are documents of the segment.
+pub fn flushed_trees_hold_at_least_their_low_roof()
+    ensures parents { (meaning : Meaning) (ctx : declared.PerRequestAggSegCtx)
+        → (request : Request QueryTree) (held : Held) (taken : List (ℕ × ℕ))
+        → IsTreeOf meaning ctx request held taken
+        → IsFlushed held → HasIds held
+        → AreOfSegment meaning.segment taken
+        → (parents : ℕ)
+        → over_parents (counts_of matches request).low_bytes meaning.segment taken parents
+        ≤ held_bytes ctx held }
+    ensures one_parent { (meaning : Meaning) (ctx : declared.PerRequestAggSegCtx)
+        → (request : Request QueryTree) (held : Held) (taken : List (ℕ × ℕ))
+        → IsTreeOf meaning ctx request held taken
+        → IsFlushed held → HasIds held
+        → AreOfSegment meaning.segment taken
+        → All (λ e. e.0 ≡ 0) taken
+        → (counts_of matches request).low_bytes (documents_at meaning.segment (docs_in taken))
+        ≤ held_bytes ctx held }
+{}
