@@ -1,5 +1,5 @@
 -- What is wrong with the values of options.
-use Rattle.std.specs.Prelude.{◌≡◌, ◌⊎◌, ◌<◌, ⊤, ℕ, List}
+use Rattle.std.specs.Prelude.{◌≡◌, ◌≢◌, ◌⊎◌, ◌<◌, ⊤, ℕ, List}
 use Rattle.std.specs.Prelude.{Bool, true, false, Option, Some, None, length}
 use Rattle.std.specs.Prelude.{Contains, IsSome, codes}
 use Rattle.clap.specs.Words.{Row, Text, first_of, kind_of, subcommand_of}
@@ -46,27 +46,35 @@ IsHelp (error.Shown message) =
     (kind_of message ≡ DisplayHelp) ⊎ (kind_of message ≡ DisplayVersion)
 IsHelp _ = ⊥
 
--- an error names a value of an option
-abbrev pub names_value : CommandLineError → Bool
-names_value (error.Shown message) = false
-names_value error.NoCommand = false
-names_value error.OutOfMemory = false
-names_value error.TooManyBy = true
-names_value error.TopWithAfter = true
-names_value error.TopWithAll = true
-names_value (error.By text why) = true
-names_value (error.Where text why) = true
-names_value (error.Date text why) = true
-names_value (error.Decimal text why) = true
+-- an error is this program's own: none of clap's, and memory didn't run out
+abbrev pub is_own : CommandLineError → Bool
+is_own (error.Shown message) = false
+is_own error.NoCommand = true
+is_own error.OutOfMemory = false
+is_own error.TooManyBy = true
+is_own error.TopWithAfter = true
+is_own error.TopWithAll = true
+is_own (error.By text why) = true
+is_own (error.Where text why) = true
+is_own (error.Date text why) = true
+is_own (error.Decimal text why) = true
 
--- the words chose `group` or `request`, and the error is of its values
+-- a name is none of the commands
+pub record IsNoCommand (name : Text) : Type 0 where
+  pub group : name ≢ codes "group"
+  pub request : name ≢ codes "request"
+  pub walk : name ≢ codes "walk"
+  pub check : name ≢ codes "check"
+
+-- the words chose no command, or else `group` or `request`, and the error is of its values
 abbrev pub TellsOf : Option (Text × List Row) → CommandLineError → Type 0
-TellsOf None told = ⊥
+TellsOf None told = told ≡ error.NoCommand
 TellsOf (Some (name, rows)) told =
-    ((name ≡ codes "group") ⊎ (name ≡ codes "request")) × Tells rows told
+    ((told ≡ error.NoCommand) × IsNoCommand name)
+    ⊎ (((name ≡ codes "group") ⊎ (name ≡ codes "request")) × Tells rows told)
 
--- an error that names a value is of a value that the words give
+-- an error of this program's own is of what the words give
 abbrev pub IsTold : List Text → CommandLineError → Type 0
 IsTold words told =
-    names_value told ≡ true
+    is_own told ≡ true
     → (formats : Formats) × TellsOf (subcommand_of (peslumok formats) words) told

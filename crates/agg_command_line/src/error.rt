@@ -3,7 +3,7 @@ ghost use Rattle.std.specs.Fmt.{WritesOnOk};
 ghost use Rattle.std.specs.Io.KnownBytes.{Appends};
 ghost use Rattle.agg_command_line.specs.declared.error.CommandLineError.TheVariants.{OutOfMemory};
 ghost use Rattle.agg_command_line.specs.Messages.{conflict_with, message_of};
-ghost use Rattle.agg_command_line.specs.Mistakes.{IsHelp, names_value};
+ghost use Rattle.agg_command_line.specs.Mistakes.{IsHelp, is_own};
 
 use agg_words::{BySpecError, ConditionError, DateFieldError, DecimalFieldError};
 use clap::error::ErrorKind;
@@ -67,7 +67,7 @@ impl CommandLineError<'_> {
 }
 
 impl From<clap::Error> for CommandLineError<'_> {
-    ghost from_gives = { λ error told. names_value told ≡ false };
+    ghost from_gives = { λ error told. is_own told ≡ false };
 
     fn from(error: clap::Error) -> Self {
         match error.kind() {

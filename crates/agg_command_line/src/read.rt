@@ -2,7 +2,7 @@ ghost use Rattle.std.specs.Prelude.{◌≡◌, IfOk, IfErr, Some, true, map, str
 ghost use Rattle.clap.specs.Words.{found_of, rows_of, subcommand_of};
 ghost use Rattle.agg_command_line.specs.Asked.{Asks, IsAsked};
 ghost use Rattle.agg_command_line.specs.CommandLine.{Formats, peslumok};
-ghost use Rattle.agg_command_line.specs.Mistakes.{IsTold, Tells, TellsOf, names_value};
+ghost use Rattle.agg_command_line.specs.Mistakes.{IsTold, Tells, TellsOf, is_own};
 
 use crate::command::matches_of;
 use crate::readings::{metric_columns, read_all};
@@ -40,7 +40,7 @@ fn chosen<'a>(
     found: &ArgMatches<'a>,
 ) -> Result<Chosen<'a>, CommandLineError<'a>>
     ensures asked { IfOk result (IsAsked (Some (name.now, rows_of (found_of found.now)))) }
-    ensures told { IfErr result (λ told. names_value told ≡ true
+    ensures told { IfErr result (λ told. is_own told ≡ true
         → TellsOf (Some (name.now, rows_of (found_of found.now))) told) }
 {
     match name {
