@@ -2,6 +2,7 @@ pub mod AddedFields
 pub mod Appended
 pub mod ArrayItems
 pub mod AskedNames
+pub mod CellParts
 pub mod Gains
 pub mod HeaderPlaces
 pub mod HeldDocuments
@@ -11,7 +12,9 @@ pub mod MemberPlaces
 pub mod NoDocuments
 pub mod ObjectMembers
 pub mod ObjectValues
+pub mod OpenQuotes
 pub mod ReadItems
+pub mod RefusedRows
 pub mod RowValues
 pub mod SingleDocuments
 pub mod SoleDocuments

@@ -31,7 +31,7 @@ use Rattle.agg_records.proofs.SoleDocuments.{in_array, listed, listed-items_of}
 
 -- ---- values
 
-joined-none : {A : Type 0} (first : Option (List A)) → joined first None ≡ None
+pub joined-none : {A : Type 0} (first : Option (List A)) → joined first None ≡ None
 joined-none None = refl
 joined-none (Some xs) = refl
 
@@ -75,6 +75,13 @@ none_later : (first : Option Fields) (rest : List (Option Fields)) → NoneIs (A
 none_later first rest none [] are = are
 none_later first rest none (d ∷ ds) are = none ds are.1
 
+-- one among others has no document
+pub none_among : {A : Type 0} (f : A → Option Fields) (xs : List A) (x : A) (more : List A)
+    → NoneIs (IsRead (f x)) → NoneIs (AreRead (map f (xs ++ x ∷ more)))
+none_among f [] x more none = none_first (f x) (map f more) none
+none_among f (first ∷ xs) x more none =
+    none_later (f first) (map f (xs ++ x ∷ more)) (none_among f xs x more none)
+
 -- ---- lines
 
 module _ (f : List ℕ → Option Fields) where
@@ -97,12 +104,6 @@ module _ (f : List ℕ → Option Fields) where
       (none_of_lines xs at line (omega (arith, within)) is filled none)
 
 -- ---- arrays
-
-no_object : (f : Json → Option Fields) (js : List Json) (j : Json) (more : List Json)
-    → NoneIs (IsRead (f j)) → NoneIs (AreRead (map f (js ++ j ∷ more)))
-no_object f [] j more none = none_first (f j) (map f more) none
-no_object f (first ∷ js) j more none =
-    none_later (f first) (map f (js ++ j ∷ more)) (no_object f js j more none)
 
 listed-before : (js : List Json) (rest : Items) → listed (before js rest) ≡ js ++ listed rest
 listed-before [] rest = refl
@@ -193,7 +194,7 @@ module _ (asked : List AskedField) (text : List ℕ) (start here : List Token) (
           (sym (items_more p has.turns here rest j (some_turns j rest is) going is) ∙ all) in
           let whole : are.objects ≡ js ++ j ∷ listed others =
           objects ∙ ap (λ m. js ++ listed m) shape in
-          no_object (object_document asked) js j (listed others) (bad j rest is) documents
+          none_among (object_document asked) js j (listed others) (bad j rest is) documents
           (subst (λ l. AreRead (map (object_document asked) l) documents) whole are.read)
 
       -- an item that is no object with a document

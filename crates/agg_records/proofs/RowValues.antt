@@ -1,7 +1,7 @@
 -- The values of a row, one field more at the end.
-use Rattle.std.proofs.Common.{◌≡◌, ◌<◌, ◌+◌, ℕ, List, [], ◌∷◌, ◌++◌, take, get_or, length}
-use Rattle.std.proofs.Common.{sym, ap, ◌∙◌, subst, arith}
-use Rattle.std.specs.Prelude.{Option, option_map}
+use Rattle.std.proofs.Common.{◌≡◌, ◌<◌, ◌+◌, ℕ, zero, suc, List, [], ◌∷◌, ◌++◌, take, get_or}
+use Rattle.std.proofs.Common.{length, sym, ap, ◌∙◌, subst, arith}
+use Rattle.std.specs.Prelude.{Option, None, option_map}
 use Rattle.std.proofs.lemmas.List.{take_more, length-take-le}
 use Rattle.agg_column.specs.declared.document.FieldValue.{FieldValue}
 use Rattle.agg_segment.specs.Segment.{Gathered}
@@ -9,6 +9,7 @@ use Rattle.agg_records.specs.Cells.{cell_at, values_at, values_from, values_of_r
 use Rattle.agg_records.specs.Values.{Gains, joined, named_values}
 use Rattle.agg_records.specs.declared.asked.AskedField.{AskedField}
 use Rattle.agg_records.proofs.Gains.{gains-then, joined-nil, joined_assoc, some_nil}
+use Rattle.agg_records.proofs.NoDocuments.{joined-none}
 
 -- the values of the field of a number
 abbrev values_of : ℕ → AskedField → List (Option ℕ) → List (List ℕ)
@@ -54,3 +55,23 @@ gains_cell asked places cells at field old now new within is first next =
     ∙ ap (λ n. joined (values_of_row (take at asked) places cells)
     (values_of n field places cells)) here))
     (gains-then _ _ old now new first next)
+
+-- a cell that can't be read
+pub no_cell : (index : ℕ) (fields : List AskedField) (places : List (Option ℕ))
+    (cells : List (List ℕ)) (at : ℕ) (field : AskedField) (number : ℕ) → at < length fields
+    → field ≡ get_or fields at field → number ≡ index + at
+    → values_at field.of (cell_at places number cells) ≡ None
+    → values_from index fields places cells ≡ None
+no_cell index [] places cells at field number within is counts none =
+    absurd (omega (arith, within))
+no_cell index (first ∷ fields) places cells zero field number within is counts none =
+    let here : number ≡ index = omega (arith, counts) in
+    ap (λ o. joined (option_map (named_values first.name) o)
+    (values_from (index + 1) fields places cells))
+    (ap (λ n. values_at first.of (cell_at places n cells)) (sym here)
+    ∙ ap (λ (f : AskedField). values_at f.of (cell_at places number cells)) (sym is) ∙ none)
+no_cell index (first ∷ fields) places cells (suc at) field number within is counts none =
+    ap (joined (values_of index first places cells))
+    (no_cell (index + 1) fields places cells at field number (omega (arith, within)) is
+    (omega (arith, counts)) none)
+    ∙ joined-none (values_of index first places cells)

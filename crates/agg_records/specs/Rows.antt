@@ -1,18 +1,25 @@
 -- Rows of a text of cells that were read.
-use Rattle.std.specs.Prelude.{◌≡◌, ℕ, List, Some}
-use Rattle.csv.specs.Reading.{Reached, Ready, default_config, source_of, strip_bom}
-use Rattle.csv.specs.declared.parser.Config.{Config}
+use Rattle.std.specs.Prelude.{◌≡◌, ◌++◌, ◌∷◌, [], ℕ, List, Option, Some, None, Bool, true, false}
+use Rattle.std.specs.Prelude.{length}
+use Rattle.csv.specs.Reading.{Reached, Ready, source_of, strip_bom}
+use Rattle.csv.specs.Records.{fields_of}
+use Rattle.csv.specs.declared.error.ErrorKind.{ErrorKind}
+use Rattle.csv.specs.declared.error.ErrorKind.TheVariants as kind
 use Rattle.csv.specs.declared.parser.State.TheVariants as st
 use Rattle.csv.specs.declared.reader.Trim.TheVariants as trim
+use Rattle.agg_records.specs.Csv.{AreEven, AreTexts, cells_config}
 use Rattle.agg_records.specs.declared.rows.Rows.{Rows}
 
--- how a text of cells is read that has this byte between them
-abbrev pub cells_config : ℕ → Config
-cells_config delimiter = record default_config { delimiter = delimiter }
+-- how many cells the first of these rows has
+abbrev pub width_of : List (List (List ℕ)) → Option ℕ
+width_of [] = None
+width_of (header ∷ rows) = Some (length header)
 
 -- these rows of a text were read, and the reader stands after them
 pub record HasRead (delimiter : ℕ) (text : List ℕ) (rows : List (List (List ℕ))) (at : Rows)
     : Type 0 where
+  pub parted : at.delimiter ≡ delimiter
+  pub whole : at.text.now ≡ text
   pub untrimmed : at.reader.trim ≡ trim.None
   pub ready : Ready at.reader
   pub config : at.reader.config ≡ cells_config delimiter
@@ -20,3 +27,15 @@ pub record HasRead (delimiter : ℕ) (text : List ℕ) (rows : List (List (List 
   pub source : source_of (λ s. Some s.now) at.reader ≡ Some left
   pub reached : Reached (cells_config delimiter) st.StartRecord (strip_bom text) rows
       at.reader.state left
+  pub rigid : at.reader.flexible ≡ false
+  pub width : at.reader.expected ≡ width_of rows
+  pub even : AreEven rows
+  pub texts : AreTexts rows
+  pub latest : (before : List (List (List ℕ))) (row : List (List ℕ)) → rows ≡ before ++ row ∷ []
+      → row ≡ fields_of at.row
+
+-- whether an error of the reader of cells is that it refuses a row
+abbrev pub refuses_row : ErrorKind → Bool
+refuses_row (kind.UnequalLengths at expected found) = true
+refuses_row (kind.Utf8 at why) = true
+refuses_row _ = false

@@ -1,13 +1,11 @@
 -- The documents of a text of cells.
 use Rattle.std.specs.Prelude.{◌≡◌, ◌≢◌, ◌⊎◌, ◌∷◌, ℕ, List, [], Option, Some, None, map}
 use Rattle.std.specs.List.{AllZip}
-use Rattle.csv.specs.Reading.{AreRecords, strip_bom}
 use Rattle.csv.specs.Records.{field_at}
-use Rattle.csv.specs.declared.parser.State.TheVariants as st
 use Rattle.agg_column.specs.Document.{Fields}
 use Rattle.agg_records.specs.Cells.{row_document}
+use Rattle.agg_records.specs.Csv.{AreRowsOf}
 use Rattle.agg_records.specs.Documents.{AreRead}
-use Rattle.agg_records.specs.Rows.{cells_config}
 use Rattle.agg_records.specs.declared.asked.AskedField.{AskedField}
 
 -- the place of the one cell of a header that is this name, or that no cell is
@@ -26,16 +24,14 @@ pub record AreRowDocuments (delimiter : ℕ) (text : List ℕ) (asked : List Ask
     (documents : List Fields) : Type 0 where
   pub header : List (List ℕ)
   pub rows : List (List (List ℕ))
-  pub records : AreRecords (cells_config delimiter) st.StartRecord (strip_bom text)
-      (header ∷ rows)
+  pub all : AreRowsOf delimiter text (header ∷ rows)
   pub places : List (Option ℕ)
   pub placed : ArePlaces header asked places
   pub read : AreRead (map (row_document asked places) rows) documents
 
 -- a text with no row has no documents
 abbrev pub IsEmptyTable : ℕ → List ℕ → List Fields → Type 0
-IsEmptyTable delimiter text documents =
-    AreRecords (cells_config delimiter) st.StartRecord (strip_bom text) [] × (documents ≡ [])
+IsEmptyTable delimiter text documents = AreRowsOf delimiter text [] × (documents ≡ [])
 
 -- these are the documents of a text of cells
 abbrev pub AreTableDocuments : ℕ → List ℕ → List AskedField → List Fields → Type 0

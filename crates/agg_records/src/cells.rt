@@ -1,11 +1,13 @@
 //! Rows of cells as documents: the cells under the asked names.
-ghost use Rattle.std.specs.Prelude.{◌≡◌, true, false, IfOk, OnOk, option_and_then, option_map, ◌↔◌};
-ghost use Rattle.std.specs.Prelude.{Some, IsTrue, IfErr};
+ghost use Rattle.std.specs.Prelude.{◌≡◌, ◌↔◌, [], None, Some, true, false, IfErr, IfOk, IsTrue};
+ghost use Rattle.std.specs.Prelude.{OnOk, option_and_then, option_map};
 ghost use Rattle.csv.specs.Records.{field_at, fields_of};
+ghost use Rattle.agg_values.specs.Nothing.{NoneIs};
 ghost use Rattle.agg_segment.specs.Segment.{gathered_documents};
 ghost use Rattle.agg_records.specs.Cells.{cell_at, cell_values, values_at, row_document};
 ghost use Rattle.agg_records.specs.Cells.{values_of_row};
-ghost use Rattle.agg_records.specs.Encodings.{is_encoding};
+ghost use Rattle.agg_records.specs.Causes.{is_encoding, is_fault};
+ghost use Rattle.agg_records.specs.Documents.{IsRead};
 ghost use Rattle.agg_records.specs.Held.{Holds, held_documents};
 ghost use Rattle.agg_records.specs.Table.{ArePlaces, IsPlaceOf};
 ghost use Rattle.agg_records.specs.Values.{Gains, named_values};
@@ -13,7 +15,7 @@ ghost use Rattle.agg_records.specs.Values.{Gains, named_values};
 use crate::scalars::value_of_cell;
 use crate::{AskedField, AskedFields, RecordCause, RecordError, Records};
 use agg_segment::SegmentBuilder;
-use csv::ByteRecord;
+use csv::StringRecord;
 use std::alloc::Global;
 
 /// Appends the document of a row. The asked fields have these places in it.
@@ -22,11 +24,13 @@ pub fn add_row(
     records: &mut Records,
     asked: &AskedFields,
     places: &[Option<usize>],
-    row: &ByteRecord,
+    row: &StringRecord,
 ) -> Result<(), RecordError>
     ensures ok { OnOk result (Holds (row_document asked.now places.now (fields_of row.now))
         records.old records.new) }
     ensures cause { IfErr result (λ error. is_encoding error.cause ≡ false) }
+    ensures none { IfErr result (λ error. is_fault error.cause ≡ true → NoneIs (IsRead
+        (row_document asked.now places.now (fields_of row.now)))) }
 {
     if try_row(alloc, records, asked, places, row)? {
         return Ok(());
@@ -43,14 +47,21 @@ fn try_row(
     records: &mut Records,
     asked: &AskedFields,
     places: &[Option<usize>],
-    row: &ByteRecord,
+    row: &StringRecord,
 ) -> Result<bool, RecordError>
     ensures taken { IfOk result (λ taken. taken ≡ true
         → Holds (row_document asked.now places.now (fields_of row.now))
         records.old records.new) }
     ensures left { IfOk result (λ taken. taken ≡ false
         → held_documents records.new ≡ held_documents records.old) }
+    ensures fresh { IfOk result (λ taken. taken ≡ false
+        → gathered_documents records.new.builder ≡ []) }
+    ensures mixed { IfOk result (λ taken. taken ≡ false
+        → gathered_documents records.old.builder ≡ []
+        → NoneIs (IsRead (row_document asked.now places.now (fields_of row.now)))) }
     ensures cause { IfErr result (λ error. is_encoding error.cause ≡ false) }
+    ensures none { IfErr result (λ error. is_fault error.cause ≡ true → NoneIs (IsRead
+        (row_document asked.now places.now (fields_of row.now)))) }
 {
     records.forget_open();
     push_row(alloc, &mut records.builder, asked.as_slice(), places, row)?;
@@ -63,12 +74,14 @@ fn push_row(
     builder: &mut SegmentBuilder,
     asked: &[AskedField],
     places: &[Option<usize>],
-    row: &ByteRecord,
+    row: &StringRecord,
 ) -> Result<(), RecordError>
     ensures ok { OnOk result
         (Gains (values_of_row asked.now places.now (fields_of row.now)) builder.old builder.new) }
     ensures documents { gathered_documents builder.new ≡ gathered_documents builder.old }
     ensures cause { IfErr result (λ error. is_encoding error.cause ≡ false) }
+    ensures none { IfErr result (λ error. is_fault error.cause ≡ true
+        → values_of_row asked.now places.now (fields_of row.now) ≡ None) }
 {
     for index in 0..asked.len() {
         let field = &asked[index];
@@ -81,7 +94,7 @@ fn push_row(
 }
 
 // The cell at a field's place, if it has one.
-fn cell_of<'r>(row: &'r ByteRecord, places: &[Option<usize>], index: usize) -> Option<&'r [u8]>
+fn cell_of<'r>(row: &'r StringRecord, places: &[Option<usize>], index: usize) -> Option<&'r str>
     ensures { option_map (λ cell. cell.now) result
         ≡ cell_at places.now index (fields_of row.now) }
 {
@@ -94,13 +107,15 @@ fn push_cell(
     alloc: Global,
     builder: &mut SegmentBuilder,
     field: &AskedField,
-    cell: Option<&[u8]>,
+    cell: Option<&str>,
 ) -> Result<(), RecordCause>
     ensures ok { OnOk result (Gains (option_map (named_values field.now.name)
-        (values_at field.now.of (option_map (λ bytes. bytes.now) cell.entry)))
+        (values_at field.now.of (option_map (λ text. text.now) cell.entry)))
         builder.old builder.new) }
     ensures documents { gathered_documents builder.new ≡ gathered_documents builder.old }
     ensures cause { IfErr result (λ cause. is_encoding cause ≡ false) }
+    ensures none { IfErr result (λ cause. is_fault cause ≡ true
+        → values_at field.now.of (option_map (λ text. text.now) cell.entry) ≡ None) }
 {
     let Some(cell) = cell else {
         return Ok(());
@@ -115,16 +130,18 @@ fn push_cell(
 /// The places of the asked fields under a header.
 pub fn places_of(
     alloc: Global,
-    header: &ByteRecord,
+    header: &StringRecord,
     asked: &[AskedField],
 ) -> Result<Vec<Option<usize>>, RecordError>
     ensures ok { IfOk result
         (λ places. ArePlaces (fields_of header.now) asked.now places.items) }
     ensures cause { IfErr result (λ error. is_encoding error.cause ≡ false) }
+    ensures none { IfErr result (λ error. is_fault error.cause ≡ true
+        → NoneIs (ArePlaces (fields_of header.now) asked.now)) }
 {
     let mut places = Vec::new(alloc);
     for field in asked {
-        let place = match place_of(header, field.name.as_str().as_bytes()) {
+        let place = match place_of(header, field.name.as_str()) {
             Ok(place) => place,
             Err(cause) => return Err(RecordError::of_field(alloc, &field.name, cause)),
         };
@@ -136,9 +153,11 @@ pub fn places_of(
 }
 
 // The place of the one cell of a header that is this name.
-fn place_of(header: &ByteRecord, name: &[u8]) -> Result<Option<usize>, RecordCause>
+fn place_of(header: &StringRecord, name: &str) -> Result<Option<usize>, RecordCause>
     ensures ok { IfOk result (λ place. IsPlaceOf (fields_of header.now) name.now place) }
     ensures cause { IfErr result (λ cause. is_encoding cause ≡ false) }
+    ensures none { IfErr result (λ cause. is_fault cause ≡ true
+        → NoneIs (IsPlaceOf (fields_of header.now) name.now)) }
 {
     let mut found = None;
     for place in 0..header.len() {
@@ -153,7 +172,7 @@ fn place_of(header: &ByteRecord, name: &[u8]) -> Result<Option<usize>, RecordCau
 }
 
 // Whether the cell at a place of a header is this name.
-fn is_at(header: &ByteRecord, place: usize, name: &[u8]) -> bool
+fn is_at(header: &StringRecord, place: usize, name: &str) -> bool
     ensures { IsTrue result ↔ (field_at (fields_of header.now) place ≡ Some name.now) }
 {
     match header.get(place) {

@@ -1,8 +1,8 @@
 //! How a text begins: a mark of its byte order, or the first bytes of another encoding.
 ghost use Rattle.std.specs.Prelude.{◌≡◌, ◌↔◌, IfErr, IsErrOf, IsTrue, OnOk, false};
 ghost use Rattle.csv.specs.Reading.{strip_bom};
+ghost use Rattle.agg_records.specs.Causes.{is_fault};
 ghost use Rattle.agg_records.specs.Encodings.{begins_as_gzip, begins_as_utf16};
-ghost use Rattle.agg_records.specs.Faults.{is_fault};
 
 use crate::RecordCause;
 

@@ -1,7 +1,6 @@
 //! Where and why records cannot be read.
 ghost use Rattle.std.specs.Prelude.{◌≡◌, ◌≢◌, false, true};
-ghost use Rattle.agg_records.specs.Encodings.{is_encoding};
-ghost use Rattle.agg_records.specs.Faults.{is_fault};
+ghost use Rattle.agg_records.specs.Causes.{is_encoding, is_fault};
 
 use agg_fields::ValueError;
 use agg_values::{OutOfMemory, Text};
@@ -41,8 +40,6 @@ pub enum RecordCause {
     SameName,
     #[error("a quote is not closed")]
     UnclosedQuote,
-    #[error("cannot be read")]
-    Unreadable,
     #[error("out of memory")]
     OutOfMemory,
 }

@@ -2,8 +2,7 @@
 ghost use Rattle.std.specs.Prelude.{◌≡◌, IfErr, IfOk, OnOk, false, true};
 ghost use Rattle.agg_values.specs.Nothing.{NoneIs};
 ghost use Rattle.agg_records.specs.Documents.{IsRead};
-ghost use Rattle.agg_records.specs.Encodings.{is_encoding};
-ghost use Rattle.agg_records.specs.Faults.{is_fault};
+ghost use Rattle.agg_records.specs.Causes.{is_encoding, is_fault};
 ghost use Rattle.agg_records.specs.Held.{Adds, Holds, held_documents};
 ghost use Rattle.agg_records.specs.JsonRecords.{text_document};
 ghost use Rattle.agg_records.specs.Lines.{AreLineDocuments, is_blank, lines_of};

@@ -3,10 +3,10 @@ ghost use Rattle.std.specs.Prelude.{◌≡◌, ◌++◌, ◌↔◌, List, IfOk, 
 ghost use Rattle.std.specs.Prelude.{false, true};
 ghost use Rattle.std.specs.Str.{IsUtf8};
 ghost use Rattle.csv.specs.Reading.{strip_bom};
-ghost use Rattle.agg_records.specs.Encodings.{begins_as_gzip, begins_as_utf16, is_encoding};
-ghost use Rattle.agg_column.specs.Document.{Fields};
 ghost use Rattle.agg_values.specs.Nothing.{NoneIs};
-ghost use Rattle.agg_records.specs.Faults.{is_fault, is_json};
+ghost use Rattle.agg_column.specs.Document.{Fields};
+ghost use Rattle.agg_records.specs.Causes.{is_encoding, is_fault};
+ghost use Rattle.agg_records.specs.Encodings.{begins_as_gzip, begins_as_utf16};
 ghost use Rattle.agg_records.specs.Formats.{AreDocumentsOf};
 ghost use Rattle.agg_records.specs.Held.{held_documents};
 
@@ -35,7 +35,7 @@ pub fn read_records(
     ensures gzip { IsErrAnd result (λ error. error.cause ≡ RecordCause.Gzip)
         ↔ IsTrue (begins_as_gzip bytes.now) }
     ensures none { IfErr result (λ error. is_fault error.cause ≡ true
-        → is_json format ≡ true → NoneIs (AreDocumentsOf format asked.now bytes.now)) }
+        → NoneIs (AreDocumentsOf format asked.now bytes.now)) }
 {
     if let Err(cause) = refuse_other_encodings(bytes) {
         return Err(RecordError::of(cause));

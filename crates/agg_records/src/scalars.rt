@@ -6,8 +6,7 @@ ghost use Rattle.agg_column.specs.declared.document.FieldValue.{FieldValue};
 ghost use Rattle.agg_fields.specs.Values as spec;
 ghost use Rattle.agg_fields.specs.declared.error.ValueError.{ValueError};
 ghost use Rattle.agg_records.specs.Cells.{cell_values};
-ghost use Rattle.agg_records.specs.Encodings.{is_encoding};
-ghost use Rattle.agg_records.specs.Faults.{is_fault};
+ghost use Rattle.agg_records.specs.Causes.{is_encoding, is_fault};
 ghost use Rattle.agg_records.specs.Objects.{alone, bool_value as value_of_bool, single_values};
 ghost use Rattle.agg_records.specs.Objects.{bool_word as word_of_bool};
 ghost use Rattle.agg_records.specs.Values.{value_read};
@@ -17,7 +16,6 @@ use agg_column::FieldValue;
 use agg_fields::{FieldType, ValueError, value_of_number, value_of_string, value_of_text};
 use json::Value;
 use std::alloc::Global;
-use std::str::from_utf8;
 
 /// The value of a JSON value that is no array. `null` is none.
 pub fn value_of_item(
@@ -44,19 +42,17 @@ pub fn value_of_item(
 /// The value of a cell. An empty one has none.
 pub fn value_of_cell(
     alloc: Global,
-    cell: &[u8],
+    cell: &str,
     of: FieldType,
 ) -> Result<Option<FieldValue>, RecordCause>
     ensures ok { IfOk result (λ found. cell_values of cell.now ≡ Some (option_to_list found)) }
     ensures cause { IfErr result (λ cause. is_encoding cause ≡ false) }
+    ensures none { IfErr result (λ cause. is_fault cause ≡ true → cell_values of cell.now ≡ None) }
 {
     if cell.is_empty() {
         return Ok(None);
     }
-    match from_utf8(cell) {
-        Ok(text) => told(alloc, text, value_of_text(alloc, text, of)),
-        Err(_) => Err(RecordCause::NotText),
-    }
+    told(alloc, cell, value_of_text(alloc, cell, of))
 }
 
 // A plain field holds `true` and `false` as they are, and a field of texts their words.

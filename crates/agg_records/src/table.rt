@@ -1,24 +1,25 @@
 //! Rows of CSV and TSV under a header.
 ghost use Rattle.std.specs.Prelude.{◌≡◌, ◌++◌, ◌∷◌, [], ℕ, List, true, false, map};
 ghost use Rattle.std.specs.Prelude.{IfOk, OnOk, IfErr};
-ghost use Rattle.csv.specs.Reading.{AreRecords, strip_bom};
 ghost use Rattle.csv.specs.Records.{fields_of};
-ghost use Rattle.csv.specs.declared.parser.State.TheVariants as st;
+ghost use Rattle.agg_values.specs.Nothing.{NoneIs};
+ghost use Rattle.agg_records.specs.Causes.{is_encoding, is_fault};
 ghost use Rattle.agg_records.specs.Cells.{row_document};
+ghost use Rattle.agg_records.specs.Csv.{AreRowsOf};
 ghost use Rattle.agg_records.specs.Documents.{AreRead};
-ghost use Rattle.agg_records.specs.Encodings.{is_encoding};
 ghost use Rattle.agg_records.specs.Held.{Adds, held_documents};
-ghost use Rattle.agg_records.specs.Rows.{HasRead, cells_config};
-ghost use Rattle.agg_records.specs.Table.{AreTableDocuments};
+ghost use Rattle.agg_records.specs.Rows.{HasRead};
+ghost use Rattle.agg_records.specs.Table.{ArePlaces, AreTableDocuments};
+ghost use Rattle.agg_records.specs.declared.asked.AskedField.{AskedField};
 
 use crate::cells::{add_row, places_of};
 use crate::place::line_of_row;
 use crate::quotes::ends_in_quotes;
-use crate::rows::Rows;
-use crate::{AskedFields, RecordCause, RecordError, Records};
-use csv::ByteRecord;
+use crate::rows::{RowError, Rows};
+use crate::{AskedField, AskedFields, RecordCause, RecordError, Records};
+use agg_values::OutOfMemory;
+use csv::StringRecord;
 use std::alloc::Global;
-use std::str::from_utf8;
 
 /// Appends the records of a text of cells, whose first row is the header.
 pub fn read_table(
@@ -31,17 +32,19 @@ pub fn read_table(
     ensures ok { OnOk result
         (Adds (AreTableDocuments delimiter bytes.now asked.now) into.old into.new) }
     ensures cause { IfErr result (λ error. is_encoding error.cause ≡ false) }
+    ensures none { IfErr result (λ error. is_fault error.cause ≡ true
+        → NoneIs (AreTableDocuments delimiter bytes.now asked.now)) }
 {
     let mut rows = Rows::new(alloc, delimiter, bytes);
-    let read = read_rows(alloc, &mut rows, asked, into);
-    if is_cut_off(bytes, delimiter, &rows) {
+    let Err(error) = read_rows(alloc, &mut rows, asked, into) else {
+        return Ok(());
+    };
+    let line = line_of_row(bytes, rows.start());
+    if rows.end() >= bytes.len() && ends_in_quotes(bytes, delimiter) {
         let error = RecordError::of(RecordCause::UnclosedQuote);
-        return Err(error.on_line(line_of_row(bytes, rows.start())));
+        return Err(error.on_line(line));
     }
-    match read {
-        Ok(()) => Ok(()),
-        Err(error) => Err(error.on_line(line_of_row(bytes, rows.start()))),
-    }
+    Err(error.on_line(line))
 }
 
 // Appends the records of the rows under the first one.
@@ -54,8 +57,11 @@ fn read_rows(
     ensures ok { OnOk result ((delimiter : ℕ) (text : List ℕ) → HasRead delimiter text [] rows.old
         → Adds (AreTableDocuments delimiter text asked.now) into.old into.new) }
     ensures cause { IfErr result (λ error. is_encoding error.cause ≡ false) }
+    ensures none { IfErr result (λ error. is_fault error.cause ≡ true
+        → (delimiter : ℕ) (text : List ℕ) → HasRead delimiter text [] rows.old
+        → NoneIs (AreTableDocuments delimiter text asked.now)) }
 {
-    if !next_row(rows)? {
+    if !next_row(alloc, rows, asked.as_slice(), &[])? {
         return Ok(());
     }
     see_header(into, rows.row())?;
@@ -73,69 +79,84 @@ fn read_rest(
 ) -> Result<(), RecordError>
     ensures ok { OnOk result ((delimiter : ℕ) (text : List ℕ) (before : List (List (List ℕ)))
         → HasRead delimiter text before rows.old
-        → (more : List (List (List ℕ)))
-        × AreRecords (cells_config delimiter) st.StartRecord (strip_bom text) (before ++ more)
+        → (more : List (List (List ℕ))) × AreRowsOf delimiter text (before ++ more)
         × Adds (AreRead (map (row_document asked.now places.now) more)) into.old into.new) }
     ensures cause { IfErr result (λ error. is_encoding error.cause ≡ false) }
+    ensures none { IfErr result (λ error. is_fault error.cause ≡ true
+        → (delimiter : ℕ) (text : List ℕ) (header : List (List ℕ))
+        (before : List (List (List ℕ))) → HasRead delimiter text (header ∷ before) rows.old
+        → ArePlaces header asked.now places.now
+        → NoneIs (AreTableDocuments delimiter text asked.now)) }
 {
     'rows: for _ in 0..u64::MAX {
-        if !next_row(rows)? {
+        if !next_row(alloc, rows, asked.as_slice(), places)? {
             return Ok(());
         }
         add_row(alloc, into, asked, places, rows.row())?;
     }
-    Err(RecordError::of(RecordCause::Unreadable))
+    // No memory holds so many rows.
+    Err(RecordError::of(RecordCause::OutOfMemory))
 }
 
-// Reads the next row, if there is one.
-fn next_row(rows: &mut Rows<'_>) -> Result<bool, RecordError>
+// Reads the next row, if there is one. The asked fields have these places in it.
+fn next_row(
+    alloc: Global,
+    rows: &mut Rows<'_>,
+    asked: &[AskedField],
+    places: &[Option<usize>],
+) -> Result<bool, RecordError>
     ensures more { IfOk result (λ found. found ≡ true
         → (delimiter : ℕ) (text : List ℕ) (before : List (List (List ℕ)))
         → HasRead delimiter text before rows.old
         → HasRead delimiter text (before ++ fields_of rows.new.row ∷ []) rows.new) }
     ensures end { IfOk result (λ found. found ≡ false
         → (delimiter : ℕ) (text : List ℕ) (before : List (List (List ℕ)))
-        → HasRead delimiter text before rows.old
-        → AreRecords (cells_config delimiter) st.StartRecord (strip_bom text) before) }
+        → HasRead delimiter text before rows.old → AreRowsOf delimiter text before) }
     ensures cause { IfErr result (λ error. is_encoding error.cause ≡ false) }
+    ensures none { IfErr result (λ error. is_fault error.cause ≡ true
+        → (delimiter : ℕ) (text : List ℕ) (before : List (List (List ℕ)))
+        → HasRead delimiter text before rows.old → (fields : List AskedField)
+        → NoneIs (AreTableDocuments delimiter text fields)) }
 {
     match rows.read() {
         Ok(found) => Ok(found),
-        Err(cause) => Err(RecordError::of(cause)),
+        Err(error) => Err(error_of_row(alloc, error, asked, places)),
     }
+}
+
+// The error of a row: of the field in whose cell it is, if it is in one.
+fn error_of_row(
+    alloc: Global,
+    error: RowError,
+    asked: &[AskedField],
+    places: &[Option<usize>],
+) -> RecordError
+    ensures encoding { is_encoding error.cause ≡ false → is_encoding result.cause ≡ false }
+    ensures fault { is_fault result.cause ≡ true → is_fault error.cause ≡ true }
+{
+    match field_in(error.cell, asked, places) {
+        Some(field) => RecordError::of_field(alloc, &field.name, error.cause),
+        None => RecordError::of(error.cause),
+    }
+}
+
+// The asked field in whose place a cell is.
+fn field_in<'f>(
+    cell: Option<usize>,
+    asked: &'f [AskedField],
+    places: &[Option<usize>],
+) -> Option<&'f AskedField> {
+    let cell = cell?;
+    let index = places.iter().position(|place| *place == Some(cell))?;
+    asked.get(index)
 }
 
 // Keeps the names of a header.
-fn see_header(records: &mut Records, header: &ByteRecord) -> Result<(), RecordError>
-    ensures held { held_documents records.new ≡ held_documents records.old }
-    ensures cause { IfErr result (λ error. is_encoding error.cause ≡ false) }
+fn see_header(records: &mut Records, header: &StringRecord) -> Result<(), OutOfMemory>
+    ensures { held_documents records.new ≡ held_documents records.old }
 {
-    for place in 0..header.len() {
-        if let Some(cell) = header.get(place) {
-            see_cell(records, cell)?;
-        }
+    for name in header {
+        records.see_name(name)?;
     }
     Ok(())
-}
-
-// Keeps a name, if it is a text.
-fn see_cell(records: &mut Records, cell: &[u8]) -> Result<(), RecordError>
-    ensures held { held_documents records.new ≡ held_documents records.old }
-    ensures cause { IfErr result (λ error. is_encoding error.cause ≡ false) }
-{
-    match from_utf8(cell) {
-        Ok(name) => Ok(records.see_name(name)?),
-        Err(_) => Ok(()),
-    }
-}
-
-// Whether the row that was read last ends with the text, and inside quotes.
-fn is_cut_off(bytes: &[u8], delimiter: u8, rows: &Rows<'_>) -> bool {
-    if rows.end() < bytes.len() {
-        return false;
-    }
-    match bytes.get(rows.start()..) {
-        Some(last) => ends_in_quotes(last, delimiter),
-        None => false,
-    }
 }

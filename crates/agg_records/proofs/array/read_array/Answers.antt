@@ -4,7 +4,7 @@ use Rattle.std.proofs.lemmas.Grind.{common_steps}
 use Rattle.json.specs.Json.{after_end_array, if_last, max_depth, value}
 use Rattle.json.specs.Lex.{tokens}
 use Rattle.json.specs.Token.{Token}
-use Rattle.agg_records.specs.Faults.{is_fault}
+use Rattle.agg_records.specs.Causes.{is_fault}
 use Rattle.agg_records.proofs.ArrayItems.{all_items, no_items_yet, one_item_more}
 use Rattle.agg_records.proofs.NoDocuments.{none_after, none_with, none_without}
 use Rattle.agg_records.proofs.NoDocuments.{some_token}

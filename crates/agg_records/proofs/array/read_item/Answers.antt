@@ -5,7 +5,7 @@ use Rattle.json.specs.Token.{Token}
 use Rattle.json.specs.Value.{value_view}
 use Rattle.agg_values.specs.Nothing.{NoneIs}
 use Rattle.agg_records.specs.Documents.{IsRead}
-use Rattle.agg_records.specs.Faults.{is_fault}
+use Rattle.agg_records.specs.Causes.{is_fault}
 use Rattle.agg_records.specs.Objects.{object_document}
 use Rattle.agg_records.specs.declared.error.RecordError.{RecordError}
 use Rattle.agg_records.proofs.NoDocuments.{json_in}

@@ -4,7 +4,7 @@ use Rattle.std.proofs.lemmas.Result.{IfErr-weaker, on_ok_weaker}
 use Rattle.json.specs.Value.{value_view}
 use Rattle.agg_values.specs.Nothing.{NoneIs}
 use Rattle.agg_records.specs.Documents.{IsRead}
-use Rattle.agg_records.specs.Faults.{is_fault}
+use Rattle.agg_records.specs.Causes.{is_fault}
 use Rattle.agg_records.specs.Held.{Holds}
 use Rattle.agg_records.specs.JsonRecords.{text_document}
 use Rattle.agg_records.specs.Objects.{object_document}

@@ -2,7 +2,7 @@ use Rattle.std.proofs.Common.{◌≡◌, ◌∙◌, false, length, sym, subst, a
 use Rattle.std.proofs.lemmas.Iterator.Consumers.{YieldsList-at, YieldsList-end}
 use Rattle.std.proofs.lemmas.Iterator.Consumers.{YieldsList-turn}
 use Rattle.std.proofs.lemmas.Iterator.Splits.{YieldsList-from_str_split}
-use Rattle.agg_records.specs.Faults.{is_fault}
+use Rattle.agg_records.specs.Causes.{is_fault}
 use Rattle.agg_records.specs.Held.{Adds}
 use Rattle.agg_records.specs.JsonRecords.{text_document}
 use Rattle.agg_records.specs.Lines.{AreLineDocuments, all_lines_of, is_blank, without_blank}

@@ -5,7 +5,7 @@ use Rattle.json.specs.Value.{members_view, value_view}
 use Rattle.json.proofs.Trees.{view-Object}
 use Rattle.agg_values.specs.Nothing.{NoneIs}
 use Rattle.agg_records.specs.Documents.{IsRead}
-use Rattle.agg_records.specs.Faults.{is_fault}
+use Rattle.agg_records.specs.Causes.{is_fault}
 use Rattle.agg_records.specs.Objects.{field_values, object_document}
 use Rattle.agg_records.specs.Values.{document_of_fields}
 use Rattle.agg_records.proofs.objects.add_object.Goals as goal

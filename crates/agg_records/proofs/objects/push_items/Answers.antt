@@ -1,7 +1,7 @@
 use Rattle.std.proofs.Common.{◌≡◌, None, ap, rules, true, ◌∙◌}
 use Rattle.json.specs.Value.{items_view}
 use Rattle.agg_column.specs.Cells.{number_of}
-use Rattle.agg_records.specs.Faults.{is_fault}
+use Rattle.agg_records.specs.Causes.{is_fault}
 use Rattle.agg_records.specs.Objects.{item_values}
 use Rattle.agg_records.proofs.NoDocuments.{no_item}
 use Rattle.agg_records.proofs.ObjectValues.{gains_item}

@@ -1,7 +1,7 @@
 use Rattle.std.proofs.Common.{◌≡◌, sym, subst, true}
 use Rattle.std.proofs.lemmas.Result.{IfErr-weaker, on_ok_weaker}
 use Rattle.agg_values.specs.Nothing.{NoneIs}
-use Rattle.agg_records.specs.Faults.{is_fault, is_json}
+use Rattle.agg_records.specs.Causes.{is_fault}
 use Rattle.agg_records.specs.Formats.{AreDocumentsOf}
 use Rattle.agg_records.specs.JsonRecords.{AreItemDocuments}
 use Rattle.agg_records.specs.Lines.{AreLineDocuments, lines_of}
@@ -47,9 +47,9 @@ returns-in_ok-text_of-in-JsonLines-clause-none c =
     IfErr-weaker c.read_lines.result
     (λ (error : RecordError). is_fault error.cause ≡ true
     → NoneIs (AreLineDocuments asked (lines_of text.field-0.now)))
-    (λ (error : RecordError). is_fault error.cause ≡ true → is_json c.args.format ≡ true
+    (λ (error : RecordError). is_fault error.cause ≡ true
     → NoneIs (AreDocumentsOf c.args.format asked bytes))
-    (λ error none fault json documents are.
+    (λ error none fault documents are.
     none fault documents (subst (λ t. AreLineDocuments asked (lines_of t) documents)
     (sym text.ensures.ok.0)
     (subst (λ format. AreDocumentsOf format asked bytes documents) c.in-JsonLines.is are).1))
@@ -64,9 +64,9 @@ returns-in_ok-text_of-in-Json-clause-none c =
     IfErr-weaker c.read_array.result
     (λ (error : RecordError). is_fault error.cause ≡ true
     → NoneIs (AreItemDocuments asked text.field-0.now))
-    (λ (error : RecordError). is_fault error.cause ≡ true → is_json c.args.format ≡ true
+    (λ (error : RecordError). is_fault error.cause ≡ true
     → NoneIs (AreDocumentsOf c.args.format asked bytes))
-    (λ error none fault json documents are.
+    (λ error none fault documents are.
     none fault documents (subst (λ t. AreItemDocuments asked t documents)
     (sym text.ensures.ok.0)
     (subst (λ format. AreDocumentsOf format asked bytes documents) c.in-Json.is are).1))
