@@ -6,6 +6,7 @@ pub mod CellParts
 pub mod Gains
 pub mod HeaderPlaces
 pub mod HeldDocuments
+pub mod LastCells
 pub mod LineRecords
 pub mod Marks
 pub mod MemberPlaces

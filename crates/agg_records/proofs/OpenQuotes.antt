@@ -1,17 +1,11 @@
--- A quote that is open where a text unclosed is in the last cell, which tells that it may be open.
+-- A quote that is open where a text ends is in the last cell, which tells that it may be open.
 use Rattle.std.proofs.Common.{◌≡◌, ℕ, Bool, true, false, List, [], ◌∷◌, ◌++◌, refl, sym, ap, ◌∙◌}
-use Rattle.std.proofs.Common.{◌+◌, ◌-◌, Bor, MatchOption, append-nil, append_assoc, drop, eqb}
-use Rattle.std.proofs.Common.{inl, inr, length, subst, take}
+use Rattle.std.proofs.Common.{append-nil, append_assoc}
+use Rattle.std.proofs.Common.{inl, inr, subst}
 use Rattle.std.specs.Prelude.{◌==◌, ◌||◌, ◌⊎◌, ⊤, Option, Some, None, if◌then◌else◌}
-use Rattle.std.specs.Cmp.Lexicographic.{pointwise}
-use Rattle.std.specs.List.{ends_with, list_any}
 use Rattle.std.proofs.lemmas.Bool.{eqb-true, or_right}
-use Rattle.std.proofs.lemmas.Bool.Decides.{Decides-eqb}
-use Rattle.std.proofs.lemmas.List.{append_cancel_right}
 use Rattle.std.proofs.lemmas.List.Folds.{list_any-append}
 use Rattle.std.proofs.lemmas.Option.{none-some}
-use Rattle.std.proofs.lemmas.Slice.Eq.{ends_is, strip_suffix_is}
-use mathlib.Core.Bool.{true≢false}
 use Rattle.csv.specs.Machine.{Read, ends_at_end, field_after, fields_after, in_field, is_end}
 use Rattle.csv.specs.Machine.{next_record, start_field, start_record, step}
 use Rattle.csv.specs.Reading.{AreRecords, Reached}
@@ -117,10 +111,29 @@ abbrev at_end : List (List ℕ) → List ℕ → State → Option Read
 at_end fields field s =
     if ends_at_end s then Some (fields ++ (field ∷ []), st.StartRecord, []) else None
 
+module _ (d : ℕ) (s : State) (fields : List (List ℕ)) (field : List ℕ) (c : ℕ)
+    (rest : List ℕ) where
+  -- what a byte does
+  abbrev does : State × Action
+  does = step (cells_config d) s c
+
+  -- the record that ends with it
+  abbrev ended : Read
+  ended = (fields_after does.1 fields field, does.0, rest)
+
+  -- the record that ends later
+  abbrev ends_later : Option Read
+  ends_later =
+      next_record (cells_config d) does.0 (fields_after does.1 fields field)
+      (field_after does.1 c field) rest
+
+  -- the record, where the byte ends it and where not
+  abbrev ends_by : Bool → Option Read
+  ends_by b = if b then Some ended else ends_later
+
 -- a record ends with the text, and a quote may be open in its last cell
 abbrev EndsOpen : List ℕ → Read → Type 0
-EndsOpen text p =
-    (p.1 ≡ st.StartRecord) × (p.2 ≡ []) × MayBeOpenAfter text p.0
+EndsOpen text p = (p.1 ≡ st.StartRecord) × (p.2 ≡ []) × MayBeOpenAfter text p.0
 
 -- a record ends before bytes after which a quote is open
 abbrev GoesOn : ℕ → List ℕ → List ℕ → Read → Type 0
@@ -155,35 +168,26 @@ open_record d (c ∷ rest) s fields field done p tells next unclosed =
     (field_after (step (cells_config d) s c).1 c field) (done ++ c ∷ []) p
     (tells_next d c field done s tells))
   where
-    by : (b : Bool) → is_end (step (cells_config d) s c).1 ≡ b
-        → (if b then Some (
-          fields_after (step (cells_config d) s c).1 fields field,
-          (step (cells_config d) s c).0,
-          rest,
-        )
-        else next_record (cells_config d) (step (cells_config d) s c).0
-        (fields_after (step (cells_config d) s c).1 fields field)
-        (field_after (step (cells_config d) s c).1 c field) rest) ≡ Some p
-        → (next_record (cells_config d) (step (cells_config d) s c).0
-        (fields_after (step (cells_config d) s c).1 fields field)
-        (field_after (step (cells_config d) s c).1 c field) rest ≡ Some p
-        → state_after (cells_config d) (step (cells_config d) s c).0 rest ≡ st.InQuoted
+    by : (b : Bool) → is_end (does d s fields field c rest).1 ≡ b
+        → ends_by d s fields field c rest b ≡ Some p
+        → (ends_later d s fields field c rest ≡ Some p
+        → state_after (cells_config d) (does d s fields field c rest).0 rest ≡ st.InQuoted
         → EndsOpen ((done ++ c ∷ []) ++ rest) p ⊎ GoesOn d (done ++ c ∷ []) rest p)
         → EndsOpen (done ++ c ∷ rest) p ⊎ GoesOn d done (c ∷ rest) p
     by true over is later =
-        let same = some_is _ p is in
-        let state : (step (cells_config d) s c).0 ≡ p.1 = ap (λ (r : Read). r.1) same in
+        let q = step (cells_config d) s c in
+        let same = some_is (ended d s fields field c rest) p is in
+        let state : q.0 ≡ p.1 = ap (λ (r : Read). r.1) same in
         let left : rest ≡ p.2 = ap (λ (r : Read). r.2) same in
         inr (
           c ∷ [],
           ap (λ bytes. c ∷ bytes) left,
-          subst (λ q. Tells q [] (done ++ c ∷ [])) state
-              (subst (λ f. Tells (step (cells_config d) s c).0 f (done ++ c ∷ []))
-              (no_field (step (cells_config d) s c).1 c field over)
+          subst (λ t. Tells t [] (done ++ c ∷ [])) state
+              (subst (λ f. Tells q.0 f (done ++ c ∷ [])) (no_field q.1 c field over)
               (tells_next d c field done s tells)),
-          subst (λ q. state_after (cells_config d) q p.2 ≡ st.InQuoted) state
-              (subst (λ bytes. state_after (cells_config d) (step (cells_config d) s c).0 bytes
-              ≡ st.InQuoted) left unclosed),
+          subst (λ t. state_after (cells_config d) t p.2 ≡ st.InQuoted) state
+              (subst (λ bytes. state_after (cells_config d) q.0 bytes ≡ st.InQuoted) left
+              unclosed),
         )
     by false over is later = elim (later is unclosed) [
       | inl (state, left, may) ↦ inl (
@@ -212,17 +216,8 @@ closed_end d (c ∷ rest) s fields field none unclosed =
     (fields_after (step (cells_config d) s c).1 fields field)
     (field_after (step (cells_config d) s c).1 c field) later unclosed)
   where
-    by : (b : Bool) → (if b then Some (
-      fields_after (step (cells_config d) s c).1 fields field,
-      (step (cells_config d) s c).0,
-      rest,
-    )
-        else next_record (cells_config d) (step (cells_config d) s c).0
-        (fields_after (step (cells_config d) s c).1 fields field)
-        (field_after (step (cells_config d) s c).1 c field) rest) ≡ None
-        → (next_record (cells_config d) (step (cells_config d) s c).0
-        (fields_after (step (cells_config d) s c).1 fields field)
-        (field_after (step (cells_config d) s c).1 c field) rest ≡ None → ⊥) → ⊥
+    by : (b : Bool) → ends_by d s fields field c rest b ≡ None
+        → (ends_later d s fields field c rest ≡ None → ⊥) → ⊥
     by true is later = none-some _ (sym is)
     by false is later = later is
 
@@ -274,33 +269,3 @@ pub open_after : (d : ℕ) (text : List ℕ) (rows : List (List (List ℕ)))
     → AreRecords (cells_config d) st.StartRecord text rows
     → state_after (cells_config d) st.StartRecord text ≡ st.InQuoted → LastIsOpen text rows
 open_after d text rows are unclosed = last_row d rows st.StartRecord text [] refl are unclosed
-
--- ---- what the last cell tells
-
--- what `strip_suffix` says of a text and a cell
-abbrev pub Strips : List ℕ → List ℕ → Option (Bor (List ℕ)) → Type 0
-Strips text cell left =
-    MatchOption left (pointwise eqb (drop (length text - length cell) text) cell ≡ false)
-    (λ front. (pointwise eqb (drop (length text - length cell) text) cell ≡ true)
-    × (front.now ≡ take (length text - length cell) text)
-    × (length front.now + length cell ≡ length text))
-
-pub no_suffix : (text cell : List ℕ) → list_any (λ b. b == 34) cell ≡ false
-    → Strips text cell None → ¬ (MayBeOpenIn text cell)
-no_suffix text cell none strips (inl has) = true≢false (sym has ∙ none)
-no_suffix text cell none strips (inr (front, is)) =
-    strip_suffix_is Decides-eqb text cell None strips (front ++ 34 ∷ [])
-    (is ∙ sym (append_assoc front (34 ∷ []) cell))
-
-pub no_quote_before : (text cell : List ℕ) (before : Bor (List ℕ))
-    → list_any (λ b. b == 34) cell ≡ false → Strips text cell (Some before)
-    → ends_with eqb before.now (34 ∷ []) ≡ false → ¬ (MayBeOpenIn text cell)
-no_quote_before text cell before none strips no_quote (inl has) = true≢false (sym has ∙ none)
-no_quote_before text cell before none strips no_quote (inr (front, is)) =
-    let same : before.now ≡ front ++ 34 ∷ [] =
-    append_cancel_right before.now (front ++ 34 ∷ []) cell
-    (sym (strip_suffix_is Decides-eqb text cell (Some before) strips) ∙ is
-    ∙ sym (append_assoc front (34 ∷ []) cell)) in
-    let quote = (ends_is Decides-eqb before.now (34 ∷ [])
-    (ends_with eqb before.now (34 ∷ [])) refl).1 front same in
-    true≢false (sym quote ∙ no_quote)

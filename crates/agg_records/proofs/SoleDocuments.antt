@@ -117,8 +117,9 @@ place_once header name None (Some i) a b = absurd (a i b.0)
 place_once header name (Some i) None a b = absurd (b i a.0)
 place_once header name (Some i) (Some j) a b = ap Some (b.1 i a.0)
 
-pub places_once : (header : List (List ℕ)) (asked : List AskedField) (first second : List (Option ℕ))
-    → ArePlaces header asked first → ArePlaces header asked second → first ≡ second
+pub places_once : (header : List (List ℕ)) (asked : List AskedField)
+    (first second : List (Option ℕ)) → ArePlaces header asked first
+    → ArePlaces header asked second → first ≡ second
 places_once header [] [] [] a b = refl
 places_once header [] [] (q ∷ qs) a b = absurd b
 places_once header [] (p ∷ ps) second a b = absurd a

@@ -127,7 +127,8 @@ impl RecordError {
 
     /// The same at a place of a line.
     pub(crate) fn at(self, line: u64, column: usize) -> RecordError
-        ensures { result.cause ≡ self.cause }
+        ensures cause { result.cause ≡ self.cause }
+        ensures line { result.line ≡ line }
     {
         RecordError {
             line,

@@ -5,7 +5,7 @@ ghost use Rattle.agg_records.specs.Documents.{IsRead};
 ghost use Rattle.agg_records.specs.Causes.{is_encoding, is_fault};
 ghost use Rattle.agg_records.specs.Held.{Adds, Holds, held_documents};
 ghost use Rattle.agg_records.specs.JsonRecords.{text_document};
-ghost use Rattle.agg_records.specs.Lines.{AreLineDocuments, is_blank, lines_of};
+ghost use Rattle.agg_records.specs.Lines.{AreLineDocuments, IsFirstFault, is_blank, lines_of};
 
 use crate::objects::add_object;
 use crate::place::offset_of;
@@ -26,6 +26,8 @@ pub fn read_lines(
     ensures cause { IfErr result (λ error. is_encoding error.cause ≡ false) }
     ensures none { IfErr result (λ error. is_fault error.cause ≡ true
         → NoneIs (AreLineDocuments asked.now (lines_of text.now))) }
+    ensures line { IfErr result (λ error. is_fault error.cause ≡ true
+        → IsFirstFault asked.now text.now error.line) }
 {
     let mut scratch = Scratch::new(alloc);
     let mut number = 0u64;

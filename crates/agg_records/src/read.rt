@@ -9,6 +9,7 @@ ghost use Rattle.agg_records.specs.Causes.{is_encoding, is_fault};
 ghost use Rattle.agg_records.specs.Encodings.{begins_as_gzip, begins_as_utf16};
 ghost use Rattle.agg_records.specs.Formats.{AreDocumentsOf};
 ghost use Rattle.agg_records.specs.Held.{held_documents};
+ghost use Rattle.agg_records.specs.Lines.{IsFirstFault};
 
 use crate::array::read_array;
 use crate::encoding::{refuse_other_encodings, without_mark};
@@ -36,6 +37,9 @@ pub fn read_records(
         ↔ IsTrue (begins_as_gzip bytes.now) }
     ensures none { IfErr result (λ error. is_fault error.cause ≡ true
         → NoneIs (AreDocumentsOf format asked.now bytes.now)) }
+    ensures line { IfErr result (λ error. is_fault error.cause ≡ true
+        → format ≡ RecordFormat.JsonLines → IsUtf8 (strip_bom bytes.now)
+        → IsFirstFault asked.now (strip_bom bytes.now) error.line) }
 {
     if let Err(cause) = refuse_other_encodings(bytes) {
         return Err(RecordError::of(cause));

@@ -2,7 +2,7 @@ use Rattle.std.proofs.Common.{◌≡◌, ◌==◌, ◌∙◌, false, rules, subs
 use Rattle.std.specs.List.{list_any}
 use Rattle.std.specs.Prelude.{None, Some}
 use Rattle.agg_records.specs.Quotes.{MayBeOpenIn}
-use Rattle.agg_records.proofs.OpenQuotes.{Strips, no_quote_before, no_suffix}
+use Rattle.agg_records.proofs.LastCells.{Strips, no_quote_before, no_suffix}
 use Rattle.agg_records.proofs.quotes.may_end_in_quotes.Goals as goal
 
 pub returns-in-Some : goal.returns-in-Some

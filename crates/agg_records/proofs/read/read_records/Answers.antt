@@ -1,11 +1,14 @@
 use Rattle.std.proofs.Common.{◌≡◌, sym, subst, true}
+use Rattle.std.specs.Str.{IsUtf8}
 use Rattle.std.proofs.lemmas.Result.{IfErr-weaker, on_ok_weaker}
+use Rattle.csv.specs.Reading.{strip_bom}
 use Rattle.agg_values.specs.Nothing.{NoneIs}
 use Rattle.agg_records.specs.Causes.{is_fault}
 use Rattle.agg_records.specs.Formats.{AreDocumentsOf}
 use Rattle.agg_records.specs.JsonRecords.{AreItemDocuments}
-use Rattle.agg_records.specs.Lines.{AreLineDocuments, lines_of}
+use Rattle.agg_records.specs.Lines.{AreLineDocuments, IsFirstFault, lines_of}
 use Rattle.agg_records.specs.declared.error.RecordError.{RecordError}
+use Rattle.agg_records.specs.declared.format.RecordFormat.TheVariants as format
 use Rattle.agg_records.proofs.HeldDocuments.{adds_later}
 use Rattle.agg_records.proofs.read.read_records.Goals as goal
 
@@ -18,7 +21,7 @@ returns-in_ok-text_of-in-JsonLines-clause-held c =
     let (documents, are, held) = adds_later c.args.into.now c.number_fields.new.self
     c.read_lines.new.into c.number_fields.ensures.held added in (
       documents,
-      subst (λ format. AreDocumentsOf format asked c.args.bytes.now documents)
+      subst (λ f. AreDocumentsOf f asked c.args.bytes.now documents)
           (sym c.in-JsonLines.is)
           (text.1, subst (λ t. AreLineDocuments asked (lines_of t) documents) text.0 are),
       held,
@@ -33,7 +36,7 @@ returns-in_ok-text_of-in-Json-clause-held c =
     let (documents, are, held) = adds_later c.args.into.now c.number_fields.new.self
     c.read_array.new.into c.number_fields.ensures.held added in (
       documents,
-      subst (λ format. AreDocumentsOf format asked c.args.bytes.now documents) (sym c.in-Json.is)
+      subst (λ f. AreDocumentsOf f asked c.args.bytes.now documents) (sym c.in-Json.is)
           (text.1, subst (λ t. AreItemDocuments asked t documents) text.0 are),
       held,
     )) c.read_array.ensures.ok
@@ -52,7 +55,7 @@ returns-in_ok-text_of-in-JsonLines-clause-none c =
     (λ error none fault documents are.
     none fault documents (subst (λ t. AreLineDocuments asked (lines_of t) documents)
     (sym text.ensures.ok.0)
-    (subst (λ format. AreDocumentsOf format asked bytes documents) c.in-JsonLines.is are).1))
+    (subst (λ f. AreDocumentsOf f asked bytes documents) c.in-JsonLines.is are).1))
     c.read_lines.ensures.none
 
 pub returns-in_ok-text_of-in-Json-clause-none :
@@ -69,5 +72,20 @@ returns-in_ok-text_of-in-Json-clause-none c =
     (λ error none fault documents are.
     none fault documents (subst (λ t. AreItemDocuments asked t documents)
     (sym text.ensures.ok.0)
-    (subst (λ format. AreDocumentsOf format asked bytes documents) c.in-Json.is are).1))
+    (subst (λ f. AreDocumentsOf f asked bytes documents) c.in-Json.is are).1))
     c.read_array.ensures.none
+
+pub returns-in_ok-text_of-in-JsonLines-clause-line :
+    goal.returns-in_ok-text_of-in-JsonLines-clause-line
+returns-in_ok-text_of-in-JsonLines-clause-line c =
+    let asked = c.args.asked.now in
+    let text = c.in_ok-text_of-in-JsonLines in
+    IfErr-weaker c.read_lines.result
+    (λ (error : RecordError). is_fault error.cause ≡ true
+    → IsFirstFault asked text.field-0.now error.line)
+    (λ (error : RecordError). is_fault error.cause ≡ true → c.args.format ≡ format.JsonLines
+    → IsUtf8 (strip_bom c.args.bytes.now)
+    → IsFirstFault asked (strip_bom c.args.bytes.now) error.line)
+    (λ error line fault _ _.
+    subst (λ t. IsFirstFault asked t error.line) text.ensures.ok.0 (line fault))
+    c.read_lines.ensures.line
