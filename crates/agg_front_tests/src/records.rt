@@ -26,6 +26,9 @@ const READ: &[(RecordFormat, &str, u32, usize)] = &[
     (RecordFormat::Csv, "a,b", 0, 0),
     (RecordFormat::Csv, "a,b\n1,2\n,2\nx,\"1\n2\"\n", 3, 2),
     (RecordFormat::Csv, "b\n1\n", 1, 0),
+    (RecordFormat::Csv, "b,a\n1,\"2\"", 1, 1),
+    (RecordFormat::Csv, "b,a\n1,\"2\"\"\"", 1, 1),
+    (RecordFormat::Csv, "b,a\n1,\"\"", 1, 0),
     (RecordFormat::Tsv, "b\ta\n1\t2\n", 1, 1),
 ];
 
@@ -74,15 +77,27 @@ const REFUSED: &[(RecordFormat, &str, &str)] = &[
     ),
     (
         RecordFormat::Csv,
+        "\u{FEFF}a,\"b",
+        "1: a quote is not closed",
+    ),
+    (
+        RecordFormat::Csv,
         "b,p\n1,x\n",
         "2: p: x is not a decimal number",
     ),
 ];
 
+// Texts of cells that are not UTF-8, and what is told of them.
+const NOT_TEXT: &[(&[u8], &str)] = &[
+    (b"\xFF,b\n1,2\n", "1: the text is not UTF-8"),
+    (b"a,b\n\xFF,2\n", "2: a: the text is not UTF-8"),
+    (b"a,b\n1,\xFF\n", "2: the text is not UTF-8"),
+];
+
 #[test]
 fn reads_records(rt: HostRuntime) -> Result<(), Fail> {
     for &(format, text, documents, columns) in READ {
-        let found = counts(rt.alloc(), format, text)?;
+        let found = counts(rt.alloc(), format, text.as_bytes())?;
         assert_eq!(rt; found, Some((documents, columns)), "{text}");
     }
     Ok(())
@@ -91,7 +106,16 @@ fn reads_records(rt: HostRuntime) -> Result<(), Fail> {
 #[test]
 fn tells_what_is_wrong(rt: HostRuntime) -> Result<(), Fail> {
     for &(format, text, expected) in REFUSED {
-        let told = told(rt.alloc(), format, text)?;
+        let told = told(rt.alloc(), format, text.as_bytes())?;
+        assert_eq!(rt; told.as_str(), expected);
+    }
+    Ok(())
+}
+
+#[test]
+fn tells_of_cells_that_are_no_text(rt: HostRuntime) -> Result<(), Fail> {
+    for &(text, expected) in NOT_TEXT {
+        let told = told(rt.alloc(), RecordFormat::Csv, text)?;
         assert_eq!(rt; told.as_str(), expected);
     }
     Ok(())
@@ -115,11 +139,11 @@ fn fields(alloc: Global) -> Result<AskedFields, OutOfMemory> {
 fn read(
     alloc: Global,
     format: RecordFormat,
-    text: &str,
+    text: &[u8],
 ) -> Result<Result<Records, RecordError>, OutOfMemory> {
     let mut records = Records::new(alloc);
     let asked = fields(alloc)?;
-    match read_records(alloc, format, text.as_bytes(), &asked, &mut records) {
+    match read_records(alloc, format, text, &asked, &mut records) {
         Ok(()) => Ok(Ok(records)),
         Err(error) => Ok(Err(error)),
     }
@@ -129,7 +153,7 @@ fn read(
 fn counts(
     alloc: Global,
     format: RecordFormat,
-    text: &str,
+    text: &[u8],
 ) -> Result<Option<(u32, usize)>, OutOfMemory> {
     let Ok(records) = read(alloc, format, text)? else {
         return Ok(None);
@@ -144,7 +168,7 @@ fn sizes(segment: &SegmentReader, field: &Text) -> (u32, usize) {
 }
 
 // What is told of a text, nothing where it has records.
-fn told(alloc: Global, format: RecordFormat, text: &str) -> Result<String, Fail> {
+fn told(alloc: Global, format: RecordFormat, text: &[u8]) -> Result<String, Fail> {
     match read(alloc, format, text)? {
         Ok(_) => Ok(String::new(alloc)),
         Err(error) => Ok(format!(in alloc; "{error}")?),
