@@ -7,7 +7,10 @@ use Rattle.csv.specs.declared.error.ErrorKind.{ErrorKind}
 use Rattle.csv.specs.declared.error.ErrorKind.TheVariants as kind
 use Rattle.csv.specs.declared.parser.State.TheVariants as st
 use Rattle.csv.specs.declared.reader.Trim.TheVariants as trim
-use Rattle.agg_records.specs.Csv.{AreEven, AreTexts, cells_config}
+use Rattle.agg_values.specs.Nothing.{NoneIs}
+use Rattle.agg_records.specs.Csv.{AreEven, AreRowsOf, AreTexts, cells_config}
+use Rattle.agg_records.specs.Table.{AreTableDocuments}
+use Rattle.agg_records.specs.declared.asked.AskedField.{AskedField}
 use Rattle.agg_records.specs.declared.rows.Rows.{Rows}
 
 -- how many cells the first of these rows has
@@ -33,6 +36,26 @@ pub record HasRead (delimiter : ℕ) (text : List ℕ) (rows : List (List (List 
   pub texts : AreTexts rows
   pub latest : (before : List (List (List ℕ))) (row : List (List ℕ)) → rows ≡ before ++ row ∷ []
       → row ≡ fields_of at.row
+
+-- one row more was read, and it is the one that is kept
+abbrev pub ReadsRow : Rows → Rows → Type 0
+ReadsRow old new =
+    (delimiter : ℕ) (text : List ℕ) (rows : List (List (List ℕ)))
+    → HasRead delimiter text rows old
+    → HasRead delimiter text (rows ++ fields_of new.row ∷ []) new
+
+-- the rows that were read are all of a text, and nothing is wrong with them
+abbrev pub HasReadAll : Rows → Type 0
+HasReadAll at =
+    (delimiter : ℕ) (text : List ℕ) (rows : List (List (List ℕ)))
+    → HasRead delimiter text rows at → AreRowsOf delimiter text rows
+
+-- the text that is read has no documents
+abbrev pub HasNoDocuments : Rows → Type 0
+HasNoDocuments at =
+    (delimiter : ℕ) (text : List ℕ) (rows : List (List (List ℕ)))
+    → HasRead delimiter text rows at → (asked : List AskedField)
+    → NoneIs (AreTableDocuments delimiter text asked)
 
 -- whether an error of the reader of cells is that it refuses a row
 abbrev pub refuses_row : ErrorKind → Bool

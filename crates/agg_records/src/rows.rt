@@ -3,7 +3,6 @@ ghost use Rattle.std.specs.Prelude.{◌≡◌, ◌++◌, ◌∷◌, [], ℕ, Lis
 ghost use Rattle.std.specs.Prelude.{IfErr, IfOk, IfSome};
 ghost use Rattle.csv.specs.Reading.{strip_bom};
 ghost use Rattle.csv.specs.Records.{fields_of};
-ghost use Rattle.agg_values.specs.Nothing.{NoneIs};
 ghost use Rattle.agg_records.specs.Causes.{is_encoding, is_fault};
 
 use crate::RecordCause;
@@ -31,11 +30,9 @@ pub struct RowError {
 }
 
 impl<'a> Rows<'a> {
-    ghost use Rattle.agg_records.specs.Csv.{AreRowsOf, IsClosed};
+    ghost use Rattle.agg_records.specs.Csv.{IsClosed};
     ghost use Rattle.agg_records.specs.Quotes.{MayBeOpenAfter};
-    ghost use Rattle.agg_records.specs.Rows.{HasRead};
-    ghost use Rattle.agg_records.specs.Table.{AreTableDocuments};
-    ghost use Rattle.agg_records.specs.declared.asked.AskedField.{AskedField};
+    ghost use Rattle.agg_records.specs.Rows.{HasNoDocuments, HasRead, HasReadAll, ReadsRow};
 
     /// The rows of a text, of which none is read yet.
     pub fn new(alloc: Global, delimiter: u8, text: &'a [u8]) -> Rows<'a>
@@ -56,18 +53,11 @@ impl<'a> Rows<'a> {
 
     /// Reads the next row, if there is one.
     pub fn read(&mut self) -> Result<bool, RowError>
-        ensures more { IfOk result (λ found. found ≡ true
-            → (delimiter : ℕ) (text : List ℕ) (rows : List (List (List ℕ)))
-            → HasRead delimiter text rows self.old
-            → HasRead delimiter text (rows ++ fields_of self.new.row ∷ []) self.new) }
-        ensures end { IfOk result (λ found. found ≡ false
-            → (delimiter : ℕ) (text : List ℕ) (rows : List (List (List ℕ)))
-            → HasRead delimiter text rows self.old → AreRowsOf delimiter text rows) }
+        ensures more { IfOk result (λ found. found ≡ true → ReadsRow self.old self.new) }
+        ensures end { IfOk result (λ found. found ≡ false → HasReadAll self.old) }
         ensures cause { IfErr result (λ error. is_encoding error.cause ≡ false) }
         ensures none { IfErr result (λ error. is_fault error.cause ≡ true
-            → (delimiter : ℕ) (text : List ℕ) (rows : List (List (List ℕ)))
-            → HasRead delimiter text rows self.old → (asked : List AskedField)
-            → NoneIs (AreTableDocuments delimiter text asked)) }
+            → HasNoDocuments self.old) }
     {
         let start = self.reader.position().byte();
         match self.reader.read_record(&mut self.next) {

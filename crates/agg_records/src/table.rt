@@ -1,16 +1,14 @@
 //! Rows of CSV and TSV under a header.
 ghost use Rattle.std.specs.Prelude.{◌≡◌, ◌++◌, ◌∷◌, [], ℕ, List, true, false, map};
 ghost use Rattle.std.specs.Prelude.{IfOk, OnOk, IfErr};
-ghost use Rattle.csv.specs.Records.{fields_of};
 ghost use Rattle.agg_values.specs.Nothing.{NoneIs};
 ghost use Rattle.agg_records.specs.Causes.{is_encoding, is_fault};
 ghost use Rattle.agg_records.specs.Cells.{row_document};
 ghost use Rattle.agg_records.specs.Csv.{AreRowsOf};
 ghost use Rattle.agg_records.specs.Documents.{AreRead};
 ghost use Rattle.agg_records.specs.Held.{Adds, held_documents};
-ghost use Rattle.agg_records.specs.Rows.{HasRead};
+ghost use Rattle.agg_records.specs.Rows.{HasNoDocuments, HasRead, HasReadAll, ReadsRow};
 ghost use Rattle.agg_records.specs.Table.{ArePlaces, AreTableDocuments};
-ghost use Rattle.agg_records.specs.declared.asked.AskedField.{AskedField};
 
 use crate::cells::{add_row, places_of};
 use crate::place::line_of_row;
@@ -105,18 +103,11 @@ fn next_row(
     asked: &[AskedField],
     places: &[Option<usize>],
 ) -> Result<bool, RecordError>
-    ensures more { IfOk result (λ found. found ≡ true
-        → (delimiter : ℕ) (text : List ℕ) (before : List (List (List ℕ)))
-        → HasRead delimiter text before rows.old
-        → HasRead delimiter text (before ++ fields_of rows.new.row ∷ []) rows.new) }
-    ensures end { IfOk result (λ found. found ≡ false
-        → (delimiter : ℕ) (text : List ℕ) (before : List (List (List ℕ)))
-        → HasRead delimiter text before rows.old → AreRowsOf delimiter text before) }
+    ensures more { IfOk result (λ found. found ≡ true → ReadsRow rows.old rows.new) }
+    ensures end { IfOk result (λ found. found ≡ false → HasReadAll rows.old) }
     ensures cause { IfErr result (λ error. is_encoding error.cause ≡ false) }
     ensures none { IfErr result (λ error. is_fault error.cause ≡ true
-        → (delimiter : ℕ) (text : List ℕ) (before : List (List (List ℕ)))
-        → HasRead delimiter text before rows.old → (fields : List AskedField)
-        → NoneIs (AreTableDocuments delimiter text fields)) }
+        → HasNoDocuments rows.old) }
 {
     match rows.read() {
         Ok(found) => Ok(found),
