@@ -1,15 +1,19 @@
 -- The source that is asked for.
-use Rattle.std.proofs.Common.{◌≡◌, ◌∙◌, sym, ap, ℕ, List, Some, Ok, Err}
+use Rattle.std.proofs.Common.{◌≡◌, ◌∙◌, refl, sym, ap, ℕ, List, Option, None, Some}
+use Rattle.std.proofs.Common.{Result, Ok, Err}
 use Rattle.agg_values.specs.Names.{Named}
 use Rattle.agg_request_tree.specs.declared.source.CompositeAggregationSource as source
 use source.{CompositeAggregationSource}
+use Rattle.agg_request_tree.specs.Source.{name_of}
 use Rattle.agg_fields.specs.Types.{type_of}
 use Rattle.agg_fields.specs.declared.field_type.FieldType.{FieldType}
 use Rattle.agg_words.specs.By.{Parts}
-use Rattle.agg_grouping.specs.Sources.{HasNoInterval, division_asked, divided_source, source_asked}
-use Rattle.agg_grouping.specs.Sources.{source_by, source_parts, with_division}
+use Rattle.agg_grouping.specs.Sources.{HasNoInterval, column_name, division_asked}
+use Rattle.agg_grouping.specs.Sources.{divided_source, source_asked, source_by, source_parts}
+use Rattle.agg_grouping.specs.Sources.{values_source, with_division}
 use Rattle.agg_grouping.specs.declared.error.IntervalFault.{IntervalFault}
 use Rattle.agg_grouping.specs.declared.source.Division.{Division}
+use Rattle.agg_grouping.specs.declared.source.Division.TheVariants.{Width, Fixed, Calendar}
 use Rattle.agg_grouping.specs.declared.source.SourceParts.{SourceParts}
 
 -- what is known of a source with an interval: its parts, and the type of its field
@@ -46,3 +50,33 @@ not_divided types by interval of made field text why h refused field_is text_is 
   of_interval = h.some ∙ ap Some (sym text_is);
   refused = asked_by types by interval of made h ∙ ap (with_division by) refused;
 }
+
+-- ---- names
+
+divided-called : (by : Parts) (division : Division)
+    → name_of (divided_source (source_parts by) division) ≡ column_name by
+divided-called by (Width interval) = refl
+divided-called by (Fixed interval) = refl
+divided-called by (Calendar interval) = refl
+
+with_division-called : (by : Parts) (read : Result Division IntervalFault)
+    (source : CompositeAggregationSource) → with_division by read ≡ Ok source
+    → name_of source ≡ column_name by
+with_division-called by (Ok division) source is =
+    let same : divided_source (source_parts by) division ≡ source = cc is in
+    ap name_of (sym same) ∙ divided-called by division
+with_division-called by (Err why) source is = absurd (cc is)
+
+source_by-called : (of : FieldType) (by : Parts) (interval : Option (List ℕ))
+    (source : CompositeAggregationSource) → source_by of by interval ≡ Ok source
+    → name_of source ≡ column_name by
+source_by-called of by None source is =
+    let same : values_source (source_parts by) ≡ source = cc is in ap name_of (sym same)
+source_by-called of by (Some interval) source is =
+    with_division-called by (division_asked of interval) source is
+
+-- a source that is asked for is called as its column
+pub called-as_column : (types : Named FieldType) (by : Parts) (source : CompositeAggregationSource)
+    → source_asked types by ≡ Ok source → name_of source ≡ column_name by
+called-as_column types by source is =
+    source_by-called (type_of types by.field) by by.interval source is

@@ -1,8 +1,14 @@
 //! What holds of the requests of groupings.
-ghost use Rattle.std.specs.Prelude.{◌≡◌, []};
+ghost use Rattle.std.specs.Prelude.{◌≡◌, [], Ok};
+ghost use Rattle.agg_values.specs.Names.{Named};
 ghost use Rattle.agg_segment.specs.declared.query.QueryTree.{QueryTree};
 ghost use Rattle.agg_request_tree.specs.Request.{Request, builders_of, with_builders};
+ghost use Rattle.agg_request_tree.specs.Source.{name_of};
+ghost use Rattle.agg_request_tree.specs.declared.source.CompositeAggregationSource as sources;
+ghost use Rattle.agg_fields.specs.declared.field_type.FieldType.{FieldType};
+ghost use Rattle.agg_words.specs.By.{Parts};
 ghost use Rattle.agg_grouping.specs.Request.{IsRequestOf};
+ghost use Rattle.agg_grouping.specs.Sources.{column_name, source_asked};
 ghost use Rattle.agg_grouping.specs.declared.grouping.Grouping.{Grouping};
 ghost use Rattle.agg_grouping.specs.declared.request.Page.{Page};
 
@@ -15,4 +21,12 @@ pub fn groupings_have_no_builders<B>()
         → (makes others : B → QueryTree)
         → IsRequestOf grouping page request
         → with_builders makes request ≡ with_builders others request }
+{}
+
+/// Each source that is asked for is called as the column of its keys.
+pub fn sources_are_called_as_their_columns()
+    ensures { (types : Named FieldType) (by : Parts)
+        (source : sources.CompositeAggregationSource)
+        → source_asked types by ≡ Ok source
+        → name_of source ≡ column_name by }
 {}
