@@ -33,7 +33,9 @@ pub fn trees_hold_at_most_their_roof()
 {}
 
 /// Where nothing waits in caches, a tree holds at least the low bytes of the buckets that its
-/// request counts over them, if they are documents of the segment.
+/// request counts over the documents that were taken under each parent, or over all of them where
+/// they were under parent 0. They have to be documents of the segment, and each filter has to have
+/// an id for each parent that it is prepared for.
 pub fn flushed_trees_hold_at_least_their_low_roof()
     ensures parents { (meaning : Meaning) (ctx : declared.PerRequestAggSegCtx)
         → (request : Request QueryTree) (held : Held) (taken : List (ℕ × ℕ))
