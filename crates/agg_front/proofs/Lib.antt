@@ -9,11 +9,15 @@ pub mod NamedKeys
 pub mod NextKeys
 pub mod OnePage
 pub mod OneSnapshot
+pub mod PageParts
 pub mod PageRuns
 pub mod Passed
-pub mod Ranked
+pub mod RankedGroups
 pub mod ReadKeys
 pub mod Rows
 pub mod Seen
+pub mod ShownKeys
+pub mod TopPlaces
+pub mod TopRuns
 pub mod Words
 pub mod WrittenKeys

@@ -10,7 +10,7 @@ use Rattle.agg_tables.specs.declared.columns.Column.{Column}
 use Rattle.agg_tables.specs.declared.columns.Column.TheVariants.{Count}
 use Rattle.agg_words.specs.declared.by.BySpec.{BySpec}
 use Rattle.agg_grouping.specs.declared.grouping.Grouping.{Grouping}
-use Rattle.agg_front.specs.After.{HaveOwnColumns}
+use Rattle.agg_front.specs.After.{HaveOwnColumns, NamesFirst}
 use Rattle.agg_front.specs.Answer.{TellsKey, TellsNext}
 use Rattle.agg_front.specs.Columns.{HaveOwnHeaders, columns_asked, key_column, metric_column}
 
@@ -39,11 +39,11 @@ own-columns types by rest own i j d below within same =
 
 -- the text that is told of the last page's key is read as the key
 pub tells-next : (grouping : Grouping) (told : Option (List ℕ)) (next : Named AfterKey)
-    → HaveOwnHeaders (columns_asked grouping) → TellsKey grouping told next
-    → TellsNext grouping told next
-tells-next grouping None next own told = told
-tells-next grouping (Some text) next own (some, reads) = (
+    → HaveOwnHeaders (columns_asked grouping) → NamesFirst grouping.by.items next
+    → TellsKey grouping told next → TellsNext grouping told next
+tells-next grouping None next own names told = told
+tells-next grouping (Some text) next own names (some, reads) = (
   some,
   reads (own-columns grouping.types grouping.by.items
-      (Count ∷ map (metric_column grouping.types) grouping.metrics.items) own),
+      (Count ∷ map (metric_column grouping.types) grouping.metrics.items) own) names,
 )

@@ -1,5 +1,5 @@
 -- The walk over one snapshot has one page.
-use Rattle.std.proofs.Common.{◌≡◌, ◌∙◌, List, [], ◌∷◌, Bool, arith, filter, length}
+use Rattle.std.proofs.Common.{◌≡◌, ◌∙◌, ℕ, List, [], ◌∷◌, Bool, arith, filter, length}
 use Rattle.std.proofs.Common.{append-nil, get_or, refl, subst, sym, ap, true}
 use Rattle.std.specs.Prelude.{codes}
 use Rattle.agg_values.specs.Names.{Named}
@@ -96,3 +96,16 @@ page-over grouping query snapshots page pages results ended documents walk one i
         of.alone walk.walked));
   },
 )
+
+-- the page that is made in a room is that of the same room
+pub page-at : (grouping : Grouping) (query : QueryTree) (snapshots : List SnapshotDocuments)
+    (made room : ℕ) (after : Named AfterKey) (results : AggregationResults)
+    (documents : List Fields) → made ≡ room
+    → ((ds : List Fields) → AreOneOf ds made snapshots
+    → IsPageOf grouping query ds (record { size = made; after = after }) results)
+    → AreOneOf documents room snapshots
+    → IsPageOf grouping query documents (record { size = room; after = after }) results
+page-at grouping query snapshots made room after results documents is page are =
+    subst (λ (size : ℕ).
+    IsPageOf grouping query documents (record { size = size; after = after }) results) is
+    (page documents (subst (λ (size : ℕ). AreOneOf documents size snapshots) (sym is) are))

@@ -14,8 +14,8 @@ use Rattle.agg_grouping.specs.declared.grouping.Grouping.{Grouping}
 use Rattle.agg_tables.specs.declared.columns.Column.{Column}
 use Rattle.agg_tables.specs.declared.output.OutputFormat.{OutputFormat}
 use Rattle.agg_front.specs.Answer.{AreWritten}
-use Rattle.agg_front.specs.Columns.{columns_asked}
 use Rattle.agg_front.specs.Pages.{ArePages, IsPageOf, is_end, is_last, last_after, next_after}
+use Rattle.agg_front.specs.Pages.{room_of}
 use Rattle.agg_front.specs.Written.{IsPageText, IsTextOf, ends}
 use Rattle.agg_front.specs.declared.asked.Pages.{Pages}
 
@@ -23,7 +23,7 @@ module _ (grouping : Grouping) (query : QueryTree) (documents : List Fields) (as
     (format : OutputFormat) (columns : List Column) where
   -- the pages after a key that are asked for
   abbrev After : Named AfterKey → List AggregationResults → Type 0
-  After = ArePages grouping query documents asked.is_all asked.size
+  After = ArePages grouping query documents asked.is_all (room_of asked)
 
   -- pages after a key and all pages: what is written before their text
   pub record Whole (first : Named AfterKey) (pages : List AggregationResults) (whole : List ℕ)
@@ -65,8 +65,8 @@ module _ (grouping : Grouping) (query : QueryTree) (documents : List Fields) (as
 
   module _ (first after : Named AfterKey) (is_first : Bool) (before own : List ℕ)
       (page : AggregationResults) (leads : Leads first after is_first before)
-      (is_page : IsPageOf grouping query documents (record { size = asked.size; after = after })
-      page) where
+      (is_page : IsPageOf grouping query documents
+      (record { size = room_of asked; after = after }) page) where
     -- one page more, after which others come
     pub leads-more : is_last asked.is_all (next_after page) ≡ false
         → IsPageText columns format is_first false page own
@@ -136,7 +136,8 @@ module _ (grouping : Grouping) (query : QueryTree) (documents : List Fields) (as
     (shows : shown ≡ next_after page) (number : ℕ) (last : Bool)
     (is : last ≡ is_last asked.is_all shown) (before own : List ℕ)
     (leads : Leads grouping query documents asked format columns first after (number == 0) before)
-    (is_page : IsPageOf grouping query documents (record { size = asked.size; after = after }) page)
+    (is_page : IsPageOf grouping query documents (record { size = room_of asked; after = after })
+    page)
     (is_text : IsPageText own_columns own_format (number == 0) last page own) where
   shown-last : (b : Bool) → last ≡ b → is_last asked.is_all (next_after page) ≡ b
   shown-last b so = ap (is_last asked.is_all) (sym shows) ∙ sym is ∙ so
@@ -176,14 +177,15 @@ pub ok-weaker : {T E : Type 0} (P Q : T → Type 0) → ((value : T) → P value
 ok-weaker P Q weaker (Ok value) is = weaker value is
 ok-weaker P Q weaker (Err error) is = is
 
--- pages are written of the grouping that is asked, in its columns
-pub written-asked : (grouping asked : Grouping) (query : QueryTree) (documents : List Fields)
-    (pages : Pages) (format : OutputFormat) (columns : List Column) (first next : Named AfterKey)
-    (text : List ℕ) → grouping ≡ asked → columns ≡ columns_asked grouping
+-- pages are written in the columns and the format that are asked for
+pub written-as : (grouping : Grouping) (query : QueryTree) (documents : List Fields)
+    (pages : Pages) (format asked : OutputFormat) (columns all : List Column)
+    (first next : Named AfterKey) (text : List ℕ) → format ≡ asked → columns ≡ all
     → AreWritten grouping query documents pages format columns first next text
-    → AreWritten asked query documents pages format (columns_asked asked) first next text
-written-asked grouping asked query documents pages format columns first next text same are written =
-    subst (λ (g : Grouping). AreWritten g query documents pages format (columns_asked g) first next
-    text) same
-    (subst (λ (cs : List Column). AreWritten grouping query documents pages format cs first next
-    text) are written)
+    → AreWritten grouping query documents pages asked all first next text
+written-as grouping query documents pages format asked columns all first next text same are
+    written =
+    subst (λ (cs : List Column). AreWritten grouping query documents pages asked cs first next text)
+    are
+    (subst (λ (f : OutputFormat). AreWritten grouping query documents pages f columns first next
+    text) same written)

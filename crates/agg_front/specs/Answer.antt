@@ -1,11 +1,14 @@
 -- What is answered of the records of files.
 use Rattle.std.specs.Prelude.{◌≡◌, ◌≢◌, [], ℕ, List, Option, None, Some, true}
+use Rattle.std.specs.List.{flat_map}
 use Rattle.std.specs.Io.KnownBytes.{Appends}
 use Rattle.agg_values.specs.Names.{Named}
 use Rattle.agg_values.specs.declared.after_key.AfterKey.{AfterKey}
 use Rattle.agg_column.specs.Document.{Fields}
 use Rattle.agg_segment.specs.declared.query.QueryTree.{QueryTree}
 use Rattle.agg_final_results.specs.declared.types.AggregationResults.{AggregationResults}
+use Rattle.agg_final_results.specs.declared.types.CompositeBucketEntry.{CompositeBucketEntry}
+use Rattle.agg_final_results.specs.declared.types.FilterBucketResult.{FilterBucketResult}
 use Rattle.agg_records.specs.declared.asked.AskedField.{AskedField}
 use Rattle.agg_grouping.specs.Query.{IsQueryOf}
 use Rattle.agg_grouping.specs.declared.grouping.Grouping.{Grouping}
@@ -17,8 +20,9 @@ use Rattle.agg_front.specs.Check.{BeginsAfter, after_asked}
 use Rattle.agg_front.specs.Columns.{columns_asked}
 use Rattle.agg_front.specs.Files.{AreDocumentsOfFiles}
 use Rattle.agg_front.specs.Index.{unseen_names}
-use Rattle.agg_front.specs.Pages.{ArePages, last_after}
-use Rattle.agg_front.specs.Written.{IsTextOf}
+use Rattle.agg_front.specs.Pages.{ArePages, last_after, room_of}
+use Rattle.agg_front.specs.Top.{AreTop}
+use Rattle.agg_front.specs.Written.{IsGroupsText, IsTextOf, groups_in, last_total}
 use Rattle.agg_front.specs.declared.asked.Asked.{Asked}
 use Rattle.agg_front.specs.declared.asked.Pages.{Pages}
 use Rattle.agg_front.specs.declared.asked.RecordFile.{RecordFile}
@@ -41,12 +45,11 @@ TellsKey grouping (Some text) key =
     × (HaveOwnColumns grouping.by.items → NamesFirst grouping.by.items key
     → IsAfterText grouping text key)
 
--- the text of the key after which the next page begins, as the command line takes it: it is read as
--- the key, if that names the first sources; there is no text where no page comes
+-- the text of the key after which the next page begins, as the command line takes it; there is no
+-- text where no page comes
 abbrev pub TellsNext : Grouping → Option (List ℕ) → Named AfterKey → Type 0
 TellsNext grouping None next = next ≡ []
-TellsNext grouping (Some text) next =
-    (next ≢ []) × (NamesFirst grouping.by.items next → IsAfterText grouping text next)
+TellsNext grouping (Some text) next = (next ≢ []) × IsAfterText grouping text next
 
 module _ (grouping : Grouping) (query : QueryTree) (documents : List Fields) where
   -- the pages of documents after a key that are asked for, their text in columns, and the key that
@@ -54,22 +57,49 @@ module _ (grouping : Grouping) (query : QueryTree) (documents : List Fields) whe
   pub record AreWritten (asked : Pages) (format : OutputFormat) (columns : List Column)
       (after next : Named AfterKey) (text : List ℕ) : Type 0 where
     pub pages : List AggregationResults
-    pub are_pages : ArePages grouping query documents asked.is_all asked.size after pages
+    pub are_pages : ArePages grouping query documents asked.is_all (room_of asked) after pages
     pub is_text : IsTextOf columns format true pages text
     pub shown : next ≡ last_after pages
 
--- the text of the pages of documents that are asked for, and that of the key after the last one
-pub record IsWritten (asked : Asked) (query : QueryTree) (documents : List Fields)
+  -- the groups with the most documents, so many of those of all pages of documents after a key, and
+  -- the total of the last page
+  pub record HasMost (room count : ℕ) (after : Named AfterKey) (top : List CompositeBucketEntry)
+      (total : Option FilterBucketResult) : Type 0 where
+    pub pages : List AggregationResults
+    pub are_pages : ArePages grouping query documents true room after pages
+    pub are_top : AreTop count (flat_map groups_in pages) top
+    pub is_total : total ≡ last_total pages
+
+  -- a text in columns has these groups and the total
+  pub record IsTopWritten (room count : ℕ) (format : OutputFormat) (columns : List Column)
+      (after : Named AfterKey) (text : List ℕ) : Type 0 where
+    pub top : List CompositeBucketEntry
+    pub total : Option FilterBucketResult
+    pub have_most : HasMost room count after top total
+    pub is_text : IsGroupsText columns format true top total text
+
+  -- the text of pages that are asked for, or of so many groups with the most documents, and that of
+  -- the key after which the next page begins, which is told of pages alone
+  abbrev pub IsAskedText : Option ℕ → Pages → OutputFormat → List Column → Named AfterKey
+      → Option (List ℕ) → List ℕ → Type 0
+  IsAskedText None asked format columns after told text =
+      (next : Named AfterKey)
+      × AreWritten asked format columns after next text
+      × TellsNext grouping told next
+  IsAskedText (Some count) asked format columns after told text =
+      (told ≡ None) × IsTopWritten (room_of asked) count format columns after text
+
+-- the text of what is asked for of documents, pages or so many groups with the most of them, and
+-- that of the key after which the next page begins
+pub record IsWritten (top : Option ℕ) (asked : Asked) (query : QueryTree) (documents : List Fields)
     (told : Option (List ℕ)) (text : List ℕ) : Type 0 where
   pub first : Named AfterKey
   pub begins : BeginsAfter asked.grouping (after_asked asked) first
-  pub next : Named AfterKey
-  pub written : AreWritten asked.grouping query documents asked.pages asked.output
-      (columns_asked asked.grouping) first next text
-  pub tells : TellsNext asked.grouping told next
+  pub written : IsAskedText asked.grouping query documents top asked.pages asked.output
+      (columns_asked asked.grouping) first told text
 
--- a sink took the text of the pages that are asked for of the documents of files, and a report
--- tells in which fields no document has a value
+-- a sink took the text of what is asked for of the documents of files, and a report tells in which
+-- fields no document has a value
 pub record IsAnswered (asked : Asked) (files : List RecordFile) (report : Report)
     (old new : Option (List ℕ)) : Type 0 where
   pub query : QueryTree
@@ -77,5 +107,5 @@ pub record IsAnswered (asked : Asked) (files : List RecordFile) (report : Report
   pub documents : List Fields
   pub are_read : AreRead asked.grouping query files documents report.unseen.items
   pub text : List ℕ
-  pub is_written : IsWritten asked query documents report.next text
+  pub is_written : IsWritten asked.pages.top asked query documents report.next text
   pub taken : Appends old new text

@@ -1,6 +1,6 @@
 -- The pages of groups.
 use Rattle.std.specs.Prelude.{◌≡◌, ◌∷◌, ◌||◌, [], ℕ, List, Bool, true, false, MatchBool}
-use Rattle.std.specs.Prelude.{codes, not}
+use Rattle.std.specs.Prelude.{codes, if◌then◌else◌, is_some, max, not}
 use Rattle.agg_values.specs.Names.{Named}
 use Rattle.agg_values.specs.declared.after_key.AfterKey.{AfterKey}
 use Rattle.agg_column.specs.Document.{Fields}
@@ -13,6 +13,12 @@ use Rattle.agg_engine.specs.Walk.{IsWalk, after_in}
 use Rattle.agg_grouping.specs.Request.{IsRequestOf}
 use Rattle.agg_grouping.specs.declared.grouping.Grouping.{Grouping}
 use Rattle.agg_grouping.specs.declared.request.Page.{Page}
+use Rattle.agg_front.specs.declared.asked.Pages.{Pages}
+
+-- how many groups a page has room for: at least 100,000 where those with the most documents are
+-- looked for
+abbrev pub room_of : Pages → ℕ
+room_of pages = if is_some pages.top then max pages.size 100_000 else pages.size
 
 -- ---- the last page
 

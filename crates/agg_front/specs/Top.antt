@@ -1,18 +1,19 @@
 -- The groups with the most documents.
-use Rattle.std.specs.Prelude.{◌∷◌, [], ℕ, List, fold, if◌then◌else◌, nat_lt, take}
+use Rattle.std.specs.Prelude.{◌≡◌, ℕ, List, Bool, nat_lt, take}
+use Rattle.std.specs.List.Sorted.{IsSortedBy, IsStableBy}
 use Rattle.agg_final_results.specs.declared.types.CompositeBucketEntry.{CompositeBucketEntry}
 
--- a group among others: after each that has as many documents or more
-abbrev pub ranked_in : CompositeBucketEntry → List CompositeBucketEntry → List CompositeBucketEntry
-ranked_in group [] = group ∷ []
-ranked_in group (first ∷ others) =
-    if nat_lt first.doc_count group.doc_count then group ∷ first ∷ others
-    else first ∷ ranked_in group others
+-- whether a group has more documents than another
+abbrev pub has_more : CompositeBucketEntry → CompositeBucketEntry → Bool
+has_more group other = nat_lt other.doc_count group.doc_count
 
--- groups, those with more documents first, and those with as many in their order
-abbrev pub by_count : List CompositeBucketEntry → List CompositeBucketEntry
-by_count groups = fold (λ ranked group. ranked_in group ranked) [] groups
+-- groups in order: those with more documents first, and those with as many as they stood
+pub record AreRanked (groups ranked : List CompositeBucketEntry) : Type 0 where
+  pub sorted : IsSortedBy has_more ranked
+  pub stable : IsStableBy has_more groups ranked
 
--- the first so many of them
-abbrev pub top_of : ℕ → List CompositeBucketEntry → List CompositeBucketEntry
-top_of count groups = take count (by_count groups)
+-- the first so many of groups in order
+pub record AreTop (count : ℕ) (groups top : List CompositeBucketEntry) : Type 0 where
+  pub ranked : List CompositeBucketEntry
+  pub are_ranked : AreRanked groups ranked
+  pub first : top ≡ take count ranked

@@ -1,7 +1,8 @@
--- The texts of pages.
+-- The texts of groups and pages.
 use Rattle.std.specs.Prelude.{◌≡◌, ◌∷◌, ◌++◌, [], ℕ, List, Bool, true, false, Option, None, Some}
 use Rattle.std.specs.Prelude.{codes, if◌then◌else◌}
-use Rattle.std.specs.List.{AllZip}
+use Rattle.std.specs.List.{AllZip, last_or}
+use Rattle.std.specs.Option.{option_and_then}
 use Rattle.agg_values.specs.Names.{value_of}
 use Rattle.agg_final_results.specs.declared.types as final
 use final.AggregationResult.{AggregationResult}
@@ -57,6 +58,10 @@ total_in page = filtered_of_result (value_of (codes "total") page.0)
 abbrev pub total_written : Bool → AggregationResults → Option FilterBucketResult
 total_written is_last page = if is_last then total_in page else None
 
+-- the total of the last of pages, where it has one
+abbrev pub last_total : List AggregationResults → Option FilterBucketResult
+last_total pages = option_and_then total_in (last_or None pages)
+
 -- whether no page comes after a page
 abbrev pub ends : List AggregationResults → Bool
 ends [] = true
@@ -81,24 +86,29 @@ module _ (columns : List Column) where
   AreTotalRows None rows = rows ≡ []
   AreTotalRows (Some total) rows = (row : Row) × IsTotalRow total row × (rows ≡ row ∷ [])
 
-  -- the rows of a page: one for each of its groups in order, and on the last page that of the total
-  pub record AreRowsOf (is_last : Bool) (page : AggregationResults) (rows : List Row)
-      : Type 0 where
-    pub groups : List Row
-    pub totals : List Row
-    pub are_groups : AllZip IsGroupRow (groups_in page) groups
-    pub are_totals : AreTotalRows (total_written is_last page) totals
-    pub joined : rows ≡ groups ++ totals
+  -- the rows of groups, one for each in order, and then that of a total, where there is one
+  pub record AreRowsOf (groups : List CompositeBucketEntry) (total : Option FilterBucketResult)
+      (rows : List Row) : Type 0 where
+    pub of_groups : List Row
+    pub of_total : List Row
+    pub are_groups : AllZip IsGroupRow groups of_groups
+    pub are_totals : AreTotalRows total of_total
+    pub joined : rows ≡ of_groups ++ of_total
 
   -- ---- texts
 
   module _ (format : OutputFormat) where
-    -- the text of a page: its rows in a format, after the header where the page is the first
-    pub record IsPageText (is_first is_last : Bool) (page : AggregationResults) (text : List ℕ)
-        : Type 0 where
+    -- the text of groups and a total: their rows in a format, after the header where it comes first
+    pub record IsGroupsText (is_first : Bool) (groups : List CompositeBucketEntry)
+        (total : Option FilterBucketResult) (text : List ℕ) : Type 0 where
       pub rows : List Row
-      pub are_rows : AreRowsOf is_last page rows
+      pub are_rows : AreRowsOf groups total rows
       pub written : AppendsRows format columns rows is_first [] text
+
+    -- the text of a page: that of its groups, and on the last page of the total
+    abbrev pub IsPageText : Bool → Bool → AggregationResults → List ℕ → Type 0
+    IsPageText is_first is_last page =
+        IsGroupsText is_first (groups_in page) (total_written is_last page)
 
     -- the text of pages: that of each, one after another
     abbrev pub IsTextOf : Bool → List AggregationResults → List ℕ → Type 0

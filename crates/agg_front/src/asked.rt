@@ -1,5 +1,6 @@
 //! What is asked of records, and where they are.
-ghost use Rattle.std.specs.Prelude.{◌≡◌, None};
+ghost use Rattle.std.specs.Prelude.{◌≡◌};
+ghost use Rattle.agg_front.specs.Pages.{room_of};
 
 use agg_grouping::Grouping;
 use agg_records::RecordFormat;
@@ -41,7 +42,7 @@ const PAGE_OF_TOP: u32 = 100_000;
 impl Pages<'_> {
     /// How many groups are made at once.
     pub fn room(&self) -> u32
-        ensures { self.now.top ≡ None → result ≡ self.now.size }
+        ensures { result ≡ room_of self.now }
     {
         match self.top {
             Some(_) => self.size.max(PAGE_OF_TOP),

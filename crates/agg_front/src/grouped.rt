@@ -6,6 +6,7 @@ ghost use Rattle.agg_segment.specs.Snapshot.{snapshots_documents};
 ghost use Rattle.agg_front.specs.Answer.{AreRead, IsAnswered, IsWritten};
 ghost use Rattle.agg_front.specs.Asking.{AskAll, AskFor};
 ghost use Rattle.agg_front.specs.Index.{AreOneOf};
+ghost use Rattle.agg_front.specs.Pages.{room_of};
 
 use crate::asked::{Asked, RecordFile};
 use crate::failure::Failure;
@@ -13,12 +14,12 @@ use crate::index::{Index, records_of};
 use crate::page::Question;
 use crate::pages::write_pages;
 use crate::report::Report;
-use crate::top::top_text;
+use crate::top::write_top;
 use agg_fields::FieldType;
 use agg_grouping::{Grouping, asked_fields, query_of};
 use agg_records::AskedFields;
 use agg_segment::QueryTree;
-use agg_streams::sink::{Sink, write_all};
+use agg_streams::sink::Sink;
 use agg_values::{NameMap, OutOfMemory, Text};
 use std::alloc::Global;
 
@@ -30,18 +31,17 @@ pub fn group<W: Sink>(
     files: Vec<RecordFile<'_>>,
     sink: &mut W,
 ) -> Result<Report, Failure>
-    ensures { IfOk result (λ report. asked.now.pages.top ≡ None
-        → IsAnswered asked.now files.entry.items report
+    ensures { IfOk result (λ report. IsAnswered asked.now files.entry.items report
         (W.contents sink.old) (W.contents sink.new)) }
 {
     let query = query_of(alloc, &asked.grouping)?;
     let index = index_of(alloc, asked, &query, files)?;
     let question = Question {
-        grouping: &asked.grouping,
+        asked,
         query: &query,
         snapshots: index.snapshots(),
     };
-    let next = write_answer(alloc, asked, &question, sink)?;
+    let next = write_answer(alloc, &question, sink)?;
     Ok(index.into_report(next))
 }
 
@@ -49,23 +49,21 @@ pub fn group<W: Sink>(
 // begins, where there is one.
 fn write_answer<W: Sink>(
     alloc: Global,
-    asked: &Asked<'_>,
     question: &Question<'_, '_>,
     sink: &mut W,
 ) -> Result<Option<Text>, Failure>
-    requires one { length question.now.snapshots.now ≡ 1 }
-    requires same { question.now.grouping.now ≡ asked.now.grouping }
-    ensures { IfOk result (λ told. asked.now.pages.top ≡ None → (documents : List Fields)
-        → AreOneOf documents asked.now.pages.size
+    requires { length question.now.snapshots.now ≡ 1 }
+    ensures { IfOk result (λ told. (documents : List Fields)
+        → AreOneOf documents (room_of question.now.asked.now.pages)
         (snapshots_documents question.now.snapshots.now)
         → (text : List ℕ) × Appends (W.contents sink.old) (W.contents sink.new) text
-        × IsWritten asked.now question.now.query.now documents told text) }
+        × IsWritten question.now.asked.now.pages.top question.now.asked.now question.now.query.now
+        documents told text) }
 {
-    let Some(count) = asked.pages.top else {
-        return write_pages(alloc, asked, question, sink);
+    let Some(count) = question.asked.pages.top else {
+        return write_pages(alloc, question, sink);
     };
-    let text = top_text(alloc, asked, question, count)?;
-    write_all(sink, text.as_bytes())?;
+    write_top(alloc, question, count, sink)?;
     Ok(None)
 }
 
@@ -76,10 +74,9 @@ fn index_of(
     query: &QueryTree,
     files: Vec<RecordFile<'_>>,
 ) -> Result<Index, Failure>
-    ensures { IfOk result (λ index. (documents : List Fields) × (room : ℕ)
+    ensures { IfOk result (λ index. (documents : List Fields)
         × AreRead asked.now.grouping query.now files.entry.items documents index.unseen.items
-        × AreOneOf documents room (snapshots_documents index.snapshots)
-        × (asked.now.pages.top ≡ None → room ≡ asked.now.pages.size)) }
+        × AreOneOf documents (room_of asked.now.pages) (snapshots_documents index.snapshots)) }
 {
     let fields = fields_of(alloc, &asked.grouping, query)?;
     let records = records_of(alloc, files, &fields)?;

@@ -5,11 +5,12 @@ ghost use Rattle.agg_segment.specs.Snapshot.{snapshots_documents};
 ghost use Rattle.agg_front.specs.Index.{AreOneOf};
 ghost use Rattle.agg_front.specs.Pages.{IsPageOf, IsPageWalk};
 
+use crate::asked::Asked;
 use crate::failure::Failure;
 use agg_cache::LimitsLedger;
 use agg_engine::{Snapshot, Walk, walk_pages};
 use agg_final_results::AggregationResults;
-use agg_grouping::{GROUPS, Grouping, Page, request_of};
+use agg_grouping::{GROUPS, Page, request_of};
 use agg_segment::{QueryTree, Schema};
 use agg_values::{ItemList, Steps, Text};
 use std::alloc::Global;
@@ -19,7 +20,7 @@ use std::sync::ledger::{Blank, Ledger};
 /// Records, and what is asked of them.
 #[derive(Clone, Copy)]
 pub struct Question<'q, 'a> {
-    pub grouping: &'q Grouping<'a>,
+    pub asked: &'q Asked<'a>,
     pub query: &'q QueryTree,
     pub snapshots: &'q ItemList<Snapshot>,
 }
@@ -33,7 +34,8 @@ pub fn page_of(
     requires { length question.now.snapshots.now ≡ 1 }
     ensures { IfOk result (λ results. (documents : List Fields)
         → AreOneOf documents page.size (snapshots_documents question.now.snapshots.now)
-        → IsPageOf question.now.grouping.now question.now.query.now documents page results) }
+        → IsPageOf question.now.asked.now.grouping question.now.query.now documents page
+        results) }
 {
     let Walk { pages, .. } = walk_page(alloc, question, page)?;
     let mut pages = pages.into_vec();
@@ -42,7 +44,8 @@ pub fn page_of(
 
 /// The walk over a page of the groups.
 pub fn walk_page(alloc: Global, question: &Question<'_, '_>, page: Page) -> Result<Walk, Failure>
-    ensures { IfOk result (λ walk. IsPageWalk question.now.grouping.now question.now.query.now
+    ensures { IfOk result (λ walk.
+        IsPageWalk question.now.asked.now.grouping question.now.query.now
         (snapshots_documents question.now.snapshots.now) page walk.pages walk.ended) }
 {
     walk_over::<Brand>(alloc, question, page, Blank::new(1))
@@ -58,12 +61,13 @@ fn walk_over<L: Ledger>(
     requires name { blank.name ≡ L.name }
     requires parts { blank.parts ≡ L.parts }
     requires shared { 0 < L.parts }
-    ensures { IfOk result (λ walk. IsPageWalk question.now.grouping.now question.now.query.now
+    ensures { IfOk result (λ walk.
+        IsPageWalk question.now.asked.now.grouping question.now.query.now
         (snapshots_documents question.now.snapshots.now) page walk.pages walk.ended) }
 {
     let mut steps: Steps<L> = Steps::new(blank);
     let mut limits = LimitsLedger::new(None, Some(u32::MAX));
-    let request = request_of(alloc, question.grouping, page)?;
+    let request = request_of(alloc, &question.asked.grouping, page)?;
     let name = Text::copy_of(alloc, GROUPS)?;
     Ok(walk_pages(
         alloc,

@@ -1,75 +1,65 @@
 //! Pages, one after another.
-ghost use Rattle.std.specs.Prelude.{◌≡◌, ℕ, List, IfOk, OnOk, length};
+ghost use Rattle.std.specs.Prelude.{◌≡◌, ℕ, List, IfOk, None, OnOk, length};
 ghost use Rattle.std.specs.Io.KnownBytes.{Appends};
 ghost use Rattle.agg_column.specs.Document.{Fields};
 ghost use Rattle.agg_segment.specs.Snapshot.{snapshots_documents};
 ghost use Rattle.agg_front.specs.Answer.{AreWritten, IsWritten, TellsKey};
 ghost use Rattle.agg_front.specs.Index.{AreOneOf};
-ghost use Rattle.agg_front.specs.Pages.{is_last};
+ghost use Rattle.agg_front.specs.Pages.{is_last, room_of};
 ghost use Rattle.agg_front.specs.Written.{IsPageText};
 
 use crate::after::write_after;
-use crate::asked::{Asked, Pages};
 use crate::check::first_after;
-use crate::columns::columns_of;
 use crate::failure::Failure;
 use crate::page::{Question, page_of};
 use crate::written::{PageWriter, next_after};
 use agg_final_results::AggregationResults;
 use agg_grouping::{Grouping, Page};
 use agg_streams::sink::{Sink, write_all};
-use agg_values::{AfterKey, NameMap, Text};
+use agg_values::{AfterKey, NameMap, OutOfMemory, Text};
 use std::alloc::Global;
 
 /// Writes the pages that are asked for. Answers the text of the key after which the next one
 /// begins, where there is one.
 pub fn write_pages<W: Sink>(
     alloc: Global,
-    asked: &Asked<'_>,
     question: &Question<'_, '_>,
     sink: &mut W,
 ) -> Result<Option<Text>, Failure>
-    requires one { length question.now.snapshots.now ≡ 1 }
-    requires same { question.now.grouping.now ≡ asked.now.grouping }
+    requires { length question.now.snapshots.now ≡ 1 }
     ensures { IfOk result (λ told. (documents : List Fields)
-        → AreOneOf documents asked.now.pages.size
+        → AreOneOf documents (room_of question.now.asked.now.pages)
         (snapshots_documents question.now.snapshots.now)
         → (text : List ℕ) × Appends (W.contents sink.old) (W.contents sink.new) text
-        × IsWritten asked.now question.now.query.now documents told text) }
+        × IsWritten None question.now.asked.now question.now.query.now documents told text) }
 {
-    let writer = PageWriter {
-        alloc,
-        columns: columns_of(alloc, question.grouping)?,
-        output: asked.output,
-        text: String::new(alloc),
-    };
-    let first = first_after(alloc, asked)?;
-    let next = write_from(writer, question, &asked.pages, first, sink)?;
-    next_text(alloc, &next, question.grouping)
+    let writer = PageWriter::new(alloc, question.asked)?;
+    let first = first_after(alloc, question.asked)?;
+    let next = write_from(writer, question, first, sink)?;
+    Ok(next_text(alloc, &next, &question.asked.grouping)?)
 }
 
 // Writes the pages after a key. Answers the key that the last one shows.
 fn write_from<W: Sink>(
     writer: PageWriter,
     question: &Question<'_, '_>,
-    pages: &Pages<'_>,
     first: NameMap<AfterKey>,
     sink: &mut W,
 ) -> Result<NameMap<AfterKey>, Failure>
     requires { length question.now.snapshots.now ≡ 1 }
     ensures { IfOk result (λ next. (documents : List Fields)
-        → AreOneOf documents pages.now.size (snapshots_documents question.now.snapshots.now)
+        → AreOneOf documents (room_of question.now.asked.now.pages)
+        (snapshots_documents question.now.snapshots.now)
         → (text : List ℕ) × Appends (W.contents sink.old) (W.contents sink.new) text
-        × AreWritten question.now.grouping.now question.now.query.now documents pages.now
-        writer.output writer.columns first next text) }
+        × AreWritten question.now.asked.now.grouping question.now.query.now documents
+        question.now.asked.now.pages writer.output writer.columns first next text) }
 {
+    let pages = question.asked.pages;
+    let room = pages.room();
     let mut writer = writer;
     let mut after = first;
     for number in 0..u64::MAX {
-        let page = Page {
-            size: pages.size,
-            after,
-        };
+        let page = Page { size: room, after };
         let page = page_of(writer.alloc, question, page)?;
         after = next_after(writer.alloc, &page)?;
         let is_last = is_last(&after, pages.is_all);
@@ -82,8 +72,8 @@ fn write_from<W: Sink>(
     Err(Failure::OutOfMemory)
 }
 
-// Whether no page is written after one that shows a key.
-fn is_last(shown: &NameMap<AfterKey>, is_all: bool) -> bool
+/// Whether no page is written after one that shows a key.
+pub fn is_last(shown: &NameMap<AfterKey>, is_all: bool) -> bool
     ensures { result ≡ is_last is_all shown.now }
 {
     shown.is_empty() || !is_all
@@ -113,7 +103,7 @@ fn next_text(
     alloc: Global,
     after: &NameMap<AfterKey>,
     grouping: &Grouping<'_>,
-) -> Result<Option<Text>, Failure>
+) -> Result<Option<Text>, OutOfMemory>
     ensures { IfOk result (λ told. TellsKey grouping.now told after.now) }
 {
     if after.is_empty() {

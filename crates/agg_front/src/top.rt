@@ -1,182 +1,119 @@
-//! The groups with the most documents.
-ghost use Rattle.std.specs.Prelude.{◌≡◌, ◌≤◌, ◌++◌, [], List, OnOk, length, nat_lt};
-ghost use Rattle.std.specs.Prelude.{take, vec_len};
-ghost use Rattle.std.specs.List.{position_or_len};
-ghost use Rattle.agg_final_results.specs.declared.types.CompositeBucketEntry.{CompositeBucketEntry};
-ghost use Rattle.agg_front.specs.Top.{ranked_in, top_of};
+//! The text of the groups with the most documents.
+mod groups;
 
-use crate::asked::Asked;
+ghost use Rattle.std.specs.Prelude.{◌≡◌, ℕ, List, IfOk, None, OnOk, Some, length};
+ghost use Rattle.std.specs.Io.KnownBytes.{Appends};
+ghost use Rattle.agg_column.specs.Document.{Fields};
+ghost use Rattle.agg_segment.specs.Snapshot.{snapshots_documents};
+ghost use Rattle.agg_front.specs.Answer.{HasMost, IsWritten};
+ghost use Rattle.agg_front.specs.Index.{AreOneOf};
+ghost use Rattle.agg_front.specs.Pages.{room_of};
+ghost use Rattle.agg_front.specs.Written.{groups_in, total_in};
+
 use crate::check::first_after;
-use crate::columns::columns_of;
 use crate::failure::Failure;
-use crate::page::{Question, walk_page};
-use agg_engine::{Walk, WalkError};
+use crate::page::{Question, page_of};
+use crate::pages::is_last;
+use crate::written::{PageWriter, next_after};
 use agg_final_results::{
-    AggregationResult, AggregationResults, BucketResult, CompositeBucketEntry,
+    AggregationResult, AggregationResults, BucketResult, CompositeBucketEntry, FilterBucketResult,
 };
 use agg_grouping::{GROUPS, Page, TOTAL};
-use agg_tables::{Columns, Row, cells_of_group, cells_of_total, write_rows};
+use agg_streams::sink::{Sink, write_all};
 use agg_values::{AfterKey, NameMap, OutOfMemory, Text};
+use groups::TopGroups;
 use std::alloc::Global;
 
-/// The groups with the most documents, of those that were added: most first, and those with as many
-/// in the order in which they were added.
-#[derive(Drop)]
-pub struct TopGroups {
-    count: usize,
-    groups: Vec<CompositeBucketEntry>,
-    ghost few: { vec_len groups ≤ count },
-}
-
-impl TopGroups {
-    /// No groups, with room for so many.
-    pub fn new(alloc: Global, count: u32) -> TopGroups
-        ensures count { result.count ≡ count }
-        ensures groups { result.groups.items ≡ [] }
-    {
-        TopGroups {
-            count: count as usize,
-            groups: Vec::new(alloc),
-        }
-    }
-
-    /// The groups.
-    pub fn as_slice(&self) -> &[CompositeBucketEntry]
-        ensures { result.now ≡ self.now.groups.items }
-    {
-        self.groups.as_slice()
-    }
-
-    /// Adds groups.
-    pub fn add_all(&mut self, groups: Vec<CompositeBucketEntry>) -> Result<(), OutOfMemory>
-        ensures count { self.new.count ≡ self.old.count }
-        ensures groups { OnOk result ((before : List CompositeBucketEntry)
-            → self.old.groups.items ≡ top_of self.old.count before
-            → self.new.groups.items ≡ top_of self.old.count (before ++ groups.items)) }
-    {
-        for group in groups {
-            self.add(group)?;
-        }
-        Ok(())
-    }
-
-    // Adds a group.
-    fn add(&mut self, group: CompositeBucketEntry) -> Result<(), OutOfMemory>
-        ensures count { self.new.count ≡ self.old.count }
-        ensures groups { OnOk result (self.new.groups.items
-            ≡ take self.old.count (ranked_in group self.old.groups.items)) }
-    {
-        let place = rank_of(&self.groups, group.doc_count);
-        if place >= self.count {
-            return Ok(());
-        }
-        if self.groups.len() == self.count {
-            self.groups.truncate(self.count - 1);
-        }
-        self.groups.insert(place, group)?;
-        Ok(())
-    }
-}
-
-// The place of a group of so many documents: after each that has as many or more.
-fn rank_of(groups: &[CompositeBucketEntry], doc_count: u64) -> usize
-    ensures place { result ≡ position_or_len (λ g. nat_lt g.doc_count doc_count) groups.now }
-    ensures within { result ≤ length groups.now }
-{
-    for (place, group) in groups.iter().enumerate() {
-        if group.doc_count < doc_count {
-            return place;
-        }
-    }
-    groups.len()
-}
-
-/// The text of the groups with the most documents, over all pages from the first key on, and of
-/// the total of all records.
-pub fn top_text(
+/// Writes the groups with the most documents, so many of those of all pages from the first key on,
+/// and the total of all records.
+pub fn write_top<W: Sink>(
     alloc: Global,
-    asked: &Asked<'_>,
     question: &Question<'_, '_>,
     count: u32,
-) -> Result<String, Failure> {
-    let columns = columns_of(alloc, &asked.grouping)?;
-    let mut top = TopGroups::new(alloc, count);
-    let last = add_pages(alloc, asked, question, &mut top)?;
-    let rows = rows_of(alloc, &columns, &top, &last)?;
-    let mut text = String::new(alloc);
-    write_rows(
-        alloc,
-        &mut text,
-        asked.output,
-        &columns,
-        rows.as_slice(),
-        true,
-    )?;
-    Ok(text)
+    sink: &mut W,
+) -> Result<(), Failure>
+    requires { length question.now.snapshots.now ≡ 1 }
+    ensures { OnOk result ((documents : List Fields)
+        → AreOneOf documents (room_of question.now.asked.now.pages)
+        (snapshots_documents question.now.snapshots.now)
+        → (text : List ℕ) × Appends (W.contents sink.old) (W.contents sink.new) text
+        × IsWritten (Some count) question.now.asked.now question.now.query.now documents None
+        text) }
+{
+    let mut writer = PageWriter::new(alloc, question.asked)?;
+    let first = first_after(alloc, question.asked)?;
+    let most = most_of(alloc, question, count, first)?;
+    writer.write_groups(most.groups.as_slice(), most.total.as_ref(), true)?;
+    write_all(sink, writer.text.as_bytes())?;
+    Ok(())
 }
 
-// Adds the groups of all pages. Answers what else the last one has.
-fn add_pages(
+/// The groups with the most documents, and the total of all records, where it is asked for.
+#[derive(Drop)]
+struct Most {
+    groups: TopGroups,
+    total: Option<FilterBucketResult>,
+}
+
+// Those of all pages after a key, so many of them.
+fn most_of(
     alloc: Global,
-    asked: &Asked<'_>,
     question: &Question<'_, '_>,
-    top: &mut TopGroups,
-) -> Result<AggregationResults, Failure> {
-    let mut after = first_after(alloc, asked)?;
-    for _ in 0..u64::MAX {
-        let page = Page {
-            size: asked.pages.room(),
-            after,
-        };
-        let mut results = only_page(alloc, walk_page(alloc, question, page)?);
-        let (groups, next) = take_groups(alloc, &mut results)?;
-        top.add_all(groups)?;
-        if next.is_empty() {
-            return Ok(results);
+    count: u32,
+    first: NameMap<AfterKey>,
+) -> Result<Most, Failure>
+    requires { length question.now.snapshots.now ≡ 1 }
+    ensures { IfOk result (λ most. (documents : List Fields)
+        → AreOneOf documents (room_of question.now.asked.now.pages)
+        (snapshots_documents question.now.snapshots.now)
+        → HasMost question.now.asked.now.grouping question.now.query.now documents
+        (room_of question.now.asked.now.pages) count first most.groups.groups.items most.total) }
+{
+    let room = question.asked.pages.room();
+    let mut groups = TopGroups::new(alloc, count);
+    let mut after = first;
+    for _number in 0..u64::MAX {
+        let page = Page { size: room, after };
+        let mut page = page_of(alloc, question, page)?;
+        after = next_after(alloc, &page)?;
+        let added = take_groups(alloc, &mut page)?;
+        groups.add_all(added)?;
+        if is_last(&after, true) {
+            let total = take_total(alloc, &mut page)?;
+            return Ok(Most { groups, total });
         }
-        after = next;
     }
-    Err(Failure::Refused(WalkError::TooMany))
+    // No memory holds the groups of so many pages.
+    Err(Failure::OutOfMemory)
 }
 
-// The page of a walk over one snapshot.
-fn only_page(alloc: Global, walk: Walk) -> AggregationResults {
-    match walk.pages.into_vec().pop() {
-        Some(page) => page,
-        None => AggregationResults(NameMap::new(alloc)),
-    }
-}
-
-// The groups of a page, which are taken out of it, and the key after which the next one begins.
+// Takes its groups out of a page.
 fn take_groups(
     alloc: Global,
     page: &mut AggregationResults,
-) -> Result<(Vec<CompositeBucketEntry>, NameMap<AfterKey>), OutOfMemory> {
+) -> Result<Vec<CompositeBucketEntry>, OutOfMemory>
+    ensures groups { IfOk result (λ groups. groups.items ≡ groups_in page.old) }
+    ensures total { OnOk result (total_in page.new ≡ total_in page.old) }
+{
     let name = Text::copy_of(alloc, GROUPS)?;
     match page.0.remove(&name) {
-        Some(AggregationResult::BucketResult(BucketResult::Composite { buckets, after_key })) => {
-            Ok((buckets.into_vec(), after_key))
+        Some(AggregationResult::BucketResult(BucketResult::Composite { buckets, .. })) => {
+            Ok(buckets.into_vec())
         }
-        _ => Ok((Vec::new(alloc), NameMap::new(alloc))),
+        _ => Ok(Vec::new(alloc)),
     }
 }
 
-// The rows of groups, and that of the total of all records.
-fn rows_of(
+// Takes its total out of a page, where it has one.
+fn take_total(
     alloc: Global,
-    columns: &Columns,
-    top: &TopGroups,
-    last: &AggregationResults,
-) -> Result<Vec<Row>, OutOfMemory> {
-    let mut rows = Vec::new(alloc);
-    for group in top.as_slice() {
-        let row = cells_of_group(alloc, columns, group)?;
-        rows.push(row)?;
-    }
+    page: &mut AggregationResults,
+) -> Result<Option<FilterBucketResult>, OutOfMemory>
+    ensures { IfOk result (λ total. total ≡ total_in page.old) }
+{
     let name = Text::copy_of(alloc, TOTAL)?;
-    if let Some(AggregationResult::BucketResult(BucketResult::Filter(all))) = last.0.get(&name) {
-        let row = cells_of_total(alloc, columns, all.doc_count, &all.sub_aggregations)?;
-        rows.push(row)?;
+    match page.0.remove(&name) {
+        Some(AggregationResult::BucketResult(BucketResult::Filter(total))) => Ok(Some(total)),
+        _ => Ok(None),
     }
-    Ok(rows)
 }

@@ -1,11 +1,16 @@
-//! The text of a page.
-ghost use Rattle.std.specs.Prelude.{◌≡◌, ◌++◌, IfOk, List, OnOk, option_map, string_bytes};
+//! The text of groups.
+ghost use Rattle.std.specs.Prelude.{◌≡◌, ◌++◌, IfErr, IfOk, List, OnOk, option_map};
+ghost use Rattle.std.specs.Prelude.{string_bytes};
 ghost use Rattle.std.specs.List.{AllZip};
-ghost use Rattle.agg_front.specs.Pages.{next_after};
 ghost use Rattle.agg_tables.specs.declared.row.Row.{Row as Line};
-ghost use Rattle.agg_front.specs.Written.{AreRowsOf, AreTotalRows, IsGroupRow, IsPageText};
-ghost use Rattle.agg_front.specs.Written.{groups_in, total_in, total_written};
+ghost use Rattle.agg_front.specs.Columns.{HaveNoColumns, HaveOwnHeaders, columns_asked};
+ghost use Rattle.agg_front.specs.Pages.{next_after};
+ghost use Rattle.agg_front.specs.Written.{AreRowsOf, AreTotalRows, IsGroupRow, IsGroupsText};
+ghost use Rattle.agg_front.specs.Written.{IsPageText, groups_in, total_in, total_written};
 
+use crate::asked::Asked;
+use crate::columns::columns_of;
+use crate::failure::Failure;
 use agg_final_results::{
     AggregationResult, AggregationResults, BucketResult, CompositeBucketEntry, FilterBucketResult,
 };
@@ -25,6 +30,22 @@ pub struct PageWriter {
 }
 
 impl PageWriter {
+    /// A writer of what is asked for, in its columns.
+    pub fn new(alloc: Global, asked: &Asked<'_>) -> Result<PageWriter, Failure>
+        ensures columns { IfOk result
+            (λ writer. writer.columns ≡ columns_asked asked.now.grouping) }
+        ensures output { IfOk result (λ writer. writer.output ≡ asked.now.output) }
+        ensures apart { OnOk result (HaveOwnHeaders (columns_asked asked.now.grouping)) }
+        ensures cause { IfErr result (HaveNoColumns (columns_asked asked.now.grouping)) }
+    {
+        Ok(PageWriter {
+            alloc,
+            columns: columns_of(alloc, &asked.grouping)?,
+            output: asked.output,
+            text: String::new(alloc),
+        })
+    }
+
     /// Makes the text of a page: its rows after the header, and after the last page the row of all
     /// records.
     pub fn write_page(
@@ -38,7 +59,24 @@ impl PageWriter {
         ensures columns { self.new.columns ≡ self.old.columns }
         ensures output { self.new.output ≡ self.old.output }
     {
-        let rows = rows_of_page(self.alloc, &self.columns, page, is_last)?;
+        let groups = groups_of(self.alloc, page)?;
+        let total = total_written(self.alloc, page, is_last)?;
+        self.write_groups(groups, total, is_first)
+    }
+
+    /// Makes the text of groups and a total: their rows after the header.
+    pub fn write_groups(
+        &mut self,
+        groups: &[CompositeBucketEntry],
+        total: Option<&FilterBucketResult>,
+        is_first: bool,
+    ) -> Result<(), OutOfMemory>
+        ensures text { OnOk result (IsGroupsText self.old.columns self.old.output is_first
+            groups.now (option_map (λ t. t.now) total.entry) (string_bytes self.new.text)) }
+        ensures columns { self.new.columns ≡ self.old.columns }
+        ensures output { self.new.output ≡ self.old.output }
+    {
+        let rows = rows_of(self.alloc, &self.columns, groups, total)?;
         self.text.clear();
         write_rows(
             self.alloc,
@@ -79,22 +117,17 @@ fn copy_of(alloc: Global, after: &NameMap<AfterKey>) -> Result<NameMap<AfterKey>
     Ok(copy)
 }
 
-// The rows of a page: that of each group, and on the last page that of all records.
-fn rows_of_page(
+// The rows of groups, and that of a total.
+fn rows_of(
     alloc: Global,
     columns: &Columns,
-    page: &AggregationResults,
-    is_last: bool,
+    groups: &[CompositeBucketEntry],
+    total: Option<&FilterBucketResult>,
 ) -> Result<Vec<Row>, OutOfMemory>
-    ensures { IfOk result (λ rows. AreRowsOf columns.now is_last page.now rows.items) }
+    ensures { IfOk result (λ rows.
+        AreRowsOf columns.now groups.now (option_map (λ t. t.now) total.entry) rows.items) }
 {
-    let groups = groups_of(alloc, page)?;
     let mut rows = rows_of_groups(alloc, columns, groups)?;
-    let total = if is_last {
-        total_of(alloc, page)?
-    } else {
-        None
-    };
     add_total(alloc, &mut rows, columns, total)?;
     Ok(rows)
 }
@@ -127,6 +160,21 @@ fn total_of(
         Some(AggregationResult::BucketResult(BucketResult::Filter(total))) => Ok(Some(total)),
         _ => Ok(None),
     }
+}
+
+// The total that is written of a page: only that of the last one is.
+fn total_written(
+    alloc: Global,
+    page: &AggregationResults,
+    is_last: bool,
+) -> Result<Option<&FilterBucketResult>, OutOfMemory>
+    ensures { IfOk result (λ total.
+        option_map (λ t. t.now) total ≡ total_written is_last page.now) }
+{
+    if !is_last {
+        return Ok(None);
+    }
+    total_of(alloc, page)
 }
 
 // A row for each group.

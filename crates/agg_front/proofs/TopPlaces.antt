@@ -1,17 +1,19 @@
--- Groups that are ranked by their number of documents.
-use Rattle.std.proofs.Common.{◌≡◌, ◌<◌, ◌≤◌, ◌+◌, ◌-◌, ◌++◌, ◌∷◌, [], ℕ, zero, suc, List}
-use Rattle.std.proofs.Common.{true, false, ap, arith, inl, inr, length, nat_lt, refl, subst, sym}
-use Rattle.std.proofs.Common.{take, ◌∙◌}
-use Rattle.std.specs.Prelude.{fold, insert}
-use Rattle.std.proofs.Common.{add-one, drop, get_or}
-use Rattle.std.proofs.Math.Seq.{drop-cons}
-use Rattle.std.proofs.lemmas.Bool.Decides.{nat_tests}
-use Rattle.std.proofs.lemmas.List.{drop_all}
-use Rattle.std.proofs.lemmas.List.Edits.{length-insert}
+-- The place of a group among the first of groups in order.
+use Rattle.std.proofs.Common.{◌≡◌, ◌<◌, ◌≤◌, ◌+◌, ◌-◌, ◌++◌, ◌∷◌, ◌∙◌, [], ℕ, zero, suc, List}
+use Rattle.std.proofs.Common.{true, false, ap, arith, get_or, inl, inr, leb, length, nat_lt, refl}
+use Rattle.std.proofs.Common.{Some, subst, sym, take}
+use Rattle.std.specs.Prelude.{insert, slice_get}
 use Rattle.std.specs.List.{position_or_len}
+use Rattle.std.specs.List.Sorted.{IsPartitionPoint, IsPartitionedBy, IsSortedBy}
 use Rattle.std.proofs.lemmas.Bool.{cases_Bool}
+use Rattle.std.proofs.lemmas.Bool.Decides.{nat_tests}
+use Rattle.std.proofs.lemmas.List.Edits.{length-insert}
+use Rattle.std.proofs.lemmas.List.{get_or-take, length-take}
+use Rattle.std.proofs.lemmas.List.Sums.{position_or_len_is}
+use Rattle.std.proofs.lemmas.Option.{get_or_from_slice_get}
 use Rattle.agg_final_results.specs.declared.types.CompositeBucketEntry.{CompositeBucketEntry}
-use Rattle.agg_front.specs.Top.{by_count, ranked_in, top_of}
+use Rattle.agg_front.specs.Top.{AreTop, has_more}
+use Rattle.agg_front.proofs.RankedGroups.{no-more, ranked-more, ranked-none, ranked_in}
 
 -- the place of a group among others
 abbrev pub rank : CompositeBucketEntry → List CompositeBucketEntry → ℕ
@@ -85,23 +87,42 @@ rank-first (suc n) group (first ∷ others) =
       | inr less ↦ rw less (ap (λ gs. first ∷ gs) (rank-first n group others))
     ]
 
--- one more group of those that are ranked
-pub by_count-more : (before : List CompositeBucketEntry) (group : CompositeBucketEntry)
-    → by_count (before ++ group ∷ []) ≡ ranked_in group (by_count before)
-by_count-more before group = more before []
-  where
-    more : (before ranked : List CompositeBucketEntry)
-        → fold (λ rs g. ranked_in g rs) ranked (before ++ group ∷ [])
-        ≡ ranked_in group (fold (λ rs g. ranked_in g rs) ranked before)
-    more [] ranked = refl
-    more (g ∷ before) ranked = more before (ranked_in g ranked)
+-- ---- the first groups
 
-pub top-more : (n : ℕ) (before : List CompositeBucketEntry) (group : CompositeBucketEntry)
-    (kept new : List CompositeBucketEntry) → kept ≡ top_of n before
-    → new ≡ take n (ranked_in group kept) → new ≡ top_of n (before ++ group ∷ [])
-top-more n before group kept new is added =
-    added ∙ ap (λ gs. take n (ranked_in group gs)) is ∙ rank-first n group (by_count before)
-    ∙ ap (take n) (sym (by_count-more before group))
+-- none is the first of none
+pub top-none : (count : ℕ) (top : List CompositeBucketEntry) → top ≡ [] → AreTop count [] top
+top-none count top none = record {
+  ranked = [];
+  are_ranked = ranked-none;
+  first = none ∙ sym (take-none count);
+}
+  where
+    take-none : (n : ℕ) → take {A = CompositeBucketEntry} n [] ≡ []
+    take-none zero = refl
+    take-none (suc n) = refl
+
+-- the first groups with one more
+pub top-more : (count : ℕ) (before : List CompositeBucketEntry) (group : CompositeBucketEntry)
+    (kept new : List CompositeBucketEntry) → AreTop count before kept
+    → new ≡ take count (ranked_in group kept) → AreTop count (before ++ group ∷ []) new
+top-more count before group kept new are added = record {
+  ranked = ranked_in group are.ranked;
+  are_ranked = ranked-more before are.ranked group are.are_ranked;
+  first = added ∙ ap (λ gs. take count (ranked_in group gs)) are.first
+      ∙ rank-first count group are.ranked;
+}
+
+-- they are sorted
+pub top-sorted : (count : ℕ) (before top : List CompositeBucketEntry) → AreTop count before top
+    → IsSortedBy has_more top
+top-sorted count before top are =
+    subst (IsSortedBy has_more) (sym are.first)
+    (λ k d low within.
+    let long : k + 1 < count = omega (arith, within, length-take count are.ranked) in
+    let here = get_or-take count are.ranked k d (omega (arith, long)) in
+    let next = get_or-take count are.ranked (k + 1) d long in
+    rw (here, next) (are.are_ranked.sorted k d low
+    (omega (arith, within, length-take count are.ranked))))
 
 -- ---- a group that is added
 
@@ -139,47 +160,42 @@ put-in n group groups new place room is within put =
 
 -- ---- a search for the place
 
--- how many groups at the front have as many documents or more
-abbrev pub rank_by : ℕ → List CompositeBucketEntry → ℕ
-rank_by count groups = position_or_len (λ g. nat_lt g.doc_count count) groups
+-- groups in order are cut where they have fewer documents than so many
+pub cut-by-count : (count : ℕ) (groups : List CompositeBucketEntry) → IsSortedBy has_more groups
+    → IsPartitionedBy (λ g. leb count g.doc_count) groups
+cut-by-count count groups sorted i j d before within has =
+    let falls = no-more groups sorted i j d before within in
+    grind (arith, nat_tests, falls, has)
 
-rank-fewer : (count : ℕ) (first : CompositeBucketEntry) (others : List CompositeBucketEntry)
-    → first.doc_count < count → rank_by count (first ∷ others) ≡ 0
-rank-fewer count first others fewer =
-    let test : nat_lt first.doc_count count ≡ true = grind (arith, nat_tests) in rw test refl
+-- what the last one has
+pub last-count : (count : ℕ) (groups : List CompositeBucketEntry) (last : CompositeBucketEntry)
+    → Some last ≡ slice_get groups (length groups - 1) → count ≤ last.doc_count
+    → count ≤ (get_or groups (length groups - 1) last).doc_count
+last-count count groups last is has =
+    subst (λ (g : CompositeBucketEntry). count ≤ g.doc_count)
+    (sym (get_or_from_slice_get groups (length groups - 1) last last (sym is))) has
 
-rank-more : (count : ℕ) (first : CompositeBucketEntry) (others : List CompositeBucketEntry)
-    → count ≤ first.doc_count → rank_by count (first ∷ others) ≡ 1 + rank_by count others
-rank-more count first others more =
-    let test : nat_lt first.doc_count count ≡ false = grind (arith, nat_tests) in rw test refl
+-- where all have as many, the place is the end
+pub place-at-end : (count : ℕ) (groups : List CompositeBucketEntry) (d : CompositeBucketEntry)
+    → IsSortedBy has_more groups → count ≤ (get_or groups (length groups - 1) d).doc_count
+    → length groups ≡ position_or_len (λ g. nat_lt g.doc_count count) groups
+place-at-end count groups d sorted last =
+    sym (position_or_len_is (λ (g : CompositeBucketEntry). nat_lt g.doc_count count) groups
+    (length groups) d (omega arith)
+    (λ k within.
+    let falls = no-more groups sorted k (length groups - 1) d (omega arith) (omega arith) in
+    grind (arith, nat_tests, falls, last))
+    (λ past. absurd (omega (arith, past))))
 
--- a group that has fewer is at the place
-pub found-here : (count i : ℕ) (group : CompositeBucketEntry) (groups : List CompositeBucketEntry)
-    → i < length groups → group ≡ get_or groups i group
-    → rank_by count groups ≡ i + rank_by count (drop i groups) → group.doc_count < count
-    → i ≡ rank_by count groups
-found-here count i group groups within is so_far fewer =
-    let next = drop-cons groups i group within ∙ ap (λ g. g ∷ drop (suc i) groups) (sym is) in
-    let here : rank_by count (drop i groups) ≡ 0 =
-    ap (rank_by count) next ∙ rank-fewer count group (drop (suc i) groups) fewer in
-    omega (arith, so_far, here)
-
--- one that hasn't is before it
-pub found-later : (count i : ℕ) (group : CompositeBucketEntry)
-    (groups : List CompositeBucketEntry) → i < length groups → group ≡ get_or groups i group
-    → rank_by count groups ≡ i + rank_by count (drop i groups) → count ≤ group.doc_count
-    → rank_by count groups ≡ (i + 1) + rank_by count (drop (i + 1) groups)
-found-later count i group groups within is so_far more =
-    let next = drop-cons groups i group within ∙ ap (λ g. g ∷ drop (suc i) groups) (sym is) in
-    let here : rank_by count (drop i groups) ≡ 1 + rank_by count (drop (suc i) groups) =
-    ap (rank_by count) next ∙ rank-more count group (drop (suc i) groups) more in
-    rw (add-one i) (omega (arith, so_far, here))
-
--- where none has, it is the end
-pub found-end : (count i size : ℕ) (groups : List CompositeBucketEntry) → size ≡ length groups
-    → i ≡ size → rank_by count groups ≡ i + rank_by count (drop i groups)
-    → size ≡ rank_by count groups
-found-end count i size groups is end so_far =
-    let none : drop i groups ≡ [] = drop_all i groups (omega arith) in
-    let here : rank_by count (drop i groups) ≡ 0 = ap (rank_by count) none in
-    omega (arith, so_far, here)
+-- it is where the groups are cut
+pub place-at-cut : (count place : ℕ) (groups : List CompositeBucketEntry) → place ≤ length groups
+    → IsPartitionPoint (λ g. leb count g.doc_count ≡ true) (λ g. leb count g.doc_count ≡ false)
+    groups place
+    → place ≡ position_or_len (λ g. nat_lt g.doc_count count) groups
+place-at-cut count place [] within cut = omega (arith, within)
+place-at-cut count place (group ∷ groups) within cut =
+    sym (position_or_len_is (λ (g : CompositeBucketEntry). nat_lt g.doc_count count)
+    (group ∷ groups) place group within
+    (λ k before.
+    let has = cut.0 k group (omega arith) before in grind (arith, nat_tests, has))
+    (λ here. let lacks = cut.1 place group (omega arith) here in grind (arith, nat_tests, lacks)))

@@ -1,0 +1,29 @@
+use Rattle.std.proofs.Common.{IfOk, List, None, subst, sym, ℕ}
+use Rattle.std.specs.Io.KnownBytes.{Appends}
+use Rattle.agg_column.specs.Document.{Fields}
+use Rattle.agg_segment.specs.Snapshot.{snapshots_documents}
+use Rattle.agg_front.specs.Answer.{IsWritten}
+use Rattle.agg_front.specs.Index.{AreOneOf}
+use Rattle.agg_front.specs.Pages.{room_of}
+use Rattle.agg_front.proofs.grouped.write_answer.Goals as goal
+
+pub returns-in_default : goal.returns-in_default
+returns-in_default g c =
+    let question = c.args.question.now in
+    let asked = question.asked.now in
+    subst (λ top. IfOk c.write_pages.result (λ told. (documents : List Fields)
+    → AreOneOf documents (room_of asked.pages) (snapshots_documents question.snapshots.now)
+    → (text : List ℕ)
+    × Appends (g.W.Sink.contents c.args.sink.now) (g.W.Sink.contents c.write_pages.new.sink) text
+    × IsWritten top asked question.query.now documents told text))
+    (sym c.in_default.is) c.write_pages.ensures
+
+pub returns : goal.returns
+returns g c = λ documents are.
+    let question = c.args.question.now in
+    let run = c.in_ok-write_top.ensures documents are in (
+      run.0,
+      run.1,
+      subst (λ top. IsWritten top question.asked.now question.query.now documents None run.0)
+          (sym c.in-Some.is) run.2,
+    )
