@@ -36,20 +36,14 @@ pub fn walk_file(
     end_of(rt.alloc(), name, status, bytes.as_slice())
 }
 
-// The builder that filters of a request may ask for.
-fn known_builders(alloc: Global) -> Result<Vec<NamedBuilder>, OutOfMemory> {
+// The status of a run over bytes, with the builder that filters of a request may ask for.
+fn status_of<W: Sink>(alloc: Global, bytes: &[u8], sink: &mut W) -> Result<Status, OutOfMemory> {
+    let words = [Text::copy_of(alloc, "walk")?];
     let mut builders = Vec::new(alloc);
     builders.push(NamedBuilder {
         name: Text::copy_of(alloc, "any_field")?,
         builder: Box::new(alloc, AnyField)?,
     })?;
-    Ok(builders)
-}
-
-// The status of a run over bytes.
-fn status_of<W: Sink>(alloc: Global, bytes: &[u8], sink: &mut W) -> Result<Status, OutOfMemory> {
-    let words = [Text::copy_of(alloc, "walk")?];
-    let builders = known_builders(alloc)?;
     let mut source = StdSource::new(bytes);
     Ok(run_uncounted(alloc, &words, builders, &mut source, sink))
 }
@@ -73,7 +67,11 @@ fn end_of(alloc: Global, name: &str, status: Status, bytes: &[u8]) -> Result<(),
 // The words of the refusal of an input.
 fn refusal_of(alloc: Global, bytes: &[u8]) -> Result<Text, OutOfMemory> {
     let mut words = String::new(alloc);
-    let builders = known_builders(alloc)?;
+    let mut builders = Vec::new(alloc);
+    builders.push(NamedBuilder {
+        name: Text::copy_of(alloc, "any_field")?,
+        builder: Box::new(alloc, AnyField)?,
+    })?;
     if let Ok(input) = read_input(alloc, builders, bytes) {
         if let Err(error) = walk_of::<Brand>(alloc, &input, Blank::new(1)) {
             let header = &input.header;
