@@ -107,7 +107,7 @@ module _ {B C : Type 0} (of : B → C) where
         (with_builders_in of total, total-built total is, ap (with_builders of) only)
     totals-built false totals none = ap (with_builders of) none
 
-    request-built : (page : Page) (request : Request B) → IsRequestOf grouping page request
+    pub request-built : (page : Page) (request : Request B) → IsRequestOf grouping page request
         → IsRequestOf grouping page (with_builders of request)
     request-built page request is = record {
       groups = with_builders_in of is.groups;

@@ -103,7 +103,7 @@ module _ {B : Type 0} (is_match : B → Fields → Bool) (of : B → QueryTree)
   results-built request documents results are depth =
       each-built depth (result-built depth) request documents results.0 (are depth)
 
-  size-built : (size : ℕ) (agg : AggregationVariants B)
+  pub size-built : (size : ℕ) (agg : AggregationVariants B)
       → with_own_builder of (with_size size agg) ≡ with_size size (with_own_builder of agg)
   size-built size (Composite c) = refl
   size-built size (Filter a) = refl

@@ -1,12 +1,16 @@
 pub mod AskedAll
+pub mod BuiltRefusals
 pub mod BuiltRequests
 pub mod BuiltWalks
 pub mod ColumnNames
 pub mod CsvCells
 pub mod CsvLine
+pub mod Failed
+pub mod Failures
 pub mod FileDocuments
 pub mod NamedKeys
 pub mod NextKeys
+pub mod NoTexts
 pub mod OnePage
 pub mod OneSnapshot
 pub mod PageParts

@@ -67,11 +67,11 @@ module _ (types : Named FieldType) where
 
 module _ (grouping : Grouping) where
   -- under the name of the groups stands their composite
-  groups-named : (page : Page) (request : Request QueryTree)
+  pub groups-named : {B : Type 0} (page : Page) (request : Request B)
       (asked : IsRequestOf grouping page request)
       → IsCompositeNamed (codes "groups") request asked.are_groups.composite
-  groups-named page request asked =
-      ap (λ (r : Request QueryTree). option_map (λ (a : Aggregation QueryTree). agg_of a)
+  groups-named {B} page request asked =
+      ap (λ (r : Request B). option_map (λ (a : Aggregation B). agg_of a)
       (value_of (codes "groups") r)) asked.entries
       ∙ ap Some asked.are_groups.asked
 

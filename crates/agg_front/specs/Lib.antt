@@ -2,6 +2,7 @@ pub mod After
 pub mod AfterCells
 pub mod Answer
 pub mod Asking
+pub mod Causes
 pub mod Check
 pub mod Codes
 pub mod Columns

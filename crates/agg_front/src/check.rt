@@ -1,5 +1,6 @@
 //! What is asked, before any record is read.
-ghost use Rattle.std.specs.Prelude.{IfOk, OnOk};
+ghost use Rattle.std.specs.Prelude.{IfErr, IfOk, OnOk};
+ghost use Rattle.agg_front.specs.Causes.{HasNoFirst, IsRefusedAtOnce};
 ghost use Rattle.agg_front.specs.Check.{BeginsAfter, MayBeAsked, after_asked};
 
 use crate::after::after_of;
@@ -12,7 +13,8 @@ use std::alloc::Global;
 
 /// Checks what is asked, before any record is read.
 pub fn check_asked(alloc: Global, asked: &Asked<'_>) -> Result<(), Failure>
-    ensures { OnOk result (MayBeAsked asked.now) }
+    ensures ok { OnOk result (MayBeAsked asked.now) }
+    ensures cause { IfErr result (IsRefusedAtOnce asked.now) }
 {
     query_of(alloc, &asked.grouping)?;
     first_after(alloc, asked)?;
@@ -22,7 +24,8 @@ pub fn check_asked(alloc: Global, asked: &Asked<'_>) -> Result<(), Failure>
 
 /// The key after which the first page begins.
 pub fn first_after(alloc: Global, asked: &Asked<'_>) -> Result<NameMap<AfterKey>, Failure>
-    ensures { IfOk result (BeginsAfter asked.now.grouping (after_asked asked.now)) }
+    ensures begins { IfOk result (BeginsAfter asked.now.grouping (after_asked asked.now)) }
+    ensures cause { IfErr result (HasNoFirst asked.now.grouping (after_asked asked.now)) }
 {
     match asked.pages.after {
         Some(text) => Ok(after_of(alloc, text, &asked.grouping)?),

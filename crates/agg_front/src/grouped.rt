@@ -1,10 +1,12 @@
 //! A whole grouping: records in, pages out.
-ghost use Rattle.std.specs.Prelude.{◌≡◌, ℕ, IfOk, List, length};
+ghost use Rattle.std.specs.Prelude.{◌≡◌, ℕ, IfErr, IfOk, List, length};
 ghost use Rattle.std.specs.Io.KnownBytes.{Appends};
 ghost use Rattle.agg_column.specs.Document.{Fields};
 ghost use Rattle.agg_segment.specs.Snapshot.{snapshots_documents};
+ghost use Rattle.agg_streams.specs.Causes.{Rose};
 ghost use Rattle.agg_front.specs.Answer.{AreRead, IsAnswered, IsWritten};
 ghost use Rattle.agg_front.specs.Asking.{AskAll, AskFor};
+ghost use Rattle.agg_front.specs.Causes.{HasFailed, HasNoText, HaveNoRecords};
 ghost use Rattle.agg_front.specs.Index.{AreOneOf};
 ghost use Rattle.agg_front.specs.Pages.{room_of};
 
@@ -31,8 +33,10 @@ pub fn group<W: Sink>(
     files: Vec<RecordFile<'_>>,
     sink: &mut W,
 ) -> Result<Report, Failure>
-    ensures { IfOk result (λ report. IsAnswered asked.now files.entry.items report
+    ensures answered { IfOk result (λ report. IsAnswered asked.now files.entry.items report
         (W.contents sink.old) (W.contents sink.new)) }
+    ensures cause { IfErr result (HasFailed asked.now files.entry.items
+        (Rose (W.faults sink.old) (W.faults sink.new))) }
 {
     let query = query_of(alloc, &asked.grouping)?;
     let index = index_of(alloc, asked, &query, files)?;
@@ -53,12 +57,17 @@ fn write_answer<W: Sink>(
     sink: &mut W,
 ) -> Result<Option<Text>, Failure>
     requires { length question.now.snapshots.now ≡ 1 }
-    ensures { IfOk result (λ told. (documents : List Fields)
+    ensures written { IfOk result (λ told. (documents : List Fields)
         → AreOneOf documents (room_of question.now.asked.now.pages)
         (snapshots_documents question.now.snapshots.now)
         → (text : List ℕ) × Appends (W.contents sink.old) (W.contents sink.new) text
         × IsWritten question.now.asked.now.pages.top question.now.asked.now question.now.query.now
         documents told text) }
+    ensures cause { IfErr result (λ why. (documents : List Fields)
+        → AreOneOf documents (room_of question.now.asked.now.pages)
+        (snapshots_documents question.now.snapshots.now)
+        → HasNoText question.now.asked.now question.now.query.now documents
+        (Rose (W.faults sink.old) (W.faults sink.new)) why) }
 {
     let Some(count) = question.asked.pages.top else {
         return write_pages(alloc, question, sink);
@@ -74,9 +83,10 @@ fn index_of(
     query: &QueryTree,
     files: Vec<RecordFile<'_>>,
 ) -> Result<Index, Failure>
-    ensures { IfOk result (λ index. (documents : List Fields)
+    ensures index { IfOk result (λ index. (documents : List Fields)
         × AreRead asked.now.grouping query.now files.entry.items documents index.unseen.items
         × AreOneOf documents (room_of asked.now.pages) (snapshots_documents index.snapshots)) }
+    ensures cause { IfErr result (HaveNoRecords files.entry.items) }
 {
     let fields = fields_of(alloc, &asked.grouping, query)?;
     let records = records_of(alloc, files, &fields)?;

@@ -1,7 +1,8 @@
 //! A page of the groups.
-ghost use Rattle.std.specs.Prelude.{◌≡◌, ◌<◌, IfOk, List, length};
+ghost use Rattle.std.specs.Prelude.{◌≡◌, ◌<◌, IfErr, IfOk, List, length};
 ghost use Rattle.agg_column.specs.Document.{Fields};
 ghost use Rattle.agg_segment.specs.Snapshot.{snapshots_documents};
+ghost use Rattle.agg_front.specs.Causes.{HasNoPage};
 ghost use Rattle.agg_front.specs.Index.{AreOneOf};
 ghost use Rattle.agg_front.specs.Pages.{IsPageOf, IsPageWalk};
 
@@ -32,10 +33,13 @@ pub fn page_of(
     page: Page,
 ) -> Result<AggregationResults, Failure>
     requires { length question.now.snapshots.now ≡ 1 }
-    ensures { IfOk result (λ results. (documents : List Fields)
+    ensures page { IfOk result (λ results. (documents : List Fields)
         → AreOneOf documents page.size (snapshots_documents question.now.snapshots.now)
         → IsPageOf question.now.asked.now.grouping question.now.query.now documents page
         results) }
+    ensures cause { IfErr result (λ why. (documents : List Fields)
+        → AreOneOf documents page.size (snapshots_documents question.now.snapshots.now)
+        → HasNoPage question.now.asked.now.grouping question.now.query.now documents page why) }
 {
     let Walk { pages, .. } = walk_page(alloc, question, page)?;
     let mut pages = pages.into_vec();
@@ -44,9 +48,12 @@ pub fn page_of(
 
 /// The walk over a page of the groups.
 pub fn walk_page(alloc: Global, question: &Question<'_, '_>, page: Page) -> Result<Walk, Failure>
-    ensures { IfOk result (λ walk.
+    ensures walk { IfOk result (λ walk.
         IsPageWalk question.now.asked.now.grouping question.now.query.now
         (snapshots_documents question.now.snapshots.now) page walk.pages walk.ended) }
+    ensures cause { IfErr result (λ why. (documents : List Fields)
+        → AreOneOf documents page.size (snapshots_documents question.now.snapshots.now)
+        → HasNoPage question.now.asked.now.grouping question.now.query.now documents page why) }
 {
     walk_over::<Brand>(alloc, question, page, Blank::new(1))
 }
@@ -61,9 +68,12 @@ fn walk_over<L: Ledger>(
     requires name { blank.name ≡ L.name }
     requires parts { blank.parts ≡ L.parts }
     requires shared { 0 < L.parts }
-    ensures { IfOk result (λ walk.
+    ensures walk { IfOk result (λ walk.
         IsPageWalk question.now.asked.now.grouping question.now.query.now
         (snapshots_documents question.now.snapshots.now) page walk.pages walk.ended) }
+    ensures cause { IfErr result (λ why. (documents : List Fields)
+        → AreOneOf documents page.size (snapshots_documents question.now.snapshots.now)
+        → HasNoPage question.now.asked.now.grouping question.now.query.now documents page why) }
 {
     let mut steps: Steps<L> = Steps::new(blank);
     let mut limits = LimitsLedger::new(None, Some(u32::MAX));

@@ -1,9 +1,11 @@
 //! Pages, one after another.
-ghost use Rattle.std.specs.Prelude.{◌≡◌, ℕ, List, IfOk, None, OnOk, length};
+ghost use Rattle.std.specs.Prelude.{◌≡◌, ◌≤◌, ℕ, List, IfErr, IfOk, None, OnOk, length};
 ghost use Rattle.std.specs.Io.KnownBytes.{Appends};
 ghost use Rattle.agg_column.specs.Document.{Fields};
 ghost use Rattle.agg_segment.specs.Snapshot.{snapshots_documents};
+ghost use Rattle.agg_streams.specs.Causes.{Rose};
 ghost use Rattle.agg_front.specs.Answer.{AreWritten, IsWritten, TellsKey};
+ghost use Rattle.agg_front.specs.Causes.{HasNoText, IsUnwritten};
 ghost use Rattle.agg_front.specs.Index.{AreOneOf};
 ghost use Rattle.agg_front.specs.Pages.{is_last, room_of};
 ghost use Rattle.agg_front.specs.Written.{IsPageText};
@@ -27,11 +29,16 @@ pub fn write_pages<W: Sink>(
     sink: &mut W,
 ) -> Result<Option<Text>, Failure>
     requires { length question.now.snapshots.now ≡ 1 }
-    ensures { IfOk result (λ told. (documents : List Fields)
+    ensures written { IfOk result (λ told. (documents : List Fields)
         → AreOneOf documents (room_of question.now.asked.now.pages)
         (snapshots_documents question.now.snapshots.now)
         → (text : List ℕ) × Appends (W.contents sink.old) (W.contents sink.new) text
         × IsWritten None question.now.asked.now question.now.query.now documents told text) }
+    ensures cause { IfErr result (λ why. (documents : List Fields)
+        → AreOneOf documents (room_of question.now.asked.now.pages)
+        (snapshots_documents question.now.snapshots.now)
+        → HasNoText question.now.asked.now question.now.query.now documents
+        (Rose (W.faults sink.old) (W.faults sink.new)) why) }
 {
     let writer = PageWriter::new(alloc, question.asked)?;
     let first = first_after(alloc, question.asked)?;
@@ -47,12 +54,17 @@ fn write_from<W: Sink>(
     sink: &mut W,
 ) -> Result<NameMap<AfterKey>, Failure>
     requires { length question.now.snapshots.now ≡ 1 }
-    ensures { IfOk result (λ next. (documents : List Fields)
+    ensures written { IfOk result (λ next. (documents : List Fields)
         → AreOneOf documents (room_of question.now.asked.now.pages)
         (snapshots_documents question.now.snapshots.now)
         → (text : List ℕ) × Appends (W.contents sink.old) (W.contents sink.new) text
         × AreWritten question.now.asked.now.grouping question.now.query.now documents
         question.now.asked.now.pages writer.output writer.columns first next text) }
+    ensures cause { IfErr result (λ why. (documents : List Fields)
+        → AreOneOf documents (room_of question.now.asked.now.pages)
+        (snapshots_documents question.now.snapshots.now)
+        → HasNoText question.now.asked.now question.now.query.now documents
+        (Rose (W.faults sink.old) (W.faults sink.new)) why) }
 {
     let pages = question.asked.pages;
     let room = pages.room();
@@ -92,6 +104,8 @@ fn send_page<W: Sink>(
         × IsPageText writer.old.columns writer.old.output is_first is_last page.now text) }
     ensures columns { writer.new.columns ≡ writer.old.columns }
     ensures output { writer.new.output ≡ writer.old.output }
+    ensures cause { IfErr result (IsUnwritten (Rose (W.faults sink.old) (W.faults sink.new))) }
+    ensures later { W.faults sink.old ≤ W.faults sink.new }
 {
     writer.write_page(page, is_first, is_last)?;
     write_all(sink, writer.text.as_bytes())?;

@@ -1,11 +1,13 @@
 //! The text of the groups with the most documents.
 mod groups;
 
-ghost use Rattle.std.specs.Prelude.{◌≡◌, ℕ, List, IfOk, None, OnOk, Some, length};
+ghost use Rattle.std.specs.Prelude.{◌≡◌, ℕ, List, IfErr, IfOk, None, OnOk, Some, length};
 ghost use Rattle.std.specs.Io.KnownBytes.{Appends};
 ghost use Rattle.agg_column.specs.Document.{Fields};
 ghost use Rattle.agg_segment.specs.Snapshot.{snapshots_documents};
+ghost use Rattle.agg_streams.specs.Causes.{Rose};
 ghost use Rattle.agg_front.specs.Answer.{HasMost, IsWritten};
+ghost use Rattle.agg_front.specs.Causes.{HasNoText};
 ghost use Rattle.agg_front.specs.Index.{AreOneOf};
 ghost use Rattle.agg_front.specs.Pages.{room_of};
 ghost use Rattle.agg_front.specs.Written.{groups_in, total_in};
@@ -33,12 +35,17 @@ pub fn write_top<W: Sink>(
     sink: &mut W,
 ) -> Result<(), Failure>
     requires { length question.now.snapshots.now ≡ 1 }
-    ensures { OnOk result ((documents : List Fields)
+    ensures written { OnOk result ((documents : List Fields)
         → AreOneOf documents (room_of question.now.asked.now.pages)
         (snapshots_documents question.now.snapshots.now)
         → (text : List ℕ) × Appends (W.contents sink.old) (W.contents sink.new) text
         × IsWritten (Some count) question.now.asked.now question.now.query.now documents None
         text) }
+    ensures cause { IfErr result (λ why. (documents : List Fields)
+        → AreOneOf documents (room_of question.now.asked.now.pages)
+        (snapshots_documents question.now.snapshots.now)
+        → HasNoText question.now.asked.now question.now.query.now documents
+        (Rose (W.faults sink.old) (W.faults sink.new)) why) }
 {
     let mut writer = PageWriter::new(alloc, question.asked)?;
     let first = first_after(alloc, question.asked)?;
@@ -63,11 +70,16 @@ fn most_of(
     first: NameMap<AfterKey>,
 ) -> Result<Most, Failure>
     requires { length question.now.snapshots.now ≡ 1 }
-    ensures { IfOk result (λ most. (documents : List Fields)
+    ensures most { IfOk result (λ most. (documents : List Fields)
         → AreOneOf documents (room_of question.now.asked.now.pages)
         (snapshots_documents question.now.snapshots.now)
         → HasMost question.now.asked.now.grouping question.now.query.now documents
         (room_of question.now.asked.now.pages) count first most.groups.groups.items most.total) }
+    ensures cause { IfErr result (λ why. (documents : List Fields)
+        → AreOneOf documents (room_of question.now.asked.now.pages)
+        (snapshots_documents question.now.snapshots.now)
+        → HasNoText question.now.asked.now question.now.query.now documents
+        ⊥ why) }
 {
     let room = question.asked.pages.room();
     let mut groups = TopGroups::new(alloc, count);

@@ -5,13 +5,15 @@ use Rattle.agg_segment.specs.declared.snapshot.Snapshot.{Snapshot}
 use Rattle.agg_front.specs.Answer.{AreRead, IsWritten}
 use Rattle.agg_front.specs.Index.{AreOneOf}
 use Rattle.agg_front.specs.Pages.{room_of}
+use Rattle.agg_front.proofs.Failed.{files-failed, query-failed, text-failed}
+use Rattle.agg_front.proofs.Passed.{cause-passed}
 use Rattle.agg_front.proofs.grouped.group.Goals as goal
 
-pub returns : goal.returns
-returns g c =
+pub returns-clause-answered : goal.returns-clause-answered
+returns-clause-answered g c =
     let asked = c.args.asked.now in
-    let read = c.in_ok-index.ensures in
-    let run = c.in_ok-next.ensures read.0
+    let read = c.in_ok-index.ensures.index in
+    let run = c.in_ok-next.ensures.written read.0
     (subst (λ (snapshots : List Snapshot). AreOneOf read.0 (room_of asked.pages)
     (snapshots_documents snapshots)) (sym c.snapshots.ensures) read.2) in
     record {
@@ -25,3 +27,26 @@ returns g c =
           run.0) (sym c.into_report.ensures.next) run.2;
       taken = run.1;
     }
+
+pub returns-in_err-query-clause-cause : goal.returns-in_err-query-clause-cause
+returns-in_err-query-clause-cause g c =
+    cause-passed _ c.from_residual.result _ c.from_residual.ensures.1
+    (query-failed c.args.asked.now c.args.files.items _ c.in_err-query.field-0.0
+    c.in_err-query.ensures.cause)
+
+pub returns-in_err-index-clause-cause : goal.returns-in_err-index-clause-cause
+returns-in_err-index-clause-cause g c =
+    cause-passed _ c.from_residual-in_err-index.result _ c.from_residual-in_err-index.ensures.1
+    (files-failed c.args.asked.now c.args.files.items _ c.in_err-index.field-0.0
+    c.in_err-index.ensures.cause)
+
+pub returns-in_err-next-clause-cause : goal.returns-in_err-next-clause-cause
+returns-in_err-next-clause-cause g c =
+    let asked = c.args.asked.now in
+    let read = c.in_ok-index.ensures.index in
+    cause-passed _ c.from_residual-in_err-next.result _ c.from_residual-in_err-next.ensures.1
+    (text-failed asked c.args.files.items _ c.in_ok-query.query read.0 _
+    c.in_ok-query.ensures.met read.1 c.in_err-next.field-0.0
+    (c.in_err-next.ensures.cause read.0
+    (subst (λ (snapshots : List Snapshot). AreOneOf read.0 (room_of asked.pages)
+    (snapshots_documents snapshots)) (sym c.snapshots.ensures) read.2)))

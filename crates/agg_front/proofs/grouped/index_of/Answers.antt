@@ -2,10 +2,12 @@ use Rattle.std.proofs.Common.{subst}
 use Rattle.agg_records.specs.Held.{held_documents}
 use Rattle.agg_segment.specs.Snapshot.{snapshots_documents}
 use Rattle.agg_front.specs.Index.{AreOneOf}
+use Rattle.agg_front.proofs.Failed.{no-records}
+use Rattle.agg_front.proofs.Passed.{cause-passed}
 use Rattle.agg_front.proofs.grouped.index_of.Goals as goal
 
-pub returns : goal.returns
-returns c = (
+pub returns-clause-index : goal.returns-clause-index
+returns-clause-index c = (
   held_documents c.in_ok-records.records,
   record {
     fields = c.in_ok-fields.fields;
@@ -17,3 +19,9 @@ returns c = (
       (snapshots_documents c.in_ok-of.field-0.snapshots)) c.room-room.ensures
       c.in_ok-of.ensures.snapshots,
 )
+
+pub returns-in_err-records-clause-cause : goal.returns-in_err-records-clause-cause
+returns-in_err-records-clause-cause c =
+    cause-passed _ c.from_residual-in_err-records.result c.in_err-records.field-0.0
+    c.from_residual-in_err-records.ensures.1
+    (no-records c.args.files.items c.in_err-records.field-0.0 c.in_err-records.ensures.cause)

@@ -7,8 +7,8 @@ use Rattle.agg_front.specs.Index.{AreOneOf}
 use Rattle.agg_front.specs.Pages.{room_of}
 use Rattle.agg_front.proofs.grouped.write_answer.Goals as goal
 
-pub returns-in_default : goal.returns-in_default
-returns-in_default g c =
+pub returns-in_default-clause-written : goal.returns-in_default-clause-written
+returns-in_default-clause-written g c =
     let question = c.args.question.now in
     let asked = question.asked.now in
     subst (λ top. IfOk c.write_pages.result (λ told. (documents : List Fields)
@@ -16,12 +16,12 @@ returns-in_default g c =
     → (text : List ℕ)
     × Appends (g.W.Sink.contents c.args.sink.now) (g.W.Sink.contents c.write_pages.new.sink) text
     × IsWritten top asked question.query.now documents told text))
-    (sym c.in_default.is) c.write_pages.ensures
+    (sym c.in_default.is) c.write_pages.ensures.written
 
-pub returns : goal.returns
-returns g c = λ documents are.
+pub returns-clause-written : goal.returns-clause-written
+returns-clause-written g c = λ documents are.
     let question = c.args.question.now in
-    let run = c.in_ok-write_top.ensures documents are in (
+    let run = c.in_ok-write_top.ensures.written documents are in (
       run.0,
       run.1,
       subst (λ top. IsWritten top question.asked.now question.query.now documents None run.0)

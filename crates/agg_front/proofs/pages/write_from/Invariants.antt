@@ -1,4 +1,4 @@
-use Rattle.std.proofs.Common.{◌≡◌, ◌==◌, List, ℕ}
+use Rattle.std.proofs.Common.{◌≡◌, ◌==◌, ◌≤◌, List, ℕ}
 use Rattle.std.specs.Io.KnownBytes.{Appends}
 use Rattle.agg_column.specs.Document.{Fields}
 use Rattle.agg_segment.specs.Snapshot.{snapshots_documents}
@@ -7,7 +7,7 @@ use Rattle.agg_front.specs.Pages.{room_of}
 use Rattle.agg_front.proofs.PageRuns.{Leads}
 use Rattle.agg_front.proofs.pages.write_from.Given as goal
 
--- what is written so far leads from the first key to the next one
+-- what is written so far leads from the first key to the next one, and no fault is forgotten
 abbrev pub invariant-loop-number : goal.invariant-loop-number
 invariant-loop-number g l = record {
   columns : l.writer.columns ≡ l.fn.writer.columns;
@@ -20,4 +20,5 @@ invariant-loop-number g l = record {
       × Leads l.question.asked.now.grouping l.question.query.now documents
       l.question.asked.now.pages l.fn.writer.output l.fn.writer.columns l.fn.first l.after
       (l.number == 0) before;
+  later : g.W.Sink.faults l.fn.sink ≤ g.W.Sink.faults l.sink;
 }

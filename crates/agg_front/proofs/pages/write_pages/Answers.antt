@@ -7,11 +7,11 @@ use Rattle.agg_front.proofs.PageRuns.{written-as}
 use Rattle.agg_front.proofs.ShownKeys.{last-names}
 use Rattle.agg_front.proofs.pages.write_pages.Goals as goal
 
-pub returns : goal.returns
-returns g c = λ documents are.
+pub returns-clause-written : goal.returns-clause-written
+returns-clause-written g c = λ documents are.
     let question = c.args.question.now in
     let asked = question.asked.now in
-    let run = c.in_ok-next.ensures documents are in
+    let run = c.in_ok-next.ensures.written documents are in
     let names = subst (NamesFirst asked.grouping.by.items) (sym run.2.shown)
     (last-names asked.grouping question.query.now documents asked.pages.is_all
     (room_of asked.pages) c.in_ok-first.first run.2.pages run.2.are_pages) in (
@@ -19,7 +19,7 @@ returns g c = λ documents are.
       run.1,
       record {
         first = c.in_ok-first.first;
-        begins = c.in_ok-first.ensures;
+        begins = c.in_ok-first.ensures.begins;
         written = (
           c.in_ok-next.next,
           written-as asked.grouping question.query.now documents asked.pages

@@ -1,9 +1,12 @@
 use Rattle.std.proofs.Common.{List, subst, sym, ℕ, ◌++◌, ◌∙◌, ◌≡◌}
 use Rattle.agg_final_results.specs.declared.types.CompositeBucketEntry.{CompositeBucketEntry}
 use Rattle.agg_segment.specs.Snapshot.{snapshots_documents}
+use Rattle.agg_front.specs.Index.{AreOneOf}
 use Rattle.agg_front.specs.Pages.{room_of}
 use Rattle.agg_front.specs.Top.{AreTop}
+use Rattle.agg_front.proofs.NoTexts.{no-page}
 use Rattle.agg_front.proofs.OnePage.{page-at}
+use Rattle.agg_front.proofs.Passed.{cause-passed}
 use Rattle.agg_front.proofs.TopRuns.{leads-end, leads-more, leads-start}
 use Rattle.agg_front.proofs.top.most_of.Goals as goal
 
@@ -40,7 +43,7 @@ loop-number-preserved c = record {
       (kept.leads documents are)
       (page-at asked.grouping question.query.now (snapshots_documents question.snapshots.now)
       c.room-room.result (room_of asked.pages) c.loop-number.after c.in_ok-page.page documents
-      c.room-room.ensures c.in_ok-page.ensures are)
+      c.room-room.ensures c.in_ok-page.ensures.page are)
       c.in_ok-after.ensures c.in_ok-added.ensures.groups
       (adds c.loop-number.groups.count c.args.count c.loop-number.groups.groups.items
       c.add_all.new.self.groups.items c.in_ok-added.added.items kept.count
@@ -48,8 +51,8 @@ loop-number-preserved c = record {
       (sym c.is_last.ensures ∙ c.if-is_last.false);
 }
 
-pub returns-then-is_last : goal.returns-then-is_last
-returns-then-is_last c = λ documents are.
+pub returns-then-is_last-clause-most : goal.returns-then-is_last-clause-most
+returns-then-is_last-clause-most c = λ documents are.
     let question = c.args.question.now in
     let asked = question.asked.now in
     let kept = c.loop-number.invariant in
@@ -59,10 +62,21 @@ returns-then-is_last c = λ documents are.
     (kept.leads documents are)
     (page-at asked.grouping question.query.now (snapshots_documents question.snapshots.now)
     c.room-room.result (room_of asked.pages) c.loop-number.after c.in_ok-page.page documents
-    c.room-room.ensures c.in_ok-page.ensures are)
+    c.room-room.ensures c.in_ok-page.ensures.page are)
     c.in_ok-after.ensures c.in_ok-added.ensures.groups
     (adds c.loop-number.groups.count c.args.count c.loop-number.groups.groups.items
     c.add_all.new.self.groups.items c.in_ok-added.added.items kept.count
     c.in_ok-add_all.ensures.groups)
     (sym c.is_last.ensures ∙ c.if-is_last.true) c.in_ok-total.total
     (c.in_ok-total.ensures ∙ c.in_ok-added.ensures.total)
+
+pub returns-in_err-page-clause-cause : goal.returns-in_err-page-clause-cause
+returns-in_err-page-clause-cause c =
+    let question = c.args.question.now in
+    let asked = question.asked.now in
+    cause-passed _ c.from_residual.result _ c.from_residual.ensures.1
+    (λ documents are. no-page asked question.query.now documents ⊥ c.room-room.result
+    c.loop-number.after c.in_err-page.field-0.0 c.room-room.ensures
+    (c.in_err-page.ensures.cause documents
+    (subst (λ size. AreOneOf documents size (snapshots_documents question.snapshots.now))
+    (sym c.room-room.ensures) are)))

@@ -1,0 +1,32 @@
+-- Failures that errors become.
+use Rattle.agg_engine.specs.declared.walk.error.WalkError.{WalkError}
+use Rattle.agg_engine.specs.declared.walk.error.WalkError.TheVariants as walk
+use Rattle.agg_grouping.specs.declared.error.GroupingError.{GroupingError}
+use Rattle.agg_grouping.specs.declared.error.GroupingError.TheVariants as grouping
+use Rattle.agg_front.specs.Codes.{failure_of_grouping, failure_of_walk}
+use Rattle.agg_front.specs.declared.failure.Failure.{Failure}
+use Rattle.agg_front.specs.declared.failure.Failure.TheVariants as failure
+
+-- a cause of an error is one of its failure, if it is one of that of its kind
+pub of-grouping : (Has : GroupingError → Type 0) (Fails : Failure → Type 0)
+    → Fails failure.OutOfMemory → ((why : GroupingError) → Has why → Fails (failure.Usage why))
+    → (error : GroupingError) → Has error → Fails (failure_of_grouping error)
+of-grouping Has Fails memory usage grouping.OutOfMemory has = memory
+of-grouping Has Fails memory usage (grouping.Interval field interval why) has = usage _ has
+of-grouping Has Fails memory usage (grouping.Value field value why) has = usage _ has
+of-grouping Has Fails memory usage (grouping.Query why) has = usage _ has
+of-grouping Has Fails memory usage (grouping.AfterValue field why) has = usage _ has
+of-grouping Has Fails memory usage (grouping.ExtraValue text) has = usage _ has
+of-grouping Has Fails memory usage (grouping.TwoTypes field) has = usage _ has
+
+-- the same of a refused walk
+pub of-walk : (Has : WalkError → Type 0) (Fails : Failure → Type 0)
+    → Fails failure.OutOfMemory → ((why : WalkError) → Has why → Fails (failure.Refused why))
+    → (error : WalkError) → Has error → Fails (failure_of_walk error)
+of-walk Has Fails memory refused walk.OutOfMemory has = memory
+of-walk Has Fails memory refused (walk.Invalid given) has = refused _ has
+of-walk Has Fails memory refused walk.UnknownComposite has = refused _ has
+of-walk Has Fails memory refused walk.QueryBuild has = refused _ has
+of-walk Has Fails memory refused walk.BucketOutOfRange has = refused _ has
+of-walk Has Fails memory refused walk.TooMany has = refused _ has
+of-walk Has Fails memory refused (walk.Aggregation given) has = refused _ has
