@@ -8,7 +8,7 @@ use Rattle.std.proofs.lemmas.Option.{none-some, same_Some}
 use Rattle.agg_values.specs.Names.{name_cmp, value_of, without}
 use Rattle.agg_intermediate_results.specs.Intermediate.{Entries, Held, Parts, TupleEntry}
 use Rattle.agg_intermediate_results.specs.Intermediate.{below_entry, composite, entries_of, metric}
-use Rattle.agg_intermediate_results.specs.Intermediate.{parts_of, parts_of_bucket, BucketLayer}
+use Rattle.agg_intermediate_results.specs.Intermediate.{parts_of_bucket, BucketLayer}
 use Rattle.agg_intermediate_results.specs.Intermediate.{parts_of_layer}
 use Rattle.agg_intermediate_results.specs.Intermediate as held
 use Rattle.agg_intermediate_results.specs.declared as intermediate

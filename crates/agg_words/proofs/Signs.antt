@@ -1,7 +1,7 @@
 -- Where a text may be cut at a sign.
-use Rattle.std.proofs.Common.{◌≡◌, ◌≢◌, ◌<◌, ◌==◌, ◌∙◌, ◌∷◌, ℕ, List, Option, Some, None, true, false}
-use Rattle.std.proofs.Common.{arith, get_or, length, take, drop, drop-cons, option_map, suc, refl}
-use Rattle.std.proofs.Common.{ap, subst, sym, slice_index, IsSomeAnd}
+use Rattle.std.proofs.Common.{◌≡◌, ◌≢◌, ◌<◌, ◌==◌, ◌∙◌, ◌∷◌, ℕ, List, Option, Some, None, true}
+use Rattle.std.proofs.Common.{false, arith, get_or, length, take, drop, drop-cons, option_map, suc}
+use Rattle.std.proofs.Common.{refl, ap, subst, sym, slice_index, IsSomeAnd}
 use Rattle.std.proofs.lemmas.Option.{none-some, same_Some}
 use Rattle.std.proofs.lemmas.Bool.Decides.{nat_tests}
 use Rattle.std.proofs.lemmas.Str.{IsCharBoundary-before_ascii}

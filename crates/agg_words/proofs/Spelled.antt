@@ -41,7 +41,8 @@ lacks_name (Some name) l = lacks_append 44 name (61 ∷ []) l (refl, tt)
 
 -- the name is cut off
 name_cut : (name : Option (List ℕ)) (rest : List ℕ)
-    → LacksIfAny 61 name → Lacks 61 rest → name_and_rest (cut 61 (name_text name ++ rest)) ≡ (name, rest)
+    → LacksIfAny 61 name → Lacks 61 rest
+    → name_and_rest (cut 61 (name_text name ++ rest)) ≡ (name, rest)
 name_cut None rest n l = let at = cut-none 61 rest l in rw at refl
 name_cut (Some name) rest n l =
     let shape = append_assoc name (61 ∷ []) rest in
