@@ -1,2 +1,3 @@
 mod BatchesById
+pub mod SameLimits
 pub mod UnderIds

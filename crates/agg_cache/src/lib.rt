@@ -1,5 +1,6 @@
-//! The limits of a walk, the ledger of what is in use, why a collector refuses documents, the ids
-//! of buckets, and the documents that wait for collectors below.
+//! The limits of a walk, the ledger of what is in use and what containers take of it, why a
+//! collector refuses documents, the ids of buckets, and the documents that wait for collectors
+//! below.
 #![tactic(auto)]
 
 mod bucket_ids;
@@ -9,6 +10,7 @@ mod error;
 mod guard;
 mod limits;
 mod low_card;
+mod memory_consumption;
 
 pub use bucket_ids::BucketIdProvider;
 pub use cache::{Batch, SubAggCache};
@@ -17,3 +19,4 @@ pub use error::CollectError;
 pub use guard::AggregationLimitsGuard;
 pub use limits::{BucketId, DEFAULT_BUCKET_LIMIT, DEFAULT_MEMORY_LIMIT, LimitsLedger};
 pub use low_card::LowCardSubAggCache;
+pub use memory_consumption::MemoryConsumption;

@@ -1,4 +1,4 @@
-//! Tests of limits, errors, the ids of buckets and documents that wait.
+//! Tests of limits and what is charged, errors, the ids of buckets and documents that wait.
 #![tactic(auto)]
 
 #[cfg(test)]
@@ -11,3 +11,5 @@ mod error;
 mod limits;
 #[cfg(test)]
 mod low_card;
+#[cfg(test)]
+mod memory_consumption;
