@@ -2,8 +2,10 @@
 //! its low roof, and their laws.
 #![tactic(auto)]
 
+mod charges;
 mod laws;
 
+pub use charges::{NODE_BYTES, bucket_bytes};
 pub use laws::{
     low_roofs_are_at_most_roofs, roofs_rise_with_documents, tuples_are_those_of_the_groups,
 };
