@@ -45,6 +45,7 @@ module _ {S : Type 0} (R : S → S → Ordering) where
     node-none node = record {
       takes = λ vs ws f. subst (λ us. NodeFor R node us ws) (sym (append-nil vs)) f;
       long = refl;
+      no_fewer = λ p. omega arith;
       size = refl;
       drawn = omega arith;
       few = omega arith;
@@ -62,6 +63,7 @@ module _ {S : Type 0} (R : S → S → Ordering) where
               subst (λ us. NodeFor R c us ws) (append_assoc vs xs ys)
               (q.takes (vs ++ xs) ws (p.takes vs ws f));
           long = q.long ∙ p.long;
+          no_fewer = λ parent. omega (arith, p.no_fewer parent, q.no_fewer parent);
           size = q.size ∙ p.size;
           drawn = omega (arith, p.drawn, q.drawn);
           few = omega (arith, p.few, q.few, long);
@@ -122,6 +124,7 @@ module _ {S : Type 0} (R : S → S → Ordering) where
         record {
           takes = node.takes;
           long = node.long;
+          no_fewer = node.no_fewer;
           size = node.size;
           drawn = node.drawn;
           few = node.few;

@@ -1,6 +1,6 @@
 -- The buckets of all parents, one visit on.
-use Rattle.std.proofs.Common.{◌≡◌, ◌<◌, ◌+◌, ◌⊎◌, inl, inr, ℕ, List, [], ◌∷◌, ◌++◌}
-use Rattle.std.proofs.Common.{true}
+use Rattle.std.proofs.Common.{◌≡◌, ◌<◌, ◌≤◌, ◌+◌, ◌⊎◌, inl, inr, ℕ, List, [], ◌∷◌, ◌++◌}
+use Rattle.std.proofs.Common.{get_or, true}
 use Rattle.std.proofs.Common.{false, Option, None, Some, length, refl, sym, ap, ◌∙◌, subst, arith}
 use Rattle.std.proofs.Common.{⊎_elim, Ordering}
 use Rattle.std.specs.Cmp.{IsTotalOrder}
@@ -34,6 +34,7 @@ pub record PutsAt {S : Type 0} (R : S → S → Ordering) (size : ℕ) (o : Owne
       ⊎ ((found R new q ≡ None) × IsPast R size new q)
   pub ascending : AreAscending R old → AreAscending R new
   pub fits : AreWithinSize size old → AreWithinSize size new
+  pub no_fewer : (p : ℕ) → length (get_or old p []) ≤ length (get_or new p [])
   pub fuller : (q : Owner S) → IsPast R size old q → IsPast R size new q
   pub long : length new ≡ length old
 

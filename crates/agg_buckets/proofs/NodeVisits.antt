@@ -93,6 +93,7 @@ module _ {S : Type 0} (R : S → S → Ordering) where
                   (counts-right R total size o node.doc node.next vs (ws ++ node.pushes)
                   node.parents New f b found_is at);
               long = at.long;
+              no_fewer = at.no_fewer;
               size = refl;
               drawn = omega (arith, next);
               few = omega (arith, next);
@@ -118,6 +119,7 @@ module _ {S : Type 0} (R : S → S → Ordering) where
                   (opens-right R total size o node.doc node.next vs (ws ++ node.pushes)
                   node.parents New f found_is below at);
               long = at.long;
+              no_fewer = at.no_fewer;
               size = refl;
               drawn = omega (arith, next);
               few = omega (arith, next);
@@ -141,6 +143,7 @@ module _ {S : Type 0} (R : S → S → Ordering) where
             left-right R total node.size (node.parent, t) node.doc node.next vs (ws ++ node.pushes)
             node.parents node.parents f was past;
         long = refl;
+        no_fewer = λ p. omega arith;
         size = refl;
         drawn = omega arith;
         few = omega arith;

@@ -1,7 +1,7 @@
 -- From one parent's page to the pages of all.
 use Rattle.std.proofs.Common.{◌≡◌, ◌≢◌, ◌==◌, ◌&&◌, ◌<◌, ◌≤◌, ◌⊎◌, ℕ, List, [], false, length}
 use Rattle.std.proofs.Common.{get_or, set, length-set, refl, sym, ap, ◌∙◌, subst, inl, inr, ⊎_elim}
-use Rattle.std.proofs.Common.{Ordering, None}
+use Rattle.std.proofs.Common.{Ordering, None, arith}
 use Rattle.std.specs.BTreeMap.{is_at}
 use Rattle.std.specs.List.Sorted.{IsStrictlySortedBy}
 use Rattle.std.specs.Map.{keys_of, lookup}
@@ -64,6 +64,15 @@ module _ {S : Type 0} (R : S → S → Ordering) (size : ℕ) (ps : List (Page S
     | inr apart ↦ subst (λ xs. IsAbove R size xs q.1) (sym (elsewhere q.0 apart)) past
   ]
 
+  no_fewer-at : (q : ℕ) → length (get_or ps q []) ≤ length (get_or (set ps p page) q [])
+  no_fewer-at q = elim (cases_Bool (p == q)) [
+    | inl same ↦
+        let at = number-same p q same in
+        subst (λ i. length (get_or ps i []) ≤ length (get_or (set ps p page) i [])) at
+        (subst (λ xs. length (get_or ps p []) ≤ length xs) (sym (at-parent p refl)) put.no_fewer)
+    | inr apart ↦ let e = ap length (elsewhere q apart) in omega (arith, e)
+  ]
+
   -- a page put in place of a parent's
   pub puts-at : PutsAt R size (p, t) b ps (set ps p page)
   puts-at = record {
@@ -72,6 +81,7 @@ module _ {S : Type 0} (R : S → S → Ordering) (size : ℕ) (ps : List (Page S
     ascending = λ before.
         each (λ xs. IsStrictlySortedBy R (keys_of xs)) before put.ascending;
     fits = λ before. each (λ xs. length xs ≤ size) before (put.fits (before p));
+    no_fewer = no_fewer-at;
     fuller = fuller-at;
     long = length-set ps p page;
   }

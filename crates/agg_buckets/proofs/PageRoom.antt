@@ -2,6 +2,7 @@
 use Rattle.std.proofs.Common.{◌≡◌, ◌≤◌, ◌<◌, ◌-◌, ◌+◌, ℕ, Bool, true, false, List, [], ◌∷◌, ◌++◌}
 use Rattle.std.proofs.Common.{length, take, Some, None, refl, sym, ap, ◌∙◌, arith, subst}
 use Rattle.std.proofs.Common.{inl, inr, length-append, Ordering, Less, Equal, Greater, is_lt, cond}
+use Rattle.std.proofs.Common.{Err, Ok, OnErr, OnOk, Result}
 use Rattle.std.specs.BTreeMap.{insert_entry, is_at}
 use Rattle.std.specs.Cmp.{IsTotalOrder}
 use Rattle.std.specs.List.{AllByRecursion, slice_get}
@@ -113,6 +114,16 @@ module _ {S : Type 0} (R : S → S → Ordering) (total : IsTotalOrder R) where
 
   -- ---- a new tuple's bucket
 
+  -- it is one more, and where it is refused nothing changes
+  pub one-more : {E : Type 0} (t : S) (b : Bucket) (old new : Page S) (result : Result (Unit {0}) E)
+      → lookup (is_at (R t)) old ≡ None → OnOk result (new ≡ insert_entry R old t b)
+      → OnErr result (new ≡ old) → length new ≤ length old + 1
+  one-more t b old new (Ok x) none opens kept =
+      let long = length-insert R total t b old none in
+      let same = ap length opens in
+      omega (arith, long, same)
+  one-more t b old new (Err e) none opens kept = let same = ap length kept in omega (arith, same)
+
   module _ (size : ℕ) (t : S) (b : Bucket) (old mid : Page S) (none : IsAbsent R old t) where
     inserted : (q : S) (c : Bool) → is_at (R t) q ≡ c
         → lookup (is_at (R q)) (insert_entry R mid t b)
@@ -134,6 +145,7 @@ module _ {S : Type 0} (R : S → S → Ordering) (total : IsTotalOrder R) where
               (ascends-inserted R total mid t b (ascends_from_sorted R total mid
               (subst (λ es. IsStrictlySortedBy R (keys_of es)) (sym same) none.ordered)));
           fits = λ l. omega (arith, long, room, before);
+          no_fewer = omega (arith, long, before);
           fuller = λ q above. let full = above.full in absurd (omega (arith, room, full));
         }
 
@@ -179,6 +191,7 @@ module _ {S : Type 0} (R : S → S → Ordering) (total : IsTotalOrder R) where
         ascending = sorted_from_ascends R total (insert_entry R mid t b)
             (ascends-inserted R total mid t b ends.0);
         fits = λ l. omega (arith, l, long);
+        no_fewer = omega (arith, long);
         fuller = λ q above.
             let below = all-front (λ f. R f.0 q ≡ Less) mid e
             (subst (AllByRecursion (λ f. R f.0 q ≡ Less)) is (above-each R size old q above)) in

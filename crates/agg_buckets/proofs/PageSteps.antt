@@ -40,6 +40,7 @@ module _ {S : Type 0} (R : S → S → Ordering) (total : IsTotalOrder R) where
             (lookup-set t q b w page was ∙ ap (λ c. cond c (Some w) (lookup (is_at (R q)) page)) e);
         ascending = subst (IsStrictlySortedBy R) (sym keys) up;
         fits = λ l. omega (arith, l, long);
+        no_fewer = omega (arith, long);
         fuller = λ q above.
             is-above R size (set_value (is_at (R t)) page w) q (omega (arith, above.full, long))
             (on_entries (λ l. R l q ≡ Less) (set_value (is_at (R t)) page w)

@@ -2,6 +2,7 @@
 use Rattle.std.specs.Prelude.{◌≡◌, ◌<◌, ◌≤◌, ◌^◌, ◌+◌, ◌++◌, ◌⊎◌, ⊤, ℕ, List, []}
 use Rattle.std.specs.Prelude.{◌∷◌, Bool, true, Option, None, Some, length, get_or}
 use Rattle.std.specs.BTreeMap.{is_at}
+use Rattle.std.specs.List.{sum_by}
 use Rattle.std.specs.List.Sorted.{IsStrictlySortedBy}
 use Rattle.std.specs.Map.{keys_of, lookup}
 use Rattle.std.specs.declared.cmp.Ordering.{Ordering}
@@ -19,6 +20,12 @@ pub record Node (S : Type 0) : Type 0 where
   pub pushes : List (ℕ × ℕ)
   pub parent : ℕ
   pub doc : ℕ
+
+-- a number counts the buckets of all parents: each took an id below the next, which has 32 bits
+pub record Counts {S : Type 0} (num : ℕ) (parents : List (Page S)) (next : ℕ) : Type 0 where
+  pub exact : num ≡ sum_by length parents
+  pub few : num ≤ next
+  pub fits : next < 2 ^ 32
 
 -- ---- a node is right for what it visited
 
@@ -94,13 +101,14 @@ pub record Prepares {S : Type 0} (old new : Node S) : Type 0 where
   pub more : length old.parents ≤ length new.parents
   pub rest : new ≡ record old { parents = new.parents }
 
--- a node that was right is right with these visits after the others; no parent is added, few ids
--- are given, and what is above a full page stays above it
+-- a node that was right is right with these visits after the others; no parent is added or has
+-- fewer buckets, few ids are given, and what is above a full page stays above it
 pub record NodeTakes {S : Type 0} (R : S → S → Ordering) (visits : List (Visit S))
     (old new : Node S) : Type 0 where
   pub takes : (visited : List (Visit S)) (handed : List (ℕ × ℕ)) → NodeFor R old visited handed
       → NodeFor R new (visited ++ visits) handed
   pub long : length new.parents ≡ length old.parents
+  pub no_fewer : (p : ℕ) → length (get_or old.parents p []) ≤ length (get_or new.parents p [])
   pub size : new.size ≡ old.size
   pub drawn : old.next ≤ new.next
   pub few : new.next ≤ old.next + length visits

@@ -41,6 +41,7 @@ pub record Puts {S : Type 0} (R : S → S → Ordering) (size : ℕ) (t : S) (b 
       ⊎ ((lookup (is_at (R q)) new ≡ None) × IsAbove R size new q)
   pub ascending : IsStrictlySortedBy R (keys_of new)
   pub fits : length old ≤ size → length new ≤ size
+  pub no_fewer : length old ≤ length new
   pub fuller : (q : S) → IsAbove R size old q → IsAbove R size new q
 
 -- the bucket of a tuple has one more document, and this id

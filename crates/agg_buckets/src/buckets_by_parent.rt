@@ -1,6 +1,7 @@
 //! The buckets of each parent, and what is visited now.
 ghost use Rattle.std.specs.Prelude.{◌≡◌, ◌≤◌, ◌<◌, ◌+◌, [], ◌∷◌, IfOk, IsErrOf, OnOk, get_or};
-ghost use Rattle.std.specs.Prelude.{length, nat_lt};
+ghost use Rattle.std.specs.Prelude.{◌^◌, length, nat_lt};
+ghost use Rattle.std.specs.List.{sum_by};
 
 use crate::bucket::Bucket;
 use crate::page::visit_page;
@@ -19,6 +20,7 @@ use std::sync::ledger::Ledger;
 pub struct BucketsByParent<S: Ord + Hash> {
     alloc: Global,
     parents: Vec<LazyHeapMap<S, Bucket>>,
+    num_buckets: u64,
     size: usize,
     ids: BucketIdProvider,
     pushes: Vec<(BucketId, DocId)>,
@@ -28,7 +30,7 @@ pub struct BucketsByParent<S: Ord + Hash> {
 
 impl<S: Ord + Hash> Model for BucketsByParent<S> {
     ghost use Rattle.std.specs.Prelude.{◌<◌, length};
-    ghost use Rattle.agg_buckets.specs.Node.{Node};
+    ghost use Rattle.agg_buckets.specs.Node.{Counts, Node};
 
     ghost Value = { Node S };
 
@@ -41,7 +43,8 @@ impl<S: Ord + Hash> Model for BucketsByParent<S> {
       doc = buckets.doc;
     } };
 
-    ghost invariant = { λ buckets. buckets.parent < length buckets.parents.items };
+    ghost invariant = { λ buckets. (buckets.parent < length buckets.parents.items)
+        × Counts buckets.num_buckets buckets.parents.items buckets.ids };
 }
 
 impl<S: Ord + Hash> BucketsByParent<S> {
@@ -58,6 +61,7 @@ impl<S: Ord + Hash> BucketsByParent<S> {
         Ok(BucketsByParent {
             alloc,
             parents,
+            num_buckets: 0,
             size: 0,
             ids: BucketIdProvider::new(),
             pushes: Vec::new(alloc),
@@ -117,7 +121,10 @@ impl<S: Ord + Hash> BucketsByParent<S> {
         ensures least { steps.old + 1 ≤ steps.new }
     {
         let page = &mut self.parents[self.parent as usize];
-        if let Some(id) = visit_page(page, &mut self.ids, tuple, self.size, steps)? {
+        let before = page.size() as u64;
+        let visited = visit_page(page, &mut self.ids, tuple, self.size, steps);
+        self.num_buckets = self.num_buckets - before + page.size() as u64;
+        if let Some(id) = visited? {
             self.pushes.push((id, self.doc))?;
         }
         Ok(())
@@ -159,5 +166,13 @@ impl<S: Ord + Hash> BucketsByParent<S> {
             Some(page) => page.size(),
             None => 0,
         }
+    }
+
+    /// How many buckets all parents have.
+    pub fn total_num_buckets(&self) -> u64
+        ensures total { result ≡ sum_by length self.now.parents }
+        ensures few { result < 2 ^ 32 }
+    {
+        self.num_buckets
     }
 }

@@ -67,7 +67,7 @@ fn expect_lowest<L: Ledger>(
     visit(&mut buckets, 2, 5, steps)?;
     expect_page(rt, &buckets, 0, [(5, 2, 0), (6, 1, 2)])?;
     assert!(rt; buckets.pushes() == [(0, 0), (1, 0), (2, 1), (0, 2)].as_slice());
-    assert!(rt; !buckets.has_parent(1));
+    assert!(rt; !buckets.has_parent(1) && buckets.total_num_buckets() == 2);
     Ok(())
 }
 
@@ -85,6 +85,7 @@ fn expect_parents<L: Ledger>(
     visit(&mut buckets, 2, 5, steps)?;
     expect_page(rt, &buckets, 1, [(5, 1, 2), (6, 1, 1)])?;
     assert!(rt; buckets.num_buckets(0) == 1 && buckets.num_buckets(2) == 0);
+    assert!(rt; buckets.total_num_buckets() == 3);
     assert!(rt; buckets.pushes() == [(1, 1), (2, 2)].as_slice());
     buckets.clear_pushes();
     assert!(rt; buckets.pushes().is_empty());

@@ -1,5 +1,5 @@
 use Rattle.std.proofs.Common.{◌+◌, ◌-◌, ◌<◌, length}
-use Rattle.agg_buckets.specs.Node.{Prepares}
+use Rattle.agg_buckets.specs.Node.{Counts, Prepares}
 use Rattle.agg_buckets.proofs.buckets_by_parent.BucketsByParent.prepare.Given as goal
 
 abbrev pub invariant-loop-self : goal.invariant-loop-self
@@ -13,6 +13,7 @@ invariant-loop-self g l = record {
     doc = l.self-inside.doc;
   });
   inside : l.self-inside.parent < length l.self-inside.parents.items;
+  counts : Counts l.self-inside.num_buckets l.self-inside.parents.items l.self-inside.ids;
 }
 
 abbrev pub decreases-loop-self : goal.decreases-loop-self

@@ -18,7 +18,7 @@ returns-in_err-id-clause-too_many g c = λ e.
     let page = c.index_mut-page.result.now in
     let read : page ≡ get_or i.parents.items i.parent [] =
     c.index_mut-page.ensures.value
-    ∙ get_or_default i.parents.items i.parent page [] c.self.invariant in
+    ∙ get_or_default i.parents.items i.parent page [] c.self.invariant.0 in
     subst (TooManyVisits R 1) c.self.view_is
     (⊎_elim inl
     (λ full. inr (
@@ -44,20 +44,21 @@ returns-in_ok-push-clause-ok g c =
       doc = i.doc;
     } in
     let page = c.index_mut-page.result.now in
-    let page_now = c.visit_page.new.page in
+    let page_now = c.visit_page-visited.new.page in
+    let next_now = c.visit_page-visited.new.ids in
     let read : page ≡ get_or i.parents.items i.parent [] =
     c.index_mut-page.ensures.value
-    ∙ get_or_default i.parents.items i.parent page [] c.self.invariant in
-    let takes : PageTakes R i.size t i.ids c.visit_page.new.ids page page_now (Some c.in-Some.id) =
+    ∙ get_or_default i.parents.items i.parent page [] c.self.invariant.0 in
+    let takes : PageTakes R i.size t i.ids next_now page page_now (Some c.in-Some.id) =
     rw c.in-Some.is at c.in_ok-id.ensures.ok in
     let after : Node g.row.S.Denot = record node {
       parents = set i.parents.items i.parent page_now;
-      next = c.visit_page.new.ids;
+      next = next_now;
       pushes = c.push.new.self.items;
     } in
     subst (λ n. Takes R (t ∷ []) n after) c.self.view_is
-    (takes-some R g.met.S.Ord.total node t c.self.invariant page page_now read
-    c.visit_page.new.ids c.push.new.self.items c.in-Some.id takes c.in_ok-push.ensures.items)
+    (takes-some R g.met.S.Ord.total node t c.self.invariant.0 page page_now read
+    next_now c.push.new.self.items c.in-Some.id takes c.in_ok-push.ensures.items)
 
 pub returns-in_default-clause-ok : goal.returns-in_default-clause-ok
 returns-in_default-clause-ok g c =
@@ -73,15 +74,16 @@ returns-in_default-clause-ok g c =
       doc = i.doc;
     } in
     let page = c.index_mut-page.result.now in
-    let page_now = c.visit_page.new.page in
+    let page_now = c.visit_page-visited.new.page in
+    let next_now = c.visit_page-visited.new.ids in
     let read : page ≡ get_or i.parents.items i.parent [] =
     c.index_mut-page.ensures.value
-    ∙ get_or_default i.parents.items i.parent page [] c.self.invariant in
-    let takes : PageTakes R i.size t i.ids c.visit_page.new.ids page page_now None =
+    ∙ get_or_default i.parents.items i.parent page [] c.self.invariant.0 in
+    let takes : PageTakes R i.size t i.ids next_now page page_now None =
     rw c.in_default.is at c.in_ok-id.ensures.ok in
     let after : Node g.row.S.Denot = record node {
       parents = set i.parents.items i.parent page_now;
-      next = c.visit_page.new.ids;
+      next = next_now;
     } in
     subst (λ n. Takes R (t ∷ []) n after) c.self.view_is
-    (takes-none R g.met.S.Ord.total node t page page_now read c.visit_page.new.ids takes)
+    (takes-none R g.met.S.Ord.total node t page page_now read next_now takes)
