@@ -49,7 +49,7 @@ fn collect_under<L: Ledger>(
         collector.old collector.new steps.old steps.new result }
 {
     collector.prepare_max_bucket(parent)?;
-    collector.collect(parent, docs, req, steps)
+    collector.collect_uncharged(parent, docs, req, steps)
 }
 
 // Takes the documents of batches.

@@ -156,6 +156,7 @@ module _ {C : Type 0} (waiting : C → ℕ → List ℕ) (req : CompositeAggReqD
       cut = λ visited given f p.
           visits-cut encoded_tuple_order tuple_order-total tuple-exact (begun req old.node parent)
           new.node f.visits walked.visits f.handed (right-begun visited given f) walked.node p;
+      no_fewer = walked.node.no_fewer;
       pushed = λ visited given f hands o b there.
           waits hands b.id
           ∙ ap (λ ds. waiting old.cache.0 b.id ++ ds)

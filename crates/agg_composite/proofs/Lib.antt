@@ -10,6 +10,7 @@ pub mod ColumnChoices
 pub mod DocumentsInRow
 pub mod NullChoices
 pub mod NullStanding
+pub mod OpenedBuckets
 pub mod Pairs
 pub mod PartsInRow
 pub mod PastSides

@@ -1,7 +1,7 @@
 -- What a collector holds for the visits of its documents, and what it hands on.
-use Rattle.std.specs.Prelude.{◌≡◌, ◌==◌, ◌&&◌, ◌++◌, ℕ, Bool, true, false, List, Option}
+use Rattle.std.specs.Prelude.{◌≡◌, ◌==◌, ◌&&◌, ◌++◌, ◌≤◌, ℕ, Bool, true, false, List, Option}
 use Rattle.std.specs.Prelude.{get_or, [], length, Result, Some}
-use Rattle.std.specs.List.{AllZip}
+use Rattle.std.specs.List.{AllZip, sum_by}
 use Rattle.agg_values.specs.KeyOrder.{SourceRules}
 use Rattle.agg_values.specs.Tuple.{KeyTuple}
 use Rattle.agg_cache.specs.Waiting.{docs_of, is_id, pairs_of}
@@ -31,6 +31,10 @@ pub record Composite (C : Type 0) : Type 0 where
 abbrev pub page_of : {C : Type 0} → Composite C → ℕ → Page EncodedTuple
 page_of collector parent = get_or collector.node.parents parent []
 
+-- how many buckets a collector holds, of all parents
+abbrev pub num_buckets : {C : Type 0} → Composite C → ℕ
+num_buckets collector = sum_by length collector.node.parents
+
 -- the bucket of an owner
 abbrev pub bucket_of : {C : Type 0} → Composite C → Owner EncodedTuple → Option Bucket
 bucket_of collector o = found encoded_tuple_order collector.node.parents o
@@ -54,8 +58,8 @@ pub record CompositeFor {C : Type 0} (waiting : C → ℕ → List ℕ) (req : C
 
 -- a collector made visits: where it was right, it is right with these after the others, each parent
 -- has the cut of what it had with these after it, and what came to wait under a bucket's id are the
--- documents of its visits; a bucket that stays keeps its id, and a new one has an id that wasn't
--- given
+-- documents of its visits; no parent has fewer buckets, a bucket that stays keeps its id, and a new
+-- one has an id that wasn't given
 pub record CompositeTakes {C : Type 0} (waiting : C → ℕ → List ℕ) (req : CompositeAggReqData)
     (typed : List TypedVisit) (old new : Composite C) : Type 0 where
   pub visits : List (Visit EncodedTuple)
@@ -67,6 +71,7 @@ pub record CompositeTakes {C : Type 0} (waiting : C → ℕ → List ℕ) (req :
       → CompositeFor waiting req old visited given → (parent : ℕ)
       → counts_of (page_of new parent) ≡ cut encoded_tuple_order req.size
       (spread (counts_of (page_of old parent)) ++ tuples_under parent visits)
+  pub no_fewer : (parent : ℕ) → length (page_of old parent) ≤ length (page_of new parent)
   pub pushed : (visited : List TypedVisit) (given : List (ℕ × ℕ))
       → CompositeFor waiting req old visited given → old.hands_on ≡ true
       → (o : Owner EncodedTuple) (b : Bucket) → bucket_of new o ≡ Some b

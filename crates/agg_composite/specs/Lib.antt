@@ -1,4 +1,5 @@
 pub mod Answers
+pub mod Charged
 pub mod Choices
 pub mod Composite
 pub mod PageEntries

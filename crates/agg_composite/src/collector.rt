@@ -1,13 +1,16 @@
 //! The collector that groups the documents of a segment.
-ghost use Rattle.std.specs.Prelude.{◌≡◌, ◌≤◌, ◌<◌, ◌+◌, ◌++◌, ◌^◌, ◌↔◌, [], ℕ, List, All, map};
-ghost use Rattle.std.specs.Prelude.{IfOk, IsErrOf, IsTrue, OnErr, OnOk, false, length, take, true};
+ghost use Rattle.std.specs.Prelude.{◌≡◌, ◌≤◌, ◌<◌, ◌+◌, ◌-◌, ◌*◌, ◌++◌, ◌^◌, ◌↔◌, [], ℕ, List};
+ghost use Rattle.std.specs.Prelude.{All, IfOk, IsErrOf, IsTrue, OnErr, OnOk, false, length, map};
+ghost use Rattle.std.specs.Prelude.{take, true};
 ghost use Rattle.agg_values.specs.Names.{Named};
 ghost use Rattle.agg_values.specs.declared.after_key.AfterKey.{AfterKey};
+ghost use Rattle.agg_cache.specs.Limits.{Grown, IsExceeded};
 ghost use Rattle.agg_cache.specs.Waiting.{docs_of, is_id};
 ghost use Rattle.agg_segment.specs.Segment.{Stored};
 ghost use Rattle.agg_request_tree.specs.Faults.{max_sources};
 ghost use Rattle.agg_request_tree.specs.Groups.{Group, Groups};
 ghost use Rattle.agg_request_tree.specs.Source.{rules_of};
+ghost use Rattle.agg_charges.specs.Charges as spec;
 ghost use Rattle.agg_accessor.specs.Accessors.{Fits};
 ghost use Rattle.agg_accessor.specs.Encoding.{encoded_tuple_order};
 ghost use Rattle.agg_accessor.specs.Ranges.{AreAllInRange};
@@ -15,6 +18,8 @@ ghost use Rattle.agg_accessor.specs.declared.request_data.CompositeAggReqData as
 ghost use Rattle.agg_buckets.specs.Cut.{tuples_under};
 ghost use Rattle.agg_buckets.specs.Node.{Prepares, TooManyVisits};
 ghost use Rattle.agg_composite.specs.Answers.{Answers};
+ghost use Rattle.agg_composite.specs.Charged.{AnswersRangeOrLimit, Charges, IfLimit, OpenedBytes};
+ghost use Rattle.agg_composite.specs.Charged.{more_bytes};
 ghost use Rattle.agg_composite.specs.PageEntries.{decoded_buckets, entry_bucket, entry_group};
 ghost use Rattle.agg_composite.specs.Visits.{AnswersRange, TypedVisit, visits_past};
 
@@ -22,7 +27,11 @@ use crate::PageEntry;
 use crate::tuple_buckets::TupleBuckets;
 use agg_accessor::CompositeAggReqData;
 use agg_buckets::VisitError;
-use agg_cache::{Batch, BucketId, CachedSubAggs, CollectError, SubAggCache};
+use agg_cache::{
+    AggregationLimitsGuard, Batch, BucketId, CachedSubAggs, CollectError, LimitsLedger, SubAggCache,
+};
+use agg_charges::bucket_bytes;
+use agg_request_tree::CompositeAggregation;
 use agg_values::{DocId, ItemList, OutOfMemory, Steps};
 use std::alloc::Global;
 use std::marker::Model;
@@ -55,7 +64,8 @@ impl<C: SubAggCache> Model for SegmentCompositeCollector<C> {
 
 impl<C: SubAggCache> SegmentCompositeCollector<C> {
     ghost use Rattle.agg_composite.specs.Composite.{AnswersCollect, CompositeFor, CompositeGives};
-    ghost use Rattle.agg_composite.specs.Composite.{CompositeTakes, docs_under, page_of};
+    ghost use Rattle.agg_composite.specs.Composite.{CompositeTakes, docs_under, num_buckets};
+    ghost use Rattle.agg_composite.specs.Composite.{page_of};
 
     /// A collector for a composite of so many sources, which has visited nothing. It hands
     /// documents on.
@@ -117,9 +127,77 @@ impl<C: SubAggCache> SegmentCompositeCollector<C> {
     }
 
     /// Visits the tuples of the documents of these numbers that lie past the bound, under a parent,
+    /// and charges the buckets that it holds more than before, so none for one that takes another's
+    /// place. It is refused as `collect_uncharged` is, and exactly where the ledger would have more
+    /// in use than its limit. A refused call charges nothing.
+    pub fn collect<L: Ledger>(
+        &mut self,
+        parent_bucket_id: BucketId,
+        docs: &[DocId],
+        req: &CompositeAggReqData<'_>,
+        limits: &mut LimitsLedger,
+        guard: &mut AggregationLimitsGuard,
+        steps: &mut Steps<L>,
+    ) -> Result<(), CollectError>
+        requires parent { parent_bucket_id < length self.old.node.parents }
+        requires fits { (segment : Stored) × (after : Named AfterKey) × Fits segment after req.now }
+        requires room { length req.now.req.now.sources ≤ self.old.room }
+        requires guard { guard.old ≤ limits.old.in_use }
+        ensures visits { (segment : Stored) (after : Named AfterKey) → Fits segment after req.now
+            → AnswersCollect C.waiting req.now
+            (visits_past req.now.req.now.sources segment after parent_bucket_id docs.now)
+            self.old self.new steps.old steps.new result }
+        ensures many { (segment : Stored) (after : Named AfterKey) → Fits segment after req.now
+            → (visited : List TypedVisit) (given : List (ℕ × ℕ))
+            → CompositeFor C.waiting req.now self.old visited given
+            → IsErrOf result CollectError.TooMany
+            → 2 ^ 32 ≤ length visited + length
+            (visits_past req.now.req.now.sources segment after parent_bucket_id docs.now) }
+        ensures range { (segment : Stored) (after : Named AfterKey) → Fits segment after req.now
+            → AnswersRangeOrLimit (AreAllInRange segment req.now.req.now.sources docs.now) result }
+
+        // The bytes of the buckets that the parent has more, as it has the cut.
+        ensures opened { (segment : Stored) (after : Named AfterKey) → Fits segment after req.now
+            → (visited : List TypedVisit) (given : List (ℕ × ℕ))
+            → CompositeFor C.waiting req.now self.old visited given
+            → Charges (OpenedBytes req.now parent_bucket_id (page_of self.old parent_bucket_id)
+            (visits_past req.now.req.now.sources segment after parent_bucket_id docs.now))
+            limits.old limits.new guard.old guard.new result }
+
+        // They are those of what the collector holds more, also where they are refused.
+        ensures held { OnOk result
+            (limits.new.in_use + spec.bucket_bytes req.now.req.now * num_buckets self.old
+            ≡ limits.old.in_use + spec.bucket_bytes req.now.req.now * num_buckets self.new) }
+        ensures limit { (segment : Stored) (after : Named AfterKey) → Fits segment after req.now
+            → IfLimit (λ error. CompositeTakes C.waiting req.now
+            (visits_past req.now.req.now.sources segment after parent_bucket_id docs.now)
+            self.old self.new × IsExceeded (more_bytes req.now self.old self.new) limits.old error)
+            result }
+
+        ensures grown { Grown limits.old limits.new guard.old guard.new }
+        ensures ledger_kept { OnErr result (limits.new ≡ limits.old) }
+        ensures guard_kept { OnErr result (guard.new ≡ guard.old) }
+    {
+        let before = self.num_buckets();
+        self.collect_uncharged(parent_bucket_id, docs, req, steps)?;
+        guard.add_memory_consumed(limits, self.bytes_since(req.req, before))?;
+        Ok(())
+    }
+
+    // The bytes of the buckets that it holds more than before.
+    fn bytes_since(&self, composite: &CompositeAggregation, before: u64) -> u64
+        requires room { length composite.now.sources ≤ self.now.room }
+        requires no_fewer { before ≤ num_buckets self.now }
+        ensures { result ≡ spec.bucket_bytes composite.now * (num_buckets self.now - before) }
+    {
+        let num_opened = self.buckets.num_buckets() - before;
+        num_opened * bucket_bytes(composite)
+    }
+
+    /// Visits the tuples of the documents of these numbers that lie past the bound, under a parent,
     /// by one to three steps each. It is refused where a bucket of what the sources read starts
     /// outside 64 bits. What is there after another error isn't said.
-    pub fn collect<L: Ledger>(
+    pub fn collect_uncharged<L: Ledger>(
         &mut self,
         parent_bucket_id: BucketId,
         docs: &[DocId],
@@ -203,6 +281,14 @@ impl<C: SubAggCache> SegmentCompositeCollector<C> {
             page) }
     {
         self.buckets.page(self.alloc, parent_bucket_id, req)
+    }
+
+    /// How many buckets it holds, of all parents.
+    pub fn num_buckets(&self) -> u64
+        ensures total { result ≡ num_buckets self.now }
+        ensures few { result < 2 ^ 32 }
+    {
+        self.buckets.num_buckets()
     }
 
     /// Whether enough documents wait to be handed on.

@@ -1,5 +1,7 @@
 //! The buckets of each parent, by tuples of as many keys as a composite has sources.
 ghost use Rattle.std.specs.Prelude.{◌≡◌, ◌≤◌, ◌<◌, [], All, IfOk, OnOk, get_or, length, map};
+ghost use Rattle.std.specs.Prelude.{◌^◌};
+ghost use Rattle.std.specs.List.{sum_by};
 ghost use Rattle.std.specs.Map.{keys_of};
 ghost use Rattle.agg_request_tree.specs.Faults.{max_sources};
 ghost use Rattle.agg_accessor.specs.Decoded.{IsEncoded};
@@ -113,6 +115,20 @@ impl TupleBuckets {
             TupleBuckets::Four(buckets) => buckets.pushes(),
             TupleBuckets::Eight(buckets) => buckets.pushes(),
             TupleBuckets::Sixteen(buckets) => buckets.pushes(),
+        }
+    }
+
+    /// How many buckets all parents have.
+    pub fn num_buckets(&self) -> u64
+        ensures total { result ≡ sum_by length (node_of self.now).parents }
+        ensures few { result < 2 ^ 32 }
+    {
+        match self {
+            TupleBuckets::One(buckets) => buckets.total_num_buckets(),
+            TupleBuckets::Two(buckets) => buckets.total_num_buckets(),
+            TupleBuckets::Four(buckets) => buckets.total_num_buckets(),
+            TupleBuckets::Eight(buckets) => buckets.total_num_buckets(),
+            TupleBuckets::Sixteen(buckets) => buckets.total_num_buckets(),
         }
     }
 

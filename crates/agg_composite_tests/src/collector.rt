@@ -9,7 +9,7 @@ ghost use Rattle.agg_accessor.specs.declared.request_data.CompositeAggReqData as
 ghost use Rattle.agg_composite.specs.Composite.{CompositeFor};
 ghost use Rattle.agg_composite_tests.specs.Right.{IsRight};
 
-use agg_cache::{BucketId, LowCardSubAggCache, SubAggCache};
+use agg_cache::{BucketId, LimitsLedger, LowCardSubAggCache, SubAggCache};
 use agg_composite::{
     CompositeAggReqData, CompositeSourceAccessors, PageEntry, SegmentCompositeCollector,
 };
@@ -24,8 +24,8 @@ use std::process::Abort;
 use std::sync::ledger::{Blank, Ledger};
 use std::test::Fail;
 
-// The values of a document.
-type Values = &'static [(&'static str, Given)];
+/// The values of a document.
+pub(crate) type Values = &'static [(&'static str, Given)];
 
 // A bucket of one or two signed keys: these, how many documents it has, and its id.
 type Shown = (Option<i64>, Option<i64>, u64, BucketId);
@@ -39,8 +39,8 @@ const DOCUMENTS: &[Values] = &[
     &[("b", Given::Signed(3))],
 ];
 
-// What a collector is asked in a segment, from the first tuple on.
-fn request_in<'s>(
+/// What a collector is asked in a segment, from the first tuple on.
+pub(crate) fn request_in<'s>(
     alloc: Global,
     segment: &'s SegmentReader,
     composite: &'s CompositeAggregation,
@@ -79,8 +79,8 @@ fn new_collector<C: SubAggCache>(
     SegmentCompositeCollector::new_leaf(alloc, num_sources)
 }
 
-// A collector for a composite, with two parents.
-fn collector_for<C: SubAggCache>(
+/// A collector for a composite, with two parents.
+pub(crate) fn collector_for<C: SubAggCache>(
     rt: &(impl Abort + AllocGlobal),
     req: &CompositeAggReqData<'_>,
     hands_on: bool,
@@ -96,7 +96,7 @@ fn collector_for<C: SubAggCache>(
     Ok(collector)
 }
 
-// Collects documents under a parent.
+// Collects documents under a parent, and charges a ledger of its own.
 fn collect<C: SubAggCache, L: Ledger>(
     collector: &mut SegmentCompositeCollector<C>,
     parent: BucketId,
@@ -113,12 +113,14 @@ fn collect<C: SubAggCache, L: Ledger>(
         (length collector.new.node.parents ≡ length collector.old.node.parents) }
     ensures room { OnOk result (collector.new.room ≡ collector.old.room) }
 {
-    collector.collect(parent, docs, req, steps)?;
+    let mut limits = LimitsLedger::new(None, None);
+    let mut guard = limits.guard();
+    collector.collect(parent, docs, req, &mut limits, &mut guard, steps)?;
     Ok(())
 }
 
-// A signed key of an entry.
-fn number_of(entry: &PageEntry, index: usize) -> Option<i64> {
+/// A signed key of an entry.
+pub(crate) fn number_of(entry: &PageEntry, index: usize) -> Option<i64> {
     match entry.key.as_slice().get(index) {
         Some(CompositeIntermediateKey::I64(number)) => Some(*number),
         _ => None,
@@ -259,18 +261,22 @@ fn expect_pages<C: SubAggCache, L: Ledger>(
 {
     let mut steps: Steps<L> = Steps::new(blank);
     let segment = segment_of(rt.alloc(), DOCUMENTS)?;
-    let composite = composite_over(rt.alloc(), pages.fields)?;
+    let composite = composite_over(rt.alloc(), pages.fields, 2)?;
     let req = request_in(rt.alloc(), &segment, &composite)?;
     expect_pages_of::<C, L>(rt, pages, hands_on, &req, &mut steps)
 }
 
-// A composite of two buckets over terms of these fields.
-fn composite_over(alloc: Global, fields: &[&'static str]) -> Result<CompositeAggregation, Fail> {
+/// A composite of so many buckets over terms of these fields.
+pub(crate) fn composite_over(
+    alloc: Global,
+    fields: &[&'static str],
+    size: u32,
+) -> Result<CompositeAggregation, Fail> {
     let mut sources = Vec::new(alloc);
     for field in fields {
         sources.push(GivenSource::of(field, Kind::Terms, false))?;
     }
-    Ok(composite_of(alloc, sources.as_slice(), 2)?)
+    Ok(composite_of(alloc, sources.as_slice(), size)?)
 }
 
 // The same with a count of steps of its own.

@@ -1,10 +1,12 @@
-//! Tests of what a source reads in a segment.
+//! Tests of what a source reads in a segment, and of what a collector holds and charges.
 #![tactic(auto)]
 
 #[cfg(test)]
 mod accessor;
 #[cfg(test)]
 mod after_key;
+#[cfg(test)]
+mod charges;
 #[cfg(test)]
 mod collector;
 #[cfg(test)]

@@ -6,11 +6,12 @@ pub returns : goal.returns
 returns g c = λ segment after fits.
     let req = c.args.req.now in
     let mid = c.prepare_max_bucket.new.self in
+    let new = c.collect_uncharged.new.self in
+    let steps_now = c.collect_uncharged.new.steps in
+    let answers = c.collect_uncharged.ensures in
     answers-prepared req segment after (under c.args.parent c.args.docs.now) c.args.collector.now
-    mid
-    c.collect.new.self c.args.steps.now c.collect.new.steps c.collect.result
+    mid new c.args.steps.now steps_now c.collect_uncharged.result
     (c.prepare_max_bucket.ensures.right req) c.prepare_max_bucket.ensures.rest
-    (answers-under req segment after c.args.parent c.args.docs.now mid c.collect.new.self
-    c.args.steps.now c.collect.new.steps c.collect.result
-    (c.collect.ensures.visits segment after fits) (c.collect.ensures.many segment after fits)
-    (c.collect.ensures.range segment after fits))
+    (answers-under req segment after c.args.parent c.args.docs.now mid new c.args.steps.now
+    steps_now c.collect_uncharged.result (answers.visits segment after fits)
+    (answers.many segment after fits) (answers.range segment after fits))

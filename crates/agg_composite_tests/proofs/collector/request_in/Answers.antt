@@ -1,4 +1,4 @@
-use Rattle.std.proofs.Common.{[], None, arith}
+use Rattle.std.proofs.Common.{[], arith}
 use Rattle.agg_request_tree.specs.Source.{after_of}
 use Rattle.agg_composite.specs.Accessors.{AreAccessorsOf}
 use Rattle.agg_composite_tests.proofs.OneMore.{one_more}

@@ -1,0 +1,179 @@
+//! Tests of what a collector charges for its buckets.
+ghost use Rattle.std.specs.Prelude.{◌≡◌, ◌≤◌, ◌<◌, OnOk, length};
+ghost use Rattle.agg_values.specs.Names.{Named};
+ghost use Rattle.agg_values.specs.declared.after_key.AfterKey.{AfterKey};
+ghost use Rattle.agg_segment.specs.Segment.{Stored};
+ghost use Rattle.agg_accessor.specs.Accessors.{Fits};
+ghost use Rattle.agg_composite_tests.specs.Right.{IsRight};
+
+use crate::collector::{Values, collector_for, composite_over, number_of, request_in};
+use agg_cache::{
+    AggregationLimitsGuard, CollectError, LimitsLedger, LowCardSubAggCache, SubAggCache,
+};
+use agg_composite::{CompositeAggReqData, SegmentCompositeCollector};
+use agg_segment_tests::given::{Given, segment_of};
+use agg_values::{AggregationError, DocId, Steps};
+use std::marker::Brand;
+use std::process::Abort;
+use std::sync::ledger::{Blank, Ledger};
+use std::test::Fail;
+
+const DOCUMENTS: &[Values] = &[
+    &[("a", Given::Signed(2))],
+    &[("a", Given::Signed(3))],
+    &[("a", Given::Signed(4))],
+    &[("a", Given::Signed(5))],
+    &[("a", Given::Signed(6))],
+    &[("a", Given::Signed(7))],
+    &[("a", Given::Signed(1))],
+];
+
+// Documents that come after the first five, on a page of so many buckets: the numbers on the page
+// then, or the bytes that the limit refuses.
+struct Case {
+    size: u32,
+    docs: &'static [DocId],
+    page: &'static [i64],
+    refused: Option<(u64, u64)>,
+}
+
+const CASES: &[Case] = &[
+    Case {
+        size: 5,
+        docs: &[0, 5],
+        page: &[2, 3, 4, 5, 6],
+        refused: None,
+    },
+    Case {
+        size: 5,
+        docs: &[6],
+        page: &[1, 2, 3, 4, 5],
+        refused: None,
+    },
+    Case {
+        size: 10,
+        docs: &[0],
+        page: &[2, 3, 4, 5, 6],
+        refused: None,
+    },
+    Case {
+        size: 10,
+        docs: &[6],
+        page: &[],
+        refused: Some((1_000, 1_088)),
+    },
+];
+
+// A ledger with a guard that charges it.
+#[derive(Drop)]
+struct Account {
+    limits: LimitsLedger,
+    guard: AggregationLimitsGuard,
+    ghost within: { guard ≤ limits.in_use },
+}
+
+// A ledger of a limit of 1000 bytes, of which 512 are charged.
+fn charged_account() -> Result<Account, AggregationError> {
+    let mut limits = LimitsLedger::new(Some(1_000), None);
+    let mut guard = limits.guard();
+    guard.add_memory_consumed(&mut limits, 512)?;
+    Ok(Account { limits, guard })
+}
+
+// Collects documents under the first parent.
+fn collect<C: SubAggCache, L: Ledger>(
+    collector: &mut SegmentCompositeCollector<C>,
+    docs: &[DocId],
+    req: &CompositeAggReqData<'_>,
+    account: &mut Account,
+    steps: &mut Steps<L>,
+) -> Result<(), CollectError>
+    requires right { IsRight C.waiting req.now collector.old }
+    requires parents { 0 < length collector.old.node.parents }
+    requires fits { (segment : Stored) × (after : Named AfterKey) × Fits segment after req.now }
+    requires room { length req.now.req.now.sources ≤ collector.old.room }
+    ensures right { OnOk result (IsRight C.waiting req.now collector.new) }
+    ensures parents { OnOk result
+        (length collector.new.node.parents ≡ length collector.old.node.parents) }
+    ensures room { OnOk result (collector.new.room ≡ collector.old.room) }
+{
+    collector.collect(0, docs, req, &mut account.limits, &mut account.guard, steps)
+}
+
+// The limit and the bytes that would be in use, where that is why documents are refused.
+fn refused(error: &CollectError) -> Option<(u64, u64)> {
+    match error {
+        CollectError::Aggregation(AggregationError::MemoryExceeded { limit, current }) => {
+            Some((*limit, *current))
+        }
+        _ => None,
+    }
+}
+
+// The first parent has a page of these numbers.
+fn expect_page<C: SubAggCache>(
+    rt: &(impl Abort + AllocGlobal),
+    collector: &SegmentCompositeCollector<C>,
+    req: &CompositeAggReqData<'_>,
+    expected: &[i64],
+) -> Result<(), Fail>
+    requires right { IsRight C.waiting req.now collector.now }
+    requires fits { (segment : Stored) × (after : Named AfterKey) × Fits segment after req.now }
+{
+    let mut numbers = Vec::new(rt.alloc());
+    for entry in collector.page(0, req)?.as_slice() {
+        numbers.push(number_of(entry, 0).ok_or("not a number")?)?;
+    }
+    assert_eq!(rt; numbers.as_slice(), expected);
+    Ok(())
+}
+
+// After the first five documents 8 bytes are left, and the others leave as many.
+fn expect_case<C: SubAggCache, L: Ledger>(
+    rt: &(impl Abort + AllocGlobal),
+    case: &Case,
+    req: &CompositeAggReqData<'_>,
+    steps: &mut Steps<L>,
+) -> Result<(), Fail>
+    requires { (segment : Stored) × (after : Named AfterKey) × Fits segment after req.now }
+{
+    let mut account = charged_account()?;
+    let mut collector: SegmentCompositeCollector<C> = collector_for(rt, req, false)?;
+    collect(&mut collector, &[0, 1, 2, 3, 4], req, &mut account, steps)?;
+    assert_eq!(rt; account.limits.in_use(), 992);
+    let collected = collect(&mut collector, case.docs, req, &mut account, steps);
+    assert_eq!(rt; account.limits.in_use(), 992);
+    assert_eq!(rt; account.guard.allocated(), 992);
+    match collected {
+        Ok(()) => expect_page(rt, &collector, req, case.page),
+        Err(error) => {
+            assert_eq!(rt; refused(&error), Some(case.refused.ok_or("not collected")?));
+            Ok(())
+        }
+    }
+}
+
+// The same in a segment, with a count of steps of its own.
+fn expect_counted<L: Ledger>(
+    rt: &(impl Abort + AllocGlobal),
+    case: &Case,
+    blank: Blank,
+) -> Result<(), Fail>
+    requires name { blank.name ≡ L.name }
+    requires parts { blank.parts ≡ L.parts }
+    requires shared { 0 < L.parts }
+{
+    let mut steps: Steps<L> = Steps::new(blank);
+    let segment = segment_of(rt.alloc(), DOCUMENTS)?;
+    let composite = composite_over(rt.alloc(), &["a"], case.size)?;
+    let req = request_in(rt.alloc(), &segment, &composite)?;
+    expect_case::<LowCardSubAggCache, L>(rt, case, &req, &mut steps)
+}
+
+#[test]
+fn charges_for_each_bucket_more(rt: HostRuntime) -> Result<(), Fail> {
+    for case in CASES {
+        expect_counted::<Brand>(&rt, case, Blank::new(1))?;
+    }
+    Ok(())
+}
