@@ -24,6 +24,7 @@ module _ {C : Type 0} (waiting : C → ℕ → List ℕ) where
           counted = f.counted;
           exact = λ hands parent id is. left given id ∙ f.exact hands parent id is;
           others = λ hands id no_id. left given id ∙ f.others hands id no_id;
+          prepared = f.prepared;
           distinct = f.distinct;
           low = f.low;
           unprepared = f.unprepared;

@@ -55,6 +55,16 @@ is_own_id collector own parent id is =
     let own_number = get_or-range_with_len 0 n parent 0 within ∙ zero-add parent in
     (sym (get_or_from_slice_get (range_with_len 0 n) parent id 0 at) ∙ own_number, within)
 
+-- a parent without an id isn't prepared
+pub is_unprepared : {C : Type 0} (collector : Filter C) → HasOwnIds collector → (parent : ℕ)
+    → id_of collector parent ≡ None → length collector.counts ≤ parent
+is_unprepared collector own parent none = is_past (lt_or_ge parent (length collector.counts))
+  where
+    is_past : (parent < length collector.counts) ⊎ (length collector.counts ≤ parent)
+        → length collector.counts ≤ parent
+    is_past (inl within) = absurd (cc (sym none ∙ own_id collector own parent within))
+    is_past (inr past) = past
+
 -- the ids are the numbers of prepared parents
 pub contains_own : {C : Type 0} (collector : Filter C) → HasOwnIds collector → (id : ℕ)
     → id < length collector.counts → Contains collector.ids id
@@ -159,6 +169,7 @@ module _ {C : Type 0} (waiting : C → ℕ → List ℕ) (is_match : ℕ → Boo
             ap (λ c. docs_of (is_id id) given ++ waiting c.0 id) cache
             ∙ f.others (sym hands_on ∙ hands) id (λ among. none (contains_own new own_new id
             (omega (arith, is_contained old own id among, more.more))));
+        prepared = is_unprepared new own_new;
         distinct = λ parent other id is same.
             sym (is_own_id new own_new parent id is).0 ∙ (is_own_id new own_new other id same).0;
         low = λ parent id is.

@@ -12,7 +12,7 @@ use Rattle.agg_cache.specs.Waiting.{docs_of, is_id, under}
 use Rattle.agg_cache.proofs.UnderIds.{docs_of-append, docs_of-other, docs_of-same}
 use Rattle.agg_filter.specs.Filter.{Filter, FilterFor, FilterTakes, count_of, id_of}
 use Rattle.agg_filter.specs.Filter.{matching_under}
-use Rattle.agg_filter.proofs.PreparedParents.{HasOwnIds, contains_own, is_own_id}
+use Rattle.agg_filter.proofs.PreparedParents.{HasOwnIds, contains_own, is_own_id, is_unprepared}
 use Rattle.agg_filter.proofs.UnderIds.{matching-append, matching-under}
 
 -- the documents of a parent's visits were counted, and came to wait under its id where documents
@@ -114,6 +114,7 @@ module _ {C : Type 0} (waiting : C → ℕ → List ℕ) (is_match : ℕ → Boo
         (f.others before id (subst P same-ids none))
         ∙ matching-under is_match id parent docs
         ∙ docs_of-other id parent (filter is_match docs) differ;
+    prepared = is_unprepared new v.own_new;
     distinct = λ p q id is same.
         f.distinct p q id (sym (ap (λ ids. slice_get ids p) same-ids) ∙ is)
         (sym (ap (λ ids. slice_get ids q) same-ids) ∙ same);

@@ -1,7 +1,7 @@
 -- What a collector holds for the visits of its documents, and what it hands on. A visit is a
 -- parent and a document.
 use Rattle.std.specs.Prelude.{◌≡◌, ◌+◌, ◌++◌, ◌<◌, ◌≤◌, ℕ, Bool, true, false, List, [], Option}
-use Rattle.std.specs.Prelude.{Contains, Some, filter, get_or, length, slice_get}
+use Rattle.std.specs.Prelude.{Contains, None, Some, filter, get_or, length, slice_get}
 use Rattle.agg_cache.specs.Waiting.{docs_of, is_id, pairs_of}
 use Rattle.agg_cache.specs.declared.cache.Batch.{Batch}
 
@@ -27,8 +27,9 @@ matching_under is_match parent visits = filter is_match (docs_of (is_id parent) 
 
 -- a collector is right for the visits that it made and for what it gave: each count is the number
 -- of the documents that match under its parent; where documents are handed on, those that were
--- given or wait under its id are these, in order, and there are none under other ids; parents have
--- distinct ids, below the greatest number of their type, and one that isn't prepared had no visit
+-- given or wait under its id are these, in order, and there are none under other ids; each prepared
+-- parent has an id of its own, below the greatest number of its type, and one that isn't prepared
+-- had no visit
 pub record FilterFor {C : Type 0} (waiting : C → ℕ → List ℕ) (is_match : ℕ → Bool)
     (collector : Filter C) (visited : List (ℕ × ℕ)) (given : List (ℕ × ℕ)) : Type 0 where
   pub counted : (parent : ℕ)
@@ -38,6 +39,7 @@ pub record FilterFor {C : Type 0} (waiting : C → ℕ → List ℕ) (is_match :
       ≡ matching_under is_match parent visited
   pub others : collector.hands_on ≡ true → (id : ℕ) → ¬ Contains collector.ids id
       → docs_of (is_id id) given ++ waiting collector.cache.0 id ≡ []
+  pub prepared : (parent : ℕ) → id_of collector parent ≡ None → length collector.counts ≤ parent
   pub distinct : (parent other id : ℕ) → id_of collector parent ≡ Some id
       → id_of collector other ≡ Some id → parent ≡ other
   pub low : (parent id : ℕ) → id_of collector parent ≡ Some id → id < 4294967295
