@@ -16,7 +16,7 @@ use Rattle.agg_accessor.specs.declared.request_data.CompositeAggReqData.{Composi
 use Rattle.agg_accessor.proofs.EncodedOrder.{tuple_order-total}
 use Rattle.agg_segment.specs.Segment.{documents_at}
 use Rattle.agg_buckets.specs.Visits.{Within, docs_in}
-use Rattle.agg_composite.specs.Composite.{Composite, CompositeFor}
+use Rattle.agg_composite.specs.Composite.{Composite, CompositeFor, num_buckets}
 use Rattle.agg_composite.specs.Visits.{TypedVisit}
 use Rattle.agg_segment_context.specs.Context.{IsMeant, Meaning}
 use Rattle.agg_segment_context.specs.declared.context.PerRequestAggSegCtx.{PerRequestAggSegCtx}
@@ -24,7 +24,7 @@ use Rattle.agg_collector_tree.specs.Tree.{Cache, Held, IsFor, IsHandedTo, visits
 use Rattle.agg_collector_tree.specs.Tree.{waiting_in}
 use Rattle.agg_collector_tree.proofs.LowerDocuments.{docs-stand, given-within, visited-part}
 use Rattle.agg_collector_tree.proofs.WithinLists.{within-both, within-contains}
-use Rattle.agg_held_bytes.specs.HeldBytes.{bytes_at, num_buckets}
+use Rattle.agg_held_bytes.specs.HeldBytes.{bytes_at}
 use Rattle.agg_held_bytes.specs.Trees.{over_parents, taken_under}
 use Rattle.agg_held_bytes.proofs.CompositeBytes.{HasPages, composite-least, composite-most}
 use Rattle.agg_held_bytes.proofs.DocumentLists.{none-past, nothing-first, parents-low}

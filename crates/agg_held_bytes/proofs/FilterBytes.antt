@@ -1,6 +1,6 @@
 -- What is counted for the documents that a filter gave, and for those that match of each parent.
 use Rattle.std.proofs.Common.{◌≡◌, ◌<◌, ◌≤◌, ◌+◌, ◌++◌, ℕ, suc, List, [], ◌∷◌, true, false}
-use Rattle.std.proofs.Common.{Some, None, append-nil, filter, inl, inr, length, refl, sym, ap, ◌∙◌}
+use Rattle.std.proofs.Common.{Some, append-nil, filter, inl, inr, refl, sym, ap, ◌∙◌}
 use Rattle.std.proofs.Common.{arith}
 use Rattle.std.specs.Prelude.{nat_eq, slice_get}
 use Rattle.std.specs.List.{AllByRecursion, Contains, list_any, sum_by}
@@ -20,7 +20,7 @@ use Rattle.agg_charges.specs.Within.{Within}
 use Rattle.agg_charges.proofs.Lawful.{Lawful}
 use Rattle.agg_charges.proofs.Tests.{by_answer, clash, not_true, second}
 use Rattle.agg_buckets.specs.Visits.{docs_in}
-use Rattle.agg_filter.specs.Filter.{Filter, FilterFor, id_of}
+use Rattle.agg_filter.specs.Filter.{Filter, FilterFor}
 use Rattle.agg_filter.specs.Matching.{is_matching}
 use Rattle.agg_segment_context.specs.Context.{tree_in}
 use Rattle.agg_collector_tree.specs.Tree.{Cache, waiting_in}
@@ -115,7 +115,6 @@ module _ (tree : QueryTree) (segment : Stored) (query : FilterQuery QueryTree)
       )
 
   module _ (flushed : (id : ℕ) → waiting_in collector.cache.0 id ≡ [])
-      (prepared : (p : ℕ) → id_of collector p ≡ None → length collector.counts ≤ p)
       (inside : (d : ℕ) → Contains (docs_in taken) d → d < segment.count) where
     own-inside : (p : ℕ) → AllByRecursion (λ d. d < segment.count) (docs_of (is_id p) taken)
     own-inside p =
@@ -138,7 +137,7 @@ module _ (tree : QueryTree) (segment : Stored) (query : FilterQuery QueryTree)
       arith,
       places-least (λ id. low (given_at id)) (λ p. low (matched p)) collector.ids n
           (λ p id at. omega (arith, ap low (given-same p id at)))
-          (λ p at. ap low (matched-none p (right.unprepared p (prepared p at))) ∙ nothing),
+          (λ p at. ap low (matched-none p (right.unprepared p (right.prepared p at))) ∙ nothing),
       sum-below (λ id. low (given_at id)) collector.ids (above collector.ids)
           (numbers-apart collector.ids right.distinct)
           (all-above (above collector.ids) collector.ids (omega arith)),

@@ -1,10 +1,15 @@
 pub mod Cancelled
+pub mod Checked
 pub mod CompositeBytes
 pub mod CompositeNodes
 pub mod CountedNodes
 pub mod DocumentLists
 pub mod FilterBytes
+pub mod FixedCharges
+pub mod HeldNodes
+pub mod HeldSums
 pub mod LabelSums
+pub mod NodeCharges
 pub mod NumberSums
 pub mod PageIds
 pub mod ParentPages

@@ -19,7 +19,7 @@ use Rattle.agg_segment_context.specs.Context.{Meaning}
 use Rattle.agg_segment_context.specs.declared.context.PerRequestAggSegCtx.{PerRequestAggSegCtx}
 use Rattle.agg_collector_tree.specs.Tree.{Held, IsFlushed}
 use Rattle.agg_held_bytes.specs.HeldBytes.{held_bytes}
-use Rattle.agg_held_bytes.specs.Trees.{AreOfSegment, AreUnder, HasIds, IsTreeOf, over_parents}
+use Rattle.agg_held_bytes.specs.Trees.{AreOfSegment, AreUnder, IsTreeOf, over_parents}
 use Rattle.agg_held_bytes.specs.Trees.{taken_under}
 use Rattle.agg_held_bytes.proofs.TreeLeast.{least-group}
 use Rattle.agg_held_bytes.proofs.TreeMost.{most-group}
@@ -64,7 +64,7 @@ module _ (meaning : Meaning) (ctx : PerRequestAggSegCtx) (request : Request Quer
     one-parent (counts_of matches request).bytes meaning.segment taken zero,
   )
 
-  module _ (flushed : IsFlushed held) (ids : HasIds held)
+  module _ (flushed : IsFlushed held)
       (inside : AreOfSegment meaning.segment taken) where
     pub least : (parents : ℕ)
         → over_parents (counts_of matches request).low_bytes meaning.segment taken parents
@@ -72,7 +72,7 @@ module _ (meaning : Meaning) (ctx : PerRequestAggSegCtx) (request : Request Quer
     least parents =
         let count = meaning.segment.count in
         least-group meaning ctx tree.meant held request tree.plans tree.asked tree.nodes tree.fits
-        flushed ids taken tree.visits tree.right
+        flushed taken tree.visits tree.right
         (λ d c. AllByRecursion-Has (λ d. d < count) (docs_in taken) d
         (AllByRecursion-map (λ d. d < count) (λ e. e.1) taken
         (recursion_from_All (λ e. e.1 < count) taken inside))

@@ -22,7 +22,7 @@ use Rattle.agg_collector_tree.proofs.MatchedDocuments.{given-matched, matching-w
 use Rattle.agg_collector_tree.proofs.WithinLists.{within-both, within-contains}
 use Rattle.agg_tree_results.proofs.NamedNodes.{composite-node, filter-node, metric-node}
 use Rattle.agg_held_bytes.specs.HeldBytes.{bytes_of_all, held_bytes}
-use Rattle.agg_held_bytes.specs.Trees.{HasIds, HaveIds, over_parents}
+use Rattle.agg_held_bytes.specs.Trees.{over_parents}
 use Rattle.agg_held_bytes.proofs.CompositeNodes.{given-part, node-least, passed}
 use Rattle.agg_held_bytes.proofs.CountedNodes.{asked-composite, counts-asked, counts-more}
 use Rattle.agg_held_bytes.proofs.CountedNodes.{asked-metric, no-counts, nothing-asked}
@@ -42,11 +42,11 @@ module _ (meaning : Meaning) (ctx : PerRequestAggSegCtx) (is : IsMeant meaning c
   mutual
     -- a node with what is below it
     least-in : (h : Held) (name : List ℕ) (a : Aggregation QueryTree) (plan : Plan)
-        → IsPlanOf meaning ctx name a plan → IsOf plan h → Fits ctx h → IsFlushed h → HasIds h
+        → IsPlanOf meaning ctx name a plan → IsOf plan h → Fits ctx h → IsFlushed h
         → (taken : List (ℕ × ℕ)) (visits : ℕ) → IsFor meaning ctx h taken visits
         → AreInside taken → (n : ℕ)
         → over_parents (counts matches a).low_bytes meaning.segment taken n ≤ held_bytes ctx h
-    least-in (Held.composite index collector h) name a plan asked of fits flushed ids taken visits
+    least-in (Held.composite index collector h) name a plan asked of fits flushed taken visits
         (given, own, under, own_for, below_for, sum) inside n =
         let node = composite-node meaning ctx name a plan index collector h asked of in
         let req = node.at.0 in
@@ -55,7 +55,7 @@ module _ (meaning : Meaning) (ctx : PerRequestAggSegCtx) (is : IsMeant meaning c
         under below_for in
         let below = counts_of matches (below_of a) in
         let lower = least-group h (below_of a) node.plans node.below node.group fits.2 flushed.1
-        ids down.1.given down.1.visits down.1.right
+        down.1.given down.1.visits down.1.right
         (λ d c. inside d (given-part meaning ctx is index req node.at.1 collector taken given right
         h down.0 down.1 d c)) collector.node.next in
         let here = node-least meaning ctx is index req node.at.1 collector taken given right h
@@ -68,7 +68,7 @@ module _ (meaning : Meaning) (ctx : PerRequestAggSegCtx) (is : IsMeant meaning c
           ap (λ (c : Counts). over_parents c.low_bytes meaning.segment taken n) counted,
         )
     least-in (Held.filter index collector h) name a plan asked of (data_at, inr none, fits) flushed
-        ids taken visits (given, own_for, below_for) inside n =
+        taken visits (given, own_for, below_for) inside n =
         let node = filter-node meaning ctx name a plan index collector h asked of in
         let nothing = nothing-asked meaning ctx node.plans (below_of a) node.below h none node.group
         in
@@ -85,7 +85,7 @@ module _ (meaning : Meaning) (ctx : PerRequestAggSegCtx) (is : IsMeant meaning c
               nothing),
         )
     least-in (Held.filter index collector h) name a plan asked of (data_at, inl on, fits) flushed
-        ids taken visits (given, own_for, below_for) inside n =
+        taken visits (given, own_for, below_for) inside n =
         let node = filter-node meaning ctx name a plan index collector h asked of in
         let below = counts_of matches (below_of a) in
         let tree = meaning.query_at index in
@@ -94,11 +94,11 @@ module _ (meaning : Meaning) (ctx : PerRequestAggSegCtx) (is : IsMeant meaning c
         (given-matched (is_matching tree meaning.segment) collector taken given on own_for)
         (matching-within (is_matching tree meaning.segment) (docs_in taken)) in
         let lower = least-group h (below_of a) node.plans node.below node.group fits flushed.1
-        ids.1 given visits below_for
+        given visits below_for
         (λ d c. inside d (within-contains (docs_in given) (docs_in taken) part d c))
         (above collector.ids) in
         let here = filter-least tree meaning.segment node.query node.at.3 collector taken given on
-        own_for flushed.0 ids.0 inside below.low_bytes (no-low (below_of a)) n in
+        own_for flushed.0 inside below.low_bytes (no-low (below_of a)) n in
         omega (
           arith,
           lower,
@@ -106,7 +106,7 @@ module _ (meaning : Meaning) (ctx : PerRequestAggSegCtx) (is : IsMeant meaning c
           ap (λ (c : Counts). over_parents c.low_bytes meaning.segment taken n)
               (counts-asked a (asks.Filter (record { query = node.query })) node.agg_is),
         )
-    least-in (Held.metric index collector) name a plan asked of fits flushed ids taken visits f
+    least-in (Held.metric index collector) name a plan asked of fits flushed taken visits f
         inside n =
         let node = metric-node meaning ctx name a plan index collector asked of in
         omega (
@@ -115,50 +115,50 @@ module _ (meaning : Meaning) (ctx : PerRequestAggSegCtx) (is : IsMeant meaning c
               (λ documents. ap (λ (c : Counts). c.low_bytes documents)
               (asked-metric meaning ctx name a node.0 index node.1)),
         )
-    least-in (Held.group hs) name a plan asked of fits flushed ids taken visits f inside n =
+    least-in (Held.group hs) name a plan asked of fits flushed taken visits f inside n =
         absurd (no-node plan hs of)
 
     -- a tree of several
     pub least-group : (h : Held) (request : Request QueryTree) (plans : Plans)
         → ArePlansOf meaning ctx request plans → IsGroupOf plans h → Fits ctx h → IsFlushed h
-        → HasIds h → (taken : List (ℕ × ℕ)) (visits : ℕ) → IsFor meaning ctx h taken visits
+        → (taken : List (ℕ × ℕ)) (visits : ℕ) → IsFor meaning ctx h taken visits
         → AreInside taken → (n : ℕ)
         → over_parents (counts_of matches request).low_bytes meaning.segment taken n
         ≤ held_bytes ctx h
-    least-group (Held.group hs) request plans asked of fits flushed ids taken visits f inside n =
-        least-all hs request plans asked of fits flushed ids taken visits f inside n
-    least-group (Held.composite index collector h) request plans asked of fits flushed ids taken
+    least-group (Held.group hs) request plans asked of fits flushed taken visits f inside n =
+        least-all hs request plans asked of fits flushed taken visits f inside n
+    least-group (Held.composite index collector h) request plans asked of fits flushed taken
         visits f inside n = absurd of
-    least-group (Held.filter index collector h) request plans asked of fits flushed ids taken
+    least-group (Held.filter index collector h) request plans asked of fits flushed taken
         visits f inside n = absurd of
-    least-group (Held.metric index collector) request plans asked of fits flushed ids taken visits
+    least-group (Held.metric index collector) request plans asked of fits flushed taken visits
         f inside n = absurd of
 
     least-all : (hs : Helds) (request : Request QueryTree) (plans : Plans)
         → ArePlansOf meaning ctx request plans → AreOf plans hs → AllFit ctx hs → AreFlushed hs
-        → HaveIds hs → (taken : List (ℕ × ℕ)) (visits : ℕ) → AllFor meaning ctx hs taken visits
+        → (taken : List (ℕ × ℕ)) (visits : ℕ) → AllFor meaning ctx hs taken visits
         → AreInside taken → (n : ℕ)
         → over_parents (counts_of matches request).low_bytes meaning.segment taken n
         ≤ bytes_of_all ctx hs
-    least-all Helds.none [] plans asked of fits flushed ids taken visits f inside n =
+    least-all Helds.none [] plans asked of fits flushed taken visits f inside n =
         omega (
           arith,
           no-counts meaning.segment taken n (counts_of matches []).low_bytes (λ documents. refl),
         )
-    least-all Helds.none (a ∷ request) Plans.none asked of fits flushed ids taken visits f inside n
+    least-all Helds.none (a ∷ request) Plans.none asked of fits flushed taken visits f inside n
         = absurd asked
-    least-all Helds.none (a ∷ request) (Plans.more plan plans) asked of fits flushed ids taken
+    least-all Helds.none (a ∷ request) (Plans.more plan plans) asked of fits flushed taken
         visits f inside n = absurd of
-    least-all (Helds.more h hs) request Plans.none asked of fits flushed ids taken visits f inside
+    least-all (Helds.more h hs) request Plans.none asked of fits flushed taken visits f inside
         n = absurd of
-    least-all (Helds.more h hs) [] (Plans.more plan plans) asked of fits flushed ids taken visits f
+    least-all (Helds.more h hs) [] (Plans.more plan plans) asked of fits flushed taken visits f
         inside n = absurd asked
-    least-all (Helds.more h hs) (a ∷ request) (Plans.more plan plans) asked of fits flushed ids
+    least-all (Helds.more h hs) (a ∷ request) (Plans.more plan plans) asked of fits flushed
         taken visits (own, others, own_for, others_for, sum) inside n =
         omega (
           arith,
-          least-in h a.0 a.1 plan asked.0 of.0 fits.0 flushed.0 ids.0 taken own own_for inside n,
-          least-all hs request plans asked.1 of.1 fits.1 flushed.1 ids.1 taken others others_for
+          least-in h a.0 a.1 plan asked.0 of.0 fits.0 flushed.0 taken own own_for inside n,
+          least-all hs request plans asked.1 of.1 fits.1 flushed.1 taken others others_for
               inside n,
           counts-more meaning.segment taken n (λ c. c.low_bytes) (λ request documents. refl) a
               request,

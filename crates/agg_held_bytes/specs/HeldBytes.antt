@@ -1,16 +1,11 @@
 -- The bytes of the buckets that the composites of a tree hold.
-use Rattle.std.specs.Prelude.{◌+◌, ◌*◌, ℕ, length, slice_get}
-use Rattle.std.specs.List.{sum_by}
+use Rattle.std.specs.Prelude.{◌+◌, ◌*◌, ℕ, slice_get}
 use Rattle.std.specs.Option.{option_map_or}
 use Rattle.agg_accessor.specs.declared.request_data.CompositeAggReqData.{CompositeAggReqData}
 use Rattle.agg_charges.specs.Charges.{bucket_bytes}
-use Rattle.agg_composite.specs.Composite.{Composite}
+use Rattle.agg_composite.specs.Composite.{num_buckets}
 use Rattle.agg_segment_context.specs.declared.context.PerRequestAggSegCtx.{PerRequestAggSegCtx}
-use Rattle.agg_collector_tree.specs.Tree.{Cache, Held, Helds}
-
--- how many buckets a composite's collector holds, of all parents
-abbrev pub num_buckets : Composite Cache → ℕ
-num_buckets collector = sum_by length collector.node.parents
+use Rattle.agg_collector_tree.specs.Tree.{Held, Helds}
 
 module _ (ctx : PerRequestAggSegCtx) where
   -- the bytes of a bucket of the composite whose data stands at an index

@@ -1,2 +1,4 @@
+pub mod Checked
 pub mod HeldBytes
+pub mod Nodes
 pub mod Trees

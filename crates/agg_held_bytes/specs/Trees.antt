@@ -1,16 +1,15 @@
 -- What a tree of a request took, and what the request counts over it.
-use Rattle.std.specs.Prelude.{◌≡◌, ◌<◌, ◌≤◌, ℕ, List, None, ⊤, length}
+use Rattle.std.specs.Prelude.{◌<◌, ℕ, List}
 use Rattle.std.specs.List.{All, range_with_len, sum_by}
 use Rattle.agg_cache.specs.Waiting.{docs_of, is_id}
 use Rattle.agg_column.specs.Document.{Fields}
 use Rattle.agg_segment.specs.Segment.{Stored, documents_at}
 use Rattle.agg_segment.specs.declared.query.QueryTree.{QueryTree}
 use Rattle.agg_request_tree.specs.Request.{Request}
-use Rattle.agg_filter.specs.Filter.{id_of}
 use Rattle.agg_segment_context.specs.Context.{ArePlansOf, IsMeant, Meaning}
 use Rattle.agg_segment_context.specs.Plan.{Plans}
 use Rattle.agg_segment_context.specs.declared.context.PerRequestAggSegCtx.{PerRequestAggSegCtx}
-use Rattle.agg_collector_tree.specs.Tree.{Fits, Held, Helds, IsFor, IsGroupOf}
+use Rattle.agg_collector_tree.specs.Tree.{Fits, Held, IsFor, IsGroupOf}
 
 -- a tree is that of a request in a context, and right for the documents that it took under parents
 pub record IsTreeOf (meaning : Meaning) (ctx : PerRequestAggSegCtx) (request : Request QueryTree)
@@ -39,16 +38,3 @@ AreUnder parents taken = All (λ e. e.0 < parents) taken
 -- each document is one of the segment
 abbrev pub AreOfSegment : Stored → List (ℕ × ℕ) → Type 0
 AreOfSegment segment taken = All (λ e. e.1 < segment.count) taken
-
--- each filter of a tree has an id for each parent that it is prepared for
-abbrev mutual
-  pub HasIds : Held → Type 0
-  HasIds (Held.composite index collector h) = HasIds h
-  HasIds (Held.filter index collector h) =
-      ((parent : ℕ) → id_of collector parent ≡ None → length collector.counts ≤ parent) × HasIds h
-  HasIds (Held.metric index collector) = ⊤
-  HasIds (Held.group hs) = HaveIds hs
-
-  pub HaveIds : Helds → Type 0
-  HaveIds Helds.none = ⊤
-  HaveIds (Helds.more h hs) = HasIds h × HaveIds hs

@@ -5,7 +5,7 @@ ghost use Rattle.agg_buckets.specs.Visits.{docs_in};
 ghost use Rattle.agg_charges.specs.Roof.{counts_of};
 ghost use Rattle.agg_collector_tree.specs.Tree.{Held, IsFlushed};
 ghost use Rattle.agg_held_bytes.specs.HeldBytes.{held_bytes};
-ghost use Rattle.agg_held_bytes.specs.Trees.{AreOfSegment, AreUnder, HasIds, IsTreeOf};
+ghost use Rattle.agg_held_bytes.specs.Trees.{AreOfSegment, AreUnder, IsTreeOf};
 ghost use Rattle.agg_held_bytes.specs.Trees.{over_parents};
 ghost use Rattle.agg_request_tree.specs.Request.{Request};
 ghost use Rattle.agg_segment.specs.Query.{matches};
@@ -34,13 +34,12 @@ pub fn trees_hold_at_most_their_roof()
 
 /// Where nothing waits in caches, a tree holds at least the low bytes of the buckets that its
 /// request counts over the documents that were taken under each parent, or over all of them where
-/// they were under parent 0. They have to be documents of the segment, and each filter has to have
-/// an id for each parent that it is prepared for.
+/// they were under parent 0. They have to be documents of the segment.
 pub fn flushed_trees_hold_at_least_their_low_roof()
     ensures parents { (meaning : Meaning) (ctx : declared.PerRequestAggSegCtx)
         → (request : Request QueryTree) (held : Held) (taken : List (ℕ × ℕ))
         → IsTreeOf meaning ctx request held taken
-        → IsFlushed held → HasIds held
+        → IsFlushed held
         → AreOfSegment meaning.segment taken
         → (parents : ℕ)
         → over_parents (counts_of matches request).low_bytes meaning.segment taken parents
@@ -48,7 +47,7 @@ pub fn flushed_trees_hold_at_least_their_low_roof()
     ensures one_parent { (meaning : Meaning) (ctx : declared.PerRequestAggSegCtx)
         → (request : Request QueryTree) (held : Held) (taken : List (ℕ × ℕ))
         → IsTreeOf meaning ctx request held taken
-        → IsFlushed held → HasIds held
+        → IsFlushed held
         → AreOfSegment meaning.segment taken
         → All (λ e. e.0 ≡ 0) taken
         → (counts_of matches request).low_bytes (documents_at meaning.segment (docs_in taken))

@@ -1,7 +1,11 @@
-//! What the buckets of a tree of collectors take in memory, against what its request counts: laws
-//! that hold a tree between the bounds of the charges.
+//! What the nodes of a request and the buckets of its tree of collectors take in memory, and laws
+//! that hold the buckets between the bounds of the charges.
 #![tactic(auto)]
 
+mod buckets;
 mod laws;
+mod nodes;
 
+pub use buckets::held_bytes;
 pub use laws::{flushed_trees_hold_at_least_their_low_roof, trees_hold_at_most_their_roof};
+pub use nodes::fixed_bytes;
