@@ -1,12 +1,15 @@
 pub mod AskedNames
+pub mod ChargedTrees
 pub mod Contexts
 pub mod Halves
 pub mod JoinedCounts
+pub mod JoinedLimits
 pub mod LeastVisits
 pub mod MarkedDocuments
 pub mod PartCounts
 pub mod Refusals
 pub mod RightTrees
+pub mod SegmentMemory
 pub mod SegmentTrees
 pub mod StartRanges
 pub mod TakenParts

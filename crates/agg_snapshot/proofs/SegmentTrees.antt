@@ -15,11 +15,11 @@ use Rattle.agg_buckets.specs.Visits.{docs_in}
 use Rattle.agg_intermediate_results.specs.declared.results.IntermediateAggregationResults as held
 use held.{IntermediateAggregationResults}
 use Rattle.agg_results.specs.StandsFor.{StandsFor}
-use Rattle.agg_segment_context.specs.Context.{IsMeant, Meaning}
+use Rattle.agg_segment_context.specs.Context.{Meaning}
 use Rattle.agg_segment_context.specs.Plan.{plan_of, plans_of}
 use Rattle.agg_segment_context.specs.declared.context.PerRequestAggSegCtx.{PerRequestAggSegCtx}
 use Rattle.agg_collector_tree.specs.Counting.{counted_of}
-use Rattle.agg_collector_tree.specs.Tree.{Fits, Held, IsFor, IsGroupOf, Takes}
+use Rattle.agg_collector_tree.specs.Tree.{Held, Takes}
 use Rattle.agg_collector_tree.proofs.TakenParts.{takes-both}
 use Rattle.agg_tree_results.specs.Names.{HasNamesApart}
 use Rattle.agg_tree_results.specs.Results.{GroupStands}
@@ -27,19 +27,12 @@ use Rattle.agg_snapshot.specs.Answers.{AnswersResults}
 use Rattle.agg_snapshot.specs.Contexts.{IsContextOf, MayBeCollected}
 use Rattle.agg_snapshot.specs.Documents.{matching_in}
 use Rattle.agg_snapshot.specs.Steps.{past_named}
-use Rattle.agg_snapshot.specs.Trees.{IsRight, MayBeTaken, MayTake, MostSteps}
+use Rattle.agg_snapshot.specs.Trees.{IsNew, IsRight, MayBeTaken, MayTake, MostSteps}
 use Rattle.agg_snapshot.specs.declared.context.SegmentContext.{SegmentContext}
 use Rattle.agg_snapshot.proofs.Contexts.{documents-here, matching-one}
 use Rattle.agg_snapshot.proofs.LeastVisits.{group-least}
 use Rattle.agg_snapshot.proofs.RightTrees.{docs_in-under, right-apart, right-more, right-stands}
 use Rattle.agg_snapshot.proofs.TakenParts.{may-second, most-both}
-
--- a tree right after it was made
-pub record IsNew (ctx : PerRequestAggSegCtx) (reader : Stored) (h : Held) : Type 0 where
-  pub nodes : IsGroupOf (plans_of (map plan_of ctx.agg_tree)) h
-  pub fits : Fits ctx h
-  pub right : (meaning : Meaning) → meaning.segment ≡ reader → IsMeant meaning ctx
-      → IsFor meaning ctx h [] 0
 
 module _ (request : Request QueryTree) (query : QueryTree) (segment : Stored)
     (given : SegmentContext) (ready : MayBeCollected request query (segment ∷ []) (given ∷ []))
@@ -60,7 +53,7 @@ module _ (request : Request QueryTree) (query : QueryTree) (segment : Stored)
       documents-here request query segment given is meaning is.means.same taken
       (taken_are ∙ same)
 
-  documents-taken : documents_at meaning.segment (docs_in (under 0 docs))
+  pub documents-taken : documents_at meaning.segment (docs_in (under 0 docs))
       ≡ matching_in query (segment ∷ [])
   documents-taken = documents-of (docs_in (under 0 docs)) (docs_in-under docs)
 

@@ -23,14 +23,14 @@ use Rattle.agg_collector_tree.proofs.MostVisits.{asked-composite}
 
 module _ {X : Type 0} (P : X → Type 0) where
   -- what some of a list is, some of a longer one is
-  any-left : (xs ys : List X) → Any P xs → Any P (xs ++ ys)
+  pub any-left : (xs ys : List X) → Any P xs → Any P (xs ++ ys)
   any-left [] ys (k, x, within, at, so) = absurd (omega (arith, within))
   any-left (x ∷ xs) ys (zero, y, within, at, so) = (zero, y, omega arith, at, so)
   any-left (x ∷ xs) ys (suc k, y, within, at, so) =
       let rest = any-left xs ys (k, y, omega (arith, within), at, so) in
       (suc rest.0, rest.1, omega (arith, rest.2), rest.3, rest.4)
 
-  any-right : (xs ys : List X) → Any P ys → Any P (xs ++ ys)
+  pub any-right : (xs ys : List X) → Any P ys → Any P (xs ++ ys)
   any-right [] ys any = any
   any-right (x ∷ xs) ys any =
       let rest = any-right xs ys any in

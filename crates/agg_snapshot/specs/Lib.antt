@@ -1,6 +1,9 @@
 pub mod Answers
 pub mod Asked
+pub mod ChargeErrors
+pub mod ChargedTrees
 pub mod Contexts
 pub mod Documents
+pub mod MemoryLimits
 pub mod Steps
 pub mod Trees

@@ -1,14 +1,14 @@
 -- A tree of collectors that takes the documents of a segment.
-use Rattle.std.specs.Prelude.{◌≤◌, ◌+◌, ◌*◌, ◌++◌, ℕ, List, All, map}
+use Rattle.std.specs.Prelude.{◌≡◌, ◌≤◌, ◌+◌, ◌*◌, ◌++◌, ℕ, List, [], All, map}
 use Rattle.agg_column.specs.Document.{HasNumbersOf64Bits}
 use Rattle.agg_segment.specs.Query.{matches}
-use Rattle.agg_segment.specs.Segment.{documents_at}
+use Rattle.agg_segment.specs.Segment.{Stored, documents_at}
 use Rattle.agg_segment.specs.declared.query.QueryTree.{QueryTree}
 use Rattle.agg_request_tree.specs.Ranges.{HasStartOutOfRange}
 use Rattle.agg_request_tree.specs.Request.{Request}
 use Rattle.agg_request_tree.specs.Uncut.{CountsTooMany}
 use Rattle.agg_buckets.specs.Visits.{docs_in}
-use Rattle.agg_segment_context.specs.Context.{IsContextOf, Meaning}
+use Rattle.agg_segment_context.specs.Context.{IsContextOf, IsMeant, Meaning}
 use Rattle.agg_segment_context.specs.Plan.{plan_of, plans_of}
 use Rattle.agg_segment_context.specs.declared.context.PerRequestAggSegCtx.{PerRequestAggSegCtx}
 use Rattle.agg_collector_tree.specs.Counting.{counted_of}
@@ -29,6 +29,14 @@ pub record IsRight (ctx : PerRequestAggSegCtx) (request : Request QueryTree) (me
   pub nodes : IsGroupOf (plans_of (map plan_of ctx.agg_tree)) held
   pub fits : Fits ctx held
   pub right : IsFor meaning ctx held taken visits
+
+-- a tree right after it was made in a segment: it is that of a context's nodes, and right for no
+-- documents
+pub record IsNew (ctx : PerRequestAggSegCtx) (segment : Stored) (held : Held) : Type 0 where
+  pub nodes : IsGroupOf (plans_of (map plan_of ctx.agg_tree)) held
+  pub fits : Fits ctx held
+  pub right : (meaning : Meaning) → meaning.segment ≡ segment → IsMeant meaning ctx
+      → IsFor meaning ctx held [] 0
 
 -- a tree may take these documents after those that it took
 pub record MayTake (ctx : PerRequestAggSegCtx) (held : Held) (pairs : List (ℕ × ℕ)) : Type 0 where

@@ -11,6 +11,8 @@ pub enum SnapshotError {
     BucketOutOfRange,
     #[error("too many occurrences")]
     TooMany,
+    #[error("memory limit exceeded: {limit} bytes allowed, {current} wanted")]
+    MemoryExceeded { limit: u64, current: u64 },
     #[error("out of memory")]
     OutOfMemory,
 }

@@ -1,26 +1,29 @@
 //! The results of one segment.
-ghost use Rattle.std.specs.Prelude.{◌≡◌, ◌∷◌, ◌≤◌, [], IfErr};
-ghost use Rattle.agg_segment.specs.Segment.{Stored};
+ghost use Rattle.std.specs.Prelude.{◌≡◌, ◌∷◌, ◌≤◌, [], IfErr, OnOk, map};
+ghost use Rattle.agg_segment.specs.Query.{matches};
+ghost use Rattle.agg_segment.specs.Segment.{Stored, documents_of};
 ghost use Rattle.agg_segment.specs.declared.query.QueryTree.{QueryTree as Tree};
 ghost use Rattle.agg_request_tree.specs.Request.{Request};
-ghost use Rattle.agg_snapshot.specs.Answers.{AnswersResults};
+ghost use Rattle.agg_snapshot.specs.Answers.{AnswersResults, IsMemoryRefusal};
+ghost use Rattle.agg_snapshot.specs.ChargedTrees.{ChargesAnew, IsMade, before};
 ghost use Rattle.agg_snapshot.specs.Contexts.{MayBeCollected};
 ghost use Rattle.agg_snapshot.specs.Documents.{matching_in};
+ghost use Rattle.agg_snapshot.specs.MemoryLimits.{HaveRoom};
 
-use crate::SnapshotError;
 use crate::context::SegmentContext;
-use crate::taking::{flush, take_blocks};
-use agg_collector_tree::tree_for;
+use crate::{ChargedTree, SnapshotError};
+use agg_cache::LimitsLedger;
 use agg_results::IntermediateAggregationResults;
 use agg_tree_results::add_results;
 use agg_values::Steps;
 use std::alloc::Global;
 use std::sync::ledger::Ledger;
 
-/// The results of a segment that may be collected.
+/// The results of a segment that may be collected. What its collectors charge is given back.
 pub fn segment_results<L: Ledger>(
     alloc: Global,
     context: &SegmentContext<'_>,
+    limits: &mut LimitsLedger,
     steps: &mut Steps<L>,
 ) -> Result<IntermediateAggregationResults, SnapshotError>
     requires { (request : Request Tree) × (query : Tree) × (segment : Stored)
@@ -28,14 +31,52 @@ pub fn segment_results<L: Ledger>(
     ensures results { (request : Request Tree) (query : Tree) (segment : Stored)
         → MayBeCollected request query (segment ∷ []) (context.now ∷ [])
         → AnswersResults request (matching_in query (segment ∷ [])) steps.old steps.new result }
-    ensures err { IfErr result (λ error. error ≡ SnapshotError.OutOfMemory) }
+    ensures cause { (request : Request Tree) (query : Tree) (segment : Stored)
+        → MayBeCollected request query (segment ∷ []) (context.now ∷ [])
+        → IfErr result (IsMemoryRefusal request query (segment ∷ []) limits.old) }
+    ensures room { (request : Request Tree) (query : Tree) (segment : Stored)
+        → MayBeCollected request query (segment ∷ []) (context.now ∷ []) → OnOk result
+        (HaveRoom matches query request limits.old (map documents_of (segment ∷ []))) }
+    ensures limits { limits.new ≡ limits.old }
     ensures later { steps.old ≤ steps.new }
 {
     let ctx = &context.aggregations.per_request;
-    let mut tree = tree_for(alloc, ctx, context.reader)?;
-    take_blocks(&mut tree, &context.docs, ctx, steps)?;
-    flush(&mut tree, ctx, steps)?;
+    let mut tree = ChargedTree::new(alloc, ctx, context.reader, limits)?;
+    let results = tree_results(alloc, context, &mut tree, limits, steps);
+    tree.give_back(limits);
+    results
+}
+
+// The results of a segment from its tree, which was just made.
+fn tree_results<L: Ledger>(
+    alloc: Global,
+    context: &SegmentContext<'_>,
+    tree: &mut ChargedTree<'_>,
+    limits: &mut LimitsLedger,
+    steps: &mut Steps<L>,
+) -> Result<IntermediateAggregationResults, SnapshotError>
+    requires ready { (request : Request Tree) × (query : Tree) × (segment : Stored)
+        × MayBeCollected request query (segment ∷ []) (context.now ∷ []) }
+    requires made { IsMade context.now.aggregations.per_request context.now.reader.now tree.old }
+    requires charged { tree.old.guard ≤ limits.old.in_use }
+    ensures results { (request : Request Tree) (query : Tree) (segment : Stored)
+        → MayBeCollected request query (segment ∷ []) (context.now ∷ [])
+        → AnswersResults request (matching_in query (segment ∷ [])) steps.old steps.new result }
+    ensures cause { (request : Request Tree) (query : Tree) (segment : Stored)
+        → MayBeCollected request query (segment ∷ []) (context.now ∷ [])
+        → IfErr result (IsMemoryRefusal request query (segment ∷ [])
+        (before tree.old.guard limits.old)) }
+    ensures room { (request : Request Tree) (query : Tree) (segment : Stored)
+        → MayBeCollected request query (segment ∷ []) (context.now ∷ [])
+        → OnOk result (HaveRoom matches query request (before tree.old.guard limits.old)
+        (map documents_of (segment ∷ []))) }
+    ensures charges { ChargesAnew tree.old tree.new limits.old limits.new }
+    ensures later { steps.old ≤ steps.new }
+{
+    let ctx = &context.aggregations.per_request;
+    tree.take_blocks(&context.docs, ctx, limits, steps)?;
+    tree.flush(ctx, limits, steps)?;
     let mut results = IntermediateAggregationResults::new(alloc);
-    add_results(alloc, &tree, ctx, &mut results, 0)?;
+    add_results(alloc, tree.tree(), ctx, &mut results, 0)?;
     Ok(results)
 }

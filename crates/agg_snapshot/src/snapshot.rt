@@ -1,20 +1,22 @@
 //! The results of a snapshot's segments, merged.
-ghost use Rattle.std.specs.Prelude.{◌≡◌, ◌≤◌, IfErr, List, OnOk};
+ghost use Rattle.std.specs.Prelude.{◌≡◌, ◌≤◌, IfErr, List, OnOk, map};
 ghost use Rattle.agg_segment.specs.Query.{matches};
-ghost use Rattle.agg_segment.specs.Segment.{Stored};
+ghost use Rattle.agg_segment.specs.Segment.{Stored, documents_of};
 ghost use Rattle.agg_segment.specs.declared.query.QueryTree.{QueryTree as Tree};
 ghost use Rattle.agg_request_tree.specs.Ranges.{HasStartOutOfRange};
 ghost use Rattle.agg_request_tree.specs.Request.{Request};
 ghost use Rattle.agg_request_tree.specs.Uncut.{CountsTooMany};
-ghost use Rattle.agg_snapshot.specs.Answers.{AnswersResults, IsRefusal};
+ghost use Rattle.agg_snapshot.specs.Answers.{AnswersResults, IsMemoryRefusal, IsRefusal};
 ghost use Rattle.agg_snapshot.specs.Asked.{IsAsked, MayBeAsked};
 ghost use Rattle.agg_snapshot.specs.Contexts.{MayBeCollected};
 ghost use Rattle.agg_snapshot.specs.Documents.{matching_in};
+ghost use Rattle.agg_snapshot.specs.MemoryLimits.{HaveRoom};
 
 use crate::checks::{check_counts, check_starts};
 use crate::context::{SegmentContext, segment_contexts};
 use crate::segment::segment_results;
 use crate::{PageRequest, SnapshotError};
+use agg_cache::LimitsLedger;
 use agg_results::{IntermediateAggregationResults, MergeError};
 use agg_segment::SegmentReader;
 use agg_values::Steps;
@@ -23,10 +25,12 @@ use std::sync::ledger::Ledger;
 
 /// The intermediate results of a page's request over the documents of segments that match, merged.
 /// The starts of all segments are checked first, and then all are counted, before any is collected.
+/// What a segment's collectors charge is given back before the next segment.
 pub fn snapshot_results<B: Drop, L: Ledger>(
     alloc: Global,
     page: &PageRequest<'_, B>,
     segments: &[SegmentReader],
+    limits: &mut LimitsLedger,
     steps: &mut Steps<L>,
 ) -> Result<IntermediateAggregationResults, SnapshotError>
     requires asked { MayBeAsked page.now }
@@ -35,7 +39,10 @@ pub fn snapshot_results<B: Drop, L: Ledger>(
     ensures few { (request : Request Tree) → IsAsked page.now request → OnOk result
         (¬ (CountsTooMany matches request (matching_in page.now.query.now segments.now))) }
     ensures cause { (request : Request Tree) → IsAsked page.now request → IfErr result
-        (IsRefusal request (matching_in page.now.query.now segments.now)) }
+        (IsRefusal request page.now.query.now segments.now limits.old) }
+    ensures room { (request : Request Tree) → IsAsked page.now request → OnOk result
+        (HaveRoom matches page.now.query.now request limits.old (map documents_of segments.now)) }
+    ensures limits { limits.new ≡ limits.old }
     ensures results { (request : Request Tree) → IsAsked page.now request
         → AnswersResults request (matching_in page.now.query.now segments.now)
         steps.old steps.new result }
@@ -44,7 +51,7 @@ pub fn snapshot_results<B: Drop, L: Ledger>(
     let contexts = segment_contexts(alloc, page, segments)?;
     check_starts(contexts.as_slice())?;
     check_counts(alloc, contexts.as_slice())?;
-    merged_results(alloc, contexts.as_slice(), steps)
+    merged_results(alloc, contexts.as_slice(), limits, steps)
 }
 
 // The merged results of segments that may be collected. They are merged in halves, so that no entry
@@ -52,6 +59,7 @@ pub fn snapshot_results<B: Drop, L: Ledger>(
 fn merged_results<L: Ledger>(
     alloc: Global,
     contexts: &[SegmentContext<'_>],
+    limits: &mut LimitsLedger,
     steps: &mut Steps<L>,
 ) -> Result<IntermediateAggregationResults, SnapshotError>
     requires { (request : Request Tree) × (query : Tree) × (segments : List Stored)
@@ -59,16 +67,22 @@ fn merged_results<L: Ledger>(
     ensures results { (request : Request Tree) (query : Tree) (segments : List Stored)
         → MayBeCollected request query segments contexts.now
         → AnswersResults request (matching_in query segments) steps.old steps.new result }
-    ensures err { IfErr result (λ error. error ≡ SnapshotError.OutOfMemory) }
+    ensures cause { (request : Request Tree) (query : Tree) (segments : List Stored)
+        → MayBeCollected request query segments contexts.now
+        → IfErr result (IsMemoryRefusal request query segments limits.old) }
+    ensures room { (request : Request Tree) (query : Tree) (segments : List Stored)
+        → MayBeCollected request query segments contexts.now → OnOk result
+        (HaveRoom matches query request limits.old (map documents_of segments)) }
+    ensures limits { limits.new ≡ limits.old }
     ensures later { steps.old ≤ steps.new }
 {
     match contexts {
         [] => Ok(IntermediateAggregationResults::new(alloc)),
-        [context] => segment_results(alloc, context, steps),
+        [context] => segment_results(alloc, context, limits, steps),
         _ => {
             let (first, second) = contexts.split_at(contexts.len() / 2);
-            let mut merged = merged_results(alloc, first, steps)?;
-            let more = merged_results(alloc, second, steps)?;
+            let mut merged = merged_results(alloc, first, limits, steps)?;
+            let more = merged_results(alloc, second, limits, steps)?;
             match merged.merge_fruits(more) {
                 Ok(()) => Ok(merged),
                 Err(error) => Err(out_of_memory(error)),

@@ -1,4 +1,4 @@
-//! Tests of results over no segment and over several, of all documents and of some.
+//! Tests of results over no segment and over several, of all documents and of some, and of limits.
 ghost use Rattle.std.specs.Prelude.{◌≡◌, ◌<◌};
 
 use agg_cache::LimitsLedger;
@@ -7,7 +7,7 @@ use agg_request_tree::{Aggregations, check_request};
 use agg_segment::{QueryTree, Schema, SegmentReader};
 use agg_segment_context::AggContextParams;
 use agg_segment_tests::given::{Given, segment_of};
-use agg_snapshot::{PageRequest, snapshot_results};
+use agg_snapshot::{PageRequest, SnapshotError, snapshot_results};
 use agg_values::{ItemList, Steps, Text};
 use serde_json::Value;
 use std::alloc::Global;
@@ -71,14 +71,71 @@ const ROWS: &[(&str, &[&[Values]], &str)] = &[
     ),
 ];
 
-// The results over these segments, as they are shown.
+// Six documents, each with a number of its own.
+const NUMBERS: &[Values] = &[
+    &[("a", Given::Signed(1))],
+    &[("a", Given::Signed(2))],
+    &[("a", Given::Signed(3))],
+    &[("a", Given::Signed(4))],
+    &[("a", Given::Signed(5))],
+    &[("a", Given::Signed(6))],
+];
+
+// A page with room for all numbers. The composite and its source take 512 bytes, and a bucket 96.
+const BY_NUMBER: &str =
+    r#"{"g":{"composite":{"sources":[{"a":{"terms":{"field":"a"}}}],"size":10}}}"#;
+
+// A limit of memory, the documents of the segments, and why there are no results over them.
+const LIMITS: &[(u64, &[&[Values]], Option<SnapshotError>)] = &[
+    (1_088, &[NUMBERS], None),
+    (1_088, &[NUMBERS, NUMBERS], None),
+    (
+        1_087,
+        &[NUMBERS],
+        Some(SnapshotError::MemoryExceeded {
+            limit: 1_087,
+            current: 1_088,
+        }),
+    ),
+    (
+        511,
+        &[&[]],
+        Some(SnapshotError::MemoryExceeded {
+            limit: 511,
+            current: 512,
+        }),
+    ),
+];
+
+// Segments, and which of their documents are counted.
+#[derive(Drop)]
+struct Snapshot {
+    query: QueryTree,
+    segments: ItemList<SegmentReader>,
+}
+
+// A query, and segments of these documents.
+fn snapshot_of(alloc: Global, query: &str, given: &[&[Values]]) -> Result<Snapshot, Fail> {
+    let query = read_query(alloc, &Value::from_str(alloc, query)?)?;
+    let mut segments = ItemList::new(alloc);
+    for documents in given {
+        segments.push(segment_of(alloc, documents)?)?;
+    }
+    Ok(Snapshot { query, segments })
+}
+
+fn request_of(alloc: Global, text: &str) -> Result<Aggregations, Fail> {
+    Ok(read_aggregations(alloc, &Value::from_str(alloc, text)?, Vec::new(alloc))?)
+}
+
+// The results of a request over a snapshot within limits, as they are shown, or why there are none.
 fn shown<L: Ledger>(
     alloc: Global,
     request: &Aggregations,
-    query: &QueryTree,
-    segments: &ItemList<SegmentReader>,
+    snapshot: &Snapshot,
+    limits: &mut LimitsLedger,
     blank: Blank,
-) -> Result<Text, Fail>
+) -> Result<Result<Text, SnapshotError>, Fail>
     requires name { blank.name ≡ L.name }
     requires parts { blank.parts ≡ L.parts }
     requires shared { 0 < L.parts }
@@ -88,46 +145,39 @@ fn shown<L: Ledger>(
     let page = PageRequest {
         request,
         params: &params,
-        query,
+        query: &snapshot.query,
     };
     let mut steps: Steps<L> = Steps::new(blank);
-    let merged = snapshot_results(alloc, &page, segments.as_slice(), &mut steps)?;
-    let limits = LimitsLedger::new(None, None);
-    let text = merged.into_final_result(request, &limits)?.write_json();
-    Ok(text?)
-}
-
-// The segments of these documents.
-fn segments_of(alloc: Global, given: &[&[Values]]) -> Result<ItemList<SegmentReader>, Fail> {
-    let mut segments = ItemList::new(alloc);
-    for documents in given {
-        segments.push(segment_of(alloc, documents)?)?;
+    let segments = snapshot.segments.as_slice();
+    match snapshot_results(alloc, &page, segments, limits, &mut steps) {
+        Ok(merged) => Ok(Ok(merged.into_final_result(request, limits)?.write_json()?)),
+        Err(error) => Ok(Err(error)),
     }
-    Ok(segments)
-}
-
-// The results of a request over the documents of segments that a query matches.
-fn shown_for(
-    alloc: Global,
-    request: &Aggregations,
-    query: &str,
-    given: &[&[Values]],
-) -> Result<Text, Fail> {
-    let query = read_query(alloc, &Value::from_str(alloc, query)?)?;
-    let segments = segments_of(alloc, given)?;
-    shown::<Brand>(alloc, request, &query, &segments, Blank::new(1))
-}
-
-fn request_of(alloc: Global, text: &str) -> Result<Aggregations, Fail> {
-    Ok(read_aggregations(alloc, &Value::from_str(alloc, text)?, Vec::new(alloc))?)
 }
 
 #[test]
 fn gives_results_of_all_segments(rt: HostRuntime) -> Result<(), Fail> {
     let request = request_of(rt.alloc(), REQUEST)?;
     for &(query, given, text) in ROWS {
-        let found = shown_for(rt.alloc(), &request, query, given)?;
+        let snapshot = snapshot_of(rt.alloc(), query, given)?;
+        let mut limits = LimitsLedger::new(None, None);
+        let blank = Blank::new(1);
+        let found = shown::<Brand>(rt.alloc(), &request, &snapshot, &mut limits, blank)??;
         assert_eq!(rt; found.as_str(), text);
+    }
+    Ok(())
+}
+
+#[test]
+fn keeps_to_the_limit_and_gives_all_back(rt: HostRuntime) -> Result<(), Fail> {
+    let request = request_of(rt.alloc(), BY_NUMBER)?;
+    for &(limit, given, refusal) in LIMITS {
+        let snapshot = snapshot_of(rt.alloc(), ALL, given)?;
+        let mut limits = LimitsLedger::new(Some(limit), None);
+        let blank = Blank::new(1);
+        let found = shown::<Brand>(rt.alloc(), &request, &snapshot, &mut limits, blank)?;
+        assert_eq!(rt; found.err(), refusal);
+        assert_eq!(rt; limits.in_use(), 0);
     }
     Ok(())
 }

@@ -1,115 +1,43 @@
-use Rattle.std.proofs.Common.{◌≤◌, ◌+◌, ◌*◌, [], ◌∷◌}
-use Rattle.agg_cache.specs.Waiting.{under}
-use Rattle.agg_collector_tree.specs.Tree.{held_of}
+use Rattle.std.proofs.Common.{[], ◌∷◌, IfErr, OnOk, refl, subst, sym, ◌∙◌}
+use Rattle.agg_cache.specs.Limits.{Limits}
 use Rattle.agg_segment.specs.Query.{matches}
-use Rattle.agg_segment.specs.Segment.{Stored}
-use Rattle.agg_segment.specs.declared.query.QueryTree.{QueryTree}
-use Rattle.agg_request_tree.specs.Request.{Request}
-use Rattle.agg_snapshot.specs.Contexts.{MayBeCollected}
-use Rattle.agg_snapshot.specs.Documents.{matching_in}
-use Rattle.agg_snapshot.specs.Steps.{counted_of}
-use Rattle.agg_snapshot.proofs.Halves.{answers-failed}
-use Rattle.agg_snapshot.proofs.SegmentTrees.{IsNew, answers-flushed, apart-flushed, may-flush}
-use Rattle.agg_snapshot.proofs.SegmentTrees.{may-new, most-flushed, most-taken}
-use Rattle.agg_snapshot.proofs.SegmentTrees.{right-flushed}
-use Rattle.agg_snapshot.proofs.segment.segment_results.Given as given
+use Rattle.agg_segment.specs.Segment.{documents_of}
+use Rattle.agg_snapshot.specs.Answers.{IsMemoryRefusal}
+use Rattle.agg_snapshot.specs.ChargeErrors.{snapshot_error}
+use Rattle.agg_snapshot.specs.MemoryLimits.{HaveRoom}
+use Rattle.agg_snapshot.proofs.Contexts.{data-here}
+use Rattle.agg_snapshot.proofs.Refusals.{caused-by}
+use Rattle.agg_snapshot.proofs.SegmentMemory.{before-made, refusal-made}
 use Rattle.agg_snapshot.proofs.segment.segment_results.Goals as goal
-use Rattle.agg_snapshot.proofs.segment.segment_results.Goals.{After-flush, In_ok-tree}
 
--- the tree was just made
-new : (g : given.Over) (c : In_ok-tree g)
-    → IsNew c.args.context.now.aggregations.per_request c.args.context.now.reader.now
-    (held_of c.in_ok-tree.tree)
-new g c = record {
-  nodes = c.in_ok-tree.ensures.nodes;
-  fits = c.in_ok-tree.ensures.fits;
-  right = c.in_ok-tree.ensures.right;
-}
+pub new-requires : goal.new-requires
+new-requires g c =
+    data-here c.requires.0 c.requires.1 c.requires.2 c.args.context.now c.requires.3.each.0
 
--- after all that waits was handed down, the steps are few
-few : (g : given.Over) (c : After-flush g)
-    → IsNew c.args.context.now.aggregations.per_request c.args.context.now.reader.now
-    (held_of c.in_ok-tree.tree)
-    → (request : Request QueryTree) (query : QueryTree) (segment : Stored)
-    → MayBeCollected request query (segment ∷ []) (c.args.context.now ∷ [])
-    → c.flush.new.steps
-    ≤ c.args.steps.now + 3 * counted_of matches request (matching_in query (segment ∷ []))
-few g c made request query segment ready =
-    most-flushed request query segment c.args.context.now ready c.deref.result.now
-    c.deref.ensures.value (held_of c.in_ok-tree.tree) (held_of c.take_blocks.new.tree)
-    c.args.steps.now c.take_blocks.new.steps made c.in_ok-take_blocks.ensures.takes
-    c.flush.new.steps c.flush.ensures.most
+pub returns-in_err-tree-clause-cause : goal.returns-in_err-tree-clause-cause
+returns-in_err-tree-clause-cause g c = λ request query segment ready.
+    let given = c.args.context.now in
+    let limits = c.args.limits.now in
+    let is = ready.each.0 in
+    let error = c.in_err-tree.field-0.0 in
+    caused-by (IsMemoryRefusal request query (segment ∷ []) limits) c.from_residual.result
+    (snapshot_error error) c.from_residual.ensures.1
+    (refusal-made request query segment given ready given.docs.items refl limits error
+    (c.in_err-tree.ensures.cause is.meaning request (is.means.same ∙ sym is.reader)
+    is.means.aggregations))
 
-pub take_blocks-requires : goal.take_blocks-requires
-take_blocks-requires g c =
-    may-new c.requires.0 c.requires.1 c.requires.2 c.args.context.now c.requires.3
-    c.deref.result.now c.deref.ensures.value (held_of c.in_ok-tree.tree)
-    (new g (goal.at.take_blocks-requires g c).In_ok-tree)
+pub returns-clause-cause : goal.returns-clause-cause
+returns-clause-cause g c = λ request query segment ready.
+    subst (λ (l : Limits).
+    IfErr c.tree_results-results.result (IsMemoryRefusal request query (segment ∷ []) l))
+    (before-made c.in_ok-tree.tree c.args.limits.now c.new.new.limits c.in_ok-tree.ensures.guard
+    c.in_ok-tree.ensures.ledger)
+    (c.tree_results-results.ensures.cause request query segment ready)
 
-pub returns-in_err-take_blocks-clause-results : goal.returns-in_err-take_blocks-clause-results
-returns-in_err-take_blocks-clause-results g c = λ request query segment ready.
-    let at = goal.at.returns-in_err-take_blocks-clause-results g c in
-    answers-failed request (matching_in query (segment ∷ [])) c.args.steps.now
-    c.take_blocks.new.steps c.from_residual-in_err-take_blocks.result
-    (most-taken request query segment c.args.context.now ready c.deref.result.now
-    c.deref.ensures.value (held_of c.in_ok-tree.tree) (new g at.In_ok-tree) c.args.steps.now
-    c.take_blocks.new.steps c.take_blocks.ensures.most)
-    c.from_residual-in_err-take_blocks.ensures.0
-
-pub flush-requires : goal.flush-requires
-flush-requires g c =
-    may-flush c.requires.0 c.requires.1 c.requires.2 c.args.context.now c.requires.3
-    c.deref.result.now c.deref.ensures.value (held_of c.in_ok-tree.tree)
-    (held_of c.take_blocks.new.tree) c.args.steps.now c.take_blocks.new.steps
-    (new g (goal.at.flush-requires g c).In_ok-tree) c.in_ok-take_blocks.ensures.takes
-
-pub returns-in_err-flush-clause-results : goal.returns-in_err-flush-clause-results
-returns-in_err-flush-clause-results g c = λ request query segment ready.
-    let at = goal.at.returns-in_err-flush-clause-results g c in
-    answers-failed request (matching_in query (segment ∷ [])) c.args.steps.now
-    c.flush.new.steps c.from_residual-in_err-flush.result
-    (few g at.After-flush (new g at.In_ok-tree) request query segment ready)
-    c.from_residual-in_err-flush.ensures.0
-
-pub add_results-requires-clause-right : goal.add_results-requires-clause-right
-add_results-requires-clause-right g c =
-    let ready = c.requires.3 in
-    let now = right-flushed c.requires.0 c.requires.1 c.requires.2 c.args.context.now ready
-    c.deref.result.now c.deref.ensures.value (held_of c.in_ok-tree.tree)
-    (held_of c.take_blocks.new.tree) c.args.steps.now c.take_blocks.new.steps
-    (new g (goal.at.add_results-requires-clause-right g c).In_ok-tree)
-    c.in_ok-take_blocks.ensures.takes (held_of c.flush.new.tree) c.flush.new.steps
-    c.in_ok-flush.ensures.takes in (
-      ready.each.0.meaning,
-      under 0 c.deref.result.now,
-      now.0,
-      now.1.context.meant,
-      now.1.right,
-    )
-
-pub add_results-requires-clause-apart : goal.add_results-requires-clause-apart
-add_results-requires-clause-apart g c =
-    apart-flushed c.requires.0 c.requires.1 c.requires.2 c.args.context.now c.requires.3
-    c.deref.result.now c.deref.ensures.value (held_of c.in_ok-tree.tree)
-    (held_of c.take_blocks.new.tree) c.args.steps.now c.take_blocks.new.steps
-    (new g (goal.at.add_results-requires-clause-apart g c).In_ok-tree)
-    c.in_ok-take_blocks.ensures.takes (held_of c.flush.new.tree) c.flush.new.steps
-    c.in_ok-flush.ensures.takes
-
-pub returns-in_err-add_results-clause-results : goal.returns-in_err-add_results-clause-results
-returns-in_err-add_results-clause-results g c = λ request query segment ready.
-    let at = goal.at.returns-in_err-add_results-clause-results g c in
-    answers-failed request (matching_in query (segment ∷ [])) c.args.steps.now
-    c.flush.new.steps c.from_residual-in_err-add_results.result
-    (few g at.After-flush (new g at.In_ok-tree) request query segment ready)
-    c.from_residual-in_err-add_results.ensures.0
-
-pub returns-clause-results : goal.returns-clause-results
-returns-clause-results g c = λ request query segment ready.
-    answers-flushed request query segment c.args.context.now ready c.deref.result.now
-    c.deref.ensures.value (held_of c.in_ok-tree.tree) (held_of c.take_blocks.new.tree)
-    c.args.steps.now c.take_blocks.new.steps
-    (new g (goal.at.returns-clause-results g c).In_ok-tree) c.in_ok-take_blocks.ensures.takes
-    (held_of c.flush.new.tree) c.flush.new.steps c.in_ok-flush.ensures.takes
-    c.add_results.new.results (c.in_ok-add_results.ensures.all c.new-results.ensures)
-    c.in_ok-flush.ensures.most
+pub returns-clause-room : goal.returns-clause-room
+returns-clause-room g c = λ request query segment ready.
+    subst (λ (l : Limits). OnOk c.tree_results-results.result
+    (HaveRoom matches query request l (documents_of segment ∷ [])))
+    (before-made c.in_ok-tree.tree c.args.limits.now c.new.new.limits c.in_ok-tree.ensures.guard
+    c.in_ok-tree.ensures.ledger)
+    (c.tree_results-results.ensures.room request query segment ready)

@@ -1,17 +1,21 @@
-use Rattle.std.proofs.Common.{◌≤◌, ◌+◌, ◌*◌, ◌/◌, ℕ, List, [], ◌∷◌, Err, Ok, length}
-use Rattle.std.proofs.Common.{take, drop, sym, ap, subst, arith, rules}
+use Rattle.std.proofs.Common.{◌≤◌, ◌+◌, ◌*◌, ◌/◌, ℕ, List, [], ◌∷◌, Err, IfErr, Ok, OnOk, length}
+use Rattle.std.proofs.Common.{take, drop, map, sym, ap, subst, arith, rules}
+use Rattle.std.proofs.lemmas.List.Elements.{All-nil}
 use Rattle.agg_segment.specs.Query.{matches}
-use Rattle.agg_segment.specs.Segment.{Stored}
+use Rattle.agg_segment.specs.Segment.{Stored, documents_of}
 use Rattle.agg_segment.specs.declared.query.QueryTree.{QueryTree}
 use Rattle.agg_request_tree.specs.Request.{Request}
-use Rattle.agg_snapshot.specs.Answers.{AnswersResults}
+use Rattle.agg_snapshot.specs.Answers.{AnswersResults, IsMemoryRefusal}
 use Rattle.agg_snapshot.specs.Contexts.{MayBeCollected}
 use Rattle.agg_snapshot.specs.Documents.{matching_in}
+use Rattle.agg_snapshot.specs.MemoryLimits.{HaveRoom, low_roof_in}
 use Rattle.agg_snapshot.specs.Steps.{counted_of}
 use Rattle.agg_snapshot.proofs.Contexts.{lone-segment, no-item, no-segment, only-item}
 use Rattle.agg_snapshot.proofs.Contexts.{ready-back, ready-front}
 use Rattle.agg_snapshot.proofs.Halves.{answers-failed, answers-none, both-joined, both-memory}
 use Rattle.agg_snapshot.proofs.Halves.{both-most, first-most}
+use Rattle.agg_snapshot.proofs.JoinedLimits.{refusal-back, refusal-front, room-both}
+use Rattle.agg_snapshot.proofs.Refusals.{caused-by}
 use Rattle.agg_snapshot.proofs.snapshot.+merged_results.Given as given
 use Rattle.agg_snapshot.proofs.snapshot.+merged_results.Goals as goal
 use Rattle.agg_snapshot.proofs.snapshot.+merged_results.Goals.{After-merged_results-in_default}
@@ -146,3 +150,83 @@ returns-in-Err-clause-results g t c = λ request query segments ready. record {
   most = few g t (goal.at.returns-in-Err-clause-results g t c).After-merged_results-in_default
       request query segments ready;
 }
+
+-- ---- the memory limit
+
+pub returns-in_err-merged-in_default-clause-cause :
+    goal.returns-in_err-merged-in_default-clause-cause
+returns-in_err-merged-in_default-clause-cause g t c = λ request query segments ready.
+    let contexts = c.args.contexts.now in
+    let half = length contexts / 2 in
+    let limits = c.args.limits.now in
+    let error = c.in_err-merged-in_default.field-0.0 in
+    caused-by (IsMemoryRefusal request query segments limits) c.from_residual.result error
+    c.from_residual.ensures.1
+    (refusal-front request query segments half limits error
+    (c.in_err-merged-in_default.ensures.cause request query (take half segments)
+    (ready-front request query segments contexts half ready c.split_at.result.0.now
+    c.split_at.ensures.front)))
+
+pub returns-in_err-more-in_default-clause-cause :
+    goal.returns-in_err-more-in_default-clause-cause
+returns-in_err-more-in_default-clause-cause g t c = λ request query segments ready.
+    let contexts = c.args.contexts.now in
+    let half = length contexts / 2 in
+    let limits = c.args.limits.now in
+    let error = c.in_err-more-in_default.field-0.0 in
+    caused-by (IsMemoryRefusal request query segments limits)
+    c.from_residual-in_err-more-in_default.result error
+    c.from_residual-in_err-more-in_default.ensures.1
+    (refusal-back request query segments half limits error
+    (subst (λ l. IsMemoryRefusal request query (drop half segments) l error)
+    c.in_ok-merged-in_default.ensures.limits
+    (c.in_err-more-in_default.ensures.cause request query (drop half segments)
+    (ready-back request query segments contexts half ready c.split_at.result.1.now
+    c.split_at.ensures.back))))
+
+pub returns-in-empty-clause-room : goal.returns-in-empty-clause-room
+returns-in-empty-clause-room g t c = λ request query segments given.
+    let limits = c.args.limits.now in
+    let ready = subst (MayBeCollected request query segments)
+    (no-item c.args.contexts.now c.in-empty.len_below) given in
+    subst (λ ss. HaveRoom matches query request limits (map documents_of ss))
+    (sym (no-segment request query segments ready.each))
+    (All-nil (λ documents. limits.in_use + low_roof_in matches query request documents
+    ≤ limits.memory_limit))
+
+pub returns-in-len1-clause-cause : goal.returns-in-len1-clause-cause
+returns-in-len1-clause-cause g t c = λ request query segments given.
+    let context = c.context-item.result in
+    let one = only-item c.args.contexts.now context (omega arith) c.context-item.is in
+    let ready = subst (MayBeCollected request query segments) one given in
+    let lone = lone-segment request query segments context ready in
+    subst (λ ss. IfErr c.segment_results.result
+    (IsMemoryRefusal request query ss c.args.limits.now)) (sym lone.1)
+    (c.segment_results.ensures.cause request query lone.0
+    (subst (λ ss. MayBeCollected request query ss (context ∷ [])) lone.1 ready))
+
+pub returns-in-len1-clause-room : goal.returns-in-len1-clause-room
+returns-in-len1-clause-room g t c = λ request query segments given.
+    let context = c.context-item.result in
+    let one = only-item c.args.contexts.now context (omega arith) c.context-item.is in
+    let ready = subst (MayBeCollected request query segments) one given in
+    let lone = lone-segment request query segments context ready in
+    subst (λ ss. OnOk c.segment_results.result
+    (HaveRoom matches query request c.args.limits.now (map documents_of ss))) (sym lone.1)
+    (c.segment_results.ensures.room request query lone.0
+    (subst (λ ss. MayBeCollected request query ss (context ∷ [])) lone.1 ready))
+
+pub returns-in-Ok-clause-room : goal.returns-in-Ok-clause-room
+returns-in-Ok-clause-room g t c = λ request query segments ready.
+    let contexts = c.args.contexts.now in
+    let half = length contexts / 2 in
+    let limits = c.args.limits.now in
+    room-both request query segments half limits
+    (c.in_ok-merged-in_default.ensures.room request query (take half segments)
+    (ready-front request query segments contexts half ready c.split_at.result.0.now
+    c.split_at.ensures.front))
+    (subst (λ l. HaveRoom matches query request l (map documents_of (drop half segments)))
+    c.in_ok-merged-in_default.ensures.limits
+    (c.in_ok-more-in_default.ensures.room request query (drop half segments)
+    (ready-back request query segments contexts half ready c.split_at.result.1.now
+    c.split_at.ensures.back)))

@@ -1,11 +1,33 @@
 use Rattle.std.proofs.Common.{subst, sym}
-use Rattle.agg_snapshot.specs.Answers.{IsRefusal}
-use Rattle.agg_snapshot.specs.Contexts.{AreContextsOf}
-use Rattle.agg_snapshot.specs.Documents.{matching_in}
+use Rattle.std.proofs.lemmas.Result.{IfErr-weaker}
+use Rattle.agg_segment.specs.declared.query.QueryTree.{QueryTree}
+use Rattle.agg_request_tree.specs.Request.{Request}
+use Rattle.agg_snapshot.specs.Answers.{IsMemoryRefusal, IsRefusal}
+use Rattle.agg_snapshot.specs.Asked.{IsAsked}
+use Rattle.agg_snapshot.specs.Contexts.{AreContextsOf, MayBeCollected}
 use Rattle.agg_snapshot.proofs.AskedNames.{asked-ascend}
 use Rattle.agg_snapshot.proofs.Refusals.{asked-some, caused-by, on_ok-so, refusal-counts}
-use Rattle.agg_snapshot.proofs.Refusals.{refusal-starts}
+use Rattle.agg_snapshot.proofs.Refusals.{refusal-memory, refusal-starts}
 use Rattle.agg_snapshot.proofs.snapshot.snapshot_results.Goals as goal
+use Rattle.agg_snapshot.proofs.snapshot.snapshot_results.Goals.{After-merged_results}
+
+-- after the checks, the segments may be collected
+ready : (g : _) (c : After-merged_results g) (request : Request QueryTree)
+    → IsAsked c.args.page.now request
+    → MayBeCollected request c.args.page.now.query.now c.args.segments.now c.as_slice-3.result.now
+ready g c request asked =
+    let page = c.args.page.now in
+    let query = page.query.now in
+    let segments = c.args.segments.now in
+    let are = c.in_ok-contexts.ensures.ok request asked in
+    record {
+      each = subst (AreContextsOf request query segments) (sym c.as_slice-3.ensures) are;
+      names = asked-ascend page request c.requires.asked asked;
+      range = c.in_ok-check_starts.ensures.ok request query segments
+          (subst (AreContextsOf request query segments) (sym c.as_slice.ensures) are);
+      few = c.in_ok-check_counts.ensures.few request query segments
+          (subst (AreContextsOf request query segments) (sym c.as_slice-2.ensures) are);
+    }
 
 pub check_starts-requires : goal.check_starts-requires
 check_starts-requires g c =
@@ -23,11 +45,11 @@ pub returns-in_err-check_starts-clause-cause : goal.returns-in_err-check_starts-
 returns-in_err-check_starts-clause-cause g c = λ request asked.
     let query = c.args.page.now.query.now in
     let segments = c.args.segments.now in
-    let documents = matching_in query segments in
+    let limits = c.args.limits.now in
     let error = c.in_err-check_starts.field-0.0 in
-    caused-by (IsRefusal request documents) c.from_residual-in_err-check_starts.result error
-    c.from_residual-in_err-check_starts.ensures.1
-    (refusal-starts request documents error
+    caused-by (IsRefusal request query segments limits) c.from_residual-in_err-check_starts.result
+    error c.from_residual-in_err-check_starts.ensures.1
+    (refusal-starts request query segments limits error
     (c.in_err-check_starts.ensures.err request query segments
     (subst (AreContextsOf request query segments) (sym c.as_slice.ensures)
     (c.in_ok-contexts.ensures.ok request asked))))
@@ -48,12 +70,12 @@ pub returns-in_err-check_counts-clause-cause : goal.returns-in_err-check_counts-
 returns-in_err-check_counts-clause-cause g c = λ request asked.
     let query = c.args.page.now.query.now in
     let segments = c.args.segments.now in
-    let documents = matching_in query segments in
+    let limits = c.args.limits.now in
     let error = c.in_err-check_counts.field-0.0 in
     let are = c.in_ok-contexts.ensures.ok request asked in
-    caused-by (IsRefusal request documents) c.from_residual-in_err-check_counts.result error
-    c.from_residual-in_err-check_counts.ensures.1
-    (refusal-counts request documents error
+    caused-by (IsRefusal request query segments limits) c.from_residual-in_err-check_counts.result
+    error c.from_residual-in_err-check_counts.ensures.1
+    (refusal-counts request query segments limits error
     (c.in_ok-check_starts.ensures.ok request query segments
     (subst (AreContextsOf request query segments) (sym c.as_slice.ensures) are))
     (c.in_err-check_counts.ensures.err request query segments
@@ -97,17 +119,23 @@ returns-clause-few g c = λ request asked.
     (subst (AreContextsOf request query segments) (sym c.as_slice-2.ensures)
     (c.in_ok-contexts.ensures.ok request asked)))
 
+pub returns-clause-cause : goal.returns-clause-cause
+returns-clause-cause g c = λ request asked.
+    let query = c.args.page.now.query.now in
+    let segments = c.args.segments.now in
+    let limits = c.args.limits.now in
+    let may = ready g (goal.at.returns-clause-cause g c).After-merged_results request asked in
+    IfErr-weaker c.merged_results.result (IsMemoryRefusal request query segments limits)
+    (IsRefusal request query segments limits)
+    (λ error. refusal-memory request query segments limits error may.range may.few)
+    (c.merged_results.ensures.cause request query segments may)
+
+pub returns-clause-room : goal.returns-clause-room
+returns-clause-room g c = λ request asked.
+    c.merged_results.ensures.room request c.args.page.now.query.now c.args.segments.now
+    (ready g (goal.at.returns-clause-room g c).After-merged_results request asked)
+
 pub returns-clause-results : goal.returns-clause-results
 returns-clause-results g c = λ request asked.
-    let page = c.args.page.now in
-    let query = page.query.now in
-    let segments = c.args.segments.now in
-    let are = c.in_ok-contexts.ensures.ok request asked in
-    c.merged_results.ensures.results request query segments (record {
-      each = subst (AreContextsOf request query segments) (sym c.as_slice-3.ensures) are;
-      names = asked-ascend page request c.requires.asked asked;
-      range = c.in_ok-check_starts.ensures.ok request query segments
-          (subst (AreContextsOf request query segments) (sym c.as_slice.ensures) are);
-      few = c.in_ok-check_counts.ensures.few request query segments
-          (subst (AreContextsOf request query segments) (sym c.as_slice-2.ensures) are);
-    })
+    c.merged_results.ensures.results request c.args.page.now.query.now c.args.segments.now
+    (ready g (goal.at.returns-clause-results g c).After-merged_results request asked)

@@ -1,0 +1,158 @@
+use Rattle.std.proofs.Common.{◌≤◌, ◌+◌, ◌*◌, [], ◌∷◌, Some, subst, sym}
+use Rattle.agg_cache.specs.Waiting.{under}
+use Rattle.agg_collector_tree.specs.Tree.{IsFor, held_of}
+use Rattle.agg_collector_tree.specs.declared.tree.SegmentCollectorTree.{SegmentCollectorTree}
+use Rattle.agg_tree_results.specs.Names.{HasNamesApart}
+use Rattle.agg_tree_results.specs.Results.{GroupStands}
+use Rattle.agg_segment.specs.Query.{matches}
+use Rattle.agg_segment.specs.Segment.{Stored}
+use Rattle.agg_segment.specs.declared.query.QueryTree.{QueryTree}
+use Rattle.agg_request_tree.specs.Request.{Request}
+use Rattle.agg_snapshot.specs.Answers.{IsMemoryRefusal}
+use Rattle.agg_snapshot.specs.ChargeErrors.{snapshot_error}
+use Rattle.agg_snapshot.specs.ChargedTrees.{before}
+use Rattle.agg_snapshot.specs.Contexts.{MayBeCollected}
+use Rattle.agg_snapshot.specs.Documents.{matching_in}
+use Rattle.agg_snapshot.specs.Steps.{counted_of}
+use Rattle.agg_snapshot.proofs.Halves.{answers-failed}
+use Rattle.agg_snapshot.proofs.ChargedTrees.{charges-within}
+use Rattle.agg_snapshot.proofs.Refusals.{caused-by}
+use Rattle.agg_snapshot.proofs.SegmentMemory.{refusal-flushed, refusal-taken, room-flushed}
+use Rattle.agg_snapshot.proofs.SegmentTrees.{answers-flushed, apart-flushed, may-flush}
+use Rattle.agg_snapshot.proofs.SegmentTrees.{may-new, most-flushed, most-taken}
+use Rattle.agg_snapshot.proofs.SegmentTrees.{right-flushed}
+use Rattle.agg_snapshot.proofs.segment.tree_results.Given as given
+use Rattle.agg_snapshot.proofs.segment.tree_results.Goals as goal
+use Rattle.agg_snapshot.proofs.segment.tree_results.Goals.{After-flush}
+
+-- after all that waits was handed down, the steps are few
+few : (g : given.Over) (c : After-flush g)
+    → (request : Request QueryTree) (query : QueryTree) (segment : Stored)
+    → MayBeCollected request query (segment ∷ []) (c.args.context.now ∷ [])
+    → c.flush.new.steps
+    ≤ c.args.steps.now + 3 * counted_of matches request (matching_in query (segment ∷ []))
+few g c request query segment ready =
+    most-flushed request query segment c.args.context.now ready c.deref.result.now
+    c.deref.ensures.value (held_of c.args.tree.now.tree) (held_of c.take_blocks.new.self.tree)
+    c.args.steps.now c.take_blocks.new.steps c.requires.made.new
+    c.in_ok-take_blocks.ensures.takes c.flush.new.steps c.flush.ensures.most
+
+pub take_blocks-requires-clause-may : goal.take_blocks-requires-clause-may
+take_blocks-requires-clause-may g c =
+    let ready = c.requires.ready in
+    may-new ready.0 ready.1 ready.2 c.args.context.now ready.3 c.deref.result.now
+    c.deref.ensures.value (held_of c.args.tree.now.tree) c.requires.made.new
+
+pub returns-in_err-take_blocks-clause-results : goal.returns-in_err-take_blocks-clause-results
+returns-in_err-take_blocks-clause-results g c = λ request query segment ready.
+    answers-failed request (matching_in query (segment ∷ [])) c.args.steps.now
+    c.take_blocks.new.steps c.from_residual.result
+    (most-taken request query segment c.args.context.now ready c.deref.result.now
+    c.deref.ensures.value (held_of c.args.tree.now.tree) c.requires.made.new c.args.steps.now
+    c.take_blocks.new.steps c.take_blocks.ensures.most)
+    c.from_residual.ensures.0
+
+pub returns-in_err-take_blocks-clause-cause : goal.returns-in_err-take_blocks-clause-cause
+returns-in_err-take_blocks-clause-cause g c = λ request query segment ready.
+    let tree = c.args.tree.now in
+    let limits = c.args.limits.now in
+    let error = c.in_err-take_blocks.field-0.0 in
+    caused-by (IsMemoryRefusal request query (segment ∷ []) (before tree.guard limits))
+    c.from_residual.result (snapshot_error error) c.from_residual.ensures.1
+    (refusal-taken request query segment c.args.context.now ready c.deref.result.now
+    c.deref.ensures.value tree c.requires.made limits c.requires.charged error
+    c.in_err-take_blocks.ensures.cause)
+
+pub flush-requires-clause-may : goal.flush-requires-clause-may
+flush-requires-clause-may g c =
+    let ready = c.requires.ready in
+    may-flush ready.0 ready.1 ready.2 c.args.context.now ready.3 c.deref.result.now
+    c.deref.ensures.value (held_of c.args.tree.now.tree) (held_of c.take_blocks.new.self.tree)
+    c.args.steps.now c.take_blocks.new.steps c.requires.made.new
+    c.in_ok-take_blocks.ensures.takes
+
+pub flush-requires-clause-charged : goal.flush-requires-clause-charged
+flush-requires-clause-charged g c =
+    charges-within c.args.tree.now c.take_blocks.new.self c.args.limits.now
+    c.take_blocks.new.limits c.in_ok-take_blocks.ensures.charges c.requires.charged
+
+pub returns-in_err-flush-clause-results : goal.returns-in_err-flush-clause-results
+returns-in_err-flush-clause-results g c = λ request query segment ready.
+    let at = goal.at.returns-in_err-flush-clause-results g c in
+    answers-failed request (matching_in query (segment ∷ [])) c.args.steps.now
+    c.flush.new.steps c.from_residual-in_err-flush.result
+    (few g at.After-flush request query segment ready)
+    c.from_residual-in_err-flush.ensures.0
+
+pub returns-in_err-flush-clause-cause : goal.returns-in_err-flush-clause-cause
+returns-in_err-flush-clause-cause g c = λ request query segment ready.
+    let tree = c.args.tree.now in
+    let limits = c.args.limits.now in
+    let error = c.in_err-flush.field-0.0 in
+    caused-by (IsMemoryRefusal request query (segment ∷ []) (before tree.guard limits))
+    c.from_residual-in_err-flush.result (snapshot_error error)
+    c.from_residual-in_err-flush.ensures.1
+    (refusal-flushed request query segment c.args.context.now ready c.deref.result.now
+    c.deref.ensures.value tree c.requires.made limits c.requires.charged
+    c.take_blocks.new.self c.take_blocks.new.limits c.args.steps.now c.take_blocks.new.steps
+    c.in_ok-take_blocks.ensures.takes c.in_ok-take_blocks.ensures.charges error
+    c.in_err-flush.ensures.cause)
+
+pub add_results-requires-clause-right : goal.add_results-requires-clause-right
+add_results-requires-clause-right g c =
+    let ready = c.requires.ready.3 in
+    let ctx = c.args.context.now.aggregations.per_request in
+    let docs = c.deref.result.now in
+    let now = right-flushed c.requires.ready.0 c.requires.ready.1 c.requires.ready.2
+    c.args.context.now ready docs c.deref.ensures.value (held_of c.args.tree.now.tree)
+    (held_of c.take_blocks.new.self.tree) c.args.steps.now c.take_blocks.new.steps
+    c.requires.made.new c.in_ok-take_blocks.ensures.takes (held_of c.flush.new.self.tree)
+    c.flush.new.steps c.in_ok-flush.ensures.takes in (
+      ready.each.0.meaning,
+      under 0 docs,
+      now.0,
+      now.1.context.meant,
+      subst (λ (t : SegmentCollectorTree).
+          IsFor ready.each.0.meaning ctx (held_of t) (under 0 docs) now.0) (sym c.tree.ensures)
+          now.1.right,
+    )
+
+pub add_results-requires-clause-apart : goal.add_results-requires-clause-apart
+add_results-requires-clause-apart g c =
+    let ctx = c.args.context.now.aggregations.per_request in
+    subst (λ (t : SegmentCollectorTree). HasNamesApart ctx (held_of t)) (sym c.tree.ensures)
+    (apart-flushed c.requires.ready.0 c.requires.ready.1 c.requires.ready.2 c.args.context.now
+    c.requires.ready.3 c.deref.result.now c.deref.ensures.value (held_of c.args.tree.now.tree)
+    (held_of c.take_blocks.new.self.tree) c.args.steps.now c.take_blocks.new.steps
+    c.requires.made.new c.in_ok-take_blocks.ensures.takes (held_of c.flush.new.self.tree)
+    c.flush.new.steps c.in_ok-flush.ensures.takes)
+
+pub returns-in_err-add_results-clause-results : goal.returns-in_err-add_results-clause-results
+returns-in_err-add_results-clause-results g c = λ request query segment ready.
+    let at = goal.at.returns-in_err-add_results-clause-results g c in
+    answers-failed request (matching_in query (segment ∷ [])) c.args.steps.now
+    c.flush.new.steps c.from_residual-in_err-add_results.result
+    (few g at.After-flush request query segment ready)
+    c.from_residual-in_err-add_results.ensures.0
+
+pub returns-clause-results : goal.returns-clause-results
+returns-clause-results g c = λ request query segment ready.
+    let ctx = c.args.context.now.aggregations.per_request in
+    let results = c.add_results.new.results in
+    answers-flushed request query segment c.args.context.now ready c.deref.result.now
+    c.deref.ensures.value (held_of c.args.tree.now.tree) (held_of c.take_blocks.new.self.tree)
+    c.args.steps.now c.take_blocks.new.steps c.requires.made.new
+    c.in_ok-take_blocks.ensures.takes (held_of c.flush.new.self.tree) c.flush.new.steps
+    c.in_ok-flush.ensures.takes results
+    (subst (λ (t : SegmentCollectorTree). GroupStands ctx (held_of t) (Some 0) results.results)
+    c.tree.ensures (c.in_ok-add_results.ensures.all c.new-results.ensures))
+    c.in_ok-flush.ensures.most
+
+pub returns-clause-room : goal.returns-clause-room
+returns-clause-room g c = λ request query segment ready.
+    room-flushed request query segment c.args.context.now ready c.deref.result.now
+    c.deref.ensures.value c.args.tree.now c.requires.made c.args.limits.now c.requires.charged
+    c.take_blocks.new.self c.take_blocks.new.limits c.args.steps.now c.take_blocks.new.steps
+    c.in_ok-take_blocks.ensures.takes c.in_ok-take_blocks.ensures.charges c.flush.new.self
+    c.flush.new.limits c.flush.new.steps c.in_ok-flush.ensures.takes
+    c.in_ok-flush.ensures.charges c.in_ok-flush.ensures.exact c.in_ok-flush.ensures.within
