@@ -1,5 +1,7 @@
 -- Whether a collector has failed doesn't tell for which documents it is right.
 use Rattle.std.proofs.Common.{◌≡◌, ◌++◌, ℕ, List, Bool, false, true, inl, inr, refl}
+use Rattle.agg_values.specs.declared.request_error.AggregationError.TheVariants as aggregation
+use Rattle.agg_cache.specs.Limits.{Limits}
 use Rattle.agg_cache.specs.declared.error.CollectError.{CollectError}
 use Rattle.agg_cache.specs.declared.error.CollectError.TheVariants as error
 use Rattle.agg_segment.specs.Segment.{Stored}
@@ -32,6 +34,8 @@ right-marked old has_failed request segment docs visits r = record {
   counts = r.counts;
   range = r.range;
   few = r.few;
+  charged = r.charged;
+  fixed = r.fixed;
 }
 
 module _ (old : AggregationSegmentCollector) (docs : List ℕ) where
@@ -49,15 +53,21 @@ module _ (old : AggregationSegmentCollector) (docs : List ℕ) where
   }
 
   -- it refuses documents for the same causes
-  pub cause-marked : (given : CollectError) → IsTreeCause docs marked given
-      → IsBlockCause docs old given
-  cause-marked error.BucketOutOfRange cause = λ request segment taken visits r.
+  pub cause-marked : (limits : Limits) (given : CollectError)
+      → IsTreeCause docs marked limits given → IsBlockCause docs old limits given
+  cause-marked limits error.BucketOutOfRange cause = λ request segment taken visits r.
       cause request segment taken visits (right-marked old true request segment taken visits r)
-  cause-marked error.TooMany cause = λ request segment taken visits r.
+  cause-marked limits error.TooMany cause = λ request segment taken visits r.
       cause request segment taken visits (right-marked old true request segment taken visits r)
-  cause-marked error.OutOfMemory cause = tt
-  cause-marked (error.Aggregation part) cause = absurd cause
-  cause-marked error.CollectorFailed cause = absurd cause
+  cause-marked limits (error.Aggregation (aggregation.MemoryExceeded told current)) cause =
+      λ request segment taken visits r.
+      cause request segment taken visits (right-marked old true request segment taken visits r)
+  cause-marked limits (error.Aggregation (aggregation.DateHistogramParseError part)) cause =
+      absurd cause
+  cause-marked limits (error.Aggregation (aggregation.BucketLimitExceeded told current)) cause =
+      absurd cause
+  cause-marked limits error.CollectorFailed cause = absurd cause
+  cause-marked limits error.OutOfMemory cause = tt
 
   -- what it takes, it takes without a mark
   pub takes-marked : (new : AggregationSegmentCollector) (steps steps_now : ℕ)

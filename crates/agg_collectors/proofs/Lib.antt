@@ -6,10 +6,13 @@ pub mod BuiltTrees
 pub mod ChangedRequests
 pub mod FailedCollectors
 pub mod FinalFruits
+pub mod FixedCharges
 pub mod FlushedCollectors
+pub mod GrownTrees
 pub mod Halves
 pub mod KeptFinals
 pub mod LaterRefusals
+pub mod MemoryCauses
 pub mod NamedEmpties
 pub mod NewCollectors
 pub mod PagedEmpties
@@ -17,4 +20,5 @@ pub mod PagedFinals
 pub mod RightCollectors
 pub mod StoredDocuments
 pub mod TakenPairs
+pub mod ToldMemory
 pub mod ZippedPairs

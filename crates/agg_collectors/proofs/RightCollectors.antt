@@ -1,9 +1,10 @@
 -- A collector that is right for the documents that it took.
-use Rattle.std.proofs.Common.{◌≡◌, ◌≤◌, ◌<◌, ◌+◌, ◌*◌, ◌++◌, ℕ, List, [], false, length, sym}
-use Rattle.std.proofs.Common.{ap, ◌∙◌, subst, arith}
+use Rattle.std.proofs.Common.{◌≡◌, ◌≤◌, ◌<◌, ◌+◌, ◌*◌, ◌++◌, ℕ, List, [], false, length, refl}
+use Rattle.std.proofs.Common.{sym, ap, ◌∙◌, subst, arith}
 use Rattle.std.specs.List.{All}
 use Rattle.std.proofs.lemmas.List.{map-append}
-use Rattle.std.proofs.lemmas.List.Elements.{All-append}
+use Rattle.std.proofs.lemmas.List.Elements.{All-append, All-map}
+use Rattle.agg_cache.specs.Limits.{Limits}
 use Rattle.agg_cache.specs.Waiting.{under}
 use Rattle.agg_column.specs.Document.{HasNumbersOf64Bits}
 use Rattle.agg_segment.specs.Query.{matches}
@@ -12,13 +13,17 @@ use Rattle.agg_segment.specs.declared.query.QueryTree.{QueryTree}
 use Rattle.agg_request_tree.specs.Ranges.{HasStartOutOfRange}
 use Rattle.agg_request_tree.specs.Request.{Request}
 use Rattle.agg_request_tree.specs.Uncut.{CountsTooMany}
+use Rattle.agg_charges.specs.Roof.{counts_of, roof}
 use Rattle.agg_buckets.specs.Visits.{docs_in}
 use Rattle.agg_uncut.specs.Uncut.{uncut_lengths}
 use Rattle.agg_collector_tree.specs.Counting.{counted_of}
 use Rattle.agg_collector_tree.specs.Tree.{Held, Takes, held_of}
-use Rattle.agg_collector_tree.specs.declared.tree.SegmentCollectorTree.{SegmentCollectorTree}
 use Rattle.agg_collector_tree.proofs.MostSteps.{no-steps}
+use Rattle.agg_snapshot.specs.ChargedTrees.{IsChargeCause, IsCharged}
+use Rattle.agg_snapshot.specs.MemoryLimits.{TellsMemory}
 use Rattle.agg_snapshot.specs.Trees.{IsRight, MayBeTaken, MayTake, MostSteps}
+use Rattle.agg_snapshot.specs.declared.charge_error.ChargeError.TheVariants as charge
+use Rattle.agg_snapshot.specs.declared.charged_tree.ChargedTree.{ChargedTree}
 use Rattle.agg_snapshot.proofs.StartRanges.{none-out}
 use Rattle.agg_snapshot.proofs.RightTrees.{docs_in-under, right-more}
 use Rattle.agg_snapshot.proofs.TakenTrees.{most-of}
@@ -26,12 +31,13 @@ use Rattle.agg_collectors.specs.Segment.{IsRightFor, TakesFew}
 use Rattle.agg_collectors.specs.declared.segment.AggregationSegmentCollector as declared
 use declared.{AggregationSegmentCollector}
 use Rattle.agg_collectors.proofs.StoredDocuments.{stored-all}
+use Rattle.agg_collectors.proofs.ToldMemory.{tells-more}
 
 module _ (request : Request QueryTree) (segment : Stored) (taken : List ℕ) (visits : ℕ)
     (old : AggregationSegmentCollector) (r : IsRightFor request segment taken visits old) where
   -- its tree
   abbrev held : Held
-  held = held_of old.tree
+  held = held_of old.tree.tree
 
   -- the documents of the tree, and others after them
   documents-pairs : (docs : List ℕ)
@@ -54,6 +60,31 @@ module _ (request : Request QueryTree) (segment : Stored) (taken : List ℕ) (vi
         most.most request r.meaning (under 0 taken) visits r.right,
         ap (counted_of matches request) (documents-pairs docs),
       )
+
+  -- all are under the first parent
+  zero-pairs : (docs : List ℕ) → All (λ e. e.0 ≡ 0) (under 0 taken ++ under 0 docs)
+  zero-pairs docs =
+      All-append (λ e. e.0 ≡ 0) (under 0 taken) (under 0 docs)
+      (All-map (λ e. e.0 ≡ 0) (λ doc. (0, doc)) taken (λ k d l. refl))
+      (All-map (λ e. e.0 ≡ 0) (λ doc. (0, doc)) docs (λ k d l. refl))
+
+  -- what is told of memory is within the roof over all of them
+  pub tells-roof : (docs : List ℕ) (limits : Limits) (told current : ℕ)
+      → IsChargeCause old.aggregations.per_request (under 0 docs) old.tree limits
+      (charge.MemoryExceeded told current)
+      → TellsMemory limits.memory_limit
+      (limits.in_use + roof matches request (length (documents_of segment))
+      (documents_at segment (taken ++ docs)))
+      old.tree.guard told current
+  tells-roof docs limits told current cause =
+      let bytes : ℕ = (counts_of matches request).bytes
+      (documents_at r.meaning.segment (docs_in (under 0 taken ++ under 0 docs))) in
+      tells-more limits.memory_limit (limits.in_use + old.tree.fixed + bytes)
+      (limits.in_use + roof matches request (length (documents_of segment))
+      (documents_at segment (taken ++ docs)))
+      old.tree.guard told current
+      (omega (arith, r.fixed, ap (counts_of matches request).bytes (documents-pairs docs)))
+      (cause request r.meaning (under 0 taken) visits r.right (zero-pairs docs))
 
   -- documents that come after those that were taken pass the checks, and the counts are those of
   -- all
@@ -105,26 +136,27 @@ module _ (request : Request QueryTree) (segment : Stored) (taken : List ℕ) (vi
       all = may;
     }
 
-    -- the collector is right for all of them after the tree took them
-    pub right-taken : (tree : SegmentCollectorTree) (steps steps_now : ℕ)
-        → Takes old.aggregations.per_request (under 0 docs) false held (held_of tree) steps
+    -- the collector is right for all of them after the tree took them and they were charged
+    pub right-taken : (tree : ChargedTree) (steps steps_now : ℕ)
+        → Takes old.aggregations.per_request (under 0 docs) false held (held_of tree.tree) steps
         steps_now
+        → IsCharged old.aggregations.per_request tree → tree.fixed ≡ old.tree.fixed
         → (visits_now : ℕ)
         × IsRightFor request segment (taken ++ docs) visits_now
         (record old { tree = tree; counts = counts })
         × (visits ≤ visits_now)
         × (steps + visits_now ≤ steps_now + visits)
         × (steps_now + 3 * visits ≤ steps + 3 * visits_now)
-    right-taken tree steps steps_now took =
+    right-taken tree steps steps_now took charged fixed =
         let now = right-more old.aggregations.per_request request r.meaning (under 0 docs) false
-        held (held_of tree) steps steps_now took (under 0 taken) visits r.right in (
+        held (held_of tree.tree) steps steps_now took (under 0 taken) visits r.right in (
           now.0,
           record {
             reader = r.reader;
             meaning = r.meaning;
             same = r.same;
             right = subst (λ pairs. IsRight old.aggregations.per_request request r.meaning
-                (held_of tree) pairs now.0)
+                (held_of tree.tree) pairs now.0)
                 (sym (map-append (λ doc. (0, doc)) taken docs)) now.1;
             names = r.names;
             within = within-both;
@@ -132,6 +164,8 @@ module _ (request : Request QueryTree) (segment : Stored) (taken : List ℕ) (vi
             counts = passes.sums ∙ ap (uncut_lengths request) (sym documents-both);
             range = range-both;
             few = few-both;
+            charged = charged;
+            fixed = fixed ∙ r.fixed;
           },
           now.2,
           now.3,
@@ -141,7 +175,8 @@ module _ (request : Request QueryTree) (segment : Stored) (taken : List ℕ) (vi
 module _ (old : AggregationSegmentCollector) (docs : List ℕ) (steps : ℕ) where
   -- a collector whose tree takes documents takes few steps
   pub few-taken : (steps_now : ℕ)
-      → MostSteps old.aggregations.per_request (under 0 docs) (held_of old.tree) steps steps_now
+      → MostSteps old.aggregations.per_request (under 0 docs) (held_of old.tree.tree) steps
+      steps_now
       → TakesFew docs old steps steps_now
   few-taken steps_now most = record {
     most = λ request segment taken visits r.
@@ -153,7 +188,8 @@ module _ (old : AggregationSegmentCollector) (docs : List ℕ) (steps : ℕ) whe
   few-none = record {
     most = λ request segment taken visits r.
         most-taken request segment taken visits old r docs steps steps
-        (most-of old.aggregations.per_request (under 0 docs) [] (held_of old.tree) steps steps
-        (no-steps old.aggregations.per_request (under 0 docs) (held_of old.tree) r.right.fits
-        steps));
+        (most-of old.aggregations.per_request (under 0 docs) [] (held_of old.tree.tree) steps
+        steps
+        (no-steps old.aggregations.per_request (under 0 docs) (held_of old.tree.tree)
+        r.right.fits steps));
   }

@@ -1,2 +1,3 @@
 pub mod Fruits
 pub mod Segment
+pub mod Trees

@@ -1,6 +1,8 @@
 -- The collector of a request in a segment, and what it took.
 use Rattle.std.specs.Prelude.{◌≡◌, ◌≤◌, ◌<◌, ◌+◌, ◌*◌, ◌++◌, ◌⊎◌, ⊤, ℕ, List, All, length}
 use Rattle.std.specs.Prelude.{false, true}
+use Rattle.agg_values.specs.declared.request_error.AggregationError.{AggregationError}
+use Rattle.agg_values.specs.declared.request_error.AggregationError.TheVariants as aggregation
 use Rattle.agg_values.specs.declared.request_error.RequestError.TheVariants as fault
 use Rattle.agg_cache.specs.Limits.{Limits}
 use Rattle.agg_cache.specs.Waiting.{under}
@@ -10,44 +12,66 @@ use Rattle.agg_column.specs.Document.{HasNumbersOf64Bits}
 use Rattle.agg_segment.specs.Query.{matches}
 use Rattle.agg_segment.specs.Segment.{Stored, documents_at, documents_of}
 use Rattle.agg_segment.specs.declared.query.QueryTree.{QueryTree}
-use Rattle.agg_request_tree.specs.Faults.{RequestHasFault}
+use Rattle.agg_request_tree.specs.Faults.{IsSoundRequest, RequestHasFault}
 use Rattle.agg_request_tree.specs.Names.{NamesAscend}
 use Rattle.agg_request_tree.specs.Ranges.{HasStartOutOfRange}
 use Rattle.agg_request_tree.specs.Request.{Request}
 use Rattle.agg_request_tree.specs.Uncut.{CountsTooMany}
+use Rattle.agg_charges.specs.Charges.{fixed_charge}
+use Rattle.agg_charges.specs.Roof.{low_roof, roof}
 use Rattle.agg_segment_context.specs.Context.{Meaning}
 use Rattle.agg_segment_context.specs.declared.error.SetupError.{SetupError}
 use Rattle.agg_segment_context.specs.declared.error.SetupError.TheVariants as setup
 use Rattle.agg_uncut.specs.Uncut.{uncut_lengths}
 use Rattle.agg_collector_tree.specs.Counting.{counted_of}
 use Rattle.agg_collector_tree.specs.Tree.{held_of}
+use Rattle.agg_snapshot.specs.ChargedTrees.{IsCharged}
+use Rattle.agg_snapshot.specs.MemoryLimits.{TellsMemory}
 use Rattle.agg_snapshot.specs.Trees.{IsRight}
 use Rattle.agg_collectors.specs.declared.segment.AggregationSegmentCollector as declared
 use declared.{AggregationSegmentCollector}
 
--- why no collector is made: a fault of the request; running out of memory needs no cause
-abbrev pub IsSetupCause : {B : Type 0} → Request B → SetupError → Type 0
-IsSetupCause request (setup.Invalid argument) = RequestHasFault request (fault.Invalid argument)
-IsSetupCause request setup.QueryBuild = ⊥
-IsSetupCause request (setup.Aggregation part) = RequestHasFault request (fault.Aggregation part)
-IsSetupCause request setup.OutOfMemory = ⊤
+-- an error is that memory is exceeded, and of the limit and the sum that it tells this holds
+abbrev pub IsMemoryExceeded : (ℕ → ℕ → Type 0) → AggregationError → Type 0
+IsMemoryExceeded Holds (aggregation.MemoryExceeded told current) = Holds told current
+IsMemoryExceeded Holds _ = ⊥
+
+-- more bytes than the limit would be in use with the fixed charge of a request in a segment of so
+-- many documents, which the error tells
+abbrev pub FixedTooMuch : {B : Type 0} → Request B → ℕ → Limits → ℕ → ℕ → Type 0
+FixedTooMuch request documents limits =
+    TellsMemory limits.memory_limit (limits.in_use + fixed_charge request documents) 0
+
+-- why no collector is made: a fault of the request, or, where it has none, its fixed charge is too
+-- much; running out of memory needs no cause
+abbrev pub IsSetupCause : {B : Type 0} → Request B → ℕ → Limits → SetupError → Type 0
+IsSetupCause request documents limits (setup.Invalid argument) =
+    RequestHasFault request (fault.Invalid argument)
+IsSetupCause request documents limits setup.QueryBuild = ⊥
+IsSetupCause request documents limits (setup.Aggregation part) =
+    RequestHasFault request (fault.Aggregation part)
+    ⊎ (IsSoundRequest request × IsMemoryExceeded (FixedTooMuch request documents limits) part)
+IsSetupCause request documents limits setup.OutOfMemory = ⊤
 
 -- ---- what a collector took
 
--- a collector is right for documents of a segment that it took, with so many visits of composites
+-- a collector is right for documents of a segment that it took, with so many visits of composites:
+-- what it holds of them is charged
 pub record IsRightFor (request : Request QueryTree) (segment : Stored) (docs : List ℕ)
     (visits : ℕ) (collector : AggregationSegmentCollector) : Type 0 where
   pub reader : collector.reader.now ≡ segment
   pub meaning : Meaning
   pub same : meaning.segment ≡ segment
-  pub right : IsRight collector.aggregations.per_request request meaning (held_of collector.tree)
-      (under 0 docs) visits
+  pub right : IsRight collector.aggregations.per_request request meaning
+      (held_of collector.tree.tree) (under 0 docs) visits
   pub names : NamesAscend request
   pub within : All (λ doc. doc < length (documents_of segment)) docs
   pub numbers : All HasNumbersOf64Bits (documents_of segment)
   pub counts : collector.counts ≡ uncut_lengths request (documents_at segment docs)
   pub range : ¬ (HasStartOutOfRange request (documents_at segment docs))
   pub few : ¬ (CountsTooMany matches request (documents_at segment docs))
+  pub charged : IsCharged collector.aggregations.per_request collector.tree
+  pub fixed : collector.tree.fixed ≡ fixed_charge request (length (documents_of segment))
 
 -- so is a collector that has not failed
 pub record CollectorFor (request : Request QueryTree) (segment : Stored) (docs : List ℕ)
@@ -111,25 +135,62 @@ module _ (docs : List ℕ) (old : AggregationSegmentCollector) where
       → (¬ (HasStartOutOfRange request (documents_at segment docs)))
       × CountsTooMany matches request (documents_at segment (taken ++ docs))
 
-  -- why documents are refused; running out of memory needs no cause
-  abbrev pub IsTreeCause : CollectError → Type 0
-  IsTreeCause error.BucketOutOfRange = StartsOutOfRange
-  IsTreeCause error.TooMany = ListsTooMany
-  IsTreeCause error.OutOfMemory = ⊤
-  IsTreeCause _ = ⊥
+  module _ (limits : Limits) where
+    -- neither holds, and more bytes than the limit may be in use with those of all documents: with
+    -- the roof over them in the place of what the collector has charged
+    abbrev pub TakesTooMuch : ℕ → ℕ → Type 0
+    TakesTooMuch told current =
+        (request : Request QueryTree) (segment : Stored) (taken : List ℕ) (visits : ℕ)
+        → IsRightFor request segment taken visits old
+        → (¬ (HasStartOutOfRange request (documents_at segment docs)))
+        × (¬ (CountsTooMany matches request (documents_at segment (taken ++ docs))))
+        × TellsMemory limits.memory_limit
+        (limits.in_use + roof matches request (length (documents_of segment))
+        (documents_at segment (taken ++ docs)))
+        old.tree.guard told current
 
-  -- the same, or an earlier call has failed
-  abbrev pub IsBlockCause : CollectError → Type 0
-  IsBlockCause error.CollectorFailed = old.has_failed ≡ true
-  IsBlockCause given = IsTreeCause given
+    -- why documents are refused; running out of memory needs no cause
+    abbrev pub IsTreeCause : CollectError → Type 0
+    IsTreeCause error.BucketOutOfRange = StartsOutOfRange
+    IsTreeCause error.TooMany = ListsTooMany
+    IsTreeCause (error.Aggregation part) = IsMemoryExceeded TakesTooMuch part
+    IsTreeCause error.CollectorFailed = ⊥
+    IsTreeCause error.OutOfMemory = ⊤
+
+    -- the same, or an earlier call has failed
+    abbrev pub IsBlockCause : CollectError → Type 0
+    IsBlockCause error.CollectorFailed = old.has_failed ≡ true
+    IsBlockCause given = IsTreeCause given
 
 -- ---- results
 
--- why a collector has no results: an earlier call has failed; running out of memory needs no cause
-abbrev pub IsHarvestCause : AggregationSegmentCollector → CollectError → Type 0
-IsHarvestCause collector error.CollectorFailed = collector.has_failed ≡ true
-IsHarvestCause collector error.OutOfMemory = ⊤
-IsHarvestCause collector _ = ⊥
+module _ (collector : AggregationSegmentCollector) (limits : Limits) where
+  -- more bytes than the limit may be in use with those of what a collector took: with the roof over
+  -- it in the place of what the collector has charged
+  abbrev pub HoldsTooMuch : ℕ → ℕ → Type 0
+  HoldsTooMuch told current =
+      (request : Request QueryTree) (segment : Stored) (docs : List ℕ) (visits : ℕ)
+      → IsRightFor request segment docs visits collector
+      → TellsMemory limits.memory_limit
+      (limits.in_use + roof matches request (length (documents_of segment))
+      (documents_at segment docs))
+      collector.tree.guard told current
+
+  -- why a collector has no results: an earlier call has failed, or it holds too much; running out
+  -- of memory needs no cause
+  abbrev pub IsHarvestCause : CollectError → Type 0
+  IsHarvestCause (error.Aggregation part) = IsMemoryExceeded HoldsTooMuch part
+  IsHarvestCause error.CollectorFailed = collector.has_failed ≡ true
+  IsHarvestCause error.OutOfMemory = ⊤
+  IsHarvestCause _ = ⊥
+
+  -- there is room for the low roof over what a collector took, in the place of what it has charged
+  pub record HasRoom : Type 0 where
+    pub room : (request : Request QueryTree) (segment : Stored) (docs : List ℕ) (visits : ℕ)
+        → IsRightFor request segment docs visits collector
+        → limits.in_use + low_roof matches request (length (documents_of segment))
+        (documents_at segment docs)
+        ≤ limits.memory_limit + collector.tree.guard
 
 -- whatever is answered, the steps are at most three for each document that composites count of all
 -- that was taken, less what was visited before

@@ -1,6 +1,10 @@
 //! The collector of a request, whose results over segments become final.
-ghost use Rattle.std.specs.Prelude.{◌≡◌, ◌≤◌, [], All, IfErr, IfOk, List, Option, false};
+ghost use Rattle.std.specs.Prelude.{◌≡◌, ◌≤◌, ◌+◌, [], All, IfErr, IfOk, List, OnErr, OnOk, Option};
+ghost use Rattle.std.specs.Prelude.{false, length};
+ghost use Rattle.agg_cache.specs.Limits.{charged};
+ghost use Rattle.agg_charges.specs.Charges.{fixed_charge};
 ghost use Rattle.agg_column.specs.Document.{Fields, HasNumbersOf64Bits};
+ghost use Rattle.agg_segment.specs.Segment.{documents_of};
 ghost use Rattle.agg_segment.specs.declared.query.QueryTree.{QueryTree as Tree};
 ghost use Rattle.agg_request_tree.specs.Matching.{built_matches};
 ghost use Rattle.agg_request_tree.specs.Request.{with_builders};
@@ -51,10 +55,19 @@ impl<'a> AggregationCollector<'a> {
             reader.now [] 0 collector) }
         ensures usable { IfOk result MayBeUsed }
         ensures reader { IfOk result (λ collector. collector.reader.now ≡ reader.now) }
-        ensures cause { IfErr result
-            (IsSetupCause (paged self.now.context.page self.now.agg.now)) }
-        ensures guard { IfOk result (λ collector. collector.guard ≡ 0) }
-        ensures limits { limits.new ≡ limits.old }
+        ensures num_docs { IfOk result
+            (λ collector. collector.num_docs ≡ length (documents_of reader.now)) }
+        ensures cause { IfErr result (IsSetupCause (paged self.now.context.page self.now.agg.now)
+            (length (documents_of reader.now)) limits.old) }
+        ensures within { OnOk result (limits.old.in_use + fixed_charge
+            (paged self.now.context.page self.now.agg.now) (length (documents_of reader.now))
+            ≤ limits.old.memory_limit) }
+        ensures ledger { OnOk result (limits.new ≡ charged (fixed_charge
+            (paged self.now.context.page self.now.agg.now) (length (documents_of reader.now)))
+            limits.old) }
+        ensures guard { IfOk result (λ collector. collector.tree.guard ≡ fixed_charge
+            (paged self.now.context.page self.now.agg.now) (length (documents_of reader.now))) }
+        ensures kept { OnErr result (limits.new ≡ limits.old) }
     {
         let alloc = self.agg.allocator();
         AggregationSegmentCollector::from_agg_req_and_reader(

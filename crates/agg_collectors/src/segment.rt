@@ -1,6 +1,8 @@
 //! The collector of a request in a segment.
 ghost use Rattle.std.specs.Prelude.{◌≡◌, ◌≤◌, ◌+◌, ◌<◌, ◌∷◌, [], All, Err, ℕ, List, true};
 ghost use Rattle.std.specs.Prelude.{IfErr, IfOk, OnErr, OnOk, length};
+ghost use Rattle.agg_cache.specs.Limits.{charged};
+ghost use Rattle.agg_charges.specs.Charges.{fixed_charge};
 ghost use Rattle.agg_segment.specs.Query.{matches};
 ghost use Rattle.agg_segment.specs.Segment.{Stored, documents_at, documents_of};
 ghost use Rattle.agg_segment.specs.declared.query.QueryTree.{QueryTree as Tree};
@@ -8,20 +10,20 @@ ghost use Rattle.agg_request_tree.specs.Request.{Request, with_builders};
 ghost use Rattle.agg_results.specs.StandsFor.{StandsFor};
 ghost use Rattle.agg_segment_context.specs.Pages.{paged};
 ghost use Rattle.agg_segment_context.specs.Trees.{AreOfRequest, AreTreesOf};
-ghost use Rattle.agg_collectors.specs.Segment.{CollectorFor, IsBlockCause, IsHarvestCause};
-ghost use Rattle.agg_collectors.specs.Segment.{IsSetupCause, MayBeUsed, TakesBlock, TakesFew};
-ghost use Rattle.agg_collectors.specs.Segment.{GivesBack, HarvestsFew, IsRightForSome};
-ghost use Rattle.agg_collectors.specs.Segment.{IsTreeCause, TakesInTree};
+ghost use Rattle.agg_snapshot.specs.ChargedTrees.{ChargesAnew};
+ghost use Rattle.agg_collectors.specs.Segment.{CollectorFor, GivesBack, HarvestsFew, HasRoom};
+ghost use Rattle.agg_collectors.specs.Segment.{IsBlockCause, IsHarvestCause, IsRightForSome};
+ghost use Rattle.agg_collectors.specs.Segment.{IsSetupCause, IsTreeCause, MayBeUsed};
+ghost use Rattle.agg_collectors.specs.Segment.{TakesBlock, TakesFew, TakesInTree};
 
-use agg_cache::{AggregationLimitsGuard, CollectError, LimitsLedger};
-use agg_collector_tree::{SegmentCollectorTree, tree_for};
+use agg_cache::{CollectError, LimitsLedger};
 use agg_request_tree::Aggregations;
 use agg_results::IntermediateAggregationResults;
 use agg_segment::SegmentReader;
 use agg_segment_context::{
     AggContextParams, AggregationsSegmentCtx, SetupError, check_paged, segment_context,
 };
-use agg_snapshot::{flush, take_blocks};
+use agg_snapshot::ChargedTree;
 use agg_tree_results::add_results;
 use agg_uncut::{UncutCounts, are_starts_in_range, uncut_lengths};
 use agg_values::{DocId, Steps};
@@ -29,22 +31,21 @@ use std::alloc::Global;
 use std::sync::ledger::Ledger;
 
 /// The collector of a request in a segment. Once a call has answered an error, it has failed: it
-/// takes no more documents and has no results.
+/// takes no more documents and has no results. What it charges is given back at its end.
 #[derive(Drop)]
 pub struct AggregationSegmentCollector<'s> {
     alloc: Global,
     reader: &'s SegmentReader,
     aggregations: AggregationsSegmentCtx<'s>,
-    tree: SegmentCollectorTree<'s>,
+    tree: ChargedTree<'s>,
     counts: UncutCounts,
     has_failed: bool,
     num_docs: u32,
-    guard: AggregationLimitsGuard,
 }
 
 impl<'s> AggregationSegmentCollector<'s> {
     /// A collector of a request in a segment, with the trees of its filters and the page that is
-    /// set. The limits are unused for now.
+    /// set. The fixed charge of the request is charged.
     pub fn from_agg_req_and_reader(
         alloc: Global,
         agg: &'s Aggregations,
@@ -61,15 +62,22 @@ impl<'s> AggregationSegmentCollector<'s> {
         ensures reader { IfOk result (λ collector. collector.reader.now ≡ reader.now) }
         ensures num_docs { IfOk result
             (λ collector. collector.num_docs ≡ length (documents_of reader.now)) }
-        ensures cause { IfErr result (IsSetupCause (paged context.now.page agg.now)) }
-        ensures guard { IfOk result (λ collector. collector.guard ≡ 0) }
-        ensures limits { limits.new ≡ limits.old }
+        ensures cause { IfErr result (IsSetupCause (paged context.now.page agg.now)
+            (length (documents_of reader.now)) limits.old) }
+        ensures within { OnOk result (limits.old.in_use + fixed_charge
+            (paged context.now.page agg.now) (length (documents_of reader.now))
+            ≤ limits.old.memory_limit) }
+        ensures ledger { OnOk result (limits.new ≡ charged (fixed_charge
+            (paged context.now.page agg.now) (length (documents_of reader.now))) limits.old) }
+        ensures guard { IfOk result (λ collector. collector.tree.guard ≡ fixed_charge
+            (paged context.now.page agg.now) (length (documents_of reader.now))) }
+        ensures kept { OnErr result (limits.new ≡ limits.old) }
     {
         check_paged(alloc, agg, context)?;
         let aggregations = segment_context(alloc, agg, reader, context)?;
         let ctx = &aggregations.per_request;
-        let tree = tree_for(alloc, ctx, reader)?;
         let counts = UncutCounts::new(uncut_lengths(alloc, ctx, reader, &[])?);
+        let tree = ChargedTree::new(alloc, ctx, reader, limits)?;
         Ok(AggregationSegmentCollector {
             alloc,
             reader,
@@ -78,7 +86,6 @@ impl<'s> AggregationSegmentCollector<'s> {
             counts,
             has_failed: false,
             num_docs: reader.num_docs(),
-            guard: limits.guard(),
         })
     }
 
@@ -91,15 +98,16 @@ impl<'s> AggregationSegmentCollector<'s> {
     ) -> Result<(), CollectError>
         requires usable { MayBeUsed self.old }
         requires within { doc < length (documents_of self.old.reader.now) }
+        requires charged { self.old.tree.guard ≤ limits.old.in_use }
         ensures ok { OnOk result (TakesBlock (doc ∷ []) self.old self.new steps.old steps.new) }
-        ensures cause { IfErr result (IsBlockCause (doc ∷ []) self.old) }
+        ensures cause { IfErr result (IsBlockCause (doc ∷ []) self.old limits.old) }
         ensures failed { self.old.has_failed ≡ true → result ≡ Err CollectError.CollectorFailed }
         ensures fails { OnErr result (self.new.has_failed ≡ true) }
-        ensures limits { limits.new ≡ limits.old }
+        ensures charges { ChargesAnew self.old.tree self.new.tree limits.old limits.new }
+        ensures limit { OnOk result (limits.new.in_use ≤ limits.new.memory_limit) }
         ensures usable { MayBeUsed self.new }
         ensures reader { self.new.reader.now ≡ self.old.reader.now }
         ensures num_docs { self.new.num_docs ≡ self.old.num_docs }
-        ensures guard { self.new.guard ≡ self.old.guard }
         ensures most { TakesFew (doc ∷ []) self.old steps.old steps.new }
         ensures later { steps.old ≤ steps.new }
     {
@@ -107,8 +115,8 @@ impl<'s> AggregationSegmentCollector<'s> {
     }
 
     /// Takes documents of the segment. It first asks whether the start of each bucket lies within
-    /// 64 bits, and then how many documents each aggregation lists in all. The limits are unused
-    /// for now.
+    /// 64 bits, and then how many documents each aggregation lists in all. The bytes of new buckets
+    /// are charged.
     pub fn collect_block<L: Ledger>(
         &mut self,
         docs: &[DocId],
@@ -117,15 +125,16 @@ impl<'s> AggregationSegmentCollector<'s> {
     ) -> Result<(), CollectError>
         requires usable { MayBeUsed self.old }
         requires within { All (λ doc. doc < length (documents_of self.old.reader.now)) docs.now }
+        requires charged { self.old.tree.guard ≤ limits.old.in_use }
         ensures ok { OnOk result (TakesBlock docs.now self.old self.new steps.old steps.new) }
-        ensures cause { IfErr result (IsBlockCause docs.now self.old) }
+        ensures cause { IfErr result (IsBlockCause docs.now self.old limits.old) }
         ensures failed { self.old.has_failed ≡ true → result ≡ Err CollectError.CollectorFailed }
         ensures fails { OnErr result (self.new.has_failed ≡ true) }
-        ensures limits { limits.new ≡ limits.old }
+        ensures charges { ChargesAnew self.old.tree self.new.tree limits.old limits.new }
+        ensures limit { OnOk result (limits.new.in_use ≤ limits.new.memory_limit) }
         ensures usable { MayBeUsed self.new }
         ensures reader { self.new.reader.now ≡ self.old.reader.now }
         ensures num_docs { self.new.num_docs ≡ self.old.num_docs }
-        ensures guard { self.new.guard ≡ self.old.guard }
         ensures most { TakesFew docs.now self.old steps.old steps.new }
         ensures later { steps.old ≤ steps.new }
     {
@@ -133,21 +142,28 @@ impl<'s> AggregationSegmentCollector<'s> {
             return Err(CollectError::CollectorFailed);
         }
         self.has_failed = true;
-        self.take(docs, steps)?;
+        self.take(docs, limits, steps)?;
         self.has_failed = false;
         Ok(())
     }
 
     // Takes documents, of which none may start a bucket outside 64 bits or be one too many.
-    fn take<L: Ledger>(&mut self, docs: &[DocId], steps: &mut Steps<L>) -> Result<(), CollectError>
+    fn take<L: Ledger>(
+        &mut self,
+        docs: &[DocId],
+        limits: &mut LimitsLedger,
+        steps: &mut Steps<L>,
+    ) -> Result<(), CollectError>
         requires right { IsRightForSome self.old }
         requires within { All (λ doc. doc < length (documents_of self.old.reader.now)) docs.now }
+        requires charged { self.old.tree.guard ≤ limits.old.in_use }
         ensures ok { OnOk result (TakesInTree docs.now self.old self.new steps.old steps.new) }
-        ensures cause { IfErr result (IsTreeCause docs.now self.old) }
+        ensures cause { IfErr result (IsTreeCause docs.now self.old limits.old) }
         ensures failed { self.new.has_failed ≡ self.old.has_failed }
+        ensures charges { ChargesAnew self.old.tree self.new.tree limits.old limits.new }
+        ensures limit { OnOk result (limits.new.in_use ≤ limits.new.memory_limit) }
         ensures reader { self.new.reader.now ≡ self.old.reader.now }
         ensures num_docs { self.new.num_docs ≡ self.old.num_docs }
-        ensures guard { self.new.guard ≡ self.old.guard }
         ensures most { TakesFew docs.now self.old steps.old steps.new }
         ensures later { steps.old ≤ steps.new }
     {
@@ -160,7 +176,7 @@ impl<'s> AggregationSegmentCollector<'s> {
         if self.counts.is_too_many() {
             return Err(CollectError::TooMany);
         }
-        take_blocks(&mut self.tree, docs, ctx, steps)?;
+        self.tree.take_blocks(docs, ctx, limits, steps)?;
         Ok(())
     }
 
@@ -171,18 +187,19 @@ impl<'s> AggregationSegmentCollector<'s> {
         steps: &mut Steps<L>,
     ) -> Result<IntermediateAggregationResults, CollectError>
         requires usable { MayBeUsed self }
-        requires charged { self.guard ≤ limits.old.in_use }
+        requires charged { self.tree.guard ≤ limits.old.in_use }
         ensures ok { IfOk result (λ results. (request : Request Tree) (segment : Stored)
             → (docs : List ℕ) (visits : ℕ) → CollectorFor request segment docs visits self.entry
             → StandsFor matches request (documents_at segment docs) results.results) }
-        ensures cause { IfErr result (IsHarvestCause self.entry) }
+        ensures cause { IfErr result (IsHarvestCause self.entry limits.old) }
         ensures failed { self.entry.has_failed ≡ true → result ≡ Err CollectError.CollectorFailed }
-        ensures given_back { GivesBack self.entry.guard limits.old limits.new }
+        ensures room { OnOk result (HasRoom self.entry limits.old) }
+        ensures given_back { GivesBack self.entry.tree.guard limits.old limits.new }
         ensures most { HarvestsFew self.entry steps.old steps.new }
         ensures later { steps.old ≤ steps.new }
     {
         let mut collector = self;
-        let results = collector.results(steps);
+        let results = collector.results(limits, steps);
         collector.abandon(limits);
         results
     }
@@ -190,15 +207,18 @@ impl<'s> AggregationSegmentCollector<'s> {
     // The results of what was taken, after all that waits was handed down.
     fn results<L: Ledger>(
         &mut self,
+        limits: &mut LimitsLedger,
         steps: &mut Steps<L>,
     ) -> Result<IntermediateAggregationResults, CollectError>
         requires usable { MayBeUsed self.old }
+        requires charged { self.old.tree.guard ≤ limits.old.in_use }
         ensures ok { IfOk result (λ results. (request : Request Tree) (segment : Stored)
             → (docs : List ℕ) (visits : ℕ) → CollectorFor request segment docs visits self.old
             → StandsFor matches request (documents_at segment docs) results.results) }
-        ensures cause { IfErr result (IsHarvestCause self.old) }
+        ensures cause { IfErr result (IsHarvestCause self.old limits.old) }
         ensures failed { self.old.has_failed ≡ true → result ≡ Err CollectError.CollectorFailed }
-        ensures guard { self.new.guard ≡ self.old.guard }
+        ensures room { OnOk result (HasRoom self.old limits.old) }
+        ensures charges { ChargesAnew self.old.tree self.new.tree limits.old limits.new }
         ensures most { HarvestsFew self.old steps.old steps.new }
         ensures later { steps.old ≤ steps.new }
     {
@@ -206,19 +226,19 @@ impl<'s> AggregationSegmentCollector<'s> {
             return Err(CollectError::CollectorFailed);
         }
         let ctx = &self.aggregations.per_request;
-        flush(&mut self.tree, ctx, steps)?;
+        self.tree.flush(ctx, limits, steps)?;
         let mut results = IntermediateAggregationResults::new(self.alloc);
-        add_results(self.alloc, &self.tree, ctx, &mut results, 0)?;
+        add_results(self.alloc, self.tree.tree(), ctx, &mut results, 0)?;
         Ok(results)
     }
 
     /// Ends without results. What was charged is given back.
     pub fn abandon(self, limits: &mut LimitsLedger)
-        requires charged { self.guard ≤ limits.old.in_use }
-        ensures given_back { GivesBack self.entry.guard limits.old limits.new }
+        requires charged { self.tree.guard ≤ limits.old.in_use }
+        ensures given_back { GivesBack self.entry.tree.guard limits.old limits.new }
     {
-        let AggregationSegmentCollector { guard, .. } = self;
-        guard.give_back(limits);
+        let AggregationSegmentCollector { tree, .. } = self;
+        tree.give_back(limits);
     }
 
     /// How many documents the segment has. Their numbers are those below it.
@@ -230,9 +250,9 @@ impl<'s> AggregationSegmentCollector<'s> {
 
     /// The bytes that are charged.
     pub fn allocated(&self) -> u64
-        ensures { result ≡ self.now.guard }
+        ensures { result ≡ self.now.tree.guard }
     {
-        self.guard.allocated()
+        self.tree.allocated()
     }
 
     /// What the aggregations of the request are asked in the segment.

@@ -1,6 +1,7 @@
 //! Collectors of aggregations in a segment, behind one trait.
-ghost use Rattle.std.specs.Prelude.{◌≡◌, ◌≤◌, ◌⊎◌, ◌∷◌, [], ℕ, List, Bool, Some, false, true};
-ghost use Rattle.std.specs.Prelude.{IfErr, IsErrOf, OnOk, length, zip};
+ghost use Rattle.std.specs.Prelude.{◌≡◌, ◌≤◌, ◌-◌, ◌⊎◌, ◌∷◌, [], ℕ, List, Bool, Some, false, true};
+ghost use Rattle.std.specs.Prelude.{IfErr, IfOk, IsErrOf, OnErr, OnOk, length, zip};
+ghost use Rattle.agg_cache.specs.Limits.{Grown, Limits, charged};
 ghost use Rattle.agg_cache.specs.Waiting.{under};
 ghost use Rattle.agg_cache.specs.declared.error.CollectError as declared;
 ghost use Rattle.agg_segment_context.specs.Context.{IsMeant, Meaning};
@@ -10,17 +11,21 @@ ghost use Rattle.agg_collector_tree.specs.Prepared.{IsPrepared};
 ghost use Rattle.agg_collector_tree.specs.Refusals.{IsRefused};
 ghost use Rattle.agg_collector_tree.specs.Tree.{Fits, Takes, held_of};
 ghost use Rattle.agg_tree_results.specs.Results.{Adds, MayAdd};
+ghost use Rattle.agg_held_bytes.specs.HeldBytes.{held_bytes};
+ghost use Rattle.agg_collectors.specs.Trees.{IsGrowthRefusal, IsTreeRefusal};
 
 use agg_cache::{AggregationLimitsGuard, BucketId, CollectError, LimitsLedger};
 use agg_collector_tree::{SegmentCollectorTree, Taken, hand, prepare};
+use agg_held_bytes::held_bytes;
 use agg_results::IntermediateAggregationResults;
-use agg_segment_context::AggregationsSegmentCtx;
+use agg_segment_context::{AggregationsSegmentCtx, PerRequestAggSegCtx};
 use agg_tree_results::add_results;
-use agg_values::{DocId, Steps};
+use agg_values::{DocId, OutOfMemory, Steps};
 use std::sync::ledger::Ledger;
 
 /// Collectors of aggregations in a segment. Each call gets the same data, with which they were
-/// made. The limits and the guard are unused for now.
+/// made. The bytes by which their buckets grow are charged to the guard and to the ledger, which
+/// has at least the guard's in use.
 pub trait SegmentAggregationCollector: Drop {
     /// The data is that of these collectors.
     ghost fits: { context.AggregationsSegmentCtx → Self → Type 0 };
@@ -30,8 +35,11 @@ pub trait SegmentAggregationCollector: Drop {
     ghost takes: { context.AggregationsSegmentCtx → List (ℕ × ℕ) → Bool → Self → Self → ℕ → ℕ
         → Type 0 };
 
-    /// Why they refuse documents under parents, which may be these.
-    ghost refuses: { context.AggregationsSegmentCtx → List (ℕ × ℕ) → List ℕ → Self
+    /// The bytes that their buckets take.
+    ghost holds: { context.AggregationsSegmentCtx → Self → ℕ };
+
+    /// Why they refuse documents under parents, which may be these, where a ledger stands so.
+    ghost refuses: { context.AggregationsSegmentCtx → Limits → List (ℕ × ℕ) → List ℕ → Self
         → declared.CollectError → Type 0 };
 
     /// Parents up to this one are prepared.
@@ -68,13 +76,16 @@ pub trait SegmentAggregationCollector: Drop {
         guard: &mut AggregationLimitsGuard,
         steps: &mut Steps<L>,
     ) -> Result<(), CollectError>
-        requires { fits agg_data.now self.old }
+        requires fits { fits agg_data.now self.old }
+        requires held { guard.old ≤ limits.old.in_use }
         ensures ok { OnOk result (takes agg_data.now (under parent_bucket_id docs.now) false
             self.old self.new steps.old steps.new) }
-        ensures cause { IfErr result (refuses agg_data.now (under parent_bucket_id docs.now)
-            (parent_bucket_id ∷ []) self.old) }
-        ensures limits { limits.new ≡ limits.old }
-        ensures guard { guard.new ≡ guard.old }
+        ensures cause { IfErr result (refuses agg_data.now limits.old
+            (under parent_bucket_id docs.now) (parent_bucket_id ∷ []) self.old) }
+        ensures charged { OnOk result (limits.new ≡ charged
+            (holds agg_data.now self.new - holds agg_data.now self.old) limits.old) }
+        ensures kept { OnErr result (limits.new ≡ limits.old) }
+        ensures grown { Grown limits.old limits.new guard.old guard.new }
         ensures later { steps.old ≤ steps.new };
 
     /// Takes documents, each under the parent at its index, one by one.
@@ -89,12 +100,15 @@ pub trait SegmentAggregationCollector: Drop {
     ) -> Result<(), CollectError>
         requires fits { fits agg_data.now self.old }
         requires lengths { length bucket_ids.now ≡ length docs.now }
+        requires held { guard.old ≤ limits.old.in_use }
         ensures ok { OnOk result (takes agg_data.now (zip bucket_ids.now docs.now) false
             self.old self.new steps.old steps.new) }
-        ensures cause { IfErr result (refuses agg_data.now (zip bucket_ids.now docs.now)
-            bucket_ids.now self.old) }
-        ensures limits { limits.new ≡ limits.old }
-        ensures guard { guard.new ≡ guard.old }
+        ensures cause { IfErr result (refuses agg_data.now limits.old
+            (zip bucket_ids.now docs.now) bucket_ids.now self.old) }
+        ensures charged { OnOk result (limits.new ≡ charged
+            (holds agg_data.now self.new - holds agg_data.now self.old) limits.old) }
+        ensures kept { OnErr result (limits.new ≡ limits.old) }
+        ensures grown { Grown limits.old limits.new guard.old guard.new }
         ensures later { steps.old ≤ steps.new };
 
     /// Prepares parents up to this one.
@@ -119,12 +133,15 @@ pub trait SegmentAggregationCollector: Drop {
         guard: &mut AggregationLimitsGuard,
         steps: &mut Steps<L>,
     ) -> Result<(), CollectError>
-        requires { fits agg_data.now self.old }
+        requires fits { fits agg_data.now self.old }
+        requires held { guard.old ≤ limits.old.in_use }
         ensures ok { OnOk result
             (takes agg_data.now [] true self.old self.new steps.old steps.new) }
-        ensures cause { IfErr result (refuses agg_data.now [] [] self.old) }
-        ensures limits { limits.new ≡ limits.old }
-        ensures guard { guard.new ≡ guard.old }
+        ensures cause { IfErr result (refuses agg_data.now limits.old [] [] self.old) }
+        ensures charged { OnOk result (limits.new ≡ charged
+            (holds agg_data.now self.new - holds agg_data.now self.old) limits.old) }
+        ensures kept { OnErr result (limits.new ≡ limits.old) }
+        ensures grown { Grown limits.old limits.new guard.old guard.new }
         ensures later { steps.old ≤ steps.new };
 }
 
@@ -135,8 +152,10 @@ impl SegmentAggregationCollector for SegmentCollectorTree<'_> {
     ghost takes = { λ ctx pairs all old new steps steps_now.
         Takes ctx.per_request pairs all (held_of old) (held_of new) steps steps_now };
 
-    ghost refuses = { λ ctx pairs parents old error.
-        IsRefused ctx.per_request pairs parents (held_of old) error };
+    ghost holds = { λ ctx tree. held_bytes ctx.per_request (held_of tree) };
+
+    ghost refuses = { λ ctx limits pairs parents old error.
+        IsTreeRefusal ctx.per_request limits pairs parents (held_of old) error };
 
     ghost is_prepared = { λ max_bucket tree. IsPrepared max_bucket (held_of tree) };
 
@@ -167,12 +186,14 @@ impl SegmentAggregationCollector for SegmentCollectorTree<'_> {
         parent_bucket_id: BucketId,
         docs: &[DocId],
         agg_data: &AggregationsSegmentCtx<'_>,
-        _limits: &mut LimitsLedger,
-        _guard: &mut AggregationLimitsGuard,
+        limits: &mut LimitsLedger,
+        guard: &mut AggregationLimitsGuard,
         steps: &mut Steps<L>,
     ) -> Result<(), CollectError> {
-        let taken = Taken::One(parent_bucket_id, docs);
-        hand(self, taken, false, &agg_data.per_request, steps)
+        let ctx = &agg_data.per_request;
+        let before = bytes_of(self, ctx)?;
+        hand(self, Taken::One(parent_bucket_id, docs), false, ctx, steps)?;
+        charge_growth(self, before, ctx, limits, guard)
     }
 
     fn collect_multiple<L: Ledger>(
@@ -180,15 +201,14 @@ impl SegmentAggregationCollector for SegmentCollectorTree<'_> {
         bucket_ids: &[BucketId],
         docs: &[DocId],
         agg_data: &AggregationsSegmentCtx<'_>,
-        _limits: &mut LimitsLedger,
-        _guard: &mut AggregationLimitsGuard,
+        limits: &mut LimitsLedger,
+        guard: &mut AggregationLimitsGuard,
         steps: &mut Steps<L>,
     ) -> Result<(), CollectError> {
-        for (bucket_id, doc) in bucket_ids.iter().zip(docs) {
-            let taken = Taken::One(*bucket_id, &[*doc]);
-            hand(self, taken, false, &agg_data.per_request, steps)?;
-        }
-        Ok(())
+        let ctx = &agg_data.per_request;
+        let before = bytes_of(self, ctx)?;
+        hand_each(self, bucket_ids, docs, ctx, steps)?;
+        charge_growth(self, before, ctx, limits, guard)
     }
 
     fn prepare_max_bucket(
@@ -202,11 +222,72 @@ impl SegmentAggregationCollector for SegmentCollectorTree<'_> {
     fn flush<L: Ledger>(
         &mut self,
         agg_data: &AggregationsSegmentCtx<'_>,
-        _limits: &mut LimitsLedger,
-        _guard: &mut AggregationLimitsGuard,
+        limits: &mut LimitsLedger,
+        guard: &mut AggregationLimitsGuard,
         steps: &mut Steps<L>,
     ) -> Result<(), CollectError> {
-        let taken = Taken::Batches(&[]);
-        hand(self, taken, true, &agg_data.per_request, steps)
+        let ctx = &agg_data.per_request;
+        let before = bytes_of(self, ctx)?;
+        hand(self, Taken::Batches(&[]), true, ctx, steps)?;
+        charge_growth(self, before, ctx, limits, guard)
     }
+}
+
+// Hands documents down, each under the parent at its index, one by one.
+fn hand_each<L: Ledger>(
+    tree: &mut SegmentCollectorTree<'_>,
+    bucket_ids: &[BucketId],
+    docs: &[DocId],
+    ctx: &PerRequestAggSegCtx<'_>,
+    steps: &mut Steps<L>,
+) -> Result<(), CollectError>
+    requires meant { (meaning : Meaning) × IsMeant meaning ctx.now }
+    requires fits { Fits ctx.now (held_of tree.old) }
+    requires lengths { length bucket_ids.now ≡ length docs.now }
+    ensures ok { OnOk result (Takes ctx.now (zip bucket_ids.now docs.now) false
+        (held_of tree.old) (held_of tree.new) steps.old steps.new) }
+    ensures refused { IfErr result (IsRefused ctx.now (zip bucket_ids.now docs.now)
+        bucket_ids.now (held_of tree.old)) }
+    ensures later { steps.old ≤ steps.new }
+{
+    for (bucket_id, doc) in bucket_ids.iter().zip(docs) {
+        let taken = Taken::One(*bucket_id, &[*doc]);
+        hand(tree, taken, false, ctx, steps)?;
+    }
+    Ok(())
+}
+
+// The bytes that the buckets of a tree take. No memory has room for more than u64 counts.
+fn bytes_of(
+    tree: &SegmentCollectorTree<'_>,
+    ctx: &PerRequestAggSegCtx<'_>,
+) -> Result<u64, OutOfMemory>
+    requires meant { (meaning : Meaning) × IsMeant meaning ctx.now }
+    requires fits { Fits ctx.now (held_of tree.now) }
+    ensures { IfOk result (λ bytes. bytes ≡ held_bytes ctx.now (held_of tree.now)) }
+{
+    held_bytes(tree, ctx).ok_or(OutOfMemory)
+}
+
+// Charges the bytes by which the buckets of a tree have grown since they took so many.
+fn charge_growth(
+    tree: &SegmentCollectorTree<'_>,
+    before: u64,
+    ctx: &PerRequestAggSegCtx<'_>,
+    limits: &mut LimitsLedger,
+    guard: &mut AggregationLimitsGuard,
+) -> Result<(), CollectError>
+    requires meant { (meaning : Meaning) × IsMeant meaning ctx.now }
+    requires fits { Fits ctx.now (held_of tree.now) }
+    requires held { guard.old ≤ limits.old.in_use }
+    ensures cause { IfErr result
+        (IsGrowthRefusal (held_bytes ctx.now (held_of tree.now) - before) limits.old) }
+    ensures charged { OnOk result (limits.new
+        ≡ charged (held_bytes ctx.now (held_of tree.now) - before) limits.old) }
+    ensures kept { OnErr result (limits.new ≡ limits.old) }
+    ensures grown { Grown limits.old limits.new guard.old guard.new }
+{
+    let after = bytes_of(tree, ctx)?;
+    guard.add_memory_consumed(limits, after.saturating_sub(before))?;
+    Ok(())
 }

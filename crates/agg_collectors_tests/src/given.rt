@@ -1,5 +1,5 @@
 //! A request over two segments, and what the collector of a request takes and gives in one.
-ghost use Rattle.std.specs.Prelude.{◌≡◌, IfOk};
+ghost use Rattle.std.specs.Prelude.{◌≡◌, ◌≤◌, IfOk};
 ghost use Rattle.agg_segment_context.specs.Trees.{AreOfRequest};
 ghost use Rattle.agg_collectors.specs.Segment.{MayBeUsed};
 
@@ -76,7 +76,7 @@ pub(crate) fn fruit<L: Ledger>(
 ) -> Result<IntermediateAggregationResults, CollectError>
     requires usable { MayBeUsed collector }
     requires reader { collector.reader.now ≡ reader.now }
-    requires guard { collector.guard ≡ 0 }
+    requires charged { collector.tree.guard ≤ limits.old.in_use }
 {
     let mut collector = collector;
     take_two(rt, &mut collector, reader, limits, steps)?;
@@ -93,8 +93,9 @@ fn take_two<L: Ledger>(
 ) -> Result<(), CollectError>
     requires usable { MayBeUsed collector.old }
     requires reader { collector.old.reader.now ≡ reader.now }
+    requires charged { collector.old.tree.guard ≤ limits.old.in_use }
     ensures usable { MayBeUsed collector.new }
-    ensures guard { collector.new.guard ≡ collector.old.guard }
+    ensures charged { collector.new.tree.guard ≤ limits.new.in_use }
 {
     assert!(rt; 2 <= reader.num_docs());
     collector.collect(1, limits, steps)?;

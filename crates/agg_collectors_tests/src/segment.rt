@@ -1,6 +1,6 @@
 //! Tests of the collector of a request in a segment: what it tells of itself, and what is in use
 //! after it ends.
-ghost use Rattle.std.specs.Prelude.{◌≡◌, ◌<◌};
+ghost use Rattle.std.specs.Prelude.{◌≡◌, ◌≤◌, ◌<◌};
 ghost use Rattle.agg_segment_context.specs.Trees.{AreOfRequest};
 ghost use Rattle.agg_collectors.specs.Segment.{MayBeUsed};
 
@@ -9,6 +9,7 @@ use agg_cache::{CollectError, LimitsLedger};
 use agg_collectors::AggregationSegmentCollector;
 use agg_metric::StatsType;
 use agg_request::Aggregations;
+use agg_results::IntermediateAggregationResults;
 use agg_segment::SegmentReader;
 use agg_segment_context::{AggContextParams, AggKind, AggRefNode};
 use agg_segment_tests::given::{Given, segment_of};
@@ -45,7 +46,7 @@ fn expect_told(
     let num_composites = data.composite_req_data.as_slice().len();
     assert_eq!(rt;
         (collector.num_docs(), collector.allocated(), num_composites),
-        (2, 0, 1)
+        (2, 1_024, 1)
     );
     assert_eq!(rt; kinds.as_slice(), KINDS.as_slice());
     Ok(())
@@ -82,9 +83,9 @@ fn tells_of_its_segment(rt: HostRuntime) -> Result<(), Fail> {
 // The bytes that are in use before a collector is made.
 const IN_USE: u64 = 512;
 
-// A ledger with these bytes in use.
-fn ledger_in_use() -> Result<LimitsLedger, AggregationError> {
-    let mut limits = LimitsLedger::new(None, None);
+// A ledger with these bytes in use, of so many that may be.
+fn ledger_in_use(memory_limit: Option<u64>) -> Result<LimitsLedger, AggregationError> {
+    let mut limits = LimitsLedger::new(memory_limit, None);
     let mut guard = limits.guard();
     guard.add_memory_consumed(&mut limits, IN_USE)?;
     Ok(limits)
@@ -100,27 +101,53 @@ const OUT_OF_RANGE: &[Values] = &[
     &[("h", Given::Signed(i64::MIN))],
 ];
 
-// A collector refuses a block, and then a document and a block that it would have taken.
+// Groups, and the first group within each. The fixed charge is 1024 bytes, and a bucket takes 96.
+const NESTED: &str = r#"{"g":{"composite":{"sources":[{"a":{"terms":{"field":"a"}}}],
+    "size":10},"aggs":{"h":{"composite":{"sources":[{"b":{"terms":{"field":"b"}}}],
+    "size":1}}}}}"#;
+
+// One group, with three within it.
+const ONE_OF_THREE: &[Values] = &[
+    &[("a", Given::Signed(1)), ("b", Given::Signed(1))],
+    &[("a", Given::Signed(1)), ("b", Given::Signed(2))],
+    &[("a", Given::Signed(1)), ("b", Given::Signed(3))],
+];
+
+// The error of a charge.
+fn memory_exceeded(limit: u64, current: u64) -> CollectError {
+    CollectError::Aggregation(AggregationError::MemoryExceeded { limit, current })
+}
+
+// The documents of a segment, and why a collector refuses the first two of them, with a limit of
+// memory.
+#[derive(Drop)]
+struct Refused {
+    documents: &'static [Values],
+    memory_limit: Option<u64>,
+    error: CollectError,
+}
+
+// A collector gets a block, and then refuses a document and a block.
 fn expect_refusals<L: Ledger>(
     rt: &impl Abort,
     collector: &mut AggregationSegmentCollector<'_>,
     reader: &SegmentReader,
     limits: &mut LimitsLedger,
     steps: &mut Steps<L>,
-)
+) -> Result<(), CollectError>
     requires usable { MayBeUsed collector.old }
     requires reader { collector.old.reader.now ≡ reader.now }
+    requires charged { collector.old.tree.guard ≤ limits.old.in_use }
     ensures usable { MayBeUsed collector.new }
-    ensures guard { collector.new.guard ≡ collector.old.guard }
-    ensures limits { limits.new ≡ limits.old }
+    ensures charged { collector.new.tree.guard ≤ limits.new.in_use }
 {
     assert!(rt; 2 <= reader.num_docs());
-    let refused = collector.collect_block(&[0, 1], limits, steps);
-    assert_eq!(rt; refused, Err(CollectError::BucketOutOfRange));
+    let first = collector.collect_block(&[0, 1], limits, steps);
     let document = collector.collect(0, limits, steps);
     assert_eq!(rt; document, Err(CollectError::CollectorFailed));
     let block = collector.collect_block(&[0], limits, steps);
     assert_eq!(rt; block, Err(CollectError::CollectorFailed));
+    first
 }
 
 // Why a collector has no results.
@@ -130,7 +157,7 @@ fn refused_results<L: Ledger>(
     steps: &mut Steps<L>,
 ) -> Option<CollectError>
     requires usable { MayBeUsed collector }
-    requires guard { collector.guard ≡ 0 }
+    requires charged { collector.tree.guard ≤ limits.old.in_use }
 {
     match collector.harvest(limits, steps) {
         Ok(_) => None,
@@ -145,30 +172,32 @@ fn expect_end<L: Ledger>(
     reader: &SegmentReader,
     limits: &mut LimitsLedger,
     steps: &mut Steps<L>,
-)
+) -> Result<(), CollectError>
     requires usable { MayBeUsed collector }
     requires reader { collector.reader.now ≡ reader.now }
-    requires guard { collector.guard ≡ 0 }
+    requires charged { collector.tree.guard ≤ limits.old.in_use }
 {
     let mut collector = collector;
-    expect_refusals(rt, &mut collector, reader, limits, steps);
+    let first = expect_refusals(rt, &mut collector, reader, limits, steps);
     let error = refused_results(collector, limits, steps);
     assert_eq!(rt; error, Some(CollectError::CollectorFailed));
     assert_eq!(rt; limits.in_use(), IN_USE);
+    first
 }
 
-// The collector of a request fails so in a segment with such a bucket.
+// The collector of a request fails so in a segment of such documents.
 fn expect_failed_in<L: Ledger>(
     rt: &(impl Abort + AllocGlobal),
     request: &Aggregations,
     context: &AggContextParams,
+    refused: Refused,
     steps: &mut Steps<L>,
 ) -> Result<(), Fail>
     requires { AreOfRequest request.now context.now.trees }
 {
     let alloc = rt.alloc();
-    let mut limits = ledger_in_use()?;
-    let reader = segment_of(alloc, OUT_OF_RANGE)?;
+    let mut limits = ledger_in_use(refused.memory_limit)?;
+    let reader = segment_of(alloc, refused.documents)?;
     let collector = AggregationSegmentCollector::from_agg_req_and_reader(
         alloc,
         request,
@@ -176,11 +205,97 @@ fn expect_failed_in<L: Ledger>(
         context,
         &mut limits,
     )?;
-    expect_end(rt, collector, &reader, &mut limits, steps);
+    let first = expect_end(rt, collector, &reader, &mut limits, steps);
+    assert_eq!(rt; first, Err(refused.error));
     Ok(())
 }
 
 fn expect_failed<L: Ledger>(
+    rt: &(impl Abort + AllocGlobal),
+    request: &Aggregations,
+    refused: Refused,
+    blank: Blank,
+) -> Result<(), Fail>
+    requires name { blank.name ≡ L.name }
+    requires parts { blank.parts ≡ L.parts }
+    requires shared { 0 < L.parts }
+{
+    let mut steps: Steps<L> = Steps::new(blank);
+    let context = context_of(rt.alloc(), request, None)?;
+    expect_failed_in(rt, request, &context, refused, &mut steps)
+}
+
+#[test]
+fn answers_nothing_more_after_it_failed(rt: HostRuntime) -> Result<(), Fail> {
+    let request = request_of(rt.alloc(), TENS)?;
+    let refused = Refused {
+        documents: OUT_OF_RANGE,
+        memory_limit: None,
+        error: CollectError::BucketOutOfRange,
+    };
+    expect_failed::<Brand>(&rt, &request, refused, Blank::new(1))
+}
+
+#[test]
+fn refuses_all_after_memory_was_exceeded(rt: HostRuntime) -> Result<(), Fail> {
+    let request = request_of(rt.alloc(), NESTED)?;
+    let refused = Refused {
+        documents: ONE_OF_THREE,
+        memory_limit: Some(IN_USE + 1_119),
+        error: memory_exceeded(IN_USE + 1_119, IN_USE + 1_120),
+    };
+    expect_failed::<Brand>(&rt, &request, refused, Blank::new(1))
+}
+
+// The results of a collector over three documents.
+fn results_of_three<L: Ledger>(
+    rt: &impl Abort,
+    collector: AggregationSegmentCollector<'_>,
+    reader: &SegmentReader,
+    limits: &mut LimitsLedger,
+    steps: &mut Steps<L>,
+) -> Result<IntermediateAggregationResults, CollectError>
+    requires usable { MayBeUsed collector }
+    requires reader { collector.reader.now ≡ reader.now }
+    requires charged { collector.tree.guard ≤ limits.old.in_use }
+{
+    let mut collector = collector;
+    assert!(rt; 3 <= reader.num_docs());
+    collector.collect_block(&[0, 1, 2], limits, steps)?;
+    collector.harvest(limits, steps)
+}
+
+// Why there are none, for a request in a segment of three documents with a limit of memory, if
+// there are none. Nothing is in use after that.
+fn refusal_within<L: Ledger>(
+    rt: &(impl Abort + AllocGlobal),
+    request: &Aggregations,
+    context: &AggContextParams,
+    memory_limit: u64,
+    steps: &mut Steps<L>,
+) -> Result<Option<CollectError>, Fail>
+    requires { AreOfRequest request.now context.now.trees }
+{
+    let alloc = rt.alloc();
+    let mut limits = LimitsLedger::new(Some(memory_limit), None);
+    let reader = segment_of(alloc, ONE_OF_THREE)?;
+    let collector = AggregationSegmentCollector::from_agg_req_and_reader(
+        alloc,
+        request,
+        &reader,
+        context,
+        &mut limits,
+    )?;
+    let results = results_of_three(rt, collector, &reader, &mut limits, steps);
+    assert_eq!(rt; limits.in_use(), 0);
+    match results {
+        Ok(_) => Ok(None),
+        Err(error) => Ok(Some(error)),
+    }
+}
+
+// There are results with just the bytes that the collector takes at last, and none with one less.
+fn expect_limits<L: Ledger>(
     rt: &(impl Abort + AllocGlobal),
     request: &Aggregations,
     blank: Blank,
@@ -191,13 +306,16 @@ fn expect_failed<L: Ledger>(
 {
     let mut steps: Steps<L> = Steps::new(blank);
     let context = context_of(rt.alloc(), request, None)?;
-    expect_failed_in(rt, request, &context, &mut steps)
+    let enough = refusal_within(rt, request, &context, 1_216, &mut steps)?;
+    let less = refusal_within(rt, request, &context, 1_215, &mut steps)?;
+    assert_eq!(rt; (enough, less), (None, Some(memory_exceeded(1_215, 1_216))));
+    Ok(())
 }
 
 #[test]
-fn answers_nothing_more_after_it_failed(rt: HostRuntime) -> Result<(), Fail> {
-    let request = request_of(rt.alloc(), TENS)?;
-    expect_failed::<Brand>(&rt, &request, Blank::new(1))
+fn holds_as_much_as_memory_allows(rt: HostRuntime) -> Result<(), Fail> {
+    let request = request_of(rt.alloc(), NESTED)?;
+    expect_limits::<Brand>(&rt, &request, Blank::new(1))
 }
 
 // A collector is abandoned after it took two documents.
@@ -210,7 +328,7 @@ fn abandon_after_two<L: Ledger>(
 ) -> Result<(), CollectError>
     requires usable { MayBeUsed collector }
     requires reader { collector.reader.now ≡ reader.now }
-    requires guard { collector.guard ≡ 0 }
+    requires charged { collector.tree.guard ≤ limits.old.in_use }
 {
     let mut collector = collector;
     assert!(rt; 2 <= reader.num_docs());
@@ -229,7 +347,7 @@ fn expect_abandoned_in<L: Ledger>(
     requires { AreOfRequest request.now context.now.trees }
 {
     let alloc = rt.alloc();
-    let mut limits = ledger_in_use()?;
+    let mut limits = ledger_in_use(None)?;
     let reader = segment_of(alloc, FIRST)?;
     let collector = AggregationSegmentCollector::from_agg_req_and_reader(
         alloc,

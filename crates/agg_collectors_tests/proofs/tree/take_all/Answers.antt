@@ -3,8 +3,8 @@ use Rattle.agg_collector_tree.specs.Tree.{held_of}
 use Rattle.agg_collectors_tests.proofs.TakingTrees.{tree-fits, tree-more}
 use Rattle.agg_collectors_tests.proofs.tree.take_all.Goals as goal
 
-pub collect-requires : goal.collect-requires
-collect-requires g c =
+pub collect-requires-clause-fits : goal.collect-requires-clause-fits
+collect-requires-clause-fits g c =
     let ctx = c.args.agg_data.now.per_request in
     tree-fits ctx (held_of c.prepare_max_bucket.new.self)
     (tree-more ctx _ _ (held_of c.args.tree.now) (held_of c.prepare_max_bucket.new.self) _ _
@@ -20,8 +20,8 @@ collect_multiple-requires-clause-fits g c =
     (tree-more ctx _ _ (held_of c.prepare_max_bucket.new.self) (held_of c.collect.new.self) _ _
     c.in_ok-collect.ensures.ok prepared)
 
-pub flush-requires : goal.flush-requires
-flush-requires g c =
+pub flush-requires-clause-fits : goal.flush-requires-clause-fits
+flush-requires-clause-fits g c =
     let ctx = c.args.agg_data.now.per_request in
     let prepared = tree-more ctx _ _ (held_of c.args.tree.now)
     (held_of c.prepare_max_bucket.new.self) _ _ (c.in_ok-prepare_max_bucket.ensures.ok 0)

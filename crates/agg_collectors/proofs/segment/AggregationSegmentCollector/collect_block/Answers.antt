@@ -18,8 +18,8 @@ take-requires-clause-right g c =
 pub returns-in_err-take-clause-cause : goal.returns-in_err-take-clause-cause
 returns-in_err-take-clause-cause g c =
     passed_on c.from_residual.result c.in_err-take.field-0.0
-    (IsBlockCause c.args.docs.now c.args.self.now) c.from_residual.ensures.1
-    (cause-marked c.args.self.now c.args.docs.now c.in_err-take.field-0.0
+    (IsBlockCause c.args.docs.now c.args.self.now c.args.limits.now) c.from_residual.ensures.1
+    (cause-marked c.args.self.now c.args.docs.now c.args.limits.now c.in_err-take.field-0.0
     c.in_err-take.ensures.cause)
 
 pub returns-in_err-take-clause-most : goal.returns-in_err-take-clause-most

@@ -1,17 +1,31 @@
+use Rattle.std.proofs.Common.{Some, subst}
+use Rattle.agg_values.proofs.KeyTexts.{passed_on}
 use Rattle.agg_cache.specs.Waiting.{under}
 use Rattle.agg_collector_tree.specs.Tree.{held_of}
+use Rattle.agg_tree_results.specs.Results.{GroupStands}
+use Rattle.agg_snapshot.specs.ChargeErrors.{collect_error}
+use Rattle.agg_collectors.specs.Segment.{IsHarvestCause}
 use Rattle.agg_collectors.proofs.FailedCollectors.{right-usable}
 use Rattle.agg_collectors.proofs.FlushedCollectors.{apart-flushed, few-failed, few-flushed}
-use Rattle.agg_collectors.proofs.FlushedCollectors.{may-flush, right-flushed, stands-flushed}
+use Rattle.agg_collectors.proofs.FlushedCollectors.{may-flush, right-flushed, room-flushed}
+use Rattle.agg_collectors.proofs.FlushedCollectors.{stands-flushed}
+use Rattle.agg_collectors.proofs.MemoryCauses.{cause-flushed}
 use Rattle.agg_collectors.proofs.segment.AggregationSegmentCollector.results.Goals as goal
 
 pub returns-then-self-clause-most : goal.returns-then-self-clause-most
 returns-then-self-clause-most g c = few-failed c.args.self.now c.args.steps.now
 
-pub flush-requires : goal.flush-requires
-flush-requires g c =
+pub flush-requires-clause-may : goal.flush-requires-clause-may
+flush-requires-clause-may g c =
     let r = right-usable c.args.self.now c.requires.usable c.if-self.false in
     may-flush r.0 r.1 r.2 r.3 c.args.self.now r.4
+
+pub returns-in_err-flush-clause-cause : goal.returns-in_err-flush-clause-cause
+returns-in_err-flush-clause-cause g c =
+    passed_on c.from_residual.result (collect_error c.in_err-flush.field-0.0)
+    (IsHarvestCause c.args.self.now c.args.limits.now) c.from_residual.ensures.1
+    (cause-flushed c.args.self.now c.args.limits.now c.in_err-flush.field-0.0
+    c.in_err-flush.ensures.cause)
 
 pub returns-in_err-flush-clause-most : goal.returns-in_err-flush-clause-most
 returns-in_err-flush-clause-most g c =
@@ -20,20 +34,21 @@ returns-in_err-flush-clause-most g c =
 pub add_results-requires-clause-right : goal.add_results-requires-clause-right
 add_results-requires-clause-right g c =
     let r = right-usable c.args.self.now c.requires.usable c.if-self.false in
-    let now = right-flushed r.0 r.1 r.2 r.3 c.args.self.now r.4 (held_of c.flush.new.tree)
+    let now = right-flushed r.0 r.1 r.2 r.3 c.args.self.now r.4 (held_of c.flush.new.self.tree)
     c.args.steps.now c.flush.new.steps c.in_ok-flush.ensures.takes in
-    (r.4.meaning, under 0 r.2, now.0, now.1.context.meant, now.1.right)
+    rw (c.tree.ensures) (r.4.meaning, under 0 r.2, now.0, now.1.context.meant, now.1.right)
 
 pub add_results-requires-clause-fits : goal.add_results-requires-clause-fits
 add_results-requires-clause-fits g c =
     let r = right-usable c.args.self.now c.requires.usable c.if-self.false in
-    c.in_ok-flush.ensures.takes.fits r.4.right.fits
+    rw (c.tree.ensures) (c.in_ok-flush.ensures.takes.fits r.4.right.fits)
 
 pub add_results-requires-clause-apart : goal.add_results-requires-clause-apart
 add_results-requires-clause-apart g c =
     let r = right-usable c.args.self.now c.requires.usable c.if-self.false in
-    apart-flushed r.0 r.1 r.2 r.3 c.args.self.now r.4 (held_of c.flush.new.tree)
-    c.args.steps.now c.flush.new.steps c.in_ok-flush.ensures.takes
+    rw (c.tree.ensures)
+    (apart-flushed r.0 r.1 r.2 r.3 c.args.self.now r.4 (held_of c.flush.new.self.tree)
+    c.args.steps.now c.flush.new.steps c.in_ok-flush.ensures.takes)
 
 pub returns-in_err-add_results-clause-most : goal.returns-in_err-add_results-clause-most
 returns-in_err-add_results-clause-most g c =
@@ -42,9 +57,20 @@ returns-in_err-add_results-clause-most g c =
 pub returns-clause-ok : goal.returns-clause-ok
 returns-clause-ok g c = λ request segment docs visits right.
     stands-flushed request segment docs visits c.args.self.now right.right
-    (held_of c.flush.new.tree) c.args.steps.now c.flush.new.steps c.in_ok-flush.ensures.takes
+    (held_of c.flush.new.self.tree) c.args.steps.now c.flush.new.steps c.in_ok-flush.ensures.takes
     c.add_results.new.results.results
-    (c.in_ok-add_results.ensures.all c.new-results.ensures)
+    (subst (λ t. GroupStands c.args.self.now.aggregations.per_request (held_of t) (Some 0)
+    c.add_results.new.results.results) c.tree.ensures
+    (c.in_ok-add_results.ensures.all c.new-results.ensures))
+
+pub returns-clause-room : goal.returns-clause-room
+returns-clause-room g c = record {
+  room = λ request segment docs visits right.
+      room-flushed request segment docs visits c.args.self.now right c.flush.new.self
+      c.args.steps.now c.flush.new.steps c.in_ok-flush.ensures.takes c.args.limits.now
+      c.flush.new.limits c.flush.ensures.charges c.in_ok-flush.ensures.exact
+      c.in_ok-flush.ensures.within;
+}
 
 pub returns-clause-most : goal.returns-clause-most
 returns-clause-most g c =

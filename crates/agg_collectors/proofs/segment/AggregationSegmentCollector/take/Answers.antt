@@ -2,6 +2,7 @@ use Rattle.std.proofs.Common.{◌≡◌, ◌<◌, ◌++◌, ℕ, List, false, tr
 use Rattle.std.proofs.Common.{ap, ◌∙◌, subst}
 use Rattle.std.specs.List.{All}
 use Rattle.std.proofs.lemmas.List.{map-append}
+use Rattle.agg_values.proofs.KeyTexts.{passed_on}
 use Rattle.agg_segment.specs.Query.{matches}
 use Rattle.agg_segment.specs.Segment.{Stored, document_at, documents_at, documents_of}
 use Rattle.agg_segment.specs.declared.query.QueryTree.{QueryTree}
@@ -9,7 +10,9 @@ use Rattle.agg_request_tree.specs.Ranges.{HasStartOutOfRange}
 use Rattle.agg_request_tree.specs.Request.{Request}
 use Rattle.agg_request_tree.specs.Uncut.{CountsTooMany}
 use Rattle.agg_uncut.specs.Uncut.{uncut_lengths}
-use Rattle.agg_collectors.specs.Segment.{IsRightFor}
+use Rattle.agg_snapshot.specs.ChargeErrors.{collect_error}
+use Rattle.agg_collectors.specs.Segment.{IsRightFor, IsTreeCause}
+use Rattle.agg_collectors.proofs.MemoryCauses.{Pass, cause-charged}
 use Rattle.agg_collectors.proofs.RightCollectors.{Passes, few-none, few-taken, may-take}
 use Rattle.agg_collectors.proofs.RightCollectors.{right-taken}
 use Rattle.agg_collectors.proofs.segment.AggregationSegmentCollector.take.Given as given
@@ -35,6 +38,15 @@ module _ (g : given.Over) (c : After-is_too_many g) (request : Request QueryTree
       ∙ c.in_ok-counts.ensures r.meaning request (r.same ∙ sym r.reader) r.right.context
       ∙ ap (λ s. uncut_lengths request (documents_at s c.args.docs.now)) r.reader)
 
+  -- not too many are listed
+  few : c.is_too_many.result ≡ false
+      → ¬ (CountsTooMany matches request
+      (documents_at segment taken ++ documents_at segment c.args.docs.now))
+  few not = λ many.
+      let yes : c.is_too_many.result ≡ true = (c.is_too_many.ensures.documents request
+      (documents_at segment taken ++ documents_at segment c.args.docs.now) sums).1 many in
+      cc
+
   -- the documents pass where none are too many
   passes : c.is_too_many.result ≡ false
       → Passes request segment taken visits c.args.self.now r c.args.docs.now c.add.new.self
@@ -42,10 +54,7 @@ module _ (g : given.Over) (c : After-is_too_many g) (request : Request QueryTree
     within = subst (λ s. All (λ doc. doc < length (documents_of s)) c.args.docs.now) r.reader
         c.requires.within;
     range = in_range;
-    few = λ many.
-        let yes : c.is_too_many.result ≡ true = (c.is_too_many.ensures.documents request
-        (documents_at segment taken ++ documents_at segment c.args.docs.now) sums).1 many in
-        cc;
+    few = few not;
     sums = sums;
   }
 
@@ -84,12 +93,29 @@ pub returns-then-is_too_many-clause-most : goal.returns-then-is_too_many-clause-
 returns-then-is_too_many-clause-most g c =
     few-none c.args.self.now c.args.docs.now c.args.steps.now
 
-pub take_blocks-requires : goal.take_blocks-requires
-take_blocks-requires g c =
-    let at = (goal.at.take_blocks-requires g c).After-is_too_many in
+pub take_blocks-requires-clause-may : goal.take_blocks-requires-clause-may
+take_blocks-requires-clause-may g c =
+    let at = (goal.at.take_blocks-requires-clause-may g c).After-is_too_many in
     let r = c.requires.right in
     may-take r.0 r.1 r.2 r.3 c.args.self.now r.4 c.args.docs.now c.add.new.self
     (passes g at r.0 r.1 r.2 r.3 r.4 c.if-is_too_many.false)
+
+pub returns-in_err-take_blocks-clause-cause : goal.returns-in_err-take_blocks-clause-cause
+returns-in_err-take_blocks-clause-cause g c =
+    let at = (goal.at.returns-in_err-take_blocks-clause-cause g c).After-is_too_many in
+    let pass : Pass c.args.self.now c.args.limits.now c.args.docs.now =
+    λ request segment taken visits r. (
+      in_range g at request segment taken visits r,
+      subst (λ ds. ¬ (CountsTooMany matches request ds))
+          (sym (map-append (document_at segment) taken c.args.docs.now))
+          (few g at request segment taken visits r c.if-is_too_many.false),
+    ) in
+    passed_on c.from_residual-in_err-take_blocks.result
+    (collect_error c.in_err-take_blocks.field-0.0)
+    (IsTreeCause c.args.docs.now c.args.self.now c.args.limits.now)
+    c.from_residual-in_err-take_blocks.ensures.1
+    (cause-charged c.args.self.now c.args.limits.now c.args.docs.now pass
+    c.in_err-take_blocks.field-0.0 c.in_err-take_blocks.ensures.cause)
 
 pub returns-in_err-take_blocks-clause-most : goal.returns-in_err-take_blocks-clause-most
 returns-in_err-take_blocks-clause-most g c =
@@ -104,8 +130,9 @@ returns-clause-ok g c =
           right-taken request segment taken visits c.args.self.now r c.args.docs.now
           c.add.new.self
           (passes g at request segment taken visits r c.if-is_too_many.false)
-          c.take_blocks.new.tree c.args.steps.now c.take_blocks.new.steps
-          c.in_ok-take_blocks.ensures.takes;
+          c.take_blocks.new.self c.args.steps.now c.take_blocks.new.steps
+          c.in_ok-take_blocks.ensures.takes c.in_ok-take_blocks.ensures.exact
+          c.in_ok-take_blocks.ensures.charges.fixed;
     }
 
 pub returns-clause-most : goal.returns-clause-most

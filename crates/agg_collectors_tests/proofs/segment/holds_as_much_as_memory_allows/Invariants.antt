@@ -1,0 +1,5 @@
+use Rattle.agg_collectors_tests.proofs.segment.holds_as_much_as_memory_allows.Given as goal
+
+-- the ledger is the one of the blank
+abbrev pub ghosts-expect_limits : goal.ghosts-expect_limits
+ghosts-expect_limits g a = record { name = a.blank.name; parts = a.blank.parts }
