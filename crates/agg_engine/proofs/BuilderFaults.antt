@@ -1,6 +1,7 @@
 -- Why a request is refused for one of its builders.
 use Rattle.std.proofs.Common.{◌≡◌, inl, inr, ℕ, List}
 use Rattle.std.proofs.Common.{Option, refl}
+use Rattle.agg_cache.specs.Limits.{Limits}
 use Rattle.agg_segment.specs.declared.query.QueryTree.{QueryTree}
 use Rattle.agg_request_tree.specs.Faults.{IsSoundRequest}
 use Rattle.agg_request_tree.specs.Request.{Request}
@@ -15,21 +16,21 @@ use Rattle.agg_engine.specs.Walk.{HaveRoom}
 use Rattle.agg_engine.specs.WalkError.{error_from_setup}
 
 -- what is wrong with the builders of a request that may be asked otherwise has its cause
-pub cause-built : {B : Type 0} (query_for : B → Option QueryTree) (limit : ℕ) (name : List ℕ)
+pub cause-built : {B : Type 0} (query_for : B → Option QueryTree) (limits : Limits) (name : List ℕ)
     (query : QueryTree) (request : Request B) (snapshots : List SnapshotDocuments)
     (given : SetupError) → IsOfBuilders given → IsSoundRequest request → HaveRoom snapshots
     → NamesComposite name request
     → (given ≡ setup.QueryBuild → SomeMakesNone query_for request)
-    → HasCause query_for limit name query request snapshots (error_from_setup given)
-cause-built query_for limit name query request snapshots setup.QueryBuild of sound room named
+    → HasCause query_for limits name query request snapshots (error_from_setup given)
+cause-built query_for limits name query request snapshots setup.QueryBuild of sound room named
     none = (sound, room, named, none refl)
-cause-built query_for limit name query request snapshots setup.OutOfMemory of sound room named
+cause-built query_for limits name query request snapshots setup.OutOfMemory of sound room named
     none = tt
-cause-built query_for limit name query request snapshots (setup.Invalid fault) (inl is) sound room
+cause-built query_for limits name query request snapshots (setup.Invalid fault) (inl is) sound room
     named none = cc is
-cause-built query_for limit name query request snapshots (setup.Invalid fault) (inr is) sound room
+cause-built query_for limits name query request snapshots (setup.Invalid fault) (inr is) sound room
     named none = cc is
-cause-built query_for limit name query request snapshots (setup.Aggregation part) (inl is) sound
+cause-built query_for limits name query request snapshots (setup.Aggregation part) (inl is) sound
     room named none = cc is
-cause-built query_for limit name query request snapshots (setup.Aggregation part) (inr is) sound
+cause-built query_for limits name query request snapshots (setup.Aggregation part) (inr is) sound
     room named none = cc is

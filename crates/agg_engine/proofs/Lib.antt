@@ -2,7 +2,9 @@ pub mod AfterKeys
 pub mod AscendingKeys
 pub mod BuilderFaults
 pub mod BuiltCounts
+pub mod BuiltRoofs
 pub mod ChangedCounts
+pub mod ExactRefusals
 pub mod MergedResults
 pub mod NamedPlaces
 pub mod NoNull

@@ -49,6 +49,10 @@ module _ {B : Type 0} (is_match : B → Fields → Bool) (of : B → QueryTree)
       → ¬ (HasStartOutOfRange request documents)
   none-built none out = none (range-made out)
 
+  pub few-built : ¬ (CountsTooMany matches made documents)
+      → ¬ (CountsTooMany is_match request documents)
+  few-built few many = few (many-made many)
+
   -- merged results of the built request are those of the request
   pub merged-built : (merged : Held) → StandsFor matches made documents merged
       → ¬ (HasStartOutOfRange made documents) → ¬ (CountsTooMany matches made documents)
@@ -56,5 +60,5 @@ module _ {B : Type 0} (is_match : B → Fields → Bool) (of : B → QueryTree)
   merged-built merged stand range few = record {
     stands = stands-built is_match of built request documents merged stand;
     range = none-built range;
-    few = λ many. few (many-made many);
+    few = few-built few;
   }

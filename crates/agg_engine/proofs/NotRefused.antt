@@ -1,44 +1,50 @@
--- Results that nothing refuses.
-use Rattle.std.proofs.Common.{◌≤◌, ℕ, List, Bool, ap, ◌∙◌, arith}
+-- Results that don't have to be refused.
+use Rattle.std.proofs.Common.{◌≤◌, ◌+◌, List, Bool, ap, ◌∙◌, subst, arith}
 use Rattle.agg_values.specs.Nothing.{NoneIs}
 use Rattle.agg_values.specs.declared.request_error.AggregationError.TheVariants as aggregation
+use Rattle.agg_cache.specs.Limits.{Limits}
 use Rattle.agg_column.specs.Document.{Fields}
-use Rattle.agg_request_tree.specs.Ranges.{HasStartOutOfRange}
+use Rattle.agg_segment.specs.declared.query.QueryTree.{QueryTree}
 use Rattle.agg_request_tree.specs.Request.{Request}
-use Rattle.agg_request_tree.specs.Uncut.{CountsTooMany}
 use Rattle.agg_final_results.specs.BucketCount.{results_buckets}
 use Rattle.agg_final_results.specs.declared.types.AggregationResults.{AggregationResults}
 use Rattle.agg_results.specs.Results.{AreResults}
-use Rattle.agg_engine.specs.Refusals.{AreRefused}
+use Rattle.agg_snapshot.specs.MemoryLimits.{HaveRoom, TellsMemory, low_roof_in}
+use Rattle.agg_engine.specs.Refusals.{HasToBeRefused, MayBeCounted}
+use Rattle.agg_engine.specs.Walk.{matching_among}
 use Rattle.agg_engine.specs.declared.walk.error.WalkError.TheVariants as error
 use Rattle.agg_engine.proofs.OneWalk.{AreResults-same}
 
--- with starts in range, few documents counted and no more buckets than the limit, results aren't
--- refused
-pub not-refused : {B : Type 0} (is_match : B → Fields → Bool) (limit : ℕ) (request : Request B)
-    (documents : List Fields) (r : AggregationResults) → AreResults is_match request documents r
-    → ¬ (HasStartOutOfRange request documents) → ¬ (CountsTooMany is_match request documents)
-    → results_buckets r ≤ limit → NoneIs (AreRefused is_match limit request documents)
-not-refused is_match limit request documents r is in_range few short error.BucketOutOfRange
-    refused = in_range refused
-not-refused is_match limit request documents r is in_range few short error.TooMany refused =
-    few refused.1
-not-refused is_match limit request documents r is in_range few short
-    (error.Aggregation (aggregation.BucketLimitExceeded given n)) refused =
-    let more = refused.3 in
-    let others = refused.4 in
-    let counted = others.2
-    ∙ ap results_buckets (AreResults-same is_match request documents others.0 r others.1 is) in
-    omega arith
-not-refused is_match limit request documents r is in_range few short
-    (error.Aggregation (aggregation.MemoryExceeded given n)) refused = refused
-not-refused is_match limit request documents r is in_range few short
-    (error.Aggregation (aggregation.DateHistogramParseError part)) refused = refused
-not-refused is_match limit request documents r is in_range few short (error.Invalid fault) refused =
-    refused
-not-refused is_match limit request documents r is in_range few short error.UnknownComposite
-    refused = refused
-not-refused is_match limit request documents r is in_range few short error.QueryBuild refused =
-    refused
-not-refused is_match limit request documents r is in_range few short error.OutOfMemory refused =
-    refused
+module _ {B : Type 0} (is_match : B → Fields → Bool) (limits : Limits) (query : QueryTree)
+    (request : Request B) (segments : List (List Fields))
+    (may : MayBeCounted is_match query request segments)
+    (room : HaveRoom is_match query request limits segments) (r : AggregationResults)
+    (is : AreResults is_match request (matching_among query segments) r)
+    (short : results_buckets r ≤ limits.bucket_limit) where
+  -- results don't have to be refused where they may be collected, each segment has room for its low
+  -- roof, and there are no more buckets than the limit
+  pub not-refused : NoneIs (HasToBeRefused is_match limits query request segments)
+  not-refused error.BucketOutOfRange refused = may.0 refused
+  not-refused error.TooMany refused = may.1 refused.1
+  not-refused (error.Aggregation (aggregation.MemoryExceeded told current)) refused =
+      let found = refused.1 in
+      let tells : TellsMemory limits.memory_limit
+      (limits.in_use + low_roof_in is_match query request found.1) 0 told current = found.4 in
+      let above = tells.above in
+      let most = tells.within in
+      let fits = subst (λ documents.
+      limits.in_use + low_roof_in is_match query request documents ≤ limits.memory_limit) found.3
+      (room found.0 found.1 found.2) in
+      omega arith
+  not-refused (error.Aggregation (aggregation.BucketLimitExceeded given n)) refused =
+      let more = refused.3 in
+      let others = refused.4 in
+      let counted = others.2
+      ∙ ap results_buckets (AreResults-same is_match request (matching_among query segments)
+      others.0 r others.1 is) in
+      omega arith
+  not-refused (error.Aggregation (aggregation.DateHistogramParseError part)) refused = refused
+  not-refused (error.Invalid fault) refused = refused
+  not-refused error.UnknownComposite refused = refused
+  not-refused error.QueryBuild refused = refused
+  not-refused error.OutOfMemory refused = refused

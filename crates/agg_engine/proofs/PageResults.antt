@@ -1,21 +1,27 @@
 -- What a call for the results of a page answers.
 use Rattle.std.proofs.Common.{◌≡◌, ◌≤◌, ◌⊎◌, ◌+◌, ◌*◌, ℕ, List, Bool, Option, Result, Ok, Err}
-use Rattle.std.proofs.Common.{IfErr}
-use Rattle.std.proofs.Common.{IfOk, OnOk, refl, sym, subst, arith, inl, inr}
+use Rattle.std.proofs.Common.{IfErr, IfOk, OnOk, map, refl, sym, subst, arith, inl, inr}
+use Rattle.std.specs.List.{All, Any}
 use Rattle.std.specs.Result.{IsErrAnd}
 use Rattle.std.proofs.lemmas.Result.{err_from_is_err_and}
 use Rattle.agg_values.specs.declared.request_error.AggregationError.TheVariants as aggregation
+use Rattle.agg_cache.specs.Limits.{Limits}
 use Rattle.agg_column.specs.Document.{Fields}
 use Rattle.agg_segment.specs.Query.{matches}
+use Rattle.agg_segment.specs.Segment.{Stored, documents_of}
 use Rattle.agg_segment.specs.declared.query.QueryTree.{QueryTree}
+use Rattle.agg_request_tree.specs.Ranges.{HasStartOutOfRange}
 use Rattle.agg_request_tree.specs.Request.{Request, with_builders}
+use Rattle.agg_request_tree.specs.Uncut.{CountsTooMany}
 use Rattle.agg_final_results.specs.BucketCount.{results_buckets}
 use Rattle.agg_final_results.specs.declared.types.AggregationResults.{AggregationResults}
 use Rattle.agg_intermediate_results.specs.Final.{final_results}
+use Rattle.agg_intermediate_results.specs.Intermediate.{Held}
 use Rattle.agg_intermediate_results.specs.Refusals.{HaveTooMany}
 use Rattle.agg_intermediate_results.specs.declared.results.IntermediateAggregationResults as held
 use held.{IntermediateAggregationResults}
 use Rattle.agg_results.specs.Results.{AreResults}
+use Rattle.agg_results.specs.StandsFor.{StandsFor}
 use Rattle.agg_segment_context.specs.Pages.{paged}
 use Rattle.agg_segment_context.specs.Trees.{AreTreesOf}
 use Rattle.agg_segment_context.specs.declared.params.Page.{Page}
@@ -24,16 +30,22 @@ use Rattle.agg_snapshot.specs.Asked.{IsAsked}
 use Rattle.agg_snapshot.specs.declared.context.PageRequest.{PageRequest}
 use Rattle.agg_snapshot.specs.declared.error.SnapshotError.{SnapshotError}
 use Rattle.agg_snapshot.specs.declared.error.SnapshotError.TheVariants as snapshot
-use Rattle.agg_snapshot.specs.Steps.{counted_of}
+use Rattle.agg_snapshot.specs.Documents.{matching_in}
+use Rattle.agg_snapshot.specs.MemoryLimits.{HaveRoom, TellsMemory}
+use Rattle.agg_snapshot.specs.Steps.{counted_of, past_named}
 use Rattle.agg_collectors.proofs.BuiltPages.{built-paged}
 use Rattle.agg_engine.specs.PageAnswers.{AnswersPage, IsFinalRefusal}
-use Rattle.agg_engine.specs.Refusals.{AreRefused}
+use Rattle.agg_engine.specs.Refusals.{MayBeRefused}
+use Rattle.agg_engine.specs.Walk.{matching_among}
 use Rattle.agg_engine.specs.WalkError.{error_from_snapshot}
 use Rattle.agg_engine.specs.declared.walk.error.WalkError.{WalkError}
 use Rattle.agg_engine.specs.declared.walk.error.WalkError.TheVariants as error
 use Rattle.agg_engine.proofs.BuiltCounts.{counted-built, past-built}
-use Rattle.agg_engine.proofs.MergedResults.{IsMergedOf, many-built, none-built, range-built}
+use Rattle.agg_engine.proofs.BuiltRoofs.{low_roof-built, roof-built}
+use Rattle.agg_engine.proofs.MergedResults.{IsMergedOf, few-built, many-built, merged-built}
+use Rattle.agg_engine.proofs.MergedResults.{none-built, range-built}
 use Rattle.agg_engine.proofs.ReachedPage.{fit-here, results-here}
+use Rattle.agg_engine.proofs.Snapshots.{matching_in-among}
 
 -- the request that a page asks, with the tree of each builder in its place
 pub asked-built : {B : Type 0} (page : PageRequest B) (made : B → QueryTree)
@@ -46,41 +58,86 @@ asked-built page made trees = record {
 }
 
 module _ {B : Type 0} (is_match : B → Fields → Bool) (of : B → QueryTree)
-    (built : (b : B) (d : Fields) → is_match b d ≡ matches (of b) d) (limit : ℕ)
-    (request : Request B) (page : Option Page) (documents : List Fields) (steps steps_now : ℕ)
-  where
-    -- the request with the page
-    abbrev now : Request B
-    now = paged page request
+    (built : (b : B) (d : Fields) → is_match b d ≡ matches (of b) d) (limits : Limits)
+    (query : QueryTree) (request : Request B) (page : Option Page) (stored : List Stored) where
+  -- the request with the page, and the built one
+  abbrev now : Request B
+  now = paged page request
 
+  abbrev made : Request QueryTree
+  made = with_builders of now
+
+  -- what the segments stand for, and the documents that match
+  abbrev segments : List (List Fields)
+  segments = map documents_of stored
+
+  abbrev documents : List Fields
+  documents = matching_among query segments
+
+  among : (P : List Fields → Type 0) → P (matching_in query stored) → P documents
+  among P = subst P (matching_in-among query stored)
+
+  -- merged results of the built request are those of the request
+  pub merged-page : (merged : Held) → StandsFor matches made (matching_in query stored) merged
+      → ¬ (HasStartOutOfRange made (matching_in query stored))
+      → ¬ (CountsTooMany matches made (matching_in query stored))
+      → IsMergedOf is_match now documents merged
+  merged-page merged stand range few =
+      among (λ ds. IsMergedOf is_match now ds merged)
+      (merged-built is_match of built now (matching_in query stored) merged stand range few)
+
+  -- each segment has room for its low roof
+  room-page : HaveRoom matches query made limits segments
+      → HaveRoom is_match query now limits segments
+  room-page =
+      subst (λ (low : List Fields → ℕ).
+      All (λ ds. limits.in_use + low ds ≤ limits.memory_limit) segments)
+      (low_roof-built is_match of built now query)
+
+  -- a refusal of the snapshot has its cause
+  cause-of : (given : SnapshotError) → IsRefusal made query stored limits given
+      → (error_from_snapshot given ≡ error.OutOfMemory)
+      ⊎ MayBeRefused is_match limits query now segments (error_from_snapshot given)
+  cause-of snapshot.BucketOutOfRange out =
+      inr (among (HasStartOutOfRange now)
+      (range-built is_match of built now (matching_in query stored) out))
+  cause-of snapshot.TooMany many =
+      inr (
+        among (λ ds. ¬ (HasStartOutOfRange now ds))
+            (none-built is_match of built now (matching_in query stored) many.0),
+        among (CountsTooMany is_match now)
+            (many-built is_match of built now (matching_in query stored) many.1),
+      )
+  cause-of (snapshot.MemoryExceeded told current) passed =
+      inr (
+        (
+          among (λ ds. ¬ (HasStartOutOfRange now ds))
+              (none-built is_match of built now (matching_in query stored) passed.0),
+          among (λ ds. ¬ (CountsTooMany is_match now ds))
+              (few-built is_match of built now (matching_in query stored) passed.1),
+        ),
+        subst (λ (bytes : List Fields → ℕ).
+            Any (λ ds. TellsMemory limits.memory_limit (limits.in_use + bytes ds) 0 told current)
+            segments) (roof-built is_match of built now query) passed.2,
+      )
+  cause-of snapshot.OutOfMemory none = inl refl
+
+  module _ (steps steps_now : ℕ) where
     abbrev Answers : Result AggregationResults WalkError → Type 0
-    Answers = AnswersPage is_match limit now documents steps steps_now
+    Answers = AnswersPage is_match limits query now segments steps steps_now
 
     abbrev Given : Result IntermediateAggregationResults SnapshotError → Type 0
-    Given = AnswersResults (with_builders of now) documents steps steps_now
+    Given = AnswersResults made (matching_in query stored) steps steps_now
 
     most-of : (given : Result IntermediateAggregationResults SnapshotError) → Given given
         → steps_now ≤ steps + 3 * counted_of is_match now documents
     most-of given answer =
-        let most = answer.most in
+        let most = among (λ ds. steps_now ≤ steps + 3 * counted_of matches made ds) answer.most in
         let same = counted-built is_match of built now documents in
         omega arith
 
-    -- a refusal of the snapshot has its cause
-    cause-of : (given : SnapshotError) → IsRefusal (with_builders of now) documents given
-        → (error_from_snapshot given ≡ error.OutOfMemory)
-        ⊎ AreRefused is_match limit now documents (error_from_snapshot given)
-    cause-of snapshot.BucketOutOfRange out =
-        inr (range-built is_match of built now documents out)
-    cause-of snapshot.TooMany many =
-        inr (
-          none-built is_match of built now documents many.0,
-          many-built is_match of built now documents many.1,
-        )
-    cause-of snapshot.OutOfMemory none = inl refl
-
     pub answers-refused : (given : SnapshotError)
-        → IsRefusal (with_builders of now) documents given → Given (Err given)
+        → IsRefusal made query stored limits given → Given (Err given)
         → (result : Result AggregationResults WalkError)
         → IsErrAnd result (λ e. e ≡ error_from_snapshot given) → Answers result
     answers-refused given refused answer result kept =
@@ -89,7 +146,8 @@ module _ {B : Type 0} (is_match : B → Fields → Bool) (of : B → QueryTree)
           results = tt;
           fits = tt;
           buckets = tt;
-          cause = subst (λ e. (e ≡ error.OutOfMemory) ⊎ AreRefused is_match limit now documents e)
+          cause = subst
+              (λ e. (e ≡ error.OutOfMemory) ⊎ MayBeRefused is_match limits query now segments e)
               (sym found.2) (cause-of given refused);
           least = λ name. tt;
           most = most-of (Err given) answer;
@@ -97,15 +155,17 @@ module _ {B : Type 0} (is_match : B → Fields → Bool) (of : B → QueryTree)
 
     -- merged results, and what is final of them
     module _ (merged : IntermediateAggregationResults)
-        (h : IsMergedOf is_match now documents merged.results) (answer : Given (Ok merged)) where
-      final-cause : (given : WalkError) → IsFinalRefusal limit request merged.results given
-          → (given ≡ error.OutOfMemory) ⊎ AreRefused is_match limit now documents given
+        (h : IsMergedOf is_match now documents merged.results)
+        (room : HaveRoom matches query made limits segments) (answer : Given (Ok merged)) where
+      final-cause : (given : WalkError)
+          → IsFinalRefusal limits.bucket_limit request merged.results given
+          → (given ≡ error.OutOfMemory) ⊎ MayBeRefused is_match limits query now segments given
       final-cause (error.Aggregation (aggregation.BucketLimitExceeded given n)) refused =
           let number = refused.1 in
           let more = refused.2 in
           inr (
-            h.range,
-            h.few,
+            (h.range, h.few),
+            room-page room,
             refused.0,
             omega arith,
             (
@@ -127,20 +187,24 @@ module _ {B : Type 0} (is_match : B → Fields → Bool) (of : B → QueryTree)
 
       pub answers-final : (result : Result AggregationResults WalkError)
           → IfOk result (λ results. results ≡ final_results request merged.results)
-          → OnOk result (¬ (HaveTooMany limit request merged.results))
-          → IfErr result (IsFinalRefusal limit request merged.results)
+          → OnOk result (¬ (HaveTooMany limits.bucket_limit request merged.results))
+          → IfErr result (IsFinalRefusal limits.bucket_limit request merged.results)
           → Answers result
       answers-final (Ok results) is fit refused =
-          let short : results_buckets (final_results request merged.results) ≤ limit =
+          let short : results_buckets (final_results request merged.results)
+          ≤ limits.bucket_limit =
           (let few = fit in omega arith) in
           record {
             results = subst (AreResults is_match now documents) (sym is)
                 (results-here is_match page request documents merged.results h);
-            fits = fit-here is_match page request documents merged.results h limit short;
-            buckets = subst (λ (r : AggregationResults). results_buckets r ≤ limit) (sym is) short;
+            fits = fit-here is_match limits query page request segments merged.results h
+                (room-page room) short;
+            buckets = subst (λ (r : AggregationResults). results_buckets r ≤ limits.bucket_limit)
+                (sym is) short;
             cause = tt;
             least = λ name.
-                let least = answer.least name in
+                let least = among (λ ds. steps + past_named name made ds ≤ steps_now)
+                (answer.least name) in
                 let same = past-built of name now documents in
                 omega arith;
             most = most-of (Ok merged) answer;

@@ -1,7 +1,9 @@
 -- The results of a page are what is final of its merged results, whatever the request.
-use Rattle.std.proofs.Common.{◌≤◌, ℕ, List, Bool, Option, subst}
+use Rattle.std.proofs.Common.{◌≤◌, List, Bool, Option, subst}
 use Rattle.agg_values.specs.Nothing.{NoneIs}
+use Rattle.agg_cache.specs.Limits.{Limits}
 use Rattle.agg_column.specs.Document.{Fields}
+use Rattle.agg_segment.specs.declared.query.QueryTree.{QueryTree}
 use Rattle.agg_request_tree.specs.Request.{Request}
 use Rattle.agg_final_results.specs.BucketCount.{results_buckets}
 use Rattle.agg_intermediate_results.specs.Final.{final_results}
@@ -12,8 +14,10 @@ use Rattle.agg_results.proofs.FinalResults.{StandsFor-final}
 use Rattle.agg_results.proofs.StandingRefusals.{StandsFor-known, StandsFor-shapes}
 use Rattle.agg_segment_context.specs.Pages.{paged}
 use Rattle.agg_segment_context.specs.declared.params.Page.{Page}
+use Rattle.agg_snapshot.specs.MemoryLimits.{HaveRoom}
 use Rattle.agg_collectors.proofs.PagedFinals.{final-paged, other-paged, unknown-paged}
-use Rattle.agg_engine.specs.Refusals.{AreRefused}
+use Rattle.agg_engine.specs.Refusals.{HasToBeRefused}
+use Rattle.agg_engine.specs.Walk.{matching_among}
 use Rattle.agg_engine.proofs.MergedResults.{IsMergedOf}
 use Rattle.agg_engine.proofs.NotRefused.{not-refused}
 
@@ -41,9 +45,15 @@ module _ {B : Type 0} (is_match : B → Fields → Bool) (page : Option Page) (r
       (final-paged request merged page)
       (StandsFor-final is_match (paged page request) documents merged h.stands)
 
-  -- which aren't refused where they have no more buckets than the limit
-  pub fit-here : (limit : ℕ) → results_buckets (final_results request merged) ≤ limit
-      → NoneIs (AreRefused is_match limit (paged page request) documents)
-  fit-here limit short =
-      not-refused is_match limit (paged page request) documents (final_results request merged)
-      results-here h.range h.few short
+-- they don't have to be refused where each segment has room for its low roof and they have no more
+-- buckets than the limit
+pub fit-here : {B : Type 0} (is_match : B → Fields → Bool) (limits : Limits) (query : QueryTree)
+    (page : Option Page) (request : Request B) (segments : List (List Fields)) (merged : Held)
+    → IsMergedOf is_match (paged page request) (matching_among query segments) merged
+    → HaveRoom is_match query (paged page request) limits segments
+    → results_buckets (final_results request merged) ≤ limits.bucket_limit
+    → NoneIs (HasToBeRefused is_match limits query (paged page request) segments)
+fit-here is_match limits query page request segments merged h room short =
+    not-refused is_match limits query (paged page request) segments (h.range, h.few) room
+    (final_results request merged)
+    (results-here is_match page request (matching_among query segments) merged h) short

@@ -1,7 +1,8 @@
 -- Snapshots, as what they stand for.
 use Rattle.std.proofs.Common.{◌≡◌, ◌≢◌, ◌==◌, ℕ, List, Option}
-use Rattle.std.proofs.Common.{◌<◌, arith, true, false, get_or, length, eq-eqb, sym, ap, subst, ◌∙◌}
-use Rattle.std.specs.List.{Any, filter, flat_map, list_any}
+use Rattle.std.proofs.Common.{◌<◌, arith, true, false, get_or, length, map, eq-eqb}
+use Rattle.std.proofs.Common.{sym, ap, subst, ◌∙◌}
+use Rattle.std.specs.List.{Any, filter, list_any}
 use Rattle.std.proofs.lemmas.Bool.Decides.{nat_tests}
 use Rattle.std.proofs.lemmas.List.{get_or-map, length-map}
 use Rattle.std.proofs.lemmas.List.Elements.{All-map}
@@ -17,7 +18,7 @@ use Rattle.agg_segment_context.specs.Trees.{EachMakesTree}
 use Rattle.agg_snapshot.specs.Documents.{matching_in}
 use Rattle.agg_engine.specs.NamedComposite.{IsCompositeNamed}
 use Rattle.agg_segment.specs.Snapshot.{SnapshotDocuments, snapshot_documents, snapshots_documents}
-use Rattle.agg_engine.specs.Walk.{HaveRoom, MayBeAsked, matching_documents}
+use Rattle.agg_engine.specs.Walk.{HaveRoom, MayBeAsked, matching_among}
 use Rattle.agg_segment.specs.declared.snapshot.Snapshot.{Snapshot}
 
 -- every page has room
@@ -76,11 +77,9 @@ room-at snapshots items others same other none at s within item zero =
     (eq-eqb (get_or items at s).page_size 0 empty) in
     cc (some, none)
 
--- the documents of a snapshot that match are those of its segments
-pub matching_documents-segments : (query : QueryTree) (snapshot : Snapshot)
-    (segments : List Stored) → segments ≡ snapshot.segments
-    → matching_in query segments ≡ matching_documents query (snapshot_documents snapshot)
-matching_documents-segments query snapshot segments same =
+-- the documents of segments that match, by what the segments stand for
+pub matching_in-among : (query : QueryTree) (stored : List Stored)
+    → matching_in query stored ≡ matching_among query (map documents_of stored)
+matching_in-among query stored =
     ap (filter (matches query))
-    (ap (flat_map documents_of) same
-    ∙ sym (flat_map-map (λ (documents : List Fields). documents) documents_of snapshot.segments))
+    (sym (flat_map-map (λ (documents : List Fields). documents) documents_of stored))

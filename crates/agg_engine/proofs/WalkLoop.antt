@@ -5,7 +5,9 @@ use Rattle.std.specs.List.Sorted.{IsStrictlySortedBy}
 use Rattle.std.specs.Map.{keys_of}
 use Rattle.std.proofs.lemmas.List.{drop_more, drop_all}
 use Rattle.agg_values.specs.Names.{Named, name_cmp}
+use Rattle.agg_values.specs.Nothing.{NoneIs}
 use Rattle.agg_values.specs.declared.after_key.AfterKey.{AfterKey}
+use Rattle.agg_cache.specs.Limits.{Limits}
 use Rattle.agg_column.specs.Document.{Fields}
 use Rattle.agg_segment.specs.declared.query.QueryTree.{QueryTree}
 use Rattle.agg_request_tree.specs.Faults.{IsSoundRequest}
@@ -18,6 +20,7 @@ use Rattle.agg_segment_context.specs.Pages.{paged, request_after}
 use Rattle.agg_segment_context.specs.declared.params.Page.{Page}
 use Rattle.agg_engine.specs.NamedComposite.{IsCompositeNamed}
 use Rattle.agg_engine.specs.PageAnswers.{MayGoOnFrom}
+use Rattle.agg_engine.specs.Refusals.{HasToRefuse}
 use Rattle.agg_segment.specs.Snapshot.{SnapshotDocuments, snapshot_documents, snapshots_documents}
 use Rattle.agg_engine.specs.Walk.{IsWalk}
 use Rattle.agg_segment.specs.declared.snapshot.Snapshot.{Snapshot}
@@ -34,12 +37,12 @@ pub record MayGoOn {B : Type 0} (name : List ℕ) (request : Request B)
   pub goes_on : MayGoOnFrom composite.sources after
 
 -- and the walk has come so far and goes on from the after key
-pub record IsWalking {B : Type 0} (is_match : B → Fields → Bool) (limit : ℕ) (name : List ℕ)
+pub record IsWalking {B : Type 0} (is_match : B → Fields → Bool) (limits : Limits) (name : List ℕ)
     (query : QueryTree) (request : Request B) (snapshots : List SnapshotDocuments)
     (composite : CompositeAggregation) (after : Named AfterKey) (rest : List SnapshotDocuments)
     (pages : List AggregationResults) : Type 0 where
   pub may : MayGoOn name request composite after
-  pub state : WalkState is_match limit name query request snapshots
+  pub state : WalkState is_match limits name query request snapshots
       (request_after name after request) rest pages
 
 -- before the first snapshot
@@ -54,16 +57,16 @@ may-start name request composite named sound ascend = record {
   goes_on = IsSound-sources composite (sound-named name composite request named sound);
 }
 
-pub walking-start : {B : Type 0} (is_match : B → Fields → Bool) (limit : ℕ) (name : List ℕ)
+pub walking-start : {B : Type 0} (is_match : B → Fields → Bool) (limits : Limits) (name : List ℕ)
     (query : QueryTree) (request : Request B) (snapshots : List SnapshotDocuments)
     (composite : CompositeAggregation) → MayGoOn name request composite composite.after
-    → IsWalking is_match limit name query request snapshots composite composite.after snapshots []
-walking-start {B = B} is_match limit name query request snapshots composite may = record {
+    → IsWalking is_match limits name query request snapshots composite composite.after snapshots []
+walking-start {B = B} is_match limits name query request snapshots composite may = record {
   may = may;
   state = subst (λ (now : Request B).
-      WalkState is_match limit name query request snapshots now snapshots [])
+      WalkState is_match limits name query request snapshots now snapshots [])
       (after-own name request composite may.names may.named)
-      (state-start is_match limit name query request snapshots);
+      (state-start is_match limits name query request snapshots);
 }
 
 -- the request of a page may be asked
@@ -77,14 +80,17 @@ page-sound name request composite size after page may room is =
     (here-sound name request composite may.names may.named size after may.sound room may.goes_on)
 
 -- after the last snapshot
-module _ {B : Type 0} {is_match : B → Fields → Bool} {limit : ℕ} {name : List ℕ}
+module _ {B : Type 0} {is_match : B → Fields → Bool} {limits : Limits} {name : List ℕ}
     {query : QueryTree} {request : Request B} {snapshots : List SnapshotDocuments}
     {composite : CompositeAggregation} {after : Named AfterKey} {pages : List AggregationResults}
-    (w : IsWalking is_match limit name query request snapshots composite after [] pages) where
+    (w : IsWalking is_match limits name query request snapshots composite after [] pages) where
   pub walking-out : IsWalk is_match name query request snapshots pages false
   walking-out =
-      state-out is_match limit name query request snapshots (request_after name after request)
+      state-out is_match limits name query request snapshots (request_after name after request)
       pages w.state
+
+  pub walking-out-fits : NoneIs (HasToRefuse is_match limits name query request snapshots)
+  walking-out-fits error refused = w.state.fits error refused
 
 -- ---- the places of the list of snapshots
 
@@ -104,3 +110,18 @@ module _ (P : List SnapshotDocuments → Type 0) (snapshots items : List Snapsho
   left-end past =
       subst (λ (rest : List Snapshot). P (snapshots_documents rest))
       (drop_all at snapshots (subst (λ (l : List Snapshot). length l ≤ at) same past)) left
+
+-- a walk over a list of snapshots comes to its end
+pub walking-end : {B : Type 0} {is_match : B → Fields → Bool} {limits : Limits} {name : List ℕ}
+    {query : QueryTree} {request : Request B} {all : List SnapshotDocuments}
+    {composite : CompositeAggregation} {after : Named AfterKey} {pages : List AggregationResults}
+    (snapshots items : List Snapshot) (at : ℕ)
+    → IsWalking is_match limits name query request all composite after
+    (snapshots_documents (drop at snapshots)) pages
+    → items ≡ snapshots → length items ≤ at
+    → IsWalking is_match limits name query request all composite after [] pages
+walking-end {is_match = is_match} {limits = limits} {name = name} {query = query}
+    {request = request} {all = all} {composite = composite} {after = after} {pages = pages}
+    snapshots items at walking same past =
+    left-end (λ rest. IsWalking is_match limits name query request all composite after rest pages)
+    snapshots items at walking same past

@@ -7,6 +7,7 @@ use Rattle.std.specs.Prelude.{unwrap_or}
 use Rattle.agg_values.specs.Names.{Named}
 use Rattle.agg_values.specs.Nothing.{NoneIs}
 use Rattle.agg_values.specs.declared.after_key.AfterKey.{AfterKey}
+use Rattle.agg_cache.specs.Limits.{Limits}
 use Rattle.agg_column.specs.Document.{Fields}
 use Rattle.agg_segment.specs.declared.query.QueryTree.{QueryTree}
 use Rattle.agg_request_tree.specs.Occurrences.{bound_of}
@@ -19,7 +20,7 @@ use Rattle.agg_segment_context.specs.Pages.{paged, request_after, request_at_siz
 use Rattle.agg_segment_context.specs.declared.params.Page.{Page}
 use Rattle.agg_snapshot.specs.Steps.{counted_of, past_named}
 use Rattle.agg_engine.specs.PageAnswers.{AnswersPage, IsShown, MayGoOnFrom}
-use Rattle.agg_engine.specs.Refusals.{IsRefused}
+use Rattle.agg_engine.specs.Refusals.{HasToRefuse}
 use Rattle.agg_segment.specs.Snapshot.{SnapshotDocuments}
 use Rattle.agg_engine.specs.Walk.{IsWalk, after_in, matching_documents}
 use Rattle.agg_engine.specs.declared.walk.error.WalkError.{WalkError}
@@ -47,38 +48,39 @@ some-shown None shown own is some = cc some
 some-shown (Some after) shown own is some = (is.0, λ none. is.1 (is.0 ∙ none))
 
 -- what a call for a page answers at a snapshot, where a request goes on from an after key
-abbrev pub AnswersAt : {B : Type 0} → (B → Fields → Bool) → ℕ → List ℕ → QueryTree → Request B
-    → Named AfterKey → SnapshotDocuments → ℕ → ℕ → Result AggregationResults WalkError → Type 0
-AnswersAt is_match limit name query request after s =
-    AnswersPage is_match limit (request_at_size name s.page_size (request_after name after request))
-    (matching_documents query s)
+abbrev pub AnswersAt : {B : Type 0} → (B → Fields → Bool) → Limits → List ℕ → QueryTree
+    → Request B → Named AfterKey → SnapshotDocuments → ℕ → ℕ
+    → Result AggregationResults WalkError → Type 0
+AnswersAt is_match limits name query request after s =
+    AnswersPage is_match limits query
+    (request_at_size name s.page_size (request_after name after request)) s.segments
 
--- the page is set, and the documents of its segments are those of the snapshot
-pub answers-at : {B : Type 0} (is_match : B → Fields → Bool) (limit : ℕ) (name : List ℕ)
+-- the page is set, and its segments are those of the snapshot
+pub answers-at : {B : Type 0} (is_match : B → Fields → Bool) (limits : Limits) (name : List ℕ)
     (query : QueryTree) (request : Request B) (after given : Named AfterKey)
-    (s : SnapshotDocuments) (page : Option Page) (documents : List Fields) (steps steps_now : ℕ)
-    (result : Result AggregationResults WalkError)
+    (s : SnapshotDocuments) (page : Option Page) (segments : List (List Fields))
+    (steps steps_now : ℕ) (result : Result AggregationResults WalkError)
     → page ≡ Some (record { name = name; size = s.page_size; after = given }) → given ≡ after
-    → documents ≡ matching_documents query s
-    → AnswersPage is_match limit (paged page request) documents steps steps_now result
-    → AnswersAt is_match limit name query request after s steps steps_now result
-answers-at is_match limit name query request after given s page documents steps steps_now result
+    → segments ≡ s.segments
+    → AnswersPage is_match limits query (paged page request) segments steps steps_now result
+    → AnswersAt is_match limits name query request after s steps steps_now result
+answers-at is_match limits name query request after given s page segments steps steps_now result
     page_is given_is are answer =
-    subst (λ k. AnswersAt is_match limit name query request k s steps steps_now result) given_is
-    (subst (λ ds. AnswersPage is_match limit
-    (request_at_size name s.page_size (request_after name given request)) ds steps steps_now result)
-    are
-    (subst (λ (p : Option Page). AnswersPage is_match limit (paged p request) documents steps
+    subst (λ k. AnswersAt is_match limits name query request k s steps steps_now result) given_is
+    (subst (λ all. AnswersPage is_match limits query
+    (request_at_size name s.page_size (request_after name given request)) all steps steps_now
+    result) are
+    (subst (λ (p : Option Page). AnswersPage is_match limits query (paged p request) segments steps
     steps_now result) page_is answer))
 
 -- ---- the steps of a page
 
-module _ {B : Type 0} (is_match : B → Fields → Bool) (limit : ℕ) (name : List ℕ)
+module _ {B : Type 0} (is_match : B → Fields → Bool) (limits : Limits) (name : List ℕ)
     (query : QueryTree) (request : Request B) (after : Named AfterKey) (s : SnapshotDocuments)
     (steps steps_now : ℕ) where
   -- at most three for each document that the request counts
   pub page-most : (result : Result AggregationResults WalkError)
-      → AnswersAt is_match limit name query request after s steps steps_now result
+      → AnswersAt is_match limits name query request after s steps steps_now result
       → steps_now ≤ steps + 3 * counted_of is_match request (matching_documents query s)
   page-most result answer =
       let most = answer.most in
@@ -87,7 +89,7 @@ module _ {B : Type 0} (is_match : B → Fields → Bool) (limit : ℕ) (name : L
 
   -- an Ok has at least one for each occurrence past its bound
   pub page-least : (results : AggregationResults)
-      → AnswersAt is_match limit name query request after s steps steps_now (Ok results)
+      → AnswersAt is_match limits name query request after s steps steps_now (Ok results)
       → steps + past_named name (request_after name after request) (matching_documents query s)
       ≤ steps_now
   page-least results answer =
@@ -98,21 +100,21 @@ module _ {B : Type 0} (is_match : B → Fields → Bool) (limit : ℕ) (name : L
 
 -- ---- after a page
 
-module _ {B : Type 0} {is_match : B → Fields → Bool} {limit : ℕ} {name : List ℕ}
+module _ {B : Type 0} {is_match : B → Fields → Bool} {limits : Limits} {name : List ℕ}
     {query : QueryTree} {request : Request B} {snapshots : List SnapshotDocuments}
     {composite : CompositeAggregation} {after : Named AfterKey} {s : SnapshotDocuments}
     {rest : List SnapshotDocuments} {pages : List AggregationResults}
-    (w : IsWalking is_match limit name query request snapshots composite after (s ∷ rest) pages)
+    (w : IsWalking is_match limits name query request snapshots composite after (s ∷ rest) pages)
     {before later : ℕ} {results : AggregationResults}
-    (answer : AnswersAt is_match limit name query request after s before later (Ok results)) where
+    (answer : AnswersAt is_match limits name query request after s before later (Ok results)) where
   -- the request as it goes on
   abbrev now : Request B
   now = request_after name after request
 
   -- the pages with this one have no more buckets than the limit
-  pub walking-few : All (λ p. results_buckets p ≤ limit) (pages ++ results ∷ [])
+  pub walking-few : All (λ p. results_buckets p ≤ limits.bucket_limit) (pages ++ results ∷ [])
   walking-few =
-      few-more is_match limit name query request snapshots now s rest pages w.state results
+      few-more is_match limits name query request snapshots now s rest pages w.state results
       answer.results answer.fits answer.buckets
 
   -- a composite goes on from the key that its page shows
@@ -139,21 +141,21 @@ module _ {B : Type 0} {is_match : B → Fields → Bool} {limit : ℕ} {name : L
     pub walking-ended : is_some next ≡ false
         → IsWalk is_match name query request snapshots (pages ++ results ∷ []) true
     walking-ended none =
-        state-ended is_match limit name query request snapshots now s rest pages w.state results
+        state-ended is_match limits name query request snapshots now s rest pages w.state results
         answer.results answer.fits answer.buckets (none-shown next (after_in name results) next_is
         none)
 
     pub walking-ended-fits : is_some next ≡ false
-        → NoneIs (IsRefused is_match limit name query request snapshots)
+        → NoneIs (HasToRefuse is_match limits name query request snapshots)
     walking-ended-fits none =
-        state-ended-fits is_match limit name query request snapshots now s rest pages w.state
+        state-ended-fits is_match limits name query request snapshots now s rest pages w.state
         results answer.results answer.fits answer.buckets (none-shown next (after_in name results)
         next_is none)
 
     -- a full page
     pub walking-more : All HasNoNull (matching_documents query s) → (own : Named AfterKey)
         → is_some next ≡ true
-        → IsWalking is_match limit name query request snapshots composite (unwrap_or next own)
+        → IsWalking is_match limits name query request snapshots composite (unwrap_or next own)
         rest (pages ++ results ∷ [])
     walking-more no_null own some =
         let key = some-shown next (after_in name results) own next_is some in
@@ -164,11 +166,11 @@ module _ {B : Type 0} {is_match : B → Fields → Bool} {limit : ℕ} {name : L
             sound = w.may.sound;
             goes_on = subst (MayGoOnFrom composite.sources) (sym key.0) (goes_on no_null key.1);
           };
-          state = subst (λ (r : Request B). WalkState is_match limit name query request snapshots r
+          state = subst (λ (r : Request B). WalkState is_match limits name query request snapshots r
               rest (pages ++ results ∷ []))
               (later-key name request after (after_in name results)
               ∙ ap (λ k. request_after name k request) (sym key.0))
-              (state-more is_match limit name query request snapshots now s rest pages w.state
+              (state-more is_match limits name query request snapshots now s rest pages w.state
               results answer.results answer.fits answer.buckets key.1);
         }
 
@@ -186,6 +188,6 @@ module _ {B : Type 0} {is_match : B → Fields → Bool} {limit : ℕ} {name : L
         ∙ ap (λ k. request_after name k request) (sym key.0))
         (counting-more is_match name query request snapshots now s rest pages done steps before
         later counting
-        (page-most is_match limit name query request after s before later (Ok results) answer)
-        results (page-least is_match limit name query request after s before later results answer)
+        (page-most is_match limits name query request after s before later (Ok results) answer)
+        results (page-least is_match limits name query request after s before later results answer)
         answer.results key.1)

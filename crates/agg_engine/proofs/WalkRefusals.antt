@@ -6,6 +6,7 @@ use Rattle.std.proofs.lemmas.Result.{err_from_is_err_and}
 use Rattle.agg_values.specs.Names.{Named}
 use Rattle.agg_values.specs.declared.after_key.AfterKey.{AfterKey}
 use Rattle.agg_values.specs.declared.request_error.AggregationError.TheVariants as aggregation
+use Rattle.agg_cache.specs.Limits.{Limits}
 use Rattle.agg_column.specs.Document.{Fields}
 use Rattle.agg_segment.specs.declared.query.QueryTree.{QueryTree}
 use Rattle.agg_request_tree.specs.Matching.{built_matches}
@@ -14,7 +15,7 @@ use Rattle.agg_request_tree.specs.declared.aggregation.CompositeAggregation.{Com
 use Rattle.agg_final_results.specs.declared.types.AggregationResults.{AggregationResults}
 use Rattle.agg_segment_context.specs.Pages.{request_after}
 use Rattle.agg_engine.specs.PageAnswers.{AnswersPage}
-use Rattle.agg_engine.specs.Refusals.{AreRefused, AreRefusedAt, HasCause, IsRefused}
+use Rattle.agg_engine.specs.Refusals.{HasCause, MayBeRefused, MayBeRefusedAt, MayRefuse}
 use Rattle.agg_segment.specs.Snapshot.{SnapshotDocuments}
 use Rattle.agg_engine.specs.Walk.{MayBeAsked}
 use Rattle.agg_engine.specs.declared.walk.error.WalkError.{WalkError}
@@ -31,49 +32,51 @@ caused-by P result given kept cause =
     subst (λ r. IfErr r P) (sym found.1) (subst P (sym found.2) cause)
 
 -- at a snapshot
-module _ {B : Type 0} {query_for : B → Option QueryTree} {limit : ℕ} {name : List ℕ}
+module _ {B : Type 0} {query_for : B → Option QueryTree} {limits : Limits} {name : List ℕ}
     {query : QueryTree} {request : Request B} {snapshots : List SnapshotDocuments}
     {composite : CompositeAggregation} {after : Named AfterKey} {s : SnapshotDocuments}
     {rest : List SnapshotDocuments} {pages : List AggregationResults}
-    (w : IsWalking (built_matches query_for) limit name query request snapshots composite after
+    (w : IsWalking (built_matches query_for) limits name query request snapshots composite after
     (s ∷ rest) pages) (asked : MayBeAsked query_for name request snapshots) where
   abbrev Refused : WalkError → Type 0
   Refused =
-      AreRefusedAt (built_matches query_for) limit name query (request_after name after request) s
+      MayBeRefusedAt (built_matches query_for) limits name query
+      (request_after name after request) s
 
   refused : (given : WalkError) → Refused given
       → MayBeAsked query_for name request snapshots
-      × IsRefused (built_matches query_for) limit name query request snapshots given
+      × MayRefuse (built_matches query_for) limits name query request snapshots given
   refused given is = (
     asked,
-    state-refused (built_matches query_for) limit name query request snapshots
+    state-refused (built_matches query_for) limits name query request snapshots
         (request_after name after request) s rest pages w.state given is,
   )
 
   -- what a call for its page answers has its cause in the walk
   cause-page : (given : WalkError) → (given ≡ error.OutOfMemory) ⊎ Refused given
-      → HasCause query_for limit name query request snapshots given
+      → HasCause query_for limits name query request snapshots given
   cause-page given (inr is) = by given is
     where
       by : (given : WalkError) → Refused given
-          → HasCause query_for limit name query request snapshots given
+          → HasCause query_for limits name query request snapshots given
       by error.OutOfMemory is = tt
       by error.BucketOutOfRange is = refused error.BucketOutOfRange is
       by error.TooMany is = refused error.TooMany is
       by (error.Aggregation (aggregation.BucketLimitExceeded l n)) is =
           refused (error.Aggregation (aggregation.BucketLimitExceeded l n)) is
-      by (error.Aggregation (aggregation.MemoryExceeded l n)) is = absurd is
+      by (error.Aggregation (aggregation.MemoryExceeded l n)) is =
+          refused (error.Aggregation (aggregation.MemoryExceeded l n)) is
       by (error.Aggregation (aggregation.DateHistogramParseError part)) is = absurd is
       by (error.Invalid fault) is = absurd is
       by error.UnknownComposite is = absurd is
       by error.QueryBuild is = absurd is
   cause-page given (inl is) =
-      subst (HasCause query_for limit name query request snapshots) (sym is) tt
+      subst (HasCause query_for limits name query request snapshots) (sym is) tt
 
   pub cause-answer : {before later : ℕ} (given : WalkError)
-      → AnswersAt (built_matches query_for) limit name query request after s before later
+      → AnswersAt (built_matches query_for) limits name query request after s before later
       (Err given)
-      → HasCause query_for limit name query request snapshots given
+      → HasCause query_for limits name query request snapshots given
   cause-answer given answer = cause-page given answer.cause
 
 -- ---- what comes before any snapshot
@@ -86,9 +89,10 @@ IsFirst error.QueryBuild = ⊤
 IsFirst (error.Aggregation (aggregation.DateHistogramParseError part)) = ⊤
 IsFirst _ = ⊥
 
-module _ {B : Type 0} (is_match : B → Fields → Bool) (limit : ℕ) (request : Request B)
-    (documents : List Fields) where
-  not-refused_first : (given : WalkError) → AreRefused is_match limit request documents given
+module _ {B : Type 0} (is_match : B → Fields → Bool) (limits : Limits) (query : QueryTree)
+    (request : Request B) (segments : List (List Fields)) where
+  not-refused_first : (given : WalkError)
+      → MayBeRefused is_match limits query request segments given
       → ¬ (IsFirst given)
   not-refused_first (error.Invalid fault) refused first = refused
   not-refused_first error.UnknownComposite refused first = refused
@@ -104,7 +108,7 @@ module _ {B : Type 0} (is_match : B → Fields → Bool) (limit : ℕ) (request 
   -- a call for a page answers none
   pub not-first : {T : Type 0} {before later : ℕ} (result : Result T WalkError)
       (given named : WalkError)
-      → AnswersPage is_match limit request documents before later (Err given)
+      → AnswersPage is_match limits query request segments before later (Err given)
       → IsErrAnd result (λ e. e ≡ given) → IsErrOf result named → ¬ (IsFirst named)
   not-first result given named answer kept is first =
       let found = err_from_is_err_and result kept in

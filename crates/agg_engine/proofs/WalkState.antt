@@ -6,31 +6,33 @@ use Rattle.std.proofs.lemmas.List.Elements.{All-nil, All-push}
 use Rattle.agg_values.specs.Names.{Named}
 use Rattle.agg_values.specs.Nothing.{NoneIs}
 use Rattle.agg_values.specs.declared.after_key.AfterKey.{AfterKey}
+use Rattle.agg_cache.specs.Limits.{Limits}
 use Rattle.agg_column.specs.Document.{Fields}
 use Rattle.agg_segment.specs.declared.query.QueryTree.{QueryTree}
 use Rattle.agg_request_tree.specs.Request.{Request}
 use Rattle.agg_final_results.specs.BucketCount.{results_buckets}
 use Rattle.agg_final_results.specs.declared.types.AggregationResults.{AggregationResults}
 use Rattle.agg_segment_context.specs.Pages.{request_after}
-use Rattle.agg_engine.specs.Refusals.{AreRefusedAt, IsRefused}
+use Rattle.agg_engine.specs.Refusals.{HasToBeRefusedAt, HasToRefuse, MayBeRefusedAt}
+use Rattle.agg_engine.specs.Refusals.{MayRefuse}
 use Rattle.agg_segment.specs.Snapshot.{SnapshotDocuments}
 use Rattle.agg_engine.specs.Walk.{AreResultsAt, IfFull, IsWalk, after_in}
 use Rattle.agg_engine.specs.declared.walk.error.WalkError.{WalkError}
 use Rattle.agg_engine.proofs.OneWalk.{results-same}
 
 -- the pages so far, and how the walk of the snapshots that are left goes on with a request
-pub record WalkState {B : Type 0} (is_match : B → Fields → Bool) (limit : ℕ) (name : List ℕ)
-    (query : QueryTree) (request : Request B) (snapshots : List SnapshotDocuments)
+pub record WalkState {B : Type 0} (is_match : B → Fields → Bool) (limits : Limits)
+    (name : List ℕ) (query : QueryTree) (request : Request B) (snapshots : List SnapshotDocuments)
     (now : Request B) (rest : List SnapshotDocuments) (pages : List AggregationResults)
     : Type 0 where
-  pub few : All (λ page. results_buckets page ≤ limit) pages
+  pub few : All (λ page. results_buckets page ≤ limits.bucket_limit) pages
   pub goes_on : (more : List AggregationResults) (ended : Bool)
       → IsWalk is_match name query now rest more ended
       → IsWalk is_match name query request snapshots (pages ++ more) ended
-  pub fits : (error : WalkError) → IsRefused is_match limit name query request snapshots error
-      → IsRefused is_match limit name query now rest error
-  pub reaches : (error : WalkError) → IsRefused is_match limit name query now rest error
-      → IsRefused is_match limit name query request snapshots error
+  pub fits : (error : WalkError) → HasToRefuse is_match limits name query request snapshots error
+      → HasToRefuse is_match limits name query now rest error
+  pub reaches : (error : WalkError) → MayRefuse is_match limits name query now rest error
+      → MayRefuse is_match limits name query request snapshots error
 
 -- a full page goes on
 pub full : (after : Named AfterKey) (WithRoom Full : Type 0) → after ≢ [] → Full
@@ -38,16 +40,16 @@ pub full : (after : Named AfterKey) (WithRoom Full : Type 0) → after ≢ [] �
 full [] WithRoom Full some goes_on = absurd (some refl)
 full (k ∷ after) WithRoom Full some goes_on = goes_on
 
-module _ {B : Type 0} (is_match : B → Fields → Bool) (limit : ℕ) (name : List ℕ)
+module _ {B : Type 0} (is_match : B → Fields → Bool) (limits : Limits) (name : List ℕ)
     (query : QueryTree) (request : Request B) (snapshots : List SnapshotDocuments) where
   -- how far the walk has come
   abbrev pub State : Request B → List SnapshotDocuments → List AggregationResults → Type 0
-  State = WalkState is_match limit name query request snapshots
+  State = WalkState is_match limits name query request snapshots
 
   -- before the first snapshot
   pub state-start : State request snapshots []
   state-start = record {
-    few = All-nil (λ page. results_buckets page ≤ limit);
+    few = All-nil (λ page. results_buckets page ≤ limits.bucket_limit);
     goes_on = λ more ended walk. walk;
     fits = λ error refused. refused;
     reaches = λ error refused. refused;
@@ -63,34 +65,34 @@ module _ {B : Type 0} (is_match : B → Fields → Bool) (limit : ℕ) (name : L
 
     module _ (s : SnapshotDocuments) (rest : List SnapshotDocuments)
         (pages : List AggregationResults) (state : State now (s ∷ rest) pages) where
-      -- the results of the next snapshot are refused
+      -- the request may be refused at the next snapshot
       pub state-refused : (error : WalkError)
-          → AreRefusedAt is_match limit name query now s error
-          → IsRefused is_match limit name query request snapshots error
+          → MayBeRefusedAt is_match limits name query now s error
+          → MayRefuse is_match limits name query request snapshots error
       state-refused error refused = state.reaches error (inl refused)
 
       module _ (r : AggregationResults) (is : AreResultsAt is_match name query now s r)
-          (fit : NoneIs (AreRefusedAt is_match limit name query now s))
-          (short : results_buckets r ≤ limit) where
+          (fit : NoneIs (HasToBeRefusedAt is_match limits name query now s))
+          (short : results_buckets r ≤ limits.bucket_limit) where
         -- the request after this page
         abbrev pub next : Request B
         next = request_after name (after_in name r) now
 
         -- the pages with this one have no more buckets than the limit
-        pub few-more : All (λ p. results_buckets p ≤ limit) (pages ++ r ∷ [])
-        few-more = All-push (λ p. results_buckets p ≤ limit) pages r state.few short
+        pub few-more : All (λ p. results_buckets p ≤ limits.bucket_limit) (pages ++ r ∷ [])
+        few-more = All-push (λ p. results_buckets p ≤ limits.bucket_limit) pages r state.few short
 
         -- a refusal from here on comes after this page
         refused-goes_on : (error : WalkError)
-            → IsRefused is_match limit name query now (s ∷ rest) error
-            → (after_in name r ≢ []) × IsRefused is_match limit name query next rest error
+            → HasToRefuse is_match limits name query now (s ∷ rest) error
+            → (after_in name r ≢ []) × HasToRefuse is_match limits name query next rest error
         refused-goes_on error refused =
             elim refused [
               | inl h ↦ absurd (fit error h)
               | inr h ↦
                   let same = results-same is_match name query now s h.1.0 r h.1.1 is in (
                     subst (λ p. after_in name p ≢ []) same h.1.2,
-                    subst (λ p. IsRefused is_match limit name query
+                    subst (λ p. HasToRefuse is_match limits name query
                         (request_after name (after_in name p) now) rest error) same h.1.3,
                   )
             ]
@@ -108,7 +110,7 @@ module _ {B : Type 0} (is_match : B → Fields → Bool) (limit : ℕ) (name : L
             )
 
         pub state-ended-fits : after_in name r ≡ []
-            → NoneIs (IsRefused is_match limit name query request snapshots)
+            → NoneIs (HasToRefuse is_match limits name query request snapshots)
         state-ended-fits none error refused =
             (refused-goes_on error (state.fits error refused)).0 none
 

@@ -4,6 +4,7 @@ use Rattle.std.specs.Prelude.{All, IfErr, IfOk, MatchOption, OnOk, ⊤}
 use Rattle.agg_values.specs.Names.{Named}
 use Rattle.agg_values.specs.Nothing.{NoneIs}
 use Rattle.agg_values.specs.declared.after_key.AfterKey.{AfterKey}
+use Rattle.agg_cache.specs.Limits.{Limits}
 use Rattle.agg_column.specs.Document.{Fields}
 use Rattle.agg_segment.specs.declared.query.QueryTree.{QueryTree}
 use Rattle.agg_request_tree.specs.Faults.{IsSoundSource}
@@ -19,7 +20,8 @@ use Rattle.agg_segment_context.specs.Pages.{paged}
 use Rattle.agg_segment_context.specs.Trees.{AreTreesOf, built_tree}
 use Rattle.agg_snapshot.specs.declared.context.PageRequest.{PageRequest}
 use Rattle.agg_snapshot.specs.Steps.{counted_of, past_named}
-use Rattle.agg_engine.specs.Refusals.{AreRefused}
+use Rattle.agg_engine.specs.Refusals.{HasToBeRefused, MayBeRefused}
+use Rattle.agg_engine.specs.Walk.{matching_among}
 use Rattle.agg_engine.specs.declared.walk.error.WalkError.{WalkError}
 use Rattle.agg_engine.specs.declared.walk.error.WalkError.TheVariants.{Aggregation, OutOfMemory}
 
@@ -27,30 +29,31 @@ use Rattle.agg_engine.specs.declared.walk.error.WalkError.TheVariants.{Aggregati
 abbrev pub MayGoOnFrom : Sources → Named AfterKey → Type 0
 MayGoOnFrom sources after = All (λ source. IsSoundSource source (after_of after source)) sources
 
--- what a call for the results of a request over documents answers: an Ok has them, they are not
--- refused, and there is a step or more for each occurrence past the bound of a composite at the
--- top; an error has its cause, or memory ran out; whatever is answered, there are at most three
+-- what a call for the results of a request over segments answers: an Ok has them, they don't have
+-- to be refused, and there is a step or more for each occurrence past the bound of a composite at
+-- the top; an error has its cause, or memory ran out; whatever is answered, there are at most three
 -- steps for each document that composites count
-pub record AnswersPage {B : Type 0} (is_match : B → Fields → Bool) (limit : ℕ)
-    (request : Request B) (documents : List Fields) (steps steps_now : ℕ)
-    (result : Result AggregationResults WalkError) : Type 0 where
-  pub results : IfOk result (AreResults is_match request documents)
-  pub fits : OnOk result (NoneIs (AreRefused is_match limit request documents))
-  pub buckets : IfOk result (λ results. results_buckets results ≤ limit)
-  pub cause : IfErr result
-      (λ error. (error ≡ OutOfMemory) ⊎ AreRefused is_match limit request documents error)
+pub record AnswersPage {B : Type 0} (is_match : B → Fields → Bool) (limits : Limits)
+    (query : QueryTree) (request : Request B) (segments : List (List Fields))
+    (steps steps_now : ℕ) (result : Result AggregationResults WalkError) : Type 0 where
+  pub results : IfOk result (AreResults is_match request (matching_among query segments))
+  pub fits : OnOk result (NoneIs (HasToBeRefused is_match limits query request segments))
+  pub buckets : IfOk result (λ results. results_buckets results ≤ limits.bucket_limit)
+  pub cause : IfErr result (λ error.
+      (error ≡ OutOfMemory) ⊎ MayBeRefused is_match limits query request segments error)
   pub least : (name : List ℕ)
-      → OnOk result (steps + past_named name request documents ≤ steps_now)
-  pub most : steps_now ≤ steps + 3 * counted_of is_match request documents
+      → OnOk result
+      (steps + past_named name request (matching_among query segments) ≤ steps_now)
+  pub most : steps_now ≤ steps + 3 * counted_of is_match request (matching_among query segments)
 
 -- the same of a page that is asked, whatever queries its builders made
-abbrev pub AnswersAsked : {B : Type 0} → PageRequest B → ℕ → List Fields → ℕ → ℕ
+abbrev pub AnswersAsked : {B : Type 0} → PageRequest B → Limits → List (List Fields) → ℕ → ℕ
     → Result AggregationResults WalkError → Type 0
-AnswersAsked {B = B} page limit documents steps steps_now result =
+AnswersAsked {B = B} page limits segments steps steps_now result =
     (query_for : B → Option QueryTree)
     → AreTreesOf (built_tree query_for) page.request.now page.params.now.trees
-    → AnswersPage (built_matches query_for) limit (paged page.params.now.page page.request.now)
-    documents steps steps_now result
+    → AnswersPage (built_matches query_for) limits page.query.now
+    (paged page.params.now.page page.request.now) segments steps steps_now result
 
 -- whether there is a next after key, and that it is the one that is shown
 abbrev pub IsShown : Option (Named AfterKey) → Named AfterKey → Type 0

@@ -26,13 +26,17 @@ use final.FilterBucketResult.{FilterBucketResult}
 use Rattle.agg_results.specs.Results.{AreResults}
 use Rattle.agg_segment.specs.Snapshot.{SnapshotDocuments}
 
+-- the documents of segments, joined, that a query matches
+abbrev pub matching_among : QueryTree → List (List Fields) → List Fields
+matching_among query segments = filter (matches query) (flat_map (λ documents. documents) segments)
+
 -- the documents of a snapshot: those of its segments, joined
 abbrev pub documents_in : SnapshotDocuments → List Fields
 documents_in snapshot = flat_map (λ documents. documents) snapshot.segments
 
 -- the documents of a snapshot that a query matches
 abbrev pub matching_documents : QueryTree → SnapshotDocuments → List Fields
-matching_documents query snapshot = filter (matches query) (documents_in snapshot)
+matching_documents query snapshot = matching_among query snapshot.segments
 
 -- ---- after keys
 

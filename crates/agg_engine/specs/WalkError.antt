@@ -72,4 +72,6 @@ error_from_setup setup.OutOfMemory = OutOfMemory
 abbrev pub error_from_snapshot : SnapshotError → WalkError
 error_from_snapshot snapshot.BucketOutOfRange = BucketOutOfRange
 error_from_snapshot snapshot.TooMany = TooMany
+error_from_snapshot (snapshot.MemoryExceeded limit current) =
+    Aggregation (aggregation.MemoryExceeded limit current)
 error_from_snapshot snapshot.OutOfMemory = OutOfMemory

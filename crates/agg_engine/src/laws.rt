@@ -1,17 +1,22 @@
 //! What holds of walks, as their definition says it.
-ghost use Rattle.std.specs.Prelude.{◌≡◌, ◌≢◌, ◌↔◌, ℕ, List, [], Bool, false, length};
+ghost use Rattle.std.specs.Prelude.{◌≡◌, ◌≢◌, ◌↔◌, ℕ, List, [], Bool, false, All, filter, length};
 ghost use Rattle.agg_values.specs.Tuple.{KeyTuple};
+ghost use Rattle.agg_cache.specs.Limits.{Limits};
 ghost use Rattle.agg_column.specs.Document.{Fields};
+ghost use Rattle.agg_segment.specs.Query.{matches};
 ghost use Rattle.agg_segment.specs.declared.query.QueryTree.{QueryTree};
 ghost use Rattle.agg_request_tree.specs.Occurrences.{bound_of};
 ghost use Rattle.agg_request_tree.specs.Page.{Entry, IsPage};
 ghost use Rattle.agg_request_tree.specs.Request.{Request};
 ghost use Rattle.agg_request_tree.specs.declared.aggregation.CompositeAggregation as composites;
+ghost use Rattle.agg_charges.specs.Roof.{IsSettled};
 ghost use Rattle.agg_final_results.specs.declared.types.AggregationResults.{AggregationResults};
 ghost use Rattle.agg_results.specs.Results.{AreResults};
 ghost use Rattle.agg_engine.specs.NamedComposite.{IsCompositeNamed};
+ghost use Rattle.agg_engine.specs.Refusals.{HasToBeRefused, HasToRefuse, MayBeRefused, MayRefuse};
 ghost use Rattle.agg_segment.specs.Snapshot.{SnapshotDocuments};
 ghost use Rattle.agg_engine.specs.Walk.{IsWalk, after_in};
+ghost use Rattle.agg_engine.specs.declared.walk.error.WalkError.{WalkError};
 
 /// The walk over no snapshot has no page and has not ended.
 pub fn a_walk_over_no_snapshot_has_no_page<B>()
@@ -51,4 +56,27 @@ pub fn a_full_page_shows_its_after_key<B>()
         → IsPage composite.sources composite.size
         (bound_of composite.sources composite.after) documents page
         → after_in name results ≢ [] ↔ length page ≡ composite.size }
+{}
+
+/// Whatever has to be refused may be refused: a request over segments, and a walk.
+pub fn what_has_to_be_refused_may_be_refused<B>()
+    ensures segments { (is_match : B → Fields → Bool) (limits : Limits) (query : QueryTree)
+        (request : Request B) (segments : List (List Fields)) (why : WalkError)
+        → HasToBeRefused is_match limits query request segments why
+        → MayBeRefused is_match limits query request segments why }
+    ensures walk { (is_match : B → Fields → Bool) (limits : Limits) (name : List ℕ)
+        (query : QueryTree) (request : Request B) (snapshots : List SnapshotDocuments)
+        (why : WalkError)
+        → HasToRefuse is_match limits name query request snapshots why
+        → MayRefuse is_match limits name query request snapshots why }
+{}
+
+/// A request that is settled over the documents of each segment that match has to be refused
+/// exactly where it may be.
+pub fn settled_snapshots_are_refused_exactly<B>()
+    ensures { (is_match : B → Fields → Bool) (limits : Limits) (query : QueryTree)
+        (request : Request B) (segments : List (List Fields)) (why : WalkError)
+        → All (λ documents. IsSettled is_match request (filter (matches query) documents)) segments
+        → MayBeRefused is_match limits query request segments why
+        ↔ HasToBeRefused is_match limits query request segments why }
 {}

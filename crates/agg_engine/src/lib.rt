@@ -14,6 +14,8 @@ pub use agg_segment_context::{
     PerRequestAggSegCtx, SetupError,
 };
 pub use laws::{
-    a_full_page_shows_its_after_key, a_walk_over_no_snapshot_has_no_page, each_request_has_one_walk,
+    a_full_page_shows_its_after_key, a_walk_over_no_snapshot_has_no_page,
+    each_request_has_one_walk, settled_snapshots_are_refused_exactly,
+    what_has_to_be_refused_may_be_refused,
 };
 pub use walk::{Walk, WalkError, walk_pages};

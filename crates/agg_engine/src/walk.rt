@@ -12,7 +12,7 @@ ghost use Rattle.agg_values.specs.declared.request_error.DateHistogramParseError
 ghost use Rattle.agg_values.specs.Nothing.{NoneIs};
 ghost use Rattle.agg_request_tree.specs.Matching.{built_matches};
 ghost use Rattle.agg_final_results.specs.BucketCount.{results_buckets};
-ghost use Rattle.agg_engine.specs.Refusals.{HasCause, IsRefused};
+ghost use Rattle.agg_engine.specs.Refusals.{HasCause, HasToRefuse};
 ghost use Rattle.agg_segment.specs.Snapshot.{snapshots_documents};
 ghost use Rattle.agg_engine.specs.Steps.{TakesAtMost, past_pages};
 ghost use Rattle.agg_engine.specs.Walk.{IsWalk, MayBeAsked};
@@ -41,7 +41,9 @@ pub struct Walk {
 /// Pages over the groups of a named composite. The first snapshot is reached with the request as it
 /// is, and a later one where the page before is full, with that page's last tuple as its bound.
 /// Each builder of the request is asked once for its query, for the schema, before any snapshot.
-/// An Ok is the walk of a request that may be asked, and no page of it is refused.
+/// An Ok is the walk of a request that may be asked, and no page of it has to be refused. A walk is
+/// refused where the bytes of a segment's collectors pass the memory limit: never where there is
+/// room for the segment's roof, and always where there is none for its low roof.
 pub fn walk_pages<L: Ledger>(
     alloc: Global,
     limits: &mut LimitsLedger,
@@ -59,22 +61,21 @@ pub fn walk_pages<L: Ledger>(
     ensures asked { OnOk result (MayBeAsked
         (λ b. tree_for (b.builder.vtable, b.builder.value) schema.now)
         name.now request.now (snapshots_documents snapshots.now)) }
-    ensures fits { OnOk result (NoneIs (IsRefused
+    ensures fits { OnOk result (NoneIs (HasToRefuse
         (built_matches (λ b. tree_for (b.builder.vtable, b.builder.value) schema.now))
-        limits.old.bucket_limit name.now query.now request.now
-        (snapshots_documents snapshots.now))) }
+        limits.old name.now query.now request.now (snapshots_documents snapshots.now))) }
     ensures buckets { IfOk result (λ walk.
         All (λ page. results_buckets page ≤ limits.old.bucket_limit) walk.pages) }
 
     // Each other answer has its cause.
     ensures cause { IfErr result (HasCause
         (λ b. tree_for (b.builder.vtable, b.builder.value) schema.now)
-        limits.old.bucket_limit name.now query.now request.now
-        (snapshots_documents snapshots.now)) }
+        limits.old name.now query.now request.now (snapshots_documents snapshots.now)) }
 
-    // No byte is charged. Steps never fall. Whatever is answered, there are at most three for each
-    // occurrence of a composite of the request in a reached snapshot. At an Ok there is at least
-    // one for each occurrence past the bound of a page. A refusal before any snapshot takes none.
+    // Whatever is charged is given back. Steps never fall. Whatever is answered, there are at most
+    // three for each occurrence of a composite of the request in a reached snapshot. At an Ok there
+    // is at least one for each occurrence past the bound of a page. A refusal before any snapshot
+    // takes none.
     ensures limits { limits.new ≡ limits.old }
     ensures later { steps.old ≤ steps.new }
     ensures most { TakesAtMost

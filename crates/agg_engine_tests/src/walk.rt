@@ -14,11 +14,11 @@ use std::process::Abort;
 use std::sync::ledger::{Blank, Ledger};
 use std::test::Fail;
 
-// The values of a document.
-type Values = &'static [(&'static str, Given)];
+/// The values of a document.
+pub type Values = &'static [(&'static str, Given)];
 
-// The size of a snapshot's page, and the documents of its segments.
-type Documents = (u32, &'static [&'static [Values]]);
+/// The size of a snapshot's page, and the documents of its segments.
+pub type Documents = (u32, &'static [&'static [Values]]);
 
 // What a walk is asked: a composite's name, the names of its sources, which all read the field a,
 // its size in the request, how many buckets a page may have, and the snapshots.
@@ -121,7 +121,8 @@ fn request_with(
     request_of(alloc, "g", lone(alloc, composite))
 }
 
-fn snapshots_of(alloc: Global, given: &[Documents]) -> Result<ItemList<Snapshot>, Fail> {
+/// Snapshots of these documents.
+pub fn snapshots_of(alloc: Global, given: &[Documents]) -> Result<ItemList<Snapshot>, Fail> {
     let mut snapshots = ItemList::new(alloc);
     for &(page_size, segments) in given {
         snapshots.push(snapshot_of(alloc, page_size, segments)?)?;

@@ -124,6 +124,9 @@ impl From<SnapshotError> for WalkError {
         match error {
             SnapshotError::BucketOutOfRange => WalkError::BucketOutOfRange,
             SnapshotError::TooMany => WalkError::TooMany,
+            SnapshotError::MemoryExceeded { limit, current } => {
+                WalkError::Aggregation(AggregationError::MemoryExceeded { limit, current })
+            }
             SnapshotError::OutOfMemory => WalkError::OutOfMemory,
         }
     }

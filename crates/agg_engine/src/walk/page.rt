@@ -1,7 +1,7 @@
 //! The page of a snapshot: its results, and what they are asked with.
-ghost use Rattle.std.specs.Prelude.{◌≡◌, ◌≤◌, Some, OnOk};
+ghost use Rattle.std.specs.Prelude.{◌≡◌, ◌≤◌, Some, OnOk, map};
+ghost use Rattle.agg_segment.specs.Segment.{documents_of};
 ghost use Rattle.agg_snapshot.specs.Asked.{MayBeAsked};
-ghost use Rattle.agg_snapshot.specs.Documents.{matching_in};
 ghost use Rattle.agg_engine.specs.PageAnswers.{AnswersAsked};
 
 use super::WalkError;
@@ -34,20 +34,21 @@ pub fn set_page(
     Ok(())
 }
 
-/// The final results of a page over the segments of a snapshot, unless they have more buckets than
-/// the limit.
+/// The final results of a page over the segments of a snapshot, unless its collectors pass the
+/// memory limit, or the results have more buckets than their limit. What is charged is given back.
 pub fn snapshot_page<L: Ledger>(
     alloc: Global,
     page: &PageRequest<'_, NamedBuilder>,
     segments: &[SegmentReader],
-    limits: &LimitsLedger,
+    limits: &mut LimitsLedger,
     steps: &mut Steps<L>,
 ) -> Result<AggregationResults, WalkError>
     requires asked { MayBeAsked page.now }
-    ensures answer { AnswersAsked page.now limits.now.bucket_limit
-        (matching_in page.now.query.now segments.now) steps.old steps.new result }
+    ensures answer { AnswersAsked page.now limits.old (map documents_of segments.now)
+        steps.old steps.new result }
+    ensures limits { limits.new ≡ limits.old }
     ensures later { steps.old ≤ steps.new }
 {
-    let merged = snapshot_results(alloc, page, segments, steps)?;
+    let merged = snapshot_results(alloc, page, segments, limits, steps)?;
     page_results(merged, page.request, limits)
 }

@@ -1,33 +1,24 @@
 mod Turns
-use Rattle.std.proofs.Common.{◌≡◌, ◌≤◌, ◌+◌, List, ◌∷◌, IsErrAnd, IsErrOf, Some, Err, Ok, Result}
+use Rattle.std.proofs.Common.{Some, Err, Ok}
 use Rattle.std.proofs.Common.{drop, unwrap_or, refl, sym, arith}
 use Rattle.std.proofs.Common.{◌∙◌, ap, inr}
-use Rattle.agg_request_tree.specs.Matching.{built_matches}
-use Rattle.agg_segment_context.specs.Pages.{paged, request_after}
-use Rattle.agg_segment_context.specs.Trees.{AreTreesOf, built_tree}
-use Rattle.agg_snapshot.specs.Documents.{matching_in}
-use Rattle.agg_final_results.specs.declared.types.AggregationResults.{AggregationResults}
-use Rattle.agg_engine.specs.PageAnswers.{AnswersPage}
-use Rattle.agg_segment.specs.Snapshot.{SnapshotDocuments, snapshot_documents, snapshots_documents}
-use Rattle.agg_engine.specs.Steps.{TakesAtMost}
-use Rattle.agg_engine.specs.Walk.{MayBeAsked, matching_documents}
-use Rattle.agg_engine.specs.declared.walk.error.WalkError.{WalkError}
+use Rattle.agg_segment_context.specs.Pages.{request_after}
+use Rattle.agg_segment.specs.Snapshot.{snapshot_documents, snapshots_documents}
 use Rattle.agg_engine.proofs.NoNull.{matching-no_Null}
 use Rattle.agg_engine.proofs.BuilderFaults.{cause-built}
-use Rattle.agg_engine.proofs.Snapshots.{have_room, matching_documents-segments, may_be_asked}
-use Rattle.agg_engine.proofs.Snapshots.{no_room-some, room-at}
-use Rattle.agg_engine.proofs.StepsTaken.{IsCounting, counting-here, counting-last, counting-least}
+use Rattle.agg_engine.proofs.Snapshots.{have_room, no_room-some, room-at}
+use Rattle.agg_engine.proofs.StepsTaken.{counting-last, counting-least}
 use Rattle.agg_engine.proofs.StepsTaken.{counting-most, counting-start, takes-none}
-use Rattle.agg_engine.proofs.WalkLoop.{IsWalking, left-at, left-end, page-sound, walking-out}
-use Rattle.agg_engine.proofs.WalkLoop.{may-start, walking-start}
-use Rattle.agg_engine.proofs.WalkPages.{AnswersAt, answers-at, counting-page, page-least, page-most}
+use Rattle.agg_engine.proofs.WalkLoop.{may-start, page-sound, walking-end, walking-out}
+use Rattle.agg_engine.proofs.WalkLoop.{walking-out-fits, walking-start}
+use Rattle.agg_engine.proofs.WalkPages.{counting-page, page-least, page-most}
 use Rattle.agg_engine.proofs.WalkPages.{walking-ended, walking-ended-fits, walking-few}
 use Rattle.agg_engine.proofs.WalkPages.{walking-more}
-use Rattle.agg_engine.proofs.WalkRefusals.{IsFirst, caused-by, cause-answer, not-first}
-use Rattle.agg_engine.proofs.walk.walk_pages.Answers.Turns.{after-first, Answered, answered, asked}
-use Rattle.agg_engine.proofs.walk.walk_pages.Answers.Turns.{Counting, counting, here, left, Most}
+use Rattle.agg_engine.proofs.WalkRefusals.{caused-by, cause-answer}
+use Rattle.agg_engine.proofs.walk.walk_pages.Answers.Turns.{after-first, asked}
+use Rattle.agg_engine.proofs.walk.walk_pages.Answers.Turns.{counting, here}
 use Rattle.agg_engine.proofs.walk.walk_pages.Answers.Turns.{most, most-of, page-of, refusal-of}
-use Rattle.agg_engine.proofs.walk.walk_pages.Answers.Turns.{trees, Walking}
+use Rattle.agg_engine.proofs.walk.walk_pages.Answers.Turns.{trees}
 use Rattle.agg_engine.proofs.walk.walk_pages.Given as given
 use Rattle.agg_engine.proofs.walk.walk_pages.Goals as goal
 use Rattle.agg_engine.proofs.walk.walk_pages.Goals.{After-snapshot_page-answer, In_err-results}
@@ -48,7 +39,7 @@ pub returns-in_err-params-clause-cause : goal.returns-in_err-params-clause-cause
 returns-in_err-params-clause-cause g c =
     caused-by _ c.from_residual-in_err-params.result _
     c.from_residual-in_err-params.ensures.1
-    (cause-built _ c.args.limits.now.bucket_limit c.args.name.now c.args.query.now
+    (cause-built _ c.args.limits.now c.args.name.now c.args.query.now
     c.args.request.now (snapshots_documents c.args.snapshots.now) c.in_err-params.field-0.0
     c.in_err-params.ensures.err
     c.in_ok-check_request.ensures.ok
@@ -67,13 +58,14 @@ loop-snapshot-init g c =
     let may = may-start c.args.name.now c.args.request.now c.in-Some.composite.now
     c.in-Some.ensures.named c.in_ok-check_request.ensures.ok c.in_ok-check_request.ensures.names in
     record {
-      walking = rw c.new-pages.ensures (walking-start _ c.args.limits.now.bucket_limit
+      walking = rw c.new-pages.ensures (walking-start _ c.args.limits.now
           c.args.name.now c.args.query.now c.args.request.now
           (snapshots_documents c.args.snapshots.now) c.in-Some.composite.now may);
       counting = rw c.new-pages.ensures (counting-start _ c.args.name.now c.args.query.now
           c.args.request.now (snapshots_documents c.args.snapshots.now) c.in-Some.composite.now may
           c.args.steps.now);
       trees = c.in_ok-params.ensures.trees;
+      kept = refl;
       later = omega arith;
     }
 
@@ -173,13 +165,13 @@ returns-then-is_none-clause-least g c =
     (snapshots_documents c.args.snapshots.now) _
     (snapshot_documents c.snapshot-item.result) _ c.loop-snapshot.pages
     c.loop-snapshot.snapshot-index c.args.steps.now c.loop-snapshot.steps
-    c.snapshot_page-answer.new.steps (counting g before) (page-most _ c.args.limits.now.bucket_limit
+    c.snapshot_page-answer.new.steps (counting g before) (page-most _ c.args.limits.now
     c.args.name.now c.args.query.now
     c.args.request.now (unwrap_or c.loop-snapshot.before c.in-Some.composite.now.after)
     (snapshot_documents c.snapshot-item.result) c.loop-snapshot.steps
     c.snapshot_page-answer.new.steps
     (Ok c.in_ok-results.results) (page-of g turn))
-    c.in_ok-results.results (page-least _ c.args.limits.now.bucket_limit c.args.name.now
+    c.in_ok-results.results (page-least _ c.args.limits.now c.args.name.now
     c.args.query.now
     c.args.request.now (unwrap_or c.loop-snapshot.before c.in-Some.composite.now.after)
     (snapshot_documents c.snapshot-item.result) c.loop-snapshot.steps
@@ -226,6 +218,7 @@ loop-snapshot-preserved g c =
           c.if-is_none.ensures c.loop-snapshot.snapshot-index c.args.steps.now
           (counting g before));
       trees = trees g set;
+      kept = c.snapshot_page-answer.ensures.limits ∙ c.loop-snapshot.invariant.kept;
       later = omega arith;
     }
 
@@ -233,14 +226,13 @@ loop-snapshot-preserved g c =
 
 pub returns-clause-pages : goal.returns-clause-pages
 returns-clause-pages g c =
-    walking-out (left-end (λ rest. IsWalking (built_matches (λ b.
-    (goal.QueryBuilder-dyn g (b.builder.vtable, b.builder.value)).tree_for b.builder.value
-    c.args.schema.now)) c.args.limits.now.bucket_limit
-    c.args.name.now c.args.query.now c.args.request.now (snapshots_documents c.args.snapshots.now)
-    c.in-Some.composite.now (unwrap_or c.loop-snapshot.before c.in-Some.composite.now.after) rest
-    c.loop-snapshot.pages)
-    c.args.snapshots.now _ c.loop-snapshot.snapshot-index c.loop-snapshot.invariant.walking
-    c.as_slice-snapshot-items.ensures (omega arith))
+    walking-out (walking-end c.args.snapshots.now _ c.loop-snapshot.snapshot-index
+    c.loop-snapshot.invariant.walking c.as_slice-snapshot-items.ensures (omega arith))
+
+pub returns-clause-fits : goal.returns-clause-fits
+returns-clause-fits g c =
+    walking-out-fits (walking-end c.args.snapshots.now _ c.loop-snapshot.snapshot-index
+    c.loop-snapshot.invariant.walking c.as_slice-snapshot-items.ensures (omega arith))
 
 pub returns-clause-asked : goal.returns-clause-asked
 returns-clause-asked g c = asked g (goal.at.returns-clause-asked g c).In_ok-params

@@ -1,4 +1,4 @@
-use Rattle.std.proofs.Common.{◌≤◌, drop, unwrap_or}
+use Rattle.std.proofs.Common.{◌≡◌, ◌≤◌, drop, unwrap_or}
 use Rattle.agg_request_tree.specs.Matching.{built_matches}
 use Rattle.agg_segment_context.specs.Pages.{request_after}
 use Rattle.agg_segment_context.specs.Trees.{AreTreesOf, built_tree}
@@ -8,12 +8,12 @@ use Rattle.agg_engine.proofs.WalkLoop.{IsWalking}
 use Rattle.agg_engine.proofs.walk.walk_pages.Given as goal
 
 -- the pages so far are those of the walk, which goes on from the after key, there are as many steps
--- as they allow, and the trees are those of the request
+-- as they allow, the trees are those of the request, and whatever was charged is given back
 abbrev pub invariant-loop-snapshot : goal.invariant-loop-snapshot
 invariant-loop-snapshot g l = record {
   walking : IsWalking (built_matches (λ b.
       (goal.QueryBuilder-dyn g (b.builder.vtable, b.builder.value)).tree_for
-      b.builder.value l.schema)) l.limits.bucket_limit l.name l.query l.request
+      b.builder.value l.schema)) l.initial.limits l.name l.query l.request
       (snapshots_documents l.snapshots) l.composite
       (unwrap_or l.before l.composite.after) (snapshots_documents
       (drop l.snapshot-index l.snapshots))
@@ -27,5 +27,6 @@ invariant-loop-snapshot g l = record {
   trees : AreTreesOf (built_tree (λ b.
       (goal.QueryBuilder-dyn g (b.builder.vtable, b.builder.value)).tree_for
       b.builder.value l.schema)) l.request l.params.trees;
+  kept : l.limits ≡ l.initial.limits;
   later : l.initial.steps ≤ l.steps;
 }

@@ -1,18 +1,18 @@
 -- A turn of the loop over the snapshots: how far the walk has come, and what its page answers.
 use Rattle.std.proofs.Common.{◌≡◌, ◌+◌, List, ◌∷◌, IsErrAnd, IsErrOf, Err, Ok, Result, drop}
-use Rattle.std.proofs.Common.{unwrap_or, sym, arith}
+use Rattle.std.proofs.Common.{unwrap_or, map, sym, ap, subst, arith}
 use Rattle.std.proofs.Common.{◌∙◌}
+use Rattle.agg_segment.specs.Segment.{documents_of}
 use Rattle.agg_request_tree.specs.Matching.{built_matches}
 use Rattle.agg_segment_context.specs.Pages.{paged, request_after}
 use Rattle.agg_segment_context.specs.Trees.{AreTreesOf, built_tree}
-use Rattle.agg_snapshot.specs.Documents.{matching_in}
 use Rattle.agg_final_results.specs.declared.types.AggregationResults.{AggregationResults}
 use Rattle.agg_engine.specs.PageAnswers.{AnswersPage}
 use Rattle.agg_segment.specs.Snapshot.{SnapshotDocuments, snapshot_documents, snapshots_documents}
 use Rattle.agg_engine.specs.Steps.{TakesAtMost}
 use Rattle.agg_engine.specs.Walk.{MayBeAsked}
 use Rattle.agg_engine.specs.declared.walk.error.WalkError.{WalkError}
-use Rattle.agg_engine.proofs.Snapshots.{matching_documents-segments, may_be_asked}
+use Rattle.agg_engine.proofs.Snapshots.{may_be_asked}
 use Rattle.agg_engine.proofs.StepsTaken.{IsCounting, counting-here}
 use Rattle.agg_engine.proofs.WalkLoop.{IsWalking, left-at}
 use Rattle.agg_engine.proofs.WalkPages.{AnswersAt, answers-at, page-most}
@@ -45,7 +45,7 @@ abbrev pub Walking : (g : given.Over) (c : After-snapshot_page-answer g) → Lis
 Walking g c rest =
     IsWalking (built_matches (λ b.
     (goal.QueryBuilder-dyn g (b.builder.vtable, b.builder.value)).tree_for b.builder.value
-    c.args.schema.now)) c.args.limits.now.bucket_limit c.args.name.now c.args.query.now
+    c.args.schema.now)) c.args.limits.now c.args.name.now c.args.query.now
     c.args.request.now (snapshots_documents c.args.snapshots.now) c.in-Some.composite.now
     (unwrap_or c.loop-snapshot.before c.in-Some.composite.now.after) rest c.loop-snapshot.pages
 
@@ -84,7 +84,7 @@ abbrev pub Answered : (g : given.Over) (c : After-snapshot_page-answer g)
 Answered g c =
     AnswersAt (built_matches (λ b.
     (goal.QueryBuilder-dyn g (b.builder.vtable, b.builder.value)).tree_for b.builder.value
-    c.args.schema.now)) c.args.limits.now.bucket_limit c.args.name.now c.args.query.now
+    c.args.schema.now)) c.args.limits.now c.args.name.now c.args.query.now
     c.args.request.now (unwrap_or c.loop-snapshot.before c.in-Some.composite.now.after)
     (snapshot_documents c.snapshot-item.result) c.loop-snapshot.steps
     c.snapshot_page-answer.new.steps
@@ -93,20 +93,25 @@ pub answered : (g : given.Over) (c : After-snapshot_page-answer g)
     (result : Result AggregationResults WalkError)
     → AnswersPage (built_matches (λ b.
     (goal.QueryBuilder-dyn g (b.builder.vtable, b.builder.value)).tree_for b.builder.value
-    c.args.schema.now)) c.args.limits.now.bucket_limit
+    c.args.schema.now)) c.loop-snapshot.limits c.args.query.now
     (paged c.set_page.new.params.page c.args.request.now)
-    (matching_in c.args.query.now c.as_slice-in-loop-snapshot.result.now) c.loop-snapshot.steps
+    (map documents_of c.as_slice-in-loop-snapshot.result.now) c.loop-snapshot.steps
     c.snapshot_page-answer.new.steps result
     → Answered g c result
-answered g c result =
-    answers-at _ c.args.limits.now.bucket_limit c.args.name.now c.args.query.now
+answered g c result answer =
+    answers-at _ c.args.limits.now c.args.name.now c.args.query.now
     c.args.request.now (unwrap_or c.loop-snapshot.before c.in-Some.composite.now.after)
     c.after_key-after.result.now
     (snapshot_documents c.snapshot-item.result) c.set_page.new.params.page
-    (matching_in c.args.query.now c.as_slice-in-loop-snapshot.result.now) c.loop-snapshot.steps
+    (map documents_of c.as_slice-in-loop-snapshot.result.now) c.loop-snapshot.steps
     c.snapshot_page-answer.new.steps result c.in_ok-set_page.ensures.page c.after_key-after.ensures
-    (matching_documents-segments c.args.query.now c.snapshot-item.result
-    c.as_slice-in-loop-snapshot.result.now c.as_slice-in-loop-snapshot.ensures)
+    (ap (map documents_of) c.as_slice-in-loop-snapshot.ensures)
+    (subst (λ limits. AnswersPage (built_matches (λ b.
+    (goal.QueryBuilder-dyn g (b.builder.vtable, b.builder.value)).tree_for b.builder.value
+    c.args.schema.now)) limits c.args.query.now
+    (paged c.set_page.new.params.page c.args.request.now)
+    (map documents_of c.as_slice-in-loop-snapshot.result.now) c.loop-snapshot.steps
+    c.snapshot_page-answer.new.steps result) c.loop-snapshot.invariant.kept answer)
 
 pub page-of : (g : given.Over) (c : In_ok-results g)
     → Answered g (goal.at.In_ok-results g c).After-snapshot_page-answer
@@ -140,7 +145,7 @@ most g c result answer =
     (snapshots_documents c.args.snapshots.now) _
     (snapshot_documents c.snapshot-item.result) _ c.loop-snapshot.pages
     c.loop-snapshot.snapshot-index c.args.steps.now c.loop-snapshot.steps
-    c.snapshot_page-answer.new.steps (counting g c) (page-most _ c.args.limits.now.bucket_limit
+    c.snapshot_page-answer.new.steps (counting g c) (page-most _ c.args.limits.now
     c.args.name.now c.args.query.now
     c.args.request.now (unwrap_or c.loop-snapshot.before c.in-Some.composite.now.after)
     (snapshot_documents c.snapshot-item.result) c.loop-snapshot.steps
@@ -151,7 +156,7 @@ pub after-first : (g : given.Over) (c : In_err-results g) {T : Type 0} (result :
     (named : WalkError) → IsErrAnd result (λ e. e ≡ c.in_err-results.field-0.0)
     → IsErrOf result named → ¬ (IsFirst named)
 after-first g c result named =
-    not-first _ _ _ _ result c.in_err-results.field-0.0 named (refusal-of g c)
+    not-first _ _ _ _ _ result c.in_err-results.field-0.0 named (refusal-of g c)
 
 -- its steps
 pub most-of : (g : given.Over) (c : In_ok-results g)
