@@ -254,9 +254,14 @@ const HEADERS: &[(&str, &str)] = &[
         "1:56: header.bucket_limit: expected a whole number from 0 to 4294967295, found -1\n",
     ),
     (
-        r#"{"request":{},"name":"g","schema":["A"],"memory_limit":1}"#,
-        "1:41: header.memory_limit: no such member is known; expected request, name, schema, \
-            query, bucket_limit\n",
+        r#"{"request":{},"name":"g","schema":["A"],"memory_limit":18446744073709551616}"#,
+        "1:56: header.memory_limit: expected a whole number from 0 to 18446744073709551615, found \
+            18446744073709551616\n",
+    ),
+    (
+        r#"{"request":{},"name":"g","schema":["A"],"limits":1}"#,
+        "1:41: header.limits: no such member is known; expected request, name, schema, query, \
+            memory_limit, bucket_limit\n",
     ),
     (
         r#"{"request":{},"name":"g","schema":["A"]"#,

@@ -92,6 +92,8 @@ pub enum Shape {
 
 const U32: Form = Form::Whole(0, 4_294_967_295);
 
+const U64: Form = Form::Whole(0, 18_446_744_073_709_551_615);
+
 const FIELD: Member = ("field", Form::Field, Need::Required);
 
 const ORDER: Member = ("order", Form::Word(&["asc", "desc"]), Need::Optional);
@@ -109,6 +111,7 @@ const HEADER: &[Member] = &[
     ("name", Form::Text, Need::Required),
     ("schema", Form::Texts, Need::Required),
     ("query", Form::Object(Shape::Query), Need::Optional),
+    ("memory_limit", U64, Need::Optional),
     ("bucket_limit", U32, Need::Optional),
 ];
 

@@ -59,6 +59,7 @@ module _ {B : Type 0} (name_of : B → List ℕ) (builders : List B) (asked : Re
         name = is_name;
         schema = is_schema;
         query = refl;
+        memory_limit = tt;
         bucket_limit = tt;
       }
 
@@ -79,5 +80,6 @@ module _ {B : Type 0} (name_of : B → List ℕ) (builders : List B) (asked : Re
         name = is_name;
         schema = is_schema;
         query = is_query;
+        memory_limit = tt;
         bucket_limit = tt;
       }

@@ -10,10 +10,17 @@ use Rattle.agg_request_tree.specs.declared.aggregation.filter.FilterQuery.TheVar
 use Rattle.agg_input.specs.Header.{IsHeader}
 use Rattle.agg_input.specs.declared.header.Header.{Header}
 
--- a header without a bucket limit
+-- a header without limits
 abbrev pub header_of : {B : Type 0} → Request B → List ℕ → List (List ℕ) → QueryTree → Header B
 header_of request name schema query =
-    record { request = request; name = name; schema = schema; query = query; bucket_limit = None }
+    record {
+      request = request;
+      name = name;
+      schema = schema;
+      query = query;
+      memory_limit = None;
+      bucket_limit = None;
+    }
 
 -- the members of a header of all documents
 abbrev pub plain_members : Data → Data → Data → Members

@@ -19,8 +19,8 @@ use agg_values::{NameMap, OutOfMemory, Text};
 use serde_json::{Map, Value, put};
 use std::alloc::Global;
 
-/// The line of a header without a bucket limit: read with the request's builders it is just this
-/// header, unless it is nested deeper than JSON is read.
+/// The line of a header without limits: read with the request's builders it is just this header,
+/// unless it is nested deeper than JSON is read.
 pub fn header_line(
     alloc: Global,
     request: &Aggregations,

@@ -9,8 +9,9 @@ use Rattle.agg_segment.specs.declared.query.QueryTree.{QueryTree}
 use Rattle.agg_json.specs.Json.{has_members, small_number}
 use Rattle.agg_request_tree.specs.Request.{Request}
 use Rattle.agg_input.specs.declared.header.Header.{Header}
-use Rattle.agg_input.specs.Header.{IsBucketLimitOf, IsHeader, IsHeaderLine, IsQueryOf}
-use Rattle.agg_input.specs.Header.{IsRequestAt, header_members, texts_of}
+use Rattle.agg_input.specs.Header.{IsBucketLimitOf, IsHeader, IsHeaderLine, IsMemoryLimitOf}
+use Rattle.agg_input.specs.Header.{IsQueryOf, IsRequestAt, header_members, texts_of}
+use Rattle.agg_input.specs.Header.{unsigned_number}
 use Rattle.agg_values.specs.Nothing.{NoneIs}
 use Rattle.agg_input.proofs.Composites.{IsGiven-unique}
 use Rattle.agg_document_json.proofs.Documents.{none_is_some, same_value}
@@ -29,6 +30,11 @@ IsQueryOf-unique : (o : Option Data) (a b : QueryTree) → IsQueryOf o a → IsQ
 IsQueryOf-unique None a b h k = h ∙ sym k
 IsQueryOf-unique (Some d) a b h k = IsQuery-unique d a b h k
 
+IsMemoryLimitOf-unique : (o : Option Data) (a b : Option ℕ) → IsMemoryLimitOf o a
+    → IsMemoryLimitOf o b → a ≡ b
+IsMemoryLimitOf-unique =
+    IsGiven-unique (λ d n. unsigned_number d ≡ Some n) (λ d n m h k. same_value n m (sym h ∙ k))
+
 IsBucketLimitOf-unique : (o : Option Data) (a b : Option ℕ) → IsBucketLimitOf o a
     → IsBucketLimitOf o b → a ≡ b
 IsBucketLimitOf-unique =
@@ -43,6 +49,8 @@ module _ {B : Type 0} (builders : List B) (name_of : B → List ℕ) where
     name = same_value a.name b.name (sym h.name ∙ k.name) i;
     schema = same_value a.schema b.schema (sym h.schema ∙ k.schema) i;
     query = IsQueryOf-unique (get (codes "query") d) a.query b.query h.query k.query i;
+    memory_limit = IsMemoryLimitOf-unique (get (codes "memory_limit") d) a.memory_limit
+        b.memory_limit h.memory_limit k.memory_limit i;
     bucket_limit = IsBucketLimitOf-unique (get (codes "bucket_limit") d) a.bucket_limit
         b.bucket_limit h.bucket_limit k.bucket_limit i;
   }
@@ -77,6 +85,11 @@ module _ {B : Type 0} (builders : List B) (name_of : B → List ℕ) where
   pub no_query : (d : Data) → NoneIs (IsQueryOf (get (codes "query") d))
       → NoneIs (IsHeader builders name_of d)
   no_query d none header h = none header.query h.query
+
+  pub no_memory_limit : (d : Data)
+      → NoneIs (IsMemoryLimitOf (get (codes "memory_limit") d))
+      → NoneIs (IsHeader builders name_of d)
+  no_memory_limit d none header h = none header.memory_limit h.memory_limit
 
   pub no_bucket_limit : (d : Data)
       → NoneIs (IsBucketLimitOf (get (codes "bucket_limit") d))

@@ -5,8 +5,9 @@ ghost use Rattle.std.specs.Prelude.{option_and_then};
 ghost use Rattle.serde_json.specs.Find.{as_str, get};
 ghost use Rattle.serde_json.specs.View.{view};
 ghost use Rattle.agg_json.specs.Json.{text_at};
-ghost use Rattle.agg_input.specs.Header.{IsBucketLimitOf, IsHeader, IsHeaderLine, IsQueryOf};
-ghost use Rattle.agg_input.specs.Header.{IsRequestAt, counted_member, header_members, texts_of};
+ghost use Rattle.agg_input.specs.Header.{IsBucketLimitOf, IsHeader, IsHeaderLine, IsMemoryLimitOf};
+ghost use Rattle.agg_input.specs.Header.{IsQueryOf, IsRequestAt, counted_member, header_members};
+ghost use Rattle.agg_input.specs.Header.{texts_of};
 ghost use Rattle.agg_values.specs.Nothing.{NoneIs};
 
 use agg_document_json::{InputError, parse};
@@ -24,6 +25,8 @@ pub struct Header<B = NamedBuilder> {
     pub name: Text,
     pub schema: Schema,
     pub query: QueryTree,
+    /// The bytes that the collectors of the walk may hold, if they are limited here.
+    pub memory_limit: Option<u64>,
     pub bucket_limit: Option<u32>,
 }
 
@@ -43,7 +46,8 @@ pub fn read_header<B: HasName>(
     header_of_value(alloc, builders, &value)
 }
 
-// Exactly a request, a name and a schema, and a query and a bucket limit if there are any.
+// Exactly a request, a name and a schema, and a query, a memory limit and a bucket limit if there
+// are any.
 fn header_of_value<B: HasName>(
     alloc: Global,
     builders: Vec<B>,
@@ -61,12 +65,14 @@ fn header_of_value<B: HasName>(
     let name = name_in(alloc, value)?;
     let schema = schema_in(alloc, value)?;
     let query = query_of(alloc, value)?;
+    let memory_limit = memory_limit_of(value)?;
     let bucket_limit = bucket_limit_of(value)?;
     Ok(Header {
         request,
         name,
         schema,
         query,
+        memory_limit,
         bucket_limit,
     })
 }
@@ -109,7 +115,9 @@ fn schema_in(alloc: Global, value: &Value) -> Result<Schema, InputError>
 fn header_members(value: &Value) -> usize
     ensures { result ≡ header_members (view value.now) }
 {
-    3 + counted_member(value, "query") + counted_member(value, "bucket_limit")
+    3 + counted_member(value, "query")
+        + counted_member(value, "memory_limit")
+        + counted_member(value, "bucket_limit")
 }
 
 // One, where there is a member of this name.
@@ -129,6 +137,19 @@ fn query_of(alloc: Global, value: &Value) -> Result<QueryTree, InputError>
     match value.get("query") {
         Some(query) => Ok(read_query(alloc, query)?),
         None => Ok(QueryTree::All),
+    }
+}
+
+// The memory limit of a header, if it has one.
+fn memory_limit_of(value: &Value) -> Result<Option<u64>, InputError>
+    ensures ok { IfOk result
+        (IsMemoryLimitOf (get (codes "memory_limit") (view value.now))) }
+    ensures not_input { IsErrOf result InputError.NotInput
+        → NoneIs (IsMemoryLimitOf (get (codes "memory_limit") (view value.now))) }
+{
+    match value.get("memory_limit") {
+        Some(limit) => Ok(Some(limit.as_u64().ok_or(InputError::NotInput)?)),
+        None => Ok(None),
     }
 }
 

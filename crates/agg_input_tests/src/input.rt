@@ -25,6 +25,23 @@ const HEADERS: &[(&str, bool)] = &[
     (r#","schema":["A"],"bucket_limit":1.5}"#, false),
     (r#","schema":["A"],"bucket_limit":"1"}"#, false),
     (r#","schema":["A"],"bucket_limit":null}"#, false),
+    (r#","schema":["A"],"memory_limit":0}"#, true),
+    (
+        r#","schema":["A"],"memory_limit":18446744073709551615}"#,
+        true,
+    ),
+    (
+        r#","schema":["A"],"memory_limit":1,"bucket_limit":1,"query":{"all":{}}}"#,
+        true,
+    ),
+    (
+        r#","schema":["A"],"memory_limit":18446744073709551616}"#,
+        false,
+    ),
+    (r#","schema":["A"],"memory_limit":-1}"#, false),
+    (r#","schema":["A"],"memory_limit":1.5}"#, false),
+    (r#","schema":["A"],"memory_limit":"5"}"#, false),
+    (r#","schema":["A"],"memory_limit":null}"#, false),
     (r#","schema":["A"],"query":{"all":{}}}"#, true),
     (
         r#","schema":[],"query":{"term":{"field":"B","value":"str:x"}}}"#,
@@ -33,7 +50,6 @@ const HEADERS: &[(&str, bool)] = &[
     (r#","schema":["A"],"query":{"builder":"any_field"}}"#, false),
     (r#","schema":["A"],"query":"A:1"}"#, false),
     (r#","schema":["A"],"query":null}"#, false),
-    (r#","schema":["A"],"memory_limit":1}"#, false),
     (r#","schema":["A"],"query":{"all":{}},"more":1}"#, false),
     (r#","schema":"A"}"#, false),
 ];

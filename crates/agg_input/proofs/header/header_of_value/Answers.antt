@@ -2,8 +2,8 @@ use Rattle.std.proofs.Common.{sym, ap, ◌∙◌}
 use Rattle.std.proofs.lemmas.Result.{err_from_is_err_and}
 use Rattle.serde_json.specs.View.{view}
 use Rattle.agg_json.specs.Json.{has_members}
-use Rattle.agg_input.proofs.Headers.{no_bucket_limit, no_name, no_query, no_request, no_schema}
-use Rattle.agg_input.proofs.Headers.{other_members}
+use Rattle.agg_input.proofs.Headers.{no_bucket_limit, no_memory_limit, no_name, no_query}
+use Rattle.agg_input.proofs.Headers.{no_request, no_schema, other_members}
 use Rattle.agg_input.proofs.header.header_of_value.Goals as goal
 
 pub returns-then-not-has_members-clause-not_input
@@ -40,6 +40,13 @@ returns-in_err-query-clause-not_input g c = λ refused.
     no_query c.args.builders.items g.B.HasName.name_of (view c.args.value.now)
     (c.in_err-query.ensures.not_input (cc (refused, p.1, p.2)))
 
+pub returns-in_err-memory_limit-clause-not_input : goal.returns-in_err-memory_limit-clause-not_input
+returns-in_err-memory_limit-clause-not_input g c = λ refused.
+    let p = err_from_is_err_and c.from_residual-in_err-memory_limit.result
+    c.from_residual-in_err-memory_limit.ensures.1 in
+    no_memory_limit c.args.builders.items g.B.HasName.name_of (view c.args.value.now)
+    (c.in_err-memory_limit.ensures.not_input (cc (refused, p.1, p.2)))
+
 pub returns-in_err-bucket_limit-clause-not_input : goal.returns-in_err-bucket_limit-clause-not_input
 returns-in_err-bucket_limit-clause-not_input g c = λ refused.
     let p = err_from_is_err_and c.from_residual-in_err-bucket_limit.result
@@ -55,5 +62,6 @@ returns-clause-ok g c = record {
   name = c.in_ok-name.ensures.ok;
   schema = c.in_ok-schema.ensures.ok;
   query = c.in_ok-query.ensures.ok;
+  memory_limit = c.in_ok-memory_limit.ensures.ok;
   bucket_limit = c.in_ok-bucket_limit.ensures.ok;
 }
