@@ -15,43 +15,44 @@ use Rattle.agg_engine.specs.declared.walk.error.WalkError.TheVariants.{BucketOut
 use Rattle.agg_request_tree.proofs.Lists.{none_of_all}
 use Rattle.agg_input.specs.Input.{Input, IsInput}
 use Rattle.agg_values.specs.Nothing.{NoneIs}
-use Rattle.agg_engine.specs.Refusals.{HasCause, IsRefused}
+use Rattle.agg_cache.specs.Limits.{Limits}
+use Rattle.agg_engine.specs.Refusals.{HasCause, HasToRefuse}
 use Rattle.agg_engine.specs.Walk.{IsWalk, MayBeAsked}
 use Rattle.agg_engine.specs.declared.walk.Walk.{Walk}
-use Rattle.agg_pages.specs.Answer.{IsPrintedWalk, IsRefusal, IsValid, MayRefuse, bucket_limit_of}
-use Rattle.agg_pages.specs.Answer.{matches_in, query_in}
+use Rattle.agg_pages.specs.Answer.{IsNeverRefused, IsPrintedWalk, IsRefusal, MayRefuse}
+use Rattle.agg_pages.specs.Answer.{limits_of, matches_in, query_in}
 use Rattle.agg_pages.specs.Output.{refusal_text, walk_text}
 use Rattle.agg_pages.specs.Reading.{GivesAll}
 use Rattle.agg_input.proofs.Inputs.{IsInput-unique}
 
--- ---- nothing refuses a valid input
+-- ---- what is never refused
 
 may_not_refuse : {B : Type 0} (tree_for : B → List (List ℕ) → Option QueryTree) (i : Input B)
-    (error : WalkError) → IsValid tree_for i → ¬ (MayRefuse tree_for i error)
-may_not_refuse tree_for i (Invalid fault) valid (other, inl asked) =
+    (error : WalkError) → IsNeverRefused tree_for i → ¬ (MayRefuse tree_for i error)
+may_not_refuse tree_for i (Invalid fault) never (other, inl asked) =
     none_of_all (λ c. HasFault c (error.Invalid fault)) (composites_of i.header.request)
-    (λ k c within. valid.asked.sound k c within (error.Invalid fault)) asked
-may_not_refuse tree_for i (Invalid fault) valid (other, inr (is, some)) =
-    none_of_all (λ s. s.page_size ≡ 0) i.snapshots valid.asked.room some
-may_not_refuse tree_for i UnknownComposite valid (other, unknown) = unknown valid.asked.named
-may_not_refuse tree_for i QueryBuild valid (other, cause) =
+    (λ k c within. never.asked.sound k c within (error.Invalid fault)) asked
+may_not_refuse tree_for i (Invalid fault) never (other, inr (is, some)) =
+    none_of_all (λ s. s.page_size ≡ 0) i.snapshots never.asked.room some
+may_not_refuse tree_for i UnknownComposite never (other, unknown) = unknown never.asked.named
+may_not_refuse tree_for i QueryBuild never (other, cause) =
     none_of_all (λ b. query_in tree_for i b ≡ None) (builders_of i.header.request)
     (λ k b within made.
-    let some : false ≡ true = sym (ap is_some made) ∙ valid.asked.each k b within in cc some)
+    let some : false ≡ true = sym (ap is_some made) ∙ never.asked.each k b within in cc some)
     cause.3
-may_not_refuse tree_for i TooMany valid (other, many) = valid.fits TooMany many.1
-may_not_refuse tree_for i BucketOutOfRange valid (other, out) = valid.fits BucketOutOfRange out.1
-may_not_refuse tree_for i (Aggregation (aggregation.DateHistogramParseError part)) valid
+may_not_refuse tree_for i TooMany never (other, many) = never.fits TooMany many.1
+may_not_refuse tree_for i BucketOutOfRange never (other, out) = never.fits BucketOutOfRange out.1
+may_not_refuse tree_for i (Aggregation (aggregation.DateHistogramParseError part)) never
     (other, text) =
     let refusal = error.Aggregation (aggregation.DateHistogramParseError part) in
     none_of_all (λ c. HasFault c refusal) (composites_of i.header.request)
-    (λ k c within. valid.asked.sound k c within refusal) text
-may_not_refuse tree_for i (Aggregation (aggregation.BucketLimitExceeded limit n)) valid
+    (λ k c within. never.asked.sound k c within refusal) text
+may_not_refuse tree_for i (Aggregation (aggregation.BucketLimitExceeded limit n)) never
     (other, many) =
-    valid.fits (Aggregation (aggregation.BucketLimitExceeded limit n)) many.1
-may_not_refuse tree_for i (Aggregation (aggregation.MemoryExceeded limit n)) valid (other, many) =
-    valid.fits (Aggregation (aggregation.MemoryExceeded limit n)) many.1
-may_not_refuse tree_for i OutOfMemory valid (other, any) = other refl
+    never.fits (Aggregation (aggregation.BucketLimitExceeded limit n)) many.1
+may_not_refuse tree_for i (Aggregation (aggregation.MemoryExceeded limit n)) never (other, many) =
+    never.fits (Aggregation (aggregation.MemoryExceeded limit n)) many.1
+may_not_refuse tree_for i OutOfMemory never (other, any) = other refl
 
 -- what a source gave is the one input that it told
 pub given_input : {B : Type 0} (builders : List B) (name_of : B → List ℕ)
@@ -62,20 +63,21 @@ given_input builders name_of left left_now given told i j gives is reads_i reads
     IsInput-unique builders name_of told i j
     (subst (λ bytes. IsInput builders name_of bytes i) (gives told is).0 reads_i) reads_j
 
--- nothing refuses a valid input
-pub valid-not_refused : {B : Type 0} (tree_for : B → List (List ℕ) → Option QueryTree)
-    (i j : Input B) (text : List ℕ) → i ≡ j → IsValid tree_for j → ¬ (IsRefusal tree_for i text)
-valid-not_refused tree_for i j text same valid (error, may, text_is) =
-    may_not_refuse tree_for j error valid (subst (λ k. MayRefuse tree_for k error) same may)
+-- no refusal is the answer to it
+pub never-refused : {B : Type 0} (tree_for : B → List (List ℕ) → Option QueryTree)
+    (i j : Input B) (text : List ℕ) → i ≡ j → IsNeverRefused tree_for j
+    → ¬ (IsRefusal tree_for i text)
+never-refused tree_for i j text same never (error, may, text_is) =
+    may_not_refuse tree_for j error never (subst (λ k. MayRefuse tree_for k error) same may)
 
 -- ---- what a walk answers is a reply
 
-module _ {B : Type 0} (tree_for : B → List (List ℕ) → Option QueryTree) (i : Input B) (limit : ℕ)
-    (limit_is : limit ≡ bucket_limit_of i) (text : List ℕ) where
-  -- a walk that nothing refuses
+module _ {B : Type 0} (tree_for : B → List (List ℕ) → Option QueryTree) (i : Input B)
+    (limits : Limits) (are : limits ≡ limits_of i) (text : List ℕ) where
+  -- a walk that doesn't have to be refused
   pub printed-walk : (walk : Walk)
       → MayBeAsked (query_in tree_for i) i.header.name i.header.request i.snapshots
-      → NoneIs (IsRefused (matches_in tree_for i) limit i.header.name i.header.query
+      → NoneIs (HasToRefuse (matches_in tree_for i) limits i.header.name i.header.query
       i.header.request i.snapshots)
       → IsWalk (matches_in tree_for i) i.header.name i.header.query i.header.request i.snapshots
       walk.pages walk.ended
@@ -83,23 +85,23 @@ module _ {B : Type 0} (tree_for : B → List (List ℕ) → Option QueryTree) (i
   printed-walk walk asked fits is said = (
     record {
       asked = asked;
-      fits = subst (λ n. NoneIs (IsRefused (matches_in tree_for i) n i.header.name i.header.query
-          i.header.request i.snapshots)) limit_is fits;
+      fits = subst (λ l. NoneIs (HasToRefuse (matches_in tree_for i) l i.header.name i.header.query
+          i.header.request i.snapshots)) are fits;
     },
     (walk, is, said),
   )
 
   -- an error that has its cause
   pub printed-refusal : (error : WalkError) → error ≢ OutOfMemory
-      → HasCause (query_in tree_for i) limit i.header.name i.header.query i.header.request
+      → HasCause (query_in tree_for i) limits i.header.name i.header.query i.header.request
       i.snapshots error
       → text ≡ refusal_text error → IsRefusal tree_for i text
   printed-refusal error other cause said = (
     error,
     (
       other,
-      subst (λ n. HasCause (query_in tree_for i) n i.header.name i.header.query i.header.request
-          i.snapshots error) limit_is cause,
+      subst (λ l. HasCause (query_in tree_for i) l i.header.name i.header.query i.header.request
+          i.snapshots error) are cause,
     ),
     said,
   )

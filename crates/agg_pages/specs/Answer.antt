@@ -2,13 +2,15 @@
 use Rattle.std.specs.Prelude.{◌≡◌, ◌≢◌, ◌<◌, ◌+◌, ◌⊎◌, ℕ, List, [], ◌∷◌, Bool, true, false}
 use Rattle.std.specs.Prelude.{Option, Some, drop, take, length, codes, unwrap_or}
 use Rattle.agg_values.specs.Nothing.{NoneIs}
+use Rattle.agg_cache.specs.Limits.{Limits}
 use Rattle.agg_column.specs.Document.{Fields}
 use Rattle.agg_segment.specs.declared.query.QueryTree.{QueryTree}
 use Rattle.agg_request_tree.specs.Matching.{built_matches}
 use Rattle.agg_engine.specs.declared.walk.Walk.{Walk}
 use Rattle.agg_engine.specs.declared.walk.error.WalkError.{WalkError}
 use Rattle.agg_engine.specs.declared.walk.error.WalkError.TheVariants.{OutOfMemory}
-use Rattle.agg_engine.specs.Refusals.{HasCause, IsRefused}
+use Rattle.agg_engine.specs.Refusals as refusals
+use refusals.{HasCause, HasToRefuse}
 use Rattle.agg_engine.specs.Walk.{IsWalk, MayBeAsked}
 use Rattle.agg_input.specs.Input.{AreNoInput, Input, max_input_bytes}
 use Rattle.agg_pages.specs.Output.{refusal_text, walk_text}
@@ -17,9 +19,13 @@ use Rattle.agg_pages.specs.Output.{refusal_text, walk_text}
 abbrev pub walk_arguments : List (List ℕ)
 walk_arguments = codes "walk" ∷ []
 
--- the bucket limit of an input: its own, or 65,000
-abbrev pub bucket_limit_of : {B : Type 0} → Input B → ℕ
-bucket_limit_of i = unwrap_or i.header.bucket_limit 65000
+-- the limits of an input, with nothing in use: its own, or 500,000,000 bytes and 65,000 buckets
+abbrev pub limits_of : {B : Type 0} → Input B → Limits
+limits_of i = record {
+  in_use = 0;
+  memory_limit = unwrap_or i.header.memory_limit 500000000;
+  bucket_limit = unwrap_or i.header.bucket_limit 65000;
+}
 
 module _ {B : Type 0} (tree_for : B → List (List ℕ) → Option QueryTree) where
   -- the query that a builder makes for the schema of an input
@@ -34,13 +40,20 @@ module _ {B : Type 0} (tree_for : B → List (List ℕ) → Option QueryTree) wh
   abbrev pub MayRefuse : Input B → WalkError → Type 0
   MayRefuse i error =
       (error ≢ OutOfMemory)
-      × HasCause (query_in i) (bucket_limit_of i) i.header.name i.header.query i.header.request
+      × HasCause (query_in i) (limits_of i) i.header.name i.header.query i.header.request
       i.snapshots error
 
-  -- a walk of an input that nothing refuses
+  -- an input whose walk doesn't have to be refused
   pub record IsValid (i : Input B) : Type 0 where
     pub asked : MayBeAsked (query_in i) i.header.name i.header.request i.snapshots
-    pub fits : NoneIs (IsRefused (matches_in i) (bucket_limit_of i) i.header.name i.header.query
+    pub fits : NoneIs (HasToRefuse (matches_in i) (limits_of i) i.header.name i.header.query
+        i.header.request i.snapshots)
+
+  -- an input whose walk is never refused: in no segment that it reaches the memory limit is passed
+  -- within the roof
+  pub record IsNeverRefused (i : Input B) : Type 0 where
+    pub asked : MayBeAsked (query_in i) i.header.name i.header.request i.snapshots
+    pub fits : NoneIs (refusals.MayRefuse (matches_in i) (limits_of i) i.header.name i.header.query
         i.header.request i.snapshots)
 
   -- the text is the printed plain walk of an input
@@ -51,7 +64,7 @@ module _ {B : Type 0} (tree_for : B → List (List ℕ) → Option QueryTree) wh
       walk.ended
       × (text ≡ walk_text walk)
 
-  -- the text is the printed walk of an input that nothing refuses
+  -- the text is the printed walk of an input that doesn't have to be refused
   abbrev pub IsPrintedWalk : Input B → List ℕ → Type 0
   IsPrintedWalk i text = IsValid i × IsPlainWalkText i text
 

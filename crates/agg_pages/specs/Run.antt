@@ -6,8 +6,8 @@ use Rattle.agg_pages.specs.declared.status.Status.{Status}
 use Rattle.agg_pages.specs.declared.status.Status.TheVariants.{Ok, Refused, Usage}
 use Rattle.agg_pages.specs.declared.status.Status.TheVariants.{Input as NotInput, ReadFault}
 use Rattle.agg_pages.specs.declared.status.Status.TheVariants.{WriteFault, OutOfMemory}
-use Rattle.agg_pages.specs.Answer.{IsReplyPrefix, IsNoInput, IsPrintedWalk, IsRefusal, IsValid}
-use Rattle.agg_pages.specs.Answer.{walk_arguments}
+use Rattle.agg_pages.specs.Answer.{IsNeverRefused, IsNoInput, IsPrintedWalk, IsRefusal}
+use Rattle.agg_pages.specs.Answer.{IsReplyPrefix, walk_arguments}
 use Rattle.agg_input.specs.Input.{Input, IsInput, max_input_bytes}
 use Rattle.agg_pages.specs.Observed.{Observed, HadFault, IsUntouched, bytes_after, bytes_before}
 use Rattle.agg_pages.specs.Reading.{GivesAll, TakesAtMost}
@@ -43,12 +43,13 @@ HadNoInput builders name_of source =
     (bytes : List ℕ) → bytes_before source ≡ Some bytes
     → IsNoInput builders name_of bytes (bytes_after source)
 
--- a source told that it had a valid input left
-abbrev pub HadValidInput : {R B : Type 0} → List B → (B → List ℕ)
+-- a source told that it had an input left whose walk is never refused
+abbrev pub HadSafeInput : {R B : Type 0} → List B → (B → List ℕ)
     → (B → List (List ℕ) → Option QueryTree) → Observed R → Type 0
-HadValidInput {B = B} builders name_of tree_for source =
+HadSafeInput {B = B} builders name_of tree_for source =
     (bytes : List ℕ) × (i : Input B)
-    × (bytes_before source ≡ Some bytes) × IsInput builders name_of bytes i × IsValid tree_for i
+    × (bytes_before source ≡ Some bytes) × IsInput builders name_of bytes i
+    × IsNeverRefused tree_for i
 
 -- each status has its cause, in what a source gave and a sink took, where a program has these
 -- builders, with their names and the queries that they make for a schema
@@ -72,7 +73,7 @@ pub record IsAnswered {R W B : Type 0} (builders : List B) (name_of : B → List
   pub quiet : IsUnanswered command.status → IsUntouched sink
   -- whatever the status, no more than one byte past the limit is gone
   pub taken : TakesAtMost (max_input_bytes + 1) (bytes_before source) (bytes_after source)
-  -- a valid call without a fault is answered, unless memory is refused
-  pub complete : command.arguments ≡ walk_arguments → HadValidInput builders name_of tree_for source
+  -- an input that is never refused is answered without a fault, unless memory is refused
+  pub complete : command.arguments ≡ walk_arguments → HadSafeInput builders name_of tree_for source
       → ¬ (HadFault source) → ¬ (HadFault sink)
       → (command.status ≡ Ok) ⊎ (command.status ≡ OutOfMemory)

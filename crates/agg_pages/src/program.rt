@@ -133,8 +133,8 @@ fn reply_to<L: Ledger>(
         (λ reply. IsReply (λ b. tree_for (b.builder.vtable, b.builder.value))
         reply.refused (input_of input.now) (string_bytes reply.text)) }
 {
-    let mut limits = LimitsLedger::new(None, input.header.bucket_limit);
     let header = &input.header;
+    let mut limits = LimitsLedger::new(header.memory_limit, header.bucket_limit);
     let walked = walk_pages(
         alloc,
         &mut limits,

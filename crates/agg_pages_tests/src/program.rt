@@ -80,6 +80,19 @@ const THREE_KEYS_PAGE: &str = "{\"page\":1,\"results\":{\"g\":{\
     {\"doc_count\":1,\"key\":{\"a\":2}},{\"doc_count\":1,\"key\":{\"a\":3}}]}}}\n\
     {\"ended\":false}\n";
 
+// Documents of six keys, where a page may have five buckets and where it may have ten.
+const ROOM_FOR_FIVE: &str = "\nsnapshot 5\n{\"a\":1}\n{\"a\":2}\n{\"a\":3}\n{\"a\":4}\n{\"a\":5}\n\
+    {\"a\":6}";
+
+const ROOM_FOR_TEN: &str = "\nsnapshot 10\n{\"a\":1}\n{\"a\":2}\n{\"a\":3}\n{\"a\":4}\n{\"a\":5}\n\
+    {\"a\":6}";
+
+const FIVE_KEYS_PAGE: &str = "{\"page\":1,\"results\":{\"g\":{\
+    \"after_key\":{\"a\":\"i64:5\"},\"buckets\":[{\"doc_count\":1,\"key\":{\"a\":1}},\
+    {\"doc_count\":1,\"key\":{\"a\":2}},{\"doc_count\":1,\"key\":{\"a\":3}},\
+    {\"doc_count\":1,\"key\":{\"a\":4}},{\"doc_count\":1,\"key\":{\"a\":5}}]}}}\n\
+    {\"ended\":false}\n";
+
 // Members of a header and what comes after it, with the status and what is written.
 const MEMBERS: &[(&str, &str, Status, &str)] = &[
     (FROM_TWO, TWO_SNAPSHOTS, Status::Ok, FROM_TWO_PAGES),
@@ -94,6 +107,18 @@ const MEMBERS: &[(&str, &str, Status, &str)] = &[
         THREE_KEYS,
         Status::Refused,
         "error: BucketLimitExceeded\n",
+    ),
+    (
+        r#","memory_limit":1000"#,
+        ROOM_FOR_FIVE,
+        Status::Ok,
+        FIVE_KEYS_PAGE,
+    ),
+    (
+        r#","memory_limit":1000"#,
+        ROOM_FOR_TEN,
+        Status::Refused,
+        "error: MemoryExceeded\n",
     ),
 ];
 

@@ -1,7 +1,7 @@
 use Rattle.std.proofs.Common.{rules, refl, subst, take, inl, inr, string_bytes, Err, ap}
 use Rattle.agg_pages.specs.Answer.{IsReply}
 use Rattle.agg_pages.proofs.Statuses.{no_ok, no_refused, no_usage, no_write_fault}
-use Rattle.agg_pages.proofs.Replies.{given_input, valid-not_refused}
+use Rattle.agg_pages.proofs.Replies.{given_input, never-refused}
 use Rattle.agg_pages.proofs.program.run.Goals as goal
 
 pub returns-in-Ok : goal.returns-in-Ok
@@ -60,7 +60,7 @@ returns-in-Ok g c =
           elim written.kinds [
             | inl ok ↦ inl ok
             | inr other ↦ elim other [
-              | inl refused ↦ absurd (valid-not_refused
+              | inl refused ↦ absurd (never-refused
                   (λ b. (goal.QueryBuilder-dyn g (b.builder.vtable, b.builder.value)).tree_for
                   b.builder.value)
                   i j text same valid
