@@ -1,8 +1,8 @@
 -- Why the walk of a page's request is refused is why that of the request without builders is.
-use Rattle.std.proofs.Common.{◌≡◌, ◌<◌, ◌≤◌, ◌-◌, ◌^◌, ◌∷◌, ◌∙◌, [], ℕ, zero, suc, List, Option}
-use Rattle.std.proofs.Common.{None, Some, ap, append-nil, arith, get_or, inl, inr, length, refl}
+use Rattle.std.proofs.Common.{◌≡◌, ◌≤◌, ◌+◌, ◌-◌, ◌^◌, ◌∷◌, [], ℕ, zero, suc, List}
+use Rattle.std.proofs.Common.{None, Option, Some, ap, arith, inl, inr, length}
 use Rattle.std.proofs.Common.{subst, sym}
-use Rattle.std.specs.Prelude.{All, Any, IsSome, codes, filter}
+use Rattle.std.specs.Prelude.{All, Any, IsSome, codes}
 use Rattle.agg_values.specs.declared.request_error.AggregationError.TheVariants as aggregation
 use Rattle.agg_values.specs.declared.request_error.RequestError.{RequestError}
 use Rattle.agg_values.specs.declared.request_error.RequestError.TheVariants as refusal
@@ -20,20 +20,22 @@ use Rattle.agg_segment_context.specs.Trees.{built_tree}
 use Rattle.agg_collectors.proofs.BuiltLists.{lists-built}
 use Rattle.agg_collectors.proofs.BuiltPages.{built-changed}
 use Rattle.agg_collectors.proofs.BuiltTrees.{tree-matches}
-use Rattle.agg_engine.specs.Refusals.{AreRefused, HasCause, IsRefused}
-use Rattle.agg_engine.specs.Walk.{MayBeAsked, documents_in, matching_documents}
+use Rattle.agg_cache.specs.Limits.{Limits}
+use Rattle.agg_snapshot.specs.MemoryLimits.{TellsMemory}
+use Rattle.agg_engine.specs.Refusals.{HasCause, MayBeCounted, MayBeRefused, MayRefuse}
+use Rattle.agg_engine.specs.Walk.{MayBeAsked, matching_among}
 use Rattle.agg_engine.specs.declared.walk.error.WalkError.{WalkError}
 use Rattle.agg_engine.specs.declared.walk.error.WalkError.TheVariants as error
 use Rattle.agg_engine.proofs.BuiltCounts.{composites-built}
+use Rattle.agg_engine.proofs.BuiltRoofs.{low_roof-built, roof-built}
 use Rattle.agg_grouping.specs.Request.{HasNoRequest, IsRequestOf}
 use Rattle.agg_grouping.specs.declared.error.GroupingError.{GroupingError}
 use Rattle.agg_grouping.specs.declared.grouping.Grouping.{Grouping}
 use Rattle.agg_grouping.specs.declared.request.Page.{Page}
 use Rattle.agg_grouping.proofs.NoBuilders.{request-none}
-use Rattle.agg_front.specs.Causes.{HasNoPage, IsPageRefused}
+use Rattle.agg_front.specs.Causes.{HasNoPage, IsPageRefused, limits_of_people}
 use Rattle.agg_front.specs.Codes.{failure_of_grouping, failure_of_walk}
 use Rattle.agg_front.specs.Index.{AreOneOf}
-use Rattle.agg_front.specs.Pages.{snapshot_of}
 use Rattle.agg_front.proofs.BuiltRequests.{request-built}
 use Rattle.agg_front.proofs.BuiltWalks.{results-built, size-built}
 use Rattle.agg_front.proofs.Failures.{of-grouping, of-walk}
@@ -44,7 +46,7 @@ of-one : {X : Type 0} (P : X → Type 0) (x : X) → Any P (x ∷ []) → P x
 of-one P x (zero, y, within, is, holds) = subst P (sym is) holds
 of-one P x (suc k, y, within, is, holds) = absurd (omega (arith, within))
 
-module _ {B : Type 0} (query_for : B → Option QueryTree) (limit : ℕ) where
+module _ {B : Type 0} (query_for : B → Option QueryTree) (limits : Limits) where
   -- the request with a tree in place of each builder
   abbrev built : Request B → Request QueryTree
   built request = with_builders (built_tree query_for) request
@@ -69,79 +71,82 @@ module _ {B : Type 0} (query_for : B → Option QueryTree) (limit : ℕ) where
       (lists-built (built_matches query_for) (built_tree query_for) (tree-matches query_for)
       request documents)
 
-  -- why results are refused
-  refused-built : (request : Request B) (documents : List Fields) (why : WalkError)
-      → AreRefused (built_matches query_for) limit request documents why
-      → AreRefused matches limit (built request) documents why
-  refused-built request documents error.BucketOutOfRange is =
-      subst (λ P. P) (sym (out-same request documents)) is
-  refused-built request documents error.TooMany (within, many) = (
-    subst (λ P. ¬ P) (sym (out-same request documents)) within,
-    subst (λ P. P) (sym (many-same request documents)) many,
-  )
-  refused-built request documents (error.Aggregation (aggregation.BucketLimitExceeded given n))
-      (within, few, same, over, (results, are, count)) = (
-        subst (λ P. ¬ P) (sym (out-same request documents)) within,
-        subst (λ P. ¬ P) (sym (many-same request documents)) few,
-        same,
-        over,
-        (
-          results,
-          results-built (built_matches query_for) (built_tree query_for) (tree-matches query_for)
-              request documents results are,
-          count,
-        ),
-      )
-  refused-built request documents (error.Aggregation (aggregation.DateHistogramParseError part))
-      is = absurd is
-  refused-built request documents (error.Aggregation (aggregation.MemoryExceeded most now)) is =
-      absurd is
-  refused-built request documents (error.Invalid fault) is = absurd is
-  refused-built request documents error.UnknownComposite is = absurd is
-  refused-built request documents error.QueryBuild is = absurd is
-  refused-built request documents error.OutOfMemory is = absurd is
+  module _ (query : QueryTree) (request : Request B) (segments : List (List Fields)) where
+    abbrev matching : List Fields
+    matching = matching_among query segments
+
+    collected-built : MayBeCounted (built_matches query_for) query request segments
+        → MayBeCounted matches query (built request) segments
+    collected-built (within, few) = (
+      subst (λ P. ¬ P) (sym (out-same request matching)) within,
+      subst (λ P. ¬ P) (sym (many-same request matching)) few,
+    )
+
+    -- why results are refused
+    refused-built : (why : WalkError)
+        → MayBeRefused (built_matches query_for) limits query request segments why
+        → MayBeRefused matches limits query (built request) segments why
+    refused-built error.BucketOutOfRange is =
+        subst (λ P. P) (sym (out-same request matching)) is
+    refused-built error.TooMany (within, many) = (
+      subst (λ P. ¬ P) (sym (out-same request matching)) within,
+      subst (λ P. P) (sym (many-same request matching)) many,
+    )
+    refused-built (error.Aggregation (aggregation.MemoryExceeded told current)) (may, passed) = (
+      collected-built may,
+      subst (λ (bytes : List Fields → ℕ). Any (λ documents. TellsMemory limits.memory_limit
+          (limits.in_use + bytes documents) 0 told current) segments)
+          (sym (roof-built (built_matches query_for) (built_tree query_for)
+          (tree-matches query_for) request query)) passed,
+    )
+    refused-built (error.Aggregation (aggregation.BucketLimitExceeded given n))
+        (may, room, same, over, (results, are, count)) = (
+          collected-built may,
+          subst (λ (bytes : List Fields → ℕ). All (λ documents.
+              limits.in_use + bytes documents ≤ limits.memory_limit) segments)
+              (sym (low_roof-built (built_matches query_for) (built_tree query_for)
+              (tree-matches query_for) request query)) room,
+          same,
+          over,
+          (
+            results,
+            results-built (built_matches query_for) (built_tree query_for) (tree-matches query_for)
+                request matching results are,
+            count,
+          ),
+        )
+    refused-built (error.Aggregation (aggregation.DateHistogramParseError part)) is = absurd is
+    refused-built (error.Invalid fault) is = absurd is
+    refused-built error.UnknownComposite is = absurd is
+    refused-built error.QueryBuild is = absurd is
+    refused-built error.OutOfMemory is = absurd is
 
   module _ (grouping : Grouping) (query : QueryTree) (page : Page) (request : Request B)
-      (asked : IsRequestOf grouping page request) (documents : List Fields)
-      (only : SnapshotDocuments) (sized : only.page_size ≡ page.size)
-      (joined : documents_in only ≡ documents) where
-    abbrev own : SnapshotDocuments
-    own = snapshot_of page.size documents
-
-    matching-same : matching_documents query only ≡ matching_documents query own
-    matching-same = ap (filter (matches query)) (joined ∙ sym (append-nil documents))
-
+      (asked : IsRequestOf grouping page request) (only : SnapshotDocuments) where
     -- of the one snapshot
-    at-own : (why : WalkError)
-        → IsRefused (built_matches query_for) limit (codes "groups") query request (only ∷ []) why
-        → IsRefused matches limit (codes "groups") query (built request) (own ∷ []) why
-    at-own why (inr (none, (results, are, full, later))) = absurd later
-    at-own why (inl here) =
-        inl (subst (λ (ds : List Fields). AreRefused matches limit
-        (request_at_size (codes "groups") page.size (built request)) ds why) matching-same
-        (subst (λ (size : ℕ). AreRefused matches limit
-        (request_at_size (codes "groups") size (built request)) (matching_documents query only) why)
-        sized
-        (subst (λ (r : Request QueryTree). AreRefused matches limit r
-        (matching_documents query only) why)
+    at-only : (why : WalkError)
+        → MayRefuse (built_matches query_for) limits (codes "groups") query request (only ∷ []) why
+        → MayRefuse matches limits (codes "groups") query (built request) (only ∷ []) why
+    at-only why (inr (none, (results, are, full, later))) = absurd later
+    at-only why (inl here) =
+        inl (subst
+        (λ (r : Request QueryTree). MayBeRefused matches limits query r only.segments why)
         (built-changed (built_tree query_for) (with_size only.page_size)
         (with_size only.page_size) (size-built (built_matches query_for)
         (built_tree query_for) (tree-matches query_for) only.page_size)
         (codes "groups") request)
-        (refused-built (request_at_size (codes "groups") only.page_size request)
-        (matching_documents query only) why here))))
+        (refused-built query (request_at_size (codes "groups") only.page_size request)
+        only.segments why here))
 
     built_asked : IsRequestOf grouping page (built request)
     built_asked = request-built (built_tree query_for) grouping page request asked
 
     may-built : MayBeAsked query_for (codes "groups") request (only ∷ [])
-        → MayBeAsked Some (codes "groups") (built request) (own ∷ [])
+        → MayBeAsked Some (codes "groups") (built request) (only ∷ [])
     may-built may = record {
       sound = subst (All IsSound) (sym (composites-built (built_tree query_for) request))
           may.sound;
-      room = λ k d within none.
-          may.room 0 only (omega arith)
-          (sized ∙ at-first k d within none);
+      room = may.room;
       named = (
         built_asked.are_groups.composite,
         groups-named grouping page (built request)
@@ -151,22 +156,13 @@ module _ {B : Type 0} (query_for : B → Option QueryTree) (limit : ℕ) where
           (sym (request-none grouping page (built request) built_asked))
           (λ k d within. absurd (omega (arith, within)));
     }
-      where
-        at-first : (k : ℕ) (d : SnapshotDocuments) → k < 1
-            → (get_or (own ∷ []) k d).page_size ≡ 0 → page.size ≡ 0
-        at-first zero d within none = none
-        at-first (suc k) d within none = absurd (omega (arith, within))
 
     refused-page : (why : WalkError)
-        → HasCause query_for limit (codes "groups") query request (only ∷ []) why
-        → HasCause Some limit (codes "groups") query (built request) (own ∷ []) why
+        → HasCause query_for limits (codes "groups") query request (only ∷ []) why
+        → HasCause Some limits (codes "groups") query (built request) (only ∷ []) why
     refused-page (error.Invalid fault) (inl has) =
         inl (fault-built request (refusal.Invalid fault) has)
-    refused-page (error.Invalid fault) (inr (zero_size, none)) =
-        inr (
-          zero_size,
-          (0, own, omega arith, refl, sym sized ∙ of-one (λ s. s.page_size ≡ 0) only none),
-        )
+    refused-page (error.Invalid fault) (inr none) = inr none
     refused-page error.UnknownComposite unknown =
         absurd (unknown (asked.are_groups.composite, groups-named grouping page request asked))
     refused-page error.QueryBuild (sound, room, named, none) =
@@ -177,51 +173,52 @@ module _ {B : Type 0} (query_for : B → Option QueryTree) (limit : ℕ) where
         fault-built request (refusal.Aggregation (aggregation.DateHistogramParseError part)) has
     refused-page error.OutOfMemory has = tt
     refused-page error.BucketOutOfRange (may, is) =
-        (may-built may, at-own error.BucketOutOfRange is)
-    refused-page error.TooMany (may, is) = (may-built may, at-own error.TooMany is)
+        (may-built may, at-only error.BucketOutOfRange is)
+    refused-page error.TooMany (may, is) = (may-built may, at-only error.TooMany is)
     refused-page (error.Aggregation (aggregation.BucketLimitExceeded given n)) (may, is) = (
       may-built may,
-      at-own (error.Aggregation (aggregation.BucketLimitExceeded given n)) is,
+      at-only (error.Aggregation (aggregation.BucketLimitExceeded given n)) is,
     )
-    refused-page (error.Aggregation (aggregation.MemoryExceeded most now)) (may, is) = (
+    refused-page (error.Aggregation (aggregation.MemoryExceeded told current)) (may, is) = (
       may-built may,
-      at-own (error.Aggregation (aggregation.MemoryExceeded most now)) is,
+      at-only (error.Aggregation (aggregation.MemoryExceeded told current)) is,
     )
 
 -- the walk of a page's request over the one snapshot of documents is refused as that of the page is
 pub page-refused : {B : Type 0} (query_for : B → Option QueryTree) (grouping : Grouping)
     (query : QueryTree) (page : Page) (request : Request B) (snapshots : List SnapshotDocuments)
-    (documents : List Fields) (name : List ℕ) (limit : ℕ) (why : WalkError)
-    → name ≡ codes "groups" → limit ≡ 2 ^ 32 - 1 → IsRequestOf grouping page request
+    (documents : List Fields) (name : List ℕ) (limits : Limits) (why : WalkError)
+    → name ≡ codes "groups" → limits ≡ limits_of_people → IsRequestOf grouping page request
     → AreOneOf documents page.size snapshots
-    → HasCause query_for limit name query request snapshots why
+    → HasCause query_for limits name query request snapshots why
     → IsPageRefused grouping query documents page why
-page-refused query_for grouping query page request snapshots documents name limit why named most
+page-refused query_for grouping query page request snapshots documents name limits why named most
     asked one cause = record {
       request = with_builders (built_tree query_for) request;
       asked = request-built (built_tree query_for) grouping page request asked;
-      cause = refused-page query_for (2 ^ 32 - 1) grouping query page request asked documents
-          one.only one.sized one.joined why
-          (subst (λ ss. HasCause query_for (2 ^ 32 - 1) (codes "groups") query request ss why)
+      snapshots = one.only ∷ [];
+      one = subst (AreOneOf documents page.size) one.alone one;
+      cause = refused-page query_for limits_of_people grouping query page request asked one.only why
+          (subst (λ ss. HasCause query_for limits_of_people (codes "groups") query request ss why)
           one.alone
-          (subst (λ (n : ℕ). HasCause query_for n (codes "groups") query request snapshots why)
+          (subst (λ (l : Limits). HasCause query_for l (codes "groups") query request snapshots why)
           most
-          (subst (λ n. HasCause query_for limit n query request snapshots why) named cause)));
+          (subst (λ n. HasCause query_for limits n query request snapshots why) named cause)));
     }
 
 -- so there is no page
 pub no-walk : {B : Type 0} (query_for : B → Option QueryTree) (grouping : Grouping)
     (query : QueryTree) (page : Page) (request : Request B) (snapshots : List SnapshotDocuments)
-    (documents : List Fields) (name : List ℕ) (limit : ℕ) (why : WalkError)
-    → name ≡ codes "groups" → limit ≡ 2 ^ 32 - 1 → IsRequestOf grouping page request
+    (documents : List Fields) (name : List ℕ) (limits : Limits) (why : WalkError)
+    → name ≡ codes "groups" → limits ≡ limits_of_people → IsRequestOf grouping page request
     → AreOneOf documents page.size snapshots
-    → HasCause query_for limit name query request snapshots why
+    → HasCause query_for limits name query request snapshots why
     → HasNoPage grouping query documents page (failure_of_walk why)
-no-walk query_for grouping query page request snapshots documents name limit why named most asked
+no-walk query_for grouping query page request snapshots documents name limits why named most asked
     one =
-    of-walk (HasCause query_for limit name query request snapshots)
+    of-walk (HasCause query_for limits name query request snapshots)
     (HasNoPage grouping query documents page) tt
-    (λ error. page-refused query_for grouping query page request snapshots documents name limit
+    (λ error. page-refused query_for grouping query page request snapshots documents name limits
     error named most asked one) why
 
 -- nor is there one where it has no request

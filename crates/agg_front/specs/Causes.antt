@@ -1,8 +1,10 @@
 -- Why what is asked isn't written to its end. Running out of memory needs no cause.
-use Rattle.std.specs.Prelude.{◌⊎◌, ◌^◌, ◌-◌, ◌∷◌, [], ℕ, List, Option, None, Some, codes, ⊤}
+use Rattle.std.specs.Prelude.{◌⊎◌, ◌^◌, ◌-◌, ℕ, List, Option, None, Some, codes, ⊤}
 use Rattle.agg_values.specs.Names.{Named}
 use Rattle.agg_values.specs.declared.after_key.AfterKey.{AfterKey}
+use Rattle.agg_cache.specs.Limits.{Limits}
 use Rattle.agg_column.specs.Document.{Fields}
+use Rattle.agg_segment.specs.Snapshot.{SnapshotDocuments}
 use Rattle.agg_segment.specs.declared.query.QueryTree.{QueryTree}
 use Rattle.agg_request_tree.specs.Request.{Request}
 use Rattle.agg_engine.specs.Refusals.{HasCause}
@@ -17,7 +19,8 @@ use Rattle.agg_front.specs.Answer.{AreRead}
 use Rattle.agg_front.specs.Check.{after_asked}
 use Rattle.agg_front.specs.Columns.{ShareHeader, columns_asked}
 use Rattle.agg_front.specs.Files.{AreUnreadable}
-use Rattle.agg_front.specs.Pages.{room_of, snapshot_of}
+use Rattle.agg_front.specs.Index.{AreOneOf}
+use Rattle.agg_front.specs.Pages.{room_of}
 use Rattle.agg_front.specs.declared.asked.Asked.{Asked}
 use Rattle.agg_front.specs.declared.asked.RecordFile.{RecordFile}
 use Rattle.agg_front.specs.declared.failure.Failure.{Failure}
@@ -46,13 +49,20 @@ IsRefusedAtOnce asked _ = ⊥
 
 -- ---- pages
 
+-- people have no limits: a page may take as many bytes and buckets as their types can tell
+abbrev pub limits_of_people : Limits
+limits_of_people =
+    record { in_use = 0; memory_limit = 2 ^ 64 - 1; bucket_limit = 2 ^ 32 - 1 }
+
 module _ (grouping : Grouping) (query : QueryTree) (documents : List Fields) where
-  -- a page is refused so: the walk of its request is, with as many buckets as may be
+  -- a page is refused so: the walk of its request is, over the one snapshot of the documents, by
+  -- these limits
   pub record IsPageRefused (page : Page) (why : WalkError) : Type 0 where
     pub request : Request QueryTree
     pub asked : IsRequestOf grouping page request
-    pub cause : HasCause Some (2 ^ 32 - 1) (codes "groups") query request
-        (snapshot_of page.size documents ∷ []) why
+    pub snapshots : List SnapshotDocuments
+    pub one : AreOneOf documents page.size snapshots
+    pub cause : HasCause Some limits_of_people (codes "groups") query request snapshots why
 
   -- why there is no page
   abbrev pub HasNoPage : Page → Failure → Type 0

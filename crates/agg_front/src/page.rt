@@ -76,7 +76,7 @@ fn walk_over<L: Ledger>(
         → HasNoPage question.now.asked.now.grouping question.now.query.now documents page why) }
 {
     let mut steps: Steps<L> = Steps::new(blank);
-    let mut limits = LimitsLedger::new(None, Some(u32::MAX));
+    let mut limits = LimitsLedger::new(Some(u64::MAX), Some(u32::MAX));
     let request = request_of(alloc, &question.asked.grouping, page)?;
     let name = Text::copy_of(alloc, GROUPS)?;
     Ok(walk_pages(

@@ -88,8 +88,8 @@ fn walk_of<L: Ledger>(alloc: Global, input: &WalkInput, blank: Blank) -> Result<
     requires shared { 0 < L.parts }
 {
     let mut steps: Steps<L> = Steps::new(blank);
-    let mut limits = LimitsLedger::new(None, input.header.bucket_limit);
     let header = &input.header;
+    let mut limits = LimitsLedger::new(header.memory_limit, header.bucket_limit);
     walk_pages(
         alloc,
         &mut limits,

@@ -1,7 +1,8 @@
 use Rattle.std.proofs.Common.{List}
+use Rattle.agg_cache.proofs.SameLimits.{same-limits}
 use Rattle.agg_column.specs.Document.{Fields}
 use Rattle.agg_segment.specs.Snapshot.{snapshots_documents}
-use Rattle.agg_front.specs.Causes.{HasNoPage}
+use Rattle.agg_front.specs.Causes.{HasNoPage, limits_of_people}
 use Rattle.agg_front.specs.Codes.{failure_of_grouping, failure_of_walk}
 use Rattle.agg_front.specs.Index.{AreOneOf}
 use Rattle.agg_front.proofs.BuiltRefusals.{no-request, no-walk}
@@ -39,6 +40,7 @@ returns-in_err-walk_pages-clause-cause g c =
     c.from_residual-in_err-walk_pages.ensures.1
     (λ documents are. no-walk _ question.asked.now.grouping question.query.now c.args.page
     c.in_ok-request.request (snapshots_documents question.snapshots.now) documents
-    c.in_ok-name.name c.new-limits.result.bucket_limit c.in_err-walk_pages.field-0.0
-    c.in_ok-name.ensures c.new-limits.ensures.buckets c.in_ok-request.ensures.asked are
+    c.in_ok-name.name c.new-limits.result c.in_err-walk_pages.field-0.0 c.in_ok-name.ensures
+    (same-limits c.new-limits.result limits_of_people c.new-limits.ensures.in_use
+    c.new-limits.ensures.memory c.new-limits.ensures.buckets) c.in_ok-request.ensures.asked are
     c.in_err-walk_pages.ensures.cause)
