@@ -41,6 +41,6 @@ returns-in_err-walk_pages-clause-cause g c =
     (λ documents are. no-walk _ question.asked.now.grouping question.query.now c.args.page
     c.in_ok-request.request (snapshots_documents question.snapshots.now) documents
     c.in_ok-name.name c.new-limits.result c.in_err-walk_pages.field-0.0 c.in_ok-name.ensures
-    (same-limits c.new-limits.result limits_of_people c.new-limits.ensures.in_use
+    (same-limits limits_of_people c.new-limits.result c.new-limits.ensures.in_use
     c.new-limits.ensures.memory c.new-limits.ensures.buckets) c.in_ok-request.ensures.asked are
     c.in_err-walk_pages.ensures.cause)

@@ -10,7 +10,7 @@ returns-in_ok-walk_text-in-Ok g c =
     printed-walk
     (λ b. (goal.QueryBuilder-dyn g (b.builder.vtable, b.builder.value)).tree_for b.builder.value)
     (input_of c.args.input.now) c.new-limits.result
-    (same-limits c.new-limits.result (limits_of (input_of c.args.input.now))
+    (same-limits (limits_of (input_of c.args.input.now)) c.new-limits.result
     c.new-limits.ensures.in_use c.new-limits.ensures.memory c.new-limits.ensures.buckets) _
     c.in-Ok.walk c.in-Ok.ensures.asked c.in-Ok.ensures.fits
     c.in-Ok.ensures.pages c.in_ok-walk_text-in-Ok.ensures
@@ -20,7 +20,7 @@ returns-in_ok-refusal_text-in-Err g c =
     printed-refusal
     (λ b. (goal.QueryBuilder-dyn g (b.builder.vtable, b.builder.value)).tree_for b.builder.value)
     (input_of c.args.input.now) c.new-limits.result
-    (same-limits c.new-limits.result (limits_of (input_of c.args.input.now))
+    (same-limits (limits_of (input_of c.args.input.now)) c.new-limits.result
     c.new-limits.ensures.in_use c.new-limits.ensures.memory c.new-limits.ensures.buckets) _
     c.in-Err.error (search rules)
     c.in-Err.ensures.cause c.in_ok-refusal_text-in-Err.ensures
