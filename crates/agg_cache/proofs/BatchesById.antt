@@ -5,7 +5,8 @@ use Rattle.std.proofs.Common.{refl, sym, ap, ◌∙◌, arith, zero-add}
 use Rattle.std.specs.List.{AllPairs, range_with_len}
 use Rattle.std.proofs.Math.ListN.{set}
 use Rattle.std.proofs.lemmas.Grind.{common_steps, flat_map-append}
-use Rattle.std.proofs.lemmas.List.{append-nil, map-set, length-set, length-map, get_or-map}
+use Rattle.std.proofs.lemmas.List.{append_assoc, append-nil, map-append, map-set, length-set}
+use Rattle.std.proofs.lemmas.List.{length-map, get_or-map}
 use Rattle.std.proofs.Math.Seq.{map-set_same}
 use Rattle.std.proofs.lemmas.Bool.{eq-eqb, ne_eqb}
 use Rattle.std.proofs.lemmas.List.Elements.{filter_passes}
@@ -178,3 +179,29 @@ filled-ascending batches given numbered filtered = rw filtered (AllPairs-filter
     let low = id-at batches i d numbered (omega arith) in
     let high = id-at batches j d numbered within in
     omega arith))
+
+-- ---- one more document at the end
+
+under-more : (bucket doc : ℕ) (docs : List ℕ)
+    → under bucket (docs ++ doc ∷ []) ≡ under bucket docs ++ (bucket, doc) ∷ []
+under-more bucket doc docs = map-append (λ d. (bucket, d)) docs (doc ∷ [])
+
+-- a document more in the last batch
+pub pairs-last : (batches : List Batch) (place : ℕ) (batch other : Batch) (bucket doc : ℕ)
+    → place + 1 ≡ length batches → batch.bucket_id ≡ bucket
+    → (get_or batches place other).bucket_id ≡ bucket
+    → batch.docs ≡ (get_or batches place other).docs ++ doc ∷ []
+    → pairs_of (set batches place batch) ≡ pairs_of batches ++ (bucket, doc) ∷ []
+pairs-last [] place batch other bucket doc last same was more = absurd (omega (arith, last))
+pairs-last (b ∷ []) zero batch other bucket doc last same was more =
+    append-nil (under batch.bucket_id batch.docs)
+    ∙ ap (λ i. under i batch.docs) same ∙ ap (under bucket) more
+    ∙ under-more bucket doc b.docs
+    ∙ ap (λ i. under i b.docs ++ (bucket, doc) ∷ []) (sym was)
+    ∙ ap (λ pairs. pairs ++ (bucket, doc) ∷ []) (sym (append-nil (under b.bucket_id b.docs)))
+pairs-last (b ∷ c ∷ bs) zero batch other bucket doc last same was more =
+    absurd (omega (arith, last))
+pairs-last (b ∷ bs) (suc n) batch other bucket doc last same was more =
+    ap (λ pairs. under b.bucket_id b.docs ++ pairs)
+    (pairs-last bs n batch other bucket doc (omega (arith, last)) same was more)
+    ∙ sym (append_assoc (under b.bucket_id b.docs) (pairs_of bs) ((bucket, doc) ∷ []))

@@ -1,3 +1,4 @@
 mod BatchesById
+mod Partitions
 pub mod SameLimits
 pub mod UnderIds

@@ -24,10 +24,14 @@ pairs_of batches = flat_map (λ batch. under batch.bucket_id batch.docs) batches
 abbrev pub one_more : ℕ → ℕ → (ℕ → List ℕ) → ℕ → List ℕ
 one_more bucket doc waiting id = if id == bucket then waiting id ++ doc ∷ [] else waiting id
 
+-- no batch is empty
+abbrev pub AreFilled : List Batch → Type 0
+AreFilled batches = All (λ batch. 0 < length batch.docs) batches
+
 -- the batches of a bucket, joined, are what waits for it, and none is empty
 pub record AreBatchesOf (waiting : ℕ → List ℕ) (batches : List Batch) : Type 0 where
   pub all : (id : ℕ) → docs_of (is_id id) (pairs_of batches) ≡ waiting id
-  pub filled : All (λ batch. 0 < length batch.docs) batches
+  pub filled : AreFilled batches
 
 -- the batches are of the buckets 0, 1, 2 and so on
 abbrev pub AreNumbered : List Batch → Type 0

@@ -3,7 +3,7 @@ ghost use Rattle.std.specs.Prelude.{◌≡◌, ◌≤◌, ◌+◌, ◌-◌, ◌^
 ghost use Rattle.std.specs.Prelude.{IfOk, IsTrue, OnErr, OnOk};
 ghost use Rattle.agg_cache.specs.Waiting.{AreBatchesOf, one_more};
 
-use crate::{Batch, BucketId, LowCardSubAggCache, SubAggCache};
+use crate::{Batch, BucketId, HighCardSubAggCache, LowCardSubAggCache, SubAggCache};
 use agg_values::{DocId, ItemList, OutOfMemory};
 use std::alloc::Global;
 use std::marker::Model;
@@ -20,6 +20,9 @@ pub struct CachedSubAggs<C: SubAggCache> {
 
 /// A cache for few buckets, with the number of its pushes.
 pub type LowCardCachedSubAggs = CachedSubAggs<LowCardSubAggCache>;
+
+/// A cache for many buckets, with the number of its pushes.
+pub type HighCardCachedSubAggs = CachedSubAggs<HighCardSubAggCache>;
 
 impl<C: SubAggCache> Model for CachedSubAggs<C> {
     ghost use Rattle.std.specs.Prelude.{ℕ};

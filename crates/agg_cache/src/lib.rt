@@ -8,15 +8,17 @@ mod cache;
 mod cached;
 mod error;
 mod guard;
+mod high_card;
 mod limits;
 mod low_card;
 mod memory_consumption;
 
 pub use bucket_ids::BucketIdProvider;
 pub use cache::{Batch, SubAggCache};
-pub use cached::{CachedSubAggs, LowCardCachedSubAggs, PUSHES_UNTIL_DUE};
+pub use cached::{CachedSubAggs, HighCardCachedSubAggs, LowCardCachedSubAggs, PUSHES_UNTIL_DUE};
 pub use error::CollectError;
 pub use guard::AggregationLimitsGuard;
+pub use high_card::HighCardSubAggCache;
 pub use limits::{BucketId, DEFAULT_BUCKET_LIMIT, DEFAULT_MEMORY_LIMIT, LimitsLedger};
 pub use low_card::LowCardSubAggCache;
 pub use memory_consumption::MemoryConsumption;

@@ -6,10 +6,10 @@ mod bucket_ids;
 #[cfg(test)]
 mod cached;
 #[cfg(test)]
+mod caches;
+#[cfg(test)]
 mod error;
 #[cfg(test)]
 mod limits;
-#[cfg(test)]
-mod low_card;
 #[cfg(test)]
 mod memory_consumption;
