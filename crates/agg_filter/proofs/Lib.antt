@@ -1,4 +1,5 @@
 mod CollectorCalls
+mod HandedDocuments
 mod MatchingDocuments
 mod PreparedParents
 mod UnderIds
