@@ -43,7 +43,7 @@ module _ (req : CompositeAggReqData) (parent : ℕ) where
   stand-if false t k ts ks one rest = rest
 
   -- the tuples that were visited under a parent stand for those of the typed visits
-  under-stand : (visits : List (Visit EncodedTuple)) (typed : List TypedVisit)
+  pub under-stand : (visits : List (Visit EncodedTuple)) (typed : List TypedVisit)
       → AllZip (StandsForVisit req) visits typed
       → AllZip (StandsForTuple req) (tuples_under parent visits) (tuples_under parent typed)
   under-stand [] [] h = tt
@@ -147,7 +147,17 @@ module _ {C : Type 0} (waiting : C → ℕ → List ℕ) (req : CompositeAggReqD
       (keys_of (cut encoded_tuple_order req.size encoded_tuples))
       (keys-first (IsEncoded req) req.size (groups_of encoded_tuple_order encoded_tuples) all))
 
-  -- and its entries are the lowest groups of the tuples that were visited under the parent
+  -- its entries are the lowest groups of them, decoded
+  pub page-lowest : (entries : List PageEntry)
+      → map entry_bucket entries ≡ decoded_buckets req (page_of collector parent)
+      → map entry_group entries
+      ≡ decoded_groups req (cut encoded_tuple_order req.size (tuples_under parent f.visits))
+  page-lowest entries e =
+      groups-entries entries ∙ ap (map bucket_group) e
+      ∙ groups-buckets req (page_of collector parent)
+      ∙ ap (decoded_groups req) page-cut
+
+  -- and so the lowest groups of the tuples that were visited under the parent
   pub page-groups : (segment : Stored) (after : Named AfterKey) → Fits segment after req
       → (entries : List PageEntry)
       → map entry_bucket entries ≡ decoded_buckets req (page_of collector parent)
@@ -158,8 +168,6 @@ module _ {C : Type 0} (waiting : C → ℕ → List ℕ) (req : CompositeAggReqD
     decoded_groups req (groups_of encoded_tuple_order encoded_tuples),
     groups-typed segment after req fits encoded_tuples (tuples_under parent visited)
         (under-stand req parent f.visits visited f.stand),
-    groups-entries entries ∙ ap (map bucket_group) e
-        ∙ groups-buckets req (page_of collector parent)
-        ∙ ap (decoded_groups req) page-cut
+    page-lowest entries e
         ∙ groups-first req req.size (groups_of encoded_tuple_order encoded_tuples),
   )

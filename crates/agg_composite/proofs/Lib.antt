@@ -1,4 +1,5 @@
 pub mod AccessorTurns
+pub mod AlikePages
 pub mod BucketDocuments
 pub mod BucketPages
 pub mod CanonicalKeys

@@ -3,6 +3,7 @@ pub mod Charged
 pub mod Choices
 pub mod Composite
 pub mod PageEntries
+pub mod SubResults
 pub mod TupleBuckets
 pub mod Visits
 pub mod Walk

@@ -14,5 +14,5 @@ pub use agg_accessor::{
     encoded_tuples_compare_as_typed,
 };
 pub use collector::SegmentCompositeCollector;
-pub use laws::visits_have_the_occurrences;
+pub use laws::{caches_give_equal_sub_results, visits_have_the_occurrences};
 pub use page_entry::PageEntry;
