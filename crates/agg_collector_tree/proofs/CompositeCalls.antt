@@ -18,7 +18,8 @@ use Rattle.agg_buckets.proofs.Labels.{docs_in-append}
 use Rattle.agg_composite.specs.Composite.{AnswersCollect, Composite, CompositeFor}
 use Rattle.agg_composite.specs.Visits.{AnswersRange, TypedVisit, visits_past}
 use Rattle.agg_collector_tree.specs.Took.{CompositeAnswers, CompositeTook, IsRefusal}
-use Rattle.agg_collector_tree.specs.Tree.{Cache, visits_of, waiting_in}
+use Rattle.agg_collector_tree.specs.Caches.{Cache, waiting_in}
+use Rattle.agg_collector_tree.specs.Tree.{visits_of}
 use Rattle.agg_collector_tree.proofs.WithinLists.{range-within, within-part}
 
 -- an answer for its range is a refusal of a tree

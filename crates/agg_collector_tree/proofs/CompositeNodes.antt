@@ -18,8 +18,10 @@ use Rattle.agg_collector_tree.specs.Bound.{TakesMost}
 use Rattle.agg_collector_tree.specs.Refusals.{IsRefused}
 use Rattle.agg_collector_tree.specs.Step.{TakesAt}
 use Rattle.agg_collector_tree.specs.Took.{CompositeTook}
-use Rattle.agg_collector_tree.specs.Tree.{Cache, CompositeIsFor, Fits, Held, IsFor, IsHandedTo}
-use Rattle.agg_collector_tree.specs.Tree.{Takes, visits_of, waiting_in}
+use Rattle.agg_collector_tree.specs.Caches.{Cache}
+use Rattle.agg_collector_tree.specs.Tree.{CompositeIsFor, Fits, Held, IsFor, IsHandedTo}
+use Rattle.agg_collector_tree.specs.Caches.{waiting_in}
+use Rattle.agg_collector_tree.specs.Tree.{Takes, visits_of}
 use Rattle.agg_collector_tree.proofs.CompositeCalls.{visits-append}
 use Rattle.agg_collector_tree.proofs.Levels.{handed-still, same-itself}
 

@@ -13,7 +13,7 @@ use Rattle.agg_buckets.proofs.Labels.{docs_in-append}
 use Rattle.agg_filter.specs.Filter.{Filter, FilterFor, FilterTakes, Prepares, count_of}
 use Rattle.agg_collector_tree.specs.Refusals.{AreNotLast}
 use Rattle.agg_collector_tree.specs.Took.{FilterAnswers, FilterTook}
-use Rattle.agg_collector_tree.specs.Tree.{Cache, waiting_in}
+use Rattle.agg_collector_tree.specs.Caches.{Cache, waiting_in}
 
 pub docs_in-under : (parent : ℕ) (docs : List ℕ) → docs_in (under parent docs) ≡ docs
 docs_in-under parent [] = refl

@@ -18,7 +18,8 @@ use Rattle.agg_collector_tree.specs.Bound.{TakesMost}
 use Rattle.agg_collector_tree.specs.Refusals.{IsRefused}
 use Rattle.agg_collector_tree.specs.Step.{TakesAt}
 use Rattle.agg_collector_tree.specs.Took.{FilterTook}
-use Rattle.agg_collector_tree.specs.Tree.{Cache, Fits, Held, IsFor, IsHandedTo, Takes, waiting_in}
+use Rattle.agg_collector_tree.specs.Caches.{Cache, waiting_in}
+use Rattle.agg_collector_tree.specs.Tree.{Fits, Held, IsFor, IsHandedTo, Takes}
 use Rattle.agg_collector_tree.proofs.Levels.{handed-still, same-itself}
 
 module _ (ctx : PerRequestAggSegCtx) (pairs : List (ℕ × ℕ)) (parents : List ℕ) (all : Bool) (index

@@ -20,7 +20,8 @@ use Rattle.agg_composite.specs.Composite.{Composite, CompositeFor}
 use Rattle.agg_filter.specs.Filter.{Filter, FilterFor}
 use Rattle.agg_filter.specs.Matching.{is_matching}
 use Rattle.agg_segment_context.specs.Context.{tree_in}
-use Rattle.agg_collector_tree.specs.Tree.{Cache, visits_of, waiting_in}
+use Rattle.agg_collector_tree.specs.Caches.{Cache, waiting_in}
+use Rattle.agg_collector_tree.specs.Tree.{visits_of}
 use Rattle.agg_collector_tree.proofs.LowerDocuments.{given-visited}
 use Rattle.agg_collector_tree.proofs.MatchedDocuments.{given-matched}
 use Rattle.agg_collector_tree.proofs.UncutParts.{Lighter, lighter-both, lighter-within}

@@ -15,7 +15,8 @@ use Rattle.agg_collector_tree.specs.declared.tree.SegmentCollectorTree as declar
 use declared.{SegmentCollectorTree as Tree}
 use declared.{Composite, Filter}
 use Rattle.agg_collector_tree.specs.Step.{TakesAt}
-use Rattle.agg_collector_tree.specs.Tree.{Cache, Held, Takes, held_of}
+use Rattle.agg_collector_tree.specs.Caches.{Cache}
+use Rattle.agg_collector_tree.specs.Tree.{Held, Takes, held_of}
 use Rattle.agg_collector_tree.proofs.Groups.{AllTake, all-more}
 use Rattle.agg_collector_tree.proofs.Levels.{held-composite, held-filter}
 

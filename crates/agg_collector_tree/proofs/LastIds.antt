@@ -17,7 +17,7 @@ use Rattle.agg_composite.specs.Composite.{Composite, CompositeFor}
 use Rattle.agg_composite.specs.Visits.{TypedVisit}
 use Rattle.agg_filter.specs.Filter.{Filter, FilterFor}
 use Rattle.agg_collector_tree.specs.Refusals.{AreNotLast}
-use Rattle.agg_collector_tree.specs.Tree.{Cache, waiting_in}
+use Rattle.agg_collector_tree.specs.Caches.{Cache, waiting_in}
 use Rattle.agg_collector_tree.proofs.LowerDocuments.{docs-stand}
 use Rattle.agg_collector_tree.proofs.WithinLists.{within-length}
 

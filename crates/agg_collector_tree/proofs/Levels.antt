@@ -15,7 +15,8 @@ use declared.{SegmentCollectorTree as Tree}
 use declared.{Composite, Filter, Metric}
 use declared.{Group, the_lemmas}
 use Rattle.agg_collector_tree.specs.Step.{depth, depths}
-use Rattle.agg_collector_tree.specs.Tree.{AllFit, AreOf, Cache, Fits, HasSameNodes, HaveSameNodes}
+use Rattle.agg_collector_tree.specs.Caches.{Cache}
+use Rattle.agg_collector_tree.specs.Tree.{AllFit, AreOf, Fits, HasSameNodes, HaveSameNodes}
 use Rattle.agg_collector_tree.specs.Tree.{Held, Helds, IsGroupOf, IsHandedTo, IsOf}
 use Rattle.agg_collector_tree.specs.Tree.{group_of, held_of, helds_of, nothing}
 

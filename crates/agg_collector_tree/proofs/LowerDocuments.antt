@@ -17,7 +17,8 @@ use Rattle.agg_buckets.specs.Visits.{Visit, Within, docs_in, visits_at, weight}
 use Rattle.agg_buckets.proofs.Labels.{docs_in-append, is_id-other, is_id-same, weight-append}
 use Rattle.agg_composite.specs.Composite.{Composite, CompositeFor}
 use Rattle.agg_composite.specs.Visits.{StandsForVisit, TypedVisit, visits_past}
-use Rattle.agg_collector_tree.specs.Tree.{Cache, visits_of, waiting_in}
+use Rattle.agg_collector_tree.specs.Caches.{Cache, waiting_in}
+use Rattle.agg_collector_tree.specs.Tree.{visits_of}
 use Rattle.agg_collector_tree.proofs.WithinLists.{within-both}
 
 -- ---- by ids

@@ -26,8 +26,10 @@ use Rattle.agg_segment_context.specs.declared.context.PerRequestAggSegCtx.{PerRe
 use Rattle.agg_segment_context.specs.declared.node.AggKind.TheVariants as kind
 use Rattle.agg_collector_tree.specs.Refusals.{ListsTooMany, ManyTaken}
 use Rattle.agg_collector_tree.specs.Took.{CompositeAnswers, CompositeTook}
-use Rattle.agg_collector_tree.specs.Tree.{Cache, CompositeIsFor, Held, IsFor, IsHandedTo, IsOf}
-use Rattle.agg_collector_tree.specs.Tree.{visits_of, waiting_in}
+use Rattle.agg_collector_tree.specs.Caches.{Cache}
+use Rattle.agg_collector_tree.specs.Tree.{CompositeIsFor, Held, IsFor, IsHandedTo, IsOf}
+use Rattle.agg_collector_tree.specs.Caches.{waiting_in}
+use Rattle.agg_collector_tree.specs.Tree.{visits_of}
 use Rattle.agg_collector_tree.proofs.CompositeNodes.{is-for}
 use Rattle.agg_collector_tree.proofs.HandedDocuments.{composite-lighter}
 use Rattle.agg_collector_tree.proofs.LastIds.{last-visits, low-or-last}

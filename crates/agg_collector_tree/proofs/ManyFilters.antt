@@ -27,7 +27,8 @@ use Rattle.agg_segment_context.specs.declared.context.PerRequestAggSegCtx.{PerRe
 use Rattle.agg_segment_context.specs.declared.node.AggKind.TheVariants as kind
 use Rattle.agg_collector_tree.specs.Refusals.{ListsTooMany, ManyTaken}
 use Rattle.agg_collector_tree.specs.Took.{FilterAnswers, FilterTook}
-use Rattle.agg_collector_tree.specs.Tree.{Cache, Held, IsFor, IsHandedTo, IsOf, waiting_in}
+use Rattle.agg_collector_tree.specs.Caches.{Cache, waiting_in}
+use Rattle.agg_collector_tree.specs.Tree.{Held, IsFor, IsHandedTo, IsOf}
 use Rattle.agg_collector_tree.proofs.HandedDocuments.{filter-lighter, matched-lighter}
 use Rattle.agg_collector_tree.proofs.LastIds.{filter-last, low-or-last}
 use Rattle.agg_collector_tree.proofs.MatchedDocuments.{given-matched, matching-within}

@@ -9,7 +9,7 @@ use Rattle.agg_request_tree.proofs.Lists.{Has, Has-from_Contains}
 use Rattle.agg_buckets.specs.Visits.{Within, docs_in, weight}
 use Rattle.agg_buckets.proofs.Labels.{is_id-other, is_id-same, weight-append}
 use Rattle.agg_filter.specs.Filter.{Filter, FilterFor}
-use Rattle.agg_collector_tree.specs.Tree.{Cache, waiting_in}
+use Rattle.agg_collector_tree.specs.Caches.{Cache, waiting_in}
 use Rattle.agg_collector_tree.proofs.LowerDocuments.{below, below-all, below-le, top}
 
 -- ---- sums

@@ -22,7 +22,8 @@ use Rattle.agg_segment_context.specs.declared.node.AggKind.TheVariants as kind
 use Rattle.agg_collector_tree.specs.Bound.{TakesMost}
 use Rattle.agg_collector_tree.specs.Counting.{counted_in, counted_of}
 use Rattle.agg_collector_tree.specs.Took.{FilterTook}
-use Rattle.agg_collector_tree.specs.Tree.{Cache, Held, IsFor, IsHandedTo, IsOf, waiting_in}
+use Rattle.agg_collector_tree.specs.Caches.{Cache, waiting_in}
+use Rattle.agg_collector_tree.specs.Tree.{Held, IsFor, IsHandedTo, IsOf}
 use Rattle.agg_collector_tree.proofs.HandedDocuments.{filter-lighter}
 use Rattle.agg_collector_tree.proofs.MostSteps.{nothing-counted}
 use Rattle.agg_collector_tree.proofs.MostVisits.{asked-filter, counted_in-out, of-less}

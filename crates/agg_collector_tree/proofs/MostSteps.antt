@@ -27,9 +27,10 @@ use Rattle.agg_segment_context.specs.declared.node.AggKind.TheVariants as kind
 use Rattle.agg_collector_tree.specs.Bound.{TakesMost}
 use Rattle.agg_collector_tree.specs.Counting.{counted_in, counted_of, own_counted}
 use Rattle.agg_collector_tree.specs.Took.{CompositeTook}
-use Rattle.agg_collector_tree.specs.Tree.{AreOf, Cache, CompositeIsFor, Fits, Held, Helds, IsFor}
+use Rattle.agg_collector_tree.specs.Caches.{Cache}
+use Rattle.agg_collector_tree.specs.Tree.{AreOf, CompositeIsFor, Fits, Held, Helds, IsFor}
 use Rattle.agg_collector_tree.specs.Tree.{IsGroupOf, IsHandedTo, IsOf, Takes, nothing, visits_of}
-use Rattle.agg_collector_tree.specs.Tree.{waiting_in}
+use Rattle.agg_collector_tree.specs.Caches.{waiting_in}
 use Rattle.agg_collector_tree.proofs.CompositeCalls.{visits-append}
 use Rattle.agg_collector_tree.proofs.CompositeNodes.{is-for}
 use Rattle.agg_collector_tree.proofs.HandedDocuments.{composite-lighter}

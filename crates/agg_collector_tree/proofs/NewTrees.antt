@@ -18,8 +18,10 @@ use Rattle.agg_segment_context.specs.declared.node.AggKind.{AggKind}
 use Rattle.agg_segment_context.specs.declared.node.AggRefNode.{AggRefNode}
 use Rattle.agg_segment_context.specs.declared.node.AggRefNode.TheFolds.{fold_out-AggRefNode}
 use Rattle.agg_segment_context.specs.declared.node.AggRefNode.TheViews.{out-AggRefNode}
-use Rattle.agg_collector_tree.specs.New.{HasData, HaveData, IsNew, IsNewComposite, IsNewFilter}
-use Rattle.agg_collector_tree.specs.Tree.{AllFit, AllFor, AreFlushed, AreOf, Cache, Fits, Held}
+use Rattle.agg_collector_tree.specs.NewFilter.{IsNewFilter}
+use Rattle.agg_collector_tree.specs.New.{HasData, HaveData, IsNew, IsNewComposite}
+use Rattle.agg_collector_tree.specs.Caches.{Cache}
+use Rattle.agg_collector_tree.specs.Tree.{AllFit, AllFor, AreFlushed, AreOf, Fits, Held}
 use Rattle.agg_collector_tree.specs.Tree.{IsFlushed, IsFor}
 use Rattle.agg_collector_tree.specs.Tree.{IsGroupOf, IsHandedTo, IsOf, helds_of, nothing}
 use Rattle.agg_collector_tree.proofs.Levels.{is-nothing}

@@ -17,7 +17,8 @@ use declared.{SegmentCollectorTree as Tree}
 use declared.{Composite}
 use Rattle.agg_collector_tree.specs.Bound.{TakesMost}
 use Rattle.agg_collector_tree.specs.Took.{CompositeAnswers}
-use Rattle.agg_collector_tree.specs.Tree.{Cache, Fits, held_of}
+use Rattle.agg_collector_tree.specs.Caches.{Cache}
+use Rattle.agg_collector_tree.specs.Tree.{Fits, held_of}
 use Rattle.agg_collector_tree.proofs.Levels.{held-composite}
 use Rattle.agg_collector_tree.proofs.MostSteps.{composite-own-most}
 

@@ -14,7 +14,8 @@ use Rattle.agg_collector_tree.specs.declared.tree.SegmentCollectorTree as declar
 use declared.{SegmentCollectorTree as Tree}
 use declared.{Composite, Filter}
 use Rattle.agg_collector_tree.specs.Step.{index_in}
-use Rattle.agg_collector_tree.specs.Tree.{Cache, Fits, held_of}
+use Rattle.agg_collector_tree.specs.Caches.{Cache}
+use Rattle.agg_collector_tree.specs.Tree.{Fits, held_of}
 use Rattle.agg_collector_tree.proofs.Levels.{held-composite, held-filter}
 
 -- what is read at an index is what is there

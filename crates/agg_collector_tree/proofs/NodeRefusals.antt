@@ -24,7 +24,8 @@ use declared.{SegmentCollectorTree as Tree}
 use declared.{Composite, Filter, Metric}
 use Rattle.agg_collector_tree.specs.Refusals.{IsRefused}
 use Rattle.agg_collector_tree.specs.Took.{CompositeAnswers, FilterAnswers, MetricAnswers}
-use Rattle.agg_collector_tree.specs.Tree.{Cache, Fits, held_of}
+use Rattle.agg_collector_tree.specs.Caches.{Cache}
+use Rattle.agg_collector_tree.specs.Tree.{Fits, held_of}
 use Rattle.agg_collector_tree.proofs.Levels.{held-composite, held-filter, held-metric}
 use Rattle.agg_collector_tree.proofs.RefusedFilters.{filter-refused, metric-refused}
 use Rattle.agg_collector_tree.proofs.RefusedNodes.{composite-refused}

@@ -24,7 +24,8 @@ use declared.{SegmentCollectorTree as Tree}
 use declared.{Composite, Filter}
 use Rattle.agg_collector_tree.specs.Step.{TakesAt}
 use Rattle.agg_collector_tree.specs.Took.{CompositeTook, FilterTook}
-use Rattle.agg_collector_tree.specs.Tree.{Cache, Fits, held_of, waiting_in}
+use Rattle.agg_collector_tree.specs.Caches.{Cache, waiting_in}
+use Rattle.agg_collector_tree.specs.Tree.{Fits, held_of}
 use Rattle.agg_collector_tree.proofs.CompositeNodes.{composite-hands, composite-keeps}
 use Rattle.agg_collector_tree.proofs.FilterNodes.{filter-hands, filter-keeps}
 use Rattle.agg_collector_tree.proofs.Levels.{held-composite, held-filter}

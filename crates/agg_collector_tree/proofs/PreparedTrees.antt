@@ -16,8 +16,10 @@ use Rattle.agg_collector_tree.specs.declared.tree.SegmentCollectorTree as declar
 use declared.{SegmentCollectorTree as Tree}
 use declared.{Composite, Filter, Metric}
 use Rattle.agg_collector_tree.specs.Prepared.{ArePrepared, IsPrepared}
-use Rattle.agg_collector_tree.specs.Tree.{Cache, Held, IsFor, IsHandedTo, Takes, group_of, held_of}
-use Rattle.agg_collector_tree.specs.Tree.{helds_of, visits_of, waiting_in}
+use Rattle.agg_collector_tree.specs.Caches.{Cache}
+use Rattle.agg_collector_tree.specs.Tree.{Held, IsFor, IsHandedTo, Takes, group_of, held_of}
+use Rattle.agg_collector_tree.specs.Caches.{waiting_in}
+use Rattle.agg_collector_tree.specs.Tree.{helds_of, visits_of}
 use Rattle.agg_collector_tree.proofs.Groups.{metric-takes}
 use Rattle.agg_collector_tree.proofs.HandedTrees.{held-next}
 use Rattle.agg_collector_tree.proofs.Levels.{held-composite, held-filter, held-metric, same-itself}

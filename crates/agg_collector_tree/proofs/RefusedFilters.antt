@@ -24,8 +24,10 @@ use Rattle.agg_collector_tree.specs.declared.tree.SegmentCollectorTree as declar
 use declared.{SegmentCollectorTree as Tree}
 use Rattle.agg_collector_tree.specs.Refusals.{IsRefused, RangeTaken, SomeHasStart}
 use Rattle.agg_collector_tree.specs.Took.{FilterAnswers, FilterTook, MetricAnswers}
-use Rattle.agg_collector_tree.specs.Tree.{AllFor, Cache, Held, IsHandedTo, group_of, held_of}
-use Rattle.agg_collector_tree.specs.Tree.{helds_of, waiting_in}
+use Rattle.agg_collector_tree.specs.Caches.{Cache}
+use Rattle.agg_collector_tree.specs.Tree.{AllFor, Held, IsHandedTo, group_of, held_of}
+use Rattle.agg_collector_tree.specs.Caches.{waiting_in}
+use Rattle.agg_collector_tree.specs.Tree.{helds_of}
 use Rattle.agg_collector_tree.proofs.ManyFilters.{filter-lower-many, filter-many}
 use Rattle.agg_collector_tree.proofs.ManyMetrics.{group-many, metric-many}
 use Rattle.agg_collector_tree.proofs.MatchedDocuments.{given-matched, matching-within}

@@ -20,8 +20,10 @@ use Rattle.agg_segment_context.specs.declared.context.PerRequestAggSegCtx.{PerRe
 use Rattle.agg_collector_tree.specs.Refusals.{HasStartOutOfRange, IsRefused, RangeTaken}
 use Rattle.agg_collector_tree.specs.Refusals.{SomeHasStart}
 use Rattle.agg_collector_tree.specs.Took.{CompositeAnswers, CompositeTook, IsRefusal}
-use Rattle.agg_collector_tree.specs.Tree.{Cache, CompositeIsFor, Held, Helds, IsHandedTo, nothing}
-use Rattle.agg_collector_tree.specs.Tree.{visits_of, waiting_in}
+use Rattle.agg_collector_tree.specs.Caches.{Cache}
+use Rattle.agg_collector_tree.specs.Tree.{CompositeIsFor, Held, Helds, IsHandedTo, nothing}
+use Rattle.agg_collector_tree.specs.Caches.{waiting_in}
+use Rattle.agg_collector_tree.specs.Tree.{visits_of}
 use Rattle.agg_collector_tree.proofs.CompositeNodes.{is-for}
 use Rattle.agg_collector_tree.proofs.ManyComposites.{composite-lower-many, composite-many}
 use Rattle.agg_collector_tree.proofs.LowerDocuments.{given-visited, visited-part}

@@ -1,6 +1,8 @@
 pub mod Bound
+pub mod Caches
 pub mod Counting
 pub mod New
+pub mod NewFilter
 pub mod Prepared
 pub mod Refusals
 pub mod Step

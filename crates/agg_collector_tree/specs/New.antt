@@ -3,26 +3,20 @@ use Rattle.std.specs.Prelude.{◌≡◌, ◌≤◌, ℕ, [], Bool, Some, ⊤, no
 use Rattle.agg_segment.specs.Segment.{Stored}
 use Rattle.agg_accessor.specs.declared.request_data.CompositeAggReqData.{CompositeAggReqData}
 use Rattle.agg_composite.specs.Composite.{Composite, CompositeFor}
-use Rattle.agg_filter.specs.Filter.{Filter, FilterFor}
 use Rattle.agg_filter.specs.declared.request_data.FilterAggReqData.{FilterAggReqData}
 use Rattle.agg_metric.specs.declared.request_data.MetricAggReqData.{MetricAggReqData}
 use Rattle.agg_segment_context.specs.Context.{HasFewSources, IsMeant, Meaning}
 use Rattle.agg_segment_context.specs.Plan.{Plan, Plans}
 use Rattle.agg_segment_context.specs.declared.context.PerRequestAggSegCtx.{PerRequestAggSegCtx}
 use Rattle.agg_segment_context.specs.declared.node.AggKind.TheVariants as kind
-use Rattle.agg_collector_tree.specs.Tree.{Cache, Fits, Held, IsFlushed, IsFor, waiting_in}
+use Rattle.agg_collector_tree.specs.Caches.{Cache, waiting_in}
+use Rattle.agg_collector_tree.specs.Tree.{Fits, Held, IsFlushed, IsFor}
 
 -- a composite's collector that visited nothing, with room for tuples of so many sources
 pub record IsNewComposite (is_leaf : Bool) (num_sources : ℕ) (collector : Composite Cache)
     : Type 0 where
   pub empty : (req : CompositeAggReqData) → CompositeFor waiting_in req collector [] []
   pub room : num_sources ≤ collector.room
-  pub waiting : (id : ℕ) → waiting_in collector.cache.0 id ≡ []
-  pub hands_on : collector.hands_on ≡ not is_leaf
-
--- a filter's collector that visited nothing
-pub record IsNewFilter (is_leaf : Bool) (collector : Filter Cache) : Type 0 where
-  pub empty : (is_match : ℕ → Bool) → FilterFor waiting_in is_match collector [] []
   pub waiting : (id : ℕ) → waiting_in collector.cache.0 id ≡ []
   pub hands_on : collector.hands_on ≡ not is_leaf
 

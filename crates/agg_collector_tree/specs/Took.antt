@@ -16,7 +16,8 @@ use Rattle.agg_metric.specs.Collector.{Metric, MetricFor, MetricTakes, values_un
 use Rattle.agg_metric.specs.Metric.{IsTooMany}
 use Rattle.agg_metric.specs.declared.request_data.MetricAggReqData.{MetricAggReqData}
 use Rattle.agg_collector_tree.specs.Refusals.{AreNotLast}
-use Rattle.agg_collector_tree.specs.Tree.{Cache, visits_of, waiting_in}
+use Rattle.agg_collector_tree.specs.Caches.{Cache, waiting_in}
+use Rattle.agg_collector_tree.specs.Tree.{visits_of}
 
 -- why a call of a tree is refused
 abbrev pub IsRefusal : CollectError → Type 0

@@ -1,6 +1,6 @@
 -- A tree of collectors as plain data, and when it is right for the documents that it took.
 use Rattle.std.specs.Prelude.{◌≡◌, ◌+◌, ◌*◌, ◌≤◌, ◌++◌, ◌⊎◌, ℕ, List, [], ◌∷◌, Bool, true, Some, ⊤}
-use Rattle.std.specs.Prelude.{get_or, length, map, slice_get}
+use Rattle.std.specs.Prelude.{length, map, slice_get}
 use Rattle.std.specs.List.{flat_map}
 use Rattle.agg_values.specs.Names.{Named}
 use Rattle.agg_values.specs.declared.after_key.AfterKey.{AfterKey}
@@ -17,19 +17,13 @@ use Rattle.agg_segment_context.specs.Context.{IsMeant, Meaning}
 use Rattle.agg_segment_context.specs.Plan.{Plan, Plans}
 use Rattle.agg_segment_context.specs.declared.context.PerRequestAggSegCtx.{PerRequestAggSegCtx}
 use Rattle.agg_segment_context.specs.declared.node.AggKind.TheVariants as kind
+use Rattle.agg_collector_tree.specs.Caches.{Cache, waiting_in}
 use Rattle.agg_collector_tree.specs.declared.tree.SegmentCollectorTree.{SegmentCollectorTree}
 use Rattle.agg_collector_tree.specs.declared.tree.SegmentCollectorTree.TheOpen as opened
 use Rattle.agg_collector_tree.specs.declared.tree.SegmentCollectorTree.TheFolds as folds
 use folds.{fold-SegmentCollectorTree}
 
 -- ---- plain data
-
--- the documents that wait in a cache, by bucket
-abbrev pub Cache : Type 0
-Cache = List (List ℕ)
-
-abbrev pub waiting_in : Cache → ℕ → List ℕ
-waiting_in cache id = get_or cache id []
 
 -- a collector of a composite or filter by its index with what is below it, one of a metric, or
 -- several

@@ -10,14 +10,14 @@ ghost use Rattle.agg_collector_tree.specs.Took.{CompositeAnswers};
 
 use crate::Taken;
 use agg_accessor::CompositeAggReqData;
-use agg_cache::{Batch, BucketId, CollectError, LowCardSubAggCache};
+use agg_cache::{Batch, BucketId, CollectError, HighCardSubAggCache};
 use agg_composite::SegmentCompositeCollector;
 use agg_values::{DocId, Steps};
 use std::sync::ledger::Ledger;
 
 /// Takes documents under parents, and prepares these first.
 pub(crate) fn take_in_composite<L: Ledger>(
-    collector: &mut SegmentCompositeCollector<LowCardSubAggCache>,
+    collector: &mut SegmentCompositeCollector<HighCardSubAggCache>,
     taken: Taken<'_>,
     req: &CompositeAggReqData<'_>,
     steps: &mut Steps<L>,
@@ -36,7 +36,7 @@ pub(crate) fn take_in_composite<L: Ledger>(
 
 // Takes documents under a parent, which is prepared.
 fn collect_under<L: Ledger>(
-    collector: &mut SegmentCompositeCollector<LowCardSubAggCache>,
+    collector: &mut SegmentCompositeCollector<HighCardSubAggCache>,
     parent: BucketId,
     docs: &[DocId],
     req: &CompositeAggReqData<'_>,
@@ -54,7 +54,7 @@ fn collect_under<L: Ledger>(
 
 // Takes the documents of batches.
 fn collect_batches<L: Ledger>(
-    collector: &mut SegmentCompositeCollector<LowCardSubAggCache>,
+    collector: &mut SegmentCompositeCollector<HighCardSubAggCache>,
     batches: &[Batch],
     req: &CompositeAggReqData<'_>,
     steps: &mut Steps<L>,

@@ -9,14 +9,14 @@ ghost use Rattle.agg_filter.specs.Matching.{is_matching};
 ghost use Rattle.agg_collector_tree.specs.Taken.{taken_pairs, taken_parents};
 ghost use Rattle.agg_collector_tree.specs.Took.{FilterAnswers};
 
-use crate::Taken;
-use agg_cache::{Batch, BucketId, CollectError, LowCardSubAggCache};
-use agg_filter::{FilterAggReqData, SegmentFilterCollector};
+use crate::{FilterCollector, Taken};
+use agg_cache::{Batch, BucketId, CollectError};
+use agg_filter::FilterAggReqData;
 use agg_values::DocId;
 
 /// Takes documents under parents, and prepares these first.
 pub(crate) fn take_in_filter(
-    collector: &mut SegmentFilterCollector<LowCardSubAggCache>,
+    collector: &mut FilterCollector,
     taken: Taken<'_>,
     req: &FilterAggReqData,
 ) -> Result<(), CollectError>
@@ -33,7 +33,7 @@ pub(crate) fn take_in_filter(
 
 // Takes documents under a parent, which is prepared.
 fn collect_under(
-    collector: &mut SegmentFilterCollector<LowCardSubAggCache>,
+    collector: &mut FilterCollector,
     parent: BucketId,
     docs: &[DocId],
     req: &FilterAggReqData,
@@ -49,7 +49,7 @@ fn collect_under(
 
 // Takes the documents of batches.
 fn collect_batches(
-    collector: &mut SegmentFilterCollector<LowCardSubAggCache>,
+    collector: &mut FilterCollector,
     batches: &[Batch],
     req: &FilterAggReqData,
 ) -> Result<(), CollectError>

@@ -6,13 +6,11 @@ ghost use Rattle.agg_segment.specs.declared.query.QueryTree.{QueryTree};
 ghost use Rattle.agg_segment_context.specs.Context.{IsContextOf, IsMeant, Meaning};
 ghost use Rattle.agg_segment_context.specs.Plan.{plan_of, plans_of};
 ghost use Rattle.agg_collector_tree.specs.New.{HasData, HaveData, IsNew, IsNewComposite};
-ghost use Rattle.agg_collector_tree.specs.New.{IsNewFilter};
 ghost use Rattle.agg_collector_tree.specs.Tree.{Fits, IsFlushed, IsFor, IsGroupOf, IsOf, held_of};
 
-use crate::SegmentCollectorTree;
-use agg_cache::LowCardSubAggCache;
+use crate::{FilterCollector, Place, SegmentCollectorTree};
+use agg_cache::HighCardSubAggCache;
 use agg_composite::SegmentCompositeCollector;
-use agg_filter::SegmentFilterCollector;
 use agg_metric::SegmentMetricCollector;
 use agg_segment::SegmentReader;
 use agg_segment_context::{AggKind, AggRefNode, PerRequestAggSegCtx};
@@ -34,14 +32,15 @@ pub fn tree_for<'s>(
         → IsMeant meaning ctx.now → IsFor meaning ctx.now (held_of tree) [] 0) }
     ensures flushed { IfOk result (λ tree. IsFlushed (held_of tree)) }
 {
-    trees_for(alloc, ctx.agg_tree.as_slice(), ctx, segment)
+    trees_for(alloc, ctx.agg_tree.as_slice(), Place::Top, ctx, segment)
 }
 
-// The trees of nodes, side by side.
+// The trees of nodes, side by side, at the top of the request or below another node.
 #[cycle(tree)]
 fn trees_for<'s>(
     alloc: Global,
     nodes: &[AggRefNode],
+    place: Place,
     ctx: &PerRequestAggSegCtx<'_>,
     segment: &'s SegmentReader,
 ) -> Result<SegmentCollectorTree<'s>, OutOfMemory>
@@ -52,7 +51,7 @@ fn trees_for<'s>(
 {
     let mut trees = Vec::new(alloc);
     for node in nodes {
-        trees.push(tree_of_node(alloc, node, ctx, segment)?)?;
+        trees.push(tree_of_node(alloc, node, place, ctx, segment)?)?;
     }
     Ok(SegmentCollectorTree::Group(trees))
 }
@@ -62,6 +61,7 @@ fn trees_for<'s>(
 fn tree_of_node<'s>(
     alloc: Global,
     node: &AggRefNode,
+    place: Place,
     ctx: &PerRequestAggSegCtx<'_>,
     segment: &'s SegmentReader,
 ) -> Result<SegmentCollectorTree<'s>, OutOfMemory>
@@ -76,14 +76,15 @@ fn tree_of_node<'s>(
         AggKind::Composite => {
             let req = &ctx.composite_req_data.as_slice()[index];
             let collector = new_composite(alloc, is_leaf, req.req.sources.as_slice().len())?;
-            let below = trees_for(alloc, nodes, ctx, segment)?;
+            let below = trees_for(alloc, nodes, Place::Below, ctx, segment)?;
             let below = Box::new(alloc, below)?;
             Ok(SegmentCollectorTree::Composite(index, collector, below))
         }
         AggKind::Filter => {
-            let below = trees_for(alloc, nodes, ctx, segment)?;
+            let below = trees_for(alloc, nodes, Place::Below, ctx, segment)?;
             let below = Box::new(alloc, below)?;
-            Ok(SegmentCollectorTree::Filter(index, new_filter(alloc, is_leaf), below))
+            let collector = FilterCollector::new(alloc, place, is_leaf);
+            Ok(SegmentCollectorTree::Filter(index, collector, below))
         }
         AggKind::StatsKind(_) => {
             let req = &ctx.stats_metric_req_data.as_slice()[index];
@@ -98,7 +99,7 @@ fn new_composite(
     alloc: Global,
     is_leaf: bool,
     num_sources: usize,
-) -> Result<SegmentCompositeCollector<LowCardSubAggCache>, OutOfMemory>
+) -> Result<SegmentCompositeCollector<HighCardSubAggCache>, OutOfMemory>
     requires some { 1 ≤ num_sources }
     requires few { num_sources ≤ max_sources }
     ensures { IfOk result (IsNewComposite is_leaf num_sources) }
@@ -107,14 +108,4 @@ fn new_composite(
         return SegmentCompositeCollector::new_leaf(alloc, num_sources);
     }
     SegmentCompositeCollector::new(alloc, num_sources)
-}
-
-// A new collector for a filter.
-fn new_filter(alloc: Global, is_leaf: bool) -> SegmentFilterCollector<LowCardSubAggCache>
-    ensures { IsNewFilter is_leaf result }
-{
-    if is_leaf {
-        return SegmentFilterCollector::new_leaf(alloc);
-    }
-    SegmentFilterCollector::new(alloc)
 }

@@ -3,6 +3,7 @@
 
 mod composite;
 mod filter;
+mod filter_collector;
 mod growing;
 mod handing;
 mod metric;
@@ -10,6 +11,7 @@ mod preparing;
 mod taken;
 mod tree;
 
+pub use filter_collector::{FilterCollector, Place};
 pub use growing::tree_for;
 pub use handing::hand;
 pub use preparing::prepare;

@@ -1,7 +1,7 @@
 //! The tree of collectors.
-use agg_cache::LowCardSubAggCache;
+use crate::FilterCollector;
+use agg_cache::HighCardSubAggCache;
 use agg_composite::SegmentCompositeCollector;
-use agg_filter::SegmentFilterCollector;
 use agg_metric::SegmentMetricCollector;
 
 /// The collectors of a request's aggregations in a segment, or of some of them. A node that has
@@ -9,9 +9,9 @@ use agg_metric::SegmentMetricCollector;
 #[derive(Drop)]
 pub enum SegmentCollectorTree<'s> {
     /// A composite, by its index in the data of composites, with what is below it.
-    Composite(usize, SegmentCompositeCollector<LowCardSubAggCache>, Box<SegmentCollectorTree<'s>>),
+    Composite(usize, SegmentCompositeCollector<HighCardSubAggCache>, Box<SegmentCollectorTree<'s>>),
     /// A filter, by its index in the data of filters, with what is below it.
-    Filter(usize, SegmentFilterCollector<LowCardSubAggCache>, Box<SegmentCollectorTree<'s>>),
+    Filter(usize, FilterCollector, Box<SegmentCollectorTree<'s>>),
     /// A metric, by its index in the data of metrics.
     Metric(usize, SegmentMetricCollector<'s>),
     /// Several, side by side.

@@ -20,8 +20,9 @@ use Rattle.agg_composite.specs.Composite.{Composite, CompositeFor, num_buckets}
 use Rattle.agg_composite.specs.Visits.{TypedVisit}
 use Rattle.agg_segment_context.specs.Context.{IsMeant, Meaning}
 use Rattle.agg_segment_context.specs.declared.context.PerRequestAggSegCtx.{PerRequestAggSegCtx}
-use Rattle.agg_collector_tree.specs.Tree.{Cache, Held, IsFor, IsHandedTo, visits_of}
-use Rattle.agg_collector_tree.specs.Tree.{waiting_in}
+use Rattle.agg_collector_tree.specs.Caches.{Cache}
+use Rattle.agg_collector_tree.specs.Tree.{Held, IsFor, IsHandedTo, visits_of}
+use Rattle.agg_collector_tree.specs.Caches.{waiting_in}
 use Rattle.agg_collector_tree.proofs.LowerDocuments.{docs-stand, given-within, visited-part}
 use Rattle.agg_collector_tree.proofs.WithinLists.{within-both, within-contains}
 use Rattle.agg_held_bytes.specs.HeldBytes.{bytes_at}

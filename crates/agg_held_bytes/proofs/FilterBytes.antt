@@ -23,7 +23,7 @@ use Rattle.agg_buckets.specs.Visits.{docs_in}
 use Rattle.agg_filter.specs.Filter.{Filter, FilterFor}
 use Rattle.agg_filter.specs.Matching.{is_matching}
 use Rattle.agg_segment_context.specs.Context.{tree_in}
-use Rattle.agg_collector_tree.specs.Tree.{Cache, waiting_in}
+use Rattle.agg_collector_tree.specs.Caches.{Cache, waiting_in}
 use Rattle.agg_collector_tree.proofs.HandedDocuments.{matched-lighter}
 use Rattle.agg_held_bytes.proofs.DocumentLists.{docs-among, matched-same, nothing-first}
 use Rattle.agg_held_bytes.proofs.DocumentLists.{within-front, within-lighter, within-trans}

@@ -13,7 +13,8 @@ use Rattle.agg_accessor.specs.declared.request_data.CompositeAggReqData.{Composi
 use Rattle.agg_composite.specs.Composite.{Composite, num_buckets}
 use Rattle.agg_segment_context.specs.Context.{IsMeant, Meaning}
 use Rattle.agg_segment_context.specs.declared.context.PerRequestAggSegCtx.{PerRequestAggSegCtx}
-use Rattle.agg_collector_tree.specs.Tree.{Cache, Fits, Held, group_of, held_of}
+use Rattle.agg_collector_tree.specs.Caches.{Cache}
+use Rattle.agg_collector_tree.specs.Tree.{Fits, Held, group_of, held_of}
 use Rattle.agg_collector_tree.specs.declared.tree.SegmentCollectorTree as declared
 use declared.{SegmentCollectorTree}
 use Rattle.agg_collector_tree.proofs.Levels.{fits-each, held-composite, held-group}

@@ -44,7 +44,8 @@ use Rattle.agg_composite.proofs.BucketDocuments.{page-handed}
 use Rattle.agg_composite.proofs.BucketPages.{page-groups}
 use Rattle.agg_results.specs.StandsFor.{GroupsStandFor}
 use Rattle.agg_results.proofs.StandingGroups.{stands-lowest}
-use Rattle.agg_collector_tree.specs.Tree.{Cache, visits_of, waiting_in}
+use Rattle.agg_collector_tree.specs.Caches.{Cache, waiting_in}
+use Rattle.agg_collector_tree.specs.Tree.{visits_of}
 use Rattle.agg_tree_results.proofs.TakenVisits.{docs-with, tuples-taken}
 use Rattle.agg_held_bytes.proofs.LabelSums.{weight-covered}
 use Rattle.agg_held_bytes.proofs.ParentVisits.{is_under}

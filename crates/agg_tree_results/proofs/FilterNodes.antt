@@ -28,7 +28,8 @@ use Rattle.agg_results.specs.StandsFor.{NamesStand, PartsStand, StandsTo}
 use Rattle.agg_segment_context.specs.Context.{IsPlanOf, Meaning, tree_in}
 use Rattle.agg_segment_context.specs.Plan.{Plan}
 use Rattle.agg_segment_context.specs.declared.context.PerRequestAggSegCtx.{PerRequestAggSegCtx}
-use Rattle.agg_collector_tree.specs.Tree.{Cache, Held, IsHandedTo, IsOf, waiting_in}
+use Rattle.agg_collector_tree.specs.Caches.{Cache, waiting_in}
+use Rattle.agg_collector_tree.specs.Tree.{Held, IsHandedTo, IsOf}
 use Rattle.agg_tree_results.specs.Results.{AreDocsOf, GroupStands, IsTrail, docs_taken}
 use Rattle.agg_tree_results.proofs.BelowNodes.{below-stands}
 use Rattle.agg_tree_results.proofs.NamedNodes.{filter-node}

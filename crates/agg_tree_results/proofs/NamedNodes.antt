@@ -23,7 +23,8 @@ use Rattle.agg_segment_context.specs.Context.{IsMetricAt, IsPlanOf, Meaning}
 use Rattle.agg_segment_context.specs.Plan.{Plan, Plans}
 use Rattle.agg_segment_context.specs.declared.context.PerRequestAggSegCtx.{PerRequestAggSegCtx}
 use Rattle.agg_segment_context.specs.declared.node.AggKind.TheVariants as kind
-use Rattle.agg_collector_tree.specs.Tree.{AreOf, Cache, Held, Helds, IsGroupOf, IsOf}
+use Rattle.agg_collector_tree.specs.Caches.{Cache}
+use Rattle.agg_collector_tree.specs.Tree.{AreOf, Held, Helds, IsGroupOf, IsOf}
 use Rattle.agg_tree_results.specs.Names.{composite_name, filter_name, metric_name, names_in}
 use Rattle.agg_tree_results.specs.Names.{names_of}
 

@@ -37,7 +37,8 @@ use intermediate.results.IntermediateAggregationResult.TheVariants as result
 use intermediate.results.IntermediateAggregationResults.{IntermediateAggregationResults}
 use Rattle.agg_segment_context.specs.Context.{IsCompositeMeant}
 use Rattle.agg_segment_context.specs.declared.context.PerRequestAggSegCtx.{PerRequestAggSegCtx}
-use Rattle.agg_collector_tree.specs.Tree.{Cache, Held, held_of, visits_of, waiting_in}
+use Rattle.agg_collector_tree.specs.Caches.{Cache, waiting_in}
+use Rattle.agg_collector_tree.specs.Tree.{Held, held_of, visits_of}
 use Rattle.agg_collector_tree.specs.declared.tree.SegmentCollectorTree as tree
 use tree.{SegmentCollectorTree}
 use Rattle.agg_tree_results.specs.Names.{composite_name, filter_name, metric_name}

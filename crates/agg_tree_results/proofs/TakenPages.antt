@@ -22,7 +22,8 @@ use Rattle.agg_composite.specs.Visits.{TypedVisit}
 use Rattle.agg_composite.specs.declared.page_entry.PageEntry.{PageEntry}
 use Rattle.agg_results.specs.StandsFor.{GroupsStandFor}
 use Rattle.agg_results.proofs.StandingGroups.{stands-lowest}
-use Rattle.agg_collector_tree.specs.Tree.{Cache, visits_of, waiting_in}
+use Rattle.agg_collector_tree.specs.Caches.{Cache, waiting_in}
+use Rattle.agg_collector_tree.specs.Tree.{visits_of}
 use Rattle.agg_tree_results.specs.Pages.{IsPageUnder}
 use Rattle.agg_tree_results.specs.Results.{AreDocsOf, docs_taken}
 use Rattle.agg_tree_results.proofs.TakenVisits.{docs-all, docs-with, tuples-taken}

@@ -10,7 +10,8 @@ use Rattle.agg_composite.specs.Composite.{Composite, CompositeFor}
 use Rattle.agg_composite.specs.PageEntries.{entry_group}
 use Rattle.agg_composite.specs.declared.page_entry.PageEntry.{PageEntry}
 use Rattle.agg_results.specs.StandsFor.{GroupsStandFor}
-use Rattle.agg_collector_tree.specs.Tree.{Cache, visits_of, waiting_in}
+use Rattle.agg_collector_tree.specs.Caches.{Cache, waiting_in}
+use Rattle.agg_collector_tree.specs.Tree.{visits_of}
 use Rattle.agg_tree_results.specs.Results.{AreDocsOf, docs_taken}
 
 -- a collector hands documents on, and none waits

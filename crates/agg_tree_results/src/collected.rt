@@ -10,14 +10,14 @@ ghost use Rattle.agg_composite.specs.Visits.{TypedVisit};
 ghost use Rattle.agg_filter.specs.Filter.{FilterFor};
 ghost use Rattle.agg_metric.specs.Collector.{MetricFor};
 ghost use Rattle.agg_metric.specs.Metric.{metric_of};
-ghost use Rattle.agg_collector_tree.specs.Tree.{waiting_in};
+ghost use Rattle.agg_collector_tree.specs.Caches.{waiting_in};
 ghost use Rattle.agg_tree_results.specs.Pages.{IsPageUnder};
 ghost use Rattle.agg_tree_results.specs.Results.{docs_taken};
 
 use crate::made::metric_of_none;
-use agg_cache::{BucketId, LowCardSubAggCache};
+use agg_cache::{BucketId, HighCardSubAggCache};
+use agg_collector_tree::FilterCollector;
 use agg_composite::{CompositeAggReqData, PageEntry, SegmentCompositeCollector};
-use agg_filter::SegmentFilterCollector;
 use agg_metric::{MetricAggReqData, SegmentMetricCollector};
 use agg_results::IntermediateMetricResult;
 use agg_values::{ItemList, OutOfMemory};
@@ -43,7 +43,7 @@ pub fn metric_under(
 /// How many of a parent's documents match, and the id of its bucket, under which these were given.
 /// One that isn't prepared has no bucket and no documents.
 pub fn bucket_under(
-    collector: &SegmentFilterCollector<LowCardSubAggCache>,
+    collector: &FilterCollector,
     parent: Option<BucketId>,
 ) -> (u64, Option<BucketId>)
     ensures count { (is_match : ℕ → Bool) (taken given : List (ℕ × ℕ))
@@ -64,7 +64,7 @@ pub fn bucket_under(
 /// The page of a parent's documents, and of none without a parent.
 pub fn page_under(
     alloc: Global,
-    collector: &SegmentCompositeCollector<LowCardSubAggCache>,
+    collector: &SegmentCompositeCollector<HighCardSubAggCache>,
     req: &CompositeAggReqData<'_>,
     parent: Option<BucketId>,
 ) -> Result<ItemList<PageEntry>, OutOfMemory>

@@ -117,7 +117,7 @@ tree_of_node-returns-in_ok-below-in-Filter-2-clause-node t c =
     let child = c.in_ok-below-in-Filter-2.below in
     rw (
       plan-is c.args.node.now kind.Filter c.in-Filter.is,
-      held-filter index c.new_filter.result child,
+      held-filter index c.new-collector.result child,
     ) (
       refl,
       subst (λ nodes. IsGroupOf (plans_of (map plan_of nodes)) (held_of child.value))
@@ -132,7 +132,7 @@ tree_of_node-returns-in_ok-below-in-Filter-2-clause-new t c =
     let ctx = c.args.ctx.now in
     let segment = c.args.segment.now in
     let index = (out-AggRefNode c.args.node.now).idx_in_req_data in
-    let collector = c.new_filter.result in
+    let collector = c.new-collector.result in
     let child = c.in_ok-below-in-Filter-2.below in
     let nodes = c.as_slice-nodes.result.now in
     let is_leaf = c.is_empty-is_leaf.result in
@@ -140,10 +140,10 @@ tree_of_node-returns-in_ok-below-in-Filter-2-clause-new t c =
     let d = subst (HasData ctx) (plan-is c.args.node.now kind.Filter c.in-Filter.is) c.requires in
     rw (held-filter index collector child)
     (new-filter ctx segment index d.0.0 is_leaf collector (held_of child.value) d.0.1
-    c.new_filter.ensures
+    c.new-collector.ensures
     (handed-new nodes is_leaf collector.hands_on (held_of child.value) c.is_empty-is_leaf.ensures
     (subst (λ n. IsGroupOf (plans_of (map plan_of nodes)) (held_of n)) here
-    c.in_ok-below-in-Filter.ensures.nodes) c.new_filter.ensures.hands_on)
+    c.in_ok-below-in-Filter.ensures.nodes) c.new-collector.ensures.hands_on)
     (subst (λ n. IsNew ctx segment (held_of n)) here c.in_ok-below-in-Filter.ensures.new))
 
 -- ---- a metric
@@ -174,9 +174,9 @@ tree_of_node-returns-in-StatsKind-clause-new t c =
     c.requires in
     let at = read-at ctx.stats_metric_req_data c.as_slice-in-StatsKind.result.now index d.0
     r c.as_slice-in-StatsKind.ensures d.1 c.index-as_slice-index-in-StatsKind.is in
-    rw (held-metric index c.new-collector.result)
-    (new-metric ctx c.args.segment.now index r c.new-collector.result at
-    c.new-collector.ensures.empty)
+    rw (held-metric index c.new-collector-in-StatsKind.result)
+    (new-metric ctx c.args.segment.now index r c.new-collector-in-StatsKind.result at
+    c.new-collector-in-StatsKind.ensures.empty)
 
 -- ---- several
 

@@ -6,7 +6,8 @@ use Rattle.agg_metric.specs.Collector.{MetricTakes}
 use Rattle.agg_collector_tree.specs.Bound.{TakesMost}
 use Rattle.agg_collector_tree.specs.Taken.{taken_pairs, taken_parents}
 use Rattle.agg_collector_tree.specs.Refusals.{IsRefused}
-use Rattle.agg_collector_tree.specs.Tree.{Cache, Fits, held_of}
+use Rattle.agg_collector_tree.specs.Caches.{Cache}
+use Rattle.agg_collector_tree.specs.Tree.{Fits, held_of}
 use Rattle.agg_collector_tree.specs.declared.tree.SegmentCollectorTree as declared
 use declared.{SegmentCollectorTree as Tree}
 use Rattle.agg_collector_tree.specs.declared.tree.SegmentCollectorTree.TheViews.{outs-Composite}
