@@ -1,0 +1,3 @@
+pub mod DrawnDocuments
+pub mod NumbersDrawn
+pub mod States

@@ -1,0 +1,4 @@
+pub mod Documents
+pub mod Draws
+pub mod Generator
+pub mod Request

@@ -1,0 +1,45 @@
+//! What a generated input asks for.
+use agg_generator::generated_input;
+use agg_input::{Header, Input, read_input};
+use agg_request::{Aggregations, NamedBuilder, may_be_written, write_aggregations};
+use agg_segment::QueryTree;
+use std::alloc::Global;
+use std::test::Fail;
+
+// The header as a line.
+const LINE: &str = concat!(
+    r#"{"request":{"g":{"composite":{"sources":[{"a":{"terms":{"field":"a"}}},"#,
+    r#"{"b":{"terms":{"field":"b","order":"desc","missing_bucket":true}}}],"size":100},"#,
+    r#""aggs":{"n":{"value_count":{"field":"d"}}}}},"name":"g","schema":["a","b","d"]}"#,
+);
+
+// The header of that line.
+fn read_header(alloc: Global) -> Result<Header, Fail> {
+    let builders: Vec<NamedBuilder> = Vec::new(alloc);
+    let input: Input = read_input(alloc, builders, LINE.as_bytes())?;
+    Ok(input.header)
+}
+
+// What is written of a request.
+fn shown(alloc: Global, request: &Aggregations) -> Result<String, Fail> {
+    if !may_be_written(request) {
+        return Err("it may not be written")?;
+    }
+    Ok(write_aggregations(alloc, request)?.to_string(alloc)?)
+}
+
+#[test]
+fn the_header_is_that_of_its_line(rt: HostRuntime) -> Result<(), Fail> {
+    let alloc = rt.alloc();
+    let read = read_header(alloc)?;
+    let input: Input = generated_input(alloc, 7)?;
+    let made = input.header;
+    assert_eq!(rt; shown(alloc, &made.request)?, shown(alloc, &read.request)?);
+    assert_eq!(rt; made.name, read.name);
+    assert_eq!(rt; made.schema.fields(), read.schema.fields());
+    assert!(rt; matches!(&made.query, QueryTree::All));
+    assert!(rt; matches!(&read.query, QueryTree::All));
+    assert_eq!(rt; made.memory_limit, read.memory_limit);
+    assert_eq!(rt; made.bucket_limit, read.bucket_limit);
+    Ok(())
+}
