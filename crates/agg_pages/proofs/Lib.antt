@@ -1,5 +1,7 @@
+pub mod GeneratedInputs
 pub mod PageLines
 pub mod PlainWalks
 pub mod Replies
+pub mod Seeds
 pub mod Statuses
 pub mod Words

@@ -1,6 +1,6 @@
 -- Replies to inputs, and what bytes and an input say of one another.
 use Rattle.std.proofs.Common.{◌≡◌, ◌≢◌, ℕ, List, Option, None, Some, false, true, refl, sym, ap}
-use Rattle.std.proofs.Common.{◌∙◌, subst, inl, inr, is_some}
+use Rattle.std.proofs.Common.{◌∙◌, subst, inl, inr, is_some, Result, Ok, Err, OnOk, IfOk, IfErr}
 use Rattle.agg_values.specs.declared.request_error.AggregationError.TheVariants as aggregation
 use Rattle.agg_values.specs.declared.request_error.RequestError.TheVariants as error
 use Rattle.agg_segment.specs.declared.query.QueryTree.{QueryTree}
@@ -17,17 +17,16 @@ use Rattle.agg_input.specs.Input.{Input, IsInput}
 use Rattle.agg_values.specs.Nothing.{NoneIs}
 use Rattle.agg_cache.specs.Limits.{Limits}
 use Rattle.agg_engine.specs.Refusals.{HasCause, HasToRefuse}
-use Rattle.agg_engine.specs.Walk.{IsWalk, MayBeAsked}
+use Rattle.agg_engine.specs.Walk.{MayBeAsked}
 use Rattle.agg_engine.specs.declared.walk.Walk.{Walk}
-use Rattle.agg_pages.specs.Answer.{IsNeverRefused, IsPrintedWalk, IsRefusal, MayRefuse}
+use Rattle.agg_pages.specs.Answer.{IsNeverRefused, IsRefusal, IsValid, MayRefuse}
 use Rattle.agg_pages.specs.Answer.{limits_of, matches_in, query_in}
-use Rattle.agg_pages.specs.Output.{refusal_text, walk_text}
 use Rattle.agg_pages.specs.Reading.{GivesAll}
 use Rattle.agg_input.proofs.Inputs.{IsInput-unique}
 
 -- ---- what is never refused
 
-may_not_refuse : {B : Type 0} (tree_for : B → List (List ℕ) → Option QueryTree) (i : Input B)
+pub may_not_refuse : {B : Type 0} (tree_for : B → List (List ℕ) → Option QueryTree) (i : Input B)
     (error : WalkError) → IsNeverRefused tree_for i → ¬ (MayRefuse tree_for i error)
 may_not_refuse tree_for i (Invalid fault) never (other, inl asked) =
     none_of_all (λ c. HasFault c (error.Invalid fault)) (composites_of i.header.request)
@@ -70,38 +69,31 @@ pub never-refused : {B : Type 0} (tree_for : B → List (List ℕ) → Option Qu
 never-refused tree_for i j text same never (error, may, text_is) =
     may_not_refuse tree_for j error never (subst (λ k. MayRefuse tree_for k error) same may)
 
--- ---- what a walk answers is a reply
+-- ---- what a walk answers, under the limits of its input
 
 module _ {B : Type 0} (tree_for : B → List (List ℕ) → Option QueryTree) (i : Input B)
-    (limits : Limits) (are : limits ≡ limits_of i) (text : List ℕ) where
-  -- a walk that doesn't have to be refused
-  pub printed-walk : (walk : Walk)
-      → MayBeAsked (query_in tree_for i) i.header.name i.header.request i.snapshots
-      → NoneIs (HasToRefuse (matches_in tree_for i) limits i.header.name i.header.query
-      i.header.request i.snapshots)
-      → IsWalk (matches_in tree_for i) i.header.name i.header.query i.header.request i.snapshots
-      walk.pages walk.ended
-      → text ≡ walk_text walk → IsPrintedWalk tree_for i text
-  printed-walk walk asked fits is said = (
-    record {
-      asked = asked;
-      fits = subst (λ l. NoneIs (HasToRefuse (matches_in tree_for i) l i.header.name i.header.query
-          i.header.request i.snapshots)) are fits;
-    },
-    (walk, is, said),
-  )
+    (limits : Limits) (are : limits ≡ limits_of i) where
+  -- the input of a walk that isn't refused is valid
+  pub walked-IsValid : (result : Result Walk WalkError)
+      → OnOk result (MayBeAsked (query_in tree_for i) i.header.name i.header.request i.snapshots)
+      → OnOk result (NoneIs (HasToRefuse (matches_in tree_for i) limits i.header.name
+      i.header.query i.header.request i.snapshots))
+      → IfOk result (λ walk. IsValid tree_for i)
+  walked-IsValid (Ok walk) asked fits = record {
+    asked = asked;
+    fits = subst (λ l. NoneIs (HasToRefuse (matches_in tree_for i) l i.header.name i.header.query
+        i.header.request i.snapshots)) are fits;
+  }
+  walked-IsValid (Err error) asked fits = tt
 
-  -- an error that has its cause
-  pub printed-refusal : (error : WalkError) → error ≢ OutOfMemory
-      → HasCause (query_in tree_for i) limits i.header.name i.header.query i.header.request
-      i.snapshots error
-      → text ≡ refusal_text error → IsRefusal tree_for i text
-  printed-refusal error other cause said = (
-    error,
-    (
-      other,
-      subst (λ l. HasCause (query_in tree_for i) l i.header.name i.header.query i.header.request
-          i.snapshots error) are cause,
-    ),
-    said,
+  -- an error that has its cause may be answered
+  pub walked-MayRefuse : (result : Result Walk WalkError)
+      → IfErr result (HasCause (query_in tree_for i) limits i.header.name i.header.query
+      i.header.request i.snapshots)
+      → IfErr result (λ error. error ≢ OutOfMemory → MayRefuse tree_for i error)
+  walked-MayRefuse (Ok walk) cause = tt
+  walked-MayRefuse (Err error) cause = λ other. (
+    other,
+    subst (λ l. HasCause (query_in tree_for i) l i.header.name i.header.query i.header.request
+        i.snapshots error) are cause,
   )

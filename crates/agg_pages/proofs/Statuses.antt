@@ -1,5 +1,5 @@
 -- What statuses of a run come from, and which have no answer.
-use Rattle.std.proofs.Common.{◌≡◌, inl, inr, refl}
+use Rattle.std.proofs.Common.{◌≡◌, ◌⊎◌, inl, inr, refl}
 use Rattle.agg_document_json.specs.declared.input_error.InputError.{InputError}
 use Rattle.agg_document_json.specs.declared.input_error.InputError.TheVariants as refused
 use Rattle.agg_pages.specs.declared.status.Status.{Status}
@@ -43,3 +43,12 @@ pub no_write_fault : (s : Status) → IsUnanswered s → s ≡ status.WriteFault
 no_write_fault s (inl e) k = cc
 no_write_fault s (inr (inl e)) k = cc
 no_write_fault s (inr (inr e)) k = cc
+
+-- ---- statuses of an input that is made
+
+pub no_usage_made : (s : Status)
+    → (s ≡ status.Ok) ⊎ ((s ≡ status.WriteFault) ⊎ (s ≡ status.OutOfMemory))
+    → s ≡ status.Usage → ⊥
+no_usage_made s (inl e) k = cc
+no_usage_made s (inr (inl e)) k = cc
+no_usage_made s (inr (inr e)) k = cc

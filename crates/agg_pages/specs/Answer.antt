@@ -1,6 +1,6 @@
 -- What answers an input, and which bytes are none.
-use Rattle.std.specs.Prelude.{◌≡◌, ◌≢◌, ◌<◌, ◌+◌, ◌⊎◌, ℕ, List, [], ◌∷◌, Bool, true, false}
-use Rattle.std.specs.Prelude.{Option, Some, drop, take, length, codes, unwrap_or}
+use Rattle.std.specs.Prelude.{◌≡◌, ◌≢◌, ◌<◌, ◌+◌, ◌⊎◌, ℕ, List, [], Bool, true, false}
+use Rattle.std.specs.Prelude.{Option, Some, drop, take, length, unwrap_or}
 use Rattle.agg_values.specs.Nothing.{NoneIs}
 use Rattle.agg_cache.specs.Limits.{Limits}
 use Rattle.agg_column.specs.Document.{Fields}
@@ -13,11 +13,7 @@ use Rattle.agg_engine.specs.Refusals as refusals
 use refusals.{HasCause, HasToRefuse}
 use Rattle.agg_engine.specs.Walk.{IsWalk, MayBeAsked}
 use Rattle.agg_input.specs.Input.{AreNoInput, Input, max_input_bytes}
-use Rattle.agg_pages.specs.Output.{refusal_text, walk_text}
-
--- the arguments of the command
-abbrev pub walk_arguments : List (List ℕ)
-walk_arguments = codes "walk" ∷ []
+use Rattle.agg_pages.specs.Output.{refusal_text, summary_text, walk_text}
 
 -- the limits of an input, with nothing in use: its own, or 500,000,000 bytes and 65,000 buckets
 abbrev pub limits_of : {B : Type 0} → Input B → Limits
@@ -56,13 +52,15 @@ module _ {B : Type 0} (tree_for : B → List (List ℕ) → Option QueryTree) wh
     pub fits : NoneIs (refusals.MayRefuse (matches_in i) (limits_of i) i.header.name i.header.query
         i.header.request i.snapshots)
 
+  -- the plain walk of an input
+  abbrev pub IsPlainWalk : Input B → Walk → Type 0
+  IsPlainWalk i walk =
+      IsWalk (matches_in i) i.header.name i.header.query i.header.request i.snapshots walk.pages
+      walk.ended
+
   -- the text is the printed plain walk of an input
   abbrev pub IsPlainWalkText : Input B → List ℕ → Type 0
-  IsPlainWalkText i text =
-      (walk : Walk)
-      × IsWalk (matches_in i) i.header.name i.header.query i.header.request i.snapshots walk.pages
-      walk.ended
-      × (text ≡ walk_text walk)
+  IsPlainWalkText i text = (walk : Walk) × IsPlainWalk i walk × (text ≡ walk_text walk)
 
   -- the text is the printed walk of an input that doesn't have to be refused
   abbrev pub IsPrintedWalk : Input B → List ℕ → Type 0
@@ -82,6 +80,15 @@ module _ {B : Type 0} (tree_for : B → List (List ℕ) → Option QueryTree) wh
   IsReplyPrefix i prefix =
       (refused : Bool) × (text : List ℕ) × IsReply refused i text
       × ((count : ℕ) × (prefix ≡ take count text))
+
+  -- the text is the summary of the plain walk of an input
+  abbrev pub IsSummary : Input B → List ℕ → Type 0
+  IsSummary i text = (walk : Walk) × IsPlainWalk i walk × (text ≡ summary_text walk)
+
+  -- the text is a prefix of such a summary
+  abbrev pub IsSummaryPrefix : Input B → List ℕ → Type 0
+  IsSummaryPrefix i prefix =
+      (text : List ℕ) × IsSummary i text × ((count : ℕ) × (prefix ≡ take count text))
 
 -- the bytes are no input: all were read, or one past the limit
 abbrev pub IsNoInput : {B : Type 0} → List B → (B → List ℕ) → List ℕ → Option (List ℕ) → Type 0

@@ -1,5 +1,6 @@
 pub mod Answer
 pub mod AnyField
+pub mod Commands
 pub mod Observed
 pub mod Output
 pub mod Reading

@@ -1,8 +1,10 @@
 -- The text of an answer.
 use Rattle.std.specs.Prelude.{◌+◌, ℕ, List, [], ◌∷◌, ◌++◌, Bool, if◌then◌else◌, codes, decimal}
+use Rattle.std.specs.Prelude.{length, sum_by}
 use Rattle.agg_final_results.specs.declared.types.AggregationResults.{AggregationResults}
 use Rattle.agg_engine.specs.declared.walk.Walk.{Walk}
 use Rattle.agg_engine.specs.declared.walk.error.WalkError.{WalkError}
+use Rattle.agg_final_results.specs.BucketCount.{results_buckets}
 use Rattle.agg_final_results.specs.ResultsText.{results_text}
 use Rattle.agg_engine.specs.WalkError.{error_name}
 
@@ -29,3 +31,19 @@ walk_text walk = page_lines 1 walk.pages ++ ended_line walk.ended
 -- a refusal, by the name of its error
 abbrev pub refusal_text : WalkError → List ℕ
 refusal_text error = codes "error: " ++ error_name error ++ 10 ∷ []
+
+-- how many buckets all pages of a walk have
+abbrev pub buckets_of_walk : Walk → ℕ
+buckets_of_walk walk = sum_by results_buckets walk.pages
+
+-- whether the walk has ended, as JSON
+abbrev pub ended_text : Bool → List ℕ
+ended_text ended = if ended then codes "true" else codes "false"
+
+-- a summary of a walk: how many buckets and pages it has, and whether it has ended
+abbrev pub summary_text : Walk → List ℕ
+summary_text walk =
+    codes "{\"buckets\":" ++ decimal (buckets_of_walk walk)
+    ++ codes ",\"ended\":" ++ ended_text walk.ended
+    ++ codes ",\"pages\":" ++ decimal (length walk.pages)
+    ++ codes "}\n"

@@ -1,8 +1,10 @@
-//! What holds of printed walks, as their definition says it.
+//! What holds of printed walks, of summaries and of generated inputs, as their definitions say it.
 ghost use Rattle.std.specs.Prelude.{◌≡◌, ℕ, List, Option};
 ghost use Rattle.agg_segment.specs.declared.query.QueryTree.{QueryTree};
 ghost use Rattle.agg_input.specs.Input.{Input};
-ghost use Rattle.agg_pages.specs.Answer.{IsPlainWalkText, IsPrintedWalk, IsValid};
+ghost use Rattle.agg_generator.specs.Generator.{generated};
+ghost use Rattle.agg_pages.specs.Answer.{IsNeverRefused, IsPlainWalkText, IsPrintedWalk};
+ghost use Rattle.agg_pages.specs.Answer.{IsSummary, IsValid};
 
 /// A printed walk is the text of the plain walk, and an input has one such text at most. So a
 /// reader of the text may skip what makes an input valid: of a valid input, the text of the plain
@@ -16,4 +18,19 @@ pub fn a_printed_walk_is_the_plain_walk<B>()
     ensures only { (tree_for : B → List (List ℕ) → Option QueryTree) (i : Input B)
         (text other : List ℕ)
         → IsPlainWalkText tree_for i text → IsPlainWalkText tree_for i other → text ≡ other }
+{}
+
+/// The input of a seed is never refused, whatever the builders make.
+pub fn generated_inputs_are_never_refused<B>()
+    ensures { (tree_for : B → List (List ℕ) → Option QueryTree) (seed : ℕ)
+        → IsNeverRefused tree_for (generated seed) }
+{}
+
+/// An input has exactly one summary. So has a seed, and each run that writes one writes that.
+pub fn an_input_has_one_summary<B>()
+    ensures exists { (tree_for : B → List (List ℕ) → Option QueryTree) (i : Input B)
+        → (text : List ℕ) × IsSummary tree_for i text }
+    ensures only { (tree_for : B → List (List ℕ) → Option QueryTree) (i : Input B)
+        (text other : List ℕ)
+        → IsSummary tree_for i text → IsSummary tree_for i other → text ≡ other }
 {}

@@ -1,6 +1,8 @@
 //! The text of an answer.
-ghost use Rattle.std.specs.Prelude.{◌≡◌, ◌++◌, IfOk, OnOk, string_bytes};
-ghost use Rattle.agg_pages.specs.Output.{ended_line, page_line, refusal_text, walk_text};
+ghost use Rattle.std.specs.Prelude.{◌≡◌, ◌++◌, IfOk, OnOk, string_bytes, sum_by};
+ghost use Rattle.agg_final_results.specs.BucketCount.{results_buckets};
+ghost use Rattle.agg_pages.specs.Output.{ended_line, page_line, refusal_text};
+ghost use Rattle.agg_pages.specs.Output.{summary_text, walk_text};
 
 use agg_engine::{Walk, WalkError};
 use agg_results::AggregationResults;
@@ -49,4 +51,29 @@ pub fn refusal_text(alloc: Global, error: &WalkError) -> Result<String, OutOfMem
     text.push_str(error.name())?;
     text.push('\n')?;
     Ok(text)
+}
+
+/// The line of a summary: how many buckets and pages a walk has, and whether it has ended.
+pub fn summary_text(alloc: Global, walk: &Walk) -> Result<String, OutOfMemory>
+    ensures { IfOk result (λ text. string_bytes text ≡ summary_text walk.now) }
+{
+    let pages = walk.pages.as_slice();
+    let buckets = bucket_count(pages)?;
+    let ended = walk.ended;
+    let count = pages.len();
+    Ok(format!(in alloc; "{{\"buckets\":{buckets},\"ended\":{ended},\"pages\":{count}}}\n")?)
+}
+
+// How many buckets pages have. No memory has room for the greatest u64.
+fn bucket_count(pages: &[AggregationResults]) -> Result<u64, OutOfMemory>
+    ensures { IfOk result (λ count. count ≡ sum_by results_buckets pages.now) }
+{
+    let mut count: u64 = 0;
+    for page in pages {
+        count = count.saturating_add(page.get_bucket_count());
+    }
+    match count {
+        u64::MAX => Err(OutOfMemory),
+        count => Ok(count),
+    }
 }

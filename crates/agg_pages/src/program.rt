@@ -1,26 +1,25 @@
 //! The program as a function of its arguments, its source and its sink.
 
-ghost use Rattle.std.specs.Prelude.{◌≡◌, ◌<◌, ◌+◌, ◌⊎◌, ◌↔◌, ℕ, Err, take, true, false, IfOk};
-ghost use Rattle.std.specs.Prelude.{IfErr, IsTrue, string_bytes};
-ghost use Rattle.std.specs.Io.KnownBytes.{Appends};
-ghost use Rattle.agg_segment.specs.Snapshot.{snapshots_documents};
-ghost use Rattle.agg_pages.specs.Answer.{IsReply, walk_arguments};
+ghost use Rattle.std.specs.Prelude.{◌≡◌, ◌≢◌, ◌<◌, ◌+◌, ◌⊎◌, Err, IfOk, IfErr, string_bytes};
+ghost use Rattle.agg_pages.specs.Answer.{IsNeverRefused, IsReply, IsSummary};
+ghost use Rattle.agg_pages.specs.Answer.{IsSummaryPrefix};
 ghost use Rattle.agg_streams.specs.Causes.{Rose};
 ghost use Rattle.agg_input.specs.Input.{Input as Meant, input_of, max_input_bytes};
 ghost use Rattle.agg_pages.specs.Observed.{over};
 ghost use Rattle.agg_pages.specs.Reading.{TakesAtMost};
-ghost use Rattle.agg_pages.specs.Run.{GaveInput, HadNoInput, IsAnswered, command};
+ghost use Rattle.agg_pages.specs.Run.{GaveInput, HadNoInput, HasAppended, IsAnswered};
+ghost use Rattle.agg_pages.specs.Run.{IsWalkAnswered, invocation};
 ghost use Rattle.agg_pages.specs.Status.{IsUnanswered};
 
-use crate::output::{refusal_text, walk_text};
+use crate::command::{Command, command_of};
+use crate::reply::{Reply, deliver, reply_to, summary_of};
 use crate::source::{Source, read_all};
 use crate::status::Status;
-use agg_cache::LimitsLedger;
-use agg_engine::{WalkError, walk_pages};
+use agg_generator::generated_input;
 use agg_input::{Input, read_input};
 use agg_request::NamedBuilder;
-use agg_streams::sink::{Sink, write_all};
-use agg_values::{OutOfMemory, Steps, Text};
+use agg_streams::sink::Sink;
+use agg_values::{Steps, Text};
 use std::alloc::Global;
 use std::marker::Brand;
 use std::sync::ledger::{Blank, Ledger};
@@ -36,15 +35,16 @@ pub fn run<R: Source, W: Sink, L: Ledger>(
     steps: &mut Steps<L>,
 ) -> Status
     ensures { IsAnswered builders.items (λ b. b.name)
-        (λ b. tree_for (b.builder.vtable, b.builder.value)) (command words.now result)
+        (λ b. tree_for (b.builder.vtable, b.builder.value)) (invocation words.now result)
         (over R.left R.faults source.old source.new) (over W.contents W.faults sink.old sink.new) }
 {
-    if !is_walk(words) {
-        return Status::Usage;
-    }
-    match answer(alloc, builders, source, steps) {
-        Ok(reply) => deliver(sink, &reply),
-        Err(status) => status,
+    match command_of(words) {
+        Some(Command::Walk) => walk(alloc, builders, source, sink, steps),
+        Some(Command::Make(seed)) => match generated_input(alloc, seed) {
+            Ok(input) => summarize(alloc, input, sink, steps),
+            Err(_) => Status::OutOfMemory,
+        },
+        None => Status::Usage,
     }
 }
 
@@ -57,7 +57,7 @@ pub fn run_uncounted<R: Source, W: Sink>(
     sink: &mut W,
 ) -> Status
     ensures { IsAnswered builders.items (λ b. b.name)
-        (λ b. tree_for (b.builder.vtable, b.builder.value)) (command words.now result)
+        (λ b. tree_for (b.builder.vtable, b.builder.value)) (invocation words.now result)
         (over R.left R.faults source.old source.new) (over W.contents W.faults sink.old sink.new) }
 {
     run_over::<R, W, Brand>(alloc, words, builders, source, sink, Blank::new(1))
@@ -76,26 +76,55 @@ fn run_over<R: Source, W: Sink, L: Ledger>(
     requires parts { blank.parts ≡ L.parts }
     requires shared { 0 < L.parts }
     ensures { IsAnswered builders.items (λ b. b.name)
-        (λ b. tree_for (b.builder.vtable, b.builder.value)) (command words.now result)
+        (λ b. tree_for (b.builder.vtable, b.builder.value)) (invocation words.now result)
         (over R.left R.faults source.old source.new) (over W.contents W.faults sink.old sink.new) }
 {
     let mut steps: Steps<L> = Steps::new(blank);
     run(alloc, words, builders, source, sink, &mut steps)
 }
 
-// The whole text of an answer, and whether it is a refusal.
-#[derive(Drop)]
-struct Reply {
-    text: String,
-    refused: bool,
+// Walks what a source has left, and writes the answer.
+fn walk<R: Source, W: Sink, L: Ledger>(
+    alloc: Global,
+    builders: Vec<NamedBuilder>,
+    source: &mut R,
+    sink: &mut W,
+    steps: &mut Steps<L>,
+) -> Status
+    ensures answered { IsWalkAnswered builders.items (λ b. b.name)
+        (λ b. tree_for (b.builder.vtable, b.builder.value)) result
+        (over R.left R.faults source.old source.new) (over W.contents W.faults sink.old sink.new) }
+    ensures no_usage { result ≢ Status.Usage }
+{
+    match answer(alloc, builders, source, steps) {
+        Ok(reply) => deliver(sink, &reply),
+        Err(status) => status,
+    }
 }
 
-fn is_walk(words: &[Text]) -> bool
-    ensures { IsTrue result ↔ (words.now ≡ walk_arguments) }
+// Walks an input that is never refused, and writes the summary.
+fn summarize<W: Sink, L: Ledger>(
+    alloc: Global,
+    input: Input,
+    sink: &mut W,
+    steps: &mut Steps<L>,
+) -> Status
+    requires { IsNeverRefused (λ b. tree_for (b.builder.vtable, b.builder.value))
+        (input_of input) }
+    ensures ok { result ≡ Status.Ok → HasAppended
+        (IsSummary (λ b. tree_for (b.builder.vtable, b.builder.value)) (input_of input))
+        (over W.contents W.faults sink.old sink.new) }
+    ensures prefix { result ≡ Status.WriteFault → HasAppended
+        (IsSummaryPrefix (λ b. tree_for (b.builder.vtable, b.builder.value)) (input_of input))
+        (over W.contents W.faults sink.old sink.new) }
+    ensures fault { result ≡ Status.WriteFault → Rose (W.faults sink.old) (W.faults sink.new) }
+    ensures quiet { result ≡ Status.OutOfMemory → sink.new ≡ sink.old }
+    ensures kinds { (result ≡ Status.Ok)
+        ⊎ ((result ≡ Status.WriteFault) ⊎ (result ≡ Status.OutOfMemory)) }
 {
-    match words {
-        [word] => word.as_str() == "walk",
-        _ => false,
+    match summary_of(alloc, &input, steps) {
+        Ok(reply) => deliver(sink, &reply),
+        Err(_) => Status::OutOfMemory,
     }
 }
 
@@ -121,62 +150,4 @@ fn answer<R: Source, L: Ledger>(
     let bytes = read_all(alloc, source)?;
     let input = read_input(alloc, builders, &bytes)?;
     Ok(reply_to(alloc, &input, steps)?)
-}
-
-// The answer to an input: the printed walk, or the line of a refusal.
-fn reply_to<L: Ledger>(
-    alloc: Global,
-    input: &Input,
-    steps: &mut Steps<L>,
-) -> Result<Reply, OutOfMemory>
-    ensures { IfOk result
-        (λ reply. IsReply (λ b. tree_for (b.builder.vtable, b.builder.value))
-        reply.refused (input_of input.now) (string_bytes reply.text)) }
-{
-    let header = &input.header;
-    let mut limits = LimitsLedger::new(header.memory_limit, header.bucket_limit);
-    let walked = walk_pages(
-        alloc,
-        &mut limits,
-        &header.schema,
-        &header.request,
-        &header.name,
-        &header.query,
-        &input.snapshots,
-        steps,
-    );
-    match walked {
-        Ok(walk) => Ok(Reply {
-            text: walk_text(alloc, &walk)?,
-            refused: false,
-        }),
-        Err(WalkError::OutOfMemory) => Err(OutOfMemory),
-        Err(error) => Ok(Reply {
-            text: refusal_text(alloc, &error)?,
-            refused: true,
-        }),
-    }
-}
-
-// Writes an answer.
-fn deliver<W: Sink>(sink: &mut W, reply: &Reply) -> Status
-    ensures ok { result ≡ Status.Ok
-        → (reply.now.refused ≡ false)
-        × Appends (W.contents sink.old) (W.contents sink.new) (string_bytes reply.now.text) }
-    ensures refused { result ≡ Status.Refused
-        → (reply.now.refused ≡ true)
-        × Appends (W.contents sink.old) (W.contents sink.new) (string_bytes reply.now.text) }
-    ensures prefix { result ≡ Status.WriteFault
-        → (count : ℕ)
-        × Appends (W.contents sink.old) (W.contents sink.new)
-        (take count (string_bytes reply.now.text)) }
-    ensures fault { result ≡ Status.WriteFault → Rose (W.faults sink.old) (W.faults sink.new) }
-    ensures kinds { (result ≡ Status.Ok)
-        ⊎ ((result ≡ Status.Refused) ⊎ (result ≡ Status.WriteFault)) }
-{
-    match write_all(sink, reply.text.as_bytes()) {
-        Err(_) => Status::WriteFault,
-        Ok(()) if reply.refused => Status::Refused,
-        Ok(()) => Status::Ok,
-    }
 }

@@ -1,5 +1,6 @@
 //! Pages over the groups of snapshots: reads a request and snapshots of documents, and writes one
-//! page for each reached snapshot and whether the walk has ended.
+//! page for each reached snapshot and whether the walk has ended. Or it generates an input from a
+//! seed, and writes how many pages and buckets there are.
 #![tactic(auto)]
 
 ghost use Rattle.std.specs.Prelude.{◌≡◌, ◌⊎◌, ◌↔◌, IfOk, IfErr, drop, map, string_bytes};

@@ -5,6 +5,8 @@
 mod drip;
 pub mod given;
 #[cfg(test)]
+mod make;
+#[cfg(test)]
 mod nested;
 #[cfg(test)]
 mod program;

@@ -237,8 +237,8 @@ fn heeds_each_member_of_a_header(rt: HostRuntime) -> Result<(), Fail> {
     Ok(())
 }
 
-// A source that gives the bytes of a text, but for one read, which fails.
-fn breaking(alloc: Global, text: &str, failing: u64) -> Result<MemorySource, Fail> {
+/// A source that gives the bytes of a text, but for one read, which fails.
+pub fn breaking(alloc: Global, text: &str, failing: u64) -> Result<MemorySource, Fail> {
     let bytes = text.as_bytes().to_vec(alloc)?;
     Ok(MemorySource::new(bytes, vec![in alloc; failing]?))
 }
@@ -317,8 +317,8 @@ fn holds_what_was_taken_before_a_write_failed(rt: HostRuntime) -> Result<(), Fai
     Ok(())
 }
 
-// A sink that has room for so many bytes.
-fn nearly_full(rt: &(impl Abort + AllocGlobal), room: usize) -> Result<MemorySink, Fail> {
+/// A sink that has room for so many bytes.
+pub fn nearly_full(rt: &(impl Abort + AllocGlobal), room: usize) -> Result<MemorySink, Fail> {
     let alloc = rt.alloc();
     let mut sink = MemorySink::new(alloc, Vec::new(alloc))?;
     let filler = vec![in alloc; b'.'; MemorySink::ROOM.saturating_sub(room)]?;
@@ -366,7 +366,21 @@ fn expect_usage(rt: &(impl Abort + AllocGlobal), words: &[&str]) -> Result<(), F
 }
 
 // Arguments that are no command.
-const NO_COMMANDS: &[&[&str]] = &[&[], &["Walk"], &["walk", "x"]];
+const NO_COMMANDS: &[&[&str]] = &[
+    &[],
+    &["Walk"],
+    &["walk", "x"],
+    &["make"],
+    &["make", ""],
+    &["make", "-1"],
+    &["make", "+1"],
+    &["make", "1x"],
+    &["make", " 1"],
+    &["make", "18446744073709551616"],
+    &["make", "7", "8"],
+    &["Make", "7"],
+    &["7"],
+];
 
 #[test]
 fn touches_nothing_where_the_arguments_are_no_command(rt: HostRuntime) -> Result<(), Fail> {

@@ -7,8 +7,9 @@ use Rattle.agg_embedding.proofs.pages_of.Goals as goal
 
 pub returns-in-Ok-clause-pages : goal.returns-in-Ok-clause-pages
 returns-in-Ok-clause-pages g c =
-    let (i, (given, gives, reads), (text, walk, appended)) =
-    c.run_uncounted.ensures.ok c.in-Ok.is in
+    let answered =
+    c.run_uncounted.ensures.walked (ap (λ word. word ∷ []) c.in_ok-copy_of.ensures) in
+    let (i, (given, gives, reads), (text, walk, appended)) = answered.ok c.in-Ok.is in
     let told : given ≡ c.args.bytes.items =
     (gives c.args.bytes.items (ap Some c.new-source.ensures)).0 in
     let written : c.run_uncounted.new.sink.bytes ≡ text = appended

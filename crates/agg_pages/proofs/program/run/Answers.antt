@@ -1,102 +1,67 @@
-use Rattle.std.proofs.Common.{rules, refl, subst, take, inl, inr, string_bytes, Err, ap}
-use Rattle.agg_pages.specs.Answer.{IsReply}
-use Rattle.agg_pages.proofs.Statuses.{no_ok, no_refused, no_usage, no_write_fault}
-use Rattle.agg_pages.proofs.Replies.{given_input, never-refused}
+use Rattle.std.proofs.Common.{◌≡◌, ◌∙◌, refl, subst, sym, ap}
+use Rattle.agg_input.specs.Input.{input_of}
+use Rattle.agg_generator.specs.Generator.{generated}
+use Rattle.agg_pages.specs.Answer.{IsNeverRefused, IsSummary, IsSummaryPrefix}
+use Rattle.agg_pages.specs.Commands.{AskFor}
+use Rattle.agg_pages.specs.Observed.{over}
+use Rattle.agg_pages.specs.Run.{HasAppended}
+use Rattle.agg_pages.specs.declared.command.Command.TheVariants.{Make, Walk}
+use Rattle.agg_pages.proofs.GeneratedInputs.{generated-never-refused}
+use Rattle.agg_pages.proofs.Seeds.{IsSeed-unique, no_walk_made}
+use Rattle.agg_pages.proofs.Statuses.{no_usage_made}
 use Rattle.agg_pages.proofs.program.run.Goals as goal
+
+pub summarize-requires : goal.summarize-requires
+summarize-requires g c =
+    subst
+    (λ i. IsNeverRefused
+    (λ b. (goal.QueryBuilder-dyn g (b.builder.vtable, b.builder.value)).tree_for
+    b.builder.value) i) (sym c.in-Ok.ensures)
+    (generated-never-refused
+    (λ b. (goal.QueryBuilder-dyn g (b.builder.vtable, b.builder.value)).tree_for b.builder.value)
+    c.in-Some-Make.seed)
 
 pub returns-in-Ok : goal.returns-in-Ok
 returns-in-Ok g c =
-    let reply = c.in-Ok.reply in
-    let text = string_bytes reply.text in
-    let (i, (given, gives, reads), replied) = c.in-Ok.ensures.ok in
-    let written = c.deliver.ensures in
+    let words = c.args.words.now in
+    let seed = c.in-Some-Make.seed in
+    let asked : AskFor words (Make seed) = rw c.in-Some-Make.field-0-is at c.in-Some-Make.ensures in
+    let (digits, are, is) = asked in
+    let written = c.summarize.ensures in
+    let sink = over g.W.Sink.contents g.W.Sink.faults c.args.sink.now c.summarize.new.sink in
     record {
-      ok = λ is. (
-        i,
-        (given, gives, reads),
-        (
-          text,
-          subst (λ refused. IsReply
-              (λ b. (goal.QueryBuilder-dyn g (b.builder.vtable, b.builder.value)).tree_for
-              b.builder.value)
-              refused i text) (written.ok is).0
-              replied,
-          (written.ok is).1,
-        ),
+      usage = (
+        (λ status. absurd (no_usage_made _ written.kinds status)),
+        (λ none. absurd (none (Make seed) asked)),
       );
-      usage = search rules;
-      read_fault = search rules;
-      no_input = search rules;
-      refused = λ is. (
-        i,
-        (given, gives, reads),
-        (
-          text,
-          subst (λ refused. IsReply
-              (λ b. (goal.QueryBuilder-dyn g (b.builder.vtable, b.builder.value)).tree_for
-              b.builder.value)
-              refused i text)
-              (written.refused is).0 replied,
-          (written.refused is).1,
-        ),
-      );
-      write_fault = written.fault;
-      prefix = λ is.
-          let count = (written.prefix is).0 in (
-            i,
-            (given, gives, reads),
-            (
-              take count text,
-              (reply.refused, text, replied, (count, refl)),
-              (written.prefix is).1,
-            ),
-          );
-      untouched = search rules;
-      quiet = search rules;
-      taken = c.in-Ok.ensures.taken;
-      complete = λ walk (bytes, j, told, is, valid) no_read_fault no_write_fault.
-          let same =
-          given_input c.args.builders.items (λ b. b.name) _ _ given bytes i j gives told reads is in
-          elim written.kinds [
-            | inl ok ↦ inl ok
-            | inr other ↦ elim other [
-              | inl refused ↦ absurd (never-refused
-                  (λ b. (goal.QueryBuilder-dyn g (b.builder.vtable, b.builder.value)).tree_for
-                  b.builder.value)
-                  i j text same valid
-                  (subst (λ b. IsReply
-                  (λ b. (goal.QueryBuilder-dyn g (b.builder.vtable, b.builder.value)).tree_for
-                  b.builder.value)
-                  b i text) (written.refused refused).0 replied))
-              | inr fault ↦ absurd (no_write_fault (written.fault fault))
-            ]
-          ];
+      untouched = λ status. absurd (no_usage_made _ written.kinds status);
+      walked = λ walk. absurd (no_walk_made digits (sym walk ∙ are));
+      made = λ others other so also.
+          let same = IsSeed-unique words digits others seed other are is so also in
+          let input : input_of c.in-Ok.input ≡ generated other =
+          c.in-Ok.ensures ∙ ap (λ n. generated n) same in
+          record {
+            ok = λ status. subst (λ i. HasAppended (IsSummary
+                (λ b. (goal.QueryBuilder-dyn g (b.builder.vtable, b.builder.value)).tree_for
+                b.builder.value)
+                i) sink) input (written.ok status);
+            kinds = written.kinds;
+            write_fault = written.fault;
+            prefix = λ status. subst (λ i. HasAppended (IsSummaryPrefix
+                (λ b. (goal.QueryBuilder-dyn g (b.builder.vtable, b.builder.value)).tree_for
+                b.builder.value)
+                i) sink) input (written.prefix status);
+            quiet = written.quiet;
+            unread = refl;
+          };
     }
 
-pub returns-in-Err : goal.returns-in-Err
-returns-in-Err g c =
-    let status = c.in-Err.status in
-    let kinds = c.in-Err.ensures.kinds in
+pub returns : goal.returns
+returns g c =
+    let none = c.in-None.ensures in
     record {
-      ok = λ is. absurd (no_ok status kinds is);
-      usage = (
-        (λ is. absurd (no_usage status kinds is)),
-        (λ other. absurd (other (c.is_walk.ensures.0 c.if-not-is_walk.false))),
-      );
-      read_fault = λ is. c.in-Err.ensures.read_fault (ap Err is);
-      no_input = λ is. c.in-Err.ensures.no_input (ap Err is);
-      refused = λ is. absurd (no_refused status kinds is);
-      write_fault = λ is. absurd (no_write_fault status kinds is);
-      prefix = λ is. absurd (no_write_fault status kinds is);
-      untouched = λ is. absurd (no_usage status kinds is);
-      quiet = λ _. refl;
-      taken = c.in-Err.ensures.taken;
-      complete = λ walk (bytes, j, told, is, valid) no_read_fault no_write_fault.
-          elim kinds [
-            | inl none ↦ absurd ((c.in-Err.ensures.no_input (ap Err none) bytes told).0 j is)
-            | inr other ↦ elim other [
-              | inl fault ↦ absurd (no_read_fault (c.in-Err.ensures.read_fault (ap Err fault)))
-              | inr memory ↦ inr memory
-            ]
-          ];
+      usage = ((λ _. none), (λ _. refl));
+      untouched = λ _. (refl, refl);
+      walked = λ walk. absurd (none Walk walk);
+      made = λ digits seed are is. absurd (none (Make seed) (digits, are, is));
     }
