@@ -10,7 +10,7 @@ use Rattle.std.specs.List.{flat_map, range_with_len}
 use Rattle.std.specs.List.Sorted.{IsStableByKey, ties}
 use Rattle.std.specs.Ordering.{is_lt}
 use Rattle.std.proofs.Math.ListN.{set}
-use Rattle.std.proofs.lemmas.Bool.{cases_Bool, eq-eqb, ne_eqb}
+use Rattle.std.proofs.lemmas.Bool.{cases_Bool, ne_eqb}
 use Rattle.std.proofs.lemmas.Bool.Decides.{nat_tests}
 use Rattle.std.proofs.lemmas.List.{append-nil, get_or-map, get_or-set_other, get_or-set_same}
 use Rattle.std.proofs.lemmas.List.{get_or_past, length-map, map-set, set-get_or}
@@ -255,11 +255,6 @@ documents-joined partitions id are =
 pub none-documents : (partitions : List (List (ℕ × ℕ)))
     → ((place : ℕ) → get_or partitions place [] ≡ []) → (id : ℕ) → documents_of partitions id ≡ []
 none-documents partitions none id = ap (docs_of (is_id id)) (none (id % 16))
-
-pub none-partitioned : (partitions : List (List (ℕ × ℕ)))
-    → ((place : ℕ) → get_or partitions place [] ≡ []) → ArePartitioned partitions
-none-partitioned partitions none place =
-    subst (λ part. All (IsAt place) part) (sym (none place)) (All-nil (IsAt place))
 
 -- ---- sorted
 

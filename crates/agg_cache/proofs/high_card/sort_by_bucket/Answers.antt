@@ -1,4 +1,4 @@
-use Rattle.std.proofs.Common.{nat_cmp, rules}
+use Rattle.std.proofs.Common.{rules}
 use Rattle.std.proofs.lemmas.Fn.{always_returns_same}
 use Rattle.agg_cache.proofs.Partitions.{documents-sorted}
 use Rattle.agg_cache.proofs.high_card.sort_by_bucket.Goals as goal

@@ -1,4 +1,4 @@
-use Rattle.std.proofs.Common.{◌∙◌, arith, rules}
+use Rattle.std.proofs.Common.{◌∙◌, rules}
 use Rattle.std.proofs.lemmas.List.{length-set}
 use Rattle.agg_cache.proofs.Partitions.{kept-documents, kept-partitioned}
 use Rattle.agg_cache.proofs.high_card.sort_partitions.Goals as goal

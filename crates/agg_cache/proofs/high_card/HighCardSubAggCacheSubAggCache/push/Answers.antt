@@ -1,4 +1,4 @@
-use Rattle.std.proofs.Common.{◌≡◌, ◌∙◌, ◌<◌, ◌%◌, ℕ, [], ap, arith, get_or, length, subst, sym}
+use Rattle.std.proofs.Common.{◌∙◌, ◌<◌, ◌%◌, [], ap, arith, get_or, subst, sym}
 use Rattle.std.proofs.Math.Nat.{mod-lt}
 use Rattle.std.proofs.lemmas.List.{length-map}
 use Rattle.std.proofs.lemmas.Result.{on_err_weaker, on_ok_weaker}

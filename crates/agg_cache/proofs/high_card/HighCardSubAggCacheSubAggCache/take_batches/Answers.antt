@@ -1,9 +1,9 @@
-use Rattle.std.proofs.Common.{◌≡◌, ◌∙◌, [], ap, get_or, subst, sym}
+use Rattle.std.proofs.Common.{◌∙◌, [], ap, get_or, subst, sym}
 use Rattle.std.specs.List.{flat_map}
 use Rattle.agg_cache.specs.Partitions.{items_of}
 use Rattle.agg_cache.specs.Waiting.{AreFilled, docs_of, is_id, pairs_of}
 use Rattle.agg_cache.proofs.Partitions.{documents-joined, list-at, none-documents, on_err_given}
-use Rattle.agg_cache.proofs.Partitions.{none-partitioned, same-lists}
+use Rattle.agg_cache.proofs.Partitions.{same-lists}
 use Rattle.agg_cache.proofs.high_card.HighCardSubAggCacheSubAggCache.take_batches.Goals as goal
 
 pub returns-in_err-sort_partitions-clause-err : goal.returns-in_err-sort_partitions-clause-err
