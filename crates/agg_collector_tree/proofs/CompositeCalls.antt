@@ -1,6 +1,6 @@
--- What a composite answers for documents under one parent, and for one batch after another.
+-- What a composite answers for documents under one parent, and for none.
 use Rattle.std.proofs.Common.{◌≡◌, ◌≤◌, ◌+◌, ◌^◌, ℕ, List, [], ◌∷◌, ◌++◌, inl, inr}
-use Rattle.std.proofs.Common.{length, refl, sym, ap, ◌∙◌, subst, arith, append-nil, append_assoc}
+use Rattle.std.proofs.Common.{length, refl, sym, ap, ◌∙◌, subst, arith, append-nil}
 use Rattle.std.proofs.Common.{length-append, Result, Ok, Err}
 use Rattle.std.specs.Prelude.{IsErrOf}
 use Rattle.std.proofs.lemmas.List.Concat.{flat_map-append}
@@ -13,14 +13,12 @@ use Rattle.agg_segment.specs.Segment.{Stored, documents_at}
 use Rattle.agg_request_tree.specs.Occurrences.{bound_of, past_occurrences}
 use Rattle.agg_accessor.specs.Ranges.{AreAllInRange}
 use Rattle.agg_accessor.specs.declared.request_data.CompositeAggReqData.{CompositeAggReqData}
-use Rattle.agg_buckets.specs.Visits.{Within, docs_in, visits_at}
-use Rattle.agg_buckets.proofs.Labels.{docs_in-append}
+use Rattle.agg_buckets.specs.Visits.{docs_in, visits_at}
 use Rattle.agg_composite.specs.Composite.{AnswersCollect, Composite, CompositeFor}
 use Rattle.agg_composite.specs.Visits.{AnswersRange, TypedVisit, visits_past}
 use Rattle.agg_collector_tree.specs.Took.{CompositeAnswers, CompositeTook, IsRefusal}
 use Rattle.agg_collector_tree.specs.Caches.{Cache, waiting_in}
 use Rattle.agg_collector_tree.specs.Tree.{visits_of}
-use Rattle.agg_collector_tree.proofs.WithinLists.{range-within, within-part}
 
 -- an answer for its range is a refusal of a tree
 range-errors : (in_range : Type 0) (error : CollectError) → AnswersRange in_range (Err error)
@@ -145,81 +143,22 @@ module _ (req : CompositeAggReqData) (segment : Stored) (after : Named AfterKey)
     most = a.most;
   }
 
-  -- ---- batches
+  -- ---- nothing is taken
 
-  pub took-none : (c : Composite Cache) (steps : ℕ)
-      → CompositeTook req segment after [] c c steps steps
-  took-none c steps = record {
-    takes = λ taken given f.
-        subst (λ ps. CompositeFor waiting_in req c (visits ps) given) (sym (append-nil taken)) f;
-    room = refl;
-    hands_on = refl;
-    least = omega arith;
-    most = omega arith;
-  }
-
-  pub took-both : (xs ys : List (ℕ × ℕ)) (a b c : Composite Cache) (s t u : ℕ)
-      → CompositeTook req segment after xs a b s t → CompositeTook req segment after ys b c t u
-      → CompositeTook req segment after (xs ++ ys) a c s u
-  took-both xs ys a b c s t u p q =
-      let both = ap length (visits-append xs ys) ∙ length-append (visits xs) (visits ys) in
-      record {
-        takes = λ taken given f.
-            subst (λ ps. CompositeFor waiting_in req c (visits ps) given)
-            (append_assoc taken xs ys)
-            (q.takes (taken ++ xs) given (p.takes taken given f));
-        room = q.room ∙ p.room;
-        hands_on = q.hands_on ∙ p.hands_on;
-        least = omega (arith, p.least, q.least, both);
-        most = omega (arith, p.most, q.most, both);
-      }
-
-  -- a refusal in the midst is one of the whole
-  pub refused-part : (xs ys zs all : List (ℕ × ℕ)) → all ≡ xs ++ (ys ++ zs)
-      → (a b c : Composite Cache) (s t u : ℕ) (error : CollectError)
-      → CompositeTook req segment after xs a b s t
-      → CompositeAnswers req segment after ys b c t u (Err error)
-      → CompositeAnswers req segment after all a c s u (Err error)
-  refused-part xs ys zs all is a b c s t u error p q = record {
-    ok = tt;
-    errors = q.errors;
-    range = λ e in_range. q.range e
-        (range-within segment req.req.now.sources (docs_in ys) (docs_in all)
-        (subst (Within (docs_in ys))
-        (sym (ap docs_in is ∙ docs_in-append xs (ys ++ zs)
-        ∙ ap (λ ds. docs_in xs ++ ds) (docs_in-append ys zs)))
-        (within-part (docs_in xs) (docs_in ys) (docs_in zs))) in_range);
-    many = λ e taken given f.
-        omega (
-          arith,
-          q.many e (taken ++ xs) given (p.takes taken given f),
-          ap (λ ps. length (visits (taken ++ ps))) is,
-          ap (λ ps. length (visits ps)) (append_assoc taken xs (ys ++ zs)),
-          ap (λ ps. length (visits ps)) (append_assoc (taken ++ xs) ys zs),
-          ap length (visits-append ((taken ++ xs) ++ ys) zs),
-          length-append (visits ((taken ++ xs) ++ ys)) (visits zs),
-        );
-    later = omega (arith, p.least, q.later);
-    most = omega (
-      arith,
-      p.most,
-      q.most,
-      ap (λ ps. length (visits ps)) is,
-      ap length (visits-append xs (ys ++ zs)),
-      length-append (visits xs) (visits (ys ++ zs)),
-      ap length (visits-append ys zs),
-      length-append (visits ys) (visits zs),
-    );
-  }
-
-  pub answers-ok : (pairs : List (ℕ × ℕ)) (old new : Composite Cache) (steps steps_now : ℕ)
-      (done : Unit {0}) → CompositeTook req segment after pairs old new steps steps_now
-      → CompositeAnswers req segment after pairs old new steps steps_now (Ok done)
-  answers-ok pairs old new steps steps_now done took = record {
-    ok = took;
+  pub answers-none : (c : Composite Cache) (steps : ℕ) (done : Unit {0})
+      → CompositeAnswers req segment after [] c c steps steps (Ok done)
+  answers-none c steps done = record {
+    ok = record {
+      takes = λ taken given f.
+          subst (λ ps. CompositeFor waiting_in req c (visits ps) given) (sym (append-nil taken)) f;
+      room = refl;
+      hands_on = refl;
+      least = omega arith;
+      most = omega arith;
+    };
     errors = tt;
     range = λ e. absurd (cc e);
     many = λ e. absurd (cc e);
-    later = omega (arith, took.least);
-    most = took.most;
+    later = omega arith;
+    most = omega arith;
   }

@@ -1,8 +1,8 @@
--- What a filter answers for documents under one parent, and for one batch after another.
+-- What a filter answers for documents under one parent, and for none.
 use Rattle.std.proofs.Common.{◌≡◌, ◌<◌, ◌≤◌, ◌+◌, ◌^◌, ◌⊎◌, ℕ, Bool, true, false, List, [], ◌∷◌}
 use Rattle.std.proofs.Common.{◌++◌}
 use Rattle.std.proofs.Common.{if◌then◌else◌, length, refl, sym, ap, ◌∙◌, subst, arith}
-use Rattle.std.proofs.Common.{append-nil, append_assoc, length-append, Result, Ok, Err}
+use Rattle.std.proofs.Common.{append-nil, length-append, Result, Ok, Err}
 use Rattle.std.specs.Prelude.{IfErr, IsErrOf, OnOk, filter}
 use Rattle.std.proofs.lemmas.List.Elements.{All-head, filter-append}
 use Rattle.agg_cache.specs.Waiting.{docs_of, is_id, under}
@@ -11,7 +11,6 @@ use Rattle.agg_cache.specs.declared.error.CollectError.TheVariants as refusal
 use Rattle.agg_buckets.specs.Visits.{docs_in}
 use Rattle.agg_buckets.proofs.Labels.{docs_in-append}
 use Rattle.agg_filter.specs.Filter.{Filter, FilterFor, FilterTakes, Prepares, count_of}
-use Rattle.agg_collector_tree.specs.Refusals.{AreNotLast}
 use Rattle.agg_collector_tree.specs.Took.{FilterAnswers, FilterTook}
 use Rattle.agg_collector_tree.specs.Caches.{Cache, waiting_in}
 
@@ -44,19 +43,6 @@ module _ (p : ℕ → Bool) where
         many-append (if t e.0 then e.1 ∷ [] else []) (docs_of t xs),
         many-append (e.1 ∷ []) (docs_in xs),
         many-of t xs,
-      )
-
-  -- those of a part are no more than those of the whole
-  many-part : (taken xs ys zs all : List (ℕ × ℕ)) → all ≡ xs ++ (ys ++ zs)
-      → many (docs_in ((taken ++ xs) ++ ys)) ≤ many (docs_in (taken ++ all))
-  many-part taken xs ys zs all is =
-      omega (
-        arith,
-        ap (λ ps. many (docs_in (taken ++ ps))) is,
-        ap (λ ps. many (docs_in ps)) (append_assoc taken xs (ys ++ zs)),
-        ap (λ ps. many (docs_in ps)) (append_assoc (taken ++ xs) ys zs),
-        ap many (docs_in-append ((taken ++ xs) ++ ys) zs),
-        many-append (docs_in ((taken ++ xs) ++ ys)) (docs_in zs),
       )
 
   -- ---- one parent
@@ -132,42 +118,15 @@ module _ (p : ℕ → Bool) where
         absurd (omega (arith, less, last (cc e)));
   }
 
-  -- ---- batches
+  -- ---- nothing is taken
 
-  pub took-none : (c : Filter Cache) → FilterTook p [] c c
-  took-none c = record {
-    takes = λ taken given f.
-        subst (λ ps. FilterFor waiting_in p c ps given) (sym (append-nil taken)) f;
-    hands_on = refl;
-  }
-
-  pub took-both : (xs ys : List (ℕ × ℕ)) (a b c : Filter Cache) → FilterTook p xs a b
-      → FilterTook p ys b c → FilterTook p (xs ++ ys) a c
-  took-both xs ys a b c t u = record {
-    takes = λ taken given f.
-        subst (λ ps. FilterFor waiting_in p c ps given) (append_assoc taken xs ys)
-        (u.takes (taken ++ xs) given (t.takes taken given f));
-    hands_on = u.hands_on ∙ t.hands_on;
-  }
-
-  pub answers-ok : (pairs : List (ℕ × ℕ)) (parents : List ℕ) (old new : Filter Cache)
-      (done : Unit {0}) → FilterTook p pairs old new → FilterAnswers p pairs parents old new (Ok
-      done)
-  answers-ok pairs parents old new done took = record {
-    ok = took;
+  pub answers-none : (c : Filter Cache) (done : Unit {0}) → FilterAnswers p [] [] c c (Ok done)
+  answers-none c done = record {
+    ok = record {
+      takes = λ taken given f.
+          subst (λ ps. FilterFor waiting_in p c ps given) (sym (append-nil taken)) f;
+      hands_on = refl;
+    };
     errors = tt;
     many = λ e. absurd (cc e);
-  }
-
-  -- a refusal in the midst is one of the whole
-  pub refused-part : (xs ys zs all : List (ℕ × ℕ)) → all ≡ xs ++ (ys ++ zs) → (own parents : List ℕ)
-      → (AreNotLast parents → AreNotLast own) → (a b c d : Filter Cache) (error : CollectError)
-      → FilterTook p xs a b → FilterAnswers p ys own b c (Err error)
-      → FilterAnswers p all parents a d (Err error)
-  refused-part xs ys zs all is own parents part a b c d error t u = record {
-    ok = tt;
-    errors = u.errors;
-    many = λ e low taken given f.
-        let own_many = u.many e (part low) (taken ++ xs) given (t.takes taken given f) in
-        omega (arith, own_many, many-part taken xs ys zs all is);
   }

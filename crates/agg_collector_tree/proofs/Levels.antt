@@ -1,6 +1,6 @@
 -- One level of a tree: what it is as plain data, and what is known of it.
 use Rattle.std.proofs.Common.{◌≡◌, ◌<◌, ℕ, List, [], ◌∷◌, Bool, inl, inr, get_or, length, map}
-use Rattle.std.proofs.Common.{zero, suc, refl, sym, ◌∙◌, subst, arith, rules}
+use Rattle.std.proofs.Common.{zero, suc, refl, sym, ap, ◌∙◌, subst, arith, rules}
 use Rattle.std.specs.declared.boxed.Box.{Box}
 use Rattle.std.specs.declared.vec.Vec.{Vec}
 use Rattle.std.specs.declared.alloc.Global.{Global}
@@ -96,6 +96,21 @@ mutual
   same-all plans Helds.none Helds.none same is = absurd is
   same-all plans (Helds.more h hs) (Helds.more k ks) same is = absurd is
   same-all plans hs ks same is = absurd same
+
+mutual
+  -- trees of the same nodes are as deep
+  pub same-depth : (h k : Held) → HasSameNodes h k → depth k ≡ depth h
+  same-depth (Held.composite i a h) (Held.composite j b k) same = ap suc (same-depth h k same.1)
+  same-depth (Held.filter i a h) (Held.filter j b k) same = ap suc (same-depth h k same.1)
+  same-depth (Held.metric i a) (Held.metric j b) same = refl
+  same-depth (Held.group hs) (Held.group ks) same = ap suc (same-depths hs ks same)
+  same-depth h k same = absurd same
+
+  same-depths : (hs ks : Helds) → HaveSameNodes hs ks → depths ks ≡ depths hs
+  same-depths Helds.none Helds.none same = refl
+  same-depths (Helds.more h hs) (Helds.more k ks) same =
+      omega (arith, same-depth h k same.0, same-depths hs ks same.1)
+  same-depths hs ks same = absurd same
 
 -- what is handed on is handed on still
 pub handed-still : (before after : Bool) (h k : Held) → after ≡ before → HasSameNodes h k

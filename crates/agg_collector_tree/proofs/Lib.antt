@@ -8,6 +8,7 @@ pub mod Groups
 pub mod HandedDocuments
 pub mod HandedTrees
 pub mod LastIds
+pub mod LaterParts
 pub mod Levels
 pub mod LowerDocuments
 pub mod ManyComposites

@@ -1,8 +1,12 @@
 -- A tree takes documents in two parts.
-use Rattle.std.proofs.Common.{◌++◌, ℕ, List, Bool, false, ◌∙◌, subst, arith}
-use Rattle.std.proofs.lemmas.List.{append_assoc}
+use Rattle.std.proofs.Common.{◌≤◌, ◌++◌, ℕ, List, [], Bool, false, length, take, ◌∙◌, sym, subst}
+use Rattle.std.proofs.Common.{arith, append-nil}
+use Rattle.std.proofs.lemmas.List.{append_assoc, take_all}
+use Rattle.agg_cache.specs.Waiting.{pairs_of}
+use Rattle.agg_cache.specs.declared.cache.Batch.{Batch}
 use Rattle.agg_segment_context.specs.declared.context.PerRequestAggSegCtx.{PerRequestAggSegCtx}
 use Rattle.agg_collector_tree.specs.Tree.{HasSameNodes, HaveSameNodes, Held, Helds, IsFor, Takes}
+use Rattle.agg_collector_tree.proofs.Levels.{same-itself}
 
 mutual
   -- trees with the nodes of a third have the same nodes
@@ -26,6 +30,30 @@ mutual
   all-both Helds.none Helds.none ls one two = absurd two
   all-both (Helds.more a hs) (Helds.more b ks) ls one two = absurd two
   all-both hs ks ls one two = absurd one
+
+-- no part is taken
+pub takes-none : (ctx : PerRequestAggSegCtx) (h : Held) (steps : ℕ)
+    → Takes ctx [] false h h steps steps
+takes-none ctx h steps = record {
+  takes = λ meaning meant taken visits right. (
+    visits,
+    subst (λ pairs. IsFor meaning ctx h pairs visits) (sym (append-nil taken)) right,
+    omega arith,
+    omega arith,
+    omega arith,
+  );
+  nodes = same-itself h;
+  fits = λ fits. fits;
+  flushed = λ e. absurd (cc e);
+}
+
+-- where no batch is left, all are taken
+pub taken-all : (ctx : PerRequestAggSegCtx) (batches : List Batch) (i : ℕ) → length batches ≤ i
+    → (old mid : Held) (steps steps_mid : ℕ)
+    → Takes ctx (pairs_of (take i batches)) false old mid steps steps_mid
+    → Takes ctx (pairs_of batches) false old mid steps steps_mid
+taken-all ctx batches i past old mid steps steps_mid =
+    subst (λ all. Takes ctx (pairs_of all) false old mid steps steps_mid) (take_all i batches past)
 
 module _ (ctx : PerRequestAggSegCtx) (xs ys : List (ℕ × ℕ)) (old mid : Held) (steps steps_mid : ℕ)
     (first : Takes ctx xs false old mid steps steps_mid) where

@@ -75,9 +75,3 @@ range-part segment sources docs others part all =
     All-map (AreInRange sources) (document_at segment) docs
     (All-from_Contains P docs (λ d c. All-contains P others d
     (All-from_map (AreInRange sources) (document_at segment) others all) (part d c)))
-
-pub range-within : (segment : Stored) (sources : Sources) (docs others : List ℕ)
-    → Within docs others → AreAllInRange segment sources others
-    → AreAllInRange segment sources docs
-range-within segment sources docs others w =
-    range-part segment sources docs others (within-contains docs others w)

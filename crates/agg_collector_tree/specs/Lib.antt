@@ -1,11 +1,11 @@
 pub mod Bound
 pub mod Caches
+pub mod Call
 pub mod Counting
 pub mod New
 pub mod NewFilter
 pub mod Prepared
 pub mod Refusals
 pub mod Step
-pub mod Taken
 pub mod Took
 pub mod Tree

@@ -1,102 +1,130 @@
-//! How a tree of collectors takes documents.
-ghost use Rattle.std.specs.Prelude.{◌≡◌, ◌≤◌, IfErr, IfOk, OnOk};
+//! How a tree of collectors takes documents and hands them down.
+ghost use Rattle.std.specs.Prelude.{◌≡◌, ◌≤◌, IfErr, IfOk, OnOk, map};
+ghost use Rattle.agg_cache.specs.Waiting.{pairs_of};
 ghost use Rattle.agg_segment_context.specs.Context.{IsMeant, Meaning};
 ghost use Rattle.agg_collector_tree.specs.Bound.{TakesMost};
+ghost use Rattle.agg_collector_tree.specs.Call.{is_flush, pairs_in, parents_in};
 ghost use Rattle.agg_collector_tree.specs.Refusals.{IsRefused};
 ghost use Rattle.agg_collector_tree.specs.Step.{TakesAt, index_in};
-ghost use Rattle.agg_collector_tree.specs.Taken.{taken_pairs, taken_parents};
 ghost use Rattle.agg_collector_tree.specs.Tree.{Fits, Takes, group_of, held_of};
 
 use crate::composite::take_in_composite;
 use crate::filter::take_in_filter;
 use crate::metric::take_in_metric;
-use crate::{SegmentCollectorTree, Taken};
+use crate::{Call, SegmentCollectorTree};
 use agg_cache::{Batch, CollectError};
 use agg_segment_context::PerRequestAggSegCtx;
 use agg_values::{ItemList, Steps};
 use std::sync::ledger::Ledger;
 
-/// Takes documents under parents in each collector at the top of a tree, which prepares them first.
-/// A collector hands what waits on to those below it where that is much, or where all is to be
-/// handed down.
+/// Takes documents in each collector at the top of a tree, which prepares their parent first, or
+/// hands down all that waits. After each call a collector in which many documents wait hands them
+/// on to those below it.
 #[cycle(hand)]
 pub fn hand<L: Ledger>(
     node: &mut SegmentCollectorTree<'_>,
-    taken: Taken<'_>,
-    all: bool,
+    call: Call<'_>,
     ctx: &PerRequestAggSegCtx<'_>,
     steps: &mut Steps<L>,
 ) -> Result<(), CollectError>
     requires meant { (meaning : Meaning) × IsMeant meaning ctx.now }
     requires fits { Fits ctx.now (held_of node.old) }
-    ensures ok { OnOk result (Takes ctx.now (taken_pairs taken.entry) all (held_of node.old)
-        (held_of node.new) steps.old steps.new) }
-    ensures refused { IfErr result (IsRefused ctx.now (taken_pairs taken.entry)
-        (taken_parents taken.entry) (held_of node.old)) }
-    ensures most { TakesMost ctx.now (taken_pairs taken.entry) (held_of node.old) steps.old
+    ensures ok { OnOk result (Takes ctx.now (pairs_in call.entry) (is_flush call.entry)
+        (held_of node.old) (held_of node.new) steps.old steps.new) }
+    ensures refused { IfErr result (IsRefused ctx.now (pairs_in call.entry)
+        (parents_in call.entry) (held_of node.old)) }
+    ensures most { TakesMost ctx.now (pairs_in call.entry) (held_of node.old) steps.old
         steps.new }
     ensures later { steps.old ≤ steps.new }
 {
-    let down = take_at(node, taken, all, ctx, steps)?;
+    let down = take_at(node, call, ctx, steps)?;
     match node {
         SegmentCollectorTree::Composite(_, _, child) => {
             let Some(down) = down else {
                 return Ok(());
             };
-            hand(child, Taken::Batches(down.as_slice()), all, ctx, steps)
+            hand_batches(child, down.as_slice(), call.is_flush(), ctx, steps)
         }
         SegmentCollectorTree::Filter(_, _, child) => {
             let Some(down) = down else {
                 return Ok(());
             };
-            hand(child, Taken::Batches(down.as_slice()), all, ctx, steps)
+            hand_batches(child, down.as_slice(), call.is_flush(), ctx, steps)
         }
         SegmentCollectorTree::Metric(_, _) => Ok(()),
-        SegmentCollectorTree::Group(children) => hand_all(children, taken, all, ctx, steps),
+        SegmentCollectorTree::Group(children) => hand_all(children, call, ctx, steps),
     }
 }
 
-// Does so in each of several trees.
+// Takes batches in a tree, by a call each, and then hands down all that waits in it, if it is to.
+#[cycle(hand)]
+fn hand_batches<L: Ledger>(
+    node: &mut SegmentCollectorTree<'_>,
+    batches: &[Batch],
+    flush: bool,
+    ctx: &PerRequestAggSegCtx<'_>,
+    steps: &mut Steps<L>,
+) -> Result<(), CollectError>
+    requires meant { (meaning : Meaning) × IsMeant meaning ctx.now }
+    requires fits { Fits ctx.now (held_of node.old) }
+    ensures ok { OnOk result (Takes ctx.now (pairs_of batches.now) flush (held_of node.old)
+        (held_of node.new) steps.old steps.new) }
+    ensures refused { IfErr result (IsRefused ctx.now (pairs_of batches.now)
+        (map (λ batch. batch.bucket_id) batches.now) (held_of node.old)) }
+    ensures most { TakesMost ctx.now (pairs_of batches.now) (held_of node.old) steps.old
+        steps.new }
+    ensures later { steps.old ≤ steps.new }
+{
+    for batch in batches {
+        let call = Call::Collect(batch.bucket_id, batch.docs.as_slice());
+        hand(node, call, ctx, steps)?;
+    }
+    if !flush {
+        return Ok(());
+    }
+    hand(node, Call::Flush, ctx, steps)
+}
+
+// Does what is asked in each of several trees.
 #[cycle(hand)]
 fn hand_all<L: Ledger>(
     children: &mut Vec<SegmentCollectorTree<'_>>,
-    taken: Taken<'_>,
-    all: bool,
+    call: Call<'_>,
     ctx: &PerRequestAggSegCtx<'_>,
     steps: &mut Steps<L>,
 ) -> Result<(), CollectError>
     requires meant { (meaning : Meaning) × IsMeant meaning ctx.now }
     requires fits { Fits ctx.now (group_of children.old.items) }
-    ensures ok { OnOk result (Takes ctx.now (taken_pairs taken.entry) all
+    ensures ok { OnOk result (Takes ctx.now (pairs_in call.entry) (is_flush call.entry)
         (group_of children.old.items) (group_of children.new.items) steps.old steps.new) }
-    ensures refused { IfErr result (IsRefused ctx.now (taken_pairs taken.entry)
-        (taken_parents taken.entry) (group_of children.old.items)) }
-    ensures most { TakesMost ctx.now (taken_pairs taken.entry) (group_of children.old.items)
+    ensures refused { IfErr result (IsRefused ctx.now (pairs_in call.entry)
+        (parents_in call.entry) (group_of children.old.items)) }
+    ensures most { TakesMost ctx.now (pairs_in call.entry) (group_of children.old.items)
         steps.old steps.new }
     ensures later { steps.old ≤ steps.new }
 {
     for i in 0..children.len() {
-        hand(&mut children[i], taken, all, ctx, steps)?;
+        hand(&mut children[i], call, ctx, steps)?;
     }
     Ok(())
 }
 
-// Takes documents in the collector of a node, and gives what it is to hand on, if it is to.
+// Takes documents in the collector of a node, and gives what it is to hand on: what waits, if that
+// is much or all is to be handed down.
 fn take_at<L: Ledger>(
     node: &mut SegmentCollectorTree<'_>,
-    taken: Taken<'_>,
-    all: bool,
+    call: Call<'_>,
     ctx: &PerRequestAggSegCtx<'_>,
     steps: &mut Steps<L>,
 ) -> Result<Option<ItemList<Batch>>, CollectError>
     requires meant { (meaning : Meaning) × IsMeant meaning ctx.now }
     requires fits { Fits ctx.now (held_of node.old) }
-    ensures ok { IfOk result (λ down. TakesAt ctx.now (taken_pairs taken.entry)
-        (taken_parents taken.entry) all (held_of node.old) down (held_of node.new) steps.old
-        steps.new) }
-    ensures refused { IfErr result (IsRefused ctx.now (taken_pairs taken.entry)
-        (taken_parents taken.entry) (held_of node.old)) }
-    ensures most { TakesMost ctx.now (taken_pairs taken.entry) (held_of node.old) steps.old
+    ensures ok { IfOk result (λ down. TakesAt ctx.now (pairs_in call.entry)
+        (parents_in call.entry) (is_flush call.entry) (held_of node.old) down
+        (held_of node.new) steps.old steps.new) }
+    ensures refused { IfErr result (IsRefused ctx.now (pairs_in call.entry)
+        (parents_in call.entry) (held_of node.old)) }
+    ensures most { TakesMost ctx.now (pairs_in call.entry) (held_of node.old) steps.old
         steps.new }
     ensures later { steps.old ≤ steps.new }
 {
@@ -104,22 +132,22 @@ fn take_at<L: Ledger>(
     match node {
         SegmentCollectorTree::Composite(_, collector, _) => {
             let req = &ctx.composite_req_data.as_slice()[index];
-            take_in_composite(collector, taken, req, steps)?;
-            if !all && !collector.due() {
+            take_in_composite(collector, call, req, steps)?;
+            if !call.is_flush() && !collector.due() {
                 return Ok(None);
             }
             Ok(Some(collector.take()?))
         }
         SegmentCollectorTree::Filter(_, collector, _) => {
             let req = &ctx.filter_req_data.as_slice()[index];
-            take_in_filter(collector, taken, req)?;
-            if !all && !collector.due() {
+            take_in_filter(collector, call, req)?;
+            if !call.is_flush() && !collector.due() {
                 return Ok(None);
             }
             Ok(Some(collector.take()?))
         }
         SegmentCollectorTree::Metric(_, collector) => {
-            take_in_metric(collector, taken)?;
+            take_in_metric(collector, call)?;
             Ok(None)
         }
         SegmentCollectorTree::Group(_) => Ok(None),

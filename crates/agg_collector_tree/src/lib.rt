@@ -1,6 +1,7 @@
 //! The collectors of a request's aggregations in a segment, as a tree.
 #![tactic(auto)]
 
+mod call;
 mod composite;
 mod filter;
 mod filter_collector;
@@ -8,12 +9,11 @@ mod growing;
 mod handing;
 mod metric;
 mod preparing;
-mod taken;
 mod tree;
 
+pub use call::Call;
 pub use filter_collector::{FilterCollector, Place};
 pub use growing::tree_for;
 pub use handing::hand;
 pub use preparing::prepare;
-pub use taken::Taken;
 pub use tree::SegmentCollectorTree;

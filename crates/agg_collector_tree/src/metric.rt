@@ -1,23 +1,23 @@
 //! How a metric takes documents under parents.
-ghost use Rattle.agg_cache.specs.Waiting.{pairs_of, under};
-ghost use Rattle.agg_collector_tree.specs.Taken.{taken_pairs};
+ghost use Rattle.agg_cache.specs.Waiting.{under};
+ghost use Rattle.agg_collector_tree.specs.Call.{pairs_in};
 ghost use Rattle.agg_collector_tree.specs.Took.{MetricAnswers};
 
-use crate::Taken;
-use agg_cache::{Batch, BucketId, CollectError};
+use crate::Call;
+use agg_cache::{BucketId, CollectError};
 use agg_metric::SegmentMetricCollector;
 use agg_values::DocId;
 
-/// Takes documents under parents, and prepares these first.
+/// Takes the documents of a call under its parent, which is prepared first.
 pub(crate) fn take_in_metric(
     collector: &mut SegmentMetricCollector<'_>,
-    taken: Taken<'_>,
+    call: Call<'_>,
 ) -> Result<(), CollectError>
-    ensures { MetricAnswers (taken_pairs taken.entry) collector.old collector.new result }
+    ensures { MetricAnswers (pairs_in call.entry) collector.old collector.new result }
 {
-    match taken {
-        Taken::One(parent, docs) => collect_under(collector, parent, docs),
-        Taken::Batches(batches) => collect_batches(collector, batches),
+    match call {
+        Call::Collect(parent, docs) => collect_under(collector, parent, docs),
+        Call::Flush => Ok(()),
     }
 }
 
@@ -31,17 +31,4 @@ fn collect_under(
 {
     collector.prepare_max_bucket(parent)?;
     collector.collect(parent, docs)
-}
-
-// Takes the documents of batches.
-fn collect_batches(
-    collector: &mut SegmentMetricCollector<'_>,
-    batches: &[Batch],
-) -> Result<(), CollectError>
-    ensures { MetricAnswers (pairs_of batches.now) collector.old collector.new result }
-{
-    for batch in batches {
-        collect_under(collector, batch.bucket_id, batch.docs.as_slice())?;
-    }
-    Ok(())
 }

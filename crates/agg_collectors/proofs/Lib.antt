@@ -11,7 +11,6 @@ pub mod FlushedCollectors
 pub mod GrownTrees
 pub mod Halves
 pub mod KeptFinals
-pub mod LaterRefusals
 pub mod MemoryCauses
 pub mod NamedEmpties
 pub mod NewCollectors
@@ -19,6 +18,5 @@ pub mod PagedEmpties
 pub mod PagedFinals
 pub mod RightCollectors
 pub mod StoredDocuments
-pub mod TakenPairs
 pub mod ToldMemory
 pub mod ZippedPairs

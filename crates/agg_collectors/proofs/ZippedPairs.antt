@@ -1,8 +1,9 @@
 -- Two lists of one length as pairs: those before an index, the one there, and those after it.
-use Rattle.std.proofs.Common.{◌≡◌, ◌<◌, ◌+◌, ◌++◌, ℕ, zero, suc, List, [], ◌∷◌, get_or, length}
-use Rattle.std.proofs.Common.{take, drop, zip, sym, ap, ◌∙◌, subst, arith}
-use Rattle.std.specs.List.{Contains}
+use Rattle.std.proofs.Common.{◌≡◌, ◌<◌, ◌+◌, ◌++◌, ℕ, List, [], ◌∷◌, get_or, length}
+use Rattle.std.proofs.Common.{take, drop, zip, sym, ap, ◌∙◌, arith}
+use Rattle.std.specs.List.{All}
 use Rattle.std.proofs.lemmas.List.{append_assoc, take-append-drop, take_more}
+use Rattle.std.proofs.lemmas.List.Elements.{All-cons, All-contains, All-nil}
 use Rattle.std.proofs.lemmas.Slice.Zip.{get_or-zip, length-zip}
 use Rattle.agg_cache.specs.Waiting.{under}
 
@@ -29,8 +30,7 @@ module _ (ids docs : List ℕ) (same : length ids ≡ length docs) (i id doc : �
         ∙ ap (λ pairs. pairs ++ drop (i + 1) (zip ids docs)) (sym next-zipped)
         ∙ take-append-drop (i + 1) (zip ids docs)
 
-    -- the first of the pair is one of the list
-    pub first-within : (parent : ℕ) → Contains (id ∷ []) parent → Contains ids parent
-    first-within parent (zero, within, is) =
-        (i, inside, subst (λ p. get_or ids i p ≡ p) is (sym id_is))
-    first-within parent (suc k, within, is) = absurd (omega (arith, within))
+    -- what is so of all in the first list is so of that of the pair
+    pub first-of : (P : ℕ → Type 0) → All P ids → All P (id ∷ [])
+    first-of P all =
+        All-cons P id [] (All-contains P ids id all (i, inside, sym id_is)) (All-nil P)

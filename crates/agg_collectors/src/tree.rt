@@ -15,7 +15,7 @@ ghost use Rattle.agg_held_bytes.specs.HeldBytes.{held_bytes};
 ghost use Rattle.agg_collectors.specs.Trees.{IsGrowthRefusal, IsTreeRefusal};
 
 use agg_cache::{AggregationLimitsGuard, BucketId, CollectError, LimitsLedger};
-use agg_collector_tree::{SegmentCollectorTree, Taken, hand, prepare};
+use agg_collector_tree::{Call, SegmentCollectorTree, hand, prepare};
 use agg_held_bytes::held_bytes;
 use agg_results::IntermediateAggregationResults;
 use agg_segment_context::{AggregationsSegmentCtx, PerRequestAggSegCtx};
@@ -192,7 +192,7 @@ impl SegmentAggregationCollector for SegmentCollectorTree<'_> {
     ) -> Result<(), CollectError> {
         let ctx = &agg_data.per_request;
         let before = bytes_of(self, ctx)?;
-        hand(self, Taken::One(parent_bucket_id, docs), false, ctx, steps)?;
+        hand(self, Call::Collect(parent_bucket_id, docs), ctx, steps)?;
         charge_growth(self, before, ctx, limits, guard)
     }
 
@@ -228,7 +228,7 @@ impl SegmentAggregationCollector for SegmentCollectorTree<'_> {
     ) -> Result<(), CollectError> {
         let ctx = &agg_data.per_request;
         let before = bytes_of(self, ctx)?;
-        hand(self, Taken::Batches(&[]), true, ctx, steps)?;
+        hand(self, Call::Flush, ctx, steps)?;
         charge_growth(self, before, ctx, limits, guard)
     }
 }
@@ -251,8 +251,7 @@ fn hand_each<L: Ledger>(
     ensures later { steps.old ≤ steps.new }
 {
     for (bucket_id, doc) in bucket_ids.iter().zip(docs) {
-        let taken = Taken::One(*bucket_id, &[*doc]);
-        hand(tree, taken, false, ctx, steps)?;
+        hand(tree, Call::Collect(*bucket_id, &[*doc]), ctx, steps)?;
     }
     Ok(())
 }

@@ -10,7 +10,7 @@ ghost use Rattle.agg_segment.specs.declared.query.QueryTree.{QueryTree};
 ghost use Rattle.agg_segment_context.specs.Context.{IsContextOf, IsMeant, Meaning};
 ghost use Rattle.agg_segment_context.specs.Plan.{plan_of, plans_of};
 ghost use Rattle.agg_collector_tree.specs.Refusals.{AreNotLast};
-ghost use Rattle.agg_collector_tree.specs.Taken.{taken_pairs, taken_parents};
+ghost use Rattle.agg_collector_tree.specs.Call.{is_flush, pairs_in, parents_in};
 ghost use Rattle.agg_collector_tree.specs.Tree.{Fits, IsFlushed, IsFor, IsGroupOf, Takes};
 ghost use Rattle.agg_collector_tree.specs.Tree.{held_of};
 ghost use Rattle.agg_held_bytes.specs.Checked.{IsChecked};
@@ -23,7 +23,7 @@ use crate::ChargeError;
 use crate::charge::charge;
 use crate::taking::take;
 use agg_cache::{AggregationLimitsGuard, LimitsLedger};
-use agg_collector_tree::{SegmentCollectorTree, Taken, tree_for};
+use agg_collector_tree::{Call, SegmentCollectorTree, tree_for};
 use agg_held_bytes::{fixed_bytes, held_bytes};
 use agg_segment::SegmentReader;
 use agg_segment_context::PerRequestAggSegCtx;
@@ -102,7 +102,7 @@ impl<'s> ChargedTree<'s> {
             (IsChargeCause ctx.now (under 0 docs.now) self.old limits.old) }
     {
         if docs.len() <= BLOCK {
-            return self.take(Taken::One(0, docs), false, ctx, limits, steps);
+            return self.take(Call::Collect(0, docs), ctx, limits, steps);
         }
         let (first, second) = docs.split_at(docs.len() / 2);
         self.take_blocks(first, ctx, limits, steps)?;
@@ -127,7 +127,7 @@ impl<'s> ChargedTree<'s> {
         ensures within { OnOk result (limits.new.in_use ≤ limits.new.memory_limit) }
         ensures cause { IfErr result (IsChargeCause ctx.now [] self.old limits.old) }
     {
-        self.take(Taken::Batches(&[]), true, ctx, limits, steps)
+        self.take(Call::Flush, ctx, limits, steps)
     }
 
     /// The tree.
@@ -155,30 +155,30 @@ impl<'s> ChargedTree<'s> {
         guard.give_back(limits);
     }
 
-    // Takes documents under parents, and charges the tree anew.
+    // Takes documents, or hands down all that waits, and charges the tree anew.
     fn take<L: Ledger>(
         &mut self,
-        taken: Taken<'_>,
-        all: bool,
+        call: Call<'_>,
         ctx: &PerRequestAggSegCtx<'_>,
         limits: &mut LimitsLedger,
         steps: &mut Steps<L>,
     ) -> Result<(), ChargeError>
-        requires may { MayTake ctx.now (held_of self.old.tree) (taken_pairs taken) }
-        requires low { AreNotLast (taken_parents taken) }
+        requires may { MayTake ctx.now (held_of self.old.tree) (pairs_in call) }
+        requires low { AreNotLast (parents_in call) }
         requires charged { self.old.guard ≤ limits.old.in_use }
-        ensures takes { OnOk result (Takes ctx.now (taken_pairs taken.entry) all
-            (held_of self.old.tree) (held_of self.new.tree) steps.old steps.new) }
-        ensures most { MostSteps ctx.now (taken_pairs taken.entry) (held_of self.old.tree)
+        ensures takes { OnOk result (Takes ctx.now (pairs_in call.entry)
+            (is_flush call.entry) (held_of self.old.tree) (held_of self.new.tree) steps.old
+            steps.new) }
+        ensures most { MostSteps ctx.now (pairs_in call.entry) (held_of self.old.tree)
             steps.old steps.new }
         ensures later { steps.old ≤ steps.new }
         ensures charges { ChargesAnew self.old self.new limits.old limits.new }
         ensures exact { OnOk result (IsCharged ctx.now self.new) }
         ensures within { OnOk result (limits.new.in_use ≤ limits.new.memory_limit) }
         ensures cause { IfErr result
-            (IsChargeCause ctx.now (taken_pairs taken.entry) self.old limits.old) }
+            (IsChargeCause ctx.now (pairs_in call.entry) self.old limits.old) }
     {
-        take(&mut self.tree, taken, all, ctx, steps)?;
+        take(&mut self.tree, call, ctx, steps)?;
         self.charge_anew(ctx, limits)
     }
 

@@ -1,33 +1,32 @@
 //! How a tree of collectors takes documents that it may take.
 ghost use Rattle.std.specs.Prelude.{◌≡◌, ◌≤◌, OnOk};
+ghost use Rattle.agg_collector_tree.specs.Call.{is_flush, pairs_in, parents_in};
 ghost use Rattle.agg_collector_tree.specs.Refusals.{AreNotLast};
-ghost use Rattle.agg_collector_tree.specs.Taken.{taken_pairs, taken_parents};
 ghost use Rattle.agg_collector_tree.specs.Tree.{Takes, held_of};
 ghost use Rattle.agg_snapshot.specs.Trees.{MayTake, MostSteps};
 
 use agg_cache::CollectError;
-use agg_collector_tree::{SegmentCollectorTree, Taken, hand};
+use agg_collector_tree::{Call, SegmentCollectorTree, hand};
 use agg_segment_context::PerRequestAggSegCtx;
 use agg_values::{OutOfMemory, Steps};
 use std::sync::ledger::Ledger;
 
-/// Takes documents under parents. Only memory may run out.
+/// Takes documents, or hands down all that waits. Only memory may run out.
 pub fn take<L: Ledger>(
     tree: &mut SegmentCollectorTree<'_>,
-    taken: Taken<'_>,
-    all: bool,
+    call: Call<'_>,
     ctx: &PerRequestAggSegCtx<'_>,
     steps: &mut Steps<L>,
 ) -> Result<(), OutOfMemory>
-    requires may { MayTake ctx.now (held_of tree.old) (taken_pairs taken) }
-    requires low { AreNotLast (taken_parents taken) }
-    ensures takes { OnOk result (Takes ctx.now (taken_pairs taken.entry) all (held_of tree.old)
-        (held_of tree.new) steps.old steps.new) }
-    ensures most { MostSteps ctx.now (taken_pairs taken.entry) (held_of tree.old)
+    requires may { MayTake ctx.now (held_of tree.old) (pairs_in call) }
+    requires low { AreNotLast (parents_in call) }
+    ensures takes { OnOk result (Takes ctx.now (pairs_in call.entry) (is_flush call.entry)
+        (held_of tree.old) (held_of tree.new) steps.old steps.new) }
+    ensures most { MostSteps ctx.now (pairs_in call.entry) (held_of tree.old)
         steps.old steps.new }
     ensures later { steps.old ≤ steps.new }
 {
-    match hand(tree, taken, all, ctx, steps) {
+    match hand(tree, call, ctx, steps) {
         Ok(()) => Ok(()),
         Err(error) => Err(out_of_memory(error)),
     }

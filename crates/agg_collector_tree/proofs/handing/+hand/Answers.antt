@@ -1,67 +1,75 @@
-use Rattle.std.proofs.Common.{◌≡◌, ◌<◌, ◌≤◌, get_or, length, map, take, refl, sym, ap, ◌∙◌, subst}
-use Rattle.std.proofs.Common.{arith}
-use Rattle.std.proofs.Common.{length-set}
+use Rattle.std.proofs.Common.{◌≡◌, ◌<◌, ◌≤◌, ◌+◌, ◌∷◌, [], true, false, get_or, length, map}
+use Rattle.std.proofs.Common.{take, drop, append-nil, length-set, refl, sym, ap, ◌∙◌, subst, arith}
 use Rattle.std.specs.Prelude.{IfErr}
 use Rattle.std.proofs.lemmas.List.{get_or-set_other, take_all}
-use Rattle.std.proofs.lemmas.Result.{on_ok_weaker}
-use Rattle.agg_cache.specs.Waiting.{pairs_of}
+use Rattle.std.proofs.lemmas.List.Elements.{All-nil}
+use Rattle.std.proofs.lemmas.Result.{IfErr-weaker, on_ok_weaker}
+use Rattle.agg_cache.specs.Waiting.{pairs_of, under}
 use Rattle.agg_collector_tree.specs.declared.tree.SegmentCollectorTree.TheViews.{outs-Composite}
 use Rattle.agg_collector_tree.specs.declared.tree.SegmentCollectorTree.TheViews.{outs-Filter}
 use Rattle.agg_collector_tree.specs.Bound.{TakesMost}
 use Rattle.agg_collector_tree.specs.Refusals.{IsRefused}
 use Rattle.agg_collector_tree.specs.Step.{depth, depths}
-use Rattle.agg_collector_tree.specs.Taken.{taken_pairs, taken_parents}
+use Rattle.agg_collector_tree.specs.Call.{is_flush, pairs_in, parents_in}
 use Rattle.agg_collector_tree.specs.Tree.{Fits, Takes, group_of, held_of, helds_of}
+use Rattle.agg_collector_tree.proofs.Batches.{bucket_of, pairs_of-more, pairs_of-split}
 use Rattle.agg_collector_tree.proofs.Groups.{AllTake, group-takes}
 use Rattle.agg_collector_tree.proofs.HandedTrees.{all-next, handed-composite, handed-filter}
-use Rattle.agg_collector_tree.proofs.Levels.{fits-each, less-deep}
+use Rattle.agg_collector_tree.proofs.LaterParts.{later-most, later-refused}
+use Rattle.agg_collector_tree.proofs.Levels.{fits-each, less-deep, same-depth}
 use Rattle.agg_collector_tree.proofs.MostGroups.{some-most}
 use Rattle.agg_collector_tree.proofs.MostSteps.{takes-most}
 use Rattle.agg_collector_tree.proofs.PassedErrors.{error-passed}
 use Rattle.agg_collector_tree.proofs.RefusedFilters.{group-refused}
+use Rattle.agg_collector_tree.proofs.TakenParts.{taken-all, takes-both, takes-none}
 use Rattle.agg_collector_tree.proofs.handing.+hand.Goals as goal
 
 pub hand-returns-in-Some-clause-ok : goal.hand-returns-in-Some-clause-ok
 hand-returns-in-Some-clause-ok g t c =
     let x = c.in-Composite in
     let ctx = c.args.ctx.now in
-    let pairs = taken_pairs c.args.taken in
-    let all = c.args.all in
+    let pairs = pairs_in c.args.call in
+    let all = is_flush c.args.call in
     let mid = c.take_at.new.steps in
-    let now = c.hand.new.steps in
-    rw (x.is, outs-Composite x.field-0 x.field-1 x.child) (on_ok_weaker c.hand.result
-    (λ done. handed-composite ctx pairs (taken_parents c.args.taken) all c.args.node.now
-    c.take_at.new.node c.hand.new.node
+    let now = c.hand_batches.new.steps in
+    rw (x.is, outs-Composite x.field-0 x.field-1 x.child) (on_ok_weaker c.hand_batches.result
+    (λ done. handed-composite ctx pairs (parents_in c.args.call) all c.args.node.now
+    c.take_at.new.node c.hand_batches.new.node
     x.field-0 x.child x.child c.in_ok-down.down c.in-Some.down c.in-Some.is refl c.args.steps.now
     mid
     now
-    (subst (λ n. Takes ctx (pairs_of c.in-Some.down) all (held_of n) (held_of c.hand.new.node) mid
-    now)
+    (subst (λ n. Takes ctx (pairs_of c.in-Some.down) all (held_of n)
+    (held_of c.hand_batches.new.node) mid now)
     (c.deref_mut.ensures.value ∙ ap (λ b. b.value) x.child-is)
     (subst (λ bs. Takes ctx (pairs_of bs) all (held_of c.deref_mut.result.now)
-    (held_of c.hand.new.node) mid now) c.as_slice.ensures done))
-    x.field-1 x.is c.in_ok-down.ensures.ok) c.hand.ensures.ok)
+    (held_of c.hand_batches.new.node) mid now) c.as_slice.ensures
+    (subst (λ f. Takes ctx (pairs_of c.as_slice.result.now) f (held_of c.deref_mut.result.now)
+    (held_of c.hand_batches.new.node) mid now) c.is_flush.ensures done)))
+    x.field-1 x.is c.in_ok-down.ensures.ok) c.hand_batches.ensures.ok)
 
 pub hand-returns-in-Some-down-clause-ok : goal.hand-returns-in-Some-down-clause-ok
 hand-returns-in-Some-down-clause-ok g t c =
     let x = c.in-Filter in
     let ctx = c.args.ctx.now in
-    let pairs = taken_pairs c.args.taken in
-    let all = c.args.all in
+    let pairs = pairs_in c.args.call in
+    let all = is_flush c.args.call in
     let down = c.in-Some-down.down in
     let mid = c.take_at.new.steps in
-    let new = c.hand-in-Filter.new.node in
-    let now = c.hand-in-Filter.new.steps in
-    rw (x.is, outs-Filter x.field-0 x.field-1 x.child) (on_ok_weaker c.hand-in-Filter.result
-    (λ done. handed-filter ctx pairs (taken_parents c.args.taken) all c.args.node.now
+    let new = c.hand_batches-in-Filter.new.node in
+    let now = c.hand_batches-in-Filter.new.steps in
+    rw (x.is, outs-Filter x.field-0 x.field-1 x.child) (on_ok_weaker c.hand_batches-in-Filter.result
+    (λ done. handed-filter ctx pairs (parents_in c.args.call) all c.args.node.now
     c.take_at.new.node new
     x.field-0 x.child x.child c.in_ok-down.down down c.in-Some-down.is refl c.args.steps.now mid
     now
     (subst (λ n. Takes ctx (pairs_of down) all (held_of n) (held_of new) mid now)
     (c.deref_mut-in-Filter.ensures.value ∙ ap (λ b. b.value) x.child-is)
     (subst (λ bs. Takes ctx (pairs_of bs) all (held_of c.deref_mut-in-Filter.result.now)
-    (held_of new) mid now) c.as_slice-in-Filter.ensures done))
-    x.field-1 x.is c.in_ok-down.ensures.ok) c.hand-in-Filter.ensures.ok)
+    (held_of new) mid now) c.as_slice-in-Filter.ensures
+    (subst (λ f. Takes ctx (pairs_of c.as_slice-in-Filter.result.now) f
+    (held_of c.deref_mut-in-Filter.result.now) (held_of new) mid now)
+    c.is_flush-in-Filter.ensures done)))
+    x.field-1 x.is c.in_ok-down.ensures.ok) c.hand_batches-in-Filter.ensures.ok)
 
 pub hand_all-hand-requires : goal.hand_all-hand-requires
 hand_all-hand-requires g t c κs within =
@@ -89,8 +97,8 @@ hand_all-hand-requires g t c κs within =
 pub hand_all-returns-in_err-hand-clause-refused : goal.hand_all-returns-in_err-hand-clause-refused
 hand_all-returns-in_err-hand-clause-refused g t c =
     let ctx = c.args.ctx.now in
-    let pairs = taken_pairs c.args.taken in
-    let parents = taken_parents c.args.taken in
+    let pairs = pairs_in c.args.call in
+    let parents = parents_in c.args.call in
     let l = c.loop-i in
     let i = l.i in
     let xs = c.args.children.now.items in
@@ -120,10 +128,9 @@ hand_all-loop-i-preserved g t c =
         λ k d later.
             get_or-set_other l.children.items i k new d (omega arith) ∙ left.1 k d (omega arith),
       );
-      took = all-next c.args.ctx.now (taken_pairs c.args.taken) c.args.all xs l.children.items i
-          node
-          new c.args.steps.now l.steps c.hand.new.steps inside left.0 read l.invariant.took
-          c.in_ok-hand.ensures.ok;
+      took = all-next c.args.ctx.now (pairs_in c.args.call) (is_flush c.args.call) xs
+          l.children.items i node new c.args.steps.now l.steps c.hand.new.steps inside left.0 read
+          l.invariant.took c.in_ok-hand.ensures.ok;
       later = omega (arith, l.invariant.later, c.hand.ensures.later);
     }
 
@@ -134,11 +141,11 @@ hand_all-returns-clause-ok g t c =
     let ys = l.children.items in
     let left = l.invariant.unvisited in
     let past : length xs ≤ l.i = omega (arith, c.loop-i-test.false, left.0) in
-    group-takes c.args.ctx.now (taken_pairs c.args.taken) c.args.all (map held_of xs)
+    group-takes c.args.ctx.now (pairs_in c.args.call) (is_flush c.args.call) (map held_of xs)
     (map held_of ys) c.args.steps.now l.steps
-    (subst (λ os. AllTake c.args.ctx.now (taken_pairs c.args.taken) c.args.all (map held_of os)
-    (map held_of ys) c.args.steps.now l.steps) (take_all l.i xs past)
-    (subst (λ ns. AllTake c.args.ctx.now (taken_pairs c.args.taken) c.args.all
+    (subst (λ os. AllTake c.args.ctx.now (pairs_in c.args.call) (is_flush c.args.call)
+    (map held_of os) (map held_of ys) c.args.steps.now l.steps) (take_all l.i xs past)
+    (subst (λ ns. AllTake c.args.ctx.now (pairs_in c.args.call) (is_flush c.args.call)
     (map held_of (take l.i xs)) (map held_of ns) c.args.steps.now l.steps)
     (take_all l.i ys (omega (arith, past, left.0))) l.invariant.took))
 
@@ -151,10 +158,10 @@ hand_all-returns-in_err-hand-clause-most g t c =
     let node = c.index_mut.result.now in
     let inside : i < length xs = omega (arith, c.loop-i-test.true, left.0) in
     let read : node ≡ get_or xs i node = c.index_mut.ensures.value ∙ left.1 i node (omega arith) in
-    some-most c.args.ctx.now (taken_pairs c.args.taken) c.args.all xs i node inside c.requires.fits
-    (map held_of (take i l.children.items)) c.args.steps.now l.steps c.hand.new.steps
-    l.invariant.took
-    (subst (λ n. TakesMost c.args.ctx.now (taken_pairs c.args.taken) (held_of n) l.steps
+    some-most c.args.ctx.now (pairs_in c.args.call) (is_flush c.args.call) xs i node inside
+    c.requires.fits (map held_of (take i l.children.items)) c.args.steps.now l.steps
+    c.hand.new.steps l.invariant.took
+    (subst (λ n. TakesMost c.args.ctx.now (pairs_in c.args.call) (held_of n) l.steps
     c.hand.new.steps) read c.hand.ensures.most)
 
 pub hand_all-returns-in_err-hand-clause-later : goal.hand_all-returns-in_err-hand-clause-later
@@ -163,6 +170,154 @@ hand_all-returns-in_err-hand-clause-later g t c =
 
 pub hand_all-returns-clause-most : goal.hand_all-returns-clause-most
 hand_all-returns-clause-most g t c =
-    takes-most c.args.ctx.now (taken_pairs c.args.taken) c.args.all
+    takes-most c.args.ctx.now (pairs_in c.args.call) (is_flush c.args.call)
     (group_of c.args.children.now.items) (group_of c.loop-i.children.items) c.args.steps.now
     c.loop-i.steps c.requires.fits (hand_all-returns-clause-ok g t c)
+
+-- ---- batches
+
+pub hand_batches-hand-requires : goal.hand_batches-hand-requires
+hand_batches-hand-requires g t c κs within =
+    let l = c.loop-batch in
+    let took = l.invariant.took in
+    let same = same-depth (held_of c.args.node.now) (held_of l.node) took.nodes in (
+      omega (arith, same, c.decreases),
+      (within, (c.requires.meant, took.fits c.requires.fits)),
+    )
+
+pub hand_batches-returns-in_err-hand-clause-refused :
+    goal.hand_batches-returns-in_err-hand-clause-refused
+hand_batches-returns-in_err-hand-clause-refused g t c =
+    let ctx = c.args.ctx.now in
+    let bs = c.args.batches.now in
+    let b = c.batch-item.result in
+    let l = c.loop-batch in
+    let i = l.batch-index in
+    let old = held_of c.args.node.now in
+    let parents = map (λ batch. batch.bucket_id) bs in
+    let error = c.in_err-hand.field-0.0 in
+    error-passed (λ r. IfErr r (IsRefused ctx (pairs_of bs) parents old)) c.from_residual.result
+    error c.from_residual.ensures.1
+    (subst (λ pairs. IsRefused ctx pairs parents old error)
+    (sym (pairs_of-split bs i b c.loop-batch-test.true c.batch-item.is))
+    (later-refused ctx (pairs_of (take i bs)) (under b.bucket_id b.docs)
+    (pairs_of (drop (i + 1) bs)) old (held_of l.node) c.args.steps.now l.steps l.invariant.took
+    (b.bucket_id ∷ []) parents
+    (bucket_of (λ parent. parent < 4294967295) bs i b c.loop-batch-test.true c.batch-item.is)
+    error
+    (subst (λ docs. IsRefused ctx (under b.bucket_id docs) (b.bucket_id ∷ []) (held_of l.node)
+    error) c.as_slice.ensures c.in_err-hand.ensures.refused)))
+
+pub hand_batches-returns-in_err-hand-clause-most : goal.hand_batches-returns-in_err-hand-clause-most
+hand_batches-returns-in_err-hand-clause-most g t c =
+    let ctx = c.args.ctx.now in
+    let bs = c.args.batches.now in
+    let b = c.batch-item.result in
+    let l = c.loop-batch in
+    let i = l.batch-index in
+    let old = held_of c.args.node.now in
+    subst (λ pairs. TakesMost ctx pairs old c.args.steps.now c.hand.new.steps)
+    (sym (pairs_of-split bs i b c.loop-batch-test.true c.batch-item.is))
+    (later-most ctx (pairs_of (take i bs)) (under b.bucket_id b.docs)
+    (pairs_of (drop (i + 1) bs)) old (held_of l.node) c.args.steps.now l.steps l.invariant.took
+    c.hand.new.steps
+    (subst (λ docs. TakesMost ctx (under b.bucket_id docs) (held_of l.node) l.steps
+    c.hand.new.steps) c.as_slice.ensures c.hand.ensures.most))
+
+pub hand_batches-returns-in_err-hand-clause-later :
+    goal.hand_batches-returns-in_err-hand-clause-later
+hand_batches-returns-in_err-hand-clause-later g t c =
+    omega (arith, c.loop-batch.invariant.later, c.hand.ensures.later)
+
+pub hand_batches-loop-batch-init : goal.hand_batches-loop-batch-init
+hand_batches-loop-batch-init g t c = record {
+  took = takes-none c.args.ctx.now (held_of c.args.node.now) c.args.steps.now;
+  later = omega arith;
+}
+
+pub hand_batches-loop-batch-preserved : goal.hand_batches-loop-batch-preserved
+hand_batches-loop-batch-preserved g t c =
+    let ctx = c.args.ctx.now in
+    let bs = c.args.batches.now in
+    let b = c.batch-item.result in
+    let l = c.loop-batch in
+    let i = l.batch-index in
+    let old = held_of c.args.node.now in
+    let new = held_of c.hand.new.node in
+    record {
+      took = subst (λ pairs. Takes ctx pairs false old new c.args.steps.now c.hand.new.steps)
+          (pairs_of-more bs i b c.loop-batch-test.true c.batch-item.is)
+          (takes-both ctx (pairs_of (take i bs)) (under b.bucket_id b.docs) old (held_of l.node)
+          c.args.steps.now l.steps l.invariant.took false new c.hand.new.steps
+          (subst (λ docs. Takes ctx (under b.bucket_id docs) false (held_of l.node) new l.steps
+          c.hand.new.steps) c.as_slice.ensures c.in_ok-hand.ensures.ok));
+      later = omega (arith, l.invariant.later, c.hand.ensures.later);
+    }
+
+-- ---- after all batches
+
+pub hand_batches-hand-requires-2 : goal.hand_batches-hand-requires-2
+hand_batches-hand-requires-2 g t c κs within =
+    let l = c.loop-batch in
+    let took = l.invariant.took in
+    let same = same-depth (held_of c.args.node.now) (held_of l.node) took.nodes in (
+      omega (arith, same, c.decreases),
+      (within, (c.requires.meant, took.fits c.requires.fits)),
+    )
+
+pub hand_batches-returns-then-not-flush-clause-most :
+    goal.hand_batches-returns-then-not-flush-clause-most
+hand_batches-returns-then-not-flush-clause-most g t c =
+    let ctx = c.args.ctx.now in
+    let bs = c.args.batches.now in
+    let l = c.loop-batch in
+    let old = held_of c.args.node.now in
+    takes-most ctx (pairs_of bs) false old (held_of l.node) c.args.steps.now l.steps c.requires.fits
+    (taken-all ctx bs l.batch-index c.loop-batch-test.false old (held_of l.node) c.args.steps.now
+    l.steps l.invariant.took)
+
+pub hand_batches-returns-clause-ok : goal.hand_batches-returns-clause-ok
+hand_batches-returns-clause-ok g t c =
+    let ctx = c.args.ctx.now in
+    let bs = c.args.batches.now in
+    let l = c.loop-batch in
+    let old = held_of c.args.node.now in
+    let new = held_of c.hand-2.new.node in
+    let took = taken-all ctx bs l.batch-index c.loop-batch-test.false old (held_of l.node)
+    c.args.steps.now l.steps l.invariant.took in
+    on_ok_weaker c.hand-2.result (λ done.
+    subst (λ f. Takes ctx (pairs_of bs) f old new c.args.steps.now c.hand-2.new.steps)
+    (sym c.if-not-flush.false)
+    (subst (λ pairs. Takes ctx pairs true old new c.args.steps.now c.hand-2.new.steps)
+    (append-nil (pairs_of bs))
+    (takes-both ctx (pairs_of bs) [] old (held_of l.node) c.args.steps.now l.steps took true new
+    c.hand-2.new.steps done))) c.hand-2.ensures.ok
+
+pub hand_batches-returns-clause-refused : goal.hand_batches-returns-clause-refused
+hand_batches-returns-clause-refused g t c =
+    let ctx = c.args.ctx.now in
+    let bs = c.args.batches.now in
+    let l = c.loop-batch in
+    let old = held_of c.args.node.now in
+    let parents = map (λ batch. batch.bucket_id) bs in
+    let took = taken-all ctx bs l.batch-index c.loop-batch-test.false old (held_of l.node)
+    c.args.steps.now l.steps l.invariant.took in
+    IfErr-weaker c.hand-2.result (IsRefused ctx [] [] (held_of l.node))
+    (IsRefused ctx (pairs_of bs) parents old) (λ error refused.
+    subst (λ pairs. IsRefused ctx pairs parents old error) (append-nil (pairs_of bs))
+    (later-refused ctx (pairs_of bs) [] [] old (held_of l.node) c.args.steps.now l.steps took []
+    parents (λ low. All-nil (λ parent. parent < 4294967295)) error refused))
+    c.hand-2.ensures.refused
+
+pub hand_batches-returns-clause-most : goal.hand_batches-returns-clause-most
+hand_batches-returns-clause-most g t c =
+    let ctx = c.args.ctx.now in
+    let bs = c.args.batches.now in
+    let l = c.loop-batch in
+    let old = held_of c.args.node.now in
+    let took = taken-all ctx bs l.batch-index c.loop-batch-test.false old (held_of l.node)
+    c.args.steps.now l.steps l.invariant.took in
+    subst (λ pairs. TakesMost ctx pairs old c.args.steps.now c.hand-2.new.steps)
+    (append-nil (pairs_of bs))
+    (later-most ctx (pairs_of bs) [] [] old (held_of l.node) c.args.steps.now l.steps took
+    c.hand-2.new.steps c.hand-2.ensures.most)

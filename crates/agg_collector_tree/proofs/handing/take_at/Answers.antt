@@ -1,10 +1,10 @@
-use Rattle.std.proofs.Common.{◌≡◌, ◌≤◌, Some, length, sym, ap, subst, arith}
+use Rattle.std.proofs.Common.{◌≡◌, ◌≤◌, Some, length, sym, ap, ◌∙◌, subst, arith}
 use Rattle.std.specs.Prelude.{IfErr, slice_get}
 use Rattle.std.proofs.lemmas.Option.{slice_get_within}
 use Rattle.agg_composite.specs.Composite.{Composite}
 use Rattle.agg_metric.specs.Collector.{MetricTakes}
 use Rattle.agg_collector_tree.specs.Bound.{TakesMost}
-use Rattle.agg_collector_tree.specs.Taken.{taken_pairs, taken_parents}
+use Rattle.agg_collector_tree.specs.Call.{is_flush, pairs_in, parents_in}
 use Rattle.agg_collector_tree.specs.Refusals.{IsRefused}
 use Rattle.agg_collector_tree.specs.Caches.{Cache}
 use Rattle.agg_collector_tree.specs.Tree.{Fits, held_of}
@@ -75,12 +75,12 @@ composite-at g c =
 
 -- whatever the composite answers, its steps are few, and none is taken back
 composite-bounds : (g : given.Over) (c : After-take_in_composite g)
-    → TakesMost c.args.ctx.now (taken_pairs c.args.taken) (held_of c.args.node.now)
+    → TakesMost c.args.ctx.now (pairs_in c.args.call) (held_of c.args.node.now)
     c.args.steps.now c.take_in_composite.new.steps
     × (c.args.steps.now ≤ c.take_in_composite.new.steps)
 composite-bounds g c =
     let x = c.in-Composite in
-    node-bounds-composite c.args.ctx.now (taken_pairs c.args.taken) c.args.node.now x.field-0
+    node-bounds-composite c.args.ctx.now (pairs_in c.args.call) c.args.node.now x.field-0
     c.index-as_slice-index.result (composite-at g c) c.requires.fits c.requires.meant x.collector
     x.field-2 x.is _ c.take_in_composite.new.collector c.args.steps.now
     c.take_in_composite.new.steps c.take_in_composite.result
@@ -93,10 +93,10 @@ returns-in_err-take_in_composite-in-Composite-clause-refused g c =
     let error = c.in_err-take_in_composite-in-Composite.field-0.0 in
     let point = goal.at.returns-in_err-take_in_composite-in-Composite-clause-refused g c in
     let here = composite-at g point.After-take_in_composite in
-    error-passed (λ r. IfErr r (IsRefused c.args.ctx.now (taken_pairs c.args.taken)
-    (taken_parents c.args.taken) (held_of c.args.node.now))) c.from_residual.result error
+    error-passed (λ r. IfErr r (IsRefused c.args.ctx.now (pairs_in c.args.call)
+    (parents_in c.args.call) (held_of c.args.node.now))) c.from_residual.result error
     c.from_residual.ensures.1
-    (node-refused-composite c.args.ctx.now (taken_pairs c.args.taken) (taken_parents c.args.taken)
+    (node-refused-composite c.args.ctx.now (pairs_in c.args.call) (parents_in c.args.call)
     c.args.node.now x.field-0 c.index-as_slice-index.result here c.requires.meant x.collector
     x.field-2 x.is _ x.collector-is c.take_in_composite.new.collector c.args.steps.now
     c.take_in_composite.new.steps error
@@ -108,13 +108,13 @@ returns-then-not-due-clause-ok g c =
     let here = composite-at g (goal.at.returns-then-not-due-clause-ok g c).After-take_in_composite
     in
     rw (x.is, outs-Composite x.field-0 x.collector x.field-2)
-    (node-keeps-composite c.args.ctx.now (taken_pairs c.args.taken) (taken_parents c.args.taken)
-    c.args.all x.field-0 c.index-as_slice-index.result here
+    (node-keeps-composite c.args.ctx.now (pairs_in c.args.call) (parents_in c.args.call)
+    (is_flush c.args.call) x.field-0 c.index-as_slice-index.result here
     c.requires.meant x.collector _ x.collector-is c.take_in_composite.new.collector
     c.args.steps.now c.take_in_composite.new.steps
     (λ segment after fits.
     (c.in_ok-take_in_composite-in-Composite.ensures segment after fits).ok)
-    c.if-not-all.true x.field-2)
+    (sym c.is_flush.ensures ∙ c.if-not-is_flush.true) x.field-2)
 
 pub returns-in_ok-take-in-Composite-clause-ok : goal.returns-in_ok-take-in-Composite-clause-ok
 returns-in_ok-take-in-Composite-clause-ok g c =
@@ -124,7 +124,7 @@ returns-in_ok-take-in-Composite-clause-ok g c =
     let point = goal.at.returns-in_ok-take-in-Composite-clause-ok g c in
     let here = composite-at g point.After-take_in_composite in
     rw (x.is, outs-Composite x.field-0 x.collector x.field-2)
-    (node-hands-composite ctx (taken_pairs c.args.taken) (taken_parents c.args.taken) c.args.all
+    (node-hands-composite ctx (pairs_in c.args.call) (parents_in c.args.call) (is_flush c.args.call)
     x.field-0 c.index-as_slice-index.result here
     c.requires.meant x.collector _ x.collector-is c.take_in_composite.new.collector
     c.args.steps.now c.take_in_composite.new.steps
@@ -208,9 +208,9 @@ returns-in_err-take_in_filter-in-Filter-clause-refused g c =
     let back = c.from_residual-in_err-take_in_filter-in-Filter in
     let point = goal.at.returns-in_err-take_in_filter-in-Filter-clause-refused g c in
     let here = filter-at g point.After-take_in_filter in
-    error-passed (λ r. IfErr r (IsRefused c.args.ctx.now (taken_pairs c.args.taken)
-    (taken_parents c.args.taken) (held_of c.args.node.now))) back.result error back.ensures.1
-    (node-refused-filter c.args.ctx.now (taken_pairs c.args.taken) (taken_parents c.args.taken)
+    error-passed (λ r. IfErr r (IsRefused c.args.ctx.now (pairs_in c.args.call)
+    (parents_in c.args.call) (held_of c.args.node.now))) back.result error back.ensures.1
+    (node-refused-filter c.args.ctx.now (pairs_in c.args.call) (parents_in c.args.call)
     c.args.node.now x.field-0 c.index-as_slice-index-in-Filter.result here c.requires.meant
     x.collector x.field-2 x.is _ x.collector-is c.take_in_filter.new.collector error
     (λ tree segment marks. c.in_err-take_in_filter-in-Filter.ensures tree segment marks))
@@ -220,12 +220,12 @@ returns-then-not-due-2-clause-ok g c =
     let x = c.in-Filter in
     let here = filter-at g (goal.at.returns-then-not-due-2-clause-ok g c).After-take_in_filter in
     rw (x.is, outs-Filter x.field-0 x.collector x.field-2)
-    (node-keeps-filter c.args.ctx.now (taken_pairs c.args.taken) (taken_parents c.args.taken)
-    c.args.all x.field-0 c.index-as_slice-index-in-Filter.result here
+    (node-keeps-filter c.args.ctx.now (pairs_in c.args.call) (parents_in c.args.call)
+    (is_flush c.args.call) x.field-0 c.index-as_slice-index-in-Filter.result here
     c.requires.meant x.collector _ x.collector-is c.take_in_filter.new.collector
     c.args.steps.now
     (λ tree segment marks. (c.in_ok-take_in_filter-in-Filter.ensures tree segment marks).ok)
-    c.if-not-all-2.true x.field-2)
+    (sym c.is_flush-in-Filter.ensures ∙ c.if-not-is_flush-2.true) x.field-2)
 
 pub returns-in_ok-take-in-Filter-clause-ok : goal.returns-in_ok-take-in-Filter-clause-ok
 returns-in_ok-take-in-Filter-clause-ok g c =
@@ -235,7 +235,7 @@ returns-in_ok-take-in-Filter-clause-ok g c =
     let point = goal.at.returns-in_ok-take-in-Filter-clause-ok g c in
     let here = filter-at g point.After-take_in_filter in
     rw (x.is, outs-Filter x.field-0 x.collector x.field-2)
-    (node-hands-filter ctx (taken_pairs c.args.taken) (taken_parents c.args.taken) c.args.all
+    (node-hands-filter ctx (pairs_in c.args.call) (parents_in c.args.call) (is_flush c.args.call)
     x.field-0 c.index-as_slice-index-in-Filter.result here
     c.requires.meant x.collector _ x.collector-is c.take_in_filter.new.collector
     c.args.steps.now
@@ -247,22 +247,22 @@ returns-in_ok-take-in-Filter-clause-ok g c =
 pub returns-in_err-take_in_filter-in-Filter-clause-most :
     goal.returns-in_err-take_in_filter-in-Filter-clause-most
 returns-in_err-take_in_filter-in-Filter-clause-most g c =
-    no-steps c.args.ctx.now (taken_pairs c.args.taken) (held_of c.args.node.now) c.requires.fits
+    no-steps c.args.ctx.now (pairs_in c.args.call) (held_of c.args.node.now) c.requires.fits
     c.args.steps.now
 
 pub returns-then-not-due-2-clause-most : goal.returns-then-not-due-2-clause-most
 returns-then-not-due-2-clause-most g c =
-    no-steps c.args.ctx.now (taken_pairs c.args.taken) (held_of c.args.node.now) c.requires.fits
+    no-steps c.args.ctx.now (pairs_in c.args.call) (held_of c.args.node.now) c.requires.fits
     c.args.steps.now
 
 pub returns-in_err-take-in-Filter-clause-most : goal.returns-in_err-take-in-Filter-clause-most
 returns-in_err-take-in-Filter-clause-most g c =
-    no-steps c.args.ctx.now (taken_pairs c.args.taken) (held_of c.args.node.now) c.requires.fits
+    no-steps c.args.ctx.now (pairs_in c.args.call) (held_of c.args.node.now) c.requires.fits
     c.args.steps.now
 
 pub returns-in_ok-take-in-Filter-clause-most : goal.returns-in_ok-take-in-Filter-clause-most
 returns-in_ok-take-in-Filter-clause-most g c =
-    no-steps c.args.ctx.now (taken_pairs c.args.taken) (held_of c.args.node.now) c.requires.fits
+    no-steps c.args.ctx.now (pairs_in c.args.call) (held_of c.args.node.now) c.requires.fits
     c.args.steps.now
 
 -- ---- metrics, and several
@@ -273,9 +273,9 @@ returns-in_ok-take_in_metric-in-Metric-clause-ok g c =
     let x = c.in-Metric in
     rw (x.is, outs-Metric x.field-0 x.collector)
     (rw (held-metric x.field-0 x.collector, held-metric x.field-0 c.take_in_metric.new.collector)
-    (metric-takes c.args.ctx.now (taken_pairs c.args.taken) c.args.all x.field-0 x.collector
+    (metric-takes c.args.ctx.now (pairs_in c.args.call) (is_flush c.args.call) x.field-0 x.collector
     c.take_in_metric.new.collector c.args.steps.now
-    (subst (λ o. MetricTakes (taken_pairs c.args.taken) o c.take_in_metric.new.collector)
+    (subst (λ o. MetricTakes (pairs_in c.args.call) o c.take_in_metric.new.collector)
     x.collector-is c.in_ok-take_in_metric-in-Metric.ensures.ok)))
 
 pub returns-in_err-take_in_metric-in-Metric-clause-refused :
@@ -284,15 +284,15 @@ returns-in_err-take_in_metric-in-Metric-clause-refused g c =
     let x = c.in-Metric in
     let call = c.in_err-take_in_metric-in-Metric in
     let back = c.from_residual-in_err-take_in_metric-in-Metric in
-    error-passed (λ r. IfErr r (IsRefused c.args.ctx.now (taken_pairs c.args.taken)
-    (taken_parents c.args.taken) (held_of c.args.node.now))) back.result call.field-0.0
+    error-passed (λ r. IfErr r (IsRefused c.args.ctx.now (pairs_in c.args.call)
+    (parents_in c.args.call) (held_of c.args.node.now))) back.result call.field-0.0
     back.ensures.1
-    (node-refused-metric c.args.ctx.now (taken_pairs c.args.taken) (taken_parents c.args.taken)
+    (node-refused-metric c.args.ctx.now (pairs_in c.args.call) (parents_in c.args.call)
     c.args.node.now c.requires.fits x.field-0 x.collector x.is _ x.collector-is
     c.take_in_metric.new.collector
     call.field-0.0 call.ensures)
 
 pub returns-in-Group-clause-most : goal.returns-in-Group-clause-most
 returns-in-Group-clause-most g c =
-    no-steps c.args.ctx.now (taken_pairs c.args.taken) (held_of c.args.node.now) c.requires.fits
+    no-steps c.args.ctx.now (pairs_in c.args.call) (held_of c.args.node.now) c.requires.fits
     c.args.steps.now

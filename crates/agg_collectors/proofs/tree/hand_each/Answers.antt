@@ -1,15 +1,14 @@
-use Rattle.std.proofs.Common.{◌+◌, ◌∷◌, [], false, length, take, drop, zip, subst, arith}
+use Rattle.std.proofs.Common.{◌+◌, ◌<◌, ◌∷◌, [], false, length, take, drop, zip, subst, arith}
 use Rattle.std.specs.Prelude.{IfErr}
 use Rattle.std.proofs.lemmas.List.{length_push, take_all}
 use Rattle.std.proofs.lemmas.Slice.Zip.{length-zip, zip_end, zip_turn}
 use Rattle.agg_cache.specs.Waiting.{under}
 use Rattle.agg_collector_tree.specs.Refusals.{IsRefused}
 use Rattle.agg_collector_tree.specs.Tree.{Takes, held_of}
+use Rattle.agg_collector_tree.proofs.LaterParts.{later-refused}
 use Rattle.agg_collector_tree.proofs.PassedErrors.{error-passed}
-use Rattle.agg_collector_tree.proofs.TakenParts.{takes-both}
-use Rattle.agg_collectors.proofs.LaterRefusals.{later-refused}
-use Rattle.agg_collectors.proofs.TakenPairs.{takes-none}
-use Rattle.agg_collectors.proofs.ZippedPairs.{first-within, next-zipped, split-zipped}
+use Rattle.agg_collector_tree.proofs.TakenParts.{takes-both, takes-none}
+use Rattle.agg_collectors.proofs.ZippedPairs.{first-of, next-zipped, split-zipped}
 use Rattle.agg_collectors.proofs.tree.hand_each.Goals as goal
 
 pub loop-bucket_id-init : goal.loop-bucket_id-init
@@ -57,10 +56,11 @@ returns-in_err-hand-clause-refused g c =
     (subst (λ pairs. IsRefused ctx pairs ids (held_of c.args.tree.now) error)
     (split-zipped ids docs c.requires.lengths i id doc here.0 (here.2 id) (here.3 doc))
     (later-refused ctx (take i (zip ids docs)) (under id (doc ∷ [])) (drop (i + 1) (zip ids docs))
-    (id ∷ []) ids
-    (first-within ids docs c.requires.lengths i id doc here.0 (here.2 id) (here.3 doc))
-    (held_of c.args.tree.now) (held_of l.tree) c.args.steps.now l.steps l.invariant.took error
-    c.in_err-hand.ensures.refused))
+    (held_of c.args.tree.now) (held_of l.tree) c.args.steps.now l.steps l.invariant.took (id ∷ [])
+    ids
+    (first-of ids docs c.requires.lengths i id doc here.0 (here.2 id) (here.3 doc)
+    (λ parent. parent < 4294967295))
+    error c.in_err-hand.ensures.refused))
 
 pub returns-clause-ok : goal.returns-clause-ok
 returns-clause-ok g c =

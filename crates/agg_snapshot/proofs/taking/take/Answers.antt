@@ -1,20 +1,20 @@
-use Rattle.agg_collector_tree.specs.Taken.{taken_pairs, taken_parents}
+use Rattle.agg_collector_tree.specs.Call.{pairs_in, parents_in}
 use Rattle.agg_collector_tree.specs.Tree.{held_of}
 use Rattle.agg_snapshot.proofs.TakenTrees.{most-of, only-memory}
 use Rattle.agg_snapshot.proofs.taking.take.Goals as goal
 
 pub out_of_memory-requires : goal.out_of_memory-requires
 out_of_memory-requires g c =
-    only-memory c.args.ctx.now (taken_pairs c.args.taken) (taken_parents c.args.taken)
+    only-memory c.args.ctx.now (pairs_in c.args.call) (parents_in c.args.call)
     (held_of c.args.tree.now) c.requires.may c.requires.low c.in-Err.error
     c.in-Err.ensures.refused
 
 pub returns-in-Ok-clause-most : goal.returns-in-Ok-clause-most
 returns-in-Ok-clause-most g c =
-    most-of c.args.ctx.now (taken_pairs c.args.taken) (taken_parents c.args.taken)
+    most-of c.args.ctx.now (pairs_in c.args.call) (parents_in c.args.call)
     (held_of c.args.tree.now) c.args.steps.now c.hand.new.steps c.in-Ok.ensures.most
 
 pub returns-in-Err-clause-most : goal.returns-in-Err-clause-most
 returns-in-Err-clause-most g c =
-    most-of c.args.ctx.now (taken_pairs c.args.taken) (taken_parents c.args.taken)
+    most-of c.args.ctx.now (pairs_in c.args.call) (parents_in c.args.call)
     (held_of c.args.tree.now) c.args.steps.now c.hand.new.steps c.in-Err.ensures.most

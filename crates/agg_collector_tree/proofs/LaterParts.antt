@@ -1,26 +1,25 @@
--- Why a tree refuses documents after others that it took.
-use Rattle.std.proofs.Common.{◌≡◌, ◌<◌, ◌++◌, ℕ, List, [], false, inl, inr, sym, ap, ◌∙◌}
+-- What a tree answers to documents after others that it took.
+use Rattle.std.proofs.Common.{◌≡◌, ◌++◌, ℕ, List, [], false, inl, inr, sym, ap, ◌∙◌, arith}
 use Rattle.std.proofs.Common.{subst}
 use Rattle.std.specs.Prelude.{slice_get}
-use Rattle.std.specs.List.{Contains}
 use Rattle.std.proofs.lemmas.List.{append_assoc}
-use Rattle.std.proofs.lemmas.List.Elements.{All-contains}
 use Rattle.agg_cache.specs.declared.error.CollectError.{CollectError}
 use Rattle.agg_cache.specs.declared.error.CollectError.TheVariants as refusal
 use Rattle.agg_column.specs.Document.{HasNumbersOf64Bits}
 use Rattle.agg_segment.specs.Segment.{documents_at}
-use Rattle.agg_request_tree.proofs.Lists.{All-from_Contains}
 use Rattle.agg_buckets.specs.Visits.{Within, docs_in}
 use Rattle.agg_buckets.proofs.Labels.{docs_in-append}
 use Rattle.agg_segment_context.specs.Context.{Meaning}
 use Rattle.agg_segment_context.specs.Plan.{Plans}
 use Rattle.agg_segment_context.specs.declared.context.PerRequestAggSegCtx.{PerRequestAggSegCtx}
+use Rattle.agg_collector_tree.specs.Bound.{TakesMost}
 use Rattle.agg_collector_tree.specs.Refusals.{AreNotLast, HasStartOutOfRange, IsRefused, ManyTaken}
 use Rattle.agg_collector_tree.specs.Refusals.{RangeTaken, SomeHasStart}
 use Rattle.agg_collector_tree.specs.Tree.{HasSameNodes, HaveSameNodes, Held, Helds, IsGroupOf}
 use Rattle.agg_collector_tree.specs.Tree.{Takes}
 use Rattle.agg_collector_tree.proofs.Levels.{is-nothing, same-plan, same-plans}
 use Rattle.agg_collector_tree.proofs.ManyLists.{in-more, of-more}
+use Rattle.agg_collector_tree.proofs.MostVisits.{in-less, of-less}
 use Rattle.agg_collector_tree.proofs.RefusedNodes.{start-part}
 use Rattle.agg_collector_tree.proofs.SmallNumbers.{all-part}
 use Rattle.agg_collector_tree.proofs.UncutParts.{lighter-within}
@@ -47,8 +46,7 @@ module _ (meaning : Meaning) (ctx : PerRequestAggSegCtx) (docs : List ℕ) where
     some-same (Helds.more h hs) (Helds.more k ks) same (inr s) = inr (some-same hs ks same.1 s)
     some-same hs ks same s = absurd same
 
-module _ (ctx : PerRequestAggSegCtx) (xs ys zs : List (ℕ × ℕ)) (parents all : List ℕ)
-    (some : (parent : ℕ) → Contains parents parent → Contains all parent) (old mid : Held)
+module _ (ctx : PerRequestAggSegCtx) (xs ys zs : List (ℕ × ℕ)) (old mid : Held)
     (steps steps_mid : ℕ) (took : Takes ctx xs false old mid steps steps_mid) where
   -- those that are taken first are among all
   front-within : (taken : List (ℕ × ℕ))
@@ -59,8 +57,9 @@ module _ (ctx : PerRequestAggSegCtx) (xs ys zs : List (ℕ × ℕ)) (parents all
       (sym (docs_in-append (taken ++ xs ++ ys) zs) ∙ ap docs_in whole)
       (within-part [] (docs_in (taken ++ xs ++ ys)) (docs_in zs))
 
-  later-range : RangeTaken ctx ys parents mid → RangeTaken ctx (xs ++ (ys ++ zs)) all old
-  later-range r = record {
+  later-range : (parents all : List ℕ) → RangeTaken ctx ys parents mid
+      → RangeTaken ctx (xs ++ (ys ++ zs)) all old
+  later-range parents all r = record {
     range = λ meaning is taken visits right.
         let now = took.takes meaning is taken visits right in
         start-same meaning ctx (docs_in (taken ++ (xs ++ (ys ++ zs)))) old mid took.nodes
@@ -70,14 +69,9 @@ module _ (ctx : PerRequestAggSegCtx) (xs ys zs : List (ℕ × ℕ)) (parents all
         (r.range meaning is (taken ++ xs) now.0 now.1));
   }
 
-  none-last : AreNotLast all → AreNotLast parents
-  none-last low =
-      All-from_Contains (λ parent. parent < 4294967295) parents
-      (λ parent here. All-contains (λ parent. parent < 4294967295) all parent low
-      (some parent here))
-
-  later-many : ManyTaken ctx ys parents mid → ManyTaken ctx (xs ++ (ys ++ zs)) all old
-  later-many r = record {
+  later-many : (parents all : List ℕ) → (AreNotLast all → AreNotLast parents)
+      → ManyTaken ctx ys parents mid → ManyTaken ctx (xs ++ (ys ++ zs)) all old
+  later-many parents all part r = record {
     some = λ none. r.some (is-nothing mid (same-plans Plans.none old mid took.nodes
         (subst (IsGroupOf Plans.none) (sym none) tt)));
     node = λ low meaning is taken small visits right name a plan of at.
@@ -87,7 +81,7 @@ module _ (ctx : PerRequestAggSegCtx) (xs ys zs : List (ℕ × ℕ)) (parents all
         (documents_at meaning.segment (docs_in (taken ++ xs ++ ys)))
         (documents_at meaning.segment (docs_in (taken ++ (xs ++ (ys ++ zs)))))
         (lighter-within meaning.segment _ _ within)
-        (r.node (none-last low) meaning is (taken ++ xs)
+        (r.node (part low) meaning is (taken ++ xs)
         (all-part HasNumbersOf64Bits meaning.segment _ _ (within-contains _ _ within) small)
         now.0 now.1 name a plan of (same-plan plan old mid took.nodes at));
     group = λ low meaning is taken small visits right request plans of at.
@@ -97,16 +91,47 @@ module _ (ctx : PerRequestAggSegCtx) (xs ys zs : List (ℕ × ℕ)) (parents all
         (documents_at meaning.segment (docs_in (taken ++ xs ++ ys)))
         (documents_at meaning.segment (docs_in (taken ++ (xs ++ (ys ++ zs)))))
         (lighter-within meaning.segment _ _ within)
-        (r.group (none-last low) meaning is (taken ++ xs)
+        (r.group (part low) meaning is (taken ++ xs)
         (all-part HasNumbersOf64Bits meaning.segment _ _ (within-contains _ _ within) small)
         now.0 now.1 request plans of (same-plans plans old mid took.nodes at));
   }
 
   -- a tree that took some pairs refuses the next ones for a reason to refuse all
-  pub later-refused : (error : CollectError) → IsRefused ctx ys parents mid error
+  pub later-refused : (parents all : List ℕ) → (AreNotLast all → AreNotLast parents)
+      → (error : CollectError) → IsRefused ctx ys parents mid error
       → IsRefused ctx (xs ++ (ys ++ zs)) all old error
-  later-refused refusal.BucketOutOfRange r = later-range r
-  later-refused refusal.TooMany r = later-many r
-  later-refused refusal.OutOfMemory r = tt
-  later-refused (refusal.Aggregation limit) r = r
-  later-refused refusal.CollectorFailed r = r
+  later-refused parents all part refusal.BucketOutOfRange r = later-range parents all r
+  later-refused parents all part refusal.TooMany r = later-many parents all part r
+  later-refused parents all part refusal.OutOfMemory r = tt
+  later-refused parents all part (refusal.Aggregation limit) r = r
+  later-refused parents all part refusal.CollectorFailed r = r
+
+  -- whatever it answers to the next ones, its steps are few for all
+  pub later-most : (steps_now : ℕ) → TakesMost ctx ys mid steps_mid steps_now
+      → TakesMost ctx (xs ++ (ys ++ zs)) old steps steps_now
+  later-most steps_now m = record {
+    node = λ meaning is taken visits right name a plan of at.
+        let now = took.takes meaning is taken visits right in
+        omega (
+          arith,
+          now.4,
+          m.node meaning is (taken ++ xs) now.0 now.1 name a plan of
+              (same-plan plan old mid took.nodes at),
+          in-less meaning ctx plan name a of
+              (documents_at meaning.segment (docs_in (taken ++ xs ++ ys)))
+              (documents_at meaning.segment (docs_in (taken ++ (xs ++ (ys ++ zs)))))
+              (lighter-within meaning.segment _ _ (front-within taken)),
+        );
+    group = λ meaning is taken visits right request plans of at.
+        let now = took.takes meaning is taken visits right in
+        omega (
+          arith,
+          now.4,
+          m.group meaning is (taken ++ xs) now.0 now.1 request plans of
+              (same-plans plans old mid took.nodes at),
+          of-less meaning ctx plans request of
+              (documents_at meaning.segment (docs_in (taken ++ xs ++ ys)))
+              (documents_at meaning.segment (docs_in (taken ++ (xs ++ (ys ++ zs)))))
+              (lighter-within meaning.segment _ _ (front-within taken)),
+        );
+  }
