@@ -1,5 +1,6 @@
 ghost use Rattle.std.specs.Prelude.{◌≡◌, IfOk, map, string_bytes};
 ghost use Rattle.clap.specs.Words.{app_of, new_app, subcommand_of, subcommand_rows_of};
+ghost use Rattle.clap.specs.Words.{with_subcommand};
 ghost use Rattle.agg_command_line.specs.Adds.{HasNoGlobals};
 ghost use Rattle.agg_command_line.specs.CommandLine as spec;
 ghost use Rattle.agg_command_line.specs.CommandLine.{Formats};
@@ -54,15 +55,57 @@ fn root<'a>(alloc: Global) -> Result<Command<'a>, AllocError>
         × (app_of command ≡ spec.peslumok formats)) }
 {
     let formats = format_names();
+    let grouped = with_group(alloc, bare(alloc)?, formats)?;
+    let requested = with_request(alloc, grouped, formats)?;
+    let walked = with_file_command(alloc, requested, "walk", WALK_ABOUT, WALK_EXAMPLES)?;
+    with_file_command(alloc, walked, "check", CHECK_ABOUT, CHECK_EXAMPLES)
+}
+
+// Adds `group`.
+fn with_group<'a>(
+    alloc: Global,
+    program: Command<'a>,
+    formats: FormatNames<'a>,
+) -> Result<Command<'a>, AllocError>
+    ensures { IfOk result (λ command. app_of command ≡ with_subcommand
+        (app_of program.entry)
+        (spec.group_app formats.entry.inputs formats.entry.outputs).top) }
+{
     let grouping = group(alloc, formats)?;
+    let grouped = program.subcommand(grouping)?;
+    Ok(grouped)
+}
+
+// Adds `request`.
+fn with_request<'a>(
+    alloc: Global,
+    program: Command<'a>,
+    formats: FormatNames<'a>,
+) -> Result<Command<'a>, AllocError>
+    ensures { IfOk result (λ command. app_of command ≡ with_subcommand
+        (app_of program.entry)
+        (spec.request_app formats.entry.inputs formats.entry.outputs).top) }
+{
     let requesting = request(alloc, formats)?;
-    let walking = file_command(alloc, "walk", WALK_ABOUT, WALK_EXAMPLES)?;
-    let checking = file_command(alloc, "check", CHECK_ABOUT, CHECK_EXAMPLES)?;
-    let grouped = bare(alloc)?.subcommand(grouping)?;
-    let requested = grouped.subcommand(requesting)?;
-    let walked = requested.subcommand(walking)?;
-    let checked = walked.subcommand(checking)?;
-    Ok(checked)
+    let requested = program.subcommand(requesting)?;
+    Ok(requested)
+}
+
+// Adds a command with one file.
+fn with_file_command<'a>(
+    alloc: Global,
+    program: Command<'a>,
+    name: &'a str,
+    about: &'a str,
+    examples: &'a str,
+) -> Result<Command<'a>, AllocError>
+    ensures { IfOk result (λ command. app_of command ≡ with_subcommand
+        (app_of program.entry)
+        (spec.file_app name.entry.now).top) }
+{
+    let reading = file_command(alloc, name, about, examples)?;
+    let grown = program.subcommand(reading)?;
+    Ok(grown)
 }
 
 // The program before it has a command.

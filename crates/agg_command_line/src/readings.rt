@@ -1,7 +1,7 @@
 //! The texts of options that are used many times, read one by one.
-ghost use Rattle.std.specs.Prelude.{◌≡◌, ◌++◌, IfOk, IfErr, OnOk, codes, map};
+ghost use Rattle.std.specs.Prelude.{◌≡◌, ◌++◌, IfOk, IfErr, List, OnOk, codes, map};
 ghost use Rattle.std.specs.List.{AllZip};
-ghost use Rattle.clap.specs.Words.{found_of, rows_of};
+ghost use Rattle.clap.specs.Words.{Row, found_of, rows_of};
 ghost use Rattle.agg_command_line.specs.Asked as spec;
 ghost use Rattle.agg_command_line.specs.Mistakes.{Tells};
 
@@ -25,9 +25,25 @@ pub(crate) fn read_all<'a, T: OptionValue<'a>>(
         read.items) }
     ensures told { IfErr result (Tells (rows_of (found_of matches.now))) }
 {
-    let mut read = Vec::new(alloc);
     let texts = texts(alloc, matches, option)?;
-    for text in &texts {
+    read_each(alloc, texts.as_slice())
+}
+
+// What each text stands for.
+fn read_each<'a, T: OptionValue<'a>>(
+    alloc: Global,
+    texts: &[&'a str],
+) -> Result<Vec<T>, CommandLineError<'a>>
+    ensures read { IfOk result (λ read. AllZip
+        T.stands_for
+        (map (λ text. text.now) texts.now)
+        read.items) }
+    ensures told { IfErr result (λ error. (rows : List Row)
+        → map (λ text. text.now) texts.now ≡ spec.texts_of T.option_name rows
+        → Tells rows error) }
+{
+    let mut read = Vec::new(alloc);
+    for text in texts {
         match T::read(text) {
             Ok(value) => read.push(value)?,
             Err(error) => return Err(error),
@@ -44,16 +60,28 @@ pub(crate) fn metric_columns<'a>(
     ensures { IfOk result (λ columns. map spec.column columns.items
         ≡ spec.all_columns (rows_of (found_of matches.now))) }
 {
-    let counts = texts(alloc, matches, "count")?;
-    let sums = texts(alloc, matches, "sum")?;
-    let least = texts(alloc, matches, "min")?;
-    let greatest = texts(alloc, matches, "max")?;
     let mut columns = Vec::new(alloc);
-    push_columns(&mut columns, MetricKind::Count, counts.as_slice())?;
-    push_columns(&mut columns, MetricKind::Sum, sums.as_slice())?;
-    push_columns(&mut columns, MetricKind::Min, least.as_slice())?;
-    push_columns(&mut columns, MetricKind::Max, greatest.as_slice())?;
+    push_named(alloc, matches, &mut columns, MetricKind::Count, "count")?;
+    push_named(alloc, matches, &mut columns, MetricKind::Sum, "sum")?;
+    push_named(alloc, matches, &mut columns, MetricKind::Min, "min")?;
+    push_named(alloc, matches, &mut columns, MetricKind::Max, "max")?;
     Ok(columns)
+}
+
+// Appends the columns of a kind, of the fields that an option names.
+fn push_named<'a>(
+    alloc: Global,
+    matches: &ArgMatches<'a>,
+    columns: &mut Vec<Metric<'a>>,
+    kind: MetricKind,
+    option: &str,
+) -> Result<(), AllocError>
+    ensures { OnOk result (map spec.column columns.new.items
+        ≡ map spec.column columns.old.items
+        ++ spec.columns_of kind (spec.texts_of option.now (rows_of (found_of matches.now)))) }
+{
+    let fields = texts(alloc, matches, option)?;
+    push_columns(columns, kind, fields.as_slice())
 }
 
 // Appends the columns of a kind.

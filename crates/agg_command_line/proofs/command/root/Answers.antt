@@ -1,21 +1,27 @@
-use Rattle.agg_command_line.proofs.Added.{adds_command}
+use Rattle.std.proofs.Common.{◌∙◌, ap, codes}
+use Rattle.std.proofs.lemmas.Result.{IfOk-weaker}
+use Rattle.clap.specs.Words.{App, with_subcommand}
+use Rattle.agg_command_line.specs.CommandLine.{file_app, group_app, request_app}
 use Rattle.agg_command_line.proofs.command.root.Goals as goal
 
 pub returns : goal.returns
 returns c =
-    let names = c.format_names-formats in
-    let grouped = adds_command _ _ _ _ _ c.in_ok-grouped.ensures
-    c.in_ok-grouping.ensures.local c.in_ok-bare.ensures c.in_ok-grouping.ensures.app in
-    let requested = adds_command _ _ _ _ _ c.in_ok-requested.ensures
-    c.in_ok-requesting.ensures.local grouped c.in_ok-requesting.ensures.app in
-    let walked = adds_command _ _ _ _ _ c.in_ok-walked.ensures
-    c.in_ok-walking.ensures.local requested c.in_ok-walking.ensures.app in (
+    let names = c.format_names-formats.result in
+    let is = c.format_names-formats.ensures in
+    let grouped = c.in_ok-grouped.ensures ∙ ap (λ (a : App).
+    with_subcommand a (group_app names.inputs names.outputs).top) c.in_ok-bare.ensures in
+    let requested = c.in_ok-requested.ensures ∙ ap (λ (a : App).
+    with_subcommand a (request_app names.inputs names.outputs).top) grouped in
+    let walked = c.in_ok-walked.ensures ∙ ap (λ (a : App).
+    with_subcommand a (file_app (codes "walk")).top) requested in
+    IfOk-weaker c.with_file_command-2.result _ _
+    (λ command checked. (
       record {
-        inputs = names.result.inputs;
-        outputs = names.result.outputs;
-        are_inputs = names.ensures.inputs;
-        are_outputs = names.ensures.outputs;
+        inputs = names.inputs;
+        outputs = names.outputs;
+        are_inputs = is.inputs;
+        are_outputs = is.outputs;
       },
-      adds_command _ _ _ _ _ c.in_ok-checked.ensures
-          c.in_ok-checking.ensures.local walked c.in_ok-checking.ensures.app,
-    )
+      checked ∙ ap (λ (a : App). with_subcommand a (file_app (codes "check")).top) walked,
+    ))
+    c.with_file_command-2.ensures
