@@ -4,3 +4,4 @@ pub mod CommandLine
 pub mod Messages
 pub mod Mistakes
 pub mod OptionRules
+pub mod Subcommands

@@ -171,13 +171,12 @@ fn with_formats<'a>(
         formats.inputs,
         "How records are written, if the names of files don't tell it",
     ))?;
-    let to = from.arg(choice(
+    from.arg(choice(
         alloc,
         "to",
         formats.outputs,
         "How to write groups; if left out, a table on a terminal and jsonl elsewhere",
-    ))?;
-    Ok(to)
+    ))
 }
 
 // The argument that an option is.

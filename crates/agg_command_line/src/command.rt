@@ -4,6 +4,7 @@ ghost use Rattle.clap.specs.Words.{with_subcommand};
 ghost use Rattle.agg_command_line.specs.Adds.{HasNoGlobals};
 ghost use Rattle.agg_command_line.specs.CommandLine as spec;
 ghost use Rattle.agg_command_line.specs.CommandLine.{Formats};
+ghost use Rattle.agg_command_line.specs.Subcommands.{subcommand_app};
 
 use crate::arguments::{FormatNames, file, files, format_names, with_options};
 use clap::{ArgMatches, Command, Error};
@@ -55,57 +56,52 @@ fn root<'a>(alloc: Global) -> Result<Command<'a>, AllocError>
         × (app_of command ≡ spec.peslumok formats)) }
 {
     let formats = format_names();
-    let grouped = with_group(alloc, bare(alloc)?, formats)?;
-    let requested = with_request(alloc, grouped, formats)?;
-    let walked = with_file_command(alloc, requested, "walk", WALK_ABOUT, WALK_EXAMPLES)?;
-    with_file_command(alloc, walked, "check", CHECK_ABOUT, CHECK_EXAMPLES)
+    let grouped = with_command(alloc, bare(alloc)?, Subcommand::Group, formats)?;
+    let requested = with_command(alloc, grouped, Subcommand::Request, formats)?;
+    let walked = with_command(alloc, requested, Subcommand::Walk, formats)?;
+    with_command(alloc, walked, Subcommand::Check, formats)
 }
 
-// Adds `group`.
-fn with_group<'a>(
+// A command of the program.
+#[derive(Clone, Copy)]
+enum Subcommand {
+    Group,
+    Request,
+    Walk,
+    Check,
+}
+
+// Adds a command.
+fn with_command<'a>(
     alloc: Global,
     program: Command<'a>,
+    subcommand: Subcommand,
     formats: FormatNames<'a>,
 ) -> Result<Command<'a>, AllocError>
     ensures { IfOk result (λ command. app_of command ≡ with_subcommand
         (app_of program.entry)
-        (spec.group_app formats.entry.inputs formats.entry.outputs).top) }
+        (subcommand_app subcommand formats.entry.inputs formats.entry.outputs).top) }
 {
-    let grouping = group(alloc, formats)?;
-    let grouped = program.subcommand(grouping)?;
-    Ok(grouped)
+    let below = command_of(alloc, subcommand, formats)?;
+    program.subcommand(below)
 }
 
-// Adds `request`.
-fn with_request<'a>(
+// A command and its arguments.
+fn command_of<'a>(
     alloc: Global,
-    program: Command<'a>,
+    subcommand: Subcommand,
     formats: FormatNames<'a>,
 ) -> Result<Command<'a>, AllocError>
-    ensures { IfOk result (λ command. app_of command ≡ with_subcommand
-        (app_of program.entry)
-        (spec.request_app formats.entry.inputs formats.entry.outputs).top) }
+    ensures app { IfOk result (λ command. app_of command
+        ≡ subcommand_app subcommand formats.entry.inputs formats.entry.outputs) }
+    ensures local { IfOk result HasNoGlobals }
 {
-    let requesting = request(alloc, formats)?;
-    let requested = program.subcommand(requesting)?;
-    Ok(requested)
-}
-
-// Adds a command with one file.
-fn with_file_command<'a>(
-    alloc: Global,
-    program: Command<'a>,
-    name: &'a str,
-    about: &'a str,
-    examples: &'a str,
-) -> Result<Command<'a>, AllocError>
-    ensures { IfOk result (λ command. app_of command ≡ with_subcommand
-        (app_of program.entry)
-        (spec.file_app name.entry.now).top) }
-{
-    let reading = file_command(alloc, name, about, examples)?;
-    let grown = program.subcommand(reading)?;
-    Ok(grown)
+    match subcommand {
+        Subcommand::Group => group(alloc, formats),
+        Subcommand::Request => request(alloc, formats),
+        Subcommand::Walk => file_command(alloc, "walk", WALK_ABOUT, WALK_EXAMPLES),
+        Subcommand::Check => file_command(alloc, "check", CHECK_ABOUT, CHECK_EXAMPLES),
+    }
 }
 
 // The program before it has a command.
