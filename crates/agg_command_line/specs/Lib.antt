@@ -1,5 +1,6 @@
 pub mod Adds
 pub mod Asked
+pub mod AskedParts
 pub mod CommandLine
 pub mod Messages
 pub mod Mistakes

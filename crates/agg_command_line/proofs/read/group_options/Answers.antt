@@ -1,12 +1,26 @@
-use Rattle.std.proofs.Common.{◌<◌, ℕ, arith, length, subst}
-use Rattle.std.proofs.lemmas.Grind.{common_steps}
-use Rattle.std.proofs.lemmas.Slice.Zip.{AllZip-long}
-use Rattle.agg_command_line.specs.Asked.{ReadsBy}
 use Rattle.agg_command_line.proofs.read.group_options.Goals as goal
 
-pub returns-then-len-gt16-clause-told : goal.returns-then-len-gt16-clause-told
-returns-then-len-gt16-clause-told c =
-    let many : 16 < length c.in_ok-by.by.items =
-    grind (arith, common_steps, c.if-len-gt16.true, c.len.ensures) in
-    subst (λ (n : ℕ). 16 < n) (AllZip-long ReadsBy _ c.in_ok-by.by.items c.in_ok-by.ensures.read)
-    many
+pub returns-clause-asked : goal.returns-clause-asked
+returns-clause-asked c =
+    let page = c.in_ok-page.ensures.asked in
+    let records = c.in_ok-records.ensures.asked in
+    let columns = c.in_ok-columns.ensures.asked in
+    record {
+      files = records.files;
+      by = c.in_ok-by.ensures.by;
+      few = c.in_ok-by.ensures.few;
+      conditions = records.conditions;
+      query = c.text.ensures;
+      metrics = columns.metrics;
+      total = c.is_used.ensures;
+      size = page.size;
+      after = page.after;
+      all = page.all;
+      top = page.top;
+      alone = page.alone;
+      dates = columns.dates;
+      decimals = columns.decimals;
+      texts = columns.texts;
+      from = c.from.ensures;
+      to = c.to.ensures;
+    }
