@@ -149,5 +149,6 @@ fn answer<R: Source, L: Ledger>(
 {
     let bytes = read_all(alloc, source)?;
     let input = read_input(alloc, builders, &bytes)?;
+    drop(bytes);
     Ok(reply_to(alloc, &input, steps)?)
 }
