@@ -9,8 +9,8 @@ use Rattle.std.proofs.lemmas.Cmp.{nat_list_cmp_total}
 use Rattle.std.proofs.lemmas.List.{map-append}
 use Rattle.agg_values.specs.Names.{Named, name_cmp}
 use Rattle.agg_fields.specs.declared.field_type.FieldType.{FieldType}
-use Rattle.agg_records.specs.Asked.{Asks, IsAsked, StandsLast}
-use Rattle.agg_records.specs.declared.asked.AskedField.{AskedField}
+use Rattle.agg_held_records.specs.Asked.{Asks, IsAsked, StandsLast}
+use Rattle.agg_held_records.specs.declared.asked.AskedField.{AskedField}
 use Rattle.agg_engine.proofs.AscendingKeys.{below-before}
 use Rattle.agg_front.specs.Asking.{named_type}
 

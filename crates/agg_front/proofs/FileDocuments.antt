@@ -2,7 +2,7 @@
 use Rattle.std.proofs.Common.{◌≡◌, ◌++◌, ◌∷◌, ◌∙◌, [], List, ap, append_assoc, append-nil, refl}
 use Rattle.std.proofs.Common.{sym}
 use Rattle.agg_column.specs.Document.{Fields}
-use Rattle.agg_records.specs.declared.asked.AskedField.{AskedField}
+use Rattle.agg_held_records.specs.declared.asked.AskedField.{AskedField}
 use Rattle.agg_front.specs.Files.{AreDocumentsOfFile, AreDocumentsOfFiles}
 use Rattle.agg_front.specs.declared.asked.RecordFile.{RecordFile}
 

@@ -22,7 +22,7 @@ use Rattle.agg_fields.specs.declared.error.ValueError.TheVariants as why
 use Rattle.agg_fields.specs.declared.field_type.FieldType.{FieldType}
 use Rattle.agg_words.specs.declared.by.BySpec.{BySpec}
 use Rattle.agg_grouping.specs.declared.error.GroupingError.TheVariants as refusal
-use Rattle.agg_records.proofs.Marks.{mark, unmarked}
+use Rattle.agg_cell_records.proofs.Marks.{mark, unmarked}
 use Rattle.agg_front.specs.AfterCells.{IsCell}
 use Rattle.agg_front.specs.After.{IsUnreadKey, IsValueKey, ReadsAs, refusal_of}
 

@@ -11,7 +11,7 @@ use Rattle.std.proofs.lemmas.List.FromFn.{get_or-range_with_len, length-range_wi
 use Rattle.agg_values.specs.TypedKey.{CompositeIntermediateKey}
 use Rattle.agg_column.specs.Columns.{StoredColumn, all_keys, column_keys}
 use Rattle.agg_column.specs.Document.{Fields}
-use Rattle.agg_records.specs.declared.asked.AskedField.{AskedField}
+use Rattle.agg_held_records.specs.declared.asked.AskedField.{AskedField}
 use Rattle.agg_segment.specs.Query.{holds, is_any}
 use Rattle.agg_segment.specs.Segment.{Stored, document_at, documents_of}
 use Rattle.agg_front.specs.Index.{has_keys, is_seen, unseen_names}

@@ -3,7 +3,7 @@ use Rattle.std.specs.Prelude.{◌≡◌, ℕ, List, map}
 use Rattle.agg_values.specs.Names.{Named}
 use Rattle.agg_segment.specs.declared.query.QueryTree.{QueryTree}
 use Rattle.agg_fields.specs.declared.field_type.FieldType.{FieldType}
-use Rattle.agg_records.specs.declared.asked.AskedField.{AskedField}
+use Rattle.agg_held_records.specs.declared.asked.AskedField.{AskedField}
 use Rattle.agg_grouping.specs.Fields.{AreFieldsOf}
 use Rattle.agg_grouping.specs.declared.grouping.Grouping.{Grouping}
 

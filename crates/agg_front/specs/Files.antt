@@ -1,8 +1,8 @@
 -- The documents of files, and why files can't be read.
 use Rattle.std.specs.Prelude.{◌≡◌, ◌++◌, ◌∷◌, [], ℕ, List, Any, ⊤}
 use Rattle.agg_column.specs.Document.{Fields}
+use Rattle.agg_held_records.specs.declared.asked.AskedField.{AskedField}
 use Rattle.agg_records.specs.Formats.{AreDocumentsOf}
-use Rattle.agg_records.specs.declared.asked.AskedField.{AskedField}
 use Rattle.agg_front.specs.declared.asked.RecordFile.{RecordFile}
 use Rattle.agg_front.specs.declared.failure.Failure.{Failure}
 use Rattle.agg_front.specs.declared.failure.Failure.TheVariants as failure

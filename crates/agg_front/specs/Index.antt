@@ -3,7 +3,7 @@ use Rattle.std.specs.Prelude.{◌≡◌, ◌∷◌, [], ℕ, List, Bool, filter,
 use Rattle.std.specs.List.{list_any}
 use Rattle.agg_column.specs.Columns.{StoredColumn, column_keys}
 use Rattle.agg_column.specs.Document.{Fields}
-use Rattle.agg_records.specs.declared.asked.AskedField.{AskedField}
+use Rattle.agg_held_records.specs.declared.asked.AskedField.{AskedField}
 use Rattle.agg_segment.specs.Query.{holds, is_any}
 use Rattle.agg_segment.specs.Snapshot.{SnapshotDocuments}
 

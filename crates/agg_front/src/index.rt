@@ -1,7 +1,7 @@
 //! The records of all files, kept for as many pages as are asked for.
 ghost use Rattle.std.specs.Prelude.{◌≡◌, IfErr, IfOk, flat_map};
 ghost use Rattle.std.specs.List.{range_with_len};
-ghost use Rattle.agg_records.specs.Held.{held_documents};
+ghost use Rattle.agg_held_records.specs.Held.{held_documents};
 ghost use Rattle.agg_segment.specs.Segment.{documents_of};
 ghost use Rattle.agg_segment.specs.Snapshot.{snapshots_documents};
 ghost use Rattle.agg_front.specs.Files.{AreDocumentsOfFiles, AreUnreadable, IsUnreadable};

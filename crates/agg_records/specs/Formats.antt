@@ -3,10 +3,10 @@ use Rattle.std.specs.Prelude.{ℕ, List}
 use Rattle.std.specs.Str.{IsUtf8}
 use Rattle.csv.specs.Reading.{strip_bom}
 use Rattle.agg_column.specs.Document.{Fields}
-use Rattle.agg_records.specs.JsonRecords.{AreItemDocuments}
-use Rattle.agg_records.specs.Lines.{AreLineDocuments, lines_of}
-use Rattle.agg_records.specs.Table.{AreTableDocuments}
-use Rattle.agg_records.specs.declared.asked.AskedField.{AskedField}
+use Rattle.agg_held_records.specs.declared.asked.AskedField.{AskedField}
+use Rattle.agg_cell_records.specs.Table.{AreTableDocuments}
+use Rattle.agg_json_records.specs.JsonRecords.{AreItemDocuments}
+use Rattle.agg_json_records.specs.Lines.{AreLineDocuments, lines_of}
 use Rattle.agg_records.specs.declared.format.RecordFormat.{RecordFormat}
 use Rattle.agg_records.specs.declared.format.RecordFormat.TheVariants as format
 

@@ -1,16 +1,2 @@
-pub mod Asked
-pub mod Causes
-pub mod Cells
-pub mod Csv
-pub mod Documents
 pub mod Encodings
 pub mod Formats
-pub mod Held
-pub mod JsonRecords
-pub mod Lines
-pub mod Objects
-pub mod Quotes
-pub mod Rows
-pub mod Table
-pub mod Tokens
-pub mod Values

@@ -1,10 +1,9 @@
-//! How a text begins: a mark of its byte order, or the first bytes of another encoding.
+//! Texts that begin as another encoding does.
 ghost use Rattle.std.specs.Prelude.{◌≡◌, ◌↔◌, IfErr, IsErrOf, IsTrue, OnOk, false};
-ghost use Rattle.csv.specs.Reading.{strip_bom};
-ghost use Rattle.agg_records.specs.Causes.{is_fault};
+ghost use Rattle.agg_held_records.specs.Causes.{is_fault};
 ghost use Rattle.agg_records.specs.Encodings.{begins_as_gzip, begins_as_utf16};
 
-use crate::RecordCause;
+use agg_held_records::RecordCause;
 
 /// Refuses UTF-16, told by its byte order mark, and gzip.
 pub fn refuse_other_encodings(bytes: &[u8]) -> Result<(), RecordCause>
@@ -21,11 +20,4 @@ pub fn refuse_other_encodings(bytes: &[u8]) -> Result<(), RecordCause>
         return Err(RecordCause::Gzip);
     }
     Ok(())
-}
-
-/// The text without the byte order mark that it may begin with.
-pub fn without_mark(bytes: &[u8]) -> &[u8]
-    ensures { result.now ≡ strip_bom bytes.now }
-{
-    bytes.strip_prefix(b"\xEF\xBB\xBF").unwrap_or(bytes)
 }

@@ -5,18 +5,17 @@ ghost use Rattle.std.specs.Str.{IsUtf8};
 ghost use Rattle.csv.specs.Reading.{strip_bom};
 ghost use Rattle.agg_values.specs.Nothing.{NoneIs};
 ghost use Rattle.agg_column.specs.Document.{Fields};
-ghost use Rattle.agg_records.specs.Causes.{is_encoding, is_fault};
+ghost use Rattle.agg_held_records.specs.Causes.{is_encoding, is_fault};
+ghost use Rattle.agg_held_records.specs.Held.{held_documents};
+ghost use Rattle.agg_json_records.specs.Lines.{IsFirstFault};
 ghost use Rattle.agg_records.specs.Encodings.{begins_as_gzip, begins_as_utf16};
 ghost use Rattle.agg_records.specs.Formats.{AreDocumentsOf};
-ghost use Rattle.agg_records.specs.Held.{held_documents};
-ghost use Rattle.agg_records.specs.Lines.{IsFirstFault};
 
-use crate::array::read_array;
-use crate::encoding::{refuse_other_encodings, without_mark};
-use crate::lines::read_lines;
-use crate::place::line_of;
-use crate::table::read_table;
-use crate::{AskedFields, RecordCause, RecordError, RecordFormat, Records};
+use crate::RecordFormat;
+use crate::encoding::refuse_other_encodings;
+use agg_cell_records::{read_table, without_mark};
+use agg_held_records::{AskedFields, RecordCause, RecordError, Records, line_of};
+use agg_json_records::{read_array, read_lines};
 use std::alloc::Global;
 use std::str::from_utf8;
 

@@ -1,5 +1,5 @@
 use Rattle.std.proofs.Common.{ap, ◌∙◌}
-use Rattle.agg_records.proofs.Marks.{stripped}
+use Rattle.agg_cell_records.proofs.Marks.{stripped}
 use Rattle.agg_front.proofs.format.without_mark.Goals as goal
 
 pub returns : goal.returns

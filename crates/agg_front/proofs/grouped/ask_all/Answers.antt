@@ -1,5 +1,5 @@
 use Rattle.std.proofs.Common.{subst}
-use Rattle.agg_records.specs.Asked.{Asks}
+use Rattle.agg_held_records.specs.Asked.{Asks}
 use Rattle.agg_front.proofs.AskedAll.{ask-more, ask-start}
 use Rattle.agg_front.proofs.grouped.ask_all.Goals as goal
 

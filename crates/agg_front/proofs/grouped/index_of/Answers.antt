@@ -1,5 +1,5 @@
 use Rattle.std.proofs.Common.{subst}
-use Rattle.agg_records.specs.Held.{held_documents}
+use Rattle.agg_held_records.specs.Held.{held_documents}
 use Rattle.agg_segment.specs.Snapshot.{snapshots_documents}
 use Rattle.agg_front.specs.Index.{AreOneOf}
 use Rattle.agg_front.proofs.Failed.{no-records}

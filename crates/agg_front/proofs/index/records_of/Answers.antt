@@ -1,8 +1,8 @@
 use Rattle.std.proofs.Common.{length, rules, subst, sym}
 use Rattle.std.proofs.lemmas.Iterator.Adapters.{YieldsList-from_vec}
 use Rattle.std.proofs.lemmas.Iterator.Consumers.{YieldsList-turn}
+use Rattle.agg_held_records.specs.Held.{held_documents}
 use Rattle.agg_records.specs.Formats.{AreDocumentsOf}
-use Rattle.agg_records.specs.Held.{held_documents}
 use Rattle.agg_front.proofs.FileDocuments.{file-more}
 use Rattle.agg_front.proofs.index.records_of.Goals as goal
 

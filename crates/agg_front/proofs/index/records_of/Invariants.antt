@@ -1,4 +1,4 @@
-use Rattle.agg_records.specs.Held.{held_documents}
+use Rattle.agg_held_records.specs.Held.{held_documents}
 use Rattle.agg_front.specs.Files.{AreDocumentsOfFiles}
 use Rattle.agg_front.proofs.index.records_of.Given as goal
 

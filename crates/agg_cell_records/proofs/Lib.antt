@@ -1,0 +1,9 @@
+pub mod CellParts
+pub mod HeaderPlaces
+pub mod LastCells
+pub mod Marks
+pub mod OpenQuotes
+pub mod RefusedRows
+pub mod RowValues
+pub mod SoleRows
+pub mod TableRows

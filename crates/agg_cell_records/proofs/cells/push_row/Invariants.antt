@@ -1,0 +1,14 @@
+use Rattle.std.proofs.Common.{◌≡◌, take}
+use Rattle.csv.specs.Records.{fields_of}
+use Rattle.agg_segment.specs.Segment.{gathered_documents}
+use Rattle.agg_held_records.specs.Values.{Gains}
+use Rattle.agg_cell_records.specs.Cells.{values_of_row}
+use Rattle.agg_cell_records.proofs.cells.push_row.Given as goal
+
+-- the values of the fields so far were appended
+abbrev pub invariant-loop-index : goal.invariant-loop-index
+invariant-loop-index l = record {
+  documents : gathered_documents l.builder ≡ gathered_documents l.initial.builder;
+  gained : Gains (values_of_row (take l.index l.asked) l.places (fields_of l.row))
+      l.initial.builder l.builder;
+}

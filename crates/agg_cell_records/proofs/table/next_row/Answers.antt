@@ -1,0 +1,5 @@
+use Rattle.agg_cell_records.proofs.table.next_row.Goals as goal
+
+pub returns-in-Err-clause-none : goal.returns-in-Err-clause-none
+returns-in-Err-clause-none c = λ fault delimiter text before has fields.
+    c.in-Err.ensures.none (c.error_of_row.ensures.fault fault) delimiter text before has fields

@@ -1,0 +1,10 @@
+use Rattle.std.proofs.Common.{subst}
+use Rattle.agg_segment.specs.Segment.{IsMixed, gathered_documents, open_document}
+use Rattle.agg_held_records.proofs.SingleDocuments.{fits_alone}
+use Rattle.agg_held_records.proofs.records.Records.close.Goals as goal
+
+pub returns-in-Ok-clause-fits : goal.returns-in-Ok-clause-fits
+returns-in-Ok-clause-fits c = λ _.
+    let builder = c.args.self.now.builder in
+    fits_alone (gathered_documents builder) (open_document builder)
+    (subst (λ ds. ¬ (IsMixed ds)) c.in-Ok.ensures.ok c.in-Ok.ensures.fits)

@@ -1,0 +1,5 @@
+pub mod Asked
+pub mod Causes
+pub mod Documents
+pub mod Held
+pub mod Values

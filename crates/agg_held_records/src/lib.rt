@@ -1,0 +1,15 @@
+//! Records in the making: the fields that are asked for, the documents that were read of them, and
+//! why and where records can't be read.
+#![tactic(auto)]
+
+mod asked;
+mod error;
+mod place;
+mod records;
+mod scalars;
+
+pub use asked::{AskedField, AskedFields};
+pub use error::{RecordCause, RecordError};
+pub use place::line_of;
+pub use records::Records;
+pub use scalars::value_or_cause;

@@ -1,0 +1,11 @@
+pub mod AddedFields
+pub mod ArrayItems
+pub mod LineRecords
+pub mod MemberPlaces
+pub mod NoJsonDocuments
+pub mod ObjectMembers
+pub mod ObjectValues
+pub mod ReadItems
+pub mod SoleItems
+pub mod TakenMembers
+pub mod TakenValues

@@ -1,0 +1,4 @@
+pub mod JsonRecords
+pub mod Lines
+pub mod Objects
+pub mod Tokens

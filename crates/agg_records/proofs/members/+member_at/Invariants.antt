@@ -1,5 +1,0 @@
-use Rattle.std.proofs.Common.{length}
-use Rattle.agg_records.proofs.members.+member_at.Given as goal
-
-abbrev pub decreases-member_at : goal.decreases-member_at
-decreases-member_at l = length l.path.now
