@@ -33,9 +33,9 @@ use Rattle.agg_grouping.specs.declared.error.GroupingError.{GroupingError}
 use Rattle.agg_grouping.specs.declared.grouping.Grouping.{Grouping}
 use Rattle.agg_grouping.specs.declared.request.Page.{Page}
 use Rattle.agg_grouping.proofs.NoBuilders.{request-none}
+use Rattle.agg_record_index.specs.Index.{AreOneOf}
 use Rattle.agg_front.specs.Causes.{HasNoPage, IsPageRefused, limits_of_people}
 use Rattle.agg_front.specs.Codes.{failure_of_grouping, failure_of_walk}
-use Rattle.agg_front.specs.Index.{AreOneOf}
 use Rattle.agg_front.proofs.BuiltRequests.{request-built}
 use Rattle.agg_front.proofs.BuiltWalks.{results-built, size-built}
 use Rattle.agg_front.proofs.Failures.{of-grouping, of-walk}

@@ -10,7 +10,7 @@ use Rattle.agg_tables.specs.declared.columns.Column.{Column}
 use Rattle.agg_tables.specs.declared.columns.Column.TheVariants.{Count}
 use Rattle.agg_words.specs.declared.by.BySpec.{BySpec}
 use Rattle.agg_grouping.specs.declared.grouping.Grouping.{Grouping}
-use Rattle.agg_front.specs.After.{HaveOwnColumns, NamesFirst}
+use Rattle.agg_after_text.specs.After.{HaveOwnColumns, NamesFirst}
 use Rattle.agg_front.specs.Answer.{TellsKey, TellsNext}
 use Rattle.agg_front.specs.Columns.{HaveOwnHeaders, columns_asked, key_column, metric_column}
 

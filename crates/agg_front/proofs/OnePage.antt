@@ -16,7 +16,7 @@ use Rattle.agg_results.specs.Results.{AreResults}
 use Rattle.agg_engine.specs.Walk.{IfFull, IsWalk, after_in, documents_in}
 use Rattle.agg_grouping.specs.declared.grouping.Grouping.{Grouping}
 use Rattle.agg_grouping.specs.declared.request.Page.{Page}
-use Rattle.agg_front.specs.Index.{AreOneOf}
+use Rattle.agg_record_index.specs.Index.{AreOneOf}
 use Rattle.agg_front.specs.Pages.{IsPageOf, IsPageWalk, snapshot_of}
 
 -- no page stands after that of the last snapshot

@@ -30,7 +30,7 @@ use Rattle.agg_grouping.specs.Sources.{source_asked}
 use Rattle.agg_grouping.specs.declared.grouping.Grouping.{Grouping}
 use Rattle.agg_grouping.specs.declared.request.Page.{Page}
 use Rattle.agg_grouping.proofs.AskedSources.{called-as_column}
-use Rattle.agg_front.specs.After.{NamesFirst, keys_by_name}
+use Rattle.agg_after_text.specs.After.{NamesFirst, keys_by_name}
 use Rattle.agg_front.specs.Pages.{ArePages, IsPageOf, is_last, last_after, next_after, snapshot_of}
 
 abbrev after_key : CompositeIntermediateKey → AfterKey

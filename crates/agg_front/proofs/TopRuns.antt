@@ -15,7 +15,7 @@ use Rattle.agg_final_results.specs.declared.types.FilterBucketResult.{FilterBuck
 use Rattle.agg_grouping.specs.declared.grouping.Grouping.{Grouping}
 use Rattle.agg_front.specs.Answer.{HasMost}
 use Rattle.agg_front.specs.Pages.{ArePages, IsPageOf, is_last, next_after}
-use Rattle.agg_front.specs.Top.{AreTop}
+use Rattle.agg_top_groups.specs.Top.{AreTop}
 use Rattle.agg_front.specs.Written.{groups_in, total_in}
 
 last-added : (o : Option AggregationResults) (before : List AggregationResults)

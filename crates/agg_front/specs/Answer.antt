@@ -14,19 +14,19 @@ use Rattle.agg_grouping.specs.Query.{IsQueryOf}
 use Rattle.agg_grouping.specs.declared.grouping.Grouping.{Grouping}
 use Rattle.agg_tables.specs.declared.columns.Column.{Column}
 use Rattle.agg_tables.specs.declared.output.OutputFormat.{OutputFormat}
-use Rattle.agg_front.specs.After.{HaveOwnColumns, IsAfterText, NamesFirst}
+use Rattle.agg_after_text.specs.After.{HaveOwnColumns, IsAfterText, NamesFirst}
+use Rattle.agg_record_index.specs.Index.{unseen_names}
 use Rattle.agg_front.specs.Asking.{AskAll}
 use Rattle.agg_front.specs.Check.{BeginsAfter, after_asked}
 use Rattle.agg_front.specs.Columns.{columns_asked}
 use Rattle.agg_front.specs.Files.{AreDocumentsOfFiles}
-use Rattle.agg_front.specs.Index.{unseen_names}
 use Rattle.agg_front.specs.Pages.{ArePages, last_after, room_of}
-use Rattle.agg_front.specs.Top.{AreTop}
+use Rattle.agg_top_groups.specs.Top.{AreTop}
+use Rattle.agg_record_index.specs.declared.report.Report.{Report}
 use Rattle.agg_front.specs.Written.{IsGroupsText, IsTextOf, groups_in, last_total}
 use Rattle.agg_front.specs.declared.asked.Asked.{Asked}
 use Rattle.agg_front.specs.declared.asked.Pages.{Pages}
 use Rattle.agg_front.specs.declared.asked.RecordFile.{RecordFile}
-use Rattle.agg_front.specs.declared.report.Report.{Report}
 
 -- files hold documents, in the fields that are asked for; in some of these no document has a value
 pub record AreRead (grouping : Grouping) (query : QueryTree) (files : List RecordFile)

@@ -14,12 +14,12 @@ use Rattle.agg_grouping.specs.Request.{HasNoRequest, IsRequestOf}
 use Rattle.agg_grouping.specs.declared.error.GroupingError.{GroupingError}
 use Rattle.agg_grouping.specs.declared.grouping.Grouping.{Grouping}
 use Rattle.agg_grouping.specs.declared.request.Page.{Page}
-use Rattle.agg_front.specs.After.{IsNoAfterText}
+use Rattle.agg_after_text.specs.After.{IsNoAfterText}
+use Rattle.agg_record_index.specs.Index.{AreOneOf}
 use Rattle.agg_front.specs.Answer.{AreRead}
 use Rattle.agg_front.specs.Check.{after_asked}
 use Rattle.agg_front.specs.Columns.{ShareHeader, columns_asked}
 use Rattle.agg_front.specs.Files.{AreUnreadable}
-use Rattle.agg_front.specs.Index.{AreOneOf}
 use Rattle.agg_front.specs.Pages.{room_of}
 use Rattle.agg_front.specs.declared.asked.Asked.{Asked}
 use Rattle.agg_front.specs.declared.asked.RecordFile.{RecordFile}

@@ -5,7 +5,7 @@ use Rattle.agg_values.specs.declared.after_key.AfterKey.{AfterKey}
 use Rattle.agg_segment.specs.declared.query.QueryTree.{QueryTree}
 use Rattle.agg_grouping.specs.Query.{IsQueryOf}
 use Rattle.agg_grouping.specs.declared.grouping.Grouping.{Grouping}
-use Rattle.agg_front.specs.After.{IsAfterText}
+use Rattle.agg_after_text.specs.After.{IsAfterText}
 use Rattle.agg_front.specs.Columns.{HaveOwnHeaders, columns_asked}
 use Rattle.agg_front.specs.declared.asked.Asked.{Asked}
 

@@ -1,5 +1,3 @@
-pub mod After
-pub mod AfterCells
 pub mod Answer
 pub mod Asking
 pub mod Causes
@@ -7,8 +5,5 @@ pub mod Check
 pub mod Codes
 pub mod Columns
 pub mod Files
-pub mod Format
-pub mod Index
 pub mod Pages
-pub mod Top
 pub mod Written

@@ -3,10 +3,10 @@ ghost use Rattle.std.specs.Prelude.{IfErr, IfOk, OnOk};
 ghost use Rattle.agg_front.specs.Causes.{HasNoFirst, IsRefusedAtOnce};
 ghost use Rattle.agg_front.specs.Check.{BeginsAfter, MayBeAsked, after_asked};
 
-use crate::after::after_of;
 use crate::asked::Asked;
 use crate::columns::columns_of;
 use crate::failure::Failure;
+use agg_after_text::after_of;
 use agg_grouping::query_of;
 use agg_values::{AfterKey, NameMap};
 use std::alloc::Global;

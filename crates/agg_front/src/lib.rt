@@ -1,24 +1,20 @@
 //! Groups the records of files: reads them, pages over their groups, and writes what is asked.
 #![tactic(auto)]
 
-mod after;
 mod asked;
 mod check;
 mod columns;
 mod failure;
-mod format;
+mod files;
 mod grouped;
-mod index;
 mod page;
 mod pages;
-mod report;
 mod top;
 mod written;
 
-pub use after::{after_of, write_after};
+pub use agg_after_text::{after_of, write_after};
+pub use agg_record_index::{Report, format_of};
 pub use asked::{Asked, Pages, RecordFile};
 pub use check::check_asked;
 pub use failure::Failure;
-pub use format::format_of;
 pub use grouped::group;
-pub use report::Report;

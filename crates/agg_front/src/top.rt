@@ -1,14 +1,12 @@
 //! The text of the groups with the most documents.
-mod groups;
-
 ghost use Rattle.std.specs.Prelude.{◌≡◌, ℕ, List, IfErr, IfOk, None, OnOk, Some, length};
 ghost use Rattle.std.specs.Io.KnownBytes.{Appends};
 ghost use Rattle.agg_column.specs.Document.{Fields};
 ghost use Rattle.agg_segment.specs.Snapshot.{snapshots_documents};
 ghost use Rattle.agg_streams.specs.Causes.{Rose};
+ghost use Rattle.agg_record_index.specs.Index.{AreOneOf};
 ghost use Rattle.agg_front.specs.Answer.{HasMost, IsWritten};
 ghost use Rattle.agg_front.specs.Causes.{HasNoText};
-ghost use Rattle.agg_front.specs.Index.{AreOneOf};
 ghost use Rattle.agg_front.specs.Pages.{room_of};
 ghost use Rattle.agg_front.specs.Written.{groups_in, total_in};
 
@@ -22,8 +20,8 @@ use agg_final_results::{
 };
 use agg_grouping::{GROUPS, Page, TOTAL};
 use agg_streams::sink::{Sink, write_all};
+use agg_top_groups::TopGroups;
 use agg_values::{AfterKey, NameMap, OutOfMemory, Text};
-use groups::TopGroups;
 use std::alloc::Global;
 
 /// Writes the groups with the most documents, so many of those of all pages from the first key on,

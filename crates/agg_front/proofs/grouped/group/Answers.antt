@@ -2,11 +2,11 @@ use Rattle.std.proofs.Common.{List, subst, sym, ℕ}
 use Rattle.std.specs.Global.{Vec}
 use Rattle.agg_segment.specs.Snapshot.{snapshots_documents}
 use Rattle.agg_segment.specs.declared.snapshot.Snapshot.{Snapshot}
+use Rattle.agg_record_index.specs.Index.{AreOneOf}
+use Rattle.agg_after_text.proofs.Passed.{cause-passed}
 use Rattle.agg_front.specs.Answer.{AreRead, IsWritten}
-use Rattle.agg_front.specs.Index.{AreOneOf}
 use Rattle.agg_front.specs.Pages.{room_of}
 use Rattle.agg_front.proofs.Failed.{files-failed, query-failed, text-failed}
-use Rattle.agg_front.proofs.Passed.{cause-passed}
 use Rattle.agg_front.proofs.grouped.group.Goals as goal
 
 pub returns-clause-answered : goal.returns-clause-answered

@@ -1,9 +1,9 @@
 use Rattle.std.proofs.Common.{subst}
 use Rattle.agg_held_records.specs.Held.{held_documents}
 use Rattle.agg_segment.specs.Snapshot.{snapshots_documents}
-use Rattle.agg_front.specs.Index.{AreOneOf}
+use Rattle.agg_record_index.specs.Index.{AreOneOf}
+use Rattle.agg_after_text.proofs.Passed.{cause-passed}
 use Rattle.agg_front.proofs.Failed.{no-records}
-use Rattle.agg_front.proofs.Passed.{cause-passed}
 use Rattle.agg_front.proofs.grouped.index_of.Goals as goal
 
 pub returns-clause-index : goal.returns-clause-index

@@ -2,8 +2,8 @@ use Rattle.std.proofs.Common.{IfOk, List, None, subst, sym, ℕ}
 use Rattle.std.specs.Io.KnownBytes.{Appends}
 use Rattle.agg_column.specs.Document.{Fields}
 use Rattle.agg_segment.specs.Snapshot.{snapshots_documents}
+use Rattle.agg_record_index.specs.Index.{AreOneOf}
 use Rattle.agg_front.specs.Answer.{IsWritten}
-use Rattle.agg_front.specs.Index.{AreOneOf}
 use Rattle.agg_front.specs.Pages.{room_of}
 use Rattle.agg_front.proofs.grouped.write_answer.Goals as goal
 

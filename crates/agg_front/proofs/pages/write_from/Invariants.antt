@@ -2,7 +2,7 @@ use Rattle.std.proofs.Common.{◌≡◌, ◌==◌, ◌≤◌, List, ℕ}
 use Rattle.std.specs.Io.KnownBytes.{Appends}
 use Rattle.agg_column.specs.Document.{Fields}
 use Rattle.agg_segment.specs.Snapshot.{snapshots_documents}
-use Rattle.agg_front.specs.Index.{AreOneOf}
+use Rattle.agg_record_index.specs.Index.{AreOneOf}
 use Rattle.agg_front.specs.Pages.{room_of}
 use Rattle.agg_front.proofs.PageRuns.{Leads}
 use Rattle.agg_front.proofs.pages.write_from.Given as goal

@@ -1,5 +1,5 @@
 use Rattle.std.proofs.Common.{subst, sym}
-use Rattle.agg_front.specs.After.{NamesFirst}
+use Rattle.agg_after_text.specs.After.{NamesFirst}
 use Rattle.agg_front.specs.Columns.{columns_asked}
 use Rattle.agg_front.specs.Pages.{room_of}
 use Rattle.agg_front.proofs.NextKeys.{tells-next}

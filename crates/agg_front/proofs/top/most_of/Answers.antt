@@ -1,12 +1,12 @@
 use Rattle.std.proofs.Common.{List, subst, sym, ℕ, ◌++◌, ◌∙◌, ◌≡◌}
 use Rattle.agg_final_results.specs.declared.types.CompositeBucketEntry.{CompositeBucketEntry}
 use Rattle.agg_segment.specs.Snapshot.{snapshots_documents}
-use Rattle.agg_front.specs.Index.{AreOneOf}
+use Rattle.agg_record_index.specs.Index.{AreOneOf}
 use Rattle.agg_front.specs.Pages.{room_of}
-use Rattle.agg_front.specs.Top.{AreTop}
+use Rattle.agg_top_groups.specs.Top.{AreTop}
+use Rattle.agg_after_text.proofs.Passed.{cause-passed}
 use Rattle.agg_front.proofs.NoTexts.{no-page}
 use Rattle.agg_front.proofs.OnePage.{page-at}
-use Rattle.agg_front.proofs.Passed.{cause-passed}
 use Rattle.agg_front.proofs.TopRuns.{leads-end, leads-more, leads-start}
 use Rattle.agg_front.proofs.top.most_of.Goals as goal
 

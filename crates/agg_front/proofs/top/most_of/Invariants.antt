@@ -1,7 +1,7 @@
 use Rattle.std.proofs.Common.{◌≡◌, List}
 use Rattle.agg_column.specs.Document.{Fields}
 use Rattle.agg_segment.specs.Snapshot.{snapshots_documents}
-use Rattle.agg_front.specs.Index.{AreOneOf}
+use Rattle.agg_record_index.specs.Index.{AreOneOf}
 use Rattle.agg_front.specs.Pages.{room_of}
 use Rattle.agg_front.proofs.TopRuns.{Leads}
 use Rattle.agg_front.proofs.top.most_of.Given as goal

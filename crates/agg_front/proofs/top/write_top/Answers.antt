@@ -1,5 +1,5 @@
+use Rattle.agg_after_text.proofs.Passed.{cause-passed}
 use Rattle.agg_front.proofs.NoTexts.{sink-weaker}
-use Rattle.agg_front.proofs.Passed.{cause-passed}
 use Rattle.agg_front.proofs.top.write_top.Goals as goal
 
 pub returns-in_err-most-clause-cause : goal.returns-in_err-most-clause-cause

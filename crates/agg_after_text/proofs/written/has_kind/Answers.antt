@@ -1,0 +1,12 @@
+use Rattle.std.proofs.Common.{subst, sym, ◌∙◌}
+use Rattle.agg_values.specs.KeyText.{IsKeyText}
+use Rattle.agg_values.specs.Nothing.{NoneIs}
+use Rattle.agg_after_text.proofs.ReadKeys.{none-found, not-some}
+use Rattle.agg_after_text.proofs.written.has_kind.Goals as goal
+
+pub returns : goal.returns
+returns c none =
+    subst (λ t. NoneIs (IsKeyText t)) c.as_str.ensures
+    (none-found c.as_str.result.now c.in_ok-prefixed_key.field-0
+    c.in_ok-prefixed_key.ensures.each
+    (not-some c.in_ok-prefixed_key.field-0 (sym c.is_some.ensures ∙ none)))

@@ -1,6 +1,0 @@
-use Rattle.agg_front.proofs.WrittenKeys.{written-cell}
-use Rattle.agg_front.proofs.after.written.after_text.Goals as goal
-
-pub returns-else-branch-clause-cell : goal.returns-else-branch-clause-cell
-returns-else-branch-clause-cell c =
-    written-cell c.args.key.now.0 c.write.result c.write.ensures.text

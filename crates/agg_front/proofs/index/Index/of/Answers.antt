@@ -1,8 +1,0 @@
-use Rattle.agg_front.proofs.OneSnapshot.{one-snapshot}
-use Rattle.agg_front.proofs.index.Index.of.Goals as goal
-
-pub returns-clause-snapshots : goal.returns-clause-snapshots
-returns-clause-snapshots c =
-    one-snapshot _ c.in_ok-segments.segments.items c.from_vec.result c.args.page_size
-    c.new-snapshots.result c.push.new.self c.in_ok-segments.ensures c.from_vec.ensures
-    c.new-snapshots.ensures c.in_ok-push.ensures.ok

@@ -1,0 +1,3 @@
+pub mod OneSnapshot
+pub mod Seen
+pub mod Words

@@ -1,0 +1,10 @@
+use Rattle.std.proofs.Common.{◌≡◌, false, take}
+use Rattle.std.specs.List.{list_any, range_with_len}
+use Rattle.agg_record_index.specs.Index.{has_keys}
+use Rattle.agg_record_index.proofs.index.has_values.Given as goal
+
+-- the columns so far have no key
+abbrev pub invariant-loop-column : goal.invariant-loop-column
+invariant-loop-column l =
+    list_any (λ c. has_keys c (range_with_len 0 l.count)) (take l.column-index l.column-items)
+    ≡ false

@@ -1,0 +1,10 @@
+use Rattle.std.proofs.Common.{◌≡◌, flat_map, take}
+use Rattle.agg_segment.specs.Segment.{documents_of}
+use Rattle.agg_record_index.specs.Index.{unseen_names}
+use Rattle.agg_record_index.proofs.index.unseen_of.Given as goal
+
+-- the names so far are those of the fields so far
+abbrev pub invariant-loop-field : goal.invariant-loop-field
+invariant-loop-field l =
+    l.unseen.items
+    ≡ unseen_names (flat_map documents_of l.segments) (take l.field-index l.field-items)

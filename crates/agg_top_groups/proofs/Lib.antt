@@ -1,0 +1,2 @@
+pub mod RankedGroups
+pub mod TopPlaces
