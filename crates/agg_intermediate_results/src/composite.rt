@@ -1,8 +1,9 @@
 ghost use Rattle.std.specs.Prelude.{◌≡◌, ◌≢◌, ◌<◌, ◌++◌, ◌∷◌, ◌↔◌, [], ℕ, Some, false, length};
-ghost use Rattle.std.specs.Prelude.{IfOk, IsErrOf, IsTrue, OnErr, OnOk};
+ghost use Rattle.std.specs.Prelude.{All, IfOk, IsErrOf, IsTrue, OnErr, OnOk};
 ghost use Rattle.std.specs.BTreeMap.{is_at};
 ghost use Rattle.std.specs.List.{remove, slice_get};
-ghost use Rattle.std.specs.Map.{remove_entry, values_of};
+ghost use Rattle.std.specs.Map.{keys_of, remove_entry, values_of};
+ghost use Rattle.std.specs.declared.cmp.Ordering.TheVariants.{Less};
 ghost use Rattle.std_collections.specs.Layout.Columns.{set_value_at};
 ghost use Rattle.agg_values.specs.KeyOrder.{tuple_order};
 ghost use Rattle.agg_metric_results.specs.Merges.{Merges};
@@ -102,6 +103,22 @@ impl IntermediateCompositeBucketResult {
                 Ok(())
             }
         }
+    }
+
+    /// Adds an entry with a tuple above all that are held.
+    pub fn push_last(
+        &mut self,
+        key: Tuple,
+        entry: IntermediateCompositeBucketEntry,
+    ) -> Result<(), OutOfMemory>
+        requires { All (λ k. tuple_order (orders_of self.now) k key ≡ Less)
+            (keys_of (entries_of self.now)) }
+        ensures ok { OnOk result (self.new
+            ≡ composite_of (orders_of self.old) (target_size_of self.old)
+            (entries_of self.old ++ (key, entry) ∷ [])) }
+        ensures err { OnErr result (self.new ≡ self.old) }
+    {
+        self.entries.push_last(key, entry)
     }
 
     // Merges an entry into that of a place. After an error the place's is removed.

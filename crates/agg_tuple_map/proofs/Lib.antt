@@ -1,2 +1,3 @@
+mod LastTuples
 pub mod TuplePlaces
 pub mod TupleSteps

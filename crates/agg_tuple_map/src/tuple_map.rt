@@ -1,8 +1,10 @@
-ghost use Rattle.std.specs.Prelude.{◌≡◌, ◌<◌, ◌++◌, ◌∷◌, [], Err, Some, OnErr, OnOk, length, take};
+ghost use Rattle.std.specs.Prelude.{◌≡◌, ◌<◌, ◌++◌, ◌∷◌, [], All, Err, Some, OnErr, OnOk};
+ghost use Rattle.std.specs.Prelude.{length, take};
 ghost use Rattle.std.specs.Borrow.{Lends, sem};
 ghost use Rattle.std.specs.List.{insert, remove, slice_get};
 ghost use Rattle.std.specs.List.Sorted.{IsStrictlySortedBy};
 ghost use Rattle.std.specs.Map.{keys_of, values_of};
+ghost use Rattle.std.specs.declared.cmp.Ordering.TheVariants.{Less};
 ghost use Rattle.std_collections.specs.Layout.BTreeMap.{seek};
 ghost use Rattle.std_collections.specs.Layout.Columns.{set_value_at};
 ghost use Rattle.agg_values.specs.KeyOrder.{tuple_order};
@@ -144,6 +146,16 @@ impl<T: Drop> TupleMap<T> {
         ensures err { OnErr result (self.new ≡ self.old) }
     {
         self.entries.insert(at, (key, value))?;
+        Ok(())
+    }
+
+    /// Puts a tuple with its value above all that are held.
+    pub fn push_last(&mut self, key: Tuple, value: T) -> Result<(), OutOfMemory>
+        requires { All (λ k. tuple_order self.now.0 k key ≡ Less) (keys_of self.now.1) }
+        ensures ok { OnOk result (self.new ≡ (self.old.0, self.old.1 ++ (key, value) ∷ [])) }
+        ensures err { OnErr result (self.new ≡ self.old) }
+    {
+        self.entries.push((key, value))?;
         Ok(())
     }
 

@@ -20,8 +20,11 @@ pub fn shown_by_name<B: Drop>(
 ) -> Result<NameMap<AggregationResult>, OutOfMemory>
     ensures { IfOk result (λ results. results ≡ final_by_name req.now held.results) }
 {
-    let mut last_first = shown_last_first(req, held)?;
     let mut results = NameMap::new(req.allocator());
+    if req.is_empty() {
+        return Ok(results);
+    }
+    let mut last_first = shown_last_first(req, held)?;
     for (name, _) in req.iter() {
         if let Some(shown) = last_first.pop() {
             put(&mut results, name, shown)?;
