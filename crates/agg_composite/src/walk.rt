@@ -2,7 +2,7 @@
 ghost use Rattle.std.specs.Prelude.{◌≡◌, ◌+◌, ◌≤◌, [], ◌∷◌, length, sum, OnOk};
 ghost use Rattle.agg_request_tree.specs.Faults.{max_sources};
 ghost use Rattle.agg_composite.specs.Answers.{AnswersDocuments, AnswersEncoded};
-ghost use Rattle.agg_composite.specs.Walk.{next_standing, parts, walked};
+ghost use Rattle.agg_composite.specs.Walk.{if_above, next_standing, parts, walked};
 
 mod choice;
 mod gather;
@@ -77,6 +77,7 @@ struct Rest<'a> {
 }
 
 // Visits the tuples that begin with these keys.
+#[cycle(tuples)]
 fn walk_from<const N: usize, L: Ledger>(
     buckets: &mut BucketsByParent<StoredTuple<Encoded, N>>,
     tuple: &mut StoredTuple<Encoded, N>,
@@ -92,10 +93,7 @@ fn walk_from<const N: usize, L: Ledger>(
     ensures same { OnOk result (tuple.new ≡ tuple.old) }
 {
     let Some((size, sizes)) = rest.sizes.split_first() else {
-        if rest.is_above {
-            return visit(buckets, tuple, steps);
-        }
-        return Ok(());
+        return visit_above(buckets, tuple, rest.is_above, steps);
     };
     let (own, choices) = rest.choices.split_at(*size);
     for choice in own {
@@ -106,9 +104,47 @@ fn walk_from<const N: usize, L: Ledger>(
                 is_above,
             };
             tuple.push(choice.value);
-            walk_from(buckets, tuple, &others, steps)?;
+            walk_on(buckets, tuple, &others, steps)?;
             tuple.pop();
         }
+    }
+    Ok(())
+}
+
+// The same; a whole tuple is visited at once.
+#[cycle(tuples)]
+fn walk_on<const N: usize, L: Ledger>(
+    buckets: &mut BucketsByParent<StoredTuple<Encoded, N>>,
+    tuple: &mut StoredTuple<Encoded, N>,
+    rest: &Rest<'_>,
+    steps: &mut Steps<L>,
+) -> Result<(), VisitError>
+    requires sizes { sum rest.now.sizes.now ≤ length rest.now.choices.now }
+    requires few { N ≤ max_sources }
+    requires room { length tuple.old + length rest.now.sizes.now ≤ N }
+    ensures answers { AnswersEncoded
+        (walked (parts rest.now.sizes.now rest.now.choices.now) tuple.old rest.now.is_above)
+        buckets.old buckets.new steps.old steps.new result }
+    ensures same { OnOk result (tuple.new ≡ tuple.old) }
+{
+    if rest.sizes.is_empty() {
+        return visit_above(buckets, tuple, rest.is_above, steps);
+    }
+    walk_from(buckets, tuple, rest, steps)
+}
+
+// Visits a tuple where it is above the bound.
+fn visit_above<const N: usize, L: Ledger>(
+    buckets: &mut BucketsByParent<StoredTuple<Encoded, N>>,
+    tuple: &StoredTuple<Encoded, N>,
+    is_above: bool,
+    steps: &mut Steps<L>,
+) -> Result<(), VisitError>
+    ensures { AnswersEncoded (if_above tuple.now is_above) buckets.old buckets.new
+        steps.old steps.new result }
+{
+    if is_above {
+        return visit(buckets, tuple, steps);
     }
     Ok(())
 }
