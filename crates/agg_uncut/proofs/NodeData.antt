@@ -18,7 +18,7 @@ use Rattle.agg_segment.specs.declared.query.QueryTree.{QueryTree}
 use Rattle.agg_request_tree.specs.Matching.{filter_matches}
 use Rattle.agg_request_tree.specs.Metrics.{number_of}
 use Rattle.agg_request_tree.specs.Occurrences.{occurrences}
-use Rattle.agg_request_tree.specs.Uncut.{counted, once_each}
+use Rattle.agg_request_tree.specs.Uncut.{counted, once_each, uncut}
 use Rattle.agg_request_tree.specs.declared.aggregation.AggregationVariants.{AggregationVariants}
 use Rattle.agg_request_tree.specs.declared.aggregation.AggregationVariants.TheVariants as asks
 use Rattle.agg_request_tree.specs.declared.aggregation.CompositeAggregation.{CompositeAggregation}
@@ -128,6 +128,22 @@ length-match : (b : Bool) (document : Fields)
 length-match true document = refl
 length-match false document = refl
 
+-- how many documents a composite lists of some
+pub composite-lists : (segment : Stored) (docs : List ℕ) (v : AggregationVariants QueryTree)
+    (req : Bor CompositeAggReqData) (n : ℕ) → IsDataOf segment v (by.Composite req)
+    → ((stored : Stored) (after : Named AfterKey) → Fits stored after req.now
+    → n ≡ u64_saturate (length (counted req.now.req.now (documents_at stored docs))))
+    → n ≡ u64_saturate (length (uncut matches v (documents_at segment docs)))
+composite-lists segment docs (asks.Composite a) req n of count =
+    count segment of.0 of.1
+    ∙ ap (λ sources. u64_saturate (length (once_each (occurrences sources)
+    (documents_at segment docs)))) of.2
+composite-lists segment docs (asks.Filter a) req n of count = absurd of
+composite-lists segment docs (asks.Count a) req n of count = absurd of
+composite-lists segment docs (asks.Max a) req n of count = absurd of
+composite-lists segment docs (asks.Min a) req n of count = absurd of
+composite-lists segment docs (asks.Sum a) req n of count = absurd of
+
 module _ (segment : Stored) (doc : ℕ) where
   -- a composite
   pub composite-times : (v : AggregationVariants QueryTree) (req : Bor CompositeAggReqData) (n : ℕ)
@@ -135,15 +151,7 @@ module _ (segment : Stored) (doc : ℕ) where
       → ((stored : Stored) (after : Named AfterKey) → Fits stored after req.now
       → n ≡ u64_saturate (length (counted req.now.req.now (documents_at stored (doc ∷ [])))))
       → n ≡ u64_saturate (times v (document_at segment doc))
-  composite-times (asks.Composite a) req n of count =
-      count segment of.0 of.1
-      ∙ ap (λ sources. u64_saturate (length (once_each (occurrences sources)
-      (document_at segment doc ∷ [])))) of.2
-  composite-times (asks.Filter a) req n of count = absurd of
-  composite-times (asks.Count a) req n of count = absurd of
-  composite-times (asks.Max a) req n of count = absurd of
-  composite-times (asks.Min a) req n of count = absurd of
-  composite-times (asks.Sum a) req n of count = absurd of
+  composite-times v req n of count = composite-lists segment (doc ∷ []) v req n of count
 
   -- a filter
   pub filter-times : (v : AggregationVariants QueryTree) (evaluator : Bor (List Bool)) (b : Bool)

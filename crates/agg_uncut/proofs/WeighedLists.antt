@@ -1,7 +1,7 @@
 -- Lists of documents by how often each stands in them.
 use Rattle.std.proofs.Common.{◌≡◌, ℕ, zero, suc, ◌+◌, ◌-◌, ◌*◌, ◌^◌, ◌<◌, ◌≤◌, List, [], ◌∷◌, ◌++◌}
 use Rattle.std.proofs.Common.{Bool, true, false}
-use Rattle.std.proofs.Common.{cond, get_or, take, length, map, replicate, refl, sym, ap, ◌∙◌, arith}
+use Rattle.std.proofs.Common.{cond, drop, get_or, take, length, map, replicate, refl, sym, ap, ◌∙◌, arith}
 use Rattle.std.proofs.Common.{append_assoc, length-append, length-take}
 use Rattle.std.specs.Prelude.{filter_map, sum}
 use Rattle.std.specs.Io.Iter.{u64_saturate}
@@ -44,6 +44,25 @@ repeated-once (d ∷ ds) = ap (λ others. d ∷ others) (repeated-once ds)
 pub cut-ones : (n : ℕ) → replicate n 1 ≡ map u64_saturate (replicate n 1)
 cut-ones zero = refl
 cut-ones (suc n) = ap (λ ns. 1 ∷ ns) (cut-ones n)
+
+-- weights that are cut to ones are ones
+ones-only : (n : ℕ) (ws : List ℕ) → replicate n 1 ≡ map u64_saturate ws → ws ≡ replicate n 1
+ones-only zero [] cut = refl
+ones-only zero (w ∷ ws) cut = absurd (let e = ap length cut in omega (arith, e))
+ones-only (suc n) [] cut = absurd (let e = ap length cut in omega (arith, e))
+ones-only (suc n) (w ∷ ws) cut =
+    let one : w ≡ 1 = let e = ap (λ ns. get_or ns 0 0) cut in omega (arith, e) in
+    λ i. one i ∷ ones-only n ws (ap (drop 1) cut) i
+
+-- so that documents with such weights are those documents
+pub repeated-ones : (segment : Stored) (docs ws : List ℕ)
+    → replicate (length docs) 1 ≡ map u64_saturate ws
+    → repeated ws (documents_at segment docs) ≡ documents_at segment docs
+repeated-ones segment docs ws cut =
+    let ds = documents_at segment docs in
+    ap (λ vs. repeated vs ds) (ones-only (length docs) ws cut
+    ∙ ap (λ n. replicate n 1) (sym (length-map docs (document_at segment))))
+    ∙ repeated-once ds
 
 repeated-append : (ws vs : List ℕ) (ds es : List Fields) → length ws ≡ length ds
     → repeated (ws ++ vs) (ds ++ es) ≡ repeated ws ds ++ repeated vs es

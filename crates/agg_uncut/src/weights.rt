@@ -32,6 +32,20 @@ pub fn num_listed(node: &NodeData<'_, '_>, docs: &[DocId], weights: &Weights<'_>
         → result ≡ u64_saturate
         (length (uncut matches asks (repeated exact (documents_at segment docs.now)))) }
 {
+    match (node, weights) {
+        (NodeData::Composite(req), Weights::Ones) => req.count_occurrences(docs),
+        _ => num_weighed(node, docs, weights),
+    }
+}
+
+// The same, document by document.
+fn num_weighed(node: &NodeData<'_, '_>, docs: &[DocId], weights: &Weights<'_>) -> u64
+    requires { (segment : Stored) × (asks : Asked) × IsDataOf segment asks node.now }
+    ensures { (segment : Stored) (asks : Asked) (exact : List ℕ)
+        → AreWeighed segment asks exact node.now docs.now weights.now
+        → result ≡ u64_saturate
+        (length (uncut matches asks (repeated exact (documents_at segment docs.now)))) }
+{
     let mut count: u64 = 0;
     for (index, doc) in docs.iter().enumerate() {
         count = count.saturating_add(own_weight(node, *doc, weight_at(weights, index)));

@@ -6,7 +6,7 @@ use Rattle.agg_segment.specs.declared.query.QueryTree.{QueryTree}
 use Rattle.agg_request_tree.specs.declared.aggregation.AggregationVariants.{AggregationVariants}
 use Rattle.agg_uncut.specs.Weights.{AreWeighed}
 use Rattle.agg_uncut.proofs.WeighedLists.{first_weights}
-use Rattle.agg_uncut.proofs.weights.num_listed.Given as goal
+use Rattle.agg_uncut.proofs.weights.num_weighed.Given as goal
 
 abbrev pub invariant-loop-index : goal.invariant-loop-index
 invariant-loop-index l =
