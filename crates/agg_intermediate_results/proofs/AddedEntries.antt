@@ -1,11 +1,10 @@
 -- One more entry among ascending ones.
-use Rattle.std.proofs.Common.{◌≡◌, ℕ, zero, suc, inl, inr, [], ◌∷◌, ◌++◌, Some, Ok, Err, ◌<◌, arith}
+use Rattle.std.proofs.Common.{◌≡◌, ℕ, zero, suc, inl, inr, [], ◌∷◌, Some, Ok, Err, ◌<◌, arith}
 use Rattle.std.proofs.Common.{length, refl, sym, ap, ◌∙◌, subst, Ordering, Less, Equal, Greater}
 use Rattle.std.specs.Cmp.{IsTotalOrder}
-use Rattle.std.specs.List.{All, AllByRecursion, insert, slice_get}
+use Rattle.std.specs.List.{insert, slice_get}
 use Rattle.std.specs.List.Sorted.{IsStrictlySortedBy}
 use Rattle.std.specs.Map.{keys_of, values_of}
-use Rattle.std.proofs.lemmas.List.Elements.{recursion_from_All}
 use Rattle.std.proofs.lemmas.Map.Keys.{sorted_head, sorted_tail}
 use Rattle.std.proofs.lemmas.Option.{same_Some}
 use Rattle.std_collections.specs.Layout.BTreeMap.{seek}
@@ -110,23 +109,6 @@ module _ (R : KeyTuple → KeyTuple → Ordering) (total : IsTotalOrder R) (k : 
     put_there es i missing =
         let place = seek_err (R k) es i missing in
         put-by es i place.1 place.2
-
-    ends-by : (es ws : Entries) → AllByRecursion (λ l. R l k ≡ Less) (keys_of es)
-        → JoinEntries R Both es One ws → ws ≡ es ++ One
-    ends-by [] [] below join = sym join.1
-    ends-by [] (w ∷ ws) below join = join
-    ends-by (e ∷ es) [] below join = absurd (cc join.0)
-    ends-by (e ∷ es) (w ∷ ws) below join =
-        let first = subst (λ o. ByOrder o ((w ≡ e) × JoinEntries R Both es One ws)
-        ((w.0 ≡ e.0) × Both e.1 entry w.1 × JoinEntries R Both es [] ws)
-        ((w ≡ (k, entry)) × JoinEntries R Both (e ∷ es) [] ws)) below.0 join in
-        λ i. first.0 i ∷ ends-by es ws below.1 first.1 i
-
-    -- above all others it stands at the end
-    pub added_last : (es whole : Entries) → All (λ l. R l k ≡ Less) (keys_of es)
-        → JoinEntries R Both es One whole → whole ≡ es ++ (k, entry) ∷ []
-    added_last es whole below join =
-        ends-by es whole (recursion_from_All (λ l. R l k ≡ Less) (keys_of es) below) join
 
   -- ---- entries of its tuple
 

@@ -1,5 +1,5 @@
 -- The entries of a page, held one after another with what is below them.
-use Rattle.std.proofs.Common.{◌≡◌, ◌≢◌, ℕ, List, [], ◌∷◌, ◌++◌, Less, Some, map, refl, sym, ap, ◌∙◌}
+use Rattle.std.proofs.Common.{◌≡◌, ℕ, List, [], ◌∷◌, ◌++◌, Less, Some, map, refl, sym, ap, ◌∙◌}
 use Rattle.std.proofs.Common.{subst}
 use Rattle.std.specs.List.{All, AllByRecursion, AllZip}
 use Rattle.std.specs.List.Sorted.{IsStrictlySortedBy}
@@ -73,10 +73,6 @@ module _ (ctx : PerRequestAggSegCtx) (h : Held) (sources : Sources) (size : ℕ)
     where
       has : HasParts c (rules_of sources) size holds.entries
       has = parts-made c (rules_of sources) size holds.entries holds.is
-
-      -- it has room for the page
-      pub holds-room : size ≢ 0 → target_size_of c ≢ 0
-      holds-room some none = some (sym has.size_is ∙ none)
 
       -- the next entry of an ascending page is above those that are held
       pub holds-below : (whole : List PageEntry) (entry : PageEntry) (rest : List PageEntry)

@@ -1,4 +1,3 @@
-pub mod AddedEntries
 pub mod ApartNames
 pub mod AscendingKeys
 pub mod BelowNodes
@@ -14,4 +13,5 @@ pub mod PutNames
 pub mod SideBySide
 pub mod TakenPages
 pub mod TakenVisits
+pub mod UnheldNames
 pub mod YieldedItems

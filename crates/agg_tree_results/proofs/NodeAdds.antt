@@ -1,5 +1,5 @@
 -- The result of one node is added, by what its collector has of the parent.
-use Rattle.std.proofs.Common.{◌≡◌, ◌≢◌, ◌<◌, ℕ, List, [], ◌∷◌, Bool, true, Option}
+use Rattle.std.proofs.Common.{◌≡◌, ◌<◌, ℕ, List, [], ◌∷◌, Bool, true, Option}
 use Rattle.std.proofs.Common.{Some}
 use Rattle.std.proofs.Common.{None, length, get_or, map, filter, refl, sym}
 use Rattle.std.proofs.Common.{ap, ◌∙◌, subst}
@@ -119,9 +119,6 @@ module _ (ctx : PerRequestAggSegCtx) (node : SegmentCollectorTree) (old : Result
       composite-right = (composite_may.right.3 req found).0
 
       -- its page has room, and accessors in a segment
-      pub composite-room : req.size ≢ 0
-      composite-room = composite-meant.room
-
       pub composite-fits : (segment : Stored) × (after : Named AfterKey) × Fits segment after req
       composite-fits = (
         composite_may.meaning.segment,

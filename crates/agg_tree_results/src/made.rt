@@ -1,5 +1,5 @@
 //! Results of one aggregation, by what its collector counted.
-ghost use Rattle.std.specs.Prelude.{◌≡◌, ◌≢◌, ◌++◌, ◌∷◌, [], All, IfOk, None, OnOk};
+ghost use Rattle.std.specs.Prelude.{◌≡◌, ◌++◌, ◌∷◌, [], All, IfOk, None, OnOk};
 ghost use Rattle.std.specs.Map.{keys_of};
 ghost use Rattle.std.specs.declared.cmp.Ordering.TheVariants.{Less};
 ghost use Rattle.agg_values.specs.KeyOrder.{tuple_order};
@@ -42,8 +42,7 @@ pub fn add_last(
     entry: PageEntry,
     sub_aggregation: IntermediateAggregationResults,
 ) -> Result<(), OutOfMemory>
-    requires room { target_size_of buckets.old ≢ 0 }
-    requires above { All (λ k. tuple_order (orders_of buckets.old) k entry.key ≡ Less)
+    requires { All (λ k. tuple_order (orders_of buckets.old) k entry.key ≡ Less)
         (keys_of (entries_of buckets.old)) }
     ensures { OnOk result (buckets.new
         ≡ composite_of (orders_of buckets.old) (target_size_of buckets.old)
@@ -59,10 +58,7 @@ pub fn add_last(
         doc_count: entry.doc_count,
         sub_aggregation,
     };
-    match buckets.add_entry(entry.key, held) {
-        Ok(()) => Ok(()),
-        Err(error) => Err(out_of_memory(error)),
-    }
+    buckets.push_last(entry.key, held)
 }
 
 /// The result of a composite.

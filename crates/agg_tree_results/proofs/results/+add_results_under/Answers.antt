@@ -9,9 +9,8 @@ use Rattle.agg_collector_tree.specs.declared.tree.SegmentCollectorTree.{the_lemm
 use Rattle.agg_tree_results.specs.Results.{GroupStands}
 use Rattle.agg_tree_results.proofs.GroupAdds.{all-added, next-added, next-may}
 use Rattle.agg_tree_results.proofs.HeldEntries.{Holds, holds-below, holds-more, holds-none}
-use Rattle.agg_tree_results.proofs.HeldEntries.{holds-room}
 use Rattle.agg_tree_results.proofs.NodeAdds.{composite-absent, composite-added, composite-ascending}
-use Rattle.agg_tree_results.proofs.NodeAdds.{composite-below, composite-fits, composite-room}
+use Rattle.agg_tree_results.proofs.NodeAdds.{composite-below, composite-fits}
 use Rattle.agg_tree_results.proofs.NodeAdds.{composite-visited, composite-within, filter-absent}
 use Rattle.agg_tree_results.proofs.NodeAdds.{filter-added, filter-below, filter-within, found-at}
 use Rattle.agg_tree_results.proofs.NodeAdds.{metric-absent, metric-added, metric-within}
@@ -77,20 +76,10 @@ add_results_under-requires t c = (
       c.deref.result.now c.new-below.result.results c.deref.ensures c.new-below.ensures,
 )
 
-pub add_last-requires-clause-room : goal.add_last-requires-clause-room
-add_last-requires-clause-room t c =
-    let turn = (goal.at.add_last-requires-clause-room t c).In_ok-buckets-in-Composite in
-    holds-room c.args.ctx.now (held_of c.in-Composite.child.value)
-    c.index-as_slice-index.result.req.now.sources c.index-as_slice-index.result.size
-    c.loop-entry.yielded c.loop-entry.buckets c.loop-entry.invariant.holds
-    (composite-room c.args.ctx.now c.args.node.now c.args.results.now.results c.requires
-    c.in-Composite.index c.in-Composite.collector c.in-Composite.child c.in-Composite.is
-    c.index-as_slice-index.result (found t turn))
-
-pub add_last-requires-clause-above : goal.add_last-requires-clause-above
-add_last-requires-clause-above t c =
-    let turn = (goal.at.add_last-requires-clause-above t c).In_ok-buckets-in-Composite in
-    let start = (goal.at.add_last-requires-clause-above t c).After-into_iter-entry-iterator in
+pub add_last-requires : goal.add_last-requires
+add_last-requires t c =
+    let turn = (goal.at.add_last-requires t c).In_ok-buckets-in-Composite in
+    let start = (goal.at.add_last-requires t c).After-into_iter-entry-iterator in
     let req = c.index-as_slice-index.result in
     holds-below c.args.ctx.now (held_of c.in-Composite.child.value) req.req.now.sources req.size
     c.loop-entry.yielded c.loop-entry.buckets c.loop-entry.invariant.holds
