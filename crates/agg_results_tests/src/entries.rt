@@ -1,10 +1,13 @@
 //! Entries, and names, added to what is held.
 use crate::held::Given::{Filter, Metric, Page};
 use crate::held::Metric::{Max, Min, Sum};
-use crate::held::{Entries, Held, Named, Nested, add_to, entry_of, held_of, held_page, page_of};
+use crate::held::{
+    Entries, Held, Named, Nested, add_to, empty_page, entry_of, held_of, held_page, page_of,
+    tuple_of,
+};
 use crate::shown::{PAGE, shown};
 use agg_results::{IntermediateTermBucketEntry, MergeError};
-use agg_values::Text;
+use agg_values::{Order, Text};
 use std::alloc::Global;
 use std::test::Fail;
 
@@ -84,6 +87,19 @@ fn an_entry_is_merged_and_after_an_error_it_is_gone(rt: HostRuntime) -> Result<(
         let found = shown_with_entry(rt.alloc(), request, entries, entry)?;
         assert_eq!(rt; (found.0, found.1.as_str()), (answer, text));
     }
+    Ok(())
+}
+
+#[test]
+fn a_last_entry_is_put_at_the_end(rt: HostRuntime) -> Result<(), Fail> {
+    let alloc = rt.alloc();
+    let mut page = empty_page(alloc, 3, Order::Asc)?;
+    page.push_last(tuple_of(alloc, 4)?, entry_of::<Nested>(alloc, 5, &[])?)?;
+    let text = shown(alloc, PAGE, held_page(alloc, page)?)?;
+    assert_eq!(rt;
+        text.as_str(),
+        r#"{"g":{"buckets":[{"doc_count":5,"key":{"a":4}}]}}"#
+    );
     Ok(())
 }
 

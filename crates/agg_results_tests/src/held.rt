@@ -1,6 +1,6 @@
 //! What machines hold, as the tables hold it.
-ghost use Rattle.std.specs.Prelude.{◌≡◌, ◌≢◌, IfOk, OnOk};
-ghost use Rattle.agg_intermediate_results.specs.Intermediate.{target_size_of};
+ghost use Rattle.std.specs.Prelude.{◌≡◌, ◌≢◌, [], IfOk, OnOk};
+ghost use Rattle.agg_intermediate_results.specs.Intermediate.{entries_of, target_size_of};
 
 use agg_results::{
     IntermediateAggregationResult, IntermediateAggregationResults, IntermediateBucketResult,
@@ -109,7 +109,8 @@ pub fn empty_page(
     size: u32,
     order: Order,
 ) -> Result<IntermediateCompositeBucketResult, Fail>
-    ensures { IfOk result (λ page. target_size_of page ≡ size) }
+    ensures size { IfOk result (λ page. target_size_of page ≡ size) }
+    ensures entries { IfOk result (λ page. entries_of page ≡ []) }
 {
     let mut page = IntermediateCompositeBucketResult::new(alloc, size);
     page.add_order(order, MissingOrder::Default)?;
@@ -155,9 +156,14 @@ pub fn add_to(
     requires { target_size_of page.now ≢ 0 }
     ensures { target_size_of page.new ≡ target_size_of page.old }
 {
+    Ok(page.add_entry(tuple_of(alloc, key)?, entry))
+}
+
+/// The tuple of one number.
+pub fn tuple_of(alloc: Global, key: i64) -> Result<Tuple, Fail> {
     let mut tuple = Tuple::new(alloc);
     tuple.push(CompositeIntermediateKey::I64(key))?;
-    Ok(page.add_entry(tuple, entry))
+    Ok(tuple)
 }
 
 /// An entry of a count, with this below it.
