@@ -111,7 +111,7 @@ fn walk_from<const N: usize, L: Ledger>(
     Ok(())
 }
 
-// The same; a whole tuple is visited at once.
+// The same. A tuple that has all its keys is visited without a further call.
 #[cycle(tuples)]
 fn walk_on<const N: usize, L: Ledger>(
     buckets: &mut BucketsByParent<StoredTuple<Encoded, N>>,

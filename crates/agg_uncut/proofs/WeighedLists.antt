@@ -1,7 +1,7 @@
 -- Lists of documents by how often each stands in them.
 use Rattle.std.proofs.Common.{◌≡◌, ℕ, zero, suc, ◌+◌, ◌-◌, ◌*◌, ◌^◌, ◌<◌, ◌≤◌, List, [], ◌∷◌, ◌++◌}
-use Rattle.std.proofs.Common.{Bool, true, false}
-use Rattle.std.proofs.Common.{cond, drop, get_or, take, length, map, replicate, refl, sym, ap, ◌∙◌, arith}
+use Rattle.std.proofs.Common.{Bool, true, false, arith}
+use Rattle.std.proofs.Common.{cond, drop, get_or, take, length, map, replicate, refl, sym, ap, ◌∙◌}
 use Rattle.std.proofs.Common.{append_assoc, length-append, length-take}
 use Rattle.std.specs.Prelude.{filter_map, sum}
 use Rattle.std.specs.Io.Iter.{u64_saturate}

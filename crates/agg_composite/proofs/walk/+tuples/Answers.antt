@@ -29,7 +29,8 @@ walk_from-walk_on-requires g t c κs within =
     omega (arith, total, whole, c.requires.sizes, c.split_at.ensures.back_len) in
     (search rules, (search rules, (search rules, (search rules, (enough, (search rules, fits))))))
 
-pub walk_from-returns-in_err-walk_on-clause-answers : goal.walk_from-returns-in_err-walk_on-clause-answers
+pub walk_from-returns-in_err-walk_on-clause-answers :
+    goal.walk_from-returns-in_err-walk_on-clause-answers
 walk_from-returns-in_err-walk_on-clause-answers g t c =
     let own = c.split_at.result.0.now in
     let rest = parts c.in-Some.sizes.now c.split_at.result.1.now in

@@ -9,7 +9,8 @@ use Rattle.agg_tuple_map.proofs.tuple_map.TupleMap.push_last.Goals as goal
 pub invariant_of-self-2 : goal.invariant_of-self-2
 invariant_of-self-2 g c =
     let rules = c.self.inside.orders.items in
-    let above : All (λ k. tuple_order rules k c.args.key ≡ Less) (keys_of c.self.inside.entries.items)
+    let above : All (λ k. tuple_order rules k c.args.key ≡ Less)
+    (keys_of c.self.inside.entries.items)
     = subst (λ m. All (λ k. tuple_order m.0 k c.args.key ≡ Less) (keys_of m.1)) (sym c.self.view_is)
     c.requires in
     rw c.in_ok-push.ensures.items
