@@ -1,0 +1,8 @@
+//! Lists that give their memory back while they are gone over.
+#![tactic(auto)]
+
+mod freeing_iter;
+#[cfg(test)]
+mod tests;
+
+pub use freeing_iter::FreeingIter;
