@@ -70,6 +70,14 @@ impl<S: Ord + Hash> BucketsByParent<S> {
         })
     }
 
+    /// Expects so many buckets of the first parent. Once many came, it takes memory for all of
+    /// these at once.
+    pub fn expect(&mut self, num_buckets: usize)
+        ensures { self.new ≡ self.old }
+    {
+        self.parents[0].expect(num_buckets);
+    }
+
     /// Prepares parents without buckets, up to this one.
     pub fn prepare(&mut self, max_parent: BucketId) -> Result<(), OutOfMemory>
     where

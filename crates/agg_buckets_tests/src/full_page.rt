@@ -59,6 +59,7 @@ fn expect_lowest<L: Ledger>(
     steps: &mut Steps<L>,
 ) -> Result<(), Fail> {
     let mut buckets: BucketsByParent<Tuple> = BucketsByParent::new(rt.alloc())?;
+    buckets.expect(2);
     buckets.begin_parent(0, 2);
     visit(&mut buckets, 0, 5, steps)?;
     visit(&mut buckets, 0, 7, steps)?;

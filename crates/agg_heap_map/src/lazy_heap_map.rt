@@ -22,6 +22,8 @@ pub struct LazyHeapMap<S: Ord + Hash, V> {
     alloc: Global,
     map: HashMap<S, V>,
     heap: Option<BinaryHeap<S>>,
+    // So many entries are expected. Contracts say nothing of it.
+    expected: usize,
 }
 
 impl<S: Ord + Hash, V> Model for LazyHeapMap<S, V> {
@@ -51,7 +53,16 @@ impl<S: Ord + Hash, V> LazyHeapMap<S, V> {
             alloc,
             map: HashMap::new(alloc),
             heap: None,
+            expected: 0,
         }
+    }
+
+    /// Expects so many entries. Once many are there and the map has to grow, it takes memory for as
+    /// many as these at once, since each growth moves all entries.
+    pub fn expect(&mut self, expected: usize)
+        ensures { self.new ≡ self.old }
+    {
+        self.expected = expected;
     }
 
     /// The number of entries.
@@ -92,7 +103,7 @@ impl<S: Ord + Hash, V> LazyHeapMap<S, V> {
         ensures steps { steps.new ≡ steps.old + 1 }
     {
         steps.tick();
-        put_cloned(&mut self.map, &mut self.heap, key, value)
+        put_cloned(&mut self.map, &mut self.heap, key, value, self.expected)
     }
 
     /// Takes the greatest key out where it isn't below this one, and answers whether it did. The

@@ -3,8 +3,9 @@ ghost use Rattle.std.specs.Prelude.{◌≡◌, ◌≤◌, ◌+◌, ◌-◌, None
 ghost use Rattle.std.specs.Prelude.{false, length, take, true};
 ghost use Rattle.std.specs.BTreeMap.{insert_entry, is_at};
 ghost use Rattle.std.specs.BinaryHeap.{heap_items};
-ghost use Rattle.std.specs.HashMap.{keys};
+ghost use Rattle.std.specs.HashMap.{get, keys};
 ghost use Rattle.std.specs.List.{IsDistinct};
+ghost use Rattle.std.specs.List.Sorted.{IsPermutation};
 ghost use Rattle.std.specs.Map.{lookup};
 ghost use Rattle.agg_heap_map.specs.EntryOrder.{ascending, HaveSameKeys};
 ghost use Rattle.agg_heap_map.specs.Eviction.{GreatestIsBelow, TakesGreatest};
@@ -14,6 +15,9 @@ use std::alloc::Global;
 use std::collections::{BinaryHeap, HashMap};
 use std::hash::Hash;
 use std::sync::ledger::Ledger;
+
+// So many entries are many.
+const MANY: usize = 50_000;
 
 /// Inserts a key that isn't there, and its twin into the heap. Where memory is refused, nothing
 /// changes.
@@ -82,12 +86,13 @@ pub(crate) fn evict_above<S: Ord + Hash + Drop, V: Drop, L: Ledger>(
 }
 
 /// Inserts a key that isn't there, and a clone of it into the heap, if there is one. Where memory
-/// is refused, nothing changes.
+/// is refused, nothing changes. So many entries are expected.
 pub(crate) fn put_cloned<S: Ord + Hash + Clone + Drop, V: Drop>(
     map: &mut HashMap<S, V>,
     heap: &mut Option<BinaryHeap<S>>,
     key: S,
     value: V,
+    expected: usize,
 ) -> Result<(), OutOfMemory>
     requires clones { (t q : S) → S.is_clone t q → q ≡ t }
     requires once { IsDistinct S.eq (keys map.old) }
@@ -108,10 +113,26 @@ pub(crate) fn put_cloned<S: Ord + Hash + Clone + Drop, V: Drop>(
             put_new(map, heap, key, twin, value)
         }
         None => {
+            make_room(map, expected);
             map.insert(key, value)?;
             Ok(())
         }
     }
+}
+
+// Makes room for as many entries as are expected, where many are there and no more fit. Where
+// memory is refused, the map grows as it would without.
+fn make_room<S: Ord + Hash, V>(map: &mut HashMap<S, V>, expected: usize)
+    requires { IsDistinct S.eq (keys map.old) }
+    ensures entries { IsPermutation map.old.entries map.new.entries }
+    ensures values { (k : S) → get S.eq map.new k ≡ get S.eq map.old k }
+    ensures once { IsDistinct S.eq (keys map.new) }
+{
+    let len = map.len();
+    if len < MANY || len < map.capacity() || expected <= len {
+        return;
+    }
+    let _ = map.reserve(expected - len);
 }
 
 /// The heap, made of clones of the map's keys where there is none.

@@ -10,8 +10,8 @@ use std::process::Abort;
 use std::sync::ledger::{Blank, Ledger};
 use std::test::Fail;
 
-// Inserts a key that isn't there. Whether it was absent.
-fn insert<S: Ord + Hash + Clone, L: Ledger>(
+/// Inserts a key that isn't there. Whether it was absent.
+pub(crate) fn insert<S: Ord + Hash + Clone, L: Ledger>(
     map: &mut LazyHeapMap<S, u64>,
     key: &S,
     steps: &mut Steps<L>,

@@ -4,4 +4,6 @@
 #[cfg(test)]
 mod array_keys;
 #[cfg(test)]
+mod many_keys;
+#[cfg(test)]
 mod two_parts;
