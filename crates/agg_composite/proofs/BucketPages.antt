@@ -1,12 +1,11 @@
 -- The buckets of a parent: the groups of what was visited under it, as the entries of a page.
-use Rattle.std.proofs.Common.{◌≡◌, ◌==◌, ◌++◌, ◌+◌, ◌<◌, ℕ, zero, suc, Bool, true, false}
-use Rattle.std.proofs.Common.{List, [], ◌∷◌, All, length}
-use Rattle.std.proofs.Common.{take, map, get_or, refl, sym, ap, ◌∙◌, subst}
+use Rattle.std.proofs.Common.{◌≡◌, ◌==◌, ◌++◌, ℕ, zero, suc, Bool, true, false}
+use Rattle.std.proofs.Common.{List, [], ◌∷◌, All}
+use Rattle.std.proofs.Common.{take, map, get_or, append_assoc, refl, sym, ap, ◌∙◌, subst}
 use Rattle.std.specs.Prelude.{if◌then◌else◌}
 use Rattle.std.specs.List.{AllByRecursion, AllZip}
 use Rattle.std.specs.Map.{keys_of}
 use Rattle.std.proofs.lemmas.List.{map-append}
-use Rattle.std.proofs.lemmas.List.{take_more}
 use Rattle.std.proofs.lemmas.List.Elements.{All-from_recursion, recursion_from_All}
 use Rattle.agg_values.specs.Names.{Named}
 use Rattle.agg_values.specs.Tuple.{KeyTuple}
@@ -14,7 +13,6 @@ use Rattle.agg_values.specs.declared.after_key.AfterKey.{AfterKey}
 use Rattle.agg_segment.specs.Segment.{Stored}
 use Rattle.agg_request_tree.specs.Groups.{Group, Groups}
 use Rattle.agg_request_tree.specs.Source.{rules_of}
-use Rattle.agg_request_tree.proofs.Lists.{All-from_map}
 use Rattle.agg_accessor.specs.Accessors.{Fits}
 use Rattle.agg_accessor.specs.Decoded.{IsEncoded, decoded}
 use Rattle.agg_accessor.specs.Encoding.{EncodedTuple, StandsForTuple, encoded_tuple_order}
@@ -28,8 +26,10 @@ use Rattle.agg_buckets.proofs.CutPages.{have-the-cut}
 use Rattle.agg_composite.specs.Composite.{Composite, CompositeFor, page_of}
 use Rattle.agg_composite.specs.PageEntries.{decoded_buckets, decoded_groups, entry_bucket}
 use Rattle.agg_composite.specs.PageEntries.{entry_group}
+use Rattle.agg_composite.specs.TupleBuckets.{node_of}
 use Rattle.agg_composite.specs.Visits.{StandsForVisit, TypedVisit}
 use Rattle.agg_composite.specs.declared.page_entry.PageEntry.{PageEntry}
+use Rattle.agg_composite.specs.declared.tuple_buckets.TupleBuckets.{TupleBuckets}
 use Rattle.agg_composite.proofs.TypedGroups.{groups-encoded, groups-typed}
 
 -- ---- what was visited under a parent
@@ -93,31 +93,42 @@ groups-first req (suc n) [] = refl
 groups-first req (suc n) (e ∷ counts) =
     ap (λ (gs : List Group). (decoded req e.0, e.1) ∷ gs) (groups-first req n counts)
 
--- ---- the bucket at an index of a page
+-- ---- the entries of a page, where these buckets are still to come
 
-module _ (req : CompositeAggReqData) (page : Page EncodedTuple) (i : ℕ) (e : EncodedTuple × Bucket)
-    (l : i < length page) (is : e ≡ get_or page i e) where
-  -- its tuple stands for one where those of the page do
-  pub bucket-encoded : All (IsEncoded req) (keys_of page) → IsEncoded req e.0
-  bucket-encoded encoded =
-      subst (λ (x : EncodedTuple × Bucket). IsEncoded req x.0) (sym is)
-      (All-from_map (IsEncoded req) (λ x. x.0) page encoded i e l)
+module _ (req : CompositeAggReqData) (left rest : Page EncodedTuple) (e : EncodedTuple × Bucket)
+    (is : left ≡ e ∷ rest) where
+  -- the tuple of the first stands for one where those of all do, and so do those of the others
+  pub first-encoded : All (IsEncoded req) (keys_of left)
+      → IsEncoded req e.0 × All (IsEncoded req) (keys_of rest)
+  first-encoded encoded =
+      let all = recursion_from_All (IsEncoded req) (keys_of (e ∷ rest))
+      (subst (λ (es : Page EncodedTuple). All (IsEncoded req) (keys_of es)) is encoded) in
+      (all.0, All-from_recursion (IsEncoded req) (keys_of rest) all.1)
 
-  -- an entry more is that of one bucket more
-  pub entries-more : (entries entries_now : List PageEntry) (entry : PageEntry) (t : EncodedTuple)
+  -- an entry more is that of the first
+  pub entries-more : (all : List (KeyTuple × Bucket)) (entries entries_now : List PageEntry)
+      (entry : PageEntry) (t : EncodedTuple)
       → entries_now ≡ entries ++ entry ∷ []
-      → map entry_bucket entries ≡ decoded_buckets req (take i page)
+      → map entry_bucket entries ++ decoded_buckets req left ≡ all
       → entry_bucket entry ≡ (decoded req t, e.1) → t ≡ e.0
-      → map entry_bucket entries_now ≡ decoded_buckets req (take (i + 1) page)
-  entries-more entries entries_now entry t pushed so_far one same =
-      ap (map entry_bucket) pushed
-      ∙ map-append entry_bucket entries (entry ∷ [])
-      ∙ (λ j. so_far j ++ one j ∷ [])
-      ∙ (λ j. decoded_buckets req (take i page) ++ (decoded req (same j), e.1) ∷ [])
-      ∙ ap (λ (x : EncodedTuple × Bucket). decoded_buckets req (take i page)
-      ++ (decoded req x.0, x.1) ∷ []) is
-      ∙ sym (map-append _ (take i page) (get_or page i e ∷ []))
-      ∙ ap (decoded_buckets req) (sym (take_more page i e l))
+      → map entry_bucket entries_now ++ decoded_buckets req rest ≡ all
+  entries-more all entries entries_now entry t pushed so_far one same =
+      ap (λ es. map entry_bucket es ++ decoded_buckets req rest) pushed
+      ∙ ap (λ bs. bs ++ decoded_buckets req rest) (map-append entry_bucket entries (entry ∷ []))
+      ∙ append_assoc (map entry_bucket entries) (entry_bucket entry ∷ []) (decoded_buckets req rest)
+      ∙ ap (λ b. map entry_bucket entries ++ b ∷ decoded_buckets req rest)
+      (one ∙ ap (λ x. (decoded req x, e.1)) same)
+      ∙ ap (λ bs. map entry_bucket entries ++ decoded_buckets req bs) (sym is)
+      ∙ so_far
+
+-- the tuples of a parent's buckets stand for tuples, also where the buckets were copied out
+pub parent-encoded : (req : CompositeAggReqData) (parent : ℕ) (buckets known : TupleBuckets)
+    (items : Page EncodedTuple) → buckets ≡ known → items ≡ get_or (node_of known).parents parent []
+    → All (IsEncoded req) (keys_of (get_or (node_of buckets).parents parent []))
+    → All (IsEncoded req) (keys_of items)
+parent-encoded req parent buckets known items same copied =
+    subst (λ (es : Page EncodedTuple). All (IsEncoded req) (keys_of es))
+    (ap (λ bs. get_or (node_of bs).parents parent []) same ∙ sym copied)
 
 -- ---- the page of a collector
 

@@ -114,6 +114,14 @@ impl<C: SubAggCache> SegmentCompositeCollector<C> {
         })
     }
 
+    /// Expects so many buckets of the first parent. Once many came, it takes memory for all of
+    /// these at once, since each growth moves all buckets.
+    pub fn expect(&mut self, num_buckets: usize)
+        ensures { self.new ≡ self.old }
+    {
+        self.buckets.expect(num_buckets);
+    }
+
     /// Prepares parents up to this one.
     pub fn prepare_max_bucket(&mut self, max_bucket: BucketId) -> Result<(), OutOfMemory>
         ensures prepared { OnOk result (max_bucket < length self.new.node.parents) }
@@ -281,6 +289,34 @@ impl<C: SubAggCache> SegmentCompositeCollector<C> {
             page) }
     {
         self.buckets.page(self.alloc, parent_bucket_id, req)
+    }
+
+    /// The same of a collector that ends: the buckets are dropped before the entries are made.
+    pub fn into_page(
+        self,
+        parent_bucket_id: BucketId,
+        req: &CompositeAggReqData<'_>,
+    ) -> Result<ItemList<PageEntry>, OutOfMemory>
+        requires fits { (segment : Stored) × (after : Named AfterKey) × Fits segment after req.now }
+        requires visited { (visited : List TypedVisit) × (given : List (ℕ × ℕ))
+            × CompositeFor C.waiting req.now self visited given }
+        ensures buckets { IfOk result (λ page. map entry_bucket page
+            ≡ decoded_buckets req.now (page_of self parent_bucket_id)) }
+        ensures groups { IfOk result (λ page. (visited : List TypedVisit) (given : List (ℕ × ℕ))
+            → CompositeFor C.waiting req.now self visited given
+            → (groups : List Group)
+            × Groups (rules_of req.now.req.now.sources) (tuples_under parent_bucket_id visited)
+            groups
+            × (map entry_group page ≡ take req.now.size groups)) }
+        ensures handed { IfOk result (λ page. (visited : List TypedVisit) (given : List (ℕ × ℕ))
+            → CompositeFor C.waiting req.now self visited given
+            → self.hands_on ≡ true → ((id : ℕ) → C.waiting self.cache.0 id ≡ [])
+            → All (λ entry. docs_of (is_id entry.bucket_id) given
+            ≡ docs_under (rules_of req.now.req.now.sources) parent_bucket_id entry.key visited)
+            page) }
+    {
+        let SegmentCompositeCollector { alloc, buckets, .. } = self;
+        buckets.into_page(alloc, parent_bucket_id, req)
     }
 
     /// How many buckets it holds, of all parents.

@@ -1,5 +1,5 @@
 //! The buckets of a parent, as the entries of a page.
-ghost use Rattle.std.specs.Prelude.{◌≡◌, [], All, IfOk, get_or, map};
+ghost use Rattle.std.specs.Prelude.{◌≡◌, All, IfOk, map};
 ghost use Rattle.std.specs.Map.{keys_of};
 ghost use Rattle.agg_accessor.specs.Decoded.{IsEncoded, decoded};
 ghost use Rattle.agg_composite.specs.PageEntries.{decoded_buckets, entry_bucket};
@@ -7,26 +7,24 @@ ghost use Rattle.agg_composite.specs.PageEntries.{decoded_buckets, entry_bucket}
 use crate::PageEntry;
 use crate::stored_tuple::StoredTuple;
 use agg_accessor::{CompositeAggReqData, Encoded, decode_tuple};
-use agg_buckets::{Bucket, BucketsByParent};
-use agg_cache::BucketId;
+use agg_buckets::Bucket;
+use agg_freeing::FreeingIter;
 use agg_values::{ItemList, OutOfMemory};
 use std::alloc::Global;
 
-/// The entries of the buckets of a parent, ascending.
+/// The entries of buckets with their tuples. A bucket is dropped once its entry is made.
 pub fn entries_of<const N: usize>(
     alloc: Global,
-    buckets: &BucketsByParent<StoredTuple<Encoded, N>>,
-    parent: BucketId,
+    buckets: Vec<(StoredTuple<Encoded, N>, Bucket)>,
     req: &CompositeAggReqData<'_>,
 ) -> Result<ItemList<PageEntry>, OutOfMemory>
-    requires { All (IsEncoded req.now) (keys_of (get_or buckets.now.parents parent [])) }
-    ensures { IfOk result (λ page. map entry_bucket page
-        ≡ decoded_buckets req.now (get_or buckets.now.parents parent [])) }
+    requires { All (IsEncoded req.now) (keys_of buckets.items) }
+    ensures { IfOk result
+        (λ page. map entry_bucket page ≡ decoded_buckets req.now buckets.entry.items) }
 {
-    let of_parent = buckets.of_parent(parent)?;
-    let mut entries = Vec::with_capacity(alloc, of_parent.len())?;
-    for (tuple, bucket) in of_parent.iter() {
-        entries.push(entry(alloc, req, tuple.as_slice(), bucket)?)?;
+    let mut entries = Vec::with_capacity(alloc, buckets.len())?;
+    for (tuple, bucket) in FreeingIter::new(buckets) {
+        entries.push(entry(alloc, req, tuple.as_slice(), &bucket)?)?;
     }
     Ok(ItemList::from_vec(entries))
 }

@@ -15,7 +15,7 @@ use crate::page::entries_of;
 use crate::stored_tuple::StoredTuple;
 use crate::walk::visit_documents;
 use agg_accessor::{CompositeAggReqData, Encoded};
-use agg_buckets::{BucketsByParent, VisitError};
+use agg_buckets::{Bucket, BucketsByParent, VisitError};
 use agg_cache::BucketId;
 use agg_values::{DocId, ItemList, OutOfMemory, Steps};
 use std::alloc::Global;
@@ -47,6 +47,21 @@ impl TupleBuckets {
             _ => TupleBuckets::Sixteen(BucketsByParent::new(alloc)?),
         };
         Ok(buckets)
+    }
+
+    /// Expects so many buckets of the first parent. Once many came, it takes memory for all of
+    /// these at once.
+    pub fn expect(&mut self, num_buckets: usize)
+        ensures node { node_of self.new ≡ node_of self.old }
+        ensures room { room_of self.new ≡ room_of self.old }
+    {
+        match self {
+            TupleBuckets::One(buckets) => buckets.expect(num_buckets),
+            TupleBuckets::Two(buckets) => buckets.expect(num_buckets),
+            TupleBuckets::Four(buckets) => buckets.expect(num_buckets),
+            TupleBuckets::Eight(buckets) => buckets.expect(num_buckets),
+            TupleBuckets::Sixteen(buckets) => buckets.expect(num_buckets),
+        }
     }
 
     /// Prepares parents without buckets, up to this one.
@@ -144,11 +159,42 @@ impl TupleBuckets {
             ≡ decoded_buckets req.now (get_or (node_of self.now).parents parent [])) }
     {
         match self {
-            TupleBuckets::One(buckets) => entries_of(alloc, buckets, parent, req),
-            TupleBuckets::Two(buckets) => entries_of(alloc, buckets, parent, req),
-            TupleBuckets::Four(buckets) => entries_of(alloc, buckets, parent, req),
-            TupleBuckets::Eight(buckets) => entries_of(alloc, buckets, parent, req),
-            TupleBuckets::Sixteen(buckets) => entries_of(alloc, buckets, parent, req),
+            TupleBuckets::One(buckets) => entries_of(alloc, buckets.of_parent(parent)?, req),
+            TupleBuckets::Two(buckets) => entries_of(alloc, buckets.of_parent(parent)?, req),
+            TupleBuckets::Four(buckets) => entries_of(alloc, buckets.of_parent(parent)?, req),
+            TupleBuckets::Eight(buckets) => entries_of(alloc, buckets.of_parent(parent)?, req),
+            TupleBuckets::Sixteen(buckets) => entries_of(alloc, buckets.of_parent(parent)?, req),
         }
     }
+
+    /// The same where nothing else is kept: all buckets are dropped before the entries are made.
+    pub fn into_page(
+        self,
+        alloc: Global,
+        parent: BucketId,
+        req: &CompositeAggReqData<'_>,
+    ) -> Result<ItemList<PageEntry>, OutOfMemory>
+        requires { All (IsEncoded req.now) (keys_of (get_or (node_of self).parents parent [])) }
+        ensures { IfOk result (λ page. map entry_bucket page
+            ≡ decoded_buckets req.now (get_or (node_of self).parents parent [])) }
+    {
+        match self {
+            TupleBuckets::One(buckets) => entries_of(alloc, only_of(buckets, parent)?, req),
+            TupleBuckets::Two(buckets) => entries_of(alloc, only_of(buckets, parent)?, req),
+            TupleBuckets::Four(buckets) => entries_of(alloc, only_of(buckets, parent)?, req),
+            TupleBuckets::Eight(buckets) => entries_of(alloc, only_of(buckets, parent)?, req),
+            TupleBuckets::Sixteen(buckets) => entries_of(alloc, only_of(buckets, parent)?, req),
+        }
+    }
+}
+
+// The buckets of a parent with their tuples, ascending. All others are dropped.
+fn only_of<const N: usize>(
+    buckets: BucketsByParent<StoredTuple<Encoded, N>>,
+    parent: BucketId,
+) -> Result<Vec<(StoredTuple<Encoded, N>, Bucket)>, OutOfMemory>
+    ensures { IfOk result
+        (λ only. only.items ≡ get_or buckets.entry.parents parent []) }
+{
+    buckets.of_parent(parent)
 }

@@ -110,18 +110,18 @@ fn refused(error: &CollectError) -> Option<(u64, u64)> {
     }
 }
 
-// The first parent has a page of these numbers.
+// In the end the first parent has a page of these numbers.
 fn expect_page<C: SubAggCache>(
     rt: &(impl Abort + AllocGlobal),
-    collector: &SegmentCompositeCollector<C>,
+    collector: SegmentCompositeCollector<C>,
     req: &CompositeAggReqData<'_>,
     expected: &[i64],
 ) -> Result<(), Fail>
-    requires right { IsRight C.waiting req.now collector.now }
+    requires right { IsRight C.waiting req.now collector }
     requires fits { (segment : Stored) × (after : Named AfterKey) × Fits segment after req.now }
 {
     let mut numbers = Vec::new(rt.alloc());
-    for entry in collector.page(0, req)?.as_slice() {
+    for entry in collector.into_page(0, req)?.as_slice() {
         numbers.push(number_of(entry, 0).ok_or("not a number")?)?;
     }
     assert_eq!(rt; numbers.as_slice(), expected);
@@ -145,7 +145,7 @@ fn expect_case<C: SubAggCache, L: Ledger>(
     assert_eq!(rt; account.limits.in_use(), 992);
     assert_eq!(rt; account.guard.allocated(), 992);
     match collected {
-        Ok(()) => expect_page(rt, &collector, req, case.page),
+        Ok(()) => expect_page(rt, collector, req, case.page),
         Err(error) => {
             assert_eq!(rt; refused(&error), Some(case.refused.ok_or("not collected")?));
             Ok(())
