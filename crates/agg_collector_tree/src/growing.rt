@@ -75,7 +75,9 @@ fn tree_of_node<'s>(
     match node.kind {
         AggKind::Composite => {
             let req = &ctx.composite_req_data.as_slice()[index];
-            let collector = new_composite(alloc, is_leaf, req.req.sources.as_slice().len())?;
+            let num_sources = req.req.sources.as_slice().len();
+            let expected = expected_buckets(place, req.size, segment);
+            let collector = new_composite(alloc, is_leaf, num_sources, expected)?;
             let below = trees_for(alloc, nodes, Place::Below, ctx, segment)?;
             let below = Box::new(alloc, below)?;
             Ok(SegmentCollectorTree::Composite(index, collector, below))
@@ -94,18 +96,32 @@ fn tree_of_node<'s>(
     }
 }
 
-// A new collector for a composite of so many sources.
+// So many buckets are expected at most of a composite's first parent: none below another node,
+// where there may be many parents.
+fn expected_buckets(place: Place, size: u32, segment: &SegmentReader) -> usize {
+    match place {
+        Place::Top => size.min(segment.num_docs()) as usize,
+        Place::Below => 0,
+    }
+}
+
+// A new collector for a composite of so many sources, whose first parent is expected to have so
+// many buckets.
 fn new_composite(
     alloc: Global,
     is_leaf: bool,
     num_sources: usize,
+    expected: usize,
 ) -> Result<SegmentCompositeCollector<HighCardSubAggCache>, OutOfMemory>
     requires some { 1 ≤ num_sources }
     requires few { num_sources ≤ max_sources }
     ensures { IfOk result (IsNewComposite is_leaf num_sources) }
 {
-    if is_leaf {
-        return SegmentCompositeCollector::new_leaf(alloc, num_sources);
-    }
-    SegmentCompositeCollector::new(alloc, num_sources)
+    let mut collector = if is_leaf {
+        SegmentCompositeCollector::new_leaf(alloc, num_sources)?
+    } else {
+        SegmentCompositeCollector::new(alloc, num_sources)?
+    };
+    collector.expect(expected);
+    Ok(collector)
 }

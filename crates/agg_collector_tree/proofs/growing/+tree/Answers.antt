@@ -48,7 +48,7 @@ tree_of_node-new_composite-requires-clause-some t c =
     let one : d.0.0 ≡ r = cc (d.0.1, at) in
     let some : 1 ≤ length r.req.now.sources =
     subst (λ (q : CompositeAggReqData). 1 ≤ length q.req.now.sources) one d.0.2.0 in
-    omega (arith, some, ap length c.as_slice-in-Composite.ensures)
+    omega (arith, some, ap length c.as_slice-num_sources.ensures)
 
 pub tree_of_node-new_composite-requires-clause-few :
     goal.tree_of_node-new_composite-requires-clause-few
@@ -64,7 +64,7 @@ tree_of_node-new_composite-requires-clause-few t c =
     let one : d.0.0 ≡ r = cc (d.0.1, at) in
     let few : length r.req.now.sources ≤ max_sources =
     subst (λ (q : CompositeAggReqData). length q.req.now.sources ≤ max_sources) one d.0.2.1 in
-    omega (arith, few, ap length c.as_slice-in-Composite.ensures)
+    omega (arith, few, ap length c.as_slice-num_sources.ensures)
 
 pub tree_of_node-returns-in_ok-below-in-Composite-2-clause-node :
     goal.tree_of_node-returns-in_ok-below-in-Composite-2-clause-node
@@ -100,8 +100,8 @@ tree_of_node-returns-in_ok-below-in-Composite-2-clause-new t c =
     let at = read-at ctx.composite_req_data c.as_slice.result.now index d.0.0
     r c.as_slice.ensures d.0.1 c.index-as_slice-index.is in
     rw (held-composite index collector child)
-    (new-composite ctx segment index r is_leaf (length c.as_slice-in-Composite.result.now) collector
-    (held_of child.value) at (ap length c.as_slice-in-Composite.ensures)
+    (new-composite ctx segment index r is_leaf (length c.as_slice-num_sources.result.now) collector
+    (held_of child.value) at (ap length c.as_slice-num_sources.ensures)
     c.in_ok-collector-in-Composite.ensures
     (handed-new nodes is_leaf collector.hands_on (held_of child.value) c.is_empty-is_leaf.ensures
     (subst (λ n. IsGroupOf (plans_of (map plan_of nodes)) (held_of n)) here
