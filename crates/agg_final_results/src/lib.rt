@@ -2,6 +2,7 @@
 #![tactic(auto)]
 
 mod bucket_count;
+mod ending_text;
 mod json_text;
 mod own_members;
 mod quoted;

@@ -45,9 +45,9 @@ pub fn write_results(
     Ok(())
 }
 
-// Appends the result of an aggregation.
+/// Appends the result of an aggregation.
 #[cycle(result_text)]
-fn write_result(
+pub fn write_result(
     alloc: Global,
     text: &mut String,
     aggregation: &AggregationResult,
@@ -138,9 +138,9 @@ fn write_buckets(
     Ok(())
 }
 
-// Appends a bucket: its number of occurrences, its key, and its sub-results by their names.
+/// Appends a bucket: its number of occurrences, its key, and its sub-results by their names.
 #[cycle(result_text)]
-fn write_bucket(
+pub fn write_bucket(
     alloc: Global,
     text: &mut String,
     bucket: &CompositeBucketEntry,
@@ -177,8 +177,8 @@ fn write_plain_bucket(
     Ok(())
 }
 
-// Appends the member of the after key and a comma, unless the after key is empty.
-fn write_after_key(
+/// Appends the member of the after key and a comma, unless the after key is empty.
+pub fn write_after_key(
     alloc: Global,
     text: &mut String,
     after_key: &NameMap<AfterKey>,

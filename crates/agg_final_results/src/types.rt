@@ -2,6 +2,7 @@
 ghost use Rattle.std.specs.Prelude.{◌≡◌, ◌++◌, IfOk, OnOk, string_bytes};
 ghost use Rattle.agg_final_results.specs.ResultsText.{results_text};
 
+use crate::ending_text::write_ending;
 use crate::own_members::OwnMembers;
 use crate::result_text::write_results;
 use agg_values::{AfterKey, CompositeKey, ItemList, NameMap, OutOfMemory, Text};
@@ -82,5 +83,14 @@ impl AggregationResults {
             (string_bytes text.new ≡ string_bytes text.old ++ results_text self.now) }
     {
         write_results(self.0.allocator(), text, OwnMembers::none(), self)
+    }
+
+    /// Appends the text of `write_json`, and drops each bucket of a composite at the top once its
+    /// text stands there. After an error a part of it may have been appended.
+    pub fn into_json(self, text: &mut String) -> Result<(), OutOfMemory>
+        ensures { OnOk result
+            (string_bytes text.new ≡ string_bytes text.old ++ results_text self) }
+    {
+        write_ending(self.0.allocator(), text, self)
     }
 }

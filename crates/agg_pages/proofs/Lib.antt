@@ -1,5 +1,4 @@
 pub mod GeneratedInputs
-pub mod PageLines
 pub mod PlainWalks
 pub mod Replies
 pub mod Seeds

@@ -9,13 +9,16 @@ use agg_results::AggregationResults;
 use agg_values::OutOfMemory;
 use std::alloc::Global;
 
-/// A walk: a line for each page, and one that says whether it has ended.
-pub fn walk_text(alloc: Global, walk: &Walk) -> Result<String, OutOfMemory>
-    ensures { IfOk result (λ text. string_bytes text ≡ walk_text walk.now) }
+/// A walk: a line for each page, which is dropped once its line stands there, and one that says
+/// whether it has ended.
+pub fn walk_text(alloc: Global, walk: Walk) -> Result<String, OutOfMemory>
+    ensures { IfOk result (λ text. string_bytes text ≡ walk_text walk) }
 {
     let mut text = String::new(alloc);
-    for (index, page) in walk.pages.as_slice().iter().enumerate() {
-        write_page(&mut text, index as u64 + 1, page)?;
+    let mut number: u64 = 0;
+    for page in walk.pages.into_vec() {
+        number += 1;
+        write_page(&mut text, number, page)?;
     }
     text.push_str(ended_text(walk.ended))?;
     Ok(text)
@@ -33,12 +36,12 @@ fn ended_text(ended: bool) -> &'static str
 }
 
 // Appends the line of a page.
-fn write_page(text: &mut String, number: u64, page: &AggregationResults) -> Result<(), OutOfMemory>
+fn write_page(text: &mut String, number: u64, page: AggregationResults) -> Result<(), OutOfMemory>
     ensures { OnOk result
-        (string_bytes text.new ≡ string_bytes text.old ++ page_line number page.now) }
+        (string_bytes text.new ≡ string_bytes text.old ++ page_line number page) }
 {
     write!(text, "{{\"page\":{number},\"results\":")?;
-    page.append_json(text)?;
+    page.into_json(text)?;
     text.push_str("}\n")?;
     Ok(())
 }

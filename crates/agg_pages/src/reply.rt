@@ -36,7 +36,7 @@ pub fn reply_to<L: Ledger>(
 {
     match walk_of(alloc, input, steps) {
         Ok(walk) => Ok(Reply {
-            text: walk_text(alloc, &walk)?,
+            text: walk_text(alloc, walk)?,
             refused: false,
         }),
         Err(WalkError::OutOfMemory) => Err(OutOfMemory),

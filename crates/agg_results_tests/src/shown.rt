@@ -42,14 +42,20 @@ pub fn shown(
     Ok(text)
 }
 
-/// The same, and the number of its buckets.
+/// The same, and the number of its buckets. The text is the same where the results end with it.
 pub fn shown_with_count(
     alloc: Global,
     request: &str,
     held: IntermediateAggregationResults,
 ) -> Result<(Text, u64), Fail> {
     let results = final_of(alloc, request, held, None)??;
-    Ok((results.write_json()?, results.get_bucket_count()))
+    let (text, count) = (results.write_json()?, results.get_bucket_count());
+    let mut ending = String::new(alloc);
+    results.into_json(&mut ending)?;
+    if ending.as_str() != text.as_str() {
+        return Err("another text in the end")?;
+    }
+    Ok((text, count))
 }
 
 /// What two machines hold as one, as the request shows it.

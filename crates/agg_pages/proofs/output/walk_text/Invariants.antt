@@ -1,7 +1,11 @@
-use Rattle.std.proofs.Common.{◌≡◌, take, string_bytes}
+use Rattle.std.proofs.Common.{◌≡◌, ◌≤◌, ◌+◌, ◌++◌, string_bytes}
 use Rattle.agg_pages.specs.Output.{page_lines}
 use Rattle.agg_pages.proofs.output.walk_text.Given as goal
 
--- the lines of the pages so far
-abbrev pub invariant-loop-index : goal.invariant-loop-index
-invariant-loop-index l = string_bytes l.text ≡ page_lines 1 (take l.index l.walk.pages)
+-- the lines so far with those of the pages that are left are all, and every number fits
+abbrev pub invariant-loop-page : goal.invariant-loop-page
+invariant-loop-page l = record {
+  whole : string_bytes l.text ++ page_lines (l.number + 1) l.page-iterator.rest.items
+      ≡ page_lines 1 l.fn.walk.pages;
+  fits : l.number + l.page-iterator.rest.len ≤ 18446744073709551615;
+}
