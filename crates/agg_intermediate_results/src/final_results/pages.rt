@@ -11,6 +11,7 @@ use crate::{IntermediateCompositeBucketResult, IntermediateTermBucketEntry};
 use agg_final_results::{
     AggregationResult, AggregationResults, BucketResult, CompositeBucketEntry,
 };
+use agg_freeing::FreeingIter;
 use agg_request_tree::{Aggregation, CompositeAggregationSource, after_keys, shown_keys};
 use agg_values::{AfterKey, ItemList, NameMap, OutOfMemory, Tuple};
 use std::alloc::Global;
@@ -62,7 +63,7 @@ fn shown_buckets<B: Drop>(
         (final_by_name below.now (below_entry e.1))) entries.items) }
 {
     let mut buckets = Vec::with_capacity(alloc, entries.len())?;
-    for (tuple, entry) in entries {
+    for (tuple, entry) in FreeingIter::new(entries) {
         buckets.push(CompositeBucketEntry {
             key: shown_keys(alloc, sources, &tuple)?,
             doc_count: entry.doc_count,

@@ -1,4 +1,4 @@
-use Rattle.std.proofs.Common.{◌≡◌, ◌+◌, ◌*◌, length, map}
+use Rattle.std.proofs.Common.{◌≡◌, ◌+◌, ◌*◌, ◌++◌, length, map}
 use Rattle.agg_request_tree.specs.Request.{below_of}
 use Rattle.agg_request_tree.proofs.RequestTrees.{levels}
 use Rattle.agg_intermediate_results.proofs.FinalByName.{AreNamedBefore, AreShownAfter}
@@ -47,8 +47,9 @@ abbrev pub decreases-by_name::shown_last_first-loop-name :
     goal.decreases-by_name::shown_last_first-loop-name
 decreases-by_name::shown_last_first-loop-name g l = length l.wanted.items
 
--- the buckets of the entries so far
+-- the buckets so far, and those of the entries that are still to come
 abbrev pub invariant-pages::shown_buckets-loop-tuple :
     goal.invariant-pages::shown_buckets-loop-tuple
 invariant-pages::shown_buckets-loop-tuple g l =
-    l.buckets.items ≡ map (shown_entry l.sources l.below) l.yielded
+    l.buckets.items ++ map (shown_entry l.sources l.below) l.tuple-iterator
+    ≡ map (shown_entry l.sources l.below) l.fn.entries.items
