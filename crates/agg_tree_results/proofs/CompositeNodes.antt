@@ -36,17 +36,11 @@ use Rattle.agg_segment_context.specs.Plan.{Plan}
 use Rattle.agg_segment_context.specs.declared.context.PerRequestAggSegCtx.{PerRequestAggSegCtx}
 use Rattle.agg_collector_tree.specs.Caches.{Cache, waiting_in}
 use Rattle.agg_collector_tree.specs.Tree.{Held, IsHandedTo, IsOf}
+use Rattle.agg_tree_results.specs.Entries.{IsEntryOf}
 use Rattle.agg_tree_results.specs.Pages.{IsPageUnder}
 use Rattle.agg_tree_results.specs.Results.{GroupStands, IsTrail, docs_taken}
 use Rattle.agg_tree_results.proofs.BelowNodes.{below-stands}
 use Rattle.agg_tree_results.proofs.NamedNodes.{composite-node}
-
--- an entry of a page is held with its count, and below it what its documents gave
-pub record IsEntryOf (ctx : PerRequestAggSegCtx) (h : Held) (p : PageEntry) (e : TupleEntry)
-    : Type 0 where
-  pub key : e.0 ≡ p.key
-  pub count : e.1.doc_count ≡ p.doc_count
-  pub stands : GroupStands ctx h (Some p.bucket_id) (below_entry e.1)
 
 counts-entries : (ctx : PerRequestAggSegCtx) (h : Held) (page : List PageEntry) (es : Entries)
     → AllZip (IsEntryOf ctx h) page es → counts_of es ≡ map entry_group page

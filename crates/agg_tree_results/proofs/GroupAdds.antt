@@ -34,33 +34,56 @@ module _ (ctx : PerRequestAggSegCtx) (node : SegmentCollectorTree) (old : Result
   abbrev group_may : MayAdd ctx (Held.group (helds_of (map held_of items))) old
   group_may = subst (λ h. MayAdd ctx h old) group_is may
 
+  -- ---- by what was gone over
+
+  module _ (before : List SegmentCollectorTree) (child : SegmentCollectorTree)
+      (after : List SegmentCollectorTree) (split : items ≡ before ++ child ∷ after) (now : Results)
+      (added : AddInTurn ctx parent (map held_of before) old now) where
+    -- the next one may add its results
+    pub following-may : MayAdd ctx (held_of child) now
+    following-may =
+        may-next ctx parent (map held_of before) (held_of child) (map held_of after) old now
+        (subst (λ hs. MayAdd ctx (Held.group (helds_of hs)) old)
+        (ap (map held_of) split ∙ map-append held_of before (child ∷ after)) group_may) added
+
+    -- and then one more did
+    pub following-added : (new : Results) → Adds ctx (held_of child) parent now new
+        → AddInTurn ctx parent (map held_of (before ++ child ∷ [])) old new
+    following-added new adds =
+        subst (λ hs. AddInTurn ctx parent hs old new)
+        (sym (map-append held_of before (child ∷ [])))
+        (add-more ctx parent (map held_of before) (held_of child) old now new added adds)
+
+  -- in the end all did
+  pub whole-added : (gone : List SegmentCollectorTree) → gone ≡ items → (new : Results)
+      → AddInTurn ctx parent (map held_of gone) old new → Adds ctx (held_of node) parent old new
+  whole-added gone all new added =
+      subst (λ h. Adds ctx h parent old new) (sym group_is)
+      (adds-group ctx parent (map held_of items) old new group_may.apart
+      (subst (λ xs. AddInTurn ctx parent (map held_of xs) old new) all added))
+
+  -- ---- by an index
+
   module _ (i : ℕ) (child : SegmentCollectorTree) (within : i < length items)
       (read : child ≡ get_or items i child) (now : Results)
       (added : AddInTurn ctx parent (map held_of (take i items)) old now) where
     -- the next one may add its results
     pub next-may : MayAdd ctx (held_of child) now
     next-may =
-        let split = ap (map held_of) (split-at items i child within read)
-        ∙ map-append held_of (take i items) (child ∷ drop (suc i) items) in
-        may-next ctx parent (map held_of (take i items)) (held_of child)
-        (map held_of (drop (suc i) items)) old now
-        (subst (λ hs. MayAdd ctx (Held.group (helds_of hs)) old) split group_may) added
+        following-may (take i items) child (drop (suc i) items)
+        (split-at items i child within read) now added
 
     -- and then so many more did
     pub next-added : (new : Results) → Adds ctx (held_of child) parent now new
         → AddInTurn ctx parent (map held_of (take (i + 1) items)) old new
     next-added new adds =
-        let more = ap (map held_of) (take_more items i child within
-        ∙ ap (λ x. take i items ++ x ∷ []) (sym read))
-        ∙ map-append held_of (take i items) (child ∷ []) in
-        subst (λ hs. AddInTurn ctx parent hs old new) (sym more)
-        (add-more ctx parent (map held_of (take i items)) (held_of child) old now new added adds)
+        subst (λ xs. AddInTurn ctx parent (map held_of xs) old new)
+        (sym (take_more items i child within ∙ ap (λ x. take i items ++ x ∷ []) (sym read)))
+        (following-added (take i items) child (drop (suc i) items)
+        (split-at items i child within read) now added new adds)
 
   -- in the end all did
   pub all-added : (i : ℕ) → length items ≤ i → (new : Results)
       → AddInTurn ctx parent (map held_of (take i items)) old new
       → Adds ctx (held_of node) parent old new
-  all-added i past new added =
-      subst (λ h. Adds ctx h parent old new) (sym group_is)
-      (adds-group ctx parent (map held_of items) old new group_may.apart
-      (subst (λ xs. AddInTurn ctx parent (map held_of xs) old new) (take_all i items past) added))
+  all-added i past new added = whole-added (take i items) (take_all i items past) new added

@@ -20,9 +20,9 @@ use declared.entry.IntermediateTermBucketEntry.{IntermediateTermBucketEntry}
 use declared.results.IntermediateAggregationResults.{IntermediateAggregationResults}
 use Rattle.agg_segment_context.specs.declared.context.PerRequestAggSegCtx.{PerRequestAggSegCtx}
 use Rattle.agg_collector_tree.specs.Tree.{Held}
+use Rattle.agg_tree_results.specs.Entries.{HoldsPage, IsAscending, IsEntryOf}
 use Rattle.agg_tree_results.specs.Results.{GroupStands}
 use Rattle.agg_tree_results.proofs.AscendingKeys.{below-before}
-use Rattle.agg_tree_results.proofs.CompositeNodes.{IsEntryOf}
 
 -- the parts of a composite's result
 record HasParts (c : IntermediateCompositeBucketResult) (rules : SourceRules) (size : ℕ)
@@ -52,14 +52,9 @@ zip-more R (a ∷ xs) [] x y all here = absurd all
 zip-more R (a ∷ xs) (b ∷ ys) x y all here = (all.0, zip-more R xs ys x y all.1 here)
 
 module _ (ctx : PerRequestAggSegCtx) (h : Held) (sources : Sources) (size : ℕ) where
-  -- a composite's result holds these entries of a page, each with what is below it
-  pub record Holds (page : List PageEntry) (c : IntermediateCompositeBucketResult) : Type 0 where
-    pub entries : Entries
-    pub is : c ≡ composite_of (rules_of sources) size entries
-    pub are : AllZip (IsEntryOf ctx h) page entries
-
+  -- a result without entries holds a page without any
   pub holds-none : (c : IntermediateCompositeBucketResult)
-      → c ≡ composite_of (rules_of sources) size [] → Holds [] c
+      → c ≡ composite_of (rules_of sources) size [] → HoldsPage ctx h sources size [] c
   holds-none c is = record { entries = []; is = is; are = tt }
 
   keys-are : (page : List PageEntry) (es : Entries) → AllZip (IsEntryOf ctx h) page es
@@ -69,48 +64,48 @@ module _ (ctx : PerRequestAggSegCtx) (h : Held) (sources : Sources) (size : ℕ)
   keys-are (p ∷ page) [] are = absurd are
   keys-are (p ∷ page) (e ∷ es) are = λ i. are.0.key i ∷ keys-are page es are.1 i
 
-  module _ (page : List PageEntry) (c : IntermediateCompositeBucketResult) (holds : Holds page c)
-    where
-      has : HasParts c (rules_of sources) size holds.entries
-      has = parts-made c (rules_of sources) size holds.entries holds.is
+  module _ (page : List PageEntry) (c : IntermediateCompositeBucketResult)
+      (holds : HoldsPage ctx h sources size page c) where
+    has : HasParts c (rules_of sources) size holds.entries
+    has = parts-made c (rules_of sources) size holds.entries holds.is
 
-      -- the next entry of an ascending page is above those that are held
-      pub holds-below : (whole : List PageEntry) (entry : PageEntry) (rest : List PageEntry)
-          → whole ≡ page ++ entry ∷ rest
-          → IsStrictlySortedBy (tuple_order (rules_of sources)) (keys_of (map entry_group whole))
-          → All (λ k. tuple_order (orders_of c) k entry.key ≡ Less) (keys_of (entries_of c))
-      holds-below whole entry rest split up =
-          let before = below-before (tuple_order (rules_of sources)) (map entry_group page)
-          (entry_group entry) (map entry_group rest)
-          (subst (λ gs. IsStrictlySortedBy (tuple_order (rules_of sources)) (keys_of gs))
-          (ap (map entry_group) split ∙ map-append entry_group page (entry ∷ rest)) up) in
-          let keys = ap keys_of has.entries_are ∙ keys-are page holds.entries holds.are in
-          subst (λ (rules : SourceRules). All (λ k. tuple_order rules k entry.key ≡ Less)
-          (keys_of (entries_of c))) (sym has.orders_are)
-          (All-from_recursion (λ k. tuple_order (rules_of sources) k entry.key ≡ Less)
-          (keys_of (entries_of c))
-          (subst (AllByRecursion (λ k. tuple_order (rules_of sources) k entry.key ≡ Less))
-          (sym keys) before))
+    -- the next entry of an ascending page is above those that are held
+    pub holds-below : (whole : List PageEntry) (entry : PageEntry) (rest : List PageEntry)
+        → whole ≡ page ++ entry ∷ rest
+        → IsAscending sources whole
+        → All (λ k. tuple_order (orders_of c) k entry.key ≡ Less) (keys_of (entries_of c))
+    holds-below whole entry rest split up =
+        let before = below-before (tuple_order (rules_of sources)) (map entry_group page)
+        (entry_group entry) (map entry_group rest)
+        (subst (λ gs. IsStrictlySortedBy (tuple_order (rules_of sources)) (keys_of gs))
+        (ap (map entry_group) split ∙ map-append entry_group page (entry ∷ rest)) up) in
+        let keys = ap keys_of has.entries_are ∙ keys-are page holds.entries holds.are in
+        subst (λ (rules : SourceRules). All (λ k. tuple_order rules k entry.key ≡ Less)
+        (keys_of (entries_of c))) (sym has.orders_are)
+        (All-from_recursion (λ k. tuple_order (rules_of sources) k entry.key ≡ Less)
+        (keys_of (entries_of c))
+        (subst (AllByRecursion (λ k. tuple_order (rules_of sources) k entry.key ≡ Less))
+        (sym keys) before))
 
-      -- and with it the result holds one more
-      pub holds-more : (entry : PageEntry) (below : IntermediateAggregationResults)
-          (d : IntermediateCompositeBucketResult)
-          → GroupStands ctx h (Some entry.bucket_id) below.results
-          → (let held : IntermediateTermBucketEntry = record {
-            doc_count = entry.doc_count;
-            sub_aggregation = below;
-          } in d ≡ composite_of (orders_of c) (target_size_of c)
-          (entries_of c ++ (entry.key, held) ∷ []))
-          → Holds (page ++ entry ∷ []) d
-      holds-more entry below d stands is =
-          let held : IntermediateTermBucketEntry = record {
-            doc_count = entry.doc_count;
-            sub_aggregation = below;
-          } in
-          record {
-            entries = holds.entries ++ (entry.key, held) ∷ [];
-            is = is ∙ (λ i. composite_of (has.orders_are i) (has.size_is i)
-                (has.entries_are i ++ (entry.key, held) ∷ []));
-            are = zip-more (IsEntryOf ctx h) page holds.entries entry (entry.key, held) holds.are
-                (record { key = refl; count = refl; stands = stands });
-          }
+    -- and with it the result holds one more
+    pub holds-more : (entry : PageEntry) (below : IntermediateAggregationResults)
+        (d : IntermediateCompositeBucketResult)
+        → GroupStands ctx h (Some entry.bucket_id) below.results
+        → (let held : IntermediateTermBucketEntry = record {
+          doc_count = entry.doc_count;
+          sub_aggregation = below;
+        } in d ≡ composite_of (orders_of c) (target_size_of c)
+        (entries_of c ++ (entry.key, held) ∷ []))
+        → HoldsPage ctx h sources size (page ++ entry ∷ []) d
+    holds-more entry below d stands is =
+        let held : IntermediateTermBucketEntry = record {
+          doc_count = entry.doc_count;
+          sub_aggregation = below;
+        } in
+        record {
+          entries = holds.entries ++ (entry.key, held) ∷ [];
+          is = is ∙ (λ i. composite_of (has.orders_are i) (has.size_is i)
+              (has.entries_are i ++ (entry.key, held) ∷ []));
+          are = zip-more (IsEntryOf ctx h) page holds.entries entry (entry.key, held) holds.are
+              (record { key = refl; count = refl; stands = stands });
+        }

@@ -1,26 +1,21 @@
 -- The result of one node is added, by what its collector has of the parent.
 use Rattle.std.proofs.Common.{◌≡◌, ◌<◌, ℕ, List, [], ◌∷◌, Bool, true, Option}
 use Rattle.std.proofs.Common.{Some}
-use Rattle.std.proofs.Common.{None, length, get_or, map, filter, refl, sym}
+use Rattle.std.proofs.Common.{None, length, get_or, filter, refl, sym}
 use Rattle.std.proofs.Common.{ap, ◌∙◌, subst}
 use Rattle.std.specs.Prelude.{slice_get}
-use Rattle.std.specs.List.Sorted.{IsStrictlySortedBy}
-use Rattle.std.specs.Map.{keys_of}
 use Rattle.std.specs.declared.alloc.Global.{Global}
 use Rattle.std.specs.declared.boxed.Box.{Box}
 use Rattle.std.proofs.lemmas.List.Elements.{All-contains}
 use Rattle.std.proofs.lemmas.Option.{slice_get_read, slice_get_within}
-use Rattle.agg_values.specs.KeyOrder.{tuple_order}
 use Rattle.agg_values.specs.Names.{Named, put, value_of}
 use Rattle.agg_values.specs.declared.after_key.AfterKey.{AfterKey}
 use Rattle.agg_segment.specs.Segment.{Stored, documents_at}
 use Rattle.agg_request_tree.specs.Metrics.{values_of_field}
-use Rattle.agg_request_tree.specs.Source.{rules_of}
 use Rattle.agg_request_tree.proofs.Lists.{Contains-here}
 use Rattle.agg_accessor.specs.Accessors.{Fits}
 use Rattle.agg_accessor.specs.declared.request_data.CompositeAggReqData.{CompositeAggReqData}
 use Rattle.agg_composite.specs.Composite.{Composite, CompositeFor}
-use Rattle.agg_composite.specs.PageEntries.{entry_group}
 use Rattle.agg_composite.specs.Visits.{TypedVisit}
 use Rattle.agg_composite.specs.declared.page_entry.PageEntry.{PageEntry}
 use Rattle.agg_filter.specs.Filter.{Filter, FilterFor}
@@ -41,12 +36,12 @@ use Rattle.agg_collector_tree.specs.Caches.{Cache, waiting_in}
 use Rattle.agg_collector_tree.specs.Tree.{Held, held_of, visits_of}
 use Rattle.agg_collector_tree.specs.declared.tree.SegmentCollectorTree as tree
 use tree.{SegmentCollectorTree}
+use Rattle.agg_tree_results.specs.Entries.{HoldsPage, IsAscending}
 use Rattle.agg_tree_results.specs.Names.{composite_name, filter_name, metric_name}
 use Rattle.agg_tree_results.specs.Pages.{IsPageUnder}
 use Rattle.agg_tree_results.specs.Results.{Adds, GroupStands, MayAdd, docs_taken}
 use Rattle.agg_tree_results.proofs.CompositeNodes.{composite-stands}
 use Rattle.agg_tree_results.proofs.FilterNodes.{filter-stands}
-use Rattle.agg_tree_results.proofs.HeldEntries.{Holds}
 use Rattle.agg_tree_results.proofs.Levels.{held-composite, held-filter, held-metric}
 use Rattle.agg_tree_results.proofs.MetricNodes.{metric-stands}
 use Rattle.agg_tree_results.proofs.NamedNodes.{composite_name-at, filter_name-at, metric_name-at}
@@ -138,8 +133,7 @@ module _ (ctx : PerRequestAggSegCtx) (node : SegmentCollectorTree) (old : Result
 
       pub composite-ascending : (parent : Option ℕ) (page : List PageEntry)
           → IsPageUnder collector req parent page
-          → IsStrictlySortedBy (tuple_order (rules_of req.req.now.sources))
-          (keys_of (map entry_group page))
+          → IsAscending req.req.now.sources page
       composite-ascending parent page told =
           (told composite_may.meaning.segment (composite_may.meaning.after_at index)
           composite_may.taken composite_may.right.0 composite-right).groups.ascending
@@ -157,7 +151,7 @@ module _ (ctx : PerRequestAggSegCtx) (node : SegmentCollectorTree) (old : Result
       pub composite-added : (parent : Option ℕ) (page : List PageEntry)
           → IsPageUnder collector req parent page
           → (c : IntermediateCompositeBucketResult)
-          → Holds ctx (held_of child.value) req.req.now.sources req.size page c
+          → HoldsPage ctx (held_of child.value) req.req.now.sources req.size page c
           → (new : Results) → new ≡ put req.name (as_composite c) old
           → Adds ctx (held_of node) parent old new
       composite-added parent page told c holds new put_is =

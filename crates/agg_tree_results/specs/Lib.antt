@@ -1,3 +1,4 @@
+pub mod Entries
 pub mod Names
 pub mod Pages
 pub mod Results

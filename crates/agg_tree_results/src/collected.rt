@@ -1,5 +1,5 @@
 //! What a collector has of a parent, and of none: nothing.
-ghost use Rattle.std.specs.Prelude.{◌≡◌, [], ℕ, List, Bool, IfOk, filter, length, true};
+ghost use Rattle.std.specs.Prelude.{◌≡◌, [], ℕ, List, Bool, IfOk, Some, filter, length, true};
 ghost use Rattle.agg_values.specs.Names.{Named};
 ghost use Rattle.agg_values.specs.declared.after_key.AfterKey.{AfterKey};
 ghost use Rattle.agg_segment.specs.Segment.{Stored, documents_at};
@@ -59,6 +59,20 @@ pub fn bucket_under(
         Some(parent) => (collector.doc_count(parent), collector.bucket_id(parent)),
         None => (0, None),
     }
+}
+
+/// The page of a parent's documents, where the collector ends.
+pub fn page_at_end(
+    collector: SegmentCompositeCollector<HighCardSubAggCache>,
+    req: &CompositeAggReqData<'_>,
+    parent: BucketId,
+) -> Result<ItemList<PageEntry>, OutOfMemory>
+    requires fits { (segment : Stored) × (after : Named AfterKey) × Fits segment after req.now }
+    requires visited { (visited : List TypedVisit) × (given : List (ℕ × ℕ))
+        × CompositeFor waiting_in req.now collector visited given }
+    ensures { IfOk result (IsPageUnder collector req.now (Some parent)) }
+{
+    collector.into_page(parent, req)
 }
 
 /// The page of a parent's documents, and of none without a parent.

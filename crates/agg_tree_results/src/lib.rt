@@ -2,9 +2,11 @@
 #![tactic(auto)]
 
 mod collected;
+mod ending;
 mod laws;
 mod made;
 mod results;
 
+pub use ending::into_results;
 pub use laws::a_tree_has_the_names_of_its_request;
 pub use results::add_results;

@@ -1,7 +1,8 @@
 //! The intermediate results of a tree of collectors for a parent.
-ghost use Rattle.std.specs.Prelude.{◌≡◌, [], ℕ, List, OnOk, Some};
+ghost use Rattle.std.specs.Prelude.{◌≡◌, [], ℕ, List, IfOk, OnOk, Some};
 ghost use Rattle.agg_segment_context.specs.Context.{IsMeant, Meaning};
 ghost use Rattle.agg_collector_tree.specs.Tree.{Fits, IsFlushed, IsFor, held_of};
+ghost use Rattle.agg_tree_results.specs.Entries.{HoldsPage, IsAscending};
 ghost use Rattle.agg_tree_results.specs.Names.{HasNamesApart, names_of};
 ghost use Rattle.agg_tree_results.specs.Results.{Adds, GroupStands, HasOnlyMore, HoldsAll};
 ghost use Rattle.agg_tree_results.specs.Results.{HoldsNone, IsSameBut, MayAdd, NodeStands};
@@ -10,9 +11,14 @@ use crate::collected::{bucket_under, metric_under, page_under};
 use crate::made::{add_last, empty_page, filter_result, page_result, put_result};
 use agg_cache::BucketId;
 use agg_collector_tree::SegmentCollectorTree;
-use agg_results::{IntermediateAggregationResult, IntermediateAggregationResults};
+use agg_composite::{CompositeAggReqData, PageEntry};
+use agg_freeing::FreeingIter;
+use agg_results::{
+    IntermediateAggregationResult, IntermediateAggregationResults,
+    IntermediateCompositeBucketResult,
+};
 use agg_segment_context::PerRequestAggSegCtx;
-use agg_values::OutOfMemory;
+use agg_values::{ItemList, OutOfMemory};
 use std::alloc::Global;
 
 /// Adds the results of the aggregations at the top of a tree for a parent, each under its name:
@@ -46,7 +52,8 @@ pub fn add_results(
 }
 
 // The same for a parent, or over no documents without one.
-fn add_results_under(
+#[cycle(add)]
+pub(crate) fn add_results_under(
     alloc: Global,
     node: &SegmentCollectorTree<'_>,
     ctx: &PerRequestAggSegCtx<'_>,
@@ -60,14 +67,8 @@ fn add_results_under(
     match node {
         SegmentCollectorTree::Composite(index, collector, child) => {
             let req = &ctx.composite_req_data.as_slice()[*index];
-            let mut buckets = empty_page(alloc, req)?;
-            let entries = page_under(alloc, collector, req, parent)?.into_vec();
-            buckets.reserve(entries.len())?;
-            for entry in entries {
-                let mut below = IntermediateAggregationResults::new(alloc);
-                add_results_under(alloc, child, ctx, &mut below, Some(entry.bucket_id))?;
-                add_last(&mut buckets, entry, below)?;
-            }
+            let page = page_under(alloc, collector, req, parent)?;
+            let buckets = buckets_of(alloc, page, child, ctx, req)?;
             put_result(alloc, results, &req.name, page_result(buckets))
         }
         SegmentCollectorTree::Filter(index, collector, child) => {
@@ -89,4 +90,29 @@ fn add_results_under(
             Ok(())
         }
     }
+}
+
+// The entries of a page, each with the results below it.
+#[cycle(add)]
+pub(crate) fn buckets_of(
+    alloc: Global,
+    page: ItemList<PageEntry>,
+    child: &SegmentCollectorTree<'_>,
+    ctx: &PerRequestAggSegCtx<'_>,
+    req: &CompositeAggReqData<'_>,
+) -> Result<IntermediateCompositeBucketResult, OutOfMemory>
+    requires below { MayAdd ctx.now (held_of child.now) [] }
+    requires ascending { IsAscending req.now.req.now.sources page }
+    ensures { IfOk result (HoldsPage ctx.now (held_of child.now) req.now.req.now.sources
+        req.now.size page) }
+{
+    let mut buckets = empty_page(alloc, req)?;
+    let entries = page.into_vec();
+    buckets.reserve(entries.len())?;
+    for entry in FreeingIter::new(entries) {
+        let mut below = IntermediateAggregationResults::new(alloc);
+        add_results_under(alloc, child, ctx, &mut below, Some(entry.bucket_id))?;
+        add_last(&mut buckets, entry, below)?;
+    }
+    Ok(buckets)
 }

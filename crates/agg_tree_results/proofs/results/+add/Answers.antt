@@ -1,38 +1,89 @@
-use Rattle.std.proofs.Common.{◌≡◌, ℕ, Some, refl, sym, ap, ◌∙◌, subst, arith}
+use Rattle.std.proofs.Common.{◌≡◌, ℕ, [], ◌∷◌, ◌++◌, Some, refl, sym, ap, ◌∙◌, subst, arith}
 use Rattle.std.proofs.Common.{rules}
 use Rattle.std.specs.Prelude.{slice_get}
-use Rattle.std.proofs.lemmas.List.{nil_from_length}
 use Rattle.std.proofs.lemmas.Result.{on_ok_weaker}
 use Rattle.agg_values.specs.Names.{put}
 use Rattle.agg_collector_tree.specs.Tree.{held_of}
 use Rattle.agg_collector_tree.specs.declared.tree.SegmentCollectorTree.{the_lemmas}
-use Rattle.agg_tree_results.specs.Results.{GroupStands}
+use Rattle.agg_tree_results.specs.Entries.{HoldsPage}
+use Rattle.agg_tree_results.specs.Results.{GroupStands, MayAdd}
 use Rattle.agg_tree_results.proofs.GroupAdds.{all-added, next-added, next-may}
-use Rattle.agg_tree_results.proofs.HeldEntries.{Holds, holds-below, holds-more, holds-none}
+use Rattle.agg_tree_results.proofs.HeldEntries.{holds-below, holds-more, holds-none}
 use Rattle.agg_tree_results.proofs.NodeAdds.{composite-absent, composite-added, composite-ascending}
 use Rattle.agg_tree_results.proofs.NodeAdds.{composite-below, composite-fits}
 use Rattle.agg_tree_results.proofs.NodeAdds.{composite-visited, composite-within, filter-absent}
 use Rattle.agg_tree_results.proofs.NodeAdds.{filter-added, filter-below, filter-within, found-at}
 use Rattle.agg_tree_results.proofs.NodeAdds.{metric-absent, metric-added, metric-within}
 use Rattle.agg_tree_results.proofs.YieldedItems.{all-yielded, next-split, next-yielded}
-use Rattle.agg_tree_results.proofs.results.+add_results_under.Goals as goal
-use Rattle.agg_tree_results.proofs.results.+add_results_under.Goals.{After-into_iter-entry-iterator}
-use Rattle.agg_tree_results.proofs.results.+add_results_under.Goals.{In_ok-buckets-in-Composite}
+use Rattle.agg_tree_results.proofs.results.+add.Goals as goal
+use Rattle.agg_tree_results.proofs.results.+add.Goals.{add_results_under-After-index-as_slice-index}
+
+-- ---- a page
+
+pub buckets_of-loop-entry-init : goal.buckets_of-loop-entry-init
+buckets_of-loop-entry-init t c = record {
+  gone = [];
+  split = sym (c.into_iter-entry-iterator.ensures.into_iter_gives ∙ c.new-entry-items.ensures
+      ∙ c.into_vec-entries.ensures);
+  holds = holds-none c.args.ctx.now (held_of c.args.child.now) c.args.req.now.req.now.sources
+      c.args.req.now.size c.reserve.new.self (c.reserve.ensures ∙ c.in_ok-buckets.ensures);
+}
+
+pub buckets_of-add_results_under-requires : goal.buckets_of-add_results_under-requires
+buckets_of-add_results_under-requires t c = (
+  search (rules, the_lemmas),
+  subst (MayAdd c.args.ctx.now (held_of c.args.child.now)) (sym c.new-below.ensures)
+      c.requires.below,
+)
+
+pub buckets_of-add_last-requires : goal.buckets_of-add_last-requires
+buckets_of-add_last-requires t c =
+    let req = c.args.req.now in
+    let so_far = c.loop-entry.invariant in
+    holds-below c.args.ctx.now (held_of c.args.child.now) req.req.now.sources req.size so_far.gone
+    c.loop-entry.buckets so_far.holds c.args.page c.in-Some.entry c.next.new.self
+    (next-split c.args.page so_far.gone c.loop-entry.entry-iterator so_far.split c.in-Some.entry
+    c.next.new.self c.in-Some.ensures.steps) c.requires.ascending
+
+pub buckets_of-loop-entry-preserved : goal.buckets_of-loop-entry-preserved
+buckets_of-loop-entry-preserved t c =
+    let req = c.args.req.now in
+    let so_far = c.loop-entry.invariant in
+    record {
+      gone = so_far.gone ++ c.in-Some.entry ∷ [];
+      split = next-yielded c.args.page so_far.gone c.loop-entry.entry-iterator so_far.split
+          c.in-Some.entry c.next.new.self c.in-Some.ensures.steps;
+      holds = holds-more c.args.ctx.now (held_of c.args.child.now) req.req.now.sources req.size
+          so_far.gone c.loop-entry.buckets so_far.holds c.in-Some.entry
+          c.add_results_under.new.results c.add_last.new.buckets
+          (c.in_ok-add_results_under.ensures.all c.new-below.ensures) c.in_ok-add_last.ensures;
+    }
+
+pub buckets_of-returns : goal.buckets_of-returns
+buckets_of-returns t c =
+    let req = c.args.req.now in
+    let so_far = c.loop-entry.invariant in
+    subst (λ page. HoldsPage c.args.ctx.now (held_of c.args.child.now) req.req.now.sources req.size
+    page c.loop-entry.buckets)
+    (all-yielded c.args.page so_far.gone c.loop-entry.entry-iterator so_far.split
+    c.in-None.ensures.steps.0) so_far.holds
 
 -- ---- a composite
 
-pub bounds-as_slice-index : goal.bounds-as_slice-index
-bounds-as_slice-index t c =
+pub add_results_under-bounds-as_slice-index : goal.add_results_under-bounds-as_slice-index
+add_results_under-bounds-as_slice-index t c =
     composite-within c.args.ctx.now c.args.node.now c.args.results.now.results c.requires
     c.in-Composite.index c.in-Composite.collector c.in-Composite.child c.in-Composite.is
     c.as_slice.result.now c.as_slice.ensures
 
-pub offset_bounds-as_slice-index : goal.offset_bounds-as_slice-index
-offset_bounds-as_slice-index t c =
-    let within = bounds-as_slice-index t c in omega (arith, within, c.as_slice.type_inv.1)
+pub add_results_under-offset_bounds-as_slice-index :
+    goal.add_results_under-offset_bounds-as_slice-index
+add_results_under-offset_bounds-as_slice-index t c =
+    let within = add_results_under-bounds-as_slice-index t c in
+    omega (arith, within, c.as_slice.type_inv.1)
 
 -- its data is found at its index
-found : (t : ℕ) (c : In_ok-buckets-in-Composite t)
+found : (t : ℕ) (c : add_results_under-After-index-as_slice-index t)
     → slice_get c.args.ctx.now.composite_req_data c.in-Composite.index
     ≡ Some c.index-as_slice-index.result
 found t c =
@@ -42,125 +93,86 @@ found t c =
     c.in-Composite.index c.in-Composite.collector c.in-Composite.child c.in-Composite.is
     c.as_slice.result.now c.as_slice.ensures) c.index-as_slice-index.is
 
-pub page_under-requires-clause-fits : goal.page_under-requires-clause-fits
-page_under-requires-clause-fits t c =
+pub add_results_under-page_under-requires-clause-fits :
+    goal.add_results_under-page_under-requires-clause-fits
+add_results_under-page_under-requires-clause-fits t c =
     composite-fits c.args.ctx.now c.args.node.now c.args.results.now.results c.requires
     c.in-Composite.index c.in-Composite.collector c.in-Composite.child c.in-Composite.is
     c.index-as_slice-index.result (found t c)
 
-pub page_under-requires-clause-visited : goal.page_under-requires-clause-visited
-page_under-requires-clause-visited t c =
+pub add_results_under-page_under-requires-clause-visited :
+    goal.add_results_under-page_under-requires-clause-visited
+add_results_under-page_under-requires-clause-visited t c =
     composite-visited c.args.ctx.now c.args.node.now c.args.results.now.results c.requires
     c.in-Composite.index c.in-Composite.collector c.in-Composite.child c.in-Composite.is
     c.index-as_slice-index.result (found t c)
 
--- its entries are gone over
-entries-are : (t : ℕ) (c : After-into_iter-entry-iterator t)
-    → c.in_ok-page_under-in-Composite.field-0 ≡ c.into_iter-entry-iterator.result.rest.items
-entries-are t c =
-    sym (c.into_iter-entry-iterator.ensures.into_iter_gives.0 ∙ c.into_vec-entries.ensures)
+pub add_results_under-buckets_of-requires : goal.add_results_under-buckets_of-requires
+add_results_under-buckets_of-requires t c =
+    let turn = (goal.at.add_results_under-buckets_of-requires t c).After-index-as_slice-index in (
+      search (rules, the_lemmas),
+      (
+        composite-below c.args.ctx.now c.args.node.now c.args.results.now.results c.requires
+            c.in-Composite.index c.in-Composite.collector c.in-Composite.child c.in-Composite.is
+            c.deref.result.now [] c.deref.ensures refl,
+        composite-ascending c.args.ctx.now c.args.node.now c.args.results.now.results c.requires
+            c.in-Composite.index c.in-Composite.collector c.in-Composite.child c.in-Composite.is
+            c.index-as_slice-index.result (found t turn) c.args.parent
+            c.in_ok-page-in-Composite.page c.in_ok-page-in-Composite.ensures,
+      ),
+    )
 
-pub loop-entry-init : goal.loop-entry-init
-loop-entry-init t c = record {
-  holds = holds-none c.args.ctx.now (held_of c.in-Composite.child.value)
-      c.index-as_slice-index.result.req.now.sources c.index-as_slice-index.result.size
-      c.reserve.new.self (c.reserve.ensures ∙ c.in_ok-buckets-in-Composite.ensures);
-  rest = refl;
-}
-
-pub add_results_under-requires : goal.add_results_under-requires
-add_results_under-requires t c = (
-  search (rules, the_lemmas),
-  composite-below c.args.ctx.now c.args.node.now c.args.results.now.results c.requires
-      c.in-Composite.index c.in-Composite.collector c.in-Composite.child c.in-Composite.is
-      c.deref.result.now c.new-below.result.results c.deref.ensures c.new-below.ensures,
-)
-
-pub add_last-requires : goal.add_last-requires
-add_last-requires t c =
-    let turn = (goal.at.add_last-requires t c).In_ok-buckets-in-Composite in
-    let start = (goal.at.add_last-requires t c).After-into_iter-entry-iterator in
-    let req = c.index-as_slice-index.result in
-    holds-below c.args.ctx.now (held_of c.in-Composite.child.value) req.req.now.sources req.size
-    c.loop-entry.yielded c.loop-entry.buckets c.loop-entry.invariant.holds
-    c.in_ok-page_under-in-Composite.field-0 c.in-Some.entry c.next.new.self.rest.items
-    (next-split c.in_ok-page_under-in-Composite.field-0 c.loop-entry.yielded
-    c.loop-entry.entry-iterator.rest.items (entries-are t start ∙ c.loop-entry.invariant.rest)
-    c.in-Some.entry c.next.new.self.rest.items c.in-Some.ensures.steps.0)
-    (composite-ascending c.args.ctx.now c.args.node.now c.args.results.now.results c.requires
-    c.in-Composite.index c.in-Composite.collector c.in-Composite.child c.in-Composite.is req
-    (found t turn) c.args.parent c.in_ok-page_under-in-Composite.field-0
-    c.in_ok-page_under-in-Composite.ensures)
-
-pub loop-entry-preserved : goal.loop-entry-preserved
-loop-entry-preserved t c = record {
-  holds =
-      let adds = c.in_ok-add_results_under-in-Composite.ensures in
-      let same = c.deref.ensures in
-      holds-more c.args.ctx.now (held_of c.in-Composite.child.value)
-      c.index-as_slice-index.result.req.now.sources c.index-as_slice-index.result.size
-      c.loop-entry.yielded c.loop-entry.buckets c.loop-entry.invariant.holds c.in-Some.entry
-      c.add_results_under.new.results c.add_last.new.buckets
-      (subst (λ b. GroupStands c.args.ctx.now (held_of b) (Some c.in-Some.entry.bucket_id)
-      c.add_results_under.new.results.results) same (adds.all c.new-below.ensures))
-      c.in_ok-add_last-in-Composite.ensures;
-  rest = next-yielded c.into_iter-entry-iterator.result.rest.items c.loop-entry.yielded
-      c.loop-entry.entry-iterator.rest.items c.loop-entry.invariant.rest c.in-Some.entry
-      c.next.new.self.rest.items c.in-Some.ensures.steps.0;
-}
-
-pub put_result-requires : goal.put_result-requires
-put_result-requires t c =
-    let turn = (goal.at.put_result-requires t c).In_ok-buckets-in-Composite in
+pub add_results_under-put_result-requires : goal.add_results_under-put_result-requires
+add_results_under-put_result-requires t c =
+    let turn = (goal.at.add_results_under-put_result-requires t c).After-index-as_slice-index in
     composite-absent c.args.ctx.now c.args.node.now c.args.results.now.results c.requires
     c.in-Composite.index c.in-Composite.collector c.in-Composite.child c.in-Composite.is
     c.index-as_slice-index.result (found t turn)
 
-pub returns-in-None : goal.returns-in-None
-returns-in-None t c =
-    let turn = (goal.at.returns-in-None t c).In_ok-buckets-in-Composite in
-    let start = (goal.at.returns-in-None t c).After-into_iter-entry-iterator in
+pub add_results_under-returns-in_ok-buckets-in-Composite :
+    goal.add_results_under-returns-in_ok-buckets-in-Composite
+add_results_under-returns-in_ok-buckets-in-Composite t c =
+    let turn =
+    (goal.at.add_results_under-returns-in_ok-buckets-in-Composite t c).After-index-as_slice-index in
     let req = c.index-as_slice-index.result in
+    let page = c.in_ok-page-in-Composite.page in
+    let buckets = c.in_ok-buckets-in-Composite.buckets in
     on_ok_weaker c.put_result.result (λ put_is.
     composite-added c.args.ctx.now c.args.node.now c.args.results.now.results c.requires
     c.in-Composite.index c.in-Composite.collector c.in-Composite.child c.in-Composite.is req
-    (found t turn) c.args.parent c.in_ok-page_under-in-Composite.field-0
-    c.in_ok-page_under-in-Composite.ensures
-    c.loop-entry.buckets
-    (subst (λ page. Holds c.args.ctx.now (held_of c.in-Composite.child.value) req.req.now.sources
-    req.size page c.loop-entry.buckets)
-    (all-yielded c.in_ok-page_under-in-Composite.field-0 c.loop-entry.yielded
-    c.loop-entry.entry-iterator.rest.items (entries-are t start ∙ c.loop-entry.invariant.rest)
-    (nil_from_length c.loop-entry.entry-iterator.rest.items
-    (sym c.loop-entry.entry-iterator.rest.ok.0 ∙ c.in-None.ensures.steps.0)))
-    c.loop-entry.invariant.holds) c.put_result.new.results.results
+    (found t turn) c.args.parent page c.in_ok-page-in-Composite.ensures buckets
+    (subst (λ b. HoldsPage c.args.ctx.now (held_of b) req.req.now.sources req.size page buckets)
+    c.deref.ensures c.in_ok-buckets-in-Composite.ensures) c.put_result.new.results.results
     (put_is ∙ ap (λ v. put req.name v c.args.results.now.results) c.page_result.ensures))
     c.put_result.ensures
 
 -- ---- a filter
 
-pub bounds-as_slice-index-in-Filter : goal.bounds-as_slice-index-in-Filter
-bounds-as_slice-index-in-Filter t c =
+pub add_results_under-bounds-as_slice-index-in-Filter :
+    goal.add_results_under-bounds-as_slice-index-in-Filter
+add_results_under-bounds-as_slice-index-in-Filter t c =
     filter-within c.args.ctx.now c.args.node.now c.args.results.now.results c.requires
     c.in-Filter.index c.in-Filter.collector c.in-Filter.child c.in-Filter.is
     c.as_slice-in-Filter.result.now c.as_slice-in-Filter.ensures
 
-pub offset_bounds-as_slice-index-in-Filter : goal.offset_bounds-as_slice-index-in-Filter
-offset_bounds-as_slice-index-in-Filter t c =
-    let within = bounds-as_slice-index-in-Filter t c in
+pub add_results_under-offset_bounds-as_slice-index-in-Filter :
+    goal.add_results_under-offset_bounds-as_slice-index-in-Filter
+add_results_under-offset_bounds-as_slice-index-in-Filter t c =
+    let within = add_results_under-bounds-as_slice-index-in-Filter t c in
     omega (arith, within, c.as_slice-in-Filter.type_inv.1)
 
-pub add_results_under-requires-in-Filter : goal.add_results_under-requires-in-Filter
-add_results_under-requires-in-Filter t c = (
+pub add_results_under-add_results_under-requires : goal.add_results_under-add_results_under-requires
+add_results_under-add_results_under-requires t c = (
   search (rules, the_lemmas),
   filter-below c.args.ctx.now c.args.node.now c.args.results.now.results c.requires
       c.in-Filter.index c.in-Filter.collector c.in-Filter.child c.in-Filter.is
-      c.deref-in-Filter.result.now c.new-below-in-Filter.result.results c.deref-in-Filter.ensures
-      c.new-below-in-Filter.ensures,
+      c.deref-in-Filter.result.now c.new-below.result.results c.deref-in-Filter.ensures
+      c.new-below.ensures,
 )
 
-pub put_result-requires-in-Filter : goal.put_result-requires-in-Filter
-put_result-requires-in-Filter t c =
+pub add_results_under-put_result-requires-in-Filter :
+    goal.add_results_under-put_result-requires-in-Filter
+add_results_under-put_result-requires-in-Filter t c =
     filter-absent c.args.ctx.now c.args.node.now c.args.results.now.results c.requires
     c.in-Filter.index c.in-Filter.collector c.in-Filter.child c.in-Filter.is
     c.index-as_slice-index-in-Filter.result
@@ -171,9 +183,10 @@ put_result-requires-in-Filter t c =
     c.as_slice-in-Filter.result.now c.as_slice-in-Filter.ensures)
     c.index-as_slice-index-in-Filter.is)
 
-pub returns-in_ok-add_results_under-in-Filter : goal.returns-in_ok-add_results_under-in-Filter
-returns-in_ok-add_results_under-in-Filter t c =
-    let below = c.add_results_under-in-Filter.new.results in
+pub add_results_under-returns-in_ok-add_results_under-in-Filter :
+    goal.add_results_under-returns-in_ok-add_results_under-in-Filter
+add_results_under-returns-in_ok-add_results_under-in-Filter t c =
+    let below = c.add_results_under.new.results in
     let bucket = c.bucket_under-doc_count.result in
     let adds = c.in_ok-add_results_under-in-Filter.ensures in
     on_ok_weaker c.put_result-in-Filter.result (λ put_is.
@@ -188,26 +201,29 @@ returns-in_ok-add_results_under-in-Filter t c =
     c.index-as_slice-index-in-Filter.is) c.args.parent bucket.1 bucket.0
     below c.bucket_under-doc_count.ensures.count c.bucket_under-doc_count.ensures.given
     (subst (λ b. GroupStands c.args.ctx.now (held_of b) bucket.1 below.results)
-    c.deref-in-Filter.ensures (adds.all c.new-below-in-Filter.ensures))
+    c.deref-in-Filter.ensures (adds.all c.new-below.ensures))
     c.put_result-in-Filter.new.results.results
     (put_is ∙ ap (λ v. put c.index-as_slice-index-in-Filter.result.name v
     c.args.results.now.results) c.filter_result.ensures)) c.put_result-in-Filter.ensures
 
 -- ---- a metric
 
-pub bounds-as_slice-index-in-Metric : goal.bounds-as_slice-index-in-Metric
-bounds-as_slice-index-in-Metric t c =
+pub add_results_under-bounds-as_slice-index-in-Metric :
+    goal.add_results_under-bounds-as_slice-index-in-Metric
+add_results_under-bounds-as_slice-index-in-Metric t c =
     metric-within c.args.ctx.now c.args.node.now c.args.results.now.results c.requires
     c.in-Metric.index c.in-Metric.collector c.in-Metric.is c.as_slice-in-Metric.result.now
     c.as_slice-in-Metric.ensures
 
-pub offset_bounds-as_slice-index-in-Metric : goal.offset_bounds-as_slice-index-in-Metric
-offset_bounds-as_slice-index-in-Metric t c =
-    let within = bounds-as_slice-index-in-Metric t c in
+pub add_results_under-offset_bounds-as_slice-index-in-Metric :
+    goal.add_results_under-offset_bounds-as_slice-index-in-Metric
+add_results_under-offset_bounds-as_slice-index-in-Metric t c =
+    let within = add_results_under-bounds-as_slice-index-in-Metric t c in
     omega (arith, within, c.as_slice-in-Metric.type_inv.1)
 
-pub put_result-requires-in-Metric : goal.put_result-requires-in-Metric
-put_result-requires-in-Metric t c =
+pub add_results_under-put_result-requires-in-Metric :
+    goal.add_results_under-put_result-requires-in-Metric
+add_results_under-put_result-requires-in-Metric t c =
     metric-absent c.args.ctx.now c.args.node.now c.args.results.now.results c.requires
     c.in-Metric.index c.in-Metric.collector c.in-Metric.is
     c.index-as_slice-index-in-Metric.result
@@ -217,8 +233,8 @@ put_result-requires-in-Metric t c =
     c.in-Metric.index c.in-Metric.collector c.in-Metric.is c.as_slice-in-Metric.result.now
     c.as_slice-in-Metric.ensures) c.index-as_slice-index-in-Metric.is)
 
-pub returns-in-Metric : goal.returns-in-Metric
-returns-in-Metric t c =
+pub add_results_under-returns-in-Metric : goal.add_results_under-returns-in-Metric
+add_results_under-returns-in-Metric t c =
     on_ok_weaker c.put_result-in-Metric.result (λ put_is.
     metric-added c.args.ctx.now c.args.node.now c.args.results.now.results c.requires
     c.in-Metric.index c.in-Metric.collector c.in-Metric.is
@@ -233,11 +249,12 @@ returns-in-Metric t c =
 
 -- ---- several
 
-pub loop-child-init : goal.loop-child-init
-loop-child-init t c = refl
+pub add_results_under-loop-child-init : goal.add_results_under-loop-child-init
+add_results_under-loop-child-init t c = refl
 
-pub add_results_under-requires-in-loop-child : goal.add_results_under-requires-in-loop-child
-add_results_under-requires-in-loop-child t c = (
+pub add_results_under-add_results_under-requires-in-loop-child :
+    goal.add_results_under-add_results_under-requires-in-loop-child
+add_results_under-add_results_under-requires-in-loop-child t c = (
   search (rules, the_lemmas),
   next-may c.args.ctx.now c.args.node.now c.args.results.now.results c.requires
       c.in-Group.children c.in-Group.is c.deref-child-items.result.now
@@ -245,8 +262,8 @@ add_results_under-requires-in-loop-child t c = (
       c.loop-child-test.true c.child-item.is c.loop-child.results.results c.loop-child.invariant,
 )
 
-pub loop-child-preserved : goal.loop-child-preserved
-loop-child-preserved t c =
+pub add_results_under-loop-child-preserved : goal.add_results_under-loop-child-preserved
+add_results_under-loop-child-preserved t c =
     next-added c.args.ctx.now c.args.node.now c.args.results.now.results c.requires
     c.in-Group.children c.in-Group.is c.deref-child-items.result.now
     c.deref-child-items.ensures.value c.args.parent c.loop-child.child-index c.child-item.result
@@ -254,8 +271,8 @@ loop-child-preserved t c =
     c.add_results_under-in-loop-child.new.results.results
     c.in_ok-add_results_under-in-Group.ensures
 
-pub returns-after-loop-child : goal.returns-after-loop-child
-returns-after-loop-child t c =
+pub add_results_under-returns-after-loop-child : goal.add_results_under-returns-after-loop-child
+add_results_under-returns-after-loop-child t c =
     all-added c.args.ctx.now c.args.node.now c.args.results.now.results c.requires
     c.in-Group.children c.in-Group.is c.deref-child-items.result.now
     c.deref-child-items.ensures.value c.args.parent c.loop-child.child-index
