@@ -24,7 +24,7 @@ use agg_segment_context::{
     AggContextParams, AggregationsSegmentCtx, SetupError, check_paged, segment_context,
 };
 use agg_snapshot::ChargedTree;
-use agg_tree_results::add_results;
+use agg_tree_results::into_results;
 use agg_uncut::{UncutCounts, are_starts_in_range, uncut_lengths};
 use agg_values::{DocId, Steps};
 use std::alloc::Global;
@@ -228,7 +228,13 @@ impl<'s> AggregationSegmentCollector<'s> {
         let ctx = &self.aggregations.per_request;
         self.tree.flush(ctx, limits, steps)?;
         let mut results = IntermediateAggregationResults::new(self.alloc);
-        add_results(self.alloc, self.tree.tree(), ctx, &mut results, 0)?;
+        into_results(
+            self.alloc,
+            self.tree.take_tree(self.alloc),
+            ctx,
+            &mut results,
+            0,
+        )?;
         Ok(results)
     }
 

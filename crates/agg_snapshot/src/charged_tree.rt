@@ -130,11 +130,13 @@ impl<'s> ChargedTree<'s> {
         self.take(Call::Flush, ctx, limits, steps)
     }
 
-    /// The tree.
-    pub fn tree(&self) -> &SegmentCollectorTree<'s>
-        ensures { result.now ≡ self.now.tree }
+    /// Takes the tree out, which leaves one without nodes. What is charged for it stays charged.
+    pub fn take_tree(&mut self, alloc: Global) -> SegmentCollectorTree<'s>
+        ensures tree { result ≡ self.old.tree }
+        ensures fixed { self.new.fixed ≡ self.old.fixed }
+        ensures guard { self.new.guard ≡ self.old.guard }
     {
-        &self.tree
+        mem::replace(&mut self.tree, SegmentCollectorTree::Group(Vec::new(alloc)))
     }
 
     /// The bytes that are charged for it.

@@ -14,7 +14,7 @@ use crate::context::SegmentContext;
 use crate::{ChargedTree, SnapshotError};
 use agg_cache::LimitsLedger;
 use agg_results::IntermediateAggregationResults;
-use agg_tree_results::add_results;
+use agg_tree_results::into_results;
 use agg_values::Steps;
 use std::alloc::Global;
 use std::sync::ledger::Ledger;
@@ -77,6 +77,6 @@ fn tree_results<L: Ledger>(
     tree.take_blocks(&context.docs, ctx, limits, steps)?;
     tree.flush(ctx, limits, steps)?;
     let mut results = IntermediateAggregationResults::new(alloc);
-    add_results(alloc, tree.tree(), ctx, &mut results, 0)?;
+    into_results(alloc, tree.take_tree(alloc), ctx, &mut results, 0)?;
     Ok(results)
 }

@@ -98,8 +98,8 @@ returns-in_err-flush-clause-cause g c = λ request query segment ready.
     c.in_ok-take_blocks.ensures.takes c.in_ok-take_blocks.ensures.charges error
     c.in_err-flush.ensures.cause)
 
-pub add_results-requires-clause-right : goal.add_results-requires-clause-right
-add_results-requires-clause-right g c =
+pub into_results-requires-clause-right : goal.into_results-requires-clause-right
+into_results-requires-clause-right g c =
     let ready = c.requires.ready.3 in
     let ctx = c.args.context.now.aggregations.per_request in
     let docs = c.deref.result.now in
@@ -113,39 +113,40 @@ add_results-requires-clause-right g c =
       now.0,
       now.1.context.meant,
       subst (λ (t : SegmentCollectorTree).
-          IsFor ready.each.0.meaning ctx (held_of t) (under 0 docs) now.0) (sym c.tree.ensures)
-          now.1.right,
+          IsFor ready.each.0.meaning ctx (held_of t) (under 0 docs) now.0)
+          (sym c.take_tree.ensures.tree) now.1.right,
     )
 
-pub add_results-requires-clause-apart : goal.add_results-requires-clause-apart
-add_results-requires-clause-apart g c =
+pub into_results-requires-clause-apart : goal.into_results-requires-clause-apart
+into_results-requires-clause-apart g c =
     let ctx = c.args.context.now.aggregations.per_request in
-    subst (λ (t : SegmentCollectorTree). HasNamesApart ctx (held_of t)) (sym c.tree.ensures)
+    subst (λ (t : SegmentCollectorTree). HasNamesApart ctx (held_of t))
+    (sym c.take_tree.ensures.tree)
     (apart-flushed c.requires.ready.0 c.requires.ready.1 c.requires.ready.2 c.args.context.now
     c.requires.ready.3 c.deref.result.now c.deref.ensures.value (held_of c.args.tree.now.tree)
     (held_of c.take_blocks.new.self.tree) c.args.steps.now c.take_blocks.new.steps
     c.requires.made.new c.in_ok-take_blocks.ensures.takes (held_of c.flush.new.self.tree)
     c.flush.new.steps c.in_ok-flush.ensures.takes)
 
-pub returns-in_err-add_results-clause-results : goal.returns-in_err-add_results-clause-results
-returns-in_err-add_results-clause-results g c = λ request query segment ready.
-    let at = goal.at.returns-in_err-add_results-clause-results g c in
+pub returns-in_err-into_results-clause-results : goal.returns-in_err-into_results-clause-results
+returns-in_err-into_results-clause-results g c = λ request query segment ready.
+    let at = goal.at.returns-in_err-into_results-clause-results g c in
     answers-failed request (matching_in query (segment ∷ [])) c.args.steps.now
-    c.flush.new.steps c.from_residual-in_err-add_results.result
+    c.flush.new.steps c.from_residual-in_err-into_results.result
     (few g at.After-flush request query segment ready)
-    c.from_residual-in_err-add_results.ensures.0
+    c.from_residual-in_err-into_results.ensures.0
 
 pub returns-clause-results : goal.returns-clause-results
 returns-clause-results g c = λ request query segment ready.
     let ctx = c.args.context.now.aggregations.per_request in
-    let results = c.add_results.new.results in
+    let results = c.into_results.new.results in
     answers-flushed request query segment c.args.context.now ready c.deref.result.now
     c.deref.ensures.value (held_of c.args.tree.now.tree) (held_of c.take_blocks.new.self.tree)
     c.args.steps.now c.take_blocks.new.steps c.requires.made.new
     c.in_ok-take_blocks.ensures.takes (held_of c.flush.new.self.tree) c.flush.new.steps
     c.in_ok-flush.ensures.takes results
     (subst (λ (t : SegmentCollectorTree). GroupStands ctx (held_of t) (Some 0) results.results)
-    c.tree.ensures (c.in_ok-add_results.ensures.all c.new-results.ensures))
+    c.take_tree.ensures.tree (c.in_ok-into_results.ensures.all c.new-results.ensures))
     c.in_ok-flush.ensures.most
 
 pub returns-clause-room : goal.returns-clause-room

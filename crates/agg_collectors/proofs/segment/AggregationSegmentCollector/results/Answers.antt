@@ -31,37 +31,38 @@ pub returns-in_err-flush-clause-most : goal.returns-in_err-flush-clause-most
 returns-in_err-flush-clause-most g c =
     few-flushed c.args.self.now c.args.steps.now c.flush.new.steps c.flush.ensures.most
 
-pub add_results-requires-clause-right : goal.add_results-requires-clause-right
-add_results-requires-clause-right g c =
+pub into_results-requires-clause-right : goal.into_results-requires-clause-right
+into_results-requires-clause-right g c =
     let r = right-usable c.args.self.now c.requires.usable c.if-self.false in
     let now = right-flushed r.0 r.1 r.2 r.3 c.args.self.now r.4 (held_of c.flush.new.self.tree)
     c.args.steps.now c.flush.new.steps c.in_ok-flush.ensures.takes in
-    rw (c.tree.ensures) (r.4.meaning, under 0 r.2, now.0, now.1.context.meant, now.1.right)
+    rw (c.take_tree.ensures.tree)
+    (r.4.meaning, under 0 r.2, now.0, now.1.context.meant, now.1.right)
 
-pub add_results-requires-clause-fits : goal.add_results-requires-clause-fits
-add_results-requires-clause-fits g c =
+pub into_results-requires-clause-fits : goal.into_results-requires-clause-fits
+into_results-requires-clause-fits g c =
     let r = right-usable c.args.self.now c.requires.usable c.if-self.false in
-    rw (c.tree.ensures) (c.in_ok-flush.ensures.takes.fits r.4.right.fits)
+    rw (c.take_tree.ensures.tree) (c.in_ok-flush.ensures.takes.fits r.4.right.fits)
 
-pub add_results-requires-clause-apart : goal.add_results-requires-clause-apart
-add_results-requires-clause-apart g c =
+pub into_results-requires-clause-apart : goal.into_results-requires-clause-apart
+into_results-requires-clause-apart g c =
     let r = right-usable c.args.self.now c.requires.usable c.if-self.false in
-    rw (c.tree.ensures)
+    rw (c.take_tree.ensures.tree)
     (apart-flushed r.0 r.1 r.2 r.3 c.args.self.now r.4 (held_of c.flush.new.self.tree)
     c.args.steps.now c.flush.new.steps c.in_ok-flush.ensures.takes)
 
-pub returns-in_err-add_results-clause-most : goal.returns-in_err-add_results-clause-most
-returns-in_err-add_results-clause-most g c =
+pub returns-in_err-into_results-clause-most : goal.returns-in_err-into_results-clause-most
+returns-in_err-into_results-clause-most g c =
     few-flushed c.args.self.now c.args.steps.now c.flush.new.steps c.flush.ensures.most
 
 pub returns-clause-ok : goal.returns-clause-ok
 returns-clause-ok g c = λ request segment docs visits right.
     stands-flushed request segment docs visits c.args.self.now right.right
     (held_of c.flush.new.self.tree) c.args.steps.now c.flush.new.steps c.in_ok-flush.ensures.takes
-    c.add_results.new.results.results
+    c.into_results.new.results.results
     (subst (λ t. GroupStands c.args.self.now.aggregations.per_request (held_of t) (Some 0)
-    c.add_results.new.results.results) c.tree.ensures
-    (c.in_ok-add_results.ensures.all c.new-results.ensures))
+    c.into_results.new.results.results) c.take_tree.ensures.tree
+    (c.in_ok-into_results.ensures.all c.new-results.ensures))
 
 pub returns-clause-room : goal.returns-clause-room
 returns-clause-room g c = record {
