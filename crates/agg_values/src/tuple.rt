@@ -6,24 +6,32 @@ ghost use Rattle.std.specs.Hash.{items_Alike};
 ghost use Rattle.agg_values.specs.KeyLaws.equality as equality;
 ghost use Rattle.agg_values.specs.KeyLaws.hashes as hashes;
 
-use crate::{CompositeIntermediateKey, OutOfMemory, room};
+use crate::{CompositeIntermediateKey, OutOfMemory};
 use std::alloc::Global;
 use std::hash::{Hash, Hasher};
 use std::marker::Model;
+use std::{mem, slice};
 
-/// A list of keys, one for each source of a composite.
+/// A list of keys, one for each source of a composite. One key alone takes no memory of its own.
 #[derive(Debug, Drop)]
 pub struct Tuple {
-    keys: Vec<CompositeIntermediateKey>,
+    alloc: Global,
+    keys: Keys,
+}
+
+// One key, or any number of them.
+#[derive(Debug, Drop)]
+enum Keys {
+    One(CompositeIntermediateKey),
+    Many(Vec<CompositeIntermediateKey>),
 }
 
 impl Model for Tuple {
-    ghost use Rattle.std.specs.Prelude.{List};
-    ghost use Rattle.agg_values.specs.TypedKey.{CompositeIntermediateKey};
+    ghost use Rattle.agg_values.specs.Tuple.{KeyTuple, key_list};
 
-    ghost Value = { List CompositeIntermediateKey };
+    ghost Value = { KeyTuple };
 
-    ghost view = { λ tuple. tuple.keys.items };
+    ghost view = { λ tuple. key_list tuple.keys };
 }
 
 impl Tuple {
@@ -32,7 +40,8 @@ impl Tuple {
         ensures { result ≡ [] }
     {
         Tuple {
-            keys: Vec::new(alloc),
+            alloc,
+            keys: Keys::Many(Vec::new(alloc)),
         }
     }
 
@@ -40,9 +49,11 @@ impl Tuple {
     pub fn with_capacity(alloc: Global, capacity: usize) -> Result<Tuple, OutOfMemory>
         ensures { IfOk result (λ tuple. tuple ≡ []) }
     {
-        Ok(Tuple {
-            keys: Vec::with_capacity(alloc, capacity)?,
-        })
+        let mut tuple = Tuple::new(alloc);
+        if capacity > 1 {
+            tuple.keys = Keys::Many(Vec::with_capacity(alloc, capacity)?);
+        }
+        Ok(tuple)
     }
 
     /// Appends a key.
@@ -50,21 +61,34 @@ impl Tuple {
         ensures ok { OnOk result (self.new ≡ self.old ++ key ∷ []) }
         ensures err { OnErr result (self.new ≡ self.old) }
     {
-        room::push(&mut self.keys, key)
+        match &mut self.keys {
+            Keys::Many(keys) if keys.capacity() > 0 => keys.push(key)?,
+            Keys::Many(_) => self.keys = Keys::One(key),
+            Keys::One(held) => {
+                let mut keys = Vec::with_capacity(self.alloc, 2)?;
+                keys.push(mem::replace(held, CompositeIntermediateKey::Null))?;
+                keys.push(key)?;
+                self.keys = Keys::Many(keys);
+            }
+        }
+        Ok(())
     }
 
     /// The keys.
     pub fn as_slice(&self) -> &[CompositeIntermediateKey]
         ensures { result.now ≡ self.now }
     {
-        self.keys.as_slice()
+        match &self.keys {
+            Keys::One(key) => slice::from_ref(key),
+            Keys::Many(keys) => keys.as_slice(),
+        }
     }
 
     /// An equal tuple.
     pub fn try_clone(&self, alloc: Global) -> Result<Tuple, OutOfMemory>
         ensures { IfOk result (λ tuple. tuple ≡ self.now) }
     {
-        let mut tuple = Tuple::with_capacity(alloc, self.keys.len())?;
+        let mut tuple = Tuple::with_capacity(alloc, self.as_slice().len())?;
         for key in self.as_slice() {
             tuple.push(key.try_clone(alloc)?)?;
         }

@@ -17,3 +17,23 @@ fn copies_its_keys(rt: HostRuntime) -> Result<(), Fail> {
     assert_eq!(rt; (copy.as_slice().len(), &copy), (2, &tuple));
     Ok(())
 }
+
+#[test]
+fn takes_any_number_of_keys(rt: HostRuntime) -> Result<(), Fail> {
+    for room in 0..4 {
+        let mut tuple = Tuple::with_capacity(rt.alloc(), room)?;
+        for n in 0..3 {
+            tuple.push(CompositeIntermediateKey::I64(n))?;
+            let last = CompositeIntermediateKey::I64(n);
+            assert_eq!(rt;
+                tuple.as_slice().last(),
+                Some(&last),
+                "{n} with room for {room}"
+            );
+        }
+        assert_eq!(rt; tuple.as_slice().len(), 3);
+        let first = CompositeIntermediateKey::I64(0);
+        assert_eq!(rt; tuple.as_slice().first(), Some(&first));
+    }
+    Ok(())
+}
