@@ -1,5 +1,5 @@
 //! What machines hold, as the tables hold it.
-ghost use Rattle.std.specs.Prelude.{◌≡◌, ◌≢◌, [], IfOk, OnOk};
+ghost use Rattle.std.specs.Prelude.{◌≡◌, ◌≢◌, [], IfOk};
 ghost use Rattle.agg_intermediate_results.specs.Intermediate.{entries_of, target_size_of};
 
 use agg_results::{

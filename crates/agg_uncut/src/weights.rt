@@ -4,7 +4,6 @@ ghost use Rattle.std.specs.Prelude.{slice_index};
 ghost use Rattle.std.specs.Io.Iter.{u64_saturate};
 ghost use Rattle.agg_segment.specs.Query.{matches};
 ghost use Rattle.agg_segment.specs.Segment.{Stored, document_at, documents_at, documents_of};
-ghost use Rattle.agg_segment.specs.declared.query.QueryTree.{QueryTree};
 ghost use Rattle.agg_request_tree.specs.Uncut.{uncut};
 ghost use Rattle.agg_uncut.specs.NodeData.{IsDataOf};
 ghost use Rattle.agg_uncut.specs.Uncut.{Asked, own_weights, repeated, times};
