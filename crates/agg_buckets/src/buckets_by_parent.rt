@@ -7,6 +7,7 @@ use crate::bucket::Bucket;
 use crate::page::visit_page;
 use crate::visit_error::VisitError;
 use agg_cache::{BucketId, BucketIdProvider};
+use agg_freeing::FreeingIter;
 use agg_heap_map::LazyHeapMap;
 use agg_values::{DocId, OutOfMemory, Steps};
 use std::alloc::Global;
@@ -150,6 +151,26 @@ impl<S: Ord + Hash> BucketsByParent<S> {
             Some(page) => page.entries_ascending(self.alloc),
             None => Ok(Vec::new(self.alloc)),
         }
+    }
+
+    /// The buckets of a parent with their tuples, ascending: none where it isn't prepared. All
+    /// others are dropped.
+    pub fn into_parent(self, parent: BucketId) -> Result<FreeingIter<(S, Bucket)>, OutOfMemory>
+    where
+        S: Drop,
+        ensures { IfOk result (λ buckets. buckets ≡ get_or self.parents parent []) }
+    {
+        let BucketsByParent {
+            alloc,
+            mut parents,
+            ..
+        } = self;
+        if parents.len() <= parent as usize {
+            return Ok(FreeingIter::new(Vec::new(alloc)));
+        }
+        let page = parents.swap_remove(parent as usize);
+        drop(parents);
+        page.into_ascending()
     }
 
     /// What was visited under ids since this was last forgotten.

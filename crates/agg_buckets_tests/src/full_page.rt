@@ -46,7 +46,17 @@ fn expect_page(
     expected: [(u64, u64, BucketId); 2],
 ) -> Result<(), Fail> {
     let page = buckets.of_parent(parent)?;
-    assert!(rt; page.len() == 2 && buckets.num_buckets(parent) == 2);
+    assert!(rt; buckets.num_buckets(parent) == 2);
+    expect_buckets(rt, &page, expected)
+}
+
+// These are two buckets, of these keys, counts and ids.
+fn expect_buckets(
+    rt: &impl Abort,
+    page: &[(Tuple, Bucket)],
+    expected: [(u64, u64, BucketId); 2],
+) -> Result<(), Fail> {
+    assert!(rt; page.len() == 2);
     for (entry, (key, count, id)) in page.iter().zip(expected) {
         assert!(rt; entry_of(&entry.0, &entry.1) == (Some(key), count, id));
     }
@@ -90,7 +100,8 @@ fn expect_parents<L: Ledger>(
     assert!(rt; buckets.pushes() == [(1, 1), (2, 2)].as_slice());
     buckets.clear_pushes();
     assert!(rt; buckets.pushes().is_empty());
-    Ok(())
+    let page: Vec<(Tuple, Bucket)> = buckets.into_parent(1)?.collect(rt.alloc())?;
+    expect_buckets(rt, &page, [(5, 1, 2), (6, 1, 1)])
 }
 
 fn expect_over<L: Ledger>(rt: &(impl Abort + AllocGlobal), blank: Blank) -> Result<(), Fail>

@@ -1,4 +1,4 @@
-ghost use Rattle.std.specs.Prelude.{◌≡◌};
+ghost use Rattle.std.specs.Prelude.{◌≡◌, length};
 
 use std::marker::Model;
 
@@ -28,6 +28,13 @@ impl<T> FreeingIter<T> {
         let mut last_first = items;
         last_first.reverse();
         FreeingIter { last_first }
+    }
+
+    /// How many items are still to come.
+    pub fn len(&self) -> usize
+        ensures { result ≡ length self.now }
+    {
+        self.last_first.len()
     }
 }
 

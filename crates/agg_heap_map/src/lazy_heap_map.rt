@@ -3,11 +3,14 @@ ghost use Rattle.std.specs.Prelude.{◌≡◌, ◌≤◌, ◌+◌, [], None, IfO
 ghost use Rattle.std.specs.Prelude.{true};
 ghost use Rattle.std.specs.BTreeMap.{insert_entry, is_at};
 ghost use Rattle.std.specs.Borrow.{sem};
+ghost use Rattle.std.specs.List.{IsDistinct};
 ghost use Rattle.std.specs.List.Sorted.{IsStrictlySortedBy};
 ghost use Rattle.std.specs.Map.{keys_of, lookup};
 ghost use Rattle.std.specs.Option.{option_copied_mut};
+ghost use Rattle.agg_heap_map.specs.EntryOrder.{ascending};
 
 use crate::map_and_heap::{evict_above, made_heap, put_cloned};
+use agg_freeing::FreeingIter;
 use agg_values::{OutOfMemory, Steps};
 use std::alloc::Global;
 use std::collections::{BinaryHeap, HashMap};
@@ -143,9 +146,43 @@ impl<S: Ord + Hash, V> LazyHeapMap<S, V> {
         ensures ordered { IfOk result (λ _. IsStrictlySortedBy S.cmp (keys_of self.now)) }
     {
         let mut entries = copies_of(alloc, &self.map)?;
-        entries.sort_unstable_by(|left, right| left.0.cmp(&right.0));
+        sort(&mut entries);
         Ok(entries)
     }
+
+    /// The entries of a map that ends, in the order of their keys. The table of its keys is dropped
+    /// before they are sorted.
+    pub fn into_ascending(self) -> Result<FreeingIter<(S, V)>, OutOfMemory>
+    where
+        S: Drop,
+        V: Drop,
+        ensures { IfOk result (λ entries. entries ≡ self) }
+    {
+        let LazyHeapMap {
+            alloc,
+            map,
+            heap,
+            ..
+        } = self;
+        drop(heap);
+        let mut entries = entries_of(alloc, map)?;
+        sort(&mut entries);
+        Ok(FreeingIter::new(entries))
+    }
+}
+
+// The entries of a hash map.
+fn entries_of<S: Eq + Hash + Drop, V: Drop>(
+    alloc: Global,
+    hash_map: HashMap<S, V>,
+) -> Result<Vec<(S, V)>, OutOfMemory>
+    ensures { IfOk result (λ entries. entries.items ≡ hash_map.entries) }
+{
+    let mut entries = Vec::with_capacity(alloc, hash_map.len())?;
+    for entry in hash_map {
+        entries.push(entry)?;
+    }
+    Ok(entries)
 }
 
 // A copy of the entries of a hash map.
@@ -161,4 +198,12 @@ fn copies_of<S: Eq + Hash + Clone + Drop, V: Copy>(
         entries.push((key.clone()?, *value))?;
     }
     Ok(entries)
+}
+
+// Sorts entries by their keys.
+fn sort<S: Ord + Drop, V: Drop>(entries: &mut Vec<(S, V)>)
+    requires { IsDistinct S.eq (keys_of entries.old.items) }
+    ensures { entries.new.items ≡ ascending S.cmp entries.old.items }
+{
+    entries.sort_unstable_by(|left, right| left.0.cmp(&right.0));
 }

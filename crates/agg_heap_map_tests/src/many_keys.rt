@@ -29,6 +29,12 @@ fn expect_all<L: Ledger>(rt: &(impl Abort + AllocGlobal), blank: Blank) -> Resul
         (entries.first(), entries.last()),
         (Some(&(0, 1)), Some(&(MANY - 1, 1)))
     );
+    let mut rest = map.into_ascending()?;
+    assert_eq!(rt; (rest.len(), rest.next()), (MANY as usize, Some((0, 1))));
+    assert_eq!(rt;
+        (rest.len(), rest.last()),
+        (MANY as usize - 1, Some((MANY - 1, 1)))
+    );
     Ok(())
 }
 
