@@ -1,11 +1,10 @@
 -- The buckets of a parent: the groups of what was visited under it, as the entries of a page.
 use Rattle.std.proofs.Common.{◌≡◌, ◌==◌, ◌++◌, ℕ, zero, suc, Bool, true, false}
 use Rattle.std.proofs.Common.{List, [], ◌∷◌, All}
-use Rattle.std.proofs.Common.{take, map, get_or, append_assoc, refl, sym, ap, ◌∙◌, subst}
+use Rattle.std.proofs.Common.{take, map, append_assoc, refl, sym, ap, ◌∙◌, subst}
 use Rattle.std.specs.Prelude.{if◌then◌else◌}
 use Rattle.std.specs.List.{AllByRecursion, AllZip}
 use Rattle.std.specs.Map.{keys_of}
-use Rattle.std.proofs.lemmas.List.{map-append}
 use Rattle.std.proofs.lemmas.List.Elements.{All-from_recursion, recursion_from_All}
 use Rattle.agg_values.specs.Names.{Named}
 use Rattle.agg_values.specs.Tuple.{KeyTuple}
@@ -24,12 +23,12 @@ use Rattle.agg_buckets.specs.Visits.{Visit}
 use Rattle.agg_buckets.specs.declared.bucket.Bucket.{Bucket}
 use Rattle.agg_buckets.proofs.CutPages.{have-the-cut}
 use Rattle.agg_composite.specs.Composite.{Composite, CompositeFor, page_of}
+use Rattle.agg_composite.specs.EncodedEntries.{encoded_of}
 use Rattle.agg_composite.specs.PageEntries.{decoded_buckets, decoded_groups, entry_bucket}
-use Rattle.agg_composite.specs.PageEntries.{entry_group}
-use Rattle.agg_composite.specs.TupleBuckets.{node_of}
+use Rattle.agg_composite.specs.PageEntries.{IsNext, entry_group, entry_of, page_entries}
 use Rattle.agg_composite.specs.Visits.{StandsForVisit, TypedVisit}
+use Rattle.agg_composite.specs.declared.page_entries.EncodedEntries.{EncodedEntries}
 use Rattle.agg_composite.specs.declared.page_entry.PageEntry.{PageEntry}
-use Rattle.agg_composite.specs.declared.tuple_buckets.TupleBuckets.{TupleBuckets}
 use Rattle.agg_composite.proofs.TypedGroups.{groups-encoded, groups-typed}
 
 -- ---- what was visited under a parent
@@ -106,29 +105,37 @@ module _ (req : CompositeAggReqData) (left rest : Page EncodedTuple) (e : Encode
       (all.0, All-from_recursion (IsEncoded req) (keys_of rest) all.1)
 
   -- an entry more is that of the first
-  pub entries-more : (all : List (KeyTuple × Bucket)) (entries entries_now : List PageEntry)
-      (entry : PageEntry) (t : EncodedTuple)
-      → entries_now ≡ entries ++ entry ∷ []
-      → map entry_bucket entries ++ decoded_buckets req left ≡ all
-      → entry_bucket entry ≡ (decoded req t, e.1) → t ≡ e.0
-      → map entry_bucket entries_now ++ decoded_buckets req rest ≡ all
-  entries-more all entries entries_now entry t pushed so_far one same =
-      ap (λ es. map entry_bucket es ++ decoded_buckets req rest) pushed
-      ∙ ap (λ bs. bs ++ decoded_buckets req rest) (map-append entry_bucket entries (entry ∷ []))
-      ∙ append_assoc (map entry_bucket entries) (entry_bucket entry ∷ []) (decoded_buckets req rest)
-      ∙ ap (λ b. map entry_bucket entries ++ b ∷ decoded_buckets req rest)
-      (one ∙ ap (λ x. (decoded req x, e.1)) same)
-      ∙ ap (λ bs. map entry_bucket entries ++ decoded_buckets req bs) (sym is)
+  pub entries-more : (whole entries entries_now : List PageEntry) (entry : PageEntry)
+      → entries_now ≡ entries ++ entry ∷ [] → entry ≡ entry_of req e
+      → entries ++ page_entries req left ≡ whole → entries_now ++ page_entries req rest ≡ whole
+  entries-more whole entries entries_now entry pushed one so_far =
+      ap (λ es. es ++ page_entries req rest) pushed
+      ∙ append_assoc entries (entry ∷ []) (page_entries req rest)
+      ∙ ap (λ x. entries ++ x ∷ page_entries req rest) one
+      ∙ ap (λ bs. entries ++ page_entries req bs) (sym is)
       ∙ so_far
 
--- the tuples of a parent's buckets stand for tuples, also where the buckets were copied out
-pub parent-encoded : (req : CompositeAggReqData) (parent : ℕ) (buckets known : TupleBuckets)
-    (items : Page EncodedTuple) → buckets ≡ known → items ≡ get_or (node_of known).parents parent []
-    → All (IsEncoded req) (keys_of (get_or (node_of buckets).parents parent []))
-    → All (IsEncoded req) (keys_of items)
-parent-encoded req parent buckets known items same copied =
+-- the tuples of buckets stand for tuples, whatever the room in them
+pub encoded-sized : (req : CompositeAggReqData) (entries known : EncodedEntries)
+    (buckets : Page EncodedTuple) → entries ≡ known → encoded_of entries ≡ buckets
+    → All (IsEncoded req) (keys_of buckets) → All (IsEncoded req) (keys_of (encoded_of known))
+encoded-sized req entries known buckets is seen =
     subst (λ (es : Page EncodedTuple). All (IsEncoded req) (keys_of es))
-    (ap (λ bs. get_or (node_of bs).parents parent []) same ∙ sym copied)
+    (sym seen ∙ ap encoded_of is)
+
+-- the next entry is before those that are left
+pub next-entries : (req : CompositeAggReqData) (old new : Page EncodedTuple) (entry : PageEntry)
+    → IsNext req old new entry → page_entries req old ≡ entry ∷ page_entries req new
+next-entries req old new entry next =
+    ap (page_entries req) next.split ∙ ap (λ x. x ∷ page_entries req new) (sym next.is)
+
+-- the entries of buckets are these buckets, decoded
+pub entries-decoded : (req : CompositeAggReqData) (buckets : Page EncodedTuple)
+    → map entry_bucket (page_entries req buckets) ≡ decoded_buckets req buckets
+entries-decoded req [] = refl
+entries-decoded req (e ∷ buckets) =
+    ap (λ (bs : List (KeyTuple × Bucket)). (decoded req e.0, e.1) ∷ bs)
+    (entries-decoded req buckets)
 
 -- ---- the page of a collector
 

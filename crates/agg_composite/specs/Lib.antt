@@ -2,6 +2,7 @@ pub mod Answers
 pub mod Charged
 pub mod Choices
 pub mod Composite
+pub mod EncodedEntries
 pub mod PageEntries
 pub mod SubResults
 pub mod TupleBuckets

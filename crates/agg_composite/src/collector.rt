@@ -23,8 +23,8 @@ ghost use Rattle.agg_composite.specs.Charged.{more_bytes};
 ghost use Rattle.agg_composite.specs.PageEntries.{decoded_buckets, entry_bucket, entry_group};
 ghost use Rattle.agg_composite.specs.Visits.{AnswersRange, TypedVisit, visits_past};
 
-use crate::PageEntry;
 use crate::tuple_buckets::TupleBuckets;
+use crate::{PageEntries, PageEntry};
 use agg_accessor::CompositeAggReqData;
 use agg_buckets::VisitError;
 use agg_cache::{
@@ -288,35 +288,22 @@ impl<C: SubAggCache> SegmentCompositeCollector<C> {
             ≡ docs_under (rules_of req.now.req.now.sources) parent_bucket_id entry.key visited)
             page) }
     {
-        self.buckets.page(self.alloc, parent_bucket_id, req)
+        self.entries(parent_bucket_id)?.into_list(self.alloc, req)
     }
 
-    /// The same of a collector that ends: the buckets are dropped before the entries are made.
-    pub fn into_page(
-        self,
-        parent_bucket_id: BucketId,
-        req: &CompositeAggReqData<'_>,
-    ) -> Result<ItemList<PageEntry>, OutOfMemory>
-        requires fits { (segment : Stored) × (after : Named AfterKey) × Fits segment after req.now }
-        requires visited { (visited : List TypedVisit) × (given : List (ℕ × ℕ))
-            × CompositeFor C.waiting req.now self visited given }
-        ensures buckets { IfOk result (λ page. map entry_bucket page
-            ≡ decoded_buckets req.now (page_of self parent_bucket_id)) }
-        ensures groups { IfOk result (λ page. (visited : List TypedVisit) (given : List (ℕ × ℕ))
-            → CompositeFor C.waiting req.now self visited given
-            → (groups : List Group)
-            × Groups (rules_of req.now.req.now.sources) (tuples_under parent_bucket_id visited)
-            groups
-            × (map entry_group page ≡ take req.now.size groups)) }
-        ensures handed { IfOk result (λ page. (visited : List TypedVisit) (given : List (ℕ × ℕ))
-            → CompositeFor C.waiting req.now self visited given
-            → self.hands_on ≡ true → ((id : ℕ) → C.waiting self.cache.0 id ≡ [])
-            → All (λ entry. docs_of (is_id entry.bucket_id) given
-            ≡ docs_under (rules_of req.now.req.now.sources) parent_bucket_id entry.key visited)
-            page) }
+    /// The entries of that page, which are made one by one.
+    pub fn entries(&self, parent_bucket_id: BucketId) -> Result<PageEntries, OutOfMemory>
+        ensures { IfOk result (λ entries. entries ≡ page_of self.now parent_bucket_id) }
     {
-        let SegmentCompositeCollector { alloc, buckets, .. } = self;
-        buckets.into_page(alloc, parent_bucket_id, req)
+        self.buckets.entries(parent_bucket_id)
+    }
+
+    /// The same of a collector that ends: all else that it holds is dropped.
+    pub fn into_entries(self, parent_bucket_id: BucketId) -> Result<PageEntries, OutOfMemory>
+        ensures { IfOk result (λ entries. entries ≡ page_of self parent_bucket_id) }
+    {
+        let SegmentCompositeCollector { buckets, .. } = self;
+        buckets.into_entries(parent_bucket_id)
     }
 
     /// How many buckets it holds, of all parents.

@@ -3,7 +3,7 @@
 
 mod collector;
 mod laws;
-mod page;
+mod page_entries;
 mod page_entry;
 mod stored_tuple;
 mod tuple_buckets;
@@ -15,4 +15,5 @@ pub use agg_accessor::{
 };
 pub use collector::SegmentCompositeCollector;
 pub use laws::{caches_give_equal_sub_results, visits_have_the_occurrences};
+pub use page_entries::PageEntries;
 pub use page_entry::PageEntry;

@@ -1,23 +1,20 @@
 //! The buckets of each parent, by tuples of as many keys as a composite has sources.
-ghost use Rattle.std.specs.Prelude.{◌≡◌, ◌≤◌, ◌<◌, [], All, IfOk, OnOk, get_or, length, map};
-ghost use Rattle.std.specs.Prelude.{◌^◌};
+ghost use Rattle.std.specs.Prelude.{◌≡◌, ◌≤◌, ◌<◌, ◌^◌, [], IfOk, OnOk, get_or, length};
 ghost use Rattle.std.specs.List.{sum_by};
-ghost use Rattle.std.specs.Map.{keys_of};
 ghost use Rattle.agg_request_tree.specs.Faults.{max_sources};
-ghost use Rattle.agg_accessor.specs.Decoded.{IsEncoded};
 ghost use Rattle.agg_buckets.specs.Node.{IsNew, Prepares};
 ghost use Rattle.agg_composite.specs.Answers.{AnswersDocuments};
-ghost use Rattle.agg_composite.specs.PageEntries.{decoded_buckets, entry_bucket};
 ghost use Rattle.agg_composite.specs.TupleBuckets.{node_of, room_of};
 
-use crate::PageEntry;
-use crate::page::entries_of;
+use crate::PageEntries;
+use crate::page_entries::EncodedEntries;
 use crate::stored_tuple::StoredTuple;
 use crate::walk::visit_documents;
 use agg_accessor::{CompositeAggReqData, Encoded};
 use agg_buckets::{Bucket, BucketsByParent, VisitError};
 use agg_cache::BucketId;
-use agg_values::{DocId, ItemList, OutOfMemory, Steps};
+use agg_freeing::FreeingIter;
+use agg_values::{DocId, OutOfMemory, Steps};
 use std::alloc::Global;
 use std::sync::ledger::Ledger;
 
@@ -147,54 +144,45 @@ impl TupleBuckets {
         }
     }
 
-    /// The buckets of a parent, ascending, as the entries of a page: none where it isn't prepared.
-    pub fn page(
-        &self,
-        alloc: Global,
-        parent: BucketId,
-        req: &CompositeAggReqData<'_>,
-    ) -> Result<ItemList<PageEntry>, OutOfMemory>
-        requires { All (IsEncoded req.now) (keys_of (get_or (node_of self.now).parents parent [])) }
-        ensures { IfOk result (λ page. map entry_bucket page
-            ≡ decoded_buckets req.now (get_or (node_of self.now).parents parent [])) }
+    /// A copy of the buckets of a parent: none where it isn't prepared.
+    pub fn entries(&self, parent: BucketId) -> Result<PageEntries, OutOfMemory>
+        ensures { IfOk result
+            (λ entries. entries ≡ get_or (node_of self.now).parents parent []) }
     {
-        match self {
-            TupleBuckets::One(buckets) => entries_of(alloc, buckets.of_parent(parent)?, req),
-            TupleBuckets::Two(buckets) => entries_of(alloc, buckets.of_parent(parent)?, req),
-            TupleBuckets::Four(buckets) => entries_of(alloc, buckets.of_parent(parent)?, req),
-            TupleBuckets::Eight(buckets) => entries_of(alloc, buckets.of_parent(parent)?, req),
-            TupleBuckets::Sixteen(buckets) => entries_of(alloc, buckets.of_parent(parent)?, req),
-        }
+        let encoded = match self {
+            TupleBuckets::One(buckets) => EncodedEntries::One(copy_of(buckets, parent)?),
+            TupleBuckets::Two(buckets) => EncodedEntries::Two(copy_of(buckets, parent)?),
+            TupleBuckets::Four(buckets) => EncodedEntries::Four(copy_of(buckets, parent)?),
+            TupleBuckets::Eight(buckets) => EncodedEntries::Eight(copy_of(buckets, parent)?),
+            TupleBuckets::Sixteen(buckets) => EncodedEntries::Sixteen(copy_of(buckets, parent)?),
+        };
+        Ok(PageEntries::new(encoded))
     }
 
-    /// The same where nothing else is kept: all buckets are dropped before the entries are made.
-    pub fn into_page(
-        self,
-        alloc: Global,
-        parent: BucketId,
-        req: &CompositeAggReqData<'_>,
-    ) -> Result<ItemList<PageEntry>, OutOfMemory>
-        requires { All (IsEncoded req.now) (keys_of (get_or (node_of self).parents parent [])) }
-        ensures { IfOk result (λ page. map entry_bucket page
-            ≡ decoded_buckets req.now (get_or (node_of self).parents parent [])) }
+    /// The buckets of a parent, which alone are kept: none where it isn't prepared.
+    pub fn into_entries(self, parent: BucketId) -> Result<PageEntries, OutOfMemory>
+        ensures { IfOk result
+            (λ entries. entries ≡ get_or (node_of self).parents parent []) }
     {
-        match self {
-            TupleBuckets::One(buckets) => entries_of(alloc, only_of(buckets, parent)?, req),
-            TupleBuckets::Two(buckets) => entries_of(alloc, only_of(buckets, parent)?, req),
-            TupleBuckets::Four(buckets) => entries_of(alloc, only_of(buckets, parent)?, req),
-            TupleBuckets::Eight(buckets) => entries_of(alloc, only_of(buckets, parent)?, req),
-            TupleBuckets::Sixteen(buckets) => entries_of(alloc, only_of(buckets, parent)?, req),
-        }
+        let encoded = match self {
+            TupleBuckets::One(buckets) => EncodedEntries::One(buckets.into_parent(parent)?),
+            TupleBuckets::Two(buckets) => EncodedEntries::Two(buckets.into_parent(parent)?),
+            TupleBuckets::Four(buckets) => EncodedEntries::Four(buckets.into_parent(parent)?),
+            TupleBuckets::Eight(buckets) => EncodedEntries::Eight(buckets.into_parent(parent)?),
+            TupleBuckets::Sixteen(buckets) => {
+                EncodedEntries::Sixteen(buckets.into_parent(parent)?)
+            }
+        };
+        Ok(PageEntries::new(encoded))
     }
 }
 
-// The buckets of a parent with their tuples, ascending. All others are dropped.
-fn only_of<const N: usize>(
-    buckets: BucketsByParent<StoredTuple<Encoded, N>>,
+// A copy of the buckets of a parent with their tuples, ascending.
+fn copy_of<const N: usize>(
+    buckets: &BucketsByParent<StoredTuple<Encoded, N>>,
     parent: BucketId,
-) -> Result<Vec<(StoredTuple<Encoded, N>, Bucket)>, OutOfMemory>
-    ensures { IfOk result
-        (λ only. only.items ≡ get_or buckets.entry.parents parent []) }
+) -> Result<FreeingIter<(StoredTuple<Encoded, N>, Bucket)>, OutOfMemory>
+    ensures { IfOk result (λ copy. copy ≡ get_or buckets.now.parents parent []) }
 {
-    buckets.of_parent(parent)
+    Ok(FreeingIter::new(buckets.of_parent(parent)?))
 }

@@ -10,7 +10,7 @@ use crate::collector::{Values, collector_for, composite_over, number_of, request
 use agg_cache::{
     AggregationLimitsGuard, CollectError, LimitsLedger, LowCardSubAggCache, SubAggCache,
 };
-use agg_composite::{CompositeAggReqData, SegmentCompositeCollector};
+use agg_composite::{CompositeAggReqData, PageEntry, SegmentCompositeCollector};
 use agg_segment_tests::given::{Given, segment_of};
 use agg_values::{AggregationError, DocId, Steps};
 use std::marker::Brand;
@@ -110,6 +110,11 @@ fn refused(error: &CollectError) -> Option<(u64, u64)> {
     }
 }
 
+// The number of an entry of one key.
+fn only_number(entry: PageEntry) -> Option<i64> {
+    number_of(&entry, 0)
+}
+
 // In the end the first parent has a page of these numbers.
 fn expect_page<C: SubAggCache>(
     rt: &(impl Abort + AllocGlobal),
@@ -117,12 +122,13 @@ fn expect_page<C: SubAggCache>(
     req: &CompositeAggReqData<'_>,
     expected: &[i64],
 ) -> Result<(), Fail>
-    requires right { IsRight C.waiting req.now collector }
-    requires fits { (segment : Stored) × (after : Named AfterKey) × Fits segment after req.now }
+    requires { IsRight C.waiting req.now collector }
 {
     let mut numbers = Vec::new(rt.alloc());
-    for entry in collector.into_page(0, req)?.as_slice() {
-        numbers.push(number_of(entry, 0).ok_or("not a number")?)?;
+    let mut entries = collector.into_entries(0)?;
+    assert_eq!(rt; entries.len(), expected.len());
+    while let Some(entry) = entries.next_entry(rt.alloc(), req)? {
+        numbers.push(only_number(entry).ok_or("not a number")?)?;
     }
     assert_eq!(rt; numbers.as_slice(), expected);
     Ok(())

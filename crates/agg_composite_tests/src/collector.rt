@@ -11,7 +11,8 @@ ghost use Rattle.agg_composite_tests.specs.Right.{IsRight};
 
 use agg_cache::{BucketId, LimitsLedger, LowCardSubAggCache, SubAggCache};
 use agg_composite::{
-    CompositeAggReqData, CompositeSourceAccessors, PageEntry, SegmentCompositeCollector,
+    CompositeAggReqData, CompositeSourceAccessors, PageEntries, PageEntry,
+    SegmentCompositeCollector,
 };
 use agg_request_tree::CompositeAggregation;
 use agg_request_tree_tests::given::{GivenSource, Kind, composite_of};
@@ -295,5 +296,11 @@ fn keeps_the_lowest_of_each_parent(rt: HostRuntime) -> Result<(), Fail> {
             expect_counted(&rt, pages, hands_on)?;
         }
     }
+    Ok(())
+}
+
+#[test]
+fn there_may_be_no_entries(rt: HostRuntime) -> Result<(), Fail> {
+    assert_eq!(rt; PageEntries::none(rt.alloc()).len(), 0);
     Ok(())
 }

@@ -4,20 +4,22 @@ use Rattle.std.proofs.Common.{Some}
 use Rattle.std.proofs.Common.{None, length, get_or, filter, refl, sym}
 use Rattle.std.proofs.Common.{ap, ◌∙◌, subst}
 use Rattle.std.specs.Prelude.{slice_get}
+use Rattle.std.specs.List.{All}
+use Rattle.std.specs.Map.{keys_of}
 use Rattle.std.specs.declared.alloc.Global.{Global}
 use Rattle.std.specs.declared.boxed.Box.{Box}
 use Rattle.std.proofs.lemmas.List.Elements.{All-contains}
 use Rattle.std.proofs.lemmas.Option.{slice_get_read, slice_get_within}
-use Rattle.agg_values.specs.Names.{Named, put, value_of}
-use Rattle.agg_values.specs.declared.after_key.AfterKey.{AfterKey}
+use Rattle.agg_values.specs.Names.{put, value_of}
 use Rattle.agg_segment.specs.Segment.{Stored, documents_at}
 use Rattle.agg_request_tree.specs.Metrics.{values_of_field}
 use Rattle.agg_request_tree.proofs.Lists.{Contains-here}
-use Rattle.agg_accessor.specs.Accessors.{Fits}
+use Rattle.agg_accessor.specs.Decoded.{IsEncoded}
+use Rattle.agg_accessor.specs.Encoding.{EncodedTuple}
 use Rattle.agg_accessor.specs.declared.request_data.CompositeAggReqData.{CompositeAggReqData}
+use Rattle.agg_buckets.specs.Page.{Page}
 use Rattle.agg_composite.specs.Composite.{Composite, CompositeFor}
-use Rattle.agg_composite.specs.Visits.{TypedVisit}
-use Rattle.agg_composite.specs.declared.page_entry.PageEntry.{PageEntry}
+use Rattle.agg_composite.specs.PageEntries.{page_entries}
 use Rattle.agg_filter.specs.Filter.{Filter, FilterFor}
 use Rattle.agg_filter.specs.declared.request_data.FilterAggReqData.{FilterAggReqData}
 use Rattle.agg_metric.specs.Collector.{Metric, MetricFor}
@@ -38,7 +40,7 @@ use Rattle.agg_collector_tree.specs.declared.tree.SegmentCollectorTree as tree
 use tree.{SegmentCollectorTree}
 use Rattle.agg_tree_results.specs.Entries.{HoldsPage, IsAscending}
 use Rattle.agg_tree_results.specs.Names.{composite_name, filter_name, metric_name}
-use Rattle.agg_tree_results.specs.Pages.{IsPageUnder}
+use Rattle.agg_tree_results.specs.Pages.{IsPageUnder, encoded_under}
 use Rattle.agg_tree_results.specs.Results.{Adds, GroupStands, MayAdd, docs_taken}
 use Rattle.agg_tree_results.proofs.CompositeNodes.{composite-stands}
 use Rattle.agg_tree_results.proofs.FilterNodes.{filter-stands}
@@ -46,6 +48,7 @@ use Rattle.agg_tree_results.proofs.Levels.{held-composite, held-filter, held-met
 use Rattle.agg_tree_results.proofs.MetricNodes.{metric-stands}
 use Rattle.agg_tree_results.proofs.NamedNodes.{composite_name-at, filter_name-at, metric_name-at}
 use Rattle.agg_tree_results.proofs.PutNames.{adds-node}
+use Rattle.agg_tree_results.proofs.TakenPages.{entries-encoded, entries-told}
 
 -- what is read at an index is there
 pub found-at : {X : Type 0} (xs ys : List X) (i : ℕ) (x : X) → xs ≡ ys → i < length xs
@@ -113,30 +116,45 @@ module _ (ctx : PerRequestAggSegCtx) (node : SegmentCollectorTree) (old : Result
           composite_may.taken) composite_may.right.0
       composite-right = (composite_may.right.3 req found).0
 
-      -- its page has room, and accessors in a segment
-      pub composite-fits : (segment : Stored) × (after : Named AfterKey) × Fits segment after req
-      composite-fits = (
-        composite_may.meaning.segment,
-        composite_may.meaning.after_at index,
-        composite-meant.fits,
-      )
+      -- its entries are those of a parent
+      module _ (parent : Option ℕ) (entries : Page EncodedTuple)
+          (are : entries ≡ encoded_under collector parent) where
+        composite-told : IsPageUnder collector req parent (page_entries req entries)
+        composite-told =
+            subst (λ es. IsPageUnder collector req parent (page_entries req es)) (sym are)
+            (entries-told collector req composite_may.meaning.segment
+            (composite_may.meaning.after_at index) composite-meant.fits parent)
 
-      -- it is right for what it visited, so that its page ascends
-      pub composite-visited : (visited : List TypedVisit) × (given : List (ℕ × ℕ))
-          × CompositeFor waiting_in req collector visited given
-      composite-visited = (
-        visits_of req composite_may.meaning.segment (composite_may.meaning.after_at index)
-            composite_may.taken,
-        composite_may.right.0,
-        composite-right,
-      )
+        -- they ascend
+        pub composite-ascending : IsAscending req.req.now.sources (page_entries req entries)
+        composite-ascending =
+            (composite-told composite_may.meaning.segment (composite_may.meaning.after_at index)
+            composite_may.taken composite_may.right.0 composite-right).groups.ascending
 
-      pub composite-ascending : (parent : Option ℕ) (page : List PageEntry)
-          → IsPageUnder collector req parent page
-          → IsAscending req.req.now.sources page
-      composite-ascending parent page told =
-          (told composite_may.meaning.segment (composite_may.meaning.after_at index)
-          composite_may.taken composite_may.right.0 composite-right).groups.ascending
+        -- and their tuples stand for tuples
+        pub composite-encoded : All (IsEncoded req) (keys_of entries)
+        composite-encoded =
+            subst (λ (es : Page EncodedTuple). All (IsEncoded req) (keys_of es)) (sym are)
+            (entries-encoded collector req
+            (visits_of req composite_may.meaning.segment (composite_may.meaning.after_at index)
+            composite_may.taken) composite_may.right.0 composite-right parent)
+
+        -- a result that holds them is added
+        pub composite-added : (c : IntermediateCompositeBucketResult)
+            → HoldsPage ctx (held_of child.value) req.req.now.sources req.size
+            (page_entries req entries) c
+            → (new : Results) → new ≡ put req.name (as_composite c) old
+            → Adds ctx (held_of node) parent old new
+        composite-added c holds new put_is =
+            let named = ap (λ n. n ∷ [])
+            (composite_name-at composite_may.meaning ctx index req found) in
+            subst (λ h. Adds ctx h parent old new) (sym composite_is)
+            (subst (Adds ctx composite_held parent old) (sym put_is)
+            (adds-node req.name (as_composite c) old ctx composite_held parent named
+            (λ plans group. group)
+            (composite-stands ctx index collector (held_of child.value) composite_may.fits.1 parent
+            req found (page_entries req entries) composite_may.flushed.0 composite-told
+            holds.entries holds.are c holds.is)))
 
       -- its name isn't held
       pub composite-absent : value_of req.name old ≡ None
@@ -146,23 +164,6 @@ module _ (ctx : PerRequestAggSegCtx) (node : SegmentCollectorTree) (old : Result
           ∙ All-contains (λ name. value_of name old ≡ None) (composite_name ctx index ∷ [])
           (composite_name ctx index) composite_may.absent
           (Contains-here (composite_name ctx index) [])
-
-      -- its result is added
-      pub composite-added : (parent : Option ℕ) (page : List PageEntry)
-          → IsPageUnder collector req parent page
-          → (c : IntermediateCompositeBucketResult)
-          → HoldsPage ctx (held_of child.value) req.req.now.sources req.size page c
-          → (new : Results) → new ≡ put req.name (as_composite c) old
-          → Adds ctx (held_of node) parent old new
-      composite-added parent page told c holds new put_is =
-          let named = ap (λ n. n ∷ [])
-          (composite_name-at composite_may.meaning ctx index req found) in
-          subst (λ h. Adds ctx h parent old new) (sym composite_is)
-          (subst (Adds ctx composite_held parent old) (sym put_is)
-          (adds-node req.name (as_composite c) old ctx composite_held parent named
-          (λ plans group. group)
-          (composite-stands ctx index collector (held_of child.value) composite_may.fits.1 parent
-          req found page composite_may.flushed.0 told holds.entries holds.are c holds.is)))
 
   -- ---- a filter
 

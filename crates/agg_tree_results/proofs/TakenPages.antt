@@ -1,8 +1,9 @@
 -- The page of a parent's documents, and the documents of its entries.
-use Rattle.std.proofs.Common.{◌≡◌, ◌<◌, ℕ, zero, suc, refl, List, [], true, None, Some, Result}
-use Rattle.std.proofs.Common.{Ok, Err, IfOk, get_or}
+use Rattle.std.proofs.Common.{◌≡◌, ◌<◌, ℕ, zero, suc, refl, List, [], true, None, Some, Option}
+use Rattle.std.proofs.Common.{get_or}
 use Rattle.std.proofs.Common.{map, take, sym, ap, ◌∙◌, subst}
 use Rattle.std.specs.List.{All}
+use Rattle.std.specs.Map.{keys_of}
 use Rattle.std.proofs.lemmas.List.Elements.{All-from_recursion, All-nil, recursion_from_All}
 use Rattle.agg_values.specs.Names.{Named}
 use Rattle.agg_values.specs.declared.after_key.AfterKey.{AfterKey}
@@ -14,17 +15,21 @@ use Rattle.agg_request_tree.specs.Page.{Entry, count_in, documents_with, entry_o
 use Rattle.agg_request_tree.specs.Source.{Sources, rules_of}
 use Rattle.agg_request_tree.proofs.Lists.{All-from_map}
 use Rattle.agg_request_tree.proofs.PageFromGroups.{Groups-nothing, IsPage-from_groups}
+use Rattle.agg_accessor.specs.Accessors.{Fits}
+use Rattle.agg_accessor.specs.Decoded.{IsEncoded}
 use Rattle.agg_accessor.specs.declared.request_data.CompositeAggReqData.{CompositeAggReqData}
 use Rattle.agg_buckets.specs.Cut.{tuples_under}
-use Rattle.agg_composite.specs.Composite.{Composite, CompositeFor, docs_under}
-use Rattle.agg_composite.specs.PageEntries.{entry_group}
+use Rattle.agg_composite.specs.Composite.{Composite, CompositeFor, docs_under, page_of}
+use Rattle.agg_composite.specs.PageEntries.{entry_group, page_entries}
 use Rattle.agg_composite.specs.Visits.{TypedVisit}
 use Rattle.agg_composite.specs.declared.page_entry.PageEntry.{PageEntry}
+use Rattle.agg_composite.proofs.BucketDocuments.{page-handed}
+use Rattle.agg_composite.proofs.BucketPages.{entries-decoded, page-encoded, page-groups}
 use Rattle.agg_results.specs.StandsFor.{GroupsStandFor}
 use Rattle.agg_results.proofs.StandingGroups.{stands-lowest}
 use Rattle.agg_collector_tree.specs.Caches.{Cache, waiting_in}
 use Rattle.agg_collector_tree.specs.Tree.{visits_of}
-use Rattle.agg_tree_results.specs.Pages.{IsPageUnder}
+use Rattle.agg_tree_results.specs.Pages.{IsPageUnder, encoded_under}
 use Rattle.agg_tree_results.specs.Results.{AreDocsOf, docs_taken}
 use Rattle.agg_tree_results.proofs.TakenVisits.{docs-all, docs-with, tuples-taken}
 
@@ -108,7 +113,7 @@ module _ (req : CompositeAggReqData) (collector : Composite Cache) where
           taken (recursion_from_All (λ doc. doc < segment.count) (docs_of (is_id parent) taken)
           all)))
 
-  -- ---- what a call answers
+  -- ---- whatever was taken
 
   page-told : (parent : ℕ) (page : List PageEntry) → HasLowest parent page → IsGiven parent page
       → IsPageUnder collector req (Some parent) page
@@ -118,12 +123,6 @@ module _ (req : CompositeAggReqData) (collector : Composite Cache) where
     passed = λ all. given-page parent page lowest segment after taken given for own all.0 all.1;
     within = λ all. within-page parent page lowest segment after taken given for own all.0 all.1;
   }
-
-  pub page-ok : {E : Type 0} (parent : ℕ) (result : Result (List PageEntry) E)
-      → IfOk result (HasLowest parent) → IfOk result (IsGiven parent)
-      → IfOk result (IsPageUnder collector req (Some parent))
-  page-ok parent (Ok page) lowest own = page-told parent page lowest own
-  page-ok parent (Err error) lowest own = tt
 
 take-none : (n : ℕ) (gs : List Group) → gs ≡ [] → take n gs ≡ []
 take-none zero gs none = refl
@@ -146,3 +145,28 @@ page-none collector req segment after taken given for = record {
   within = λ all docs. All-nil (λ (entry : PageEntry).
       AreDocsOf segment (docs_taken (Some entry.bucket_id) given));
 }
+
+-- ---- the entries of a parent's buckets
+
+-- they are its page
+pub entries-told : (collector : Composite Cache) (req : CompositeAggReqData) (segment : Stored)
+    (after : Named AfterKey) → Fits segment after req → (parent : Option ℕ)
+    → IsPageUnder collector req parent (page_entries req (encoded_under collector parent))
+entries-told collector req segment after fits None = page-none collector req
+entries-told collector req segment after fits (Some parent) =
+    let buckets = page_of collector parent in
+    let page = page_entries req buckets in
+    page-told req collector parent page
+    (λ visited given f. page-groups waiting_in req collector visited given parent f segment after
+    fits page (entries-decoded req buckets))
+    (λ visited given f hands_on none. page-handed segment after req fits waiting_in collector
+    visited given parent f hands_on none page (entries-decoded req buckets))
+
+-- their tuples stand for tuples
+pub entries-encoded : (collector : Composite Cache) (req : CompositeAggReqData)
+    (visited : List TypedVisit) (given : List (ℕ × ℕ))
+    → CompositeFor waiting_in req collector visited given → (parent : Option ℕ)
+    → All (IsEncoded req) (keys_of (encoded_under collector parent))
+entries-encoded collector req visited given f None = All-nil (IsEncoded req)
+entries-encoded collector req visited given f (Some parent) =
+    page-encoded waiting_in req collector visited given parent f

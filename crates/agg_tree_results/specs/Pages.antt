@@ -1,12 +1,14 @@
 -- The page of the documents that were taken under a parent.
-use Rattle.std.specs.Prelude.{◌≡◌, ℕ, List, [], true, Option, Some, All, map}
+use Rattle.std.specs.Prelude.{◌≡◌, ℕ, List, [], true, Option, None, Some, All, map}
 use Rattle.agg_values.specs.Names.{Named}
 use Rattle.agg_values.specs.declared.after_key.AfterKey.{AfterKey}
 use Rattle.agg_segment.specs.Segment.{Stored, documents_at}
 use Rattle.agg_request_tree.specs.Occurrences.{bound_of}
 use Rattle.agg_request_tree.specs.Page.{count_in, documents_with}
 use Rattle.agg_accessor.specs.declared.request_data.CompositeAggReqData.{CompositeAggReqData}
-use Rattle.agg_composite.specs.Composite.{Composite, CompositeFor}
+use Rattle.agg_accessor.specs.Encoding.{EncodedTuple}
+use Rattle.agg_buckets.specs.Page.{Page}
+use Rattle.agg_composite.specs.Composite.{Composite, CompositeFor, page_of}
 use Rattle.agg_composite.specs.PageEntries.{entry_group}
 use Rattle.agg_composite.specs.declared.page_entry.PageEntry.{PageEntry}
 use Rattle.agg_results.specs.StandsFor.{GroupsStandFor}
@@ -34,6 +36,11 @@ pub record IsPageTaken (collector : Composite Cache) (req : CompositeAggReqData)
       entry.key) page
   pub within : HasHandedAll collector → AreDocsOf segment (docs_taken parent taken)
       → All (λ entry. AreDocsOf segment (docs_taken (Some entry.bucket_id) given)) page
+
+-- the encoded page of a parent's documents, and of none without a parent
+abbrev pub encoded_under : Composite Cache → Option ℕ → Page EncodedTuple
+encoded_under collector (Some parent) = page_of collector parent
+encoded_under collector None = []
 
 -- a page is a collector's of a parent, whatever the collector is right for
 abbrev pub IsPageUnder : Composite Cache → CompositeAggReqData → Option ℕ → List PageEntry → Type 0

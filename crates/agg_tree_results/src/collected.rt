@@ -1,26 +1,21 @@
 //! What a collector has of a parent, and of none: nothing.
-ghost use Rattle.std.specs.Prelude.{◌≡◌, [], ℕ, List, Bool, IfOk, Some, filter, length, true};
-ghost use Rattle.agg_values.specs.Names.{Named};
-ghost use Rattle.agg_values.specs.declared.after_key.AfterKey.{AfterKey};
+ghost use Rattle.std.specs.Prelude.{◌≡◌, [], ℕ, List, Bool, IfOk, filter, length, true};
 ghost use Rattle.agg_segment.specs.Segment.{Stored, documents_at};
 ghost use Rattle.agg_request_tree.specs.Metrics.{values_of_field};
-ghost use Rattle.agg_accessor.specs.Accessors.{Fits};
-ghost use Rattle.agg_composite.specs.Composite.{CompositeFor};
-ghost use Rattle.agg_composite.specs.Visits.{TypedVisit};
 ghost use Rattle.agg_filter.specs.Filter.{FilterFor};
 ghost use Rattle.agg_metric.specs.Collector.{MetricFor};
 ghost use Rattle.agg_metric.specs.Metric.{metric_of};
 ghost use Rattle.agg_collector_tree.specs.Caches.{waiting_in};
-ghost use Rattle.agg_tree_results.specs.Pages.{IsPageUnder};
+ghost use Rattle.agg_tree_results.specs.Pages.{encoded_under};
 ghost use Rattle.agg_tree_results.specs.Results.{docs_taken};
 
 use crate::made::metric_of_none;
 use agg_cache::{BucketId, HighCardSubAggCache};
 use agg_collector_tree::FilterCollector;
-use agg_composite::{CompositeAggReqData, PageEntry, SegmentCompositeCollector};
+use agg_composite::{PageEntries, SegmentCompositeCollector};
 use agg_metric::{MetricAggReqData, SegmentMetricCollector};
 use agg_results::IntermediateMetricResult;
-use agg_values::{ItemList, OutOfMemory};
+use agg_values::OutOfMemory;
 use std::alloc::Global;
 
 /// The metric of a parent's documents.
@@ -61,34 +56,16 @@ pub fn bucket_under(
     }
 }
 
-/// The page of a parent's documents, where the collector ends.
-pub fn page_at_end(
-    collector: SegmentCompositeCollector<HighCardSubAggCache>,
-    req: &CompositeAggReqData<'_>,
-    parent: BucketId,
-) -> Result<ItemList<PageEntry>, OutOfMemory>
-    requires fits { (segment : Stored) × (after : Named AfterKey) × Fits segment after req.now }
-    requires visited { (visited : List TypedVisit) × (given : List (ℕ × ℕ))
-        × CompositeFor waiting_in req.now collector visited given }
-    ensures { IfOk result (IsPageUnder collector req.now (Some parent)) }
-{
-    collector.into_page(parent, req)
-}
-
-/// The page of a parent's documents, and of none without a parent.
-pub fn page_under(
+/// The entries of the page of a parent's documents, none without a parent.
+pub fn entries_under(
     alloc: Global,
     collector: &SegmentCompositeCollector<HighCardSubAggCache>,
-    req: &CompositeAggReqData<'_>,
     parent: Option<BucketId>,
-) -> Result<ItemList<PageEntry>, OutOfMemory>
-    requires fits { (segment : Stored) × (after : Named AfterKey) × Fits segment after req.now }
-    requires visited { (visited : List TypedVisit) × (given : List (ℕ × ℕ))
-        × CompositeFor waiting_in req.now collector.now visited given }
-    ensures { IfOk result (IsPageUnder collector.now req.now parent) }
+) -> Result<PageEntries, OutOfMemory>
+    ensures { IfOk result (λ entries. entries ≡ encoded_under collector.now parent) }
 {
     match parent {
-        Some(parent) => collector.page(parent, req),
-        None => Ok(ItemList::new(alloc)),
+        Some(parent) => collector.entries(parent),
+        None => Ok(PageEntries::none(alloc)),
     }
 }

@@ -6,7 +6,6 @@ ghost use Rattle.agg_tree_results.specs.Names.{HasNamesApart, names_of};
 ghost use Rattle.agg_tree_results.specs.Results.{Adds, GroupStands, HasOnlyMore, HoldsAll};
 ghost use Rattle.agg_tree_results.specs.Results.{HoldsNone, IsSameBut, MayAdd, NodeStands};
 
-use crate::collected::page_at_end;
 use crate::made::{page_result, put_result};
 use crate::results::{add_results_under, buckets_of};
 use agg_cache::BucketId;
@@ -60,8 +59,8 @@ fn into_results_under(
     match node {
         SegmentCollectorTree::Composite(index, collector, child) => {
             let req = &ctx.composite_req_data.as_slice()[index];
-            let page = page_at_end(collector, req, parent)?;
-            let buckets = buckets_of(alloc, page, &child, ctx, req)?;
+            let entries = collector.into_entries(parent)?;
+            let buckets = buckets_of(alloc, entries, &child, ctx, req)?;
             put_result(alloc, results, &req.name, page_result(buckets))
         }
         SegmentCollectorTree::Group(children) => {

@@ -1,5 +1,8 @@
 //! The intermediate results of a tree of collectors for a parent.
-ghost use Rattle.std.specs.Prelude.{◌≡◌, [], ℕ, List, IfOk, OnOk, Some};
+ghost use Rattle.std.specs.Prelude.{◌≡◌, [], ℕ, List, All, IfOk, OnOk, Some};
+ghost use Rattle.std.specs.Map.{keys_of};
+ghost use Rattle.agg_accessor.specs.Decoded.{IsEncoded};
+ghost use Rattle.agg_composite.specs.PageEntries.{page_entries};
 ghost use Rattle.agg_segment_context.specs.Context.{IsMeant, Meaning};
 ghost use Rattle.agg_collector_tree.specs.Tree.{Fits, IsFlushed, IsFor, held_of};
 ghost use Rattle.agg_tree_results.specs.Entries.{HoldsPage, IsAscending};
@@ -7,18 +10,17 @@ ghost use Rattle.agg_tree_results.specs.Names.{HasNamesApart, names_of};
 ghost use Rattle.agg_tree_results.specs.Results.{Adds, GroupStands, HasOnlyMore, HoldsAll};
 ghost use Rattle.agg_tree_results.specs.Results.{HoldsNone, IsSameBut, MayAdd, NodeStands};
 
-use crate::collected::{bucket_under, metric_under, page_under};
+use crate::collected::{bucket_under, entries_under, metric_under};
 use crate::made::{add_last, empty_page, filter_result, page_result, put_result};
 use agg_cache::BucketId;
 use agg_collector_tree::SegmentCollectorTree;
-use agg_composite::{CompositeAggReqData, PageEntry};
-use agg_freeing::FreeingIter;
+use agg_composite::{CompositeAggReqData, PageEntries};
 use agg_results::{
     IntermediateAggregationResult, IntermediateAggregationResults,
     IntermediateCompositeBucketResult,
 };
 use agg_segment_context::PerRequestAggSegCtx;
-use agg_values::{ItemList, OutOfMemory};
+use agg_values::OutOfMemory;
 use std::alloc::Global;
 
 /// Adds the results of the aggregations at the top of a tree for a parent, each under its name:
@@ -67,8 +69,8 @@ pub(crate) fn add_results_under(
     match node {
         SegmentCollectorTree::Composite(index, collector, child) => {
             let req = &ctx.composite_req_data.as_slice()[*index];
-            let page = page_under(alloc, collector, req, parent)?;
-            let buckets = buckets_of(alloc, page, child, ctx, req)?;
+            let entries = entries_under(alloc, collector, parent)?;
+            let buckets = buckets_of(alloc, entries, child, ctx, req)?;
             put_result(alloc, results, &req.name, page_result(buckets))
         }
         SegmentCollectorTree::Filter(index, collector, child) => {
@@ -96,20 +98,20 @@ pub(crate) fn add_results_under(
 #[cycle(add)]
 pub(crate) fn buckets_of(
     alloc: Global,
-    page: ItemList<PageEntry>,
+    mut entries: PageEntries,
     child: &SegmentCollectorTree<'_>,
     ctx: &PerRequestAggSegCtx<'_>,
     req: &CompositeAggReqData<'_>,
 ) -> Result<IntermediateCompositeBucketResult, OutOfMemory>
     requires below { MayAdd ctx.now (held_of child.now) [] }
-    requires ascending { IsAscending req.now.req.now.sources page }
+    requires encoded { All (IsEncoded req.now) (keys_of entries) }
+    requires ascending { IsAscending req.now.req.now.sources (page_entries req.now entries) }
     ensures { IfOk result (HoldsPage ctx.now (held_of child.now) req.now.req.now.sources
-        req.now.size page) }
+        req.now.size (page_entries req.now entries)) }
 {
     let mut buckets = empty_page(alloc, req)?;
-    let entries = page.into_vec();
     buckets.reserve(entries.len())?;
-    for entry in FreeingIter::new(entries) {
+    while let Some(entry) = entries.next_entry(alloc, req)? {
         let mut below = IntermediateAggregationResults::new(alloc);
         add_results_under(alloc, child, ctx, &mut below, Some(entry.bucket_id))?;
         add_last(&mut buckets, entry, below)?;

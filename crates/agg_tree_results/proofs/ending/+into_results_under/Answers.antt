@@ -3,13 +3,14 @@ use Rattle.std.specs.Prelude.{slice_get}
 use Rattle.std.proofs.lemmas.List.{nil_from_length}
 use Rattle.std.proofs.lemmas.Result.{on_ok_weaker}
 use Rattle.agg_values.specs.Names.{put}
+use Rattle.agg_composite.specs.PageEntries.{page_entries}
 use Rattle.agg_collector_tree.specs.Tree.{held_of}
 use Rattle.agg_collector_tree.specs.declared.tree.SegmentCollectorTree.{the_lemmas}
 use Rattle.agg_tree_results.specs.Entries.{HoldsPage}
 use Rattle.agg_tree_results.proofs.GroupAdds.{following-added, following-may, whole-added}
 use Rattle.agg_tree_results.proofs.NodeAdds.{composite-absent, composite-added, composite-ascending}
-use Rattle.agg_tree_results.proofs.NodeAdds.{composite-below, composite-fits}
-use Rattle.agg_tree_results.proofs.NodeAdds.{composite-visited, composite-within, found-at}
+use Rattle.agg_tree_results.proofs.NodeAdds.{composite-below, composite-encoded}
+use Rattle.agg_tree_results.proofs.NodeAdds.{composite-within, found-at}
 use Rattle.agg_tree_results.proofs.YieldedItems.{all-yielded, next-split, next-yielded}
 use Rattle.agg_tree_results.proofs.ending.+into_results_under.Goals as goal
 use Rattle.agg_tree_results.proofs.ending.+into_results_under.Goals.{After-index-as_slice-index}
@@ -37,31 +38,27 @@ found t c =
     c.in-Composite.index c.in-Composite.collector c.in-Composite.child c.in-Composite.is
     c.as_slice.result.now c.as_slice.ensures) c.index-as_slice-index.is
 
-pub page_at_end-requires-clause-fits : goal.page_at_end-requires-clause-fits
-page_at_end-requires-clause-fits t c =
-    composite-fits c.args.ctx.now c.args.node c.args.results.now.results c.requires
-    c.in-Composite.index c.in-Composite.collector c.in-Composite.child c.in-Composite.is
-    c.index-as_slice-index.result (found t c)
-
-pub page_at_end-requires-clause-visited : goal.page_at_end-requires-clause-visited
-page_at_end-requires-clause-visited t c =
-    composite-visited c.args.ctx.now c.args.node c.args.results.now.results c.requires
-    c.in-Composite.index c.in-Composite.collector c.in-Composite.child c.in-Composite.is
-    c.index-as_slice-index.result (found t c)
-
 pub buckets_of-requires-clause-below : goal.buckets_of-requires-clause-below
 buckets_of-requires-clause-below t c =
     composite-below c.args.ctx.now c.args.node c.args.results.now.results c.requires
     c.in-Composite.index c.in-Composite.collector c.in-Composite.child c.in-Composite.is
     c.deref.result.now [] c.deref.ensures refl
 
+pub buckets_of-requires-clause-encoded : goal.buckets_of-requires-clause-encoded
+buckets_of-requires-clause-encoded t c =
+    let turn = (goal.at.buckets_of-requires-clause-encoded t c).After-index-as_slice-index in
+    let own = c.in_ok-entries-in-Composite in
+    composite-encoded c.args.ctx.now c.args.node c.args.results.now.results c.requires
+    c.in-Composite.index c.in-Composite.collector c.in-Composite.child c.in-Composite.is
+    c.index-as_slice-index.result (found t turn) (Some c.args.parent) own.entries own.ensures
+
 pub buckets_of-requires-clause-ascending : goal.buckets_of-requires-clause-ascending
 buckets_of-requires-clause-ascending t c =
     let turn = (goal.at.buckets_of-requires-clause-ascending t c).After-index-as_slice-index in
+    let own = c.in_ok-entries-in-Composite in
     composite-ascending c.args.ctx.now c.args.node c.args.results.now.results c.requires
     c.in-Composite.index c.in-Composite.collector c.in-Composite.child c.in-Composite.is
-    c.index-as_slice-index.result (found t turn) (Some c.args.parent)
-    c.in_ok-page-in-Composite.page c.in_ok-page-in-Composite.ensures
+    c.index-as_slice-index.result (found t turn) (Some c.args.parent) own.entries own.ensures
 
 pub put_result-requires : goal.put_result-requires
 put_result-requires t c =
@@ -74,14 +71,15 @@ pub returns-in_ok-buckets-in-Composite : goal.returns-in_ok-buckets-in-Composite
 returns-in_ok-buckets-in-Composite t c =
     let turn = (goal.at.returns-in_ok-buckets-in-Composite t c).After-index-as_slice-index in
     let req = c.index-as_slice-index.result in
-    let page = c.in_ok-page-in-Composite.page in
+    let own = c.in_ok-entries-in-Composite in
     let buckets = c.in_ok-buckets-in-Composite.buckets in
     on_ok_weaker c.put_result.result (λ put_is.
     composite-added c.args.ctx.now c.args.node c.args.results.now.results c.requires
     c.in-Composite.index c.in-Composite.collector c.in-Composite.child c.in-Composite.is req
-    (found t turn) (Some c.args.parent) page c.in_ok-page-in-Composite.ensures buckets
-    (subst (λ b. HoldsPage c.args.ctx.now (held_of b) req.req.now.sources req.size page buckets)
-    c.deref.ensures c.in_ok-buckets-in-Composite.ensures) c.put_result.new.results.results
+    (found t turn) (Some c.args.parent) own.entries own.ensures buckets
+    (subst (λ b. HoldsPage c.args.ctx.now (held_of b) req.req.now.sources req.size
+    (page_entries req own.entries) buckets) c.deref.ensures
+    c.in_ok-buckets-in-Composite.ensures) c.put_result.new.results.results
     (put_is ∙ ap (λ v. put req.name v c.args.results.now.results) c.page_result.ensures))
     c.put_result.ensures
 

@@ -3,6 +3,8 @@ use Rattle.std.proofs.Common.{rules}
 use Rattle.std.specs.Prelude.{slice_get}
 use Rattle.std.proofs.lemmas.Result.{on_ok_weaker}
 use Rattle.agg_values.specs.Names.{put}
+use Rattle.agg_composite.specs.PageEntries.{page_entries}
+use Rattle.agg_composite.proofs.BucketPages.{first-encoded, next-entries}
 use Rattle.agg_collector_tree.specs.Tree.{held_of}
 use Rattle.agg_collector_tree.specs.declared.tree.SegmentCollectorTree.{the_lemmas}
 use Rattle.agg_tree_results.specs.Entries.{HoldsPage}
@@ -10,8 +12,8 @@ use Rattle.agg_tree_results.specs.Results.{GroupStands, MayAdd}
 use Rattle.agg_tree_results.proofs.GroupAdds.{all-added, next-added, next-may}
 use Rattle.agg_tree_results.proofs.HeldEntries.{holds-below, holds-more, holds-none}
 use Rattle.agg_tree_results.proofs.NodeAdds.{composite-absent, composite-added, composite-ascending}
-use Rattle.agg_tree_results.proofs.NodeAdds.{composite-below, composite-fits}
-use Rattle.agg_tree_results.proofs.NodeAdds.{composite-visited, composite-within, filter-absent}
+use Rattle.agg_tree_results.proofs.NodeAdds.{composite-below, composite-encoded}
+use Rattle.agg_tree_results.proofs.NodeAdds.{composite-within, filter-absent}
 use Rattle.agg_tree_results.proofs.NodeAdds.{filter-added, filter-below, filter-within, found-at}
 use Rattle.agg_tree_results.proofs.NodeAdds.{metric-absent, metric-added, metric-within}
 use Rattle.agg_tree_results.proofs.YieldedItems.{all-yielded, next-split, next-yielded}
@@ -20,11 +22,11 @@ use Rattle.agg_tree_results.proofs.results.+add.Goals.{add_results_under-After-i
 
 -- ---- a page
 
-pub buckets_of-loop-entry-init : goal.buckets_of-loop-entry-init
-buckets_of-loop-entry-init t c = record {
+pub buckets_of-loop-buckets-init : goal.buckets_of-loop-buckets-init
+buckets_of-loop-buckets-init t c = record {
   gone = [];
-  split = sym (c.into_iter-entry-iterator.ensures.into_iter_gives ∙ c.new-entry-items.ensures
-      ∙ c.into_vec-entries.ensures);
+  split = refl;
+  encoded = c.requires.encoded;
   holds = holds-none c.args.ctx.now (held_of c.args.child.now) c.args.req.now.req.now.sources
       c.args.req.now.size c.reserve.new.self (c.reserve.ensures ∙ c.in_ok-buckets.ensures);
 }
@@ -39,22 +41,32 @@ buckets_of-add_results_under-requires t c = (
 pub buckets_of-add_last-requires : goal.buckets_of-add_last-requires
 buckets_of-add_last-requires t c =
     let req = c.args.req.now in
-    let so_far = c.loop-entry.invariant in
+    let so_far = c.loop-buckets.invariant in
+    let next = rw c.in-Some.is at c.in_ok-entry.ensures in
     holds-below c.args.ctx.now (held_of c.args.child.now) req.req.now.sources req.size so_far.gone
-    c.loop-entry.buckets so_far.holds c.args.page c.in-Some.entry c.next.new.self
-    (next-split c.args.page so_far.gone c.loop-entry.entry-iterator so_far.split c.in-Some.entry
-    c.next.new.self c.in-Some.ensures.steps) c.requires.ascending
+    c.loop-buckets.buckets so_far.holds (page_entries req c.args.entries) c.in-Some.entry
+    (page_entries req c.next_entry.new.self)
+    (next-split (page_entries req c.args.entries) so_far.gone
+    (page_entries req c.loop-buckets.entries) so_far.split c.in-Some.entry
+    (page_entries req c.next_entry.new.self)
+    (next-entries req c.loop-buckets.entries c.next_entry.new.self c.in-Some.entry next))
+    c.requires.ascending
 
-pub buckets_of-loop-entry-preserved : goal.buckets_of-loop-entry-preserved
-buckets_of-loop-entry-preserved t c =
+pub buckets_of-loop-buckets-preserved : goal.buckets_of-loop-buckets-preserved
+buckets_of-loop-buckets-preserved t c =
     let req = c.args.req.now in
-    let so_far = c.loop-entry.invariant in
+    let so_far = c.loop-buckets.invariant in
+    let next = rw c.in-Some.is at c.in_ok-entry.ensures in
     record {
       gone = so_far.gone ++ c.in-Some.entry ∷ [];
-      split = next-yielded c.args.page so_far.gone c.loop-entry.entry-iterator so_far.split
-          c.in-Some.entry c.next.new.self c.in-Some.ensures.steps;
+      split = next-yielded (page_entries req c.args.entries) so_far.gone
+          (page_entries req c.loop-buckets.entries) so_far.split c.in-Some.entry
+          (page_entries req c.next_entry.new.self)
+          (next-entries req c.loop-buckets.entries c.next_entry.new.self c.in-Some.entry next);
+      encoded = (first-encoded req c.loop-buckets.entries c.next_entry.new.self next.bucket
+          next.split so_far.encoded).1;
       holds = holds-more c.args.ctx.now (held_of c.args.child.now) req.req.now.sources req.size
-          so_far.gone c.loop-entry.buckets so_far.holds c.in-Some.entry
+          so_far.gone c.loop-buckets.buckets so_far.holds c.in-Some.entry
           c.add_results_under.new.results c.add_last.new.buckets
           (c.in_ok-add_results_under.ensures.all c.new-below.ensures) c.in_ok-add_last.ensures;
     }
@@ -62,11 +74,13 @@ buckets_of-loop-entry-preserved t c =
 pub buckets_of-returns : goal.buckets_of-returns
 buckets_of-returns t c =
     let req = c.args.req.now in
-    let so_far = c.loop-entry.invariant in
+    let so_far = c.loop-buckets.invariant in
+    let none = rw c.in_default.is at c.in_ok-entry.ensures in
     subst (λ page. HoldsPage c.args.ctx.now (held_of c.args.child.now) req.req.now.sources req.size
-    page c.loop-entry.buckets)
-    (all-yielded c.args.page so_far.gone c.loop-entry.entry-iterator so_far.split
-    c.in-None.ensures.steps.0) so_far.holds
+    page c.loop-buckets.buckets)
+    (all-yielded (page_entries req c.args.entries) so_far.gone
+    (page_entries req c.loop-buckets.entries) so_far.split
+    (ap (page_entries req) none.0)) so_far.holds
 
 -- ---- a composite
 
@@ -93,32 +107,23 @@ found t c =
     c.in-Composite.index c.in-Composite.collector c.in-Composite.child c.in-Composite.is
     c.as_slice.result.now c.as_slice.ensures) c.index-as_slice-index.is
 
-pub add_results_under-page_under-requires-clause-fits :
-    goal.add_results_under-page_under-requires-clause-fits
-add_results_under-page_under-requires-clause-fits t c =
-    composite-fits c.args.ctx.now c.args.node.now c.args.results.now.results c.requires
-    c.in-Composite.index c.in-Composite.collector c.in-Composite.child c.in-Composite.is
-    c.index-as_slice-index.result (found t c)
-
-pub add_results_under-page_under-requires-clause-visited :
-    goal.add_results_under-page_under-requires-clause-visited
-add_results_under-page_under-requires-clause-visited t c =
-    composite-visited c.args.ctx.now c.args.node.now c.args.results.now.results c.requires
-    c.in-Composite.index c.in-Composite.collector c.in-Composite.child c.in-Composite.is
-    c.index-as_slice-index.result (found t c)
-
 pub add_results_under-buckets_of-requires : goal.add_results_under-buckets_of-requires
 add_results_under-buckets_of-requires t c =
-    let turn = (goal.at.add_results_under-buckets_of-requires t c).After-index-as_slice-index in (
+    let turn = (goal.at.add_results_under-buckets_of-requires t c).After-index-as_slice-index in
+    let own = c.in_ok-entries-in-Composite in (
       search (rules, the_lemmas),
       (
         composite-below c.args.ctx.now c.args.node.now c.args.results.now.results c.requires
             c.in-Composite.index c.in-Composite.collector c.in-Composite.child c.in-Composite.is
             c.deref.result.now [] c.deref.ensures refl,
-        composite-ascending c.args.ctx.now c.args.node.now c.args.results.now.results c.requires
-            c.in-Composite.index c.in-Composite.collector c.in-Composite.child c.in-Composite.is
-            c.index-as_slice-index.result (found t turn) c.args.parent
-            c.in_ok-page-in-Composite.page c.in_ok-page-in-Composite.ensures,
+        (
+          composite-encoded c.args.ctx.now c.args.node.now c.args.results.now.results c.requires
+              c.in-Composite.index c.in-Composite.collector c.in-Composite.child c.in-Composite.is
+              c.index-as_slice-index.result (found t turn) c.args.parent own.entries own.ensures,
+          composite-ascending c.args.ctx.now c.args.node.now c.args.results.now.results c.requires
+              c.in-Composite.index c.in-Composite.collector c.in-Composite.child c.in-Composite.is
+              c.index-as_slice-index.result (found t turn) c.args.parent own.entries own.ensures,
+        ),
       ),
     )
 
@@ -135,14 +140,15 @@ add_results_under-returns-in_ok-buckets-in-Composite t c =
     let turn =
     (goal.at.add_results_under-returns-in_ok-buckets-in-Composite t c).After-index-as_slice-index in
     let req = c.index-as_slice-index.result in
-    let page = c.in_ok-page-in-Composite.page in
+    let own = c.in_ok-entries-in-Composite in
     let buckets = c.in_ok-buckets-in-Composite.buckets in
     on_ok_weaker c.put_result.result (λ put_is.
     composite-added c.args.ctx.now c.args.node.now c.args.results.now.results c.requires
     c.in-Composite.index c.in-Composite.collector c.in-Composite.child c.in-Composite.is req
-    (found t turn) c.args.parent page c.in_ok-page-in-Composite.ensures buckets
-    (subst (λ b. HoldsPage c.args.ctx.now (held_of b) req.req.now.sources req.size page buckets)
-    c.deref.ensures c.in_ok-buckets-in-Composite.ensures) c.put_result.new.results.results
+    (found t turn) c.args.parent own.entries own.ensures buckets
+    (subst (λ b. HoldsPage c.args.ctx.now (held_of b) req.req.now.sources req.size
+    (page_entries req own.entries) buckets) c.deref.ensures
+    c.in_ok-buckets-in-Composite.ensures) c.put_result.new.results.results
     (put_is ∙ ap (λ v. put req.name v c.args.results.now.results) c.page_result.ensures))
     c.put_result.ensures
 

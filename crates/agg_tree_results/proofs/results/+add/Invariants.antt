@@ -1,4 +1,7 @@
-use Rattle.std.proofs.Common.{◌≡◌, List, ◌++◌, map, take}
+use Rattle.std.proofs.Common.{◌≡◌, List, All, ◌++◌, length, map, take}
+use Rattle.std.specs.Map.{keys_of}
+use Rattle.agg_accessor.specs.Decoded.{IsEncoded}
+use Rattle.agg_composite.specs.PageEntries.{page_entries}
 use Rattle.agg_composite.specs.declared.page_entry.PageEntry.{PageEntry}
 use Rattle.agg_collector_tree.specs.Tree.{held_of}
 use Rattle.agg_tree_results.specs.Entries.{HoldsPage}
@@ -6,12 +9,16 @@ use Rattle.agg_tree_results.proofs.SideBySide.{AddInTurn}
 use Rattle.agg_tree_results.proofs.results.+add.Given as goal
 
 -- the entries that are gone are held
-abbrev pub invariant-buckets_of-loop-entry : goal.invariant-buckets_of-loop-entry
-invariant-buckets_of-loop-entry l = record {
+abbrev pub invariant-buckets_of-loop-buckets : goal.invariant-buckets_of-loop-buckets
+invariant-buckets_of-loop-buckets l = record {
   gone : List PageEntry;
-  split : l.fn.page ≡ gone ++ l.entry-iterator;
+  split : page_entries l.req l.fn.entries ≡ gone ++ page_entries l.req l.entries;
+  encoded : All (IsEncoded l.req) (keys_of l.entries);
   holds : HoldsPage l.ctx (held_of l.child) l.req.req.now.sources l.req.size gone l.buckets;
 }
+
+abbrev pub decreases-buckets_of-loop-buckets : goal.decreases-buckets_of-loop-buckets
+decreases-buckets_of-loop-buckets l = length l.entries
 
 -- the nodes so far added their results
 abbrev pub invariant-add_results_under-loop-child : goal.invariant-add_results_under-loop-child

@@ -1,46 +1,55 @@
-use Rattle.std.proofs.Common.{[], All, get_or, sym, ap, ◌∙◌, subst}
+use Rattle.std.proofs.Common.{◌≡◌, All, List, sym, ap, ◌∙◌, subst, map}
 use Rattle.std.specs.Map.{keys_of}
 use Rattle.std.proofs.lemmas.Result.{IfOk-weaker}
 use Rattle.agg_accessor.specs.Decoded.{IsEncoded}
 use Rattle.agg_accessor.specs.Encoding.{EncodedTuple}
-use Rattle.agg_buckets.specs.Node.{Node}
-use Rattle.agg_composite.specs.PageEntries.{decoded_buckets}
+use Rattle.agg_accessor.specs.declared.request_data.CompositeAggReqData.{CompositeAggReqData}
+use Rattle.agg_buckets.specs.Page.{Page}
+use Rattle.agg_composite.specs.PageEntries.{decoded_buckets, entry_bucket, page_entries}
+use Rattle.agg_composite.specs.declared.page_entry.PageEntry.{PageEntry}
 use Rattle.agg_composite.proofs.BucketDocuments.{page-handed}
-use Rattle.agg_composite.proofs.BucketPages.{page-encoded, page-groups}
+use Rattle.agg_composite.proofs.BucketPages.{entries-decoded, page-encoded, page-groups}
 use Rattle.agg_composite.proofs.collector.SegmentCompositeCollector.page.Goals as goal
 
-pub page-requires : goal.page-requires
-page-requires g c =
+-- the entries of buckets, decoded
+decoded-page : (req : CompositeAggReqData) (buckets own : Page EncodedTuple) → buckets ≡ own
+    → (page : List PageEntry) → page ≡ page_entries req buckets
+    → map entry_bucket page ≡ decoded_buckets req own
+decoded-page req buckets own same page is =
+    ap (map entry_bucket) is ∙ entries-decoded req buckets ∙ ap (decoded_buckets req) same
+
+pub into_list-requires : goal.into_list-requires
+into_list-requires g c =
     let has = c.requires.visited in
-    subst
-    (λ (node : Node EncodedTuple). All (IsEncoded c.args.req.now)
-    (keys_of (get_or node.parents c.args.parent_bucket_id [])))
-    (ap (λ collector. collector.node) (sym c.self.view_is))
+    subst (λ (es : Page EncodedTuple). All (IsEncoded c.args.req.now) (keys_of es))
+    (sym c.in_ok-entries.ensures)
     (page-encoded g.C.SubAggCache.waiting c.args.req.now c.args.self.now has.0 has.1
     c.args.parent_bucket_id has.2)
+
+pub returns-clause-buckets : goal.returns-clause-buckets
+returns-clause-buckets g c =
+    IfOk-weaker c.into_list.result _ _
+    (decoded-page c.args.req.now _ _ c.in_ok-entries.ensures)
+    c.into_list.ensures
 
 pub returns-clause-groups : goal.returns-clause-groups
 returns-clause-groups g c =
     let req = c.args.req.now in
-    let parent = c.args.parent_bucket_id in
     let fits = c.requires.fits in
-    let same = ap (λ collector. decoded_buckets req (get_or collector.node.parents parent []))
-    c.self.view_is in
-    IfOk-weaker c.page.result _ _
-    (λ entries e visited given f.
-    page-groups g.C.SubAggCache.waiting req c.args.self.now visited given parent f fits.0 fits.1
-    fits.2 entries (e ∙ same))
-    c.page.ensures
+    IfOk-weaker c.into_list.result _ _
+    (λ page is visited given f.
+    page-groups g.C.SubAggCache.waiting req c.args.self.now visited given
+    c.args.parent_bucket_id f fits.0 fits.1 fits.2 page
+    (decoded-page req _ _ c.in_ok-entries.ensures page is))
+    c.into_list.ensures
 
 pub returns-clause-handed : goal.returns-clause-handed
 returns-clause-handed g c =
     let req = c.args.req.now in
-    let parent = c.args.parent_bucket_id in
     let fits = c.requires.fits in
-    let same = ap (λ collector. decoded_buckets req (get_or collector.node.parents parent []))
-    c.self.view_is in
-    IfOk-weaker c.page.result _ _
-    (λ entries e visited given f hands_on none.
+    IfOk-weaker c.into_list.result _ _
+    (λ page is visited given f hands_on none.
     page-handed fits.0 fits.1 req fits.2 g.C.SubAggCache.waiting c.args.self.now visited given
-    parent f hands_on none entries (e ∙ same))
-    c.page.ensures
+    c.args.parent_bucket_id f hands_on none page
+    (decoded-page req _ _ c.in_ok-entries.ensures page is))
+    c.into_list.ensures

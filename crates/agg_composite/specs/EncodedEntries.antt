@@ -1,0 +1,14 @@
+-- What contracts see of the entries that are still to come.
+use Rattle.agg_accessor.specs.Encoding.{EncodedTuple}
+use Rattle.agg_buckets.specs.Page.{Page}
+use Rattle.agg_composite.specs.declared.page_entries.EncodedEntries.{EncodedEntries}
+use Rattle.agg_composite.specs.declared.page_entries.EncodedEntries.TheVariants.{Eight, Four, One}
+use Rattle.agg_composite.specs.declared.page_entries.EncodedEntries.TheVariants.{Sixteen, Two}
+
+-- the buckets, whatever the room in their tuples
+abbrev pub encoded_of : EncodedEntries → Page EncodedTuple
+encoded_of (One buckets) = buckets
+encoded_of (Two buckets) = buckets
+encoded_of (Four buckets) = buckets
+encoded_of (Eight buckets) = buckets
+encoded_of (Sixteen buckets) = buckets

@@ -1,0 +1,7 @@
+use Rattle.agg_tree_results.proofs.collected.entries_under.Goals as goal
+
+pub returns-in-Some : goal.returns-in-Some
+returns-in-Some c = rw c.in-Some.is c.entries.ensures
+
+pub returns-in-None : goal.returns-in-None
+returns-in-None c = rw c.in-None.is c.none.ensures
