@@ -149,6 +149,13 @@ fn answer<R: Source, L: Ledger>(
 {
     let bytes = read_all(alloc, source)?;
     let input = read_input(alloc, builders, &bytes)?;
-    drop(bytes);
+    give_back(bytes);
     Ok(reply_to(alloc, &input, steps)?)
+}
+
+// Drops bytes, all but one of which are given back before. Where many go at once, the C library
+// keeps the memory of later lists as long as these, in case it is asked for again.
+fn give_back(mut bytes: Vec<u8>) {
+    bytes.truncate(1);
+    bytes.shrink_to_fit();
 }
