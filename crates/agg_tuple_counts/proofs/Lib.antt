@@ -1,0 +1,4 @@
+pub mod CountTurns
+pub mod CountSums
+pub mod GroupSteps
+pub mod GroupedCounts

@@ -1,0 +1,91 @@
+ghost use Rattle.std.specs.Prelude.{◌≡◌, ◌≤◌, ◌^◌, [], IfOk, IsErrOf, OnOk};
+ghost use Rattle.std.specs.List.{sum_by};
+ghost use Rattle.std.specs.declared.cmp.Ordering.TheVariants.{Equal};
+ghost use Rattle.agg_buckets.specs.Cut.{add_count};
+
+use crate::grouped::grouped;
+use agg_buckets::VisitError;
+use agg_freeing::FreeingIter;
+use std::alloc::Global;
+use std::marker::Model;
+use std::mem;
+
+// So many counts may stand in a list before it is grouped.
+const FEW: usize = 4_096;
+
+/// How often each tuple came. They stand in a list, which is sorted and grouped in the end, and
+/// whenever it is twice as long as when it was last grouped. Contracts see the distinct tuples,
+/// ascending, each with its count.
+#[derive(Drop)]
+pub struct TupleCounts<S: Ord> {
+    alloc: Global,
+    counts: Vec<(S, u64)>,
+    // So many counts may stand there before they are grouped.
+    longest: usize,
+}
+
+impl<S: Ord> Model for TupleCounts<S> {
+    ghost use Rattle.std.specs.Prelude.{ℕ, List};
+    ghost use Rattle.agg_tuple_counts.specs.Counted.{counted};
+
+    ghost Value = { List (S × ℕ) };
+
+    ghost view = { λ c. counted S.cmp c.counts.items };
+}
+
+impl<S: Ord> TupleCounts<S> {
+    /// No tuple came.
+    pub fn new(alloc: Global) -> TupleCounts<S>
+        ensures { result ≡ [] }
+    {
+        TupleCounts {
+            alloc,
+            counts: Vec::new(alloc),
+            longest: FEW,
+        }
+    }
+
+    /// Counts a tuple once more. Nothing is said of what is there after an error.
+    pub fn count(&mut self, tuple: S) -> Result<(), VisitError>
+    where
+        S: Drop,
+        requires exact { (t u : S) → S.cmp t u ≡ Equal → t ≡ u }
+        ensures ok { OnOk result (self.new ≡ add_count S.cmp self.old tuple 1) }
+        ensures too_many { IsErrOf result VisitError.TooMany
+            → 2 ^ 64 ≤ sum_by (λ e. e.1) self.old }
+    {
+        if self.counts.len() >= self.longest {
+            self.group()?;
+        }
+        self.counts.push((tuple, 1))?;
+        Ok(())
+    }
+
+    // Groups the counts.
+    fn group(&mut self) -> Result<(), VisitError>
+    where
+        S: Drop,
+        requires exact { (t u : S) → S.cmp t u ≡ Equal → t ≡ u }
+        ensures ok { OnOk result (self.new ≡ self.old) }
+        ensures too_many { IsErrOf result VisitError.TooMany
+            → 2 ^ 64 ≤ sum_by (λ e. e.1) self.old }
+    {
+        let counts = mem::replace(&mut self.counts, Vec::new(self.alloc));
+        self.counts = grouped(self.alloc, counts)?;
+        self.longest = FEW.max(self.counts.len().saturating_mul(2));
+        Ok(())
+    }
+
+    /// The distinct tuples, ascending, each with its count.
+    pub fn into_ascending(self) -> Result<FreeingIter<(S, u64)>, VisitError>
+    where
+        S: Drop,
+        requires exact { (t u : S) → S.cmp t u ≡ Equal → t ≡ u }
+        ensures ok { IfOk result (λ counts. counts ≡ self) }
+        ensures too_many { IsErrOf result VisitError.TooMany
+            → 2 ^ 64 ≤ sum_by (λ e. e.1) self }
+    {
+        let TupleCounts { alloc, counts, .. } = self;
+        Ok(FreeingIter::new(grouped(alloc, counts)?))
+    }
+}
