@@ -26,7 +26,7 @@ module _ {K : Type 0} (R : K → K → Ordering) where
       let was = sum_by-cons (λ (e : K × ℕ). e.1) e es in
       omega (arith, here, was, rest)
 
-  added : (es : List (K × ℕ)) (k : K) (n : ℕ) → total_of (add_count R es k n) ≡ n + total_of es
+  pub added : (es : List (K × ℕ)) (k : K) (n : ℕ) → total_of (add_count R es k n) ≡ n + total_of es
   added [] k n = sum_by-cons (λ (e : K × ℕ). e.1) (k, n) []
   added (e ∷ es) k n = added-by (R k e.0) k n e es (add_count R es k n) (added es k n)
 

@@ -1,4 +1,4 @@
-ghost use Rattle.std.specs.Prelude.{◌≡◌, ◌≤◌, ◌^◌, [], IfOk, IsErrOf, OnOk};
+ghost use Rattle.std.specs.Prelude.{◌≡◌, ◌≤◌, ◌^◌, [], IfOk, IsErrOf, OnOk, take};
 ghost use Rattle.std.specs.List.{sum_by};
 ghost use Rattle.std.specs.declared.cmp.Ordering.TheVariants.{Equal};
 ghost use Rattle.agg_buckets.specs.Cut.{add_count};
@@ -10,7 +10,7 @@ use std::alloc::Global;
 use std::marker::Model;
 use std::mem;
 
-// So many counts may stand in a list before it is grouped.
+// A list of so many counts isn't grouped yet.
 const FEW: usize = 4_096;
 
 /// How often each tuple came. They stand in a list, which is sorted and grouped in the end, and
@@ -34,14 +34,14 @@ impl<S: Ord> Model for TupleCounts<S> {
 }
 
 impl<S: Ord> TupleCounts<S> {
-    /// No tuple came.
-    pub fn new(alloc: Global) -> TupleCounts<S>
+    /// No tuple came. So many counts may stand there before they are first grouped.
+    pub fn new(alloc: Global, longest: usize) -> TupleCounts<S>
         ensures { result ≡ [] }
     {
         TupleCounts {
             alloc,
             counts: Vec::new(alloc),
-            longest: FEW,
+            longest: FEW.max(longest),
         }
     }
 
@@ -76,16 +76,18 @@ impl<S: Ord> TupleCounts<S> {
         Ok(())
     }
 
-    /// The distinct tuples, ascending, each with its count.
-    pub fn into_ascending(self) -> Result<FreeingIter<(S, u64)>, VisitError>
+    /// The lowest distinct tuples, so many at most, ascending, each with its count.
+    pub fn into_ascending(self, most: usize) -> Result<FreeingIter<(S, u64)>, VisitError>
     where
         S: Drop,
         requires exact { (t u : S) → S.cmp t u ≡ Equal → t ≡ u }
-        ensures ok { IfOk result (λ counts. counts ≡ self) }
+        ensures ok { IfOk result (λ counts. counts ≡ take most self) }
         ensures too_many { IsErrOf result VisitError.TooMany
             → 2 ^ 64 ≤ sum_by (λ e. e.1) self }
     {
         let TupleCounts { alloc, counts, .. } = self;
-        Ok(FreeingIter::new(grouped(alloc, counts)?))
+        let mut lowest = grouped(alloc, counts)?;
+        lowest.truncate(most);
+        Ok(FreeingIter::new(lowest))
     }
 }

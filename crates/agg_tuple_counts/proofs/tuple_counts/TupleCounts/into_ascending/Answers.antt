@@ -4,10 +4,10 @@ use Rattle.agg_buckets.proofs.Errors.{error-kept}
 use Rattle.agg_tuple_counts.proofs.CountSums.{total-counted, total_of}
 use Rattle.agg_tuple_counts.proofs.tuple_counts.TupleCounts.into_ascending.Goals as goal
 
-pub returns-in_err-grouped-clause-too_many : goal.returns-in_err-grouped-clause-too_many
-returns-in_err-grouped-clause-too_many g c = λ e.
+pub returns-in_err-lowest-clause-too_many : goal.returns-in_err-lowest-clause-too_many
+returns-in_err-lowest-clause-too_many g c = λ e.
     subst (λ n. 2 ^ 64 ≤ n)
     (sym (total-counted g.S.Ord.cmp c.self.inside.counts.items) ∙ ap total_of c.self.view_is)
-    (c.in_err-grouped.ensures.too_many
-    (error-kept c.from_residual.result c.in_err-grouped.field-0.0 TooMany
+    (c.in_err-lowest.ensures.too_many
+    (error-kept c.from_residual.result c.in_err-lowest.field-0.0 TooMany
     c.from_residual.ensures.1 e))
