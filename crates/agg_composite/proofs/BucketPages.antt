@@ -62,7 +62,7 @@ keys-counts [] = refl
 keys-counts (e ∷ page) = ap (λ ks. e.0 ∷ ks) (keys-counts page)
 
 -- what holds of the tuples of all counts holds of those of the first
-keys-first : (P : EncodedTuple → Type 0) (n : ℕ) (counts : List (EncodedTuple × ℕ))
+pub keys-first : (P : EncodedTuple → Type 0) (n : ℕ) (counts : List (EncodedTuple × ℕ))
     → AllByRecursion P (keys_of counts) → AllByRecursion P (keys_of (take n counts))
 keys-first P zero counts all = tt
 keys-first P (suc n) [] all = tt
@@ -85,7 +85,7 @@ groups-buckets req [] = refl
 groups-buckets req (e ∷ page) =
     ap (λ (gs : List Group). (decoded req e.0, e.1.count) ∷ gs) (groups-buckets req page)
 
-groups-first : (req : CompositeAggReqData) (n : ℕ) (counts : List (EncodedTuple × ℕ))
+pub groups-first : (req : CompositeAggReqData) (n : ℕ) (counts : List (EncodedTuple × ℕ))
     → decoded_groups req (take n counts) ≡ take n (decoded_groups req counts)
 groups-first req zero counts = refl
 groups-first req (suc n) [] = refl

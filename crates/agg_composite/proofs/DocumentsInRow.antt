@@ -39,7 +39,7 @@ use Rattle.agg_composite.proofs.VisitsInRow.{AreVisits, Returned, SoFar, all-vis
 use Rattle.agg_composite.proofs.VisitsInRow.{nothing-visited, one-visited}
 
 -- of documents in range each is in range
-one-range : (segment : Stored) (sources : Sources) (docs : List ℕ) (i d : ℕ) → i < length docs
+pub one-range : (segment : Stored) (sources : Sources) (docs : List ℕ) (i d : ℕ) → i < length docs
     → AreAllInRange segment sources docs → AreAllInRange segment sources (get_or docs i d ∷ [])
 one-range segment sources docs i d l range =
     let long = length-map docs (document_at segment) in

@@ -9,6 +9,8 @@ pub mod CollectorAnswers
 pub mod CollectorCalls
 pub mod ColumnChoices
 pub mod DocumentsInRow
+pub mod ListedEntries
+pub mod ListedTuples
 pub mod NullChoices
 pub mod NullStanding
 pub mod OpenedBuckets

@@ -29,7 +29,7 @@ module _ (sources : Sources) (segment : Stored) (after : Named AfterKey) where
   abbrev past : List ℕ → List KeyTuple
   past docs = past_occurrences sources (bound_of sources after) (documents_at segment docs)
 
-  past-append : (xs ys : List ℕ) → past (xs ++ ys) ≡ past xs ++ past ys
+  pub past-append : (xs ys : List ℕ) → past (xs ++ ys) ≡ past xs ++ past ys
   past-append xs ys =
       let test = is_past (rules_of sources) (bound_of sources after) in
       ap (past_occurrences sources (bound_of sources after))

@@ -1,15 +1,20 @@
-//! Laws of visits, and of collectors that made the same ones.
-ghost use Rattle.std.specs.Prelude.{◌≡◌, ℕ, List, length};
+//! Laws of visits, of pages, and of collectors that made the same visits.
+ghost use Rattle.std.specs.Prelude.{◌≡◌, ℕ, All, List, length, map, take, true};
 ghost use Rattle.std.specs.List.{AllZip};
+ghost use Rattle.std.specs.Map.{keys_of};
 ghost use Rattle.agg_values.specs.Names.{Named};
 ghost use Rattle.agg_values.specs.declared.after_key.AfterKey.{AfterKey};
+ghost use Rattle.agg_cache.specs.Waiting.{docs_of, is_id};
 ghost use Rattle.agg_segment.specs.Segment.{Stored, documents_at};
+ghost use Rattle.agg_request_tree.specs.Groups.{Group, Groups};
 ghost use Rattle.agg_request_tree.specs.Occurrences.{bound_of, past_occurrences};
-ghost use Rattle.agg_request_tree.specs.Source.{Sources};
+ghost use Rattle.agg_request_tree.specs.Source.{Sources, rules_of};
 ghost use Rattle.agg_accessor.specs.Accessors.{Fits};
+ghost use Rattle.agg_accessor.specs.Decoded.{IsEncoded};
 ghost use Rattle.agg_accessor.specs.declared.request_data.CompositeAggReqData.{CompositeAggReqData};
 ghost use Rattle.agg_buckets.specs.Cut.{tuples_under};
-ghost use Rattle.agg_composite.specs.Composite.{Composite};
+ghost use Rattle.agg_composite.specs.Composite.{Composite, CompositeFor, docs_under, page_of};
+ghost use Rattle.agg_composite.specs.PageEntries.{entry_group, page_entries};
 ghost use Rattle.agg_composite.specs.SubResults.{AreAlike, HasHanded, IsPageOf};
 ghost use Rattle.agg_composite.specs.Visits.{TypedVisit, visits_past};
 ghost use Rattle.agg_composite.specs.declared.page_entry.PageEntry.{PageEntry};
@@ -25,6 +30,30 @@ pub fn visits_have_the_occurrences()
     ensures count { (sources : Sources) (segment : Stored) (after : Named AfterKey) (parent : ℕ)
         (docs : List ℕ) → length (visits_past sources segment after parent docs)
         ≡ length (past_occurrences sources (bound_of sources after) (documents_at segment docs)) }
+{}
+
+/// The buckets of a parent, as entries: their tuples stand for tuples, they are the lowest groups
+/// of the visits, and where all was handed on, each has the documents that were given under its
+/// id.
+pub fn pages_have_the_lowest_groups<C: SubAggCache>()
+    ensures encoded { (req : CompositeAggReqData) (collector : Composite C)
+        (visited : List TypedVisit) (given : List (ℕ × ℕ))
+        → CompositeFor C.waiting req collector visited given
+        → (parent : ℕ) → All (IsEncoded req) (keys_of (page_of collector parent)) }
+    ensures groups { (segment : Stored) (after : Named AfterKey) (req : CompositeAggReqData)
+        → Fits segment after req
+        → (collector : Composite C) (visited : List TypedVisit) (given : List (ℕ × ℕ))
+        → CompositeFor C.waiting req collector visited given
+        → (parent : ℕ) → (groups : List Group)
+        × Groups (rules_of req.req.now.sources) (tuples_under parent visited) groups
+        × (map entry_group (page_entries req (page_of collector parent)) ≡ take req.size groups) }
+    ensures handed { (segment : Stored) (after : Named AfterKey) (req : CompositeAggReqData)
+        → Fits segment after req
+        → (collector : Composite C) (visited : List TypedVisit) (given : List (ℕ × ℕ))
+        → HasHanded C.waiting req collector visited given
+        → (parent : ℕ) → All (λ entry. docs_of (is_id entry.bucket_id) given
+        ≡ docs_under (rules_of req.req.now.sources) parent entry.key visited)
+        (page_entries req (page_of collector parent)) }
 {}
 
 /// Collectors over any two caches give equal sub-results: for the same visits their pages have the

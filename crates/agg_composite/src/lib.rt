@@ -14,6 +14,9 @@ pub use agg_accessor::{
     encoded_tuples_compare_as_typed,
 };
 pub use collector::SegmentCompositeCollector;
-pub use laws::{caches_give_equal_sub_results, visits_have_the_occurrences};
+pub use laws::{
+    caches_give_equal_sub_results, pages_have_the_lowest_groups, visits_have_the_occurrences,
+};
 pub use page_entries::PageEntries;
 pub use page_entry::PageEntry;
+pub use walk::list_entries;

@@ -2,7 +2,7 @@
 ghost use Rattle.std.specs.Prelude.{◌≡◌, [], All, IfOk, MatchOption, length};
 ghost use Rattle.std.specs.Map.{keys_of};
 ghost use Rattle.agg_accessor.specs.Decoded.{IsEncoded};
-ghost use Rattle.agg_composite.specs.EncodedEntries.{encoded_of};
+ghost use Rattle.agg_composite.specs.EncodedEntries.{encoded_of, listed_of};
 ghost use Rattle.agg_composite.specs.PageEntries.{AreNone, IsNext, entry_of, page_entries};
 
 use crate::PageEntry;
@@ -29,6 +29,8 @@ pub enum EncodedEntries {
     Four(FreeingIter<(StoredTuple<Encoded, 4>, Bucket)>),
     Eight(FreeingIter<(StoredTuple<Encoded, 8>, Bucket)>),
     Sixteen(FreeingIter<(StoredTuple<Encoded, 16>, Bucket)>),
+    /// Of one key each, by their counts alone.
+    Listed(FreeingIter<(StoredTuple<Encoded, 1>, u64)>),
 }
 
 impl Model for PageEntries {
@@ -67,6 +69,7 @@ impl PageEntries {
             EncodedEntries::Four(buckets) => buckets.len(),
             EncodedEntries::Eight(buckets) => buckets.len(),
             EncodedEntries::Sixteen(buckets) => buckets.len(),
+            EncodedEntries::Listed(counts) => counts.len(),
         }
     }
 
@@ -86,6 +89,7 @@ impl PageEntries {
             EncodedEntries::Four(buckets) => next_of(alloc, buckets, req),
             EncodedEntries::Eight(buckets) => next_of(alloc, buckets, req),
             EncodedEntries::Sixteen(buckets) => next_of(alloc, buckets, req),
+            EncodedEntries::Listed(counts) => next_listed(alloc, counts, req),
         }
     }
 
@@ -119,6 +123,26 @@ fn next_of<const N: usize>(
 {
     match buckets.next() {
         Some((tuple, bucket)) => Ok(Some(entry(alloc, req, tuple.as_slice(), bucket)?)),
+        None => Ok(None),
+    }
+}
+
+// The same of tuples by their counts.
+fn next_listed(
+    alloc: Global,
+    counts: &mut FreeingIter<(StoredTuple<Encoded, 1>, u64)>,
+    req: &CompositeAggReqData<'_>,
+) -> Result<Option<PageEntry>, OutOfMemory>
+    requires { All (IsEncoded req.now) (keys_of (listed_of counts.old)) }
+    ensures { IfOk result (λ next. MatchOption next
+        (AreNone (listed_of counts.old) (listed_of counts.new))
+        (IsNext req.now (listed_of counts.old) (listed_of counts.new))) }
+{
+    match counts.next() {
+        Some((tuple, count)) => {
+            let bucket = Bucket { count, id: 0 };
+            Ok(Some(entry(alloc, req, tuple.as_slice(), bucket)?))
+        }
         None => Ok(None),
     }
 }

@@ -7,6 +7,7 @@ ghost use Rattle.agg_composite.specs.Walk.{if_above, next_standing, parts, walke
 mod choice;
 mod gather;
 mod index;
+mod listing;
 
 use crate::stored_tuple::StoredTuple;
 use agg_accessor::{CompositeAggReqData, Encoded};
@@ -14,6 +15,7 @@ use agg_buckets::{BucketsByParent, VisitError};
 use agg_values::{DocId, Steps};
 use choice::Choice;
 use gather::Gathered;
+pub use listing::list_entries;
 use std::alloc::Global;
 use std::cmp::Ordering;
 use std::sync::ledger::Ledger;

@@ -31,3 +31,7 @@ next_of-requires-in-Sixteen c = (
   omega arith,
   encoded-sized c.args.req.now _ _ c.args.self.now c.in-Sixteen.is c.self.view_is c.requires,
 )
+
+pub next_listed-requires : goal.next_listed-requires
+next_listed-requires c =
+    encoded-sized c.args.req.now _ _ c.args.self.now c.in-Listed.is c.self.view_is c.requires
