@@ -31,7 +31,7 @@ pub(crate) type Values = &'static [(&'static str, Given)];
 // A bucket of one or two signed keys: these, how many documents it has, and its id.
 type Shown = (Option<i64>, Option<i64>, u64, BucketId);
 
-const DOCUMENTS: &[Values] = &[
+pub(crate) const DOCUMENTS: &[Values] = &[
     &[("a", Given::Signed(5)), ("b", Given::Signed(1))],
     &[("a", Given::Signed(7)), ("b", Given::Signed(1))],
     &[("a", Given::Signed(6))],

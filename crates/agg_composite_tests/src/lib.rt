@@ -15,3 +15,5 @@ mod divided_accessor;
 mod found;
 #[cfg(test)]
 mod given;
+#[cfg(test)]
+mod listing;

@@ -1,0 +1,93 @@
+//! Tests of the entries of documents whose tuples are listed.
+ghost use Rattle.std.specs.Prelude.{◌≡◌, ◌<◌, All};
+ghost use Rattle.std.specs.Map.{keys_of};
+ghost use Rattle.agg_values.specs.Names.{Named};
+ghost use Rattle.agg_values.specs.declared.after_key.AfterKey.{AfterKey};
+ghost use Rattle.agg_segment.specs.Segment.{Stored};
+ghost use Rattle.agg_accessor.specs.Accessors.{Fits};
+ghost use Rattle.agg_accessor.specs.Decoded.{IsEncoded};
+
+use crate::collector::{DOCUMENTS, composite_over, number_of, request_in};
+use agg_composite::{CompositeAggReqData, PageEntries, PageEntry, list_entries};
+use agg_segment_tests::given::segment_of;
+use agg_values::Steps;
+use std::alloc::Global;
+use std::marker::Brand;
+use std::process::Abort;
+use std::sync::ledger::{Blank, Ledger};
+use std::test::Fail;
+
+// An entry of one signed key: this, and how many documents it has.
+type Shown = (Option<i64>, u64);
+
+// Terms of a field, how many entries a page has, and these.
+const LISTED: &[(&str, u32, &[Shown])] = &[
+    ("a", 2, &[(Some(5), 2), (Some(6), 1)]),
+    ("a", 6, &[(Some(5), 2), (Some(6), 1), (Some(7), 2)]),
+    ("b", 1, &[(Some(0), 1)]),
+    ("c", 6, &[]),
+];
+
+// What an entry says.
+fn shown_entry(entry: PageEntry) -> Shown {
+    (number_of(&entry, 0), entry.doc_count)
+}
+
+// What entries say.
+fn shown(
+    alloc: Global,
+    entries: PageEntries,
+    req: &CompositeAggReqData<'_>,
+) -> Result<Vec<Shown>, Fail>
+    requires { All (IsEncoded req.now) (keys_of entries) }
+{
+    let mut rest = entries;
+    let mut shown = Vec::new(alloc);
+    while let Some(entry) = rest.next_entry(alloc, req)? {
+        shown.push(shown_entry(entry))?;
+    }
+    Ok(shown)
+}
+
+// The entries of all documents say this.
+fn expect_shown<L: Ledger>(
+    rt: &(impl Abort + AllocGlobal),
+    req: &CompositeAggReqData<'_>,
+    expected: &[Shown],
+    blank: Blank,
+) -> Result<(), Fail>
+    requires fits { (segment : Stored) × (after : Named AfterKey) × Fits segment after req.now }
+    requires name { blank.name ≡ L.name }
+    requires parts { blank.parts ≡ L.parts }
+    requires shared { 0 < L.parts }
+{
+    let mut steps: Steps<L> = Steps::new(blank);
+    let docs = [0, 1, 2, 3, 4, 5];
+    assert!(rt; req.req.sources.as_slice().len() == 1 && req.are_starts_in_range(&docs));
+    let entries = list_entries(rt.alloc(), &docs, req, &mut steps)?;
+    let shown = shown(rt.alloc(), entries, req)?;
+    assert_eq!(rt; shown.as_slice(), expected);
+    Ok(())
+}
+
+// The same with a count of steps of its own.
+fn expect_listed(
+    rt: &(impl Abort + AllocGlobal),
+    req: &CompositeAggReqData<'_>,
+    expected: &[Shown],
+) -> Result<(), Fail>
+    requires { (segment : Stored) × (after : Named AfterKey) × Fits segment after req.now }
+{
+    expect_shown::<Brand>(rt, req, expected, Blank::new(1))
+}
+
+#[test]
+fn lists_the_lowest(rt: HostRuntime) -> Result<(), Fail> {
+    for (field, size, expected) in LISTED {
+        let segment = segment_of(rt.alloc(), DOCUMENTS)?;
+        let composite = composite_over(rt.alloc(), &[*field], *size)?;
+        let req = request_in(rt.alloc(), &segment, &composite)?;
+        expect_listed(&rt, &req, expected)?;
+    }
+    Ok(())
+}
