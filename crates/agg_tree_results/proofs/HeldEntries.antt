@@ -25,13 +25,13 @@ use Rattle.agg_tree_results.specs.Results.{GroupStands}
 use Rattle.agg_tree_results.proofs.AscendingKeys.{below-before}
 
 -- the parts of a composite's result
-record HasParts (c : IntermediateCompositeBucketResult) (rules : SourceRules) (size : ℕ)
+pub record HasParts (c : IntermediateCompositeBucketResult) (rules : SourceRules) (size : ℕ)
     (held : Entries) : Type 0 where
   pub orders_are : orders_of c ≡ rules
   pub size_is : target_size_of c ≡ size
   pub entries_are : entries_of c ≡ held
 
-parts-made : (c : IntermediateCompositeBucketResult) (rules : SourceRules) (size : ℕ)
+pub parts-made : (c : IntermediateCompositeBucketResult) (rules : SourceRules) (size : ℕ)
     (held : Entries) → c ≡ composite_of rules size held → HasParts c rules size held
 parts-made c rules size held is =
     let same = ap out-IntermediateCompositeBucketResult is
@@ -42,6 +42,26 @@ parts-made c rules size held is =
       size_is = ap (λ r. r.target_size) same;
       entries_are = ap (λ r. r.entries.1) same;
     }
+
+-- the next entry of an ascending page is above those that a result holds of it
+pub next-above : (sources : Sources) (size : ℕ) (page : List PageEntry) (held : Entries)
+    (c : IntermediateCompositeBucketResult) → HasParts c (rules_of sources) size held
+    → keys_of held ≡ keys_of (map entry_group page)
+    → (whole : List PageEntry) (entry : PageEntry) (rest : List PageEntry)
+    → whole ≡ page ++ entry ∷ rest → IsAscending sources whole
+    → All (λ k. tuple_order (orders_of c) k entry.key ≡ Less) (keys_of (entries_of c))
+next-above sources size page held c has same whole entry rest split up =
+    let before = below-before (tuple_order (rules_of sources)) (map entry_group page)
+    (entry_group entry) (map entry_group rest)
+    (subst (λ gs. IsStrictlySortedBy (tuple_order (rules_of sources)) (keys_of gs))
+    (ap (map entry_group) split ∙ map-append entry_group page (entry ∷ rest)) up) in
+    let keys = ap keys_of has.entries_are ∙ same in
+    subst (λ (rules : SourceRules). All (λ k. tuple_order rules k entry.key ≡ Less)
+    (keys_of (entries_of c))) (sym has.orders_are)
+    (All-from_recursion (λ k. tuple_order (rules_of sources) k entry.key ≡ Less)
+    (keys_of (entries_of c))
+    (subst (AllByRecursion (λ k. tuple_order (rules_of sources) k entry.key ≡ Less))
+    (sym keys) before))
 
 -- one more pair
 zip-more : {A B : Type 0} (R : A → B → Type 0) (xs : List A) (ys : List B) (x : A) (y : B)
@@ -75,17 +95,8 @@ module _ (ctx : PerRequestAggSegCtx) (h : Held) (sources : Sources) (size : ℕ)
         → IsAscending sources whole
         → All (λ k. tuple_order (orders_of c) k entry.key ≡ Less) (keys_of (entries_of c))
     holds-below whole entry rest split up =
-        let before = below-before (tuple_order (rules_of sources)) (map entry_group page)
-        (entry_group entry) (map entry_group rest)
-        (subst (λ gs. IsStrictlySortedBy (tuple_order (rules_of sources)) (keys_of gs))
-        (ap (map entry_group) split ∙ map-append entry_group page (entry ∷ rest)) up) in
-        let keys = ap keys_of has.entries_are ∙ keys-are page holds.entries holds.are in
-        subst (λ (rules : SourceRules). All (λ k. tuple_order rules k entry.key ≡ Less)
-        (keys_of (entries_of c))) (sym has.orders_are)
-        (All-from_recursion (λ k. tuple_order (rules_of sources) k entry.key ≡ Less)
-        (keys_of (entries_of c))
-        (subst (AllByRecursion (λ k. tuple_order (rules_of sources) k entry.key ≡ Less))
-        (sym keys) before))
+        next-above sources size page holds.entries c has (keys-are page holds.entries holds.are)
+        whole entry rest split up
 
     -- and with it the result holds one more
     pub holds-more : (entry : PageEntry) (below : IntermediateAggregationResults)

@@ -5,6 +5,8 @@ pub mod CompositeNodes
 pub mod FilterNodes
 pub mod GroupAdds
 pub mod HeldEntries
+pub mod HeldLeaves
+pub mod LeafPages
 pub mod Levels
 pub mod MetricNodes
 pub mod NamedNodes

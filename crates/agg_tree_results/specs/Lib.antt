@@ -1,4 +1,5 @@
 pub mod Entries
+pub mod Leaves
 pub mod Names
 pub mod Pages
 pub mod Results
