@@ -15,7 +15,6 @@ use Rattle.agg_request_tree.specs.Request.{Request}
 use Rattle.agg_charges.specs.Charges.{fixed_charge}
 use Rattle.agg_charges.specs.Roof.{Counts, counts_of}
 use Rattle.agg_buckets.specs.Visits.{docs_in}
-use Rattle.agg_segment_context.specs.Context as context
 use Rattle.agg_collector_tree.specs.Tree.{Takes, held_of}
 use Rattle.agg_held_bytes.specs.Trees.{AreOfSegment}
 use Rattle.agg_held_bytes.proofs.TreeLaws.{least-one}
@@ -92,7 +91,8 @@ module _ (request : Request QueryTree) (query : QueryTree) (segment : Stored)
   module _ (tree : ChargedTree)
       (made : IsMade (ctx request query segment given ready docs same) given.reader.now tree)
       (limits : Limits) (within : tree.guard ≤ limits.in_use) where
-    tree-fixed : tree.fixed ≡ fixed_charge request (length (documents_of segment))
+    -- what it takes for itself is the fixed charge of the request
+    pub tree-fixed : tree.fixed ≡ fixed_charge request (length (documents_of segment))
     tree-fixed =
         made.fixed is.meaning request (is.means.same ∙ sym is.reader) is.means.aggregations
         ∙ fixed-same

@@ -57,12 +57,12 @@ IsChargeCause ctx pairs old limits (error.MemoryExceeded told current) =
     old.guard told current
 IsChargeCause ctx pairs old limits error.OutOfMemory = ⊤
 
--- why no tree is made: more than the limit would be in use with what the request takes for itself;
--- running out of memory needs no cause
+-- why bytes aren't charged, as what a request takes for itself: more than the limit would be in use
+-- with them; running out of memory needs no cause
 abbrev pub IsFixedCause : ℕ → Limits → ChargeError → Type 0
-IsFixedCause fixed limits (error.MemoryExceeded told current) =
-    TellsMemory limits.memory_limit (limits.in_use + fixed) 0 told current
-IsFixedCause fixed limits error.OutOfMemory = ⊤
+IsFixedCause bytes limits (error.MemoryExceeded told current) =
+    TellsMemory limits.memory_limit (limits.in_use + bytes) 0 told current
+IsFixedCause bytes limits error.OutOfMemory = ⊤
 
 -- why a tree isn't charged anew: more than the limit would be in use with what it takes now, in
 -- place of what was charged; running out of memory needs no cause

@@ -4,6 +4,8 @@ pub mod ChargeErrors
 pub mod ChargedTrees
 pub mod Contexts
 pub mod Documents
+pub mod Listed
+pub mod Lone
 pub mod MemoryLimits
 pub mod Steps
 pub mod Trees

@@ -1,9 +1,11 @@
 //! A tree of collectors whose bytes are charged.
-ghost use Rattle.std.specs.Prelude.{◌≡◌, ◌≤◌, ◌+◌, [], ℕ, List, IfErr, IfOk, OnErr, OnOk, false};
-ghost use Rattle.std.specs.Prelude.{length, map, true};
+ghost use Rattle.std.specs.Prelude.{◌≡◌, ◌≤◌, ◌+◌, ◌*◌, [], ℕ, List, IfErr, IfOk, OnErr, OnOk};
+ghost use Rattle.std.specs.Prelude.{false, length, map, true};
 ghost use Rattle.agg_cache.specs.Limits.{charged};
 ghost use Rattle.agg_cache.specs.Waiting.{under};
+ghost use Rattle.agg_charges.specs.Charges as charges;
 ghost use Rattle.agg_charges.specs.Charges.{fixed_charge};
+ghost use Rattle.agg_request_tree.specs.Faults.{max_sources};
 ghost use Rattle.agg_request_tree.specs.Request.{Request};
 ghost use Rattle.agg_segment.specs.Segment.{documents_of};
 ghost use Rattle.agg_segment.specs.declared.query.QueryTree.{QueryTree};
@@ -22,7 +24,9 @@ ghost use Rattle.agg_snapshot.specs.Trees.{MayTake, MostSteps};
 use crate::ChargeError;
 use crate::charge::charge;
 use crate::taking::take;
+use agg_accessor::CompositeAggReqData;
 use agg_cache::{AggregationLimitsGuard, LimitsLedger};
+use agg_charges::bucket_bytes;
 use agg_collector_tree::{Call, SegmentCollectorTree, tree_for};
 use agg_held_bytes::{fixed_bytes, held_bytes};
 use agg_segment::SegmentReader;
@@ -128,6 +132,31 @@ impl<'s> ChargedTree<'s> {
         ensures cause { IfErr result (IsChargeCause ctx.now [] self.old limits.old) }
     {
         self.take(Call::Flush, ctx, limits, steps)
+    }
+
+    /// Charges so many buckets of a composite, which the tree need not hold. A refusal leaves the
+    /// tree and the ledger as they were.
+    pub fn charge_buckets(
+        &mut self,
+        req: &CompositeAggReqData<'_>,
+        buckets: usize,
+        limits: &mut LimitsLedger,
+    ) -> Result<(), ChargeError>
+        requires few { length req.now.req.now.sources ≤ max_sources }
+        requires charged { self.old.guard ≤ limits.old.in_use }
+        ensures tree { self.new.tree ≡ self.old.tree }
+        ensures charges { ChargesAnew self.old self.new limits.old limits.new }
+        ensures exact { OnOk result (self.new.guard
+            ≡ self.old.guard + charges.bucket_bytes req.now.req.now * buckets) }
+        ensures within { OnOk result (limits.new.in_use ≤ limits.new.memory_limit) }
+        ensures cause { IfErr result
+            (IsFixedCause (charges.bucket_bytes req.now.req.now * buckets) limits.old) }
+        ensures kept { OnErr result (limits.new ≡ limits.old) }
+        ensures guard_kept { OnErr result (self.new.guard ≡ self.old.guard) }
+    {
+        let bytes = bucket_bytes(req.req).checked_mul(buckets as u64);
+        charge(&mut self.guard, bytes, limits)?;
+        Ok(())
     }
 
     /// Takes the tree out, which leaves one without nodes. What is charged for it stays charged.

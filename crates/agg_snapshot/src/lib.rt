@@ -7,6 +7,8 @@ mod charged_tree;
 mod checks;
 mod context;
 mod error;
+mod listed;
+mod lone;
 mod matching;
 mod segment;
 mod snapshot;

@@ -11,6 +11,8 @@ ghost use Rattle.agg_snapshot.specs.Documents.{matching_in};
 ghost use Rattle.agg_snapshot.specs.MemoryLimits.{HaveRoom};
 
 use crate::context::SegmentContext;
+use crate::listed::listed_results;
+use crate::lone::lone_composite;
 use crate::{ChargedTree, SnapshotError};
 use agg_cache::LimitsLedger;
 use agg_results::IntermediateAggregationResults;
@@ -42,9 +44,42 @@ pub fn segment_results<L: Ledger>(
 {
     let ctx = &context.aggregations.per_request;
     let mut tree = ChargedTree::new(alloc, ctx, context.reader, limits)?;
-    let results = tree_results(alloc, context, &mut tree, limits, steps);
+    let results = made_results(alloc, context, &mut tree, limits, steps);
     tree.give_back(limits);
     results
+}
+
+// The results of a segment whose tree was just made: by a list of tuples where its composite stands
+// alone, else by the tree.
+fn made_results<L: Ledger>(
+    alloc: Global,
+    context: &SegmentContext<'_>,
+    tree: &mut ChargedTree<'_>,
+    limits: &mut LimitsLedger,
+    steps: &mut Steps<L>,
+) -> Result<IntermediateAggregationResults, SnapshotError>
+    requires ready { (request : Request Tree) × (query : Tree) × (segment : Stored)
+        × MayBeCollected request query (segment ∷ []) (context.now ∷ []) }
+    requires made { IsMade context.now.aggregations.per_request context.now.reader.now tree.old }
+    requires charged { tree.old.guard ≤ limits.old.in_use }
+    ensures results { (request : Request Tree) (query : Tree) (segment : Stored)
+        → MayBeCollected request query (segment ∷ []) (context.now ∷ [])
+        → AnswersResults request (matching_in query (segment ∷ [])) steps.old steps.new result }
+    ensures cause { (request : Request Tree) (query : Tree) (segment : Stored)
+        → MayBeCollected request query (segment ∷ []) (context.now ∷ [])
+        → IfErr result (IsMemoryRefusal request query (segment ∷ [])
+        (before tree.old.guard limits.old)) }
+    ensures room { (request : Request Tree) (query : Tree) (segment : Stored)
+        → MayBeCollected request query (segment ∷ []) (context.now ∷ [])
+        → OnOk result (HaveRoom matches query request (before tree.old.guard limits.old)
+        (map documents_of (segment ∷ []))) }
+    ensures charges { ChargesAnew tree.old tree.new limits.old limits.new }
+    ensures later { steps.old ≤ steps.new }
+{
+    match lone_composite(context) {
+        Some(lone) => listed_results(alloc, &lone, tree, limits, steps),
+        None => tree_results(alloc, context, tree, limits, steps),
+    }
 }
 
 // The results of a segment from its tree, which was just made.

@@ -29,15 +29,15 @@ returns-in_err-tree-clause-cause g c = λ request query segment ready.
 pub returns-clause-cause : goal.returns-clause-cause
 returns-clause-cause g c = λ request query segment ready.
     subst (λ (l : Limits).
-    IfErr c.tree_results-results.result (IsMemoryRefusal request query (segment ∷ []) l))
+    IfErr c.made_results-results.result (IsMemoryRefusal request query (segment ∷ []) l))
     (before-made c.in_ok-tree.tree c.args.limits.now c.new.new.limits c.in_ok-tree.ensures.guard
     c.in_ok-tree.ensures.ledger)
-    (c.tree_results-results.ensures.cause request query segment ready)
+    (c.made_results-results.ensures.cause request query segment ready)
 
 pub returns-clause-room : goal.returns-clause-room
 returns-clause-room g c = λ request query segment ready.
-    subst (λ (l : Limits). OnOk c.tree_results-results.result
+    subst (λ (l : Limits). OnOk c.made_results-results.result
     (HaveRoom matches query request l (documents_of segment ∷ [])))
     (before-made c.in_ok-tree.tree c.args.limits.now c.new.new.limits c.in_ok-tree.ensures.guard
     c.in_ok-tree.ensures.ledger)
-    (c.tree_results-results.ensures.room request query segment ready)
+    (c.made_results-results.ensures.room request query segment ready)

@@ -1,0 +1,34 @@
+-- A node that stands alone in a context.
+use Rattle.std.proofs.Common.{◌≡◌, ◌<◌, ℕ, List, [], Some, get_or, length, map, sym, ap, ◌∙◌}
+use Rattle.std.specs.Prelude.{slice_get}
+use Rattle.agg_accessor.specs.declared.request_data.CompositeAggReqData.{CompositeAggReqData}
+use Rattle.agg_segment_context.specs.Plan.{Plan, Plans, plan_of, plans_of}
+use Rattle.agg_segment_context.specs.declared.context.PerRequestAggSegCtx.{PerRequestAggSegCtx}
+use Rattle.agg_segment_context.specs.declared.node.AggKind.TheVariants as kind
+use Rattle.agg_segment_context.specs.declared.node.AggRefNode.{AggRefNode}
+use Rattle.agg_segment_context.specs.declared.node.AggRefNode.TheViews.{out-AggRefNode}
+use Rattle.agg_segment_context.proofs.Views.{plan-out}
+use Rattle.agg_snapshot.specs.Lone.{IsLone}
+use Rattle.agg_snapshot.proofs.Contexts.{no-item, only-item}
+
+-- data is that of a lone composite, where its node is the only one and has no children
+pub lone-read : (ctx : PerRequestAggSegCtx) (nodes : List AggRefNode) (node : AggRefNode)
+    (req : CompositeAggReqData) → nodes ≡ ctx.agg_tree → length nodes ≡ 1
+    → node ≡ get_or nodes 0 node → (out-AggRefNode node).kind ≡ kind.Composite
+    → length (out-AggRefNode node).children < 1
+    → slice_get ctx.composite_req_data (out-AggRefNode node).idx_in_req_data ≡ Some req
+    → length req.req.now.sources ≡ 1 → IsLone ctx req
+lone-read ctx nodes node req are many first composite none at one =
+    let index : ℕ = (out-AggRefNode node).idx_in_req_data in
+    let below : (out-AggRefNode node).children ≡ [] = no-item (out-AggRefNode node).children none in
+    record {
+      index = index;
+      node =
+          ap (λ (ns : List AggRefNode). plans_of (map plan_of ns))
+          (sym are ∙ only-item nodes node many first)
+          ∙ ap (λ p. Plans.more p Plans.none)
+          (plan-out node
+          ∙ (λ i. Plan.node (composite i) index (plans_of (map plan_of (below i)))));
+      at = at;
+      one = one;
+    }

@@ -1,0 +1,17 @@
+use Rattle.std.proofs.Common.{◌*◌, subst}
+use Rattle.agg_charges.specs.Charges.{bucket_bytes}
+use Rattle.agg_held_bytes.specs.Checked.{IsChecked}
+use Rattle.agg_held_bytes.proofs.Checked.{is-checked}
+use Rattle.agg_snapshot.specs.ChargedTrees.{IsFixedCause}
+use Rattle.agg_snapshot.proofs.Refusals.{caused-by}
+use Rattle.agg_snapshot.proofs.charged_tree.ChargedTree.charge_buckets.Goals as goal
+
+pub returns-in_err-charge-clause-cause : goal.returns-in_err-charge-clause-cause
+returns-in_err-charge-clause-cause c =
+    let bytes = bucket_bytes c.args.req.now.req.now * c.args.buckets in
+    caused-by (IsFixedCause bytes c.args.limits.now) c.from_residual.result
+    c.in_err-charge.field-0.0 c.from_residual.ensures.1
+    (c.in_err-charge.ensures.cause bytes
+    (subst (λ n. IsChecked (n * c.args.buckets) c.checked_mul-bytes.result) c.bucket_bytes.ensures
+    (is-checked (c.bucket_bytes.result * c.args.buckets) c.checked_mul-bytes.result
+    c.checked_mul-bytes.ensures)))

@@ -1,0 +1,94 @@
+//! The results of a segment whose composite's tuples are listed.
+ghost use Rattle.std.specs.Prelude.{◌≡◌, ◌∷◌, ◌≤◌, [], IfErr, OnOk, length, map};
+ghost use Rattle.agg_values.specs.Names.{Named};
+ghost use Rattle.agg_values.specs.declared.after_key.AfterKey.{AfterKey};
+ghost use Rattle.agg_segment.specs.Query.{matches};
+ghost use Rattle.agg_segment.specs.Segment.{Stored, documents_of};
+ghost use Rattle.agg_segment.specs.declared.query.QueryTree.{QueryTree as Tree};
+ghost use Rattle.agg_request_tree.specs.Request.{Request};
+ghost use Rattle.agg_snapshot.specs.Answers.{AnswersResults, IsMemoryRefusal};
+ghost use Rattle.agg_snapshot.specs.ChargedTrees.{ChargesAnew, IsMade, before};
+ghost use Rattle.agg_snapshot.specs.Contexts.{MayBeCollected};
+ghost use Rattle.agg_snapshot.specs.Documents.{matching_in};
+ghost use Rattle.agg_snapshot.specs.Listed.{AnswersEntries, MayBeListed};
+ghost use Rattle.agg_snapshot.specs.Lone.{IsLone};
+ghost use Rattle.agg_snapshot.specs.MemoryLimits.{HaveRoom};
+
+use crate::lone::LoneComposite;
+use crate::{ChargedTree, SnapshotError};
+use agg_accessor::CompositeAggReqData;
+use agg_buckets::VisitError;
+use agg_cache::LimitsLedger;
+use agg_composite::{PageEntries, list_entries};
+use agg_results::IntermediateAggregationResults;
+use agg_tree_results::add_leaf;
+use agg_values::{DocId, OutOfMemory, Steps};
+use std::alloc::Global;
+use std::sync::ledger::Ledger;
+
+/// The results of a segment whose composite stands alone, by a list of its tuples. The tree, which
+/// was just made, takes no document, but the buckets are charged for it.
+pub fn listed_results<L: Ledger>(
+    alloc: Global,
+    lone: &LoneComposite<'_, '_>,
+    tree: &mut ChargedTree<'_>,
+    limits: &mut LimitsLedger,
+    steps: &mut Steps<L>,
+) -> Result<IntermediateAggregationResults, SnapshotError>
+    requires lone { IsLone lone.now.context.now.aggregations.per_request lone.now.req.now }
+    requires ready { (request : Request Tree) × (query : Tree) × (segment : Stored)
+        × MayBeCollected request query (segment ∷ []) (lone.now.context.now ∷ []) }
+    requires made { IsMade lone.now.context.now.aggregations.per_request
+        lone.now.context.now.reader.now tree.old }
+    requires charged { tree.old.guard ≤ limits.old.in_use }
+    ensures results { (request : Request Tree) (query : Tree) (segment : Stored)
+        → MayBeCollected request query (segment ∷ []) (lone.now.context.now ∷ [])
+        → AnswersResults request (matching_in query (segment ∷ [])) steps.old steps.new result }
+    ensures cause { (request : Request Tree) (query : Tree) (segment : Stored)
+        → MayBeCollected request query (segment ∷ []) (lone.now.context.now ∷ [])
+        → IfErr result (IsMemoryRefusal request query (segment ∷ [])
+        (before tree.old.guard limits.old)) }
+    ensures room { (request : Request Tree) (query : Tree) (segment : Stored)
+        → MayBeCollected request query (segment ∷ []) (lone.now.context.now ∷ [])
+        → OnOk result (HaveRoom matches query request (before tree.old.guard limits.old)
+        (map documents_of (segment ∷ []))) }
+    ensures charges { ChargesAnew tree.old tree.new limits.old limits.new }
+    ensures later { steps.old ≤ steps.new }
+{
+    let entries = lowest_entries(alloc, &lone.context.docs, lone.req, steps)?;
+    tree.charge_buckets(lone.req, entries.len(), limits)?;
+    let mut results = IntermediateAggregationResults::new(alloc);
+    add_leaf(alloc, entries, lone.req, &mut results)?;
+    Ok(results)
+}
+
+// The entries of the lowest tuples of documents that may be listed. Only memory may run out.
+fn lowest_entries<L: Ledger>(
+    alloc: Global,
+    docs: &[DocId],
+    req: &CompositeAggReqData<'_>,
+    steps: &mut Steps<L>,
+) -> Result<PageEntries, OutOfMemory>
+    requires one { length req.now.req.now.sources ≡ 1 }
+    requires may { (segment : Stored) × (after : Named AfterKey)
+        × MayBeListed segment after req.now docs.now }
+    ensures entries { (segment : Stored) (after : Named AfterKey)
+        → MayBeListed segment after req.now docs.now
+        → AnswersEntries segment after req.now docs.now steps.old steps.new result }
+    ensures later { steps.old ≤ steps.new }
+{
+    match list_entries(alloc, docs, req, steps) {
+        Ok(entries) => Ok(entries),
+        Err(error) => Err(out_of_memory(error)),
+    }
+}
+
+// The refusal of a list that can only have run out of memory.
+fn out_of_memory(error: VisitError) -> OutOfMemory
+    requires { error ≡ VisitError.OutOfMemory }
+{
+    match error {
+        VisitError::OutOfMemory => OutOfMemory,
+        VisitError::TooMany => unreachable!(),
+    }
+}
