@@ -23,10 +23,14 @@ const ORDERS: &[(&str, &str)] = &[
     (r#"{"_key":null}"#, "Grammar"),
 ];
 
+fn shown(alloc: Global, order: &CustomOrder) -> Result<String, Fail> {
+    Ok(order.write(alloc)?.to_string(alloc)?)
+}
+
 // What is written of the order that a text says.
 fn written(alloc: Global, text: &str) -> Result<String, Fail> {
     match CustomOrder::read(alloc, &Value::from_str(alloc, text)?) {
-        Ok(order) => Ok(order.write(alloc)?.to_string(alloc)?),
+        Ok(order) => shown(alloc, &order),
         Err(error) => Ok(format!(in alloc; "{error:?}")?),
     }
 }
@@ -37,7 +41,7 @@ fn writes_what_was_read(rt: HostRuntime) -> Result<(), Fail> {
     for &(text, expected) in ORDERS {
         assert_eq!(rt; written(alloc, text)?.as_str(), expected, "{text}");
     }
-    let usual = CustomOrder::default().write(alloc)?;
-    assert_eq!(rt; usual.to_string(alloc)?.as_str(), r#"{"_count":"desc"}"#);
+    let usual = shown(alloc, &CustomOrder::default())?;
+    assert_eq!(rt; usual.as_str(), r#"{"_count":"desc"}"#);
     Ok(())
 }

@@ -1,4 +1,5 @@
 use agg_request::{Aggregation, Aggregations, get_fast_field_names, read_aggregations};
+use agg_values::{NameMap, OutOfMemory, Text};
 use serde_json::Value;
 use std::alloc::Global;
 use std::test::Fail;
@@ -28,25 +29,37 @@ const REQUESTS: &[(&str, &str, &str)] = &[
     ),
 ];
 
-// The fields of all aggregations of a request.
-fn shown_all(alloc: Global, request: &Aggregations) -> Result<String, Fail> {
+fn show_name(shown: &mut String, name: &Text) -> Result<(), OutOfMemory> {
+    shown.push_str(name.as_str())?;
+    Ok(shown.push(' ')?)
+}
+
+fn shown_keys(alloc: Global, names: &NameMap<()>) -> Result<String, Fail> {
     let mut shown = String::new(alloc);
-    for name in get_fast_field_names(alloc, request)?.keys() {
-        shown.push_str(name.as_str())?;
-        shown.push(' ')?;
+    for name in names.keys() {
+        show_name(&mut shown, name)?;
     }
     Ok(shown)
 }
 
-// The fields of one aggregation.
-fn shown_one(alloc: Global, aggregation: &Aggregation) -> Result<String, Fail> {
+fn shown_names(alloc: Global, names: &[Text]) -> Result<String, Fail> {
     let mut shown = String::new(alloc);
-    for name in aggregation.agg.get_fast_field_names(alloc)?.as_slice() {
-        shown.push_str(name.as_str())?;
-        shown.push(' ')?;
+    for name in names {
+        show_name(&mut shown, name)?;
     }
     shown.push_str("; ")?;
     Ok(shown)
+}
+
+// The fields of all aggregations of a request.
+fn shown_all(alloc: Global, request: &Aggregations) -> Result<String, Fail> {
+    shown_keys(alloc, &get_fast_field_names(alloc, request)?)
+}
+
+// The fields of one aggregation.
+fn shown_one(alloc: Global, aggregation: &Aggregation) -> Result<String, Fail> {
+    let names = aggregation.agg.get_fast_field_names(alloc)?;
+    shown_names(alloc, names.as_slice())
 }
 
 // The fields of each aggregation.

@@ -4,6 +4,7 @@ use agg_segment::{Matches, SegmentReader};
 use agg_segment_tests::given::{Given, segment_of};
 use agg_values::DocId;
 use serde_json::Value;
+use std::alloc::Global;
 use std::process::Abort;
 use std::test::Fail;
 
@@ -93,6 +94,11 @@ const QUERIES: &[(&str, &[DocId])] = &[
     ),
 ];
 
+fn matches_of(alloc: Global, segment: &SegmentReader, query: &str) -> Result<Matches, Fail> {
+    let tree = read_query(alloc, &Value::from_str(alloc, query)?)?;
+    Ok(Matches::new(alloc, &tree, segment)?)
+}
+
 // A query matches these documents.
 fn expect_matches(
     rt: &(impl Abort + AllocGlobal),
@@ -100,14 +106,16 @@ fn expect_matches(
     query: &str,
     documents: &[DocId],
 ) -> Result<(), Fail> {
-    let alloc = rt.alloc();
-    let tree = read_query(alloc, &Value::from_str(alloc, query)?)?;
-    let found = Matches::new(alloc, &tree, segment)?;
-    assert_eq!(rt; found.docs(alloc)?.as_slice(), documents, "{query}");
+    let found = matches_of(rt.alloc(), segment, query)?;
     for doc in 0..6 {
-        let is_met = documents.contains(&doc);
-        assert_eq!(rt; found.contains(doc), is_met, "{query}, {doc}");
+        assert_eq!(rt;
+            found.contains(doc),
+            documents.contains(&doc),
+            "{query}, {doc}"
+        );
     }
+    let listed = found.docs(rt.alloc())?;
+    assert_eq!(rt; listed.as_slice(), documents, "{query}");
     Ok(())
 }
 

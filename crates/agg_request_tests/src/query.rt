@@ -1,4 +1,5 @@
-use agg_request::read_query;
+use agg_request::{ReadError, read_query};
+use agg_segment::QueryTree;
 use serde_json::Value;
 use std::alloc::Global;
 use std::test::Fail;
@@ -155,16 +156,19 @@ const VALUES: &[(&str, &str)] = &[
     (r#"{"all":null}"#, "Err(Grammar)"),
 ];
 
-// What is read of a text, as it is shown.
-fn shown(alloc: Global, text: &str) -> Result<String, Fail> {
-    let read = read_query(alloc, &Value::from_str(alloc, text)?);
+fn shown(alloc: Global, read: &Result<QueryTree, ReadError>) -> Result<String, Fail> {
     Ok(format!(in alloc; "{read:?}")?)
+}
+
+// What is read of a text, as it is shown.
+fn read(alloc: Global, text: &str) -> Result<String, Fail> {
+    shown(alloc, &read_query(alloc, &Value::from_str(alloc, text)?))
 }
 
 #[test]
 fn reads_queries(rt: HostRuntime) -> Result<(), Fail> {
     for &(text, expected) in VALUES {
-        assert_eq!(rt; shown(rt.alloc(), text)?.as_str(), expected, "{text}");
+        assert_eq!(rt; read(rt.alloc(), text)?.as_str(), expected, "{text}");
     }
     Ok(())
 }

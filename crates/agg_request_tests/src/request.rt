@@ -1,6 +1,6 @@
 use agg_request::{
-    Aggregation, AggregationVariants, Aggregations, FilterQuery, NamedBuilder, QueryBuildError,
-    QueryBuilder, read_aggregations,
+    Aggregation, AggregationVariants, Aggregations, FilterAggregation, FilterQuery, NamedBuilder,
+    QueryBuildError, QueryBuilder, read_aggregations,
 };
 use agg_segment::{QueryTree, Schema};
 use agg_values::Text;
@@ -185,45 +185,46 @@ impl QueryBuilder for Marked {
     }
 }
 
+fn shown_tree(alloc: Global, tree: &QueryTree) -> Result<String, Fail> {
+    Ok(format!(in alloc; "{tree:?}")?)
+}
+
+// The query that a builder makes.
+fn shown_built(alloc: Global, builder: &NamedBuilder) -> Result<String, Fail> {
+    let schema = Schema::new(alloc);
+    shown_tree(alloc, &builder.builder.build_query(alloc, &schema)?)
+}
+
 fn shown_query(alloc: Global, query: &FilterQuery) -> Result<String, Fail> {
     match query {
-        FilterQuery::Tree(tree) => Ok(format!(in alloc; "{tree:?}")?),
+        FilterQuery::Tree(tree) => shown_tree(alloc, tree),
         FilterQuery::CustomBuilder(named) => {
-            let tree = named.builder.build_query(alloc, &Schema::new(alloc))?;
-            Ok(format!(in alloc; "{} {tree:?}", named.name.as_str())?)
+            let query = shown_built(alloc, named)?;
+            Ok(format!(in alloc; "{} {query}", named.name.as_str())?)
         }
     }
 }
 
-// The kind and the field of a metric, none of a bucket.
-fn metric(aggregation: &Aggregation) -> Option<(&str, &Text)> {
-    match &aggregation.agg {
-        AggregationVariants::Filter(_) | AggregationVariants::Composite(_) => None,
-        AggregationVariants::Count(count) => Some(("value_count", &count.field)),
-        AggregationVariants::Max(max) => Some(("max", &max.field)),
-        AggregationVariants::Min(min) => Some(("min", &min.field)),
-        AggregationVariants::Sum(sum) => Some(("sum", &sum.field)),
-    }
+fn shown_filter(alloc: Global, filter: &FilterAggregation) -> Result<String, Fail> {
+    let query = shown_query(alloc, filter.query())?;
+    Ok(format!(in alloc; "filter {query}")?)
 }
 
-fn shown_bucket(alloc: Global, aggregation: &Aggregation) -> Result<String, Fail> {
-    match &aggregation.agg {
-        AggregationVariants::Filter(filter) => {
-            let query = shown_query(alloc, filter.query())?;
-            Ok(format!(in alloc; "filter {query}")?)
-        }
-        AggregationVariants::Composite(composite) => {
-            Ok(format!(in alloc; "composite {}", composite.size)?)
-        }
-        _ => Ok(String::new(alloc)),
-    }
+fn shown_metric(alloc: Global, kind: &str, field: &Text) -> Result<String, Fail> {
+    Ok(format!(in alloc; "{kind} {}", field.as_str())?)
 }
 
 // What an aggregation asks.
 fn shown_kind(alloc: Global, aggregation: &Aggregation) -> Result<String, Fail> {
-    match metric(aggregation) {
-        Some((kind, field)) => Ok(format!(in alloc; "{kind} {}", field.as_str())?),
-        None => shown_bucket(alloc, aggregation),
+    match &aggregation.agg {
+        AggregationVariants::Filter(filter) => shown_filter(alloc, filter),
+        AggregationVariants::Composite(composite) => {
+            Ok(format!(in alloc; "composite {}", composite.size)?)
+        }
+        AggregationVariants::Count(count) => shown_metric(alloc, "value_count", &count.field),
+        AggregationVariants::Max(max) => shown_metric(alloc, "max", &max.field),
+        AggregationVariants::Min(min) => shown_metric(alloc, "min", &min.field),
+        AggregationVariants::Sum(sum) => shown_metric(alloc, "sum", &sum.field),
     }
 }
 
@@ -239,6 +240,20 @@ fn show(
     Ok(())
 }
 
+// The aggregations at the third level, below one at the second.
+fn show_lowest(
+    alloc: Global,
+    shown: &mut String,
+    path: &str,
+    request: &Aggregations,
+) -> Result<(), Fail> {
+    for (name, aggregation) in request.iter() {
+        let path = format!(in alloc; "{path}>{}", name.as_str())?;
+        show(alloc, shown, path.as_str(), aggregation)?;
+    }
+    Ok(())
+}
+
 // The aggregations below one, and those below them.
 fn show_below(
     alloc: Global,
@@ -249,10 +264,7 @@ fn show_below(
     for (name, aggregation) in request.iter() {
         let path = format!(in alloc; "{path}>{}", name.as_str())?;
         show(alloc, shown, path.as_str(), aggregation)?;
-        for (name, aggregation) in aggregation.sub_aggregation.iter() {
-            let path = format!(in alloc; "{}>{}", path.as_str(), name.as_str())?;
-            show(alloc, shown, path.as_str(), aggregation)?;
-        }
+        show_lowest(alloc, shown, path.as_str(), &aggregation.sub_aggregation)?;
     }
     Ok(())
 }

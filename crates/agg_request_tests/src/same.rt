@@ -1,6 +1,8 @@
-use agg_request::{Aggregations, read_aggregations};
+use agg_request::{Aggregation, Aggregations, read_aggregations};
+use agg_values::Text;
 use serde_json::Value;
 use std::alloc::Global;
+use std::process::Abort;
 use std::test::Fail;
 
 // Aggregations, no two of which are the same.
@@ -45,35 +47,41 @@ const AGGREGATIONS: &[&str] = &[
     r#""filter":{"all":{}},"aggs":{"a":{"filter":{"all":{}},"aggs":{"a":{"sum":{"field":"f"}}}}}"#,
 ];
 
-// One request of them all, each by its number.
-fn all_of_them(alloc: Global) -> Result<Aggregations, Fail> {
+// The text of a request of them all, each by its number.
+fn text_of_all(alloc: Global) -> Result<String, Fail> {
     let mut text = String::new(alloc);
     for (i, aggregation) in AGGREGATIONS.iter().enumerate() {
         let comma = if i == 0 { "" } else { "," };
         text.push_str(format!(in alloc; r#"{comma}"{i}":{{{aggregation}}}"#)?.as_str())?;
     }
-    let text = format!(in alloc; "{{{text}}}")?;
+    Ok(format!(in alloc; "{{{text}}}")?)
+}
+
+fn all_of_them(alloc: Global) -> Result<Aggregations, Fail> {
+    let text = text_of_all(alloc)?;
     let value = Value::from_str(alloc, text.as_str())?;
     Ok(read_aggregations(alloc, &value, Vec::new(alloc))?)
+}
+
+// An aggregation is the same as that of its own name alone.
+fn expect_alone(rt: &impl Abort, name: &Text, aggregation: &Aggregation, others: &Aggregations) {
+    for (other_name, other) in others.iter() {
+        let is_same = aggregation.same_as(other);
+        assert_eq!(rt; is_same, name == other_name, "{name:?} {other_name:?}");
+    }
+}
+
+fn expect_each_alone(rt: &impl Abort, request: &Aggregations, others: &Aggregations) {
+    assert_eq!(rt; request.len(), AGGREGATIONS.len());
+    for (name, aggregation) in request.iter() {
+        expect_alone(rt, name, aggregation, others);
+    }
 }
 
 #[test]
 fn an_aggregation_is_the_same_as_itself_alone(rt: HostRuntime) -> Result<(), Fail> {
     let alloc = rt.alloc();
     let request = all_of_them(alloc)?;
-    let others = all_of_them(alloc)?;
-    assert_eq!(rt; request.len(), AGGREGATIONS.len());
-    for (name, aggregation) in request.iter() {
-        for (other_name, other) in others.iter() {
-            let is_same = aggregation.same_as(other);
-            assert_eq!(rt;
-                is_same,
-                name == other_name,
-                "{} {}",
-                name.as_str(),
-                other_name.as_str()
-            );
-        }
-    }
+    expect_each_alone(&rt, &request, &all_of_them(alloc)?);
     Ok(())
 }

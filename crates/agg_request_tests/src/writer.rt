@@ -4,7 +4,7 @@ use agg_request::{
     write_aggregations,
 };
 use agg_segment::{QueryTree, Schema};
-use agg_values::{NameMap, Text};
+use agg_values::{NameMap, OutOfMemory, Text};
 use serde_json::Value;
 use std::alloc::Global;
 use std::test::Fail;
@@ -155,15 +155,25 @@ fn shown(alloc: Global, request: &Aggregations) -> Result<Option<String>, Fail> 
     Ok(Some(write_aggregations(alloc, request)?.to_string(alloc)?))
 }
 
-// What is written of the request of a text, with the builder that it may name.
-fn written(alloc: Global, text: &str) -> Result<Option<String>, Fail> {
+// The builder that a request may name.
+fn builders(alloc: Global) -> Result<Vec<NamedBuilder>, Fail> {
     let mut builders = Vec::new(alloc);
     builders.push(NamedBuilder {
         name: Text::copy_of(alloc, "any_field")?,
         builder: Box::new(alloc, AllOfThem {})?,
     })?;
+    Ok(builders)
+}
+
+// The request of a text.
+fn read(alloc: Global, text: &str) -> Result<Aggregations, Fail> {
     let value = Value::from_str(alloc, text)?;
-    shown(alloc, &read_aggregations(alloc, &value, builders)?)
+    Ok(read_aggregations(alloc, &value, builders(alloc)?)?)
+}
+
+// What is written of the request of a text.
+fn written(alloc: Global, text: &str) -> Result<Option<String>, Fail> {
+    shown(alloc, &read(alloc, text)?)
 }
 
 // The same value without spaces and line ends between its members.
@@ -207,16 +217,27 @@ fn agg_of(alloc: Global, above: Above) -> Result<AggregationVariants, Fail> {
     })
 }
 
-// The request of one aggregation that stands above those of a text.
-fn built(alloc: Global, above: Above, below: &str) -> Result<Aggregations, Fail> {
-    let below = Value::from_str(alloc, below)?;
-    let aggregation = Aggregation {
-        agg: agg_of(alloc, above)?,
-        sub_aggregation: read_aggregations(alloc, &below, Vec::new(alloc))?,
-    };
+// The request of one aggregation under a name.
+fn request_of(
+    alloc: Global,
+    name: Text,
+    aggregation: Aggregation,
+) -> Result<Aggregations, OutOfMemory> {
     let mut request = NameMap::new(alloc);
-    request.insert(Text::copy_of(alloc, "a")?, aggregation)?;
+    request.insert(name, aggregation)?;
     Ok(request)
+}
+
+// What is written of an aggregation that stands above those of a text.
+fn written_above(alloc: Global, above: Above, below: &str) -> Result<Option<String>, Fail> {
+    let name = Text::copy_of(alloc, "a")?;
+    let agg = agg_of(alloc, above)?;
+    let sub_aggregation = read(alloc, below)?;
+    let aggregation = Aggregation {
+        agg,
+        sub_aggregation,
+    };
+    shown(alloc, &request_of(alloc, name, aggregation)?)
 }
 
 #[test]
@@ -234,15 +255,12 @@ fn writes_what_was_read_and_reads_it_back(rt: HostRuntime) -> Result<(), Fail> {
 fn writes_no_request_that_could_not_be_read(rt: HostRuntime) -> Result<(), Fail> {
     let alloc = rt.alloc();
     for &(above, below, expected) in BUILT {
+        let found = written_above(alloc, above, below)?;
         let expected = match expected {
             Some(text) => Some(compact(alloc, text)?),
             None => None,
         };
-        assert_eq!(rt;
-            shown(alloc, &built(alloc, above, below)?)?,
-            expected,
-            "{below}"
-        );
+        assert_eq!(rt; found, expected, "{below}");
     }
     Ok(())
 }
