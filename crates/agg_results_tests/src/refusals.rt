@@ -4,6 +4,7 @@ use crate::held::Metric::{Count, Max, Min, Sum};
 use crate::held::{Named, Nested, empty_page, held_of, held_page};
 use agg_results::{IntermediateAggregationResults, MergeError};
 use agg_values::Order;
+use std::process::Abort;
 use std::test::Fail;
 
 type Pair = (Named<Nested>, Named<Nested>);
@@ -127,14 +128,23 @@ fn taken_in(
     (answer, first.keys().next().is_none())
 }
 
-#[test]
-fn results_of_other_shapes_are_not_one(rt: HostRuntime) -> Result<(), Fail> {
+// The first of each pair refuses the second so, and then holds no name.
+fn expect_refused(
+    rt: &(impl Abort + AllocGlobal),
+    pairs: &[Pair],
+    error: MergeError,
+) -> Result<(), Fail> {
     let alloc = rt.alloc();
-    for &(first, second) in OTHERS {
+    for &(first, second) in pairs {
         let found = taken_in(held_of(alloc, first)?, held_of(alloc, second)?);
-        assert_eq!(rt; found, (Err(MergeError::Mismatch), true));
+        assert_eq!(rt; found, (Err(error), true));
     }
     Ok(())
+}
+
+#[test]
+fn results_of_other_shapes_are_not_one(rt: HostRuntime) -> Result<(), Fail> {
+    expect_refused(&rt, OTHERS, MergeError::Mismatch)
 }
 
 #[test]
@@ -154,20 +164,10 @@ fn pages_in_other_orders_are_not_one(rt: HostRuntime) -> Result<(), Fail> {
 
 #[test]
 fn other_shapes_are_told_before_sums_that_are_too_large(rt: HostRuntime) -> Result<(), Fail> {
-    let alloc = rt.alloc();
-    for &(first, second) in OTHERS_AND_TOO_MANY {
-        let found = taken_in(held_of(alloc, first)?, held_of(alloc, second)?);
-        assert_eq!(rt; found, (Err(MergeError::Mismatch), true));
-    }
-    Ok(())
+    expect_refused(&rt, OTHERS_AND_TOO_MANY, MergeError::Mismatch)
 }
 
 #[test]
 fn sums_that_are_too_large_are_refused(rt: HostRuntime) -> Result<(), Fail> {
-    let alloc = rt.alloc();
-    for &(first, second) in TOO_MANY {
-        let found = taken_in(held_of(alloc, first)?, held_of(alloc, second)?);
-        assert_eq!(rt; found, (Err(MergeError::TooMany), true));
-    }
-    Ok(())
+    expect_refused(&rt, TOO_MANY, MergeError::TooMany)
 }

@@ -1,7 +1,7 @@
 //! What is held, as it is shown.
 use crate::held::{Named, Nested, held_of};
 use agg_cache::LimitsLedger;
-use agg_request::read_aggregations;
+use agg_request::{Aggregations, read_aggregations};
 use agg_results::{AggregationResults, FinalError, IntermediateAggregationResults};
 use agg_values::Text;
 use serde_json::Value;
@@ -15,6 +15,11 @@ pub const PAGE: &str =
 /// A request, what two machines hold for it, and what is shown of both as one.
 pub type MergedRow = (&'static str, Named<Nested>, Named<Nested>, &'static str);
 
+fn request_of(alloc: Global, text: &str) -> Result<Aggregations, Fail> {
+    let value = Value::from_str(alloc, text)?;
+    Ok(read_aggregations(alloc, &value, Vec::new(alloc))?)
+}
+
 /// The final results of what is held, for the request of a text.
 pub fn final_of(
     alloc: Global,
@@ -22,13 +27,13 @@ pub fn final_of(
     held: IntermediateAggregationResults,
     bucket_limit: Option<u32>,
 ) -> Result<Result<AggregationResults, FinalError>, Fail> {
-    let request = read_aggregations(alloc, &Value::from_str(alloc, request)?, Vec::new(alloc))?;
+    let request = request_of(alloc, request)?;
     Ok(held.into_final_result(&request, &LimitsLedger::new(None, bucket_limit)))
 }
 
 /// What is held of no documents, for the request of a text.
 pub fn empty_of(alloc: Global, request: &str) -> Result<IntermediateAggregationResults, Fail> {
-    let request = read_aggregations(alloc, &Value::from_str(alloc, request)?, Vec::new(alloc))?;
+    let request = request_of(alloc, request)?;
     Ok(IntermediateAggregationResults::empty_from_req(alloc, &request)?)
 }
 
