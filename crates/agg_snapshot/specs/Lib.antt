@@ -7,5 +7,6 @@ pub mod Documents
 pub mod Listed
 pub mod Lone
 pub mod MemoryLimits
+pub mod SegmentAnswers
 pub mod Steps
 pub mod Trees

@@ -1,18 +1,13 @@
 //! The results of a segment whose composite's tuples are listed.
-ghost use Rattle.std.specs.Prelude.{◌≡◌, ◌∷◌, ◌≤◌, [], IfErr, OnOk, length, map};
+ghost use Rattle.std.specs.Prelude.{◌≡◌, ◌≤◌, length};
 ghost use Rattle.agg_values.specs.Names.{Named};
 ghost use Rattle.agg_values.specs.declared.after_key.AfterKey.{AfterKey};
-ghost use Rattle.agg_segment.specs.Query.{matches};
-ghost use Rattle.agg_segment.specs.Segment.{Stored, documents_of};
-ghost use Rattle.agg_segment.specs.declared.query.QueryTree.{QueryTree as Tree};
-ghost use Rattle.agg_request_tree.specs.Request.{Request};
-ghost use Rattle.agg_snapshot.specs.Answers.{AnswersResults, IsMemoryRefusal};
+ghost use Rattle.agg_segment.specs.Segment.{Stored};
 ghost use Rattle.agg_snapshot.specs.ChargedTrees.{ChargesAnew, IsMade, before};
-ghost use Rattle.agg_snapshot.specs.Contexts.{MayBeCollected};
-ghost use Rattle.agg_snapshot.specs.Documents.{matching_in};
 ghost use Rattle.agg_snapshot.specs.Listed.{AnswersEntries, MayBeListed};
 ghost use Rattle.agg_snapshot.specs.Lone.{IsLone};
-ghost use Rattle.agg_snapshot.specs.MemoryLimits.{HaveRoom};
+ghost use Rattle.agg_snapshot.specs.SegmentAnswers.{AnswersSegment, HasLowRoom, HasMemoryCause};
+ghost use Rattle.agg_snapshot.specs.SegmentAnswers.{IsReady};
 
 use crate::lone::LoneComposite;
 use crate::{ChargedTree, SnapshotError};
@@ -36,22 +31,13 @@ pub fn listed_results<L: Ledger>(
     steps: &mut Steps<L>,
 ) -> Result<IntermediateAggregationResults, SnapshotError>
     requires lone { IsLone lone.now.context.now.aggregations.per_request lone.now.req.now }
-    requires ready { (request : Request Tree) × (query : Tree) × (segment : Stored)
-        × MayBeCollected request query (segment ∷ []) (lone.now.context.now ∷ []) }
+    requires ready { IsReady lone.now.context.now }
     requires made { IsMade lone.now.context.now.aggregations.per_request
         lone.now.context.now.reader.now tree.old }
     requires charged { tree.old.guard ≤ limits.old.in_use }
-    ensures results { (request : Request Tree) (query : Tree) (segment : Stored)
-        → MayBeCollected request query (segment ∷ []) (lone.now.context.now ∷ [])
-        → AnswersResults request (matching_in query (segment ∷ [])) steps.old steps.new result }
-    ensures cause { (request : Request Tree) (query : Tree) (segment : Stored)
-        → MayBeCollected request query (segment ∷ []) (lone.now.context.now ∷ [])
-        → IfErr result (IsMemoryRefusal request query (segment ∷ [])
-        (before tree.old.guard limits.old)) }
-    ensures room { (request : Request Tree) (query : Tree) (segment : Stored)
-        → MayBeCollected request query (segment ∷ []) (lone.now.context.now ∷ [])
-        → OnOk result (HaveRoom matches query request (before tree.old.guard limits.old)
-        (map documents_of (segment ∷ []))) }
+    ensures results { AnswersSegment lone.now.context.now steps.old steps.new result }
+    ensures cause { HasMemoryCause lone.now.context.now (before tree.old.guard limits.old) result }
+    ensures room { HasLowRoom lone.now.context.now (before tree.old.guard limits.old) result }
     ensures charges { ChargesAnew tree.old tree.new limits.old limits.new }
     ensures later { steps.old ≤ steps.new }
 {

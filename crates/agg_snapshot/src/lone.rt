@@ -1,10 +1,17 @@
 //! A composite that stands alone in a segment.
-ghost use Rattle.std.specs.Prelude.{◌≡◌, IfSome};
+ghost use Rattle.std.specs.Prelude.{◌≡◌, ◌≤◌, IfSome, length, true};
+ghost use Rattle.agg_values.specs.Names.{Named};
+ghost use Rattle.agg_values.specs.declared.after_key.AfterKey.{AfterKey};
+ghost use Rattle.agg_segment.specs.Segment.{Stored, documents_at};
+ghost use Rattle.agg_request_tree.specs.Uncut.{counted};
+ghost use Rattle.agg_accessor.specs.Accessors.{Fits};
+ghost use Rattle.agg_segment_context.specs.Context.{IsMeant, Meaning};
 ghost use Rattle.agg_snapshot.specs.Lone.{IsLone};
 
 use crate::context::SegmentContext;
 use agg_accessor::CompositeAggReqData;
 use agg_segment_context::AggKind;
+use agg_values::DocId;
 
 /// A composite that stands alone in a segment, with one source and nothing below it.
 #[derive(Drop)]
@@ -14,11 +21,16 @@ pub struct LoneComposite<'a, 's> {
 }
 
 /// The composite of a segment's context, where it stands alone, has one source, and its page has
-/// room for a bucket for each document.
+/// room for a bucket for each occurrence of the documents that match.
 pub fn lone_composite<'a, 's>(context: &'a SegmentContext<'s>) -> Option<LoneComposite<'a, 's>>
+    requires { (meaning : Meaning) × IsMeant meaning context.now.aggregations.per_request }
     ensures context { IfSome result (λ lone. lone.context.now ≡ context.now) }
     ensures lone { IfSome result
         (λ lone. IsLone context.now.aggregations.per_request lone.req.now) }
+    ensures room { IfSome result (λ lone. (segment : Stored) (after : Named AfterKey)
+        → Fits segment after lone.req.now
+        → length (counted lone.req.now.req.now (documents_at segment context.now.docs.items))
+        ≤ lone.req.now.size) }
 {
     let ctx = &context.aggregations.per_request;
     let [node] = ctx.agg_tree.as_slice() else {
@@ -31,8 +43,19 @@ pub fn lone_composite<'a, 's>(context: &'a SegmentContext<'s>) -> Option<LoneCom
         return None;
     }
     let req = ctx.composite_req_data.as_slice().get(node.idx_in_req_data)?;
-    if req.req.sources.as_slice().len() != 1 || (req.size as usize) < context.docs.len() {
+    if req.req.sources.as_slice().len() != 1 || !has_room(req, &context.docs) {
         return None;
     }
     Some(LoneComposite { context, req })
+}
+
+// Whether a page has room for a bucket for each occurrence of documents.
+fn has_room(req: &CompositeAggReqData<'_>, docs: &[DocId]) -> bool
+    requires { (segment : Stored) × (after : Named AfterKey) × Fits segment after req.now }
+    ensures { (segment : Stored) (after : Named AfterKey) → Fits segment after req.now
+        → result ≡ true
+        → length (counted req.now.req.now (documents_at segment docs.now)) ≤ req.now.size }
+{
+    let size = req.size as u64;
+    docs.len() as u64 <= size && req.count_occurrences(docs) <= size
 }

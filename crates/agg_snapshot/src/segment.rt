@@ -1,14 +1,8 @@
 //! The results of one segment.
-ghost use Rattle.std.specs.Prelude.{◌≡◌, ◌∷◌, ◌≤◌, [], IfErr, OnOk, map};
-ghost use Rattle.agg_segment.specs.Query.{matches};
-ghost use Rattle.agg_segment.specs.Segment.{Stored, documents_of};
-ghost use Rattle.agg_segment.specs.declared.query.QueryTree.{QueryTree as Tree};
-ghost use Rattle.agg_request_tree.specs.Request.{Request};
-ghost use Rattle.agg_snapshot.specs.Answers.{AnswersResults, IsMemoryRefusal};
+ghost use Rattle.std.specs.Prelude.{◌≡◌, ◌≤◌};
 ghost use Rattle.agg_snapshot.specs.ChargedTrees.{ChargesAnew, IsMade, before};
-ghost use Rattle.agg_snapshot.specs.Contexts.{MayBeCollected};
-ghost use Rattle.agg_snapshot.specs.Documents.{matching_in};
-ghost use Rattle.agg_snapshot.specs.MemoryLimits.{HaveRoom};
+ghost use Rattle.agg_snapshot.specs.SegmentAnswers.{AnswersSegment, HasLowRoom, HasMemoryCause};
+ghost use Rattle.agg_snapshot.specs.SegmentAnswers.{IsReady};
 
 use crate::context::SegmentContext;
 use crate::listed::listed_results;
@@ -28,17 +22,10 @@ pub fn segment_results<L: Ledger>(
     limits: &mut LimitsLedger,
     steps: &mut Steps<L>,
 ) -> Result<IntermediateAggregationResults, SnapshotError>
-    requires { (request : Request Tree) × (query : Tree) × (segment : Stored)
-        × MayBeCollected request query (segment ∷ []) (context.now ∷ []) }
-    ensures results { (request : Request Tree) (query : Tree) (segment : Stored)
-        → MayBeCollected request query (segment ∷ []) (context.now ∷ [])
-        → AnswersResults request (matching_in query (segment ∷ [])) steps.old steps.new result }
-    ensures cause { (request : Request Tree) (query : Tree) (segment : Stored)
-        → MayBeCollected request query (segment ∷ []) (context.now ∷ [])
-        → IfErr result (IsMemoryRefusal request query (segment ∷ []) limits.old) }
-    ensures room { (request : Request Tree) (query : Tree) (segment : Stored)
-        → MayBeCollected request query (segment ∷ []) (context.now ∷ []) → OnOk result
-        (HaveRoom matches query request limits.old (map documents_of (segment ∷ []))) }
+    requires { IsReady context.now }
+    ensures results { AnswersSegment context.now steps.old steps.new result }
+    ensures cause { HasMemoryCause context.now limits.old result }
+    ensures room { HasLowRoom context.now limits.old result }
     ensures limits { limits.new ≡ limits.old }
     ensures later { steps.old ≤ steps.new }
 {
@@ -58,21 +45,12 @@ fn made_results<L: Ledger>(
     limits: &mut LimitsLedger,
     steps: &mut Steps<L>,
 ) -> Result<IntermediateAggregationResults, SnapshotError>
-    requires ready { (request : Request Tree) × (query : Tree) × (segment : Stored)
-        × MayBeCollected request query (segment ∷ []) (context.now ∷ []) }
+    requires ready { IsReady context.now }
     requires made { IsMade context.now.aggregations.per_request context.now.reader.now tree.old }
     requires charged { tree.old.guard ≤ limits.old.in_use }
-    ensures results { (request : Request Tree) (query : Tree) (segment : Stored)
-        → MayBeCollected request query (segment ∷ []) (context.now ∷ [])
-        → AnswersResults request (matching_in query (segment ∷ [])) steps.old steps.new result }
-    ensures cause { (request : Request Tree) (query : Tree) (segment : Stored)
-        → MayBeCollected request query (segment ∷ []) (context.now ∷ [])
-        → IfErr result (IsMemoryRefusal request query (segment ∷ [])
-        (before tree.old.guard limits.old)) }
-    ensures room { (request : Request Tree) (query : Tree) (segment : Stored)
-        → MayBeCollected request query (segment ∷ []) (context.now ∷ [])
-        → OnOk result (HaveRoom matches query request (before tree.old.guard limits.old)
-        (map documents_of (segment ∷ []))) }
+    ensures results { AnswersSegment context.now steps.old steps.new result }
+    ensures cause { HasMemoryCause context.now (before tree.old.guard limits.old) result }
+    ensures room { HasLowRoom context.now (before tree.old.guard limits.old) result }
     ensures charges { ChargesAnew tree.old tree.new limits.old limits.new }
     ensures later { steps.old ≤ steps.new }
 {
@@ -90,21 +68,12 @@ fn tree_results<L: Ledger>(
     limits: &mut LimitsLedger,
     steps: &mut Steps<L>,
 ) -> Result<IntermediateAggregationResults, SnapshotError>
-    requires ready { (request : Request Tree) × (query : Tree) × (segment : Stored)
-        × MayBeCollected request query (segment ∷ []) (context.now ∷ []) }
+    requires ready { IsReady context.now }
     requires made { IsMade context.now.aggregations.per_request context.now.reader.now tree.old }
     requires charged { tree.old.guard ≤ limits.old.in_use }
-    ensures results { (request : Request Tree) (query : Tree) (segment : Stored)
-        → MayBeCollected request query (segment ∷ []) (context.now ∷ [])
-        → AnswersResults request (matching_in query (segment ∷ [])) steps.old steps.new result }
-    ensures cause { (request : Request Tree) (query : Tree) (segment : Stored)
-        → MayBeCollected request query (segment ∷ []) (context.now ∷ [])
-        → IfErr result (IsMemoryRefusal request query (segment ∷ [])
-        (before tree.old.guard limits.old)) }
-    ensures room { (request : Request Tree) (query : Tree) (segment : Stored)
-        → MayBeCollected request query (segment ∷ []) (context.now ∷ [])
-        → OnOk result (HaveRoom matches query request (before tree.old.guard limits.old)
-        (map documents_of (segment ∷ []))) }
+    ensures results { AnswersSegment context.now steps.old steps.new result }
+    ensures cause { HasMemoryCause context.now (before tree.old.guard limits.old) result }
+    ensures room { HasLowRoom context.now (before tree.old.guard limits.old) result }
     ensures charges { ChargesAnew tree.old tree.new limits.old limits.new }
     ensures later { steps.old ≤ steps.new }
 {

@@ -20,3 +20,19 @@ returns-clause-lone c =
     (ap length c.as_slice-3.ensures) found.3.0
     (found.1 ∙ ap (λ (xs : List CompositeAggReqData). get_or xs index req) c.as_slice-3.ensures))
     (omega (arith, c.if-as_slice-ne1.false, ap length c.as_slice-4.ensures))
+
+pub has_room-requires : goal.has_room-requires
+has_room-requires c =
+    let ctx = c.args.context.now.aggregations.per_request in
+    let req = c.in_ok-req.req.now in
+    let index = (out-AggRefNode c.node-item.result).idx_in_req_data in
+    let meaning = c.requires.0 in
+    let found = c.in_ok-req.ensures.lookup in (
+      meaning.segment,
+      meaning.after_at index,
+      (c.requires.1.composites index req
+          (slice_get_read ctx.composite_req_data (length c.as_slice-3.result.now) index req
+          (ap length c.as_slice-3.ensures) found.3.0
+          (found.1 ∙ ap (λ (xs : List CompositeAggReqData). get_or xs index req)
+          c.as_slice-3.ensures))).fits,
+    )
