@@ -12,6 +12,8 @@ use agg_values::{
     RequestError, Text,
 };
 use std::alloc::Global;
+use std::fmt::Debug;
+use std::process::Abort;
 use std::test::Fail;
 
 // A source of terms: its name, and whether it has a bucket for a missing value.
@@ -216,25 +218,27 @@ const INTERVALS: &[(Kind, Fault)] = &[
     ),
 ];
 
-// A kind of each source, and an after value with whether it may be one of each kind.
+// A kind of each source, and after values with the fault of one of each kind.
 const KINDS: [Kind; 3] = [
     Kind::Terms,
     Kind::Histogram(1),
     Kind::Dates(Some("1d"), None),
 ];
 
-const AFTER_VALUES: &[(Option<Given>, [bool; 3])] = &[
-    (None, [true, true, true]),
-    (Some(Given::Signed(i64::MIN)), [true, true, false]),
-    (Some(Given::Signed(7)), [true, true, false]),
-    (Some(Given::Unsigned(7)), [true, true, false]),
-    (Some(Given::Unsigned(u64::MAX)), [true, true, false]),
-    (Some(Given::Date(0)), [true, false, true]),
-    (Some(Given::Date(-7)), [true, false, true]),
-    (Some(Given::Text("1970-01-01")), [true, false, false]),
-    (Some(Given::Text("7")), [true, false, false]),
-    (Some(Given::Truth(true)), [true, false, false]),
-    (Some(Given::Address(7)), [true, false, false]),
+const OTHER: Option<InvalidArgument> = Some(InvalidArgument::AfterType);
+
+const AFTER_VALUES: &[(Option<Given>, [Option<InvalidArgument>; 3])] = &[
+    (None, [None, None, None]),
+    (Some(Given::Signed(i64::MIN)), [None, None, OTHER]),
+    (Some(Given::Signed(7)), [None, None, OTHER]),
+    (Some(Given::Unsigned(7)), [None, None, OTHER]),
+    (Some(Given::Unsigned(u64::MAX)), [None, None, OTHER]),
+    (Some(Given::Date(0)), [None, OTHER, None]),
+    (Some(Given::Date(-7)), [None, OTHER, None]),
+    (Some(Given::Text("1970-01-01")), [None, OTHER, OTHER]),
+    (Some(Given::Text("7")), [None, OTHER, OTHER]),
+    (Some(Given::Truth(true)), [None, OTHER, OTHER]),
+    (Some(Given::Address(7)), [None, OTHER, OTHER]),
 ];
 
 // Where a composite is checked: beside one without a fault, or below it or a filter.
@@ -253,10 +257,22 @@ fn sound(alloc: Global) -> Result<CompositeAggregation, OutOfMemory> {
     composite_of(alloc, &[GivenSource::of("x", Kind::Terms, false)], 1)
 }
 
+// Adds a composite without a fault to a request.
+fn add_sound(alloc: Global, request: &mut Aggregations) -> Result<(), OutOfMemory> {
+    let name = Text::copy_of(alloc, "b")?;
+    add(request, name, lone(alloc, sound(alloc)?))
+}
+
+// Adds a value under a name.
+fn add<T: Drop>(map: &mut NameMap<T>, name: Text, value: T) -> Result<(), OutOfMemory> {
+    map.insert(name, value)?;
+    Ok(())
+}
+
 // A request of a composite without a fault and of the checked one, under these names.
 fn beside(alloc: Global, name: &str, checked: Aggregation) -> Result<Aggregations, OutOfMemory> {
-    let mut request = request_of(alloc, "b", lone(alloc, sound(alloc)?))?;
-    request.insert(Text::copy_of(alloc, name)?, checked)?;
+    let mut request = request_of(alloc, name, checked)?;
+    add_sound(alloc, &mut request)?;
     Ok(request)
 }
 
@@ -328,27 +344,70 @@ fn answer(
     Ok(check_request(alloc, &request_at(alloc, place, composite)?).err())
 }
 
+// What is found in a case is what is expected.
+fn expect<T: PartialEq + Debug + Drop>(rt: &impl Abort, case: &impl Debug, found: T, expected: T) {
+    assert_eq!(rt; found, expected, "{case:?}");
+}
+
+// A composite at a place is answered with its fault.
+fn expect_fault(
+    rt: &(impl Abort + AllocGlobal),
+    place: Place,
+    composite: CompositeAggregation,
+    fault: Option<InvalidArgument>,
+) -> Result<(), Fail> {
+    let found = answer(rt.alloc(), place, composite)?;
+    expect(rt, &place, found, fault.map(RequestError::Invalid));
+    Ok(())
+}
+
 #[test]
-fn finds_faults(rt: HostRuntime) -> Result<(), Fail> {
+fn finds_no_fault_in_no_aggregation(rt: HostRuntime) -> Result<(), Fail> {
     let alloc = rt.alloc();
-    assert_eq!(rt; check_request(alloc, &NameMap::new(alloc)), Ok(()));
-    for &(sources, size, after, fault) in COMPOSITES {
-        for place in PLACES {
-            let found = answer(alloc, place, terms_of(alloc, sources, size, after)?)?;
-            assert_eq!(rt; found, fault.map(RequestError::Invalid), "{place:?}");
-        }
+    assert!(rt; check_request(alloc, &NameMap::new(alloc)).is_ok());
+    Ok(())
+}
+
+// A composite is answered with its fault at each place.
+fn expect_faults(
+    rt: &(impl Abort + AllocGlobal),
+    sources: &[Source],
+    size: u32,
+    after: &[After],
+    fault: Option<InvalidArgument>,
+) -> Result<(), Fail> {
+    for place in PLACES {
+        let composite = terms_of(rt.alloc(), sources, size, after)?;
+        expect_fault(rt, place, composite, fault)?;
     }
     Ok(())
 }
 
 #[test]
-fn finds_faults_of_other_sizes_and_after_keys(rt: HostRuntime) -> Result<(), Fail> {
-    let alloc = rt.alloc();
+fn finds_faults(rt: HostRuntime) -> Result<(), Fail> {
     for &(sources, size, after, fault) in COMPOSITES {
-        let composite = terms_of(alloc, sources, 0, &[("a", None)])?;
-        let after = after_of(alloc, after)?;
-        let found = check_composite(alloc, &composite, size, &after).err();
-        assert_eq!(rt; found, fault.map(RequestError::Invalid));
+        expect_faults(&rt, sources, size, after, fault)?;
+    }
+    Ok(())
+}
+
+// What is answered where a composite is checked with another size and after key than its own.
+fn answer_with(
+    alloc: Global,
+    sources: &[Source],
+    size: u32,
+    after: &[After],
+) -> Result<Option<RequestError>, OutOfMemory> {
+    let after = after_of(alloc, after)?;
+    let composite = terms_of(alloc, sources, 0, &[("a", None)])?;
+    Ok(check_composite(alloc, &composite, size, &after).err())
+}
+
+#[test]
+fn finds_faults_of_other_sizes_and_after_keys(rt: HostRuntime) -> Result<(), Fail> {
+    for &(sources, size, after, fault) in COMPOSITES {
+        let found = answer_with(rt.alloc(), sources, size, after)?;
+        expect(&rt, &size, found, fault.map(RequestError::Invalid));
     }
     Ok(())
 }
@@ -382,30 +441,30 @@ fn finds_faults_of_intervals(rt: HostRuntime) -> Result<(), Fail> {
             GivenSource::of("a", Kind::Terms, false),
             GivenSource::of("b", kind, false),
         ];
+        let expected = error_for(alloc, fault)?;
         let found = answer(alloc, Place::Last, composite_of(alloc, &sources, 1)?)?;
-        assert_eq!(rt; found, error_for(alloc, fault)?);
+        expect(&rt, &Place::Last, found, expected);
     }
     Ok(())
 }
 
-// What is answered where a source named a has an after value of this name.
-fn answer_after(
+// A composite of a source named a, with an after value of this name.
+fn with_after(
     alloc: Global,
     kind: Kind,
     after: After,
-) -> Result<Option<RequestError>, OutOfMemory> {
+) -> Result<CompositeAggregation, OutOfMemory> {
     let mut composite = composite_of(alloc, &[GivenSource::of("a", kind, true)], 1)?;
     composite.after = after_of(alloc, &[after])?;
-    answer(alloc, Place::Last, composite)
+    Ok(composite)
 }
 
 #[test]
 fn finds_after_values_of_other_types(rt: HostRuntime) -> Result<(), Fail> {
-    for &(value, sound) in AFTER_VALUES {
-        for (kind, is_sound) in KINDS.into_iter().zip(sound) {
-            let found = answer_after(rt.alloc(), kind, ("a", value))?;
-            let other = Some(RequestError::Invalid(InvalidArgument::AfterType));
-            assert_eq!(rt; found, if is_sound { None } else { other });
+    for &(value, faults) in AFTER_VALUES {
+        for (index, kind) in KINDS.into_iter().enumerate() {
+            let composite = with_after(rt.alloc(), kind, ("a", value))?;
+            expect_fault(&rt, Place::Last, composite, faults[index])?;
         }
     }
     Ok(())
@@ -415,8 +474,8 @@ fn finds_after_values_of_other_types(rt: HostRuntime) -> Result<(), Fail> {
 fn passes_after_values_of_other_names(rt: HostRuntime) -> Result<(), Fail> {
     for &(value, _) in AFTER_VALUES {
         for kind in KINDS {
-            let found = answer_after(rt.alloc(), kind, ("b", value))?;
-            assert_eq!(rt; found, None);
+            let composite = with_after(rt.alloc(), kind, ("b", value))?;
+            expect_fault(&rt, Place::Last, composite, None)?;
         }
     }
     Ok(())

@@ -154,7 +154,14 @@ pub fn request_of(
 ) -> Result<Aggregations, OutOfMemory>
     ensures { IfOk result (λ request. request ≡ (name.now, aggregation) ∷ []) }
 {
-    let mut request = NameMap::new(alloc);
-    request.insert(Text::copy_of(alloc, name)?, aggregation)?;
-    Ok(request)
+    lone_entry(alloc, name, aggregation)
+}
+
+// A map of one name.
+fn lone_entry<T: Drop>(alloc: Global, name: &str, value: T) -> Result<NameMap<T>, OutOfMemory>
+    ensures { IfOk result (λ map. map ≡ (name.now, value) ∷ []) }
+{
+    let mut map = NameMap::new(alloc);
+    map.insert(Text::copy_of(alloc, name)?, value)?;
+    Ok(map)
 }
