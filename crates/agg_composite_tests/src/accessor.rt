@@ -8,6 +8,7 @@ use agg_values::{
     CompositeIntermediateKey, InvalidArgument, MissingOrder, Order, OutOfMemory, RequestError, Text,
 };
 use std::alloc::Global;
+use std::process::Abort;
 use std::test::Fail;
 
 // The values of the document.
@@ -96,14 +97,19 @@ fn standing_by(
     standing(alloc, segment, &source, after)
 }
 
-#[test]
-fn accessors_say_where_an_after_value_stands(rt: HostRuntime) -> Result<(), Fail> {
-    let segment = segment_of(rt.alloc(), &[MIXED])?;
+// After values stand where the table says.
+fn expect_standings(rt: &(impl Abort + AllocGlobal), segment: &SegmentReader) -> Result<(), Fail> {
     for &(order, missing_order, after, expected) in STANDINGS {
-        let found = standing_by(rt.alloc(), &segment, (order, missing_order), after)?;
+        let found = standing_by(rt.alloc(), segment, (order, missing_order), after)?;
         assert_eq!(rt; found, expected, "{order:?} {missing_order:?} {after:?}");
     }
     Ok(())
+}
+
+#[test]
+fn accessors_say_where_an_after_value_stands(rt: HostRuntime) -> Result<(), Fail> {
+    let segment = segment_of(rt.alloc(), &[MIXED])?;
+    expect_standings(&rt, &segment)
 }
 
 // The types of the columns that a source of this order reads.
@@ -112,14 +118,19 @@ fn types_by(alloc: Global, segment: &SegmentReader, order: Order) -> Result<Vec<
     types(alloc, segment, &source)
 }
 
-#[test]
-fn accessors_stand_in_the_requested_order(rt: HostRuntime) -> Result<(), Fail> {
-    let segment = segment_of(rt.alloc(), &[MIXED])?;
+// Sources read columns of the types that the table says.
+fn expect_types(rt: &(impl Abort + AllocGlobal), segment: &SegmentReader) -> Result<(), Fail> {
     for &(order, expected) in TYPES {
-        let found = types_by(rt.alloc(), &segment, order)?;
+        let found = types_by(rt.alloc(), segment, order)?;
         assert_eq!(rt; found.as_slice(), expected, "{order:?}");
     }
     Ok(())
+}
+
+#[test]
+fn accessors_stand_in_the_requested_order(rt: HostRuntime) -> Result<(), Fail> {
+    let segment = segment_of(rt.alloc(), &[MIXED])?;
+    expect_types(&rt, &segment)
 }
 
 // Why Null is no after value of a source without a bucket for a missing value.
@@ -133,11 +144,16 @@ fn fault_of_null(
     Ok(refused.err())
 }
 
-#[test]
-fn null_is_no_after_value_without_a_missing_bucket(rt: HostRuntime) -> Result<(), Fail> {
-    let segment = segment_of(rt.alloc(), &[MIXED])?;
-    let fault = fault_of_null(rt.alloc(), &segment)?;
+// Null is refused as an after value.
+fn expect_fault(rt: &(impl Abort + AllocGlobal), segment: &SegmentReader) -> Result<(), Fail> {
+    let fault = fault_of_null(rt.alloc(), segment)?;
     let reason = RequestError::Invalid(InvalidArgument::NullAfter);
     assert_eq!(rt; fault, Some(reason));
     Ok(())
+}
+
+#[test]
+fn null_is_no_after_value_without_a_missing_bucket(rt: HostRuntime) -> Result<(), Fail> {
+    let segment = segment_of(rt.alloc(), &[MIXED])?;
+    expect_fault(&rt, &segment)
 }

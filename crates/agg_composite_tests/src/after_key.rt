@@ -70,14 +70,19 @@ fn place_in(
     Ok(place(&columns[0], &key, order))
 }
 
-#[test]
-fn after_keys_have_their_places(rt: HostRuntime) -> Result<(), Fail> {
-    let segment = segment_of(rt.alloc(), &[VALUES])?;
+// After keys stand where the table says.
+fn expect_places(rt: &(impl Abort + AllocGlobal), segment: &SegmentReader) -> Result<(), Fail> {
     for &(name, after, order, expected) in PLACES {
-        let found = place_in(&rt, &segment, name, after, order)?;
+        let found = place_in(rt, segment, name, after, order)?;
         assert_eq!(rt; found, expected, "{name} after {after}");
     }
     Ok(())
+}
+
+#[test]
+fn after_keys_have_their_places(rt: HostRuntime) -> Result<(), Fail> {
+    let segment = segment_of(rt.alloc(), &[VALUES])?;
+    expect_places(&rt, &segment)
 }
 
 #[test]

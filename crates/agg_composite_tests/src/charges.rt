@@ -1,18 +1,22 @@
 //! Tests of what a collector charges for its buckets.
-ghost use Rattle.std.specs.Prelude.{◌≡◌, ◌≤◌, ◌<◌, OnOk, length};
+ghost use Rattle.std.specs.Prelude.{◌≡◌, ◌≤◌, ◌<◌, All, IfOk, OnOk, length};
+ghost use Rattle.std.specs.Map.{keys_of};
 ghost use Rattle.agg_values.specs.Names.{Named};
 ghost use Rattle.agg_values.specs.declared.after_key.AfterKey.{AfterKey};
 ghost use Rattle.agg_segment.specs.Segment.{Stored};
 ghost use Rattle.agg_accessor.specs.Accessors.{Fits};
+ghost use Rattle.agg_accessor.specs.Decoded.{IsEncoded};
 ghost use Rattle.agg_composite_tests.specs.Right.{IsRight};
 
 use crate::collector::{Values, collector_for, composite_over, number_of, request_in};
 use agg_cache::{
     AggregationLimitsGuard, CollectError, LimitsLedger, LowCardSubAggCache, SubAggCache,
 };
-use agg_composite::{CompositeAggReqData, PageEntry, SegmentCompositeCollector};
+use agg_composite::{CompositeAggReqData, PageEntries, PageEntry, SegmentCompositeCollector};
+use agg_segment::SegmentReader;
 use agg_segment_tests::given::{Given, segment_of};
 use agg_values::{AggregationError, DocId, Steps};
+use std::alloc::Global;
 use std::marker::Brand;
 use std::process::Abort;
 use std::sync::ledger::{Blank, Ledger};
@@ -115,6 +119,36 @@ fn only_number(entry: PageEntry) -> Option<i64> {
     number_of(&entry, 0)
 }
 
+// The numbers of the entries that are left.
+fn numbers_of(
+    alloc: Global,
+    entries: &mut PageEntries,
+    req: &CompositeAggReqData<'_>,
+) -> Result<Vec<i64>, Fail>
+    requires { All (IsEncoded req.now) (keys_of entries.old) }
+{
+    let mut numbers = Vec::new(alloc);
+    while let Some(entry) = entries.next_entry(alloc, req)? {
+        numbers.push(only_number(entry).ok_or("not a number")?)?;
+    }
+    Ok(numbers)
+}
+
+// Entries are of these numbers.
+fn expect_entries(
+    rt: &(impl Abort + AllocGlobal),
+    entries: &mut PageEntries,
+    req: &CompositeAggReqData<'_>,
+    expected: &[i64],
+) -> Result<(), Fail>
+    requires { All (IsEncoded req.now) (keys_of entries.old) }
+{
+    assert_eq!(rt; entries.len(), expected.len());
+    let numbers = numbers_of(rt.alloc(), entries, req)?;
+    assert_eq!(rt; numbers.as_slice(), expected);
+    Ok(())
+}
+
 // In the end the first parent has a page of these numbers.
 fn expect_page<C: SubAggCache>(
     rt: &(impl Abort + AllocGlobal),
@@ -124,17 +158,50 @@ fn expect_page<C: SubAggCache>(
 ) -> Result<(), Fail>
     requires { IsRight C.waiting req.now collector }
 {
-    let mut numbers = Vec::new(rt.alloc());
     let mut entries = collector.into_entries(0)?;
-    assert_eq!(rt; entries.len(), expected.len());
-    while let Some(entry) = entries.next_entry(rt.alloc(), req)? {
-        numbers.push(only_number(entry).ok_or("not a number")?)?;
-    }
-    assert_eq!(rt; numbers.as_slice(), expected);
+    expect_entries(rt, &mut entries, req, expected)
+}
+
+// 8 bytes of an account are left.
+fn expect_charged(rt: &(impl Abort + AllocGlobal), account: &Account) {
+    assert_eq!(rt; account.limits.in_use(), 992);
+    assert_eq!(rt; account.guard.allocated(), 992);
+}
+
+// After the first five documents 8 bytes are left, and the others, if they are collected, leave as
+// many.
+fn collect_charged<C: SubAggCache, L: Ledger>(
+    rt: &(impl Abort + AllocGlobal),
+    collector: &mut SegmentCompositeCollector<C>,
+    docs: &[DocId],
+    req: &CompositeAggReqData<'_>,
+    steps: &mut Steps<L>,
+) -> Result<Result<(), CollectError>, Fail>
+    requires right { IsRight C.waiting req.now collector.old }
+    requires parents { 0 < length collector.old.node.parents }
+    requires fits { (segment : Stored) × (after : Named AfterKey) × Fits segment after req.now }
+    requires room { length req.now.req.now.sources ≤ collector.old.room }
+    ensures { IfOk result (λ collected. OnOk collected (IsRight C.waiting req.now collector.new)) }
+{
+    let mut account = charged_account()?;
+    collect(collector, &[0, 1, 2, 3, 4], req, &mut account, steps)?;
+    expect_charged(rt, &account);
+    let collected = collect(collector, docs, req, &mut account, steps);
+    expect_charged(rt, &account);
+    Ok(collected)
+}
+
+// Documents are refused for these numbers.
+fn expect_refused(
+    rt: &(impl Abort + AllocGlobal),
+    error: &CollectError,
+    expected: Option<(u64, u64)>,
+) -> Result<(), Fail> {
+    assert_eq!(rt; refused(error), Some(expected.ok_or("not collected")?));
     Ok(())
 }
 
-// After the first five documents 8 bytes are left, and the others leave as many.
+// The last documents of a case give its page, or are refused.
 fn expect_case<C: SubAggCache, L: Ledger>(
     rt: &(impl Abort + AllocGlobal),
     case: &Case,
@@ -143,25 +210,17 @@ fn expect_case<C: SubAggCache, L: Ledger>(
 ) -> Result<(), Fail>
     requires { (segment : Stored) × (after : Named AfterKey) × Fits segment after req.now }
 {
-    let mut account = charged_account()?;
     let mut collector: SegmentCompositeCollector<C> = collector_for(rt, req, false)?;
-    collect(&mut collector, &[0, 1, 2, 3, 4], req, &mut account, steps)?;
-    assert_eq!(rt; account.limits.in_use(), 992);
-    let collected = collect(&mut collector, case.docs, req, &mut account, steps);
-    assert_eq!(rt; account.limits.in_use(), 992);
-    assert_eq!(rt; account.guard.allocated(), 992);
-    match collected {
+    match collect_charged(rt, &mut collector, case.docs, req, steps)? {
         Ok(()) => expect_page(rt, collector, req, case.page),
-        Err(error) => {
-            assert_eq!(rt; refused(&error), Some(case.refused.ok_or("not collected")?));
-            Ok(())
-        }
+        Err(error) => expect_refused(rt, &error, case.refused),
     }
 }
 
 // The same in a segment, with a count of steps of its own.
 fn expect_counted<L: Ledger>(
     rt: &(impl Abort + AllocGlobal),
+    segment: &SegmentReader,
     case: &Case,
     blank: Blank,
 ) -> Result<(), Fail>
@@ -170,16 +229,16 @@ fn expect_counted<L: Ledger>(
     requires shared { 0 < L.parts }
 {
     let mut steps: Steps<L> = Steps::new(blank);
-    let segment = segment_of(rt.alloc(), DOCUMENTS)?;
     let composite = composite_over(rt.alloc(), &["a"], case.size)?;
-    let req = request_in(rt.alloc(), &segment, &composite)?;
+    let req = request_in(rt.alloc(), segment, &composite)?;
     expect_case::<LowCardSubAggCache, L>(rt, case, &req, &mut steps)
 }
 
 #[test]
 fn charges_for_each_bucket_more(rt: HostRuntime) -> Result<(), Fail> {
+    let segment = segment_of(rt.alloc(), DOCUMENTS)?;
     for case in CASES {
-        expect_counted::<Brand>(&rt, case, Blank::new(1))?;
+        expect_counted::<Brand>(&rt, &segment, case, Blank::new(1))?;
     }
     Ok(())
 }

@@ -200,25 +200,39 @@ fn collect_all<C: SubAggCache, L: Ledger>(
     collect(collector, 1, &[2, 3, 4, 5], req, steps)
 }
 
-// A collector shows these pages, and none of the parent 2.
-fn expect_shown<C: SubAggCache>(
+// A collector shows these entries of a parent.
+fn expect_page<C: SubAggCache>(
     rt: &(impl Abort + AllocGlobal),
-    pages: &Pages,
     collector: &SegmentCompositeCollector<C>,
+    parent: BucketId,
     req: &CompositeAggReqData<'_>,
+    expected: &[Shown],
 ) -> Result<(), Fail>
     requires right { IsRight C.waiting req.now collector.now }
     requires fits { (segment : Stored) × (after : Named AfterKey) × Fits segment after req.now }
 {
-    let alloc = rt.alloc();
-    let first = shown(alloc, collector, 1, req)?;
-    let second = shown(alloc, collector, 0, req)?;
-    let none = shown(alloc, collector, 2, req)?;
-    assert_eq!(rt;
-        (first.as_slice(), second.as_slice(), none.len()),
-        (pages.first, pages.second, 0)
-    );
+    let shown = shown(rt.alloc(), collector, parent, req)?;
+    assert_eq!(rt; shown.as_slice(), expected, "parent {parent}");
     Ok(())
+}
+
+// A collector that has taken its documents shows these pages, and none of the parent 2.
+fn expect_shown<C: SubAggCache, L: Ledger>(
+    rt: &(impl Abort + AllocGlobal),
+    pages: &Pages,
+    collector: &mut SegmentCompositeCollector<C>,
+    req: &CompositeAggReqData<'_>,
+    steps: &mut Steps<L>,
+) -> Result<(), Fail>
+    requires right { IsRight C.waiting req.now collector.old }
+    requires parents { 1 < length collector.old.node.parents }
+    requires fits { (segment : Stored) × (after : Named AfterKey) × Fits segment after req.now }
+    requires room { length req.now.req.now.sources ≤ collector.old.room }
+{
+    collect_all(collector, req, steps)?;
+    expect_page(rt, collector, 1, req, pages.first)?;
+    expect_page(rt, collector, 0, req, pages.second)?;
+    expect_page(rt, collector, 2, req, &[])
 }
 
 // A collector hands these documents on.
@@ -243,8 +257,7 @@ fn expect_pages_of<C: SubAggCache, L: Ledger>(
     requires fits { (segment : Stored) × (after : Named AfterKey) × Fits segment after req.now }
 {
     let mut collector: SegmentCompositeCollector<C> = collector_for(rt, req, hands_on)?;
-    collect_all(&mut collector, req, steps)?;
-    expect_shown(rt, pages, &collector, req)?;
+    expect_shown(rt, pages, &mut collector, req, steps)?;
     let handed = if hands_on { pages.taken } else { &[] };
     expect_taken(rt, &mut collector, handed)
 }
@@ -252,6 +265,7 @@ fn expect_pages_of<C: SubAggCache, L: Ledger>(
 // So does the collector of a composite.
 fn expect_pages<C: SubAggCache, L: Ledger>(
     rt: &(impl Abort + AllocGlobal),
+    segment: &SegmentReader,
     pages: &Pages,
     hands_on: bool,
     blank: Blank,
@@ -261,9 +275,8 @@ fn expect_pages<C: SubAggCache, L: Ledger>(
     requires shared { 0 < L.parts }
 {
     let mut steps: Steps<L> = Steps::new(blank);
-    let segment = segment_of(rt.alloc(), DOCUMENTS)?;
     let composite = composite_over(rt.alloc(), pages.fields, 2)?;
-    let req = request_in(rt.alloc(), &segment, &composite)?;
+    let req = request_in(rt.alloc(), segment, &composite)?;
     expect_pages_of::<C, L>(rt, pages, hands_on, &req, &mut steps)
 }
 
@@ -283,17 +296,19 @@ pub(crate) fn composite_over(
 // The same with a count of steps of its own.
 fn expect_counted(
     rt: &(impl Abort + AllocGlobal),
+    segment: &SegmentReader,
     pages: &Pages,
     hands_on: bool,
 ) -> Result<(), Fail> {
-    expect_pages::<LowCardSubAggCache, Brand>(rt, pages, hands_on, Blank::new(1))
+    expect_pages::<LowCardSubAggCache, Brand>(rt, segment, pages, hands_on, Blank::new(1))
 }
 
 #[test]
 fn keeps_the_lowest_of_each_parent(rt: HostRuntime) -> Result<(), Fail> {
+    let segment = segment_of(rt.alloc(), DOCUMENTS)?;
     for pages in PAGES {
         for hands_on in [true, false] {
-            expect_counted(&rt, pages, hands_on)?;
+            expect_counted(&rt, &segment, pages, hands_on)?;
         }
     }
     Ok(())

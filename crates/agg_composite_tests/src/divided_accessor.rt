@@ -7,6 +7,7 @@ use agg_segment::{ColumnType, SegmentReader};
 use agg_segment_tests::given::{Given, segment_of};
 use agg_values::{MissingOrder, Order, OutOfMemory};
 use std::alloc::Global;
+use std::process::Abort;
 use std::test::Fail;
 
 const FROM_ZERO: u64 = 9_223_372_036_854_775_808;
@@ -96,17 +97,33 @@ fn types_by(alloc: Global, segment: &SegmentReader, order: Order) -> Result<Vec<
     types(alloc, segment, &source)
 }
 
+// A histogram of this order reads columns of these types.
+fn expect_types(
+    rt: &(impl Abort + AllocGlobal),
+    segment: &SegmentReader,
+    order: Order,
+    expected: &[ColumnType],
+) -> Result<(), Fail> {
+    let found = types_by(rt.alloc(), segment, order)?;
+    assert_eq!(rt; found.as_slice(), expected, "{order:?}");
+    Ok(())
+}
+
 #[test]
 fn histograms_read_what_they_divide(rt: HostRuntime) -> Result<(), Fail> {
     let segment = segment_of(rt.alloc(), &[VALUES])?;
-    for (order, expected) in [
-        (Order::Asc, [ColumnType::I64, ColumnType::DateTime]),
-        (Order::Desc, [ColumnType::DateTime, ColumnType::I64]),
-    ] {
-        let found = types_by(rt.alloc(), &segment, order)?;
-        assert_eq!(rt; found.as_slice(), expected.as_slice(), "{order:?}");
-    }
-    Ok(())
+    expect_types(
+        &rt,
+        &segment,
+        Order::Asc,
+        &[ColumnType::I64, ColumnType::DateTime],
+    )?;
+    expect_types(
+        &rt,
+        &segment,
+        Order::Desc,
+        &[ColumnType::DateTime, ColumnType::I64],
+    )
 }
 
 // The types of the columns that a source of days reads.
@@ -115,12 +132,17 @@ fn types_by_days(alloc: Global, segment: &SegmentReader) -> Result<Vec<ColumnTyp
     types(alloc, segment, &source)
 }
 
+// A source of days reads a column of dates alone.
+fn expect_dates(rt: &(impl Abort + AllocGlobal), segment: &SegmentReader) -> Result<(), Fail> {
+    let found = types_by_days(rt.alloc(), segment)?;
+    assert_eq!(rt; found.as_slice(), [ColumnType::DateTime].as_slice());
+    Ok(())
+}
+
 #[test]
 fn date_sources_read_dates(rt: HostRuntime) -> Result<(), Fail> {
     let segment = segment_of(rt.alloc(), &[VALUES])?;
-    let found = types_by_days(rt.alloc(), &segment)?;
-    assert_eq!(rt; found.as_slice(), [ColumnType::DateTime].as_slice());
-    Ok(())
+    expect_dates(&rt, &segment)
 }
 
 // Where an after value stands in a histogram of a field, which has these orders.
@@ -135,20 +157,29 @@ fn standing_in_starts(
     standing(alloc, segment, &source, Some(after))
 }
 
+// After values stand among the numbers of a field where the table says.
+fn expect_numbers(
+    rt: &(impl Abort + AllocGlobal),
+    segment: &SegmentReader,
+    field: &'static str,
+) -> Result<(), Fail> {
+    for &(order, missing_order, after, expected) in NUMBERS {
+        let orders = (order, missing_order);
+        let found = standing_in_starts(rt.alloc(), segment, field, orders, after)?;
+        assert_eq!(rt;
+            found,
+            expected,
+            "{field} {order:?} {missing_order:?} {after}"
+        );
+    }
+    Ok(())
+}
+
 #[test]
 fn after_numbers_stand_among_starts(rt: HostRuntime) -> Result<(), Fail> {
-    let alloc = rt.alloc();
-    let segment = segment_of(alloc, &[VALUES])?;
+    let segment = segment_of(rt.alloc(), &[VALUES])?;
     for field in ["signed", "large", "dates"] {
-        for &(order, missing_order, after, expected) in NUMBERS {
-            let orders = (order, missing_order);
-            let found = standing_in_starts(alloc, &segment, field, orders, after)?;
-            assert_eq!(rt;
-                found,
-                expected,
-                "{field} {order:?} {missing_order:?} {after}"
-            );
-        }
+        expect_numbers(&rt, &segment, field)?;
     }
     Ok(())
 }
@@ -164,12 +195,17 @@ fn standing_in_days(
     standing(alloc, segment, &source, after)
 }
 
-#[test]
-fn after_dates_stand_among_starts(rt: HostRuntime) -> Result<(), Fail> {
-    let segment = segment_of(rt.alloc(), &[VALUES])?;
+// After values stand among dates where the table says.
+fn expect_days(rt: &(impl Abort + AllocGlobal), segment: &SegmentReader) -> Result<(), Fail> {
     for &(order, after, expected) in DATES {
-        let found = standing_in_days(rt.alloc(), &segment, order, after)?;
+        let found = standing_in_days(rt.alloc(), segment, order, after)?;
         assert_eq!(rt; found, expected, "{order:?} {after:?}");
     }
     Ok(())
+}
+
+#[test]
+fn after_dates_stand_among_starts(rt: HostRuntime) -> Result<(), Fail> {
+    let segment = segment_of(rt.alloc(), &[VALUES])?;
+    expect_days(&rt, &segment)
 }

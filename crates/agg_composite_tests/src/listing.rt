@@ -9,6 +9,7 @@ ghost use Rattle.agg_accessor.specs.Decoded.{IsEncoded};
 
 use crate::collector::{DOCUMENTS, composite_over, number_of, request_in};
 use agg_composite::{CompositeAggReqData, PageEntries, PageEntry, list_entries};
+use agg_segment::SegmentReader;
 use agg_segment_tests::given::segment_of;
 use agg_values::Steps;
 use std::alloc::Global;
@@ -81,13 +82,24 @@ fn expect_listed(
     expect_shown::<Brand>(rt, req, expected, Blank::new(1))
 }
 
+// The same of terms of a field, with so many entries on a page.
+fn expect_terms(
+    rt: &(impl Abort + AllocGlobal),
+    segment: &SegmentReader,
+    field: &'static str,
+    size: u32,
+    expected: &[Shown],
+) -> Result<(), Fail> {
+    let composite = composite_over(rt.alloc(), &[field], size)?;
+    let req = request_in(rt.alloc(), segment, &composite)?;
+    expect_listed(rt, &req, expected)
+}
+
 #[test]
 fn lists_the_lowest(rt: HostRuntime) -> Result<(), Fail> {
-    for (field, size, expected) in LISTED {
-        let segment = segment_of(rt.alloc(), DOCUMENTS)?;
-        let composite = composite_over(rt.alloc(), &[*field], *size)?;
-        let req = request_in(rt.alloc(), &segment, &composite)?;
-        expect_listed(&rt, &req, expected)?;
+    let segment = segment_of(rt.alloc(), DOCUMENTS)?;
+    for &(field, size, expected) in LISTED {
+        expect_terms(&rt, &segment, field, size, expected)?;
     }
     Ok(())
 }
