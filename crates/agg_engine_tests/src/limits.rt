@@ -4,11 +4,11 @@ ghost use Rattle.std.specs.Prelude.{◌≡◌, ◌<◌};
 use crate::walk::{Documents, Values, snapshots_of};
 use agg_cache::LimitsLedger;
 use agg_engine::{Snapshot, Walk, WalkError, walk_pages};
-use agg_request_tree::{Aggregation, AggregationVariants, Aggregations, CompositeAggregation};
+use agg_request_tree::{Aggregations, CompositeAggregation};
 use agg_request_tree_tests::given::{GivenSource, Kind, composite_of, lone, request_of};
 use agg_segment::{QueryTree, Schema};
 use agg_segment_tests::given::Given;
-use agg_values::{AggregationError, ItemList, NameMap, OutOfMemory, Steps, Text};
+use agg_values::{AggregationError, ItemList, OutOfMemory, Steps, Text};
 use std::alloc::Global;
 use std::marker::Brand;
 use std::process::Abort;
@@ -70,21 +70,19 @@ fn composite_over(
     composite_of(alloc, &[GivenSource::of(field, Kind::Terms, false)], size)
 }
 
+// Adds the composite h over the field b.
+fn add_inner(alloc: Global, below: &mut Aggregations) -> Result<(), OutOfMemory> {
+    let name = Text::copy_of(alloc, "h")?;
+    below.insert(name, lone(alloc, composite_over(alloc, "b", 1)?))?;
+    Ok(())
+}
+
 fn request_for(alloc: Global, asked: Request) -> Result<Aggregations, OutOfMemory> {
-    let composite = composite_over(alloc, "a", 10)?;
-    match asked {
-        Request::Alone => request_of(alloc, "g", lone(alloc, composite)),
-        Request::Above => {
-            let mut below = NameMap::new(alloc);
-            let inner = lone(alloc, composite_over(alloc, "b", 1)?);
-            below.insert(Text::copy_of(alloc, "h")?, inner)?;
-            let named = Aggregation {
-                agg: AggregationVariants::Composite(composite),
-                sub_aggregation: below,
-            };
-            request_of(alloc, "g", named)
-        }
+    let mut composite = lone(alloc, composite_over(alloc, "a", 10)?);
+    if let Request::Above = asked {
+        add_inner(alloc, &mut composite.sub_aggregation)?;
     }
+    request_of(alloc, "g", composite)
 }
 
 // The walk over snapshots under a limit, which a blank makes the counter of steps for.

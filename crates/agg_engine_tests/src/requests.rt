@@ -7,7 +7,7 @@ use agg_request_tree::{
     Aggregation, AggregationVariants, Aggregations, FilterAggregation, NamedBuilder,
     QueryBuildError, QueryBuilder,
 };
-use agg_request_tree_tests::given::{GivenSource, Kind, composite_of};
+use agg_request_tree_tests::given::{GivenSource, Kind, composite_of, lone, request_of};
 use agg_segment::{QueryTree, Schema};
 use agg_values::{ItemList, NameMap, OutOfMemory, Steps, Text};
 use std::alloc::Global;
@@ -45,19 +45,25 @@ fn built_filter(alloc: Global) -> Result<Aggregation, OutOfMemory> {
     })
 }
 
+// Adds the filter f.
+fn add_filter(alloc: Global, request: &mut Aggregations) -> Result<(), OutOfMemory> {
+    let name = Text::copy_of(alloc, "f")?;
+    request.insert(name, built_filter(alloc)?)?;
+    Ok(())
+}
+
+// A composite with the filter f below it.
+fn above_filter(alloc: Global) -> Result<Aggregation, OutOfMemory> {
+    let sources = [GivenSource::of("a", Kind::Terms, false)];
+    let mut composite = lone(alloc, composite_of(alloc, &sources, 2)?);
+    add_filter(alloc, &mut composite.sub_aggregation)?;
+    Ok(composite)
+}
+
 // The request of a composite g with the filter f below it, and of a filter f beside it.
 fn request_of_three(alloc: Global) -> Result<Aggregations, OutOfMemory> {
-    let sources = [GivenSource::of("a", Kind::Terms, false)];
-    let composite = composite_of(alloc, &sources, 2)?;
-    let mut below = NameMap::new(alloc);
-    below.insert(Text::copy_of(alloc, "f")?, built_filter(alloc)?)?;
-    let mut request = NameMap::new(alloc);
-    let named = Aggregation {
-        agg: AggregationVariants::Composite(composite),
-        sub_aggregation: below,
-    };
-    request.insert(Text::copy_of(alloc, "g")?, named)?;
-    request.insert(Text::copy_of(alloc, "f")?, built_filter(alloc)?)?;
+    let mut request = request_of(alloc, "g", above_filter(alloc)?)?;
+    add_filter(alloc, &mut request)?;
     Ok(request)
 }
 

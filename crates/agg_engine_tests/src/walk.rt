@@ -238,45 +238,50 @@ fn expect_refusal(
     Ok(())
 }
 
+// Why a walk has no pages.
+#[derive(Clone, Copy)]
+enum Refusal {
+    ThirdBucket,
+    UnknownComposite,
+    ZeroSize,
+    TooMany,
+}
+
+impl Refusal {
+    fn error(self) -> WalkError {
+        match self {
+            Refusal::ThirdBucket => WalkError::Aggregation(AggregationError::BucketLimitExceeded {
+                limit: 2,
+                current: 3,
+            }),
+            Refusal::UnknownComposite => WalkError::UnknownComposite,
+            Refusal::ZeroSize => WalkError::Invalid(InvalidArgument::ZeroSize),
+            Refusal::TooMany => WalkError::TooMany,
+        }
+    }
+}
+
+const REFUSALS: &[(Composite, &[Documents], Refusal)] = &[
+    (("g", ONE_SOURCE, 3), THREE_BUCKETS, Refusal::ThirdBucket),
+    (("h", ONE_SOURCE, 2), NO_SNAPSHOT, Refusal::UnknownComposite),
+    (
+        ("h", ONE_SOURCE, 2),
+        ONE_SNAPSHOT,
+        Refusal::UnknownComposite,
+    ),
+    (("g", ONE_SOURCE, 0), NO_SNAPSHOT, Refusal::ZeroSize),
+    (("g", ONE_SOURCE, 2), NO_ROOM_AT_LAST, Refusal::ZeroSize),
+    (
+        ("g", FIFTEEN_SOURCES, 1),
+        TOO_MANY_TOGETHER,
+        Refusal::TooMany,
+    ),
+];
+
 #[test]
 fn says_why_there_are_no_pages(rt: HostRuntime) -> Result<(), Fail> {
-    let limited = AggregationError::BucketLimitExceeded {
-        limit: 2,
-        current: 3,
-    };
-    for (asked, snapshots, refusal) in [
-        (
-            ("g", ONE_SOURCE, 3),
-            THREE_BUCKETS,
-            WalkError::Aggregation(limited),
-        ),
-        (
-            ("h", ONE_SOURCE, 2),
-            NO_SNAPSHOT,
-            WalkError::UnknownComposite,
-        ),
-        (
-            ("h", ONE_SOURCE, 2),
-            ONE_SNAPSHOT,
-            WalkError::UnknownComposite,
-        ),
-        (
-            ("g", ONE_SOURCE, 0),
-            NO_SNAPSHOT,
-            WalkError::Invalid(InvalidArgument::ZeroSize),
-        ),
-        (
-            ("g", ONE_SOURCE, 2),
-            NO_ROOM_AT_LAST,
-            WalkError::Invalid(InvalidArgument::ZeroSize),
-        ),
-        (
-            ("g", FIFTEEN_SOURCES, 1),
-            TOO_MANY_TOGETHER,
-            WalkError::TooMany,
-        ),
-    ] {
-        expect_refusal(&rt, asked, snapshots, refusal)?;
+    for &(asked, snapshots, refusal) in REFUSALS {
+        expect_refusal(&rt, asked, snapshots, refusal.error())?;
     }
     Ok(())
 }
