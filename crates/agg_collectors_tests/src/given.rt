@@ -79,8 +79,13 @@ pub(crate) fn fruit<L: Ledger>(
     requires charged { collector.tree.guard ≤ limits.old.in_use }
 {
     let mut collector = collector;
-    take_two(rt, &mut collector, reader, limits, steps)?;
-    collector.harvest(limits, steps)
+    match take_two(rt, &mut collector, reader, limits, steps) {
+        Ok(()) => collector.harvest(limits, steps),
+        Err(error) => {
+            drop(collector);
+            Err(error)
+        }
+    }
 }
 
 // A collector takes two documents of its segment, one by itself and one in a block.

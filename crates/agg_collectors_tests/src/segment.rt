@@ -127,6 +127,11 @@ struct Refused {
     error: CollectError,
 }
 
+// A collector answers so once it has failed.
+fn expect_spent(rt: &impl Abort, answer: Result<(), CollectError>) {
+    assert_eq!(rt; answer, Err(CollectError::CollectorFailed));
+}
+
 // A collector gets a block, and then refuses a document and a block.
 fn expect_refusals<L: Ledger>(
     rt: &impl Abort,
@@ -143,26 +148,22 @@ fn expect_refusals<L: Ledger>(
 {
     assert!(rt; 2 <= reader.num_docs());
     let first = collector.collect_block(&[0, 1], limits, steps);
-    let document = collector.collect(0, limits, steps);
-    assert_eq!(rt; document, Err(CollectError::CollectorFailed));
-    let block = collector.collect_block(&[0], limits, steps);
-    assert_eq!(rt; block, Err(CollectError::CollectorFailed));
+    expect_spent(rt, collector.collect(0, limits, steps));
+    expect_spent(rt, collector.collect_block(&[0], limits, steps));
     first
 }
 
-// Why a collector has no results.
+// Whether a collector has results.
 fn refused_results<L: Ledger>(
     collector: AggregationSegmentCollector<'_>,
     limits: &mut LimitsLedger,
     steps: &mut Steps<L>,
-) -> Option<CollectError>
+) -> Result<(), CollectError>
     requires usable { MayBeUsed collector }
     requires charged { collector.tree.guard ≤ limits.old.in_use }
 {
-    match collector.harvest(limits, steps) {
-        Ok(_) => None,
-        Err(error) => Some(error),
-    }
+    collector.harvest(limits, steps)?;
+    Ok(())
 }
 
 // After that it has no results, and nothing more is in use.
@@ -179,8 +180,7 @@ fn expect_end<L: Ledger>(
 {
     let mut collector = collector;
     let first = expect_refusals(rt, &mut collector, reader, limits, steps);
-    let error = refused_results(collector, limits, steps);
-    assert_eq!(rt; error, Some(CollectError::CollectorFailed));
+    expect_spent(rt, refused_results(collector, limits, steps));
     assert_eq!(rt; limits.in_use(), IN_USE);
     first
 }
@@ -261,8 +261,13 @@ fn results_of_three<L: Ledger>(
 {
     let mut collector = collector;
     assert!(rt; 3 <= reader.num_docs());
-    collector.collect_block(&[0, 1, 2], limits, steps)?;
-    collector.harvest(limits, steps)
+    match collector.collect_block(&[0, 1, 2], limits, steps) {
+        Ok(()) => collector.harvest(limits, steps),
+        Err(error) => {
+            drop(collector);
+            Err(error)
+        }
+    }
 }
 
 // Why there are none, for a request in a segment of three documents with a limit of memory, if
