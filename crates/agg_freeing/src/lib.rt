@@ -2,7 +2,5 @@
 #![tactic(auto)]
 
 mod freeing_iter;
-#[cfg(test)]
-mod tests;
 
 pub use freeing_iter::FreeingIter;

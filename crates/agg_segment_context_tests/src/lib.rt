@@ -1,4 +1,5 @@
-//! Tests of the context of a request in a segment: its nodes, their names, and what it shows.
+//! Tests of requests in a segment: of filters, of metrics, of the context of a request with its
+//! nodes and names, and of how many documents its aggregations list.
 #![tactic(auto)]
 
 #[cfg(test)]
@@ -6,6 +7,12 @@ mod builders;
 #[cfg(test)]
 mod context;
 #[cfg(test)]
+mod filter;
+#[cfg(test)]
 mod given;
 #[cfg(test)]
+mod metric;
+#[cfg(test)]
 mod paged;
+#[cfg(test)]
+mod uncut;

@@ -2,8 +2,6 @@
 #![tactic(auto)]
 
 mod grouped;
-#[cfg(test)]
-mod tests;
 mod tuple_counts;
 
 pub use tuple_counts::TupleCounts;

@@ -1,0 +1,44 @@
+//! Tests of a map of many keys, which are expected.
+ghost use Rattle.std.specs.Prelude.{◌≡◌, ◌<◌};
+
+use crate::heap_map::array_keys::insert;
+use agg_heap_map::LazyHeapMap;
+use agg_values::Steps;
+use std::marker::Brand;
+use std::process::Abort;
+use std::sync::ledger::{Blank, Ledger};
+use std::test::Fail;
+
+const MANY: u64 = 60_000;
+
+// A map that expects many keys has them all, ascending.
+fn expect_all<L: Ledger>(rt: &(impl Abort + AllocGlobal), blank: Blank) -> Result<(), Fail>
+    requires name { blank.name ≡ L.name }
+    requires parts { blank.parts ≡ L.parts }
+    requires shared { 0 < L.parts }
+{
+    let mut steps: Steps<L> = Steps::new(blank);
+    let mut map: LazyHeapMap<u64, u64> = LazyHeapMap::new(rt.alloc());
+    map.expect(MANY as usize);
+    for key in (0..MANY).rev() {
+        insert(&mut map, &key, &mut steps)?;
+    }
+    let entries = map.entries_ascending(rt.alloc())?;
+    assert_eq!(rt; (entries.len(), map.size()), (MANY as usize, MANY as usize));
+    assert_eq!(rt;
+        (entries.first(), entries.last()),
+        (Some(&(0, 1)), Some(&(MANY - 1, 1)))
+    );
+    let mut rest = map.into_ascending()?;
+    assert_eq!(rt; (rest.len(), rest.next()), (MANY as usize, Some((0, 1))));
+    assert_eq!(rt;
+        (rest.len(), rest.last()),
+        (MANY as usize - 1, Some((MANY - 1, 1)))
+    );
+    Ok(())
+}
+
+#[test]
+fn many_keys_are_expected(rt: HostRuntime) -> Result<(), Fail> {
+    expect_all::<Brand>(&rt, Blank::new(1))
+}

@@ -1,5 +1,0 @@
-use Rattle.agg_heap_map_tests.proofs.many_keys.many_keys_are_expected.Given as goal
-
--- the ledger is the one of the blank
-abbrev pub ghosts-expect_all : goal.ghosts-expect_all
-ghosts-expect_all g a = record { name = a.blank.name; parts = a.blank.parts }

@@ -1,5 +1,0 @@
-use Rattle.agg_heap_map_tests.proofs.two_parts.keeps_and_evicts_keys.Given as goal
-
--- the ledger is the one of the blank
-abbrev pub ghosts-expect_over : goal.ghosts-expect_over
-ghosts-expect_over g a = record { name = a.blank.name; parts = a.blank.parts }

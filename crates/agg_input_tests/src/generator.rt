@@ -1,0 +1,4 @@
+//! Tests of generated inputs: their numbers, documents and requests.
+mod documents;
+mod draws;
+mod header;

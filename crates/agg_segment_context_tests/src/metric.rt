@@ -1,0 +1,3 @@
+//! Tests of metrics in a segment: of values of all classes, by parent.
+mod collector;
+mod given;
