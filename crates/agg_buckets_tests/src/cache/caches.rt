@@ -50,15 +50,23 @@ fn expect_batches(rt: &impl Abort, batches: &[Batch], expected: &[Documents]) {
     }
 }
 
+// A cache gives these batches of the pushes, and then none.
+fn expect_taken<C: SubAggCache>(
+    rt: &(impl Abort + AllocGlobal),
+    pushes: &[(BucketId, DocId)],
+    expected: &[Documents],
+) -> Result<(), Fail> {
+    let mut cache: C = pushed(rt.alloc(), pushes)?;
+    expect_batches(rt, cache.take_batches()?.as_slice(), expected);
+    expect_batches(rt, cache.take_batches()?.as_slice(), &[]);
+    Ok(())
+}
+
 #[test]
 fn give_the_documents_of_each_bucket(rt: HostRuntime) -> Result<(), Fail> {
     for &Taken { pushes, low, high } in TAKEN {
-        let mut cache: LowCardSubAggCache = pushed(rt.alloc(), pushes)?;
-        expect_batches(&rt, cache.take_batches()?.as_slice(), low);
-        expect_batches(&rt, cache.take_batches()?.as_slice(), &[]);
-        let mut cache: HighCardSubAggCache = pushed(rt.alloc(), pushes)?;
-        expect_batches(&rt, cache.take_batches()?.as_slice(), high);
-        expect_batches(&rt, cache.take_batches()?.as_slice(), &[]);
+        expect_taken::<LowCardSubAggCache>(&rt, pushes, low)?;
+        expect_taken::<HighCardSubAggCache>(&rt, pushes, high)?;
     }
     Ok(())
 }

@@ -1,6 +1,18 @@
 use agg_cache::CollectError;
 use agg_values::{AggregationError, OutOfMemory, TooMany};
+use std::process::Abort;
 use std::test::Fail;
+
+// Each error tells its text.
+fn expect_texts(
+    rt: &(impl Abort + AllocGlobal),
+    cases: &[(CollectError, &str)],
+) -> Result<(), Fail> {
+    for (error, text) in cases {
+        assert_eq!(rt; error.to_string(rt.alloc())?.as_str(), *text);
+    }
+    Ok(())
+}
 
 #[test]
 fn tells_why_documents_are_refused(rt: HostRuntime) -> Result<(), Fail> {
@@ -8,7 +20,7 @@ fn tells_why_documents_are_refused(rt: HostRuntime) -> Result<(), Fail> {
         limit: 1,
         current: 2,
     };
-    for (error, text) in [
+    let cases = [
         (
             CollectError::BucketOutOfRange,
             "a bucket starts outside 64 bits",
@@ -23,8 +35,6 @@ fn tells_why_documents_are_refused(rt: HostRuntime) -> Result<(), Fail> {
             "the collector has failed before",
         ),
         (CollectError::from(OutOfMemory), "out of memory"),
-    ] {
-        assert_eq!(rt; error.to_string(rt.alloc())?.as_str(), text);
-    }
-    Ok(())
+    ];
+    expect_texts(&rt, &cases)
 }
