@@ -42,8 +42,26 @@ fn expect_entries<'k, S: Ord + Hash + Clone>(
     Ok(())
 }
 
-// Of three keys, ascending, the highest is evicted, at first without a heap, and in the end with
-// one. A key that is above all stays out.
+// Of three keys, ascending, the first and the last are put into an empty map. The last is evicted
+// for the second, and a key that is above all stays out.
+fn expect_evicted<'k, S: Ord + Hash + Clone, L: Ledger>(
+    rt: &(impl Abort + AllocGlobal),
+    map: &mut LazyHeapMap<S, u64>,
+    keys: (&'k S, &'k S, &'k S),
+    steps: &mut Steps<L>,
+) -> Result<(), Fail>
+    requires clones { (k l : S) → S.is_clone k l → l ≡ k }
+{
+    for key in [keys.2, keys.0] {
+        assert!(rt; insert(map, key, steps)? && !insert(map, key, steps)?);
+    }
+    assert!(rt; map.evict_above(keys.1, steps)?);
+    assert!(rt; insert(map, keys.1, steps)? && !insert(map, keys.1, steps)?);
+    assert!(rt; !map.evict_above(keys.2, steps)?);
+    expect_entries(rt, map, [keys.0, keys.1])
+}
+
+// A map makes its heap when it has keys, or at first, where the empty map is asked to evict.
 fn expect_two<'k, S: Ord + Hash + Clone, L: Ledger>(
     rt: &(impl Abort + AllocGlobal),
     keys: (&'k S, &'k S, &'k S),
@@ -51,20 +69,14 @@ fn expect_two<'k, S: Ord + Hash + Clone, L: Ledger>(
 ) -> Result<(), Fail>
     requires clones { (k l : S) → S.is_clone k l → l ≡ k }
 {
-    let mut map = LazyHeapMap::new(rt.alloc());
-    assert!(rt; !map.evict_above(keys.0, steps)?);
-    let mut full = LazyHeapMap::new(rt.alloc());
-    for key in [keys.2, keys.0] {
-        assert!(rt; insert(&mut map, key, steps)? && insert(&mut full, key, steps)?);
-        assert!(rt; !insert(&mut map, key, steps)? && !insert(&mut full, key, steps)?);
+    for ask_at_first in [false, true] {
+        let mut map = LazyHeapMap::new(rt.alloc());
+        if ask_at_first {
+            assert!(rt; !map.evict_above(keys.0, steps)?);
+        }
+        expect_evicted(rt, &mut map, keys, steps)?;
     }
-    assert!(rt; full.evict_above(keys.1, steps)?);
-    assert!(rt; insert(&mut full, keys.1, steps)? && !insert(&mut full, keys.1, steps)?);
-    assert!(rt; !full.evict_above(keys.2, steps)?);
-    expect_entries(rt, &full, [keys.0, keys.1])?;
-    assert!(rt; map.evict_above(keys.1, steps)?);
-    assert!(rt; insert(&mut map, keys.1, steps)? && !insert(&mut map, keys.1, steps)?);
-    expect_entries(rt, &map, [keys.0, keys.1])
+    Ok(())
 }
 
 // A key of one part.

@@ -11,6 +11,39 @@ use std::test::Fail;
 
 const MANY: u64 = 60_000;
 
+// Puts many keys into a map, from the greatest down.
+fn put_all<L: Ledger>(map: &mut LazyHeapMap<u64, u64>, steps: &mut Steps<L>) -> Result<(), Fail> {
+    for key in (0..MANY).rev() {
+        insert(map, &key, steps)?;
+    }
+    Ok(())
+}
+
+// The entries of a map are as many, ascending.
+fn expect_entries(
+    rt: &(impl Abort + AllocGlobal),
+    map: &LazyHeapMap<u64, u64>,
+) -> Result<(), Fail> {
+    let entries = map.entries_ascending(rt.alloc())?;
+    assert_eq!(rt; (entries.len(), map.size()), (MANY as usize, MANY as usize));
+    assert_eq!(rt;
+        (entries.first(), entries.last()),
+        (Some(&(0, 1)), Some(&(MANY - 1, 1)))
+    );
+    Ok(())
+}
+
+// A map gives its entries away, ascending.
+fn expect_given(rt: &impl Abort, map: LazyHeapMap<u64, u64>) -> Result<(), Fail> {
+    let mut rest = map.into_ascending()?;
+    assert_eq!(rt; (rest.len(), rest.next()), (MANY as usize, Some((0, 1))));
+    assert_eq!(rt;
+        (rest.len(), rest.last()),
+        (MANY as usize - 1, Some((MANY - 1, 1)))
+    );
+    Ok(())
+}
+
 // A map that expects many keys has them all, ascending.
 fn expect_all<L: Ledger>(rt: &(impl Abort + AllocGlobal), blank: Blank) -> Result<(), Fail>
     requires name { blank.name ≡ L.name }
@@ -20,22 +53,9 @@ fn expect_all<L: Ledger>(rt: &(impl Abort + AllocGlobal), blank: Blank) -> Resul
     let mut steps: Steps<L> = Steps::new(blank);
     let mut map: LazyHeapMap<u64, u64> = LazyHeapMap::new(rt.alloc());
     map.expect(MANY as usize);
-    for key in (0..MANY).rev() {
-        insert(&mut map, &key, &mut steps)?;
-    }
-    let entries = map.entries_ascending(rt.alloc())?;
-    assert_eq!(rt; (entries.len(), map.size()), (MANY as usize, MANY as usize));
-    assert_eq!(rt;
-        (entries.first(), entries.last()),
-        (Some(&(0, 1)), Some(&(MANY - 1, 1)))
-    );
-    let mut rest = map.into_ascending()?;
-    assert_eq!(rt; (rest.len(), rest.next()), (MANY as usize, Some((0, 1))));
-    assert_eq!(rt;
-        (rest.len(), rest.last()),
-        (MANY as usize - 1, Some((MANY - 1, 1)))
-    );
-    Ok(())
+    put_all(&mut map, &mut steps)?;
+    expect_entries(rt, &map)?;
+    expect_given(rt, map)
 }
 
 #[test]

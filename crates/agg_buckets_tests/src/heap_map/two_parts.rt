@@ -54,17 +54,22 @@ fn expect_highest(rt: &impl Abort, map: &Map, size: usize, highest: [u64; 2]) {
     );
 }
 
+// The greatest key goes.
+fn expect_highest_gone<L: Ledger>(rt: &impl Abort, map: &mut Map, steps: &mut Steps<L>) {
+    expect_highest(rt, map, 2, B);
+    assert_eq!(rt; map.memory_consumption(), 256);
+    map.evict_highest(steps);
+    expect_highest(rt, map, 1, A);
+    assert_eq!(rt; map.memory_consumption(), 128);
+}
+
 // The greatest key goes, and the pair of the other stays.
 fn expect_evicted<L: Ledger>(
     rt: &(impl Abort + AllocGlobal),
     steps: &mut Steps<L>,
 ) -> Result<(), Fail> {
     let mut map = two_keys(rt.alloc(), steps)?;
-    expect_highest(rt, &map, 2, B);
-    assert_eq!(rt; map.memory_consumption(), 256);
-    map.evict_highest(steps);
-    expect_highest(rt, &map, 1, A);
-    assert_eq!(rt; map.memory_consumption(), 128);
+    expect_highest_gone(rt, &mut map, steps);
     let mut pairs = map.into_iter();
     let found = pairs
         .next()
@@ -92,15 +97,22 @@ fn expect_found<L: Ledger>(
     Ok(())
 }
 
+// An empty map has no greatest key and no values.
+fn expect_empty<L: Ledger>(rt: &impl Abort, map: &mut Map, steps: &mut Steps<L>)
+    requires { map.old.0 ≡ 2 }
+{
+    map.evict_highest(steps);
+    assert_eq!(rt; value_at(map, A, steps), None);
+    assert_eq!(rt; (map.size(), map.peek_highest()), (0, None));
+}
+
 // An empty map has nothing to give.
 fn expect_nothing<L: Ledger>(
     rt: &(impl Abort + AllocGlobal),
     steps: &mut Steps<L>,
 ) -> Result<(), Fail> {
     let mut map = Map::try_new(rt.alloc(), 2)?;
-    map.evict_highest(steps);
-    assert_eq!(rt; value_at(&mut map, A, steps), None);
-    assert_eq!(rt; (map.size(), map.peek_highest()), (0, None));
+    expect_empty(rt, &mut map, steps);
     assert!(rt; map.into_iter().next().is_none());
     Ok(())
 }
