@@ -5,6 +5,7 @@ use agg_segment::{SegmentReader, Snapshot};
 use agg_values::{CompositeIntermediateKey, Text};
 use std::alloc::Global;
 use std::collections::BTreeSet;
+use std::process::Abort;
 use std::test::Fail;
 
 // The snapshots of a seed.
@@ -29,68 +30,126 @@ fn key_of(
     Ok(None)
 }
 
+// The first key of a field of a document as a text.
+fn shown_key(
+    alloc: Global,
+    segment: &SegmentReader,
+    field: &str,
+    doc: u32,
+) -> Result<String, Fail> {
+    let key = key_of(alloc, segment, field, doc)?;
+    Ok(format!(in alloc; "{key:?}")?)
+}
+
 // The number and the text of a document as one text.
 fn pair_of(alloc: Global, segment: &SegmentReader, doc: u32) -> Result<String, Fail> {
-    let number = key_of(alloc, segment, "a", doc)?;
-    let text = key_of(alloc, segment, "b", doc)?;
-    Ok(format!(in alloc; "{number:?} {text:?}")?)
+    let number = shown_key(alloc, segment, "a", doc)?;
+    let text = shown_key(alloc, segment, "b", doc)?;
+    Ok(format!(in alloc; "{number} {text}")?)
+}
+
+// Adds the pairs of a segment's documents.
+fn add_pairs(
+    alloc: Global,
+    pairs: &mut BTreeSet<String>,
+    segment: &SegmentReader,
+) -> Result<(), Fail> {
+    for doc in 0..segment.num_docs() {
+        pairs.insert(pair_of(alloc, segment, doc)?)?;
+    }
+    Ok(())
 }
 
 // How many groups the documents of segments make.
 fn count_pairs(alloc: Global, segments: &[SegmentReader]) -> Result<usize, Fail> {
     let mut pairs = BTreeSet::new(alloc);
     for segment in segments {
-        for doc in 0..segment.num_docs() {
-            pairs.insert(pair_of(alloc, segment, doc)?)?;
-        }
+        add_pairs(alloc, &mut pairs, segment)?;
     }
     Ok(pairs.len())
 }
 
-#[test]
-fn twelve_snapshots_have_four_segments(rt: HostRuntime) -> Result<(), Fail> {
-    let snapshots = snapshots_of(rt.alloc(), 7)?;
+// Each of twelve snapshots has four segments.
+fn expect_four_segments(rt: &impl Abort, snapshots: &[Snapshot]) {
     assert_eq!(rt; snapshots.len(), 12);
-    for snapshot in &snapshots {
-        assert_eq!(rt; snapshot.page_size, 100);
-        assert_eq!(rt; snapshot.segments.as_slice().len(), 4);
-        for segment in snapshot.segments.as_slice() {
+    for snapshot in snapshots {
+        let segments = snapshot.segments.as_slice();
+        assert_eq!(rt; (snapshot.page_size, segments.len()), (100, 4));
+        for segment in segments {
             assert_eq!(rt; segment.num_docs(), 1_024);
         }
+    }
+}
+
+#[test]
+fn twelve_snapshots_have_four_segments(rt: HostRuntime) -> Result<(), Fail> {
+    expect_four_segments(&rt, &snapshots_of(rt.alloc(), 7)?);
+    Ok(())
+}
+
+// The first key of a field of a document is this one.
+fn expect_key(
+    rt: &(impl Abort + AllocGlobal),
+    segment: &SegmentReader,
+    field: &str,
+    doc: u32,
+    expected: &CompositeIntermediateKey,
+) -> Result<(), Fail> {
+    let found = key_of(rt.alloc(), segment, field, doc)?;
+    assert_eq!(rt; found.as_ref(), Some(expected));
+    Ok(())
+}
+
+// A document has a number, a text and a date, which are these.
+fn expect_drawn(
+    rt: &(impl Abort + AllocGlobal),
+    segment: &SegmentReader,
+    doc: u32,
+    (number, text, date): (i64, &str, i64),
+) -> Result<(), Fail> {
+    let text = CompositeIntermediateKey::Str(Text::copy_of(rt.alloc(), text)?);
+    expect_key(rt, segment, "b", doc, &text)?;
+    let number = CompositeIntermediateKey::I64(number);
+    expect_key(rt, segment, "a", doc, &number)?;
+    let date = CompositeIntermediateKey::DateTime(date);
+    expect_key(rt, segment, "d", doc, &date)
+}
+
+// The first document of snapshots and the last one are as they are drawn.
+fn expect_ends(rt: &(impl Abort + AllocGlobal), snapshots: &[Snapshot]) -> Result<(), Fail> {
+    for snapshot in snapshots {
+        let segments = snapshot.segments.as_slice();
+        let first = segments.first().ok_or("a segment")?;
+        let last = segments.last().ok_or("a segment")?;
+        expect_drawn(rt, first, 0, (28, "t11", 65_059_200_000_000_000))?;
+        expect_drawn(rt, last, 1_023, (48, "t17", 51_494_400_000_000_000))?;
     }
     Ok(())
 }
 
 #[test]
 fn documents_are_as_they_are_drawn(rt: HostRuntime) -> Result<(), Fail> {
-    let alloc = rt.alloc();
-    for snapshot in &snapshots_of(alloc, 7)? {
-        let segments = snapshot.segments.as_slice();
-        let first = segments.first().ok_or("a segment")?;
-        let last = segments.last().ok_or("a segment")?;
-        for (segment, doc, number, text, date) in [
-            (first, 0, 28, "t11", 65_059_200_000_000_000),
-            (last, 1_023, 48, "t17", 51_494_400_000_000_000),
-        ] {
-            let number = CompositeIntermediateKey::I64(number);
-            let text = CompositeIntermediateKey::Str(Text::copy_of(alloc, text)?);
-            let date = CompositeIntermediateKey::DateTime(date);
-            assert_eq!(rt; key_of(alloc, segment, "a", doc)?, Some(number));
-            assert_eq!(rt; key_of(alloc, segment, "b", doc)?, Some(text));
-            assert_eq!(rt; key_of(alloc, segment, "d", doc)?, Some(date));
-        }
+    expect_ends(&rt, &snapshots_of(rt.alloc(), 7)?)
+}
+
+// Each of the snapshots of a seed has so many groups.
+fn expect_groups(
+    rt: &(impl Abort + AllocGlobal),
+    snapshots: &[Snapshot],
+    seed: u64,
+    groups: usize,
+) -> Result<(), Fail> {
+    for snapshot in snapshots {
+        let found = count_pairs(rt.alloc(), snapshot.segments.as_slice())?;
+        assert_eq!(rt; found, groups, "of seed {seed}");
     }
     Ok(())
 }
 
 #[test]
 fn seeds_have_their_groups(rt: HostRuntime) -> Result<(), Fail> {
-    let alloc = rt.alloc();
     for (seed, groups) in [(0, 1_017), (7, 1_018)] {
-        for snapshot in &snapshots_of(alloc, seed)? {
-            let found = count_pairs(alloc, snapshot.segments.as_slice())?;
-            assert_eq!(rt; found, groups, "of seed {seed}");
-        }
+        expect_groups(&rt, &snapshots_of(rt.alloc(), seed)?, seed, groups)?;
     }
     Ok(())
 }

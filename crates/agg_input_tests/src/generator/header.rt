@@ -1,9 +1,10 @@
 //! What a generated input asks for.
 use agg_generator::generated_input;
-use agg_input::{Header, Input, read_input};
+use agg_input::{Header, Input, InputError, read_input};
 use agg_request::{Aggregations, NamedBuilder, may_be_written, write_aggregations};
 use agg_segment::QueryTree;
 use std::alloc::Global;
+use std::process::Abort;
 use std::test::Fail;
 
 // The header as a line.
@@ -13,11 +14,10 @@ const LINE: &str = concat!(
     r#""aggs":{"n":{"value_count":{"field":"d"}}}}},"name":"g","schema":["a","b","d"]}"#,
 );
 
-// The header of that line.
-fn read_header(alloc: Global) -> Result<Header, Fail> {
+// The input of that line.
+fn read_line(alloc: Global) -> Result<Input, InputError> {
     let builders: Vec<NamedBuilder> = Vec::new(alloc);
-    let input: Input = read_input(alloc, builders, LINE.as_bytes())?;
-    Ok(input.header)
+    read_input(alloc, builders, LINE.as_bytes())
 }
 
 // What is written of a request.
@@ -28,12 +28,9 @@ fn shown(alloc: Global, request: &Aggregations) -> Result<String, Fail> {
     Ok(write_aggregations(alloc, request)?.to_string(alloc)?)
 }
 
-#[test]
-fn the_header_is_that_of_its_line(rt: HostRuntime) -> Result<(), Fail> {
+// Two headers say the same, and both ask for all documents.
+fn expect_same(rt: &(impl Abort + AllocGlobal), made: &Header, read: &Header) -> Result<(), Fail> {
     let alloc = rt.alloc();
-    let read = read_header(alloc)?;
-    let input: Input = generated_input(alloc, 7)?;
-    let made = input.header;
     assert_eq!(rt; shown(alloc, &made.request)?, shown(alloc, &read.request)?);
     assert_eq!(rt; made.name, read.name);
     assert_eq!(rt; made.schema.fields(), read.schema.fields());
@@ -42,4 +39,11 @@ fn the_header_is_that_of_its_line(rt: HostRuntime) -> Result<(), Fail> {
     assert_eq!(rt; made.memory_limit, read.memory_limit);
     assert_eq!(rt; made.bucket_limit, read.bucket_limit);
     Ok(())
+}
+
+#[test]
+fn the_header_is_that_of_its_line(rt: HostRuntime) -> Result<(), Fail> {
+    let read: Input = read_line(rt.alloc())?;
+    let made: Input = generated_input(rt.alloc(), 7)?;
+    expect_same(&rt, &made.header, &read.header)
 }
