@@ -55,25 +55,36 @@ fn place(column: &Column, key: &CompositeIntermediateKey, order: Order) -> Preco
     PrecomputedAfterKey::precompute(&accessor, key, MissingOrder::Default, order)
 }
 
-// Where the key that a text says stands among the numbers of the one column of a field.
+// Where a key stands among the numbers of the one column of a field.
 fn place_in(
+    rt: &(impl Abort + AllocGlobal),
+    segment: &SegmentReader,
+    field: &str,
+    key: &CompositeIntermediateKey,
+    order: Order,
+) -> Result<PrecomputedAfterKey, Fail> {
+    let name = Text::copy_of(rt.alloc(), field)?;
+    let columns = segment.columns(&name);
+    assert_eq!(rt; columns.len(), 1, "{field}");
+    Ok(place(&columns[0], key, order))
+}
+
+// The same of the key that a text says.
+fn place_of(
     rt: &(impl Abort + AllocGlobal),
     segment: &SegmentReader,
     field: &str,
     after: &str,
     order: Order,
 ) -> Result<PrecomputedAfterKey, Fail> {
-    let name = Text::copy_of(rt.alloc(), field)?;
     let key = key(rt.alloc(), after)?;
-    let columns = segment.columns(&name);
-    assert_eq!(rt; columns.len(), 1, "{field}");
-    Ok(place(&columns[0], &key, order))
+    place_in(rt, segment, field, &key, order)
 }
 
 // After keys stand where the table says.
 fn expect_places(rt: &(impl Abort + AllocGlobal), segment: &SegmentReader) -> Result<(), Fail> {
     for &(name, after, order, expected) in PLACES {
-        let found = place_in(rt, segment, name, after, order)?;
+        let found = place_of(rt, segment, name, after, order)?;
         assert_eq!(rt; found, expected, "{name} after {after}");
     }
     Ok(())

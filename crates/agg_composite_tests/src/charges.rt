@@ -13,6 +13,7 @@ use agg_cache::{
     AggregationLimitsGuard, CollectError, LimitsLedger, LowCardSubAggCache, SubAggCache,
 };
 use agg_composite::{CompositeAggReqData, PageEntries, PageEntry, SegmentCompositeCollector};
+use agg_request_tree::CompositeAggregation;
 use agg_segment::SegmentReader;
 use agg_segment_tests::given::{Given, segment_of};
 use agg_values::{AggregationError, DocId, Steps};
@@ -217,10 +218,11 @@ fn expect_case<C: SubAggCache, L: Ledger>(
     }
 }
 
-// The same in a segment, with a count of steps of its own.
+// The same of a composite in a segment, with a count of steps of its own.
 fn expect_counted<L: Ledger>(
     rt: &(impl Abort + AllocGlobal),
     segment: &SegmentReader,
+    composite: &CompositeAggregation,
     case: &Case,
     blank: Blank,
 ) -> Result<(), Fail>
@@ -229,16 +231,30 @@ fn expect_counted<L: Ledger>(
     requires shared { 0 < L.parts }
 {
     let mut steps: Steps<L> = Steps::new(blank);
-    let composite = composite_over(rt.alloc(), &["a"], case.size)?;
-    let req = request_in(rt.alloc(), segment, &composite)?;
+    let req = request_in(rt.alloc(), segment, composite)?;
     expect_case::<LowCardSubAggCache, L>(rt, case, &req, &mut steps)
+}
+
+// The same of a composite over the one field.
+fn expect_charges(
+    rt: &(impl Abort + AllocGlobal),
+    segment: &SegmentReader,
+    case: &Case,
+) -> Result<(), Fail> {
+    let composite = composite_over(rt.alloc(), &["a"], case.size)?;
+    expect_counted::<Brand>(rt, segment, &composite, case, Blank::new(1))
+}
+
+// So it is in each case.
+fn expect_cases(rt: &(impl Abort + AllocGlobal), segment: &SegmentReader) -> Result<(), Fail> {
+    for case in CASES {
+        expect_charges(rt, segment, case)?;
+    }
+    Ok(())
 }
 
 #[test]
 fn charges_for_each_bucket_more(rt: HostRuntime) -> Result<(), Fail> {
     let segment = segment_of(rt.alloc(), DOCUMENTS)?;
-    for case in CASES {
-        expect_counted::<Brand>(&rt, &segment, case, Blank::new(1))?;
-    }
-    Ok(())
+    expect_cases(&rt, &segment)
 }

@@ -3,18 +3,18 @@ ghost use Rattle.std.specs.Prelude.{◌≡◌, ◌≤◌, ◌<◌, [], IfOk, OnO
 ghost use Rattle.agg_values.specs.Names.{Named};
 ghost use Rattle.agg_values.specs.declared.after_key.AfterKey.{AfterKey};
 ghost use Rattle.agg_segment.specs.Segment.{Stored};
-ghost use Rattle.agg_accessor.specs.Accessors.{Fits};
+ghost use Rattle.agg_accessor.specs.Accessors.{AllFit, Fits};
 ghost use Rattle.agg_request_tree.specs.Faults.{max_sources};
 ghost use Rattle.agg_accessor.specs.declared.request_data.CompositeAggReqData as declared;
 ghost use Rattle.agg_composite.specs.Composite.{CompositeFor};
 ghost use Rattle.agg_composite_tests.specs.Right.{IsRight};
 
-use agg_cache::{BucketId, LimitsLedger, LowCardSubAggCache, SubAggCache};
+use agg_cache::{Batch, BucketId, LimitsLedger, LowCardSubAggCache, SubAggCache};
 use agg_composite::{
     CompositeAggReqData, CompositeSourceAccessors, PageEntries, PageEntry,
     SegmentCompositeCollector,
 };
-use agg_request_tree::CompositeAggregation;
+use agg_request_tree::{CompositeAggregation, CompositeAggregationSource};
 use agg_request_tree_tests::given::{GivenSource, Kind, composite_of};
 use agg_segment::SegmentReader;
 use agg_segment_tests::given::{Given, segment_of};
@@ -49,17 +49,28 @@ pub(crate) fn request_in<'s>(
     ensures fits { IfOk result (Fits segment.now []) }
     ensures composite { IfOk result (λ req. req.req.now ≡ composite.now) }
 {
-    let mut accessors = ItemList::new(alloc);
-    for source in composite.sources.as_slice() {
-        let built = CompositeSourceAccessors::build_for_source(alloc, segment, source, None)?;
-        accessors.push(built)?;
-    }
     Ok(CompositeAggReqData {
         name: Text::copy_of(alloc, "g")?,
         req: composite,
         size: composite.size,
-        composite_accessors: accessors,
+        composite_accessors: accessors_of(alloc, segment, composite.sources.as_slice())?,
     })
+}
+
+// The accessors of each source, from the first tuple on.
+fn accessors_of<'s>(
+    alloc: Global,
+    segment: &'s SegmentReader,
+    sources: &[CompositeAggregationSource],
+) -> Result<ItemList<CompositeSourceAccessors<'s>>, Fail>
+    ensures { IfOk result (AllFit segment.now [] sources.now) }
+{
+    let mut accessors = ItemList::new(alloc);
+    for source in sources {
+        let built = CompositeSourceAccessors::build_for_source(alloc, segment, source, None)?;
+        accessors.push(built)?;
+    }
+    Ok(accessors)
 }
 
 // A collector of so many sources, which hands documents on or doesn't.
@@ -138,8 +149,14 @@ fn shown<C: SubAggCache>(
     requires right { IsRight C.waiting req.now collector.now }
     requires fits { (segment : Stored) × (after : Named AfterKey) × Fits segment after req.now }
 {
+    let page = collector.page(parent, req)?;
+    shown_of(alloc, page.as_slice())
+}
+
+// What entries say.
+fn shown_of(alloc: Global, entries: &[PageEntry]) -> Result<Vec<Shown>, Fail> {
     let mut shown = Vec::new(alloc);
-    for entry in collector.page(parent, req)?.as_slice() {
+    for entry in entries {
         let (first, second) = (number_of(entry, 0), number_of(entry, 1));
         shown.push((first, second, entry.doc_count, entry.bucket_id))?;
     }
@@ -151,8 +168,14 @@ fn taken<C: SubAggCache>(
     alloc: Global,
     collector: &mut SegmentCompositeCollector<C>,
 ) -> Result<Vec<(BucketId, DocId)>, Fail> {
+    let batches = collector.take()?;
+    docs_of(alloc, batches.as_slice())
+}
+
+// The documents of batches, with the ids of their buckets.
+fn docs_of(alloc: Global, batches: &[Batch]) -> Result<Vec<(BucketId, DocId)>, Fail> {
     let mut taken = Vec::new(alloc);
-    for batch in collector.take()?.as_slice() {
+    for batch in batches {
         for doc in batch.docs.as_slice() {
             taken.push((batch.bucket_id, *doc))?;
         }
@@ -246,28 +269,44 @@ fn expect_taken<C: SubAggCache>(
     Ok(())
 }
 
-// A new collector shows these pages, and hands these documents on, if it hands any on.
+// A collector shows these pages, and hands their documents on, if it hands any on.
+fn expect_shown_and_taken<C: SubAggCache, L: Ledger>(
+    rt: &(impl Abort + AllocGlobal),
+    case: (&Pages, bool),
+    collector: &mut SegmentCompositeCollector<C>,
+    req: &CompositeAggReqData<'_>,
+    steps: &mut Steps<L>,
+) -> Result<(), Fail>
+    requires right { IsRight C.waiting req.now collector.old }
+    requires parents { 1 < length collector.old.node.parents }
+    requires fits { (segment : Stored) × (after : Named AfterKey) × Fits segment after req.now }
+    requires room { length req.now.req.now.sources ≤ collector.old.room }
+{
+    let (pages, hands_on) = case;
+    expect_shown(rt, pages, collector, req, steps)?;
+    let taken = if hands_on { pages.taken } else { &[] };
+    expect_taken(rt, collector, taken)
+}
+
+// So does a new collector.
 fn expect_pages_of<C: SubAggCache, L: Ledger>(
     rt: &(impl Abort + AllocGlobal),
-    pages: &Pages,
-    hands_on: bool,
+    case: (&Pages, bool),
     req: &CompositeAggReqData<'_>,
     steps: &mut Steps<L>,
 ) -> Result<(), Fail>
     requires fits { (segment : Stored) × (after : Named AfterKey) × Fits segment after req.now }
 {
-    let mut collector: SegmentCompositeCollector<C> = collector_for(rt, req, hands_on)?;
-    expect_shown(rt, pages, &mut collector, req, steps)?;
-    let handed = if hands_on { pages.taken } else { &[] };
-    expect_taken(rt, &mut collector, handed)
+    let mut collector: SegmentCompositeCollector<C> = collector_for(rt, req, case.1)?;
+    expect_shown_and_taken(rt, case, &mut collector, req, steps)
 }
 
 // So does the collector of a composite.
 fn expect_pages<C: SubAggCache, L: Ledger>(
     rt: &(impl Abort + AllocGlobal),
     segment: &SegmentReader,
-    pages: &Pages,
-    hands_on: bool,
+    composite: &CompositeAggregation,
+    case: (&Pages, bool),
     blank: Blank,
 ) -> Result<(), Fail>
     requires name { blank.name ≡ L.name }
@@ -275,9 +314,8 @@ fn expect_pages<C: SubAggCache, L: Ledger>(
     requires shared { 0 < L.parts }
 {
     let mut steps: Steps<L> = Steps::new(blank);
-    let composite = composite_over(rt.alloc(), pages.fields, 2)?;
-    let req = request_in(rt.alloc(), segment, &composite)?;
-    expect_pages_of::<C, L>(rt, pages, hands_on, &req, &mut steps)
+    let req = request_in(rt.alloc(), segment, composite)?;
+    expect_pages_of::<C, L>(rt, case, &req, &mut steps)
 }
 
 /// A composite of so many buckets over terms of these fields.
@@ -297,21 +335,26 @@ pub(crate) fn composite_over(
 fn expect_counted(
     rt: &(impl Abort + AllocGlobal),
     segment: &SegmentReader,
-    pages: &Pages,
-    hands_on: bool,
+    case: (&Pages, bool),
 ) -> Result<(), Fail> {
-    expect_pages::<LowCardSubAggCache, Brand>(rt, segment, pages, hands_on, Blank::new(1))
+    let composite = composite_over(rt.alloc(), case.0.fields, 2)?;
+    expect_pages::<LowCardSubAggCache, Brand>(rt, segment, &composite, case, Blank::new(1))
+}
+
+// Collectors show each of the pages, whether they hand documents on or not.
+fn expect_each(rt: &(impl Abort + AllocGlobal), segment: &SegmentReader) -> Result<(), Fail> {
+    for pages in PAGES {
+        for hands_on in [true, false] {
+            expect_counted(rt, segment, (pages, hands_on))?;
+        }
+    }
+    Ok(())
 }
 
 #[test]
 fn keeps_the_lowest_of_each_parent(rt: HostRuntime) -> Result<(), Fail> {
     let segment = segment_of(rt.alloc(), DOCUMENTS)?;
-    for pages in PAGES {
-        for hands_on in [true, false] {
-            expect_counted(&rt, &segment, pages, hands_on)?;
-        }
-    }
-    Ok(())
+    expect_each(&rt, &segment)
 }
 
 #[test]

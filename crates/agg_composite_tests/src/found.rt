@@ -3,7 +3,8 @@ use crate::given::key;
 use agg_composite::{CompositeAccessor, CompositeSourceAccessors, PrecomputedAfterKey};
 use agg_request_tree::CompositeAggregationSource;
 use agg_segment::{ColumnType, SegmentReader};
-use std::alloc::{AllocError, Global};
+use agg_values::CompositeIntermediateKey;
+use std::alloc::Global;
 use std::test::Fail;
 
 /// Where an after value stands: its place among numbers, the index of its lane, whether Null comes
@@ -23,11 +24,20 @@ pub(crate) fn standing(
     source: &CompositeAggregationSource,
     after: Option<&str>,
 ) -> Result<Standing, Fail> {
-    let after = match after {
-        Some(text) => Some(key(alloc, text)?),
-        None => None,
-    };
-    let built = CompositeSourceAccessors::build_for_source(alloc, segment, source, after.as_ref())?;
+    match after {
+        Some(text) => standing_of(alloc, segment, source, Some(&key(alloc, text)?)),
+        None => standing_of(alloc, segment, source, None),
+    }
+}
+
+// The same of a key.
+fn standing_of(
+    alloc: Global,
+    segment: &SegmentReader,
+    source: &CompositeAggregationSource,
+    after: Option<&CompositeIntermediateKey>,
+) -> Result<Standing, Fail> {
+    let built = CompositeSourceAccessors::build_for_source(alloc, segment, source, after)?;
     Ok((
         built.after_key,
         built.after_key_accessor_idx,
@@ -43,13 +53,10 @@ pub(crate) fn types(
     source: &CompositeAggregationSource,
 ) -> Result<Vec<ColumnType>, Fail> {
     let built = CompositeSourceAccessors::build_for_source(alloc, segment, source, None)?;
-    Ok(types_of(alloc, built.accessors.as_slice())?)
+    types_of(alloc, built.accessors.as_slice())
 }
 
-fn types_of(
-    alloc: Global,
-    accessors: &[CompositeAccessor<'_>],
-) -> Result<Vec<ColumnType>, AllocError> {
+fn types_of(alloc: Global, accessors: &[CompositeAccessor<'_>]) -> Result<Vec<ColumnType>, Fail> {
     let mut types = Vec::new(alloc);
     for accessor in accessors {
         types.push(accessor.column.column_type())?;

@@ -9,6 +9,7 @@ ghost use Rattle.agg_accessor.specs.Decoded.{IsEncoded};
 
 use crate::collector::{DOCUMENTS, composite_over, number_of, request_in};
 use agg_composite::{CompositeAggReqData, PageEntries, PageEntry, list_entries};
+use agg_request_tree::CompositeAggregation;
 use agg_segment::SegmentReader;
 use agg_segment_tests::given::segment_of;
 use agg_values::Steps;
@@ -34,23 +35,36 @@ fn shown_entry(entry: PageEntry) -> Shown {
     (number_of(&entry, 0), entry.doc_count)
 }
 
-// What entries say.
+// What the entries that are left say.
 fn shown(
     alloc: Global,
-    entries: PageEntries,
+    entries: &mut PageEntries,
     req: &CompositeAggReqData<'_>,
 ) -> Result<Vec<Shown>, Fail>
-    requires { All (IsEncoded req.now) (keys_of entries) }
+    requires { All (IsEncoded req.now) (keys_of entries.old) }
 {
-    let mut rest = entries;
     let mut shown = Vec::new(alloc);
-    while let Some(entry) = rest.next_entry(alloc, req)? {
+    while let Some(entry) = entries.next_entry(alloc, req)? {
         shown.push(shown_entry(entry))?;
     }
     Ok(shown)
 }
 
-// The entries of all documents say this.
+// Entries say this.
+fn expect_entries(
+    rt: &(impl Abort + AllocGlobal),
+    entries: &mut PageEntries,
+    req: &CompositeAggReqData<'_>,
+    expected: &[Shown],
+) -> Result<(), Fail>
+    requires { All (IsEncoded req.now) (keys_of entries.old) }
+{
+    let shown = shown(rt.alloc(), entries, req)?;
+    assert_eq!(rt; shown.as_slice(), expected);
+    Ok(())
+}
+
+// Those of all documents say this.
 fn expect_shown<L: Ledger>(
     rt: &(impl Abort + AllocGlobal),
     req: &CompositeAggReqData<'_>,
@@ -65,10 +79,8 @@ fn expect_shown<L: Ledger>(
     let mut steps: Steps<L> = Steps::new(blank);
     let docs = [0, 1, 2, 3, 4, 5];
     assert!(rt; req.req.sources.as_slice().len() == 1 && req.are_starts_in_range(&docs));
-    let entries = list_entries(rt.alloc(), &docs, req, &mut steps)?;
-    let shown = shown(rt.alloc(), entries, req)?;
-    assert_eq!(rt; shown.as_slice(), expected);
-    Ok(())
+    let mut entries = list_entries(rt.alloc(), &docs, req, &mut steps)?;
+    expect_entries(rt, &mut entries, req, expected)
 }
 
 // The same with a count of steps of its own.
@@ -82,6 +94,17 @@ fn expect_listed(
     expect_shown::<Brand>(rt, req, expected, Blank::new(1))
 }
 
+// The same of a composite.
+fn expect_composite(
+    rt: &(impl Abort + AllocGlobal),
+    segment: &SegmentReader,
+    composite: &CompositeAggregation,
+    expected: &[Shown],
+) -> Result<(), Fail> {
+    let req = request_in(rt.alloc(), segment, composite)?;
+    expect_listed(rt, &req, expected)
+}
+
 // The same of terms of a field, with so many entries on a page.
 fn expect_terms(
     rt: &(impl Abort + AllocGlobal),
@@ -91,15 +114,19 @@ fn expect_terms(
     expected: &[Shown],
 ) -> Result<(), Fail> {
     let composite = composite_over(rt.alloc(), &[field], size)?;
-    let req = request_in(rt.alloc(), segment, &composite)?;
-    expect_listed(rt, &req, expected)
+    expect_composite(rt, segment, &composite, expected)
+}
+
+// A segment lists the entries of the table.
+fn expect_table(rt: &(impl Abort + AllocGlobal), segment: &SegmentReader) -> Result<(), Fail> {
+    for &(field, size, expected) in LISTED {
+        expect_terms(rt, segment, field, size, expected)?;
+    }
+    Ok(())
 }
 
 #[test]
 fn lists_the_lowest(rt: HostRuntime) -> Result<(), Fail> {
     let segment = segment_of(rt.alloc(), DOCUMENTS)?;
-    for &(field, size, expected) in LISTED {
-        expect_terms(&rt, &segment, field, size, expected)?;
-    }
-    Ok(())
+    expect_table(&rt, &segment)
 }

@@ -4,7 +4,7 @@ use Rattle.agg_accessor.specs.Decoded.{IsEncoded}
 use Rattle.agg_composite_tests.proofs.listing.shown.Given as goal
 
 abbrev pub invariant-loop-shown : goal.invariant-loop-shown
-invariant-loop-shown l = All (IsEncoded l.fn.req) (keys_of l.rest)
+invariant-loop-shown l = All (IsEncoded l.req) (keys_of l.entries)
 
 abbrev pub decreases-loop-shown : goal.decreases-loop-shown
-decreases-loop-shown l = length l.rest
+decreases-loop-shown l = length l.entries

@@ -1,4 +1,4 @@
-use Rattle.agg_composite_tests.proofs.charges.charges_for_each_bucket_more.Given as goal
+use Rattle.agg_composite_tests.proofs.charges.expect_charges.Given as goal
 
 -- the ledger is the one of the blank
 abbrev pub ghosts-expect_counted : goal.ghosts-expect_counted

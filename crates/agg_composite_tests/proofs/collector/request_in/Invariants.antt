@@ -1,8 +1,0 @@
-use Rattle.std.proofs.Common.{[], take}
-use Rattle.agg_composite.specs.Accessors.{AllFit}
-use Rattle.agg_composite_tests.proofs.collector.request_in.Given as goal
-
--- the accessors of the sources so far
-abbrev pub invariant-loop-source : goal.invariant-loop-source
-invariant-loop-source l =
-    AllFit l.segment [] (take l.source-index l.source-items) l.accessors
