@@ -1,4 +1,4 @@
-use agg_request::{CompositeAggregation, CompositeAggregationSource, read_composite};
+use agg_request::{CompositeAggregation, CompositeAggregationSource, ReadError, read_composite};
 use agg_values::AfterKey;
 use serde_json::Value;
 use std::alloc::Global;
@@ -314,11 +314,21 @@ fn shown(alloc: Global, composite: &CompositeAggregation) -> Result<String, Fail
     Ok(shown)
 }
 
-fn read(alloc: Global, body: &str) -> Result<String, Fail> {
-    match read_composite(alloc, &Value::from_str(alloc, body)?) {
-        Ok(composite) => shown(alloc, &composite),
+// A composite, or its refusal.
+fn shown_answer(
+    alloc: Global,
+    answer: &Result<CompositeAggregation, ReadError>,
+) -> Result<String, Fail> {
+    match answer {
+        Ok(composite) => shown(alloc, composite),
         Err(error) => Ok(format!(in alloc; "{error:?}")?),
     }
+}
+
+// What is read of a body.
+fn read(alloc: Global, body: &str) -> Result<String, Fail> {
+    let value = Value::from_str(alloc, body)?;
+    shown_answer(alloc, &read_composite(alloc, &value))
 }
 
 // This is read of a body.

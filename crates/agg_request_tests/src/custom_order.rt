@@ -1,4 +1,4 @@
-use agg_request::CustomOrder;
+use agg_request::{CustomOrder, ReadError};
 use serde_json::Value;
 use std::alloc::Global;
 use std::test::Fail;
@@ -27,12 +27,18 @@ fn shown(alloc: Global, order: &CustomOrder) -> Result<String, Fail> {
     Ok(order.write(alloc)?.to_string(alloc)?)
 }
 
-// What is written of the order that a text says.
-fn written(alloc: Global, text: &str) -> Result<String, Fail> {
-    match CustomOrder::read(alloc, &Value::from_str(alloc, text)?) {
-        Ok(order) => shown(alloc, &order),
+// What is written of an order, or its refusal.
+fn shown_answer(alloc: Global, answer: &Result<CustomOrder, ReadError>) -> Result<String, Fail> {
+    match answer {
+        Ok(order) => shown(alloc, order),
         Err(error) => Ok(format!(in alloc; "{error:?}")?),
     }
+}
+
+// What is written of the order that a text says.
+fn written(alloc: Global, text: &str) -> Result<String, Fail> {
+    let value = Value::from_str(alloc, text)?;
+    shown_answer(alloc, &CustomOrder::read(alloc, &value))
 }
 
 #[test]

@@ -71,10 +71,20 @@ fn shown_each(alloc: Global, request: &Aggregations) -> Result<String, Fail> {
     Ok(shown)
 }
 
-// The fields of the request of a text: of all its aggregations, and of each.
+// The fields of a request: of all its aggregations, and of each.
+fn shown(alloc: Global, request: &Aggregations) -> Result<(String, String), Fail> {
+    Ok((shown_all(alloc, request)?, shown_each(alloc, request)?))
+}
+
+// The request of a text.
+fn read(alloc: Global, text: &str) -> Result<Aggregations, Fail> {
+    let value = Value::from_str(alloc, text)?;
+    Ok(read_aggregations(alloc, &value, Vec::new(alloc))?)
+}
+
+// The fields of the request of a text.
 fn found(alloc: Global, text: &str) -> Result<(String, String), Fail> {
-    let request = read_aggregations(alloc, &Value::from_str(alloc, text)?, Vec::new(alloc))?;
-    Ok((shown_all(alloc, &request)?, shown_each(alloc, &request)?))
+    shown(alloc, &read(alloc, text)?)
 }
 
 #[test]

@@ -1,6 +1,6 @@
 //! Which documents small queries match.
 use agg_request::read_query;
-use agg_segment::{Matches, SegmentReader};
+use agg_segment::{Matches, QueryTree, SegmentReader};
 use agg_segment_tests::given::{Given, segment_of};
 use agg_values::DocId;
 use serde_json::Value;
@@ -94,19 +94,22 @@ const QUERIES: &[(&str, &[DocId])] = &[
     ),
 ];
 
-fn matches_of(alloc: Global, segment: &SegmentReader, query: &str) -> Result<Matches, Fail> {
-    let tree = read_query(alloc, &Value::from_str(alloc, query)?)?;
-    Ok(Matches::new(alloc, &tree, segment)?)
+fn tree_of(alloc: Global, query: &str) -> Result<QueryTree, Fail> {
+    let value = Value::from_str(alloc, query)?;
+    Ok(read_query(alloc, &value)?)
 }
 
-// A query matches these documents.
-fn expect_matches(
+fn matches_of(alloc: Global, segment: &SegmentReader, query: &str) -> Result<Matches, Fail> {
+    Ok(Matches::new(alloc, &tree_of(alloc, query)?, segment)?)
+}
+
+// These documents are found for a query.
+fn expect_found(
     rt: &(impl Abort + AllocGlobal),
-    segment: &SegmentReader,
+    found: &Matches,
     query: &str,
     documents: &[DocId],
 ) -> Result<(), Fail> {
-    let found = matches_of(rt.alloc(), segment, query)?;
     for doc in 0..6 {
         assert_eq!(rt;
             found.contains(doc),
@@ -119,11 +122,20 @@ fn expect_matches(
     Ok(())
 }
 
-#[test]
-fn queries_match_these_documents(rt: HostRuntime) -> Result<(), Fail> {
-    let segment = segment_of(rt.alloc(), DOCUMENTS)?;
+// Each query matches its documents.
+fn expect_matches(rt: &(impl Abort + AllocGlobal), segment: &SegmentReader) -> Result<(), Fail> {
     for &(query, documents) in QUERIES {
-        expect_matches(&rt, &segment, query, documents)?;
+        expect_found(
+            rt,
+            &matches_of(rt.alloc(), segment, query)?,
+            query,
+            documents,
+        )?;
     }
     Ok(())
+}
+
+#[test]
+fn queries_match_these_documents(rt: HostRuntime) -> Result<(), Fail> {
+    expect_matches(&rt, &segment_of(rt.alloc(), DOCUMENTS)?)
 }

@@ -1,6 +1,6 @@
 use agg_request::{
     Aggregation, AggregationVariants, Aggregations, FilterAggregation, FilterQuery, NamedBuilder,
-    QueryBuildError, QueryBuilder, read_aggregations,
+    QueryBuildError, QueryBuilder, ReadError, read_aggregations,
 };
 use agg_segment::{QueryTree, Schema};
 use agg_values::Text;
@@ -283,19 +283,40 @@ fn shown(alloc: Global, request: &Aggregations) -> Result<String, Fail> {
     Ok(shown)
 }
 
-// What is read of a text with those builders.
-fn read(alloc: Global, text: &str) -> Result<String, Fail> {
+// A builder under a name.
+fn builder_of(alloc: Global, name: &str, matches: bool) -> Result<NamedBuilder, Fail> {
+    Ok(NamedBuilder {
+        name: Text::copy_of(alloc, name)?,
+        builder: Box::new(alloc, Marked { matches })?,
+    })
+}
+
+// The unused builders.
+fn builders(alloc: Global) -> Result<Vec<NamedBuilder>, Fail> {
     let mut builders = Vec::new(alloc);
     for &(name, matches) in BUILDERS {
-        builders.push(NamedBuilder {
-            name: Text::copy_of(alloc, name)?,
-            builder: Box::new(alloc, Marked { matches })?,
-        })?;
+        builders.push(builder_of(alloc, name, matches)?)?;
     }
-    match read_aggregations(alloc, &Value::from_str(alloc, text)?, builders) {
-        Ok(request) => shown(alloc, &request),
+    Ok(builders)
+}
+
+// A request, or its refusal.
+fn shown_answer(alloc: Global, answer: &Result<Aggregations, ReadError>) -> Result<String, Fail> {
+    match answer {
+        Ok(request) => shown(alloc, request),
         Err(error) => Ok(format!(in alloc; "{error:?}")?),
     }
+}
+
+// What is read of a value with those builders.
+fn read_value(alloc: Global, value: &Value) -> Result<String, Fail> {
+    let builders = builders(alloc)?;
+    shown_answer(alloc, &read_aggregations(alloc, value, builders))
+}
+
+// What is read of a text with them.
+fn read(alloc: Global, text: &str) -> Result<String, Fail> {
+    read_value(alloc, &Value::from_str(alloc, text)?)
 }
 
 // This is read of a text.

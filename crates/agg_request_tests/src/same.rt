@@ -57,10 +57,14 @@ fn text_of_all(alloc: Global) -> Result<String, Fail> {
     Ok(format!(in alloc; "{{{text}}}")?)
 }
 
-fn all_of_them(alloc: Global) -> Result<Aggregations, Fail> {
-    let text = text_of_all(alloc)?;
-    let value = Value::from_str(alloc, text.as_str())?;
+// The request of a text.
+fn read(alloc: Global, text: &str) -> Result<Aggregations, Fail> {
+    let value = Value::from_str(alloc, text)?;
     Ok(read_aggregations(alloc, &value, Vec::new(alloc))?)
+}
+
+fn all_of_them(alloc: Global) -> Result<Aggregations, Fail> {
+    read(alloc, text_of_all(alloc)?.as_str())
 }
 
 // An aggregation is the same as that of its own name alone.

@@ -165,10 +165,15 @@ fn builders(alloc: Global) -> Result<Vec<NamedBuilder>, Fail> {
     Ok(builders)
 }
 
+// The request of a value.
+fn read_value(alloc: Global, value: &Value) -> Result<Aggregations, Fail> {
+    let builders = builders(alloc)?;
+    Ok(read_aggregations(alloc, value, builders)?)
+}
+
 // The request of a text.
 fn read(alloc: Global, text: &str) -> Result<Aggregations, Fail> {
-    let value = Value::from_str(alloc, text)?;
-    Ok(read_aggregations(alloc, &value, builders(alloc)?)?)
+    read_value(alloc, &Value::from_str(alloc, text)?)
 }
 
 // What is written of the request of a text.
@@ -228,15 +233,18 @@ fn request_of(
     Ok(request)
 }
 
+// An aggregation that stands above those of a text.
+fn aggregation_of(alloc: Global, above: Above, below: &str) -> Result<Aggregation, Fail> {
+    Ok(Aggregation {
+        agg: agg_of(alloc, above)?,
+        sub_aggregation: read(alloc, below)?,
+    })
+}
+
 // What is written of an aggregation that stands above those of a text.
 fn written_above(alloc: Global, above: Above, below: &str) -> Result<Option<String>, Fail> {
     let name = Text::copy_of(alloc, "a")?;
-    let agg = agg_of(alloc, above)?;
-    let sub_aggregation = read(alloc, below)?;
-    let aggregation = Aggregation {
-        agg,
-        sub_aggregation,
-    };
+    let aggregation = aggregation_of(alloc, above, below)?;
     shown(alloc, &request_of(alloc, name, aggregation)?)
 }
 
