@@ -1,9 +1,10 @@
 //! Tests of results over no segment and over several, of all documents and of some, and of limits.
 ghost use Rattle.std.specs.Prelude.{◌≡◌, ◌<◌};
+ghost use Rattle.agg_snapshot.specs.Asked.{MayBeAsked};
 
 use agg_cache::LimitsLedger;
 use agg_request::{read_aggregations, read_query};
-use agg_request_tree::{Aggregations, check_request};
+use agg_request_tree::{Aggregations, NamedBuilder, check_request};
 use agg_segment::{QueryTree, Schema, SegmentReader};
 use agg_segment_context::AggContextParams;
 use agg_segment_tests::given::{Given, segment_of};
@@ -12,6 +13,7 @@ use agg_values::{ItemList, Steps, Text};
 use serde_json::Value;
 use std::alloc::Global;
 use std::marker::Brand;
+use std::process::Abort;
 use std::sync::ledger::{Blank, Ledger};
 use std::test::Fail;
 
@@ -116,20 +118,60 @@ struct Snapshot {
 
 // A query, and segments of these documents.
 fn snapshot_of(alloc: Global, query: &str, given: &[&[Values]]) -> Result<Snapshot, Fail> {
-    let query = read_query(alloc, &Value::from_str(alloc, query)?)?;
-    let mut segments = ItemList::new(alloc);
-    for documents in given {
-        segments.push(segment_of(alloc, documents)?)?;
-    }
+    let segments = segments_of(alloc, given)?;
+    let query = query_of(alloc, query)?;
     Ok(Snapshot { query, segments })
 }
 
-fn request_of(alloc: Global, text: &str) -> Result<Aggregations, Fail> {
-    Ok(read_aggregations(alloc, &Value::from_str(alloc, text)?, Vec::new(alloc))?)
+fn segments_of(alloc: Global, given: &[&[Values]]) -> Result<ItemList<SegmentReader>, Fail> {
+    let mut segments = ItemList::new(alloc);
+    for documents in given {
+        add_segment(alloc, &mut segments, documents)?;
+    }
+    Ok(segments)
 }
 
-// The results of a request over a snapshot within limits, as they are shown, or why there are none.
+// Adds a segment of these documents.
+fn add_segment(
+    alloc: Global,
+    segments: &mut ItemList<SegmentReader>,
+    documents: &[Values],
+) -> Result<(), Fail> {
+    segments.push(segment_of(alloc, documents)?)?;
+    Ok(())
+}
+
+fn query_of(alloc: Global, text: &str) -> Result<QueryTree, Fail> {
+    let query = read_query(alloc, &Value::from_str(alloc, text)?);
+    Ok(query?)
+}
+
+fn request_of(alloc: Global, text: &str) -> Result<Aggregations, Fail> {
+    let request = read_aggregations(alloc, &Value::from_str(alloc, text)?, Vec::new(alloc));
+    Ok(request?)
+}
+
+// The results of a page over segments within limits, as they are shown, or why there are none.
 fn shown<L: Ledger>(
+    alloc: Global,
+    page: &PageRequest<'_, NamedBuilder>,
+    segments: &[SegmentReader],
+    limits: &mut LimitsLedger,
+    steps: &mut Steps<L>,
+) -> Result<Result<Text, SnapshotError>, Fail>
+    requires asked { MayBeAsked page.now }
+{
+    match snapshot_results(alloc, page, segments, limits, steps) {
+        Ok(merged) => {
+            let text = merged.into_final_result(page.request, limits)?.write_json();
+            Ok(Ok(text?))
+        }
+        Err(error) => Ok(Err(error)),
+    }
+}
+
+// The same of a request over a snapshot.
+fn shown_of<L: Ledger>(
     alloc: Global,
     request: &Aggregations,
     snapshot: &Snapshot,
@@ -148,22 +190,81 @@ fn shown<L: Ledger>(
         query: &snapshot.query,
     };
     let mut steps: Steps<L> = Steps::new(blank);
-    let segments = snapshot.segments.as_slice();
-    match snapshot_results(alloc, &page, segments, limits, &mut steps) {
-        Ok(merged) => Ok(Ok(merged.into_final_result(request, limits)?.write_json()?)),
-        Err(error) => Ok(Err(error)),
+    shown(
+        alloc,
+        &page,
+        snapshot.segments.as_slice(),
+        limits,
+        &mut steps,
+    )
+}
+
+// The results of a request over a snapshot are shown so.
+fn expect_results(
+    rt: &(impl Abort + AllocGlobal),
+    request: &Aggregations,
+    snapshot: &Snapshot,
+    text: &str,
+) -> Result<(), Fail> {
+    let mut limits = LimitsLedger::new(None, None);
+    let blank = Blank::new(1);
+    let found = shown_of::<Brand>(rt.alloc(), request, snapshot, &mut limits, blank)??;
+    assert_eq!(rt; found.as_str(), text);
+    Ok(())
+}
+
+// The results of a request are those of a row.
+fn expect_row(
+    rt: &(impl Abort + AllocGlobal),
+    request: &Aggregations,
+    (query, given, text): (&str, &[&[Values]], &str),
+) -> Result<(), Fail> {
+    let snapshot = snapshot_of(rt.alloc(), query, given)?;
+    expect_results(rt, request, &snapshot, text)
+}
+
+fn expect_rows(rt: &(impl Abort + AllocGlobal), request: &Aggregations) -> Result<(), Fail> {
+    for &row in ROWS {
+        expect_row(rt, request, row)?;
     }
+    Ok(())
 }
 
 #[test]
 fn gives_results_of_all_segments(rt: HostRuntime) -> Result<(), Fail> {
     let request = request_of(rt.alloc(), REQUEST)?;
-    for &(query, given, text) in ROWS {
-        let snapshot = snapshot_of(rt.alloc(), query, given)?;
-        let mut limits = LimitsLedger::new(None, None);
-        let blank = Blank::new(1);
-        let found = shown::<Brand>(rt.alloc(), &request, &snapshot, &mut limits, blank)??;
-        assert_eq!(rt; found.as_str(), text);
+    expect_rows(&rt, &request)
+}
+
+// A limit of memory refuses the results of a request over a snapshot for this reason, or gives
+// them. Nothing is in use after that.
+fn expect_refusal(
+    rt: &(impl Abort + AllocGlobal),
+    request: &Aggregations,
+    snapshot: &Snapshot,
+    limit: u64,
+    refusal: Option<SnapshotError>,
+) -> Result<(), Fail> {
+    let mut limits = LimitsLedger::new(Some(limit), None);
+    let blank = Blank::new(1);
+    let found = shown_of::<Brand>(rt.alloc(), request, snapshot, &mut limits, blank)?;
+    assert_eq!(rt; (found.err(), limits.in_use()), (refusal, 0));
+    Ok(())
+}
+
+// The limit of a row refuses what the row says.
+fn expect_limit(
+    rt: &(impl Abort + AllocGlobal),
+    request: &Aggregations,
+    (limit, given, refusal): (u64, &[&[Values]], Option<SnapshotError>),
+) -> Result<(), Fail> {
+    let snapshot = snapshot_of(rt.alloc(), ALL, given)?;
+    expect_refusal(rt, request, &snapshot, limit, refusal)
+}
+
+fn expect_limits(rt: &(impl Abort + AllocGlobal), request: &Aggregations) -> Result<(), Fail> {
+    for &row in LIMITS {
+        expect_limit(rt, request, row)?;
     }
     Ok(())
 }
@@ -171,13 +272,5 @@ fn gives_results_of_all_segments(rt: HostRuntime) -> Result<(), Fail> {
 #[test]
 fn keeps_to_the_limit_and_gives_all_back(rt: HostRuntime) -> Result<(), Fail> {
     let request = request_of(rt.alloc(), BY_NUMBER)?;
-    for &(limit, given, refusal) in LIMITS {
-        let snapshot = snapshot_of(rt.alloc(), ALL, given)?;
-        let mut limits = LimitsLedger::new(Some(limit), None);
-        let blank = Blank::new(1);
-        let found = shown::<Brand>(rt.alloc(), &request, &snapshot, &mut limits, blank)?;
-        assert_eq!(rt; found.err(), refusal);
-        assert_eq!(rt; limits.in_use(), 0);
-    }
-    Ok(())
+    expect_limits(&rt, &request)
 }

@@ -1,10 +1,10 @@
 use Rattle.std.proofs.Common.{subst, sym}
 use Rattle.agg_request_tree.specs.Faults.{IsSoundRequest}
 use Rattle.agg_segment_context.specs.Pages.{paged}
-use Rattle.agg_snapshot_tests.proofs.results.shown.Goals as goal
+use Rattle.agg_snapshot_tests.proofs.results.shown_of.Goals as goal
 
-pub snapshot_results-requires : goal.snapshot_results-requires
-snapshot_results-requires g c =
+pub shown-requires : goal.shown-requires
+shown-requires g c =
     record {
       asked = record {
         trees = c.in_ok-params.ensures.of;

@@ -1,0 +1,5 @@
+use Rattle.agg_snapshot_tests.proofs.results.expect_refusal.Given as goal
+
+-- the ledger is the one of the blank
+abbrev pub ghosts-shown_of : goal.ghosts-shown_of
+ghosts-shown_of g a = record { name = a.blank.name; parts = a.blank.parts }
