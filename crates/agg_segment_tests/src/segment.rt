@@ -55,10 +55,10 @@ fn finish_with(
 }
 
 // The segment of one document.
-fn of_one(alloc: Global, values: &[(&str, Given)]) -> Result<SegmentReader, Fail> {
+fn of_one(alloc: Global, values: &[(&str, Given)]) -> Result<SegmentReader, BuildError> {
     let mut builder = SegmentBuilder::new(alloc);
     finish_with(alloc, &mut builder, values)??;
-    Ok(builder.build()?)
+    builder.build()
 }
 
 // The columns of a field with values of every class, and their numbers.
@@ -85,17 +85,22 @@ fn interleaved_classes_have_columns_of_their_own(rt: HostRuntime) -> Result<(), 
     Ok(())
 }
 
+// Of a document with a signed number and one with a large number the second is refused.
+fn expect_mix(
+    rt: &(impl Abort + AllocGlobal),
+    builder: &mut SegmentBuilder,
+) -> Result<(), OutOfMemory> {
+    let signed = finish_with(rt.alloc(), builder, &OF_EACH_CLASS)?;
+    let large = finish_with(rt.alloc(), builder, &[("a", Given::Unsigned(FROM_ZERO))])?;
+    assert_eq!(rt; (signed, large), (Ok(()), MIX));
+    Ok(())
+}
+
 #[test]
 fn mixed_numbers_are_refused(rt: HostRuntime) -> Result<(), Fail> {
-    let alloc = rt.alloc();
-    let mut builder = SegmentBuilder::new(alloc);
-    let large = [("a", Given::Unsigned(FROM_ZERO))];
-    let answers = (
-        finish_with(alloc, &mut builder, &OF_EACH_CLASS)?,
-        finish_with(alloc, &mut builder, &large)?,
-    );
-    let taken = builder.build()?.num_docs();
-    assert_eq!(rt; (answers, taken), ((Ok(()), MIX), 1));
+    let mut builder = SegmentBuilder::new(rt.alloc());
+    expect_mix(&rt, &mut builder)?;
+    assert_eq!(rt; builder.build()?.num_docs(), 1);
     Ok(())
 }
 
@@ -183,12 +188,12 @@ fn a_document_too_many_is_refused(rt: HostRuntime) -> Result<(), Fail> {
 
 // Each of nine documents has a number, all but one have two in another field, and the first and
 // the last have one in a third.
-fn layouts(alloc: Global) -> Result<SegmentReader, Fail> {
+fn layouts(alloc: Global) -> Result<SegmentReader, BuildError> {
     let mut builder = SegmentBuilder::new(alloc);
     for doc in 0..9 {
         finish_layout(alloc, &mut builder, doc)??;
     }
-    Ok(builder.build()?)
+    builder.build()
 }
 
 fn finish_layout(
@@ -395,13 +400,22 @@ fn schemas_and_laws_are_called(rt: HostRuntime) -> Result<(), Fail> {
     Ok(())
 }
 
-#[test]
-fn queries_and_their_bounds_are_cloned(rt: HostRuntime) -> Result<(), Fail> {
-    let alloc = rt.alloc();
+// Whether the clone of a bound is the bound.
+fn is_bound_cloned(alloc: Global) -> Result<bool, OutOfMemory> {
     let bound = RangeBound::Included(FieldValue::I64(5));
     let copy = bound.try_clone(alloc)?;
-    assert!(rt; matches!(copy, RangeBound::Included(FieldValue::I64(5))));
+    Ok(matches!(copy, RangeBound::Included(FieldValue::I64(5))))
+}
+
+// Whether the clone of a query is the query.
+fn is_query_cloned(alloc: Global) -> Result<bool, OutOfMemory> {
     let copy = QueryTree::All.try_clone(alloc)?;
-    assert!(rt; matches!(copy, QueryTree::All));
+    Ok(matches!(copy, QueryTree::All))
+}
+
+#[test]
+fn queries_and_their_bounds_are_cloned(rt: HostRuntime) -> Result<(), Fail> {
+    let cloned = (is_bound_cloned(rt.alloc())?, is_query_cloned(rt.alloc())?);
+    assert_eq!(rt; cloned, (true, true));
     Ok(())
 }
