@@ -1,7 +1,6 @@
 -- The request of a grouping.
-use Rattle.std.proofs.Common.{◌≡◌, ◌∙◌, refl, sym, ap, subst, ℕ, List, [], ◌∷◌, true}
+use Rattle.std.proofs.Common.{◌≡◌, ◌∙◌, refl, sym, ap, subst, ℕ, List, [], ◌∷◌, false, true}
 use Rattle.std.proofs.Common.{codes}
-use Rattle.agg_values.specs.Names.{put}
 use Rattle.agg_segment.specs.declared.query.QueryTree.TheVariants as tree
 use Rattle.agg_request_tree.specs.Request.{Request, aggregation_of}
 use Rattle.agg_request_tree.specs.declared.aggregation.Aggregation.{Aggregation}
@@ -11,8 +10,8 @@ use Rattle.agg_request_tree.specs.declared.aggregation.filter.FilterAggregation.
 use Rattle.agg_request_tree.specs.declared.aggregation.filter.FilterQuery.TheVariants.{Tree}
 use Rattle.agg_request_tree.proofs.RequestTrees.{agg-made, below-made}
 use Rattle.agg_words.specs.declared.metric.Metric.{Metric}
-use Rattle.agg_grouping.specs.Request.{AreGroupsOf, AreMetricsOf, AreTotals, IsCompositeOf}
-use Rattle.agg_grouping.specs.Request.{IsRequestOf, IsTotalOf}
+use Rattle.agg_grouping.specs.Request.{AreGroupsOf, AreMetricsOf, AreTotals, HasGroups, HasTotal}
+use Rattle.agg_grouping.specs.Request.{IsCompositeOf, IsRequestOf, IsTotalOf}
 use Rattle.agg_grouping.specs.declared.grouping.Grouping.{Grouping}
 use Rattle.agg_grouping.specs.declared.request.Page.{Page}
 
@@ -42,18 +41,27 @@ total-made grouping all metrics below is same are = record {
       (sym (below-made (agg.Filter all) below)) (subst (λ m. AreMetricsOf m below) same are);
 }
 
--- a request with a total
+-- the groups alone are a request without a total
+pub without_total : {B : Type 0} (grouping : Grouping) (page : Page) (none request : Request B)
+    → grouping.has_total ≡ false → none ≡ [] → HasGroups grouping page none request
+    → IsRequestOf grouping page request
+without_total {B = B} grouping page none request has_total empty has = record {
+  groups = has.groups;
+  totals = [];
+  are_groups = has.are_groups;
+  are_totals = subst (λ b. AreTotals {B = B} b grouping []) (sym has_total) refl;
+  entries = rw (has.entries, empty) refl;
+}
+
+-- the groups and a total are a request with a total
 pub with_total : {B : Type 0} (grouping : Grouping) (page : Page) (none some request : Request B)
-    (name total_name : List ℕ) (groups total : Aggregation B) → grouping.has_total ≡ true
-    → none ≡ [] → name ≡ codes "groups" → total_name ≡ codes "total"
-    → AreGroupsOf grouping page groups → IsTotalOf grouping total → some ≡ put name groups none
-    → request ≡ put total_name total some → IsRequestOf grouping page request
-with_total grouping page none some request name total_name groups total has_total empty is
-    total_is are is_total first second = record {
-      groups = groups;
-      totals = (codes "total", total) ∷ [];
-      are_groups = are;
-      are_totals = subst (λ b. AreTotals b grouping ((codes "total", total) ∷ [])) (sym has_total)
-          (total, is_total, refl);
-      entries = rw (second, first, empty, is, total_is) refl;
-    }
+    → grouping.has_total ≡ true → none ≡ [] → HasGroups grouping page none some
+    → HasTotal grouping some request → IsRequestOf grouping page request
+with_total grouping page none some request has_total empty has with = record {
+  groups = has.groups;
+  totals = (codes "total", with.total) ∷ [];
+  are_groups = has.are_groups;
+  are_totals = subst (λ b. AreTotals b grouping ((codes "total", with.total) ∷ []))
+      (sym has_total) (with.total, with.is_total, refl);
+  entries = rw (with.entries, has.entries, empty) refl;
+}

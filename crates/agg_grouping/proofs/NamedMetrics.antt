@@ -131,13 +131,11 @@ metrics-more {B = B} metrics i d below now within so_far is = record {
     named : map named_metric (take (i + 1) metrics) ≡ later
     named = map_more named_metric metrics i d within
 
--- the same of a metric by its parts
-pub metrics-inserted : {B : Type 0} (metrics : List Metric) (i : ℕ) (d : Metric)
-    (below now : Request B) (name : List ℕ) (agg : AggregationVariants B) (none : Request B)
-    → i < length metrics → AreMetricsOf (take i metrics) below
-    → now ≡ put name (aggregation_of agg none) below → name ≡ metric_name (get_or metrics i d)
-    → agg ≡ of_kind (get_or metrics i d).kind (get_or metrics i d).field.now → none ≡ []
-    → AreMetricsOf (take (i + 1) metrics) now
-metrics-inserted metrics i d below now name agg none within so_far is name_is agg_is none_is =
-    metrics-more metrics i d below now within so_far
-    (is ∙ (λ j. put (name_is j) (aggregation_of (agg_is j) (none_is j)) below))
+-- a metric that is put by its parts
+pub metric-put : {B : Type 0} (metric : Metric) (below now : Request B) (name : List ℕ)
+    (agg : AggregationVariants B) (none : Request B)
+    → now ≡ put name (aggregation_of agg none) below → name ≡ metric_name metric
+    → agg ≡ of_kind metric.kind metric.field.now → none ≡ []
+    → now ≡ put (metric_name metric) (metric_asked metric) below
+metric-put metric below now name agg none is name_is agg_is none_is =
+    is ∙ (λ j. put (name_is j) (aggregation_of (agg_is j) (none_is j)) below)

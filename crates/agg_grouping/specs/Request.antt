@@ -1,7 +1,7 @@
 -- The request of a grouping.
 use Rattle.std.specs.Prelude.{◌≡◌, ℕ, List, [], ◌∷◌, ◌++◌, All, Any, Bool, true, false, codes, map}
 use Rattle.std.specs.Prelude.{Contains, Ok, Some, ⊤}
-use Rattle.agg_values.specs.Names.{value_of}
+use Rattle.agg_values.specs.Names.{put, value_of}
 use Rattle.agg_segment.specs.declared.query.QueryTree.TheVariants as tree
 use Rattle.agg_request_tree.specs.Request.{Request, agg_of, aggregation_of, below_of}
 use Rattle.agg_request_tree.specs.declared.aggregation.Aggregation.{Aggregation}
@@ -69,6 +69,19 @@ pub record AreGroupsOf {B : Type 0} (grouping : Grouping) (page : Page) (groups 
 pub record IsTotalOf {B : Type 0} (grouping : Grouping) (total : Aggregation B) : Type 0 where
   pub asked : agg_of total ≡ Filter (record { query = Tree tree.All })
   pub metrics : AreMetricsOf grouping.metrics.items (below_of total)
+
+-- a request has the groups of a page under their name, and what it had before
+pub record HasGroups {B : Type 0} (grouping : Grouping) (page : Page) (before after : Request B)
+    : Type 0 where
+  pub groups : Aggregation B
+  pub are_groups : AreGroupsOf grouping page groups
+  pub entries : after ≡ put (codes "groups") groups before
+
+-- a request has the total under its name, and what it had before
+pub record HasTotal {B : Type 0} (grouping : Grouping) (before after : Request B) : Type 0 where
+  pub total : Aggregation B
+  pub is_total : IsTotalOf grouping total
+  pub entries : after ≡ put (codes "total") total before
 
 -- the total under its name where it is asked for, and else nothing
 abbrev pub AreTotals : {B : Type 0} → Bool → Grouping → Request B → Type 0

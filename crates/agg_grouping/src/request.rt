@@ -1,8 +1,9 @@
 //! The request that a grouping stands for.
 ghost use Rattle.std.specs.Prelude.{◌≡◌, IfOk, IfErr, OnOk};
 ghost use Rattle.agg_values.specs.Names.{put};
-ghost use Rattle.agg_grouping.specs.Request.{AreGroupsOf, AreMetricsOf, HasNoRequest};
-ghost use Rattle.agg_grouping.specs.Request.{IsCompositeOf, IsRequestOf, IsTotalOf, of_kind};
+ghost use Rattle.agg_grouping.specs.Request.{AreGroupsOf, AreMetricsOf, HasGroups, HasNoRequest};
+ghost use Rattle.agg_grouping.specs.Request.{HasTotal, IsCompositeOf, IsRequestOf, IsTotalOf};
+ghost use Rattle.agg_grouping.specs.Request.{metric_asked, metric_name, of_kind};
 
 use crate::error::GroupingError;
 use crate::source::source_of;
@@ -40,16 +41,39 @@ pub fn request_of<B: Drop>(
     ensures cause { IfErr result (HasNoRequest grouping.now) }
 {
     let mut request = NameMap::new(alloc);
-    let groups = groups_of(alloc, grouping, page)?;
-    let name = Text::copy_of(alloc, GROUPS)?;
-    put(&mut request, name, groups)?;
-    if !grouping.has_total {
-        return Ok(request);
+    put_groups(alloc, grouping, page, &mut request)?;
+    if grouping.has_total {
+        put_total(alloc, grouping, &mut request)?;
     }
-    let total = total_of(alloc, grouping)?;
-    let name = Text::copy_of(alloc, TOTAL)?;
-    put(&mut request, name, total)?;
     Ok(request)
+}
+
+// Puts the groups of a page under their name.
+fn put_groups<B: Drop>(
+    alloc: Global,
+    grouping: &Grouping<'_>,
+    page: Page,
+    request: &mut NameMap<Aggregation<B>>,
+) -> Result<(), GroupingError>
+    ensures asked { OnOk result (HasGroups grouping.now page request.old request.new) }
+    ensures cause { IfErr result (HasNoRequest grouping.now) }
+{
+    let name = Text::copy_of(alloc, GROUPS)?;
+    put(request, name, groups_of(alloc, grouping, page)?)?;
+    Ok(())
+}
+
+// Puts the total under its name.
+fn put_total<B: Drop>(
+    alloc: Global,
+    grouping: &Grouping<'_>,
+    request: &mut NameMap<Aggregation<B>>,
+) -> Result<(), OutOfMemory>
+    ensures { OnOk result (HasTotal grouping.now request.old request.new) }
+{
+    let name = Text::copy_of(alloc, TOTAL)?;
+    put(request, name, total_of(alloc, grouping)?)?;
+    Ok(())
 }
 
 // The groups, with the metrics below each.
@@ -72,10 +96,11 @@ fn groups_of<B: Drop>(
 fn total_of<B: Drop>(alloc: Global, grouping: &Grouping<'_>) -> Result<Aggregation<B>, OutOfMemory>
     ensures { IfOk result (IsTotalOf grouping.now) }
 {
+    let sub_aggregation = metrics_of(alloc, &grouping.metrics)?;
     let all = FilterAggregation::of(FilterQuery::Tree(QueryTree::All));
     Ok(Aggregation {
         agg: AggregationVariants::Filter(all),
-        sub_aggregation: metrics_of(alloc, &grouping.metrics)?,
+        sub_aggregation,
     })
 }
 
@@ -109,14 +134,27 @@ fn metrics_of<B: Drop>(
 {
     let mut below = NameMap::new(alloc);
     for metric in metrics {
-        let name = metric_name(alloc, metric)?;
-        let aggregation = Aggregation {
-            agg: variant_of(alloc, metric)?,
-            sub_aggregation: NameMap::new(alloc),
-        };
-        put(&mut below, name, aggregation)?;
+        put_metric(alloc, metric, &mut below)?;
     }
     Ok(below)
+}
+
+// Puts a metric under its name.
+fn put_metric<B: Drop>(
+    alloc: Global,
+    metric: &Metric<'_>,
+    below: &mut NameMap<Aggregation<B>>,
+) -> Result<(), OutOfMemory>
+    ensures { OnOk result
+        (below.new ≡ put (metric_name metric.now) (metric_asked metric.now) below.old) }
+{
+    let name = metric_name(alloc, metric)?;
+    let aggregation = Aggregation {
+        agg: variant_of(alloc, metric)?,
+        sub_aggregation: NameMap::new(alloc),
+    };
+    put(below, name, aggregation)?;
+    Ok(())
 }
 
 fn variant_of<B>(alloc: Global, metric: &Metric<'_>) -> Result<AggregationVariants<B>, OutOfMemory>
@@ -131,14 +169,10 @@ fn variant_of<B>(alloc: Global, metric: &Metric<'_>) -> Result<AggregationVarian
     })
 }
 
-// Puts an aggregation under a name.
-fn put<B: Drop>(
-    aggregations: &mut NameMap<Aggregation<B>>,
-    name: Text,
-    aggregation: Aggregation<B>,
-) -> Result<(), OutOfMemory>
-    ensures { OnOk result (aggregations.new ≡ put name aggregation aggregations.old) }
+// Puts a value under a name.
+fn put<T: Drop>(values: &mut NameMap<T>, name: Text, value: T) -> Result<(), OutOfMemory>
+    ensures { OnOk result (values.new ≡ put name value values.old) }
 {
-    aggregations.insert(name, aggregation)?;
+    values.insert(name, value)?;
     Ok(())
 }
