@@ -1,4 +1,5 @@
 //! Tests of lists of tuples that are counted.
+use agg_expect::expect_equal;
 use agg_tuple_counts::TupleCounts;
 use std::test::Fail;
 
@@ -10,10 +11,9 @@ fn counts_tuples_that_come_again(rt: HostRuntime) -> Result<(), Fail> {
         counts.count(n % 10)?;
     }
     let mut ascending = counts.into_ascending(9_999)?;
-    assert_eq!(rt;
+    expect_equal(
         (ascending.len(), ascending.next()),
-        (9_999, Some((0, 1_001)))
-    );
-    assert_eq!(rt; ascending.last(), Some((9_998, 1)));
-    Ok(())
+        (9_999, Some((0, 1_001))),
+    )?;
+    expect_equal(ascending.last(), Some((9_998, 1)))
 }

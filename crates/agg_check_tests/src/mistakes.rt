@@ -1,7 +1,7 @@
 //! What is found in inputs, mistake by mistake.
 use agg_check::{Finding, Severity, check_input};
+use agg_expect::{expect_equal, expect_equal_for};
 use std::alloc::Global;
-use std::process::Abort;
 use std::test::Fail;
 
 // What leads to the composite.
@@ -385,10 +385,9 @@ fn word_of(finding: &Finding) -> &'static str {
 }
 
 // This and no more is found in a text.
-fn expect(rt: &(impl Abort + AllocGlobal), text: &str, expected: &str) -> Result<(), Fail> {
-    let found = shown(rt.alloc(), text)?;
-    assert_eq!(rt; found.as_str(), expected, "at {text}");
-    Ok(())
+fn expect(alloc: Global, text: &str, expected: &str) -> Result<(), Fail> {
+    let found = shown(alloc, text)?;
+    expect_equal_for(text, found.as_str(), expected)
 }
 
 // The text of an input with this composite and this line after that of a snapshot.
@@ -403,7 +402,7 @@ fn input_of(alloc: Global, composite: &str, line: &str) -> Result<String, Fail> 
 fn tells_mistakes_in_composites(rt: HostRuntime) -> Result<(), Fail> {
     for &(body, expected) in BODIES {
         let text = input_of(rt.alloc(), body, r#"{"A":1}"#)?;
-        expect(&rt, &text, expected)?;
+        expect(rt.alloc(), &text, expected)?;
     }
     Ok(())
 }
@@ -413,7 +412,7 @@ fn tells_mistakes_in_sources(rt: HostRuntime) -> Result<(), Fail> {
     for &(source, expected) in SOURCES {
         let body = format!(in rt.alloc(); "\"size\":2,\"sources\":[{{\"a\":{source}}}]")?;
         let text = input_of(rt.alloc(), &body, r#"{"A":1}"#)?;
-        expect(&rt, &text, expected)?;
+        expect(rt.alloc(), &text, expected)?;
     }
     Ok(())
 }
@@ -424,7 +423,7 @@ fn tells_mistakes_in_requests(rt: HostRuntime) -> Result<(), Fail> {
         let text = format!(in rt.alloc();
             "{{\"request\":{request},\"name\":\"g\",\"schema\":[]}}\nsnapshot 2\n"
         )?;
-        expect(&rt, &text, expected)?;
+        expect(rt.alloc(), &text, expected)?;
     }
     Ok(())
 }
@@ -433,7 +432,7 @@ fn tells_mistakes_in_requests(rt: HostRuntime) -> Result<(), Fail> {
 fn tells_mistakes_in_headers(rt: HostRuntime) -> Result<(), Fail> {
     for &(header, expected) in HEADERS {
         let text = format!(in rt.alloc(); "{header}\nsnapshot 2\n{{}}")?;
-        expect(&rt, &text, expected)?;
+        expect(rt.alloc(), &text, expected)?;
     }
     Ok(())
 }
@@ -443,7 +442,7 @@ fn tells_mistakes_in_lines(rt: HostRuntime) -> Result<(), Fail> {
     let composite = r#""sources":[{"a":{"terms":{"field":"A"}}}],"size":2"#;
     for &(line, expected) in LINES {
         let text = input_of(rt.alloc(), composite, line)?;
-        expect(&rt, &text, expected)?;
+        expect(rt.alloc(), &text, expected)?;
     }
     Ok(())
 }
@@ -457,10 +456,9 @@ fn shows_place_path_and_words(rt: HostRuntime) -> Result<(), Fail> {
         "1:1: header: 'schema' is missing",
     ]) {
         let shown = format!(in rt.alloc(); "{finding}")?;
-        assert_eq!(&rt; shown.as_str(), expected);
+        expect_equal(shown.as_str(), expected)?;
     }
-    assert_eq!(&rt; found.len(), 3);
-    Ok(())
+    expect_equal(found.len(), 3)
 }
 
 #[test]
@@ -468,8 +466,7 @@ fn tells_bytes_that_are_no_text(rt: HostRuntime) -> Result<(), Fail> {
     let found = check_input(rt.alloc(), b"{}\n\xff")?;
     for finding in found.iter() {
         let shown = format!(in rt.alloc(); "{finding}")?;
-        assert_eq!(&rt; shown.as_str(), "2:1: the text is not UTF-8");
+        expect_equal(shown.as_str(), "2:1: the text is not UTF-8")?;
     }
-    assert_eq!(&rt; found.len(), 1);
-    Ok(())
+    expect_equal(found.len(), 1)
 }

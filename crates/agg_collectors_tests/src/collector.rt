@@ -7,6 +7,7 @@ use crate::given::{
 };
 use agg_cache::LimitsLedger;
 use agg_collectors::AggregationCollector;
+use agg_expect::expect_equal;
 use agg_request::Aggregations;
 use agg_results::{AggregationResults, IntermediateAggregationResults};
 use agg_segment_tests::given::segment_of;
@@ -78,6 +79,5 @@ fn shown<L: Ledger>(
 fn results_of_segments_become_one(rt: HostRuntime) -> Result<(), Fail> {
     let request = request_of(rt.alloc(), REQUEST)?;
     let found = shown::<Brand>(&rt, &request, Blank::new(1))?;
-    assert_eq!(rt; found.as_str(), RESULTS);
-    Ok(())
+    expect_equal(found.as_str(), RESULTS)
 }

@@ -5,6 +5,7 @@ ghost use Rattle.agg_segment_context.specs.Trees.{AreOfRequest};
 use crate::given::{FIRST, REQUEST, RESULTS, SECOND, Values, context_of, fruit, request_of, shown};
 use agg_cache::LimitsLedger;
 use agg_collectors::DistributedAggregationCollector;
+use agg_expect::expect_equal;
 use agg_request::Aggregations;
 use agg_results::IntermediateAggregationResults;
 use agg_segment_tests::given::segment_of;
@@ -100,8 +101,7 @@ fn merged<L: Ledger>(
 fn results_of_segments_are_merged(rt: HostRuntime) -> Result<(), Fail> {
     let request = request_of(rt.alloc(), REQUEST)?;
     let found = merged::<Brand>(&rt, &request, Blank::new(1))?;
-    assert_eq!(rt; found.as_str(), RESULTS);
-    Ok(())
+    expect_equal(found.as_str(), RESULTS)
 }
 
 // The results of no segment, as they are shown.
@@ -143,8 +143,7 @@ fn expect_page<L: Ledger>(
     let collector = collector_of(rt.alloc(), request, page)?;
     let empty = shown_of_none(rt.alloc(), &collector, request)?;
     let whole = shown(request, merged_into_none(rt, &collector, &mut steps)?)?;
-    assert_eq!(rt; (empty.as_str(), whole.as_str()), (EMPTY, text));
-    Ok(())
+    expect_equal((empty.as_str(), whole.as_str()), (EMPTY, text))
 }
 
 #[test]

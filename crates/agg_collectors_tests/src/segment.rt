@@ -7,6 +7,7 @@ ghost use Rattle.agg_collectors.specs.Segment.{MayBeUsed};
 use crate::given::{FIRST, REQUEST, Values, context_of, request_of};
 use agg_cache::{CollectError, LimitsLedger};
 use agg_collectors::AggregationSegmentCollector;
+use agg_expect::expect_equal;
 use agg_metric::StatsType;
 use agg_request::Aggregations;
 use agg_results::IntermediateAggregationResults;
@@ -14,7 +15,7 @@ use agg_segment::SegmentReader;
 use agg_segment_context::{AggContextParams, AggKind, AggRefNode};
 use agg_segment_tests::given::{Given, segment_of};
 use agg_values::{AggregationError, Steps};
-use std::alloc::AllocError;
+use std::alloc::{AllocError, Global};
 use std::marker::Brand;
 use std::process::Abort;
 use std::sync::ledger::{Blank, Ledger};
@@ -36,31 +37,26 @@ const KINDS: [AggKind; 3] = [
 ];
 
 // A collector tells this of its segment.
-fn expect_told(
-    rt: &(impl Abort + AllocGlobal),
-    collector: &AggregationSegmentCollector<'_>,
-) -> Result<(), Fail> {
+fn expect_told(alloc: Global, collector: &AggregationSegmentCollector<'_>) -> Result<(), Fail> {
     let data = &collector.segment_data().per_request;
-    let mut kinds = Vec::new(rt.alloc());
+    let mut kinds = Vec::new(alloc);
     add_kinds(data.agg_tree.as_slice(), &mut kinds)?;
     let num_composites = data.composite_req_data.as_slice().len();
-    assert_eq!(rt;
+    expect_equal(
         (collector.num_docs(), collector.allocated(), num_composites),
-        (2, 1_024, 1)
-    );
-    assert_eq!(rt; kinds.as_slice(), KINDS.as_slice());
-    Ok(())
+        (2, 1_024, 1),
+    )?;
+    expect_equal(kinds.as_slice(), KINDS.as_slice())
 }
 
 // So does the collector of a request in the first segment.
 fn expect_told_by(
-    rt: &(impl Abort + AllocGlobal),
+    alloc: Global,
     request: &Aggregations,
     context: &AggContextParams,
 ) -> Result<(), Fail>
     requires { AreOfRequest request.now context.now.trees }
 {
-    let alloc = rt.alloc();
     let mut limits = LimitsLedger::new(None, None);
     let reader = segment_of(alloc, FIRST)?;
     let collector = AggregationSegmentCollector::from_agg_req_and_reader(
@@ -70,14 +66,14 @@ fn expect_told_by(
         context,
         &mut limits,
     )?;
-    expect_told(rt, &collector)
+    expect_told(alloc, &collector)
 }
 
 #[test]
 fn tells_of_its_segment(rt: HostRuntime) -> Result<(), Fail> {
     let request = request_of(rt.alloc(), REQUEST)?;
     let context = context_of(rt.alloc(), &request, None)?;
-    expect_told_by(&rt, &request, &context)
+    expect_told_by(rt.alloc(), &request, &context)
 }
 
 // The bytes that are in use before a collector is made.
@@ -206,8 +202,7 @@ fn expect_failed_in<L: Ledger>(
         &mut limits,
     )?;
     let first = expect_end(rt, collector, &reader, &mut limits, steps);
-    assert_eq!(rt; first, Err(refused.error));
-    Ok(())
+    expect_equal(first, Err(refused.error))
 }
 
 fn expect_failed<L: Ledger>(
@@ -292,7 +287,7 @@ fn refusal_within<L: Ledger>(
         &mut limits,
     )?;
     let results = results_of_three(rt, collector, &reader, &mut limits, steps);
-    assert_eq!(rt; limits.in_use(), 0);
+    expect_equal(limits.in_use(), 0)?;
     match results {
         Ok(_) => Ok(None),
         Err(error) => Ok(Some(error)),
@@ -313,8 +308,7 @@ fn expect_limits<L: Ledger>(
     let context = context_of(rt.alloc(), request, None)?;
     let enough = refusal_within(rt, request, &context, 1_216, &mut steps)?;
     let less = refusal_within(rt, request, &context, 1_215, &mut steps)?;
-    assert_eq!(rt; (enough, less), (None, Some(memory_exceeded(1_215, 1_216))));
-    Ok(())
+    expect_equal((enough, less), (None, Some(memory_exceeded(1_215, 1_216))))
 }
 
 #[test]
@@ -362,8 +356,7 @@ fn expect_abandoned_in<L: Ledger>(
         &mut limits,
     )?;
     let taken = abandon_after_two(rt, collector, &reader, &mut limits, steps);
-    assert_eq!(rt; (taken, limits.in_use()), (Ok(()), IN_USE));
-    Ok(())
+    expect_equal((taken, limits.in_use()), (Ok(()), IN_USE))
 }
 
 fn expect_abandoned<L: Ledger>(

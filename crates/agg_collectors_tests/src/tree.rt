@@ -8,6 +8,7 @@ use crate::given::{FIRST, context_of, request_of, shown};
 use agg_cache::{BucketId, CollectError, LimitsLedger};
 use agg_collector_tree::{SegmentCollectorTree, tree_for};
 use agg_collectors::SegmentAggregationCollector;
+use agg_expect::expect_equal;
 use agg_request::Aggregations;
 use agg_results::IntermediateAggregationResults;
 use agg_segment::SegmentReader;
@@ -16,7 +17,6 @@ use agg_segment_tests::given::segment_of;
 use agg_values::{OutOfMemory, Steps};
 use std::alloc::Global;
 use std::marker::Brand;
-use std::process::Abort;
 use std::sync::ledger::{Blank, Ledger};
 use std::test::Fail;
 
@@ -127,7 +127,7 @@ fn results_for(
 
 // A tree has the results for each parent.
 fn expect_rows(
-    rt: &(impl Abort + AllocGlobal),
+    alloc: Global,
     tree: &mut SegmentCollectorTree<'_>,
     agg_data: &AggregationsSegmentCtx<'_>,
     request: &Aggregations,
@@ -137,15 +137,15 @@ fn expect_rows(
 {
     for &asked in RESULTS {
         let (parent, text) = asked;
-        let found = shown(request, results_for(rt.alloc(), tree, agg_data, parent)?)?;
-        assert_eq!(rt; found.as_str(), text);
+        let found = shown(request, results_for(alloc, tree, agg_data, parent)?)?;
+        expect_equal(found.as_str(), text)?;
     }
     Ok(())
 }
 
 // So has a new tree that took documents.
 fn expect_rows_of_new<L: Ledger>(
-    rt: &(impl Abort + AllocGlobal),
+    alloc: Global,
     agg_data: &AggregationsSegmentCtx<'_>,
     reader: &SegmentReader,
     request: &Aggregations,
@@ -153,14 +153,14 @@ fn expect_rows_of_new<L: Ledger>(
 ) -> Result<(), Fail>
     requires { IsContextIn reader.now agg_data.now.per_request }
 {
-    let mut tree = tree_in(rt.alloc(), agg_data, reader)?;
+    let mut tree = tree_in(alloc, agg_data, reader)?;
     take_all(&mut tree, agg_data, steps)?;
-    expect_rows(rt, &mut tree, agg_data, request)
+    expect_rows(alloc, &mut tree, agg_data, request)
 }
 
 // So has that of a request in the first segment.
 fn expect_results<L: Ledger>(
-    rt: &(impl Abort + AllocGlobal),
+    alloc: Global,
     request: &Aggregations,
     blank: Blank,
 ) -> Result<(), Fail>
@@ -169,13 +169,13 @@ fn expect_results<L: Ledger>(
     requires shared { 0 < L.parts }
 {
     let mut steps: Steps<L> = Steps::new(blank);
-    let reader = segment_of(rt.alloc(), FIRST)?;
-    let agg_data = data_in(rt.alloc(), request, &reader)?;
-    expect_rows_of_new(rt, &agg_data, &reader, request, &mut steps)
+    let reader = segment_of(alloc, FIRST)?;
+    let agg_data = data_in(alloc, request, &reader)?;
+    expect_rows_of_new(alloc, &agg_data, &reader, request, &mut steps)
 }
 
 #[test]
 fn has_results_for_each_parent(rt: HostRuntime) -> Result<(), Fail> {
     let request = request_of(rt.alloc(), REQUEST)?;
-    expect_results::<Brand>(&rt, &request, Blank::new(1))
+    expect_results::<Brand>(rt.alloc(), &request, Blank::new(1))
 }

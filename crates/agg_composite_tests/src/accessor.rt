@@ -1,6 +1,7 @@
 //! The accessors of sources over a field of several classes.
 use crate::found::{ALL, NONE, Standing, standing, types};
 use agg_composite::{CompositeSourceAccessors, PrecomputedAfterKey};
+use agg_expect::{expect_equal, expect_equal_for};
 use agg_request_tree::{CompositeAggregationSource, TermCompositeAggregationSource};
 use agg_segment::{ColumnType, SegmentReader};
 use agg_segment_tests::given::{Given, segment_of};
@@ -8,7 +9,6 @@ use agg_values::{
     CompositeIntermediateKey, InvalidArgument, MissingOrder, Order, OutOfMemory, RequestError, Text,
 };
 use std::alloc::Global;
-use std::process::Abort;
 use std::test::Fail;
 
 // The values of the document.
@@ -98,10 +98,10 @@ fn standing_by(
 }
 
 // After values stand where the table says.
-fn expect_standings(rt: &(impl Abort + AllocGlobal), segment: &SegmentReader) -> Result<(), Fail> {
+fn expect_standings(alloc: Global, segment: &SegmentReader) -> Result<(), Fail> {
     for &(order, missing_order, after, expected) in STANDINGS {
-        let found = standing_by(rt.alloc(), segment, (order, missing_order), after)?;
-        assert_eq!(rt; found, expected, "{order:?} {missing_order:?} {after:?}");
+        let found = standing_by(alloc, segment, (order, missing_order), after)?;
+        expect_equal_for((order, missing_order, after), found, expected)?;
     }
     Ok(())
 }
@@ -109,7 +109,7 @@ fn expect_standings(rt: &(impl Abort + AllocGlobal), segment: &SegmentReader) ->
 #[test]
 fn accessors_say_where_an_after_value_stands(rt: HostRuntime) -> Result<(), Fail> {
     let segment = segment_of(rt.alloc(), &[MIXED])?;
-    expect_standings(&rt, &segment)
+    expect_standings(rt.alloc(), &segment)
 }
 
 // The types of the columns that a source of this order reads.
@@ -119,10 +119,10 @@ fn types_by(alloc: Global, segment: &SegmentReader, order: Order) -> Result<Vec<
 }
 
 // Sources read columns of the types that the table says.
-fn expect_types(rt: &(impl Abort + AllocGlobal), segment: &SegmentReader) -> Result<(), Fail> {
+fn expect_types(alloc: Global, segment: &SegmentReader) -> Result<(), Fail> {
     for &(order, expected) in TYPES {
-        let found = types_by(rt.alloc(), segment, order)?;
-        assert_eq!(rt; found.as_slice(), expected, "{order:?}");
+        let found = types_by(alloc, segment, order)?;
+        expect_equal_for(order, found.as_slice(), expected)?;
     }
     Ok(())
 }
@@ -130,7 +130,7 @@ fn expect_types(rt: &(impl Abort + AllocGlobal), segment: &SegmentReader) -> Res
 #[test]
 fn accessors_stand_in_the_requested_order(rt: HostRuntime) -> Result<(), Fail> {
     let segment = segment_of(rt.alloc(), &[MIXED])?;
-    expect_types(&rt, &segment)
+    expect_types(rt.alloc(), &segment)
 }
 
 // Why Null is no after value of a source without a bucket for a missing value.
@@ -145,15 +145,14 @@ fn fault_of_null(
 }
 
 // Null is refused as an after value.
-fn expect_fault(rt: &(impl Abort + AllocGlobal), segment: &SegmentReader) -> Result<(), Fail> {
-    let fault = fault_of_null(rt.alloc(), segment)?;
+fn expect_fault(alloc: Global, segment: &SegmentReader) -> Result<(), Fail> {
+    let fault = fault_of_null(alloc, segment)?;
     let reason = RequestError::Invalid(InvalidArgument::NullAfter);
-    assert_eq!(rt; fault, Some(reason));
-    Ok(())
+    expect_equal(fault, Some(reason))
 }
 
 #[test]
 fn null_is_no_after_value_without_a_missing_bucket(rt: HostRuntime) -> Result<(), Fail> {
     let segment = segment_of(rt.alloc(), &[MIXED])?;
-    expect_fault(&rt, &segment)
+    expect_fault(rt.alloc(), &segment)
 }

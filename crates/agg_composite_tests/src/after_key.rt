@@ -2,10 +2,11 @@
 use crate::given::key;
 use agg_calendar::PrecomputedDateInterval;
 use agg_composite::{CompositeAccessor, PrecomputedAfterKey};
+use agg_expect::expect_equal_for;
 use agg_segment::{Column, SegmentReader};
 use agg_segment_tests::given::{Given, segment_of};
 use agg_values::{CompositeIntermediateKey, MissingOrder, Order, Text};
-use std::process::Abort;
+use std::alloc::Global;
 use std::test::Fail;
 
 const FROM_ZERO: u64 = 9_223_372_036_854_775_808;
@@ -57,35 +58,36 @@ fn place(column: &Column, key: &CompositeIntermediateKey, order: Order) -> Preco
 
 // Where a key stands among the numbers of the one column of a field.
 fn place_in(
-    rt: &(impl Abort + AllocGlobal),
+    alloc: Global,
     segment: &SegmentReader,
     field: &str,
     key: &CompositeIntermediateKey,
     order: Order,
 ) -> Result<PrecomputedAfterKey, Fail> {
-    let name = Text::copy_of(rt.alloc(), field)?;
+    let name = Text::copy_of(alloc, field)?;
     let columns = segment.columns(&name);
-    assert_eq!(rt; columns.len(), 1, "{field}");
-    Ok(place(&columns[0], key, order))
+    expect_equal_for(field, columns.len(), 1)?;
+    let column = columns.first().ok_or("no column")?;
+    Ok(place(column, key, order))
 }
 
 // The same of the key that a text says.
 fn place_of(
-    rt: &(impl Abort + AllocGlobal),
+    alloc: Global,
     segment: &SegmentReader,
     field: &str,
     after: &str,
     order: Order,
 ) -> Result<PrecomputedAfterKey, Fail> {
-    let key = key(rt.alloc(), after)?;
-    place_in(rt, segment, field, &key, order)
+    let key = key(alloc, after)?;
+    place_in(alloc, segment, field, &key, order)
 }
 
 // After keys stand where the table says.
-fn expect_places(rt: &(impl Abort + AllocGlobal), segment: &SegmentReader) -> Result<(), Fail> {
+fn expect_places(alloc: Global, segment: &SegmentReader) -> Result<(), Fail> {
     for &(name, after, order, expected) in PLACES {
-        let found = place_of(rt, segment, name, after, order)?;
-        assert_eq!(rt; found, expected, "{name} after {after}");
+        let found = place_of(alloc, segment, name, after, order)?;
+        expect_equal_for((name, after), found, expected)?;
     }
     Ok(())
 }
@@ -93,7 +95,7 @@ fn expect_places(rt: &(impl Abort + AllocGlobal), segment: &SegmentReader) -> Re
 #[test]
 fn after_keys_have_their_places(rt: HostRuntime) -> Result<(), Fail> {
     let segment = segment_of(rt.alloc(), &[VALUES])?;
-    expect_places(&rt, &segment)
+    expect_places(rt.alloc(), &segment)
 }
 
 #[test]

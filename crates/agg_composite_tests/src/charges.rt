@@ -13,6 +13,7 @@ use agg_cache::{
     AggregationLimitsGuard, CollectError, LimitsLedger, LowCardSubAggCache, SubAggCache,
 };
 use agg_composite::{CompositeAggReqData, PageEntries, PageEntry, SegmentCompositeCollector};
+use agg_expect::expect_equal;
 use agg_request_tree::CompositeAggregation;
 use agg_segment::SegmentReader;
 use agg_segment_tests::given::{Given, segment_of};
@@ -137,22 +138,21 @@ fn numbers_of(
 
 // Entries are of these numbers.
 fn expect_entries(
-    rt: &(impl Abort + AllocGlobal),
+    alloc: Global,
     entries: &mut PageEntries,
     req: &CompositeAggReqData<'_>,
     expected: &[i64],
 ) -> Result<(), Fail>
     requires { All (IsEncoded req.now) (keys_of entries.old) }
 {
-    assert_eq!(rt; entries.len(), expected.len());
-    let numbers = numbers_of(rt.alloc(), entries, req)?;
-    assert_eq!(rt; numbers.as_slice(), expected);
-    Ok(())
+    expect_equal(entries.len(), expected.len())?;
+    let numbers = numbers_of(alloc, entries, req)?;
+    expect_equal(numbers.as_slice(), expected)
 }
 
 // In the end the first parent has a page of these numbers.
 fn expect_page<C: SubAggCache>(
-    rt: &(impl Abort + AllocGlobal),
+    alloc: Global,
     collector: SegmentCompositeCollector<C>,
     req: &CompositeAggReqData<'_>,
     expected: &[i64],
@@ -160,19 +160,18 @@ fn expect_page<C: SubAggCache>(
     requires { IsRight C.waiting req.now collector }
 {
     let mut entries = collector.into_entries(0)?;
-    expect_entries(rt, &mut entries, req, expected)
+    expect_entries(alloc, &mut entries, req, expected)
 }
 
 // 8 bytes of an account are left.
-fn expect_charged(rt: &(impl Abort + AllocGlobal), account: &Account) {
-    assert_eq!(rt; account.limits.in_use(), 992);
-    assert_eq!(rt; account.guard.allocated(), 992);
+fn expect_charged(account: &Account) -> Result<(), Fail> {
+    expect_equal(account.limits.in_use(), 992)?;
+    expect_equal(account.guard.allocated(), 992)
 }
 
 // After the first five documents 8 bytes are left, and the others, if they are collected, leave as
 // many.
 fn collect_charged<C: SubAggCache, L: Ledger>(
-    rt: &(impl Abort + AllocGlobal),
     collector: &mut SegmentCompositeCollector<C>,
     docs: &[DocId],
     req: &CompositeAggReqData<'_>,
@@ -186,20 +185,15 @@ fn collect_charged<C: SubAggCache, L: Ledger>(
 {
     let mut account = charged_account()?;
     collect(collector, &[0, 1, 2, 3, 4], req, &mut account, steps)?;
-    expect_charged(rt, &account);
+    expect_charged(&account)?;
     let collected = collect(collector, docs, req, &mut account, steps);
-    expect_charged(rt, &account);
+    expect_charged(&account)?;
     Ok(collected)
 }
 
 // Documents are refused for these numbers.
-fn expect_refused(
-    rt: &(impl Abort + AllocGlobal),
-    error: &CollectError,
-    expected: Option<(u64, u64)>,
-) -> Result<(), Fail> {
-    assert_eq!(rt; refused(error), Some(expected.ok_or("not collected")?));
-    Ok(())
+fn expect_refused(error: &CollectError, expected: Option<(u64, u64)>) -> Result<(), Fail> {
+    expect_equal(refused(error), Some(expected.ok_or("not collected")?))
 }
 
 // The last documents of a case give its page, or are refused.
@@ -212,9 +206,9 @@ fn expect_case<C: SubAggCache, L: Ledger>(
     requires { (segment : Stored) × (after : Named AfterKey) × Fits segment after req.now }
 {
     let mut collector: SegmentCompositeCollector<C> = collector_for(rt, req, false)?;
-    match collect_charged(rt, &mut collector, case.docs, req, steps)? {
-        Ok(()) => expect_page(rt, collector, req, case.page),
-        Err(error) => expect_refused(rt, &error, case.refused),
+    match collect_charged(&mut collector, case.docs, req, steps)? {
+        Ok(()) => expect_page(rt.alloc(), collector, req, case.page),
+        Err(error) => expect_refused(&error, case.refused),
     }
 }
 

@@ -14,6 +14,7 @@ use agg_composite::{
     CompositeAggReqData, CompositeSourceAccessors, PageEntries, PageEntry,
     SegmentCompositeCollector,
 };
+use agg_expect::{expect_equal, expect_equal_for};
 use agg_request_tree::{CompositeAggregation, CompositeAggregationSource};
 use agg_request_tree_tests::given::{GivenSource, Kind, composite_of};
 use agg_segment::SegmentReader;
@@ -225,7 +226,7 @@ fn collect_all<C: SubAggCache, L: Ledger>(
 
 // A collector shows these entries of a parent.
 fn expect_page<C: SubAggCache>(
-    rt: &(impl Abort + AllocGlobal),
+    alloc: Global,
     collector: &SegmentCompositeCollector<C>,
     parent: BucketId,
     req: &CompositeAggReqData<'_>,
@@ -234,9 +235,8 @@ fn expect_page<C: SubAggCache>(
     requires right { IsRight C.waiting req.now collector.now }
     requires fits { (segment : Stored) × (after : Named AfterKey) × Fits segment after req.now }
 {
-    let shown = shown(rt.alloc(), collector, parent, req)?;
-    assert_eq!(rt; shown.as_slice(), expected, "parent {parent}");
-    Ok(())
+    let shown = shown(alloc, collector, parent, req)?;
+    expect_equal_for(parent, shown.as_slice(), expected)
 }
 
 // A collector that has taken its documents shows these pages, and none of the parent 2.
@@ -253,20 +253,19 @@ fn expect_shown<C: SubAggCache, L: Ledger>(
     requires room { length req.now.req.now.sources ≤ collector.old.room }
 {
     collect_all(collector, req, steps)?;
-    expect_page(rt, collector, 1, req, pages.first)?;
-    expect_page(rt, collector, 0, req, pages.second)?;
-    expect_page(rt, collector, 2, req, &[])
+    expect_page(rt.alloc(), collector, 1, req, pages.first)?;
+    expect_page(rt.alloc(), collector, 0, req, pages.second)?;
+    expect_page(rt.alloc(), collector, 2, req, &[])
 }
 
 // A collector hands these documents on.
 fn expect_taken<C: SubAggCache>(
-    rt: &(impl Abort + AllocGlobal),
+    alloc: Global,
     collector: &mut SegmentCompositeCollector<C>,
     expected: &[(BucketId, DocId)],
 ) -> Result<(), Fail> {
-    let taken = taken(rt.alloc(), collector)?;
-    assert_eq!(rt; taken.as_slice(), expected);
-    Ok(())
+    let taken = taken(alloc, collector)?;
+    expect_equal(taken.as_slice(), expected)
 }
 
 // A collector shows these pages, and hands their documents on, if it hands any on.
@@ -285,7 +284,7 @@ fn expect_shown_and_taken<C: SubAggCache, L: Ledger>(
     let (pages, hands_on) = case;
     expect_shown(rt, pages, collector, req, steps)?;
     let taken = if hands_on { pages.taken } else { &[] };
-    expect_taken(rt, collector, taken)
+    expect_taken(rt.alloc(), collector, taken)
 }
 
 // So does a new collector.
@@ -359,6 +358,5 @@ fn keeps_the_lowest_of_each_parent(rt: HostRuntime) -> Result<(), Fail> {
 
 #[test]
 fn there_may_be_no_entries(rt: HostRuntime) -> Result<(), Fail> {
-    assert_eq!(rt; PageEntries::none(rt.alloc()).len(), 0);
-    Ok(())
+    expect_equal(PageEntries::none(rt.alloc()).len(), 0)
 }

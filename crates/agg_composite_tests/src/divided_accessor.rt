@@ -1,13 +1,13 @@
 //! The accessors of sources that divide values.
 use crate::found::{ALL, NONE, Standing, standing, types};
 use agg_composite::PrecomputedAfterKey;
+use agg_expect::{expect_equal, expect_equal_for};
 use agg_request_tree::CompositeAggregationSource;
 use agg_request_tree_tests::given::{GivenSource, Kind};
 use agg_segment::{ColumnType, SegmentReader};
 use agg_segment_tests::given::{Given, segment_of};
 use agg_values::{MissingOrder, Order, OutOfMemory};
 use std::alloc::Global;
-use std::process::Abort;
 use std::test::Fail;
 
 const FROM_ZERO: u64 = 9_223_372_036_854_775_808;
@@ -99,27 +99,26 @@ fn types_by(alloc: Global, segment: &SegmentReader, order: Order) -> Result<Vec<
 
 // A histogram of this order reads columns of these types.
 fn expect_types(
-    rt: &(impl Abort + AllocGlobal),
+    alloc: Global,
     segment: &SegmentReader,
     order: Order,
     expected: &[ColumnType],
 ) -> Result<(), Fail> {
-    let found = types_by(rt.alloc(), segment, order)?;
-    assert_eq!(rt; found.as_slice(), expected, "{order:?}");
-    Ok(())
+    let found = types_by(alloc, segment, order)?;
+    expect_equal_for(order, found.as_slice(), expected)
 }
 
 #[test]
 fn histograms_read_what_they_divide(rt: HostRuntime) -> Result<(), Fail> {
     let segment = segment_of(rt.alloc(), &[VALUES])?;
     expect_types(
-        &rt,
+        rt.alloc(),
         &segment,
         Order::Asc,
         &[ColumnType::I64, ColumnType::DateTime],
     )?;
     expect_types(
-        &rt,
+        rt.alloc(),
         &segment,
         Order::Desc,
         &[ColumnType::DateTime, ColumnType::I64],
@@ -133,16 +132,15 @@ fn types_by_days(alloc: Global, segment: &SegmentReader) -> Result<Vec<ColumnTyp
 }
 
 // A source of days reads a column of dates alone.
-fn expect_dates(rt: &(impl Abort + AllocGlobal), segment: &SegmentReader) -> Result<(), Fail> {
-    let found = types_by_days(rt.alloc(), segment)?;
-    assert_eq!(rt; found.as_slice(), [ColumnType::DateTime].as_slice());
-    Ok(())
+fn expect_dates(alloc: Global, segment: &SegmentReader) -> Result<(), Fail> {
+    let found = types_by_days(alloc, segment)?;
+    expect_equal(found.as_slice(), [ColumnType::DateTime].as_slice())
 }
 
 #[test]
 fn date_sources_read_dates(rt: HostRuntime) -> Result<(), Fail> {
     let segment = segment_of(rt.alloc(), &[VALUES])?;
-    expect_dates(&rt, &segment)
+    expect_dates(rt.alloc(), &segment)
 }
 
 // Where an after value stands in a histogram of a field, which has these orders.
@@ -158,19 +156,11 @@ fn standing_in_starts(
 }
 
 // After values stand among the numbers of a field where the table says.
-fn expect_numbers(
-    rt: &(impl Abort + AllocGlobal),
-    segment: &SegmentReader,
-    field: &'static str,
-) -> Result<(), Fail> {
+fn expect_numbers(alloc: Global, segment: &SegmentReader, field: &'static str) -> Result<(), Fail> {
     for &(order, missing_order, after, expected) in NUMBERS {
         let orders = (order, missing_order);
-        let found = standing_in_starts(rt.alloc(), segment, field, orders, after)?;
-        assert_eq!(rt;
-            found,
-            expected,
-            "{field} {order:?} {missing_order:?} {after}"
-        );
+        let found = standing_in_starts(alloc, segment, field, orders, after)?;
+        expect_equal_for((field, order, missing_order, after), found, expected)?;
     }
     Ok(())
 }
@@ -179,7 +169,7 @@ fn expect_numbers(
 fn after_numbers_stand_among_starts(rt: HostRuntime) -> Result<(), Fail> {
     let segment = segment_of(rt.alloc(), &[VALUES])?;
     for field in ["signed", "large", "dates"] {
-        expect_numbers(&rt, &segment, field)?;
+        expect_numbers(rt.alloc(), &segment, field)?;
     }
     Ok(())
 }
@@ -196,10 +186,10 @@ fn standing_in_days(
 }
 
 // After values stand among dates where the table says.
-fn expect_days(rt: &(impl Abort + AllocGlobal), segment: &SegmentReader) -> Result<(), Fail> {
+fn expect_days(alloc: Global, segment: &SegmentReader) -> Result<(), Fail> {
     for &(order, after, expected) in DATES {
-        let found = standing_in_days(rt.alloc(), segment, order, after)?;
-        assert_eq!(rt; found, expected, "{order:?} {after:?}");
+        let found = standing_in_days(alloc, segment, order, after)?;
+        expect_equal_for((order, after), found, expected)?;
     }
     Ok(())
 }
@@ -207,5 +197,5 @@ fn expect_days(rt: &(impl Abort + AllocGlobal), segment: &SegmentReader) -> Resu
 #[test]
 fn after_dates_stand_among_starts(rt: HostRuntime) -> Result<(), Fail> {
     let segment = segment_of(rt.alloc(), &[VALUES])?;
-    expect_days(&rt, &segment)
+    expect_days(rt.alloc(), &segment)
 }

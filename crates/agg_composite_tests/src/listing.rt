@@ -9,6 +9,7 @@ ghost use Rattle.agg_accessor.specs.Decoded.{IsEncoded};
 
 use crate::collector::{DOCUMENTS, composite_over, number_of, request_in};
 use agg_composite::{CompositeAggReqData, PageEntries, PageEntry, list_entries};
+use agg_expect::expect_equal;
 use agg_request_tree::CompositeAggregation;
 use agg_segment::SegmentReader;
 use agg_segment_tests::given::segment_of;
@@ -52,16 +53,15 @@ fn shown(
 
 // Entries say this.
 fn expect_entries(
-    rt: &(impl Abort + AllocGlobal),
+    alloc: Global,
     entries: &mut PageEntries,
     req: &CompositeAggReqData<'_>,
     expected: &[Shown],
 ) -> Result<(), Fail>
     requires { All (IsEncoded req.now) (keys_of entries.old) }
 {
-    let shown = shown(rt.alloc(), entries, req)?;
-    assert_eq!(rt; shown.as_slice(), expected);
-    Ok(())
+    let shown = shown(alloc, entries, req)?;
+    expect_equal(shown.as_slice(), expected)
 }
 
 // Those of all documents say this.
@@ -80,7 +80,7 @@ fn expect_shown<L: Ledger>(
     let docs = [0, 1, 2, 3, 4, 5];
     assert!(rt; req.req.sources.as_slice().len() == 1 && req.are_starts_in_range(&docs));
     let mut entries = list_entries(rt.alloc(), &docs, req, &mut steps)?;
-    expect_entries(rt, &mut entries, req, expected)
+    expect_entries(rt.alloc(), &mut entries, req, expected)
 }
 
 // The same with a count of steps of its own.

@@ -4,6 +4,7 @@ ghost use Rattle.std.specs.Prelude.{◌≡◌, ◌<◌};
 use crate::walk::{Documents, Values, snapshots_of};
 use agg_cache::LimitsLedger;
 use agg_engine::{Snapshot, Walk, WalkError, walk_pages};
+use agg_expect::expect_equal_for;
 use agg_request_tree::{Aggregations, CompositeAggregation};
 use agg_request_tree_tests::given::{GivenSource, Kind, composite_of, lone, request_of};
 use agg_segment::{QueryTree, Schema};
@@ -11,7 +12,6 @@ use agg_segment_tests::given::Given;
 use agg_values::{AggregationError, ItemList, OutOfMemory, Steps, Text};
 use std::alloc::Global;
 use std::marker::Brand;
-use std::process::Abort;
 use std::sync::ledger::{Blank, Ledger};
 use std::test::Fail;
 
@@ -115,26 +115,24 @@ fn walk_under<L: Ledger>(
 
 // A walk under a limit is refused so many bytes, or none.
 fn expect_refused(
-    rt: &(impl Abort + AllocGlobal),
+    alloc: Global,
     (asked, limit): (Request, u64),
     snapshots: &[Documents],
     refused: Option<u64>,
 ) -> Result<(), Fail> {
-    let alloc = rt.alloc();
     let request = request_for(alloc, asked)?;
     let snapshots = snapshots_of(alloc, snapshots)?;
     let walk = walk_under::<Brand>(alloc, limit, &request, &snapshots, Blank::new(1));
     let expected = refused.map(|current| {
         WalkError::Aggregation(AggregationError::MemoryExceeded { limit, current })
     });
-    assert_eq!(rt; walk.err(), expected, "{limit}");
-    Ok(())
+    expect_equal_for(limit, walk.err(), expected)
 }
 
 #[test]
 fn refuses_what_takes_more_memory_than_the_limit(rt: HostRuntime) -> Result<(), Fail> {
     for &(asked, limit, snapshots, refused) in WALKS {
-        expect_refused(&rt, (asked, limit), snapshots, refused)?;
+        expect_refused(rt.alloc(), (asked, limit), snapshots, refused)?;
     }
     Ok(())
 }

@@ -4,25 +4,24 @@ ghost use Rattle.agg_accessor.specs.Accessors.{AllFit, Fits};
 
 use agg_accessor::{CompositeAggReqData, CompositeSourceAccessors};
 use agg_calendar::CalendarInterval;
+use agg_expect::{expect_equal, expect_equal_for};
 use agg_request_tree::{CompositeAggregation, CompositeAggregationSource};
 use agg_request_tree_tests::given::{GivenSource, Kind, composite_of};
 use agg_segment::{Document, FieldValue, SegmentBuilder, SegmentReader};
 use agg_segment_tests::given::{Given, segment_of};
 use agg_values::{ItemList, Text};
 use std::alloc::Global;
-use std::process::Abort;
 use std::test::Fail;
 
 #[test]
 fn sources_multiply_and_a_missing_value_counts_once_where_it_has_a_bucket(
     rt: HostRuntime,
 ) -> Result<(), Fail> {
-    expect_products(&rt, &one_document(rt.alloc())?)
+    expect_products(rt.alloc(), &one_document(rt.alloc())?)
 }
 
 // The composites of these fields count the one document so often.
-fn expect_products(rt: &(impl Abort + AllocGlobal), segment: &SegmentReader) -> Result<(), Fail> {
-    let alloc = rt.alloc();
+fn expect_products(alloc: Global, segment: &SegmentReader) -> Result<(), Fail> {
     for (fields, missing_bucket, expected) in [
         (["a"].as_slice(), false, 1 << 16),
         (["a", "a"].as_slice(), false, 1 << 32),
@@ -31,7 +30,7 @@ fn expect_products(rt: &(impl Abort + AllocGlobal), segment: &SegmentReader) -> 
         (["a", "a", "a", "a"].as_slice(), false, u64::MAX),
     ] {
         let count = count_of(alloc, segment, fields, missing_bucket)?;
-        assert_eq!(rt; count, expected);
+        expect_equal(count, expected)?;
     }
     Ok(())
 }
@@ -56,16 +55,15 @@ const READ: &[[u64; 3]] = &[[6, 4, 2], [1, 0, 0], [0, 0, 0], [2, 2, 0]];
 
 #[test]
 fn a_source_counts_the_values_that_it_reads(rt: HostRuntime) -> Result<(), Fail> {
-    expect_read(&rt, &segment_of(rt.alloc(), MIXED)?)
+    expect_read(rt.alloc(), &segment_of(rt.alloc(), MIXED)?)
 }
 
 // The sources read so many values of each document of a segment.
-fn expect_read(rt: &(impl Abort + AllocGlobal), segment: &SegmentReader) -> Result<(), Fail> {
-    let alloc = rt.alloc();
+fn expect_read(alloc: Global, segment: &SegmentReader) -> Result<(), Fail> {
     for (doc, &read) in (0..4).zip(READ) {
-        assert_eq!(rt; counts(alloc, segment, doc, false)?, read, "{doc}");
+        expect_equal_for(doc, counts(alloc, segment, doc, false)?, read)?;
         let with_bucket = [read[0].max(1), read[1].max(1), read[2].max(1)];
-        assert_eq!(rt; counts(alloc, segment, doc, true)?, with_bucket, "{doc}");
+        expect_equal_for(doc, counts(alloc, segment, doc, true)?, with_bucket)?;
     }
     Ok(())
 }

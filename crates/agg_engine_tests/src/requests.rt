@@ -3,6 +3,7 @@ ghost use Rattle.std.specs.Prelude.{◌≡◌, ◌<◌};
 
 use agg_cache::LimitsLedger;
 use agg_engine::{Snapshot, Walk, WalkError, walk_pages};
+use agg_expect::expect_equal;
 use agg_request_tree::{
     Aggregation, AggregationVariants, Aggregations, FilterAggregation, NamedBuilder,
     QueryBuildError, QueryBuilder,
@@ -113,15 +114,13 @@ fn walk_over<L: Ledger>(
 #[test]
 fn each_builder_is_asked_before_any_snapshot(rt: HostRuntime) -> Result<(), Fail> {
     let refused = walk(rt.alloc(), "g", &[])?;
-    assert_eq!(rt; refused.err(), Some(WalkError::QueryBuild));
+    expect_equal(refused.err(), Some(WalkError::QueryBuild))?;
     let walk = walk(rt.alloc(), "g", &["a"])??;
-    assert_eq!(rt; (walk.pages.as_slice().len(), walk.ended), (0, false));
-    Ok(())
+    expect_equal((walk.pages.as_slice().len(), walk.ended), (0, false))
 }
 
 #[test]
 fn a_filter_is_no_composite_to_page_over(rt: HostRuntime) -> Result<(), Fail> {
     let refused = walk(rt.alloc(), "f", &["a"])?;
-    assert_eq!(rt; refused.err(), Some(WalkError::UnknownComposite));
-    Ok(())
+    expect_equal(refused.err(), Some(WalkError::UnknownComposite))
 }

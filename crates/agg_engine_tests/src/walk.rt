@@ -3,6 +3,7 @@ ghost use Rattle.std.specs.Prelude.{◌≡◌, ◌<◌};
 
 use agg_cache::LimitsLedger;
 use agg_engine::{Snapshot, Walk, WalkError, walk_pages};
+use agg_expect::expect_equal;
 use agg_request_tree::Aggregations;
 use agg_request_tree_tests::given::{GivenSource, Kind, composite_of, lone, request_of};
 use agg_segment::{QueryTree, Schema};
@@ -10,7 +11,6 @@ use agg_segment_tests::given::{Given, segment_of};
 use agg_values::{AggregationError, InvalidArgument, ItemList, OutOfMemory, Steps, Text};
 use std::alloc::Global;
 use std::marker::Brand;
-use std::process::Abort;
 use std::sync::ledger::{Blank, Ledger};
 use std::test::Fail;
 
@@ -169,16 +169,11 @@ fn walk_over<L: Ledger>(
 }
 
 // A walk has pages of these results.
-fn expect_pages(
-    rt: &(impl Abort + AllocGlobal),
-    walk: &Walk,
-    pages: &[&str],
-    ended: bool,
-) -> Result<(), Fail> {
+fn expect_pages(walk: &Walk, pages: &[&str], ended: bool) -> Result<(), Fail> {
     let found = walk.pages.as_slice();
-    assert_eq!(rt; (found.len(), walk.ended), (pages.len(), ended));
+    expect_equal((found.len(), walk.ended), (pages.len(), ended))?;
     for (page, text) in found.iter().zip(pages) {
-        assert_eq!(rt; page.write_json()?.as_str(), *text);
+        expect_equal(page.write_json()?.as_str(), *text)?;
     }
     Ok(())
 }
@@ -186,7 +181,7 @@ fn expect_pages(
 #[test]
 fn gives_its_pages(rt: HostRuntime) -> Result<(), Fail> {
     for &(asked, pages, ended) in WALKS {
-        expect_pages(&rt, &walk(rt.alloc(), asked)??, pages, ended)?;
+        expect_pages(&walk(rt.alloc(), asked)??, pages, ended)?;
     }
     Ok(())
 }
@@ -222,7 +217,7 @@ type Composite = (&'static str, &'static [&'static str], u32);
 
 // No pages are given, for this reason, where a page may have two buckets.
 fn expect_refusal(
-    rt: &(impl Abort + AllocGlobal),
+    alloc: Global,
     (name, sources, size): Composite,
     snapshots: &'static [Documents],
     refusal: WalkError,
@@ -234,8 +229,7 @@ fn expect_refusal(
         bucket_limit: Some(2),
         snapshots,
     };
-    assert_eq!(rt; walk(rt.alloc(), asked)?.err(), Some(refusal));
-    Ok(())
+    expect_equal(walk(alloc, asked)?.err(), Some(refusal))
 }
 
 // Why a walk has no pages.
@@ -281,7 +275,7 @@ const REFUSALS: &[(Composite, &[Documents], Refusal)] = &[
 #[test]
 fn says_why_there_are_no_pages(rt: HostRuntime) -> Result<(), Fail> {
     for &(asked, snapshots, refusal) in REFUSALS {
-        expect_refusal(&rt, asked, snapshots, refusal.error())?;
+        expect_refusal(rt.alloc(), asked, snapshots, refusal.error())?;
     }
     Ok(())
 }

@@ -1,4 +1,5 @@
 use agg_dates::{DateError, DateUnit, read_date, write_date};
+use agg_expect::{expect_equal, expect_equal_for};
 use std::test::Fail;
 
 // Texts of dates, and their nanoseconds since 1970.
@@ -56,17 +57,17 @@ const UNITS: &[(&str, Option<i64>)] = &[
 ];
 
 #[test]
-fn reads_dates(rt: HostRuntime) -> Result<(), Fail> {
+fn reads_dates() -> Result<(), Fail> {
     for &(text, nanos) in READ {
-        assert_eq!(rt; read_date(text), Ok(nanos), "{text}");
+        expect_equal_for(text, read_date(text), Ok(nanos))?;
     }
     Ok(())
 }
 
 #[test]
-fn refuses_what_is_no_date(rt: HostRuntime) -> Result<(), Fail> {
+fn refuses_what_is_no_date() -> Result<(), Fail> {
     for &(text, why) in REFUSED {
-        assert_eq!(rt; read_date(text), Err(why), "{text}");
+        expect_equal_for(text, read_date(text), Err(why))?;
     }
     Ok(())
 }
@@ -76,22 +77,17 @@ fn writes_dates(rt: HostRuntime) -> Result<(), Fail> {
     for &(nanos, text) in WRITTEN {
         let mut out = String::new(rt.alloc());
         write_date(&mut out, nanos)?;
-        assert_eq!(rt; out.as_str(), text);
+        expect_equal(out.as_str(), text)?;
     }
     Ok(())
 }
 
 #[test]
-fn knows_units(rt: HostRuntime) -> Result<(), Fail> {
+fn knows_units() -> Result<(), Fail> {
     for &(word, nanos) in UNITS {
-        assert_eq!(rt;
-            DateUnit::read(word).and_then(nanos_of_five),
-            nanos,
-            "{word}"
-        );
+        expect_equal_for(word, DateUnit::read(word).and_then(nanos_of_five), nanos)?;
     }
-    assert_eq!(rt; DateUnit::Seconds.nanos(i64::MAX), None);
-    Ok(())
+    expect_equal(DateUnit::Seconds.nanos(i64::MAX), None)
 }
 
 fn nanos_of_five(unit: DateUnit) -> Option<i64> {

@@ -1,4 +1,5 @@
 use agg_decimals::{DecimalError, Places, read_decimal, write_decimal};
+use agg_expect::{expect_equal, expect_equal_for};
 use std::test::Fail;
 
 // Texts in so many places, and the whole number of the last place that each one is.
@@ -41,17 +42,17 @@ const WRITTEN: &[(i128, u32, &str)] = &[
 ];
 
 #[test]
-fn reads_decimals(rt: HostRuntime) -> Result<(), Fail> {
+fn reads_decimals() -> Result<(), Fail> {
     for &(text, count, number) in READ {
-        assert_eq!(rt; read(text, count), Some(Ok(number)), "{text}");
+        expect_equal_for(text, read(text, count), Some(Ok(number)))?;
     }
     Ok(())
 }
 
 #[test]
-fn refuses_what_is_no_decimal(rt: HostRuntime) -> Result<(), Fail> {
+fn refuses_what_is_no_decimal() -> Result<(), Fail> {
     for &(text, count, why) in REFUSED {
-        assert_eq!(rt; read(text, count), Some(Err(why)), "{text}");
+        expect_equal_for(text, read(text, count), Some(Err(why)))?;
     }
     Ok(())
 }
@@ -63,19 +64,18 @@ fn writes_decimals(rt: HostRuntime) -> Result<(), Fail> {
         if let Some(places) = Places::new(count) {
             write_decimal(&mut out, number, places)?;
         }
-        assert_eq!(rt; out.as_str(), text);
+        expect_equal(out.as_str(), text)?;
     }
     Ok(())
 }
 
 #[test]
-fn has_eighteen_places_at_most(rt: HostRuntime) -> Result<(), Fail> {
+fn has_eighteen_places_at_most() -> Result<(), Fail> {
     let counts = (
         Places::new(18).map(Places::get),
         Places::new(19).map(Places::get),
     );
-    assert_eq!(rt; counts, (Some(18), None));
-    Ok(())
+    expect_equal(counts, (Some(18), None))
 }
 
 fn read(text: &str, count: u32) -> Option<Result<i64, DecimalError>> {

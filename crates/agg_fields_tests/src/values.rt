@@ -1,6 +1,7 @@
 use agg_column::FieldValue;
 use agg_dates::{DateError, DateUnit};
 use agg_decimals::{DecimalError, Places};
+use agg_expect::{expect_equal, expect_equal_for};
 use agg_fields::{
     FieldType, FieldTypes, ValueError, value_of_number, value_of_string, value_of_text,
     write_number, write_shown_key, write_value,
@@ -187,7 +188,7 @@ fn reads_values(rt: HostRuntime) -> Result<(), Fail> {
             number.is(&value_of_number(alloc, text, of.field_type())),
             string.is(&value_of_string(alloc, text, of.field_type())),
         );
-        assert_eq!(rt; found, (true, true, true), "{text} of {of:?}");
+        expect_equal_for((text, of), found, (true, true, true))?;
     }
     Ok(())
 }
@@ -197,7 +198,7 @@ fn shows_numbers(rt: HostRuntime) -> Result<(), Fail> {
     for &(number, of, key, metric) in SHOWN {
         let shown = shown_key(rt.alloc(), number, of)?;
         let written = shown_metric(rt.alloc(), number, of)?;
-        assert_eq!(rt; (shown.as_str(), written.as_str()), (key, metric));
+        expect_equal((shown.as_str(), written.as_str()), (key, metric))?;
     }
     Ok(())
 }
@@ -226,8 +227,7 @@ fn shows_typed_keys(rt: HostRuntime) -> Result<(), Fail> {
         write_value(&mut out, key, FieldType::Plain)?;
         out.push(';')?;
     }
-    assert_eq!(rt; out.as_str(), "true;1970-01-01;;");
-    Ok(())
+    expect_equal(out.as_str(), "true;1970-01-01;;")
 }
 
 #[test]
@@ -248,6 +248,5 @@ fn a_field_without_a_type_is_plain(rt: HostRuntime) -> Result<(), Fail> {
         FieldType::Text,
         FieldType::Plain,
     );
-    assert_eq!(rt; held, expected);
-    Ok(())
+    expect_equal(held, expected)
 }

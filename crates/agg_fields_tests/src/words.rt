@@ -1,5 +1,6 @@
 use agg_dates::DateUnit;
 use agg_decimals::Places;
+use agg_expect::expect_equal_for;
 use agg_words::{
     BySpec, BySpecError, Condition, ConditionError, DateField, DateFieldError, DecimalField,
     DecimalFieldError, Missing, Test, read_by, read_condition, read_date_field, read_decimal_field,
@@ -98,17 +99,17 @@ const DECIMALS: &[(&str, Result<(&str, u32), DecimalFieldError>)] = &[
 ];
 
 #[test]
-fn reads_sources(rt: HostRuntime) -> Result<(), Fail> {
+fn reads_sources() -> Result<(), Fail> {
     for &(text, expected) in BY {
-        assert_eq!(rt; read_by(text), expected, "{text}");
+        expect_equal_for(text, read_by(text), expected)?;
     }
     Ok(())
 }
 
 #[test]
-fn reads_conditions(rt: HostRuntime) -> Result<(), Fail> {
+fn reads_conditions() -> Result<(), Fail> {
     for &(text, expected) in CONDITIONS {
-        assert_eq!(rt; read_condition(text).map(of_condition), expected, "{text}");
+        expect_equal_for(text, read_condition(text).map(of_condition), expected)?;
     }
     Ok(())
 }
@@ -118,9 +119,9 @@ fn of_condition(condition: Condition<'_>) -> (&str, Test<'_>) {
 }
 
 #[test]
-fn reads_fields_of_dates(rt: HostRuntime) -> Result<(), Fail> {
+fn reads_fields_of_dates() -> Result<(), Fail> {
     for &(text, expected) in DATES {
-        assert_eq!(rt; read_date_field(text).map(of_date), expected, "{text}");
+        expect_equal_for(text, read_date_field(text).map(of_date), expected)?;
     }
     Ok(())
 }
@@ -130,13 +131,13 @@ fn of_date(date: DateField<'_>) -> (&str, Option<DateUnit>) {
 }
 
 #[test]
-fn reads_fields_of_decimals(rt: HostRuntime) -> Result<(), Fail> {
+fn reads_fields_of_decimals() -> Result<(), Fail> {
     for &(text, expected) in DECIMALS {
         let read = match read_decimal_field(text) {
             Ok(decimal) => Ok((decimal.field, Places::get(decimal.places))),
             Err(why) => Err(why),
         };
-        assert_eq!(rt; read, expected, "{text}");
+        expect_equal_for(text, read, expected)?;
     }
     Ok(())
 }

@@ -1,3 +1,4 @@
+use agg_expect::expect_equal;
 use agg_tables::write_csv_cell;
 use std::test::Fail;
 
@@ -17,7 +18,7 @@ fn writes_cells(rt: HostRuntime) -> Result<(), Fail> {
     for &(text, cell) in CELLS {
         let mut out = String::new(rt.alloc());
         write_csv_cell(&mut out, text)?;
-        assert_eq!(rt; out.as_str(), cell);
+        expect_equal(out.as_str(), cell)?;
     }
     Ok(())
 }

@@ -1,3 +1,4 @@
+use agg_expect::expect_equal_for;
 use agg_front::format_of;
 use agg_records::RecordFormat;
 use std::test::Fail;
@@ -17,9 +18,9 @@ const FORMATS: &[(&str, &[u8], RecordFormat)] = &[
 ];
 
 #[test]
-fn tells_formats(rt: HostRuntime) -> Result<(), Fail> {
+fn tells_formats() -> Result<(), Fail> {
     for &(name, bytes, format) in FORMATS {
-        assert_eq!(rt; format_of(name, bytes), format, "{name}");
+        expect_equal_for(name, format_of(name, bytes), format)?;
     }
     Ok(())
 }

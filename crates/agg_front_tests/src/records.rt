@@ -1,4 +1,5 @@
 use agg_decimals::Places;
+use agg_expect::{expect_equal, expect_equal_for};
 use agg_fields::FieldType;
 use agg_records::{AskedFields, RecordError, RecordFormat, Records, read_records};
 use agg_segment::SegmentReader;
@@ -98,7 +99,7 @@ const NOT_TEXT: &[(&[u8], &str)] = &[
 fn reads_records(rt: HostRuntime) -> Result<(), Fail> {
     for &(format, text, documents, columns) in READ {
         let found = counts(rt.alloc(), format, text.as_bytes())?;
-        assert_eq!(rt; found, Some((documents, columns)), "{text}");
+        expect_equal_for(text, found, Some((documents, columns)))?;
     }
     Ok(())
 }
@@ -107,7 +108,7 @@ fn reads_records(rt: HostRuntime) -> Result<(), Fail> {
 fn tells_what_is_wrong(rt: HostRuntime) -> Result<(), Fail> {
     for &(format, text, expected) in REFUSED {
         let told = told(rt.alloc(), format, text.as_bytes())?;
-        assert_eq!(rt; told.as_str(), expected);
+        expect_equal(told.as_str(), expected)?;
     }
     Ok(())
 }
@@ -116,7 +117,7 @@ fn tells_what_is_wrong(rt: HostRuntime) -> Result<(), Fail> {
 fn tells_of_cells_that_are_no_text(rt: HostRuntime) -> Result<(), Fail> {
     for &(text, expected) in NOT_TEXT {
         let told = told(rt.alloc(), RecordFormat::Csv, text)?;
-        assert_eq!(rt; told.as_str(), expected);
+        expect_equal(told.as_str(), expected)?;
     }
     Ok(())
 }

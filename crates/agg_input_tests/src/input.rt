@@ -1,9 +1,9 @@
+use agg_expect::{expect_equal, expect_equal_for};
 use agg_input::{Input, InputError, read_input};
 use agg_request::NamedBuilder;
 use agg_segment::{ColumnType, SegmentReader};
 use agg_values::Text;
 use std::alloc::Global;
-use std::process::Abort;
 use std::test::Fail;
 
 // A header up to its schema.
@@ -200,28 +200,21 @@ fn counts_of(alloc: Global, segments: &[SegmentReader]) -> Result<Vec<u32>, Fail
 }
 
 // The snapshots of an input have these page sizes, and segments of so many documents.
-fn expect_snapshots(
-    rt: &(impl Abort + AllocGlobal),
-    input: &Input,
-    expected: &[(u32, &[u32])],
-) -> Result<(), Fail> {
+fn expect_snapshots(alloc: Global, input: &Input, expected: &[(u32, &[u32])]) -> Result<(), Fail> {
     let snapshots = input.snapshots.as_slice();
-    assert_eq!(rt; snapshots.len(), expected.len());
+    expect_equal(snapshots.len(), expected.len())?;
     for (snapshot, &(page_size, counts)) in snapshots.iter().zip(expected) {
-        let found = counts_of(rt.alloc(), snapshot.segments.as_slice())?;
-        assert_eq!(rt; (snapshot.page_size, found.as_slice()), (page_size, counts));
+        let found = counts_of(alloc, snapshot.segments.as_slice())?;
+        expect_equal((snapshot.page_size, found.as_slice()), (page_size, counts))?;
     }
     Ok(())
 }
 
 // An input has one aggregation, one field and these two snapshots.
-fn expect_two_snapshots(rt: &(impl Abort + AllocGlobal), input: &Input) -> Result<(), Fail> {
+fn expect_two_snapshots(alloc: Global, input: &Input) -> Result<(), Fail> {
     let header = &input.header;
-    assert_eq!(rt;
-        (header.request.len(), header.schema.fields().len()),
-        (1, 1)
-    );
-    expect_snapshots(rt, input, &[(2, &[2]), (7, &[])])
+    expect_equal((header.request.len(), header.schema.fields().len()), (1, 1))?;
+    expect_snapshots(alloc, input, &[(2, &[2]), (7, &[])])
 }
 
 #[test]
@@ -229,40 +222,40 @@ fn reads(rt: HostRuntime) -> Result<(), Fail> {
     let text = format!(in rt.alloc();
         "\n{REQUEST}{SCHEMA}\r\nsnapshot 2\n{{\"A\":1,\"B\":[2,-3]}}\n \t\n{{}}\nsnapshot 07\n"
     )?;
-    expect_two_snapshots(&rt, &read_text(rt.alloc(), &text)?)
+    expect_two_snapshots(rt.alloc(), &read_text(rt.alloc(), &text)?)
 }
 
 // A text is an input of one snapshot, whose segments have so many documents.
-fn expect_counts(rt: &(impl Abort + AllocGlobal), text: &str, counts: &[u32]) -> Result<(), Fail> {
-    expect_snapshots(rt, &read_text(rt.alloc(), text)?, &[(1, counts)])
+fn expect_counts(alloc: Global, text: &str, counts: &[u32]) -> Result<(), Fail> {
+    expect_snapshots(alloc, &read_text(alloc, text)?, &[(1, counts)])
 }
 
 #[test]
 fn reads_segments(rt: HostRuntime) -> Result<(), Fail> {
     for &(lines, counts) in SEGMENTS {
         let text = format!(in rt.alloc(); "{REQUEST}{SCHEMA}\nsnapshot 1\n{lines}")?;
-        expect_counts(&rt, &text, counts)?;
+        expect_counts(rt.alloc(), &text, counts)?;
     }
     Ok(())
 }
 
 // A segment of one document has a value of each type.
-fn expect_kinds(rt: &(impl Abort + AllocGlobal), segment: &SegmentReader) -> Result<(), Fail> {
-    let columns = segment.columns(&Text::copy_of(rt.alloc(), "B")?);
-    assert_eq!(rt; columns.len(), KINDS.len());
+fn expect_kinds(alloc: Global, segment: &SegmentReader) -> Result<(), Fail> {
+    let columns = segment.columns(&Text::copy_of(alloc, "B")?);
+    expect_equal(columns.len(), KINDS.len())?;
     for (column, &kind) in columns.iter().zip(KINDS) {
         let found = (column.column_type(), column.values_for_doc(0).len());
-        assert_eq!(rt; found, (kind, 1));
+        expect_equal(found, (kind, 1))?;
     }
     Ok(())
 }
 
 // An input has one segment of one document, which has a value of each type.
-fn expect_every_kind(rt: &(impl Abort + AllocGlobal), input: &Input) -> Result<(), Fail> {
-    expect_snapshots(rt, input, &[(1, &[1])])?;
+fn expect_every_kind(alloc: Global, input: &Input) -> Result<(), Fail> {
+    expect_snapshots(alloc, input, &[(1, &[1])])?;
     for snapshot in input.snapshots.as_slice() {
         for segment in snapshot.segments.as_slice() {
-            expect_kinds(rt, segment)?;
+            expect_kinds(alloc, segment)?;
         }
     }
     Ok(())
@@ -273,21 +266,20 @@ fn reads_every_kind_of_value(rt: HostRuntime) -> Result<(), Fail> {
     let alloc = rt.alloc();
     let document = r#"{"B":[{"dt":1},{"ip":"::"},1,"a",null,true]}"#;
     let text = format!(in alloc; "{REQUEST}{SCHEMA}\nsnapshot 1\n{document}")?;
-    expect_every_kind(&rt, &read_text(alloc, &text)?)
+    expect_every_kind(rt.alloc(), &read_text(alloc, &text)?)
 }
 
 // A text is an input, or isn't.
-fn expect(rt: &(impl Abort + AllocGlobal), text: &str, is_input: bool) -> Result<(), Fail> {
-    let fault = read_text(rt.alloc(), text).err();
-    assert_eq!(rt; fault, expected(is_input), "at {text}");
-    Ok(())
+fn expect(alloc: Global, text: &str, is_input: bool) -> Result<(), Fail> {
+    let fault = read_text(alloc, text).err();
+    expect_equal_for(text, fault, expected(is_input))
 }
 
 #[test]
 fn tells_headers(rt: HostRuntime) -> Result<(), Fail> {
     for &(rest, is_input) in HEADERS {
         let text = format!(in rt.alloc(); "{REQUEST}{rest}")?;
-        expect(&rt, &text, is_input)?;
+        expect(rt.alloc(), &text, is_input)?;
     }
     Ok(())
 }
@@ -296,7 +288,7 @@ fn tells_headers(rt: HostRuntime) -> Result<(), Fail> {
 fn tells_requests(rt: HostRuntime) -> Result<(), Fail> {
     for &(request, is_input) in REQUESTS {
         let text = format!(in rt.alloc(); "{{\"request\":{request},\"name\":\"a\"{SCHEMA}")?;
-        expect(&rt, &text, is_input)?;
+        expect(rt.alloc(), &text, is_input)?;
     }
     Ok(())
 }
@@ -305,7 +297,7 @@ fn tells_requests(rt: HostRuntime) -> Result<(), Fail> {
 fn tells_documents(rt: HostRuntime) -> Result<(), Fail> {
     for &(lines, is_input) in DOCUMENTS {
         let text = format!(in rt.alloc(); "{REQUEST}{SCHEMA}\nsnapshot 1\n{lines}")?;
-        expect(&rt, &text, is_input)?;
+        expect(rt.alloc(), &text, is_input)?;
     }
     Ok(())
 }
@@ -314,7 +306,7 @@ fn tells_documents(rt: HostRuntime) -> Result<(), Fail> {
 fn tells_snapshots(rt: HostRuntime) -> Result<(), Fail> {
     for &after in AFTER {
         let text = format!(in rt.alloc(); "{REQUEST}{SCHEMA}\n{after}")?;
-        expect(&rt, &text, false)?;
+        expect(rt.alloc(), &text, false)?;
     }
     Ok(())
 }
@@ -322,7 +314,7 @@ fn tells_snapshots(rt: HostRuntime) -> Result<(), Fail> {
 #[test]
 fn tells_texts_without_a_header(rt: HostRuntime) -> Result<(), Fail> {
     for text in ["", "\n", "{\"byA\"", "snapshot 1"] {
-        expect(&rt, text, false)?;
+        expect(rt.alloc(), text, false)?;
     }
     Ok(())
 }

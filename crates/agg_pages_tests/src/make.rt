@@ -1,10 +1,11 @@
 //! Runs over generated inputs.
 use crate::given::{run_words, steady};
 use crate::program::{breaking, nearly_full};
+use agg_expect::{expect_equal, expect_equal_for};
 use agg_pages::sink::{MemorySink, Sink};
 use agg_pages::source::Source;
 use agg_pages::{Failed, Status};
-use std::process::Abort;
+use std::alloc::Global;
 use std::test::Fail;
 
 const SEVEN: &str = "{\"buckets\":1018,\"ended\":true,\"pages\":11}\n";
@@ -23,27 +24,21 @@ const SUMMARIES: &[(&str, &str)] = &[
 ];
 
 // A run over the input of a seed writes this, and reads nothing where the first read would fail.
-fn expect_summary(
-    rt: &(impl Abort + AllocGlobal),
-    digits: &str,
-    summary: &str,
-) -> Result<(), Fail> {
-    let alloc = rt.alloc();
+fn expect_summary(alloc: Global, digits: &str, summary: &str) -> Result<(), Fail> {
     let mut source = breaking(alloc, "{}", 1)?;
     let mut sink = MemorySink::new(alloc, Vec::new(alloc))?;
     let status = run_words(alloc, &["make", digits], &mut source, &mut sink)?;
-    assert_eq!(rt;
+    expect_equal_for(
+        digits,
         (status, sink.bytes(), source.read(&mut [0])),
         (Status::Ok, summary.as_bytes(), Err(Failed)),
-        "at {digits}"
-    );
-    Ok(())
+    )
 }
 
 #[test]
 fn writes_the_summary_of_each_seed(rt: HostRuntime) -> Result<(), Fail> {
     for &(digits, summary) in SUMMARIES {
-        expect_summary(&rt, digits, summary)?;
+        expect_summary(rt.alloc(), digits, summary)?;
     }
     Ok(())
 }
@@ -51,7 +46,7 @@ fn writes_the_summary_of_each_seed(rt: HostRuntime) -> Result<(), Fail> {
 #[test]
 fn writes_the_same_summary_again(rt: HostRuntime) -> Result<(), Fail> {
     for digits in ["7", "7", "007"] {
-        expect_summary(&rt, digits, SEVEN)?;
+        expect_summary(rt.alloc(), digits, SEVEN)?;
     }
     Ok(())
 }
@@ -59,12 +54,11 @@ fn writes_the_same_summary_again(rt: HostRuntime) -> Result<(), Fail> {
 #[test]
 fn fills_a_sink_with_a_summary(rt: HostRuntime) -> Result<(), Fail> {
     let alloc = rt.alloc();
-    let mut sink = nearly_full(&rt, 10)?;
+    let mut sink = nearly_full(rt.alloc(), 10)?;
     let status = run_words(alloc, &["make", "7"], &mut steady(alloc, "{}")?, &mut sink)?;
     let found = (sink.bytes().len(), sink.bytes().ends_with(b".{\"buckets\""));
-    assert_eq!(rt;
+    expect_equal(
         (status, found),
-        (Status::WriteFault, (MemorySink::ROOM, true))
-    );
-    Ok(())
+        (Status::WriteFault, (MemorySink::ROOM, true)),
+    )
 }

@@ -1,6 +1,8 @@
 //! Pages over filters and metrics, beside composites and below them.
 use crate::given::answer_to;
+use agg_expect::expect_equal;
 use agg_pages::Status;
+use std::alloc::Global;
 use std::test::Fail;
 
 // A composite over a field, alone, with another below it, and with a filter between them.
@@ -69,12 +71,12 @@ const RESULTS: &[(&str, &str, &str, &str, &str)] = &[
 // The text of an input: a request with a composite of this name, the fields of the schema, and
 // lines.
 fn input(
-    rt: &impl AllocGlobal,
+    alloc: Global,
     (composite, beside): (&str, &str),
     fields: &str,
     lines: &str,
 ) -> Result<String, Fail> {
-    Ok(format!(in rt.alloc();
+    Ok(format!(in alloc;
         "{{\"request\":{{{composite}{beside}}},\"name\":\"g\",\"schema\":[{fields}]}}{lines}"
     )?)
 }
@@ -84,15 +86,15 @@ fn answers_each_request(rt: HostRuntime) -> Result<(), Fail> {
     for &(composite, beside, fields, documents, results) in RESULTS {
         let alloc = rt.alloc();
         let lines = format!(in alloc; "\nsnapshot 10\n{documents}")?;
-        let text = input(&rt, (composite, beside), fields, &lines)?;
+        let text = input(rt.alloc(), (composite, beside), fields, &lines)?;
         let expected = format!(in alloc;
             "{{\"page\":1,\"results\":{results}}}\n{{\"ended\":true}}\n"
         )?;
         let (status, written) = answer_to(alloc, &text)?;
-        assert_eq!(rt;
+        expect_equal(
             (status, written.as_slice()),
-            (Status::Ok, expected.as_bytes())
-        );
+            (Status::Ok, expected.as_bytes()),
+        )?;
     }
     Ok(())
 }

@@ -2,11 +2,11 @@ ghost use Rattle.std.specs.Prelude.{Some};
 
 use crate::drip::Drip;
 use crate::given::{answer_to, run_words, steady};
+use agg_expect::{expect_equal, expect_equal_for};
 use agg_pages::sink::{MemorySink, Sink, write_all};
 use agg_pages::source::{MAX_INPUT_BYTES, MemorySource, Source, SteadySource};
 use agg_pages::{Failed, Status};
 use std::alloc::Global;
-use std::process::Abort;
 use std::test::Fail;
 
 // A header up to the size of its composite.
@@ -204,26 +204,20 @@ fn input_with(
 }
 
 /// A run over a text has this status, and writes this.
-pub fn expect_answer(
-    rt: &(impl Abort + AllocGlobal),
-    text: &str,
-    status: Status,
-    output: &str,
-) -> Result<(), Fail> {
-    let (answer, written) = answer_to(rt.alloc(), text)?;
-    assert_eq!(rt;
+pub fn expect_answer(alloc: Global, text: &str, status: Status, output: &str) -> Result<(), Fail> {
+    let (answer, written) = answer_to(alloc, text)?;
+    expect_equal_for(
+        text,
         (answer, written.as_slice()),
         (status, output.as_bytes()),
-        "at {text}"
-    );
-    Ok(())
+    )
 }
 
 #[test]
 fn answers_each_input(rt: HostRuntime) -> Result<(), Fail> {
     for &(name, size, lines, status, output) in ANSWERS {
         let text = input(rt.alloc(), name, size, lines)?;
-        expect_answer(&rt, &text, status, output)?;
+        expect_answer(rt.alloc(), &text, status, output)?;
     }
     Ok(())
 }
@@ -232,7 +226,7 @@ fn answers_each_input(rt: HostRuntime) -> Result<(), Fail> {
 fn heeds_each_member_of_a_header(rt: HostRuntime) -> Result<(), Fail> {
     for &(members, lines, status, output) in MEMBERS {
         let text = input_with(rt.alloc(), "g", 2, members, lines)?;
-        expect_answer(&rt, &text, status, output)?;
+        expect_answer(rt.alloc(), &text, status, output)?;
     }
     Ok(())
 }
@@ -244,16 +238,10 @@ pub fn breaking(alloc: Global, text: &str, failing: u64) -> Result<MemorySource,
 }
 
 // A run over a source has this status and writes nothing.
-fn expect_nothing<R: Source>(
-    rt: &(impl Abort + AllocGlobal),
-    source: &mut R,
-    status: Status,
-) -> Result<(), Fail> {
-    let alloc = rt.alloc();
+fn expect_nothing<R: Source>(alloc: Global, source: &mut R, status: Status) -> Result<(), Fail> {
     let mut sink = MemorySink::new(alloc, Vec::new(alloc))?;
     let answer = run_words(alloc, &["walk"], source, &mut sink)?;
-    assert_eq!(rt; (answer, sink.bytes().len()), (status, 0));
-    Ok(())
+    expect_equal((answer, sink.bytes().len()), (status, 0))
 }
 
 #[test]
@@ -265,7 +253,7 @@ fn writes_nothing_where_no_input_was_read(rt: HostRuntime) -> Result<(), Fail> {
         (whole.as_str(), 2, Status::ReadFault),
         ("{\"request\":{\"g\"", 3, Status::Input),
     ] {
-        expect_nothing(&rt, &mut breaking(alloc, text, failing)?, status)?;
+        expect_nothing(rt.alloc(), &mut breaking(alloc, text, failing)?, status)?;
     }
     Ok(())
 }
@@ -273,7 +261,7 @@ fn writes_nothing_where_no_input_was_read(rt: HostRuntime) -> Result<(), Fail> {
 #[test]
 fn refuses_one_byte_past_the_limit(rt: HostRuntime) -> Result<(), Fail> {
     let blanks = vec![in rt.alloc(); b' '; MAX_INPUT_BYTES + 1]?;
-    expect_nothing(&rt, &mut SteadySource::new(blanks), Status::Input)
+    expect_nothing(rt.alloc(), &mut SteadySource::new(blanks), Status::Input)
 }
 
 // A call of a sink that takes a few bytes at a time, the status of a run where it fails, and what
@@ -290,79 +278,63 @@ const TAKEN: &[(u64, Status, &str)] = &[
 
 // A run over a text holds what was taken before one write failed.
 fn expect_taken(
-    rt: &(impl Abort + AllocGlobal),
+    alloc: Global,
     text: &str,
     call: u64,
     status: Status,
     taken: &str,
 ) -> Result<(), Fail> {
-    let alloc = rt.alloc();
     let mut source = Drip(steady(alloc, text)?);
     let mut sink = Sip(MemorySink::new(alloc, vec![in alloc; call]?)?);
     let answer = run_words(alloc, &["walk"], &mut source, &mut sink)?;
-    assert_eq!(rt;
-        (answer, sink.0.bytes()),
-        (status, taken.as_bytes()),
-        "at write {call}"
-    );
-    Ok(())
+    expect_equal_for(call, (answer, sink.0.bytes()), (status, taken.as_bytes()))
 }
 
 #[test]
 fn holds_what_was_taken_before_a_write_failed(rt: HostRuntime) -> Result<(), Fail> {
     let text = input(rt.alloc(), "g", 10, TWICE)?;
     for &(call, status, taken) in TAKEN {
-        expect_taken(&rt, &text, call, status, taken)?;
+        expect_taken(rt.alloc(), &text, call, status, taken)?;
     }
     Ok(())
 }
 
 /// A sink that has room for so many bytes.
-pub fn nearly_full(rt: &(impl Abort + AllocGlobal), room: usize) -> Result<MemorySink, Fail> {
-    let alloc = rt.alloc();
+pub fn nearly_full(alloc: Global, room: usize) -> Result<MemorySink, Fail> {
     let mut sink = MemorySink::new(alloc, Vec::new(alloc))?;
     let filler = vec![in alloc; b'.'; MemorySink::ROOM.saturating_sub(room)]?;
-    assert_eq!(rt; write_all(&mut sink, &filler), Ok(()));
+    expect_equal(write_all(&mut sink, &filler), Ok(()))?;
     Ok(sink)
 }
 
 // A run over a text fills a sink, whose last bytes are these.
-fn expect_full(
-    rt: &(impl Abort + AllocGlobal),
-    text: &str,
-    sink: &mut MemorySink,
-    last: &str,
-) -> Result<(), Fail> {
-    let alloc = rt.alloc();
+fn expect_full(alloc: Global, text: &str, sink: &mut MemorySink, last: &str) -> Result<(), Fail> {
     let answer = run_words(alloc, &["walk"], &mut steady(alloc, text)?, sink)?;
     let found = (sink.bytes().len(), sink.bytes().ends_with(last.as_bytes()));
-    assert_eq!(rt;
+    expect_equal(
         (answer, found),
-        (Status::WriteFault, (MemorySink::ROOM, true))
-    );
-    Ok(())
+        (Status::WriteFault, (MemorySink::ROOM, true)),
+    )
 }
 
 #[test]
 fn fills_a_sink_to_its_last_byte(rt: HostRuntime) -> Result<(), Fail> {
     let text = input(rt.alloc(), "g", 10, TWICE)?;
     for (room, last) in [(0, ""), (5, "{\"pag")] {
-        expect_full(&rt, &text, &mut nearly_full(&rt, room)?, last)?;
+        expect_full(rt.alloc(), &text, &mut nearly_full(rt.alloc(), room)?, last)?;
     }
     Ok(())
 }
 
 // Runs arguments that are no command, where the first read and the first write would fail.
-fn expect_usage(rt: &(impl Abort + AllocGlobal), words: &[&str]) -> Result<(), Fail> {
-    let alloc = rt.alloc();
+fn expect_usage(alloc: Global, words: &[&str]) -> Result<(), Fail> {
     let mut source = breaking(alloc, &input(alloc, "g", 10, TWICE)?, 1)?;
     let mut sink = MemorySink::new(alloc, vec![in alloc; 1]?)?;
     let status = run_words(alloc, words, &mut source, &mut sink)?;
 
     // Those calls are still to come.
     let left = (source.read(&mut [0]), sink.write(b"."));
-    assert_eq!(rt; (status, left), (Status::Usage, (Err(Failed), Err(Failed))));
-    Ok(())
+    expect_equal((status, left), (Status::Usage, (Err(Failed), Err(Failed))))
 }
 
 // Arguments that are no command.
@@ -385,7 +357,7 @@ const NO_COMMANDS: &[&[&str]] = &[
 #[test]
 fn touches_nothing_where_the_arguments_are_no_command(rt: HostRuntime) -> Result<(), Fail> {
     for words in NO_COMMANDS {
-        expect_usage(&rt, words)?;
+        expect_usage(rt.alloc(), words)?;
     }
     Ok(())
 }

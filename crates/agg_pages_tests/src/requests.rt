@@ -51,7 +51,7 @@ fn answers_each_request(rt: HostRuntime) -> Result<(), Fail> {
         let text = format!(in rt.alloc();
             "{{\"request\":{request},\"name\":\"{name}\",\"schema\":[]}}{SNAPSHOTS}"
         )?;
-        expect_answer(&rt, &text, expected, output)?;
+        expect_answer(rt.alloc(), &text, expected, output)?;
     }
     Ok(())
 }

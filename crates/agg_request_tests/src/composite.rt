@@ -1,8 +1,8 @@
+use agg_expect::expect_equal_for;
 use agg_request::{CompositeAggregation, CompositeAggregationSource, ReadError, read_composite};
 use agg_values::AfterKey;
 use serde_json::Value;
 use std::alloc::Global;
-use std::process::Abort;
 use std::test::Fail;
 
 // Bodies with what is read: the size, each source and each after value, or the refusal.
@@ -332,16 +332,15 @@ fn read(alloc: Global, body: &str) -> Result<String, Fail> {
 }
 
 // This is read of a body.
-fn expect(rt: &(impl Abort + AllocGlobal), body: &str, expected: &str) -> Result<(), Fail> {
-    let found = read(rt.alloc(), body)?;
-    assert_eq!(rt; found.as_str(), expected, "{body}");
-    Ok(())
+fn expect(alloc: Global, body: &str, expected: &str) -> Result<(), Fail> {
+    let found = read(alloc, body)?;
+    expect_equal_for(body, found.as_str(), expected)
 }
 
 #[test]
 fn reads_composites(rt: HostRuntime) -> Result<(), Fail> {
     for &(body, expected) in BODIES {
-        expect(&rt, body, expected)?;
+        expect(rt.alloc(), body, expected)?;
     }
     Ok(())
 }
@@ -353,7 +352,7 @@ fn reads_sources_with_intervals(rt: HostRuntime) -> Result<(), Fail> {
             let body = format!(in rt.alloc();
                 r#"{{"sources":[{{"a":{{"{kind}":{source}}}}}],"size":1}}"#
             )?;
-            expect(&rt, &body, expected)?;
+            expect(rt.alloc(), &body, expected)?;
         }
     }
     Ok(())

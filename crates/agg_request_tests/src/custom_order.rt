@@ -1,3 +1,4 @@
+use agg_expect::{expect_equal, expect_equal_for};
 use agg_request::{CustomOrder, ReadError};
 use serde_json::Value;
 use std::alloc::Global;
@@ -45,9 +46,8 @@ fn written(alloc: Global, text: &str) -> Result<String, Fail> {
 fn writes_what_was_read(rt: HostRuntime) -> Result<(), Fail> {
     let alloc = rt.alloc();
     for &(text, expected) in ORDERS {
-        assert_eq!(rt; written(alloc, text)?.as_str(), expected, "{text}");
+        expect_equal_for(text, written(alloc, text)?.as_str(), expected)?;
     }
     let usual = shown(alloc, &CustomOrder::default())?;
-    assert_eq!(rt; usual.as_str(), r#"{"_count":"desc"}"#);
-    Ok(())
+    expect_equal(usual.as_str(), r#"{"_count":"desc"}"#)
 }

@@ -1,3 +1,4 @@
+use agg_expect::expect_equal_for;
 use agg_request::{Aggregation, Aggregations, get_fast_field_names, read_aggregations};
 use agg_values::{NameMap, OutOfMemory, Text};
 use serde_json::Value;
@@ -91,7 +92,7 @@ fn found(alloc: Global, text: &str) -> Result<(String, String), Fail> {
 fn finds_the_fields_of_sources_and_metrics(rt: HostRuntime) -> Result<(), Fail> {
     for &(text, all, each) in REQUESTS {
         let found = found(rt.alloc(), text)?;
-        assert_eq!(rt; (found.0.as_str(), found.1.as_str()), (all, each), "{text}");
+        expect_equal_for(text, (found.0.as_str(), found.1.as_str()), (all, each))?;
     }
     Ok(())
 }

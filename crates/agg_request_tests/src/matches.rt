@@ -1,11 +1,11 @@
 //! Which documents small queries match.
+use agg_expect::expect_equal_for;
 use agg_request::read_query;
 use agg_segment::{Matches, QueryTree, SegmentReader};
 use agg_segment_tests::given::{Given, segment_of};
 use agg_values::DocId;
 use serde_json::Value;
 use std::alloc::Global;
-use std::process::Abort;
 use std::test::Fail;
 
 // The documents.
@@ -105,37 +105,27 @@ fn matches_of(alloc: Global, segment: &SegmentReader, query: &str) -> Result<Mat
 
 // These documents are found for a query.
 fn expect_found(
-    rt: &(impl Abort + AllocGlobal),
+    alloc: Global,
     found: &Matches,
     query: &str,
     documents: &[DocId],
 ) -> Result<(), Fail> {
     for doc in 0..6 {
-        assert_eq!(rt;
-            found.contains(doc),
-            documents.contains(&doc),
-            "{query}, {doc}"
-        );
+        expect_equal_for((query, doc), found.contains(doc), documents.contains(&doc))?;
     }
-    let listed = found.docs(rt.alloc())?;
-    assert_eq!(rt; listed.as_slice(), documents, "{query}");
-    Ok(())
+    let listed = found.docs(alloc)?;
+    expect_equal_for(query, listed.as_slice(), documents)
 }
 
 // Each query matches its documents.
-fn expect_matches(rt: &(impl Abort + AllocGlobal), segment: &SegmentReader) -> Result<(), Fail> {
+fn expect_matches(alloc: Global, segment: &SegmentReader) -> Result<(), Fail> {
     for &(query, documents) in QUERIES {
-        expect_found(
-            rt,
-            &matches_of(rt.alloc(), segment, query)?,
-            query,
-            documents,
-        )?;
+        expect_found(alloc, &matches_of(alloc, segment, query)?, query, documents)?;
     }
     Ok(())
 }
 
 #[test]
 fn queries_match_these_documents(rt: HostRuntime) -> Result<(), Fail> {
-    expect_matches(&rt, &segment_of(rt.alloc(), DOCUMENTS)?)
+    expect_matches(rt.alloc(), &segment_of(rt.alloc(), DOCUMENTS)?)
 }

@@ -1,3 +1,4 @@
+use agg_expect::expect_equal_for;
 use agg_request::{ReadError, read_query};
 use agg_segment::QueryTree;
 use serde_json::Value;
@@ -168,7 +169,7 @@ fn read(alloc: Global, text: &str) -> Result<String, Fail> {
 #[test]
 fn reads_queries(rt: HostRuntime) -> Result<(), Fail> {
     for &(text, expected) in VALUES {
-        assert_eq!(rt; read(rt.alloc(), text)?.as_str(), expected, "{text}");
+        expect_equal_for(text, read(rt.alloc(), text)?.as_str(), expected)?;
     }
     Ok(())
 }

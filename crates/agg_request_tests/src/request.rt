@@ -1,3 +1,4 @@
+use agg_expect::expect_equal_for;
 use agg_request::{
     Aggregation, AggregationVariants, Aggregations, FilterAggregation, FilterQuery, NamedBuilder,
     QueryBuildError, QueryBuilder, ReadError, read_aggregations,
@@ -6,7 +7,6 @@ use agg_segment::{QueryTree, Schema};
 use agg_values::Text;
 use serde_json::Value;
 use std::alloc::Global;
-use std::process::Abort;
 use std::test::Fail;
 
 // The unused builders, in order: their names, and whether a query of theirs matches everything.
@@ -320,16 +320,15 @@ fn read(alloc: Global, text: &str) -> Result<String, Fail> {
 }
 
 // This is read of a text.
-fn expect(rt: &(impl Abort + AllocGlobal), text: &str, expected: &str) -> Result<(), Fail> {
-    let found = read(rt.alloc(), text)?;
-    assert_eq!(rt; found.as_str(), expected, "{text}");
-    Ok(())
+fn expect(alloc: Global, text: &str, expected: &str) -> Result<(), Fail> {
+    let found = read(alloc, text)?;
+    expect_equal_for(text, found.as_str(), expected)
 }
 
 #[test]
 fn reads_requests(rt: HostRuntime) -> Result<(), Fail> {
     for &(text, expected) in REQUESTS {
-        expect(&rt, text, expected)?;
+        expect(rt.alloc(), text, expected)?;
     }
     Ok(())
 }
@@ -338,7 +337,7 @@ fn reads_requests(rt: HostRuntime) -> Result<(), Fail> {
 fn refuses_kinds_that_are_left_out(rt: HostRuntime) -> Result<(), Fail> {
     for &kind in UNSUPPORTED_KINDS {
         let text = format!(in rt.alloc(); r#"{{"a":{{"{kind}":{{"field":"f"}}}}}}"#)?;
-        expect(&rt, &text, "Unsupported")?;
+        expect(rt.alloc(), &text, "Unsupported")?;
     }
     Ok(())
 }
@@ -348,7 +347,7 @@ fn refuses_what_metrics_may_not_hold(rt: HostRuntime) -> Result<(), Fail> {
     for &kind in METRICS {
         for &member in NO_MEMBERS {
             let text = format!(in rt.alloc(); r#"{{"a":{{"{kind}":{{{member}}}}}"#)?;
-            expect(&rt, &text, "Unsupported")?;
+            expect(rt.alloc(), &text, "Unsupported")?;
         }
     }
     Ok(())
@@ -360,7 +359,7 @@ fn refuses_names_that_buckets_may_not_hold(rt: HostRuntime) -> Result<(), Fail> 
     for &name in RESERVED_NAMES {
         let below = format!(in alloc; r#"{{"{name}":{{"max":{{"field":"f"}}}}}}"#)?;
         let text = format!(in alloc; r#"{{"a":{{"filter":{{"all":{{}}}},"aggs":{below}}}}}"#)?;
-        expect(&rt, &text, "Unsupported")?;
+        expect(rt.alloc(), &text, "Unsupported")?;
     }
     Ok(())
 }

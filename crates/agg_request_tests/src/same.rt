@@ -1,8 +1,8 @@
+use agg_expect::{expect_equal, expect_equal_for};
 use agg_request::{Aggregation, Aggregations, read_aggregations};
 use agg_values::Text;
 use serde_json::Value;
 use std::alloc::Global;
-use std::process::Abort;
 use std::test::Fail;
 
 // Aggregations, no two of which are the same.
@@ -68,24 +68,26 @@ fn all_of_them(alloc: Global) -> Result<Aggregations, Fail> {
 }
 
 // An aggregation is the same as that of its own name alone.
-fn expect_alone(rt: &impl Abort, name: &Text, aggregation: &Aggregation, others: &Aggregations) {
+fn expect_alone(name: &Text, aggregation: &Aggregation, others: &Aggregations) -> Result<(), Fail> {
     for (other_name, other) in others.iter() {
         let is_same = aggregation.same_as(other);
-        assert_eq!(rt; is_same, name == other_name, "{name:?} {other_name:?}");
+        expect_equal_for((name, other_name), is_same, name == other_name)?;
     }
+    Ok(())
 }
 
-fn expect_each_alone(rt: &impl Abort, request: &Aggregations, others: &Aggregations) {
-    assert_eq!(rt; request.len(), AGGREGATIONS.len());
+fn expect_each_alone(request: &Aggregations, others: &Aggregations) -> Result<(), Fail> {
+    expect_equal(request.len(), AGGREGATIONS.len())?;
     for (name, aggregation) in request.iter() {
-        expect_alone(rt, name, aggregation, others);
+        expect_alone(name, aggregation, others)?;
     }
+    Ok(())
 }
 
 #[test]
 fn an_aggregation_is_the_same_as_itself_alone(rt: HostRuntime) -> Result<(), Fail> {
     let alloc = rt.alloc();
     let request = all_of_them(alloc)?;
-    expect_each_alone(&rt, &request, &all_of_them(alloc)?);
+    expect_each_alone(&request, &all_of_them(alloc)?)?;
     Ok(())
 }

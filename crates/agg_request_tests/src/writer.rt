@@ -1,3 +1,4 @@
+use agg_expect::expect_equal_for;
 use agg_request::{
     Aggregation, AggregationVariants, Aggregations, FilterAggregation, MaxAggregation,
     NamedBuilder, QueryBuildError, QueryBuilder, may_be_written, read_aggregations,
@@ -253,8 +254,8 @@ fn writes_what_was_read_and_reads_it_back(rt: HostRuntime) -> Result<(), Fail> {
     let alloc = rt.alloc();
     for &(text, expected) in REQUESTS {
         let shown = Some(compact(alloc, expected)?);
-        assert_eq!(rt; written(alloc, text)?, shown, "{text}");
-        assert_eq!(rt; written(alloc, expected)?, shown, "{text}, read back");
+        expect_equal_for(text, &written(alloc, text)?, &shown)?;
+        expect_equal_for(text, &written(alloc, expected)?, &shown)?;
     }
     Ok(())
 }
@@ -268,7 +269,7 @@ fn writes_no_request_that_could_not_be_read(rt: HostRuntime) -> Result<(), Fail>
             Some(text) => Some(compact(alloc, text)?),
             None => None,
         };
-        assert_eq!(rt; found, expected, "{below}");
+        expect_equal_for(below, found, expected)?;
     }
     Ok(())
 }

@@ -1,3 +1,4 @@
+use agg_expect::expect_equal;
 use agg_request_tree::{QueryBuildError, QueryBuilder};
 use agg_segment::{QueryTree, Schema};
 use agg_values::Text;
@@ -28,7 +29,7 @@ fn a_builder_gives_a_query_or_none(rt: HostRuntime) -> Result<(), Fail> {
     let alloc = rt.alloc();
     let mut schema = Schema::new(alloc);
     let refused = AllOfSome {}.build_query(alloc, &schema);
-    assert_eq!(rt; refused.err(), Some(QueryBuildError::NoTree));
+    expect_equal(refused.err(), Some(QueryBuildError::NoTree))?;
     schema.add_field(Text::copy_of(alloc, "a")?)?;
     let query = AllOfSome {}.build_query(alloc, &schema)?;
     assert!(rt; matches!(query, QueryTree::All));

@@ -1,6 +1,7 @@
 //! Which requests may be asked, and the fault of each of the others.
 use crate::given::{GivenSource, Kind, composite_of, key_of, lone, request_of};
 use agg_calendar::CalendarInterval;
+use agg_expect::expect_equal_for;
 use agg_request_tree::{
     Aggregation, AggregationVariants, Aggregations, CompositeAggregation, FilterAggregation,
     check_composite, check_request,
@@ -13,7 +14,6 @@ use agg_values::{
 };
 use std::alloc::Global;
 use std::fmt::Debug;
-use std::process::Abort;
 use std::test::Fail;
 
 // A source of terms: its name, and whether it has a bucket for a missing value.
@@ -345,19 +345,23 @@ fn answer(
 }
 
 // What is found in a case is what is expected.
-fn expect<T: PartialEq + Debug + Drop>(rt: &impl Abort, case: &impl Debug, found: T, expected: T) {
-    assert_eq!(rt; found, expected, "{case:?}");
+fn expect<T: PartialEq + Debug + Drop>(
+    case: &impl Debug,
+    found: T,
+    expected: T,
+) -> Result<(), Fail> {
+    expect_equal_for(case, found, expected)
 }
 
 // A composite at a place is answered with its fault.
 fn expect_fault(
-    rt: &(impl Abort + AllocGlobal),
+    alloc: Global,
     place: Place,
     composite: CompositeAggregation,
     fault: Option<InvalidArgument>,
 ) -> Result<(), Fail> {
-    let found = answer(rt.alloc(), place, composite)?;
-    expect(rt, &place, found, fault.map(RequestError::Invalid));
+    let found = answer(alloc, place, composite)?;
+    expect(&place, found, fault.map(RequestError::Invalid))?;
     Ok(())
 }
 
@@ -370,15 +374,15 @@ fn finds_no_fault_in_no_aggregation(rt: HostRuntime) -> Result<(), Fail> {
 
 // A composite is answered with its fault at each place.
 fn expect_faults(
-    rt: &(impl Abort + AllocGlobal),
+    alloc: Global,
     sources: &[Source],
     size: u32,
     after: &[After],
     fault: Option<InvalidArgument>,
 ) -> Result<(), Fail> {
     for place in PLACES {
-        let composite = terms_of(rt.alloc(), sources, size, after)?;
-        expect_fault(rt, place, composite, fault)?;
+        let composite = terms_of(alloc, sources, size, after)?;
+        expect_fault(alloc, place, composite, fault)?;
     }
     Ok(())
 }
@@ -386,7 +390,7 @@ fn expect_faults(
 #[test]
 fn finds_faults(rt: HostRuntime) -> Result<(), Fail> {
     for &(sources, size, after, fault) in COMPOSITES {
-        expect_faults(&rt, sources, size, after, fault)?;
+        expect_faults(rt.alloc(), sources, size, after, fault)?;
     }
     Ok(())
 }
@@ -407,7 +411,7 @@ fn answer_with(
 fn finds_faults_of_other_sizes_and_after_keys(rt: HostRuntime) -> Result<(), Fail> {
     for &(sources, size, after, fault) in COMPOSITES {
         let found = answer_with(rt.alloc(), sources, size, after)?;
-        expect(&rt, &size, found, fault.map(RequestError::Invalid));
+        expect(&size, found, fault.map(RequestError::Invalid))?;
     }
     Ok(())
 }
@@ -443,7 +447,7 @@ fn finds_faults_of_intervals(rt: HostRuntime) -> Result<(), Fail> {
         ];
         let expected = error_for(alloc, fault)?;
         let found = answer(alloc, Place::Last, composite_of(alloc, &sources, 1)?)?;
-        expect(&rt, &Place::Last, found, expected);
+        expect(&Place::Last, found, expected)?;
     }
     Ok(())
 }
@@ -464,7 +468,7 @@ fn finds_after_values_of_other_types(rt: HostRuntime) -> Result<(), Fail> {
     for &(value, faults) in AFTER_VALUES {
         for (index, kind) in KINDS.into_iter().enumerate() {
             let composite = with_after(rt.alloc(), kind, ("a", value))?;
-            expect_fault(&rt, Place::Last, composite, faults[index])?;
+            expect_fault(rt.alloc(), Place::Last, composite, faults[index])?;
         }
     }
     Ok(())
@@ -475,7 +479,7 @@ fn passes_after_values_of_other_names(rt: HostRuntime) -> Result<(), Fail> {
     for &(value, _) in AFTER_VALUES {
         for kind in KINDS {
             let composite = with_after(rt.alloc(), kind, ("b", value))?;
-            expect_fault(&rt, Place::Last, composite, None)?;
+            expect_fault(rt.alloc(), Place::Last, composite, None)?;
         }
     }
     Ok(())

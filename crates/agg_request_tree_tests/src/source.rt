@@ -1,6 +1,7 @@
 //! What one source says of itself, of columns and of after values.
 use crate::given::{GivenSource, Kind, key_of};
 use agg_calendar::CalendarInterval;
+use agg_expect::{expect_equal, expect_equal_for};
 use agg_request_tree::CompositeAggregationSource;
 use agg_segment_tests::given::Given;
 use agg_values::{
@@ -8,7 +9,6 @@ use agg_values::{
     OutOfMemory, Text,
 };
 use std::alloc::Global;
-use std::process::Abort;
 use std::test::Fail;
 
 const NUMBERS: Kind = Kind::Histogram(-5);
@@ -31,7 +31,7 @@ fn source_of(alloc: Global, kind: Kind) -> Result<CompositeAggregationSource, Ou
 }
 
 // The parts of a source are those that it was made of.
-fn expect_parts(rt: &impl Abort, source: &CompositeAggregationSource) {
+fn expect_parts(source: &CompositeAggregationSource) -> Result<(), Fail> {
     let names = (source.name().as_str(), source.field().as_str());
     let orders = (
         source.order(),
@@ -39,30 +39,25 @@ fn expect_parts(rt: &impl Abort, source: &CompositeAggregationSource) {
         source.missing_order(),
     );
     let expected = (Order::Desc, true, MissingOrder::Last);
-    assert_eq!(rt; (names, orders), (("by_a", "a"), expected));
+    expect_equal((names, orders), (("by_a", "a"), expected))
 }
 
 // The same of a source and its copy, which are shown alike.
-fn expect_copy(
-    rt: &(impl Abort + AllocGlobal),
-    source: &CompositeAggregationSource,
-) -> Result<(), Fail> {
-    let alloc = rt.alloc();
+fn expect_copy(alloc: Global, source: &CompositeAggregationSource) -> Result<(), Fail> {
     let copy = source.try_clone(alloc)?;
-    expect_parts(rt, source);
-    expect_parts(rt, &copy);
+    expect_parts(source)?;
+    expect_parts(&copy)?;
     let shown = (
         format!(in alloc; "{copy:?}")?,
         format!(in alloc; "{source:?}")?,
     );
-    assert_eq!(rt; shown.0, shown.1);
-    Ok(())
+    expect_equal(shown.0, shown.1)
 }
 
 #[test]
 fn a_source_gives_its_parts(rt: HostRuntime) -> Result<(), Fail> {
     for kind in [Kind::Terms, NUMBERS, DATES, MONTHS] {
-        expect_copy(&rt, &source_of(rt.alloc(), kind)?)?;
+        expect_copy(rt.alloc(), &source_of(rt.alloc(), kind)?)?;
     }
     Ok(())
 }
@@ -87,7 +82,7 @@ fn a_source_reads_values_by_class(rt: HostRuntime) -> Result<(), Fail> {
             reads(alloc, NUMBERS, class)?,
             reads(alloc, DATES, class)?,
         );
-        assert_eq!(rt; found, (true, numbers, dates), "{class:?}");
+        expect_equal_for(class, found, (true, numbers, dates))?;
     }
     Ok(())
 }
@@ -127,7 +122,7 @@ fn a_source_goes_on_from_keys_of_its_type(rt: HostRuntime) -> Result<(), Fail> {
             is_other(alloc, NUMBERS, &after)?,
             is_other(alloc, DATES, &after)?,
         );
-        assert_eq!(rt; found, (numbers, dates));
+        expect_equal(found, (numbers, dates))?;
     }
     Ok(())
 }
@@ -152,7 +147,7 @@ fn null_is_gone_on_from_where_it_has_a_bucket(rt: HostRuntime) -> Result<(), Fai
         (false, None, false),
     ] {
         let refuses = refuses_null(alloc, missing_bucket, after)?;
-        assert_eq!(rt; refuses, expected);
+        expect_equal(refuses, expected)?;
     }
     Ok(())
 }

@@ -6,6 +6,7 @@ use crate::held::{
     tuple_of,
 };
 use crate::shown::{PAGE, shown};
+use agg_expect::expect_equal;
 use agg_results::{IntermediateTermBucketEntry, MergeError};
 use agg_values::{Order, Text};
 use std::alloc::Global;
@@ -85,7 +86,7 @@ fn shown_with_entry(
 fn an_entry_is_merged_and_after_an_error_it_is_gone(rt: HostRuntime) -> Result<(), Fail> {
     for &(request, entries, entry, answer, text) in ADDED {
         let found = shown_with_entry(rt.alloc(), request, entries, entry)?;
-        assert_eq!(rt; (found.0, found.1.as_str()), (answer, text));
+        expect_equal((found.0, found.1.as_str()), (answer, text))?;
     }
     Ok(())
 }
@@ -96,11 +97,10 @@ fn a_last_entry_is_put_at_the_end(rt: HostRuntime) -> Result<(), Fail> {
     let mut page = empty_page(alloc, 3, Order::Asc)?;
     page.push_last(tuple_of(alloc, 4)?, entry_of::<Nested>(alloc, 5, &[])?)?;
     let text = shown(alloc, PAGE, held_page(alloc, page)?)?;
-    assert_eq!(rt;
+    expect_equal(
         text.as_str(),
-        r#"{"g":{"buckets":[{"doc_count":5,"key":{"a":4}}]}}"#
-    );
-    Ok(())
+        r#"{"g":{"buckets":[{"doc_count":5,"key":{"a":4}}]}}"#,
+    )
 }
 
 // Two sums and a filter.
@@ -157,7 +157,7 @@ fn a_pushed_name_is_merged_and_after_an_error_it_is_gone(rt: HostRuntime) -> Res
     for (named, pushed, answer, text) in PUSHED {
         let found = shown_with_name(rt.alloc(), named, pushed)?;
         let expected = (*answer, answer.is_ok(), *text);
-        assert_eq!(rt; (found.0, found.1, found.2.as_str()), expected);
+        expect_equal((found.0, found.1, found.2.as_str()), expected)?;
     }
     Ok(())
 }
@@ -168,8 +168,7 @@ fn a_name_that_is_taken_out_is_not_held(rt: HostRuntime) -> Result<(), Fail> {
     let mut held = held_of(alloc, NAMED)?;
     let name = Text::copy_of(alloc, "x")?;
     let taken = [held.remove(&name).is_some(), held.remove(&name).is_some()];
-    assert_eq!(rt; (taken, held.get(&name).is_some()), ([true, false], false));
-    Ok(())
+    expect_equal((taken, held.get(&name).is_some()), ([true, false], false))
 }
 
 const MANY: u64 = 4_294_967_195;
@@ -219,7 +218,7 @@ fn entries_add_their_counts_and_after_an_error_hold_nothing(rt: HostRuntime) -> 
     for &(first, second, answer, doc_count, names) in ENTRIES {
         let mut entry = entry_of(alloc, first.0, first.1)?;
         let found = entry.merge_fruits(entry_of(alloc, second.0, second.1)?);
-        assert_eq!(rt; (found, counts_of(&entry)), (answer, (doc_count, names)));
+        expect_equal((found, counts_of(&entry)), (answer, (doc_count, names)))?;
     }
     Ok(())
 }

@@ -4,6 +4,7 @@ use crate::held::Given::{Filter, Metric, Page};
 use crate::held::Metric::{Count, Max, Min, Sum};
 use crate::held::{Named, Nested, held_of};
 use crate::shown::{PAGE, final_of};
+use agg_expect::expect_equal;
 use agg_results::FinalError;
 use agg_values::AggregationError;
 use std::alloc::Global;
@@ -199,7 +200,7 @@ fn refused(
 #[test]
 fn what_a_request_does_not_ask_for_is_not_final(rt: HostRuntime) -> Result<(), Fail> {
     for &(request, given, bucket_limit, refusal) in FINAL {
-        assert_eq!(rt; refused(rt.alloc(), request, given, bucket_limit)?, refusal);
+        expect_equal(refused(rt.alloc(), request, given, bucket_limit)?, refusal)?;
     }
     Ok(())
 }

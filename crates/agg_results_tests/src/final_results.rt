@@ -1,5 +1,6 @@
 //! Final results of names that aren't held.
 use crate::shown::{PAGE, empty_of, shown};
+use agg_expect::expect_equal;
 use agg_results::IntermediateAggregationResults;
 use std::test::Fail;
 
@@ -32,7 +33,7 @@ fn names_that_are_not_held_have_empty_results(rt: HostRuntime) -> Result<(), Fai
     let alloc = rt.alloc();
     for &(request, text) in OF_NOTHING {
         let none = IntermediateAggregationResults::new(alloc);
-        assert_eq!(rt; shown(alloc, request, none)?.as_str(), text);
+        expect_equal(shown(alloc, request, none)?.as_str(), text)?;
     }
     Ok(())
 }
@@ -42,7 +43,7 @@ fn empty_results_of_a_request_are_shown_alike(rt: HostRuntime) -> Result<(), Fai
     let alloc = rt.alloc();
     for &(request, text) in OF_NOTHING {
         let empty = empty_of(alloc, request)?;
-        assert_eq!(rt; shown(alloc, request, empty)?.as_str(), text);
+        expect_equal(shown(alloc, request, empty)?.as_str(), text)?;
     }
     Ok(())
 }

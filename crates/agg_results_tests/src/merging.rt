@@ -1,6 +1,7 @@
 //! What two machines hold as one: pages with nothing below, and sides that lack something.
 use crate::held::Given::Page;
 use crate::shown::{MergedRow, PAGE, shown_as_one};
+use agg_expect::expect_equal;
 use std::test::Fail;
 
 const MANY: u64 = 4_294_967_195;
@@ -63,7 +64,7 @@ const PAGES: &[MergedRow] = &[
 #[test]
 fn pages_of_two_machines_are_one(rt: HostRuntime) -> Result<(), Fail> {
     for row in PAGES {
-        assert_eq!(rt; shown_as_one(rt.alloc(), row)?.as_str(), row.3);
+        expect_equal(shown_as_one(rt.alloc(), row)?.as_str(), row.3)?;
     }
     Ok(())
 }
@@ -108,7 +109,7 @@ const EMPTY_SIDES: &[MergedRow] = &[
 #[test]
 fn an_empty_side_adds_nothing(rt: HostRuntime) -> Result<(), Fail> {
     for row in EMPTY_SIDES {
-        assert_eq!(rt; shown_as_one(rt.alloc(), row)?.as_str(), row.3);
+        expect_equal(shown_as_one(rt.alloc(), row)?.as_str(), row.3)?;
     }
     Ok(())
 }

@@ -2,6 +2,7 @@
 use crate::held::Metric::{Count, Max, Min, Sum};
 use crate::held::{Held, Metric, one_held};
 use crate::shown::shown;
+use agg_expect::expect_equal;
 use agg_values::Text;
 use std::alloc::Global;
 use std::test::Fail;
@@ -66,7 +67,7 @@ fn shown_of_both(
 fn metrics_of_two_machines_are_one(rt: HostRuntime) -> Result<(), Fail> {
     for &(request, first, second, text) in METRICS {
         let shown = shown_of_both(rt.alloc(), request, first, second)?;
-        assert_eq!(rt; shown.as_str(), text);
+        expect_equal(shown.as_str(), text)?;
     }
     Ok(())
 }

@@ -3,6 +3,7 @@ use crate::held::Given::{Filter, Metric, Page};
 use crate::held::Metric::{Max, Sum};
 use crate::held::{Named, Nested, held_of};
 use crate::shown::{MergedRow, shown_as_one};
+use agg_expect::expect_equal;
 use agg_results::MergeError;
 use std::alloc::Global;
 use std::test::Fail;
@@ -121,7 +122,7 @@ const NESTED: &[MergedRow] = &[
 #[test]
 fn what_stands_below_is_one_too(rt: HostRuntime) -> Result<(), Fail> {
     for row in NESTED {
-        assert_eq!(rt; shown_as_one(rt.alloc(), row)?.as_str(), row.3);
+        expect_equal(shown_as_one(rt.alloc(), row)?.as_str(), row.3)?;
     }
     Ok(())
 }
@@ -177,7 +178,7 @@ const ONE_SIDED: &[MergedRow] = &[
 #[test]
 fn what_one_machine_holds_alone_stays(rt: HostRuntime) -> Result<(), Fail> {
     for row in ONE_SIDED {
-        assert_eq!(rt; shown_as_one(rt.alloc(), row)?.as_str(), row.3);
+        expect_equal(shown_as_one(rt.alloc(), row)?.as_str(), row.3)?;
     }
     Ok(())
 }
@@ -246,7 +247,7 @@ fn third_answer(
 #[test]
 fn pages_of_more_than_twice_their_size_are_trimmed(rt: HostRuntime) -> Result<(), Fail> {
     for &(first, second, third, answer) in TRIMMED {
-        assert_eq!(rt; third_answer(rt.alloc(), first, second, third)?, answer);
+        expect_equal(third_answer(rt.alloc(), first, second, third)?, answer)?;
     }
     Ok(())
 }

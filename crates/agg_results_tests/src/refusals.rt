@@ -2,9 +2,10 @@
 use crate::held::Given::{Filter, Metric, Page};
 use crate::held::Metric::{Count, Max, Min, Sum};
 use crate::held::{Named, Nested, empty_page, held_of, held_page};
+use agg_expect::expect_equal;
 use agg_results::{IntermediateAggregationResults, MergeError};
 use agg_values::Order;
-use std::process::Abort;
+use std::alloc::Global;
 use std::test::Fail;
 
 type Pair = (Named<Nested>, Named<Nested>);
@@ -129,22 +130,17 @@ fn taken_in(
 }
 
 // The first of each pair refuses the second so, and then holds no name.
-fn expect_refused(
-    rt: &(impl Abort + AllocGlobal),
-    pairs: &[Pair],
-    error: MergeError,
-) -> Result<(), Fail> {
-    let alloc = rt.alloc();
+fn expect_refused(alloc: Global, pairs: &[Pair], error: MergeError) -> Result<(), Fail> {
     for &(first, second) in pairs {
         let found = taken_in(held_of(alloc, first)?, held_of(alloc, second)?);
-        assert_eq!(rt; found, (Err(error), true));
+        expect_equal(found, (Err(error), true))?;
     }
     Ok(())
 }
 
 #[test]
 fn results_of_other_shapes_are_not_one(rt: HostRuntime) -> Result<(), Fail> {
-    expect_refused(&rt, OTHERS, MergeError::Mismatch)
+    expect_refused(rt.alloc(), OTHERS, MergeError::Mismatch)
 }
 
 #[test]
@@ -157,17 +153,17 @@ fn pages_in_other_orders_are_not_one(rt: HostRuntime) -> Result<(), Fail> {
     ] {
         let first = held_page(alloc, empty_page(alloc, 2, order)?)?;
         let second = held_page(alloc, empty_page(alloc, 2, other)?)?;
-        assert_eq!(rt; taken_in(first, second), (answer, answer.is_err()));
+        expect_equal(taken_in(first, second), (answer, answer.is_err()))?;
     }
     Ok(())
 }
 
 #[test]
 fn other_shapes_are_told_before_sums_that_are_too_large(rt: HostRuntime) -> Result<(), Fail> {
-    expect_refused(&rt, OTHERS_AND_TOO_MANY, MergeError::Mismatch)
+    expect_refused(rt.alloc(), OTHERS_AND_TOO_MANY, MergeError::Mismatch)
 }
 
 #[test]
 fn sums_that_are_too_large_are_refused(rt: HostRuntime) -> Result<(), Fail> {
-    expect_refused(&rt, TOO_MANY, MergeError::TooMany)
+    expect_refused(rt.alloc(), TOO_MANY, MergeError::TooMany)
 }

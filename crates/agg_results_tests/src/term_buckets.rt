@@ -1,4 +1,5 @@
 use crate::held::{Metric, entry_of};
+use agg_expect::expect_equal;
 use agg_results::IntermediateTermBucketResult;
 use agg_values::IntermediateKey;
 use std::collections::HashMap;
@@ -11,11 +12,10 @@ fn a_container_holds_what_it_was_made_of(rt: HostRuntime) -> Result<(), Fail> {
     entries.insert(IntermediateKey::I64(7), entry_of::<Metric>(alloc, 3, &[])?)?;
     let terms = IntermediateTermBucketResult::from_parts(entries, 2, 1);
     let held = terms.entries().get(&IntermediateKey::I64(7));
-    assert_eq!(rt; held.map(|entry| entry.doc_count), Some(3));
+    expect_equal(held.map(|entry| entry.doc_count), Some(3))?;
     let others = (
         terms.sum_other_doc_count(),
         terms.doc_count_error_upper_bound(),
     );
-    assert_eq!(rt; others, (2, 1));
-    Ok(())
+    expect_equal(others, (2, 1))
 }

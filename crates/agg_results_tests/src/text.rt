@@ -3,6 +3,7 @@ use crate::held::Given::{Filter, Metric, Page};
 use crate::held::Metric::{Count, Max, Min, Sum};
 use crate::held::{Named, Nested, held_of};
 use crate::shown::shown_with_count;
+use agg_expect::expect_equal;
 use agg_results::{AggregationResult, AggregationResults, BucketResult, CompositeBucketEntry};
 use agg_values::{CompositeKey, ItemList, NameMap, OutOfMemory, Text};
 use std::alloc::Global;
@@ -115,7 +116,7 @@ fn results_have_a_text_and_a_count_of_buckets(rt: HostRuntime) -> Result<(), Fai
     let alloc = rt.alloc();
     for &(request, given, text, buckets) in SHOWN {
         let found = shown_with_count(alloc, request, held_of(alloc, given)?)?;
-        assert_eq!(rt; (found.0.as_str(), found.1), (text, buckets));
+        expect_equal((found.0.as_str(), found.1), (text, buckets))?;
     }
     Ok(())
 }
@@ -145,10 +146,9 @@ fn one_bucket(alloc: Global) -> Result<AggregationResults, OutOfMemory> {
 #[test]
 fn results_have_a_text_of_their_own(rt: HostRuntime) -> Result<(), Fail> {
     let results = one_bucket(rt.alloc())?;
-    assert_eq!(rt; results.get_bucket_count(), 1);
-    assert_eq!(rt;
+    expect_equal(results.get_bucket_count(), 1)?;
+    expect_equal(
         results.write_json()?.as_str(),
-        "{\"by_shop\":{\"buckets\":[{\"doc_count\":2,\"key\":{\"shop\":12}}]}}"
-    );
-    Ok(())
+        "{\"by_shop\":{\"buckets\":[{\"doc_count\":2,\"key\":{\"shop\":12}}]}}",
+    )
 }

@@ -1,7 +1,8 @@
 //! Runs of one composite.
+use agg_expect::expect_equal_for;
 use agg_pages::Status;
 use agg_pages_tests::given::answer_to;
-use std::process::Abort;
+use std::alloc::Global;
 use std::test::Fail;
 
 /// A source over values of every class, and its reverse.
@@ -11,13 +12,12 @@ pub const DESCENDING: &str = r#"{"a":{"terms":{"field":"a","order":"desc"}}}"#;
 
 /// Runs a composite, which has these sources and this after key, over what comes after its header.
 pub fn expect(
-    rt: &(impl Abort + AllocGlobal),
+    alloc: Global,
     (sources, after): (&str, &str),
     lines: &str,
     status: Status,
     output: &str,
 ) -> Result<(), Fail> {
-    let alloc = rt.alloc();
     let composite = format!(in alloc;
         "{{\"composite\":{{\"sources\":[{sources}],\"size\":10,\"after\":{after}}}}}"
     )?;
@@ -25,36 +25,34 @@ pub fn expect(
         "{{\"request\":{{\"g\":{composite}}},\"name\":\"g\",\"schema\":[]}}{lines}"
     )?;
     let (answer, written) = answer_to(alloc, &text)?;
-    assert_eq!(rt;
+    expect_equal_for(
+        text,
         (answer, written.as_slice()),
         (status, output.as_bytes()),
-        "at {text}"
-    );
-    Ok(())
+    )
 }
 
 /// The page of such a composite over these documents has room left, and these buckets.
 pub fn expect_buckets(
-    rt: &(impl Abort + AllocGlobal),
+    alloc: Global,
     composite: (&str, &str),
     documents: &str,
     buckets: &str,
 ) -> Result<(), Fail> {
-    let alloc = rt.alloc();
     let lines = format!(in alloc; "\nsnapshot 10\n{documents}")?;
     let page = format!(in alloc;
         "{{\"page\":1,\"results\":{{\"g\":{{\"buckets\":[{buckets}]}}}}}}\n{{\"ended\":true}}\n"
     )?;
-    expect(rt, composite, &lines, Status::Ok, &page)
+    expect(alloc, composite, &lines, Status::Ok, &page)
 }
 
 /// Such a composite is refused for this fault.
 pub fn expect_fault(
-    rt: &(impl Abort + AllocGlobal),
+    alloc: Global,
     composite: (&str, &str),
     lines: &str,
     fault: &str,
 ) -> Result<(), Fail> {
-    let output = format!(in rt.alloc(); "error: {fault}\n")?;
-    expect(rt, composite, lines, Status::Refused, &output)
+    let output = format!(in alloc; "error: {fault}\n")?;
+    expect(alloc, composite, lines, Status::Refused, &output)
 }

@@ -1,4 +1,5 @@
 //! A report: months and customers, and in each a filter with two metrics.
+use agg_expect::expect_equal;
 use agg_pages::Status;
 use agg_pages_tests::given::answer_to;
 use std::alloc::Global;
@@ -72,11 +73,10 @@ fn pages_over_a_report(rt: HostRuntime) -> Result<(), Fail> {
     let text = format!(in alloc; "{HEADER}\n{snapshots}")?;
     let (status, written) = answer_to(alloc, &text)?;
     let pages = String::from_utf8(written)?;
-    assert_eq!(rt; status, Status::Ok);
-    assert_eq!(rt;
+    expect_equal(status, Status::Ok)?;
+    expect_equal(
         (pages.starts_with(FIRST), pages.ends_with(LAST)),
-        (true, true)
-    );
-    assert_eq!(rt; pages.matches("\"key\"").count(), 120);
-    Ok(())
+        (true, true),
+    )?;
+    expect_equal(pages.matches("\"key\"").count(), 120)
 }

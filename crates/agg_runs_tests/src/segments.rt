@@ -69,7 +69,7 @@ fn snapshot_lines(alloc: Global, cut: &str) -> Result<String, Fail> {
 #[test]
 fn pages_over_segments(rt: HostRuntime) -> Result<(), Fail> {
     for &(sources, after, segments, bucket) in BUCKETS {
-        expect_buckets(&rt, (sources, after), segments, bucket)?;
+        expect_buckets(rt.alloc(), (sources, after), segments, bucket)?;
     }
     Ok(())
 }
@@ -78,7 +78,13 @@ fn pages_over_segments(rt: HostRuntime) -> Result<(), Fail> {
 fn pages_alike_over_each_cut(rt: HostRuntime) -> Result<(), Fail> {
     for &cut in CUTS {
         let snapshots = snapshot_lines(rt.alloc(), cut)?.repeat(rt.alloc(), 3)?;
-        expect(&rt, (ASCENDING, "{}"), &snapshots, Status::Ok, THREE_PAGES)?;
+        expect(
+            rt.alloc(),
+            (ASCENDING, "{}"),
+            &snapshots,
+            Status::Ok,
+            THREE_PAGES,
+        )?;
     }
     Ok(())
 }

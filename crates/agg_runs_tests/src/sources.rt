@@ -133,16 +133,22 @@ const FAULTS: &[(&str, &str, &str)] = &[
 #[test]
 fn answers_each_composite(rt: HostRuntime) -> Result<(), Fail> {
     for &(sources, after, documents, buckets) in PAGES {
-        expect_buckets(&rt, (sources, after), documents, buckets)?;
+        expect_buckets(rt.alloc(), (sources, after), documents, buckets)?;
     }
-    expect(&rt, (ASCENDING, "{}"), ALIKE, Status::Ok, ALIKE_PAGES)
+    expect(
+        rt.alloc(),
+        (ASCENDING, "{}"),
+        ALIKE,
+        Status::Ok,
+        ALIKE_PAGES,
+    )
 }
 
 #[test]
 fn refuses_each_fault(rt: HostRuntime) -> Result<(), Fail> {
     for &(sources, after, fault) in FAULTS {
         for lines in ["", "\nsnapshot 10\n{\"a\":1}"] {
-            expect_fault(&rt, (sources, after), lines, fault)?;
+            expect_fault(rt.alloc(), (sources, after), lines, fault)?;
         }
     }
     Ok(())
@@ -154,5 +160,5 @@ fn refuses_too_many_pairs(rt: HostRuntime) -> Result<(), Fail> {
     let alloc = rt.alloc();
     let values = "1,".repeat(alloc, 65_535)?;
     let lines = format!(in alloc; "\nsnapshot 10\n{{\"a\":[{values}1],\"b\":[{values}1]}}")?;
-    expect_fault(&rt, (BOTH, "{}"), &lines, "TooMany")
+    expect_fault(rt.alloc(), (BOTH, "{}"), &lines, "TooMany")
 }

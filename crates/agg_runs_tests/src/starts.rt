@@ -177,10 +177,10 @@ const FULL_DAY: &str = "{\"page\":1,\"results\":{\"g\":{\
 #[test]
 fn answers_each_start(rt: HostRuntime) -> Result<(), Fail> {
     for &(sources, after, documents, buckets) in PAGES {
-        expect_buckets(&rt, (sources, after), documents, buckets)?;
+        expect_buckets(rt.alloc(), (sources, after), documents, buckets)?;
     }
     let lines = "\nsnapshot 1\n{\"d\":{\"dt\":-1}}";
-    expect(&rt, (DAYS, "{}"), lines, Status::Ok, FULL_DAY)
+    expect(rt.alloc(), (DAYS, "{}"), lines, Status::Ok, FULL_DAY)
 }
 
 #[test]
@@ -188,7 +188,7 @@ fn refuses_each_interval(rt: HostRuntime) -> Result<(), Fail> {
     for &(kind, after, fault) in FAULTS {
         let sources = format!(in rt.alloc(); "{{\"a\":{kind}}}")?;
         for lines in ["", "\nsnapshot 10\n{\"a\":1}"] {
-            expect_fault(&rt, (&sources, after), lines, fault)?;
+            expect_fault(rt.alloc(), (&sources, after), lines, fault)?;
         }
     }
     Ok(())
@@ -198,7 +198,7 @@ fn refuses_each_interval(rt: HostRuntime) -> Result<(), Fail> {
 fn refuses_starts_out_of_range(rt: HostRuntime) -> Result<(), Fail> {
     for &(sources, documents) in OUT_OF_RANGE {
         let lines = format!(in rt.alloc(); "\nsnapshot 10\n{documents}")?;
-        expect_fault(&rt, (sources, "{}"), &lines, "BucketOutOfRange")?;
+        expect_fault(rt.alloc(), (sources, "{}"), &lines, "BucketOutOfRange")?;
     }
     Ok(())
 }

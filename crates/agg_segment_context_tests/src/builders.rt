@@ -1,3 +1,4 @@
+use agg_expect::expect_equal;
 use agg_request_tree::{
     Aggregation, AggregationVariants, FilterAggregation, FilterQuery, QueryBuildError, QueryBuilder,
 };
@@ -28,17 +29,29 @@ impl QueryBuilder for AllOfSome {
     }
 }
 
-// A filter f by such a builder.
+// A filter by a builder, with these aggregations below it.
+fn filter_by<B>(builder: B, sub_aggregation: NameMap<Aggregation<B>>) -> Aggregation<B> {
+    let filter = FilterAggregation::of(FilterQuery::CustomBuilder(builder));
+    Aggregation {
+        agg: AggregationVariants::Filter(filter),
+        sub_aggregation,
+    }
+}
+
+// Adds a value to a map, under a name.
+fn add<T: Drop>(map: &mut NameMap<T>, name: &str, value: T) -> Result<(), OutOfMemory> {
+    map.insert(Text::copy_of(map.allocator(), name)?, value)?;
+    Ok(())
+}
+
+// A filter f by a builder of the first kind.
 fn filter_f(alloc: Global) -> Result<NameMap<Aggregation<AllOfSome>>, OutOfMemory> {
-    let name = Text::copy_of(alloc, "f")?;
     let mut request = NameMap::new(alloc);
-    let filter = Aggregation {
-        agg: AggregationVariants::Filter(FilterAggregation::of(FilterQuery::CustomBuilder(
-            AllOfSome {},
-        ))),
-        sub_aggregation: NameMap::new(alloc),
-    };
-    request.insert(name, filter)?;
+    add(
+        &mut request,
+        "f",
+        filter_by(AllOfSome {}, NameMap::new(alloc)),
+    )?;
     Ok(request)
 }
 
@@ -60,8 +73,7 @@ fn asks_the_builders_of_a_request(rt: HostRuntime) -> Result<(), Fail> {
     let request = filter_f(rt.alloc())?;
     let refused = refusal(rt.alloc(), &request, &[])?;
     let taken = refusal(rt.alloc(), &request, &["a"])?;
-    assert_eq!(rt; (refused, taken), (Some(SetupError::QueryBuild), None));
-    Ok(())
+    expect_equal((refused, taken), (Some(SetupError::QueryBuild), None))
 }
 
 // A builder that matches every document, and appends its digit to a number that builders share.
@@ -84,34 +96,34 @@ impl QueryBuilder for Noted {
     }
 }
 
-// A filter whose builder has this digit, with these aggregations below it.
-fn filter_by(
-    digit: u32,
-    asked: &Rc<Cell<u32>>,
-    sub_aggregation: NameMap<Aggregation<Noted>>,
-) -> Result<Aggregation<Noted>, AllocError> {
-    let builder = Noted {
+// The builder of a digit.
+fn builder_of(digit: u32, asked: &Rc<Cell<u32>>) -> Result<Noted, AllocError> {
+    Ok(Noted {
         digit,
         asked: asked.clone()?,
-    };
-    Ok(Aggregation {
-        agg: AggregationVariants::Filter(FilterAggregation::of(FilterQuery::CustomBuilder(
-            builder,
-        ))),
-        sub_aggregation,
     })
 }
 
-// Adds such a filter to others, under a name.
-fn add_filter(
+// Adds a filter by the builder of a digit, with nothing below it.
+fn add_alone(
     filters: &mut NameMap<Aggregation<Noted>>,
     (name, digit): (&str, u32),
     asked: &Rc<Cell<u32>>,
-    below: NameMap<Aggregation<Noted>>,
 ) -> Result<(), OutOfMemory> {
-    let filter = filter_by(digit, asked, below)?;
-    filters.insert(Text::copy_of(filters.allocator(), name)?, filter)?;
-    Ok(())
+    let builder = builder_of(digit, asked)?;
+    let below = NameMap::new(filters.allocator());
+    add(filters, name, filter_by(builder, below))
+}
+
+// Adds a filter a by the builder of 1, with a filter x below it.
+fn add_two(
+    filters: &mut NameMap<Aggregation<Noted>>,
+    asked: &Rc<Cell<u32>>,
+) -> Result<(), OutOfMemory> {
+    let builder = builder_of(1, asked)?;
+    let mut below = NameMap::new(filters.allocator());
+    add_alone(&mut below, ("x", 2), asked)?;
+    add(filters, "a", filter_by(builder, below))
 }
 
 // A filter a with a filter x below it, and a filter b, which is added first.
@@ -120,17 +132,8 @@ fn filters(
     asked: &Rc<Cell<u32>>,
 ) -> Result<NameMap<Aggregation<Noted>>, OutOfMemory> {
     let mut request = NameMap::new(alloc);
-    add_filter(&mut request, ("b", 3), asked, NameMap::new(alloc))?;
-    add_filter(&mut request, ("a", 1), asked, filter_x(alloc, asked)?)?;
-    Ok(request)
-}
-
-fn filter_x(
-    alloc: Global,
-    asked: &Rc<Cell<u32>>,
-) -> Result<NameMap<Aggregation<Noted>>, OutOfMemory> {
-    let mut request = NameMap::new(alloc);
-    add_filter(&mut request, ("x", 2), asked, NameMap::new(alloc))?;
+    add_alone(&mut request, ("b", 3), asked)?;
+    add_two(&mut request, asked)?;
     Ok(request)
 }
 
@@ -145,6 +148,5 @@ fn asks_each_builder_once_in_order(rt: HostRuntime) -> Result<(), Fail> {
     let alloc = rt.alloc();
     let asked = Rc::new(alloc, Cell::new(0))?;
     ask(alloc, &filters(alloc, &asked)?)?;
-    assert_eq!(rt; asked.get(), 123);
-    Ok(())
+    expect_equal(asked.get(), 123)
 }

@@ -1,4 +1,5 @@
 use crate::given::{nested, two_documents};
+use agg_expect::expect_equal;
 use agg_metric::StatsType;
 use agg_request_tree::{Aggregations, check_request};
 use agg_segment::{Schema, SegmentReader};
@@ -8,7 +9,6 @@ use agg_segment_context::{
 };
 use agg_values::{NameMap, OutOfMemory, Text};
 use std::alloc::{AllocError, Global};
-use std::process::Abort;
 use std::test::Fail;
 
 // The context of a request in a segment.
@@ -59,11 +59,10 @@ fn shows_the_nodes_of_a_request(rt: HostRuntime) -> Result<(), Fail> {
     let request = nested(alloc)?;
     let reader = two_documents(alloc)?;
     let text = views_in(alloc, &request, &reader)?;
-    assert_eq!(rt;
+    expect_equal(
         text.as_str(),
-        "g Composite(f Filter(h Composite())s Metric())"
-    );
-    Ok(())
+        "g Composite(f Filter(h Composite())s Metric())",
+    )
 }
 
 // The kind of the child of a name.
@@ -83,11 +82,7 @@ fn kind_below(
 }
 
 // The first node has this name, and children of these names and kinds.
-fn expect_children(
-    rt: &(impl Abort + AllocGlobal),
-    ctx: &PerRequestAggSegCtx<'_>,
-) -> Result<(), Fail> {
-    let alloc = rt.alloc();
+fn expect_children(alloc: Global, ctx: &PerRequestAggSegCtx<'_>) -> Result<(), Fail> {
     let Some(node) = ctx.agg_tree.as_slice().first() else {
         return Err(Fail::new("there is no node"));
     };
@@ -98,28 +93,27 @@ fn expect_children(
         kind_below(alloc, node, "h", ctx)?,
     ];
     let sum = AggKind::StatsKind(StatsType::Sum);
-    assert_eq!(rt;
+    expect_equal(
         (name, kinds),
-        (Some("g"), [Some(AggKind::Filter), Some(sum), None])
-    );
-    Ok(())
+        (Some("g"), [Some(AggKind::Filter), Some(sum), None]),
+    )
 }
 
 // So has that of a request in a segment.
 fn expect_children_in(
-    rt: &(impl Abort + AllocGlobal),
+    alloc: Global,
     request: &Aggregations,
     reader: &SegmentReader,
 ) -> Result<(), Fail> {
-    let ctx = context_in(rt.alloc(), request, reader)?;
-    expect_children(rt, &ctx.per_request)
+    let ctx = context_in(alloc, request, reader)?;
+    expect_children(alloc, &ctx.per_request)
 }
 
 #[test]
 fn finds_children_by_name(rt: HostRuntime) -> Result<(), Fail> {
     let request = nested(rt.alloc())?;
     let reader = two_documents(rt.alloc())?;
-    expect_children_in(&rt, &request, &reader)
+    expect_children_in(rt.alloc(), &request, &reader)
 }
 
 // Sets the page of a composite of a name, with this size.

@@ -1,5 +1,6 @@
 //! Which requests may be asked with the page that is set, and the fault of each of the others.
 use crate::given::nested;
+use agg_expect::expect_equal;
 use agg_request_tree::{
     Aggregation, AggregationVariants, Aggregations, CompositeAggregation, FilterAggregation,
 };
@@ -94,7 +95,7 @@ fn fault_of_one(
 fn asks_with_the_page(rt: HostRuntime) -> Result<(), Fail> {
     for &(own, page, fault) in PAGES {
         let found = fault_of_one(rt.alloc(), own, Some(page))?;
-        assert_eq!(rt; found, fault.map(RequestError::Invalid));
+        expect_equal(found, fault.map(RequestError::Invalid))?;
     }
     Ok(())
 }
@@ -104,8 +105,7 @@ fn asks_without_a_page(rt: HostRuntime) -> Result<(), Fail> {
     let of_nested = fault_of(rt.alloc(), &nested(rt.alloc())?, None)?;
     let of_one = fault_of_one(rt.alloc(), (0, None), None)?;
     let zero_size = RequestError::Invalid(InvalidArgument::ZeroSize);
-    assert_eq!(rt; (of_nested, of_one), (None, Some(zero_size)));
-    Ok(())
+    expect_equal((of_nested, of_one), (None, Some(zero_size)))
 }
 
 // A filter, with a composite named g below it.
@@ -128,6 +128,5 @@ fn leaves_composites_below_as_they_are(rt: HostRuntime) -> Result<(), Fail> {
     let with_own_fault = fault_below(rt.alloc(), (0, None), (1, None))?;
     let with_none = fault_below(rt.alloc(), (1, NUMBER), (0, TEXT))?;
     let zero_size = RequestError::Invalid(InvalidArgument::ZeroSize);
-    assert_eq!(rt; (with_own_fault, with_none), (Some(zero_size), None));
-    Ok(())
+    expect_equal((with_own_fault, with_none), (Some(zero_size), None))
 }

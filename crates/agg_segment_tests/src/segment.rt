@@ -1,5 +1,6 @@
 //! What small segments answer.
 use crate::given::{Given, document_of};
+use agg_expect::{expect_equal, expect_equal_for};
 use agg_segment::{
     BuildError, Column, ColumnType, FieldValue, OrdHit, QueryTree, RangeBound, Schema,
     SegmentBuilder, SegmentReader, by_class_keeps_the_keys, classes_match_in_any_order,
@@ -7,7 +8,6 @@ use agg_segment::{
 use agg_values::{Address, ColumnPaginationOrder, CompositeIntermediateKey, OutOfMemory, Text};
 use std::alloc::Global;
 use std::cmp::Ordering;
-use std::process::Abort;
 use std::test::Fail;
 
 const FROM_ZERO: u64 = 9_223_372_036_854_775_808;
@@ -70,38 +70,34 @@ const COLUMNS: &[(ColumnType, &[u64])] = &[
     (ColumnType::DateTime, &[FROM_ZERO + 3]),
 ];
 
-fn expect_of_each_class(rt: &impl Abort, columns: &[Column]) {
-    assert_eq!(rt; columns.len(), COLUMNS.len());
+fn expect_of_each_class(columns: &[Column]) -> Result<(), Fail> {
+    expect_equal(columns.len(), COLUMNS.len())?;
     for (column, &expected) in columns.iter().zip(COLUMNS) {
-        assert_eq!(rt; (column.column_type(), column.values_for_doc(0)), expected);
+        expect_equal((column.column_type(), column.values_for_doc(0)), expected)?;
     }
+    Ok(())
 }
 
 #[test]
 fn interleaved_classes_have_columns_of_their_own(rt: HostRuntime) -> Result<(), Fail> {
     let field = Text::copy_of(rt.alloc(), "a")?;
     let segment = of_one(rt.alloc(), &OF_EACH_CLASS)?;
-    expect_of_each_class(&rt, segment.columns(&field));
+    expect_of_each_class(segment.columns(&field))?;
     Ok(())
 }
 
 // Of a document with a signed number and one with a large number the second is refused.
-fn expect_mix(
-    rt: &(impl Abort + AllocGlobal),
-    builder: &mut SegmentBuilder,
-) -> Result<(), OutOfMemory> {
-    let signed = finish_with(rt.alloc(), builder, &OF_EACH_CLASS)?;
-    let large = finish_with(rt.alloc(), builder, &[("a", Given::Unsigned(FROM_ZERO))])?;
-    assert_eq!(rt; (signed, large), (Ok(()), MIX));
-    Ok(())
+fn expect_mix(alloc: Global, builder: &mut SegmentBuilder) -> Result<(), Fail> {
+    let signed = finish_with(alloc, builder, &OF_EACH_CLASS)?;
+    let large = finish_with(alloc, builder, &[("a", Given::Unsigned(FROM_ZERO))])?;
+    expect_equal((signed, large), (Ok(()), MIX))
 }
 
 #[test]
 fn mixed_numbers_are_refused(rt: HostRuntime) -> Result<(), Fail> {
     let mut builder = SegmentBuilder::new(rt.alloc());
-    expect_mix(&rt, &mut builder)?;
-    assert_eq!(rt; builder.build()?.num_docs(), 1);
-    Ok(())
+    expect_mix(rt.alloc(), &mut builder)?;
+    expect_equal(builder.build()?.num_docs(), 1)
 }
 
 // A document, given by its values, with what is answered where it is added.
@@ -155,13 +151,13 @@ const MIX: Result<(), BuildError> = Err(BuildError::MixedNumbers);
 
 // Adds documents, each with its answer.
 fn expect_answers(
-    rt: &(impl Abort + AllocGlobal),
+    alloc: Global,
     builder: &mut SegmentBuilder,
     documents: &[Added],
 ) -> Result<(), Fail> {
     for &(values, answer) in documents {
-        let added = builder.add_document(document_of(rt.alloc(), values)?);
-        assert_eq!(rt; added, answer);
+        let added = builder.add_document(document_of(alloc, values)?);
+        expect_equal(added, answer)?;
     }
     Ok(())
 }
@@ -170,8 +166,8 @@ fn expect_answers(
 fn documents_that_mix_numbers_are_left_out(rt: HostRuntime) -> Result<(), Fail> {
     for &(documents, taken) in MIXED {
         let mut builder = SegmentBuilder::new(rt.alloc());
-        expect_answers(&rt, &mut builder, documents)?;
-        assert_eq!(rt; builder.build()?.num_docs(), taken);
+        expect_answers(rt.alloc(), &mut builder, documents)?;
+        expect_equal(builder.build()?.num_docs(), taken)?;
     }
     Ok(())
 }
@@ -182,8 +178,7 @@ fn a_document_too_many_is_refused(rt: HostRuntime) -> Result<(), Fail> {
     for _ in 0..16_777_216u32 {
         builder.finish()?;
     }
-    assert_eq!(rt; builder.finish(), Err(BuildError::TooManyDocuments));
-    Ok(())
+    expect_equal(builder.finish(), Err(BuildError::TooManyDocuments))
 }
 
 // Each of nine documents has a number, all but one have two in another field, and the first and
@@ -236,20 +231,20 @@ const LAYOUTS: &[Numbers] = &[
 ];
 
 fn expect_numbers(
-    rt: &(impl Abort + AllocGlobal),
+    alloc: Global,
     segment: &SegmentReader,
     expected: &[Numbers],
 ) -> Result<(), Fail> {
     for &(name, doc, wanted) in expected {
-        let found = numbers(segment, &Text::copy_of(rt.alloc(), name)?, doc);
-        assert_eq!(rt; found, wanted, "{name} of {doc}");
+        let found = numbers(segment, &Text::copy_of(alloc, name)?, doc);
+        expect_equal_for((name, doc), found, wanted)?;
     }
     Ok(())
 }
 
 #[test]
 fn documents_have_their_numbers(rt: HostRuntime) -> Result<(), Fail> {
-    expect_numbers(&rt, &layouts(rt.alloc())?, LAYOUTS)
+    expect_numbers(rt.alloc(), &layouts(rt.alloc())?, LAYOUTS)
 }
 
 // Adds two documents and one whose values are discarded, and opens another.
@@ -277,8 +272,8 @@ fn open_documents_are_discarded(rt: HostRuntime) -> Result<(), Fail> {
     let mut builder = SegmentBuilder::new(rt.alloc());
     push_some(rt.alloc(), &mut builder)?;
     let segment = builder.build()?;
-    assert_eq!(rt; segment.num_docs(), 3);
-    expect_numbers(&rt, &segment, KEPT)
+    expect_equal(segment.num_docs(), 3)?;
+    expect_numbers(rt.alloc(), &segment, KEPT)
 }
 
 // Texts and addresses, and where they are among those of a segment.
@@ -306,19 +301,20 @@ fn address_hit(columns: &[Column], address: Address) -> Option<OrdHit> {
     }
 }
 
-fn expect_text_hits(rt: &(impl Abort + AllocGlobal), columns: &[Column]) -> Result<(), Fail> {
+fn expect_text_hits(alloc: Global, columns: &[Column]) -> Result<(), Fail> {
     for &(text, _, hit) in HITS {
-        let found = text_hit(columns, &Text::copy_of(rt.alloc(), text)?);
-        assert_eq!(rt; (columns.len(), found), (1, Some(hit)), "{text}");
+        let found = text_hit(columns, &Text::copy_of(alloc, text)?);
+        expect_equal_for(text, (columns.len(), found), (1, Some(hit)))?;
     }
     Ok(())
 }
 
-fn expect_address_hits(rt: &impl Abort, columns: &[Column]) {
+fn expect_address_hits(columns: &[Column]) -> Result<(), Fail> {
     for &(_, address, hit) in HITS {
         let found = address_hit(columns, Address(address));
-        assert_eq!(rt; (columns.len(), found), (1, Some(hit)), "{address}");
+        expect_equal_for(address, (columns.len(), found), (1, Some(hit)))?;
     }
+    Ok(())
 }
 
 #[test]
@@ -336,31 +332,30 @@ fn hits_are_the_first_places_not_below(rt: HostRuntime) -> Result<(), Fail> {
             ("b", Given::Address(4)),
         ],
     )?;
-    expect_address_hits(&rt, segment.columns(&addresses));
-    expect_text_hits(&rt, segment.columns(&texts))
+    expect_address_hits(segment.columns(&addresses))?;
+    expect_text_hits(rt.alloc(), segment.columns(&texts))
 }
 
 // A column of a large and of a small number is unsigned, and the small one is a signed key.
-fn expect_unsigned(rt: &(impl Abort + AllocGlobal), column: &Column) -> Result<(), Fail> {
+fn expect_unsigned(alloc: Global, column: &Column) -> Result<(), Fail> {
     let kind = column.column_type();
     let numbers = column.values_for_doc(0);
     let class = kind.column_pagination_order();
-    assert_eq!(rt;
+    expect_equal(
         (kind, class),
-        (ColumnType::U64, ColumnPaginationOrder::Numeric)
-    );
-    assert_eq!(rt; numbers, [FROM_ZERO, 7].as_slice());
+        (ColumnType::U64, ColumnPaginationOrder::Numeric),
+    )?;
+    expect_equal(numbers, [FROM_ZERO, 7].as_slice())?;
     let (large, small) = (numbers[0], numbers[1]);
     let order = column.compare(large, small);
-    let signed = column.decode(rt.alloc(), small)?;
-    let unsigned = column.decode(rt.alloc(), large)?;
+    let signed = column.decode(alloc, small)?;
+    let unsigned = column.decode(alloc, large)?;
     let is_signed = matches!(signed, CompositeIntermediateKey::I64(7));
     let is_unsigned = matches!(unsigned, CompositeIntermediateKey::U64(FROM_ZERO));
-    assert_eq!(rt;
+    expect_equal(
         (order, is_signed, is_unsigned),
-        (Ordering::Greater, true, true)
-    );
-    Ok(())
+        (Ordering::Greater, true, true),
+    )
 }
 
 #[test]
@@ -372,9 +367,9 @@ fn a_large_number_makes_a_column_unsigned(rt: HostRuntime) -> Result<(), Fail> {
         &[("a", Given::Unsigned(FROM_ZERO)), ("a", Given::Unsigned(7))],
     )?;
     let columns = segment.columns(&field);
-    assert_eq!(rt; columns.len(), 1);
+    expect_equal(columns.len(), 1)?;
     for column in columns {
-        expect_unsigned(&rt, column)?;
+        expect_unsigned(rt.alloc(), column)?;
     }
     Ok(())
 }
@@ -383,7 +378,7 @@ fn a_large_number_makes_a_column_unsigned(rt: HostRuntime) -> Result<(), Fail> {
 fn copied_values_are_equal(rt: HostRuntime) -> Result<(), Fail> {
     for given in [Given::Truth(true), Given::Text("a")] {
         let value = given.value(rt.alloc())?;
-        assert_eq!(rt; value.try_clone(rt.alloc())?, value);
+        expect_equal(value.try_clone(rt.alloc())?, value)?;
     }
     Ok(())
 }
@@ -394,7 +389,7 @@ fn schemas_and_laws_are_called(rt: HostRuntime) -> Result<(), Fail> {
     for _ in 0..2 {
         schema.add_field(Text::copy_of(rt.alloc(), "a")?)?;
     }
-    assert_eq!(rt; schema.fields().len(), 2);
+    expect_equal(schema.fields().len(), 2)?;
     by_class_keeps_the_keys();
     classes_match_in_any_order();
     Ok(())
@@ -416,6 +411,5 @@ fn is_query_cloned(alloc: Global) -> Result<bool, OutOfMemory> {
 #[test]
 fn queries_and_their_bounds_are_cloned(rt: HostRuntime) -> Result<(), Fail> {
     let cloned = (is_bound_cloned(rt.alloc())?, is_query_cloned(rt.alloc())?);
-    assert_eq!(rt; cloned, (true, true));
-    Ok(())
+    expect_equal(cloned, (true, true))
 }

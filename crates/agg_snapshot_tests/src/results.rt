@@ -3,6 +3,7 @@ ghost use Rattle.std.specs.Prelude.{◌≡◌, ◌<◌};
 ghost use Rattle.agg_snapshot.specs.Asked.{MayBeAsked};
 
 use agg_cache::LimitsLedger;
+use agg_expect::expect_equal;
 use agg_request::{read_aggregations, read_query};
 use agg_request_tree::{Aggregations, NamedBuilder, check_request};
 use agg_segment::{QueryTree, Schema, SegmentReader};
@@ -13,7 +14,6 @@ use agg_values::{ItemList, Steps, Text};
 use serde_json::Value;
 use std::alloc::Global;
 use std::marker::Brand;
-use std::process::Abort;
 use std::sync::ledger::{Blank, Ledger};
 use std::test::Fail;
 
@@ -201,31 +201,30 @@ fn shown_of<L: Ledger>(
 
 // The results of a request over a snapshot are shown so.
 fn expect_results(
-    rt: &(impl Abort + AllocGlobal),
+    alloc: Global,
     request: &Aggregations,
     snapshot: &Snapshot,
     text: &str,
 ) -> Result<(), Fail> {
     let mut limits = LimitsLedger::new(None, None);
     let blank = Blank::new(1);
-    let found = shown_of::<Brand>(rt.alloc(), request, snapshot, &mut limits, blank)??;
-    assert_eq!(rt; found.as_str(), text);
-    Ok(())
+    let found = shown_of::<Brand>(alloc, request, snapshot, &mut limits, blank)??;
+    expect_equal(found.as_str(), text)
 }
 
 // The results of a request are those of a row.
 fn expect_row(
-    rt: &(impl Abort + AllocGlobal),
+    alloc: Global,
     request: &Aggregations,
     (query, given, text): (&str, &[&[Values]], &str),
 ) -> Result<(), Fail> {
-    let snapshot = snapshot_of(rt.alloc(), query, given)?;
-    expect_results(rt, request, &snapshot, text)
+    let snapshot = snapshot_of(alloc, query, given)?;
+    expect_results(alloc, request, &snapshot, text)
 }
 
-fn expect_rows(rt: &(impl Abort + AllocGlobal), request: &Aggregations) -> Result<(), Fail> {
+fn expect_rows(alloc: Global, request: &Aggregations) -> Result<(), Fail> {
     for &row in ROWS {
-        expect_row(rt, request, row)?;
+        expect_row(alloc, request, row)?;
     }
     Ok(())
 }
@@ -233,13 +232,13 @@ fn expect_rows(rt: &(impl Abort + AllocGlobal), request: &Aggregations) -> Resul
 #[test]
 fn gives_results_of_all_segments(rt: HostRuntime) -> Result<(), Fail> {
     let request = request_of(rt.alloc(), REQUEST)?;
-    expect_rows(&rt, &request)
+    expect_rows(rt.alloc(), &request)
 }
 
 // A limit of memory refuses the results of a request over a snapshot for this reason, or gives
 // them. Nothing is in use after that.
 fn expect_refusal(
-    rt: &(impl Abort + AllocGlobal),
+    alloc: Global,
     request: &Aggregations,
     snapshot: &Snapshot,
     limit: u64,
@@ -247,24 +246,23 @@ fn expect_refusal(
 ) -> Result<(), Fail> {
     let mut limits = LimitsLedger::new(Some(limit), None);
     let blank = Blank::new(1);
-    let found = shown_of::<Brand>(rt.alloc(), request, snapshot, &mut limits, blank)?;
-    assert_eq!(rt; (found.err(), limits.in_use()), (refusal, 0));
-    Ok(())
+    let found = shown_of::<Brand>(alloc, request, snapshot, &mut limits, blank)?;
+    expect_equal((found.err(), limits.in_use()), (refusal, 0))
 }
 
 // The limit of a row refuses what the row says.
 fn expect_limit(
-    rt: &(impl Abort + AllocGlobal),
+    alloc: Global,
     request: &Aggregations,
     (limit, given, refusal): (u64, &[&[Values]], Option<SnapshotError>),
 ) -> Result<(), Fail> {
-    let snapshot = snapshot_of(rt.alloc(), ALL, given)?;
-    expect_refusal(rt, request, &snapshot, limit, refusal)
+    let snapshot = snapshot_of(alloc, ALL, given)?;
+    expect_refusal(alloc, request, &snapshot, limit, refusal)
 }
 
-fn expect_limits(rt: &(impl Abort + AllocGlobal), request: &Aggregations) -> Result<(), Fail> {
+fn expect_limits(alloc: Global, request: &Aggregations) -> Result<(), Fail> {
     for &row in LIMITS {
-        expect_limit(rt, request, row)?;
+        expect_limit(alloc, request, row)?;
     }
     Ok(())
 }
@@ -272,5 +270,5 @@ fn expect_limits(rt: &(impl Abort + AllocGlobal), request: &Aggregations) -> Res
 #[test]
 fn keeps_to_the_limit_and_gives_all_back(rt: HostRuntime) -> Result<(), Fail> {
     let request = request_of(rt.alloc(), BY_NUMBER)?;
-    expect_limits(&rt, &request)
+    expect_limits(rt.alloc(), &request)
 }

@@ -1,4 +1,5 @@
 use agg_calendar::{CalendarInterval, PrecomputedDateInterval};
+use agg_expect::expect_equal;
 use agg_values::{
     AggregationError, DateHistogramParseError, InvalidArgument, OutOfMemory, RequestError, Text,
 };
@@ -73,7 +74,7 @@ fn answer(
 #[test]
 fn takes_the_one_interval_that_is_set(rt: HostRuntime) -> Result<(), Fail> {
     for &(fixed, calendar, expected) in TAKEN {
-        assert_eq!(rt; answer(rt.alloc(), fixed, calendar)?, Ok(expected));
+        expect_equal(answer(rt.alloc(), fixed, calendar)?, Ok(expected))?;
     }
     Ok(())
 }
@@ -82,7 +83,7 @@ fn takes_the_one_interval_that_is_set(rt: HostRuntime) -> Result<(), Fail> {
 fn refuses_other_choices(rt: HostRuntime) -> Result<(), Fail> {
     for &(fixed, calendar, fault) in REFUSED {
         let refusal = Err(RequestError::Invalid(fault));
-        assert_eq!(rt; answer(rt.alloc(), fixed, calendar)?, refusal);
+        expect_equal(answer(rt.alloc(), fixed, calendar)?, refusal)?;
     }
     Ok(())
 }
@@ -92,6 +93,5 @@ fn passes_the_fault_of_a_text_on(rt: HostRuntime) -> Result<(), Fail> {
     let alloc = rt.alloc();
     let unit = DateHistogramParseError::UnitNotRecognized(Text::copy_of(alloc, "y")?);
     let refusal = Err(RequestError::Aggregation(AggregationError::from(unit)));
-    assert_eq!(rt; answer(alloc, Some("2y"), None)?, refusal);
-    Ok(())
+    expect_equal(answer(alloc, Some("2y"), None)?, refusal)
 }

@@ -1,4 +1,5 @@
 use agg_calendar::{parse_into_milliseconds, parse_offset_into_milliseconds};
+use agg_expect::expect_equal_for;
 use agg_values::{AggregationError, DateHistogramParseError, RequestError, Text};
 use std::alloc::Global;
 use std::test::Fail;
@@ -50,7 +51,7 @@ fn reads_every_unit(rt: HostRuntime) -> Result<(), Fail> {
     let alloc = rt.alloc();
     for &(text, ms) in INTERVALS {
         let read = parse_into_milliseconds(alloc, &Text::copy_of(alloc, text)?);
-        assert_eq!(rt; read, Ok(ms), "{text}");
+        expect_equal_for(text, read, Ok(ms))?;
     }
     Ok(())
 }
@@ -96,7 +97,7 @@ fn refuses_other_texts(rt: HostRuntime) -> Result<(), Fail> {
     let alloc = rt.alloc();
     for &(input, fault, text) in NO_INTERVALS {
         let read = parse_into_milliseconds(alloc, &Text::copy_of(alloc, input)?);
-        assert_eq!(rt; read, Err(refusal(alloc, fault, text)?), "{input}");
+        expect_equal_for(input, read, Err(refusal(alloc, fault, text)?))?;
     }
     Ok(())
 }
@@ -132,11 +133,11 @@ fn reads_offsets(rt: HostRuntime) -> Result<(), Fail> {
     let alloc = rt.alloc();
     for &(text, ms) in OFFSETS {
         let read = parse_offset_into_milliseconds(alloc, &Text::copy_of(alloc, text)?);
-        assert_eq!(rt; read, Ok(ms), "{text}");
+        expect_equal_for(text, read, Ok(ms))?;
     }
     for &(input, fault, text) in NO_OFFSETS {
         let read = parse_offset_into_milliseconds(alloc, &Text::copy_of(alloc, input)?);
-        assert_eq!(rt; read, Err(refusal(alloc, fault, text)?), "{input}");
+        expect_equal_for(input, read, Err(refusal(alloc, fault, text)?))?;
     }
     Ok(())
 }

@@ -2,6 +2,8 @@ use agg_calendar::{
     CalendarInterval, PrecomputedDateInterval, StartError, fixed_bucket, try_month_bucket,
     try_year_bucket, week_bucket,
 };
+use agg_expect::expect_equal_for;
+use std::test::Fail;
 
 const OUT: Result<i64, StartError> = Err(StartError::BucketOutOfRange);
 
@@ -66,10 +68,11 @@ const YEARS: &[(&str, i64, Result<i64, StartError>)] = &[
 ];
 
 #[test]
-fn years_begin_on_their_first_of_january(rt: HostRuntime) {
+fn years_begin_on_their_first_of_january() -> Result<(), Fail> {
     for &(day, ns, start) in YEARS {
-        assert_eq!(rt; try_year_bucket(ns), start, "{day}");
+        expect_equal_for(day, try_year_bucket(ns), start)?;
     }
+    Ok(())
 }
 
 // The same, and the starts of their months.
@@ -127,10 +130,11 @@ const MONTHS: &[(&str, i64, Result<i64, StartError>)] = &[
 ];
 
 #[test]
-fn months_begin_on_their_first(rt: HostRuntime) {
+fn months_begin_on_their_first() -> Result<(), Fail> {
     for &(day, ns, start) in MONTHS {
-        assert_eq!(rt; try_month_bucket(ns), start, "{day}");
+        expect_equal_for(day, try_month_bucket(ns), start)?;
     }
+    Ok(())
 }
 
 // The same, and the starts of their weeks.
@@ -188,10 +192,11 @@ const WEEKS: &[(&str, i64, Result<i64, StartError>)] = &[
 ];
 
 #[test]
-fn weeks_begin_on_monday(rt: HostRuntime) {
+fn weeks_begin_on_monday() -> Result<(), Fail> {
     for &(day, ns, start) in WEEKS {
-        assert_eq!(rt; week_bucket(ns), start, "{day}");
+        expect_equal_for(day, week_bucket(ns), start)?;
     }
+    Ok(())
 }
 
 // Values and intervals, and the starts of the values.
@@ -212,14 +217,11 @@ const FIXED: &[(i128, i64, Result<i64, StartError>)] = &[
 ];
 
 #[test]
-fn fixed_starts_are_rounded_down(rt: HostRuntime) {
+fn fixed_starts_are_rounded_down() -> Result<(), Fail> {
     for &(value, interval, start) in FIXED {
-        assert_eq!(rt;
-            fixed_bucket(value, interval),
-            start,
-            "{value} by {interval}"
-        );
+        expect_equal_for((value, interval), fixed_bucket(value, interval), start)?;
     }
+    Ok(())
 }
 
 // Intervals and moments, and the starts of these.
@@ -263,8 +265,9 @@ const BY_INTERVAL: &[(PrecomputedDateInterval, i64, Result<i64, StartError>)] = 
 ];
 
 #[test]
-fn starts_go_by_the_interval(rt: HostRuntime) {
+fn starts_go_by_the_interval() -> Result<(), Fail> {
     for &(interval, ns, start) in BY_INTERVAL {
-        assert_eq!(rt; interval.start(ns), start, "{interval:?} at {ns}");
+        expect_equal_for((interval, ns), interval.start(ns), start)?;
     }
+    Ok(())
 }

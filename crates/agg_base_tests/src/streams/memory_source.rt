@@ -1,3 +1,4 @@
+use agg_expect::expect_equal;
 use agg_streams::Failed;
 use agg_streams::source::{MemorySource, Source};
 use std::test::Fail;
@@ -9,8 +10,7 @@ fn fails_at_the_second_read_alone(rt: HostRuntime) -> Result<(), Fail> {
     let mut source = MemorySource::new(bytes, failing);
     let mut buf = [0; 3];
     for read in [Ok(3), Err(Failed), Ok(1), Ok(0)] {
-        assert_eq!(rt; source.read(&mut buf), read);
+        expect_equal(source.read(&mut buf), read)?;
     }
-    assert_eq!(rt; buf.as_slice(), b"dbc".as_slice());
-    Ok(())
+    expect_equal(buf.as_slice(), b"dbc".as_slice())
 }

@@ -1,3 +1,4 @@
+use agg_expect::expect_equal_for;
 use agg_streams::Failed;
 use agg_streams::sink::{Sink, StdSink};
 use std::io::{self, ErrorKind, Write};
@@ -22,7 +23,7 @@ impl Write for Told {
 }
 
 #[test]
-fn answers_as_its_writer_does(rt: HostRuntime) -> Result<(), Fail> {
+fn answers_as_its_writer_does() -> Result<(), Fail> {
     for (write, flush, bytes, answer) in [
         (Ok(2), Ok(()), "abc", Ok(2)),
         (Ok(3), Ok(()), "abc", Ok(3)),
@@ -32,7 +33,7 @@ fn answers_as_its_writer_does(rt: HostRuntime) -> Result<(), Fail> {
         (Ok(3), Err(ErrorKind::BrokenPipe), "abc", Err(Failed)),
     ] {
         let mut sink = StdSink::new(Told { write, flush });
-        assert_eq!(rt; sink.write(bytes.as_bytes()), answer, "at {bytes}");
+        expect_equal_for(bytes, sink.write(bytes.as_bytes()), answer)?;
     }
     Ok(())
 }

@@ -1,3 +1,4 @@
+use agg_expect::expect_equal;
 use agg_streams::Failed;
 use agg_streams::source::{Source, StdSource};
 use std::io::{self, ErrorKind, Read};
@@ -24,12 +25,11 @@ impl Read for Broken {
 }
 
 #[test]
-fn fails_where_its_reader_does(rt: HostRuntime) -> Result<(), Fail> {
+fn fails_where_its_reader_does() -> Result<(), Fail> {
     let mut source = StdSource::new(Broken { reads: 0 });
     let mut buf = [0; 3];
     for read in [Ok(1), Err(Failed), Ok(1)] {
-        assert_eq!(rt; source.read(&mut buf), read);
+        expect_equal(source.read(&mut buf), read)?;
     }
-    assert_eq!(rt; buf.as_slice(), b"x\0\0".as_slice());
-    Ok(())
+    expect_equal(buf.as_slice(), b"x\0\0".as_slice())
 }

@@ -1,3 +1,4 @@
+use agg_expect::{expect_equal, expect_equal_for};
 use agg_values::{Address, OutOfMemory, Text};
 use std::alloc::Global;
 use std::test::Fail;
@@ -15,7 +16,7 @@ fn writes_the_recommended_text(rt: HostRuntime) -> Result<(), Fail> {
     for &(number, text) in WRITTEN {
         let written = Address(number).write(rt.alloc())?;
         let shown = Address(number).to_string(rt.alloc())?;
-        assert_eq!(rt; (written.as_str(), shown.as_str()), (text, text));
+        expect_equal((written.as_str(), shown.as_str()), (text, text))?;
     }
     Ok(())
 }
@@ -61,7 +62,7 @@ const REFUSED: &[&str] = &[
 fn writes_what_it_read(rt: HostRuntime) -> Result<(), Fail> {
     for &(text, canonical) in READ {
         let written = rewritten(rt.alloc(), text)?.ok_or("refused")?;
-        assert_eq!(rt; written.as_str(), canonical, "{text}");
+        expect_equal_for(text, written.as_str(), canonical)?;
     }
     Ok(())
 }
@@ -69,7 +70,7 @@ fn writes_what_it_read(rt: HostRuntime) -> Result<(), Fail> {
 #[test]
 fn refuses_other_texts(rt: HostRuntime) -> Result<(), Fail> {
     for &text in REFUSED {
-        assert_eq!(rt; rewritten(rt.alloc(), text)?, None, "{text}");
+        expect_equal_for(text, rewritten(rt.alloc(), text)?, None)?;
     }
     Ok(())
 }

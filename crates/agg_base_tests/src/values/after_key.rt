@@ -1,7 +1,7 @@
 use crate::values::given::Given;
+use agg_expect::{expect_equal, expect_equal_for};
 use agg_values::{AfterKey, CompositeIntermediateKey, KeyTextError, OutOfMemory, Text};
 use std::alloc::Global;
-use std::process::Abort;
 use std::test::Fail;
 
 // What is read of a text.
@@ -25,7 +25,7 @@ fn reads_each_kind(rt: HostRuntime) -> Result<(), Fail> {
     let alloc = rt.alloc();
     for &(text, given) in READ {
         let key = AfterKey(given.key(alloc)?);
-        assert_eq!(rt; read(alloc, text)?, Ok(key), "{text}");
+        expect_equal_for(text, read(alloc, text)?, Ok(key))?;
     }
     Ok(())
 }
@@ -50,7 +50,7 @@ const REFUSED: &[(&str, KeyTextError)] = &[
 #[test]
 fn answers_the_first_refusal(rt: HostRuntime) -> Result<(), Fail> {
     for &(text, refusal) in REFUSED {
-        assert_eq!(rt; read(rt.alloc(), text)?, Err(refusal), "{text}");
+        expect_equal_for(text, read(rt.alloc(), text)?, Err(refusal))?;
     }
     Ok(())
 }
@@ -67,22 +67,16 @@ const WRITTEN: &[(Given, &str)] = &[
 ];
 
 // A key's text is this, and is read as the key.
-fn expect_text(
-    rt: &(impl Abort + AllocGlobal),
-    key: &CompositeIntermediateKey,
-    text: &str,
-) -> Result<(), Fail> {
-    let alloc = rt.alloc();
+fn expect_text(alloc: Global, key: &CompositeIntermediateKey, text: &str) -> Result<(), Fail> {
     let written = AfterKey::from(key.try_clone(alloc)?).write(alloc)?;
     let read = CompositeIntermediateKey::from(AfterKey::read(alloc, &written)?);
-    assert_eq!(rt; (written.as_str(), &read), (text, key));
-    Ok(())
+    expect_equal((written.as_str(), &read), (text, key))
 }
 
 #[test]
 fn reads_what_it_wrote(rt: HostRuntime) -> Result<(), Fail> {
     for &(given, text) in WRITTEN {
-        expect_text(&rt, &given.key(rt.alloc())?, text)?;
+        expect_text(rt.alloc(), &given.key(rt.alloc())?, text)?;
     }
     Ok(())
 }

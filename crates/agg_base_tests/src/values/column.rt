@@ -1,4 +1,5 @@
 use crate::values::given::Given;
+use agg_expect::expect_equal;
 use agg_values::{ColumnPaginationOrder, CompositeKey, OutOfMemory};
 use std::alloc::Global;
 use std::test::Fail;
@@ -63,7 +64,7 @@ fn classes_of(alloc: Global, given: Given) -> Result<Classes, OutOfMemory> {
 #[test]
 fn gives_the_class_of_each_key(rt: HostRuntime) -> Result<(), Fail> {
     for &(given, classes) in CLASSES {
-        assert_eq!(rt; classes_of(rt.alloc(), given)?, classes);
+        expect_equal(classes_of(rt.alloc(), given)?, classes)?;
     }
     assert!(rt; ColumnPaginationOrder::Str < ColumnPaginationOrder::Numeric);
     Ok(())

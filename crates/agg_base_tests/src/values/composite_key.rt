@@ -1,4 +1,5 @@
 use crate::values::given::Given;
+use agg_expect::expect_equal;
 use agg_values::{CompositeKey, OutOfMemory, Text};
 use std::alloc::Global;
 use std::test::Fail;
@@ -35,7 +36,7 @@ fn shows_each_class(rt: HostRuntime) -> Result<(), Fail> {
     let alloc = rt.alloc();
     for &(given, shown) in SHOWN {
         let composite = CompositeKey::from_intermediate(alloc, given.key(alloc)?)?;
-        assert_eq!(rt; composite, shown_key(alloc, shown)?);
+        expect_equal(composite, shown_key(alloc, shown)?)?;
     }
     Ok(())
 }

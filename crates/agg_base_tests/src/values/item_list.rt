@@ -1,3 +1,4 @@
+use agg_expect::expect_equal;
 use agg_values::ItemList;
 use std::test::Fail;
 
@@ -11,6 +12,5 @@ fn lists_its_items(rt: HostRuntime) -> Result<(), Fail> {
     others.push(4)?;
     let items = list.into_vec();
     let found = (items.as_slice(), others.as_slice());
-    assert_eq!(rt; found, ([3, 1, 2].as_slice(), [4].as_slice()));
-    Ok(())
+    expect_equal(found, ([3, 1, 2].as_slice(), [4].as_slice()))
 }

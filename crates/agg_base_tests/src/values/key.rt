@@ -1,6 +1,6 @@
+use agg_expect::expect_equal;
 use agg_values::{Address, IntermediateKey, Key, OutOfMemory, Text};
 use std::alloc::Global;
-use std::process::Abort;
 use std::test::Fail;
 
 // A key that keeps its type.
@@ -53,29 +53,23 @@ const KEYS: &[(Typed, &str, Bare, &str)] = &[
 #[test]
 fn typed_keys_have_texts(rt: HostRuntime) -> Result<(), Fail> {
     for &(typed, text, _, _) in KEYS {
-        assert_eq!(rt; typed_key(typed).to_string(rt.alloc())?.as_str(), text);
+        expect_equal(typed_key(typed).to_string(rt.alloc())?.as_str(), text)?;
     }
     Ok(())
 }
 
 // A key is this one, with this text.
-fn expect_key(
-    rt: &(impl Abort + AllocGlobal),
-    key: &Key,
-    bare: Bare,
-    text: &str,
-) -> Result<(), Fail> {
-    let shown = key.to_string(rt.alloc())?;
-    let expected = bare_key(rt.alloc(), bare)?;
-    assert_eq!(rt; (shown.as_str(), key), (text, &expected));
-    Ok(())
+fn expect_key(alloc: Global, key: &Key, bare: Bare, text: &str) -> Result<(), Fail> {
+    let shown = key.to_string(alloc)?;
+    let expected = bare_key(alloc, bare)?;
+    expect_equal((shown.as_str(), key), (text, &expected))
 }
 
 #[test]
 fn takes_the_type_away(rt: HostRuntime) -> Result<(), Fail> {
     for &(typed, _, bare, text) in KEYS {
         let key = Key::from_intermediate(rt.alloc(), typed_key(typed))?;
-        expect_key(&rt, &key, bare, text)?;
+        expect_key(rt.alloc(), &key, bare, text)?;
     }
     Ok(())
 }

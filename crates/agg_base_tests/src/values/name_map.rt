@@ -1,5 +1,5 @@
+use agg_expect::{expect_equal, expect_equal_for};
 use agg_values::{NameMap, Text};
-use std::process::Abort;
 use std::test::Fail;
 
 // Names that are inserted, with their values and the values that they had.
@@ -10,10 +10,10 @@ const INSERTED: &[(&str, i32, Option<i32>)] = &[
     ("é", 4, None),
 ];
 
-fn expect_inserts(rt: &impl Abort, map: &mut NameMap<i32>) -> Result<(), Fail> {
+fn expect_inserts(map: &mut NameMap<i32>) -> Result<(), Fail> {
     for &(name, value, old) in INSERTED {
         let name = Text::copy_of(map.allocator(), name)?;
-        assert_eq!(rt; map.insert(name, value)?, old);
+        expect_equal(map.insert(name, value)?, old)?;
     }
     Ok(())
 }
@@ -21,32 +21,31 @@ fn expect_inserts(rt: &impl Abort, map: &mut NameMap<i32>) -> Result<(), Fail> {
 // Names, and their values.
 const FOUND: &[(&str, Option<i32>)] = &[("a", Some(2)), ("b", Some(3)), ("c", None)];
 
-fn expect_values(rt: &impl Abort, map: &NameMap<i32>) -> Result<(), Fail> {
+fn expect_values(map: &NameMap<i32>) -> Result<(), Fail> {
     for &(name, value) in FOUND {
         let found = map.get(&Text::copy_of(map.allocator(), name)?).copied();
-        assert_eq!(rt; found, value, "{name}");
+        expect_equal_for(name, found, value)?;
     }
     Ok(())
 }
 
 // A map's names, one after the other, are these.
-fn expect_names(rt: &impl Abort, map: &NameMap<i32>, expected: &str) -> Result<(), Fail> {
+fn expect_names(map: &NameMap<i32>, expected: &str) -> Result<(), Fail> {
     let mut names = String::new(map.allocator());
     for (name, _) in map.iter() {
         names.push_str(name.as_str())?;
     }
     let is_each_counted = map.keys().count() == map.len();
-    assert_eq!(rt; (names.as_str(), is_each_counted), (expected, true));
-    Ok(())
+    expect_equal((names.as_str(), is_each_counted), (expected, true))
 }
 
 // Names that are removed, and the values that they had.
 const REMOVED: &[(&str, Option<i32>)] = &[("c", None), ("b", Some(3))];
 
-fn expect_removals(rt: &impl Abort, map: &mut NameMap<i32>) -> Result<(), Fail> {
+fn expect_removals(map: &mut NameMap<i32>) -> Result<(), Fail> {
     for &(name, value) in REMOVED {
         let name = Text::copy_of(map.allocator(), name)?;
-        assert_eq!(rt; map.remove(&name), value);
+        expect_equal(map.remove(&name), value)?;
     }
     Ok(())
 }
@@ -55,10 +54,9 @@ fn expect_removals(rt: &impl Abort, map: &mut NameMap<i32>) -> Result<(), Fail> 
 fn holds_a_value_by_name(rt: HostRuntime) -> Result<(), Fail> {
     let mut map = NameMap::with_capacity(rt.alloc(), 2)?;
     let was_empty = map.is_empty();
-    expect_inserts(&rt, &mut map)?;
-    expect_values(&rt, &map)?;
-    expect_names(&rt, &map, "abé")?;
-    expect_removals(&rt, &mut map)?;
-    assert_eq!(rt; (was_empty, map.len()), (true, 2));
-    Ok(())
+    expect_inserts(&mut map)?;
+    expect_values(&map)?;
+    expect_names(&map, "abé")?;
+    expect_removals(&mut map)?;
+    expect_equal((was_empty, map.len()), (true, 2))
 }

@@ -1,5 +1,7 @@
+use agg_expect::expect_equal_for;
 use agg_values::{ProjectedNumber, cmp_i64_u64, i64_to_u64, u64_to_i64};
 use std::cmp::Ordering;
+use std::test::Fail;
 
 // Two numbers, and how they compare by value.
 const COMPARED: &[(i64, u64, Ordering)] = &[
@@ -36,22 +38,25 @@ const TO_SIGNED: &[(u64, ProjectedNumber<i64>)] = &[
 ];
 
 #[test]
-fn compares_by_value(rt: HostRuntime) {
+fn compares_by_value() -> Result<(), Fail> {
     for &(left, right, order) in COMPARED {
-        assert_eq!(rt; cmp_i64_u64(left, right), order, "{left} and {right}");
+        expect_equal_for((left, right), cmp_i64_u64(left, right), order)?;
     }
+    Ok(())
 }
 
 #[test]
-fn projects_signed_numbers_by_value(rt: HostRuntime) {
+fn projects_signed_numbers_by_value() -> Result<(), Fail> {
     for &(number, projected) in TO_UNSIGNED {
-        assert_eq!(rt; i64_to_u64(number), projected, "{number}");
+        expect_equal_for(number, i64_to_u64(number), projected)?;
     }
+    Ok(())
 }
 
 #[test]
-fn projects_unsigned_numbers_by_value(rt: HostRuntime) {
+fn projects_unsigned_numbers_by_value() -> Result<(), Fail> {
     for &(number, projected) in TO_SIGNED {
-        assert_eq!(rt; u64_to_i64(number), projected, "{number}");
+        expect_equal_for(number, u64_to_i64(number), projected)?;
     }
+    Ok(())
 }

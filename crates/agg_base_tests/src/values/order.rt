@@ -1,10 +1,10 @@
+use agg_expect::expect_equal_for;
 use agg_values::{
     Address, CompositeIntermediateKey, MissingOrder, Order, Text,
     composite_intermediate_key_ordering,
 };
 use std::alloc::Global;
 use std::cmp::Ordering;
-use std::process::Abort;
 use std::test::Fail;
 
 // Null and a key of each class, ascending.
@@ -44,16 +44,16 @@ fn expected(i: usize, j: usize) -> Orderings {
     (places, places.reverse(), first)
 }
 
-fn expect_ascending(rt: &impl Abort, keys: &[CompositeIntermediateKey]) {
+fn expect_ascending(keys: &[CompositeIntermediateKey]) -> Result<(), Fail> {
     for (i, left) in keys.iter().enumerate() {
         for (j, right) in keys.iter().enumerate() {
-            assert_eq!(rt; orderings(left, right), expected(i, j), "{i} and {j}");
+            expect_equal_for((i, j), orderings(left, right), expected(i, j))?;
         }
     }
+    Ok(())
 }
 
 #[test]
 fn orders_classes_and_null(rt: HostRuntime) -> Result<(), Fail> {
-    expect_ascending(&rt, ascending(rt.alloc())?.as_slice());
-    Ok(())
+    expect_ascending(ascending(rt.alloc())?.as_slice())
 }

@@ -1,3 +1,4 @@
+use agg_expect::expect_equal;
 use agg_values::{
     AggregationError, DateHistogramParseError, InvalidArgument, OutOfMemory, RequestError, Text,
 };
@@ -52,7 +53,7 @@ fn error_for(alloc: Global, part: Part) -> Result<RequestError, OutOfMemory> {
 fn passes_the_errors_of_its_parts_on(rt: HostRuntime) -> Result<(), Fail> {
     let alloc = rt.alloc();
     for part in [Part::Argument, Part::Interval, Part::Memory, Part::Limit] {
-        assert_eq!(rt; refused(alloc, part), Err(error_for(alloc, part)?));
+        expect_equal(refused(alloc, part), Err(error_for(alloc, part)?))?;
     }
     Ok(())
 }

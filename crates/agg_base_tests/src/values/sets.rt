@@ -1,40 +1,39 @@
 //! A set finds a value that is equal to the one that it holds, and no other.
+use agg_expect::expect_equal_for;
 use agg_values::{
     Address, CompositeIntermediateKey, CompositeKey, IntermediateKey, Key, OutOfMemory, Text, Tuple,
 };
 use std::alloc::Global;
 use std::collections::HashSet;
 use std::hash::Hash;
-use std::process::Abort;
 use std::test::Fail;
 
 // A set that holds one value finds an equal one and not another.
 fn expect_found<T: Eq + Hash + Drop>(
-    rt: &(impl Abort + AllocGlobal),
+    alloc: Global,
     kind: &str,
     item: T,
     equal: &T,
     other: &T,
 ) -> Result<(), Fail> {
-    let mut set = HashSet::new(rt.alloc());
+    let mut set = HashSet::new(alloc);
     set.insert(item)?;
     let found = (set.contains(equal), set.contains(other));
-    assert_eq!(rt; found, (true, false), "{kind}");
-    Ok(())
+    expect_equal_for(kind, found, (true, false))
 }
 
 #[test]
 fn sets_find_equal_keys(rt: HostRuntime) -> Result<(), Fail> {
-    expect_found(&rt, "address", Address(1), &Address(1), &Address(2))?;
+    expect_found(rt.alloc(), "address", Address(1), &Address(1), &Address(2))?;
     expect_found(
-        &rt,
+        rt.alloc(),
         "typed key",
         CompositeIntermediateKey::I64(5),
         &CompositeIntermediateKey::I64(5),
         &CompositeIntermediateKey::U64(5),
     )?;
     expect_found(
-        &rt,
+        rt.alloc(),
         "shown key",
         CompositeKey::I64(5),
         &CompositeKey::I64(5),
@@ -44,9 +43,15 @@ fn sets_find_equal_keys(rt: HostRuntime) -> Result<(), Fail> {
 
 #[test]
 fn sets_find_equal_keys_of_buckets(rt: HostRuntime) -> Result<(), Fail> {
-    expect_found(&rt, "bucket key", Key::I64(5), &Key::I64(5), &Key::U64(5))?;
     expect_found(
-        &rt,
+        rt.alloc(),
+        "bucket key",
+        Key::I64(5),
+        &Key::I64(5),
+        &Key::U64(5),
+    )?;
+    expect_found(
+        rt.alloc(),
         "intermediate key",
         IntermediateKey::Bool(true),
         &IntermediateKey::Bool(true),
@@ -58,7 +63,13 @@ fn sets_find_equal_keys_of_buckets(rt: HostRuntime) -> Result<(), Fail> {
 fn sets_find_equal_texts(rt: HostRuntime) -> Result<(), Fail> {
     let equal = Text::copy_of(rt.alloc(), "a")?;
     let other = Text::copy_of(rt.alloc(), "b")?;
-    expect_found(&rt, "text", Text::copy_of(rt.alloc(), "a")?, &equal, &other)
+    expect_found(
+        rt.alloc(),
+        "text",
+        Text::copy_of(rt.alloc(), "a")?,
+        &equal,
+        &other,
+    )
 }
 
 fn tuple_of(alloc: Global, key: CompositeIntermediateKey) -> Result<Tuple, OutOfMemory> {
@@ -74,5 +85,5 @@ fn sets_find_equal_tuples(rt: HostRuntime) -> Result<(), Fail> {
     let equal = tuple_of(alloc, CompositeIntermediateKey::I64(5))?;
     let other = tuple_of(alloc, CompositeIntermediateKey::U64(5))?;
     let held = tuple_of(alloc, CompositeIntermediateKey::I64(5))?;
-    expect_found(&rt, "tuple", held, &equal, &other)
+    expect_found(rt.alloc(), "tuple", held, &equal, &other)
 }

@@ -1,3 +1,4 @@
+use agg_expect::{expect_equal, expect_equal_for};
 use agg_values::{OutOfMemory, Text};
 use std::alloc::Global;
 use std::cmp::Ordering;
@@ -20,7 +21,7 @@ fn compared(alloc: Global, left: &str, right: &str) -> Result<Ordering, OutOfMem
 fn orders_texts_by_their_bytes(rt: HostRuntime) -> Result<(), Fail> {
     for &(left, right, order) in COMPARED {
         let found = compared(rt.alloc(), left, right)?;
-        assert_eq!(rt; found, order, "{left} and {right}");
+        expect_equal_for((left, right), found, order)?;
     }
     Ok(())
 }
@@ -29,7 +30,7 @@ fn orders_texts_by_their_bytes(rt: HostRuntime) -> Result<(), Fail> {
 fn copies_are_equal(rt: HostRuntime) -> Result<(), Fail> {
     for &(given, _, _) in COMPARED {
         let text = Text::from_string(String::from_str(rt.alloc(), given)?)?;
-        assert_eq!(rt; text.try_clone(rt.alloc())?, text);
+        expect_equal(text.try_clone(rt.alloc())?, text)?;
     }
     Ok(())
 }

@@ -1,3 +1,4 @@
+use agg_expect::{expect_equal, expect_equal_for};
 use agg_values::{CompositeIntermediateKey, OutOfMemory, Text, Tuple};
 use std::alloc::Global;
 use std::test::Fail;
@@ -14,8 +15,7 @@ fn two_keys(alloc: Global) -> Result<Tuple, OutOfMemory> {
 fn copies_its_keys(rt: HostRuntime) -> Result<(), Fail> {
     let tuple = two_keys(rt.alloc())?;
     let copy = tuple.try_clone(rt.alloc())?;
-    assert_eq!(rt; (copy.as_slice().len(), &copy), (2, &tuple));
-    Ok(())
+    expect_equal((copy.as_slice().len(), &copy), (2, &tuple))
 }
 
 #[test]
@@ -25,15 +25,11 @@ fn takes_any_number_of_keys(rt: HostRuntime) -> Result<(), Fail> {
         for n in 0..3 {
             tuple.push(CompositeIntermediateKey::I64(n))?;
             let last = CompositeIntermediateKey::I64(n);
-            assert_eq!(rt;
-                tuple.as_slice().last(),
-                Some(&last),
-                "{n} with room for {room}"
-            );
+            expect_equal_for((n, room), tuple.as_slice().last(), Some(&last))?;
         }
-        assert_eq!(rt; tuple.as_slice().len(), 3);
+        expect_equal(tuple.as_slice().len(), 3)?;
         let first = CompositeIntermediateKey::I64(0);
-        assert_eq!(rt; tuple.as_slice().first(), Some(&first));
+        expect_equal(tuple.as_slice().first(), Some(&first))?;
     }
     Ok(())
 }

@@ -1,4 +1,5 @@
 use crate::values::given::Given;
+use agg_expect::expect_equal;
 use agg_values::canonical;
 use std::test::Fail;
 
@@ -14,7 +15,7 @@ fn makes_numbers_signed_where_they_fit(rt: HostRuntime) -> Result<(), Fail> {
     let alloc = rt.alloc();
     for &(given, same) in CANONICAL {
         let signed = canonical(given.key(alloc)?);
-        assert_eq!(rt; signed, same.key(alloc)?);
+        expect_equal(signed, same.key(alloc)?)?;
     }
     Ok(())
 }
@@ -24,7 +25,7 @@ fn copies_are_equal(rt: HostRuntime) -> Result<(), Fail> {
     let alloc = rt.alloc();
     for &(given, _) in CANONICAL {
         let key = given.key(alloc)?;
-        assert_eq!(rt; key.try_clone(alloc)?, key);
+        expect_equal(key.try_clone(alloc)?, key)?;
     }
     Ok(())
 }

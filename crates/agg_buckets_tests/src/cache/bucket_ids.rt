@@ -1,4 +1,5 @@
 use agg_cache::{BucketId, BucketIdProvider};
+use agg_expect::expect_equal;
 use agg_values::TooMany;
 use std::test::Fail;
 
@@ -16,25 +17,27 @@ fn two_draws(provider: &mut BucketIdProvider) -> Draws {
 }
 
 #[test]
-fn gives_ids_in_order(rt: HostRuntime) {
+fn gives_ids_in_order() -> Result<(), Fail> {
     for &(next, expected) in DRAWN {
         let mut provider = BucketIdProvider::starting_at(next);
-        assert_eq!(rt; two_draws(&mut provider), expected);
-    }
-}
-
-#[test]
-fn a_clone_gives_the_same_ids(rt: HostRuntime) -> Result<(), Fail> {
-    for &(next, expected) in DRAWN {
-        let mut clone = BucketIdProvider::starting_at(next).clone()?;
-        assert_eq!(rt; two_draws(&mut clone), expected);
+        expect_equal(two_draws(&mut provider), expected)?;
     }
     Ok(())
 }
 
 #[test]
-fn begins_at_0(rt: HostRuntime) {
-    for mut provider in [BucketIdProvider::new(), BucketIdProvider::default()] {
-        assert_eq!(rt; two_draws(&mut provider), (Ok(0), Ok(1)));
+fn a_clone_gives_the_same_ids() -> Result<(), Fail> {
+    for &(next, expected) in DRAWN {
+        let mut clone = BucketIdProvider::starting_at(next).clone()?;
+        expect_equal(two_draws(&mut clone), expected)?;
     }
+    Ok(())
+}
+
+#[test]
+fn begins_at_0() -> Result<(), Fail> {
+    for mut provider in [BucketIdProvider::new(), BucketIdProvider::default()] {
+        expect_equal(two_draws(&mut provider), (Ok(0), Ok(1)))?;
+    }
+    Ok(())
 }

@@ -1,4 +1,5 @@
 use agg_cache::LowCardCachedSubAggs;
+use agg_expect::expect_equal;
 use agg_values::OutOfMemory;
 use std::alloc::Global;
 use std::test::Fail;
@@ -17,7 +18,7 @@ fn pushed(alloc: Global, docs: u32) -> Result<LowCardCachedSubAggs, OutOfMemory>
 #[test]
 fn is_due_after_enough_pushes(rt: HostRuntime) -> Result<(), Fail> {
     for &(docs, due) in DUE {
-        assert_eq!(rt; pushed(rt.alloc(), docs)?.due(), due);
+        expect_equal(pushed(rt.alloc(), docs)?.due(), due)?;
     }
     Ok(())
 }
@@ -27,6 +28,5 @@ fn a_take_leaves_nothing(rt: HostRuntime) -> Result<(), Fail> {
     let mut cached = pushed(rt.alloc(), 2_048)?;
     let batches = cached.take()?.as_slice().len();
     let more = cached.take()?.as_slice().len();
-    assert_eq!(rt; (batches, cached.due(), more), (1, false, 0));
-    Ok(())
+    expect_equal((batches, cached.due(), more), (1, false, 0))
 }

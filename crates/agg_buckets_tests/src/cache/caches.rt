@@ -1,7 +1,7 @@
 use agg_cache::{Batch, BucketId, HighCardSubAggCache, LowCardSubAggCache, SubAggCache};
+use agg_expect::expect_equal;
 use agg_values::{DocId, OutOfMemory};
 use std::alloc::Global;
-use std::process::Abort;
 use std::test::Fail;
 
 // A bucket and its documents.
@@ -43,30 +43,30 @@ fn pushed<C: SubAggCache>(alloc: Global, pushes: &[(BucketId, DocId)]) -> Result
 }
 
 // The batches are of these buckets, with these documents.
-fn expect_batches(rt: &impl Abort, batches: &[Batch], expected: &[Documents]) {
-    assert_eq!(rt; batches.len(), expected.len());
+fn expect_batches(batches: &[Batch], expected: &[Documents]) -> Result<(), Fail> {
+    expect_equal(batches.len(), expected.len())?;
     for (batch, &documents) in batches.iter().zip(expected) {
-        assert_eq!(rt; (batch.bucket_id, batch.docs.as_slice()), documents);
+        expect_equal((batch.bucket_id, batch.docs.as_slice()), documents)?;
     }
+    Ok(())
 }
 
 // A cache gives these batches of the pushes, and then none.
 fn expect_taken<C: SubAggCache>(
-    rt: &(impl Abort + AllocGlobal),
+    alloc: Global,
     pushes: &[(BucketId, DocId)],
     expected: &[Documents],
 ) -> Result<(), Fail> {
-    let mut cache: C = pushed(rt.alloc(), pushes)?;
-    expect_batches(rt, cache.take_batches()?.as_slice(), expected);
-    expect_batches(rt, cache.take_batches()?.as_slice(), &[]);
-    Ok(())
+    let mut cache: C = pushed(alloc, pushes)?;
+    expect_batches(cache.take_batches()?.as_slice(), expected)?;
+    expect_batches(cache.take_batches()?.as_slice(), &[])
 }
 
 #[test]
 fn give_the_documents_of_each_bucket(rt: HostRuntime) -> Result<(), Fail> {
     for &Taken { pushes, low, high } in TAKEN {
-        expect_taken::<LowCardSubAggCache>(&rt, pushes, low)?;
-        expect_taken::<HighCardSubAggCache>(&rt, pushes, high)?;
+        expect_taken::<LowCardSubAggCache>(rt.alloc(), pushes, low)?;
+        expect_taken::<HighCardSubAggCache>(rt.alloc(), pushes, high)?;
     }
     Ok(())
 }

@@ -1,15 +1,13 @@
 use agg_cache::CollectError;
+use agg_expect::expect_equal;
 use agg_values::{AggregationError, OutOfMemory, TooMany};
-use std::process::Abort;
+use std::alloc::Global;
 use std::test::Fail;
 
 // Each error tells its text.
-fn expect_texts(
-    rt: &(impl Abort + AllocGlobal),
-    cases: &[(CollectError, &str)],
-) -> Result<(), Fail> {
+fn expect_texts(alloc: Global, cases: &[(CollectError, &str)]) -> Result<(), Fail> {
     for (error, text) in cases {
-        assert_eq!(rt; error.to_string(rt.alloc())?.as_str(), *text);
+        expect_equal(error.to_string(alloc)?.as_str(), *text)?;
     }
     Ok(())
 }
@@ -36,5 +34,5 @@ fn tells_why_documents_are_refused(rt: HostRuntime) -> Result<(), Fail> {
         ),
         (CollectError::from(OutOfMemory), "out of memory"),
     ];
-    expect_texts(&rt, &cases)
+    expect_texts(rt.alloc(), &cases)
 }

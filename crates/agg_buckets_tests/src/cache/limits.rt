@@ -1,7 +1,9 @@
 ghost use Rattle.std.specs.Prelude.{◌≤◌};
 
 use agg_cache::{AggregationLimitsGuard, LimitsLedger};
+use agg_expect::expect_equal;
 use agg_values::AggregationError;
+use std::test::Fail;
 
 // The limits that are given for memory and buckets, and what a new ledger tells.
 const LIMITS: &[(Option<u64>, Option<u32>, (u64, u64, u32))] = &[
@@ -10,7 +12,7 @@ const LIMITS: &[(Option<u64>, Option<u32>, (u64, u64, u32))] = &[
 ];
 
 #[test]
-fn a_limit_that_is_not_given_is_the_default(rt: HostRuntime) {
+fn a_limit_that_is_not_given_is_the_default() -> Result<(), Fail> {
     for &(memory_limit, bucket_limit, expected) in LIMITS {
         let limits = LimitsLedger::new(memory_limit, bucket_limit);
         let told = (
@@ -18,8 +20,9 @@ fn a_limit_that_is_not_given_is_the_default(rt: HostRuntime) {
             limits.memory_limit(),
             limits.bucket_limit(),
         );
-        assert_eq!(rt; told, expected);
+        expect_equal(told, expected)?;
     }
+    Ok(())
 }
 
 // A limit, bytes that a guard charges and then more bytes, what comes of these, and what is then in
@@ -48,15 +51,16 @@ fn charge(
 }
 
 #[test]
-fn a_charge_above_the_limit_changes_nothing(rt: HostRuntime) {
+fn a_charge_above_the_limit_changes_nothing() -> Result<(), Fail> {
     for &(limit, first, more, expected, in_use) in CHARGES {
         let mut limits = LimitsLedger::new(Some(limit), None);
         let mut guard = limits.guard();
         let before = charge(&mut guard, &mut limits, first);
         let charged = charge(&mut guard, &mut limits, more);
-        assert_eq!(rt; (before, charged), (Ok(()), expected));
-        assert_eq!(rt; (limits.in_use(), guard.allocated()), (in_use, in_use));
+        expect_equal((before, charged), (Ok(()), expected))?;
+        expect_equal((limits.in_use(), guard.allocated()), (in_use, in_use))?;
         guard.give_back(&mut limits);
-        assert_eq!(rt; limits.in_use(), 0);
+        expect_equal(limits.in_use(), 0)?;
     }
+    Ok(())
 }

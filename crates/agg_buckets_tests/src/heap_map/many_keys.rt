@@ -2,6 +2,7 @@
 ghost use Rattle.std.specs.Prelude.{◌≡◌, ◌<◌};
 
 use crate::heap_map::array_keys::insert;
+use agg_expect::expect_equal;
 use agg_heap_map::LazyHeapMap;
 use agg_values::Steps;
 use std::marker::Brand;
@@ -25,23 +26,21 @@ fn expect_entries(
     map: &LazyHeapMap<u64, u64>,
 ) -> Result<(), Fail> {
     let entries = map.entries_ascending(rt.alloc())?;
-    assert_eq!(rt; (entries.len(), map.size()), (MANY as usize, MANY as usize));
-    assert_eq!(rt;
+    expect_equal((entries.len(), map.size()), (MANY as usize, MANY as usize))?;
+    expect_equal(
         (entries.first(), entries.last()),
-        (Some(&(0, 1)), Some(&(MANY - 1, 1)))
-    );
-    Ok(())
+        (Some(&(0, 1)), Some(&(MANY - 1, 1))),
+    )
 }
 
 // A map gives its entries away, ascending.
-fn expect_given(rt: &impl Abort, map: LazyHeapMap<u64, u64>) -> Result<(), Fail> {
+fn expect_given(map: LazyHeapMap<u64, u64>) -> Result<(), Fail> {
     let mut rest = map.into_ascending()?;
-    assert_eq!(rt; (rest.len(), rest.next()), (MANY as usize, Some((0, 1))));
-    assert_eq!(rt;
+    expect_equal((rest.len(), rest.next()), (MANY as usize, Some((0, 1))))?;
+    expect_equal(
         (rest.len(), rest.last()),
-        (MANY as usize - 1, Some((MANY - 1, 1)))
-    );
-    Ok(())
+        (MANY as usize - 1, Some((MANY - 1, 1))),
+    )
 }
 
 // A map that expects many keys has them all, ascending.
@@ -55,7 +54,7 @@ fn expect_all<L: Ledger>(rt: &(impl Abort + AllocGlobal), blank: Blank) -> Resul
     map.expect(MANY as usize);
     put_all(&mut map, &mut steps)?;
     expect_entries(rt, &map)?;
-    expect_given(rt, map)
+    expect_given(map)
 }
 
 #[test]

@@ -1,6 +1,7 @@
 //! Tests of maps from keys of two parts.
 ghost use Rattle.std.specs.Prelude.{◌≡◌, ◌<◌, IfOk};
 
+use agg_expect::{expect_equal, expect_equal_for};
 use agg_heap_map::DynArrayHeapMap;
 use agg_values::{InvalidArgument, OutOfMemory, Steps};
 use std::alloc::Global;
@@ -47,20 +48,20 @@ fn two_keys<L: Ledger>(alloc: Global, steps: &mut Steps<L>) -> Result<Map, Fail>
 }
 
 // A map has so many keys, of which this is the greatest.
-fn expect_highest(rt: &impl Abort, map: &Map, size: usize, highest: [u64; 2]) {
-    assert_eq!(rt;
+fn expect_highest(map: &Map, size: usize, highest: [u64; 2]) -> Result<(), Fail> {
+    expect_equal(
         (map.size(), map.peek_highest()),
-        (size, Some(highest.as_slice()))
-    );
+        (size, Some(highest.as_slice())),
+    )
 }
 
 // The greatest key goes.
-fn expect_highest_gone<L: Ledger>(rt: &impl Abort, map: &mut Map, steps: &mut Steps<L>) {
-    expect_highest(rt, map, 2, B);
-    assert_eq!(rt; map.memory_consumption(), 256);
+fn expect_highest_gone<L: Ledger>(map: &mut Map, steps: &mut Steps<L>) -> Result<(), Fail> {
+    expect_highest(map, 2, B)?;
+    expect_equal(map.memory_consumption(), 256)?;
     map.evict_highest(steps);
-    expect_highest(rt, map, 1, A);
-    assert_eq!(rt; map.memory_consumption(), 128);
+    expect_highest(map, 1, A)?;
+    expect_equal(map.memory_consumption(), 128)
 }
 
 // The greatest key goes, and the pair of the other stays.
@@ -69,41 +70,37 @@ fn expect_evicted<L: Ledger>(
     steps: &mut Steps<L>,
 ) -> Result<(), Fail> {
     let mut map = two_keys(rt.alloc(), steps)?;
-    expect_highest_gone(rt, &mut map, steps);
+    expect_highest_gone(&mut map, steps)?;
     let mut pairs = map.into_iter();
     let found = pairs
         .next()
         .map(|(key, value)| (key.as_slice() == A.as_slice(), value));
-    assert_eq!(rt; (found, pairs.next().is_none()), (Some((true, 'a')), true));
-    Ok(())
+    expect_equal((found, pairs.next().is_none()), (Some((true, 'a')), true))
 }
 
 // Keys are there or not, and one that was taken out comes again.
-fn expect_found<L: Ledger>(
-    rt: &(impl Abort + AllocGlobal),
-    steps: &mut Steps<L>,
-) -> Result<(), Fail> {
-    let mut map = two_keys(rt.alloc(), steps)?;
+fn expect_found<L: Ledger>(alloc: Global, steps: &mut Steps<L>) -> Result<(), Fail> {
+    let mut map = two_keys(alloc, steps)?;
     let found = (
         value_at(&mut map, B, steps),
         value_at(&mut map, [1, 3], steps),
     );
-    assert_eq!(rt; found, (Some('b'), None));
+    expect_equal(found, (Some('b'), None))?;
     map.evict_highest(steps);
-    assert_eq!(rt; value_at(&mut map, B, steps), None);
+    expect_equal(value_at(&mut map, B, steps), None)?;
     let again = (put(&mut map, B, 'c', steps)?, put(&mut map, A, 'd', steps)?);
-    assert_eq!(rt; again, ('c', 'a'));
-    expect_highest(rt, &map, 2, B);
+    expect_equal(again, ('c', 'a'))?;
+    expect_highest(&map, 2, B)?;
     Ok(())
 }
 
 // An empty map has no greatest key and no values.
-fn expect_empty<L: Ledger>(rt: &impl Abort, map: &mut Map, steps: &mut Steps<L>)
+fn expect_empty<L: Ledger>(map: &mut Map, steps: &mut Steps<L>) -> Result<(), Fail>
     requires { map.old.0 ≡ 2 }
 {
     map.evict_highest(steps);
-    assert_eq!(rt; value_at(map, A, steps), None);
-    assert_eq!(rt; (map.size(), map.peek_highest()), (0, None));
+    expect_equal(value_at(map, A, steps), None)?;
+    expect_equal((map.size(), map.peek_highest()), (0, None))
 }
 
 // An empty map has nothing to give.
@@ -112,7 +109,7 @@ fn expect_nothing<L: Ledger>(
     steps: &mut Steps<L>,
 ) -> Result<(), Fail> {
     let mut map = Map::try_new(rt.alloc(), 2)?;
-    expect_empty(rt, &mut map, steps);
+    expect_empty(&mut map, steps)?;
     assert!(rt; map.into_iter().next().is_none());
     Ok(())
 }
@@ -124,7 +121,7 @@ fn expect_over<L: Ledger>(rt: &(impl Abort + AllocGlobal), blank: Blank) -> Resu
 {
     let mut steps: Steps<L> = Steps::new(blank);
     expect_evicted(rt, &mut steps)?;
-    expect_found(rt, &mut steps)?;
+    expect_found(rt.alloc(), &mut steps)?;
     expect_nothing(rt, &mut steps)
 }
 
@@ -139,13 +136,14 @@ fn fault_of(alloc: Global, dimension: usize) -> Option<InvalidArgument> {
 }
 
 #[test]
-fn refuses_other_dimensions(rt: HostRuntime) {
+fn refuses_other_dimensions(rt: HostRuntime) -> Result<(), Fail> {
     for (dimension, fault) in [
         (0, Some(InvalidArgument::NoSource)),
         (1, None),
         (16, None),
         (17, Some(InvalidArgument::TooManySources)),
     ] {
-        assert_eq!(rt; fault_of(rt.alloc(), dimension), fault, "{dimension}");
+        expect_equal_for(dimension, fault_of(rt.alloc(), dimension), fault)?;
     }
+    Ok(())
 }

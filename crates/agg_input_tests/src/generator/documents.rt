@@ -1,11 +1,11 @@
 //! The documents of generated inputs.
+use agg_expect::{expect_equal, expect_equal_for};
 use agg_generator::generated_input;
 use agg_input::Input;
 use agg_segment::{SegmentReader, Snapshot};
 use agg_values::{CompositeIntermediateKey, Text};
 use std::alloc::Global;
 use std::collections::BTreeSet;
-use std::process::Abort;
 use std::test::Fail;
 
 // The snapshots of a seed.
@@ -70,78 +70,78 @@ fn count_pairs(alloc: Global, segments: &[SegmentReader]) -> Result<usize, Fail>
 }
 
 // Each of twelve snapshots has four segments.
-fn expect_four_segments(rt: &impl Abort, snapshots: &[Snapshot]) {
-    assert_eq!(rt; snapshots.len(), 12);
+fn expect_four_segments(snapshots: &[Snapshot]) -> Result<(), Fail> {
+    expect_equal(snapshots.len(), 12)?;
     for snapshot in snapshots {
         let segments = snapshot.segments.as_slice();
-        assert_eq!(rt; (snapshot.page_size, segments.len()), (100, 4));
+        expect_equal((snapshot.page_size, segments.len()), (100, 4))?;
         for segment in segments {
-            assert_eq!(rt; segment.num_docs(), 1_024);
+            expect_equal(segment.num_docs(), 1_024)?;
         }
     }
+    Ok(())
 }
 
 #[test]
 fn twelve_snapshots_have_four_segments(rt: HostRuntime) -> Result<(), Fail> {
-    expect_four_segments(&rt, &snapshots_of(rt.alloc(), 7)?);
+    expect_four_segments(&snapshots_of(rt.alloc(), 7)?)?;
     Ok(())
 }
 
 // The first key of a field of a document is this one.
 fn expect_key(
-    rt: &(impl Abort + AllocGlobal),
+    alloc: Global,
     segment: &SegmentReader,
     field: &str,
     doc: u32,
     expected: &CompositeIntermediateKey,
 ) -> Result<(), Fail> {
-    let found = key_of(rt.alloc(), segment, field, doc)?;
-    assert_eq!(rt; found.as_ref(), Some(expected));
-    Ok(())
+    let found = key_of(alloc, segment, field, doc)?;
+    expect_equal(found.as_ref(), Some(expected))
 }
 
 // A document has a number, a text and a date, which are these.
 fn expect_drawn(
-    rt: &(impl Abort + AllocGlobal),
+    alloc: Global,
     segment: &SegmentReader,
     doc: u32,
     (number, text, date): (i64, &str, i64),
 ) -> Result<(), Fail> {
-    let text = CompositeIntermediateKey::Str(Text::copy_of(rt.alloc(), text)?);
-    expect_key(rt, segment, "b", doc, &text)?;
+    let text = CompositeIntermediateKey::Str(Text::copy_of(alloc, text)?);
+    expect_key(alloc, segment, "b", doc, &text)?;
     let number = CompositeIntermediateKey::I64(number);
-    expect_key(rt, segment, "a", doc, &number)?;
+    expect_key(alloc, segment, "a", doc, &number)?;
     let date = CompositeIntermediateKey::DateTime(date);
-    expect_key(rt, segment, "d", doc, &date)
+    expect_key(alloc, segment, "d", doc, &date)
 }
 
 // The first document of snapshots and the last one are as they are drawn.
-fn expect_ends(rt: &(impl Abort + AllocGlobal), snapshots: &[Snapshot]) -> Result<(), Fail> {
+fn expect_ends(alloc: Global, snapshots: &[Snapshot]) -> Result<(), Fail> {
     for snapshot in snapshots {
         let segments = snapshot.segments.as_slice();
         let first = segments.first().ok_or("a segment")?;
         let last = segments.last().ok_or("a segment")?;
-        expect_drawn(rt, first, 0, (28, "t11", 65_059_200_000_000_000))?;
-        expect_drawn(rt, last, 1_023, (48, "t17", 51_494_400_000_000_000))?;
+        expect_drawn(alloc, first, 0, (28, "t11", 65_059_200_000_000_000))?;
+        expect_drawn(alloc, last, 1_023, (48, "t17", 51_494_400_000_000_000))?;
     }
     Ok(())
 }
 
 #[test]
 fn documents_are_as_they_are_drawn(rt: HostRuntime) -> Result<(), Fail> {
-    expect_ends(&rt, &snapshots_of(rt.alloc(), 7)?)
+    expect_ends(rt.alloc(), &snapshots_of(rt.alloc(), 7)?)
 }
 
 // Each of the snapshots of a seed has so many groups.
 fn expect_groups(
-    rt: &(impl Abort + AllocGlobal),
+    alloc: Global,
     snapshots: &[Snapshot],
     seed: u64,
     groups: usize,
 ) -> Result<(), Fail> {
     for snapshot in snapshots {
-        let found = count_pairs(rt.alloc(), snapshot.segments.as_slice())?;
-        assert_eq!(rt; found, groups, "of seed {seed}");
+        let found = count_pairs(alloc, snapshot.segments.as_slice())?;
+        expect_equal_for(seed, found, groups)?;
     }
     Ok(())
 }
@@ -149,7 +149,7 @@ fn expect_groups(
 #[test]
 fn seeds_have_their_groups(rt: HostRuntime) -> Result<(), Fail> {
     for (seed, groups) in [(0, 1_017), (7, 1_018)] {
-        expect_groups(&rt, &snapshots_of(rt.alloc(), seed)?, seed, groups)?;
+        expect_groups(rt.alloc(), &snapshots_of(rt.alloc(), seed)?, seed, groups)?;
     }
     Ok(())
 }

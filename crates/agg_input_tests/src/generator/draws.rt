@@ -1,5 +1,7 @@
 //! The first numbers of seeds.
+use agg_expect::expect_equal_for;
 use agg_generator::Generator;
+use std::test::Fail;
 
 // Seeds, and their first two numbers.
 const FIRST: &[(u64, [u64; 2])] = &[
@@ -9,11 +11,12 @@ const FIRST: &[(u64, [u64; 2])] = &[
 ];
 
 #[test]
-fn seeds_have_their_numbers(rt: HostRuntime) {
+fn seeds_have_their_numbers() -> Result<(), Fail> {
     for (seed, numbers) in FIRST {
         let mut generator = Generator::new(*seed);
         for number in numbers {
-            assert_eq!(rt; generator.draw(), *number, "of seed {seed}");
+            expect_equal_for(seed, generator.draw(), *number)?;
         }
     }
+    Ok(())
 }

@@ -1,10 +1,10 @@
 //! What a generated input asks for.
+use agg_expect::expect_equal;
 use agg_generator::generated_input;
 use agg_input::{Header, Input, InputError, read_input};
 use agg_request::{Aggregations, NamedBuilder, may_be_written, write_aggregations};
 use agg_segment::QueryTree;
 use std::alloc::Global;
-use std::process::Abort;
 use std::test::Fail;
 
 // The header as a line.
@@ -28,22 +28,23 @@ fn shown(alloc: Global, request: &Aggregations) -> Result<String, Fail> {
     Ok(write_aggregations(alloc, request)?.to_string(alloc)?)
 }
 
+fn asks_for_all(header: &Header) -> bool {
+    matches!(&header.query, QueryTree::All)
+}
+
 // Two headers say the same, and both ask for all documents.
-fn expect_same(rt: &(impl Abort + AllocGlobal), made: &Header, read: &Header) -> Result<(), Fail> {
-    let alloc = rt.alloc();
-    assert_eq!(rt; shown(alloc, &made.request)?, shown(alloc, &read.request)?);
-    assert_eq!(rt; made.name, read.name);
-    assert_eq!(rt; made.schema.fields(), read.schema.fields());
-    assert!(rt; matches!(&made.query, QueryTree::All));
-    assert!(rt; matches!(&read.query, QueryTree::All));
-    assert_eq!(rt; made.memory_limit, read.memory_limit);
-    assert_eq!(rt; made.bucket_limit, read.bucket_limit);
-    Ok(())
+fn expect_same(alloc: Global, made: &Header, read: &Header) -> Result<(), Fail> {
+    expect_equal(shown(alloc, &made.request)?, shown(alloc, &read.request)?)?;
+    expect_equal(&made.name, &read.name)?;
+    expect_equal(made.schema.fields(), read.schema.fields())?;
+    expect_equal((asks_for_all(made), asks_for_all(read)), (true, true))?;
+    expect_equal(made.memory_limit, read.memory_limit)?;
+    expect_equal(made.bucket_limit, read.bucket_limit)
 }
 
 #[test]
 fn the_header_is_that_of_its_line(rt: HostRuntime) -> Result<(), Fail> {
     let read: Input = read_line(rt.alloc())?;
     let made: Input = generated_input(rt.alloc(), 7)?;
-    expect_same(&rt, &made.header, &read.header)
+    expect_same(rt.alloc(), &made.header, &read.header)
 }

@@ -1,5 +1,6 @@
 use crate::filter::given::red_in_segment;
 use agg_cache::{Batch, BucketId, CollectError, LowCardSubAggCache};
+use agg_expect::expect_equal;
 use agg_filter::{FilterAggReqData, SegmentFilterCollector};
 use agg_values::DocId;
 use std::process::Abort;
@@ -30,16 +31,25 @@ fn docs_of(batches: &[Batch], id: Option<BucketId>) -> &[DocId] {
     &[]
 }
 
+// What is handed on of documents.
+fn handed_on(docs: &[DocId], hands_on: bool) -> &[DocId] {
+    if hands_on { docs } else { &[] }
+}
+
 // The parents have these counts and ids, and the batches these documents, if any are handed on.
-fn expect_red(rt: &impl Abort, collector: &Collector, batches: &[Batch], hands_on: bool) {
+fn expect_red(
+    rt: &impl Abort,
+    collector: &Collector,
+    batches: &[Batch],
+    hands_on: bool,
+) -> Result<(), Fail> {
     for &(parent, red) in RED {
         let id = collector.bucket_id(parent);
-        let handed_on = if hands_on { red } else { &[] };
         assert!(rt; id.is_some());
-        assert_eq!(rt; collector.doc_count(parent), red.len() as u64);
-        assert_eq!(rt; docs_of(batches, id), handed_on);
+        expect_equal(collector.doc_count(parent), red.len() as u64)?;
+        expect_equal(docs_of(batches, id), handed_on(red, hands_on))?;
     }
-    assert_eq!(rt; (collector.doc_count(3), collector.bucket_id(3)), (0, None));
+    expect_equal((collector.doc_count(3), collector.bucket_id(3)), (0, None))
 }
 
 // A collector counts the red documents under their parents, and hands them on or doesn't.
@@ -51,8 +61,7 @@ fn expect_collected(
     collect_all(&mut collector, &red_in_segment(rt.alloc())?)?;
     assert!(rt; !collector.due());
     let batches = collector.take()?;
-    expect_red(rt, &collector, batches.as_slice(), hands_on);
-    Ok(())
+    expect_red(rt, &collector, batches.as_slice(), hands_on)
 }
 
 #[test]
@@ -66,8 +75,8 @@ fn a_leaf_counts_what_matches(rt: HostRuntime) -> Result<(), Fail> {
 }
 
 #[test]
-fn no_parent_has_the_last_number(rt: HostRuntime) {
+fn no_parent_has_the_last_number(rt: HostRuntime) -> Result<(), Fail> {
     let mut collector = Collector::new(rt.alloc());
     let refused = collector.prepare_max_bucket(BucketId::MAX);
-    assert_eq!(rt; refused, Err(CollectError::TooMany));
+    expect_equal(refused, Err(CollectError::TooMany))
 }

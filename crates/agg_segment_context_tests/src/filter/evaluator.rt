@@ -1,4 +1,5 @@
 use crate::filter::given::{Values, filter_of, red_in_segment};
+use agg_expect::expect_equal;
 use agg_segment::QueryTree;
 use agg_values::{DocId, ItemList};
 use std::test::Fail;
@@ -17,7 +18,7 @@ fn filters_batches(rt: HostRuntime) -> Result<(), Fail> {
     for &(docs, red) in BATCHES {
         let mut output = ItemList::new(rt.alloc());
         req.evaluator.filter_batch(docs, &mut output)?;
-        assert_eq!(rt; output.as_slice(), red);
+        expect_equal(output.as_slice(), red)?;
     }
     Ok(())
 }
@@ -26,7 +27,7 @@ fn filters_batches(rt: HostRuntime) -> Result<(), Fail> {
 fn tells_each_document(rt: HostRuntime) -> Result<(), Fail> {
     let req = red_in_segment(rt.alloc())?;
     for (doc, is_red) in [(0, true), (1, false), (2, true), (3, false), (4, false)] {
-        assert_eq!(rt; req.evaluator.matches_document(doc), is_red);
+        expect_equal(req.evaluator.matches_document(doc), is_red)?;
     }
     Ok(())
 }
@@ -41,7 +42,7 @@ const SIZES: &[(&[Values], u64)] = &[(&[], 256), (&[EMPTY; 8], 257), (&[EMPTY; 9
 fn takes_a_bit_for_each_document(rt: HostRuntime) -> Result<(), Fail> {
     for &(documents, bytes) in SIZES {
         let req = filter_of(rt.alloc(), &QueryTree::All, documents)?;
-        assert_eq!(rt; req.get_memory_consumption(), bytes);
+        expect_equal(req.get_memory_consumption(), bytes)?;
     }
     Ok(())
 }

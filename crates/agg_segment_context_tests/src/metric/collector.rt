@@ -1,5 +1,6 @@
 use crate::metric::given::{collector_of, segment, shown};
 use agg_cache::BucketId;
+use agg_expect::expect_equal;
 use agg_metric::{SegmentMetricCollector, StatsType};
 use agg_values::DocId;
 use std::test::Fail;
@@ -68,7 +69,7 @@ fn computes_metrics(rt: HostRuntime) -> Result<(), Fail> {
         let mut collector = collector_of(rt.alloc(), field, kind, &segment)?;
         collector.prepare_max_bucket(0)?;
         collector.collect(0, docs)?;
-        assert_eq!(rt; shown(collector.result(0)), (kind, number));
+        expect_equal(shown(collector.result(0)), (kind, number))?;
     }
     Ok(())
 }
@@ -111,7 +112,7 @@ fn computes_by_parent(rt: HostRuntime) -> Result<(), Fail> {
         let mut collector = collector_of(rt.alloc(), "mixed", kind, &segment)?;
         collect_all(&mut collector)?;
         for &(parent, number) in numbers {
-            assert_eq!(rt; shown(collector.result(parent)), (kind, number));
+            expect_equal(shown(collector.result(parent)), (kind, number))?;
         }
     }
     Ok(())

@@ -2,6 +2,7 @@
 ghost use Rattle.agg_segment_context_tests.specs.Context.{IsContextIn};
 
 use crate::uncut::given::{context_of, segment};
+use agg_expect::expect_equal;
 use agg_request_tree::CompositeAggregation;
 use agg_request_tree_tests::given::{GivenSource, Kind, composite_of};
 use agg_segment::SegmentReader;
@@ -41,7 +42,7 @@ fn count_block(
     assert!(rt; docs.iter().all(|doc| *doc < segment.num_docs()));
     assert!(rt; are_starts_in_range(ctx, docs));
     let counted = uncut_lengths(rt.alloc(), ctx, segment, docs)?;
-    assert_eq!(rt; counted.as_slice(), counts);
+    expect_equal(counted.as_slice(), counts)?;
     sums.add(&counted);
     Ok(())
 }
@@ -70,11 +71,10 @@ fn expect_sums(
     requires { IsContextIn segment.now ctx.now }
 {
     let sums = sums_in(rt, ctx, segment)?;
-    assert_eq!(rt;
+    expect_equal(
         (sums.as_slice(), sums.is_too_many()),
-        ([7, 8, 4].as_slice(), false)
-    );
-    Ok(())
+        ([7, 8, 4].as_slice(), false),
+    )
 }
 
 // So they are in that of a composite.

@@ -2,4 +2,4 @@ use Rattle.agg_collectors_tests.proofs.tree.has_results_for_each_parent.Given as
 
 -- the ledger is the one of the blank
 abbrev pub ghosts-expect_results : goal.ghosts-expect_results
-ghosts-expect_results g a = record { name = a.blank.name; parts = a.blank.parts }
+ghosts-expect_results a = record { name = a.blank.name; parts = a.blank.parts }
