@@ -2,8 +2,8 @@ use agg_dates::DateUnit;
 use agg_decimals::Places;
 use agg_expect::expect_equal_for;
 use agg_words::{
-    BySpec, BySpecError, Condition, ConditionError, DateField, DateFieldError, DecimalField,
-    DecimalFieldError, Missing, Test, read_by, read_condition, read_date_field, read_decimal_field,
+    BySpec, BySpecError, Condition, ConditionError, DateField, DateFieldError, DecimalFieldError,
+    Missing, Test, read_by, read_condition, read_date_field, read_decimal_field,
 };
 use std::test::Fail;
 

@@ -1,6 +1,5 @@
 //! `check`: what is wrong with an input of `walk`.
 use crate::files::{read_file, shown_name};
-use crate::messages::complain;
 use crate::progress::Progress;
 use crate::stop::Stop;
 use agg_check::{Finding, Severity, check_input};
