@@ -10,3 +10,4 @@ pub mod NameValues
 pub mod SameOrders
 pub mod TupleOrder
 pub mod ZeroRuns
+pub mod lemmas

@@ -13,3 +13,4 @@ pub mod Shown
 pub mod Tuple
 pub mod TypedKey
 pub mod formers
+pub mod tuple_map

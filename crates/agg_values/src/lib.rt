@@ -7,6 +7,7 @@ mod after_key;
 mod column;
 mod composite_key;
 mod error;
+pub mod freeing;
 mod item_list;
 mod key;
 mod laws;
@@ -20,6 +21,7 @@ mod room;
 mod steps;
 mod text;
 mod tuple;
+pub mod tuple_map;
 mod typed_key;
 
 pub use address::Address;

@@ -1,3 +1,3 @@
-mod LastTuples
+pub mod LastTuples
 pub mod TuplePlaces
 pub mod TupleSteps

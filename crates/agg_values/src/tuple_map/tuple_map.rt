@@ -8,10 +8,10 @@ ghost use Rattle.std.specs.declared.cmp.Ordering.TheVariants.{Less};
 ghost use Rattle.std_collections.specs.Layout.BTreeMap.{seek};
 ghost use Rattle.std_collections.specs.Layout.Columns.{set_value_at};
 ghost use Rattle.agg_values.specs.KeyOrder.{tuple_order};
-ghost use Rattle.agg_tuple_map.specs.contracts.tuple_map.TupleMap.{the_row};
+ghost use Rattle.agg_values.specs.contracts.tuple_map.tuple_map.TupleMap.{the_row};
 
-use crate::tuple_order::tuple_ordering;
-use agg_values::{MissingOrder, Order, OutOfMemory, Tuple};
+use crate::tuple_map::tuple_order::tuple_ordering;
+use crate::{MissingOrder, Order, OutOfMemory, Tuple};
 use std::alloc::Global;
 use std::cmp::Ordering;
 use std::marker::Model;
@@ -28,7 +28,7 @@ impl<T> Model for TupleMap<T> {
     ghost use Rattle.std.specs.List.Sorted.{IsStrictlySortedBy};
     ghost use Rattle.std.specs.Map.{keys_of};
     ghost use Rattle.agg_values.specs.KeyOrder.{tuple_order};
-    ghost use Rattle.agg_tuple_map.specs.TupleMap.{ByTuple, by_tuple_coded};
+    ghost use Rattle.agg_values.specs.tuple_map.TupleMap.{ByTuple, by_tuple_coded};
 
     ghost Value = { ByTuple T };
 

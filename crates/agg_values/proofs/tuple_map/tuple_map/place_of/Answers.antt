@@ -3,9 +3,9 @@ use Rattle.std.specs.List.{AllWithin, HoldsAt}
 use Rattle.agg_values.specs.KeyOrder.{tuple_order}
 use Rattle.agg_values.proofs.NamePlaces.{seek_is_Ok, seek_is_Err, all_lower, all_higher, at_place}
 use Rattle.agg_values.proofs.TupleOrder.{tuple_order-total}
-use Rattle.agg_tuple_map.proofs.TupleSteps.{compared}
-use Rattle.agg_tuple_map.proofs.tuple_map.place_of.Goals as goal
-use Rattle.agg_tuple_map.proofs.tuple_map.place_of.Goals.{in-Less, in-Greater}
+use Rattle.agg_values.proofs.lemmas.tuple_map.TupleSteps.{compared}
+use Rattle.agg_values.proofs.tuple_map.tuple_map.place_of.Goals as goal
+use Rattle.agg_values.proofs.tuple_map.tuple_map.place_of.Goals.{in-Less, in-Greater}
 
 pub loop-low-preserved : goal.loop-low-preserved
 loop-low-preserved g c =

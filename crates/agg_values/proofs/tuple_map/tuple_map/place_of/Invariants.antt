@@ -1,7 +1,7 @@
 use Rattle.std.proofs.Common.{◌≡◌, ◌-◌, ◌<◌, ◌≤◌, length, Less, Greater}
 use Rattle.std.specs.List.{AllWithin}
 use Rattle.agg_values.specs.KeyOrder.{tuple_order}
-use Rattle.agg_tuple_map.proofs.tuple_map.place_of.Given as goal
+use Rattle.agg_values.proofs.tuple_map.tuple_map.place_of.Given as goal
 
 abbrev pub decreases-loop-low : goal.decreases-loop-low
 decreases-loop-low g l = l.high - l.low

@@ -1,6 +1,6 @@
 use Rattle.std.proofs.Common.{◌≤◌, ◌⊎◌, length, inl, inr, rules, ◌∙◌}
-use Rattle.agg_tuple_map.proofs.TupleSteps.{tuple_order-ended}
-use Rattle.agg_tuple_map.proofs.tuple_order.tuple_ordering.Goals as goal
+use Rattle.agg_values.proofs.lemmas.tuple_map.TupleSteps.{tuple_order-ended}
+use Rattle.agg_values.proofs.tuple_map.tuple_order.tuple_ordering.Goals as goal
 use goal.{in_default-via-in-Some+in_default, in_default-via-in_default}
 
 pub returns-in_default : goal.returns-in_default

@@ -1,6 +1,6 @@
 use Rattle.std.proofs.Common.{◌≡◌, ◌≤◌, length, drop}
 use Rattle.agg_values.specs.KeyOrder.{tuple_order}
-use Rattle.agg_tuple_map.proofs.tuple_order.tuple_ordering.Given as goal
+use Rattle.agg_values.proofs.tuple_map.tuple_order.tuple_ordering.Given as goal
 
 -- the keys so far are equal, so the others decide
 abbrev pub invariant-loop-i : goal.invariant-loop-i

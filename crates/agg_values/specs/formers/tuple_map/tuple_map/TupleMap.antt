@@ -26,11 +26,11 @@ use Rattle.agg_values.specs.Tuple.{KeyTuple}
 use Rattle.agg_values.specs.declared.order.Order.{Order}
 use Rattle.agg_values.specs.declared.order.MissingOrder.{MissingOrder}
 use Rattle.agg_values.specs.contracts.tuple.Tuple as tuple
-use Rattle.agg_tuple_map.specs.TupleMap.{orders_coded}
-use Rattle.agg_tuple_map.specs.declared.tuple_map.TupleMap.TheInside.{Inside}
-use Rattle.agg_tuple_map.specs.declared.tuple_map.TupleMap.TheView.{view, invariant}
-use Rattle.agg_tuple_map.specs.contracts.tuple_map.TupleMap as C
-use Rattle.agg_tuple_map.specs.contracts.tuple_map.TupleMap.TheInside as I
+use Rattle.agg_values.specs.tuple_map.TupleMap.{orders_coded}
+use Rattle.agg_values.specs.declared.tuple_map.tuple_map.TupleMap.TheInside.{Inside}
+use Rattle.agg_values.specs.declared.tuple_map.tuple_map.TupleMap.TheView.{view, invariant}
+use Rattle.agg_values.specs.contracts.tuple_map.tuple_map.TupleMap as C
+use Rattle.agg_values.specs.contracts.tuple_map.tuple_map.TupleMap.TheInside as I
 
 abbrev pub the_former : Former {0} → Former {0}
 the_former g = pair (const SourceRules) (list (entry g KeyTuple))

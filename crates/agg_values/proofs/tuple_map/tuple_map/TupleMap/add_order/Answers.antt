@@ -1,6 +1,6 @@
 use Rattle.std.proofs.Common.{[], ap, ◌≡◌, ◌∙◌}
 use Rattle.std.specs.List.Sorted.{IsStrictlySortedBy}
-use Rattle.agg_tuple_map.proofs.tuple_map.TupleMap.add_order.Goals as goal
+use Rattle.agg_values.proofs.tuple_map.tuple_map.TupleMap.add_order.Goals as goal
 
 pub invariant_of-self-2 : goal.invariant_of-self-2
 unfolding IsStrictlySortedBy

@@ -3,7 +3,7 @@ use Rattle.std_collections.specs.Layout.BTreeMap.{seek}
 use Rattle.std_collections.proofs.Seek.{seek_err, sorted_insert}
 use Rattle.agg_values.specs.KeyOrder.{tuple_order}
 use Rattle.agg_values.proofs.TupleOrder.{tuple_order-total}
-use Rattle.agg_tuple_map.proofs.tuple_map.TupleMap.insert.Goals as goal
+use Rattle.agg_values.proofs.tuple_map.tuple_map.TupleMap.insert.Goals as goal
 
 pub insert-requires : goal.insert-requires
 insert-requires g c =

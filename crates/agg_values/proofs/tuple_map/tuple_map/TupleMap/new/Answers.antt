@@ -1,5 +1,5 @@
 use Rattle.std.specs.List.Sorted.{IsStrictlySortedBy}
-use Rattle.agg_tuple_map.proofs.tuple_map.TupleMap.new.Goals as goal
+use Rattle.agg_values.proofs.tuple_map.tuple_map.TupleMap.new.Goals as goal
 
 pub invariant_of-result : goal.invariant_of-result
 unfolding IsStrictlySortedBy

@@ -3,8 +3,8 @@ use Rattle.std.specs.declared.cmp.Ordering.TheVariants.{Less}
 use Rattle.std.specs.List.{All}
 use Rattle.std.specs.Map.{keys_of}
 use Rattle.agg_values.specs.KeyOrder.{tuple_order}
-use Rattle.agg_tuple_map.proofs.LastTuples.{sorted-last}
-use Rattle.agg_tuple_map.proofs.tuple_map.TupleMap.push_last.Goals as goal
+use Rattle.agg_values.proofs.lemmas.tuple_map.LastTuples.{sorted-last}
+use Rattle.agg_values.proofs.tuple_map.tuple_map.TupleMap.push_last.Goals as goal
 
 pub invariant_of-self-2 : goal.invariant_of-self-2
 invariant_of-self-2 g c =

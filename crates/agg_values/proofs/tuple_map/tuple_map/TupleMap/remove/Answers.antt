@@ -1,6 +1,6 @@
 use Rattle.agg_values.specs.KeyOrder.{tuple_order}
 use Rattle.agg_values.proofs.NamePlaces.{sorted_removed}
-use Rattle.agg_tuple_map.proofs.tuple_map.TupleMap.remove.Goals as goal
+use Rattle.agg_values.proofs.tuple_map.tuple_map.TupleMap.remove.Goals as goal
 
 pub invariant_of-self : goal.invariant_of-self
 invariant_of-self g c =

@@ -3,7 +3,7 @@ use Rattle.std.specs.List.Sorted.{IsStrictlySortedBy}
 use Rattle.std.specs.Map.{keys_of}
 use Rattle.std_collections.proofs.Pairwise.{from_sorted, to_sorted, Pairwise-take}
 use Rattle.agg_values.specs.KeyOrder.{tuple_order}
-use Rattle.agg_tuple_map.proofs.tuple_map.TupleMap.truncate.Goals as goal
+use Rattle.agg_values.proofs.tuple_map.tuple_map.TupleMap.truncate.Goals as goal
 
 pub invariant_of-self : goal.invariant_of-self
 invariant_of-self g c =

@@ -3,8 +3,8 @@ use Rattle.std.specs.List.Sorted.{IsStrictlySortedBy}
 use Rattle.std.specs.Map.{keys_of}
 use Rattle.agg_values.specs.KeyOrder.{tuple_order}
 use Rattle.agg_values.proofs.NamePlaces.{set_is, keys_set}
-use Rattle.agg_tuple_map.proofs.TuplePlaces.{value_there, value_written}
-use Rattle.agg_tuple_map.proofs.tuple_map.TupleMap.value_mut.Goals as goal
+use Rattle.agg_values.proofs.lemmas.tuple_map.TuplePlaces.{value_there, value_written}
+use Rattle.agg_values.proofs.tuple_map.tuple_map.TupleMap.value_mut.Goals as goal
 
 pub invariant_of-self-lent : goal.invariant_of-self-lent
 invariant_of-self-lent g c =
