@@ -49,7 +49,8 @@ greatest_at_most nth (suc last) day =
     then int_max (nth (suc last)) (greatest_at_most nth last day)
     else greatest_at_most nth last day
 
--- the greatest first day as a function, for days from -9999-01-01 to 9999-12-31
+-- the greatest first day as a function, for days from -9999-01-01 to 9999-12-31; the law
+-- `starts_are_of_first_days` says that it is the greatest one that is at most the day
 abbrev pub greatest_first_day : CalendarInterval → ℤ → ℤ
 greatest_first_day Year day = greatest_at_most nth_year 19_998 day
 greatest_first_day Month day = greatest_at_most nth_month 239_987 day

@@ -51,7 +51,8 @@ counted text count (Some factor) =
     then Ok (pos (count * factor))
     else Err (spelled text TooLarge)
 
--- the milliseconds of an interval text, or its first refusal
+-- the milliseconds of an interval text, or its first refusal: that of `2y` is UnitNotRecognized for
+-- y; UnitMissing, NumberMissing and OutOfBounds are those of `2000`, `ms` and `9223372036855ms`
 unfoldable pub read_interval : List ℕ → Result ℤ DateHistogramParseError
 read_interval text =
     if length (digits_of text) == 0 then Err (spelled text NoNumber)

@@ -1,5 +1,6 @@
 -- Starts of buckets, as unbounded whole numbers.
-use Rattle.std.specs.Prelude.{◌≡◌, ℤ, pos, ◌*ℤ◌, ◌≤ℤ◌, FitsSigned, Result, MatchResult, ⊤}
+use Rattle.std.specs.Prelude.{◌≡◌, ℤ, pos, ◌+ℤ◌, ◌-ℤ◌, ◌*ℤ◌, ◌≤ℤ◌, FitsSigned, Result, MatchResult}
+use Rattle.std.specs.Prelude.{⊤}
 use Rattle.std.specs.Int.{w64, int_div_euclid}
 use Rattle.agg_calendar.specs.FirstDay.{IsGreatestFirstDay, greatest_first_day}
 use Rattle.agg_calendar.specs.declared.interval.CalendarInterval.{CalendarInterval}
@@ -19,7 +20,7 @@ IsCalendarStart interval ns start =
     × IsGreatestFirstDay interval (int_div_euclid ns day_ns) first
     × (start ≡ first *ℤ day_ns)
 
--- the same as a function, for timestamps from the years -9999 to 9999
+-- the start of the calendar interval of a timestamp, as a function, for the years -9999 to 9999
 abbrev pub calendar_start : CalendarInterval → ℤ → ℤ
 calendar_start interval ns = greatest_first_day interval (int_div_euclid ns day_ns) *ℤ day_ns
 
@@ -32,6 +33,10 @@ abbrev pub start_of : PrecomputedDateInterval → ℤ → ℤ
 start_of NotApplicable ns = ns
 start_of (FixedNanoseconds interval) ns = fixed_start interval ns
 start_of (Calendar interval) ns = calendar_start interval ns
+
+-- the start of the bucket that holds a timestamp, where every bucket begins later by an offset
+abbrev pub start_with_offset : PrecomputedDateInterval → ℤ → ℤ → ℤ
+start_with_offset interval offset ns = start_of interval (ns -ℤ offset) +ℤ offset
 
 -- a fixed interval is at least one
 abbrev pub IsUsable : PrecomputedDateInterval → Type 0

@@ -1,9 +1,7 @@
 //! What is wrong with the text of a fixed interval, in words.
-#![tactic(auto)]
-
 use agg_values::{AggregationError, DateHistogramParseError, OutOfMemory, RequestError, Text};
 
-/// Appends why a text is no fixed interval.
+/// Appends why a text is no fixed interval, after the text itself; the fault is what refused it.
 pub fn write_interval_fault(
     out: &mut String,
     text: &Text,
@@ -15,6 +13,21 @@ pub fn write_interval_fault(
             write_text_fault(out, part)
         }
         _ => Ok(out.push_str("one millisecond is the least")?),
+    }
+}
+
+/// Appends why a text is no offset, after the text itself; the fault is what refused it.
+pub fn write_offset_fault(
+    out: &mut String,
+    text: &Text,
+    fault: &RequestError,
+) -> Result<(), OutOfMemory> {
+    write!(out, "offset '{}': ", text.as_str())?;
+    match fault {
+        RequestError::Aggregation(AggregationError::DateHistogramParseError(part)) => {
+            write_text_fault(out, part)
+        }
+        _ => Ok(out.push_str("this is no offset")?),
     }
 }
 
@@ -33,7 +46,9 @@ fn write_text_fault(out: &mut String, part: &DateHistogramParseError) -> Result<
         DateHistogramParseError::OutOfBounds(_) => {
             out.push_str("more than 9223372036854775807 nanoseconds")?;
         }
-        DateHistogramParseError::InvalidOffset(_) => out.push_str("this is no offset")?,
+        DateHistogramParseError::InvalidOffset(_) => out.push_str(
+            "an offset is a time with a sign or none, as 6h or -1d",
+        )?,
     }
     Ok(())
 }

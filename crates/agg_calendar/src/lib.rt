@@ -3,12 +3,13 @@
 
 mod error;
 mod interval;
+pub mod interval_faults;
 mod interval_text;
 mod laws;
 mod start;
 
 pub use error::StartError;
-pub use interval::{CalendarInterval, PrecomputedDateInterval};
+pub use interval::{CalendarInterval, PrecomputedDateInterval, date_division};
 pub use interval_text::{parse_into_milliseconds, parse_offset_into_milliseconds};
 pub use laws::{
     fixed_starts_are_the_greatest_multiples, interval_texts_are_digits_and_a_unit,

@@ -7,6 +7,7 @@ ghost use Rattle.jiff_core.specs.Timestamp.{IsTimestampNanos};
 ghost use Rattle.agg_calendar.specs.FirstDay.{greatest_first_day};
 ghost use Rattle.agg_calendar.specs.Start.{day_ns, fixed_start, calendar_start, start_of};
 ghost use Rattle.agg_calendar.specs.Start.{GivesStart, IsCalendarStart, IsUsable};
+ghost use Rattle.agg_calendar.specs.Start.{start_with_offset};
 ghost use Rattle.agg_calendar.specs.declared.interval.CalendarInterval.TheVariants.{Year, Month};
 ghost use Rattle.agg_calendar.specs.declared.interval.CalendarInterval.TheVariants.{Week};
 
@@ -56,6 +57,16 @@ impl PrecomputedDateInterval {
         ensures { GivesStart (start_of self.now value_ns) result }
     {
         in_range(unbounded_start(*self, i128::from(value_ns)))
+    }
+
+    /// The start of the bucket that holds the timestamp, where every bucket begins later by the
+    /// offset.
+    pub fn start_with_offset(&self, value_ns: i64, offset_ns: i64) -> Result<i64, StartError>
+        requires { IsUsable self.now }
+        ensures { GivesStart (start_with_offset self.now offset_ns value_ns) result }
+    {
+        let moved = i128::from(value_ns) - i128::from(offset_ns);
+        in_range(unbounded_start(*self, moved) + i128::from(offset_ns))
     }
 }
 
