@@ -7,11 +7,11 @@ use Rattle.std.specs.Cmp.Lexicographic.{nat_list_eq_equiv}
 use mathlib.Core.Bool.{true≢false}
 use Rattle.std.proofs.lemmas.Bool.{cases_Bool}
 use Rattle.std.proofs.lemmas.List.{append-nil, append_assoc}
-use Rattle.agg_column.specs.Document.{Fields, by_class, key_of, values_in, meaning}
+use Rattle.agg_segment.specs.storage.Document.{Fields, by_class, key_of, values_in, meaning}
 use Rattle.agg_segment.specs.Segment.{no_fields, with_key}
-use Rattle.agg_column.specs.declared.document.FieldValue.{FieldValue}
-use Rattle.agg_column.proofs.Places.{same_texts}
-use Rattle.agg_column.proofs.Classes.{by_class_more, by_class_nil}
+use Rattle.agg_segment.specs.declared.storage.document.FieldValue.{FieldValue}
+use Rattle.agg_segment.proofs.lemmas.storage.Places.{same_texts}
+use Rattle.agg_segment.proofs.lemmas.storage.Classes.{by_class_more, by_class_nil}
 
 -- a document with these values added
 abbrev pub add_all : List (List ℕ × FieldValue) → Fields → Fields

@@ -11,15 +11,15 @@ use Rattle.std.proofs.lemmas.List.{take-append-le, drop-append-le}
 use Rattle.std.proofs.lemmas.List.Elements.{All-cons, All-push}
 use Rattle.std.proofs.lemmas.List.Elements.{All-weaker}
 use Rattle.agg_values.specs.TypedKey.{CompositeIntermediateKey}
-use Rattle.agg_column.specs.Document.{by_class}
-use Rattle.agg_column.specs.Cells.{Placed, keys_at, number_of}
+use Rattle.agg_segment.specs.storage.Document.{by_class}
+use Rattle.agg_segment.specs.storage.Cells.{Placed, keys_at, number_of}
 use Rattle.agg_segment.specs.Segment.{Gathered, IsNameOf, gathered_fields, gathered_documents}
 use Rattle.agg_segment.specs.Segment.{open_document, no_fields, with_key}
 use Rattle.agg_segment.specs.Segment.{IsGathered}
-use Rattle.agg_column.specs.declared.sign.Sign.{Sign}
-use Rattle.agg_column.proofs.Classes.{by_class_more}
+use Rattle.agg_segment.specs.declared.storage.sign.Sign.{Sign}
+use Rattle.agg_segment.proofs.lemmas.storage.Classes.{by_class_more}
 use Rattle.std.specs.Cmp.Lexicographic.{nat_list_eq_equiv}
-use Rattle.agg_column.proofs.Places.{same_texts}
+use Rattle.agg_segment.proofs.lemmas.storage.Places.{same_texts}
 use Rattle.agg_segment.proofs.DocumentKeys.{fields_same, keys_no_field, keys_none, keys_one}
 use Rattle.agg_segment.proofs.DocumentKeys.{keys_split, map_same, no_keys_open}
 

@@ -15,14 +15,14 @@ use Rattle.agg_values.specs.declared.address.Address.{Address}
 use Rattle.agg_values.specs.declared.column.ColumnPaginationOrder.{ColumnPaginationOrder}
 use Rattle.agg_values.specs.declared.column.ColumnPaginationOrder.TheVariants as class
 use Rattle.agg_values.specs.declared.typed_key.CompositeIntermediateKey.TheVariants as key
-use Rattle.agg_column.specs.Cells.{Placed, Logged}
+use Rattle.agg_segment.specs.storage.Cells.{Placed, Logged}
 use Rattle.agg_segment.specs.Segment.{builder_cells}
 use Rattle.agg_segment.specs.Gatherings.{Raw, raw_placed, kind_of, IsRaw}
-use Rattle.agg_column.specs.GatheredNumbers.{raw_key}
-use Rattle.agg_column.specs.Signs.{sign_of, key_mark, IsFieldSign}
-use Rattle.agg_column.specs.declared.hit.ColumnType.TheVariants as kind
-use Rattle.agg_column.specs.declared.sign.Sign.{Sign}
-use Rattle.agg_column.specs.declared.sign.Sign.TheVariants.{Small, Negative, Large}
+use Rattle.agg_segment.specs.storage.GatheredNumbers.{raw_key}
+use Rattle.agg_segment.specs.storage.Signs.{sign_of, key_mark, IsFieldSign}
+use Rattle.agg_segment.specs.declared.storage.hit.ColumnType.TheVariants as kind
+use Rattle.agg_segment.specs.declared.storage.sign.Sign.{Sign}
+use Rattle.agg_segment.specs.declared.storage.sign.Sign.TheVariants.{Small, Negative, Large}
 use Rattle.agg_segment.proofs.NewFields.{padded}
 
 -- ---- more texts and addresses with the same numbers

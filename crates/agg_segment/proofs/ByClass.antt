@@ -13,7 +13,7 @@ use Rattle.agg_values.specs.declared.typed_key.CompositeIntermediateKey.TheVaria
   IpAddr,
   Null,
 }
-use Rattle.agg_column.specs.Document.{Fields, by_class, of_class}
+use Rattle.agg_segment.specs.storage.Document.{Fields, by_class, of_class}
 use Rattle.agg_segment.specs.Query.{all_match, by_itself, matches, matches_by, some_matches}
 use Rattle.agg_segment.specs.Query.{wanted_match}
 use Rattle.agg_segment.specs.Query.{is_value, is_between, is_any, put_by_class}

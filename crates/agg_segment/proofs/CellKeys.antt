@@ -10,17 +10,17 @@ use Rattle.std.proofs.lemmas.List.Elements.{All-head, All-tail}
 use Rattle.agg_values.specs.declared.address.Address.{Address}
 use Rattle.agg_values.specs.declared.column.ColumnPaginationOrder.TheVariants as class
 use Rattle.agg_values.specs.declared.typed_key.CompositeIntermediateKey.TheVariants as key
-use Rattle.agg_column.specs.Cells.{Placed, placed, stored_key, IsKept}
-use Rattle.agg_column.specs.CellOrder.{cell_class}
+use Rattle.agg_segment.specs.storage.Cells.{Placed, placed, stored_key, IsKept}
+use Rattle.agg_segment.specs.storage.CellOrder.{cell_class}
 use Rattle.agg_segment.specs.Gatherings.{Raw, raw_placed, kind_of, IsRaw, AreRawsOf}
-use Rattle.agg_column.specs.GatheredNumbers.{raw_key}
+use Rattle.agg_segment.specs.storage.GatheredNumbers.{raw_key}
 use Rattle.agg_segment.specs.Gatherings.{IsNumberOf}
-use Rattle.agg_column.specs.Signs.{cell_sign, cell_mark, IsFieldSign}
-use Rattle.agg_column.specs.declared.log.Cell.{Cell}
-use Rattle.agg_column.specs.declared.log.CellValue.{CellValue}
-use Rattle.agg_column.specs.declared.log.CellValue.TheVariants as cell
-use Rattle.agg_column.specs.declared.sign.Sign.{Sign}
-use Rattle.agg_column.specs.declared.sign.Sign.TheVariants.{Small, Negative, Large}
+use Rattle.agg_segment.specs.storage.Signs.{cell_sign, cell_mark, IsFieldSign}
+use Rattle.agg_segment.specs.declared.storage.log.Cell.{Cell}
+use Rattle.agg_segment.specs.declared.storage.log.CellValue.{CellValue}
+use Rattle.agg_segment.specs.declared.storage.log.CellValue.TheVariants as cell
+use Rattle.agg_segment.specs.declared.storage.sign.Sign.{Sign}
+use Rattle.agg_segment.specs.declared.storage.sign.Sign.TheVariants.{Small, Negative, Large}
 use Rattle.agg_segment.proofs.BuilderKeys.{below_zero, high_key}
 
 cell_key : (texts : List (List ℕ)) (addresses : List Address) (sign : Sign) (v : CellValue) (n : ℕ)

@@ -12,18 +12,19 @@ use Rattle.std.proofs.lemmas.List.Elements.{All-append, All-weaker, All-contains
 use Rattle.std.proofs.lemmas.List.FromFn.{map-range_with_len_more, length-range_with_len}
 use Rattle.std.proofs.lemmas.List.Sorted.{Contains-permutation, IsPermutation-sym}
 use Rattle.agg_values.specs.TypedKey.{CompositeIntermediateKey}
-use Rattle.agg_column.specs.Document.{Fields, by_class}
-use Rattle.agg_column.specs.Cells.{Placed, is_at, keys_at, number_of}
-use Rattle.agg_column.specs.Signs.{key_mark, sign_of, IsFieldSign, AreSigns, HasBoth}
+use Rattle.agg_segment.specs.storage.Document.{Fields, by_class}
+use Rattle.agg_segment.specs.storage.Cells.{Placed, is_at, keys_at, number_of}
+use Rattle.agg_segment.specs.storage.Signs.{key_mark, sign_of, IsFieldSign, AreSigns, HasBoth}
 use Rattle.agg_segment.specs.Segment.{Stored, Gathered, IsNameOf, gathered_fields}
 use Rattle.agg_segment.specs.Segment.{gathered_documents, open_document, document_at}
 use Rattle.agg_segment.specs.Segment.{documents_of, IsGathered, IsMixed, HasSign}
-use Rattle.agg_column.specs.Columns.{StoredColumn, column_cells}
-use Rattle.agg_column.specs.declared.sign.Sign.{Sign}
-use Rattle.agg_column.specs.declared.sign.Sign.TheVariants.{Small, Negative, Large}
-use Rattle.agg_column.proofs.Classes.{by_class_nil, by_class_moves}
-use Rattle.agg_column.proofs.Members.{contains_map, from_map, contains_flat, from_flat}
-use Rattle.agg_column.proofs.Members.{contains_filter, from_filter, in_range, none_of}
+use Rattle.agg_segment.specs.storage.Columns.{StoredColumn, column_cells}
+use Rattle.agg_segment.specs.declared.storage.sign.Sign.{Sign}
+use Rattle.agg_segment.specs.declared.storage.sign.Sign.TheVariants.{Small, Negative, Large}
+use Rattle.agg_segment.proofs.lemmas.storage.Classes.{by_class_nil, by_class_moves}
+use Rattle.agg_segment.proofs.lemmas.storage.Members.{contains_map, from_map, contains_flat}
+use Rattle.agg_segment.proofs.lemmas.storage.Members.{from_flat, contains_filter, from_filter}
+use Rattle.agg_segment.proofs.lemmas.storage.Members.{in_range, none_of}
 use Rattle.agg_segment.proofs.DocumentKeys.{map_same}
 use Rattle.agg_segment.proofs.BuilderDocuments.{ended_keys}
 

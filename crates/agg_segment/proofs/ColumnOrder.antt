@@ -8,7 +8,7 @@ use Rattle.std.proofs.lemmas.Bool.Decides.{nat_tests}
 use Rattle.std.proofs.lemmas.List.{get_or-map, length-map}
 use Rattle.agg_values.specs.declared.column.ColumnPaginationOrder.TheVariants as class
 use Rattle.agg_values.specs.Column.{order_rank}
-use Rattle.agg_column.specs.Columns.{StoredColumn, keys_rank, AreInOrder}
+use Rattle.agg_segment.specs.storage.Columns.{StoredColumn, keys_rank, AreInOrder}
 use Rattle.agg_segment.specs.Gatherings.{is_column}
 use Rattle.agg_segment.specs.Gatherings.{AreLinked, AreSorted}
 use Rattle.agg_segment.specs.Gatherings.{gathering_classes, column_classes}

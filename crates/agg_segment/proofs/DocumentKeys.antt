@@ -8,11 +8,11 @@ use Rattle.std.specs.List.{All, range_with_len}
 use Rattle.std.proofs.lemmas.Bool.{eq-eqb, ne_eqb}
 use Rattle.std.proofs.lemmas.List.{map-append}
 use Rattle.std.proofs.lemmas.List.Elements.{filter-append, All-tail, All-head}
-use Rattle.agg_column.specs.Document.{Fields, by_class}
-use Rattle.agg_column.specs.Cells.{Placed, is_at, keys_at, number_of, named_keys}
+use Rattle.agg_segment.specs.storage.Document.{Fields, by_class}
+use Rattle.agg_segment.specs.storage.Cells.{Placed, is_at, keys_at, number_of, named_keys}
 use Rattle.agg_segment.specs.Segment.{gathered_fields}
 use Rattle.agg_segment.specs.Segment.{no_fields}
-use Rattle.agg_column.proofs.Classes.{by_class_nil}
+use Rattle.agg_segment.proofs.lemmas.storage.Classes.{by_class_nil}
 
 pub keys_split : (xs ys : List Placed) (field doc : ℕ)
     → keys_at (xs ++ ys) field doc ≡ keys_at xs field doc ++ keys_at ys field doc

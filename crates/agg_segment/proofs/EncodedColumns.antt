@@ -12,22 +12,22 @@ use Rattle.agg_values.specs.declared.address.Address.{Address}
 use Rattle.agg_values.specs.declared.column.ColumnPaginationOrder.{ColumnPaginationOrder}
 use Rattle.agg_values.specs.declared.column.ColumnPaginationOrder.TheVariants as class
 use Rattle.agg_values.specs.TypedKey.{CompositeIntermediateKey}
-use Rattle.agg_column.specs.Cells.{Placed}
+use Rattle.agg_segment.specs.storage.Cells.{Placed}
 use Rattle.agg_values.specs.Column.{order_rank}
-use Rattle.agg_column.specs.Columns.{StoredColumn, column_cells, encoded_key, type_of, keys_rank}
-use Rattle.agg_column.specs.Columns.{type_class}
+use Rattle.agg_segment.specs.storage.Columns.{StoredColumn, column_cells, encoded_key, type_of}
+use Rattle.agg_segment.specs.storage.Columns.{keys_rank, type_class}
 use Rattle.agg_segment.specs.Gatherings.{Raw, raws, column_raws, kind_of}
-use Rattle.agg_column.specs.GatheredNumbers.{raw_key, keyed_rows}
+use Rattle.agg_segment.specs.storage.GatheredNumbers.{raw_key, keyed_rows}
 use Rattle.agg_segment.specs.Gatherings.{raw_placed, IsWide, IsRaw, gathering_classes}
 use Rattle.agg_segment.specs.Gatherings.{column_classes}
-use Rattle.agg_column.specs.Signs.{sign_of}
+use Rattle.agg_segment.specs.storage.Signs.{sign_of}
 use Rattle.agg_segment.specs.declared.gatherings.Gathering.{Gathering}
-use Rattle.agg_column.specs.declared.hit.ColumnType.TheVariants as kind
-use Rattle.agg_column.specs.declared.keys.ColumnKeys.{ColumnKeys}
-use Rattle.agg_column.specs.declared.keys.ColumnKeys.TheVariants.{Unsigned}
-use Rattle.agg_column.specs.declared.sign.Sign.{Sign}
-use Rattle.agg_column.specs.declared.sign.Sign.TheVariants.{Small, Negative, Large}
-use Rattle.agg_column.proofs.Members.{from_map, contains_map}
+use Rattle.agg_segment.specs.declared.storage.hit.ColumnType.TheVariants as kind
+use Rattle.agg_segment.specs.declared.storage.keys.ColumnKeys.{ColumnKeys}
+use Rattle.agg_segment.specs.declared.storage.keys.ColumnKeys.TheVariants.{Unsigned}
+use Rattle.agg_segment.specs.declared.storage.sign.Sign.{Sign}
+use Rattle.agg_segment.specs.declared.storage.sign.Sign.TheVariants.{Small, Negative, Large}
+use Rattle.agg_segment.proofs.lemmas.storage.Members.{from_map, contains_map}
 
 -- ---- types and signs
 

@@ -6,18 +6,18 @@ use Rattle.std.specs.Prelude.{Bool, nat_lt, nat_le, ◌⊎◌, ◌==◌, ◌&&�
 use Rattle.std.specs.List.{All, slice_range}
 use Rattle.std.specs.List.Sorted.{IsNonDecreasingBy}
 use borrow.Author.Tests.{ltb-true, ltb-false, leb-true, leb-false}
-use Rattle.agg_column.specs.declared.keys.ColumnKeys.TheVariants.{Signed}
+use Rattle.agg_segment.specs.declared.storage.keys.ColumnKeys.TheVariants.{Signed}
 use Rattle.std.proofs.lemmas.Bool.{cases_lt, cases_eq, eq-eqb, ne_eqb}
 use Rattle.std.proofs.lemmas.List.{append-nil, get_or-take, get_or-drop, take-append-drop}
 use Rattle.std.proofs.lemmas.List.{drop-drop, length-take-le}
 use Rattle.std.proofs.lemmas.List.Elements.{filter-append, All-tail, All-head, All-cons}
 use Rattle.std.proofs.lemmas.Bool.Decides.{nat_tests}
-use Rattle.agg_column.specs.Cells.{Placed, is_at, keys_at}
-use Rattle.agg_column.specs.Columns.{StoredColumn, column_cells, column_keys, all_keys}
-use Rattle.agg_column.specs.Columns.{numbers_at, encoded_key, keys_rank, IsColumnBefore}
-use Rattle.agg_column.specs.Columns.{AreInOrder, ClassesAscend}
+use Rattle.agg_segment.specs.storage.Cells.{Placed, is_at, keys_at}
+use Rattle.agg_segment.specs.storage.Columns.{StoredColumn, column_cells, column_keys, all_keys}
+use Rattle.agg_segment.specs.storage.Columns.{numbers_at, encoded_key, keys_rank, IsColumnBefore}
+use Rattle.agg_segment.specs.storage.Columns.{AreInOrder, ClassesAscend}
 use Rattle.agg_segment.proofs.DocumentKeys.{keys_split}
-use Rattle.agg_column.proofs.KeptCells.{filter_map_is}
+use Rattle.agg_segment.proofs.lemmas.storage.KeptCells.{filter_map_is}
 
 -- ---- a part of a list that holds what passes
 

@@ -10,12 +10,12 @@ use Rattle.std.proofs.lemmas.List.{set-set, set-get_or, length-map, get_or-map}
 use Rattle.std.proofs.lemmas.List.{map_more, map-append, take-append-drop}
 use Rattle.std.proofs.lemmas.List.Elements.{All-push, All-map, All-weaker, Contains-append_left}
 use Rattle.std.proofs.lemmas.List.Elements.{Contains-push}
-use Rattle.agg_column.specs.Cells.{Placed}
-use Rattle.agg_column.specs.Signs.{cell_mark, key_mark, IsFieldSign, AreSigns, HasBoth}
-use Rattle.agg_column.specs.Signs.{without_signs}
-use Rattle.agg_column.specs.declared.log.Cell.{Cell}
-use Rattle.agg_column.specs.declared.sign.Sign.{Sign}
-use Rattle.agg_column.specs.declared.sign.Sign.TheVariants.{Small, Negative, Large}
+use Rattle.agg_segment.specs.storage.Cells.{Placed}
+use Rattle.agg_segment.specs.storage.Signs.{cell_mark, key_mark, IsFieldSign, AreSigns, HasBoth}
+use Rattle.agg_segment.specs.storage.Signs.{without_signs}
+use Rattle.agg_segment.specs.declared.storage.log.Cell.{Cell}
+use Rattle.agg_segment.specs.declared.storage.sign.Sign.{Sign}
+use Rattle.agg_segment.specs.declared.storage.sign.Sign.TheVariants.{Small, Negative, Large}
 
 set_small : (fields : List ℕ) (field : ℕ) (signs : List Sign)
     → without_signs (fields ++ field ∷ []) signs ≡ without_signs fields (set signs field Small)

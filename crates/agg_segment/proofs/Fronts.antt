@@ -15,7 +15,7 @@ use Rattle.std.proofs.lemmas.Cmp.{tied_itself}
 use Rattle.std.proofs.lemmas.List.{get_or-map, get_or_default, length-map}
 use Rattle.std.proofs.lemmas.List.Elements.{All-head, All-tail}
 use Rattle.agg_values.specs.Names.{name_cmp}
-use Rattle.agg_column.specs.Dictionary.{text_at, AreByText}
+use Rattle.agg_segment.specs.storage.Dictionary.{text_at, AreByText}
 use Rattle.agg_segment.specs.Fronts.{front_number, keyed_cmp, AreBytes, IsKeyed}
 use Rattle.agg_segment.specs.declared.gatherings.by_text.KeyedPlace.{KeyedPlace}
 

@@ -25,3 +25,4 @@ pub mod QueryHits
 pub mod Raws
 pub mod SortedKeys
 pub mod WideColumns
+pub mod lemmas

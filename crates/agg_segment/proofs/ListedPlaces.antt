@@ -9,7 +9,7 @@ use Rattle.std.proofs.lemmas.List.Filters.{All-dedup}
 use Rattle.std.proofs.lemmas.List.Kept.{Contains-dedup_nat}
 use Rattle.std.proofs.lemmas.List.Sorted.{All-permutation, Contains-permutation}
 use Rattle.agg_values.specs.declared.address.Address.{Address}
-use Rattle.agg_column.specs.Dictionary.{address_at}
+use Rattle.agg_segment.specs.storage.Dictionary.{address_at}
 
 -- each place is kept by a sort and the loss of repeats
 pub places_all : (numbers places moved : List ℕ) → places ≡ numbers → IsPermutation places moved

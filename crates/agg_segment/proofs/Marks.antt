@@ -15,13 +15,13 @@ use Rattle.std.proofs.lemmas.List.FromFn.{fill_by_all, get_or-map-range_with_len
 use Rattle.std.proofs.lemmas.List.FromFn.{length-range_with_len}
 use Rattle.std.specs.List.{All, list_any, filter, range_with_len}
 use Rattle.agg_values.specs.TypedKey.{CompositeIntermediateKey}
-use Rattle.agg_column.specs.Document.{Fields}
+use Rattle.agg_segment.specs.storage.Document.{Fields}
 use Rattle.agg_segment.specs.Segment.{Stored, document_at, documents_at, documents_of}
-use Rattle.agg_column.specs.Columns.{StoredColumn, encoded_key, column_keys, all_keys}
+use Rattle.agg_segment.specs.storage.Columns.{StoredColumn, encoded_key, column_keys, all_keys}
 use Rattle.agg_segment.specs.Marks.{AreMarks, mark_at, marked_docs, has_key}
 use Rattle.agg_segment.specs.Query.{matches, some_matches}
 use Rattle.agg_segment.specs.Spans.{is_in, IsColumnNumber, IsSpanOf}
-use Rattle.agg_column.specs.declared.keys.ColumnKeys.{ColumnKeys}
+use Rattle.agg_segment.specs.declared.storage.keys.ColumnKeys.{ColumnKeys}
 use Rattle.agg_segment.specs.declared.query.span.Span.{Span}
 
 -- a span has a number where a key is such

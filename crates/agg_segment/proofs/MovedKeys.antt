@@ -9,25 +9,25 @@ use Rattle.std.proofs.lemmas.List.{take_all, drop_all, get_or_default, append-ni
 use Rattle.std.proofs.lemmas.List.{map-append, length-map}
 use Rattle.std.proofs.lemmas.List.Elements.{All-contains, All-weaker, All-take, All-append}
 use Rattle.std.proofs.lemmas.List.Elements.{All-tail}
-use Rattle.agg_column.specs.Cells.{Placed, Logged, keys_at, number_of, placed, IsKept}
-use Rattle.agg_column.specs.Document.{by_class}
+use Rattle.agg_segment.specs.storage.Cells.{Placed, Logged, keys_at, number_of, placed, IsKept}
+use Rattle.agg_segment.specs.storage.Document.{by_class}
 use Rattle.agg_segment.specs.Segment.{gathered_fields, gathered_documents, open_document, no_fields}
 use Rattle.agg_segment.specs.Segment.{builder_cells, IsBuilding, IsMixed}
 use Rattle.agg_segment.specs.Segment.{IsGathered, max_documents}
-use Rattle.agg_column.specs.Signs.{cell_mark, key_mark, IsFieldSign, AreSigns}
-use Rattle.agg_column.specs.declared.sign.Sign.{Sign}
-use Rattle.agg_column.specs.declared.sign.Sign.TheVariants.{Small}
+use Rattle.agg_segment.specs.storage.Signs.{cell_mark, key_mark, IsFieldSign, AreSigns}
+use Rattle.agg_segment.specs.declared.storage.sign.Sign.{Sign}
+use Rattle.agg_segment.specs.declared.storage.sign.Sign.TheVariants.{Small}
 use Rattle.agg_segment.specs.Gatherings.{Raw, raw_placed, IsRaw, AreRawsOf, AreAlike}
-use Rattle.agg_column.specs.declared.log.Cell.{Cell}
+use Rattle.agg_segment.specs.declared.storage.log.Cell.{Cell}
 use Rattle.agg_segment.proofs.AlikeNumbers.{alike_contains, alike_back, alike_all, alike_keys}
 use Rattle.agg_segment.proofs.BuilderKeys.{signed_read, dropped, taken}
 use Rattle.agg_segment.proofs.CellKeys.{cells_read, cells_raw}
 use Rattle.agg_segment.proofs.ClosedDocuments.{all_docs, finish_documents, not_mixed}
 use Rattle.agg_segment.proofs.EncodedColumns.{front_all, back_all}
-use Rattle.agg_column.proofs.KeptCells.{marks_are}
+use Rattle.agg_segment.proofs.lemmas.storage.KeptCells.{marks_are}
 use Rattle.agg_segment.proofs.FieldSigns.{marks_joined}
 use Rattle.agg_segment.proofs.DocumentKeys.{keys_none, no_keys_open, map_same}
-use Rattle.agg_column.proofs.Members.{from_map, contains_map}
+use Rattle.agg_segment.proofs.lemmas.storage.Members.{from_map, contains_map}
 
 pub moved_fields : (count : ℕ) (names : List (List ℕ × ℕ)) (cells others : List Placed) (doc : ℕ)
     → ((field : ℕ) → by_class (keys_at others field doc) ≡ by_class (keys_at cells field doc))

@@ -9,15 +9,15 @@ use Rattle.std.proofs.lemmas.Bool.{cases_eq, cases_lt, cases_Bool}
 use Rattle.std.proofs.lemmas.List.{get_or_past}
 use Rattle.std.proofs.lemmas.List.Elements.{All-weaker}
 use Rattle.std.specs.Cmp.Lexicographic.{nat_list_eq_equiv}
-use Rattle.agg_column.specs.Document.{by_class}
-use Rattle.agg_column.specs.Cells.{Placed, keys_at, number_of}
-use Rattle.agg_column.specs.Signs.{key_mark, IsFieldSign}
+use Rattle.agg_segment.specs.storage.Document.{by_class}
+use Rattle.agg_segment.specs.storage.Cells.{Placed, keys_at, number_of}
+use Rattle.agg_segment.specs.storage.Signs.{key_mark, IsFieldSign}
 use Rattle.agg_segment.specs.Segment.{gathered_fields}
 use Rattle.agg_segment.specs.Segment.{gathered_documents}
 use Rattle.agg_segment.specs.Segment.{IsGathered}
-use Rattle.agg_column.specs.declared.sign.Sign.{Sign}
-use Rattle.agg_column.specs.declared.sign.Sign.TheVariants.{Small}
-use Rattle.agg_column.proofs.Places.{same_texts}
+use Rattle.agg_segment.specs.declared.storage.sign.Sign.{Sign}
+use Rattle.agg_segment.specs.declared.storage.sign.Sign.TheVariants.{Small}
+use Rattle.agg_segment.proofs.lemmas.storage.Places.{same_texts}
 use Rattle.agg_segment.proofs.DocumentKeys.{keys_no_field, map_same}
 
 -- a field that has no sign yet is read as small

@@ -13,13 +13,13 @@ use Rattle.agg_values.specs.declared.address.Address.{Address}
 use Rattle.agg_values.specs.declared.column.ColumnPaginationOrder.{ColumnPaginationOrder}
 use Rattle.agg_values.specs.declared.column.ColumnPaginationOrder.TheVariants as class
 use Rattle.agg_values.specs.declared.typed_key.CompositeIntermediateKey.TheVariants as key
-use Rattle.agg_column.specs.Cells.{Placed, is_at, keys_at, number_of}
-use Rattle.agg_column.specs.Columns.{column_cells}
-use Rattle.agg_column.specs.Document.{HasNumbersOf64Bits, IsOf64Bits, by_class}
-use Rattle.agg_column.specs.GatheredNumbers.{raw_key}
-use Rattle.agg_column.specs.declared.sign.Sign.{Sign}
-use Rattle.agg_column.specs.declared.sign.Sign.TheVariants.{Small, Negative, Large}
-use Rattle.agg_column.proofs.Classes.{by_class_moves}
+use Rattle.agg_segment.specs.storage.Cells.{Placed, is_at, keys_at, number_of}
+use Rattle.agg_segment.specs.storage.Columns.{column_cells}
+use Rattle.agg_segment.specs.storage.Document.{HasNumbersOf64Bits, IsOf64Bits, by_class}
+use Rattle.agg_segment.specs.storage.GatheredNumbers.{raw_key}
+use Rattle.agg_segment.specs.declared.storage.sign.Sign.{Sign}
+use Rattle.agg_segment.specs.declared.storage.sign.Sign.TheVariants.{Small, Negative, Large}
+use Rattle.agg_segment.proofs.lemmas.storage.Classes.{by_class_moves}
 use Rattle.agg_segment.specs.Gatherings.{IsRaw, Raw, kind_of, raw_placed}
 use Rattle.agg_segment.specs.Segment.{Stored, document_at, documents_of}
 

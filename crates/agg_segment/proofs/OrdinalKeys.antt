@@ -7,14 +7,15 @@ use Rattle.std.proofs.lemmas.List.Elements.{All-head, All-tail}
 use Rattle.agg_values.specs.declared.address.Address.{Address}
 use Rattle.agg_values.specs.TypedKey.{CompositeIntermediateKey}
 use Rattle.agg_values.specs.declared.typed_key.CompositeIntermediateKey.TheVariants as key
-use Rattle.agg_column.specs.Columns.{type_of}
-use Rattle.agg_column.specs.Columns.{named_texts}
-use Rattle.agg_column.specs.Dictionary.{text_at}
-use Rattle.agg_column.specs.GatheredNumbers.{raw_key, keyed_rows}
-use Rattle.agg_column.specs.GatheredNumbers.{IsEncodable}
-use Rattle.agg_column.specs.declared.keys.ColumnKeys.{ColumnKeys}
-use Rattle.agg_column.specs.declared.keys.ColumnKeys.TheVariants.{Bools, Texts, Signed, Unsigned}
-use Rattle.agg_column.specs.declared.keys.ColumnKeys.TheVariants.{Addresses, Dates}
+use Rattle.agg_segment.specs.storage.Columns.{type_of}
+use Rattle.agg_segment.specs.storage.Columns.{named_texts}
+use Rattle.agg_segment.specs.storage.Dictionary.{text_at}
+use Rattle.agg_segment.specs.storage.GatheredNumbers.{raw_key, keyed_rows}
+use Rattle.agg_segment.specs.storage.GatheredNumbers.{IsEncodable}
+use Rattle.agg_segment.specs.declared.storage.keys.ColumnKeys.{ColumnKeys}
+use Rattle.agg_segment.specs.declared.storage.keys.ColumnKeys.TheVariants.{Bools, Texts, Signed}
+use Rattle.agg_segment.specs.declared.storage.keys.ColumnKeys.TheVariants.{Unsigned, Addresses}
+use Rattle.agg_segment.specs.declared.storage.keys.ColumnKeys.TheVariants.{Dates}
 
 text_is : (texts : List (List ℕ)) (ordinals : List ℕ) (n : ℕ) → n < length ordinals
     → text_at (map (text_at texts) ordinals) n ≡ text_at texts (get_or ordinals n 0)

@@ -13,7 +13,7 @@ use Rattle.std.proofs.lemmas.List.{get_or-set_other, length-set}
 use Rattle.std.proofs.lemmas.Map.Keys.{Less-from_sorted, sorted_from_all_adjacent}
 use Rattle.std.proofs.lemmas.Map.Lookups.{exact_bytes}
 use Rattle.agg_values.specs.Names.{name_cmp}
-use Rattle.agg_column.specs.Dictionary.{text_at, last_text, HasOrdinal}
+use Rattle.agg_segment.specs.storage.Dictionary.{text_at, last_text, HasOrdinal}
 
 -- ---- one more text
 

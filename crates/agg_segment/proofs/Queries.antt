@@ -1,7 +1,7 @@
 -- What a Boolean query matches.
 use Rattle.std.proofs.Common.{◌≡◌, ◌≢◌, ◌∙◌, refl, sym, ap, ◌&&◌, List, [], ◌∷◌, Bool}
 use Rattle.std.proofs.Common.{not, map, length}
-use Rattle.agg_column.specs.Document.{Fields}
+use Rattle.agg_segment.specs.storage.Document.{Fields}
 use Rattle.agg_segment.specs.Query.{all_match, by_itself, matches, matches_by, some_matches}
 use Rattle.agg_segment.specs.Query.{wanted_match}
 use Rattle.agg_segment.specs.declared.query.QueryTree.{QueryTree}

@@ -10,16 +10,17 @@ use Rattle.std.specs.List.Sorted.{IsStrictlySortedBy}
 use Rattle.std.specs.Ordering.{nat_cmp, ordering_then, ordering_reverse}
 use Rattle.agg_values.specs.Names.{name_cmp}
 use Rattle.agg_values.specs.declared.address.Address.{Address}
-use Rattle.agg_column.specs.Columns.{type_of, texts_of, addresses_of}
-use Rattle.agg_column.specs.Dictionary.{IsHit, address_cmp}
+use Rattle.agg_segment.specs.storage.Columns.{type_of, texts_of, addresses_of}
+use Rattle.agg_segment.specs.storage.Dictionary.{IsHit, address_cmp}
 use Rattle.agg_segment.specs.Spans.{hit_cmp, IsHitOf}
-use Rattle.agg_column.specs.declared.document.FieldValue.TheVariants as value
-use Rattle.agg_column.specs.declared.hit.ColumnType.TheVariants as kind
-use Rattle.agg_column.specs.declared.hit.OrdHit.{OrdHit}
-use Rattle.agg_column.specs.declared.hit.OrdHit.TheVariants.{Exact, Next, AfterLast}
-use Rattle.agg_column.specs.declared.keys.ColumnKeys.{ColumnKeys}
-use Rattle.agg_column.specs.declared.keys.ColumnKeys.TheVariants.{Bools, Texts, Signed, Unsigned}
-use Rattle.agg_column.specs.declared.keys.ColumnKeys.TheVariants.{Addresses, Dates}
+use Rattle.agg_segment.specs.declared.storage.document.FieldValue.TheVariants as value
+use Rattle.agg_segment.specs.declared.storage.hit.ColumnType.TheVariants as kind
+use Rattle.agg_segment.specs.declared.storage.hit.OrdHit.{OrdHit}
+use Rattle.agg_segment.specs.declared.storage.hit.OrdHit.TheVariants.{Exact, Next, AfterLast}
+use Rattle.agg_segment.specs.declared.storage.keys.ColumnKeys.{ColumnKeys}
+use Rattle.agg_segment.specs.declared.storage.keys.ColumnKeys.TheVariants.{Bools, Texts, Signed}
+use Rattle.agg_segment.specs.declared.storage.keys.ColumnKeys.TheVariants.{Unsigned, Addresses}
+use Rattle.agg_segment.specs.declared.storage.keys.ColumnKeys.TheVariants.{Dates}
 
 next_less : (n place : ℕ) → n < place → hit_cmp (Next place) n ≡ Less
 next_less n place l = grind (arith, nat_tests)

@@ -14,7 +14,7 @@ use Rattle.agg_values.specs.Column.{order_rank}
 use Rattle.agg_segment.specs.Gatherings.{Raw, column_raws, raws, is_raw_of, forgotten}
 use Rattle.agg_segment.specs.Gatherings.{AreAlike, AreApart, IsPutInto, IsRawOf, AreRawsOf}
 use Rattle.agg_segment.specs.declared.gatherings.Gathering.{Gathering}
-use Rattle.agg_column.specs.declared.log.Cell.{Cell}
+use Rattle.agg_segment.specs.declared.storage.log.Cell.{Cell}
 
 -- ---- classes by their ranks
 

@@ -11,16 +11,16 @@ use Rattle.std.proofs.lemmas.List.Elements.{filter-append, All-append, All-cons}
 use Rattle.agg_values.specs.declared.address.Address.{Address}
 use Rattle.agg_values.specs.Column.{class_rank, order_rank}
 use Rattle.agg_values.specs.TypedKey.{CompositeIntermediateKey}
-use Rattle.agg_column.specs.Cells.{keys_at}
-use Rattle.agg_column.specs.Document.{by_class}
+use Rattle.agg_segment.specs.storage.Cells.{keys_at}
+use Rattle.agg_segment.specs.storage.Document.{by_class}
 use Rattle.agg_segment.specs.Gatherings.{Raw, raws, column_raws, raw_placed}
-use Rattle.agg_column.specs.GatheredNumbers.{raw_key}
+use Rattle.agg_segment.specs.storage.GatheredNumbers.{raw_key}
 use Rattle.agg_segment.specs.Gatherings.{kind_of, AreSorted, AreAlike}
 use Rattle.agg_segment.specs.declared.gatherings.Gathering.{Gathering}
-use Rattle.agg_column.specs.declared.sign.Sign.{Sign}
-use Rattle.agg_column.specs.declared.sign.Sign.TheVariants.{Small}
+use Rattle.agg_segment.specs.declared.storage.sign.Sign.{Sign}
+use Rattle.agg_segment.specs.declared.storage.sign.Sign.TheVariants.{Small}
 use Rattle.agg_segment.proofs.AlikeNumbers.{raw_rank, keys_are, alike_keys}
-use Rattle.agg_column.proofs.Classes.{Ascends, ascending_stays}
+use Rattle.agg_segment.proofs.lemmas.storage.Classes.{Ascends, ascending_stays}
 
 ascends_joined : (r : ℕ) (xs ys : List CompositeIntermediateKey)
     → All (λ k. class_rank k ≡ r) xs → All (λ k. r ≤ class_rank k) ys → Ascends ys

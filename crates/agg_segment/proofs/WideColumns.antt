@@ -10,15 +10,15 @@ use Rattle.std.proofs.lemmas.List.{get_or_default, get_or_past}
 use Rattle.agg_values.specs.declared.address.Address.{Address}
 use Rattle.agg_values.specs.declared.column.ColumnPaginationOrder.{ColumnPaginationOrder}
 use Rattle.agg_values.specs.declared.column.ColumnPaginationOrder.TheVariants as class
-use Rattle.agg_column.specs.Cells.{Placed}
+use Rattle.agg_segment.specs.storage.Cells.{Placed}
 use Rattle.agg_segment.specs.Gatherings.{Raw, raws, column_raws, raw_placed}
-use Rattle.agg_column.specs.GatheredNumbers.{raw_key}
+use Rattle.agg_segment.specs.storage.GatheredNumbers.{raw_key}
 use Rattle.agg_segment.specs.Gatherings.{kind_of, AreLinked, AreWide}
-use Rattle.agg_column.specs.Signs.{sign_of, key_mark, AreSigns}
+use Rattle.agg_segment.specs.storage.Signs.{sign_of, key_mark, AreSigns}
 use Rattle.agg_segment.specs.declared.gatherings.Gathering.{Gathering}
-use Rattle.agg_column.specs.declared.sign.Sign.{Sign}
-use Rattle.agg_column.specs.declared.sign.Sign.TheVariants.{Small, Negative, Large}
-use Rattle.agg_column.proofs.Members.{from_map, from_flat, contains_map}
+use Rattle.agg_segment.specs.declared.storage.sign.Sign.{Sign}
+use Rattle.agg_segment.specs.declared.storage.sign.Sign.TheVariants.{Small, Negative, Large}
+use Rattle.agg_segment.proofs.lemmas.storage.Members.{from_map, from_flat, contains_map}
 
 no_large : (b : Bool) → cond b Negative Small ≡ Large → ⊥
 no_large true is = cc

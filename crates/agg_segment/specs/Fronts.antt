@@ -4,7 +4,7 @@ use Rattle.std.specs.declared.cmp.Ordering.{Ordering}
 use Rattle.std.specs.List.{All}
 use Rattle.std.specs.Ordering.{nat_cmp, ordering_then}
 use Rattle.agg_values.specs.Names.{name_cmp}
-use Rattle.agg_column.specs.Dictionary.{text_at}
+use Rattle.agg_segment.specs.storage.Dictionary.{text_at}
 use Rattle.agg_segment.specs.declared.gatherings.by_text.KeyedPlace.{KeyedPlace}
 
 -- numbers that are bytes

@@ -9,19 +9,19 @@ use Rattle.std.specs.declared.cmp.Ordering.{Ordering}
 use Rattle.agg_values.specs.declared.address.Address.{Address}
 use Rattle.agg_values.specs.declared.column.ColumnPaginationOrder.{ColumnPaginationOrder}
 use Rattle.agg_values.specs.declared.column.ColumnPaginationOrder.TheVariants as class
-use Rattle.agg_column.specs.Cells.{Placed}
-use Rattle.agg_column.specs.CellOrder.{cell_class}
+use Rattle.agg_segment.specs.storage.Cells.{Placed}
+use Rattle.agg_segment.specs.storage.CellOrder.{cell_class}
 use Rattle.agg_values.specs.Column.{order_rank}
-use Rattle.agg_column.specs.Columns.{StoredColumn, keys_rank}
-use Rattle.agg_column.specs.GatheredNumbers.{raw_key}
+use Rattle.agg_segment.specs.storage.Columns.{StoredColumn, keys_rank}
+use Rattle.agg_segment.specs.storage.GatheredNumbers.{raw_key}
 use Rattle.agg_segment.specs.declared.gatherings.Gathering.{Gathering}
-use Rattle.agg_column.specs.declared.hit.ColumnType.{ColumnType}
-use Rattle.agg_column.specs.declared.hit.ColumnType.TheVariants as kind
-use Rattle.agg_column.specs.declared.log.Cell.{Cell}
-use Rattle.agg_column.specs.declared.log.CellValue.{CellValue}
-use Rattle.agg_column.specs.declared.log.CellValue.TheVariants as cell
-use Rattle.agg_column.specs.declared.sign.Sign.{Sign}
-use Rattle.agg_column.specs.declared.sign.Sign.TheVariants.{Small, Negative, Large}
+use Rattle.agg_segment.specs.declared.storage.hit.ColumnType.{ColumnType}
+use Rattle.agg_segment.specs.declared.storage.hit.ColumnType.TheVariants as kind
+use Rattle.agg_segment.specs.declared.storage.log.Cell.{Cell}
+use Rattle.agg_segment.specs.declared.storage.log.CellValue.{CellValue}
+use Rattle.agg_segment.specs.declared.storage.log.CellValue.TheVariants as cell
+use Rattle.agg_segment.specs.declared.storage.sign.Sign.{Sign}
+use Rattle.agg_segment.specs.declared.storage.sign.Sign.TheVariants.{Small, Negative, Large}
 
 -- a number of a document, in the column of a field and a class
 pub record Raw : Type 0 where

@@ -5,6 +5,7 @@ pub mod Query
 pub mod Segment
 pub mod Snapshot
 pub mod Spans
-pub use Rattle.agg_column.specs.Columns
-pub use Rattle.agg_column.specs.Dictionary
-pub use Rattle.agg_column.specs.Document
+pub mod storage
+pub use Rattle.agg_segment.specs.storage.Columns
+pub use Rattle.agg_segment.specs.storage.Dictionary
+pub use Rattle.agg_segment.specs.storage.Document

@@ -2,9 +2,9 @@
 use Rattle.std.specs.Prelude.{◌≡◌, ◌<◌, ◌≤◌, ℕ, List, Bool, false, length, get_or}
 use Rattle.std.specs.List.{list_any, filter, range_with_len}
 use Rattle.agg_values.specs.TypedKey.{CompositeIntermediateKey}
-use Rattle.agg_column.specs.Document.{Fields}
+use Rattle.agg_segment.specs.storage.Document.{Fields}
 use Rattle.agg_segment.specs.Segment.{Stored, document_at, documents_of, max_documents}
-use Rattle.agg_column.specs.Columns.{StoredColumn, column_keys}
+use Rattle.agg_segment.specs.storage.Columns.{StoredColumn, column_keys}
 use Rattle.agg_segment.specs.Query.{is_any, is_value, is_between}
 use Rattle.agg_segment.specs.declared.query.key_test.KeyTest.{KeyTest}
 use Rattle.agg_segment.specs.declared.query.key_test.KeyTest.TheVariants.{Any, Value, Between}

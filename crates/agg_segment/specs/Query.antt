@@ -5,8 +5,8 @@ use Rattle.std.specs.Ordering.{is_eq, is_lt, is_le, is_gt, is_ge}
 use Rattle.agg_values.specs.KeyOrder.{ascending_order}
 use Rattle.agg_values.specs.Column.{class_rank}
 use Rattle.agg_values.specs.TypedKey.{CompositeIntermediateKey}
-use Rattle.agg_column.specs.Document.{Fields, key_of, by_class}
-use Rattle.agg_column.specs.declared.document.FieldValue.{FieldValue}
+use Rattle.agg_segment.specs.storage.Document.{Fields, key_of, by_class}
+use Rattle.agg_segment.specs.declared.storage.document.FieldValue.{FieldValue}
 use Rattle.agg_segment.specs.declared.query.RangeBound.{RangeBound}
 use Rattle.agg_segment.specs.declared.query.RangeBound.TheVariants.{Unbounded, Included, Excluded}
 use Rattle.agg_segment.specs.declared.query.QueryTree.{QueryTree}

@@ -4,13 +4,13 @@ use Rattle.std.specs.Prelude.{filter, map, flat_map, length, take, drop}
 use Rattle.std.specs.Option.{option_map_or}
 use Rattle.std.specs.Str.{bytes_eq}
 use Rattle.std.specs.List.{range_with_len, All, Contains}
-use Rattle.agg_column.specs.Document.{Fields, by_class}
-use Rattle.agg_column.specs.Cells.{Placed, Logged, number_of, named_keys}
+use Rattle.agg_segment.specs.storage.Document.{Fields, by_class}
+use Rattle.agg_segment.specs.storage.Cells.{Placed, Logged, number_of, named_keys}
 use Rattle.agg_segment.specs.Gatherings.{Raw, raw_placed, IsRaw}
-use Rattle.agg_column.specs.Signs.{sign_of, key_mark, AreSigns}
-use Rattle.agg_column.specs.Columns.{StoredColumn, column_cells}
-use Rattle.agg_column.specs.declared.sign.Sign.{Sign}
-use Rattle.agg_column.specs.declared.sign.Sign.TheVariants.{Negative, Large}
+use Rattle.agg_segment.specs.storage.Signs.{sign_of, key_mark, AreSigns}
+use Rattle.agg_segment.specs.storage.Columns.{StoredColumn, column_cells}
+use Rattle.agg_segment.specs.declared.storage.sign.Sign.{Sign}
+use Rattle.agg_segment.specs.declared.storage.sign.Sign.TheVariants.{Negative, Large}
 use Rattle.agg_values.specs.Names.{Named}
 use Rattle.agg_values.specs.TypedKey.{CompositeIntermediateKey}
 

@@ -1,6 +1,6 @@
 -- Snapshots, as what they stand for.
 use Rattle.std.specs.Prelude.{ℕ, List, map}
-use Rattle.agg_column.specs.Document.{Fields}
+use Rattle.agg_segment.specs.storage.Document.{Fields}
 use Rattle.agg_segment.specs.Segment.{documents_of}
 use Rattle.agg_segment.specs.declared.snapshot.Snapshot.{Snapshot}
 

@@ -6,12 +6,12 @@ use Rattle.std.specs.declared.cmp.Ordering.{Ordering}
 use Rattle.std.specs.declared.cmp.Ordering.TheVariants.{Less, Greater}
 use Rattle.agg_values.specs.KeyOrder.{ascending_order}
 use Rattle.agg_values.specs.TypedKey.{CompositeIntermediateKey}
-use Rattle.agg_column.specs.Document.{key_of}
-use Rattle.agg_column.specs.Columns.{encoded_key, StandsForKey}
-use Rattle.agg_column.specs.declared.document.FieldValue.{FieldValue}
-use Rattle.agg_column.specs.declared.hit.OrdHit.{OrdHit}
-use Rattle.agg_column.specs.declared.hit.OrdHit.TheVariants.{Exact, Next, AfterLast}
-use Rattle.agg_column.specs.declared.keys.ColumnKeys.{ColumnKeys}
+use Rattle.agg_segment.specs.storage.Document.{key_of}
+use Rattle.agg_segment.specs.storage.Columns.{encoded_key, StandsForKey}
+use Rattle.agg_segment.specs.declared.storage.document.FieldValue.{FieldValue}
+use Rattle.agg_segment.specs.declared.storage.hit.OrdHit.{OrdHit}
+use Rattle.agg_segment.specs.declared.storage.hit.OrdHit.TheVariants.{Exact, Next, AfterLast}
+use Rattle.agg_segment.specs.declared.storage.keys.ColumnKeys.{ColumnKeys}
 use Rattle.agg_segment.specs.declared.query.span.Span.{Span}
 
 -- how a number compares with a value that has a hit

@@ -1,6 +1,6 @@
 ghost use Rattle.std.specs.Prelude.{◌≡◌, ◌≢◌, ◌↔◌, Err, [], ◌∷◌, ◌++◌, ℕ, List, length};
 ghost use Rattle.std.specs.Prelude.{IsTrue, IfOk, OnOk, OnErr, IsErrOf};
-ghost use Rattle.agg_column.specs.Document.{key_of, meaning};
+ghost use Rattle.agg_segment.specs.storage.Document.{key_of, meaning};
 ghost use Rattle.agg_segment.specs.Segment.{gathered_documents, open_document};
 ghost use Rattle.agg_segment.specs.Segment.{no_fields, with_key, documents_of};
 ghost use Rattle.agg_segment.specs.Segment.{IsNameOf, IsMixed, max_documents};
@@ -9,7 +9,7 @@ ghost use Rattle.agg_segment.specs.declared.builder.BuildError.TheVariants.{OutO
 use crate::SegmentReader;
 use crate::gatherings::Gatherings;
 use crate::signs::{give_signs, take_back};
-use agg_column::{Document, FieldNames, FieldValue, Log, Sign};
+use crate::storage::{Document, FieldNames, FieldValue, Log, Sign};
 use agg_values::{OutOfMemory, Text};
 use std::alloc::{AllocFailed, Global};
 use std::marker::Model;

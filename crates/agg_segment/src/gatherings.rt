@@ -1,16 +1,16 @@
 ghost use Rattle.std.specs.Prelude.{◌≡◌, ◌≢◌, ◌<◌, ◌≤◌, ◌+◌, ◌++◌, ◌∷◌, [], ℕ, List, None};
 ghost use Rattle.std.specs.Prelude.{length, get_or, map, filter, nat_lt, IfOk, IfSome, OnOk, OnErr};
 ghost use Rattle.std.specs.List.{All};
-ghost use Rattle.agg_column.specs.CellOrder.{cell_class};
+ghost use Rattle.agg_segment.specs.storage.CellOrder.{cell_class};
 ghost use Rattle.agg_segment.specs.Gatherings.{Raw, raws, column_raws, AreAlike, IsPutInto};
-ghost use Rattle.agg_column.specs.Cells.{IsWideAsUnsigned};
+ghost use Rattle.agg_segment.specs.storage.Cells.{IsWideAsUnsigned};
 ghost use Rattle.agg_segment.specs.Gatherings.{IsNumberOf, IsRawOf, AreRawsOf};
 ghost use Rattle.agg_segment.specs.Gatherings.{AreLinked, IsColumnOf, forgotten};
 
 mod by_text;
 mod columns;
 
-use agg_column::{Cell, CellValue, FROM_ZERO, GrowingRows, from_zero};
+use crate::storage::{Cell, CellValue, FROM_ZERO, GrowingRows, from_zero};
 use agg_values::{ColumnPaginationOrder, OutOfMemory};
 use std::alloc::Global;
 use std::marker::Model;

@@ -9,8 +9,9 @@ mod schema;
 mod segment;
 mod signs;
 mod snapshot;
+pub mod storage;
 
-pub use agg_column::{
+pub use crate::storage::{
     Column, ColumnType, Document, FieldValue, OrdHit, by_class_keeps_the_keys,
     values_types_and_hits_are_equal_by_content,
 };

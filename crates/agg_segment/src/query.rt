@@ -7,7 +7,7 @@ mod marks;
 mod matches;
 mod span;
 
-use agg_column::FieldValue;
+use crate::storage::FieldValue;
 use agg_values::{ItemList, OutOfMemory, Text};
 pub use laws::classes_match_in_any_order;
 pub use matches::Matches;

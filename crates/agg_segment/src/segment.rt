@@ -1,11 +1,11 @@
 ghost use Rattle.std.specs.Prelude.{◌≡◌, ◌≤◌, ◌==◌, ℕ, All, length, filter};
-ghost use Rattle.agg_column.specs.Names.{numbered_names};
-ghost use Rattle.agg_column.specs.Columns.{all_keys, AreInOrder, ClassesAscend};
-ghost use Rattle.agg_column.specs.Document.{HasNumbersOf64Bits};
+ghost use Rattle.agg_segment.specs.storage.Names.{numbered_names};
+ghost use Rattle.agg_segment.specs.storage.Columns.{all_keys, AreInOrder, ClassesAscend};
+ghost use Rattle.agg_segment.specs.storage.Document.{HasNumbersOf64Bits};
 ghost use Rattle.agg_segment.specs.Segment.{columns_in, document_at, documents_of};
 ghost use Rattle.agg_segment.specs.Segment.{max_documents};
 
-use agg_column::{Column, find_number};
+use crate::storage::{Column, find_number};
 use agg_values::Text;
 use std::collections::BTreeMap;
 use std::marker::Model;
@@ -20,10 +20,10 @@ pub struct SegmentReader {
 
 impl Model for SegmentReader {
     ghost use Rattle.std.specs.Prelude.{◌≤◌, All};
-    ghost use Rattle.agg_column.specs.Columns.{AreInOrder};
-    ghost use Rattle.agg_column.specs.Document.{HasNumbersOf64Bits};
+    ghost use Rattle.agg_segment.specs.storage.Columns.{AreInOrder};
+    ghost use Rattle.agg_segment.specs.storage.Document.{HasNumbersOf64Bits};
     ghost use Rattle.agg_segment.specs.Segment.{Stored, documents_of, max_documents};
-    ghost use Rattle.agg_column.specs.Names.{numbered_names};
+    ghost use Rattle.agg_segment.specs.storage.Names.{numbered_names};
 
     ghost Value = { Stored };
 

@@ -1,10 +1,11 @@
 ghost use Rattle.std.specs.Prelude.{◌≡◌, ◌≢◌, ◌<◌, ◌∷◌, ◌++◌, [], ℕ, List, Err, length, map};
 ghost use Rattle.std.specs.Prelude.{IfOk, OnOk, OnErr, IsErrOf};
 ghost use Rattle.std.specs.List.{All};
-ghost use Rattle.agg_column.specs.Signs.{cell_sign, cell_mark, AreSigns, HasBoth, without_signs};
+ghost use Rattle.agg_segment.specs.storage.Signs.{cell_sign, cell_mark, AreSigns, HasBoth};
+ghost use Rattle.agg_segment.specs.storage.Signs.{without_signs};
 
 use crate::BuildError;
-use agg_column::{Cell, CellValue, Sign};
+use crate::storage::{Cell, CellValue, Sign};
 use std::alloc::Global;
 
 /// The sign of what a cell keeps.

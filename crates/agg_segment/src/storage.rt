@@ -1,19 +1,17 @@
 //! Values of documents as cells, and columns of their numbers with dictionaries of their texts and
 //! addresses.
-#![tactic(auto)]
-
-mod column;
-mod dictionary;
-mod document;
-mod field_names;
-mod hit;
-mod keys;
-mod laws;
-mod log;
-mod names;
-mod rows;
-mod sign;
-mod texts;
+pub(crate) mod column;
+pub(crate) mod dictionary;
+pub(crate) mod document;
+pub(crate) mod field_names;
+pub(crate) mod hit;
+pub(crate) mod keys;
+pub(crate) mod laws;
+pub(crate) mod log;
+pub(crate) mod names;
+pub(crate) mod rows;
+pub(crate) mod sign;
+pub(crate) mod texts;
 
 pub use column::Column;
 pub use dictionary::{AddressList, Dictionary};

@@ -1,8 +1,8 @@
 -- The classes of cells.
 use Rattle.agg_values.specs.declared.column.ColumnPaginationOrder.{ColumnPaginationOrder}
 use Rattle.agg_values.specs.declared.column.ColumnPaginationOrder.TheVariants as class
-use Rattle.agg_column.specs.declared.log.CellValue.{CellValue}
-use Rattle.agg_column.specs.declared.log.CellValue.TheVariants as cell
+use Rattle.agg_segment.specs.declared.storage.log.CellValue.{CellValue}
+use Rattle.agg_segment.specs.declared.storage.log.CellValue.TheVariants as cell
 
 -- the class of what a cell keeps
 abbrev pub cell_class : CellValue → ColumnPaginationOrder

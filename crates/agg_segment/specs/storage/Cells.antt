@@ -6,11 +6,11 @@ use Rattle.agg_values.specs.Names.{Named, value_of}
 use Rattle.agg_values.specs.declared.address.Address.{Address}
 use Rattle.agg_values.specs.TypedKey.{CompositeIntermediateKey}
 use Rattle.agg_values.specs.declared.typed_key.CompositeIntermediateKey.TheVariants as key
-use Rattle.agg_column.specs.Document.{Fields}
-use Rattle.agg_column.specs.Dictionary.{text_at, address_at}
-use Rattle.agg_column.specs.declared.log.Cell.{Cell}
-use Rattle.agg_column.specs.declared.log.CellValue.{CellValue}
-use Rattle.agg_column.specs.declared.log.CellValue.TheVariants as cell
+use Rattle.agg_segment.specs.storage.Document.{Fields}
+use Rattle.agg_segment.specs.storage.Dictionary.{text_at, address_at}
+use Rattle.agg_segment.specs.declared.storage.log.Cell.{Cell}
+use Rattle.agg_segment.specs.declared.storage.log.CellValue.{CellValue}
+use Rattle.agg_segment.specs.declared.storage.log.CellValue.TheVariants as cell
 
 -- a key of a document, in the field of a number
 pub record Placed : Type 0 where

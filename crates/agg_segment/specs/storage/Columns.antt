@@ -12,15 +12,16 @@ use Rattle.agg_values.specs.declared.column.ColumnPaginationOrder.{ColumnPaginat
 use Rattle.agg_values.specs.declared.column.ColumnPaginationOrder.TheVariants as class
 use Rattle.agg_values.specs.TypedKey.{CompositeIntermediateKey}
 use Rattle.agg_values.specs.declared.typed_key.CompositeIntermediateKey.TheVariants as key
-use Rattle.agg_column.specs.Cells.{Placed}
-use Rattle.agg_column.specs.Signs.{sign_of}
-use Rattle.agg_column.specs.Dictionary.{text_at, address_at}
-use Rattle.agg_column.specs.declared.keys.ColumnKeys.{ColumnKeys}
-use Rattle.agg_column.specs.declared.keys.ColumnKeys.TheVariants.{Bools, Texts, Signed, Unsigned}
-use Rattle.agg_column.specs.declared.keys.ColumnKeys.TheVariants.{Addresses, Dates}
-use Rattle.agg_column.specs.declared.hit.ColumnType.{ColumnType}
-use Rattle.agg_column.specs.declared.hit.ColumnType.TheVariants as kind
-use Rattle.agg_column.specs.declared.sign.Sign.TheVariants.{Large}
+use Rattle.agg_segment.specs.storage.Cells.{Placed}
+use Rattle.agg_segment.specs.storage.Signs.{sign_of}
+use Rattle.agg_segment.specs.storage.Dictionary.{text_at, address_at}
+use Rattle.agg_segment.specs.declared.storage.keys.ColumnKeys.{ColumnKeys}
+use Rattle.agg_segment.specs.declared.storage.keys.ColumnKeys.TheVariants.{Bools, Texts, Signed}
+use Rattle.agg_segment.specs.declared.storage.keys.ColumnKeys.TheVariants.{Unsigned, Addresses}
+use Rattle.agg_segment.specs.declared.storage.keys.ColumnKeys.TheVariants.{Dates}
+use Rattle.agg_segment.specs.declared.storage.hit.ColumnType.{ColumnType}
+use Rattle.agg_segment.specs.declared.storage.hit.ColumnType.TheVariants as kind
+use Rattle.agg_segment.specs.declared.storage.sign.Sign.TheVariants.{Large}
 
 -- a column: the number of its field, what its numbers stand for, and each document's in order
 pub record StoredColumn : Type 0 where

@@ -7,8 +7,8 @@ use Rattle.std.specs.List.{HoldsAt}
 use Rattle.std.specs.List.Sorted.{IsSortedByKey}
 use Rattle.agg_values.specs.Names.{name_cmp}
 use Rattle.agg_values.specs.declared.address.Address.{Address}
-use Rattle.agg_column.specs.declared.hit.OrdHit.{OrdHit}
-use Rattle.agg_column.specs.declared.hit.OrdHit.TheVariants.{Exact, Next, AfterLast}
+use Rattle.agg_segment.specs.declared.storage.hit.OrdHit.{OrdHit}
+use Rattle.agg_segment.specs.declared.storage.hit.OrdHit.TheVariants.{Exact, Next, AfterLast}
 
 -- the text at a place
 abbrev pub text_at : List (List ℕ) → ℕ → List ℕ

@@ -7,8 +7,8 @@ use Rattle.agg_values.specs.Column.{class_rank}
 use Rattle.agg_values.specs.TypedKey.{canonical_key}
 use Rattle.agg_values.specs.TypedKey.{CompositeIntermediateKey}
 use Rattle.agg_values.specs.declared.typed_key.CompositeIntermediateKey.TheVariants as key
-use Rattle.agg_column.specs.declared.document.FieldValue.{FieldValue}
-use Rattle.agg_column.specs.declared.document.FieldValue.TheVariants as value
+use Rattle.agg_segment.specs.declared.storage.document.FieldValue.{FieldValue}
+use Rattle.agg_segment.specs.declared.storage.document.FieldValue.TheVariants as value
 
 -- a document, by the keys of each field
 abbrev pub Fields : Type 0

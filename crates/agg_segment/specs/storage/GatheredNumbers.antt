@@ -5,11 +5,11 @@ use Rattle.std.specs.List.{Contains}
 use Rattle.agg_values.specs.declared.address.Address.{Address}
 use Rattle.agg_values.specs.TypedKey.{CompositeIntermediateKey}
 use Rattle.agg_values.specs.declared.typed_key.CompositeIntermediateKey.TheVariants as key
-use Rattle.agg_column.specs.Dictionary.{text_at, address_at, HasOrdinal}
-use Rattle.agg_column.specs.declared.keys.ColumnKeys.{ColumnKeys}
-use Rattle.agg_column.specs.declared.keys.ColumnKeys.TheVariants.{Bools, Texts, Addresses}
-use Rattle.agg_column.specs.declared.hit.ColumnType.{ColumnType}
-use Rattle.agg_column.specs.declared.hit.ColumnType.TheVariants as kind
+use Rattle.agg_segment.specs.storage.Dictionary.{text_at, address_at, HasOrdinal}
+use Rattle.agg_segment.specs.declared.storage.keys.ColumnKeys.{ColumnKeys}
+use Rattle.agg_segment.specs.declared.storage.keys.ColumnKeys.TheVariants.{Bools, Texts, Addresses}
+use Rattle.agg_segment.specs.declared.storage.hit.ColumnType.{ColumnType}
+use Rattle.agg_segment.specs.declared.storage.hit.ColumnType.TheVariants as kind
 
 -- the key that a number stands for: a text's and an address's is its place
 abbrev pub raw_key : List (List ℕ) → List Address → ColumnType → ℕ → CompositeIntermediateKey

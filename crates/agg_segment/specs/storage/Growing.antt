@@ -2,9 +2,9 @@
 use Rattle.std.specs.Prelude.{◌≤◌, ◌-◌, ⊤, ℕ, List, [], ◌∷◌, ◌++◌, length}
 use Rattle.std.specs.List.{zip, range_with_len}
 use Rattle.std.specs.List.Sorted.{IsNonDecreasing}
-use Rattle.agg_column.specs.declared.rows.growing.ManyNumbers.{ManyNumbers}
-use Rattle.agg_column.specs.declared.rows.growing.Growing.{Growing}
-use Rattle.agg_column.specs.declared.rows.growing.Growing.TheVariants.{Empty, One, Many}
+use Rattle.agg_segment.specs.declared.storage.rows.growing.ManyNumbers.{ManyNumbers}
+use Rattle.agg_segment.specs.declared.storage.rows.growing.Growing.{Growing}
+use Rattle.agg_segment.specs.declared.storage.rows.growing.Growing.TheVariants.{Empty, One, Many}
 
 -- the documents of numbers: 0, 1, 2 and so on, and then those that are listed
 abbrev pub many_docs : ManyNumbers → List ℕ

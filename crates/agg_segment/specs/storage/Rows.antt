@@ -2,12 +2,12 @@
 use Rattle.std.specs.Prelude.{◌≡◌, ◌<◌, ◌≤◌, ◌+◌, ◌-◌, ⊤, ℕ, zero, suc}
 use Rattle.std.specs.Prelude.{List, [], ◌∷◌, ◌++◌, length, replicate}
 use Rattle.std.specs.List.{zip, range_with_len}
-use Rattle.agg_column.specs.declared.rows.DocEnd.{DocEnd}
-use Rattle.agg_column.specs.declared.rows.Layout.{Layout}
-use Rattle.agg_column.specs.declared.rows.Layout.TheVariants.{Dense, Listed}
-use Rattle.agg_column.specs.declared.rows.UnevenNumbers.{UnevenNumbers}
-use Rattle.agg_column.specs.declared.rows.Numbers.{Numbers}
-use Rattle.agg_column.specs.declared.rows.Numbers.TheVariants.{One, OneEach, Uneven}
+use Rattle.agg_segment.specs.declared.storage.rows.DocEnd.{DocEnd}
+use Rattle.agg_segment.specs.declared.storage.rows.Layout.{Layout}
+use Rattle.agg_segment.specs.declared.storage.rows.Layout.TheVariants.{Dense, Listed}
+use Rattle.agg_segment.specs.declared.storage.rows.UnevenNumbers.{UnevenNumbers}
+use Rattle.agg_segment.specs.declared.storage.rows.Numbers.{Numbers}
+use Rattle.agg_segment.specs.declared.storage.rows.Numbers.TheVariants.{One, OneEach, Uneven}
 
 -- each document as often as it has numbers
 abbrev pub listed_docs : ℕ → List DocEnd → List ℕ

@@ -1,8 +1,8 @@
 -- Texts that are found by a map to their places.
 use Rattle.std.specs.Prelude.{◌≡◌, ◌<◌, ℕ, List, Some, length}
 use Rattle.agg_values.specs.Names.{Named}
-use Rattle.agg_column.specs.Cells.{number_of}
-use Rattle.agg_column.specs.Dictionary.{text_at}
+use Rattle.agg_segment.specs.storage.Cells.{number_of}
+use Rattle.agg_segment.specs.storage.Dictionary.{text_at}
 
 -- the number of each text is its place in a list
 abbrev pub ArePlacesIn : List (List ℕ) → Named ℕ → Type 0

@@ -2,7 +2,7 @@ ghost use Rattle.std.specs.Prelude.{◌≡◌, IfOk, map, get_or};
 ghost use Rattle.std.specs.List.{All};
 ghost use Rattle.std.specs.List.Sorted.{IsPermutation};
 ghost use Rattle.agg_values.specs.Names.{name_cmp};
-ghost use Rattle.agg_column.specs.Dictionary.{text_at, AreByText};
+ghost use Rattle.agg_segment.specs.storage.Dictionary.{text_at, AreByText};
 ghost use Rattle.agg_segment.specs.Fronts.{front_number, keyed_cmp, AreBytes, IsKeyed};
 
 use agg_values::{OutOfMemory, Text};

@@ -1,11 +1,11 @@
 ghost use Rattle.std.specs.Prelude.{◌≡◌, ◌==◌, ◌-ℤ◌, ◌^◌, ◌<◌, ℕ, pos, false, IfSome, IfNone};
 ghost use Rattle.std.specs.Ordering.{int_cmp};
 ghost use Rattle.agg_values.specs.Column.{class_rank};
-ghost use Rattle.agg_column.specs.Columns.{keys_rank};
-ghost use Rattle.agg_column.specs.Document.{key_of};
+ghost use Rattle.agg_segment.specs.storage.Columns.{keys_rank};
+ghost use Rattle.agg_segment.specs.storage.Document.{key_of};
 ghost use Rattle.agg_segment.specs.Spans.{IsHitOf, hit_cmp};
 
-use agg_column::{Column, ColumnType, FieldValue, OrdHit};
+use crate::storage::{Column, ColumnType, FieldValue, OrdHit};
 
 const TWO_TO_63: u64 = 9_223_372_036_854_775_808;
 

@@ -3,7 +3,7 @@ ghost use Rattle.agg_segment.specs.Spans.{IsSpanOf};
 
 use super::RangeBound;
 use super::span::{Span, range_span, term_span};
-use agg_column::{Column, FieldValue};
+use crate::storage::{Column, FieldValue};
 
 /// What a query asks of a key.
 #[derive(Clone, Copy)]

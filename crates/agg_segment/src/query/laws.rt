@@ -1,6 +1,6 @@
 //! What holds of queries, as their definition says it.
 ghost use Rattle.std.specs.Prelude.{◌≡◌};
-ghost use Rattle.agg_column.specs.Document.{Fields};
+ghost use Rattle.agg_segment.specs.storage.Document.{Fields};
 ghost use Rattle.agg_segment.specs.Query.{matches, put_by_class};
 ghost use Rattle.agg_segment.specs.declared.query.QueryTree.{QueryTree};
 

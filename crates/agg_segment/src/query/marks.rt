@@ -10,7 +10,7 @@ ghost use Rattle.agg_segment.specs.Spans.{is_in, IsSpanOf};
 use super::key_test::{KeyTest, passing_span};
 use super::span::Span;
 use crate::SegmentReader;
-use agg_column::Column;
+use crate::storage::Column;
 use agg_values::{DocId, OutOfMemory, Text};
 use std::alloc::Global;
 

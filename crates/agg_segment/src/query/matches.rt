@@ -1,5 +1,5 @@
 ghost use Rattle.std.specs.Prelude.{◌≡◌, ◌&&◌, Bool, IfOk, map, filter, length, not};
-ghost use Rattle.agg_column.specs.Document.{Fields};
+ghost use Rattle.agg_segment.specs.storage.Document.{Fields};
 ghost use Rattle.agg_segment.specs.Marks.{AreMarks, mark_at, marked_docs};
 ghost use Rattle.agg_segment.specs.Query.{all_match, matches, some_matches};
 ghost use Rattle.agg_segment.specs.Segment.{Stored, documents_at, documents_of};

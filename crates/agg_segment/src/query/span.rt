@@ -5,7 +5,7 @@ ghost use Rattle.agg_segment.specs.Spans.{hit_cmp, is_in, IsSpanOf};
 
 use super::RangeBound;
 use super::hit::hit_of;
-use agg_column::{Column, FieldValue, OrdHit};
+use crate::storage::{Column, FieldValue, OrdHit};
 
 /// The numbers from the first to the last, none where the last is before the first.
 #[derive(Clone, Copy, Debug)]

@@ -5,15 +5,15 @@ ghost use Rattle.std.specs.Ordering.{nat_cmp};
 ghost use Rattle.agg_values.specs.Column.{class_of};
 ghost use Rattle.agg_values.specs.Names.{name_cmp};
 ghost use Rattle.agg_values.specs.KeyOrder.{ascending_order};
-ghost use Rattle.agg_column.specs.Dictionary.{address_cmp, IsHit};
-ghost use Rattle.agg_column.specs.Columns.{encoded_key, type_of, column_keys};
-ghost use Rattle.agg_column.specs.Columns.{texts_of, addresses_of};
-ghost use Rattle.agg_column.specs.Columns.{StandsForKey, StandForKeys, IsWideForCause};
-ghost use Rattle.agg_column.specs.Columns.{AreInKeyOrder};
+ghost use Rattle.agg_segment.specs.storage.Dictionary.{address_cmp, IsHit};
+ghost use Rattle.agg_segment.specs.storage.Columns.{encoded_key, type_of, column_keys};
+ghost use Rattle.agg_segment.specs.storage.Columns.{texts_of, addresses_of};
+ghost use Rattle.agg_segment.specs.storage.Columns.{StandsForKey, StandForKeys, IsWideForCause};
+ghost use Rattle.agg_segment.specs.storage.Columns.{AreInKeyOrder};
 
-use crate::keys::ColumnKeys;
-use crate::rows::Rows;
-use crate::{ColumnType, OrdHit};
+use crate::storage::keys::ColumnKeys;
+use crate::storage::rows::Rows;
+use crate::storage::{ColumnType, OrdHit};
 use agg_values::{
     Address, ColumnPaginationOrder, CompositeIntermediateKey, DocId, OutOfMemory, Text,
 };
@@ -30,7 +30,7 @@ pub struct Column {
 }
 
 impl Model for Column {
-    ghost use Rattle.agg_column.specs.Columns.{StoredColumn, IsColumn};
+    ghost use Rattle.agg_segment.specs.storage.Columns.{StoredColumn, IsColumn};
 
     ghost Value = { StoredColumn };
 

@@ -2,10 +2,10 @@ ghost use Rattle.std.specs.Prelude.{◌≡◌, ◌<◌, [], ℕ, List, length, m
 ghost use Rattle.std.specs.Ordering.{nat_cmp};
 ghost use Rattle.std.specs.List.Sorted.{IsStrictlySortedBy};
 ghost use Rattle.agg_values.specs.Names.{name_cmp};
-ghost use Rattle.agg_column.specs.Dictionary.{text_at, address_at, address_cmp, IsHit};
-ghost use Rattle.agg_column.specs.Dictionary.{AreInPlaceOrder};
+ghost use Rattle.agg_segment.specs.storage.Dictionary.{text_at, address_at, address_cmp, IsHit};
+ghost use Rattle.agg_segment.specs.storage.Dictionary.{AreInPlaceOrder};
 
-use crate::OrdHit;
+use crate::storage::OrdHit;
 use agg_values::{Address, ColumnPaginationOrder, OutOfMemory, Text};
 use std::alloc::Global;
 use std::cmp::Ordering;
@@ -95,7 +95,7 @@ pub struct AddressList {
 impl Model for AddressList {
     ghost use Rattle.std.specs.Prelude.{List, map};
     ghost use Rattle.agg_values.specs.declared.address.Address.{Address};
-    ghost use Rattle.agg_column.specs.Dictionary.{address_cmp};
+    ghost use Rattle.agg_segment.specs.storage.Dictionary.{address_cmp};
     ghost use Rattle.std.specs.List.Sorted.{IsStrictlySortedBy};
     ghost use Rattle.std.specs.Ordering.{nat_cmp};
 

@@ -41,7 +41,7 @@ pub struct Document {
 
 impl Model for Document {
     ghost use Rattle.std.specs.Prelude.{List, ℕ};
-    ghost use Rattle.agg_column.specs.declared.document.FieldValue.{FieldValue};
+    ghost use Rattle.agg_segment.specs.declared.storage.document.FieldValue.{FieldValue};
 
     ghost Value = { List (List ℕ × FieldValue) };
 

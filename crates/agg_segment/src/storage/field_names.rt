@@ -1,10 +1,10 @@
 ghost use Rattle.std.specs.Prelude.{◌≡◌, [], ℕ, List, Some, None, if◌then◌else◌};
 ghost use Rattle.std.specs.Prelude.{IfSome, OnOk, OnErr};
 ghost use Rattle.std.specs.Str.{bytes_eq};
-ghost use Rattle.agg_column.specs.Cells.{number_of};
-ghost use Rattle.agg_column.specs.Names.{numbered_names};
+ghost use Rattle.agg_segment.specs.storage.Cells.{number_of};
+ghost use Rattle.agg_segment.specs.storage.Names.{numbered_names};
 
-use crate::names::{find_number, set_number};
+use crate::storage::names::{find_number, set_number};
 use agg_values::{OutOfMemory, Text};
 use std::alloc::Global;
 use std::collections::BTreeMap;
@@ -27,8 +27,8 @@ pub struct FieldNames {
 impl Model for FieldNames {
     ghost use Rattle.std.specs.Prelude.{ℕ};
     ghost use Rattle.agg_values.specs.Names.{Named};
-    ghost use Rattle.agg_column.specs.Names.{numbered_names};
-    ghost use Rattle.agg_column.specs.FirstNames.{AreFirst};
+    ghost use Rattle.agg_segment.specs.storage.Names.{numbered_names};
+    ghost use Rattle.agg_segment.specs.storage.FirstNames.{AreFirst};
 
     ghost Value = { Named ℕ };
 

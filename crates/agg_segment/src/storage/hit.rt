@@ -1,6 +1,6 @@
 ghost use Rattle.std.specs.Prelude.{◌≡◌, ℕ, Some};
-ghost use Rattle.agg_column.specs.Columns.{encoded_key, type_of};
-ghost use Rattle.agg_column.specs.declared.keys.ColumnKeys.{ColumnKeys};
+ghost use Rattle.agg_segment.specs.storage.Columns.{encoded_key, type_of};
+ghost use Rattle.agg_segment.specs.declared.storage.keys.ColumnKeys.{ColumnKeys};
 ghost use Rattle.agg_values.specs.Column.{class_of};
 
 use agg_values::ColumnPaginationOrder;

@@ -3,12 +3,12 @@ ghost use Rattle.std.specs.Ordering.{nat_cmp};
 ghost use Rattle.agg_values.specs.Column.{class_of};
 ghost use Rattle.agg_values.specs.TypedKey.{typed_number};
 ghost use Rattle.agg_values.specs.KeyOrder.{ascending_order};
-ghost use Rattle.agg_column.specs.Columns.{encoded_key, StandsForKey, type_of, named_texts};
-ghost use Rattle.agg_column.specs.Columns.{AreInKeyOrder};
-ghost use Rattle.agg_column.specs.GatheredNumbers.{raw_key, IsEncodable};
+ghost use Rattle.agg_segment.specs.storage.Columns.{encoded_key, StandsForKey, type_of};
+ghost use Rattle.agg_segment.specs.storage.Columns.{named_texts, AreInKeyOrder};
+ghost use Rattle.agg_segment.specs.storage.GatheredNumbers.{raw_key, IsEncodable};
 
-use crate::ColumnType;
-use crate::dictionary::{AddressList, Dictionary};
+use crate::storage::ColumnType;
+use crate::storage::dictionary::{AddressList, Dictionary};
 use agg_values::{Address, ColumnPaginationOrder, CompositeIntermediateKey, OutOfMemory};
 use std::alloc::Global;
 use std::cmp::Ordering;

@@ -3,9 +3,9 @@ ghost use Rattle.std.specs.Prelude.{◌≡◌, List};
 ghost use Rattle.std.specs.List.Sorted.{IsPermutation};
 ghost use Rattle.agg_values.specs.Laws.{IsSameness};
 ghost use Rattle.agg_values.specs.TypedKey.{CompositeIntermediateKey};
-ghost use Rattle.agg_column.specs.Document.{by_class};
+ghost use Rattle.agg_segment.specs.storage.Document.{by_class};
 
-use crate::{ColumnType, FieldValue, OrdHit, Sign};
+use crate::storage::{ColumnType, FieldValue, OrdHit, Sign};
 
 /// Keys by class are the same keys in another order, and stay as they are when they are put by
 /// class again.

@@ -1,12 +1,12 @@
 ghost use Rattle.std.specs.Prelude.{◌≡◌, ◌≤◌, ◌++◌, ◌∷◌, [], ℕ, List};
 ghost use Rattle.std.specs.Prelude.{length, map, IfOk, OnOk, OnErr};
 ghost use Rattle.std.specs.List.{All};
-ghost use Rattle.agg_column.specs.Document.{key_of};
-ghost use Rattle.agg_column.specs.Cells.{placed, stored_key, IsKept};
-ghost use Rattle.agg_column.specs.CellOrder.{cell_class};
+ghost use Rattle.agg_segment.specs.storage.Document.{key_of};
+ghost use Rattle.agg_segment.specs.storage.Cells.{placed, stored_key, IsKept};
+ghost use Rattle.agg_segment.specs.storage.CellOrder.{cell_class};
 
-use crate::FieldValue;
-use crate::texts::Texts;
+use crate::storage::FieldValue;
+use crate::storage::texts::Texts;
 use agg_values::{Address, ColumnPaginationOrder, OutOfMemory};
 use std::alloc::Global;
 use std::marker::Model;
@@ -60,7 +60,7 @@ pub struct Log {
 impl Model for Log {
     ghost use Rattle.std.specs.Prelude.{map, length};
     ghost use Rattle.std.specs.List.{All};
-    ghost use Rattle.agg_column.specs.Cells.{Logged, placed, IsKept};
+    ghost use Rattle.agg_segment.specs.storage.Cells.{Logged, placed, IsKept};
 
     ghost Value = { Logged };
 

@@ -1,7 +1,7 @@
 ghost use Rattle.std.specs.Prelude.{◌≡◌, ℕ, List, Some, if◌then◌else◌, OnOk, OnErr};
 ghost use Rattle.std.specs.Str.{bytes_eq};
-ghost use Rattle.agg_column.specs.Cells.{number_of};
-ghost use Rattle.agg_column.specs.Names.{numbered_names};
+ghost use Rattle.agg_segment.specs.storage.Cells.{number_of};
+ghost use Rattle.agg_segment.specs.storage.Names.{numbered_names};
 
 use agg_values::OutOfMemory;
 use std::alloc::Global;

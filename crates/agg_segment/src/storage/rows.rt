@@ -2,9 +2,9 @@ ghost use Rattle.std.specs.Prelude.{◌≡◌, ◌≢◌, ◌<◌, ◌≤◌, �
 ghost use Rattle.std.specs.Prelude.{length, map, get_or, IsTrue, IfOk};
 ghost use Rattle.std.specs.List.{All, zip, range_with_len};
 ghost use Rattle.std.specs.List.Sorted.{IsNonDecreasing};
-ghost use Rattle.agg_column.specs.Columns.{numbers_at};
-ghost use Rattle.agg_column.specs.Rows.{listed_docs, start_at, numbered, layout_docs};
-ghost use Rattle.agg_column.specs.Rows.{uneven_rows, AreEndsOf, IsLaidOut};
+ghost use Rattle.agg_segment.specs.storage.Columns.{numbers_at};
+ghost use Rattle.agg_segment.specs.storage.Rows.{listed_docs, start_at, numbered, layout_docs};
+ghost use Rattle.agg_segment.specs.storage.Rows.{uneven_rows, AreEndsOf, IsLaidOut};
 
 mod growing;
 
@@ -67,7 +67,7 @@ impl Model for Rows {
 
     ghost Value = { List (ℕ × ℕ) };
 
-    ghost use Rattle.agg_column.specs.Rows.{rows, AreLaidOut};
+    ghost use Rattle.agg_segment.specs.storage.Rows.{rows, AreLaidOut};
 
     ghost view = { λ r. rows r.numbers };
 

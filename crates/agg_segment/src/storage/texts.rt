@@ -1,7 +1,7 @@
 ghost use Rattle.std.specs.Prelude.{◌≡◌, ◌<◌, ◌++◌, [], ℕ, List, Some, length, IfOk};
-ghost use Rattle.agg_column.specs.Dictionary.{text_at};
+ghost use Rattle.agg_segment.specs.storage.Dictionary.{text_at};
 
-use crate::names::{find_number, set_number};
+use crate::storage::names::{find_number, set_number};
 use agg_values::{OutOfMemory, Text};
 use std::alloc::Global;
 use std::collections::BTreeMap;
@@ -21,8 +21,8 @@ pub struct Texts {
 
 impl Model for Texts {
     ghost use Rattle.std.specs.Prelude.{List, ℕ};
-    ghost use Rattle.agg_column.specs.Names.{numbered_names};
-    ghost use Rattle.agg_column.specs.TextPlaces.{ArePlacesIn};
+    ghost use Rattle.agg_segment.specs.storage.Names.{numbered_names};
+    ghost use Rattle.agg_segment.specs.storage.TextPlaces.{ArePlacesIn};
 
     ghost Value = { List (List ℕ) };
 

@@ -4,7 +4,7 @@ use Rattle.std.specs.List.{AllByRecursion}
 use Rattle.std.specs.List.Sorted.{IsStrictlySortedBy}
 use Rattle.std.specs.Ordering.{nat_cmp}
 use Rattle.agg_values.specs.declared.address.Address.{Address}
-use Rattle.agg_column.specs.Dictionary.{address_cmp}
+use Rattle.agg_segment.specs.storage.Dictionary.{address_cmp}
 
 all_addresses : (n : ℕ) (ns : List ℕ) → AllByRecursion (λ m. nat_cmp n m ≡ Less) ns
     → AllByRecursion (λ (a : Address). address_cmp (record { 0 = n }) a ≡ Less)

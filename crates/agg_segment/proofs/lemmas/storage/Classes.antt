@@ -15,7 +15,7 @@ use Rattle.agg_values.specs.Column.{class_rank}
 use Rattle.agg_values.specs.TypedKey.{CompositeIntermediateKey}
 use Rattle.agg_values.specs.declared.typed_key.CompositeIntermediateKey.TheVariants
     as key
-use Rattle.agg_column.specs.Document.{by_class, of_class, class_ranks}
+use Rattle.agg_segment.specs.storage.Document.{by_class, of_class, class_ranks}
 
 abbrev Keys : Type 0
 Keys = List CompositeIntermediateKey

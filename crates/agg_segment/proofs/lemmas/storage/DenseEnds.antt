@@ -7,11 +7,13 @@ use Rattle.std.proofs.lemmas.List.{take_all}
 use Rattle.std.proofs.lemmas.Bool.{cases_lt}
 use Rattle.std.specs.List.{All, zip, slice_range}
 use Rattle.std.specs.List.Sorted.{IsNonDecreasing}
-use Rattle.agg_column.specs.Columns.{numbers_at}
-use Rattle.agg_column.specs.Rows.{listed_docs, last_end, start_at, numbered, AreEnds, AreEndsOf}
-use Rattle.agg_column.specs.declared.rows.DocEnd.{DocEnd}
-use Rattle.agg_column.proofs.Layouts.{listed_found, listed_absent, listed_more, last_more}
-use Rattle.agg_column.proofs.Layouts.{ends_more, ends_within, run_more, start_is}
+use Rattle.agg_segment.specs.storage.Columns.{numbers_at}
+use Rattle.agg_segment.specs.storage.Rows.{listed_docs, last_end, start_at, numbered, AreEnds}
+use Rattle.agg_segment.specs.storage.Rows.{AreEndsOf}
+use Rattle.agg_segment.specs.declared.storage.rows.DocEnd.{DocEnd}
+use Rattle.agg_segment.proofs.lemmas.storage.Layouts.{listed_found, listed_absent, listed_more}
+use Rattle.agg_segment.proofs.lemmas.storage.Layouts.{last_more, ends_more, ends_within, run_more}
+use Rattle.agg_segment.proofs.lemmas.storage.Layouts.{start_is}
 
 -- no end
 abbrev no_end : DocEnd

@@ -6,9 +6,9 @@ use Rattle.std.specs.Prelude.{Bool}
 use Rattle.std.specs.Str.{bytes_eq}
 use Rattle.std.proofs.lemmas.Bool.{cases_lt}
 use Rattle.std.proofs.lemmas.List.{get_or_append_left, get_or_push}
-use Rattle.agg_column.specs.Cells.{number_of}
-use Rattle.agg_column.specs.FirstNames.{AreFirst}
-use Rattle.agg_column.proofs.Places.{same_texts}
+use Rattle.agg_segment.specs.storage.Cells.{number_of}
+use Rattle.agg_segment.specs.storage.FirstNames.{AreFirst}
+use Rattle.agg_segment.proofs.lemmas.storage.Places.{same_texts}
 
 -- the first names stay so when another name is given a number
 pub still_first : (first : List (List ℕ)) (old new : List (List ℕ × ℕ)) (name : List ℕ)

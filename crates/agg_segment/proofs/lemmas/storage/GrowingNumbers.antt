@@ -12,7 +12,7 @@ use Rattle.std.proofs.lemmas.List.{get_or-append_right, take-append-le}
 use Rattle.std.proofs.lemmas.List.Elements.{All-head, All-tail}
 use Rattle.std.proofs.lemmas.List.FromFn.{length-range_with_len, get_or-range_with_len}
 use Rattle.std.proofs.lemmas.List.Sorted.{IsNonDecreasingBy-push, IsNonDecreasingBy-take}
-use Rattle.agg_column.proofs.Layouts.{range_more}
+use Rattle.agg_segment.proofs.lemmas.storage.Layouts.{range_more}
 
 -- ---- pairs
 

@@ -10,13 +10,13 @@ use Rattle.std.proofs.lemmas.List.Elements.{All-tail, All-head, All-weaker, All-
 use Rattle.agg_values.specs.declared.address.Address.{Address}
 use Rattle.agg_values.specs.declared.typed_key.CompositeIntermediateKey.TheVariants
     as key
-use Rattle.agg_column.specs.Cells.{placed, stored_key, IsKept}
-use Rattle.agg_column.specs.Signs.{cell_mark, key_mark, cell_sign, sign_of}
-use Rattle.agg_column.specs.Columns.{StandsForKey, numbers_at}
-use Rattle.agg_column.specs.declared.keys.ColumnKeys.{ColumnKeys}
-use Rattle.agg_column.specs.declared.log.Cell.{Cell}
-use Rattle.agg_column.specs.declared.log.CellValue.{CellValue}
-use Rattle.agg_column.specs.declared.log.CellValue.TheVariants as cell
+use Rattle.agg_segment.specs.storage.Cells.{placed, stored_key, IsKept}
+use Rattle.agg_segment.specs.storage.Signs.{cell_mark, key_mark, cell_sign, sign_of}
+use Rattle.agg_segment.specs.storage.Columns.{StandsForKey, numbers_at}
+use Rattle.agg_segment.specs.declared.storage.keys.ColumnKeys.{ColumnKeys}
+use Rattle.agg_segment.specs.declared.storage.log.Cell.{Cell}
+use Rattle.agg_segment.specs.declared.storage.log.CellValue.{CellValue}
+use Rattle.agg_segment.specs.declared.storage.log.CellValue.TheVariants as cell
 
 -- ---- filters and maps
 

@@ -9,12 +9,12 @@ use Rattle.std.proofs.lemmas.List.{get_or_default, replicate_more}
 use Rattle.std.proofs.lemmas.Bool.{eq-eqb, ne_eqb, cases_eq, cases_lt}
 use Rattle.std.proofs.lemmas.List.Elements.{All-push, All-tail, All-head}
 use Rattle.std.specs.List.{All, zip, range_with_len, slice_range}
-use Rattle.agg_column.specs.Columns.{numbers_at}
-use Rattle.agg_column.specs.Rows.{listed_docs, last_end, start_at, AreEnds}
+use Rattle.agg_segment.specs.storage.Columns.{numbers_at}
+use Rattle.agg_segment.specs.storage.Rows.{listed_docs, last_end, start_at, AreEnds}
 use Rattle.std.specs.List.Sorted.{IsNonDecreasingBy, IsNonDecreasing}
 use Rattle.std.specs.Prelude.{nat_lt}
 use borrow.Author.Tests.{ltb-true, ltb-false}
-use Rattle.agg_column.specs.declared.rows.DocEnd.{DocEnd}
+use Rattle.agg_segment.specs.declared.storage.rows.DocEnd.{DocEnd}
 
 -- ---- one document's numbers in front
 

@@ -10,8 +10,8 @@ use Rattle.std.specs.Ordering.{nat_cmp}
 use Rattle.std.specs.Cmp.Lexicographic.{slice_cmp}
 use Rattle.std.proofs.lemmas.Map.Text.{btree_map_updates_text}
 use Rattle.agg_values.specs.Names.{name_cmp}
-use Rattle.agg_column.specs.Cells.{number_of}
-use Rattle.agg_column.specs.Names.{numbered_names}
+use Rattle.agg_segment.specs.storage.Cells.{number_of}
+use Rattle.agg_segment.specs.storage.Names.{numbered_names}
 
 -- a number is found by the bytes of the name
 pub number_is : {Y : Type 0} (names : BTreeMap (String Y) ℕ) (name : List ℕ)

@@ -4,7 +4,7 @@ use Rattle.std.proofs.Common.{length, take, drop, refl, sym, ap}
 use Rattle.std.proofs.Common.{◌∙◌, arith}
 use Rattle.std.proofs.lemmas.Bool.{eq-eqb, ne_eqb}
 use Rattle.std.specs.List.{zip, range_with_len, slice_range}
-use Rattle.agg_column.specs.Columns.{numbers_at}
+use Rattle.agg_segment.specs.storage.Columns.{numbers_at}
 
 one_before : (a : ℕ) (n : ℕ) (ns : List ℕ) (doc : ℕ) → doc < a
     → numbers_at (zip (range_with_len a n) ns) doc ≡ []

@@ -17,9 +17,9 @@ use Rattle.std.proofs.lemmas.List.Sorted.{searchable_from_sorted, Contains-permu
 use Rattle.std.proofs.lemmas.Map.Keys.{Less-from_sorted}
 use Rattle.std.proofs.lemmas.Map.Lookups.{exact_bytes, exact_unsigned}
 use Rattle.agg_values.specs.declared.address.Address.{Address}
-use Rattle.agg_column.specs.Dictionary.{address_cmp, AreInPlaceOrder, IsHit, IsBelowUpTo}
-use Rattle.agg_column.specs.declared.hit.OrdHit.{OrdHit}
-use Rattle.agg_column.specs.declared.hit.OrdHit.TheVariants.{Exact, Next, AfterLast}
+use Rattle.agg_segment.specs.storage.Dictionary.{address_cmp, AreInPlaceOrder, IsHit, IsBelowUpTo}
+use Rattle.agg_segment.specs.declared.storage.hit.OrdHit.{OrdHit}
+use Rattle.agg_segment.specs.declared.storage.hit.OrdHit.TheVariants.{Exact, Next, AfterLast}
 
 -- a slice of what a box holds
 pub boxed_slice : {X : Type 0} {boxed given : Vec X Global} {slice : List X}

@@ -6,10 +6,10 @@ use Rattle.std.specs.Str.{bytes_eq}
 use Rattle.std.proofs.lemmas.List.{get_or_append_left, get_or_push}
 use Rattle.std.proofs.lemmas.Option.{same_Some}
 use Rattle.std.proofs.lemmas.Bool.{cases_Bool}
-use Rattle.agg_column.proofs.Places.{same_texts}
-use Rattle.agg_column.specs.Cells.{number_of}
-use Rattle.agg_column.specs.Dictionary.{text_at}
-use Rattle.agg_column.specs.TextPlaces.{ArePlacesIn}
+use Rattle.agg_segment.proofs.lemmas.storage.Places.{same_texts}
+use Rattle.agg_segment.specs.storage.Cells.{number_of}
+use Rattle.agg_segment.specs.storage.Dictionary.{text_at}
+use Rattle.agg_segment.specs.storage.TextPlaces.{ArePlacesIn}
 
 -- one more text, whose number is its place
 pub one_more_text : (texts : List (List ℕ)) (places more : List (List ℕ × ℕ)) (text : List ℕ)

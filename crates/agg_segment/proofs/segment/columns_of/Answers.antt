@@ -3,7 +3,7 @@ use Rattle.std.specs.Prelude.{nat_lt, nat_le}
 use Rattle.std.specs.List.Sorted.{IsPartitionPoint}
 use Rattle.std.proofs.lemmas.List.Sorted.{IsPartitionPoint-from_clause, IsPartitionedBy-ltb}
 use Rattle.std.proofs.lemmas.List.Sorted.{IsPartitionedBy-leb}
-use Rattle.agg_column.specs.Columns.{StoredColumn}
+use Rattle.agg_segment.specs.storage.Columns.{StoredColumn}
 use Rattle.agg_segment.proofs.FieldColumns.{part_up, part_is, fields_rise}
 use Rattle.agg_segment.proofs.segment.columns_of.Goals as goal
 

@@ -1,5 +1,5 @@
 use Rattle.std.proofs.Common.{◌≡◌, ◌≢◌, get_or, rules, arith}
-use Rattle.agg_column.specs.declared.sign.Sign.TheVariants.{Small}
+use Rattle.agg_segment.specs.declared.storage.sign.Sign.TheVariants.{Small}
 use Rattle.agg_segment.proofs.FieldSigns.{signs_clash, sign_given, given_back}
 use Rattle.agg_segment.proofs.signs.give_sign.Goals as goal
 

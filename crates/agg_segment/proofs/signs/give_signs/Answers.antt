@@ -1,11 +1,11 @@
 use Rattle.std.proofs.Common.{◌≡◌, Err, ◌∷◌, ◌++◌, [], ◌+◌, ℕ, List, get_or, take, drop, map}
 use Rattle.std.proofs.Common.{ap, subst, ◌∙◌, arith, false}
 use Rattle.std.proofs.lemmas.List.{take_all}
-use Rattle.agg_column.specs.Signs.{cell_mark, HasBoth, AreSigns}
+use Rattle.agg_segment.specs.storage.Signs.{cell_mark, HasBoth, AreSigns}
 use Rattle.agg_segment.specs.declared.builder.BuildError.TheVariants.{MixedNumbers}
-use Rattle.agg_column.specs.declared.sign.Sign.{Sign}
-use Rattle.agg_column.specs.declared.log.Cell.{Cell}
-use Rattle.agg_column.specs.declared.log.CellValue.TheVariants as cell
+use Rattle.agg_segment.specs.declared.storage.sign.Sign.{Sign}
+use Rattle.agg_segment.specs.declared.storage.log.Cell.{Cell}
+use Rattle.agg_segment.specs.declared.storage.log.CellValue.TheVariants as cell
 use Rattle.agg_segment.proofs.FieldSigns.{both_more, marks_next, marks_all}
 use Rattle.agg_segment.proofs.signs.give_signs.Goals as goal
 

@@ -1,7 +1,7 @@
 use Rattle.std.proofs.Common.{◌≡◌, ◌<◌, ◌++◌, ℕ, List, length, take, map}
 use Rattle.std.specs.List.{All}
-use Rattle.agg_column.specs.Signs.{cell_mark, AreSigns, without_signs}
-use Rattle.agg_column.specs.declared.sign.Sign.{Sign}
+use Rattle.agg_segment.specs.storage.Signs.{cell_mark, AreSigns, without_signs}
+use Rattle.agg_segment.specs.declared.storage.sign.Sign.{Sign}
 use Rattle.agg_segment.proofs.signs.give_signs.Given as goal
 
 abbrev pub invariant-loop-cell : goal.invariant-loop-cell

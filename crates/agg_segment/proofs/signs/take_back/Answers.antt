@@ -1,8 +1,8 @@
 use Rattle.std.proofs.Common.{◌≡◌, ◌∷◌, [], length, get_or, sym, ap, ◌∙◌, arith}
 use Rattle.std.proofs.Common.{length-append}
 use Rattle.std.proofs.lemmas.List.{get_or_append_left, length-set}
-use Rattle.agg_column.specs.Signs.{without_signs}
-use Rattle.agg_column.specs.declared.sign.Sign.TheVariants.{Small}
+use Rattle.agg_segment.specs.storage.Signs.{without_signs}
+use Rattle.agg_segment.specs.declared.storage.sign.Sign.TheVariants.{Small}
 use Rattle.agg_segment.proofs.FieldSigns.{taken_last}
 use Rattle.agg_segment.proofs.signs.take_back.Goals as goal
 

@@ -1,6 +1,6 @@
 use Rattle.std.proofs.Common.{◌≡◌, ◌<◌, length, vec_len}
 use Rattle.std.specs.List.{All}
-use Rattle.agg_column.specs.Signs.{without_signs}
+use Rattle.agg_segment.specs.storage.Signs.{without_signs}
 use Rattle.agg_segment.proofs.signs.take_back.Given as goal
 
 abbrev pub decreases-loop-field : goal.decreases-loop-field

@@ -3,12 +3,13 @@ ghost use Rattle.std.specs.Prelude.{length, map, filter, take, get_or, nat_lt, I
 ghost use Rattle.std.specs.List.{All, zip, range_with_len};
 ghost use Rattle.std.specs.List.Sorted.{IsNonDecreasingBy};
 ghost use Rattle.std.specs.Map.{values_of};
-ghost use Rattle.agg_column.specs.Columns.{encoded_key, type_of, named_texts, StandsForKey};
-ghost use Rattle.agg_column.specs.GatheredNumbers.{raw_key, keyed_rows, IsEncodable};
-ghost use Rattle.agg_column.specs.Growing.{many_docs, many_rows, AreMany};
+ghost use Rattle.agg_segment.specs.storage.Columns.{encoded_key, type_of, named_texts};
+ghost use Rattle.agg_segment.specs.storage.Columns.{StandsForKey};
+ghost use Rattle.agg_segment.specs.storage.GatheredNumbers.{raw_key, keyed_rows, IsEncodable};
+ghost use Rattle.agg_segment.specs.storage.Growing.{many_docs, many_rows, AreMany};
 
 use super::{DocNumber, Rows, narrow};
-use crate::keys::ColumnKeys;
+use crate::storage::keys::ColumnKeys;
 use agg_values::{Address, DocId, OutOfMemory};
 use std::alloc::Global;
 use std::marker::Model;
@@ -43,7 +44,7 @@ impl Model for GrowingRows {
 
     ghost Value = { List (ℕ × ℕ) };
 
-    ghost use Rattle.agg_column.specs.Growing.{growing_rows, AreGrowing};
+    ghost use Rattle.agg_segment.specs.storage.Growing.{growing_rows, AreGrowing};
 
     ghost view = { λ r. growing_rows r.growing };
 

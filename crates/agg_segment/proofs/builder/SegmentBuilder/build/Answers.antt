@@ -1,7 +1,7 @@
 use Rattle.std.proofs.Common.{List, length, ap, ◌∙◌}
-use Rattle.agg_column.specs.Cells.{Placed, keys_at}
-use Rattle.agg_column.specs.Document.{by_class}
-use Rattle.agg_column.specs.Names.{numbered_names}
+use Rattle.agg_segment.specs.storage.Cells.{Placed, keys_at}
+use Rattle.agg_segment.specs.storage.Document.{by_class}
+use Rattle.agg_segment.specs.storage.Names.{numbered_names}
 use Rattle.agg_segment.specs.Segment.{builder_cells, gathered_documents, documents_of}
 use Rattle.agg_segment.proofs.BuilderKeys.{read_kept}
 use Rattle.agg_segment.proofs.ClosedDocuments.{built_documents}

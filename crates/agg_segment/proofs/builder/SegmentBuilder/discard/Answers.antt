@@ -1,5 +1,5 @@
 use Rattle.std.proofs.Common.{◌≡◌, List, length, take, ap, sym, subst, ◌∙◌}
-use Rattle.agg_column.specs.Cells.{Placed}
+use Rattle.agg_segment.specs.storage.Cells.{Placed}
 use Rattle.agg_segment.specs.Segment.{builder_cells, gathered_documents, open_document, IsGathered}
 use Rattle.agg_segment.proofs.BuilderKeys.{read_again}
 use Rattle.agg_segment.proofs.MovedKeys.{discard_inv}

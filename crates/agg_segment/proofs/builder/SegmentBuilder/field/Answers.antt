@@ -1,9 +1,9 @@
 use Rattle.std.proofs.Common.{◌≡◌, ◌++◌, ◌∷◌, [], ℕ, List, Some, None, length, cond, ap, sym, ◌∙◌}
 use Rattle.std.proofs.Common.{arith}
 use Rattle.std.specs.Str.{bytes_eq}
-use Rattle.agg_column.specs.Cells.{Placed, number_of}
+use Rattle.agg_segment.specs.storage.Cells.{Placed, number_of}
 use Rattle.agg_segment.specs.Segment.{builder_cells, gathered_documents, open_document}
-use Rattle.agg_column.specs.declared.sign.Sign.TheVariants.{Small}
+use Rattle.agg_segment.specs.declared.storage.sign.Sign.TheVariants.{Small}
 use Rattle.agg_segment.proofs.BuilderKeys.{padded_read}
 use Rattle.agg_segment.proofs.NewFields.{field_fields, field_documents, field_inv}
 use Rattle.agg_segment.proofs.builder.SegmentBuilder.field.Goals as goal

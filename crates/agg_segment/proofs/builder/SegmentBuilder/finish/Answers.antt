@@ -2,8 +2,8 @@ use Rattle.std.proofs.Common.{◌≡◌, ◌<◌, ◌∷◌, ◌++◌, [], lengt
 use Rattle.std.proofs.Common.{Err, refl, sym, ap, subst, ◌∙◌, arith}
 use Rattle.std.proofs.lemmas.List.{with_items_is}
 use Rattle.std.proofs.lemmas.List.Elements.{All-drop}
-use Rattle.agg_column.specs.Cells.{Placed}
-use Rattle.agg_column.specs.Signs.{key_mark, AreSigns, HasBoth}
+use Rattle.agg_segment.specs.storage.Cells.{Placed}
+use Rattle.agg_segment.specs.storage.Signs.{key_mark, AreSigns, HasBoth}
 use Rattle.agg_segment.specs.Segment.{Gathered, builder_cells, gathered_documents, open_document}
 use Rattle.agg_segment.specs.Segment.{IsMixed}
 use Rattle.agg_segment.specs.declared.builder.BuildError.TheVariants.{MixedNumbers}

@@ -1,12 +1,12 @@
 use Rattle.std.proofs.Common.{◌≡◌, ◌<◌, ◌++◌, ◌∷◌, [], List, length, subst, sym, ap, ◌∙◌, arith}
 use Rattle.std.proofs.Common.{length-append}
 use Rattle.std.proofs.lemmas.Result.{on_ok_weaker, on_err_weaker}
-use Rattle.agg_column.specs.Document.{key_of}
-use Rattle.agg_column.specs.Cells.{Placed}
+use Rattle.agg_segment.specs.storage.Document.{key_of}
+use Rattle.agg_segment.specs.storage.Cells.{Placed}
 use Rattle.agg_segment.specs.Segment.{Gathered, IsNameOf, IsGathered, with_key, builder_cells}
 use Rattle.agg_segment.specs.Segment.{gathered_documents, open_document}
 use Rattle.agg_segment.proofs.BuilderKeys.{read_beside, read_pushed, raws_longer}
-use Rattle.agg_column.proofs.KeptCells.{on_either}
+use Rattle.agg_segment.proofs.lemmas.storage.KeptCells.{on_either}
 use Rattle.agg_segment.proofs.BuilderDocuments.{push_open, push_documents, push_inv}
 use Rattle.agg_segment.proofs.builder.SegmentBuilder.push.Goals as goal
 

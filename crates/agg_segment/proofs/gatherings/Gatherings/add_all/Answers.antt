@@ -3,8 +3,8 @@ use Rattle.std.specs.Prelude.{filter, nat_lt}
 use Rattle.std.proofs.lemmas.Bool.Decides.{nat_tests}
 use Rattle.std.proofs.lemmas.List.{take_more, take_all, append-nil}
 use Rattle.agg_segment.specs.Gatherings.{Raw, is_raw_of, AreRawsOf}
-use Rattle.agg_column.specs.declared.log.Cell.{Cell}
-use Rattle.agg_column.specs.declared.log.CellValue.TheVariants as cell
+use Rattle.agg_segment.specs.declared.storage.log.Cell.{Cell}
+use Rattle.agg_segment.specs.declared.storage.log.CellValue.TheVariants as cell
 use Rattle.agg_segment.proofs.Raws.{filter_every, put_filtered, put_all, put_alike, raws_more}
 use Rattle.agg_segment.proofs.Raws.{alike_more}
 use Rattle.agg_segment.proofs.gatherings.Gatherings.add_all.Goals as goal

@@ -4,7 +4,7 @@ use Rattle.std.specs.Ordering.{is_lt}
 use Rattle.std.proofs.lemmas.Result.{IfOk-weaker}
 use Rattle.std.proofs.lemmas.List.Sorted.{All-permutation, IsPermutation-map, ranks_by}
 use Rattle.std.proofs.lemmas.Fn.{always_returns_same}
-use Rattle.agg_column.specs.Dictionary.{AreByText}
+use Rattle.agg_segment.specs.storage.Dictionary.{AreByText}
 use Rattle.agg_segment.specs.Fronts.{keyed_cmp, IsKeyed}
 use Rattle.agg_segment.specs.declared.gatherings.by_text.KeyedPlace.{KeyedPlace}
 use Rattle.agg_segment.proofs.Fronts.{keyed_total, places_ascend}

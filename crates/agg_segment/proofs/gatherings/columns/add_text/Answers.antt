@@ -1,6 +1,6 @@
 use Rattle.std.proofs.Common.{◌≡◌, ◌<◌, length, sym, ◌∙◌, subst, List, ℕ}
 use mathlib.Core.Bool.{true≢false}
-use Rattle.agg_column.specs.Dictionary.{last_text}
+use Rattle.agg_segment.specs.storage.Dictionary.{last_text}
 use Rattle.agg_segment.proofs.Ordinals.{pushed_ascends}
 use Rattle.agg_segment.proofs.gatherings.columns.add_text.Goals as goal
 

@@ -1,7 +1,7 @@
 use Rattle.std.proofs.Common.{ℕ}
 use Rattle.std.specs.List.{Contains}
 use Rattle.std.proofs.lemmas.Result.{IfOk-weaker}
-use Rattle.agg_column.specs.Dictionary.{address_at}
+use Rattle.agg_segment.specs.storage.Dictionary.{address_at}
 use Rattle.agg_segment.proofs.ListedPlaces.{listed_all}
 use Rattle.agg_segment.proofs.gatherings.columns.address_list_of.Goals as goal
 

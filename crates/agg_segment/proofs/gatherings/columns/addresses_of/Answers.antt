@@ -1,6 +1,6 @@
 use Rattle.std.proofs.Common.{ℕ, map, ap, ◌∙◌, arith}
 use Rattle.std.proofs.lemmas.List.{take_all}
-use Rattle.agg_column.specs.Dictionary.{address_at}
+use Rattle.agg_segment.specs.storage.Dictionary.{address_at}
 use Rattle.agg_segment.proofs.ListedPlaces.{addresses_all}
 use Rattle.agg_segment.proofs.gatherings.columns.addresses_of.Goals as goal
 

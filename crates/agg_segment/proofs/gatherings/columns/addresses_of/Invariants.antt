@@ -1,5 +1,5 @@
 use Rattle.std.proofs.Common.{◌≡◌, take, map}
-use Rattle.agg_column.specs.Dictionary.{address_at}
+use Rattle.agg_segment.specs.storage.Dictionary.{address_at}
 use Rattle.agg_segment.proofs.gatherings.columns.addresses_of.Given as goal
 
 abbrev pub invariant-loop-number : goal.invariant-loop-number

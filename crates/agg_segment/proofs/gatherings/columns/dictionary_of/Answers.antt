@@ -1,7 +1,7 @@
 use Rattle.std.proofs.Common.{List, ℕ, subst, sym}
 use Rattle.std.specs.List.{All}
 use Rattle.std.proofs.lemmas.Result.{IfOk-weaker}
-use Rattle.agg_column.specs.Dictionary.{HasOrdinal}
+use Rattle.agg_segment.specs.storage.Dictionary.{HasOrdinal}
 use Rattle.agg_segment.proofs.ListedPlaces.{listed_all}
 use Rattle.agg_segment.proofs.gatherings.columns.dictionary_of.Goals as goal
 

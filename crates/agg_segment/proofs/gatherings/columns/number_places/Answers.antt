@@ -1,6 +1,6 @@
 use Rattle.std.proofs.Common.{◌≡◌, ◌<◌, ◌-◌, ◌+◌, [], length, get_or, refl, subst, ◌∙◌, arith, set}
 use Rattle.std.proofs.lemmas.List.{get_or_default, get_or_read}
-use Rattle.agg_column.specs.Dictionary.{text_at, HasOrdinal}
+use Rattle.agg_segment.specs.storage.Dictionary.{text_at, HasOrdinal}
 use Rattle.agg_segment.proofs.Ordinals.{AreNumbered, none_numbered, next_numbered}
 use Rattle.agg_segment.proofs.gatherings.columns.number_places.Goals as goal
 

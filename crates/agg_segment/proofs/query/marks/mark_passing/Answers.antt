@@ -1,5 +1,5 @@
 use Rattle.agg_segment.proofs.Marks.{none_found, nothing_added}
-use Rattle.agg_column.specs.Columns.{numbers_at}
+use Rattle.agg_segment.specs.storage.Columns.{numbers_at}
 use Rattle.agg_segment.specs.Marks.{mark_at, passes, has_key}
 use Rattle.agg_segment.proofs.query.marks.mark_passing.Goals as goal
 

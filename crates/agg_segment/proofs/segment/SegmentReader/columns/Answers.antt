@@ -1,10 +1,10 @@
 use Rattle.std.proofs.Common.{◌≡◌, [], subst, sym, ap, ◌∙◌}
 use Rattle.std.specs.Prelude.{◌==◌, filter, flat_map}
 use Rattle.std.specs.Option.{option_map_or}
-use Rattle.agg_column.specs.Cells.{keys_at, number_of}
-use Rattle.agg_column.specs.Names.{numbered_names}
-use Rattle.agg_column.specs.Columns.{StoredColumn, column_cells, all_keys}
-use Rattle.agg_column.specs.Columns.{ClassesAscend}
+use Rattle.agg_segment.specs.storage.Cells.{keys_at, number_of}
+use Rattle.agg_segment.specs.storage.Names.{numbered_names}
+use Rattle.agg_segment.specs.storage.Columns.{StoredColumn, column_cells, all_keys}
+use Rattle.agg_segment.specs.storage.Columns.{ClassesAscend}
 use Rattle.agg_segment.specs.Segment.{Stored, columns_in, document_at}
 use Rattle.agg_segment.proofs.FieldColumns.{field_keys, classes_ascend}
 use Rattle.agg_segment.proofs.segment.SegmentReader.columns.Goals as goal

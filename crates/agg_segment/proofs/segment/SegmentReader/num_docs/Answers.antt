@@ -1,7 +1,7 @@
 use Rattle.std.proofs.Common.{length, sym, subst, ap, ◌∙◌}
 use Rattle.std.specs.List.{All}
-use Rattle.agg_column.specs.Document.{HasNumbersOf64Bits}
-use Rattle.agg_column.specs.Names.{numbered_names}
+use Rattle.agg_segment.specs.storage.Document.{HasNumbersOf64Bits}
+use Rattle.agg_segment.specs.storage.Names.{numbered_names}
 use Rattle.agg_segment.specs.Segment.{Stored, documents_of}
 use Rattle.agg_segment.proofs.ClosedDocuments.{read_count}
 use Rattle.agg_segment.proofs.segment.SegmentReader.num_docs.Goals as goal

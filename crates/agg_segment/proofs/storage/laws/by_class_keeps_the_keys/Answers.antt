@@ -1,5 +1,5 @@
-use Rattle.agg_column.proofs.Classes.{by_class_moves, by_class_twice}
-use Rattle.agg_column.proofs.laws.by_class_keeps_the_keys.Goals as goal
+use Rattle.agg_segment.proofs.lemmas.storage.Classes.{by_class_moves, by_class_twice}
+use Rattle.agg_segment.proofs.storage.laws.by_class_keeps_the_keys.Goals as goal
 
 pub returns-clause-permutation : goal.returns-clause-permutation
 returns-clause-permutation c = by_class_moves

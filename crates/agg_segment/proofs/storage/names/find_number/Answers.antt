@@ -1,6 +1,6 @@
 use Rattle.std.proofs.Common.{sym, ◌∙◌}
-use Rattle.agg_column.proofs.Numbers.{number_is}
-use Rattle.agg_column.proofs.names.find_number.Goals as goal
+use Rattle.agg_segment.proofs.lemmas.storage.Numbers.{number_is}
+use Rattle.agg_segment.proofs.storage.names.find_number.Goals as goal
 
 pub returns : goal.returns
 returns c = c.copied.ensures ∙ c.get.ensures.value

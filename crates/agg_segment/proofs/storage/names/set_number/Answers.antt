@@ -1,10 +1,10 @@
 use Rattle.std.proofs.Common.{Some, cond, ap, ◌∙◌}
 use Rattle.std.specs.Str.{bytes_eq}
 use Rattle.std.specs.String.{string_bytes}
-use Rattle.agg_column.specs.Cells.{number_of}
-use Rattle.agg_column.specs.Names.{numbered_names}
-use Rattle.agg_column.proofs.Numbers.{number_set}
-use Rattle.agg_column.proofs.names.set_number.Goals as goal
+use Rattle.agg_segment.specs.storage.Cells.{number_of}
+use Rattle.agg_segment.specs.storage.Names.{numbered_names}
+use Rattle.agg_segment.proofs.lemmas.storage.Numbers.{number_set}
+use Rattle.agg_segment.proofs.storage.names.set_number.Goals as goal
 
 pub returns-clause-ok : goal.returns-clause-ok
 returns-clause-ok c other =

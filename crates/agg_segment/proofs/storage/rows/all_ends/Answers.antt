@@ -1,5 +1,5 @@
-use Rattle.agg_column.proofs.DenseEnds.{next_doc, docs_at_end, ends_at_end}
-use Rattle.agg_column.proofs.rows.all_ends.Goals as goal
+use Rattle.agg_segment.proofs.lemmas.storage.DenseEnds.{next_doc, docs_at_end, ends_at_end}
+use Rattle.agg_segment.proofs.storage.rows.all_ends.Goals as goal
 
 pub loop-doc-preserved : goal.loop-doc-preserved
 loop-doc-preserved c =

@@ -1,5 +1,5 @@
 use Rattle.std.proofs.Common.{◌-◌, ◌≤◌, length}
-use Rattle.agg_column.proofs.rows.count_docs.Given as goal
+use Rattle.agg_segment.proofs.storage.rows.count_docs.Given as goal
 
 abbrev pub decreases-loop-at : goal.decreases-loop-at
 decreases-loop-at l = length l.docs - l.at

@@ -1,8 +1,8 @@
 use Rattle.std.proofs.Common.{◌≡◌, false, length, sym, ◌∙◌, arith}
 use Rattle.std.specs.Prelude.{◌==◌}
 use Rattle.std.proofs.lemmas.Bool.Decides.{nat_tests}
-use Rattle.agg_column.proofs.DenseEnds.{last_is_greatest}
-use Rattle.agg_column.proofs.rows.count_up_to_last.Goals as goal
+use Rattle.agg_segment.proofs.lemmas.storage.DenseEnds.{last_is_greatest}
+use Rattle.agg_segment.proofs.storage.rows.count_up_to_last.Goals as goal
 
 pub returns : goal.returns
 returns c =

@@ -1,6 +1,6 @@
 use Rattle.std.proofs.Common.{◌-◌, length, get_or, take, drop, ap, ◌∙◌, arith}
-use Rattle.agg_column.proofs.DenseEnds.{dense_within, dense_found, dense_none}
-use Rattle.agg_column.proofs.rows.dense_numbers.Goals as goal
+use Rattle.agg_segment.proofs.lemmas.storage.DenseEnds.{dense_within, dense_found, dense_none}
+use Rattle.agg_segment.proofs.storage.rows.dense_numbers.Goals as goal
 
 pub returns-then-at-ends : goal.returns-then-at-ends
 returns-then-at-ends c = dense_none c.args.ends.now c.args.numbers.now c.args.doc c.if-at-ends.true

@@ -1,7 +1,7 @@
 use Rattle.std.proofs.Common.{◌≡◌, ◌-◌, suc, ap, ◌∙◌, arith}
-use Rattle.agg_column.specs.Rows.{start_at, numbered}
-use Rattle.agg_column.proofs.DenseEnds.{dense_start_is}
-use Rattle.agg_column.proofs.rows.dense_start.Goals as goal
+use Rattle.agg_segment.specs.storage.Rows.{start_at, numbered}
+use Rattle.agg_segment.proofs.lemmas.storage.DenseEnds.{dense_start_is}
+use Rattle.agg_segment.proofs.storage.rows.dense_start.Goals as goal
 
 pub returns : goal.returns
 returns c =

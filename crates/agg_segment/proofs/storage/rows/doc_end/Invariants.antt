@@ -1,5 +1,5 @@
 use Rattle.std.proofs.Common.{◌≡◌, ◌-◌, ◌<◌, ◌≤◌, ℕ, length, get_or}
-use Rattle.agg_column.proofs.rows.doc_end.Given as goal
+use Rattle.agg_segment.proofs.storage.rows.doc_end.Given as goal
 
 abbrev pub decreases-loop-at : goal.decreases-loop-at
 decreases-loop-at l = length l.docs - l.at

@@ -1,8 +1,8 @@
 use Rattle.std.proofs.Common.{ℕ, get_or}
-use Rattle.agg_column.specs.declared.rows.DocEnd.{DocEnd}
+use Rattle.agg_segment.specs.declared.storage.rows.DocEnd.{DocEnd}
 use Rattle.std.proofs.lemmas.List.{get_or_default}
-use Rattle.agg_column.proofs.Layouts.{step_docs, step_rise, step_all, step_below}
-use Rattle.agg_column.proofs.rows.doc_ends.Goals as goal
+use Rattle.agg_segment.proofs.lemmas.storage.Layouts.{step_docs, step_rise, step_all, step_below}
+use Rattle.agg_segment.proofs.storage.rows.doc_ends.Goals as goal
 
 pub loop-at-preserved : goal.loop-at-preserved
 loop-at-preserved c =

@@ -1,7 +1,7 @@
 use Rattle.std.proofs.Common.{◌≡◌, ◌-◌, ◌<◌, ◌≤◌, ℕ, length, get_or, take}
 use Rattle.std.specs.List.{All}
-use Rattle.agg_column.specs.Rows.{listed_docs, last_end, AreEnds}
-use Rattle.agg_column.proofs.rows.doc_ends.Given as goal
+use Rattle.agg_segment.specs.storage.Rows.{listed_docs, last_end, AreEnds}
+use Rattle.agg_segment.proofs.storage.rows.doc_ends.Given as goal
 
 abbrev pub decreases-loop-at : goal.decreases-loop-at
 decreases-loop-at l = length l.docs - l.at

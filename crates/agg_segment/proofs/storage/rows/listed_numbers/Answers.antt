@@ -4,13 +4,16 @@ use Rattle.std.specs.Prelude.{nat_lt}
 use Rattle.std.specs.List.{zip}
 use Rattle.std.specs.List.Sorted.{IsPartitionPoint}
 use Rattle.std.proofs.lemmas.List.Sorted.{IsPartitionPoint-from_clause, IsPartitionedBy-ltb}
-use Rattle.agg_column.specs.Columns.{numbers_at}
-use Rattle.agg_column.specs.Rows.{listed_docs}
-use Rattle.agg_column.specs.declared.rows.DocEnd.{DocEnd}
-use Rattle.agg_column.proofs.Layouts.{docs_rise, ends_within, listed_found, nothing_at}
-use Rattle.agg_column.proofs.rows.listed_numbers.Goals as goal
-use Rattle.agg_column.proofs.rows.listed_numbers.Goals.{then-at-ends-via-then-at-ends}
-use Rattle.agg_column.proofs.rows.listed_numbers.Goals.{then-at-ends-via-else-at-ends+then-ends-at}
+use Rattle.agg_segment.specs.storage.Columns.{numbers_at}
+use Rattle.agg_segment.specs.storage.Rows.{listed_docs}
+use Rattle.agg_segment.specs.declared.storage.rows.DocEnd.{DocEnd}
+use Rattle.agg_segment.proofs.lemmas.storage.Layouts.{docs_rise, ends_within, listed_found}
+use Rattle.agg_segment.proofs.lemmas.storage.Layouts.{nothing_at}
+use Rattle.agg_segment.proofs.storage.rows.listed_numbers.Goals as goal
+use Rattle.agg_segment.proofs.storage.rows.listed_numbers.Goals.{then-at-ends-via-then-at-ends}
+use Rattle.agg_segment.proofs.storage.rows.listed_numbers.Goals.{
+  then-at-ends-via-else-at-ends+then-ends-at,
+}
 
 pub returns-then-at-ends : goal.returns-then-at-ends
 returns-then-at-ends c =

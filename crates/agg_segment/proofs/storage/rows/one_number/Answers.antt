@@ -1,5 +1,5 @@
-use Rattle.agg_column.proofs.OneEachNumbers.{number_of_one, number_of_none}
-use Rattle.agg_column.proofs.rows.one_number.Goals as goal
+use Rattle.agg_segment.proofs.lemmas.storage.OneEachNumbers.{number_of_one, number_of_none}
+use Rattle.agg_segment.proofs.storage.rows.one_number.Goals as goal
 
 pub returns-then-at-numbers : goal.returns-then-at-numbers
 returns-then-at-numbers c = number_of_one c.args.numbers.now c.args.doc c.if-at-numbers.true

@@ -1,7 +1,7 @@
 use Rattle.std.proofs.Common.{◌≡◌, ◌-◌, suc, ap, ◌∙◌, arith}
-use Rattle.agg_column.specs.Rows.{start_at}
-use Rattle.agg_column.proofs.Layouts.{start_is}
-use Rattle.agg_column.proofs.rows.start_of.Goals as goal
+use Rattle.agg_segment.specs.storage.Rows.{start_at}
+use Rattle.agg_segment.proofs.lemmas.storage.Layouts.{start_is}
+use Rattle.agg_segment.proofs.storage.rows.start_of.Goals as goal
 
 pub returns : goal.returns
 returns c =

@@ -1,5 +1,5 @@
-use Rattle.agg_column.proofs.KeptCells.{numbers_stand}
-use Rattle.agg_column.proofs.column.Column.values_for_doc.Goals as goal
+use Rattle.agg_segment.proofs.lemmas.storage.KeptCells.{numbers_stand}
+use Rattle.agg_segment.proofs.storage.column.Column.values_for_doc.Goals as goal
 
 pub returns-clause-stand : goal.returns-clause-stand
 returns-clause-stand c = rw (c.row.ensures, ← c.self.view_is) (numbers_stand c.self.inside.keys

@@ -1,5 +1,5 @@
-use Rattle.agg_column.proofs.Places.{addresses_ascend}
-use Rattle.agg_column.proofs.dictionary.AddressList.class.Goals as goal
+use Rattle.agg_segment.proofs.lemmas.storage.Places.{addresses_ascend}
+use Rattle.agg_segment.proofs.storage.dictionary.AddressList.class.Goals as goal
 
 pub returns-clause-order : goal.returns-clause-order
 returns-clause-order c = rw (← c.self.view_is)

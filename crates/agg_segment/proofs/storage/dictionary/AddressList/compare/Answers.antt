@@ -4,10 +4,10 @@ use Rattle.std.proofs.lemmas.Cmp.{nat_cmp_total}
 use Rattle.std.proofs.lemmas.List.{length-map}
 use Rattle.std.proofs.lemmas.Map.Lookups.{exact_unsigned}
 use Rattle.agg_values.specs.declared.address.Address.{Address}
-use Rattle.agg_column.specs.Dictionary.{address_cmp}
-use Rattle.agg_column.specs.Dictionary.{address_at}
-use Rattle.agg_column.proofs.Places.{places_ascend, address_read, addresses}
-use Rattle.agg_column.proofs.dictionary.AddressList.compare.Goals as goal
+use Rattle.agg_segment.specs.storage.Dictionary.{address_cmp}
+use Rattle.agg_segment.specs.storage.Dictionary.{address_at}
+use Rattle.agg_segment.proofs.lemmas.storage.Places.{places_ascend, address_read, addresses}
+use Rattle.agg_segment.proofs.storage.dictionary.AddressList.compare.Goals as goal
 
 pub returns-clause-addresses : goal.returns-clause-addresses
 returns-clause-addresses c =

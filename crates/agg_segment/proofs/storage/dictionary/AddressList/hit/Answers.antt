@@ -2,10 +2,11 @@ use Rattle.std.proofs.Common.{Vec, Global, ℕ, ◌≡◌, ◌<◌, length, ap, 
 use Rattle.std.specs.Ordering.{nat_cmp}
 use Rattle.std.proofs.lemmas.Cmp.{nat_cmp_total}
 use Rattle.std.proofs.lemmas.Map.Lookups.{exact_unsigned}
-use Rattle.agg_column.specs.declared.hit.OrdHit.TheVariants.{Exact, Next, AfterLast}
-use Rattle.agg_column.proofs.Places.{boxed_slice, hit_exact, hit_next, hit_past, address_hit}
-use Rattle.agg_column.proofs.AscendingAddresses.{addresses_ascend}
-use Rattle.agg_column.proofs.dictionary.AddressList.hit.Goals as goal
+use Rattle.agg_segment.specs.declared.storage.hit.OrdHit.TheVariants.{Exact, Next, AfterLast}
+use Rattle.agg_segment.proofs.lemmas.storage.Places.{boxed_slice, hit_exact, hit_next, hit_past}
+use Rattle.agg_segment.proofs.lemmas.storage.Places.{address_hit}
+use Rattle.agg_segment.proofs.lemmas.storage.AscendingAddresses.{addresses_ascend}
+use Rattle.agg_segment.proofs.storage.dictionary.AddressList.hit.Goals as goal
 
 pub returns-in-Ok-clause-hit : goal.returns-in-Ok-clause-hit
 returns-in-Ok-clause-hit c =

@@ -2,8 +2,9 @@ use Rattle.std.proofs.Common.{ap, ◌∙◌}
 use Rattle.std.specs.Ordering.{nat_cmp}
 use Rattle.std.proofs.lemmas.Cmp.{nat_cmp_total}
 use Rattle.std.proofs.lemmas.Map.Lookups.{exact_unsigned}
-use Rattle.agg_column.proofs.Places.{boxed_slice, found, not_missing, address_read, number_listed}
-use Rattle.agg_column.proofs.dictionary.AddressList.place.Goals as goal
+use Rattle.agg_segment.proofs.lemmas.storage.Places.{boxed_slice, found, not_missing, address_read}
+use Rattle.agg_segment.proofs.lemmas.storage.Places.{number_listed}
+use Rattle.agg_segment.proofs.storage.dictionary.AddressList.place.Goals as goal
 
 pub returns-in-Ok-clause-address : goal.returns-in-Ok-clause-address
 returns-in-Ok-clause-address c =

@@ -2,8 +2,8 @@ use Rattle.std.proofs.Common.{◌∙◌, sym, length, ap, arith, []}
 use Rattle.std.proofs.lemmas.Cmp.{nat_list_cmp_total}
 use Rattle.std.proofs.lemmas.Map.Lookups.{exact_bytes}
 use Rattle.agg_values.specs.Names.{name_cmp}
-use Rattle.agg_column.proofs.Places.{places_ascend}
-use Rattle.agg_column.proofs.dictionary.Dictionary.compare.Goals as goal
+use Rattle.agg_segment.proofs.lemmas.storage.Places.{places_ascend}
+use Rattle.agg_segment.proofs.storage.dictionary.Dictionary.compare.Goals as goal
 
 pub returns-clause-texts : goal.returns-clause-texts
 returns-clause-texts c =

@@ -2,8 +2,8 @@ use Rattle.std.proofs.Common.{Vec, Global, ℕ, List, ◌≡◌, ◌<◌, length
 use Rattle.std.proofs.lemmas.Cmp.{nat_list_cmp_total}
 use Rattle.std.proofs.lemmas.Map.Lookups.{exact_bytes}
 use Rattle.agg_values.specs.Names.{name_cmp}
-use Rattle.agg_column.proofs.Places.{boxed_slice, hit_exact, hit_next, hit_past}
-use Rattle.agg_column.proofs.dictionary.Dictionary.hit.Goals as goal
+use Rattle.agg_segment.proofs.lemmas.storage.Places.{boxed_slice, hit_exact, hit_next, hit_past}
+use Rattle.agg_segment.proofs.storage.dictionary.Dictionary.hit.Goals as goal
 
 pub returns-in-Ok-clause-hit : goal.returns-in-Ok-clause-hit
 returns-in-Ok-clause-hit c =

@@ -1,8 +1,8 @@
 use Rattle.std.proofs.Common.{ap, ◌∙◌}
-use Rattle.agg_column.specs.Cells.{number_of}
-use Rattle.agg_column.specs.Names.{numbered_names}
-use Rattle.agg_column.proofs.FirstNames.{still_first}
-use Rattle.agg_column.proofs.field_names.FieldNames.add.Goals as goal
+use Rattle.agg_segment.specs.storage.Cells.{number_of}
+use Rattle.agg_segment.specs.storage.Names.{numbered_names}
+use Rattle.agg_segment.proofs.lemmas.storage.FirstNames.{still_first}
+use Rattle.agg_segment.proofs.storage.field_names.FieldNames.add.Goals as goal
 
 pub invariant_of-self : goal.invariant_of-self
 invariant_of-self c = rw c.in_err-set_number.ensures.err c.self.invariant

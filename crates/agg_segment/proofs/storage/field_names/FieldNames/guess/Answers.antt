@@ -1,9 +1,9 @@
 use Rattle.std.proofs.Common.{◌≡◌, ◌<◌, List, ℕ, length, get_or, ap, sym, subst, ◌∙◌}
 use Rattle.std.specs.Str.{bytes_eq}
-use Rattle.agg_column.specs.Cells.{number_of}
-use Rattle.agg_column.specs.Names.{numbered_names}
-use Rattle.agg_column.proofs.FirstNames.{guessed}
-use Rattle.agg_column.proofs.field_names.FieldNames.guess.Goals as goal
+use Rattle.agg_segment.specs.storage.Cells.{number_of}
+use Rattle.agg_segment.specs.storage.Names.{numbered_names}
+use Rattle.agg_segment.proofs.lemmas.storage.FirstNames.{guessed}
+use Rattle.agg_segment.proofs.storage.field_names.FieldNames.guess.Goals as goal
 
 pub returns-then-eq : goal.returns-then-eq
 returns-then-eq c =

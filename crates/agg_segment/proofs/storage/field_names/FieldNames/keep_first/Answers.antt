@@ -1,9 +1,9 @@
 use Rattle.std.proofs.Common.{◌≡◌, Some, length, ap}
 use Rattle.std.proofs.Common.{◌∙◌, arith, rules}
-use Rattle.agg_column.specs.Cells.{number_of}
-use Rattle.agg_column.proofs.FirstNames.{first_after}
-use Rattle.agg_column.specs.Names.{numbered_names}
-use Rattle.agg_column.proofs.field_names.FieldNames.keep_first.Goals as goal
+use Rattle.agg_segment.specs.storage.Cells.{number_of}
+use Rattle.agg_segment.proofs.lemmas.storage.FirstNames.{first_after}
+use Rattle.agg_segment.specs.storage.Names.{numbered_names}
+use Rattle.agg_segment.proofs.storage.field_names.FieldNames.keep_first.Goals as goal
 
 pub invariant_of-self : goal.invariant_of-self
 invariant_of-self c =

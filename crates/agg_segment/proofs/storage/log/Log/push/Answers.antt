@@ -1,11 +1,12 @@
 use Rattle.std.proofs.Common.{◌≤◌, ◌++◌, ◌∷◌, [], length, map, ap, ◌∙◌, arith, length-append}
 use Rattle.std.proofs.lemmas.List.{map-append}
 use Rattle.std.proofs.lemmas.List.Elements.{All-push}
-use Rattle.agg_column.specs.Cells.{Logged, placed, IsKept}
-use Rattle.agg_column.specs.Document.{key_of}
-use Rattle.agg_column.specs.declared.log.Cell.{Cell}
-use Rattle.agg_column.proofs.KeptCells.{cells_longer, kept_longer, still, on_err_given}
-use Rattle.agg_column.proofs.log.Log.push.Goals as goal
+use Rattle.agg_segment.specs.storage.Cells.{Logged, placed, IsKept}
+use Rattle.agg_segment.specs.storage.Document.{key_of}
+use Rattle.agg_segment.specs.declared.storage.log.Cell.{Cell}
+use Rattle.agg_segment.proofs.lemmas.storage.KeptCells.{cells_longer, kept_longer, still}
+use Rattle.agg_segment.proofs.lemmas.storage.KeptCells.{on_err_given}
+use Rattle.agg_segment.proofs.storage.log.Log.push.Goals as goal
 
 pub returns-in_err-value-clause-err : goal.returns-in_err-value-clause-err
 returns-in_err-value-clause-err c =

@@ -1,7 +1,7 @@
 use Rattle.std.proofs.Common.{◌≡◌, ◌++◌, ◌∷◌, [], ◌+◌, ap, sym, ◌∙◌, arith}
 use Rattle.std.specs.List.{range_with_len}
-use Rattle.agg_column.proofs.Layouts.{range_more}
-use Rattle.agg_column.proofs.rows.growing.all_docs.Goals as goal
+use Rattle.agg_segment.proofs.lemmas.storage.Layouts.{range_more}
+use Rattle.agg_segment.proofs.storage.rows.growing.all_docs.Goals as goal
 
 pub loop-doc-preserved : goal.loop-doc-preserved
 loop-doc-preserved c =

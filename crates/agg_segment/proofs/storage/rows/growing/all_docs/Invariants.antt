@@ -1,6 +1,6 @@
 use Rattle.std.proofs.Common.{◌≡◌}
 use Rattle.std.specs.List.{range_with_len}
-use Rattle.agg_column.proofs.rows.growing.all_docs.Given as goal
+use Rattle.agg_segment.proofs.storage.rows.growing.all_docs.Given as goal
 
 abbrev pub invariant-loop-doc : goal.invariant-loop-doc
 invariant-loop-doc l = l.docs.items ≡ range_with_len 0 l.doc

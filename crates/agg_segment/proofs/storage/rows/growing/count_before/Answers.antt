@@ -1,7 +1,7 @@
 use Rattle.std.proofs.Common.{◌-◌, ◌≤◌, get_or, arith}
-use Rattle.agg_column.specs.Growing.{many_docs}
-use Rattle.agg_column.proofs.GrowingNumbers.{docs_length}
-use Rattle.agg_column.proofs.rows.growing.count_before.Goals as goal
+use Rattle.agg_segment.specs.storage.Growing.{many_docs}
+use Rattle.agg_segment.proofs.lemmas.storage.GrowingNumbers.{docs_length}
+use Rattle.agg_segment.proofs.storage.rows.growing.count_before.Goals as goal
 
 pub returns-else-doc_at-doc-clause-before : goal.returns-else-doc_at-doc-clause-before
 returns-else-doc_at-doc-clause-before c k l =

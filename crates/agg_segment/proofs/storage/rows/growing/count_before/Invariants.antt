@@ -1,6 +1,6 @@
 use Rattle.std.proofs.Common.{◌≤◌, ◌<◌, ℕ, length, get_or}
-use Rattle.agg_column.specs.Growing.{many_docs}
-use Rattle.agg_column.proofs.rows.growing.count_before.Given as goal
+use Rattle.agg_segment.specs.storage.Growing.{many_docs}
+use Rattle.agg_segment.proofs.storage.rows.growing.count_before.Given as goal
 
 abbrev pub decreases-loop-count : goal.decreases-loop-count
 decreases-loop-count l = l.count

@@ -1,7 +1,7 @@
 use Rattle.std.proofs.Common.{◌≡◌, ◌-◌, length, get_or, arith, ap, ◌∙◌}
 use Rattle.std.proofs.lemmas.List.{get_or_read}
-use Rattle.agg_column.proofs.GrowingNumbers.{doc_at_front, doc_at_back}
-use Rattle.agg_column.proofs.rows.growing.doc_at.Goals as goal
+use Rattle.agg_segment.proofs.lemmas.storage.GrowingNumbers.{doc_at_front, doc_at_back}
+use Rattle.agg_segment.proofs.storage.rows.growing.doc_at.Goals as goal
 
 pub returns-then-at-each : goal.returns-then-at-each
 returns-then-at-each c =

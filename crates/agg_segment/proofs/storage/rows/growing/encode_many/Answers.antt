@@ -1,11 +1,12 @@
 use Rattle.std.proofs.Common.{◌≡◌, ◌-◌, ◌++◌, length, get_or, arith, ap, ◌∙◌}
 use Rattle.std.specs.List.{range_with_len}
 use Rattle.std.proofs.lemmas.List.{with_items_is}
-use Rattle.agg_column.specs.Columns.{encoded_key, type_of, named_texts, StandsForKey}
-use Rattle.agg_column.specs.GatheredNumbers.{raw_key, IsEncodable}
-use Rattle.agg_column.specs.Growing.{many_docs}
-use Rattle.agg_column.proofs.GrowingNumbers.{docs_length, all_seconds, seconds_all, encoded_rows}
-use Rattle.agg_column.proofs.rows.growing.encode_many.Goals as goal
+use Rattle.agg_segment.specs.storage.Columns.{encoded_key, type_of, named_texts, StandsForKey}
+use Rattle.agg_segment.specs.storage.GatheredNumbers.{raw_key, IsEncodable}
+use Rattle.agg_segment.specs.storage.Growing.{many_docs}
+use Rattle.agg_segment.proofs.lemmas.storage.GrowingNumbers.{docs_length, all_seconds, seconds_all}
+use Rattle.agg_segment.proofs.lemmas.storage.GrowingNumbers.{encoded_rows}
+use Rattle.agg_segment.proofs.storage.rows.growing.encode_many.Goals as goal
 
 pub encode_numbers-requires : goal.encode_numbers-requires
 encode_numbers-requires c =

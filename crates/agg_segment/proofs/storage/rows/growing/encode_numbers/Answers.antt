@@ -1,8 +1,8 @@
 use Rattle.std.proofs.Common.{◌≢◌, ◌<◌, length, arith, ◌∙◌, ap, below_more}
 use Rattle.std.proofs.Common.{get_or-set_other, get_or-set_same}
-use Rattle.agg_column.specs.Columns.{named_texts, type_of}
-use Rattle.agg_column.specs.GatheredNumbers.{raw_key}
-use Rattle.agg_column.proofs.rows.growing.encode_numbers.Goals as goal
+use Rattle.agg_segment.specs.storage.Columns.{named_texts, type_of}
+use Rattle.agg_segment.specs.storage.GatheredNumbers.{raw_key}
+use Rattle.agg_segment.proofs.storage.rows.growing.encode_numbers.Goals as goal
 
 pub loop-number-preserved : goal.loop-number-preserved
 loop-number-preserved c =

@@ -1,7 +1,7 @@
 use Rattle.std.proofs.Common.{◌≡◌, ◌≤◌, ◌<◌, ℕ, get_or}
-use Rattle.agg_column.specs.Columns.{encoded_key, type_of, named_texts, StandsForKey}
-use Rattle.agg_column.specs.GatheredNumbers.{raw_key}
-use Rattle.agg_column.proofs.rows.growing.encode_numbers.Given as goal
+use Rattle.agg_segment.specs.storage.Columns.{encoded_key, type_of, named_texts, StandsForKey}
+use Rattle.agg_segment.specs.storage.GatheredNumbers.{raw_key}
+use Rattle.agg_segment.proofs.storage.rows.growing.encode_numbers.Given as goal
 
 abbrev pub invariant-loop-number : goal.invariant-loop-number
 invariant-loop-number l = record {

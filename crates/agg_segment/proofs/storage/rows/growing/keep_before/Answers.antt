@@ -1,6 +1,6 @@
 use Rattle.std.proofs.Common.{◌≡◌, ◌-◌, length, arith, length-take}
-use Rattle.agg_column.proofs.GrowingNumbers.{kept_rows, kept_rise}
-use Rattle.agg_column.proofs.rows.growing.keep_before.Goals as goal
+use Rattle.agg_segment.proofs.lemmas.storage.GrowingNumbers.{kept_rows, kept_rise}
+use Rattle.agg_segment.proofs.storage.rows.growing.keep_before.Goals as goal
 
 -- how many numbers are of documents that aren't listed
 each_is : (c : goal.After-truncate-2) → c.saturating_sub.result

@@ -1,7 +1,7 @@
 use Rattle.std.proofs.Common.{◌≡◌, ◌-◌, ◌++◌, length, arith, ap, ◌∙◌}
 use Rattle.std.specs.List.{range_with_len}
-use Rattle.agg_column.proofs.GrowingNumbers.{docs_length}
-use Rattle.agg_column.proofs.rows.growing.many_into_rows.Goals as goal
+use Rattle.agg_segment.proofs.lemmas.storage.GrowingNumbers.{docs_length}
+use Rattle.agg_segment.proofs.storage.rows.growing.many_into_rows.Goals as goal
 
 pub of-requires-clause-each : goal.of-requires-clause-each
 of-requires-clause-each c =

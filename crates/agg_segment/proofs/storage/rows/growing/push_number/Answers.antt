@@ -1,7 +1,8 @@
 use Rattle.std.proofs.Common.{◌≡◌, length, arith, length-append, ◌∷◌, [], ◌∙◌, ap, sym}
 use Rattle.std.proofs.lemmas.Bool.Decides.{nat_tests}
-use Rattle.agg_column.proofs.GrowingNumbers.{next_rows, next_rise, listed_rows, listed_rise}
-use Rattle.agg_column.proofs.rows.growing.push_number.Goals as goal
+use Rattle.agg_segment.proofs.lemmas.storage.GrowingNumbers.{next_rows, next_rise, listed_rows}
+use Rattle.agg_segment.proofs.lemmas.storage.GrowingNumbers.{listed_rise}
+use Rattle.agg_segment.proofs.storage.rows.growing.push_number.Goals as goal
 
 pub returns-then-len-doc-clause-many : goal.returns-then-len-doc-clause-many
 returns-then-len-doc-clause-many c =

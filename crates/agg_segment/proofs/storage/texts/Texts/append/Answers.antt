@@ -1,9 +1,9 @@
 use Rattle.std.proofs.Common.{rules, ◌≡◌, Some, cond, length, ◌∙◌, ap}
 use Rattle.std.specs.Str.{bytes_eq}
-use Rattle.agg_column.specs.Cells.{number_of}
-use Rattle.agg_column.specs.Names.{numbered_names}
-use Rattle.agg_column.proofs.TextPlaces.{one_more_text}
-use Rattle.agg_column.proofs.texts.Texts.append.Goals as goal
+use Rattle.agg_segment.specs.storage.Cells.{number_of}
+use Rattle.agg_segment.specs.storage.Names.{numbered_names}
+use Rattle.agg_segment.proofs.lemmas.storage.TextPlaces.{one_more_text}
+use Rattle.agg_segment.proofs.storage.texts.Texts.append.Goals as goal
 
 pub invariant_of-self : goal.invariant_of-self
 invariant_of-self c = rw c.reserve.ensures.items c.self.invariant

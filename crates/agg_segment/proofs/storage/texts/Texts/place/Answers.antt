@@ -1,5 +1,5 @@
 use Rattle.std.proofs.Common.{◌<◌, ℕ, List, length, sym, subst, ◌∙◌}
-use Rattle.agg_column.proofs.texts.Texts.place.Goals as goal
+use Rattle.agg_segment.proofs.storage.texts.Texts.place.Goals as goal
 
 pub returns-in-Some-clause-within : goal.returns-in-Some-clause-within
 returns-in-Some-clause-within c =

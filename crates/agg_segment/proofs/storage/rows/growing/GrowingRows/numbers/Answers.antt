@@ -1,7 +1,8 @@
 use Rattle.std.proofs.Common.{◌≡◌, sym, ap, subst, ◌∙◌}
-use Rattle.agg_column.specs.Growing.{many_docs, many_rows, growing_rows, AreGrowing, AreMany}
-use Rattle.agg_column.proofs.GrowingNumbers.{docs_length, zip_seconds}
-use Rattle.agg_column.proofs.rows.growing.GrowingRows.numbers.Goals as goal
+use Rattle.agg_segment.specs.storage.Growing.{many_docs, many_rows, growing_rows, AreGrowing}
+use Rattle.agg_segment.specs.storage.Growing.{AreMany}
+use Rattle.agg_segment.proofs.lemmas.storage.GrowingNumbers.{docs_length, zip_seconds}
+use Rattle.agg_segment.proofs.storage.rows.growing.GrowingRows.numbers.Goals as goal
 
 pub returns-in-Many : goal.returns-in-Many
 returns-in-Many c =
