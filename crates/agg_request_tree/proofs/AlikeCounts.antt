@@ -4,7 +4,7 @@ use Rattle.std.specs.List.Sorted.{IsPermutation}
 use Rattle.std.proofs.lemmas.List.Sorted.{Contains-permutation}
 use Rattle.std.proofs.lemmas.List.Sorted.{length_permutation, sum_by-IsPermutation}
 use Rattle.agg_values.specs.Tuple.{KeyTuple}
-use Rattle.agg_column.specs.Document.{Fields}
+use Rattle.agg_segment.specs.storage.Document.{Fields}
 use Rattle.agg_request_tree.specs.Alike.{AreAlikeByClass, AreAllAlikeByClass}
 use Rattle.agg_request_tree.specs.Occurrences.{occurrences_in}
 use Rattle.agg_request_tree.specs.Page.{Entry, IsPage, count_in, group_of}

@@ -4,7 +4,7 @@ use Rattle.std.proofs.Common.{List, [], ◌∷◌, Bool, true, false, cond, Opti
 use Rattle.std.specs.List.{AllZip, filter, filter_map}
 use Rattle.std.specs.Option.{option_map_or}
 use Rattle.std.proofs.lemmas.List.Sorted.{length_permutation}
-use Rattle.agg_column.specs.Document.{Fields}
+use Rattle.agg_segment.specs.storage.Document.{Fields}
 use Rattle.agg_segment.specs.Query.{matches}
 use Rattle.agg_segment.specs.declared.query.QueryTree.{QueryTree}
 use Rattle.agg_segment.proofs.ByClass.{matches-by_class}
@@ -38,7 +38,7 @@ matches-alike tree document other alike =
     ∙ ap (matches tree) (λ i field. alike field i)
     ∙ matches-by_class tree other
 
--- so does the query that a builder makes
+-- the query that a builder makes matches them alike
 pub built_matches-alike : {B : Type 0} (tree_for : B → Option QueryTree)
     → MatchAlike (built_matches tree_for)
 built_matches-alike tree_for builder document other alike =
@@ -96,7 +96,7 @@ values-alike : (field : List ℕ) (document other : Fields) → AreAlikeByClass 
 values-alike field document other alike =
     keys-reordering (document field) (other field) (alike field)
 
--- and its numbers
+-- the numbers of a field
 numbers-alike : (field : List ℕ) (document other : Fields) → AreAlikeByClass document other
     → IsReordering (filter_map number_of (document field)) (filter_map number_of (other field))
 numbers-alike field document other alike =

@@ -12,16 +12,17 @@ use Rattle.agg_values.specs.declared.typed_key.CompositeIntermediateKey.TheVaria
   IpAddr,
   Null,
 }
-use Rattle.agg_column.specs.Document.{Fields, by_class, of_class}
+use Rattle.agg_segment.specs.storage.Document.{Fields, by_class, of_class}
 use Rattle.agg_request_tree.specs.Alike.{AreAlikeByClass}
 use Rattle.agg_request_tree.specs.Occurrences.{occurrences}
-use Rattle.agg_request_tree.specs.Source.{Sources, field_of, keys_in, missing_bucket_of}
-use Rattle.agg_request_tree.specs.Source.{or_missing, source_values, start_in, values_at}
+use Rattle.agg_request_tree.specs.Source.{Sources, field_of, is_from, keys_in, min_of}
+use Rattle.agg_request_tree.specs.Source.{missing_bucket_of, or_missing, source_values, start_in}
+use Rattle.agg_request_tree.specs.Source.{values_at, values_from}
 use Rattle.agg_request_tree.specs.declared.source.CompositeAggregationSource as kind
 use kind.{CompositeAggregationSource}
 use kind.TheVariants.{Terms, Histogram, DateHistogram}
 use Rattle.agg_request_tree.proofs.Reorderings.{IsReordering, same, later, exchange, joined}
-use Rattle.agg_request_tree.proofs.Reorderings.{IsReordering-each}
+use Rattle.agg_request_tree.proofs.Reorderings.{IsReordering-each, IsReordering-filter}
 use Rattle.agg_request_tree.proofs.Reorderings.{IsReordering-filter_map, IsReordering-flat_map}
 use Rattle.agg_request_tree.proofs.Reorderings.{IsReordering-further, IsReordering-map}
 use Rattle.agg_request_tree.proofs.Reorderings.{IsReordering-sym}
@@ -56,7 +57,7 @@ by_class-reordering (DateTime ns ∷ ks) =
     (IsReordering-further (of_class ks 2) (IsReordering-further (of_class ks 3)
     (IsReordering-further (of_class ks 4) same)))))
 
--- the same keys by class are the same keys in another order
+-- keys that are equal by class are equal in another order
 pub keys-reordering : (ks ls : KeyTuple) → by_class ks ≡ by_class ls → IsReordering ks ls
 keys-reordering ks ls alike =
     joined (subst (IsReordering ks) alike (by_class-reordering ks))
@@ -70,6 +71,12 @@ module _ (document other : Fields) (alike : AreAlikeByClass document other) wher
       → IsReordering (values_at field document) (values_at field other)
   values_at-reordering field =
       IsReordering-map canonical_key (keys-reordering (document field) (other field) (alike field))
+
+  -- those that a source reads
+  pub values_from-reordering : (source : CompositeAggregationSource)
+      → IsReordering (values_from source document) (values_from source other)
+  values_from-reordering source =
+      IsReordering-filter (is_from (min_of source)) (values_at-reordering (field_of source))
 
   -- the keys that a source gives for values
   keys_in-reordering : (source : CompositeAggregationSource) {ks ls : KeyTuple}
@@ -94,7 +101,7 @@ module _ (document other : Fields) (alike : AreAlikeByClass document other) wher
       → IsReordering (source_values source document) (source_values source other)
   source_values-reordering source =
       or_missing-reordering (missing_bucket_of source)
-      (keys_in-reordering source (values_at-reordering (field_of source)))
+      (keys_in-reordering source (values_from-reordering source))
 
   -- the occurrences of a document
   pub occurrences-reordering : (sources : Sources)

@@ -3,13 +3,13 @@ use Rattle.std.proofs.Common.{◌↔◌, List}
 use Rattle.std.specs.List.{All}
 use Rattle.std.proofs.lemmas.List.Elements.{All-from_recursion, All-weaker, recursion_from_All}
 use Rattle.std.proofs.lemmas.List.Sorted.{All-permutation}
-use Rattle.agg_column.specs.Document.{Fields}
+use Rattle.agg_segment.specs.storage.Document.{Fields}
 use Rattle.agg_request_tree.specs.Alike.{AreAlikeByClass, AreAllAlikeByClass}
 use Rattle.agg_request_tree.specs.Ranges.{AreInRange, HasStartOutOfRange, IsInRange}
 use Rattle.agg_request_tree.specs.Request.{Request}
-use Rattle.agg_request_tree.specs.Source.{Sources, field_of, values_at}
+use Rattle.agg_request_tree.specs.Source.{Sources, values_from}
 use Rattle.agg_request_tree.proofs.AlikeCounts.{alike-turned}
-use Rattle.agg_request_tree.proofs.AlikeOccurrences.{values_at-reordering}
+use Rattle.agg_request_tree.proofs.AlikeOccurrences.{values_from-reordering}
 use Rattle.agg_request_tree.proofs.PairedLists.{all_across}
 use Rattle.agg_request_tree.proofs.Reorderings.{IsPermutation-from_reordering}
 
@@ -17,11 +17,10 @@ use Rattle.agg_request_tree.proofs.Reorderings.{IsPermutation-from_reordering}
 in_range-alike : (sources : Sources) (document other : Fields) → AreAlikeByClass document other
     → AreInRange sources document → AreInRange sources other
 in_range-alike sources document other alike =
-    All-weaker (λ s. All (IsInRange s) (values_at (field_of s) document))
-    (λ s. All (IsInRange s) (values_at (field_of s) other))
-    (λ s. All-permutation (IsInRange s) (values_at (field_of s) document)
-    (values_at (field_of s) other)
-    (IsPermutation-from_reordering (values_at-reordering document other alike (field_of s))))
+    All-weaker (λ s. All (IsInRange s) (values_from s document))
+    (λ s. All (IsInRange s) (values_from s other))
+    (λ s. All-permutation (IsInRange s) (values_from s document) (values_from s other)
+    (IsPermutation-from_reordering (values_from-reordering document other alike s)))
     sources
 
 all_in_range-alike : (sources : Sources) (documents others : List Fields)

@@ -22,7 +22,7 @@ ascending_keys R [] = []
 ascending_keys R (k ∷ ks) = insert_key R k (ascending_keys R ks)
 
 module _ {K : Type 0} (R : K → K → Ordering) (total : IsTotalOrder R) where
-  -- the same by how the key compares with the first
+  -- what holds of a key and of the others, by how the key compares with the first of them
   all_inserted_by : (P : K → Type 0) (o : Ordering) (k l : K) (ls more : List K) → P k
       → AllByRecursion P (l ∷ ls) → AllByRecursion P more
       → AllByRecursion P (match_ordering o (k ∷ l ∷ ls) (l ∷ ls) (l ∷ more))

@@ -26,7 +26,7 @@ Any-front P xs ys (k, x, within, at, has) = (
   has,
 )
 
--- so does what holds of one of the last
+-- what holds of one of the last holds of one of all
 pub Any-back : {X : Type 0} (P : X → Type 0) (xs ys : List X) → Any P ys → Any P (xs ++ ys)
 Any-back P xs ys (k, x, within, at, has) = (
   length xs + k,

@@ -19,15 +19,15 @@ use Rattle.agg_values.specs.declared.request_error.DateHistogramParseError as pa
 use parsing.{DateHistogramParseError}
 use Rattle.agg_values.specs.declared.request_error.RequestError.{RequestError}
 use Rattle.agg_values.specs.declared.request_error.RequestError.TheVariants as error
-use Rattle.agg_calendar.specs.Interval.{chosen, fixed}
-use Rattle.agg_calendar.specs.IntervalText.{read_interval}
+use Rattle.agg_calendar.specs.Interval.{chosen, chosen_offset, fixed, in_ns, with_offset}
+use Rattle.agg_calendar.specs.IntervalText.{read_interval, read_offset}
 use Rattle.agg_calendar.specs.Refusal.{in_request, HasText, IsAnswer}
 use Rattle.agg_calendar.specs.declared.interval.CalendarInterval.{CalendarInterval}
 use Rattle.agg_calendar.specs.declared.interval.PrecomputedDateInterval as interval
 use interval.{PrecomputedDateInterval}
 use interval.TheVariants.{FixedNanoseconds}
 use Rattle.agg_request_tree.specs.Faults.{HaveOwnNames, IsIntervalCause, IsIntervalFault}
-use Rattle.agg_request_tree.specs.Source.{Sources, interval_of, name_of}
+use Rattle.agg_request_tree.specs.Source.{Sources, division_of, name_of}
 use Rattle.agg_request_tree.specs.declared.source.CompositeAggregationSource as kind
 use kind.{CompositeAggregationSource}
 use kind.TheVariants.{Terms, Histogram, DateHistogram}
@@ -102,6 +102,27 @@ chosen-fault None (Some unit) fault is = absurd cc
 chosen-fault (Some text) (Some unit) fault is = inr cc
 chosen-fault None None fault is = inr cc
 
+-- an offset is refused for its text alone
+offset-fault : (text : Option (List ℕ)) (fault : InvalidArgument)
+    → chosen_offset text ≡ Err (error.Invalid fault) → ⊥
+offset-fault None fault is = absurd cc
+offset-fault (Some text) fault is = read-fault (read_offset text) is
+  where
+    read-fault : (read : Result ℤ DateHistogramParseError)
+        → in_ns (in_request read) ≡ Err (error.Invalid fault) → ⊥
+    read-fault (Ok ms) is = absurd cc
+    read-fault (Err part) is = absurd cc
+
+-- an interval and an offset are refused as one of them is
+division-fault : (interval : Result PrecomputedDateInterval RequestError)
+    (offset : Result ℤ RequestError) (refusal : RequestError)
+    → with_offset interval offset ≡ Err refusal
+    → (interval ≡ Err refusal) ⊎ (offset ≡ Err refusal)
+division-fault (Ok interval) (Ok offset) refusal is = absurd cc
+division-fault (Ok interval) (Err error) refusal is = inr (let same : error ≡ refusal = cc in
+    ap Err same)
+division-fault (Err error) offset refusal is = inl (let same : error ≡ refusal = cc in ap Err same)
+
 -- no interval is refused for another fault
 pub no_interval_fault : (source : CompositeAggregationSource) (fault : InvalidArgument)
     → fault ≢ argument.BadInterval → fault ≢ argument.IntervalChoice
@@ -109,12 +130,17 @@ pub no_interval_fault : (source : CompositeAggregationSource) (fault : InvalidAr
 no_interval_fault (Terms s) fault large one is = is
 no_interval_fault (Histogram s) fault large one is = let same = is.0 in large cc
 no_interval_fault (DateHistogram s) fault large one is =
-    ⊎_elim large one (chosen-fault s.fixed_interval s.calendar_interval fault is)
+    ⊎_elim
+    (λ interval. ⊎_elim large one
+    (chosen-fault s.fixed_interval s.calendar_interval fault interval))
+    (offset-fault s.offset fault)
+    (division-fault (chosen s.fixed_interval s.calendar_interval) (chosen_offset s.offset)
+    (error.Invalid fault) is)
 
 -- a refusal that holds a text is that of a text
-text-of : (right : Result PrecomputedDateInterval RequestError) → HasText right
+text-of : {A : Type 0} (right : Result A RequestError) → HasText right
     → (part : AggregationError) × (right ≡ Err (error.Aggregation part))
-text-of (Ok interval) has = absurd has
+text-of (Ok given) has = absurd has
 text-of (Err (error.Invalid fault)) has = absurd has
 text-of (Err (error.Aggregation (aggregation.DateHistogramParseError part))) has =
     (aggregation.DateHistogramParseError part, refl)
@@ -122,13 +148,13 @@ text-of (Err (error.Aggregation (aggregation.MemoryExceeded limit current))) has
 text-of (Err (error.Aggregation (aggregation.BucketLimitExceeded limit current))) has = absurd has
 text-of (Err error.OutOfMemory) has = absurd has
 
--- the answer of a date source's intervals is the cause of its refusal
-pub dates-cause : (s : Dates) (refusal : RequestError) → IsAnswer (interval_of s) (Err refusal)
-    → (refusal ≡ error.OutOfMemory → HasText (interval_of s))
+-- the answer of a date source's intervals and offset is the cause of its refusal
+pub dates-cause : (s : Dates) (refusal : RequestError) → IsAnswer (division_of s) (Err refusal)
+    → (refusal ≡ error.OutOfMemory → HasText (division_of s))
     → IsIntervalCause (DateHistogram s) refusal
 dates-cause s (error.Invalid fault) is memory = is
 dates-cause s (error.Aggregation part) is memory = is
-dates-cause s error.OutOfMemory is memory = text-of (interval_of s) (memory refl)
+dates-cause s error.OutOfMemory is memory = text-of (division_of s) (memory refl)
 
 -- ---- requests
 

@@ -32,3 +32,4 @@ pub mod SourceKeys
 pub mod SourceOrders
 pub mod UncutLength
 pub mod UncutLists
+pub mod lemmas

@@ -2,7 +2,7 @@
 use Rattle.std.proofs.Common.{◌≤◌, List, length, arith}
 use Rattle.std.proofs.lemmas.List.Sums.{length-filter, count_by-le-length}
 use Rattle.agg_values.specs.Tuple.{KeyTuple}
-use Rattle.agg_column.specs.Document.{Fields}
+use Rattle.agg_segment.specs.storage.Document.{Fields}
 use Rattle.agg_request_tree.specs.Source.{Sources, rules_of}
 use Rattle.agg_request_tree.specs.Occurrences.{past_occurrences, is_past, occurrences_in}
 

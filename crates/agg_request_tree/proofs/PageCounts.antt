@@ -10,7 +10,7 @@ use Rattle.std.proofs.lemmas.List.Sorted.{Contains-permutation, IsPermutation-sy
 use Rattle.std.proofs.lemmas.List.Sorted.{sum_by-IsPermutation}
 use Rattle.agg_values.specs.KeyOrder.{tuple_order}
 use Rattle.agg_values.proofs.TupleOrder.{tuple_order-total}
-use Rattle.agg_column.specs.Document.{Fields}
+use Rattle.agg_segment.specs.storage.Document.{Fields}
 use Rattle.agg_request_tree.specs.Source.{rules_of, Sources}
 use Rattle.agg_request_tree.specs.Occurrences.{occurrences, occurrences_in, same_tuple}
 use Rattle.agg_request_tree.specs.Page.{Entry, IsPage, MayList, count_in, documents_with, group_of}

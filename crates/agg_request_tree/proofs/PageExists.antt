@@ -8,7 +8,7 @@ use Rattle.std.proofs.lemmas.List.Elements.{All-contains_itself, All-weaker, rec
 use Rattle.agg_values.specs.KeyOrder.{tuple_order, SourceRules}
 use Rattle.agg_values.specs.Laws.{IsCanonicalTuple}
 use Rattle.agg_values.proofs.TupleOrder.{tuple_order-total, tuple_order-exact}
-use Rattle.agg_column.specs.Document.{Fields}
+use Rattle.agg_segment.specs.storage.Document.{Fields}
 use Rattle.agg_request_tree.specs.Source.{rules_of, Sources}
 use Rattle.agg_request_tree.specs.Occurrences.{occurrences_in, is_past, same_tuple}
 use Rattle.agg_request_tree.specs.Occurrences.{past_occurrences}

@@ -12,7 +12,7 @@ use Rattle.std.proofs.lemmas.List.Elements.{All-nil, All-take, All-map, All-cont
 use Rattle.agg_values.specs.KeyOrder.{tuple_order, key_order, SourceRules}
 use Rattle.agg_values.proofs.KeyOrder.{then_equal}
 use Rattle.agg_values.proofs.TupleOrder.{tuple_order-total}
-use Rattle.agg_column.specs.Document.{Fields}
+use Rattle.agg_segment.specs.storage.Document.{Fields}
 use Rattle.agg_request_tree.specs.Source.{rules_of, Sources}
 use Rattle.agg_request_tree.specs.Occurrences.{occurrences, occurrences_in, is_past, same_tuple}
 use Rattle.agg_request_tree.specs.Occurrences.{past_occurrences}

@@ -8,7 +8,7 @@ use Rattle.std.proofs.lemmas.List.Elements.{recursion_from_All}
 use Rattle.agg_values.specs.KeyOrder.{tuple_order}
 use Rattle.agg_values.specs.Laws.{IsCanonicalTuple}
 use Rattle.agg_values.proofs.TupleOrder.{tuple_order-exact, tuple_order-total}
-use Rattle.agg_column.specs.Document.{Fields}
+use Rattle.agg_segment.specs.storage.Document.{Fields}
 use Rattle.agg_request_tree.specs.Source.{rules_of, Sources}
 use Rattle.agg_request_tree.specs.Occurrences.{is_past, occurrences_in}
 use Rattle.agg_request_tree.specs.Page.{Entry, MayList}

@@ -22,14 +22,16 @@ use Rattle.agg_values.specs.declared.typed_key.CompositeIntermediateKey.TheVaria
 use Rattle.agg_values.specs.KeyOrder.{tuple_order}
 use Rattle.agg_values.specs.Laws.{IsCanonicalTuple}
 use Rattle.agg_values.proofs.TupleOrder.{tuple_order-exact}
-use Rattle.agg_column.specs.Document.{Fields}
+use Rattle.agg_segment.specs.storage.Document.{Fields}
 use Rattle.agg_request_tree.specs.declared.source.CompositeAggregationSource as kind
 use kind.{CompositeAggregationSource}
 use kind.TheVariants.{Terms, Histogram, DateHistogram}
 use Rattle.agg_request_tree.specs.Source.{rules_of, or_missing, source_values, missing_bucket_of}
-use Rattle.agg_request_tree.specs.Source.{field_of, keys_in, start_in, values_at, Sources}
+use Rattle.agg_request_tree.specs.Source.{field_of, is_from, keys_in, min_of, start_in}
+use Rattle.agg_request_tree.specs.Source.{values_at, values_from, Sources}
 use Rattle.agg_request_tree.specs.Occurrences.{occurrences, occurrences_in}
-use Rattle.agg_request_tree.proofs.Lists.{AllByRecursion-always, AllByRecursion-flat_map}
+use Rattle.agg_request_tree.proofs.Lists.{AllByRecursion-always, AllByRecursion-filter}
+use Rattle.agg_request_tree.proofs.Lists.{AllByRecursion-flat_map}
 use Rattle.agg_request_tree.proofs.Lists.{AllByRecursion-map, AllByRecursion-weaker}
 use Rattle.agg_values.specs.Tuple.{KeyTuple}
 
@@ -78,10 +80,12 @@ pub source_values-canonical : (source : CompositeAggregationSource) (document : 
     → AllByRecursion IsCanonical (source_values source document)
 source_values-canonical source document =
     or_missing-all (missing_bucket_of source) _
-    (keys_in-canonical source (values_at (field_of source) document)
+    (keys_in-canonical source (values_from source document)
+    (AllByRecursion-filter IsCanonical (is_from (min_of source))
+    (values_at (field_of source) document)
     (AllByRecursion-map IsCanonical canonical_key (document (field_of source))
     (AllByRecursion-always (λ k. IsCanonical (canonical_key k)) canonical_key-canonical
-    (document (field_of source)))))
+    (document (field_of source))))))
 
 -- one more key before a tuple
 longer : (source : CompositeAggregationSource) (sources : Sources) (k : CompositeIntermediateKey)

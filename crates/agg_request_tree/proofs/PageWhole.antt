@@ -7,7 +7,7 @@ use Rattle.std.proofs.lemmas.Bool.{cases_lt}
 use Rattle.std.proofs.lemmas.List.{length-append, length-map, length-take, take_all}
 use Rattle.agg_values.specs.KeyOrder.{tuple_order}
 use Rattle.agg_values.proofs.TupleOrder.{tuple_order-total}
-use Rattle.agg_column.specs.Document.{Fields}
+use Rattle.agg_segment.specs.storage.Document.{Fields}
 use Rattle.agg_request_tree.specs.Source.{rules_of, Sources}
 use Rattle.agg_request_tree.specs.Occurrences.{past_occurrences}
 use Rattle.agg_request_tree.specs.Page.{Entry, IsPage, entry_of}

@@ -1,5 +1,6 @@
 -- Lists with the same elements in another order, by exchanges of neighbours.
-use Rattle.std.proofs.Common.{List, [], ◌∷◌, ◌++◌, Option, None, Some, map}
+use Rattle.std.proofs.Common.{List, [], ◌∷◌, ◌++◌, Bool, true, false, cond, Option, None, Some}
+use Rattle.std.proofs.Common.{filter, map}
 use Rattle.std.specs.List.{cons_option, filter_map, flat_map}
 use Rattle.std.specs.List.Sorted.{IsPermutation}
 use Rattle.std.proofs.lemmas.List.Sorted.{IsPermutation-cons, IsPermutation-middle}
@@ -58,7 +59,7 @@ IsReordering-middle : {X : Type 0} (xs : List X) (y : X) (zs : List X)
 IsReordering-middle [] y zs = same
 IsReordering-middle (x ∷ xs) y zs = joined exchange (later (IsReordering-middle xs y zs))
 
--- and from there to its place in what follows
+-- an element goes from before a list to its place in what follows the list
 pub IsReordering-further : {X : Type 0} (xs : List X) {y : X} {zs us : List X}
     → IsReordering (y ∷ zs) us → IsReordering (y ∷ (xs ++ zs)) (xs ++ us)
 IsReordering-further xs {y = y} {zs = zs} r =
@@ -96,6 +97,28 @@ pub IsReordering-each : {X Y : Type 0} (f g : X → List Y) → ((x : X) → IsR
 IsReordering-each f g each [] = same
 IsReordering-each f g each (x ∷ xs) =
     IsReordering-append (each x) (IsReordering-each f g each xs)
+
+kept_later : {X : Type 0} (b : Bool) (x : X) {xs ys : List X} → IsReordering xs ys
+    → IsReordering (cond b (x ∷ xs) xs) (cond b (x ∷ ys) ys)
+kept_later true x r = later r
+kept_later false x r = r
+
+kept_exchange : {X : Type 0} (b c : Bool) (x y : X) (xs : List X)
+    → IsReordering (cond b (x ∷ cond c (y ∷ xs) xs) (cond c (y ∷ xs) xs))
+    (cond c (y ∷ cond b (x ∷ xs) xs) (cond b (x ∷ xs) xs))
+kept_exchange true true x y xs = exchange
+kept_exchange true false x y xs = same
+kept_exchange false true x y xs = same
+kept_exchange false false x y xs = same
+
+-- what passes a test, in another order
+pub IsReordering-filter : {X : Type 0} (p : X → Bool) {xs ys : List X} → IsReordering xs ys
+    → IsReordering (filter p xs) (filter p ys)
+IsReordering-filter p same = same
+IsReordering-filter p (later {x = x} r) = kept_later (p x) x (IsReordering-filter p r)
+IsReordering-filter p (exchange {x = x} {y = y} {xs = xs}) =
+    kept_exchange (p x) (p y) x y (filter p xs)
+IsReordering-filter p (joined r s) = joined (IsReordering-filter p r) (IsReordering-filter p s)
 
 cons_later : {Y : Type 0} (o : Option Y) {xs ys : List Y} → IsReordering xs ys
     → IsReordering (cons_option o xs) (cons_option o ys)

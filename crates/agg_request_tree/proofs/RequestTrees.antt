@@ -25,7 +25,7 @@ module _ {B : Type 0} where
   agg-made agg below =
       ap (λ a. a.agg) (out-roll-Aggregation B (record { agg = agg; sub_aggregation = below }))
 
-  -- and what is below it
+  -- what is below an aggregation of these parts
   pub below-made : (agg : AggregationVariants B) (below : Request B)
       → below_of (aggregation_of agg below) ≡ below
   below-made agg below =

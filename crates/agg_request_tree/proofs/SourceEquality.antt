@@ -5,8 +5,10 @@ use Rattle.std.specs.Option.{option_eq}
 use Rattle.std.proofs.lemmas.Bool.Decides.{Decides-and, Decides-int_eq, Decides-like}
 use Rattle.agg_calendar.specs.contracts.interval.CalendarIntervalPartialEq as calendar
 use Rattle.agg_calendar.specs.declared.interval.CalendarInterval.{CalendarInterval}
+use Rattle.agg_values.specs.contracts.after_key.AfterKeyPartialEq as after
 use Rattle.agg_values.specs.contracts.order.OrderPartialEq as order
 use Rattle.agg_values.specs.contracts.order.MissingOrderPartialEq as missing
+use Rattle.agg_values.specs.declared.after_key.AfterKey.{AfterKey}
 use Rattle.agg_values.specs.declared.order.Order.{Order}
 use Rattle.agg_values.specs.declared.order.MissingOrder.{MissingOrder}
 use Rattle.agg_request_tree.specs.contracts.source as of
@@ -33,6 +35,9 @@ missing-decided x y = search rules
 intervals-decided : (x y : CalendarInterval) → Decides (calendar.TheImpl.ghosts.eq x y) (x ≡ y)
 intervals-decided x y = search rules
 
+after_keys-decided : (x y : AfterKey) → Decides (after.TheImpl.ghosts.eq x y) (x ≡ y)
+after_keys-decided x y = search rules
+
 flags-decided : (x y : Bool) → Decides (Rattle.std.specs.Bool.beq x y) (x ≡ y)
 flags-decided x y = search rules
 
@@ -46,7 +51,35 @@ options-decided eq each (Some x) None = (λ e. absurd (cc), λ e. absurd (cc))
 
 pub terms-decided : (x y : TermCompositeAggregationSource)
     → Decides (terms.TheImpl.ghosts.eq x y) (x ≡ y)
-terms-decided x y = search rules
+terms-decided x y =
+    Decides-like _
+    (λ e i. record {
+      name = e.0 i;
+      field = e.1.0 i;
+      order = e.1.1.0 i;
+      missing_bucket = e.1.1.1.0 i;
+      missing_order = e.1.1.1.1.0 i;
+      min = e.1.1.1.1.1 i;
+    })
+    (λ e. (
+      ap (λ s. s.name) e,
+      (
+        ap (λ s. s.field) e,
+        (
+          ap (λ s. s.order) e,
+          (
+            ap (λ s. s.missing_bucket) e,
+            (ap (λ s. s.missing_order) e, ap (λ s. s.min) e),
+          ),
+        ),
+      ),
+    ))
+    (Decides-and _ _ (bytes_decides x.name y.name)
+    (Decides-and _ _ (bytes_decides x.field y.field)
+    (Decides-and _ _ (orders-decided x.order y.order)
+    (Decides-and _ _ (flags-decided x.missing_bucket y.missing_bucket)
+    (Decides-and _ _ (missing-decided x.missing_order y.missing_order)
+    (options-decided _ after_keys-decided x.min y.min))))))
 
 pub histograms-decided : (x y : HistogramCompositeAggregationSource)
     → Decides (steps.TheImpl.ghosts.eq x y) (x ≡ y)
@@ -58,7 +91,8 @@ histograms-decided x y =
       interval = e.1.1.0 i;
       order = e.1.1.1.0 i;
       missing_bucket = e.1.1.1.1.0 i;
-      missing_order = e.1.1.1.1.1 i;
+      missing_order = e.1.1.1.1.1.0 i;
+      min = e.1.1.1.1.1.1 i;
     })
     (λ e. (
       ap (λ s. s.name) e,
@@ -66,7 +100,13 @@ histograms-decided x y =
         ap (λ s. s.field) e,
         (
           ap (λ s. s.interval) e,
-          (ap (λ s. s.order) e, (ap (λ s. s.missing_bucket) e, ap (λ s. s.missing_order) e)),
+          (
+            ap (λ s. s.order) e,
+            (
+              ap (λ s. s.missing_bucket) e,
+              (ap (λ s. s.missing_order) e, ap (λ s. s.min) e),
+            ),
+          ),
         ),
       ),
     ))
@@ -75,7 +115,8 @@ histograms-decided x y =
     (Decides-and _ _ (Decides-int_eq x.interval y.interval)
     (Decides-and _ _ (orders-decided x.order y.order)
     (Decides-and _ _ (flags-decided x.missing_bucket y.missing_bucket)
-    (missing-decided x.missing_order y.missing_order))))))
+    (Decides-and _ _ (missing-decided x.missing_order y.missing_order)
+    (options-decided _ after_keys-decided x.min y.min)))))))
 
 pub dates-decided : (x y : DateHistogramCompositeAggregationSource)
     → Decides (days.TheImpl.ghosts.eq x y) (x ≡ y)
@@ -86,9 +127,11 @@ dates-decided x y =
       field = e.1.0 i;
       fixed_interval = e.1.1.0 i;
       calendar_interval = e.1.1.1.0 i;
-      order = e.1.1.1.1.0 i;
-      missing_bucket = e.1.1.1.1.1.0 i;
-      missing_order = e.1.1.1.1.1.1 i;
+      offset = e.1.1.1.1.0 i;
+      order = e.1.1.1.1.1.0 i;
+      missing_bucket = e.1.1.1.1.1.1.0 i;
+      missing_order = e.1.1.1.1.1.1.1.0 i;
+      min = e.1.1.1.1.1.1.1.1 i;
     })
     (λ e. (
       ap (λ s. s.name) e,
@@ -99,8 +142,14 @@ dates-decided x y =
           (
             ap (λ s. s.calendar_interval) e,
             (
-              ap (λ s. s.order) e,
-              (ap (λ s. s.missing_bucket) e, ap (λ s. s.missing_order) e),
+              ap (λ s. s.offset) e,
+              (
+                ap (λ s. s.order) e,
+                (
+                  ap (λ s. s.missing_bucket) e,
+                  (ap (λ s. s.missing_order) e, ap (λ s. s.min) e),
+                ),
+              ),
             ),
           ),
         ),
@@ -111,9 +160,11 @@ dates-decided x y =
     (Decides-and _ _ (options-decided _ bytes_decides x.fixed_interval y.fixed_interval)
     (Decides-and _ _
     (options-decided _ intervals-decided x.calendar_interval y.calendar_interval)
+    (Decides-and _ _ (options-decided _ bytes_decides x.offset y.offset)
     (Decides-and _ _ (orders-decided x.order y.order)
     (Decides-and _ _ (flags-decided x.missing_bucket y.missing_bucket)
-    (missing-decided x.missing_order y.missing_order)))))))
+    (Decides-and _ _ (missing-decided x.missing_order y.missing_order)
+    (options-decided _ after_keys-decided x.min y.min)))))))))
 
 -- a source is equal to another exactly where it is the same
 pub sources-decided : (x y : CompositeAggregationSource)

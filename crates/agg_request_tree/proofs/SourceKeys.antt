@@ -19,7 +19,7 @@ use Rattle.agg_values.specs.declared.typed_key.CompositeIntermediateKey.TheVaria
   IpAddr,
   Null,
 }
-use Rattle.agg_column.specs.Document.{Fields}
+use Rattle.agg_segment.specs.storage.Document.{Fields}
 use Rattle.agg_request_tree.specs.declared.aggregation.CompositeAggregation.{CompositeAggregation}
 use Rattle.agg_request_tree.specs.declared.source.CompositeAggregationSource as kind
 use kind.{CompositeAggregationSource}
@@ -29,10 +29,11 @@ use Rattle.agg_request_tree.specs.Faults.{HaveOwnNames}
 use Rattle.agg_request_tree.specs.Faults.{IsNullAfter, IsOfOtherType, IsOtherAfter}
 use Rattle.agg_request_tree.specs.Occurrences.{occurrences}
 use Rattle.agg_request_tree.specs.Source.{Sources, after_of, field_of, keys_in, missing_bucket_of}
-use Rattle.agg_request_tree.specs.Source.{name_of}
+use Rattle.agg_request_tree.specs.Source.{is_from, min_of, name_of}
 use Rattle.agg_request_tree.specs.Source.{or_missing, source_values, start_in, values_at}
+use Rattle.agg_request_tree.specs.Source.{values_from}
 use Rattle.agg_request_tree.proofs.Lists.{AllByRecursion-Has, AllByRecursion-always}
-use Rattle.agg_request_tree.proofs.Lists.{AllByRecursion-flat_map}
+use Rattle.agg_request_tree.proofs.Lists.{AllByRecursion-filter, AllByRecursion-flat_map}
 use Rattle.agg_request_tree.proofs.Lists.{AllByRecursion-map, AllByRecursion-weaker}
 use Rattle.agg_request_tree.proofs.Lists.{Has-from_Contains}
 use Rattle.agg_request_tree.proofs.PairedLists.{zip_weaker}
@@ -119,11 +120,13 @@ source_values-Null : (source : CompositeAggregationSource) (document : Fields)
     → AllByRecursion (IsNullByBucket source) (source_values source document)
 source_values-Null source document others =
     or_missing-Null (missing_bucket_of source) _
-    (keys_in-not_Null source (values_at (field_of source) document)
+    (keys_in-not_Null source (values_from source document)
+    (AllByRecursion-filter (λ k. k ≢ Null) (is_from (min_of source))
+    (values_at (field_of source) document)
     (AllByRecursion-map (λ k. k ≢ Null) canonical_key (document (field_of source))
     (AllByRecursion-weaker (λ k. k ≢ Null) (λ k. canonical_key k ≢ Null) canonical_key-not_Null
     (document (field_of source))
-    (recursion_from_All (λ k. k ≢ Null) (document (field_of source)) others))))
+    (recursion_from_All (λ k. k ≢ Null) (document (field_of source)) others)))))
 
 -- what holds of the keys that each source reads in a document holds place by place of its tuples
 occurrences-zip : (R : CompositeAggregationSource → CompositeIntermediateKey → Type 0)
@@ -222,7 +225,7 @@ occurrence-own sources document tuple occurs =
     AllByRecursion-Has (AllZip IsOfOwnType sources) (occurrences sources document) tuple
     (occurrences-zip IsOfOwnType document
     (λ source. or_missing-own source (missing_bucket_of source) _
-    (keys_in-own source (values_at (field_of source) document))) sources)
+    (keys_in-own source (values_from source document))) sources)
     (Has-from_Contains (occurrences sources document) tuple occurs)
 
 -- where each after value is its key of such a tuple, none is of another type

@@ -10,7 +10,7 @@ use Rattle.agg_values.specs.declared.request_error.RequestError.{RequestError}
 use Rattle.agg_values.specs.declared.request_error.RequestError.TheVariants as error
 use Rattle.agg_values.specs.Nothing.{NoneIs}
 use Rattle.agg_request_tree.specs.Request.{Request, composites_of}
-use Rattle.agg_request_tree.specs.Source.{Sources, after_of, interval_of, missing_bucket_of}
+use Rattle.agg_request_tree.specs.Source.{Sources, after_of, division_of, missing_bucket_of}
 use Rattle.agg_request_tree.specs.Source.{name_of}
 use Rattle.agg_request_tree.specs.declared.aggregation.CompositeAggregation.{CompositeAggregation}
 use Rattle.agg_request_tree.specs.declared.source.CompositeAggregationSource as kind
@@ -47,12 +47,13 @@ IsOfOtherType _ _ = ⊥
 abbrev pub IsOtherAfter : CompositeAggregationSource → Option CompositeIntermediateKey → Type 0
 IsOtherAfter source after = IsSomeAnd after (IsOfOtherType source)
 
--- a source's interval is refused so: a number below one, or the intervals of a date source
+-- a source's interval is refused so: a number below one, or the intervals or the offset of a date
+-- source
 abbrev pub IsIntervalFault : CompositeAggregationSource → RequestError → Type 0
 IsIntervalFault (Terms s) refusal = ⊥
 IsIntervalFault (Histogram s) refusal =
     (refusal ≡ error.Invalid argument.BadInterval) × (s.interval <ℤ pos 1)
-IsIntervalFault (DateHistogram s) refusal = interval_of s ≡ Err refusal
+IsIntervalFault (DateHistogram s) refusal = division_of s ≡ Err refusal
 
 -- a source has what it divides values by, if it divides them
 abbrev pub HasInterval : CompositeAggregationSource → Type 0
@@ -65,7 +66,7 @@ SourceHasFault source after (error.Invalid argument.NullAfter) = IsNullAfter sou
 SourceHasFault source after (error.Invalid argument.AfterType) = IsOtherAfter source after
 SourceHasFault source after refusal = IsIntervalFault source refusal
 
--- such a source has no fault
+-- a source that goes on after an after value, or begins where there is none, has no fault
 abbrev pub IsSoundSource : CompositeAggregationSource → Option CompositeIntermediateKey → Type 0
 IsSoundSource source after = NoneIs (SourceHasFault source after)
 

@@ -14,3 +14,4 @@ pub mod Source
 pub mod SourceColumns
 pub mod Successive
 pub mod Uncut
+pub mod charges

@@ -1,7 +1,7 @@
 -- The documents that a filter matches.
 use Rattle.std.specs.Prelude.{Bool, false, List, Option, filter}
 use Rattle.std.specs.Option.{option_map_or}
-use Rattle.agg_column.specs.Document.{Fields}
+use Rattle.agg_segment.specs.storage.Document.{Fields}
 use Rattle.agg_segment.specs.Query.{matches}
 use Rattle.agg_segment.specs.declared.query.QueryTree.{QueryTree}
 use Rattle.agg_request_tree.specs.declared.aggregation.filter.FilterQuery.{FilterQuery}

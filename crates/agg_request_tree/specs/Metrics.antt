@@ -3,7 +3,7 @@ use Rattle.std.specs.Prelude.{◌+ℤ◌, ℕ, ℤ, pos, List, [], ◌∷◌, Op
 use Rattle.std.specs.List.{flat_map}
 use Rattle.agg_values.specs.TypedKey.{CompositeIntermediateKey}
 use Rattle.agg_values.specs.declared.typed_key.CompositeIntermediateKey.TheVariants as key
-use Rattle.agg_column.specs.Document.{Fields}
+use Rattle.agg_segment.specs.storage.Document.{Fields}
 
 -- the values of a field in all documents
 abbrev pub values_of_field : List ℕ → List Fields → List CompositeIntermediateKey

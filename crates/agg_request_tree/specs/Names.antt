@@ -12,6 +12,6 @@ NamesAscendTo (suc depth) request =
     IsStrictlySortedBy name_cmp (keys_of request)
     × All (λ a. NamesAscendTo depth (below_of a.1)) request
 
--- they ascend at every depth, as those of every request in memory do
+-- the names of a request ascend at every depth, as those of every request in memory do
 abbrev pub NamesAscend : {B : Type 0} → Request B → Type 0
 NamesAscend request = (depth : ℕ) → NamesAscendTo depth request

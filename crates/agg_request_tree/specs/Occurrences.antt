@@ -7,7 +7,7 @@ use Rattle.std.specs.Ordering.{is_lt, is_eq}
 use Rattle.agg_values.specs.declared.after_key.AfterKey.{AfterKey}
 use Rattle.agg_values.specs.KeyOrder.{tuple_order, SourceRules}
 use Rattle.agg_values.specs.Names.{Named}
-use Rattle.agg_column.specs.Document.{Fields}
+use Rattle.agg_segment.specs.storage.Document.{Fields}
 use Rattle.agg_request_tree.specs.Source.{Sources, after_of, rules_of, source_values}
 use Rattle.agg_values.specs.Tuple.{KeyTuple}
 
@@ -28,7 +28,7 @@ bound_of (source ∷ sources) after =
     option_map_or (λ k. k ∷ bound_of sources after) (after_of after source) []
 
 -- whether a tuple lies past a bound: above it in the places that the bound has, or equal there to a
--- bound that lacks a place
+-- bound that lacks a place; ascending, (2, 1) is past the bounds (1, 1) and (2), not past (2, 1)
 abbrev pub is_past : SourceRules → KeyTuple → KeyTuple → Bool
 is_past rules bound tuple =
     let o = tuple_order rules bound (take (length bound) tuple) in

@@ -2,9 +2,9 @@
 use Rattle.std.specs.Prelude.{FitsSigned, ℤ, List, All, Any, IfSome, Option}
 use Rattle.std.specs.Int.{w64}
 use Rattle.agg_values.specs.TypedKey.{CompositeIntermediateKey}
-use Rattle.agg_column.specs.Document.{Fields}
+use Rattle.agg_segment.specs.storage.Document.{Fields}
 use Rattle.agg_request_tree.specs.Request.{Request, composites_of}
-use Rattle.agg_request_tree.specs.Source.{Sources, field_of, start_in, values_at}
+use Rattle.agg_request_tree.specs.Source.{Sources, start_in, values_from}
 use Rattle.agg_request_tree.specs.declared.aggregation.CompositeAggregation.{CompositeAggregation}
 use Rattle.agg_request_tree.specs.declared.source as declared
 use declared.CompositeAggregationSource.{CompositeAggregationSource}
@@ -17,10 +17,10 @@ IsWithin start = IfSome start (λ n. FitsSigned w64 n)
 abbrev pub IsInRange : CompositeAggregationSource → CompositeIntermediateKey → Type 0
 IsInRange source k = IsWithin (start_in source k)
 
--- so do the starts of all values that sources read in a document
+-- the starts of all values that sources read in a document lie within i64
 abbrev pub AreInRange : Sources → Fields → Type 0
 AreInRange sources document =
-    All (λ source. All (IsInRange source) (values_at (field_of source) document)) sources
+    All (λ source. All (IsInRange source) (values_from source document)) sources
 
 -- some start of a bucket of a composite lies outside i64
 abbrev pub HasOwnStartOutOfRange : CompositeAggregation → List Fields → Type 0

@@ -2,8 +2,8 @@
 use Rattle.std.specs.Prelude.{Bool, true, false}
 use Rattle.agg_values.specs.declared.column.ColumnPaginationOrder.{ColumnPaginationOrder}
 use Rattle.agg_values.specs.declared.column.ColumnPaginationOrder.TheVariants as class
-use Rattle.agg_column.specs.Columns.{type_class}
-use Rattle.agg_column.specs.declared.hit.ColumnType.{ColumnType}
+use Rattle.agg_segment.specs.storage.Columns.{type_class}
+use Rattle.agg_segment.specs.declared.storage.hit.ColumnType.{ColumnType}
 use Rattle.agg_request_tree.specs.declared.source.CompositeAggregationSource as kind
 use kind.{CompositeAggregationSource}
 use kind.TheVariants.{Terms, Histogram, DateHistogram}

@@ -2,7 +2,7 @@
 -- change between them.
 use Rattle.std.specs.Prelude.{ℕ, List, [], ◌∷◌, ⊤, map}
 use Rattle.std.specs.List.{flat_map}
-use Rattle.agg_column.specs.Document.{Fields}
+use Rattle.agg_segment.specs.storage.Document.{Fields}
 use Rattle.agg_request_tree.specs.Page.{Entry, IsPage}
 use Rattle.agg_values.specs.Tuple.{KeyTuple}
 use Rattle.agg_request_tree.specs.Source.{Sources}

@@ -1,7 +1,7 @@
 -- What the nodes of a request list: documents, without bound or size.
 use Rattle.std.specs.Prelude.{◌≤◌, ◌^◌, ℕ, List, ◌∷◌, Any, Bool, filter_map, length, map}
 use Rattle.std.specs.List.{flat_map}
-use Rattle.agg_column.specs.Document.{Fields}
+use Rattle.agg_segment.specs.storage.Document.{Fields}
 use Rattle.agg_request_tree.specs.declared.aggregation.Aggregation.{Aggregation}
 use Rattle.agg_request_tree.specs.declared.aggregation.Aggregation.TheOpen.{Aggregation-F}
 use Rattle.agg_request_tree.specs.declared.aggregation.Aggregation.TheFolds.{fold-Aggregation}

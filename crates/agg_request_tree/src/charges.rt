@@ -1,9 +1,7 @@
 //! What requests are charged in memory: the fixed charge of a request in a segment, its roof and
 //! its low roof, and their laws.
-#![tactic(auto)]
-
-mod charges;
-mod laws;
+pub(crate) mod charges;
+pub(crate) mod laws;
 
 pub use charges::{NODE_BYTES, bucket_bytes};
 pub use laws::{

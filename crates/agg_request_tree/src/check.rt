@@ -46,7 +46,7 @@ fn check_aggregations<B: Drop>(
     Ok(())
 }
 
-// The same of an aggregation and those below it.
+// Whether no composite has a fault, in an aggregation and those below it.
 #[cycle(checks)]
 fn check_aggregation<B: Drop>(
     alloc: Global,
@@ -61,7 +61,7 @@ fn check_aggregation<B: Drop>(
     check_aggregations(alloc, &aggregation.sub_aggregation)
 }
 
-// The same of what an aggregation asks by itself.
+// Whether what an aggregation asks by itself has no fault.
 fn check_own<B: Drop>(alloc: Global, agg: &AggregationVariants<B>) -> Result<(), RequestError>
     ensures ok { OnOk result (All IsSound (own_composite agg.now)) }
     ensures err { IfErr result

@@ -18,7 +18,7 @@ pub fn get_fast_field_names(alloc: Global, aggs: &Aggregations) -> Result<NameMa
 }
 
 impl<B> AggregationVariants<B> {
-    /// Its own fields, in order: those of a composite's sources, or a metric's.
+    /// The aggregation's own fields, in order: those of a composite's sources, or a metric's.
     pub fn get_fast_field_names(&self, alloc: Global) -> Result<ItemList<Text>, OutOfMemory>
         ensures { IfOk result (λ fields. fields ≡ own_fields self.now) }
     {

@@ -4,7 +4,7 @@ ghost use Rattle.std.specs.Prelude.{map, take, flat_map, All, AllPairs, Any, Con
 ghost use Rattle.std.specs.Prelude.{IsPermutation};
 ghost use Rattle.std.specs.List.{AllZip};
 ghost use Rattle.std.specs.List.Sorted.{IsStrictlySortedBy};
-ghost use Rattle.agg_column.specs.Document.{Fields};
+ghost use Rattle.agg_segment.specs.storage.Document.{Fields};
 ghost use Rattle.agg_values.specs.KeyOrder.{tuple_order};
 ghost use Rattle.agg_values.specs.Laws.{IsSameness};
 ghost use Rattle.agg_segment.specs.Query.{matches};

@@ -1,10 +1,11 @@
 //! Requests as trees of aggregations: their sources, what these read in documents, the pages that
-//! they ask for, and what they may not ask.
+//! they ask for, what they may not ask, and what they are charged in memory.
 #![tactic(auto)]
 
 mod aggregation;
 mod builder;
 mod by_source;
+pub mod charges;
 mod check;
 mod field_names;
 mod laws;

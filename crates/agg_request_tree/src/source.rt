@@ -1,12 +1,15 @@
 ghost use Rattle.std.specs.Prelude.{◌≡◌, IfOk, option_map};
 ghost use Rattle.agg_request_tree.specs.Source.{field_of, name_of, order_of};
-ghost use Rattle.agg_request_tree.specs.Source.{missing_order_of, missing_bucket_of};
+ghost use Rattle.agg_request_tree.specs.Source.{min_of, missing_order_of, missing_bucket_of};
 ghost use Rattle.agg_request_tree.specs.SourceColumns.{reads_class};
 
 mod after;
 
 use agg_calendar::CalendarInterval;
-use agg_values::{ColumnPaginationOrder, MissingOrder, Order, OutOfMemory, Text};
+use agg_values::{
+    AfterKey, ColumnPaginationOrder, CompositeIntermediateKey, MissingOrder, Order, OutOfMemory,
+    Text,
+};
 use std::alloc::Global;
 
 /// A source whose keys are the values of a field.
@@ -18,6 +21,9 @@ pub struct TermCompositeAggregationSource {
     /// Whether a document without a value has the key Null.
     pub missing_bucket: bool,
     pub missing_order: MissingOrder,
+    /// The least value that is read. Values of classes before its own are less, those of classes
+    /// after it aren't.
+    pub min: Option<AfterKey>,
 }
 
 impl TermCompositeAggregationSource {
@@ -31,6 +37,7 @@ impl TermCompositeAggregationSource {
             order: self.order,
             missing_bucket: self.missing_bucket,
             missing_order: self.missing_order,
+            min: key_copy_of(alloc, self.min.as_ref())?,
         })
     }
 }
@@ -46,6 +53,9 @@ pub struct HistogramCompositeAggregationSource {
     /// Whether a document without a number or date has the key Null.
     pub missing_bucket: bool,
     pub missing_order: MissingOrder,
+    /// The least value that is read. Values of classes before its own are less, those of classes
+    /// after it aren't.
+    pub min: Option<AfterKey>,
 }
 
 impl HistogramCompositeAggregationSource {
@@ -63,6 +73,7 @@ impl HistogramCompositeAggregationSource {
             order: self.order,
             missing_bucket: self.missing_bucket,
             missing_order: self.missing_order,
+            min: key_copy_of(alloc, self.min.as_ref())?,
         })
     }
 }
@@ -76,10 +87,15 @@ pub struct DateHistogramCompositeAggregationSource {
     /// The text of a number of days, hours, minutes, seconds or milliseconds.
     pub fixed_interval: Option<Text>,
     pub calendar_interval: Option<CalendarInterval>,
+    /// The text of a time with a sign or none, by which each bucket begins later.
+    pub offset: Option<Text>,
     pub order: Order,
     /// Whether a document without a date has the key Null.
     pub missing_bucket: bool,
     pub missing_order: MissingOrder,
+    /// The least value that is read. Values of classes before its own are less, those of classes
+    /// after it aren't.
+    pub min: Option<AfterKey>,
 }
 
 impl DateHistogramCompositeAggregationSource {
@@ -95,20 +111,42 @@ impl DateHistogramCompositeAggregationSource {
             field: self.field.try_clone(alloc)?,
             fixed_interval: copy_of(alloc, self.fixed_interval.as_ref())?,
             calendar_interval: self.calendar_interval,
+            offset: copy_of(alloc, self.offset.as_ref())?,
             order: self.order,
             missing_bucket: self.missing_bucket,
             missing_order: self.missing_order,
+            min: key_copy_of(alloc, self.min.as_ref())?,
         })
     }
 }
 
-// The same text, where there is one.
+// An equal text, where there is one.
 fn copy_of(alloc: Global, text: Option<&Text>) -> Result<Option<Text>, OutOfMemory>
     ensures { IfOk result (λ copy. copy ≡ option_map (λ t. t.now) text.entry) }
 {
     match text {
         Some(text) => Ok(Some(text.try_clone(alloc)?)),
         None => Ok(None),
+    }
+}
+
+// An equal key, where there is one.
+fn key_copy_of(alloc: Global, key: Option<&AfterKey>) -> Result<Option<AfterKey>, OutOfMemory>
+    ensures { IfOk result (λ copy. copy ≡ option_map (λ k. k.now) key.entry) }
+{
+    match key {
+        Some(AfterKey(key)) => Ok(Some(AfterKey(key.try_clone(alloc)?))),
+        None => Ok(None),
+    }
+}
+
+// The key that a text of a request stands for, where there is one.
+fn key_of(key: &Option<AfterKey>) -> Option<&CompositeIntermediateKey>
+    ensures { option_map (λ k. k.now) result ≡ option_map (λ k. k.0) key.now }
+{
+    match key {
+        Some(AfterKey(key)) => Some(key),
+        None => None,
     }
 }
 
@@ -190,6 +228,17 @@ impl CompositeAggregationSource {
             CompositeAggregationSource::Terms(terms) => terms.missing_bucket,
             CompositeAggregationSource::Histogram(histogram) => histogram.missing_bucket,
             CompositeAggregationSource::DateHistogram(dates) => dates.missing_bucket,
+        }
+    }
+
+    /// The least value that is read, if there is one.
+    pub fn min(&self) -> Option<&CompositeIntermediateKey>
+        ensures { option_map (λ k. k.now) result ≡ min_of self.now }
+    {
+        match self {
+            CompositeAggregationSource::Terms(terms) => key_of(&terms.min),
+            CompositeAggregationSource::Histogram(histogram) => key_of(&histogram.min),
+            CompositeAggregationSource::DateHistogram(dates) => key_of(&dates.min),
         }
     }
 

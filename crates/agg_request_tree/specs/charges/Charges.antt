@@ -10,7 +10,7 @@ use Rattle.agg_request_tree.specs.declared.aggregation.CompositeAggregation.{Com
 abbrev pub node_bytes : ℕ
 node_bytes = 256
 
--- so does each source of a composite
+-- each source of a composite takes 256 bytes
 abbrev pub source_bytes : ℕ
 source_bytes = 256
 

@@ -1,6 +1,6 @@
 -- What the laws of roofs speak of.
 use Rattle.std.specs.Prelude.{List}
-use Rattle.agg_column.specs.Document.{Fields}
+use Rattle.agg_segment.specs.storage.Document.{Fields}
 use Rattle.agg_request_tree.specs.Groups.{Group, Groups}
 use Rattle.agg_request_tree.specs.Occurrences.{bound_of, past_occurrences}
 use Rattle.agg_request_tree.specs.Source.{rules_of}

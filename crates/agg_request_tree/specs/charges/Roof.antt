@@ -4,7 +4,7 @@ use Rattle.std.specs.Prelude.{if◌then◌else◌, min, nat_le, not}
 use Rattle.std.specs.List.{list_all, list_any, sum_by}
 use Rattle.agg_values.specs.Names.{Named}
 use Rattle.agg_values.specs.Tuple.{KeyTuple}
-use Rattle.agg_column.specs.Document.{Fields}
+use Rattle.agg_segment.specs.storage.Document.{Fields}
 use Rattle.agg_request_tree.specs.Matching.{matching}
 use Rattle.agg_request_tree.specs.Occurrences.{bound_of, past_occurrences, same_tuple}
 use Rattle.agg_request_tree.specs.Page.{documents_with}
@@ -18,8 +18,8 @@ use Rattle.agg_request_tree.specs.declared.aggregation.AggregationVariants as va
 use variants.{AggregationVariants}
 use variants.TheVariants.{Filter, Composite}
 use Rattle.agg_request_tree.specs.declared.aggregation.CompositeAggregation.{CompositeAggregation}
-use Rattle.agg_charges.specs.Charges.{bucket_bytes, fixed_charge}
-use Rattle.agg_charges.specs.Distinct.{distinct}
+use Rattle.agg_request_tree.specs.charges.Charges.{bucket_bytes, fixed_charge}
+use Rattle.agg_request_tree.specs.charges.Distinct.{distinct}
 
 -- ---- a composite
 
@@ -56,7 +56,7 @@ pub record Counts : Type 0 where
   pub uncut_bytes : List Fields → ℕ
   -- the bytes of the buckets that are counted
   pub bytes : List Fields → ℕ
-  -- those of them that aren't counted as places of uncut lists
+  -- the bytes of the counted buckets that aren't counted as places of uncut lists
   pub low_bytes : List Fields → ℕ
   -- whether each composite that has a composite below it has room for its tuples
   pub is_settled : List Fields → Bool
@@ -137,7 +137,9 @@ module _ {B : Type 0} (is_match : B → Fields → Bool) where
   roof request documents matches =
       fixed_charge request documents + (counts_of request).bytes matches
 
-  -- the low roof: where a composite has no room for its tuples, nothing below it is counted
+  -- the low roof: where a composite has no room for its tuples, nothing below it is counted; so for
+  -- terms of `b` with size 1, and of `a` below, over documents with 1 in `a` and 1, 2 and 3 in `b`,
+  -- it is 1024 + 96 bytes, the fixed charge and one bucket, and the roof 3 * 96 more
   abbrev pub low_roof : Request B → ℕ → List Fields → ℕ
   low_roof request documents matches =
       fixed_charge request documents + (counts_of request).low_bytes matches

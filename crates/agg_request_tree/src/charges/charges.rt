@@ -1,9 +1,9 @@
 //! What is charged for a bucket and for a node.
 ghost use Rattle.std.specs.Prelude.{◌≡◌, ◌≤◌, length};
 ghost use Rattle.agg_request_tree.specs.Faults.{max_sources};
-ghost use Rattle.agg_charges.specs.Charges as spec;
+ghost use Rattle.agg_request_tree.specs.charges.Charges as spec;
 
-use agg_request_tree::CompositeAggregation;
+use crate::CompositeAggregation;
 
 /// The bytes that a node, which is an aggregation at any depth, is charged.
 pub const NODE_BYTES: u64 = 256;

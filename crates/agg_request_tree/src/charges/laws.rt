@@ -1,15 +1,16 @@
 //! What holds of roofs, as their definition says it.
 ghost use Rattle.std.specs.Prelude.{◌≡◌, ◌≤◌, Bool, ℕ, List, ◌++◌, IsPermutation, length};
 ghost use Rattle.std.specs.List.{sum_by};
-ghost use Rattle.agg_column.specs.Document.{Fields};
+ghost use Rattle.agg_segment.specs.storage.Document.{Fields};
 ghost use Rattle.agg_request_tree.specs.Groups.{Group};
 ghost use Rattle.agg_request_tree.specs.Page.{documents_with};
 ghost use Rattle.agg_request_tree.specs.Request.{Request};
 ghost use Rattle.agg_request_tree.specs.declared.aggregation.CompositeAggregation as declared;
-ghost use Rattle.agg_charges.specs.Charges.{fixed_charge};
-ghost use Rattle.agg_charges.specs.Laws.{AreGroupsOf};
-ghost use Rattle.agg_charges.specs.Roof.{IsSettled, low_roof, over_tuples, past_tuples, roof};
-ghost use Rattle.agg_charges.specs.Within.{Within};
+ghost use Rattle.agg_request_tree.specs.charges.Charges.{fixed_charge};
+ghost use Rattle.agg_request_tree.specs.charges.Laws.{AreGroupsOf};
+ghost use Rattle.agg_request_tree.specs.charges.Roof.{IsSettled, low_roof, over_tuples};
+ghost use Rattle.agg_request_tree.specs.charges.Roof.{past_tuples, roof};
+ghost use Rattle.agg_request_tree.specs.charges.Within.{Within};
 
 /// The low roof of a request is at least its fixed charge and at most its roof. Where the request
 /// is settled, the two roofs are the same.

@@ -1,10 +1,10 @@
 //! What the interval of a source may not be.
 ghost use Rattle.std.specs.Prelude.{All, Any, IfErr, IsOk, OnOk};
 ghost use Rattle.agg_request_tree.specs.Faults.{HasInterval, IsIntervalCause};
-ghost use Rattle.agg_request_tree.specs.Source.{interval_of};
+ghost use Rattle.agg_request_tree.specs.Source.{division_of};
 
 use crate::{CompositeAggregationSource, DateHistogramCompositeAggregationSource};
-use agg_calendar::PrecomputedDateInterval;
+use agg_calendar::date_division;
 use agg_values::{InvalidArgument, RequestError};
 use std::alloc::Global;
 
@@ -24,7 +24,7 @@ pub fn check_intervals(
     Ok(())
 }
 
-// The same of one source.
+// Whether a source has what it divides values by.
 fn check_interval(alloc: Global, source: &CompositeAggregationSource) -> Result<(), RequestError>
     ensures ok { OnOk result (HasInterval source.now) }
     ensures err { IfErr result (IsIntervalCause source.now) }
@@ -41,19 +41,20 @@ fn check_interval(alloc: Global, source: &CompositeAggregationSource) -> Result<
     }
 }
 
-// The same of a source of dates.
+// Whether a source of dates has an interval that may be asked, with its offset.
 fn check_dates(
     alloc: Global,
     source: &DateHistogramCompositeAggregationSource,
 ) -> Result<(), RequestError>
-    ensures ok { OnOk result (IsOk (interval_of source.now)) }
+    ensures ok { OnOk result (IsOk (division_of source.now)) }
     ensures err { IfErr result
         (IsIntervalCause (CompositeAggregationSource.DateHistogram source.now)) }
 {
-    PrecomputedDateInterval::from_date_histogram_source_intervals(
+    date_division(
         alloc,
         source.fixed_interval.as_ref(),
         source.calendar_interval,
+        source.offset.as_ref(),
     )?;
     Ok(())
 }

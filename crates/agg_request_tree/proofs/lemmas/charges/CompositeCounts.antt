@@ -5,22 +5,25 @@ use Rattle.std.specs.Prelude.{if◌then◌else◌}
 use Rattle.std.specs.List.{list_all, sum_by}
 use Rattle.std.proofs.lemmas.List.Sums.{sum_by-cons}
 use Rattle.agg_values.specs.Tuple.{KeyTuple}
-use Rattle.agg_column.specs.Document.{Fields}
+use Rattle.agg_segment.specs.storage.Document.{Fields}
 use Rattle.agg_request_tree.specs.Occurrences.{occurrences}
 use Rattle.agg_request_tree.specs.Page.{documents_with}
 use Rattle.agg_request_tree.specs.Uncut.{counted}
 use Rattle.agg_request_tree.specs.declared.aggregation.CompositeAggregation.{CompositeAggregation}
-use Rattle.agg_charges.specs.Charges.{bucket_bytes}
-use Rattle.agg_charges.specs.Roof.{Counts, composite_counts, has_room, over_tuples, own_bytes}
-use Rattle.agg_charges.specs.Roof.{past_tuples}
-use Rattle.agg_charges.specs.Within.{Within}
-use Rattle.agg_charges.proofs.CompositeTuples.{all_tuples-within, counted-within, each_tuple-most}
-use Rattle.agg_charges.proofs.CompositeTuples.{over_tuples-within, own-most, own-within}
-use Rattle.agg_charges.proofs.CompositeTuples.{room-within, those-within}
-use Rattle.agg_charges.proofs.Lawful.{Lawful, bare-bytes, bare-low_bytes}
-use Rattle.agg_charges.proofs.Sums.{sum_by-at_most, sum_by-both, sum_by-constant, sum_by-flat_map}
-use Rattle.agg_charges.proofs.Sums.{sum_by-same}
-use Rattle.agg_charges.proofs.Tests.{both}
+use Rattle.agg_request_tree.specs.charges.Charges.{bucket_bytes}
+use Rattle.agg_request_tree.specs.charges.Roof.{Counts, composite_counts, has_room, over_tuples}
+use Rattle.agg_request_tree.specs.charges.Roof.{own_bytes, past_tuples}
+use Rattle.agg_request_tree.specs.charges.Within.{Within}
+use Rattle.agg_request_tree.proofs.lemmas.charges.CompositeTuples.{all_tuples-within}
+use Rattle.agg_request_tree.proofs.lemmas.charges.CompositeTuples.{counted-within, each_tuple-most}
+use Rattle.agg_request_tree.proofs.lemmas.charges.CompositeTuples.{over_tuples-within, own-most}
+use Rattle.agg_request_tree.proofs.lemmas.charges.CompositeTuples.{own-within, room-within}
+use Rattle.agg_request_tree.proofs.lemmas.charges.CompositeTuples.{those-within}
+use Rattle.agg_request_tree.proofs.lemmas.charges.Lawful.{Lawful, bare-bytes, bare-low_bytes}
+use Rattle.agg_request_tree.proofs.lemmas.charges.Sums.{sum_by-at_most, sum_by-both}
+use Rattle.agg_request_tree.proofs.lemmas.charges.Sums.{sum_by-constant, sum_by-flat_map}
+use Rattle.agg_request_tree.proofs.lemmas.charges.Sums.{sum_by-same}
+use Rattle.agg_request_tree.proofs.lemmas.charges.Tests.{both}
 
 -- sums of terms that are equal where a test passes, which all pass
 sum_by-passing : {X : Type 0} (f g : X → ℕ) (test : X → Bool) (xs : List X)

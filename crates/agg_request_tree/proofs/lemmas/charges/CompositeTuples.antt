@@ -12,22 +12,24 @@ use Rattle.std.proofs.lemmas.Map.Keys.{IsDistinct-from_sorted}
 use Rattle.agg_values.specs.KeyOrder.{tuple_order}
 use Rattle.agg_values.specs.Tuple.{KeyTuple}
 use Rattle.agg_values.proofs.TupleOrder.{tuple_order-total}
-use Rattle.agg_column.specs.Document.{Fields}
+use Rattle.agg_segment.specs.storage.Document.{Fields}
 use Rattle.agg_request_tree.specs.Groups.{Group}
 use Rattle.agg_request_tree.specs.Occurrences.{bound_of, is_past, occurrences, same_tuple}
 use Rattle.agg_request_tree.specs.Page.{documents_with}
 use Rattle.agg_request_tree.specs.Source.{rules_of}
 use Rattle.agg_request_tree.specs.Uncut.{counted}
 use Rattle.agg_request_tree.specs.declared.aggregation.CompositeAggregation.{CompositeAggregation}
-use Rattle.agg_charges.specs.Charges.{bucket_bytes}
-use Rattle.agg_charges.specs.Laws.{AreGroupsOf}
-use Rattle.agg_charges.specs.Roof.{has_room, over_tuples, own_bytes, past_tuples}
-use Rattle.agg_charges.specs.Within.{Within}
-use Rattle.agg_charges.proofs.Distinct.{Alike, Apart-distinct}
-use Rattle.agg_charges.proofs.KeySums.{Within-with_each, Within-with_key, length-keys_of}
-use Rattle.agg_charges.proofs.KeySums.{length-keys_within, list_all-keys_within, sum_by-each_key}
-use Rattle.agg_charges.proofs.KeySums.{sum_by-keys_within, sum_by-other_keys, with_key-alike}
-use Rattle.agg_charges.proofs.Sums.{sum_by-constant, sum_by-map}
+use Rattle.agg_request_tree.specs.charges.Charges.{bucket_bytes}
+use Rattle.agg_request_tree.specs.charges.Laws.{AreGroupsOf}
+use Rattle.agg_request_tree.specs.charges.Roof.{has_room, over_tuples, own_bytes, past_tuples}
+use Rattle.agg_request_tree.specs.charges.Within.{Within}
+use Rattle.agg_request_tree.proofs.lemmas.charges.Distinct.{Alike, Apart-distinct}
+use Rattle.agg_request_tree.proofs.lemmas.charges.KeySums.{Within-with_each, Within-with_key}
+use Rattle.agg_request_tree.proofs.lemmas.charges.KeySums.{length-keys_of, length-keys_within}
+use Rattle.agg_request_tree.proofs.lemmas.charges.KeySums.{list_all-keys_within, sum_by-each_key}
+use Rattle.agg_request_tree.proofs.lemmas.charges.KeySums.{sum_by-keys_within, sum_by-other_keys}
+use Rattle.agg_request_tree.proofs.lemmas.charges.KeySums.{with_key-alike}
+use Rattle.agg_request_tree.proofs.lemmas.charges.Sums.{sum_by-constant, sum_by-map}
 
 -- the smaller of a size and a number doesn't fall where the number rises
 min-rises : (size m n : ℕ) → m ≤ n → min size m ≤ min size n

@@ -1,6 +1,6 @@
 -- What aggregations are charged and count, one level open.
 use Rattle.std.proofs.Common.{◌≡◌, Bool, List, ◌++◌, ◌∙◌}
-use Rattle.agg_column.specs.Document.{Fields}
+use Rattle.agg_segment.specs.storage.Document.{Fields}
 use Rattle.agg_request_tree.specs.Request.{Request, agg_of, aggregation_of, below_of, listed_in}
 use Rattle.agg_request_tree.specs.Request.{listed_of}
 use Rattle.agg_request_tree.specs.declared.aggregation.Aggregation.{Aggregation}
@@ -8,7 +8,7 @@ use Rattle.agg_request_tree.specs.declared.aggregation.Aggregation.TheFolds as f
 use folds.{fold_out-Aggregation}
 use Rattle.agg_request_tree.specs.declared.aggregation.AggregationVariants.{AggregationVariants}
 use Rattle.agg_request_tree.proofs.RequestTrees.{agg-made, below-made, listed-out}
-use Rattle.agg_charges.specs.Roof.{Counts, counts, counts_by, counts_of, counts_step}
+use Rattle.agg_request_tree.specs.charges.Roof.{Counts, counts, counts_by, counts_of, counts_step}
 
 -- what an aggregation of these parts lists
 pub listed-made : {B X : Type 0} (own : AggregationVariants B → List X)
@@ -24,7 +24,7 @@ module _ {B : Type 0} (is_match : B → Fields → Bool) where
       → counts is_match a ≡ counts_by is_match (agg_of a) (counts_of is_match (below_of a))
   counts-out a = fold_out-Aggregation B Counts (counts_step is_match) a
 
-  -- and what one of these parts counts
+  -- what an aggregation of these parts counts
   pub counts-made : (agg : AggregationVariants B) (below : Request B)
       → counts is_match (aggregation_of agg below)
       ≡ counts_by is_match agg (counts_of is_match below)

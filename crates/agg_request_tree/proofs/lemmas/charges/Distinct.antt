@@ -9,10 +9,11 @@ use Rattle.std.proofs.lemmas.List.Folds.{list_any_at}
 use Rattle.std.proofs.lemmas.Map.Keys.{IsDistinct-head, IsDistinct-tail}
 use Rattle.std.proofs.lemmas.Bool.{cond_both}
 use Rattle.std.proofs.lemmas.List.Sums.{sum_by-cons}
-use Rattle.agg_charges.specs.Distinct.{distinct}
-use Rattle.agg_charges.proofs.Tests.{absorbed, added, both, by_answer, clash, known, not_true}
-use Rattle.agg_charges.proofs.Tests.{neither, second, weaker}
-use Rattle.agg_charges.proofs.Sums.{sum_by-at_most, sum_by-constant, sum_by-swap}
+use Rattle.agg_request_tree.specs.charges.Distinct.{distinct}
+use Rattle.agg_request_tree.proofs.lemmas.charges.Tests.{absorbed, added, both, by_answer, clash}
+use Rattle.agg_request_tree.proofs.lemmas.charges.Tests.{known, not_true, neither, second, weaker}
+use Rattle.agg_request_tree.proofs.lemmas.charges.Sums.{sum_by-at_most, sum_by-constant}
+use Rattle.agg_request_tree.proofs.lemmas.charges.Sums.{sum_by-swap}
 
 module _ {X : Type 0} (same : X → X → Bool) (laws : IsEquivalence same) where
   -- no element is the same as a later one
@@ -47,7 +48,7 @@ module _ {X : Type 0} (same : X → X → Bool) (laws : IsEquivalence same) wher
       ∙ absorbed (same x y) (list_any (same x) ys) (λ is. any-same x y ys is ∙ later))
       (λ none. ap (λ t. same x y || t) (any-distinct x ys))
 
-  -- and only one
+  -- of each element there is only one
   pub distinct-apart : (xs : List X) → Apart (distinct same xs)
   distinct-apart [] = tt
   distinct-apart (x ∷ xs) =

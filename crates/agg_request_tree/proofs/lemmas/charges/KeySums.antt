@@ -7,15 +7,18 @@ use Rattle.std.specs.List.{list_any, sum_by}
 use Rattle.std.proofs.lemmas.List.Elements.{recursion_from_All}
 use Rattle.std.proofs.Math.Nat.{mul-le-mul_right}
 use Rattle.std.proofs.lemmas.List.Folds.{sum_by-replicate}
-use Rattle.agg_charges.specs.Distinct.{distinct}
-use Rattle.agg_charges.specs.Within.{Within}
-use Rattle.agg_charges.proofs.Distinct.{any-counted, any-distinct, count_by-some, distinct-apart}
-use Rattle.agg_charges.proofs.Distinct.{Alike, Apart, any-contained, any-held, list_all-each}
-use Rattle.agg_charges.proofs.Distinct.{passes-any, sum_by-apart, sum_by-exchanged, sum_by-places}
-use Rattle.agg_charges.proofs.Sums.{sum_by-at_most, sum_by-constant, sum_by-copies, sum_by-flat_map}
-use Rattle.agg_charges.proofs.Sums.{sum_by-same, sum_by-swap, sum_by-times}
-use Rattle.agg_charges.proofs.WithinLists.{Within-filter, Within-flat_map, Within-length}
-use Rattle.agg_charges.proofs.WithinLists.{Within-passing}
+use Rattle.agg_request_tree.specs.charges.Distinct.{distinct}
+use Rattle.agg_request_tree.specs.charges.Within.{Within}
+use Rattle.agg_request_tree.proofs.lemmas.charges.Distinct.{any-counted, any-distinct}
+use Rattle.agg_request_tree.proofs.lemmas.charges.Distinct.{count_by-some, distinct-apart, Alike}
+use Rattle.agg_request_tree.proofs.lemmas.charges.Distinct.{Apart, any-contained, any-held}
+use Rattle.agg_request_tree.proofs.lemmas.charges.Distinct.{list_all-each, passes-any, sum_by-apart}
+use Rattle.agg_request_tree.proofs.lemmas.charges.Distinct.{sum_by-exchanged, sum_by-places}
+use Rattle.agg_request_tree.proofs.lemmas.charges.Sums.{sum_by-at_most, sum_by-constant}
+use Rattle.agg_request_tree.proofs.lemmas.charges.Sums.{sum_by-copies, sum_by-flat_map, sum_by-same}
+use Rattle.agg_request_tree.proofs.lemmas.charges.Sums.{sum_by-swap, sum_by-times}
+use Rattle.agg_request_tree.proofs.lemmas.charges.WithinLists.{Within-filter, Within-flat_map}
+use Rattle.agg_request_tree.proofs.lemmas.charges.WithinLists.{Within-length, Within-passing}
 
 -- the elements have keys, of which a test says which are the same, and some keys pass
 module _ {X K : Type 0} (same : K → K → Bool) (laws : IsEquivalence same) (keys : X → List K)
@@ -148,7 +151,7 @@ module _ {X K : Type 0} (same : K → K → Bool) (laws : IsEquivalence same) (k
         ∙ any-counted same laws k (passing ys)
         (omega (arith, places, Within-passing_keys.lighter (λ l. cond (same k l) 1 0)))
 
-    -- so it has at most as many
+    -- a list has at most as many keys as one that it is within
     pub length-keys_within : length (keys_of xs) ≤ length (keys_of ys)
     length-keys_within = omega (
       arith,
@@ -158,7 +161,7 @@ module _ {X K : Type 0} (same : K → K → Bool) (laws : IsEquivalence same) (k
       sum_by-constant 1 (keys_of ys),
     )
 
-    -- and what is at most as much for each key is so over all keys
+    -- what is at most as much for each key is at most as much over all keys
     pub sum_by-keys_within : (g : List X → ℕ)
         → ((k : K) → g (with_key xs k) ≤ g (with_key ys k))
         → sum_by (λ k. g (with_key xs k)) (keys_of xs)

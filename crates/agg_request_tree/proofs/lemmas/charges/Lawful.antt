@@ -4,11 +4,11 @@ use Rattle.std.proofs.Common.{refl, sym, arith}
 use Rattle.std.specs.List.{AllByRecursion, sum_by}
 use Rattle.std.proofs.lemmas.List.Sums.{sum_by-cons}
 use Rattle.agg_values.specs.Names.{Named}
-use Rattle.agg_column.specs.Document.{Fields}
-use Rattle.agg_charges.specs.Roof.{Counts, nothing, together}
-use Rattle.agg_charges.specs.Within.{Within}
-use Rattle.agg_charges.proofs.Tests.{both, neither}
-use Rattle.agg_charges.proofs.Sums.{sum_by-both, sum_by-none}
+use Rattle.agg_segment.specs.storage.Document.{Fields}
+use Rattle.agg_request_tree.specs.charges.Roof.{Counts, nothing, together}
+use Rattle.agg_request_tree.specs.charges.Within.{Within}
+use Rattle.agg_request_tree.proofs.lemmas.charges.Tests.{both, neither}
+use Rattle.agg_request_tree.proofs.lemmas.charges.Sums.{sum_by-both, sum_by-none}
 
 -- what aggregations count keeps to the laws
 pub record Lawful (c : Counts) : Type 0 where
@@ -58,7 +58,7 @@ Lawful-nothing = record {
   low_same = λ documents others inside back. refl;
 }
 
--- so do several aggregations together, each of which does
+-- several aggregations together keep to the laws, where each of them does
 pub Lawful-together : (each : Named Counts)
     → AllByRecursion (λ (c : List ℕ × Counts). Lawful c.1) each → Lawful (together each)
 Lawful-together [] lawful = Lawful-nothing

@@ -2,7 +2,7 @@
 use Rattle.std.proofs.Common.{ℕ, Bool, List, [], ◌∷◌, cond, map, sym, ◌∙◌, subst}
 use Rattle.std.specs.List.{AllByRecursion}
 use Rattle.agg_values.specs.Names.{Named}
-use Rattle.agg_column.specs.Document.{Fields}
+use Rattle.agg_segment.specs.storage.Document.{Fields}
 use Rattle.agg_request_tree.specs.Matching.{filter_matches, matching}
 use Rattle.agg_request_tree.specs.Request.{Request}
 use Rattle.agg_request_tree.specs.declared.aggregation.Aggregation.{Aggregation}
@@ -11,11 +11,12 @@ use folds.{fold-roll-Aggregation, ind-Aggregation, map-Aggregation}
 use Rattle.agg_request_tree.specs.declared.aggregation.AggregationVariants as variants
 use variants.{AggregationVariants}
 use variants.TheVariants.{Filter, Composite, Count, Max, Min, Sum}
-use Rattle.agg_charges.specs.Roof.{Counts, counts, counts_by, counts_of, counts_step, together}
-use Rattle.agg_charges.proofs.CompositeCounts.{Lawful-composite}
-use Rattle.agg_charges.proofs.Lawful.{Lawful, Lawful-nothing, Lawful-together}
-use Rattle.agg_charges.proofs.Sums.{sum_by-filter}
-use Rattle.agg_charges.proofs.WithinLists.{Within-filter}
+use Rattle.agg_request_tree.specs.charges.Roof.{Counts, counts, counts_by, counts_of, counts_step}
+use Rattle.agg_request_tree.specs.charges.Roof.{together}
+use Rattle.agg_request_tree.proofs.lemmas.charges.CompositeCounts.{Lawful-composite}
+use Rattle.agg_request_tree.proofs.lemmas.charges.Lawful.{Lawful, Lawful-nothing, Lawful-together}
+use Rattle.agg_request_tree.proofs.lemmas.charges.Sums.{sum_by-filter}
+use Rattle.agg_request_tree.proofs.lemmas.charges.WithinLists.{Within-filter}
 
 module _ {B : Type 0} (is_match : B → Fields → Bool) where
   -- what each kind counts

@@ -2,13 +2,13 @@
 use Rattle.std.proofs.Common.{◌≡◌, ◌≤◌, ◌+◌, ℕ, Bool, List, ◌++◌, ap, arith}
 use Rattle.std.specs.List.Sorted.{IsPermutation}
 use Rattle.std.proofs.lemmas.List.Sorted.{IsPermutation-sym}
-use Rattle.agg_column.specs.Document.{Fields}
+use Rattle.agg_segment.specs.storage.Document.{Fields}
 use Rattle.agg_request_tree.specs.Request.{Request}
-use Rattle.agg_charges.specs.Charges.{fixed_charge}
-use Rattle.agg_charges.specs.Roof.{IsSettled, low_roof, roof}
-use Rattle.agg_charges.specs.Within.{Within}
-use Rattle.agg_charges.proofs.LawfulRequests.{Lawful-request}
-use Rattle.agg_charges.proofs.WithinLists.{Within-more, Within-permutation}
+use Rattle.agg_request_tree.specs.charges.Charges.{fixed_charge}
+use Rattle.agg_request_tree.specs.charges.Roof.{IsSettled, low_roof, roof}
+use Rattle.agg_request_tree.specs.charges.Within.{Within}
+use Rattle.agg_request_tree.proofs.lemmas.charges.LawfulRequests.{Lawful-request}
+use Rattle.agg_request_tree.proofs.lemmas.charges.WithinLists.{Within-more, Within-permutation}
 
 module _ {B : Type 0} (is_match : B → Fields → Bool) (request : Request B) (documents : ℕ) where
   -- a low roof is at least the fixed charge
@@ -16,12 +16,12 @@ module _ {B : Type 0} (is_match : B → Fields → Bool) (request : Request B) (
       → fixed_charge request documents ≤ low_roof is_match request documents matches
   low-fixed matches = omega arith
 
-  -- and at most the roof
+  -- a low roof is at most the roof
   pub low-at_most : (matches : List Fields)
       → low_roof is_match request documents matches ≤ roof is_match request documents matches
   low-at_most matches = omega (arith, (Lawful-request is_match request).lower matches)
 
-  -- the same where the request is settled
+  -- a low roof is the roof where the request is settled
   pub low-settled : (matches : List Fields) → IsSettled is_match request matches
       → low_roof is_match request documents matches ≡ roof is_match request documents matches
   low-settled matches settled =
@@ -34,7 +34,7 @@ module _ {B : Type 0} (is_match : B → Fields → Bool) (request : Request B) (
   roof-within matches others inside =
       omega (arith, (Lawful-request is_match request).rises matches others inside)
 
-  -- nor where documents are added
+  -- a roof doesn't fall where documents are added
   pub roof-more : (matches others : List Fields)
       → roof is_match request documents matches
       ≤ roof is_match request documents (matches ++ others)
@@ -51,7 +51,7 @@ module _ {B : Type 0} (is_match : B → Fields → Bool) (request : Request B) (
         (Within-permutation others matches (IsPermutation-sym matches others moved)),
   )
 
-  -- so is a low roof
+  -- the low roof is the same for any order of the documents
   pub low-any_order : (matches others : List Fields) → IsPermutation matches others
       → low_roof is_match request documents matches
       ≡ low_roof is_match request documents others

@@ -4,21 +4,22 @@ use Rattle.std.specs.List.{filter, flat_map, sum_by}
 use Rattle.std.specs.List.Sorted.{IsPermutation}
 use Rattle.std.proofs.lemmas.List.Sums.{sum_by-append}
 use Rattle.std.proofs.lemmas.List.Sorted.{sum_by-IsPermutation}
-use Rattle.agg_charges.specs.Within.{Within}
-use Rattle.agg_charges.proofs.Sums.{sum_by-at_most, sum_by-constant, sum_by-filter, sum_by-flat_map}
+use Rattle.agg_request_tree.specs.charges.Within.{Within}
+use Rattle.agg_request_tree.proofs.lemmas.charges.Sums.{sum_by-at_most, sum_by-constant}
+use Rattle.agg_request_tree.proofs.lemmas.charges.Sums.{sum_by-filter, sum_by-flat_map}
 
 module _ {X : Type 0} (xs ys : List X) where
-  -- a list is within it with more after
+  -- a list is within itself with more after
   pub Within-more : Within xs (xs ++ ys)
   Within-more = record { lighter = λ f. omega (arith, sum_by-append f xs ys) }
 
-  -- and within it in another order
+  -- a list is within itself in another order
   pub Within-permutation : IsPermutation xs ys → Within xs ys
   Within-permutation moved =
       record { lighter = λ f. omega (arith, sum_by-IsPermutation f xs ys moved) }
 
   module _ (inside : Within xs ys) where
-    -- it is no longer
+    -- a list is no longer than one that it is within
     pub Within-length : length xs ≤ length ys
     Within-length =
         omega (arith, sum_by-constant 1 xs, sum_by-constant 1 ys, inside.lighter (λ x. 1))
@@ -35,7 +36,7 @@ module _ {X : Type 0} (xs ys : List X) where
       );
     }
 
-    -- and what passes a test within what passes of the other
+    -- what passes a test is within what passes of the other list
     pub Within-filter : (passes : X → Bool) → Within (filter passes xs) (filter passes ys)
     Within-filter passes = record {
       lighter = λ f. omega (

@@ -1,12 +1,13 @@
 -- The worked cases of the definitions: a composite, by itself and below another, a metric and a
 -- filter.
-use Rattle.std.proofs.Common.{◌≡◌, ℕ, ℤ, pos, Bool, true, false, List, [], ◌∷◌, ◌++◌, ◌+◌, ap, ◌∙◌}
+use Rattle.std.proofs.Common.{◌≡◌, ℕ, ℤ, pos, Bool, true, false, List, [], ◌∷◌, ◌++◌, ◌+◌, None}
+use Rattle.std.proofs.Common.{ap, ◌∙◌}
 use Rattle.std.specs.Prelude.{if◌then◌else◌, sum}
 use Rattle.std.specs.Str.{bytes_eq}
 use Rattle.agg_values.specs.declared.order.Order.TheVariants.{Asc}
 use Rattle.agg_values.specs.declared.order.MissingOrder.TheVariants as nulls
 use Rattle.agg_values.specs.declared.typed_key.CompositeIntermediateKey.TheVariants.{I64}
-use Rattle.agg_column.specs.Document.{Fields}
+use Rattle.agg_segment.specs.storage.Document.{Fields}
 use Rattle.agg_request_tree.specs.Request.{Request, aggregation_of}
 use Rattle.agg_request_tree.specs.declared.aggregation.AggregationVariants as variants
 use variants.{AggregationVariants}
@@ -16,10 +17,10 @@ use by.{CustomBuilder}
 use Rattle.agg_request_tree.specs.declared.source.CompositeAggregationSource as kind
 use kind.{CompositeAggregationSource}
 use kind.TheVariants.{Terms}
-use Rattle.agg_charges.specs.Charges.{fixed_charge, node_charge}
-use Rattle.agg_charges.specs.Roof.{IsSettled, counts_by, counts_of, low_roof, roof}
-use Rattle.agg_charges.specs.Roof.{together}
-use Rattle.agg_charges.proofs.CountsOut.{counts-made, listed-made}
+use Rattle.agg_request_tree.specs.charges.Charges.{fixed_charge, node_charge}
+use Rattle.agg_request_tree.specs.charges.Roof.{IsSettled, counts_by, counts_of, low_roof, roof}
+use Rattle.agg_request_tree.specs.charges.Roof.{together}
+use Rattle.agg_request_tree.proofs.lemmas.charges.CountsOut.{counts-made, listed-made}
 
 -- two names
 abbrev a : List ℕ
@@ -36,6 +37,7 @@ terms field = Terms (record {
   order = Asc;
   missing_bucket = false;
   missing_order = nulls.Default;
+  min = None;
 })
 
 -- a document with this value of b, and 1 in each other field
@@ -157,7 +159,7 @@ kept-all i =
     nested-charge told (kept true) (page b 10) 9 i
     + (nested-counts told (kept true) (page b 10) i).bytes three
 
--- and none where it doesn't
+-- no bucket where it doesn't match
 kept-none : roof told (nested told (kept false) (page b 10)) 9 three ≡ 770
 kept-none i =
     nested-charge told (kept false) (page b 10) 9 i

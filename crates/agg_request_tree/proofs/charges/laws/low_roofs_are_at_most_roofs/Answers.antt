@@ -1,5 +1,5 @@
-use Rattle.agg_charges.proofs.Roofs.{low-at_most, low-fixed, low-settled}
-use Rattle.agg_charges.proofs.laws.low_roofs_are_at_most_roofs.Goals as goal
+use Rattle.agg_request_tree.proofs.lemmas.charges.Roofs.{low-at_most, low-fixed, low-settled}
+use Rattle.agg_request_tree.proofs.charges.laws.low_roofs_are_at_most_roofs.Goals as goal
 
 pub returns-clause-fixed : goal.returns-clause-fixed
 returns-clause-fixed g c = low-fixed

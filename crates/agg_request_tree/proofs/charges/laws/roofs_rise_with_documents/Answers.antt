@@ -1,6 +1,6 @@
-use Rattle.agg_charges.proofs.Roofs.{low-any_order, roof-any_order, roof-more, roof-within}
-use Rattle.agg_charges.proofs.Roofs.{settled-within}
-use Rattle.agg_charges.proofs.laws.roofs_rise_with_documents.Goals as goal
+use Rattle.agg_request_tree.proofs.lemmas.charges.Roofs.{low-any_order, roof-any_order, roof-more}
+use Rattle.agg_request_tree.proofs.lemmas.charges.Roofs.{roof-within, settled-within}
+use Rattle.agg_request_tree.proofs.charges.laws.roofs_rise_with_documents.Goals as goal
 
 pub returns-clause-within : goal.returns-clause-within
 returns-clause-within g c = roof-within
