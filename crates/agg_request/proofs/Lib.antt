@@ -5,3 +5,4 @@ pub mod WrittenFilters
 pub mod WrittenMembers
 pub mod WrittenRequests
 pub mod WrittenSources
+pub mod lemmas

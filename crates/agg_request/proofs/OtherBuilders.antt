@@ -6,12 +6,12 @@ use Rattle.std.specs.Map.{keys_of}
 use Rattle.std.specs.Str.{bytes_eq}
 use Rattle.std.proofs.lemmas.Map.Made.{keys_of-map_values}
 use Rattle.serde_json.specs.Data.{Data}
-use Rattle.agg_request_json.specs.Builders.{left_by_filter, left_by_kind, taken}
+use Rattle.agg_request.specs.reading.Builders.{left_by_filter, left_by_kind, taken}
 use Rattle.agg_request_tree.specs.Request.{Request, agg_of, aggregation_of, with_builders_in}
 use Rattle.agg_request_tree.specs.Request.{below_of}
 use Rattle.agg_request_tree.specs.Request.{with_own_builder, with_query_builder, with_builders}
 use Rattle.agg_request.specs.ReadBack.{SaysKind}
-use Rattle.agg_request_json.specs.RequestJson.{kind_word, may_hold}
+use Rattle.agg_request.specs.reading.RequestJson.{kind_word, may_hold}
 use Rattle.agg_request_tree.specs.declared.aggregation.Aggregation.{Aggregation}
 use Rattle.agg_request_tree.specs.declared.aggregation.Aggregation.TheFolds as folds
 use folds.{fold_out-Aggregation}

@@ -8,10 +8,10 @@ use Rattle.std.proofs.lemmas.List.Folds.{list_all-map}
 use Rattle.std.proofs.lemmas.Map.Made.{keys_of-map_values}
 use Rattle.agg_values.specs.Names.{Named}
 use Rattle.serde_json.specs.Data.{Data, Members, no_members, member}
-use Rattle.agg_json.specs.Json.{EachNamedIs, names_in}
-use Rattle.agg_request_json.specs.RequestJson.{kind_word, may_hold}
+use Rattle.agg_request.specs.json_values.Json.{EachNamedIs, names_in}
+use Rattle.agg_request.specs.reading.RequestJson.{kind_word, may_hold}
 use Rattle.agg_request_tree.specs.Request.{Request, agg_of, below_of}
-use Rattle.agg_request.specs.Written.{all_may_be_written, may_be_written}
+use Rattle.agg_request.specs.Written.{all_may_be_written, has_no_null_min, may_be_written}
 use Rattle.agg_request.specs.Written.{may_be_written_step}
 use Rattle.agg_request_tree.specs.declared.aggregation.Aggregation.{Aggregation}
 use Rattle.agg_request_tree.specs.declared.aggregation.Aggregation.TheFolds as folds
@@ -26,13 +26,15 @@ both false b e = absurd (cc)
 
 -- ---- what an aggregation may have below it
 
--- an aggregation may be written where it may have what is below it, which may be written
+-- an aggregation may be written where no source of its own has Null as its least value, and it may
+-- have what is below it, which may be written
 pub writable-out : {B : Type 0} (a : Aggregation B)
     → may_be_written a
-    ≡ (may_hold (kind_word (agg_of a)) (keys_of (below_of a)) && all_may_be_written (below_of a))
+    ≡ (has_no_null_min (agg_of a)
+    && (may_hold (kind_word (agg_of a)) (keys_of (below_of a)) && all_may_be_written (below_of a)))
 writable-out {B = B} a =
     fold_out-Aggregation B Bool may_be_written_step a
-    ∙ (λ i. may_hold (kind_word (agg_of a)) (names i) && each i)
+    ∙ (λ i. has_no_null_min (agg_of a) && (may_hold (kind_word (agg_of a)) (names i) && each i))
   where
     -- the aggregations below, each with whether it may be written
     told : Named Bool
@@ -46,19 +48,34 @@ writable-out {B = B} a =
         list_all-map (λ (e : List ℕ × Bool). e.1)
         (λ (e : List ℕ × Aggregation B). (e.0, may_be_written e.1)) (below_of a)
 
+-- what holds of an aggregation that may be written
+record MayStand {B : Type 0} (a : Aggregation B) : Type 0 where
+  own : has_no_null_min (agg_of a) ≡ true
+  holds : may_hold (kind_word (agg_of a)) (keys_of (below_of a)) ≡ true
+  below : all_may_be_written (below_of a) ≡ true
+
+may-stand : {B : Type 0} (a : Aggregation B) → may_be_written a ≡ true → MayStand a
+may-stand a may =
+    let holds = may_hold (kind_word (agg_of a)) (keys_of (below_of a)) in
+    let below = all_may_be_written (below_of a) in
+    let outer = both (has_no_null_min (agg_of a)) (holds && below) (sym (writable-out a) ∙ may) in
+    let inner = both holds below outer.1 in
+    record { own = outer.0; holds = inner.0; below = inner.1 }
+
 -- what may be written may have what is below it
 pub may-hold : {B : Type 0} (a : Aggregation B) → may_be_written a ≡ true
     → may_hold (kind_word (agg_of a)) (keys_of (below_of a)) ≡ true
-may-hold a may =
-    (both (may_hold (kind_word (agg_of a)) (keys_of (below_of a)))
-    (all_may_be_written (below_of a)) (sym (writable-out a) ∙ may)).0
+may-hold a may = (may-stand a may).holds
+
+-- none of its own sources has Null as its least value
+pub no-null-min : {B : Type 0} (a : Aggregation B) → may_be_written a ≡ true
+    → has_no_null_min (agg_of a) ≡ true
+no-null-min a may = (may-stand a may).own
 
 -- what is below it may be written
 pub may-below : {B : Type 0} (a : Aggregation B) → may_be_written a ≡ true
     → all_may_be_written (below_of a) ≡ true
-may-below a may =
-    (both (may_hold (kind_word (agg_of a)) (keys_of (below_of a)))
-    (all_may_be_written (below_of a)) (sym (writable-out a) ∙ may)).1
+may-below a may = (may-stand a may).below
 
 -- ---- names
 
@@ -80,7 +97,7 @@ pub record AreWritable {B : Type 0} (all left : Request B) : Type 0 where
   pub lower : levels left ≤ levels all
   pub each : all_may_be_written left ≡ true
 
--- so do the others
+-- those after the first have no more levels than all, and may be written
 pub AreWritable-more : {B : Type 0} (all left : Request B) (name : List ℕ) (a : Aggregation B)
     (later : Request B) → AreWritable all left → left ≡ (name, a) ∷ later → AreWritable all later
 AreWritable-more {B = B} all left name a later h e =

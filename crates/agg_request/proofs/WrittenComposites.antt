@@ -4,8 +4,8 @@ use Rattle.serde_json.specs.Data.{object, array, number, unsigned, Items, no_mem
 use Rattle.serde_json.specs.View.{items_of}
 use Rattle.agg_values.specs.Names.{Named}
 use Rattle.agg_values.specs.declared.after_key.AfterKey.{AfterKey}
-use Rattle.agg_request_json.specs.CompositeJson.{IsCompositeJson, IsSourceJson}
-use Rattle.agg_json.specs.Json.{EachIs, IsWhole, small_number}
+use Rattle.agg_request.specs.reading.CompositeJson.{IsCompositeJson, IsSourceJson}
+use Rattle.agg_request.specs.json_values.Json.{EachIs, IsWhole, small_number}
 use Rattle.agg_request.specs.ReadBack.{AreKeysReadBack}
 use Rattle.agg_request.specs.WrittenJson.{data_of_composite, data_of_key, data_of_source}
 use Rattle.agg_request.specs.WrittenJson.{members_of, with_after}

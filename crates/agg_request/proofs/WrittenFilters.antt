@@ -6,8 +6,8 @@ use Rattle.serde_json.specs.Data.{depth, items_depth}
 use Rattle.serde_json.specs.View.{items_of, view}
 use Rattle.serde_json.specs.declared.value.Value.{Value}
 use Rattle.agg_values.specs.KeyText.{key_text}
-use Rattle.agg_column.specs.Document.{said_key}
-use Rattle.agg_column.specs.declared.document.FieldValue.{FieldValue}
+use Rattle.agg_segment.specs.storage.Document.{said_key}
+use Rattle.agg_segment.specs.declared.storage.document.FieldValue.{FieldValue}
 use Rattle.agg_segment.specs.declared.query.RangeBound.{RangeBound}
 use Rattle.agg_segment.specs.declared.query.RangeBound.TheVariants.{Unbounded, Included, Excluded}
 use Rattle.agg_segment.specs.declared.query.QueryTree.{QueryTree}
@@ -15,9 +15,9 @@ use Rattle.agg_segment.specs.declared.query.QueryTree.TheVariants as tree
 use tree.{All, Empty, Term, Range, Exists, Boolean}
 use Rattle.agg_segment.specs.declared.query.QueryTree.TheOpen as layer
 use Rattle.agg_segment.specs.declared.query.QueryTree.TheFolds.{fold-roll-QueryTree}
-use Rattle.agg_json.specs.Json.{alone, EachIs, IsField, has_only}
-use Rattle.agg_json.specs.Query.{IsBoolean, IsBound, IsFilter, IsOfKind, IsRange, IsTerm}
-use Rattle.agg_json.specs.Query.{range_names}
+use Rattle.agg_request.specs.json_values.Json.{alone, EachIs, IsField, has_only}
+use Rattle.agg_request.specs.json_values.Query.{IsBoolean, IsBound, IsFilter, IsOfKind, IsRange}
+use Rattle.agg_request.specs.json_values.Query.{IsTerm, range_names}
 use Rattle.agg_request.specs.ReadBack.{IsBoundReadBack, IsReadBack, IsWritten, SaysFilter}
 use Rattle.agg_request.specs.WrittenJson.{data_of_query, field_members, list_members}
 use Rattle.agg_request.specs.WrittenJson.{query_step, range_members, term_members}

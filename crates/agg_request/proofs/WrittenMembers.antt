@@ -9,7 +9,7 @@ use Rattle.std.specs.Ordering.{ordering_reverse}
 use Rattle.agg_values.specs.Names.{Named, name_cmp}
 use Rattle.serde_json.specs.Data.{Data, Items, no_items, item, Members, no_members, member, put}
 use Rattle.serde_json.specs.View.{items_of}
-use Rattle.agg_json.specs.Json.{EachIs, EachNamedIs}
+use Rattle.agg_request.specs.json_values.Json.{EachIs, EachNamedIs}
 use Rattle.agg_request.specs.ReadBack.{IsWritten}
 use Rattle.agg_request.specs.WrittenJson.{members_of}
 
@@ -23,7 +23,7 @@ module _ {A : Type 0} (data_of : A → Data) (Says : Data → A → Type 0) wher
   items-written (item d items) (x ∷ xs) each =
       rw (each.0.0, items-written items xs each.1) refl
 
-  -- and they say it
+  -- items that are written of a list say it
   pub items-say : (items : Items) (xs : List A) → EachIs (IsWritten data_of Says) items xs
       → EachIs Says items xs
   items-say no_items [] each = tt
@@ -40,7 +40,7 @@ module _ {A : Type 0} (data_of : A → Data) (Says : Data → A → Type 0) wher
   members-written (member name d ms) (x ∷ xs) each =
       rw (sym each.0, each.1.0, members-written ms xs each.2) refl
 
-  -- and they say it
+  -- members that are written of a map say it
   pub members-say : (ms : Members) (xs : Named A) → EachNamedIs (IsWritten data_of Says) ms xs
       → EachNamedIs Says ms xs
   members-say no_members [] each = tt

@@ -4,19 +4,20 @@ use Rattle.std.proofs.Common.{Option, None, Some, option_and_then, inl, inr, ref
 use Rattle.std.proofs.Common.{◌∙◌, append_assoc, arith, map}
 use Rattle.serde_json.specs.Data.{Data, object, Members, no_members, member, depth, members_depth}
 use Rattle.serde_json.specs.Find.{as_object, get}
-use Rattle.agg_request_json.specs.Builders.{left_behind, left_by_each, left_by_object, left_by_own}
+use Rattle.agg_request.specs.reading.Builders.{left_behind, left_by_each, left_by_object}
+use Rattle.agg_request.specs.reading.Builders.{left_by_own}
 use Rattle.std.specs.Map.{keys_of}
-use Rattle.agg_json.specs.Json.{EachNamedIs, names_in, only_other}
-use Rattle.agg_request_json.specs.RequestJson.{AreAggregations, IsAggregation, IsBelow}
-use Rattle.agg_request_json.specs.RequestJson.{IsRequestJson}
-use Rattle.agg_request_json.specs.RequestJson.{may_hold}
+use Rattle.agg_request.specs.json_values.Json.{EachNamedIs, names_in, only_other}
+use Rattle.agg_request.specs.reading.RequestJson.{AreAggregations, IsAggregation, IsBelow}
+use Rattle.agg_request.specs.reading.RequestJson.{IsRequestJson}
+use Rattle.agg_request.specs.reading.RequestJson.{may_hold}
 use Rattle.agg_request_tree.specs.Request.{Request, agg_of, with_builders_in, below_of, builders_of}
 use Rattle.agg_request_tree.specs.Request.{listed_in, own_builder, with_builders}
 use Rattle.agg_request.specs.Written.{may_be_written}
 use Rattle.agg_request.specs.ReadBack.{IsWritten, ReadsBack, SaysAggregation, SaysItself}
 use Rattle.agg_request.specs.ReadBack.{SaysKind}
 use Rattle.agg_request.specs.WrittenJson.{aggregation_step, data_of_aggregation, data_of_kind}
-use Rattle.agg_request_json.specs.RequestJson.{kind_word}
+use Rattle.agg_request.specs.reading.RequestJson.{kind_word}
 use Rattle.agg_request.specs.WrittenJson.{data_of_request, members_of, with_below}
 use Rattle.agg_request_tree.specs.declared.aggregation.Aggregation.{Aggregation}
 use Rattle.agg_request_tree.specs.declared.aggregation.Aggregation.TheFolds as folds
@@ -24,7 +25,7 @@ use folds.{fold_out-Aggregation}
 use Rattle.agg_request_tree.specs.declared.aggregation.AggregationVariants as variants
 use variants.{AggregationVariants}
 use variants.TheVariants.{Filter, Composite, Count, Max, Min, Sum}
-use Rattle.agg_json.proofs.FilterLists.{get_lower}
+use Rattle.agg_request.proofs.lemmas.json_values.FilterLists.{get_lower}
 use Rattle.agg_request_tree.proofs.RequestTrees.{listed-out}
 use Rattle.agg_request.proofs.OtherBuilders.{alike-holds, alike-says, alike-word, same-below}
 use Rattle.agg_request.proofs.OtherBuilders.{same-kind}

@@ -1,6 +1,8 @@
 pub mod ReadBack
 pub mod Written
 pub mod WrittenJson
+pub mod json_values
+pub mod reading
 pub use Rattle.agg_request_tree.specs.Alike
 pub use Rattle.agg_request_tree.specs.BySource
 pub use Rattle.agg_request_tree.specs.Faults
@@ -16,10 +18,3 @@ pub use Rattle.agg_request_tree.specs.Source
 pub use Rattle.agg_request_tree.specs.SourceColumns
 pub use Rattle.agg_request_tree.specs.Successive
 pub use Rattle.agg_request_tree.specs.Uncut
-pub use Rattle.agg_json.specs.Json
-pub use Rattle.agg_json.specs.Query
-pub use Rattle.agg_json.specs.Reading
-pub use Rattle.agg_request_json.specs.Builders
-pub use Rattle.agg_request_json.specs.CompositeJson
-pub use Rattle.agg_request_json.specs.OrderJson
-pub use Rattle.agg_request_json.specs.RequestJson

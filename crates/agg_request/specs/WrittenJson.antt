@@ -9,19 +9,19 @@ use Rattle.agg_values.specs.Names.{Named}
 use Rattle.agg_values.specs.declared.after_key.AfterKey.{AfterKey}
 use Rattle.agg_values.specs.declared.order.Order.{Order}
 use Rattle.agg_values.specs.declared.order.MissingOrder.{MissingOrder}
-use Rattle.agg_column.specs.Document.{said_key}
-use Rattle.agg_column.specs.declared.document.FieldValue.{FieldValue}
+use Rattle.agg_segment.specs.storage.Document.{said_key}
+use Rattle.agg_segment.specs.declared.storage.document.FieldValue.{FieldValue}
 use Rattle.agg_segment.specs.declared.query.RangeBound.{RangeBound}
 use Rattle.agg_segment.specs.declared.query.RangeBound.TheVariants.{Unbounded, Included, Excluded}
 use Rattle.agg_segment.specs.declared.query.QueryTree.{QueryTree}
 use Rattle.agg_segment.specs.declared.query.QueryTree.TheOpen as query
 use query.{QueryTree-F}
 use Rattle.agg_segment.specs.declared.query.QueryTree.TheFolds.{fold-QueryTree}
-use Rattle.agg_request_json.specs.CompositeJson.{missing_order_word, order_word, source_word}
-use Rattle.agg_request_json.specs.CompositeJson.{unit_word}
-use Rattle.agg_json.specs.Json.{alone}
+use Rattle.agg_request.specs.reading.CompositeJson.{missing_order_word, order_word, source_word}
+use Rattle.agg_request.specs.reading.CompositeJson.{unit_word}
+use Rattle.agg_request.specs.json_values.Json.{alone}
 use Rattle.agg_request_tree.specs.Request.{Request}
-use Rattle.agg_request_json.specs.RequestJson.{kind_word}
+use Rattle.agg_request.specs.reading.RequestJson.{kind_word}
 use Rattle.agg_request_tree.specs.Source.{name_of as source_name}
 use Rattle.agg_request_tree.specs.declared.aggregation.Aggregation.{Aggregation}
 use Rattle.agg_request_tree.specs.declared.aggregation.Aggregation.TheOpen.{Aggregation-F}
@@ -110,25 +110,34 @@ shared_members field order missing_bucket missing_order =
     (member (codes "missing_order") (string (missing_order_word missing_order))
     (member (codes "order") (string (order_word order)) no_members)))
 
+-- what is written of a key, be it a least value or one after which a page begins
+abbrev pub data_of_key : AfterKey → Data
+data_of_key key = string (key_text key.0)
+
+-- the members with a least value, where there is one
+abbrev pub with_least : Option AfterKey → Members → Members
+with_least None members = members
+with_least (Some least) members = put (codes "min") (data_of_key least) members
+
 -- the members of the body of a source
 abbrev pub source_members : CompositeAggregationSource → Members
-source_members (Terms s) = shared_members s.field s.order s.missing_bucket s.missing_order
+source_members (Terms s) =
+    with_least s.min (shared_members s.field s.order s.missing_bucket s.missing_order)
 source_members (Histogram s) =
-    put (codes "interval") (number (of_integer s.interval))
-    (shared_members s.field s.order s.missing_bucket s.missing_order)
-source_members (DateHistogram s) =
-    with_text (codes "calendar_interval") (option_map unit_word s.calendar_interval)
-    (with_text (codes "fixed_interval") s.fixed_interval
+    with_least s.min
+    (put (codes "interval") (number (of_integer s.interval))
     (shared_members s.field s.order s.missing_bucket s.missing_order))
+source_members (DateHistogram s) =
+    with_least s.min
+    (with_text (codes "offset") s.offset
+    (with_text (codes "calendar_interval") (option_map unit_word s.calendar_interval)
+    (with_text (codes "fixed_interval") s.fixed_interval
+    (shared_members s.field s.order s.missing_bucket s.missing_order))))
 
 -- what is written of a source: its body under its kind, under its name
 abbrev pub data_of_source : CompositeAggregationSource → Data
 data_of_source source =
     alone (source_name source) (alone (source_word source) (object (source_members source)))
-
--- what is written of a key after which a page begins
-abbrev pub data_of_key : AfterKey → Data
-data_of_key key = string (key_text key.0)
 
 -- the members with the keys after which a page begins, where there are any
 abbrev pub with_after : Named AfterKey → Members → Members

@@ -1,11 +1,9 @@
 //! Looking into JSON values, why readers refuse them, and queries from JSON.
-#![tactic(auto)]
-
 pub mod json_value;
-mod laws;
+pub(crate) mod laws;
 pub mod members;
-mod query;
-mod read_error;
+pub(crate) mod query;
+pub(crate) mod read_error;
 
 pub use laws::read_error_equality_is_sameness;
 pub use query::read_query;

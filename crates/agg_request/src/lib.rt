@@ -1,10 +1,12 @@
-//! Requests: all that the crates below have of them, and requests written back as JSON.
+//! Requests: what a JSON value says, and the JSON that is written of one.
 #![tactic(auto)]
 
+pub mod json_values;
+pub mod reading;
 mod writer;
 
-pub use agg_json::{ReadError, json_value, read_error_equality_is_sameness, read_query};
-pub use agg_request_json::{
+pub use crate::json_values::{ReadError, json_value, read_error_equality_is_sameness, read_query};
+pub use crate::reading::{
     CustomOrder, HasName, order_equality_is_sameness, read_aggregations, read_composite,
     read_request, the_default_order,
 };

@@ -1,10 +1,8 @@
 //! Requests from JSON: composites with their sources, orders of buckets, and trees of aggregations.
-#![tactic(auto)]
-
-mod composite;
-mod custom_order;
-mod laws;
-mod request;
+pub(crate) mod composite;
+pub(crate) mod custom_order;
+pub(crate) mod laws;
+pub(crate) mod request;
 
 pub use composite::read_composite;
 pub use custom_order::CustomOrder;

@@ -1,7 +1,7 @@
 //! Requests to JSON.
 ghost use Rattle.std.specs.Prelude.{◌≡◌, IfOk, OnOk, true};
 ghost use Rattle.serde_json.specs.View.{members_view, view};
-ghost use Rattle.agg_json.specs.Json.{EachNamedIs};
+ghost use Rattle.agg_request.specs.json_values.Json.{EachNamedIs};
 ghost use Rattle.agg_request.specs.Written.{all_may_be_written, may_be_written};
 ghost use Rattle.agg_request.specs.ReadBack.{IsWritten, ReadsBack, SaysAggregation};
 ghost use Rattle.agg_request.specs.WrittenJson.{data_of_aggregation, data_of_request, with_below};
@@ -14,7 +14,7 @@ mod sources;
 mod words;
 mod writable;
 
-use agg_request_json::HasName;
+use crate::reading::HasName;
 use agg_request_tree::{Aggregation, Aggregations};
 use agg_values::{NameMap, OutOfMemory};
 use kind::{kind_word, write_kind};
@@ -57,7 +57,7 @@ fn write_request<B: HasName>(
     Ok(members)
 }
 
-// Its kind, and those below it.
+// An aggregation: its kind, and those below it.
 #[cycle(written)]
 fn write_aggregation<B: HasName>(
     alloc: Global,

@@ -3,6 +3,7 @@ pub mod AggregationReadings
 pub mod AskedKinds
 pub mod BuildersTaken
 pub mod CompositeSources
+pub mod LeastValues
 pub mod NamesBelow
 pub mod Orders
 pub mod PoolMembers

@@ -130,7 +130,7 @@ IsArray Is d xs = (items : Items) × (as_array d ≡ Some items) × EachIs Is it
 abbrev pub IsList : {A : Type 0} → (Data → A → Type 0) → Option Data → List A → Type 0
 IsList Is = IsOr [] (IsArray Is)
 
--- the same of the member of a name
+-- at the member of a name stands an array of such items; where there is none there are no items
 abbrev pub IsListAt : {A : Type 0} → (Data → A → Type 0) → List ℕ → Data → List A → Type 0
 IsListAt Is name d = IsList Is (get name d)
 

@@ -8,15 +8,15 @@ use Rattle.serde_json.specs.Find.{as_str, get}
 use Rattle.agg_values.specs.KeyText.{IsKeyText, IsRefusedAs}
 use Rattle.agg_values.specs.declared.error.KeyTextError.TheVariants as key_text
 use Rattle.agg_values.specs.TypedKey.{CompositeIntermediateKey}
-use Rattle.agg_column.specs.Document.{said_key}
-use Rattle.agg_column.specs.declared.document.FieldValue.{FieldValue}
+use Rattle.agg_segment.specs.storage.Document.{said_key}
+use Rattle.agg_segment.specs.declared.storage.document.FieldValue.{FieldValue}
 use Rattle.agg_segment.specs.declared.query.RangeBound.{RangeBound}
 use Rattle.agg_segment.specs.declared.query.RangeBound.TheVariants.{Unbounded, Included, Excluded}
 use Rattle.agg_segment.specs.declared.query.QueryTree.{QueryTree}
 use Rattle.agg_segment.specs.declared.query.QueryTree.TheVariants.{All, Empty, Term, Range, Exists}
 use Rattle.agg_segment.specs.declared.query.QueryTree.TheVariants.{Boolean}
-use Rattle.agg_json.specs.Json.{HasUnsupportedList, IsField, IsListAt, has_only, only_member}
-use Rattle.agg_json.specs.Json.{text_at}
+use Rattle.agg_request.specs.json_values.Json.{HasUnsupportedList, IsField, IsListAt, has_only}
+use Rattle.agg_request.specs.json_values.Json.{only_member, text_at}
 use Rattle.agg_values.specs.Nothing.{NoneIs}
 
 -- ---- values

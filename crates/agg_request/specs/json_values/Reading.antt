@@ -3,10 +3,11 @@ use Rattle.std.specs.Prelude.{Bool, false, List, Result, Ok, Err, ⊤}
 use Rattle.agg_values.specs.Nothing.{NoneIs}
 use Rattle.agg_values.specs.declared.error.KeyTextError.{KeyTextError}
 use Rattle.agg_values.specs.declared.error.KeyTextError.TheVariants as key_text
-use Rattle.agg_json.specs.declared.read_error.ReadError.{ReadError}
-use Rattle.agg_json.specs.declared.read_error.ReadError.TheVariants.{Unsupported, Grammar}
-use Rattle.agg_json.specs.declared.read_error.ReadError.TheVariants.{UnknownBuilder}
-use Rattle.agg_json.specs.declared.read_error.ReadError.TheVariants.{OutOfMemory}
+use Rattle.agg_request.specs.declared.json_values.read_error.ReadError.{ReadError}
+use Rattle.agg_request.specs.declared.json_values.read_error.ReadError.TheVariants.{Unsupported}
+use Rattle.agg_request.specs.declared.json_values.read_error.ReadError.TheVariants.{Grammar}
+use Rattle.agg_request.specs.declared.json_values.read_error.ReadError.TheVariants.{UnknownBuilder}
+use Rattle.agg_request.specs.declared.json_values.read_error.ReadError.TheVariants.{OutOfMemory}
 
 -- why nothing is read, where `Is` says what may be read, strictly and leniently: something that
 -- isn't supported stands there, or nothing may be read even leniently
@@ -21,8 +22,8 @@ abbrev pub IsReading : {A : Type 0} → (Bool → A → Type 0) → Type 0 → R
 IsReading Is HasUnsupported (Ok x) = Is false x
 IsReading Is HasUnsupported (Err error) = IsRefusal Is HasUnsupported error
 
--- what is read with the builders of a pool, or why nothing is: as above with whatever builders, or
--- for want of a builder in this pool
+-- what is read with the builders of a pool, or why nothing is: as `IsRefusal` says of whatever
+-- builders, or for want of a builder in this pool
 abbrev pub IsReadingWith : {A B : Type 0} → (Bool → List B → A → Type 0) → Type 0
     → (List B → Type 0) → List B → Result A ReadError → Type 0
 IsReadingWith Is HasUnsupported IsWanting pool (Ok x) = Is false pool x

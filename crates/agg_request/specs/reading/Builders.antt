@@ -5,7 +5,7 @@ use Rattle.std.specs.Prelude.{option_and_then, codes}
 use Rattle.std.specs.Str.{bytes_eq}
 use Rattle.serde_json.specs.Data.{Data, Members, no_members, member}
 use Rattle.serde_json.specs.Find.{as_object, as_str, get}
-use Rattle.agg_json.specs.Json.{only_named, only_other}
+use Rattle.agg_request.specs.json_values.Json.{only_named, only_other}
 
 -- the first builder of a name, and the others
 abbrev pub taken : {B : Type 0} → (B → List ℕ) → List ℕ → List B → Option (B × List B)
@@ -31,7 +31,7 @@ left_by_kind name_of kind body pool =
     if bytes_eq kind (codes "filter") then left_by_filter name_of (builder_name body) pool
     else Some pool
 
--- the same of the one member that is a kind, if there is one
+-- the builders that the one member that is a kind leaves, all where there is no such member
 abbrev pub left_by_own : {B : Type 0} → (B → List ℕ) → Option (List ℕ × Data) → List B
     → Option (List B)
 left_by_own name_of None pool = Some pool
@@ -44,7 +44,7 @@ left_by_each left no_members pool = Some pool
 left_by_each left (member name d members) pool =
     option_and_then (left_by_each left members) (left d pool)
 
--- the same of an object of them, if there is one
+-- the builders that the members of an object leave, all where there is no object
 abbrev pub left_by_object : {B : Type 0} → (Data → List B → Option (List B)) → Option Members
     → List B → Option (List B)
 left_by_object left None pool = Some pool

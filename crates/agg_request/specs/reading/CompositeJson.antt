@@ -1,9 +1,10 @@
 -- Composites as JSON: their sources, their size and their after key.
-use Rattle.std.specs.Prelude.{◌≡◌, ◌⊎◌, [], ℕ, ℤ, List, Bool, false, Option, Some}
+use Rattle.std.specs.Prelude.{◌≡◌, ◌≢◌, ◌⊎◌, [], ℕ, ℤ, List, Bool, false, Option, Some}
 use Rattle.std.specs.Prelude.{codes, option_and_then, ⊤}
 use Rattle.serde_json.specs.Data.{Data, Items, Members}
 use Rattle.serde_json.specs.Find.{as_array, as_bool, as_object, as_str, get}
 use Rattle.agg_values.specs.Names.{Named}
+use Rattle.agg_values.specs.declared.typed_key.CompositeIntermediateKey.TheVariants.{Null}
 use Rattle.agg_values.specs.declared.after_key.AfterKey.{AfterKey}
 use Rattle.agg_values.specs.declared.order.Order.{Order}
 use Rattle.agg_values.specs.declared.order.Order.TheVariants.{Asc, Desc}
@@ -11,12 +12,13 @@ use Rattle.agg_values.specs.declared.order.MissingOrder.{MissingOrder}
 use Rattle.agg_values.specs.declared.order.MissingOrder.TheVariants.{Default, First, Last}
 use Rattle.agg_calendar.specs.declared.interval.CalendarInterval.{CalendarInterval}
 use Rattle.agg_calendar.specs.declared.interval.CalendarInterval.TheVariants.{Year, Month, Week}
-use Rattle.agg_json.specs.Json.{EachIs, EachNamedIs, HasFloatAt, HasUnsupportedList}
-use Rattle.agg_json.specs.Json.{HasUnsupportedMember, IsField, IsGiven, IsOr, IsWholeAt}
-use Rattle.agg_json.specs.Json.{only_member, present, small_number, whole_number}
-use Rattle.agg_json.specs.Query.{IsUnsupportedText, SaysKey}
+use Rattle.agg_request.specs.json_values.Json.{EachIs, EachNamedIs, HasFloatAt, HasUnsupportedList}
+use Rattle.agg_request.specs.json_values.Json.{HasUnsupportedMember, IsField, IsGiven, IsOr}
+use Rattle.agg_request.specs.json_values.Json.{IsWholeAt, only_member, present, small_number}
+use Rattle.agg_request.specs.json_values.Json.{whole_number}
+use Rattle.agg_request.specs.json_values.Query.{IsUnsupportedText, SaysKey}
 use Rattle.agg_request_tree.specs.Source.{Sources, field_of, missing_bucket_of, missing_order_of}
-use Rattle.agg_request_tree.specs.Source.{name_of, order_of}
+use Rattle.agg_request_tree.specs.Source.{min_key_of, name_of, order_of}
 use Rattle.agg_request_tree.specs.declared.aggregation.CompositeAggregation.{CompositeAggregation}
 use Rattle.agg_request_tree.specs.declared.source.CompositeAggregationSource as any_source
 use any_source.{CompositeAggregationSource}
@@ -55,23 +57,37 @@ unit_word Week = codes "week"
 abbrev pub IsIntervalOf : Bool → Data → ℤ → Type 0
 IsIntervalOf = IsWholeAt whole_number (codes "interval")
 
+-- a value is a text that says a key, and not Null
+abbrev pub SaysValue : Bool → Data → AfterKey → Type 0
+SaysValue lenient d key =
+    (text : List ℕ) × (as_str d ≡ Some text) × SaysKey lenient text key.0 × (key.0 ≢ Null)
+
+-- the least value of a body: it may stand there, and null stands for none
+abbrev pub IsLeastOf : Bool → Data → Option AfterKey → Type 0
+IsLeastOf lenient body = IsGiven (SaysValue lenient) (present (codes "min") body)
+
 -- what the body of any source of a name says; other members don't count
-pub record IsSharedBody (name : List ℕ) (body : Data) (source : CompositeAggregationSource)
-    : Type 0 where
+pub record IsSharedBody (lenient : Bool) (name : List ℕ) (body : Data)
+    (source : CompositeAggregationSource) : Type 0 where
   pub named : name_of source ≡ name
   pub field : IsField body (field_of source)
   pub order : IsWordOr Asc order_word (get (codes "order") body) (order_of source)
   pub missing_bucket : IsFlag (get (codes "missing_bucket") body) (missing_bucket_of source)
   pub missing_order : IsWordOr Default missing_order_word (get (codes "missing_order") body)
       (missing_order_of source)
+  pub min : IsLeastOf lenient body (min_key_of source)
 
--- the intervals of a date source: each may stand there, and null stands for none
+-- a text may stand at a member, and null stands for none
+abbrev pub IsTextAt : List ℕ → Data → Option (List ℕ) → Type 0
+IsTextAt name body = IsGiven (λ d text. as_str d ≡ Some text) (present name body)
+
+-- the intervals and the offset of a date source: each may stand there, and null stands for none
 abbrev pub AreIntervals : Data → Dates → Type 0
 AreIntervals body source =
-    IsGiven (λ d text. as_str d ≡ Some text)
-    (present (codes "fixed_interval") body) source.fixed_interval
+    IsTextAt (codes "fixed_interval") body source.fixed_interval
     × IsGiven (λ d unit. as_str d ≡ Some (unit_word unit))
     (present (codes "calendar_interval") body) source.calendar_interval
+    × IsTextAt (codes "offset") body source.offset
 
 -- what a body says that a source divides values by
 abbrev pub IsDividedBy : Bool → Data → CompositeAggregationSource → Type 0
@@ -88,7 +104,7 @@ source_word (DateHistogram source) = codes "date_histogram"
 -- the body of a source of a name
 abbrev pub IsSourceBody : Bool → List ℕ → Data → CompositeAggregationSource → Type 0
 IsSourceBody lenient name body source =
-    IsSharedBody name body source × IsDividedBy lenient body source
+    IsSharedBody lenient name body source × IsDividedBy lenient body source
 
 -- the body of a source of a name, by the name of its kind
 abbrev pub IsSourceOfKind
@@ -143,24 +159,34 @@ pub record IsCompositeJson (lenient : Bool) (body : Data) (composite : Composite
 
 -- ---- what isn't supported
 
--- the body of a histogram has an interval that isn't whole
-abbrev pub HasUnsupportedInterval : List ℕ → Data → Type 0
-HasUnsupportedInterval kind body = (kind ≡ codes "histogram") × HasFloatAt (codes "interval") body
+-- a text of the type that isn't supported
+abbrev pub IsUnsupportedKey : Data → Type 0
+IsUnsupportedKey d = (text : List ℕ) × (as_str d ≡ Some text) × IsUnsupportedText text
 
--- a source is a histogram whose interval isn't whole
+-- the least value of a body is such a text
+abbrev pub HasUnsupportedLeast : Data → Type 0
+HasUnsupportedLeast body =
+    (d : Data) × (present (codes "min") body ≡ Some d) × IsUnsupportedKey d
+
+-- the body of a histogram has an interval that isn't whole, or its least value is such a text
+abbrev pub HasUnsupportedNumbers : Data → Type 0
+HasUnsupportedNumbers body = HasFloatAt (codes "interval") body ⊎ HasUnsupportedLeast body
+
+-- the body of a source has an interval that isn't whole, or its least value is such a text
+abbrev pub HasUnsupportedInterval : List ℕ → Data → Type 0
+HasUnsupportedInterval kind body =
+    ((kind ≡ codes "histogram") × HasFloatAt (codes "interval") body) ⊎ HasUnsupportedLeast body
+
+-- a source has such a body
 abbrev pub HasUnsupportedKind : Data → Type 0
 HasUnsupportedKind d =
     (name : List ℕ) × (kind : List ℕ) × (named : Data) × (body : Data)
     × (only_member d ≡ Some (name, named)) × (only_member named ≡ Some (kind, body))
     × HasUnsupportedInterval kind body
 
--- some source of a body is such a histogram
+-- some source of a body has
 abbrev pub HasUnsupportedSource : Data → Type 0
 HasUnsupportedSource = HasUnsupportedList HasUnsupportedKind (codes "sources")
-
--- a text of the type that isn't supported
-abbrev pub IsUnsupportedKey : Data → Type 0
-IsUnsupportedKey d = (text : List ℕ) × (as_str d ≡ Some text) × IsUnsupportedText text
 
 -- some member of an after key is such a text
 abbrev pub HasUnsupportedAfter : Option Data → Type 0

@@ -3,9 +3,9 @@ use Rattle.std.specs.Prelude.{◌≡◌, ◌⊎◌, ℕ, List, Some}
 use Rattle.serde_json.specs.Data.{Data, string}
 use Rattle.serde_json.specs.Find.{as_str}
 use Rattle.agg_values.specs.OrderTarget.{target_of, target_text}
-use Rattle.agg_request_json.specs.CompositeJson.{order_word}
-use Rattle.agg_json.specs.Json.{alone, only_item, only_member}
-use Rattle.agg_request_json.specs.declared.custom_order.CustomOrder.{CustomOrder}
+use Rattle.agg_request.specs.reading.CompositeJson.{order_word}
+use Rattle.agg_request.specs.json_values.Json.{alone, only_item, only_member}
+use Rattle.agg_request.specs.declared.reading.custom_order.CustomOrder.{CustomOrder}
 
 -- an object of one pair says an order
 abbrev pub IsPair : Data → CustomOrder → Type 0
@@ -13,7 +13,7 @@ IsPair d order =
     (text : List ℕ) × (value : Data) × (only_member d ≡ Some (text, value))
     × (as_str value ≡ Some (order_word order.order)) × (order.target ≡ target_of text)
 
--- so does an array of one such object
+-- an object of one pair, or an array of one such object, says an order
 abbrev pub IsOrderJson : Data → CustomOrder → Type 0
 IsOrderJson d order =
     IsPair d order ⊎ ((item : Data) × (only_item d ≡ Some item) × IsPair item order)

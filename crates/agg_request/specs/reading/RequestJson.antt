@@ -1,5 +1,7 @@
 -- Requests as JSON: an object from name to aggregation, each an object whose one member besides
--- `aggs` is its kind, and at `aggs` those below it.
+-- `aggs` is its kind, and at `aggs` those below it. `lenient` is false for what is read, and true
+-- only tells a fault of grammar from what isn't supported; `pool` has the unused builders, and
+-- `name_of` is a builder's name.
 use Rattle.std.specs.Prelude.{◌≡◌, ◌⊎◌, ◌∷◌, ◌&&◌, ◌||◌, [], ℕ, zero, suc, List, Bool, true, false}
 use Rattle.std.specs.Prelude.{Option, None, Some, option_and_then, option_map, codes}
 use Rattle.std.specs.Prelude.{◌==◌, IsSome, IsTrue, length, not, ⊤}
@@ -7,12 +9,12 @@ use Rattle.std.specs.List.{list_any}
 use Rattle.std.specs.Str.{bytes_eq}
 use Rattle.serde_json.specs.Data.{Data, Members, no_members, member, depth}
 use Rattle.serde_json.specs.Find.{as_object, as_str, get}
-use Rattle.agg_request_json.specs.Builders.{builder_name, left_behind, left_by_each, left_by_kind}
-use Rattle.agg_request_json.specs.Builders.{taken}
-use Rattle.agg_request_json.specs.CompositeJson.{HasUnsupportedComposite, IsCompositeJson}
-use Rattle.agg_json.specs.Json.{HasUnsupportedMember, IsField, is_among, names_in}
-use Rattle.agg_json.specs.Json.{only_other, present}
-use Rattle.agg_json.specs.Query.{HasUnsupportedQuery, IsFilterOf}
+use Rattle.agg_request.specs.reading.Builders.{builder_name, left_behind, left_by_each}
+use Rattle.agg_request.specs.reading.Builders.{left_by_kind, taken}
+use Rattle.agg_request.specs.reading.CompositeJson.{HasUnsupportedComposite, IsCompositeJson}
+use Rattle.agg_request.specs.json_values.Json.{HasUnsupportedMember, IsField, is_among, names_in}
+use Rattle.agg_request.specs.json_values.Json.{only_other, present}
+use Rattle.agg_request.specs.json_values.Query.{HasUnsupportedQuery, IsFilterOf}
 use Rattle.agg_values.specs.Nothing.{NoneIs}
 use Rattle.agg_request_tree.specs.Request.{Request, agg_of, below_of}
 use Rattle.agg_request_tree.specs.declared.aggregation.Aggregation.{Aggregation}
@@ -82,7 +84,7 @@ abbrev pub IsAsked : {B : Type 0} → Bool → (B → List ℕ) → List ℕ →
 IsAsked lenient name_of kind body pool agg =
     (kind ≡ kind_word agg) × IsBody lenient name_of body pool agg
 
--- the same; leniently, a kind that is left out asks anything
+-- what the body of a kind asks; leniently, a kind that is left out asks anything
 abbrev pub IsKind : {B : Type 0} → Bool → (B → List ℕ) → List ℕ → Data → List B
     → AggregationVariants B → Type 0
 IsKind lenient name_of kind body pool agg =

@@ -3,8 +3,9 @@ ghost use Rattle.std.specs.Prelude.{◌≡◌, IfOk, nat_lt, option_map};
 ghost use Rattle.serde_json.specs.Events.{members_len};
 ghost use Rattle.serde_json.specs.Find.{as_str};
 ghost use Rattle.serde_json.specs.View.{members_view, view};
-ghost use Rattle.agg_json.specs.Json.{has_member, has_members, only_item, only_member};
-ghost use Rattle.agg_json.specs.Json.{only_named, only_other, present, small_number};
+ghost use Rattle.agg_request.specs.json_values.Json.{has_member, has_members, only_item};
+ghost use Rattle.agg_request.specs.json_values.Json.{only_member, only_named, only_other, present};
+ghost use Rattle.agg_request.specs.json_values.Json.{small_number};
 
 use agg_values::{OutOfMemory, Text};
 use serde_json::{Map, Value};

@@ -1,10 +1,10 @@
 //! The members of bodies in JSON.
 ghost use Rattle.std.specs.Prelude.{◌≡◌, map, option_map};
 ghost use Rattle.serde_json.specs.View.{view};
-ghost use Rattle.agg_json.specs.Json.{IsField, has_only, is_among, text_at};
-ghost use Rattle.agg_json.specs.Reading.{IsReading};
+ghost use Rattle.agg_request.specs.json_values.Json.{IsField, has_only, is_among, text_at};
+ghost use Rattle.agg_request.specs.json_values.Reading.{IsReading};
 
-use crate::ReadError;
+use crate::json_values::ReadError;
 use agg_values::Text;
 use serde_json::Value;
 use std::alloc::Global;

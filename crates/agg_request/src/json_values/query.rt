@@ -2,20 +2,21 @@
 ghost use Rattle.std.specs.Prelude.{◌≡◌, ◌≢◌, ◌<◌, ◌⊎◌, ℕ, [], Err, IfOk, IsErrOf};
 ghost use Rattle.serde_json.specs.Data.{depth, items_depth};
 ghost use Rattle.serde_json.specs.View.{view, items_view};
-ghost use Rattle.agg_json.specs.Json.{EachIs, HasUnsupportedItem, HasUnsupportedList, IsListAt};
-ghost use Rattle.agg_json.specs.Query.{HasUnsupportedBody, HasUnsupportedFilter};
-ghost use Rattle.agg_json.specs.Query.{HasUnsupportedIn};
-ghost use Rattle.agg_json.specs.Query.{HasUnsupportedQuery, IsBoolean, IsFilter, IsNoQueryAtAll};
-ghost use Rattle.agg_json.specs.Query.{IsOfKind, IsQuery};
+ghost use Rattle.agg_request.specs.json_values.Json.{EachIs, HasUnsupportedItem};
+ghost use Rattle.agg_request.specs.json_values.Json.{HasUnsupportedList, IsListAt};
+ghost use Rattle.agg_request.specs.json_values.Query.{HasUnsupportedBody, HasUnsupportedFilter};
+ghost use Rattle.agg_request.specs.json_values.Query.{HasUnsupportedIn, HasUnsupportedQuery};
+ghost use Rattle.agg_request.specs.json_values.Query.{IsBoolean, IsFilter, IsNoQueryAtAll};
+ghost use Rattle.agg_request.specs.json_values.Query.{IsOfKind, IsQuery};
 ghost use Rattle.agg_values.specs.Nothing.{NoneIs};
-ghost use Rattle.agg_json.specs.Reading.{IsReading};
+ghost use Rattle.agg_request.specs.json_values.Reading.{IsReading};
 
 mod leaves;
 mod values;
 
-use crate::ReadError;
-use crate::json_value::only_member;
-use crate::members::has_only;
+use crate::json_values::ReadError;
+use crate::json_values::json_value::only_member;
+use crate::json_values::members::has_only;
 use agg_segment::QueryTree;
 use agg_values::{ItemList, OutOfMemory};
 use leaves::{read_exists, read_plain, read_range, read_term};

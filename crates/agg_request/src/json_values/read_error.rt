@@ -7,7 +7,7 @@ pub enum ReadError {
     /// A known thing that is left out stands in it.
     #[error("not supported")]
     Unsupported,
-    /// It is outside the grammar for another reason.
+    /// The value is outside the grammar for another reason.
     #[error("not in the grammar")]
     Grammar,
     /// No unused builder of a name was handed in.
@@ -20,7 +20,8 @@ pub enum ReadError {
 
 impl From<OutOfMemory> for ReadError {
     ghost use Rattle.std.specs.Prelude.{◌≡◌};
-    ghost use Rattle.agg_json.specs.declared.read_error.ReadError.TheVariants as refusal;
+    ghost use Rattle.agg_request.specs.declared.json_values.read_error.ReadError.TheVariants
+        as refusal;
 
     ghost from_gives = { λ _ error. error ≡ refusal.OutOfMemory };
 
@@ -31,7 +32,7 @@ impl From<OutOfMemory> for ReadError {
 
 impl From<KeyTextError> for ReadError {
     ghost use Rattle.std.specs.Prelude.{◌≡◌};
-    ghost use Rattle.agg_json.specs.Reading.{refusal_of};
+    ghost use Rattle.agg_request.specs.json_values.Reading.{refusal_of};
 
     ghost from_gives = { λ error refusal. refusal ≡ refusal_of error };
 

@@ -1,15 +1,15 @@
 //! Composites from JSON.
 ghost use Rattle.serde_json.specs.View.{view};
-ghost use Rattle.agg_request_json.specs.CompositeJson.{HasUnsupportedComposite, IsCompositeJson};
-ghost use Rattle.agg_json.specs.Reading.{IsReading};
+ghost use Rattle.agg_request.specs.reading.CompositeJson.{HasUnsupportedComposite, IsCompositeJson};
+ghost use Rattle.agg_request.specs.json_values.Reading.{IsReading};
 
 mod after;
 mod size;
 mod sources;
 mod words;
 
+use crate::json_values::ReadError;
 use after::read_after;
-use agg_json::ReadError;
 use agg_request_tree::CompositeAggregation;
 use serde_json::Value;
 use size::read_size;

@@ -3,9 +3,11 @@ ghost use Rattle.std.specs.Prelude.{◌≡◌};
 ghost use Rattle.agg_values.specs.Laws.{IsSameness};
 ghost use Rattle.agg_values.specs.declared.order.Order.TheVariants.{Desc};
 ghost use Rattle.agg_values.specs.declared.order_target.OrderTarget.TheVariants.{Count};
-ghost use Rattle.agg_request_json.specs.declared.custom_order.CustomOrder.{CustomOrder as Declared};
+ghost use Rattle.agg_request.specs.declared.reading.custom_order.CustomOrder.{
+  CustomOrder as Declared,
+};
 
-use crate::CustomOrder;
+use crate::reading::CustomOrder;
 
 /// Equality of orders of buckets goes by target and direction.
 pub fn order_equality_is_sameness()

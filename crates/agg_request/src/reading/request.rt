@@ -4,21 +4,21 @@ ghost use Rattle.serde_json.specs.Data.{depth, members_depth};
 ghost use Rattle.serde_json.specs.Find.{get};
 ghost use Rattle.serde_json.specs.View.{members_view, view};
 ghost use Rattle.agg_values.specs.Names.{put};
-ghost use Rattle.agg_request_json.specs.Builders.{left_behind, left_below, left_by_each};
-ghost use Rattle.agg_json.specs.Reading.{IsReadingWith};
-ghost use Rattle.agg_json.specs.Json.{HasUnsupportedMember, names_in};
-ghost use Rattle.agg_request_json.specs.RequestJson.{HasUnknownBuilder, HasUnsupportedAggregation};
-ghost use Rattle.agg_request_json.specs.RequestJson.{HasUnsupportedBelow, HasUnsupportedRequest};
-ghost use Rattle.agg_request_json.specs.RequestJson.{IsAggregation, IsBelow, IsNoRequest};
-ghost use Rattle.agg_request_json.specs.RequestJson.{IsNoRequestAtAll, IsRequestJson};
-ghost use Rattle.agg_request_json.specs.RequestJson.{IsRequestWithin};
-ghost use Rattle.agg_request_json.specs.RequestJson.{may_hold};
+ghost use Rattle.agg_request.specs.reading.Builders.{left_behind, left_below, left_by_each};
+ghost use Rattle.agg_request.specs.json_values.Reading.{IsReadingWith};
+ghost use Rattle.agg_request.specs.json_values.Json.{HasUnsupportedMember, names_in};
+ghost use Rattle.agg_request.specs.reading.RequestJson.{HasUnknownBuilder};
+ghost use Rattle.agg_request.specs.reading.RequestJson.{HasUnsupportedAggregation};
+ghost use Rattle.agg_request.specs.reading.RequestJson.{HasUnsupportedBelow, HasUnsupportedRequest};
+ghost use Rattle.agg_request.specs.reading.RequestJson.{IsAggregation, IsBelow, IsNoRequest};
+ghost use Rattle.agg_request.specs.reading.RequestJson.{IsNoRequestAtAll, IsRequestJson};
+ghost use Rattle.agg_request.specs.reading.RequestJson.{IsRequestWithin, may_hold};
 
 mod builders;
 mod kind;
 
-use agg_json::ReadError;
-use agg_json::json_value::{has_member, is_inhabited, only_other};
+use crate::json_values::ReadError;
+use crate::json_values::json_value::{has_member, is_inhabited, only_other};
 use agg_request_tree::{Aggregation, Aggregations, NamedBuilder};
 use agg_values::{NameMap, OutOfMemory, Text};
 pub use builders::HasName;
@@ -47,7 +47,7 @@ pub fn read_aggregations(
     read_request(alloc, value, builders)
 }
 
-/// The same with builders of any type that have names.
+/// The request that a JSON value says, with builders of any type that have names.
 pub fn read_request<B: HasName>(
     alloc: Global,
     value: &Value,
@@ -109,7 +109,7 @@ fn put_aggregation<B: Drop>(
     Ok(())
 }
 
-// Its kind, and then what is below it.
+// An aggregation: its kind, and then what is below it.
 #[cycle(requests)]
 fn read_aggregation<B: HasName>(
     alloc: Global,

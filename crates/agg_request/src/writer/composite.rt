@@ -1,9 +1,10 @@
 //! Composites to JSON.
-ghost use Rattle.std.specs.Prelude.{◌≡◌, false, IfOk, OnOk};
+ghost use Rattle.std.specs.Prelude.{◌≡◌, false, true, IfOk, OnOk};
 ghost use Rattle.serde_json.specs.View.{members_view, view};
-ghost use Rattle.agg_request_json.specs.CompositeJson.{IsCompositeJson, IsKeyJson};
-ghost use Rattle.agg_json.specs.Json.{EachNamedIs};
+ghost use Rattle.agg_request.specs.reading.CompositeJson.{IsCompositeJson, IsKeyJson};
+ghost use Rattle.agg_request.specs.json_values.Json.{EachNamedIs};
 ghost use Rattle.agg_request.specs.ReadBack.{AreKeysReadBack, IsWritten};
+ghost use Rattle.agg_request.specs.Written.{have_no_null_min};
 ghost use Rattle.agg_request.specs.WrittenJson.{data_of_composite, data_of_key, with_after};
 
 use super::sources::write_sources;
@@ -18,6 +19,7 @@ pub fn write_composite(
     alloc: Global,
     composite: &CompositeAggregation,
 ) -> Result<Value, OutOfMemory>
+    requires { have_no_null_min composite.now.sources ≡ true }
     ensures { IfOk result (λ value.
         IsWritten data_of_composite (IsCompositeJson false) (view value) composite.now) }
 {
@@ -62,8 +64,8 @@ fn write_after(alloc: Global, after: &NameMap<AfterKey>) -> Result<Map<String, V
     Ok(members)
 }
 
-// The text of a key.
-fn write_key(alloc: Global, key: &AfterKey) -> Result<Value, OutOfMemory>
+/// The text of a key.
+pub(super) fn write_key(alloc: Global, key: &AfterKey) -> Result<Value, OutOfMemory>
     ensures { IfOk result (λ value.
         IsWritten data_of_key (IsKeyJson false) (view value) key.now) }
 {

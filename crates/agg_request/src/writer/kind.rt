@@ -1,16 +1,17 @@
 //! What an aggregation asks, to JSON.
-ghost use Rattle.std.specs.Prelude.{◌≡◌, IfOk, false};
+ghost use Rattle.std.specs.Prelude.{◌≡◌, IfOk, false, true};
 ghost use Rattle.serde_json.specs.View.{view};
 ghost use Rattle.serde_json.specs.Data.{object};
 ghost use Rattle.agg_request.specs.ReadBack.{IsWritten, SaysKind};
-ghost use Rattle.agg_request_json.specs.RequestJson.{IsMetric};
-ghost use Rattle.agg_request_json.specs.RequestJson.{kind_word};
+ghost use Rattle.agg_request.specs.Written.{has_no_null_min};
+ghost use Rattle.agg_request.specs.reading.RequestJson.{IsMetric};
+ghost use Rattle.agg_request.specs.reading.RequestJson.{kind_word};
 ghost use Rattle.agg_request.specs.WrittenJson.{data_of_kind, field_members};
 
 use super::composite::write_composite;
 use super::objects::{field_member, object_of};
 use super::query::write_query;
-use agg_request_json::HasName;
+use crate::reading::HasName;
 use agg_request_tree::{AggregationVariants, FilterAggregation, FilterQuery};
 use agg_values::{OutOfMemory, Text};
 use serde_json::Value;
@@ -35,6 +36,7 @@ pub fn write_kind<B: HasName>(
     alloc: Global,
     agg: &AggregationVariants<B>,
 ) -> Result<Value, OutOfMemory>
+    requires { has_no_null_min agg.now ≡ true }
     ensures { IfOk result (λ value.
         IsWritten (data_of_kind B.name_of) (SaysKind B.name_of) (view value) agg.now) }
 {

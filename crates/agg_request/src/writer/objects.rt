@@ -1,7 +1,7 @@
 //! Objects by their members.
 ghost use Rattle.std.specs.Prelude.{◌≡◌, IfOk};
 ghost use Rattle.serde_json.specs.View.{members_view, view};
-ghost use Rattle.agg_json.specs.Json.{alone};
+ghost use Rattle.agg_request.specs.json_values.Json.{alone};
 ghost use Rattle.agg_request.specs.WrittenJson.{field_members};
 
 use agg_values::{OutOfMemory, Text};

@@ -2,8 +2,8 @@
 ghost use Rattle.std.specs.Prelude.{◌≡◌, IfOk, map};
 ghost use Rattle.serde_json.specs.Data.{object};
 ghost use Rattle.serde_json.specs.View.{items_view, view};
-ghost use Rattle.agg_json.specs.Json.{EachIs};
-ghost use Rattle.agg_json.specs.Query.{IsQuery};
+ghost use Rattle.agg_request.specs.json_values.Json.{EachIs};
+ghost use Rattle.agg_request.specs.json_values.Query.{IsQuery};
 ghost use Rattle.agg_request.specs.ReadBack.{IsWritten, SaysFilter};
 ghost use Rattle.agg_request.specs.WrittenJson.{data_of_query, list_members};
 

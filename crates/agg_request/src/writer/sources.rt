@@ -1,13 +1,16 @@
 //! Sources of composites to JSON.
-ghost use Rattle.std.specs.Prelude.{◌≡◌, codes, false, IfOk, OnOk, option_map};
+ghost use Rattle.std.specs.Prelude.{◌≡◌, codes, false, true, IfOk, OnOk, option_map};
 ghost use Rattle.serde_json.specs.Data.{object};
 ghost use Rattle.serde_json.specs.View.{items_view, members_view, view};
-ghost use Rattle.agg_request_json.specs.CompositeJson.{IsSourceBody, IsSourceJson, unit_word};
-ghost use Rattle.agg_json.specs.Json.{alone, EachIs};
-ghost use Rattle.agg_request.specs.ReadBack.{IsWritten};
+ghost use Rattle.agg_request.specs.reading.CompositeJson.{IsSourceBody, IsSourceJson, unit_word};
+ghost use Rattle.agg_request.specs.json_values.Json.{alone, EachIs};
+ghost use Rattle.agg_request.specs.ReadBack.{IsLeastReadBack, IsWritten};
+ghost use Rattle.agg_request.specs.Written.{have_no_null_min, is_null};
 ghost use Rattle.agg_request.specs.WrittenJson.{data_of_source, shared_members};
-ghost use Rattle.agg_request.specs.WrittenJson.{source_members, with_text};
+ghost use Rattle.agg_request.specs.WrittenJson.{source_members, with_least, with_text};
+ghost use Rattle.agg_request_tree.specs.Source.{min_of};
 
+use super::composite::write_key;
 use super::objects::object_of;
 use super::words::{missing_order_word, order_word, unit_word, write_interval};
 use agg_calendar::CalendarInterval;
@@ -15,7 +18,7 @@ use agg_request_tree::{
     CompositeAggregationSource, DateHistogramCompositeAggregationSource,
     HistogramCompositeAggregationSource, TermCompositeAggregationSource,
 };
-use agg_values::{MissingOrder, Order, OutOfMemory, Text};
+use agg_values::{AfterKey, MissingOrder, Order, OutOfMemory, Text};
 use serde_json::{Map, Value, put};
 use std::alloc::Global;
 
@@ -24,6 +27,7 @@ pub fn write_sources(
     alloc: Global,
     sources: &[CompositeAggregationSource],
 ) -> Result<Vec<Value>, OutOfMemory>
+    requires { have_no_null_min sources.now ≡ true }
     ensures { IfOk result
         (λ items. EachIs (IsWritten data_of_source (IsSourceJson false))
         (items_view items.items) sources.now) }
@@ -37,6 +41,7 @@ pub fn write_sources(
 
 // A source under its name.
 fn write_source(alloc: Global, source: &CompositeAggregationSource) -> Result<Value, OutOfMemory>
+    requires { is_null (min_of source.now) ≡ false }
     ensures { IfOk result (λ value.
         IsWritten data_of_source (IsSourceJson false) (view value) source.now) }
 {
@@ -69,6 +74,7 @@ fn named(alloc: Global, name: &Text, kind: &str, body: Value) -> Result<Value, O
 
 // The body of a terms source.
 fn write_terms(alloc: Global, source: &TermCompositeAggregationSource) -> Result<Value, OutOfMemory>
+    requires { is_null (min_of (CompositeAggregationSource.Terms source.now)) ≡ false }
     ensures written { IfOk result
         (λ value. view value
         ≡ object (source_members (CompositeAggregationSource.Terms source.now))) }
@@ -77,7 +83,8 @@ fn write_terms(alloc: Global, source: &TermCompositeAggregationSource) -> Result
         (CompositeAggregationSource.Terms source.now)) }
 {
     let (order, place) = (source.order, source.missing_order);
-    let body = shared_members(alloc, &source.field, order, source.missing_bucket, place)?;
+    let mut body = shared_members(alloc, &source.field, order, source.missing_bucket, place)?;
+    put_min(alloc, &mut body, &source.min)?;
     Ok(Value::from(body))
 }
 
@@ -86,6 +93,7 @@ fn write_histogram(
     alloc: Global,
     source: &HistogramCompositeAggregationSource,
 ) -> Result<Value, OutOfMemory>
+    requires { is_null (min_of (CompositeAggregationSource.Histogram source.now)) ≡ false }
     ensures written { IfOk result
         (λ value. view value
         ≡ object (source_members (CompositeAggregationSource.Histogram source.now))) }
@@ -101,6 +109,7 @@ fn write_histogram(
         "interval",
         write_interval(source.interval),
     )?;
+    put_min(alloc, &mut body, &source.min)?;
     Ok(Value::from(body))
 }
 
@@ -109,6 +118,7 @@ fn write_date_histogram(
     alloc: Global,
     source: &DateHistogramCompositeAggregationSource,
 ) -> Result<Value, OutOfMemory>
+    requires { is_null (min_of (CompositeAggregationSource.DateHistogram source.now)) ≡ false }
     ensures written { IfOk result
         (λ value. view value
         ≡ object (source_members (CompositeAggregationSource.DateHistogram source.now))) }
@@ -118,8 +128,10 @@ fn write_date_histogram(
 {
     let (order, place) = (source.order, source.missing_order);
     let mut body = shared_members(alloc, &source.field, order, source.missing_bucket, place)?;
-    put_fixed(alloc, &mut body, &source.fixed_interval)?;
+    put_text(alloc, &mut body, "fixed_interval", &source.fixed_interval)?;
     put_calendar(alloc, &mut body, source.calendar_interval)?;
+    put_text(alloc, &mut body, "offset", &source.offset)?;
+    put_min(alloc, &mut body, &source.min)?;
     Ok(Value::from(body))
 }
 
@@ -163,22 +175,40 @@ fn shared_members(
     Ok(body)
 }
 
-// Adds the fixed interval, where there is one.
-fn put_fixed(
+// Adds a text under a name, where there is one.
+fn put_text(
     alloc: Global,
     body: &mut Map<String, Value>,
+    name: &str,
     text: &Option<Text>,
 ) -> Result<(), OutOfMemory>
-    ensures { OnOk result (members_view body.new.entries ≡ with_text (codes "fixed_interval")
+    ensures { OnOk result (members_view body.new.entries ≡ with_text name.now
         text.now (members_view body.old.entries)) }
 {
     if let Some(text) = text {
         put(
             body,
             alloc,
-            "fixed_interval",
+            name,
             Value::try_from_str(alloc, text.as_str())?,
         )?;
+    }
+    Ok(())
+}
+
+// Adds the least value, where there is one.
+fn put_min(
+    alloc: Global,
+    body: &mut Map<String, Value>,
+    min: &Option<AfterKey>,
+) -> Result<(), OutOfMemory>
+    requires { is_null (option_map (λ key. key.0) min.now) ≡ false }
+    ensures written { OnOk result (members_view body.new.entries ≡ with_least min.now
+        (members_view body.old.entries)) }
+    ensures says { OnOk result (IsLeastReadBack min.now) }
+{
+    if let Some(key) = min {
+        put(body, alloc, "min", write_key(alloc, key)?)?;
     }
     Ok(())
 }

@@ -3,8 +3,9 @@ ghost use Rattle.std.specs.Prelude.{◌≡◌, false};
 ghost use Rattle.serde_json.specs.Data.{number, unsigned};
 ghost use Rattle.serde_json.specs.Find.{of_integer};
 ghost use Rattle.serde_json.specs.View.{view};
-ghost use Rattle.agg_request_json.specs.CompositeJson.{missing_order_word, order_word, unit_word};
-ghost use Rattle.agg_json.specs.Json.{IsWhole, small_number, whole_number};
+ghost use Rattle.agg_request.specs.reading.CompositeJson.{missing_order_word, order_word};
+ghost use Rattle.agg_request.specs.reading.CompositeJson.{unit_word};
+ghost use Rattle.agg_request.specs.json_values.Json.{IsWhole, small_number, whole_number};
 
 use agg_calendar::CalendarInterval;
 use agg_values::{MissingOrder, Order};

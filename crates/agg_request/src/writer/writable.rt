@@ -1,16 +1,20 @@
 //! Which requests may be written.
-ghost use Rattle.std.specs.Prelude.{◌≡◌, ◌||◌, codes, not};
+ghost use Rattle.std.specs.Prelude.{◌≡◌, ◌||◌, codes, not, option_map};
 ghost use Rattle.std.specs.Map.{keys_of};
 ghost use Rattle.std.specs.Str.{bytes_eq};
-ghost use Rattle.agg_json.specs.Json.{is_among};
-ghost use Rattle.agg_request_json.specs.RequestJson.{are_free, kind_word, may_hold, metric_kinds};
-ghost use Rattle.agg_request.specs.Written.{all_may_be_written, may_be_written};
+ghost use Rattle.agg_request.specs.json_values.Json.{is_among};
+ghost use Rattle.agg_request.specs.reading.RequestJson.{are_free, kind_word, may_hold};
+ghost use Rattle.agg_request.specs.reading.RequestJson.{metric_kinds};
+ghost use Rattle.agg_request.specs.Written.{all_may_be_written, has_no_null_min, have_no_null_min};
+ghost use Rattle.agg_request.specs.Written.{is_null, may_be_written};
 
-use agg_request_tree::{Aggregation, AggregationVariants, Aggregations};
-use agg_values::NameMap;
+use agg_request_tree::{
+    Aggregation, AggregationVariants, Aggregations, CompositeAggregationSource,
+};
+use agg_values::{CompositeIntermediateKey, NameMap};
 
-/// Whether a request may be written: a metric has no aggregations below it, and no aggregation
-/// below another has the name of a member of a bucket.
+/// Whether a request may be written: a metric has no aggregations below it, no aggregation below
+/// another has the name of a member of a bucket, and no source has Null as its least value.
 pub fn may_be_written(request: &Aggregations) -> bool
     ensures { result ≡ all_may_be_written request.now }
 {
@@ -33,8 +37,37 @@ fn all_may_be_written<B: Drop>(request: &NameMap<Aggregation<B>>) -> bool
 fn is_writable<B: Drop>(aggregation: &Aggregation<B>) -> bool
     ensures { result ≡ may_be_written aggregation.now }
 {
+    if !has_no_null_min(&aggregation.agg) {
+        return false;
+    }
     may_hold(&aggregation.agg, &aggregation.sub_aggregation)
         && all_may_be_written(&aggregation.sub_aggregation)
+}
+
+// Whether no source of an aggregation has Null as its least value.
+fn has_no_null_min<B>(agg: &AggregationVariants<B>) -> bool
+    ensures { result ≡ has_no_null_min agg.now }
+{
+    match agg {
+        AggregationVariants::Composite(composite) => {
+            have_no_null_min(composite.sources.as_slice())
+        }
+        _ => true,
+    }
+}
+
+// Whether no source has.
+fn have_no_null_min(sources: &[CompositeAggregationSource]) -> bool
+    ensures { result ≡ have_no_null_min sources.now }
+{
+    sources.iter().all(|source| !is_null(source.min()))
+}
+
+// Whether a key is Null, if there is one.
+fn is_null(key: Option<&CompositeIntermediateKey>) -> bool
+    ensures { result ≡ is_null (option_map (λ k. k.now) key.entry) }
+{
+    matches!(key, Some(CompositeIntermediateKey::Null))
 }
 
 // Whether an aggregation may have aggregations of these names below it.

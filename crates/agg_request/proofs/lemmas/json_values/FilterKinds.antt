@@ -9,15 +9,17 @@ use Rattle.serde_json.specs.Data.{no_members, depth}
 use Rattle.serde_json.specs.Find.{as_str}
 use Rattle.agg_segment.specs.declared.query.QueryTree.{QueryTree}
 use Rattle.agg_segment.specs.declared.query.QueryTree.TheVariants.{All, Empty}
-use Rattle.agg_json.specs.Json.{only_member}
-use Rattle.agg_json.specs.Query.{HasUnsupportedFilter, HasUnsupportedAt, HasUnsupportedBody}
-use Rattle.agg_json.specs.Query.{HasUnsupportedBound, HasUnsupportedIn, IsBoolean, IsExists}
-use Rattle.agg_json.specs.Query.{IsFilter, IsFilterOf, IsNoQueryAtAll, IsOfKind, IsPlain}
-use Rattle.agg_json.specs.Query.{IsQuery, IsRange, IsTerm}
-use Rattle.agg_json.specs.Reading.{IsReading}
-use Rattle.agg_json.specs.declared.read_error.ReadError.{ReadError}
-use Rattle.agg_json.specs.declared.read_error.ReadError.TheVariants.{Unsupported, Grammar}
-use Rattle.agg_json.proofs.Readings.{read_as}
+use Rattle.agg_request.specs.json_values.Json.{only_member}
+use Rattle.agg_request.specs.json_values.Query.{HasUnsupportedFilter, HasUnsupportedAt}
+use Rattle.agg_request.specs.json_values.Query.{HasUnsupportedBody, HasUnsupportedBound}
+use Rattle.agg_request.specs.json_values.Query.{HasUnsupportedIn, IsBoolean, IsExists, IsFilter}
+use Rattle.agg_request.specs.json_values.Query.{IsFilterOf, IsNoQueryAtAll, IsOfKind, IsPlain}
+use Rattle.agg_request.specs.json_values.Query.{IsQuery, IsRange, IsTerm}
+use Rattle.agg_request.specs.json_values.Reading.{IsReading}
+use Rattle.agg_request.specs.declared.json_values.read_error.ReadError.{ReadError}
+use Rattle.agg_request.specs.declared.json_values.read_error.ReadError.TheVariants.{Unsupported}
+use Rattle.agg_request.specs.declared.json_values.read_error.ReadError.TheVariants.{Grammar}
+use Rattle.agg_request.proofs.lemmas.json_values.Readings.{read_as}
 
 -- ---- kinds
 
@@ -84,7 +86,7 @@ module _ (name : List ℕ) (body : Data) where
   some_kind lenient IsInner tree (inr (inr (inr (inr (inl (is, h)))))) = (exists, is, h)
   some_kind lenient IsInner tree (inr (inr (inr (inr (inr (is, h)))))) = (bool, is, h)
 
-  -- and of no other kind
+  -- a body by the name of its kind is a body of no other kind
   only_kind : (lenient : Bool) (IsInner : Data → QueryTree → Type 0) (tree : QueryTree)
       → (kind : FilterKind) → name ≡ word_of kind → IsOfKind lenient IsInner name body tree
       → IsBody lenient IsInner kind body tree

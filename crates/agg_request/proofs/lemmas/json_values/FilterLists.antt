@@ -11,12 +11,14 @@ use Rattle.serde_json.specs.Find.{as_array, get, get_member}
 use Rattle.serde_json.specs.View.{view, items_view}
 use Rattle.serde_json.specs.declared.value.Value.{Value}
 use Rattle.agg_segment.specs.declared.query.QueryTree.{QueryTree}
-use Rattle.agg_json.specs.Json.{EachIs, HasUnsupportedItem, HasUnsupportedList, IsList, IsListAt}
-use Rattle.agg_json.specs.Query.{HasUnsupportedFilter, HasUnsupportedBody, IsBoolean, IsFilter}
-use Rattle.agg_json.specs.Reading.{IsReading, IsRefusal}
-use Rattle.agg_json.specs.declared.read_error.ReadError.{ReadError}
-use Rattle.agg_json.proofs.Items.{each_at, each_more, some_at}
-use Rattle.agg_json.proofs.Readings.{read_as, refused_by}
+use Rattle.agg_request.specs.json_values.Json.{EachIs, HasUnsupportedItem, HasUnsupportedList}
+use Rattle.agg_request.specs.json_values.Json.{IsList, IsListAt}
+use Rattle.agg_request.specs.json_values.Query.{HasUnsupportedFilter, HasUnsupportedBody, IsBoolean}
+use Rattle.agg_request.specs.json_values.Query.{IsFilter}
+use Rattle.agg_request.specs.json_values.Reading.{IsReading, IsRefusal}
+use Rattle.agg_request.specs.declared.json_values.read_error.ReadError.{ReadError}
+use Rattle.agg_request.proofs.lemmas.json_values.Items.{each_at, each_more, some_at}
+use Rattle.agg_request.proofs.lemmas.json_values.Readings.{read_as, refused_by}
 
 -- ---- items
 
@@ -77,7 +79,7 @@ found_lower Less a b e n h p q = q e h
 found_lower Equal a b e n h p q = let same : b ≡ e = cc in subst (λ x. depth x ≤ n) same p
 found_lower Greater a b e n h p q = q e h
 
--- the same of a member
+-- what is found among members lies no lower than the deepest of them
 member_lower : (k : List ℕ) (ms : Members) (e : Data) → get_member k ms ≡ Some e
     → depth e ≤ members_depth ms
 member_lower k no_members e h = absurd (cc)
@@ -85,7 +87,7 @@ member_lower k (member l d ms) e h =
     found_lower (slice_cmp nat_cmp k l) (get_member k ms) d e _ h (omega arith)
     (λ x y. omega (arith, member_lower k ms x y))
 
--- the same of a value
+-- what is found at a name of a value lies lower than the value
 pub get_lower : (k : List ℕ) (d e : Data) → get k d ≡ Some e → depth e < depth d
 get_lower k null e h = absurd (cc)
 get_lower k (boolean b) e h = absurd (cc)
@@ -147,7 +149,7 @@ refused_must n body error result is told =
     (HasUnsupportedBody (HasUnsupportedFilter n) body)
     error result is told (λ h. inl h) (λ lenient tree h. (h.0, h.5))
 
--- the same of the second list
+-- a refused second list refuses the body
 pub refused_should : (n : ℕ) (body : Data) (error : ReadError)
     (result : Result QueryTree ReadError) → IsErrAnd result (λ e. e ≡ error)
     → IsRefusal (λ lenient. IsListAt (IsFilter lenient n) (codes "should") body)
@@ -161,7 +163,7 @@ refused_should n body error result is told =
     (HasUnsupportedBody (HasUnsupportedFilter n) body)
     error result is told (λ h. inr (inl h)) (λ lenient tree h. (h.1, h.6))
 
--- the same of the third list
+-- a refused third list refuses the body
 pub refused_must_not : (n : ℕ) (body : Data) (error : ReadError)
     (result : Result QueryTree ReadError) → IsErrAnd result (λ e. e ≡ error)
     → IsRefusal (λ lenient. IsListAt (IsFilter lenient n) (codes "must_not") body)

@@ -4,17 +4,17 @@ use Rattle.std.proofs.Common.{Result, IsErrAnd, codes, subst}
 use Rattle.std.proofs.Common.{option_and_then, inl, inr}
 use Rattle.serde_json.specs.Data.{Data}
 use Rattle.serde_json.specs.Find.{as_str, get}
-use Rattle.agg_column.specs.declared.document.FieldValue.{FieldValue}
+use Rattle.agg_segment.specs.declared.storage.document.FieldValue.{FieldValue}
 use Rattle.agg_segment.specs.declared.query.RangeBound.{RangeBound}
 use Rattle.agg_segment.specs.declared.query.RangeBound.TheVariants.{Unbounded, Included, Excluded}
 use Rattle.agg_segment.specs.declared.query.QueryTree.{QueryTree}
-use Rattle.agg_json.specs.Json.{IsField, text_at}
-use Rattle.agg_json.specs.Query.{HasUnsupportedAt, HasUnsupportedBound, HasUnsupportedEnd}
-use Rattle.agg_json.specs.Query.{IsBound, IsExists, IsRange, IsTerm, IsUnsupportedText, Says}
-use Rattle.agg_json.specs.Query.{SaysAt}
-use Rattle.agg_json.specs.Reading.{IsReading, IsRefusal}
-use Rattle.agg_json.specs.declared.read_error.ReadError.{ReadError}
-use Rattle.agg_json.proofs.Readings.{read_as, refused_by}
+use Rattle.agg_request.specs.json_values.Json.{IsField, text_at}
+use Rattle.agg_request.specs.json_values.Query.{HasUnsupportedAt, HasUnsupportedBound}
+use Rattle.agg_request.specs.json_values.Query.{HasUnsupportedEnd, IsBound, IsExists, IsRange}
+use Rattle.agg_request.specs.json_values.Query.{IsTerm, IsUnsupportedText, Says, SaysAt}
+use Rattle.agg_request.specs.json_values.Reading.{IsReading, IsRefusal}
+use Rattle.agg_request.specs.declared.json_values.read_error.ReadError.{ReadError}
+use Rattle.agg_request.proofs.lemmas.json_values.Readings.{read_as, refused_by}
 
 -- ---- a value at a member
 
@@ -81,7 +81,7 @@ refused_included including excluding body error result there absent is told =
     (HasUnsupportedEnd including excluding body) error result is told (λ h. inl h)
     (λ lenient bound h. included_of lenient including excluding body bound there absent h)
 
--- the same of an excluded end
+-- a refused value of an excluded end refuses the end
 pub refused_excluded : (including excluding : List ℕ) (body : Data) (error : ReadError)
     (result : Result RangeBound ReadError) → is_some (get including body) ≡ false
     → is_some (get excluding body) ≡ true → IsErrAnd result (λ e. e ≡ error)
@@ -122,7 +122,7 @@ refused_lower body error result is told =
     (HasUnsupportedBound body) error result is told (λ h. inl h)
     (λ lenient tree h. (h.1, h.6))
 
--- the same of the upper end
+-- a refused upper end refuses the range
 pub refused_upper : (body : Data) (error : ReadError) (result : Result QueryTree ReadError)
     → IsErrAnd result (λ e. e ≡ error)
     → IsRefusal (λ lenient. IsBound lenient (codes "lte") (codes "lt") body)

@@ -5,7 +5,7 @@ use Rattle.std.proofs.lemmas.List.{take_more}
 use Rattle.serde_json.specs.Data.{Data}
 use Rattle.serde_json.specs.View.{view, items_view}
 use Rattle.serde_json.specs.declared.value.Value.{Value}
-use Rattle.agg_json.specs.Json.{EachIs, HasUnsupportedItem}
+use Rattle.agg_request.specs.json_values.Json.{EachIs, HasUnsupportedItem}
 
 -- what one item is read as
 pub each_at : {A : Type 0} (Is : Data → A → Type 0) (vs : List Value) (i : ℕ) (v : Value)
@@ -33,7 +33,7 @@ each_put Is [] v (y ∷ xs) x h is = absurd h
 each_put Is (w ∷ vs) v [] x h is = absurd h
 each_put Is (w ∷ vs) v (y ∷ xs) x h is = (h.0, each_put Is vs v xs x h.1 is)
 
--- the same of the items so far
+-- one more item after those so far
 pub each_more : {A : Type 0} (Is : Data → A → Type 0) (vs : List Value) (i : ℕ) (v : Value)
     (xs : List A) (x : A) (more : List A) → i < length vs → v ≡ get_or vs i v
     → EachIs Is (items_view (take i vs)) xs → Is (view v) x → more ≡ xs ++ x ∷ []

@@ -13,7 +13,7 @@ use Rattle.serde_json.specs.Find.{as_object}
 use Rattle.serde_json.specs.View.{members_view}
 use Rattle.serde_json.specs.declared.value.Value.{Value}
 use Rattle.serde_json.proofs.Views.{Entry, members_len-members_view}
-use Rattle.agg_json.specs.Json.{has_members}
+use Rattle.agg_request.specs.json_values.Json.{has_members}
 
 -- ---- objects
 

@@ -3,7 +3,7 @@ use Rattle.std.proofs.Common.{ℕ, List, ◌∷◌, Option, None, Some, Bor, opt
 use Rattle.serde_json.specs.Data.{Data, Members}
 use Rattle.serde_json.specs.View.{view}
 use Rattle.serde_json.specs.declared.value.Value.{Value}
-use Rattle.agg_json.specs.Json.{others, the_only}
+use Rattle.agg_request.specs.json_values.Json.{others, the_only}
 
 -- the one that was seen, if any, before the members to come
 abbrev pub other_onward : List ℕ → Option (List ℕ × Data) → Members → Option (List ℕ × Data)

@@ -1,10 +1,11 @@
 -- What a reading answers, from what the readings of its parts answer.
 use Rattle.std.proofs.Common.{◌≡◌, Bool, false, Result, Ok, Err, IsErrAnd, subst, sym}
-use Rattle.agg_json.specs.declared.read_error.ReadError.{ReadError}
-use Rattle.agg_json.specs.declared.read_error.ReadError.TheVariants.{Unsupported, Grammar}
-use Rattle.agg_json.specs.declared.read_error.ReadError.TheVariants.{UnknownBuilder}
-use Rattle.agg_json.specs.declared.read_error.ReadError.TheVariants.{OutOfMemory}
-use Rattle.agg_json.specs.Reading.{IsReading, IsRefusal}
+use Rattle.agg_request.specs.declared.json_values.read_error.ReadError.{ReadError}
+use Rattle.agg_request.specs.declared.json_values.read_error.ReadError.TheVariants.{Unsupported}
+use Rattle.agg_request.specs.declared.json_values.read_error.ReadError.TheVariants.{Grammar}
+use Rattle.agg_request.specs.declared.json_values.read_error.ReadError.TheVariants.{UnknownBuilder}
+use Rattle.agg_request.specs.declared.json_values.read_error.ReadError.TheVariants.{OutOfMemory}
+use Rattle.agg_request.specs.json_values.Reading.{IsReading, IsRefusal}
 
 -- a refusal of a part is one of the whole
 pub refused : {A B : Type 0} (Part : Bool → B → Type 0) (HasPart : Type 0) (Is : Bool → A → Type 0)
@@ -38,7 +39,7 @@ refused_by Part HasPart Is Has error (Ok x) is told up part = absurd is
 refused_by Part HasPart Is Has error (Err e) is told up part =
     refused Part HasPart Is Has e (subst (IsRefusal Part HasPart) (sym is) told) up part
 
--- the same of a part and a whole that are read strictly alone
+-- a refusal that is passed on, of a part and a whole that are read strictly alone
 pub refused_part : {A B : Type 0} (Part : B → Type 0) (Is : A → Type 0) (error : ReadError)
     (result : Result A ReadError) → IsErrAnd result (λ e. e ≡ error)
     → IsRefusal (λ lenient. Part) ⊥ error → ((x : A) → Is x → (y : B) × Part y)

@@ -10,16 +10,16 @@ use Rattle.agg_values.specs.TypedKey.{CompositeIntermediateKey}
 use Rattle.agg_values.specs.declared.typed_key.CompositeIntermediateKey.TheVariants as key
 use Rattle.agg_values.specs.declared.error.KeyTextError.{KeyTextError}
 use Rattle.agg_values.specs.declared.error.KeyTextError.TheVariants as key_text
-use Rattle.agg_column.specs.Document.{said_key}
-use Rattle.agg_column.specs.declared.document.FieldValue.{FieldValue}
-use Rattle.agg_json.specs.Query.{IsUnsupportedText, Says, SaysKey}
-use Rattle.agg_json.specs.Reading.{IsReading, IsRefusal, refusal_of}
-use Rattle.agg_json.specs.declared.read_error.ReadError.{ReadError}
-use Rattle.agg_json.specs.declared.read_error.ReadError.TheVariants.{Grammar}
-use Rattle.agg_json.proofs.Readings.{refused}
+use Rattle.agg_segment.specs.storage.Document.{said_key}
+use Rattle.agg_segment.specs.declared.storage.document.FieldValue.{FieldValue}
+use Rattle.agg_request.specs.json_values.Query.{IsUnsupportedText, Says, SaysKey}
+use Rattle.agg_request.specs.json_values.Reading.{IsReading, IsRefusal, refusal_of}
+use Rattle.agg_request.specs.declared.json_values.read_error.ReadError.{ReadError}
+use Rattle.agg_request.specs.declared.json_values.read_error.ReadError.TheVariants.{Grammar}
+use Rattle.agg_request.proofs.lemmas.json_values.Readings.{refused}
 
 -- a text that begins as a key's is not of the type that isn't supported
-supported : (text : List ℕ) (k : CompositeIntermediateKey) (rest : List ℕ)
+pub supported : (text : List ℕ) (k : CompositeIntermediateKey) (rest : List ℕ)
     → text ≡ kind_text k ++ colon ∷ rest → ¬ (IsUnsupportedText text)
 supported text (key.Bool b) rest e (more, f) =
     omega (arith, ap (λ t. get_or t 0 0) (sym e ∙ f))
@@ -103,7 +103,7 @@ read_text text k None result is known only some none =
     said lenient value (inl h) = none value (sym (only (said_key value) h))
     said lenient value (inr h) = supported text k known.0 known.1 h.1
 
--- the same, for a copy of the text and a result that passes the refusal on
+-- what is read of a copy of a key's text, where the refusal is passed on
 pub refused_copy : (text copy : List ℕ) (error : KeyTextError)
     (result : Result FieldValue ReadError)
     → copy ≡ text → IsErrAnd result (λ refusal. refusal ≡ refusal_of error) → IsRefusedAs copy error

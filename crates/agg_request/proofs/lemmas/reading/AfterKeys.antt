@@ -15,14 +15,15 @@ use Rattle.agg_values.specs.TypedKey.{CompositeIntermediateKey}
 use Rattle.agg_values.specs.declared.after_key.AfterKey.{AfterKey}
 use Rattle.agg_values.specs.declared.error.KeyTextError.{KeyTextError}
 use Rattle.agg_values.specs.declared.error.KeyTextError.TheVariants.{OutOfMemory}
-use Rattle.agg_request_json.specs.CompositeJson.{IsKeyJson, IsUnsupportedKey}
-use Rattle.agg_json.specs.Json.{EachNamedIs, HasUnsupportedMember}
-use Rattle.agg_json.specs.Query.{IsUnsupportedText, SaysKey}
-use Rattle.agg_json.specs.Reading.{IsReading, IsRefusal, refusal_of}
-use Rattle.agg_json.specs.declared.read_error.ReadError.{ReadError}
-use Rattle.agg_json.proofs.JsonLemmas.{Ascends, Ascends-none, Ascends-more, put_next}
-use Rattle.agg_json.proofs.Readings.{refused_by}
-use Rattle.agg_json.proofs.ValueTexts.{refused_key}
+use Rattle.agg_request.specs.reading.CompositeJson.{IsKeyJson, IsUnsupportedKey}
+use Rattle.agg_request.specs.json_values.Json.{EachNamedIs, HasUnsupportedMember}
+use Rattle.agg_request.specs.json_values.Query.{IsUnsupportedText, SaysKey}
+use Rattle.agg_request.specs.json_values.Reading.{IsReading, IsRefusal, refusal_of}
+use Rattle.agg_request.specs.declared.json_values.read_error.ReadError.{ReadError}
+use Rattle.agg_request.proofs.lemmas.json_values.JsonLemmas.{Ascends, Ascends-none, Ascends-more}
+use Rattle.agg_request.proofs.lemmas.json_values.JsonLemmas.{put_next}
+use Rattle.agg_request.proofs.lemmas.json_values.Readings.{refused_by}
+use Rattle.agg_request.proofs.lemmas.json_values.ValueTexts.{refused_key}
 
 -- ---- a key
 

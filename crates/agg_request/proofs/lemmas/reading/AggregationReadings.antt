@@ -5,20 +5,20 @@ use Rattle.std.proofs.Common.{List, option_and_then, ap, ◌∙◌, subst, inl, 
 use Rattle.serde_json.specs.Data.{Data, null, boolean, number, string, array, object, Members}
 use Rattle.serde_json.specs.Data.{depth, members_depth}
 use Rattle.serde_json.specs.Find.{as_object, get}
-use Rattle.agg_request_json.specs.Builders.{left_behind, left_below, left_by_each, left_by_kind}
-use Rattle.agg_request_json.specs.Builders.{left_by_object, left_by_own}
-use Rattle.agg_json.specs.Json.{HasUnsupportedMember, names_in, only_other}
-use Rattle.agg_request_json.specs.RequestJson.{HasUnsupportedAggregation, HasUnsupportedAsked}
-use Rattle.agg_request_json.specs.RequestJson.{HasUnsupportedBelow, IsAggregation, IsBelow, IsKind}
-use Rattle.agg_request_json.specs.RequestJson.{IsRequestWithin, may_hold}
-use Rattle.agg_json.specs.Reading.{IsReadingWith}
+use Rattle.agg_request.specs.reading.Builders.{left_behind, left_below, left_by_each, left_by_kind}
+use Rattle.agg_request.specs.reading.Builders.{left_by_object, left_by_own}
+use Rattle.agg_request.specs.json_values.Json.{HasUnsupportedMember, names_in, only_other}
+use Rattle.agg_request.specs.reading.RequestJson.{HasUnsupportedAggregation, HasUnsupportedAsked}
+use Rattle.agg_request.specs.reading.RequestJson.{HasUnsupportedBelow, IsAggregation, IsBelow}
+use Rattle.agg_request.specs.reading.RequestJson.{IsKind, IsRequestWithin, may_hold}
+use Rattle.agg_request.specs.json_values.Reading.{IsReadingWith}
 use Rattle.agg_request_tree.specs.Request.{Request, agg_of, aggregation_of, below_of}
 use Rattle.agg_request_tree.specs.declared.aggregation.Aggregation.{Aggregation}
 use Rattle.agg_request_tree.specs.declared.aggregation.Aggregation.TheViews.{out-roll-Aggregation}
 use Rattle.agg_request_tree.specs.declared.aggregation.AggregationVariants.{AggregationVariants}
-use Rattle.agg_json.specs.declared.read_error.ReadError.{ReadError}
-use Rattle.agg_json.proofs.FilterLists.{get_lower}
-use Rattle.agg_request_json.proofs.PoolReadings.{passed_with, read_with}
+use Rattle.agg_request.specs.declared.json_values.read_error.ReadError.{ReadError}
+use Rattle.agg_request.proofs.lemmas.json_values.FilterLists.{get_lower}
+use Rattle.agg_request.proofs.lemmas.reading.PoolReadings.{passed_with, read_with}
 
 -- ---- depths
 
@@ -41,7 +41,7 @@ asks : {B : Type 0} (agg : AggregationVariants B) (below : Request B)
 asks {B = B} agg below =
     rw (out-roll-Aggregation B (record { agg = agg; sub_aggregation = below }), agg_of) refl
 
--- and what is below it
+-- what is below an aggregation that is made
 holds : {B : Type 0} (agg : AggregationVariants B) (below : Request B)
     → below_of (aggregation_of agg below) ≡ below
 holds {B = B} agg below =
@@ -152,7 +152,7 @@ module _ {B : Type 0} (name_of : B → List ℕ) (d : Data) where
         ),
       )
 
-      -- and leave what those below leave
+      -- the kind and what is below leave what those below leave
       pub left_by_both : (n : ℕ) (mid pool rest : List B) → depth d < n
           → left_by_kind name_of kind body pool ≡ Some mid
           → ((m : ℕ) → depth d ≤ m → left_below name_of m d mid ≡ Some rest)
@@ -221,7 +221,7 @@ module _ {B : Type 0} (name_of : B → List ℕ) (kind : List ℕ) (d : Data) wh
           (λ lenient some below h. (members_below lenient n some below h).1)
           (λ none. left_by_members n pool ∙ none)
 
-      -- and what they leave is left
+      -- what the members leave is left
       pub left_there : (n : ℕ) (pool rest : List B) (result : Result (Request B) ReadError)
           → depth d ≤ n
           → ((m : ℕ) → members_depth members < m

@@ -5,23 +5,24 @@ use Rattle.std.proofs.Common.{is_some, inl, inr}
 use Rattle.std.specs.Str.{bytes_eq}
 use Rattle.serde_json.specs.Data.{Data}
 use Rattle.agg_segment.specs.declared.query.QueryTree.{QueryTree}
-use Rattle.agg_request_json.specs.Builders.{builder_name, left_by_filter, left_by_kind}
-use Rattle.agg_json.specs.Json.{is_among, present}
-use Rattle.agg_json.specs.Query.{HasUnsupportedQuery, IsNoQueryAtAll, IsQuery}
-use Rattle.agg_request_json.specs.RequestJson.{HasUnsupportedAsked, IsKind, IsMetric, IsQueryOf}
-use Rattle.agg_request_json.specs.RequestJson.{metric_kinds, unsupported_kinds}
-use Rattle.agg_json.specs.Reading.{IsReadingWith, IsRefusal}
+use Rattle.agg_request.specs.reading.Builders.{builder_name, left_by_filter, left_by_kind}
+use Rattle.agg_request.specs.json_values.Json.{is_among, present}
+use Rattle.agg_request.specs.json_values.Query.{HasUnsupportedQuery, IsNoQueryAtAll, IsQuery}
+use Rattle.agg_request.specs.reading.RequestJson.{HasUnsupportedAsked, IsKind, IsMetric, IsQueryOf}
+use Rattle.agg_request.specs.reading.RequestJson.{metric_kinds, unsupported_kinds}
+use Rattle.agg_request.specs.json_values.Reading.{IsReadingWith, IsRefusal}
 use Rattle.agg_request_tree.specs.declared.aggregation.AggregationVariants as variants
 use variants.{AggregationVariants}
 use variants.TheVariants.{Filter, Composite, Count, Max, Min, Sum}
 use Rattle.agg_request_tree.specs.declared.aggregation.filter.FilterQuery.{FilterQuery}
 use Rattle.agg_request_tree.specs.declared.aggregation.filter.FilterQuery.TheVariants as by
 use by.{Tree, CustomBuilder}
-use Rattle.agg_json.specs.declared.read_error.ReadError.{ReadError}
-use Rattle.agg_json.specs.declared.read_error.ReadError.TheVariants.{Unsupported, Grammar}
-use Rattle.agg_json.specs.declared.read_error.ReadError.TheVariants.{UnknownBuilder}
-use Rattle.agg_json.specs.declared.read_error.ReadError.TheVariants.{OutOfMemory}
-use Rattle.agg_request_json.proofs.PoolReadings.{passed_alone, passed_with}
+use Rattle.agg_request.specs.declared.json_values.read_error.ReadError.{ReadError}
+use Rattle.agg_request.specs.declared.json_values.read_error.ReadError.TheVariants.{Unsupported}
+use Rattle.agg_request.specs.declared.json_values.read_error.ReadError.TheVariants.{Grammar}
+use Rattle.agg_request.specs.declared.json_values.read_error.ReadError.TheVariants.{UnknownBuilder}
+use Rattle.agg_request.specs.declared.json_values.read_error.ReadError.TheVariants.{OutOfMemory}
+use Rattle.agg_request.proofs.lemmas.reading.PoolReadings.{passed_alone, passed_with}
 
 -- ---- metrics
 
@@ -70,7 +71,7 @@ module _ {B : Type 0} (name_of : B → List ℕ) (body : Data) (plain : builder_
   no_filter none some (Tree tree) (inr (may, h)) = true≢false (sym may)
   no_filter none some (CustomBuilder builder) (name, e, h) = absurd (cc)
 
-  -- the same leniently
+  -- a filter that asks for no builder, and is no tree even leniently, is none
   no_filter_at_all : ((tree : QueryTree) → ¬ (IsQuery body tree)) → IsNoQueryAtAll body
       → (lenient : Bool) (some : List B) (x : FilterQuery B)
       → ¬ (IsQueryOf lenient name_of body some x)

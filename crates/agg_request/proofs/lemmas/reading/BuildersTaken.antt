@@ -3,7 +3,7 @@ use Rattle.std.proofs.Common.{◌≡◌, ◌<◌, ◌≤◌, ◌+◌, ℕ, suc, 
 use Rattle.std.proofs.Common.{true, Option, None, Some, option_map, refl, sym, ap, ◌∙◌, arith}
 use Rattle.std.proofs.Common.{bytes_eq, get_or, remove}
 use Rattle.std.proofs.lemmas.List.{get_or_default, drop_more, drop_all}
-use Rattle.agg_request_json.specs.Builders.{taken}
+use Rattle.agg_request.specs.reading.Builders.{taken}
 
 -- what was passed by, before what is left
 abbrev pub before : {B : Type 0} → List B → Option (B × List B) → Option (B × List B)

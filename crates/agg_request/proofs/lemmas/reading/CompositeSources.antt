@@ -6,14 +6,14 @@ use Rattle.serde_json.specs.Data.{Data, Items}
 use Rattle.serde_json.specs.Find.{as_array, get}
 use Rattle.agg_calendar.specs.declared.interval.CalendarInterval.{CalendarInterval}
 use Rattle.agg_calendar.specs.declared.interval.CalendarInterval.TheVariants.{Year, Month, Week}
-use Rattle.agg_request_json.specs.CompositeJson.{AreSources, HasUnsupportedInterval}
-use Rattle.agg_request_json.specs.CompositeJson.{HasUnsupportedKind}
-use Rattle.agg_request_json.specs.CompositeJson.{HasUnsupportedSource, IsSourceBody, IsSourceJson}
-use Rattle.agg_request_json.specs.CompositeJson.{IsSourceOfKind, unit_word}
-use Rattle.agg_json.specs.Json.{EachIs, HasUnsupportedItem, only_member}
-use Rattle.agg_json.specs.Reading.{IsReading}
+use Rattle.agg_request.specs.reading.CompositeJson.{AreSources, HasUnsupportedInterval}
+use Rattle.agg_request.specs.reading.CompositeJson.{HasUnsupportedKind, HasUnsupportedSource}
+use Rattle.agg_request.specs.reading.CompositeJson.{IsSourceBody, IsSourceJson, IsSourceOfKind}
+use Rattle.agg_request.specs.reading.CompositeJson.{unit_word}
+use Rattle.agg_request.specs.json_values.Json.{EachIs, HasUnsupportedItem, only_member}
+use Rattle.agg_request.specs.json_values.Reading.{IsReading}
 use Rattle.agg_request_tree.specs.Source.{Sources}
-use Rattle.agg_json.specs.declared.read_error.ReadError.{ReadError}
+use Rattle.agg_request.specs.declared.json_values.read_error.ReadError.{ReadError}
 use Rattle.agg_request_tree.specs.declared.source.CompositeAggregationSource as any_source
 use any_source.{CompositeAggregationSource}
 use any_source.TheVariants.{Terms, Histogram, DateHistogram}
@@ -23,7 +23,7 @@ use Rattle.agg_request_tree.specs.declared.source.HistogramCompositeAggregationS
 use numbers.{HistogramCompositeAggregationSource as Numbers}
 use Rattle.agg_request_tree.specs.declared.source.DateHistogramCompositeAggregationSource as dates
 use dates.{DateHistogramCompositeAggregationSource as Dates}
-use Rattle.agg_json.proofs.Readings.{read_as}
+use Rattle.agg_request.proofs.lemmas.json_values.Readings.{read_as}
 
 -- ---- kinds
 

@@ -1,12 +1,12 @@
 -- Orders of buckets as JSON.
 use Rattle.std.proofs.Common.{◌≡◌, None, Some, Result, inl, inr, refl, subst, sym}
 use Rattle.serde_json.specs.Data.{Data, null, boolean, number, string, array, object}
-use Rattle.agg_json.specs.Json.{only_item, only_member}
-use Rattle.agg_request_json.specs.OrderJson.{IsOrderJson, IsPair, data_of_order, read_back}
-use Rattle.agg_json.specs.Reading.{IsReading}
-use Rattle.agg_request_json.specs.declared.custom_order.CustomOrder.{CustomOrder}
-use Rattle.agg_json.specs.declared.read_error.ReadError.{ReadError}
-use Rattle.agg_json.proofs.Readings.{read_as}
+use Rattle.agg_request.specs.json_values.Json.{only_item, only_member}
+use Rattle.agg_request.specs.reading.OrderJson.{IsOrderJson, IsPair, data_of_order, read_back}
+use Rattle.agg_request.specs.json_values.Reading.{IsReading}
+use Rattle.agg_request.specs.declared.reading.custom_order.CustomOrder.{CustomOrder}
+use Rattle.agg_request.specs.declared.json_values.read_error.ReadError.{ReadError}
+use Rattle.agg_request.proofs.lemmas.json_values.Readings.{read_as}
 
 -- an array has no members
 no-member : (d item : Data) → only_item d ≡ Some item → only_member d ≡ None

@@ -11,15 +11,16 @@ use Rattle.serde_json.specs.View.{view, members_view}
 use Rattle.serde_json.specs.declared.value.Value.{Value}
 use Rattle.serde_json.proofs.Views.{Entry}
 use Rattle.agg_values.specs.Names.{put}
-use Rattle.agg_request_json.specs.Builders.{left_by_each}
-use Rattle.agg_json.specs.Reading.{IsReadingWith}
+use Rattle.agg_request.specs.reading.Builders.{left_by_each}
+use Rattle.agg_request.specs.json_values.Reading.{IsReadingWith}
 use Rattle.agg_request_tree.specs.Request.{Request}
-use Rattle.agg_json.specs.Json.{HasUnsupportedMember}
-use Rattle.agg_request_json.specs.RequestJson.{AreAggregations}
+use Rattle.agg_request.specs.json_values.Json.{HasUnsupportedMember}
+use Rattle.agg_request.specs.reading.RequestJson.{AreAggregations}
 use Rattle.agg_request_tree.specs.declared.aggregation.Aggregation.{Aggregation}
-use Rattle.agg_json.specs.declared.read_error.ReadError.{ReadError}
-use Rattle.agg_json.proofs.JsonLemmas.{Ascends, Ascends-none, Ascends-more, put_next}
-use Rattle.agg_request_json.proofs.PoolReadings.{passed_with}
+use Rattle.agg_request.specs.declared.json_values.read_error.ReadError.{ReadError}
+use Rattle.agg_request.proofs.lemmas.json_values.JsonLemmas.{Ascends, Ascends-none, Ascends-more}
+use Rattle.agg_request.proofs.lemmas.json_values.JsonLemmas.{put_next}
+use Rattle.agg_request.proofs.lemmas.reading.PoolReadings.{passed_with}
 
 -- ---- the names and the depths of the members
 
@@ -41,7 +42,7 @@ IsInOrder-none {B = B} es done rest none all sorted =
 module _ {B : Type 0} (all : Members) (done : Request B) (rest : List Entry)
     (name : String Global) (d : Value) (later : List Entry) (h : IsInOrder all done rest)
     (e : rest ≡ (name, d) ∷ later) where
-  -- the same of the members that are left
+  -- the members that are left, told by the first of them, are in order
   next_in_order : IsInOrder all done ((name, d) ∷ later)
   next_in_order = subst (λ (some : List Entry). IsInOrder all done some) e h
 
@@ -115,7 +116,7 @@ module _ {B : Type 0} (left : Data → List B → Option (List B))
   module _ (all : Members) (pool : List B) (done : Request B) (now : List B) (rest : List Entry)
       (name : String Global) (d : Value) (later : List Entry)
       (h : IsPartRead all pool done now rest) (e : rest ≡ (name, d) ∷ later) where
-    -- the same of the members that are left
+    -- the members that are left, told by the first of them, are still to be read
     next_read : IsPartRead all pool done now ((name, d) ∷ later)
     next_read = subst (λ (some : List Entry). IsPartRead all pool done now some) e h
 

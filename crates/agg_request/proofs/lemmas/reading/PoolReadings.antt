@@ -1,10 +1,11 @@
 -- What a reading with builders answers, from what the readings of its parts answer.
 use Rattle.std.proofs.Common.{◌≡◌, Bool, false, List, Result, Ok, Err, IsErrAnd, subst, sym}
-use Rattle.agg_json.specs.declared.read_error.ReadError.{ReadError}
-use Rattle.agg_json.specs.declared.read_error.ReadError.TheVariants.{Unsupported, Grammar}
-use Rattle.agg_json.specs.declared.read_error.ReadError.TheVariants.{UnknownBuilder}
-use Rattle.agg_json.specs.declared.read_error.ReadError.TheVariants.{OutOfMemory}
-use Rattle.agg_json.specs.Reading.{IsReadingWith, IsRefusal}
+use Rattle.agg_request.specs.declared.json_values.read_error.ReadError.{ReadError}
+use Rattle.agg_request.specs.declared.json_values.read_error.ReadError.TheVariants.{Unsupported}
+use Rattle.agg_request.specs.declared.json_values.read_error.ReadError.TheVariants.{Grammar}
+use Rattle.agg_request.specs.declared.json_values.read_error.ReadError.TheVariants.{UnknownBuilder}
+use Rattle.agg_request.specs.declared.json_values.read_error.ReadError.TheVariants.{OutOfMemory}
+use Rattle.agg_request.specs.json_values.Reading.{IsReadingWith, IsRefusal}
 
 -- a refusal of a part, read with the builders that were left for it, is one of the whole
 pub refused_with : {A B C : Type 0} (Part : Bool → List B → C → Type 0) (HasPart : Type 0)

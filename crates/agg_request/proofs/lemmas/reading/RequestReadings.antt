@@ -3,20 +3,21 @@ use Rattle.std.proofs.Common.{◌≡◌, ◌⊎◌, ◌<◌, suc, ℕ, false, Li
 use Rattle.std.proofs.Common.{Bool, IfOk, IsErrOf, subst, inl, inr, arith}
 use Rattle.serde_json.specs.Data.{Data, Members, depth, members_depth}
 use Rattle.serde_json.specs.Find.{as_object}
-use Rattle.agg_request_json.specs.Builders.{left_behind, left_by_each}
-use Rattle.agg_json.specs.Reading.{IsReadingWith}
+use Rattle.agg_request.specs.reading.Builders.{left_behind, left_by_each}
+use Rattle.agg_request.specs.json_values.Reading.{IsReadingWith}
 use Rattle.agg_request_tree.specs.Request.{Request}
-use Rattle.agg_json.specs.Json.{HasUnsupportedMember}
-use Rattle.agg_request_json.specs.RequestJson.{HasUnknownBuilder, HasUnsupportedAggregation}
-use Rattle.agg_request_json.specs.RequestJson.{HasUnsupportedRequest, IsAggregation, IsNoRequest}
-use Rattle.agg_request_json.specs.RequestJson.{IsNoRequestAtAll, IsRequestJson, IsRequestOf}
-use Rattle.agg_request_json.specs.RequestJson.{IsRequestWithin}
-use Rattle.agg_json.specs.declared.read_error.ReadError.{ReadError}
-use Rattle.agg_json.specs.declared.read_error.ReadError.TheVariants.{Unsupported, Grammar}
-use Rattle.agg_json.specs.declared.read_error.ReadError.TheVariants.{UnknownBuilder}
-use Rattle.agg_request_json.proofs.AggregationReadings.{object_lower}
-use Rattle.agg_request_json.proofs.PoolMembers.{leaves_some}
-use Rattle.agg_request_json.proofs.PoolReadings.{read_with}
+use Rattle.agg_request.specs.json_values.Json.{HasUnsupportedMember}
+use Rattle.agg_request.specs.reading.RequestJson.{HasUnknownBuilder, HasUnsupportedAggregation}
+use Rattle.agg_request.specs.reading.RequestJson.{HasUnsupportedRequest, IsAggregation, IsNoRequest}
+use Rattle.agg_request.specs.reading.RequestJson.{IsNoRequestAtAll, IsRequestJson, IsRequestOf}
+use Rattle.agg_request.specs.reading.RequestJson.{IsRequestWithin}
+use Rattle.agg_request.specs.declared.json_values.read_error.ReadError.{ReadError}
+use Rattle.agg_request.specs.declared.json_values.read_error.ReadError.TheVariants.{Unsupported}
+use Rattle.agg_request.specs.declared.json_values.read_error.ReadError.TheVariants.{Grammar}
+use Rattle.agg_request.specs.declared.json_values.read_error.ReadError.TheVariants.{UnknownBuilder}
+use Rattle.agg_request.proofs.lemmas.reading.AggregationReadings.{object_lower}
+use Rattle.agg_request.proofs.lemmas.reading.PoolMembers.{leaves_some}
+use Rattle.agg_request.proofs.lemmas.reading.PoolReadings.{read_with}
 
 module _ {B : Type 0} (pool : List B) (name_of : B → List ℕ) (d : Data) where
   -- what a reading of a request answers

@@ -3,10 +3,10 @@ use Rattle.serde_json.specs.Data.{object, member, no_members, put}
 use Rattle.serde_json.specs.View.{members_view, view}
 use Rattle.agg_request_tree.specs.Request.{agg_of, below_of}
 use Rattle.agg_request.specs.ReadBack.{IsWritten, SaysAggregation}
-use Rattle.agg_request_json.specs.RequestJson.{kind_word}
+use Rattle.agg_request.specs.reading.RequestJson.{kind_word}
 use Rattle.agg_request.specs.WrittenJson.{data_of_aggregation, with_below}
 use Rattle.agg_request_tree.proofs.RequestTrees.{height, height-out, levels}
-use Rattle.agg_request.proofs.Writable.{AreWritable-more, may-below}
+use Rattle.agg_request.proofs.Writable.{AreWritable-more, may-below, no-null-min}
 use Rattle.agg_request.proofs.WrittenMembers.{AreWrittenUpTo-more}
 use Rattle.agg_request.proofs.WrittenRequests.{is-aggregation}
 use Rattle.agg_request.proofs.writer.+written.Goals as goal
@@ -44,3 +44,6 @@ write_aggregation-returns g t c =
     is-aggregation g.B.HasName.name_of (view c.from.result) body below a
     (c.from.ensures ∙ ap object (c.in_ok-put_below.ensures ∙ ap (with_below below) own))
     c.in_ok-body.ensures c.in_ok-write_request.ensures c.requires
+
+pub write_aggregation-write_kind-requires : goal.write_aggregation-write_kind-requires
+write_aggregation-write_kind-requires g t c = no-null-min c.args.aggregation.now c.requires

@@ -1,14 +1,14 @@
 //! Filters with no filters inside.
 ghost use Rattle.std.specs.Prelude.{codes};
 ghost use Rattle.serde_json.specs.View.{view};
-ghost use Rattle.agg_json.specs.Query.{HasUnsupportedAt, HasUnsupportedBound, IsBound};
-ghost use Rattle.agg_json.specs.Query.{HasUnsupportedEnd, IsExists, IsPlain};
-ghost use Rattle.agg_json.specs.Query.{IsRange, IsTerm};
-ghost use Rattle.agg_json.specs.Reading.{IsReading};
+ghost use Rattle.agg_request.specs.json_values.Query.{HasUnsupportedAt, HasUnsupportedBound};
+ghost use Rattle.agg_request.specs.json_values.Query.{IsBound, HasUnsupportedEnd, IsExists};
+ghost use Rattle.agg_request.specs.json_values.Query.{IsPlain, IsRange, IsTerm};
+ghost use Rattle.agg_request.specs.json_values.Reading.{IsReading};
 
 use super::values::read_value_at;
-use crate::ReadError;
-use crate::members::{has_only, read_field};
+use crate::json_values::ReadError;
+use crate::json_values::members::{has_only, read_field};
 use agg_segment::{QueryTree, RangeBound};
 use serde_json::Value;
 use std::alloc::Global;

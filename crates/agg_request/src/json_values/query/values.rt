@@ -1,13 +1,14 @@
 //! Values from the texts of keys.
 ghost use Rattle.std.specs.Prelude.{◌≡◌, ◌≢◌, IfNone, IfSome};
 ghost use Rattle.serde_json.specs.View.{view};
-ghost use Rattle.agg_column.specs.Document.{said_key};
-ghost use Rattle.agg_column.specs.declared.document.FieldValue.{FieldValue as Said};
-ghost use Rattle.agg_json.specs.Query.{HasUnsupportedAt, IsUnsupportedText, Says, SaysAt};
-ghost use Rattle.agg_json.specs.Reading.{IsReading};
+ghost use Rattle.agg_segment.specs.storage.Document.{said_key};
+ghost use Rattle.agg_segment.specs.declared.storage.document.FieldValue.{FieldValue as Said};
+ghost use Rattle.agg_request.specs.json_values.Query.{HasUnsupportedAt, IsUnsupportedText, Says};
+ghost use Rattle.agg_request.specs.json_values.Query.{SaysAt};
+ghost use Rattle.agg_request.specs.json_values.Reading.{IsReading};
 
-use crate::ReadError;
-use crate::members::text_at;
+use crate::json_values::ReadError;
+use crate::json_values::members::text_at;
 use agg_segment::FieldValue;
 use agg_values::{AfterKey, CompositeIntermediateKey, Text};
 use serde_json::Value;

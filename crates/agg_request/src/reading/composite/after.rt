@@ -3,12 +3,12 @@ ghost use Rattle.std.specs.Prelude.{◌≡◌, OnOk, codes};
 ghost use Rattle.serde_json.specs.Find.{get};
 ghost use Rattle.serde_json.specs.View.{members_view, view};
 ghost use Rattle.agg_values.specs.Names.{put};
-ghost use Rattle.agg_request_json.specs.CompositeJson.{HasUnsupportedAfter, IsAfter, IsKeyJson};
-ghost use Rattle.agg_request_json.specs.CompositeJson.{IsUnsupportedKey};
-ghost use Rattle.agg_json.specs.Json.{EachNamedIs, HasUnsupportedMember};
-ghost use Rattle.agg_json.specs.Reading.{IsReading};
+ghost use Rattle.agg_request.specs.reading.CompositeJson.{HasUnsupportedAfter, IsAfter, IsKeyJson};
+ghost use Rattle.agg_request.specs.reading.CompositeJson.{IsUnsupportedKey};
+ghost use Rattle.agg_request.specs.json_values.Json.{EachNamedIs, HasUnsupportedMember};
+ghost use Rattle.agg_request.specs.json_values.Reading.{IsReading};
 
-use agg_json::ReadError;
+use crate::json_values::ReadError;
 use agg_values::{AfterKey, NameMap, OutOfMemory, Text};
 use serde_json::{Map, Value};
 use std::alloc::Global;
@@ -52,8 +52,8 @@ fn put_key(
     Ok(())
 }
 
-// The key that a text says.
-fn read_key(alloc: Global, value: &Value) -> Result<AfterKey, ReadError>
+/// The key that a text says.
+pub(super) fn read_key(alloc: Global, value: &Value) -> Result<AfterKey, ReadError>
     ensures { IsReading (λ lenient. IsKeyJson lenient (view value.now))
         (IsUnsupportedKey (view value.now)) result }
 {

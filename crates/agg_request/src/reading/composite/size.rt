@@ -1,12 +1,12 @@
 //! How many groups a page of a composite has room for.
 ghost use Rattle.std.specs.Prelude.{◌≡◌, ◌↔◌, IsTrue, codes};
 ghost use Rattle.serde_json.specs.View.{view};
-ghost use Rattle.agg_request_json.specs.CompositeJson.{IsSizeOf};
-ghost use Rattle.agg_json.specs.Json.{HasFloatAt, IsFloat};
-ghost use Rattle.agg_json.specs.Reading.{IsReading};
+ghost use Rattle.agg_request.specs.reading.CompositeJson.{IsSizeOf};
+ghost use Rattle.agg_request.specs.json_values.Json.{HasFloatAt, IsFloat};
+ghost use Rattle.agg_request.specs.json_values.Reading.{IsReading};
 
-use agg_json::ReadError;
-use agg_json::json_value::small_number;
+use crate::json_values::ReadError;
+use crate::json_values::json_value::small_number;
 use serde_json::Value;
 
 /// The size of a body, which has to be there.

@@ -2,18 +2,18 @@
 ghost use Rattle.std.specs.Prelude.{◌≡◌, codes, option_and_then, option_map};
 ghost use Rattle.serde_json.specs.Find.{as_array, get};
 ghost use Rattle.serde_json.specs.View.{items_view, view};
-ghost use Rattle.agg_request_json.specs.CompositeJson.{AreSources, HasUnsupportedInterval};
-ghost use Rattle.agg_request_json.specs.CompositeJson.{HasUnsupportedKind, HasUnsupportedSource};
-ghost use Rattle.agg_request_json.specs.CompositeJson.{IsSourceJson, IsSourceOfKind};
-ghost use Rattle.agg_json.specs.Json.{EachIs, HasUnsupportedItem};
-ghost use Rattle.agg_json.specs.Reading.{IsReading};
+ghost use Rattle.agg_request.specs.reading.CompositeJson.{AreSources, HasUnsupportedInterval};
+ghost use Rattle.agg_request.specs.reading.CompositeJson.{HasUnsupportedKind, HasUnsupportedSource};
+ghost use Rattle.agg_request.specs.reading.CompositeJson.{IsSourceJson, IsSourceOfKind};
+ghost use Rattle.agg_request.specs.json_values.Json.{EachIs, HasUnsupportedItem};
+ghost use Rattle.agg_request.specs.json_values.Reading.{IsReading};
 
 mod date_histogram;
 mod histogram;
 mod terms;
 
-use agg_json::ReadError;
-use agg_json::json_value::only_member;
+use crate::json_values::ReadError;
+use crate::json_values::json_value::only_member;
 use agg_request_tree::CompositeAggregationSource;
 use agg_values::ItemList;
 use date_histogram::read_date_histogram;

@@ -6,13 +6,17 @@ ghost use Rattle.agg_values.specs.declared.order.Order.{Order as Directed};
 ghost use Rattle.agg_values.specs.declared.order.Order.TheVariants.{Asc};
 ghost use Rattle.agg_values.specs.declared.order.MissingOrder.{MissingOrder as Placed};
 ghost use Rattle.agg_values.specs.declared.order.MissingOrder.TheVariants.{Default};
-ghost use Rattle.agg_request_json.specs.CompositeJson.{IsFlag, IsWordOr, missing_order_word};
-ghost use Rattle.agg_request_json.specs.CompositeJson.{order_word};
-ghost use Rattle.agg_json.specs.Reading.{IsReading};
+ghost use Rattle.agg_request.specs.reading.CompositeJson.{HasUnsupportedLeast, IsFlag, IsLeastOf};
+ghost use Rattle.agg_request.specs.reading.CompositeJson.{IsTextAt, IsWordOr, missing_order_word};
+ghost use Rattle.agg_request.specs.reading.CompositeJson.{order_word};
+ghost use Rattle.agg_request.specs.json_values.Reading.{IsReading};
 
-use agg_json::ReadError;
-use agg_values::{MissingOrder, Order};
+use super::after::read_key;
+use crate::json_values::ReadError;
+use crate::json_values::json_value::present;
+use agg_values::{AfterKey, CompositeIntermediateKey, MissingOrder, Order, Text};
 use serde_json::Value;
+use std::alloc::Global;
 
 /// The order of a body, `asc` where it names none.
 pub fn order(body: &Value) -> Result<Order, ReadError>
@@ -65,6 +69,34 @@ fn missing_order_of(word: &str) -> Option<MissingOrder>
         "last" => Some(MissingOrder::Last),
         _ => None,
     }
+}
+
+/// The least value of a body, where it is there. Null is none.
+pub fn min(alloc: Global, body: &Value) -> Result<Option<AfterKey>, ReadError>
+    ensures { IsReading (λ lenient. IsLeastOf lenient (view body.now))
+        (HasUnsupportedLeast (view body.now)) result }
+{
+    let Some(found) = present(body, "min") else {
+        return Ok(None);
+    };
+    let key = read_key(alloc, found)?;
+    if let CompositeIntermediateKey::Null = &key.0 {
+        return Err(ReadError::Grammar);
+    }
+    Ok(Some(key))
+}
+
+/// The text of a member, where it is there.
+pub fn text_at(alloc: Global, body: &Value, name: &str) -> Result<Option<Text>, ReadError>
+    ensures { IsReading (λ lenient. IsTextAt name.now (view body.now)) ⊥ result }
+{
+    let Some(found) = present(body, name) else {
+        return Ok(None);
+    };
+    let Some(text) = found.as_str() else {
+        return Err(ReadError::Grammar);
+    };
+    Ok(Some(Text::copy_of(alloc, text)?))
 }
 
 /// Whether a body gives documents without a value a bucket, false where it doesn't tell.

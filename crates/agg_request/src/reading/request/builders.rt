@@ -1,6 +1,6 @@
 //! The builders that were handed in and are still unused.
 ghost use Rattle.std.specs.Prelude.{◌≡◌, List, ℕ, option_map};
-ghost use Rattle.agg_request_json.specs.Builders.{taken};
+ghost use Rattle.agg_request.specs.reading.Builders.{taken};
 
 use agg_request_tree::NamedBuilder;
 
@@ -9,7 +9,7 @@ pub trait HasName: Drop {
     /// The name.
     ghost name_of: { Self → List ℕ };
 
-    /// Its name.
+    /// The name of the builder.
     fn name(&self) -> &str
         ensures { result.now ≡ name_of self.now };
 }
@@ -17,7 +17,7 @@ pub trait HasName: Drop {
 impl HasName for NamedBuilder {
     ghost name_of = { λ b. b.name };
 
-    /// Its name.
+    /// The name of the builder.
     fn name(&self) -> &str {
         self.name.as_str()
     }

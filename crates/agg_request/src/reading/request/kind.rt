@@ -2,19 +2,19 @@
 ghost use Rattle.std.specs.Prelude.{◌≡◌, ◌⊎◌, codes, IsSome, IsTrue, None, OnOk, Some, option_map};
 ghost use Rattle.serde_json.specs.Find.{as_str};
 ghost use Rattle.serde_json.specs.View.{view};
-ghost use Rattle.agg_request_json.specs.Builders.{builder_name, left_by_filter, left_by_kind};
-ghost use Rattle.agg_json.specs.Json.{is_among, present};
-ghost use Rattle.agg_json.specs.Query.{HasUnsupportedQuery};
-ghost use Rattle.agg_request_json.specs.RequestJson.{HasUnsupportedAsked, IsKind, IsMetric};
-ghost use Rattle.agg_request_json.specs.RequestJson.{IsQueryOf};
-ghost use Rattle.agg_request_json.specs.RequestJson.{IsUnsupportedKind, metric_kinds};
-ghost use Rattle.agg_json.specs.Reading.{IsReading, IsReadingWith};
+ghost use Rattle.agg_request.specs.reading.Builders.{builder_name, left_by_filter, left_by_kind};
+ghost use Rattle.agg_request.specs.json_values.Json.{is_among, present};
+ghost use Rattle.agg_request.specs.json_values.Query.{HasUnsupportedQuery};
+ghost use Rattle.agg_request.specs.reading.RequestJson.{HasUnsupportedAsked, IsKind, IsMetric};
+ghost use Rattle.agg_request.specs.reading.RequestJson.{IsQueryOf};
+ghost use Rattle.agg_request.specs.reading.RequestJson.{IsUnsupportedKind, metric_kinds};
+ghost use Rattle.agg_request.specs.json_values.Reading.{IsReading, IsReadingWith};
 
 use super::builders::{HasName, take_builder};
-use crate::read_composite;
-use agg_json::json_value::{only_named, present};
-use agg_json::members::{is_among, read_field};
-use agg_json::{ReadError, read_query};
+use crate::json_values::json_value::{only_named, present};
+use crate::json_values::members::{is_among, read_field};
+use crate::json_values::{ReadError, read_query};
+use crate::reading::read_composite;
 use agg_request_tree::{
     AggregationVariants, CountAggregation, FilterAggregation, FilterQuery, MaxAggregation,
     MinAggregation, SumAggregation,

@@ -1,8 +1,8 @@
 use Rattle.std.proofs.Common.{◌∙◌, ap, is_some, option_map}
 use Rattle.serde_json.specs.View.{view}
 use Rattle.serde_json.proofs.Views.{view_of_ref, view-lookup}
-use Rattle.agg_json.proofs.JsonLemmas.{is_some_map}
-use Rattle.agg_json.proofs.json_value.has_member.Goals as goal
+use Rattle.agg_request.proofs.lemmas.json_values.JsonLemmas.{is_some_map}
+use Rattle.agg_request.proofs.json_values.json_value.has_member.Goals as goal
 
 pub returns : goal.returns
 returns c =

@@ -1,7 +1,7 @@
 use Rattle.std.proofs.Common.{◌≡◌, map}
 use Rattle.serde_json.specs.View.{view, members_view}
-use Rattle.agg_json.specs.Json.{all_among, has_only}
-use Rattle.agg_json.proofs.members.has_only.Given as goal
+use Rattle.agg_request.specs.json_values.Json.{all_among, has_only}
+use Rattle.agg_request.proofs.json_values.members.has_only.Given as goal
 
 abbrev pub invariant-loop-name : goal.invariant-loop-name
 invariant-loop-name l =

@@ -1,6 +1,6 @@
 use Rattle.std.proofs.Common.{◌≡◌, map, drop}
-use Rattle.agg_json.specs.Json.{is_among}
-use Rattle.agg_json.proofs.members.is_among.Given as goal
+use Rattle.agg_request.specs.json_values.Json.{is_among}
+use Rattle.agg_request.proofs.json_values.members.is_among.Given as goal
 
 abbrev pub invariant-loop-other : goal.invariant-loop-other
 invariant-loop-other l =

@@ -2,13 +2,14 @@ use Rattle.std.proofs.Common.{◌≡◌, ◌+◌, ◌*◌, ◌<◌, Some, sym, s
 use Rattle.serde_json.specs.Data.{depth, items_depth}
 use Rattle.serde_json.specs.Find.{as_array, get}
 use Rattle.serde_json.specs.View.{view, items_view}
-use Rattle.agg_json.specs.Json.{only_member}
-use Rattle.agg_json.proofs.FilterKinds.{all, empty, term, range, exists, bool}
-use Rattle.agg_json.proofs.FilterKinds.{read_member, read_of_kind}
-use Rattle.agg_json.proofs.FilterLists.{array_lower, get_lower, item_lower, read_found}
-use Rattle.agg_json.proofs.FilterLists.{read_more, refused_item, refused_must, refused_must_not}
-use Rattle.agg_json.proofs.FilterLists.{refused_should}
-use Rattle.agg_json.proofs.query.+filters.Goals as goal
+use Rattle.agg_request.specs.json_values.Json.{only_member}
+use Rattle.agg_request.proofs.lemmas.json_values.FilterKinds.{all, empty, term, range, exists, bool}
+use Rattle.agg_request.proofs.lemmas.json_values.FilterKinds.{read_member, read_of_kind}
+use Rattle.agg_request.proofs.lemmas.json_values.FilterLists.{array_lower, get_lower, item_lower}
+use Rattle.agg_request.proofs.lemmas.json_values.FilterLists.{read_found, read_more, refused_item}
+use Rattle.agg_request.proofs.lemmas.json_values.FilterLists.{refused_must, refused_must_not}
+use Rattle.agg_request.proofs.lemmas.json_values.FilterLists.{refused_should}
+use Rattle.agg_request.proofs.json_values.query.+filters.Goals as goal
 
 pub read_bool-returns-in_err-must : goal.read_bool-returns-in_err-must
 read_bool-returns-in_err-must t c =

@@ -1,8 +1,8 @@
 use Rattle.std.proofs.Common.{◌+◌, ◌*◌}
 use Rattle.serde_json.specs.Data.{depth, items_depth}
 use Rattle.serde_json.specs.View.{view, items_view}
-use Rattle.agg_json.proofs.FilterLists.{ReadSoFar}
-use Rattle.agg_json.proofs.query.+filters.Given as goal
+use Rattle.agg_request.proofs.lemmas.json_values.FilterLists.{ReadSoFar}
+use Rattle.agg_request.proofs.json_values.query.+filters.Given as goal
 
 abbrev pub decreases-read_filter : goal.decreases-read_filter
 decreases-read_filter l = 4 * depth (view l.value.now)

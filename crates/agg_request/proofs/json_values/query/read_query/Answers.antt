@@ -2,8 +2,8 @@ use Rattle.std.proofs.Common.{◌≡◌, suc, None, arith, rules}
 use Rattle.serde_json.specs.Data.{depth}
 use Rattle.serde_json.specs.Find.{as_str}
 use Rattle.serde_json.specs.View.{view}
-use Rattle.agg_json.proofs.FilterKinds.{read_none, read_nothing}
-use Rattle.agg_json.proofs.query.read_query.Goals as goal
+use Rattle.agg_request.proofs.lemmas.json_values.FilterKinds.{read_none, read_nothing}
+use Rattle.agg_request.proofs.json_values.query.read_query.Goals as goal
 
 pub returns-clause-grammar : goal.returns-clause-grammar
 returns-clause-grammar c =

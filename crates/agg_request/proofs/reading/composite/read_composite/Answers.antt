@@ -1,10 +1,10 @@
 use Rattle.std.proofs.Common.{inl, inr, codes}
 use Rattle.serde_json.specs.View.{view}
-use Rattle.agg_request_json.specs.CompositeJson.{AreSources, HasUnsupportedComposite}
-use Rattle.agg_request_json.specs.CompositeJson.{HasUnsupportedSource, IsCompositeJson, IsSizeOf}
-use Rattle.agg_json.specs.Json.{HasFloatAt}
-use Rattle.agg_json.proofs.Readings.{refused_by}
-use Rattle.agg_request_json.proofs.composite.read_composite.Goals as goal
+use Rattle.agg_request.specs.reading.CompositeJson.{AreSources, HasUnsupportedComposite}
+use Rattle.agg_request.specs.reading.CompositeJson.{HasUnsupportedSource, IsCompositeJson, IsSizeOf}
+use Rattle.agg_request.specs.json_values.Json.{HasFloatAt}
+use Rattle.agg_request.proofs.lemmas.json_values.Readings.{refused_by}
+use Rattle.agg_request.proofs.reading.composite.read_composite.Goals as goal
 
 pub returns-in_err-sources : goal.returns-in_err-sources
 returns-in_err-sources c =

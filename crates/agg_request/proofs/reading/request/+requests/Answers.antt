@@ -3,17 +3,20 @@ use Rattle.serde_json.specs.Data.{depth, members_depth}
 use Rattle.serde_json.specs.Find.{as_object, get}
 use Rattle.serde_json.specs.View.{view, members_view}
 use Rattle.agg_values.specs.Names.{put}
-use Rattle.agg_request_json.specs.Builders.{left_behind}
-use Rattle.agg_json.specs.Json.{names_in, only_other}
-use Rattle.agg_request_json.specs.RequestJson.{HasUnsupportedAggregation, IsAggregation, may_hold}
-use Rattle.agg_request_json.proofs.AggregationReadings.{left_by_both, left_there, object_lower}
-use Rattle.agg_request_json.proofs.AggregationReadings.{read_both, read_there, refused_below}
-use Rattle.agg_request_json.proofs.AggregationReadings.{refused_kind}
-use Rattle.agg_json.proofs.FilterLists.{get_lower}
-use Rattle.agg_request_json.proofs.PoolMembers.{IsInOrder-more, IsInOrder-none, IsPartRead-all}
-use Rattle.agg_request_json.proofs.PoolMembers.{IsPartRead-left, IsPartRead-more, IsPartRead-none}
-use Rattle.agg_request_json.proofs.PoolMembers.{IsPartRead-refused, next_lower, put_last}
-use Rattle.agg_request_json.proofs.request.+requests.Goals as goal
+use Rattle.agg_request.specs.reading.Builders.{left_behind}
+use Rattle.agg_request.specs.json_values.Json.{names_in, only_other}
+use Rattle.agg_request.specs.reading.RequestJson.{HasUnsupportedAggregation, IsAggregation}
+use Rattle.agg_request.specs.reading.RequestJson.{may_hold}
+use Rattle.agg_request.proofs.lemmas.reading.AggregationReadings.{left_by_both, left_there}
+use Rattle.agg_request.proofs.lemmas.reading.AggregationReadings.{object_lower, read_both}
+use Rattle.agg_request.proofs.lemmas.reading.AggregationReadings.{read_there, refused_below}
+use Rattle.agg_request.proofs.lemmas.reading.AggregationReadings.{refused_kind}
+use Rattle.agg_request.proofs.lemmas.json_values.FilterLists.{get_lower}
+use Rattle.agg_request.proofs.lemmas.reading.PoolMembers.{IsInOrder-more, IsInOrder-none}
+use Rattle.agg_request.proofs.lemmas.reading.PoolMembers.{IsPartRead-all, IsPartRead-left}
+use Rattle.agg_request.proofs.lemmas.reading.PoolMembers.{IsPartRead-more, IsPartRead-none}
+use Rattle.agg_request.proofs.lemmas.reading.PoolMembers.{IsPartRead-refused, next_lower, put_last}
+use Rattle.agg_request.proofs.reading.request.+requests.Goals as goal
 
 pub read_aggregation-returns-in_err-agg-clause-read
     : goal.read_aggregation-returns-in_err-agg-clause-read

@@ -1,10 +1,10 @@
 use Rattle.std.proofs.Common.{◌<◌, ◌+◌, ◌*◌, ℕ}
 use Rattle.serde_json.specs.Data.{depth, members_depth}
 use Rattle.serde_json.specs.View.{view, members_view}
-use Rattle.agg_request_json.specs.Builders.{left_behind}
-use Rattle.agg_request_json.specs.RequestJson.{HasUnsupportedAggregation, IsAggregation}
-use Rattle.agg_request_json.proofs.PoolMembers.{IsInOrder, IsPartRead}
-use Rattle.agg_request_json.proofs.request.+requests.Given as goal
+use Rattle.agg_request.specs.reading.Builders.{left_behind}
+use Rattle.agg_request.specs.reading.RequestJson.{HasUnsupportedAggregation, IsAggregation}
+use Rattle.agg_request.proofs.lemmas.reading.PoolMembers.{IsInOrder, IsPartRead}
+use Rattle.agg_request.proofs.reading.request.+requests.Given as goal
 
 abbrev pub decreases-read_members : goal.decreases-read_members
 decreases-read_members g l = 2 * members_depth (members_view l.members.now.entries) + 2

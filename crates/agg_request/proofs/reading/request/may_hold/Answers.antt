@@ -1,6 +1,6 @@
 use Rattle.std.proofs.Common.{rules}
-use Rattle.agg_request_json.proofs.NamesBelow.{holds-members}
-use Rattle.agg_request_json.proofs.request.may_hold.Goals as goal
+use Rattle.agg_request.proofs.lemmas.reading.NamesBelow.{holds-members}
+use Rattle.agg_request.proofs.reading.request.may_hold.Goals as goal
 
 pub returns-then-is_inhabited : goal.returns-then-is_inhabited
 returns-then-is_inhabited c = rw holds-members (search rules)

@@ -1,9 +1,9 @@
 use Rattle.std.proofs.Common.{◌≡◌, Some, rules}
 use Rattle.serde_json.specs.Find.{as_object}
 use Rattle.serde_json.specs.View.{view, members_view}
-use Rattle.agg_request_json.proofs.RequestReadings.{no_request, outside, read_ok, unknown}
-use Rattle.agg_request_json.proofs.RequestReadings.{unsupported}
-use Rattle.agg_request_json.proofs.request.read_request.Goals as goal
+use Rattle.agg_request.proofs.lemmas.reading.RequestReadings.{no_request, outside, read_ok, unknown}
+use Rattle.agg_request.proofs.lemmas.reading.RequestReadings.{unsupported}
+use Rattle.agg_request.proofs.reading.request.read_request.Goals as goal
 
 pub returns : goal.returns
 returns g c =

@@ -4,8 +4,8 @@ use Rattle.serde_json.specs.Data.{Members, object, put}
 use Rattle.serde_json.specs.View.{members_view}
 use Rattle.agg_values.specs.Names.{Named}
 use Rattle.agg_values.specs.declared.after_key.AfterKey.{AfterKey}
-use Rattle.agg_request_json.specs.CompositeJson.{IsKeyJson}
-use Rattle.agg_json.specs.Json.{EachNamedIs}
+use Rattle.agg_request.specs.reading.CompositeJson.{IsKeyJson}
+use Rattle.agg_request.specs.json_values.Json.{EachNamedIs}
 use Rattle.agg_request.specs.WrittenJson.{data_of_key, members_of, with_after}
 use Rattle.agg_request.proofs.WrittenMembers.{members-say, members-written}
 use Rattle.agg_request.proofs.writer.composite.put_after.Goals as goal

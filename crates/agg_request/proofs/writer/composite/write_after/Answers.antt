@@ -1,7 +1,7 @@
 use Rattle.std.proofs.Common.{false, ap, ◌∙◌}
 use Rattle.serde_json.specs.Data.{put}
 use Rattle.serde_json.specs.View.{members_view, view}
-use Rattle.agg_request_json.specs.CompositeJson.{IsKeyJson}
+use Rattle.agg_request.specs.reading.CompositeJson.{IsKeyJson}
 use Rattle.agg_request.specs.ReadBack.{IsWritten}
 use Rattle.agg_request.specs.WrittenJson.{data_of_key}
 use Rattle.agg_request.proofs.WrittenMembers.{AreWrittenUpTo-more}

@@ -1,6 +1,6 @@
 use Rattle.std.proofs.Common.{false}
 use Rattle.serde_json.specs.View.{members_view}
-use Rattle.agg_request_json.specs.CompositeJson.{IsKeyJson}
+use Rattle.agg_request.specs.reading.CompositeJson.{IsKeyJson}
 use Rattle.agg_request.specs.ReadBack.{IsWritten}
 use Rattle.agg_request.specs.WrittenJson.{data_of_key}
 use Rattle.agg_request.proofs.WrittenMembers.{AreWrittenUpTo}

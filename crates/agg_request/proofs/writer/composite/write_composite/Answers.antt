@@ -1,8 +1,8 @@
 use Rattle.std.proofs.Common.{◌≡◌, codes, false, map, ap, ◌∙◌, subst, sym, rules}
 use Rattle.serde_json.specs.Data.{object, array, number, unsigned, member, no_members}
 use Rattle.serde_json.specs.View.{items_of, items_view, members_view, view}
-use Rattle.agg_request_json.specs.CompositeJson.{IsCompositeJson, IsSourceJson}
-use Rattle.agg_json.specs.Json.{EachIs, IsWhole, small_number}
+use Rattle.agg_request.specs.reading.CompositeJson.{IsCompositeJson, IsSourceJson}
+use Rattle.agg_request.specs.json_values.Json.{EachIs, IsWhole, small_number}
 use Rattle.agg_request.specs.ReadBack.{IsWritten}
 use Rattle.agg_request.specs.WrittenJson.{data_of_composite, data_of_source, with_after}
 use Rattle.agg_request.proofs.WrittenComposites.{is-composite}

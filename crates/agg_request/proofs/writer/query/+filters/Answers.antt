@@ -2,8 +2,8 @@ use Rattle.std.proofs.Common.{◌≡◌, ◌<◌, ℕ, [], codes, false, true, i
 use Rattle.std.proofs.Common.{subst, ap, ◌∙◌}
 use Rattle.serde_json.specs.Data.{depth, no_members, object}
 use Rattle.serde_json.specs.View.{view}
-use Rattle.agg_json.specs.Json.{alone, has_only}
-use Rattle.agg_json.specs.Query.{IsBoolean, IsExists, IsFilter, IsRange, IsTerm}
+use Rattle.agg_request.specs.json_values.Json.{alone, has_only}
+use Rattle.agg_request.specs.json_values.Query.{IsBoolean, IsExists, IsFilter, IsRange, IsTerm}
 use Rattle.agg_request.specs.ReadBack.{IsWritten, SaysFilter}
 use Rattle.agg_request.specs.WrittenJson.{data_of_query}
 use Rattle.agg_request.proofs.WrittenFilters.{data-All, data-Boolean, data-Empty, data-Exists}

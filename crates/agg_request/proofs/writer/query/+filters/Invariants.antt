@@ -1,6 +1,6 @@
 use Rattle.std.proofs.Common.{take}
 use Rattle.serde_json.specs.View.{items_view}
-use Rattle.agg_json.specs.Json.{EachIs}
+use Rattle.agg_request.specs.json_values.Json.{EachIs}
 use Rattle.agg_request.specs.ReadBack.{IsWritten, SaysFilter}
 use Rattle.agg_request.specs.WrittenJson.{data_of_query}
 use Rattle.agg_request.proofs.writer.query.+filters.Given as goal

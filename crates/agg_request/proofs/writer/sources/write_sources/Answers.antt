@@ -1,5 +1,5 @@
 use Rattle.std.proofs.Common.{false}
-use Rattle.agg_request_json.specs.CompositeJson.{IsSourceJson}
+use Rattle.agg_request.specs.reading.CompositeJson.{IsSourceJson}
 use Rattle.agg_request.specs.ReadBack.{IsWritten}
 use Rattle.agg_request.specs.WrittenJson.{data_of_source}
 use Rattle.agg_request.proofs.WrittenSources.{each_written}

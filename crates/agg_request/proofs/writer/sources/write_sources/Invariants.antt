@@ -1,7 +1,7 @@
 use Rattle.std.proofs.Common.{false, take}
 use Rattle.serde_json.specs.View.{items_view}
-use Rattle.agg_request_json.specs.CompositeJson.{IsSourceJson}
-use Rattle.agg_json.specs.Json.{EachIs}
+use Rattle.agg_request.specs.reading.CompositeJson.{IsSourceJson}
+use Rattle.agg_request.specs.json_values.Json.{EachIs}
 use Rattle.agg_request.specs.ReadBack.{IsWritten}
 use Rattle.agg_request.specs.WrittenJson.{data_of_source}
 use Rattle.agg_request.proofs.writer.sources.write_sources.Given as goal

@@ -3,16 +3,17 @@ ghost use Rattle.std.specs.Prelude.{◌≡◌, ◌≢◌, IfNone, IfSome, Some, 
 ghost use Rattle.serde_json.specs.Find.{as_str};
 ghost use Rattle.serde_json.specs.View.{view};
 ghost use Rattle.agg_calendar.specs.declared.interval.CalendarInterval.{CalendarInterval as Unit};
-ghost use Rattle.agg_request_json.specs.CompositeJson.{IsSourceBody, unit_word};
-ghost use Rattle.agg_json.specs.Json.{IsGiven, present};
-ghost use Rattle.agg_json.specs.Reading.{IsReading};
+ghost use Rattle.agg_request.specs.reading.CompositeJson.{HasUnsupportedLeast, IsSourceBody};
+ghost use Rattle.agg_request.specs.reading.CompositeJson.{unit_word};
+ghost use Rattle.agg_request.specs.json_values.Json.{IsGiven, present};
+ghost use Rattle.agg_request.specs.json_values.Reading.{IsReading};
 ghost use Rattle.agg_request_tree.specs.declared.source.CompositeAggregationSource.TheVariants as s;
 
-use crate::composite::words::{missing_bucket, missing_order, order};
+use crate::json_values::ReadError;
+use crate::json_values::json_value::present;
+use crate::json_values::members::read_field;
+use crate::reading::composite::words::{min, missing_bucket, missing_order, order, text_at};
 use agg_calendar::CalendarInterval;
-use agg_json::ReadError;
-use agg_json::json_value::present;
-use agg_json::members::read_field;
 use agg_request_tree::DateHistogramCompositeAggregationSource;
 use agg_values::Text;
 use serde_json::Value;
@@ -25,31 +26,19 @@ pub fn read_date_histogram(
     body: &Value,
 ) -> Result<DateHistogramCompositeAggregationSource, ReadError>
     ensures { IsReading (λ lenient dates. IsSourceBody lenient name.now (view body.now)
-        (s.DateHistogram dates)) ⊥ result }
+        (s.DateHistogram dates)) (HasUnsupportedLeast (view body.now)) result }
 {
     Ok(DateHistogramCompositeAggregationSource {
         name: Text::copy_of(alloc, name)?,
         field: read_field(alloc, body)?,
-        fixed_interval: fixed_interval(alloc, body)?,
+        fixed_interval: text_at(alloc, body, "fixed_interval")?,
         calendar_interval: calendar_interval(body)?,
+        offset: text_at(alloc, body, "offset")?,
         order: order(body)?,
         missing_bucket: missing_bucket(body)?,
         missing_order: missing_order(body)?,
+        min: min(alloc, body)?,
     })
-}
-
-// The text of the fixed interval, where it is there.
-fn fixed_interval(alloc: Global, body: &Value) -> Result<Option<Text>, ReadError>
-    ensures { IsReading (λ lenient. IsGiven (λ d text. as_str d ≡ Some text)
-        (present (codes "fixed_interval") (view body.now))) ⊥ result }
-{
-    let Some(found) = present(body, "fixed_interval") else {
-        return Ok(None);
-    };
-    let Some(text) = found.as_str() else {
-        return Err(ReadError::Grammar);
-    };
-    Ok(Some(Text::copy_of(alloc, text)?))
 }
 
 // The calendar interval, where it is there.

@@ -1,14 +1,15 @@
 //! Histogram sources.
 ghost use Rattle.std.specs.Prelude.{codes};
 ghost use Rattle.serde_json.specs.View.{view};
-ghost use Rattle.agg_request_json.specs.CompositeJson.{IsSourceBody, IsIntervalOf};
-ghost use Rattle.agg_json.specs.Json.{HasFloatAt};
-ghost use Rattle.agg_json.specs.Reading.{IsReading};
+ghost use Rattle.agg_request.specs.reading.CompositeJson.{HasUnsupportedNumbers, IsIntervalOf};
+ghost use Rattle.agg_request.specs.reading.CompositeJson.{IsSourceBody};
+ghost use Rattle.agg_request.specs.json_values.Json.{HasFloatAt};
+ghost use Rattle.agg_request.specs.json_values.Reading.{IsReading};
 ghost use Rattle.agg_request_tree.specs.declared.source.CompositeAggregationSource.TheVariants as s;
 
-use crate::composite::words::{missing_bucket, missing_order, order};
-use agg_json::ReadError;
-use agg_json::members::read_field;
+use crate::json_values::ReadError;
+use crate::json_values::members::read_field;
+use crate::reading::composite::words::{min, missing_bucket, missing_order, order};
 use agg_request_tree::HistogramCompositeAggregationSource;
 use agg_values::Text;
 use serde_json::Value;
@@ -21,7 +22,7 @@ pub fn read_histogram(
     body: &Value,
 ) -> Result<HistogramCompositeAggregationSource, ReadError>
     ensures { IsReading (λ lenient numbers. IsSourceBody lenient name.now (view body.now)
-        (s.Histogram numbers)) (HasFloatAt (codes "interval") (view body.now)) result }
+        (s.Histogram numbers)) (HasUnsupportedNumbers (view body.now)) result }
 {
     Ok(HistogramCompositeAggregationSource {
         name: Text::copy_of(alloc, name)?,
@@ -30,6 +31,7 @@ pub fn read_histogram(
         order: order(body)?,
         missing_bucket: missing_bucket(body)?,
         missing_order: missing_order(body)?,
+        min: min(alloc, body)?,
     })
 }
 

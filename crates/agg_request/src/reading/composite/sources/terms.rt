@@ -1,12 +1,12 @@
 //! Terms sources.
 ghost use Rattle.serde_json.specs.View.{view};
-ghost use Rattle.agg_request_json.specs.CompositeJson.{IsSourceBody};
-ghost use Rattle.agg_json.specs.Reading.{IsReading};
+ghost use Rattle.agg_request.specs.reading.CompositeJson.{HasUnsupportedLeast, IsSourceBody};
+ghost use Rattle.agg_request.specs.json_values.Reading.{IsReading};
 ghost use Rattle.agg_request_tree.specs.declared.source.CompositeAggregationSource.TheVariants as s;
 
-use crate::composite::words::{missing_bucket, missing_order, order};
-use agg_json::ReadError;
-use agg_json::members::read_field;
+use crate::json_values::ReadError;
+use crate::json_values::members::read_field;
+use crate::reading::composite::words::{min, missing_bucket, missing_order, order};
 use agg_request_tree::TermCompositeAggregationSource;
 use agg_values::Text;
 use serde_json::Value;
@@ -19,7 +19,7 @@ pub fn read_terms(
     body: &Value,
 ) -> Result<TermCompositeAggregationSource, ReadError>
     ensures { IsReading (λ lenient terms. IsSourceBody lenient name.now (view body.now)
-        (s.Terms terms)) ⊥ result }
+        (s.Terms terms)) (HasUnsupportedLeast (view body.now)) result }
 {
     Ok(TermCompositeAggregationSource {
         name: Text::copy_of(alloc, name)?,
@@ -27,5 +27,6 @@ pub fn read_terms(
         order: order(body)?,
         missing_bucket: missing_bucket(body)?,
         missing_order: missing_order(body)?,
+        min: min(alloc, body)?,
     })
 }

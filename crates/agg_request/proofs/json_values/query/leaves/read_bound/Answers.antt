@@ -1,8 +1,8 @@
 use Rattle.std.proofs.Common.{◌≡◌, true, false, is_some, rules}
 use Rattle.serde_json.specs.Find.{get}
 use Rattle.serde_json.specs.View.{view}
-use Rattle.agg_json.proofs.Filters.{refused_excluded, refused_included}
-use Rattle.agg_json.proofs.query.leaves.read_bound.Goals as goal
+use Rattle.agg_request.proofs.lemmas.json_values.Filters.{refused_excluded, refused_included}
+use Rattle.agg_request.proofs.json_values.query.leaves.read_bound.Goals as goal
 
 pub returns-in_err-read_value_at-in-true-false : goal.returns-in_err-read_value_at-in-true-false
 returns-in_err-read_value_at-in-true-false c =

@@ -1,6 +1,7 @@
 use Rattle.serde_json.specs.View.{view}
-use Rattle.agg_json.proofs.Filters.{no_field_of_range, refused_lower, refused_upper}
-use Rattle.agg_json.proofs.query.leaves.read_range.Goals as goal
+use Rattle.agg_request.proofs.lemmas.json_values.Filters.{no_field_of_range, refused_lower}
+use Rattle.agg_request.proofs.lemmas.json_values.Filters.{refused_upper}
+use Rattle.agg_request.proofs.json_values.query.leaves.read_range.Goals as goal
 
 pub returns-in_err-field : goal.returns-in_err-field
 returns-in_err-field c =

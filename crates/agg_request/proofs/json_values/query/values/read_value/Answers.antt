@@ -1,5 +1,5 @@
-use Rattle.agg_json.proofs.ValueTexts.{read_copy, refused_copy}
-use Rattle.agg_json.proofs.query.values.read_value.Goals as goal
+use Rattle.agg_request.proofs.lemmas.json_values.ValueTexts.{read_copy, refused_copy}
+use Rattle.agg_request.proofs.json_values.query.values.read_value.Goals as goal
 
 pub returns-in_err-key : goal.returns-in_err-key
 returns-in_err-key c =

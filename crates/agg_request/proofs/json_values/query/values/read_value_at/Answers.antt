@@ -1,8 +1,8 @@
 use Rattle.std.proofs.Common.{ap, sym, ◌∙◌}
 use Rattle.serde_json.specs.View.{view}
 use Rattle.std.specs.Prelude.{option_map}
-use Rattle.agg_json.proofs.Filters.{read_at}
-use Rattle.agg_json.proofs.query.values.read_value_at.Goals as goal
+use Rattle.agg_request.proofs.lemmas.json_values.Filters.{read_at}
+use Rattle.agg_request.proofs.json_values.query.values.read_value_at.Goals as goal
 
 pub returns : goal.returns
 returns c =

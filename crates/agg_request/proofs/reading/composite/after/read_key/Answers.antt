@@ -1,8 +1,8 @@
 use Rattle.std.proofs.Common.{◌≡◌, Some, rules}
 use Rattle.serde_json.specs.Find.{as_str}
 use Rattle.serde_json.specs.View.{view}
-use Rattle.agg_request_json.proofs.AfterKeys.{refused_json}
-use Rattle.agg_request_json.proofs.composite.after.read_key.Goals as goal
+use Rattle.agg_request.proofs.lemmas.reading.AfterKeys.{refused_json}
+use Rattle.agg_request.proofs.reading.composite.after.read_key.Goals as goal
 
 pub returns-in_err-read : goal.returns-in_err-read
 returns-in_err-read c =

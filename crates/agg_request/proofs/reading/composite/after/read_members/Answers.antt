@@ -1,9 +1,9 @@
 use Rattle.std.proofs.Common.{ap, ◌∙◌}
 use Rattle.serde_json.specs.View.{members_view}
 use Rattle.agg_values.specs.Names.{put}
-use Rattle.agg_request_json.proofs.AfterKeys.{IsReadUpTo-all, IsReadUpTo-more, IsReadUpTo-none}
-use Rattle.agg_request_json.proofs.AfterKeys.{IsReadUpTo-refused}
-use Rattle.agg_request_json.proofs.composite.after.read_members.Goals as goal
+use Rattle.agg_request.proofs.lemmas.reading.AfterKeys.{IsReadUpTo-all, IsReadUpTo-more}
+use Rattle.agg_request.proofs.lemmas.reading.AfterKeys.{IsReadUpTo-none, IsReadUpTo-refused}
+use Rattle.agg_request.proofs.reading.composite.after.read_members.Goals as goal
 
 pub loop-name-init : goal.loop-name-init
 loop-name-init c = (

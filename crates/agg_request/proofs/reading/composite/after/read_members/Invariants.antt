@@ -1,6 +1,6 @@
 use Rattle.serde_json.specs.View.{members_view}
-use Rattle.agg_request_json.proofs.AfterKeys.{IsReadUpTo}
-use Rattle.agg_request_json.proofs.composite.after.read_members.Given as goal
+use Rattle.agg_request.proofs.lemmas.reading.AfterKeys.{IsReadUpTo}
+use Rattle.agg_request.proofs.reading.composite.after.read_members.Given as goal
 
 -- the members so far are read
 abbrev pub invariant-loop-name : goal.invariant-loop-name

@@ -1,10 +1,10 @@
 use Rattle.std.proofs.Common.{false, sym, subst}
 use Rattle.serde_json.specs.View.{items_view, view}
-use Rattle.agg_request_json.specs.CompositeJson.{HasUnsupportedKind, IsSourceJson}
-use Rattle.agg_json.specs.Json.{EachIs, HasUnsupportedItem}
-use Rattle.agg_json.proofs.Items.{each_at, each_more, some_at}
-use Rattle.agg_json.proofs.Readings.{refused_by}
-use Rattle.agg_request_json.proofs.composite.sources.read_items.Goals as goal
+use Rattle.agg_request.specs.reading.CompositeJson.{HasUnsupportedKind, IsSourceJson}
+use Rattle.agg_request.specs.json_values.Json.{EachIs, HasUnsupportedItem}
+use Rattle.agg_request.proofs.lemmas.json_values.Items.{each_at, each_more, some_at}
+use Rattle.agg_request.proofs.lemmas.json_values.Readings.{refused_by}
+use Rattle.agg_request.proofs.reading.composite.sources.read_items.Goals as goal
 
 pub returns-in_err-read_source : goal.returns-in_err-read_source
 returns-in_err-read_source c =

@@ -1,8 +1,8 @@
 use Rattle.std.proofs.Common.{false, take}
 use Rattle.serde_json.specs.View.{items_view}
-use Rattle.agg_request_json.specs.CompositeJson.{IsSourceJson}
-use Rattle.agg_json.specs.Json.{EachIs}
-use Rattle.agg_request_json.proofs.composite.sources.read_items.Given as goal
+use Rattle.agg_request.specs.reading.CompositeJson.{IsSourceJson}
+use Rattle.agg_request.specs.json_values.Json.{EachIs}
+use Rattle.agg_request.proofs.reading.composite.sources.read_items.Given as goal
 
 -- the items so far are read
 abbrev pub invariant-loop-item : goal.invariant-loop-item

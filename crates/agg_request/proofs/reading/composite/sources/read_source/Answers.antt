@@ -1,8 +1,8 @@
 use Rattle.std.proofs.Common.{◌≡◌, Some, rules}
 use Rattle.serde_json.specs.View.{view}
-use Rattle.agg_json.specs.Json.{only_member}
-use Rattle.agg_request_json.proofs.CompositeSources.{read_named}
-use Rattle.agg_request_json.proofs.composite.sources.read_source.Goals as goal
+use Rattle.agg_request.specs.json_values.Json.{only_member}
+use Rattle.agg_request.proofs.lemmas.reading.CompositeSources.{read_named}
+use Rattle.agg_request.proofs.reading.composite.sources.read_source.Goals as goal
 
 pub returns : goal.returns
 returns c =

@@ -1,8 +1,8 @@
 use Rattle.std.proofs.Common.{◌≡◌, Some, codes, option_and_then, rules}
 use Rattle.serde_json.specs.Find.{as_array, get}
 use Rattle.serde_json.specs.View.{items_view, view}
-use Rattle.agg_request_json.proofs.CompositeSources.{read_array}
-use Rattle.agg_request_json.proofs.composite.sources.read_sources.Goals as goal
+use Rattle.agg_request.proofs.lemmas.reading.CompositeSources.{read_array}
+use Rattle.agg_request.proofs.reading.composite.sources.read_sources.Goals as goal
 
 pub returns : goal.returns
 returns c =

@@ -1,8 +1,8 @@
 use Rattle.std.proofs.Common.{◌≡◌, None, Some, rules}
 use Rattle.serde_json.specs.View.{view}
-use Rattle.agg_json.specs.Json.{only_item}
-use Rattle.agg_request_json.proofs.Orders.{order-of_item, order-of_pair}
-use Rattle.agg_request_json.proofs.custom_order.CustomOrder.read.Goals as goal
+use Rattle.agg_request.specs.json_values.Json.{only_item}
+use Rattle.agg_request.proofs.lemmas.reading.Orders.{order-of_item, order-of_pair}
+use Rattle.agg_request.proofs.reading.custom_order.CustomOrder.read.Goals as goal
 
 pub returns-in-Some : goal.returns-in-Some
 returns-in-Some c =

@@ -1,8 +1,8 @@
 use Rattle.std.proofs.Common.{◌≡◌, rules}
 use Rattle.serde_json.specs.View.{view}
-use Rattle.agg_request_json.specs.OrderJson.{data_of_order}
-use Rattle.agg_request_json.proofs.Orders.{reads-back}
-use Rattle.agg_request_json.proofs.custom_order.CustomOrder.write.Goals as goal
+use Rattle.agg_request.specs.reading.OrderJson.{data_of_order}
+use Rattle.agg_request.proofs.lemmas.reading.Orders.{reads-back}
+use Rattle.agg_request.proofs.reading.custom_order.CustomOrder.write.Goals as goal
 
 pub returns-clause-back : goal.returns-clause-back
 returns-clause-back c =

@@ -1,7 +1,7 @@
 use Rattle.std.proofs.Common.{◌≡◌, Some, true, bytes_eq, ap, ◌∙◌, arith, rules}
-use Rattle.agg_request_json.specs.Builders.{taken}
-use Rattle.agg_request_json.proofs.BuildersTaken.{taken_at, taken_nowhere}
-use Rattle.agg_request_json.proofs.request.builders.take_builder.Goals as goal
+use Rattle.agg_request.specs.reading.Builders.{taken}
+use Rattle.agg_request.proofs.lemmas.reading.BuildersTaken.{taken_at, taken_nowhere}
+use Rattle.agg_request.proofs.reading.request.builders.take_builder.Goals as goal
 
 pub returns-then-eq : goal.returns-then-eq
 returns-then-eq g c =

@@ -1,7 +1,7 @@
 use Rattle.std.proofs.Common.{◌≡◌, take, drop}
-use Rattle.agg_request_json.specs.Builders.{taken}
-use Rattle.agg_request_json.proofs.BuildersTaken.{before}
-use Rattle.agg_request_json.proofs.request.builders.take_builder.Given as goal
+use Rattle.agg_request.specs.reading.Builders.{taken}
+use Rattle.agg_request.proofs.lemmas.reading.BuildersTaken.{before}
+use Rattle.agg_request.proofs.reading.request.builders.take_builder.Given as goal
 
 -- none so far has the name
 abbrev pub invariant-loop-i : goal.invariant-loop-i

@@ -1,8 +1,8 @@
 use Rattle.std.proofs.Common.{◌≡◌, None, rules}
 use Rattle.serde_json.specs.View.{view}
-use Rattle.agg_request_json.specs.Builders.{builder_name}
-use Rattle.agg_request_json.proofs.AskedKinds.{refused_tree}
-use Rattle.agg_request_json.proofs.request.kind.read_filter.Goals as goal
+use Rattle.agg_request.specs.reading.Builders.{builder_name}
+use Rattle.agg_request.proofs.lemmas.reading.AskedKinds.{refused_tree}
+use Rattle.agg_request.proofs.reading.request.kind.read_filter.Goals as goal
 
 pub returns-in_err-read_query-in-None-clause-read
     : goal.returns-in_err-read_query-in-None-clause-read

@@ -1,7 +1,7 @@
 use Rattle.std.proofs.Common.{codes, refl}
 use Rattle.serde_json.specs.View.{view}
-use Rattle.agg_request_json.proofs.AskedKinds.{refused_filter, refused_metric}
-use Rattle.agg_request_json.proofs.request.kind.read_kind.Goals as goal
+use Rattle.agg_request.proofs.lemmas.reading.AskedKinds.{refused_filter, refused_metric}
+use Rattle.agg_request.proofs.reading.request.kind.read_kind.Goals as goal
 
 pub returns-in_err-read_filter-in-filter-clause-read
     : goal.returns-in_err-read_filter-in-filter-clause-read

@@ -1,9 +1,9 @@
 use Rattle.std.proofs.Common.{IsSome, codes, rules}
 use Rattle.serde_json.specs.View.{view}
-use Rattle.agg_json.specs.Json.{IsField, present}
-use Rattle.agg_request_json.specs.RequestJson.{IsMetric}
-use Rattle.agg_json.proofs.Readings.{refused_by}
-use Rattle.agg_request_json.proofs.request.kind.read_metric.Goals as goal
+use Rattle.agg_request.specs.json_values.Json.{IsField, present}
+use Rattle.agg_request.specs.reading.RequestJson.{IsMetric}
+use Rattle.agg_request.proofs.lemmas.json_values.Readings.{refused_by}
+use Rattle.agg_request.proofs.reading.request.kind.read_metric.Goals as goal
 
 pub returns-in_err-field : goal.returns-in_err-field
 returns-in_err-field c =

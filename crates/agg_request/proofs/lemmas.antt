@@ -1,0 +1,2 @@
+pub mod json_values
+pub mod reading
