@@ -4,8 +4,8 @@ ghost use Rattle.std.specs.Prelude.{IfOk, IsErrOf, MatchOption, length, min, sli
 ghost use Rattle.std.specs.BTreeMap.{is_at};
 ghost use Rattle.std.specs.Borrow.{sem};
 ghost use Rattle.std.specs.Cmp.Lexicographic.{slice_cmp};
-ghost use Rattle.std.specs.List.Sorted.{IsPermutation};
-ghost use Rattle.std.specs.Map.{lookup};
+ghost use Rattle.std.specs.List.Sorted.{IsPermutation, IsStrictlySortedBy};
+ghost use Rattle.std.specs.Map.{keys_of, lookup};
 ghost use Rattle.std.specs.Option.{option_copied_mut, UnwrapsOrElse};
 
 use crate::heap_map::HeapMap;
@@ -68,7 +68,8 @@ impl<K: Copy + Ord + Hash, V> DynArrayHeapMap<K, V> {
 
     /// The number of keys.
     pub fn size(&self) -> usize
-        ensures { result ≡ length self.now.1 }
+        ensures len { result ≡ length self.now.1 }
+        ensures ordered { IsStrictlySortedBy (slice_cmp K.cmp) (keys_of self.now.1) }
     {
         self.map.size()
     }

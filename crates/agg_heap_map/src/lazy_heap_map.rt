@@ -10,7 +10,7 @@ ghost use Rattle.std.specs.Option.{option_copied_mut};
 ghost use Rattle.agg_heap_map.specs.EntryOrder.{ascending};
 
 use crate::map_and_heap::{evict_above, made_heap, put_cloned};
-use agg_freeing::FreeingIter;
+use agg_values::freeing::FreeingIter;
 use agg_values::{OutOfMemory, Steps};
 use std::alloc::Global;
 use std::collections::{BinaryHeap, HashMap};
@@ -126,6 +126,7 @@ impl<S: Ord + Hash, V> LazyHeapMap<S, V> {
         ensures kept { IfOk result (λ evicted. evicted ≡ false
             → (self.new ≡ self.old) × GreatestIsBelow S.cmp key.now self.old) }
         ensures err { OnErr result (self.new ≡ self.old) }
+        ensures counted { IfOk result (λ evicted. evicted ≡ true → steps.new ≡ steps.old + 1) }
         ensures most { steps.new ≤ steps.old + 1 }
         ensures least { steps.old ≤ steps.new }
     {

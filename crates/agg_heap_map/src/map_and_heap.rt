@@ -71,6 +71,7 @@ pub(crate) fn evict_above<S: Ord + Hash + Drop, V: Drop, L: Ledger>(
     ensures kept { result ≡ false → (map.new ≡ map.old)
         × GreatestIsBelow S.cmp key.now (ascending S.cmp map.old.entries) }
     ensures same_keys { HaveSameKeys S.cmp S.eq (keys map.new) (heap_items heap.new) }
+    ensures counted { result ≡ true → steps.new ≡ steps.old + 1 }
     ensures most { steps.new ≤ steps.old + 1 }
     ensures least { steps.old ≤ steps.new }
 {
