@@ -11,12 +11,14 @@ use Rattle.agg_cache.specs.Waiting.{docs_of, is_id}
 use Rattle.agg_segment.specs.Segment.{Stored}
 use Rattle.agg_request_tree.specs.Groups.{Group}
 use Rattle.agg_request_tree.specs.Source.{rules_of}
-use Rattle.agg_accessor.specs.Accessors.{Fits}
-use Rattle.agg_accessor.specs.Encoding.{EncodedTuple, StandsForTuple, encoded_tuple_order}
-use Rattle.agg_accessor.specs.declared.request_data.CompositeAggReqData.{CompositeAggReqData}
-use Rattle.agg_accessor.proofs.EncodedOrder.{tuple-exact}
-use Rattle.agg_accessor.proofs.TypedOrder.{tuples_compare}
-use Rattle.agg_buckets.specs.Cut.{cut, tuples_under}
+use Rattle.agg_composite.specs.accessor.Accessors.{Fits}
+use Rattle.agg_composite.specs.accessor.Encoding.{EncodedTuple, StandsForTuple, encoded_tuple_order}
+use Rattle.agg_composite.specs.declared.accessor.request_data.CompositeAggReqData.{
+  CompositeAggReqData,
+}
+use Rattle.agg_composite.proofs.lemmas.accessor.EncodedOrder.{tuple-exact}
+use Rattle.agg_composite.proofs.lemmas.accessor.TypedOrder.{tuples_compare}
+use Rattle.agg_composite.specs.buckets.Cut.{cut, tuples_under}
 use Rattle.agg_composite.specs.Composite.{Composite, docs_under}
 use Rattle.agg_composite.specs.PageEntries.{decoded_groups, entry_group}
 use Rattle.agg_composite.specs.SubResults.{AreAlike, HasHanded, IsPageOf}
@@ -91,7 +93,7 @@ module _ (segment : Stored) (after : Named AfterKey) (req : CompositeAggReqData)
       ∙ ap (λ ts. decoded_groups req (cut encoded_tuple_order req.size ts)) encoded
       ∙ sym (page-lowest waiting_other req other visited others parent h.0 page_other are_other)
 
-  -- and their entries are alike
+  -- the entries of the pages are alike
   pub pages-alike : AllZip (AreAlike given others) page page_other
   pages-alike =
       alike-from_groups req parent visited given others page page_other groups-same

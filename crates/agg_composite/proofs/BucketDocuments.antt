@@ -16,17 +16,19 @@ use Rattle.agg_cache.specs.Waiting.{docs_of, is_id}
 use Rattle.agg_segment.specs.Segment.{Stored}
 use Rattle.agg_request_tree.specs.Source.{rules_of}
 use Rattle.agg_request_tree.proofs.Lists.{AllByRecursion-from_Has, Contains-from_Has, Has}
-use Rattle.agg_accessor.specs.Accessors.{Fits}
-use Rattle.agg_accessor.specs.Decoded.{IsEncoded, decoded}
-use Rattle.agg_accessor.specs.Encoding.{EncodedTuple, StandsForTuple, encoded_tuple_order}
-use Rattle.agg_accessor.specs.declared.request_data.CompositeAggReqData.{CompositeAggReqData}
-use Rattle.agg_accessor.proofs.DecodedTuples.{decoded-is}
-use Rattle.agg_accessor.proofs.EncodedOrder.{tuple_order-total}
-use Rattle.agg_accessor.proofs.TypedOrder.{tuples_compare}
-use Rattle.agg_buckets.specs.Node.{IsPast, IsRightFor, Right}
-use Rattle.agg_buckets.specs.Page.{Page}
-use Rattle.agg_buckets.specs.Visits.{Visit, is_owner}
-use Rattle.agg_buckets.specs.declared.bucket.Bucket.{Bucket}
+use Rattle.agg_composite.specs.accessor.Accessors.{Fits}
+use Rattle.agg_composite.specs.accessor.Decoded.{IsEncoded, decoded}
+use Rattle.agg_composite.specs.accessor.Encoding.{EncodedTuple, StandsForTuple, encoded_tuple_order}
+use Rattle.agg_composite.specs.declared.accessor.request_data.CompositeAggReqData.{
+  CompositeAggReqData,
+}
+use Rattle.agg_composite.proofs.lemmas.accessor.DecodedTuples.{decoded-is}
+use Rattle.agg_composite.proofs.lemmas.accessor.EncodedOrder.{tuple_order-total}
+use Rattle.agg_composite.proofs.lemmas.accessor.TypedOrder.{tuples_compare}
+use Rattle.agg_composite.specs.buckets.Node.{IsPast, IsRightFor, Right}
+use Rattle.agg_composite.specs.buckets.Page.{Page}
+use Rattle.agg_composite.specs.buckets.Visits.{Visit, is_owner}
+use Rattle.agg_composite.specs.declared.buckets.bucket.Bucket.{Bucket}
 use Rattle.agg_composite.specs.Composite.{Composite, CompositeFor, docs_under, page_of}
 use Rattle.agg_composite.specs.PageEntries.{decoded_buckets, entry_bucket}
 use Rattle.agg_composite.specs.Visits.{StandsForVisit, TypedVisit}

@@ -12,16 +12,18 @@ use Rattle.agg_values.specs.declared.after_key.AfterKey.{AfterKey}
 use Rattle.agg_segment.specs.Segment.{Stored}
 use Rattle.agg_request_tree.specs.Groups.{Group, Groups}
 use Rattle.agg_request_tree.specs.Source.{rules_of}
-use Rattle.agg_accessor.specs.Accessors.{Fits}
-use Rattle.agg_accessor.specs.Decoded.{IsEncoded, decoded}
-use Rattle.agg_accessor.specs.Encoding.{EncodedTuple, StandsForTuple, encoded_tuple_order}
-use Rattle.agg_accessor.specs.declared.request_data.CompositeAggReqData.{CompositeAggReqData}
-use Rattle.agg_accessor.proofs.EncodedOrder.{tuple-exact, tuple_order-total}
-use Rattle.agg_buckets.specs.Cut.{counts_of, cut, groups_of, tuples_under}
-use Rattle.agg_buckets.specs.Page.{Page}
-use Rattle.agg_buckets.specs.Visits.{Visit}
-use Rattle.agg_buckets.specs.declared.bucket.Bucket.{Bucket}
-use Rattle.agg_buckets.proofs.CutPages.{have-the-cut}
+use Rattle.agg_composite.specs.accessor.Accessors.{Fits}
+use Rattle.agg_composite.specs.accessor.Decoded.{IsEncoded, decoded}
+use Rattle.agg_composite.specs.accessor.Encoding.{EncodedTuple, StandsForTuple, encoded_tuple_order}
+use Rattle.agg_composite.specs.declared.accessor.request_data.CompositeAggReqData.{
+  CompositeAggReqData,
+}
+use Rattle.agg_composite.proofs.lemmas.accessor.EncodedOrder.{tuple-exact, tuple_order-total}
+use Rattle.agg_composite.specs.buckets.Cut.{counts_of, cut, groups_of, tuples_under}
+use Rattle.agg_composite.specs.buckets.Page.{Page}
+use Rattle.agg_composite.specs.buckets.Visits.{Visit}
+use Rattle.agg_composite.specs.declared.buckets.bucket.Bucket.{Bucket}
+use Rattle.agg_composite.proofs.lemmas.buckets.CutPages.{have-the-cut}
 use Rattle.agg_composite.specs.Composite.{Composite, CompositeFor, page_of}
 use Rattle.agg_composite.specs.EncodedEntries.{encoded_of}
 use Rattle.agg_composite.specs.PageEntries.{decoded_buckets, decoded_groups, entry_bucket}
@@ -175,7 +177,7 @@ module _ {C : Type 0} (waiting : C → ℕ → List ℕ) (req : CompositeAggReqD
       ∙ groups-buckets req (page_of collector parent)
       ∙ ap (decoded_groups req) page-cut
 
-  -- and so the lowest groups of the tuples that were visited under the parent
+  -- the entries have the lowest groups of the tuples that were visited under the parent
   pub page-groups : (segment : Stored) (after : Named AfterKey) → Fits segment after req
       → (entries : List PageEntry)
       → map entry_bucket entries ≡ decoded_buckets req (page_of collector parent)

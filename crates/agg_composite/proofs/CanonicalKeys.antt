@@ -6,10 +6,11 @@ use Rattle.std.proofs.lemmas.Bool.Decides.{nat_tests}
 use Rattle.std.proofs.lemmas.Int.{ints}
 use Rattle.agg_values.specs.TypedKey.{canonical_key}
 use Rattle.agg_values.specs.TypedKey.key.{I64, U64}
-use Rattle.agg_column.specs.Columns.{encoded_key}
-use Rattle.agg_column.specs.declared.keys.ColumnKeys.{ColumnKeys}
-use Rattle.agg_column.specs.declared.keys.ColumnKeys.TheVariants.{Bools, Texts, Signed, Unsigned}
-use Rattle.agg_column.specs.declared.keys.ColumnKeys.TheVariants.{Addresses, Dates}
+use Rattle.agg_segment.specs.storage.Columns.{encoded_key}
+use Rattle.agg_segment.specs.declared.storage.keys.ColumnKeys.{ColumnKeys}
+use Rattle.agg_segment.specs.declared.storage.keys.ColumnKeys.TheVariants.{Bools, Texts, Signed}
+use Rattle.agg_segment.specs.declared.storage.keys.ColumnKeys.TheVariants.{Unsigned, Addresses}
+use Rattle.agg_segment.specs.declared.storage.keys.ColumnKeys.TheVariants.{Dates}
 
 below : (n : ℕ) → n < 2 ^ 64 → int_lt (pos n -ℤ pos (2 ^ 63)) (pos (2 ^ 63)) ≡ true
 below n fits = grind (arith, ints, nat_tests)

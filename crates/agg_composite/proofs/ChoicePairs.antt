@@ -11,23 +11,28 @@ use Rattle.agg_values.specs.declared.after_key.AfterKey.{AfterKey}
 use Rattle.agg_segment.specs.Segment.{Stored, document_at, documents_at}
 use Rattle.agg_request_tree.specs.Occurrences.{bound_of, is_past, occurrences, past_occurrences}
 use Rattle.agg_request_tree.specs.Ranges.{AreInRange, IsInRange}
-use Rattle.agg_request_tree.specs.Source.{Sources, field_of, missing_bucket_of, or_missing}
-use Rattle.agg_request_tree.specs.Source.{rules_of, source_values, values_at}
+use Rattle.agg_request_tree.specs.Source.{Sources, field_of, is_from, keys_in, min_of}
+use Rattle.agg_request_tree.specs.Source.{missing_bucket_of, or_missing, rules_of}
+use Rattle.agg_request_tree.specs.Source.{source_values, values_from}
 use Rattle.agg_request_tree.specs.declared.source.CompositeAggregationSource as kind
 use kind.{CompositeAggregationSource}
 use Rattle.agg_request_tree.specs.Source.{after_of}
-use Rattle.agg_accessor.specs.Accessors.{AllFit, AreAccessorsOf, keys_in_columns, keys_read}
-use Rattle.agg_accessor.specs.Accessors.{side_to}
+use Rattle.agg_composite.specs.accessor.Accessors.{AllFit, AreAccessorsOf, keys_in_columns}
+use Rattle.agg_composite.specs.accessor.Accessors.{keys_read, side_to}
 use Rattle.agg_composite.specs.Choices.{AreChoicesIn, AreChoicesOf, CanRead, IsChoiceOf}
 use Rattle.agg_composite.specs.Choices.{values_read}
-use Rattle.agg_accessor.specs.Encoding.{EncodedTuple, StandFor, StandsFor}
-use Rattle.agg_accessor.specs.Lanes.{keys_at}
+use Rattle.agg_composite.specs.accessor.Encoding.{EncodedTuple, StandFor, StandsFor}
+use Rattle.agg_composite.specs.accessor.Lanes.{keys_at}
 use Rattle.agg_composite.specs.Walk.{walked}
-use Rattle.agg_accessor.specs.declared.accessor.CompositeSourceAccessors.{CompositeSourceAccessors}
+use Rattle.agg_composite.specs.declared.accessor.accessor.CompositeSourceAccessors.{
+  CompositeSourceAccessors,
+}
 use Rattle.agg_composite.specs.declared.walk.choice.Choice.{Choice}
 use Rattle.agg_composite.proofs.CanonicalKeys.{canonical}
-use Rattle.agg_accessor.proofs.FieldColumns.{keys-of_field, starts-of_field}
-use Rattle.agg_accessor.proofs.KeysGiven.{keys_in-canonical, range-alike, starts-canonical}
+use Rattle.agg_composite.proofs.lemmas.accessor.FieldColumns.{keys-of_field, starts-of_field}
+use Rattle.agg_composite.proofs.lemmas.accessor.KeysGiven.{keys_in-canonical, range-alike}
+use Rattle.agg_composite.proofs.lemmas.accessor.KeysGiven.{starts-canonical}
+use Rattle.agg_composite.proofs.lemmas.accessor.LeastValues.{values-from_canonical}
 use Rattle.agg_composite.proofs.NullStanding.{null-standing}
 use Rattle.agg_composite.proofs.Pairs.{AllZip-filter, AllZip-flat_map, AllZip-map, AllZip-weaker}
 use Rattle.agg_composite.proofs.PastSides.{is_past-sides, sides_to}
@@ -59,6 +64,17 @@ without-missing b [] e = refl
 without-missing b (k ∷ keys) e = e
 
 module _ (segment : Stored) (after : Named AfterKey) where
+  -- the values of a source's field that aren't below its least one, as they stand in the segment
+  abbrev values_in : CompositeAggregationSource → ℕ → List CompositeIntermediateKey
+  values_in source doc =
+      filter (is_from (min_of source)) (document_at segment doc (field_of source))
+
+  -- they are the values that the source reads
+  values-are_read : (source : CompositeAggregationSource) (doc : ℕ)
+      → map canonical_key (values_in source doc) ≡ values_from source (document_at segment doc)
+  values-are_read source doc =
+      sym (values-from_canonical (min_of source) (document_at segment doc (field_of source)))
+
   -- the keys that are read are the values of the source
   values-are : (source : CompositeAggregationSource) (a : CompositeSourceAccessors) (doc : ℕ)
       (choices : List Choice)
@@ -71,7 +87,8 @@ module _ (segment : Stored) (after : Named AfterKey) where
       (canonical-choices source a choices (values_read source a doc) p) in
       ap (or_missing (missing_bucket_of source))
       (sym same ∙ ap (map canonical_key) (keys-of_field segment source a.accessors fit.columns doc)
-      ∙ sym (keys_in-canonical source (document_at segment doc (field_of source))))
+      ∙ sym (keys_in-canonical source (values_in source doc))
+      ∙ ap (keys_in source) (values-are_read source doc))
 
   -- ---- a choice
 
@@ -134,19 +151,21 @@ module _ (segment : Stored) (after : Named AfterKey) where
   -- accessors can be read where the starts of the values of their field lie within i64
   pub can-read : (source : CompositeAggregationSource) (a : CompositeSourceAccessors) (doc : ℕ)
       → AreAccessorsOf segment source (after_of after source) a
-      → All (IsInRange source) (values_at (field_of source) (document_at segment doc))
+      → All (IsInRange source) (values_from source (document_at segment doc))
       → CanRead source a doc
   can-read source a doc fit range =
       let keys = keys_in_columns source a.accessors doc in
-      let values = document_at segment doc (field_of source) in
+      let values = values_in source doc in
       record {
         interval = fit.columns.interval;
         each = fit.columns.each;
+        least = fit.least;
         range = All-from_recursion (IsInRange source) keys
             (range-alike source keys (map canonical_key values)
             (starts-of_field segment source a.accessors fit.columns doc
             ∙ sym (starts-canonical source values))
-            (recursion_from_All (IsInRange source) (map canonical_key values) range));
+            (recursion_from_All (IsInRange source) (map canonical_key values)
+            (subst (All (IsInRange source)) (sym (values-are_read source doc)) range)));
       }
 
   product-reads : (sources : Sources) (accessors : List CompositeSourceAccessors) (doc : ℕ)

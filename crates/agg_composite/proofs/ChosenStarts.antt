@@ -13,12 +13,13 @@ use Rattle.agg_values.specs.declared.request_error.RequestError.{RequestError}
 use Rattle.agg_calendar.specs.Start.{IsUsable, fixed_start}
 use Rattle.agg_calendar.specs.declared.interval.PrecomputedDateInterval as interval
 use interval.{PrecomputedDateInterval}
-use Rattle.agg_column.specs.Columns.{StandsForKey, encoded_key, type_of}
-use Rattle.agg_column.specs.declared.keys.ColumnKeys.{ColumnKeys}
-use Rattle.agg_column.specs.declared.keys.ColumnKeys.TheVariants.{Bools, Texts, Signed, Unsigned}
-use Rattle.agg_column.specs.declared.keys.ColumnKeys.TheVariants.{Addresses, Dates}
+use Rattle.agg_segment.specs.storage.Columns.{StandsForKey, encoded_key, type_of}
+use Rattle.agg_segment.specs.declared.storage.keys.ColumnKeys.{ColumnKeys}
+use Rattle.agg_segment.specs.declared.storage.keys.ColumnKeys.TheVariants.{Bools, Texts, Signed}
+use Rattle.agg_segment.specs.declared.storage.keys.ColumnKeys.TheVariants.{Unsigned, Addresses}
+use Rattle.agg_segment.specs.declared.storage.keys.ColumnKeys.TheVariants.{Dates}
 use Rattle.agg_request_tree.specs.Ranges.{IsInRange}
-use Rattle.agg_request_tree.specs.Source.{counted_number, date_of, interval_of, keys_in, order_of}
+use Rattle.agg_request_tree.specs.Source.{counted_number, date_of, division_of, keys_in, order_of}
 use Rattle.agg_request_tree.specs.Source.{start_by, start_in}
 use Rattle.agg_request_tree.specs.SourceColumns.{reads_type}
 use Rattle.agg_request_tree.specs.declared.source.CompositeAggregationSource as kind
@@ -29,14 +30,17 @@ use dates.{DateHistogramCompositeAggregationSource as Dated}
 use Rattle.agg_request_tree.specs.declared.source.HistogramCompositeAggregationSource as numbers
 use numbers.{HistogramCompositeAggregationSource as Counted}
 use Rattle.agg_composite.specs.Choices.{AreChoicesOf, choice_at}
-use Rattle.agg_accessor.specs.Lanes.{keys_at, lanes}
-use Rattle.agg_accessor.specs.Places.{moved_up}
-use Rattle.agg_accessor.specs.Starts.{by_numbers, by_time, is_within, lane_number, start_number}
-use Rattle.agg_accessor.specs.declared.accessor.CompositeSourceAccessors.{CompositeSourceAccessors}
-use Rattle.agg_accessor.specs.declared.divisor.Divisor.{Divisor}
+use Rattle.agg_composite.specs.accessor.Lanes.{keys_at, lanes}
+use Rattle.agg_composite.specs.accessor.Places.{moved_up}
+use Rattle.agg_composite.specs.accessor.Starts.{by_numbers, by_time, is_within, lane_number}
+use Rattle.agg_composite.specs.accessor.Starts.{start_number}
+use Rattle.agg_composite.specs.declared.accessor.accessor.CompositeSourceAccessors.{
+  CompositeSourceAccessors,
+}
+use Rattle.agg_composite.specs.declared.accessor.divisor.Divisor.{Divisor}
 use Rattle.agg_composite.specs.declared.walk.choice.Choice.{Choice}
-use Rattle.agg_accessor.proofs.Divisors.{numbers-divide, time-divides}
-use Rattle.agg_accessor.proofs.LaneKeys.{numbers-at}
+use Rattle.agg_composite.proofs.lemmas.accessor.Divisors.{numbers-divide, time-divides}
+use Rattle.agg_composite.proofs.lemmas.accessor.LaneKeys.{numbers-at}
 
 -- ---- starts within i64
 
@@ -176,23 +180,23 @@ module _ (a : CompositeSourceAccessors) (keys : ColumnKeys) (numbers : List ℕ)
       numbers (each-within (start_in source) keys (counted-start s keys reads) numbers all))
 
   -- as starts of a date source
-  pub dates-chosen : (s : Dated) (i : ℕ) (interval : PrecomputedDateInterval)
-      → interval_of s ≡ Ok interval → IsUsable interval
+  pub dates-chosen : (s : Dated) (i : ℕ) (interval : PrecomputedDateInterval) (offset : ℤ)
+      → division_of s ≡ Ok (interval, offset) → IsUsable interval
       → i < length (lanes (DateHistogram s) a.accessors)
       → keys_at (DateHistogram s) a.accessors i ≡ keys
       → reads_type (DateHistogram s) (type_of keys) ≡ true
       → AllByRecursion (IsInRange (DateHistogram s)) (map (encoded_key keys) numbers)
       → AreChoicesOf (DateHistogram s) a
-      (map (λ n. choice_at s.order a i (lane_number (by_time interval) keys n)) numbers)
+      (map (λ n. choice_at s.order a i (lane_number (by_time interval offset) keys n)) numbers)
       (keys_in (DateHistogram s) (map (encoded_key keys) numbers))
-  dates-chosen s i interval is usable l lane reads all =
+  dates-chosen s i interval offset is usable l lane reads all =
       let source = DateHistogram s in
       let dated = dates-alone s keys reads in
       subst (λ (d : Divisor). AreChoicesOf source a
       (map (λ n. choice_at s.order a i (lane_number d keys n)) numbers)
       (keys_in source (map (encoded_key keys) numbers)))
-      (sym (time-divides interval usable))
-      (subst (λ (r : Result PrecomputedDateInterval RequestError). AreChoicesOf source a
+      (sym (time-divides interval offset usable))
+      (subst (λ (r : Result (PrecomputedDateInterval × ℤ) RequestError). AreChoicesOf source a
       (map (λ n. choice_at s.order a i
       (start_number (option_map (start_by r) (date_of (encoded_key keys n))))) numbers)
       (keys_in source (map (encoded_key keys) numbers))) is
@@ -201,4 +205,4 @@ module _ (a : CompositeSourceAccessors) (keys : ColumnKeys) (numbers : List ℕ)
       numbers (each-within (start_in source) keys
       (λ n. subst (λ (k : ColumnKeys). (start : ℤ)
       × (start_in source (encoded_key k n) ≡ Some start)) (sym dated)
-      (start_by (interval_of s) (pos n -ℤ pos (2 ^ 63)), refl)) numbers all)))
+      (start_by (division_of s) (pos n -ℤ pos (2 ^ 63)), refl)) numbers all)))

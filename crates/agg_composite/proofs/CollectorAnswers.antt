@@ -11,22 +11,25 @@ use Rattle.agg_cache.specs.Waiting.{docs_of, is_id}
 use Rattle.agg_cache.specs.declared.error.CollectError.{CollectError}
 use Rattle.agg_cache.specs.declared.error.CollectError.TheVariants as refusal
 use Rattle.agg_segment.specs.Segment.{Stored}
-use Rattle.agg_accessor.specs.Accessors.{Fits}
-use Rattle.agg_accessor.specs.Encoding.{EncodedTuple, encoded_tuple_order}
-use Rattle.agg_accessor.specs.Ranges.{AreAllInRange}
-use Rattle.agg_accessor.specs.declared.request_data.CompositeAggReqData.{CompositeAggReqData}
-use Rattle.agg_accessor.proofs.EncodedOrder.{tuple-exact, tuple_order-total}
-use Rattle.agg_buckets.specs.Node.{BucketsFor, IsGrown, IsPast, IsRightFor, Node, NodeFor}
-use Rattle.agg_buckets.specs.Node.{NodeTakes, Right, TooManyVisits, found}
-use Rattle.agg_buckets.specs.Refusals.{refused}
-use Rattle.agg_buckets.specs.Visits.{Owner, Visit, is_owner}
-use Rattle.agg_buckets.specs.declared.bucket.Bucket.{Bucket}
-use Rattle.agg_buckets.specs.declared.visit_error.VisitError.{VisitError}
-use Rattle.agg_buckets.specs.declared.visit_error.VisitError.TheVariants.{OutOfMemory, TooMany}
-use Rattle.agg_buckets.proofs.CutPages.{visits-cut}
-use Rattle.agg_buckets.proofs.Labels.{docs_of-append}
-use Rattle.agg_buckets.proofs.Owners.{above-none}
-use Rattle.agg_buckets.proofs.StandingNodes.{stay-right}
+use Rattle.agg_composite.specs.accessor.Accessors.{Fits}
+use Rattle.agg_composite.specs.accessor.Encoding.{EncodedTuple, encoded_tuple_order}
+use Rattle.agg_composite.specs.accessor.Ranges.{AreAllInRange}
+use Rattle.agg_composite.specs.declared.accessor.request_data.CompositeAggReqData.{
+  CompositeAggReqData,
+}
+use Rattle.agg_composite.proofs.lemmas.accessor.EncodedOrder.{tuple-exact, tuple_order-total}
+use Rattle.agg_composite.specs.buckets.Node.{BucketsFor, IsGrown, IsPast, IsRightFor, Node, NodeFor}
+use Rattle.agg_composite.specs.buckets.Node.{NodeTakes, Right, TooManyVisits, found}
+use Rattle.agg_composite.specs.buckets.Refusals.{refused}
+use Rattle.agg_composite.specs.buckets.Visits.{Owner, Visit, is_owner}
+use Rattle.agg_composite.specs.declared.buckets.bucket.Bucket.{Bucket}
+use Rattle.agg_composite.specs.declared.buckets.visit_error.VisitError.{VisitError}
+use Rattle.agg_composite.specs.declared.buckets.visit_error.VisitError.TheVariants.{OutOfMemory}
+use Rattle.agg_composite.specs.declared.buckets.visit_error.VisitError.TheVariants.{TooMany}
+use Rattle.agg_composite.proofs.lemmas.buckets.CutPages.{visits-cut}
+use Rattle.agg_composite.proofs.lemmas.buckets.Labels.{docs_of-append}
+use Rattle.agg_composite.proofs.lemmas.buckets.Owners.{above-none}
+use Rattle.agg_composite.proofs.lemmas.buckets.StandingNodes.{stay-right}
 use Rattle.agg_composite.specs.Answers.{Answers, AnswersDocuments, TakesVisits}
 use Rattle.agg_composite.specs.Composite.{AnswersCollect, Composite, CompositeFor}
 use Rattle.agg_composite.specs.Composite.{CompositeTakes, bucket_of}
@@ -79,7 +82,7 @@ module _ (old new : Node EncodedTuple) (before after : List (Visit EncodedTuple)
       (takes.fuller o past)) there))
       none
 
-  -- and so are those that are pushed now
+  -- those that are pushed now are those of its own later visits
   pub pushed-now : old.pushes ≡ []
       → docs_of (is_id b.id) new.pushes ≡ docs_of own after
   pushed-now empty =
@@ -156,6 +159,12 @@ module _ {C : Type 0} (waiting : C → ℕ → List ℕ) (req : CompositeAggReqD
       cut = λ visited given f p.
           visits-cut encoded_tuple_order tuple_order-total tuple-exact (begun req old.node parent)
           new.node f.visits walked.visits f.handed (right-begun visited given f) walked.node p;
+      drawn = walked.node.drawn;
+      few = omega (
+        arith,
+        walked.node.few,
+        AllZip-long (StandsForVisit req) walked.visits typed walked.stand,
+      );
       no_fewer = walked.node.no_fewer;
       pushed = λ visited given f hands o b there.
           waits hands b.id
@@ -221,7 +230,7 @@ module _ {C : Type 0} (waiting : C → ℕ → List ℕ) (req : CompositeAggReqD
         most = walked.most;
       })
 
-  -- and where they all were made
+  -- where all visits were made, the collector has made them
   pub collected-all : AnswersVisits (Ok tt)
       → AnswersCollect waiting req typed old new steps steps_now (Ok tt)
   collected-all walked = record {

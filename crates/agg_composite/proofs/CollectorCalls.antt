@@ -4,10 +4,12 @@ use Rattle.std.proofs.lemmas.List.{append-nil}
 use Rattle.std.proofs.lemmas.List.Concat.{flat_map-append}
 use Rattle.agg_cache.specs.Waiting.{AreBatchesOf, docs_of, is_id, pairs_of}
 use Rattle.agg_cache.specs.declared.cache.Batch.{Batch}
-use Rattle.agg_accessor.specs.Encoding.{encoded_tuple_order}
-use Rattle.agg_accessor.specs.declared.request_data.CompositeAggReqData.{CompositeAggReqData}
-use Rattle.agg_buckets.specs.Node.{BucketsFor, IsNew}
-use Rattle.agg_buckets.proofs.StandingNodes.{stay-right}
+use Rattle.agg_composite.specs.accessor.Encoding.{encoded_tuple_order}
+use Rattle.agg_composite.specs.declared.accessor.request_data.CompositeAggReqData.{
+  CompositeAggReqData,
+}
+use Rattle.agg_composite.specs.buckets.Node.{BucketsFor, IsNew}
+use Rattle.agg_composite.proofs.lemmas.buckets.StandingNodes.{stay-right}
 use Rattle.agg_composite.specs.Composite.{Composite, CompositeFor, CompositeGives}
 
 module _ {C : Type 0} (waiting : C → ℕ → List ℕ) where

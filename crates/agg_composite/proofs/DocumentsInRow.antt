@@ -15,18 +15,22 @@ use Rattle.agg_segment.specs.Segment.{Stored, document_at, documents_at}
 use Rattle.agg_request_tree.specs.Occurrences.{bound_of, past_occurrences}
 use Rattle.agg_request_tree.specs.Ranges.{AreInRange}
 use Rattle.agg_request_tree.specs.Source.{Sources}
-use Rattle.agg_accessor.specs.Accessors.{Fits}
-use Rattle.agg_accessor.specs.Encoding.{EncodedTuple, StandsForTuple, encoded_tuple_order}
-use Rattle.agg_accessor.specs.Ranges.{AreAllInRange}
-use Rattle.agg_accessor.specs.declared.accessor.CompositeSourceAccessors.{CompositeSourceAccessors}
-use Rattle.agg_accessor.specs.declared.request_data.CompositeAggReqData.{CompositeAggReqData}
-use Rattle.agg_accessor.proofs.EncodedOrder.{tuple_order-total}
-use Rattle.agg_buckets.specs.Laws.{VisitsCompose}
-use Rattle.agg_buckets.specs.Node.{Node, TooManyVisits}
-use Rattle.agg_buckets.specs.Visits.{visits_at}
-use Rattle.agg_buckets.specs.declared.visit_error.VisitError.{VisitError}
-use Rattle.agg_buckets.specs.declared.visit_error.VisitError.TheVariants.{TooMany}
-use Rattle.agg_buckets.proofs.NodeLaws.{compose-visits}
+use Rattle.agg_composite.specs.accessor.Accessors.{Fits}
+use Rattle.agg_composite.specs.accessor.Encoding.{EncodedTuple, StandsForTuple, encoded_tuple_order}
+use Rattle.agg_composite.specs.accessor.Ranges.{AreAllInRange}
+use Rattle.agg_composite.specs.declared.accessor.accessor.CompositeSourceAccessors.{
+  CompositeSourceAccessors,
+}
+use Rattle.agg_composite.specs.declared.accessor.request_data.CompositeAggReqData.{
+  CompositeAggReqData,
+}
+use Rattle.agg_composite.proofs.lemmas.accessor.EncodedOrder.{tuple_order-total}
+use Rattle.agg_composite.specs.buckets.Laws.{VisitsCompose}
+use Rattle.agg_composite.specs.buckets.Node.{Node, TooManyVisits}
+use Rattle.agg_composite.specs.buckets.Visits.{visits_at}
+use Rattle.agg_composite.specs.declared.buckets.visit_error.VisitError.{VisitError}
+use Rattle.agg_composite.specs.declared.buckets.visit_error.VisitError.TheVariants.{TooMany}
+use Rattle.agg_composite.proofs.lemmas.buckets.NodeLaws.{compose-visits}
 use Rattle.agg_composite.specs.Answers.{Answers, AnswersDocuments, AnswersEncoded, TakesVisits}
 use Rattle.agg_composite.specs.Choices.{AreChoicesIn}
 use Rattle.agg_composite.specs.Walk.{parts, walked}

@@ -19,9 +19,11 @@ pub mod PartsInRow
 pub mod PastSides
 pub mod Product
 pub mod PushedDocuments
+pub mod ReadNumbers
 pub mod SourceChoices
 pub mod TuplesInRow
 pub mod TypedGroups
 pub mod VisitsInRow
 pub mod VisitsPast
 pub mod WalkSteps
+pub mod lemmas

@@ -12,15 +12,17 @@ use Rattle.agg_values.specs.declared.after_key.AfterKey.{AfterKey}
 use Rattle.agg_segment.specs.Segment.{Stored}
 use Rattle.agg_request_tree.specs.Groups.{Group}
 use Rattle.agg_request_tree.specs.Source.{after_of}
-use Rattle.agg_accessor.specs.Accessors.{AreAccessorsOf, Fits}
-use Rattle.agg_accessor.specs.Decoded.{IsEncoded, decoded}
-use Rattle.agg_accessor.specs.Encoding.{EncodedTuple, StandsForTuple, encoded_tuple_order}
-use Rattle.agg_accessor.specs.declared.request_data.CompositeAggReqData.{CompositeAggReqData}
-use Rattle.agg_buckets.specs.Cut.{groups_of}
-use Rattle.agg_buckets.specs.Page.{Page}
-use Rattle.agg_buckets.specs.declared.visit_error.VisitError.{VisitError}
-use Rattle.agg_buckets.specs.declared.visit_error.VisitError.TheVariants.{TooMany}
-use Rattle.agg_tuple_counts.proofs.CountSums.{total_of}
+use Rattle.agg_composite.specs.accessor.Accessors.{AreAccessorsOf, Fits}
+use Rattle.agg_composite.specs.accessor.Decoded.{IsEncoded, decoded}
+use Rattle.agg_composite.specs.accessor.Encoding.{EncodedTuple, StandsForTuple, encoded_tuple_order}
+use Rattle.agg_composite.specs.declared.accessor.request_data.CompositeAggReqData.{
+  CompositeAggReqData,
+}
+use Rattle.agg_composite.specs.buckets.Cut.{groups_of}
+use Rattle.agg_composite.specs.buckets.Page.{Page}
+use Rattle.agg_composite.specs.declared.buckets.visit_error.VisitError.{VisitError}
+use Rattle.agg_composite.specs.declared.buckets.visit_error.VisitError.TheVariants.{TooMany}
+use Rattle.agg_composite.proofs.lemmas.tuple_counts.CountSums.{total_of}
 use Rattle.agg_composite.specs.EncodedEntries.{listed_of}
 use Rattle.agg_composite.specs.Listing.{AnswersDocuments, AnswersListed, CountsKeys, IsLowest}
 use Rattle.agg_composite.specs.Listing.{TupleCounts, past_of}

@@ -11,15 +11,17 @@ use Rattle.agg_values.specs.Names.{Named}
 use Rattle.agg_values.specs.Tuple.{KeyTuple}
 use Rattle.agg_values.specs.declared.after_key.AfterKey.{AfterKey}
 use Rattle.agg_segment.specs.Segment.{Stored}
-use Rattle.agg_accessor.specs.Accessors.{Fits}
-use Rattle.agg_accessor.specs.Encoding.{EncodedTuple, StandsForTuple, encoded_tuple_order}
-use Rattle.agg_accessor.specs.Ranges.{AreAllInRange}
-use Rattle.agg_accessor.specs.declared.request_data.CompositeAggReqData.{CompositeAggReqData}
-use Rattle.agg_buckets.specs.Cut.{add_count, count_each}
-use Rattle.agg_buckets.specs.declared.visit_error.VisitError.{VisitError}
-use Rattle.agg_buckets.specs.declared.visit_error.VisitError.TheVariants.{TooMany}
-use Rattle.agg_buckets.proofs.TupleCounts.{count_each-append}
-use Rattle.agg_tuple_counts.proofs.CountSums.{added, total_of}
+use Rattle.agg_composite.specs.accessor.Accessors.{Fits}
+use Rattle.agg_composite.specs.accessor.Encoding.{EncodedTuple, StandsForTuple, encoded_tuple_order}
+use Rattle.agg_composite.specs.accessor.Ranges.{AreAllInRange}
+use Rattle.agg_composite.specs.declared.accessor.request_data.CompositeAggReqData.{
+  CompositeAggReqData,
+}
+use Rattle.agg_composite.specs.buckets.Cut.{add_count, count_each}
+use Rattle.agg_composite.specs.declared.buckets.visit_error.VisitError.{VisitError}
+use Rattle.agg_composite.specs.declared.buckets.visit_error.VisitError.TheVariants.{TooMany}
+use Rattle.agg_composite.proofs.lemmas.buckets.TupleCounts.{count_each-append}
+use Rattle.agg_composite.proofs.lemmas.tuple_counts.CountSums.{added, total_of}
 use Rattle.agg_composite.specs.Answers.{Answers}
 use Rattle.agg_composite.specs.Listing.{AnswersDocuments, AnswersTuples, CountsKeys, CountsTuples}
 use Rattle.agg_composite.specs.Listing.{MayPass, TupleCounts, past_of}
@@ -204,7 +206,7 @@ tuple-counted tuple old new steps steps_now is step = record {
   most = omega (arith, step);
 }
 
--- or refused by one
+-- a tuple refused by one step
 pub tuple-refused : (tuple : EncodedTuple) (old new : TupleCounts) (steps steps_now : ℕ)
     (error : VisitError)
     → (◌≡◌ {A = Returned} (Err error) (Err TooMany) → 2 ^ 64 ≤ total_of old)

@@ -6,7 +6,9 @@ use Rattle.agg_values.specs.TypedKey.{CompositeIntermediateKey}
 use Rattle.agg_request_tree.specs.Source.{or_missing}
 use Rattle.agg_request_tree.specs.declared.source.CompositeAggregationSource as kind
 use kind.{CompositeAggregationSource}
-use Rattle.agg_accessor.specs.declared.accessor.CompositeSourceAccessors.{CompositeSourceAccessors}
+use Rattle.agg_composite.specs.declared.accessor.accessor.CompositeSourceAccessors.{
+  CompositeSourceAccessors,
+}
 use Rattle.agg_composite.specs.Choices.{AddsChoices, AreChoicesOf, null_choice}
 use Rattle.agg_composite.specs.declared.walk.choice.Choice.{Choice}
 

@@ -14,7 +14,7 @@ use Rattle.agg_values.proofs.KeyOrder.{key_order-total, then_equal}
 use Rattle.agg_request_tree.specs.Source.{missing_order_of, order_of}
 use Rattle.agg_request_tree.specs.declared.source.CompositeAggregationSource as kind
 use kind.{CompositeAggregationSource}
-use Rattle.agg_accessor.specs.Accessors.{is_null, side_to}
+use Rattle.agg_composite.specs.accessor.Accessors.{is_null, side_to}
 use Rattle.agg_composite.specs.Choices.{missing_standing}
 
 beside : (order : Order) (missing : MissingOrder)

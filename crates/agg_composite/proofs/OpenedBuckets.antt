@@ -10,16 +10,19 @@ use Rattle.agg_values.specs.declared.after_key.AfterKey.{AfterKey}
 use Rattle.agg_cache.specs.Limits.{Limits, charged}
 use Rattle.agg_segment.specs.Segment.{Stored}
 use Rattle.agg_request_tree.specs.Source.{Sources}
-use Rattle.agg_charges.specs.Charges.{bucket_bytes}
-use Rattle.agg_accessor.specs.Encoding.{EncodedTuple, encoded_tuple_order}
-use Rattle.agg_accessor.specs.declared.request_data.CompositeAggReqData.{CompositeAggReqData}
-use Rattle.agg_accessor.proofs.EncodedOrder.{tuple-exact, tuple_order-total}
-use Rattle.agg_buckets.specs.Cut.{counts_of, cut, spread, tuples_under}
-use Rattle.agg_buckets.specs.Page.{Page}
-use Rattle.agg_buckets.specs.Visits.{Visit, visits_at}
-use Rattle.agg_buckets.proofs.CutPages.{visits-cut}
-use Rattle.agg_buckets.proofs.Labels.{is_id-other}
-use Rattle.agg_buckets.proofs.StandingNodes.{stay-right}
+use Rattle.agg_request_tree.specs.charges.Charges.{bucket_bytes}
+use Rattle.agg_composite.specs.accessor.Encoding.{EncodedTuple, encoded_tuple_order}
+use Rattle.agg_composite.specs.declared.accessor.request_data.CompositeAggReqData.{
+  CompositeAggReqData,
+}
+use Rattle.agg_composite.proofs.lemmas.accessor.EncodedOrder.{tuple-exact, tuple_order-total}
+use Rattle.agg_composite.specs.buckets.Cut.{counts_of, cut, spread, tuples_under}
+use Rattle.agg_composite.specs.buckets.Node.{Prepares}
+use Rattle.agg_composite.specs.buckets.Page.{Page}
+use Rattle.agg_composite.specs.buckets.Visits.{Visit, visits_at}
+use Rattle.agg_composite.proofs.lemmas.buckets.CutPages.{visits-cut}
+use Rattle.agg_composite.proofs.lemmas.buckets.Labels.{is_id-other}
+use Rattle.agg_composite.proofs.lemmas.buckets.StandingNodes.{stay-right}
 use Rattle.agg_composite.specs.Charged.{OpenedBytes, more_bytes}
 use Rattle.agg_composite.specs.Composite.{Composite, CompositeFor, CompositeTakes, num_buckets}
 use Rattle.agg_composite.specs.Composite.{page_of}
@@ -30,11 +33,11 @@ use Rattle.agg_composite.proofs.DocumentsInRow.{visits_compose}
 -- ---- lists of lists
 
 -- of which none is longer than its counterpart
-sums-rise : {A : Type 0} (xs ys : List (List A)) → length ys ≡ length xs
+sums-rise : {A : Type 0} (xs ys : List (List A)) → length xs ≤ length ys
     → ((p : ℕ) → length (get_or xs p []) ≤ length (get_or ys p []))
     → sum_by length xs ≤ sum_by length ys
 sums-rise [] ys long each = omega arith
-sums-rise (x ∷ xs) [] long each = absurd (cc long)
+sums-rise (x ∷ xs) [] long each = absurd (omega (arith, long))
 sums-rise (x ∷ xs) (y ∷ ys) long each =
     let first : length x ≤ length y = each 0 in
     let rest = sums-rise xs ys (omega (arith, long)) (λ p. each (suc p)) in
@@ -50,8 +53,8 @@ sums-apart (x ∷ xs) (y ∷ ys) zero long l same =
     let each : (p : ℕ) → length (get_or ys p []) ≡ length (get_or xs p []) =
     λ p. same (suc p) (λ e. cc e) in
     let tail : length ys ≡ length xs = omega (arith, long) in
-    let up = sums-rise xs ys tail (λ p. let e = each p in omega (arith, e)) in
-    let down = sums-rise ys xs (sym tail) (λ p. let e = each p in omega (arith, e)) in
+    let up = sums-rise xs ys (omega (arith, tail)) (λ p. let e = each p in omega (arith, e)) in
+    let down = sums-rise ys xs (omega (arith, tail)) (λ p. let e = each p in omega (arith, e)) in
     omega (arith, sum_by-cons length x xs, sum_by-cons length y ys, up, down)
 sums-apart (x ∷ xs) (y ∷ ys) (suc i) long l same =
     let first : length y ≡ length x = same 0 (λ e. cc e) in
@@ -94,6 +97,13 @@ none-elsewhere req parent p ne (v ∷ visits) (t ∷ typed) stand under =
 
 -- ---- a collector
 
+-- it has no fewer buckets where parents were prepared
+pub prepared-no_fewer : {C : Type 0} (old new : Composite C) → Prepares old.node new.node
+    → num_buckets old ≤ num_buckets new
+prepared-no_fewer old new prepares =
+    sums-rise old.node.parents new.node.parents prepares.more
+    (λ p. omega (arith, ap length (prepares.buckets p)))
+
 both-times : (b k n : ℕ) → b * k + b * n ≡ b * (k + n)
 both-times b k n = grind arith
 
@@ -102,7 +112,8 @@ module _ {C : Type 0} (waiting : C → ℕ → List ℕ) (req : CompositeAggReqD
     (takes : CompositeTakes waiting req typed old new) where
   -- it has no fewer buckets
   pub no-fewer : num_buckets old ≤ num_buckets new
-  no-fewer = sums-rise old.node.parents new.node.parents takes.prepared takes.no_fewer
+  no-fewer =
+      sums-rise old.node.parents new.node.parents (omega (arith, takes.prepared)) takes.no_fewer
 
   module _ (before bytes : ℕ) (was : before ≡ num_buckets old)
       (are : bytes ≡ bucket_bytes req.req.now * (num_buckets new - before)) where

@@ -16,7 +16,7 @@ use Rattle.agg_request_tree.specs.Source.{Sources, missing_order_of, order_of, r
 use Rattle.agg_request_tree.specs.declared.source.CompositeAggregationSource as kind
 use kind.{CompositeAggregationSource}
 use Rattle.agg_request_tree.specs.Source.{after_of}
-use Rattle.agg_accessor.specs.Accessors.{side_to}
+use Rattle.agg_composite.specs.accessor.Accessors.{side_to}
 use Rattle.agg_composite.proofs.Product.{sides_past}
 
 -- how the keys of a tuple stand to the after values

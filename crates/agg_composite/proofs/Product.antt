@@ -6,10 +6,10 @@ use Rattle.std.specs.declared.cmp.Ordering.{Ordering}
 use Rattle.std.specs.declared.cmp.Ordering.TheVariants.{Less, Equal, Greater}
 use Rattle.std.proofs.lemmas.List.{append-nil, map-append}
 use Rattle.std.proofs.lemmas.List.Elements.{filter-append}
-use Rattle.agg_accessor.specs.Encoding.{EncodedTuple}
+use Rattle.agg_composite.specs.accessor.Encoding.{EncodedTuple}
 use Rattle.std.specs.Option.{option_map_or}
 use Rattle.agg_composite.specs.Walk.{next_standing, walked}
-use Rattle.agg_accessor.specs.declared.encoded.Encoded.{Encoded}
+use Rattle.agg_composite.specs.declared.accessor.encoded.Encoded.{Encoded}
 use Rattle.agg_composite.specs.declared.walk.choice.Choice.{Choice}
 use Rattle.agg_composite.proofs.WalkSteps.{walked_with}
 

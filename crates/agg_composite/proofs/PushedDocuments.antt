@@ -5,7 +5,7 @@ use Rattle.std.specs.Prelude.{if◌then◌else◌}
 use Rattle.std.proofs.lemmas.Bool.Decides.{nat_tests}
 use Rattle.std.proofs.lemmas.List.{take_more}
 use Rattle.agg_cache.specs.Waiting.{docs_of, is_id, one_more}
-use Rattle.agg_buckets.proofs.Labels.{docs_of-append}
+use Rattle.agg_composite.proofs.lemmas.buckets.Labels.{docs_of-append}
 
 turned : (a b : ℕ) → (a == b) ≡ (b == a)
 turned a b = grind (arith, nat_tests)

@@ -6,7 +6,9 @@ use Rattle.std.proofs.lemmas.List.Sums.{sum_by-append, sum_by-cons}
 use Rattle.agg_request_tree.specs.Source.{Sources}
 use Rattle.agg_request_tree.specs.declared.source.CompositeAggregationSource as kind
 use kind.{CompositeAggregationSource}
-use Rattle.agg_accessor.specs.declared.accessor.CompositeSourceAccessors.{CompositeSourceAccessors}
+use Rattle.agg_composite.specs.declared.accessor.accessor.CompositeSourceAccessors.{
+  CompositeSourceAccessors,
+}
 use Rattle.agg_composite.specs.Choices.{AddsChoices, AreChoicesIn, AreChoicesOf, AreGathered}
 use Rattle.agg_composite.specs.Choices.{CanRead, values_read}
 use Rattle.agg_composite.specs.Walk.{parts}

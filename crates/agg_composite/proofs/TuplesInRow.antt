@@ -1,11 +1,11 @@
 -- Visits of encoded tuples of one document in a row.
 use Rattle.std.proofs.Common.{List}
-use Rattle.agg_accessor.specs.Encoding.{EncodedTuple, encoded_tuple_order}
-use Rattle.agg_accessor.proofs.EncodedOrder.{tuple_order-total}
-use Rattle.agg_buckets.specs.Laws.{TuplesCompose}
-use Rattle.agg_buckets.specs.Node as node
-use Rattle.agg_buckets.specs.Node.{Node, Takes}
-use Rattle.agg_buckets.proofs.NodeLaws.{compose-tuples}
+use Rattle.agg_composite.specs.accessor.Encoding.{EncodedTuple, encoded_tuple_order}
+use Rattle.agg_composite.proofs.lemmas.accessor.EncodedOrder.{tuple_order-total}
+use Rattle.agg_composite.specs.buckets.Laws.{TuplesCompose}
+use Rattle.agg_composite.specs.buckets.Node as node
+use Rattle.agg_composite.specs.buckets.Node.{Node, Takes}
+use Rattle.agg_composite.proofs.lemmas.buckets.NodeLaws.{compose-tuples}
 use Rattle.agg_composite.proofs.VisitsInRow.{AreVisits}
 
 -- encoded tuples visited, or too many of them

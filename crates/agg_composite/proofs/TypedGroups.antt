@@ -25,16 +25,18 @@ use Rattle.agg_request_tree.proofs.Lists.{AllByRecursion-Has, AllByRecursion-fro
 use Rattle.agg_request_tree.proofs.Lists.{All-from_Contains, Contains-from_Has, Contains-map, Has}
 use Rattle.agg_request_tree.proofs.Lists.{Has-from_Contains, count-step, count_by-map}
 use Rattle.agg_request_tree.proofs.Lists.{count_by-positive, count_by-some}
-use Rattle.agg_accessor.specs.Accessors.{Fits}
-use Rattle.agg_accessor.specs.Decoded.{IsEncoded, decoded}
-use Rattle.agg_accessor.specs.Encoding.{EncodedTuple, StandsForTuple, encoded_tuple_order}
-use Rattle.agg_accessor.specs.declared.request_data.CompositeAggReqData.{CompositeAggReqData}
-use Rattle.agg_accessor.proofs.DecodedTuples.{decoded-is}
-use Rattle.agg_accessor.proofs.EncodedOrder.{tuple-exact, tuple_order-total}
-use Rattle.agg_accessor.proofs.TypedOrder.{tuples_compare}
-use Rattle.agg_buckets.specs.Cut.{groups_of}
-use Rattle.agg_buckets.specs.Laws.{CutsCompose, positive}
-use Rattle.agg_buckets.proofs.Groups.{cuts, positive-some}
+use Rattle.agg_composite.specs.accessor.Accessors.{Fits}
+use Rattle.agg_composite.specs.accessor.Decoded.{IsEncoded, decoded}
+use Rattle.agg_composite.specs.accessor.Encoding.{EncodedTuple, StandsForTuple, encoded_tuple_order}
+use Rattle.agg_composite.specs.declared.accessor.request_data.CompositeAggReqData.{
+  CompositeAggReqData,
+}
+use Rattle.agg_composite.proofs.lemmas.accessor.DecodedTuples.{decoded-is}
+use Rattle.agg_composite.proofs.lemmas.accessor.EncodedOrder.{tuple-exact, tuple_order-total}
+use Rattle.agg_composite.proofs.lemmas.accessor.TypedOrder.{tuples_compare}
+use Rattle.agg_composite.specs.buckets.Cut.{groups_of}
+use Rattle.agg_composite.specs.buckets.Laws.{CutsCompose, positive}
+use Rattle.agg_composite.proofs.lemmas.buckets.Groups.{cuts, positive-some}
 use Rattle.agg_composite.specs.PageEntries.{decoded_groups}
 
 -- whether a tuple is this one

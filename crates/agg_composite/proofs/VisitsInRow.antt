@@ -4,8 +4,8 @@ use Rattle.std.proofs.Common.{IsErrAnd, length, get_or, take, drop, sym, ap, len
 use Rattle.std.proofs.Common.{subst, arith}
 use Rattle.std.proofs.lemmas.List.{take_all}
 use Rattle.std.proofs.lemmas.Result.{err_from_is_err_and}
-use Rattle.agg_buckets.specs.declared.visit_error.VisitError.{VisitError}
-use Rattle.agg_buckets.specs.declared.visit_error.VisitError.TheVariants.{TooMany}
+use Rattle.agg_composite.specs.declared.buckets.visit_error.VisitError.{VisitError}
+use Rattle.agg_composite.specs.declared.buckets.visit_error.VisitError.TheVariants.{TooMany}
 use Rattle.agg_composite.specs.Answers.{Answers}
 use Rattle.agg_composite.proofs.PartsInRow.{Appends, gives-more, gives-all, length-more}
 use Rattle.agg_composite.proofs.PartsInRow.{length-front}
@@ -29,7 +29,7 @@ pub record SoFar {X Y S : Type 0} (visits : List Y → S → S → Type 0) (f : 
   pub least : steps + length (f (take i xs)) ≤ steps_now
   pub most : steps_now ≤ steps + 3 * length (f (take i xs))
 
--- the same, of a state and of steps by other names
+-- what has come so far, of a state and of steps by other names
 pub same-so_far : {X Y S : Type 0} (visits : List Y → S → S → Type 0) (f : List X → List Y)
     (xs : List X) (i : ℕ) (s t u : S) (steps steps_now steps_then : ℕ) → u ≡ t
     → steps_then ≡ steps_now → SoFar visits f xs i s t steps steps_now

@@ -12,9 +12,9 @@ use Rattle.agg_segment.specs.Segment.{Stored, document_at, documents_at}
 use Rattle.agg_request_tree.specs.Occurrences.{bound_of, is_past, occurrences, occurrences_in}
 use Rattle.agg_request_tree.specs.Occurrences.{past_occurrences}
 use Rattle.agg_request_tree.specs.Source.{Sources, rules_of}
-use Rattle.agg_buckets.specs.Cut.{tuples_under}
-use Rattle.agg_buckets.specs.Visits.{Visit, visits_at}
-use Rattle.agg_buckets.proofs.Labels.{is_id-same}
+use Rattle.agg_composite.specs.buckets.Cut.{tuples_under}
+use Rattle.agg_composite.specs.buckets.Visits.{Visit, visits_at}
+use Rattle.agg_composite.proofs.lemmas.buckets.Labels.{is_id-same}
 use Rattle.agg_composite.specs.Visits.{visits_past}
 
 -- the tuples of the visits of a document under its parent
@@ -49,7 +49,7 @@ module _ (sources : Sources) (segment : Stored) (after : Named AfterKey) where
       ∙ (λ i. own-tuples parent doc (past (doc ∷ [])) i ++ tuples_under-past parent docs i)
       ∙ sym (past-append (doc ∷ []) docs)
 
-  -- and as many as these
+  -- the visits past the bound are as many as the tuples
   pub length-past : (parent : ℕ) (docs : List ℕ)
       → length (visits_past sources segment after parent docs) ≡ length (past docs)
   length-past parent [] = refl

@@ -4,8 +4,8 @@ use Rattle.std.proofs.Common.{drop, take, sym, ap, ◌∙◌, arith, length-appe
 use Rattle.std.specs.Option.{option_map_or}
 use Rattle.std.proofs.lemmas.List.{append-nil, take-append-le, take_all}
 use Rattle.std.proofs.lemmas.List.Concat.{flat_map-append}
-use Rattle.agg_accessor.specs.Encoding.{EncodedTuple}
-use Rattle.agg_accessor.specs.declared.encoded.Encoded.{Encoded}
+use Rattle.agg_composite.specs.accessor.Encoding.{EncodedTuple}
+use Rattle.agg_composite.specs.declared.accessor.encoded.Encoded.{Encoded}
 use Rattle.agg_composite.specs.Walk.{next_standing, parts, walked}
 use Rattle.agg_composite.specs.declared.walk.choice.Choice.{Choice}
 use Rattle.agg_composite.proofs.PartsInRow.{Appends}

@@ -4,15 +4,17 @@ use Rattle.std.specs.List.{AllZip}
 use Rattle.agg_values.specs.Names.{Named}
 use Rattle.agg_values.specs.declared.after_key.AfterKey.{AfterKey}
 use Rattle.agg_segment.specs.Segment.{Stored}
-use Rattle.agg_accessor.specs.Accessors.{Fits}
-pub use Rattle.agg_accessor.specs.Ranges.{AreAllInRange}
-use Rattle.agg_accessor.specs.Encoding.{EncodedTuple, encoded_tuple_order}
-use Rattle.agg_accessor.specs.declared.request_data.CompositeAggReqData.{CompositeAggReqData}
-use Rattle.agg_buckets.specs.Node as node
-use Rattle.agg_buckets.specs.Node.{Node, NodeTakes, Takes, TooManyVisits}
-use Rattle.agg_buckets.specs.Visits.{Visit}
-use Rattle.agg_buckets.specs.declared.visit_error.VisitError.{VisitError}
-use Rattle.agg_buckets.specs.declared.visit_error.VisitError.TheVariants.{TooMany}
+use Rattle.agg_composite.specs.accessor.Accessors.{Fits}
+pub use Rattle.agg_composite.specs.accessor.Ranges.{AreAllInRange}
+use Rattle.agg_composite.specs.accessor.Encoding.{EncodedTuple, encoded_tuple_order}
+use Rattle.agg_composite.specs.declared.accessor.request_data.CompositeAggReqData.{
+  CompositeAggReqData,
+}
+use Rattle.agg_composite.specs.buckets.Node as node
+use Rattle.agg_composite.specs.buckets.Node.{Node, NodeTakes, Takes, TooManyVisits}
+use Rattle.agg_composite.specs.buckets.Visits.{Visit}
+use Rattle.agg_composite.specs.declared.buckets.visit_error.VisitError.{VisitError}
+use Rattle.agg_composite.specs.declared.buckets.visit_error.VisitError.TheVariants.{TooMany}
 use Rattle.agg_composite.specs.Visits.{StandsForVisit, TypedVisit, visits_past}
 
 -- an Ok has made so many visits, by one to three steps each; the error that says too many has its

@@ -5,12 +5,14 @@ use Rattle.agg_values.specs.declared.request_error.AggregationError.{Aggregation
 use Rattle.agg_cache.specs.Limits.{IsExceeded, Limits, charged}
 use Rattle.agg_cache.specs.declared.error.CollectError.{CollectError}
 use Rattle.agg_cache.specs.declared.error.CollectError.TheVariants as refusal
-use Rattle.agg_charges.specs.Charges.{bucket_bytes}
-use Rattle.agg_accessor.specs.Encoding.{EncodedTuple, encoded_tuple_order}
-use Rattle.agg_accessor.specs.declared.request_data.CompositeAggReqData.{CompositeAggReqData}
-use Rattle.agg_buckets.specs.Cut.{counts_of, cut, spread, tuples_under}
-use Rattle.agg_buckets.specs.Page.{Page}
-use Rattle.agg_buckets.specs.Visits.{Visit}
+use Rattle.agg_request_tree.specs.charges.Charges.{bucket_bytes}
+use Rattle.agg_composite.specs.accessor.Encoding.{EncodedTuple, encoded_tuple_order}
+use Rattle.agg_composite.specs.declared.accessor.request_data.CompositeAggReqData.{
+  CompositeAggReqData,
+}
+use Rattle.agg_composite.specs.buckets.Cut.{counts_of, cut, spread, tuples_under}
+use Rattle.agg_composite.specs.buckets.Page.{Page}
+use Rattle.agg_composite.specs.buckets.Visits.{Visit}
 use Rattle.agg_composite.specs.Composite.{Composite, num_buckets}
 use Rattle.agg_composite.specs.Visits.{AnswersRange, StandsForVisit, TypedVisit}
 

@@ -9,16 +9,22 @@ use Rattle.agg_values.specs.declared.order.Order.{Order}
 use Rattle.agg_values.specs.declared.order.Order.TheVariants.{Asc, Desc}
 use Rattle.agg_request_tree.specs.Faults.{HasInterval}
 use Rattle.agg_request_tree.specs.Ranges.{IsInRange}
-use Rattle.agg_request_tree.specs.Source.{Sources, missing_bucket_of, or_missing, order_of}
+use Rattle.agg_request_tree.specs.Source.{Sources, min_of, missing_bucket_of, or_missing}
+use Rattle.agg_request_tree.specs.Source.{order_of}
 use Rattle.agg_request_tree.specs.declared.source.CompositeAggregationSource as kind
 use kind.{CompositeAggregationSource}
-use Rattle.agg_accessor.specs.Accessors.{IsAccessorOf, keys_in_columns, keys_read, side_at}
-use Rattle.agg_accessor.specs.Encoding.{IsItemOf, encoded_at, encoded_null}
-use Rattle.agg_accessor.specs.Lanes.{lane_of}
-use Rattle.agg_accessor.specs.Starts.{divisor_of, lane_number}
+use Rattle.agg_composite.specs.accessor.Accessors.{IsAccessorOf, keys_in_columns, keys_read}
+use Rattle.agg_composite.specs.accessor.Accessors.{side_at}
+use Rattle.agg_composite.specs.accessor.Encoding.{IsItemOf, encoded_at, encoded_null}
+use Rattle.agg_composite.specs.accessor.Lanes.{lane_of}
+use Rattle.agg_composite.specs.accessor.Least.{AreLeastIn}
+use Rattle.agg_composite.specs.accessor.Ranges.{divisor_at}
+use Rattle.agg_composite.specs.accessor.Starts.{lane_number}
 use Rattle.agg_composite.specs.Walk.{parts}
-use Rattle.agg_accessor.specs.declared.accessor.CompositeAccessor.{CompositeAccessor}
-use Rattle.agg_accessor.specs.declared.accessor.CompositeSourceAccessors.{CompositeSourceAccessors}
+use Rattle.agg_composite.specs.declared.accessor.accessor.CompositeAccessor.{CompositeAccessor}
+use Rattle.agg_composite.specs.declared.accessor.accessor.CompositeSourceAccessors.{
+  CompositeSourceAccessors,
+}
 use Rattle.agg_composite.specs.declared.walk.choice.Choice.{Choice}
 
 -- ---- a choice
@@ -54,11 +60,12 @@ index_in Asc accessors turn = turn
 index_in Desc accessors turn = accessors - 1 - turn
 
 -- accessors can be read in a document: they are those of a source that has what it divides values
--- by, and the starts of the keys that they hold lie within i64
+-- by, with the places of its least value, and the starts of the keys that it reads lie within i64
 pub record CanRead (source : CompositeAggregationSource) (a : CompositeSourceAccessors) (doc : ℕ)
     : Type 0 where
   pub interval : HasInterval source
   pub each : All (IsAccessorOf source) a.accessors
+  pub least : AreLeastIn (min_of source) a.accessors a.min
   pub range : All (IsInRange source) (keys_in_columns source a.accessors doc)
 
 -- the keys that a source gives for what accessors read in a document, by class ascending, or Null
@@ -86,7 +93,7 @@ abbrev pub divided_choices : CompositeAggregationSource → CompositeSourceAcces
 divided_choices source a accessor index numbers =
     map
     (λ n. choice_at (order_of source) a (lane_of source index)
-    (lane_number (divisor_of source accessor.date_histogram_interval) accessor.column.now.keys n))
+    (lane_number (divisor_at source accessor) accessor.column.now.keys n))
     numbers
 
 -- ---- the choices of all sources
@@ -99,7 +106,7 @@ AreChoicesIn (source ∷ sources) (a ∷ accessors) doc (choices ∷ rows) =
     × AreChoicesIn sources accessors doc rows
 AreChoicesIn _ _ doc _ = ⊥
 
--- the same, end to end, with the size of each source's part
+-- the choices of all sources in a document, end to end, with the size of each source's part
 pub record AreGathered (sources : Sources) (accessors : List CompositeSourceAccessors) (doc : ℕ)
     (sizes : List ℕ) (choices : List Choice) : Type 0 where
   pub whole : sum sizes ≡ length choices

@@ -1,5 +1,5 @@
 -- What a collector holds for the visits of its documents, and what it hands on.
-use Rattle.std.specs.Prelude.{◌≡◌, ◌==◌, ◌&&◌, ◌++◌, ◌≤◌, ℕ, Bool, true, false, List, Option}
+use Rattle.std.specs.Prelude.{◌≡◌, ◌==◌, ◌&&◌, ◌++◌, ◌≤◌, ◌+◌, ℕ, Bool, true, false, List, Option}
 use Rattle.std.specs.Prelude.{get_or, [], length, Result, Some}
 use Rattle.std.specs.List.{AllZip, sum_by}
 use Rattle.agg_values.specs.KeyOrder.{SourceRules}
@@ -9,13 +9,16 @@ use Rattle.agg_cache.specs.declared.cache.Batch.{Batch}
 use Rattle.agg_cache.specs.declared.error.CollectError.{CollectError}
 use Rattle.agg_cache.specs.declared.error.CollectError.TheVariants as refusal
 use Rattle.agg_request_tree.specs.Occurrences.{same_tuple}
-use Rattle.agg_accessor.specs.Encoding.{EncodedTuple, encoded_tuple_order}
-use Rattle.agg_accessor.specs.declared.request_data.CompositeAggReqData.{CompositeAggReqData}
-use Rattle.agg_buckets.specs.Cut.{counts_of, cut, spread, tuples_under}
-use Rattle.agg_buckets.specs.Node.{BucketsFor, IsGrown, IsPast, Node, TooManyVisits, found}
-use Rattle.agg_buckets.specs.Page.{Page}
-use Rattle.agg_buckets.specs.Visits.{Owner, Visit, is_owner}
-use Rattle.agg_buckets.specs.declared.bucket.Bucket.{Bucket}
+use Rattle.agg_composite.specs.accessor.Encoding.{EncodedTuple, encoded_tuple_order}
+use Rattle.agg_composite.specs.declared.accessor.request_data.CompositeAggReqData.{
+  CompositeAggReqData,
+}
+use Rattle.agg_composite.specs.buckets.Cut.{counts_of, cut, spread, tuples_under}
+use Rattle.agg_composite.specs.buckets.Node.{BucketsFor, IsGrown, IsPast, Node, TooManyVisits}
+use Rattle.agg_composite.specs.buckets.Node.{found}
+use Rattle.agg_composite.specs.buckets.Page.{Page}
+use Rattle.agg_composite.specs.buckets.Visits.{Owner, Visit, is_owner}
+use Rattle.agg_composite.specs.declared.buckets.bucket.Bucket.{Bucket}
 use Rattle.agg_composite.specs.Answers.{Answers}
 use Rattle.agg_composite.specs.Visits.{StandsForVisit, TypedVisit}
 
@@ -58,8 +61,8 @@ pub record CompositeFor {C : Type 0} (waiting : C → ℕ → List ℕ) (req : C
 
 -- a collector made visits: where it was right, it is right with these after the others, each parent
 -- has the cut of what it had with these after it, and what came to wait under a bucket's id are the
--- documents of its visits; no parent has fewer buckets, a bucket that stays keeps its id, and a new
--- one has an id that wasn't given
+-- documents of its visits; at most one id a visit is given, no parent has fewer buckets, a bucket
+-- that stays keeps its id, and a new one has an id that wasn't given
 pub record CompositeTakes {C : Type 0} (waiting : C → ℕ → List ℕ) (req : CompositeAggReqData)
     (typed : List TypedVisit) (old new : Composite C) : Type 0 where
   pub visits : List (Visit EncodedTuple)
@@ -71,6 +74,8 @@ pub record CompositeTakes {C : Type 0} (waiting : C → ℕ → List ℕ) (req :
       → CompositeFor waiting req old visited given → (parent : ℕ)
       → counts_of (page_of new parent) ≡ cut encoded_tuple_order req.size
       (spread (counts_of (page_of old parent)) ++ tuples_under parent visits)
+  pub drawn : old.node.next ≤ new.node.next
+  pub few : new.node.next ≤ old.node.next + length typed
   pub no_fewer : (parent : ℕ) → length (page_of old parent) ≤ length (page_of new parent)
   pub pushed : (visited : List TypedVisit) (given : List (ℕ × ℕ))
       → CompositeFor waiting req old visited given → old.hands_on ≡ true

@@ -1,7 +1,7 @@
 -- What contracts see of the entries that are still to come.
 use Rattle.std.specs.Prelude.{ℕ, List, map}
-use Rattle.agg_accessor.specs.Encoding.{EncodedTuple}
-use Rattle.agg_buckets.specs.Page.{Page}
+use Rattle.agg_composite.specs.accessor.Encoding.{EncodedTuple}
+use Rattle.agg_composite.specs.buckets.Page.{Page}
 use Rattle.agg_composite.specs.declared.page_entries.EncodedEntries.{EncodedEntries}
 use Rattle.agg_composite.specs.declared.page_entries.EncodedEntries.TheVariants.{Eight, Four, One}
 use Rattle.agg_composite.specs.declared.page_entries.EncodedEntries.TheVariants.{Listed, Sixteen}

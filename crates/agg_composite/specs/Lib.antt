@@ -9,4 +9,7 @@ pub mod SubResults
 pub mod TupleBuckets
 pub mod Visits
 pub mod Walk
-pub use Rattle.agg_accessor.specs.Accessors
+pub mod accessor
+pub mod buckets
+pub mod tuple_counts
+pub use Rattle.agg_composite.specs.accessor.Accessors

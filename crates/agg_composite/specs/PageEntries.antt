@@ -2,11 +2,13 @@
 use Rattle.std.specs.Prelude.{◌≡◌, ℕ, List, [], ◌∷◌, map}
 use Rattle.agg_values.specs.Tuple.{KeyTuple}
 use Rattle.agg_request_tree.specs.Groups.{Group}
-use Rattle.agg_accessor.specs.Decoded.{decoded}
-use Rattle.agg_accessor.specs.Encoding.{EncodedTuple}
-use Rattle.agg_accessor.specs.declared.request_data.CompositeAggReqData.{CompositeAggReqData}
-use Rattle.agg_buckets.specs.Page.{Page}
-use Rattle.agg_buckets.specs.declared.bucket.Bucket.{Bucket}
+use Rattle.agg_composite.specs.accessor.Decoded.{decoded}
+use Rattle.agg_composite.specs.accessor.Encoding.{EncodedTuple}
+use Rattle.agg_composite.specs.declared.accessor.request_data.CompositeAggReqData.{
+  CompositeAggReqData,
+}
+use Rattle.agg_composite.specs.buckets.Page.{Page}
+use Rattle.agg_composite.specs.declared.buckets.bucket.Bucket.{Bucket}
 use Rattle.agg_composite.specs.declared.page_entry.PageEntry.{PageEntry}
 
 -- an entry as a group: its key with its count

@@ -1,7 +1,9 @@
 -- When collectors have handed on all that is below their buckets, and when their pages are alike.
 use Rattle.std.specs.Prelude.{◌≡◌, ℕ, true, List, [], map}
 use Rattle.agg_cache.specs.Waiting.{docs_of, is_id}
-use Rattle.agg_accessor.specs.declared.request_data.CompositeAggReqData.{CompositeAggReqData}
+use Rattle.agg_composite.specs.declared.accessor.request_data.CompositeAggReqData.{
+  CompositeAggReqData,
+}
 use Rattle.agg_composite.specs.Composite.{Composite, CompositeFor, page_of}
 use Rattle.agg_composite.specs.PageEntries.{decoded_buckets, entry_bucket}
 use Rattle.agg_composite.specs.Visits.{TypedVisit}

@@ -1,7 +1,7 @@
 -- What contracts see of the buckets by tuple.
 use Rattle.std.specs.Prelude.{ℕ}
-use Rattle.agg_accessor.specs.Encoding.{EncodedTuple}
-use Rattle.agg_buckets.specs.Node.{Node}
+use Rattle.agg_composite.specs.accessor.Encoding.{EncodedTuple}
+use Rattle.agg_composite.specs.buckets.Node.{Node}
 use Rattle.agg_composite.specs.declared.tuple_buckets.TupleBuckets.{TupleBuckets}
 use Rattle.agg_composite.specs.declared.tuple_buckets.TupleBuckets.TheVariants.{Eight, Four, One}
 use Rattle.agg_composite.specs.declared.tuple_buckets.TupleBuckets.TheVariants.{Sixteen, Two}

@@ -9,9 +9,11 @@ use Rattle.agg_cache.specs.declared.error.CollectError.TheVariants as refusal
 use Rattle.agg_segment.specs.Segment.{Stored, documents_at}
 use Rattle.agg_request_tree.specs.Occurrences.{bound_of, past_occurrences}
 use Rattle.agg_request_tree.specs.Source.{Sources}
-use Rattle.agg_accessor.specs.Encoding.{EncodedTuple, StandsForTuple}
-use Rattle.agg_accessor.specs.declared.request_data.CompositeAggReqData.{CompositeAggReqData}
-use Rattle.agg_buckets.specs.Visits.{Visit, visits_at}
+use Rattle.agg_composite.specs.accessor.Encoding.{EncodedTuple, StandsForTuple}
+use Rattle.agg_composite.specs.declared.accessor.request_data.CompositeAggReqData.{
+  CompositeAggReqData,
+}
+use Rattle.agg_composite.specs.buckets.Visits.{Visit, visits_at}
 
 -- a visit of a document, under a parent and a tuple
 abbrev pub TypedVisit : Type 0

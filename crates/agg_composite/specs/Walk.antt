@@ -5,7 +5,7 @@ use Rattle.std.specs.List.{flat_map}
 use Rattle.std.specs.Option.{option_map_or}
 use Rattle.std.specs.declared.cmp.Ordering.{Ordering}
 use Rattle.std.specs.declared.cmp.Ordering.TheVariants.{Less, Equal, Greater}
-use Rattle.agg_accessor.specs.Encoding.{EncodedTuple}
+use Rattle.agg_composite.specs.accessor.Encoding.{EncodedTuple}
 use Rattle.agg_composite.specs.declared.walk.choice.Choice.{Choice}
 
 -- a list cut into parts of these sizes

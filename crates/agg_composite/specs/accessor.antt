@@ -4,6 +4,7 @@ pub mod Classes
 pub mod Decoded
 pub mod Encoding
 pub mod Lanes
+pub mod Least
 pub mod Places
 pub mod Ranges
 pub mod Starts

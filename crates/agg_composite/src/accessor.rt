@@ -1,17 +1,15 @@
 //! Accessors of sources in a segment: projected after keys, encoded keys, starts and ranges.
-#![tactic(auto)]
-
-mod accessor;
-mod after_key;
-mod decoding;
-mod divisor;
-mod encoded;
-mod lanes;
-mod laws;
-mod numbers;
-mod occurrences;
-mod ranges;
-mod request_data;
+pub(crate) mod accessor;
+pub(crate) mod after_key;
+pub(crate) mod decoding;
+pub(crate) mod divisor;
+pub(crate) mod encoded;
+pub(crate) mod lanes;
+pub(crate) mod laws;
+pub(crate) mod numbers;
+pub(crate) mod occurrences;
+pub(crate) mod ranges;
+pub(crate) mod request_data;
 
 pub use accessor::{CompositeAccessor, CompositeSourceAccessors};
 pub use after_key::PrecomputedAfterKey;

@@ -1,11 +1,9 @@
 //! The buckets of a composite, by parent and tuple: at most a page of them for each parent.
-#![tactic(auto)]
-
-mod bucket;
-mod buckets_by_parent;
-mod laws;
-mod page;
-mod visit_error;
+pub(crate) mod bucket;
+pub(crate) mod buckets_by_parent;
+pub(crate) mod laws;
+pub(crate) mod page;
+pub(crate) mod visit_error;
 
 pub use bucket::Bucket;
 pub use buckets_by_parent::BucketsByParent;

@@ -10,28 +10,28 @@ ghost use Rattle.agg_segment.specs.Segment.{Stored};
 ghost use Rattle.agg_request_tree.specs.Faults.{max_sources};
 ghost use Rattle.agg_request_tree.specs.Groups.{Group, Groups};
 ghost use Rattle.agg_request_tree.specs.Source.{rules_of};
-ghost use Rattle.agg_charges.specs.Charges as spec;
-ghost use Rattle.agg_accessor.specs.Accessors.{Fits};
-ghost use Rattle.agg_accessor.specs.Encoding.{encoded_tuple_order};
-ghost use Rattle.agg_accessor.specs.Ranges.{AreAllInRange};
-ghost use Rattle.agg_accessor.specs.declared.request_data.CompositeAggReqData as declared;
-ghost use Rattle.agg_buckets.specs.Cut.{tuples_under};
-ghost use Rattle.agg_buckets.specs.Node.{Prepares, TooManyVisits};
+ghost use Rattle.agg_request_tree.specs.charges.Charges as spec;
+ghost use Rattle.agg_composite.specs.accessor.Accessors.{Fits};
+ghost use Rattle.agg_composite.specs.accessor.Encoding.{encoded_tuple_order};
+ghost use Rattle.agg_composite.specs.accessor.Ranges.{AreAllInRange};
+ghost use Rattle.agg_composite.specs.declared.accessor.request_data.CompositeAggReqData as declared;
+ghost use Rattle.agg_composite.specs.buckets.Cut.{tuples_under};
+ghost use Rattle.agg_composite.specs.buckets.Node.{Prepares, TooManyVisits};
 ghost use Rattle.agg_composite.specs.Answers.{Answers};
 ghost use Rattle.agg_composite.specs.Charged.{AnswersRangeOrLimit, Charges, IfLimit, OpenedBytes};
 ghost use Rattle.agg_composite.specs.Charged.{more_bytes};
 ghost use Rattle.agg_composite.specs.PageEntries.{decoded_buckets, entry_bucket, entry_group};
 ghost use Rattle.agg_composite.specs.Visits.{AnswersRange, TypedVisit, visits_past};
 
+use crate::accessor::CompositeAggReqData;
+use crate::buckets::VisitError;
 use crate::tuple_buckets::TupleBuckets;
 use crate::{PageEntries, PageEntry};
-use agg_accessor::CompositeAggReqData;
-use agg_buckets::VisitError;
 use agg_cache::{
     AggregationLimitsGuard, Batch, BucketId, CachedSubAggs, CollectError, LimitsLedger, SubAggCache,
 };
-use agg_charges::bucket_bytes;
 use agg_request_tree::CompositeAggregation;
+use agg_request_tree::charges::bucket_bytes;
 use agg_values::{DocId, ItemList, OutOfMemory, Steps};
 use std::alloc::Global;
 use std::marker::Model;
@@ -91,7 +91,8 @@ impl<C: SubAggCache> SegmentCompositeCollector<C> {
         })
     }
 
-    /// The same for a composite with nothing below it, which hands no document on.
+    /// A collector for a composite with nothing below it, which has visited nothing and hands no
+    /// document on.
     pub fn new_leaf(
         alloc: Global,
         num_sources: usize,
@@ -298,7 +299,7 @@ impl<C: SubAggCache> SegmentCompositeCollector<C> {
         self.buckets.entries(parent_bucket_id)
     }
 
-    /// The same of a collector that ends: all else that it holds is dropped.
+    /// The entries of that page, from a collector that ends: all else that it holds is dropped.
     pub fn into_entries(self, parent_bucket_id: BucketId) -> Result<PageEntries, OutOfMemory>
         ensures { IfOk result (λ entries. entries ≡ page_of self parent_bucket_id) }
     {

@@ -9,10 +9,12 @@ ghost use Rattle.agg_segment.specs.Segment.{Stored, documents_at};
 ghost use Rattle.agg_request_tree.specs.Groups.{Group, Groups};
 ghost use Rattle.agg_request_tree.specs.Occurrences.{bound_of, past_occurrences};
 ghost use Rattle.agg_request_tree.specs.Source.{Sources, rules_of};
-ghost use Rattle.agg_accessor.specs.Accessors.{Fits};
-ghost use Rattle.agg_accessor.specs.Decoded.{IsEncoded};
-ghost use Rattle.agg_accessor.specs.declared.request_data.CompositeAggReqData.{CompositeAggReqData};
-ghost use Rattle.agg_buckets.specs.Cut.{tuples_under};
+ghost use Rattle.agg_composite.specs.accessor.Accessors.{Fits};
+ghost use Rattle.agg_composite.specs.accessor.Decoded.{IsEncoded};
+ghost use Rattle.agg_composite.specs.declared.accessor.request_data.CompositeAggReqData.{
+  CompositeAggReqData,
+};
+ghost use Rattle.agg_composite.specs.buckets.Cut.{tuples_under};
 ghost use Rattle.agg_composite.specs.Composite.{Composite, CompositeFor, docs_under, page_of};
 ghost use Rattle.agg_composite.specs.PageEntries.{entry_group, page_entries};
 ghost use Rattle.agg_composite.specs.SubResults.{AreAlike, HasHanded, IsPageOf};

@@ -1,15 +1,19 @@
-//! The collector that groups the documents of a segment.
+//! The collector that groups the documents of a segment: the accessors of its sources, its buckets
+//! by parent, and its pages.
 #![tactic(auto)]
 
+pub mod accessor;
+pub mod buckets;
 mod collector;
 mod laws;
 mod page_entries;
 mod page_entry;
 mod stored_tuple;
 mod tuple_buckets;
+pub mod tuple_counts;
 mod walk;
 
-pub use agg_accessor::{
+pub use crate::accessor::{
     CompositeAccessor, CompositeAggReqData, CompositeSourceAccessors, PrecomputedAfterKey,
     encoded_tuples_compare_as_typed,
 };

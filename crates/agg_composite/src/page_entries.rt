@@ -1,15 +1,15 @@
 //! The buckets of a parent, as the entries of a page.
 ghost use Rattle.std.specs.Prelude.{◌≡◌, [], All, IfOk, MatchOption, length};
 ghost use Rattle.std.specs.Map.{keys_of};
-ghost use Rattle.agg_accessor.specs.Decoded.{IsEncoded};
+ghost use Rattle.agg_composite.specs.accessor.Decoded.{IsEncoded};
 ghost use Rattle.agg_composite.specs.EncodedEntries.{encoded_of, listed_of};
 ghost use Rattle.agg_composite.specs.PageEntries.{AreNone, IsNext, entry_of, page_entries};
 
 use crate::PageEntry;
+use crate::accessor::{CompositeAggReqData, Encoded, decode_tuple};
+use crate::buckets::Bucket;
 use crate::stored_tuple::StoredTuple;
-use agg_accessor::{CompositeAggReqData, Encoded, decode_tuple};
-use agg_buckets::Bucket;
-use agg_freeing::FreeingIter;
+use agg_values::freeing::FreeingIter;
 use agg_values::{ItemList, OutOfMemory};
 use std::alloc::Global;
 use std::marker::Model;
@@ -21,7 +21,7 @@ pub struct PageEntries {
     encoded: EncodedEntries,
 }
 
-/// The same, with room in each tuple for as many keys as it may have.
+/// Buckets still to come, with room in each tuple for as many keys as it may have.
 #[derive(Drop)]
 pub enum EncodedEntries {
     One(FreeingIter<(StoredTuple<Encoded, 1>, Bucket)>),
@@ -34,8 +34,8 @@ pub enum EncodedEntries {
 }
 
 impl Model for PageEntries {
-    ghost use Rattle.agg_accessor.specs.Encoding.{EncodedTuple};
-    ghost use Rattle.agg_buckets.specs.Page.{Page};
+    ghost use Rattle.agg_composite.specs.accessor.Encoding.{EncodedTuple};
+    ghost use Rattle.agg_composite.specs.buckets.Page.{Page};
     ghost use Rattle.agg_composite.specs.EncodedEntries.{encoded_of};
 
     ghost Value = { Page EncodedTuple };
@@ -127,7 +127,7 @@ fn next_of<const N: usize>(
     }
 }
 
-// The same of tuples by their counts.
+// The entry of the next tuple of one key and its count, None exactly where none is left.
 fn next_listed(
     alloc: Global,
     counts: &mut FreeingIter<(StoredTuple<Encoded, 1>, u64)>,

@@ -66,7 +66,7 @@ impl<K: Copy + Default, const N: usize> Clone for StoredTuple<K, N> {
 
     ghost is_infallible = { λ _. ⊤ };
 
-    /// The same keys once more.
+    /// A copy of the keys.
     fn clone(&self) -> Result<StoredTuple<K, N>, AllocError> {
         let mut keys = ArrayVec::new();
         for key in self.keys.as_slice() {

@@ -2,18 +2,18 @@
 ghost use Rattle.std.specs.Prelude.{◌≡◌, ◌≤◌, ◌<◌, ◌^◌, [], IfOk, OnOk, get_or, length};
 ghost use Rattle.std.specs.List.{sum_by};
 ghost use Rattle.agg_request_tree.specs.Faults.{max_sources};
-ghost use Rattle.agg_buckets.specs.Node.{IsNew, Prepares};
+ghost use Rattle.agg_composite.specs.buckets.Node.{IsNew, Prepares};
 ghost use Rattle.agg_composite.specs.Answers.{AnswersDocuments};
 ghost use Rattle.agg_composite.specs.TupleBuckets.{node_of, room_of};
 
 use crate::PageEntries;
+use crate::accessor::{CompositeAggReqData, Encoded};
+use crate::buckets::{Bucket, BucketsByParent, VisitError};
 use crate::page_entries::EncodedEntries;
 use crate::stored_tuple::StoredTuple;
 use crate::walk::visit_documents;
-use agg_accessor::{CompositeAggReqData, Encoded};
-use agg_buckets::{Bucket, BucketsByParent, VisitError};
 use agg_cache::BucketId;
-use agg_freeing::FreeingIter;
+use agg_values::freeing::FreeingIter;
 use agg_values::{DocId, OutOfMemory, Steps};
 use std::alloc::Global;
 use std::sync::ledger::Ledger;

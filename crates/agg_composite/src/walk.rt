@@ -9,9 +9,9 @@ mod gather;
 mod index;
 mod listing;
 
+use crate::accessor::{CompositeAggReqData, Encoded};
+use crate::buckets::{BucketsByParent, VisitError};
 use crate::stored_tuple::StoredTuple;
-use agg_accessor::{CompositeAggReqData, Encoded};
-use agg_buckets::{BucketsByParent, VisitError};
 use agg_values::{DocId, Steps};
 use choice::Choice;
 use gather::Gathered;
@@ -113,7 +113,7 @@ fn walk_from<const N: usize, L: Ledger>(
     Ok(())
 }
 
-// The same. A tuple that has all its keys is visited without a further call.
+// Visits the tuples that begin with these keys; one that has all its keys without a further call.
 #[cycle(tuples)]
 fn walk_on<const N: usize, L: Ledger>(
     buckets: &mut BucketsByParent<StoredTuple<Encoded, N>>,

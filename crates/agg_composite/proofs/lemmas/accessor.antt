@@ -15,8 +15,10 @@ pub mod KeysGiven
 pub mod LaneKeys
 pub mod LaneOrder
 pub mod LaneSides
+pub mod LeastValues
 pub mod NullSides
 pub mod NumberOrder
+pub mod NumberRanges
 pub mod OccurrenceCounts
 pub mod Places
 pub mod ReadColumns

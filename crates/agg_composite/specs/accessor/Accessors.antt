@@ -1,6 +1,6 @@
 -- What sources read in a segment, and where their after values stand there.
 use Rattle.std.specs.Prelude.{◌≡◌, ◌==◌, ◌<◌, ℕ, List, Bool, true, false, Option, None, Some, ⊤}
-use Rattle.std.specs.Prelude.{All, Ok, ℤ, count_by, filter, filter_map, if◌then◌else◌, length}
+use Rattle.std.specs.Prelude.{All, Ok, ℤ, pos, count_by, filter, filter_map, if◌then◌else◌, length}
 use Rattle.std.specs.List.{AllZip}
 use Rattle.std.specs.Ordering.{nat_cmp, is_lt, match_ordering}
 use Rattle.std.specs.declared.cmp.Ordering.{Ordering}
@@ -18,35 +18,41 @@ use Rattle.agg_calendar.specs.Start.{IsUsable}
 use Rattle.agg_calendar.specs.declared.interval.PrecomputedDateInterval as interval
 use interval.{PrecomputedDateInterval}
 use interval.TheVariants.{NotApplicable}
-use Rattle.agg_column.specs.Columns.{AreInKeyOrder, ClassesAscend, StandsForKey, StoredColumn}
-use Rattle.agg_column.specs.Columns.{all_keys, encoded_key, type_of}
+use Rattle.agg_segment.specs.storage.Columns.{AreInKeyOrder, ClassesAscend, StandsForKey}
+use Rattle.agg_segment.specs.storage.Columns.{StoredColumn, all_keys, encoded_key, type_of}
 use Rattle.agg_segment.specs.Segment.{Stored, columns_in}
 use Rattle.agg_request_tree.specs.Faults.{HasInterval, SourceHasFault}
-use Rattle.agg_request_tree.specs.Source.{Sources, after_of, field_of, interval_of, keys_in}
-use Rattle.agg_request_tree.specs.Source.{missing_order_of, order_of, start_in}
+use Rattle.agg_request_tree.specs.Source.{Sources, after_of, division_of, field_of, is_from}
+use Rattle.agg_request_tree.specs.Source.{keys_in, min_of, missing_order_of, order_of, start_in}
 use Rattle.agg_request_tree.specs.SourceColumns.{reads_type}
 use Rattle.agg_request_tree.specs.declared.source.CompositeAggregationSource as kind
 use kind.{CompositeAggregationSource}
 use kind.TheVariants.{DateHistogram, Histogram, Terms}
-use Rattle.agg_accessor.specs.AfterKey.{projected_side}
-use Rattle.agg_accessor.specs.Classes.{is_of_class_before}
-use Rattle.agg_accessor.specs.Lanes.{columns_of, in_requested, keys_at, lane_of, lanes}
-use Rattle.agg_accessor.specs.declared.accessor.CompositeAccessor.{CompositeAccessor}
-use Rattle.agg_accessor.specs.declared.accessor.CompositeSourceAccessors.{CompositeSourceAccessors}
-use Rattle.agg_accessor.specs.declared.request_data.CompositeAggReqData.{CompositeAggReqData}
+use Rattle.agg_composite.specs.accessor.AfterKey.{projected_side}
+use Rattle.agg_composite.specs.accessor.Classes.{is_of_class_before}
+use Rattle.agg_composite.specs.accessor.Least.{AreLeastIn}
+use Rattle.agg_composite.specs.accessor.Lanes.{columns_of, in_requested, keys_at, lane_of, lanes}
+use Rattle.agg_composite.specs.declared.accessor.accessor.CompositeAccessor.{CompositeAccessor}
+use Rattle.agg_composite.specs.declared.accessor.accessor.CompositeSourceAccessors.{
+  CompositeSourceAccessors,
+}
+use Rattle.agg_composite.specs.declared.accessor.request_data.CompositeAggReqData.{
+  CompositeAggReqData,
+}
 
 -- ---- columns
 
--- what a source divides its dates by
-abbrev pub IsIntervalOf : CompositeAggregationSource → PrecomputedDateInterval → Type 0
-IsIntervalOf (Terms s) interval = interval ≡ NotApplicable
-IsIntervalOf (Histogram s) interval = interval ≡ NotApplicable
-IsIntervalOf (DateHistogram s) interval = (interval_of s ≡ Ok interval) × IsUsable interval
+-- what a source divides its dates by, and by how much their buckets begin later
+abbrev pub IsDivisionOf : CompositeAggregationSource → PrecomputedDateInterval → ℤ → Type 0
+IsDivisionOf (Terms s) interval offset = (interval ≡ NotApplicable) × (offset ≡ pos 0)
+IsDivisionOf (Histogram s) interval offset = (interval ≡ NotApplicable) × (offset ≡ pos 0)
+IsDivisionOf (DateHistogram s) interval offset =
+    (division_of s ≡ Ok (interval, offset)) × IsUsable interval
 
--- an accessor of a source has the interval of its dates, and a column that the source reads, whose
--- numbers are in the order of its keys
+-- an accessor of a source has the interval and the offset of its dates, and a column that the
+-- source reads, whose numbers are in the order of its keys
 pub record IsAccessorOf (source : CompositeAggregationSource) (a : CompositeAccessor) : Type 0 where
-  pub interval : IsIntervalOf source a.date_histogram_interval
+  pub division : IsDivisionOf source a.date_histogram_interval a.date_offset_ns
   pub reads : reads_type source (type_of a.column.now.keys) ≡ true
   pub order : AreInKeyOrder a.column.now.keys
 
@@ -54,11 +60,16 @@ pub record IsAccessorOf (source : CompositeAggregationSource) (a : CompositeAcce
 abbrev pub columns_read : CompositeAggregationSource → List StoredColumn → List StoredColumn
 columns_read source columns = filter (λ c. reads_type source (type_of c.keys)) columns
 
--- the keys of a document in the columns of a source's accessors, by class ascending
+-- the keys of a document in columns that aren't below a source's least value
+abbrev pub keys_from : CompositeAggregationSource → List StoredColumn → ℕ
+    → List CompositeIntermediateKey
+keys_from source columns doc = filter (is_from (min_of source)) (all_keys columns doc)
+
+-- the keys in the columns of the source's accessors, by class ascending
 abbrev pub keys_in_columns : CompositeAggregationSource → List CompositeAccessor → ℕ
     → List CompositeIntermediateKey
 keys_in_columns source accessors doc =
-    all_keys (in_requested (order_of source) (columns_of accessors)) doc
+    keys_from source (in_requested (order_of source) (columns_of accessors)) doc
 
 -- the keys that the source gives for them
 abbrev pub keys_read : CompositeAggregationSource → List CompositeAccessor → ℕ
@@ -123,6 +134,7 @@ pub record AreAccessorsOf (segment : Stored) (source : CompositeAggregationSourc
   pub explicit : a.is_after_key_explicit_missing ≡ is_null after
   pub skip : a.skip_missing ≡ is_lt (side_to source after Null)
   pub index : a.after_key_accessor_idx ≡ index_of source after a.accessors
+  pub least : AreLeastIn (min_of source) a.accessors a.min
   pub sides : (i number : ℕ) → i < length (lanes source a.accessors)
       → StandsForKey (keys_at source a.accessors i) number
       → side_at (order_of source) a i number
@@ -157,6 +169,6 @@ abbrev pub AllFit : Stored → Named AfterKey → Sources → List CompositeSour
 AllFit segment after =
     AllZip (λ source a. AreAccessorsOf segment source (after_of after source) a)
 
--- so have those of request data
+-- the sources of request data have their accessors in a segment, for their after values
 abbrev pub Fits : Stored → Named AfterKey → CompositeAggReqData → Type 0
 Fits segment after req = AllFit segment after req.req.now.sources req.composite_accessors

@@ -4,9 +4,12 @@ use Rattle.std.specs.declared.cmp.Ordering.{Ordering}
 use Rattle.std.specs.declared.cmp.Ordering.TheVariants.{Less, Equal, Greater}
 use Rattle.agg_values.specs.declared.order.Order.{Order}
 use Rattle.agg_values.specs.declared.order.Order.TheVariants.{Asc, Desc}
-use Rattle.agg_accessor.specs.declared.after_key.PrecomputedAfterKey.{PrecomputedAfterKey}
-use Rattle.agg_accessor.specs.declared.after_key.PrecomputedAfterKey.TheVariants.{Exact, Next}
-use Rattle.agg_accessor.specs.declared.after_key.PrecomputedAfterKey.TheVariants.{AfterLast}
+use Rattle.agg_composite.specs.declared.accessor.after_key.PrecomputedAfterKey.{PrecomputedAfterKey}
+use Rattle.agg_composite.specs.declared.accessor.after_key.PrecomputedAfterKey.TheVariants.{Exact}
+use Rattle.agg_composite.specs.declared.accessor.after_key.PrecomputedAfterKey.TheVariants.{Next}
+use Rattle.agg_composite.specs.declared.accessor.after_key.PrecomputedAfterKey.TheVariants.{
+  AfterLast,
+}
 
 -- whether an after key is at a number
 abbrev pub is_at : PrecomputedAfterKey → ℕ → Bool

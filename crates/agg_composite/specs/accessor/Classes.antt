@@ -5,9 +5,9 @@ use Rattle.agg_values.specs.Column.{class_rank}
 use Rattle.agg_values.specs.TypedKey.{CompositeIntermediateKey}
 use Rattle.agg_values.specs.declared.typed_key.CompositeIntermediateKey.TheVariants as key
 use Rattle.agg_values.specs.declared.order.Order.{Order}
-use Rattle.agg_column.specs.Columns.{keys_rank}
-use Rattle.agg_column.specs.declared.keys.ColumnKeys.{ColumnKeys}
-use Rattle.agg_accessor.specs.Lanes.{class_order}
+use Rattle.agg_segment.specs.storage.Columns.{keys_rank}
+use Rattle.agg_segment.specs.declared.storage.keys.ColumnKeys.{ColumnKeys}
+use Rattle.agg_composite.specs.accessor.Lanes.{class_order}
 
 -- whether a column's keys come before a key by their class, in the requested order
 abbrev pub is_of_class_before : Order → CompositeIntermediateKey → ColumnKeys → Bool

@@ -4,16 +4,20 @@ use Rattle.std.specs.Prelude.{if◌then◌else◌}
 use Rattle.agg_values.specs.Tuple.{KeyTuple}
 use Rattle.agg_values.specs.TypedKey.{CompositeIntermediateKey}
 use Rattle.agg_values.specs.declared.typed_key.CompositeIntermediateKey.TheVariants.{Null}
-use Rattle.agg_column.specs.Columns.{encoded_key}
+use Rattle.agg_segment.specs.storage.Columns.{encoded_key}
 use Rattle.agg_request_tree.specs.Source.{Sources, order_of}
 use Rattle.agg_request_tree.specs.declared.source.CompositeAggregationSource as kind
 use kind.{CompositeAggregationSource}
-use Rattle.agg_accessor.specs.Lanes.{keys_at, lanes}
-use Rattle.agg_accessor.specs.Encoding.{EncodedTuple, StandsForTuple, raw_of}
-use Rattle.agg_accessor.specs.declared.accessor.CompositeAccessor.{CompositeAccessor}
-use Rattle.agg_accessor.specs.declared.accessor.CompositeSourceAccessors.{CompositeSourceAccessors}
-use Rattle.agg_accessor.specs.declared.encoded.Encoded.{Encoded}
-use Rattle.agg_accessor.specs.declared.request_data.CompositeAggReqData.{CompositeAggReqData}
+use Rattle.agg_composite.specs.accessor.Lanes.{keys_at, lanes}
+use Rattle.agg_composite.specs.accessor.Encoding.{EncodedTuple, StandsForTuple, raw_of}
+use Rattle.agg_composite.specs.declared.accessor.accessor.CompositeAccessor.{CompositeAccessor}
+use Rattle.agg_composite.specs.declared.accessor.accessor.CompositeSourceAccessors.{
+  CompositeSourceAccessors,
+}
+use Rattle.agg_composite.specs.declared.accessor.encoded.Encoded.{Encoded}
+use Rattle.agg_composite.specs.declared.accessor.request_data.CompositeAggReqData.{
+  CompositeAggReqData,
+}
 
 -- whether a number is that of none of so many lanes, which are numbered from 1 on
 abbrev pub is_outside : ℕ → ℕ → Bool

@@ -2,21 +2,22 @@
 use Rattle.std.specs.Prelude.{◌≡◌, ◌&&◌, ◌≤ℤ◌, ◌-◌, ◌^◌, ℕ, ℤ, pos, neg_ℤ, Bool, Option, None, Some}
 use Rattle.std.specs.Prelude.{⊤, MatchResult, Result, int_le, int_lt, option_map, if◌then◌else◌}
 use Rattle.agg_values.specs.TypedKey.{CompositeIntermediateKey}
-use Rattle.agg_calendar.specs.Start.{IsUsable, fixed_start, start_of}
+use Rattle.agg_calendar.specs.Start.{IsUsable, fixed_start, start_with_offset}
 use Rattle.agg_calendar.specs.declared.error.StartError.{StartError}
 use Rattle.agg_calendar.specs.declared.interval.PrecomputedDateInterval as interval
 use interval.{PrecomputedDateInterval}
 use interval.TheVariants.{FixedNanoseconds}
-use Rattle.agg_column.specs.Columns.{encoded_key}
-use Rattle.agg_column.specs.declared.keys.ColumnKeys.{ColumnKeys}
+use Rattle.agg_segment.specs.storage.Columns.{encoded_key}
+use Rattle.agg_segment.specs.declared.storage.keys.ColumnKeys.{ColumnKeys}
 use Rattle.agg_request_tree.specs.Ranges.{IsWithin}
 use Rattle.agg_request_tree.specs.Source.{counted_number, date_of}
 use Rattle.agg_request_tree.specs.declared.source.CompositeAggregationSource as kind
 use kind.{CompositeAggregationSource}
 use kind.TheVariants.{DateHistogram, Histogram, Terms}
-use Rattle.agg_accessor.specs.Places.{moved_up}
-use Rattle.agg_accessor.specs.declared.divisor.Divisor.{Divisor}
-use Rattle.agg_accessor.specs.declared.divisor.Divisor.TheVariants.{Nothing, Numbers, Time}
+use Rattle.agg_composite.specs.accessor.Places.{moved_up}
+use Rattle.agg_composite.specs.declared.accessor.divisor.Divisor.{Divisor}
+use Rattle.agg_composite.specs.declared.accessor.divisor.Divisor.TheVariants.{Nothing, Numbers}
+use Rattle.agg_composite.specs.declared.accessor.divisor.Divisor.TheVariants.{Time}
 
 -- ---- what values are divided by
 
@@ -24,28 +25,29 @@ use Rattle.agg_accessor.specs.declared.divisor.Divisor.TheVariants.{Nothing, Num
 abbrev pub divided : Divisor → CompositeIntermediateKey → Option ℤ
 divided Nothing k = None
 divided (Numbers width) k = option_map (fixed_start width) (counted_number k)
-divided (Time interval) k = option_map (start_of interval) (date_of k)
+divided (Time interval offset) k = option_map (start_with_offset interval offset) (date_of k)
 
 -- a divisor isn't below one
 abbrev pub CanDivide : Divisor → Type 0
 CanDivide Nothing = ⊤
 CanDivide (Numbers width) = pos 1 ≤ℤ width
-CanDivide (Time interval) = IsUsable interval
+CanDivide (Time interval offset) = IsUsable interval
 
 -- numbers by a width, nothing by one below one
 abbrev pub by_numbers : ℤ → Divisor
 by_numbers width = if int_lt width (pos 1) then Nothing else Numbers width
 
--- time by an interval, nothing by one below one
-abbrev pub by_time : PrecomputedDateInterval → Divisor
-by_time (FixedNanoseconds ns) = if int_lt ns (pos 1) then Nothing else Time (FixedNanoseconds ns)
-by_time interval = Time interval
+-- time by an interval and an offset, nothing by an interval below one
+abbrev pub by_time : PrecomputedDateInterval → ℤ → Divisor
+by_time (FixedNanoseconds ns) offset =
+    if int_lt ns (pos 1) then Nothing else Time (FixedNanoseconds ns) offset
+by_time interval offset = Time interval offset
 
--- what a source divides values by, where this is the interval of its dates
-abbrev pub divisor_of : CompositeAggregationSource → PrecomputedDateInterval → Divisor
-divisor_of (Terms s) interval = Nothing
-divisor_of (Histogram s) interval = by_numbers s.interval
-divisor_of (DateHistogram s) interval = by_time interval
+-- what a source divides values by, where these are the interval and the offset of its dates
+abbrev pub divisor_of : CompositeAggregationSource → PrecomputedDateInterval → ℤ → Divisor
+divisor_of (Terms s) interval offset = Nothing
+divisor_of (Histogram s) interval offset = by_numbers s.interval
+divisor_of (DateHistogram s) interval offset = by_time interval offset
 
 -- ---- numbers of lanes
 

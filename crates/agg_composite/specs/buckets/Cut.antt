@@ -3,8 +3,8 @@ use Rattle.std.specs.Prelude.{◌==◌, ◌+◌, ℕ, List, [], ◌∷◌, flat_
 use Rattle.std.specs.Prelude.{take}
 use Rattle.std.specs.Ordering.{match_ordering}
 use Rattle.std.specs.declared.cmp.Ordering.{Ordering}
-use Rattle.agg_buckets.specs.Page.{Page}
-use Rattle.agg_buckets.specs.Visits.{Visit}
+use Rattle.agg_composite.specs.buckets.Page.{Page}
+use Rattle.agg_composite.specs.buckets.Visits.{Visit}
 
 -- each tuple as often as the counts say
 abbrev pub spread : {S : Type 0} → List (S × ℕ) → List S

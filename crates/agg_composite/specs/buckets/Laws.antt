@@ -6,11 +6,11 @@ use Rattle.std.specs.List.Sorted.{IsStrictlySortedBy}
 use Rattle.std.specs.Map.{keys_of, lookup}
 use Rattle.std.specs.declared.cmp.Ordering.{Ordering}
 use Rattle.std.specs.declared.cmp.Ordering.TheVariants.{Equal}
-use Rattle.agg_buckets.specs.Cut.{counts_of, cut, groups_of, spread, tuples_under}
-use Rattle.agg_buckets.specs.Node.{BucketsFor, Node, NodeFor, NodeTakes, IsNew, Prepares, Takes}
-use Rattle.agg_buckets.specs.Node.{TooMany, TooManyVisits}
-use Rattle.agg_buckets.specs.Page.{Page}
-use Rattle.agg_buckets.specs.Visits.{Visit, visits_at}
+use Rattle.agg_composite.specs.buckets.Cut.{counts_of, cut, groups_of, spread, tuples_under}
+use Rattle.agg_composite.specs.buckets.Node.{BucketsFor, Node, NodeFor, NodeTakes, IsNew, Prepares}
+use Rattle.agg_composite.specs.buckets.Node.{Takes, TooMany, TooManyVisits}
+use Rattle.agg_composite.specs.buckets.Page.{Page}
+use Rattle.agg_composite.specs.buckets.Visits.{Visit, visits_at}
 
 -- the buckets of a new node are right for no visits, whatever their number may be; those that are
 -- right stay so once parents are prepared, and make a node that is right once a parent is begun
@@ -36,8 +36,8 @@ pub record VisitsCompose {S : Type 0} (R : S → S → Ordering) : Type 0 where
   pub large : (n : ℕ) (node : Node S) (visited : List (Visit S)) (handed : List (ℕ × ℕ))
       → NodeFor R node visited handed → TooManyVisits R n node → 2 ^ 32 ≤ length visited + n
 
--- so are tuples in a row of the document that is visited now, and these are visits under the parent
--- that is visited now
+-- tuples in a row, of the document and the parent that are visited now, are tuples of all, and
+-- visits of that document; too many of some are too many with earlier or later ones
 pub record TuplesCompose {S : Type 0} (R : S → S → Ordering) : Type 0 where
   pub none : (node : Node S) → Takes R [] node node
   pub both : (ts us : List S) (a b c : Node S) → Takes R ts a b → Takes R us b c

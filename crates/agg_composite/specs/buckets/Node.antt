@@ -7,9 +7,9 @@ use Rattle.std.specs.List.Sorted.{IsStrictlySortedBy}
 use Rattle.std.specs.Map.{keys_of, lookup}
 use Rattle.std.specs.declared.cmp.Ordering.{Ordering}
 use Rattle.agg_cache.specs.Waiting.{docs_of, is_id}
-use Rattle.agg_buckets.specs.Page.{IsAbove, Page}
-use Rattle.agg_buckets.specs.Visits.{Owner, Visit, Within, docs_in, is_owner, visits_at}
-use Rattle.agg_buckets.specs.declared.bucket.Bucket.{Bucket}
+use Rattle.agg_composite.specs.buckets.Page.{IsAbove, Page}
+use Rattle.agg_composite.specs.buckets.Visits.{Owner, Visit, Within, docs_in, is_owner, visits_at}
+use Rattle.agg_composite.specs.declared.buckets.bucket.Bucket.{Bucket}
 
 -- the buckets of each parent, how many a parent may have, the next id, the documents that were
 -- visited under ids and not handed on yet, and the parent and the document that are visited now
@@ -81,7 +81,7 @@ pub record BucketsFor {S : Type 0} (R : S → S → Ordering) (size : ℕ) (pare
   pub few : next ≤ length handed
   pub part : Within (docs_in handed) (docs_in visits)
 
--- so is a node, where this was handed on before
+-- a node is right for what was visited, where this was handed on before
 abbrev pub NodeFor : {S : Type 0} → (S → S → Ordering) → Node S → List (Visit S) → List (ℕ × ℕ)
     → Type 0
 NodeFor R node visits handed =
@@ -131,6 +131,6 @@ pub record Takes {S : Type 0} (R : S → S → Ordering) (tuples : List S) (old 
   pub parent : new.parent ≡ old.parent
   pub doc : new.doc ≡ old.doc
 
--- they are too many
+-- the tuples of the document that is visited now are too many
 abbrev pub TooMany : {S : Type 0} → (S → S → Ordering) → List S → Node S → Type 0
 TooMany R tuples node = TooManyVisits R (length tuples) node

@@ -6,7 +6,7 @@ use Rattle.std.specs.List.Sorted.{IsStrictlySortedBy}
 use Rattle.std.specs.Map.{keys_of, lookup, set_value}
 use Rattle.std.specs.declared.cmp.Ordering.{Ordering}
 use Rattle.std.specs.declared.cmp.Ordering.TheVariants.{Less}
-use Rattle.agg_buckets.specs.declared.bucket.Bucket.{Bucket}
+use Rattle.agg_composite.specs.declared.buckets.bucket.Bucket.{Bucket}
 
 -- the buckets of a parent, each with its tuple
 abbrev pub Page : Type 0 → Type 0

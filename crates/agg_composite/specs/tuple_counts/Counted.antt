@@ -1,7 +1,7 @@
 -- Counts of keys, one for each distinct key.
 use Rattle.std.specs.Prelude.{ℕ, List, [], ◌∷◌}
 use Rattle.std.specs.declared.cmp.Ordering.{Ordering}
-use Rattle.agg_buckets.specs.Cut.{add_count}
+use Rattle.agg_composite.specs.buckets.Cut.{add_count}
 
 -- the distinct keys of counts, ascending, each with the sum of its counts
 abbrev pub counted : {K : Type 0} → (K → K → Ordering) → List (K × ℕ) → List (K × ℕ)

@@ -1,14 +1,14 @@
 //! After keys on the numbers of columns.
 ghost use Rattle.std.specs.Prelude.{◌≡◌, ℕ};
-ghost use Rattle.agg_column.specs.Columns.{StandsForKey, encoded_key};
+ghost use Rattle.agg_segment.specs.storage.Columns.{StandsForKey, encoded_key};
 ghost use Rattle.agg_values.specs.KeyOrder.{key_order};
-ghost use Rattle.agg_accessor.specs.AfterKey.{is_above, is_at, is_below, projected_side};
-ghost use Rattle.agg_accessor.specs.Places.{hit_place, signed_place, unsigned_place};
+ghost use Rattle.agg_composite.specs.accessor.AfterKey.{is_above, is_at, is_below, projected_side};
+ghost use Rattle.agg_composite.specs.accessor.Places.{hit_place, signed_place, unsigned_place};
 
 mod precompute;
 
-use crate::CompositeAccessor;
-use crate::numbers::moved_up;
+use crate::accessor::CompositeAccessor;
+use crate::accessor::numbers::moved_up;
 use agg_segment::OrdHit;
 use agg_values::{CompositeIntermediateKey, MissingOrder, Order, ProjectedNumber};
 pub(crate) use precompute::precompute_among_starts;

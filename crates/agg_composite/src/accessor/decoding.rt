@@ -2,15 +2,16 @@
 ghost use Rattle.std.specs.Prelude.{◌≡◌, ◌<◌, IfOk, length};
 ghost use Rattle.agg_values.specs.Tuple.{KeyTuple};
 ghost use Rattle.agg_values.specs.TypedKey.{CompositeIntermediateKey as Key};
-ghost use Rattle.agg_column.specs.Columns.{StandsForKey, encoded_key};
-ghost use Rattle.agg_accessor.specs.Decoded.{IsEncoded, decoded, decoded_key, decoded_keys};
-ghost use Rattle.agg_accessor.specs.Encoding.{StandFor, StandsFor, raw_of};
-ghost use Rattle.agg_accessor.specs.Lanes.{keys_at, lanes};
+ghost use Rattle.agg_segment.specs.storage.Columns.{StandsForKey, encoded_key};
+ghost use Rattle.agg_composite.specs.accessor.Decoded.{IsEncoded, decoded, decoded_key};
+ghost use Rattle.agg_composite.specs.accessor.Decoded.{decoded_keys};
+ghost use Rattle.agg_composite.specs.accessor.Encoding.{StandFor, StandsFor, raw_of};
+ghost use Rattle.agg_composite.specs.accessor.Lanes.{keys_at, lanes};
 
-use crate::encoded::Encoded;
-use crate::lanes::count_of_lanes;
-use crate::numbers::moved_down;
-use crate::{CompositeAccessor, CompositeAggReqData, CompositeSourceAccessors};
+use crate::accessor::encoded::Encoded;
+use crate::accessor::lanes::count_of_lanes;
+use crate::accessor::numbers::moved_down;
+use crate::accessor::{CompositeAccessor, CompositeAggReqData, CompositeSourceAccessors};
 use agg_request_tree::CompositeAggregationSource;
 use agg_values::{CompositeIntermediateKey, Order, OutOfMemory, Tuple};
 use std::alloc::Global;

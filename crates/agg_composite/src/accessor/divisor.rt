@@ -1,16 +1,16 @@
 //! What sources divide values by, and the starts of buckets as numbers of lanes.
 ghost use Rattle.std.specs.Prelude.{◌≡◌, ◌↔◌, ◌≤ℤ◌, ℤ, IfSome, IsTrue, Option, option_map};
 ghost use Rattle.std.specs.Prelude.{pos};
-ghost use Rattle.agg_calendar.specs.Start.{IsUsable, fixed_start, start_of};
-ghost use Rattle.agg_column.specs.Columns.{encoded_key};
+ghost use Rattle.agg_calendar.specs.Start.{IsUsable, fixed_start, start_with_offset};
+ghost use Rattle.agg_segment.specs.storage.Columns.{encoded_key};
 ghost use Rattle.agg_request_tree.specs.Source.{counted_number, date_of};
-ghost use Rattle.agg_accessor.specs.Ranges.{IsKeyWithin};
-ghost use Rattle.agg_accessor.specs.Starts.{CanDivide, GivesStartOf, IsCountable};
-ghost use Rattle.agg_accessor.specs.Starts.{by_numbers, by_time, divided, divisor_of, lane_number};
-ghost use Rattle.agg_accessor.specs.Starts.{start_number};
+ghost use Rattle.agg_composite.specs.accessor.Ranges.{IsKeyWithin, divisor_at};
+ghost use Rattle.agg_composite.specs.accessor.Starts.{CanDivide, GivesStartOf, IsCountable};
+ghost use Rattle.agg_composite.specs.accessor.Starts.{by_numbers, by_time, divided, divisor_of};
+ghost use Rattle.agg_composite.specs.accessor.Starts.{lane_number, start_number};
 
-use crate::CompositeAccessor;
-use crate::numbers::{moved_down, moved_up};
+use crate::accessor::CompositeAccessor;
+use crate::accessor::numbers::{moved_down, moved_up};
 use agg_calendar::{PrecomputedDateInterval, StartError, fixed_bucket};
 use agg_request_tree::CompositeAggregationSource;
 use agg_segment::{Column, ColumnType};
@@ -18,12 +18,12 @@ use agg_segment::{Column, ColumnType};
 /// What values are divided by.
 #[derive(Clone, Copy, Debug)]
 pub enum Divisor {
-    /// They stay as they are.
+    /// Values stay as they are.
     Nothing,
     /// Numbers, and dates in milliseconds, by the width of a bucket.
     Numbers(i64),
-    /// Dates by an interval.
-    Time(PrecomputedDateInterval),
+    /// Dates by an interval, whose buckets begin so many nanoseconds later.
+    Time(PrecomputedDateInterval, i64),
 }
 
 /// A column of an accessor, with what its source divides the values by.
@@ -40,13 +40,16 @@ impl<'s> DividedColumn<'s> {
         accessor: &CompositeAccessor<'s>,
     ) -> DividedColumn<'s>
         ensures column { result.column.now ≡ accessor.now.column.now }
-        ensures divisor { result.divisor
-            ≡ divisor_of source.now accessor.now.date_histogram_interval }
+        ensures divisor { result.divisor ≡ divisor_at source.now accessor.now }
         ensures can { CanDivide result.divisor }
     {
         DividedColumn {
             column: accessor.column,
-            divisor: divisor_of(source, accessor.date_histogram_interval),
+            divisor: divisor_of(
+                source,
+                accessor.date_histogram_interval,
+                accessor.date_offset_ns,
+            ),
         }
     }
 
@@ -80,19 +83,25 @@ impl<'s> DividedColumn<'s> {
         match self.divisor {
             Divisor::Nothing => Ok(None),
             Divisor::Numbers(width) => start_of_number(width, counted_number(self.column, number)),
-            Divisor::Time(interval) => start_of_date(interval, date_of(self.column, number)),
+            Divisor::Time(interval, offset_ns) => {
+                start_of_date(interval, offset_ns, date_of(self.column, number))
+            }
         }
     }
 }
 
-fn divisor_of(source: &CompositeAggregationSource, interval: PrecomputedDateInterval) -> Divisor
-    ensures divisor { result ≡ divisor_of source.now interval }
+fn divisor_of(
+    source: &CompositeAggregationSource,
+    interval: PrecomputedDateInterval,
+    offset_ns: i64,
+) -> Divisor
+    ensures divisor { result ≡ divisor_of source.now interval offset_ns }
     ensures can { CanDivide result }
 {
     match source {
         CompositeAggregationSource::Terms(_) => Divisor::Nothing,
         CompositeAggregationSource::Histogram(histogram) => by_numbers(histogram.interval),
-        CompositeAggregationSource::DateHistogram(_) => by_time(interval),
+        CompositeAggregationSource::DateHistogram(_) => by_time(interval, offset_ns),
     }
 }
 
@@ -106,13 +115,13 @@ fn by_numbers(width: i64) -> Divisor
     Divisor::Numbers(width)
 }
 
-fn by_time(interval: PrecomputedDateInterval) -> Divisor
-    ensures divisor { result ≡ by_time interval }
+fn by_time(interval: PrecomputedDateInterval, offset_ns: i64) -> Divisor
+    ensures divisor { result ≡ by_time interval offset_ns }
     ensures can { CanDivide result }
 {
     match interval {
         PrecomputedDateInterval::FixedNanoseconds(ns) if ns < 1 => Divisor::Nothing,
-        _ => Divisor::Time(interval),
+        _ => Divisor::Time(interval, offset_ns),
     }
 }
 
@@ -152,13 +161,14 @@ fn start_of_number(width: i64, counted: Option<i128>) -> Result<Option<i64>, Sta
 
 fn start_of_date(
     interval: PrecomputedDateInterval,
+    offset_ns: i64,
     date: Option<i64>,
 ) -> Result<Option<i64>, StartError>
     requires { IsUsable interval }
-    ensures { GivesStartOf (option_map (start_of interval) date) result }
+    ensures { GivesStartOf (option_map (start_with_offset interval offset_ns) date) result }
 {
     match date {
-        Some(ns) => Ok(Some(interval.start(ns)?)),
+        Some(ns) => Ok(Some(interval.start_with_offset(ns, offset_ns)?)),
         None => Ok(None),
     }
 }

@@ -1,7 +1,7 @@
 //! Keys of sources, encoded in a segment.
 ghost use Rattle.std.specs.Prelude.{◌≡◌, ◌<◌, ◌^◌};
 ghost use Rattle.agg_values.specs.KeyOrder.{null_side};
-ghost use Rattle.agg_accessor.specs.Encoding.{encoded_at, null_lane};
+ghost use Rattle.agg_composite.specs.accessor.Encoding.{encoded_at, null_lane};
 
 use agg_values::{MissingOrder, Order};
 

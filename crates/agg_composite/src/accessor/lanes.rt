@@ -1,8 +1,8 @@
 //! The lanes in which the keys of a source stand in a segment.
 ghost use Rattle.std.specs.Prelude.{◌≡◌, ◌<◌, ◌≤◌, ◌^◌, length};
-ghost use Rattle.agg_accessor.specs.Lanes.{lane_of, lanes};
+ghost use Rattle.agg_composite.specs.accessor.Lanes.{lane_of, lanes};
 
-use crate::CompositeAccessor;
+use crate::accessor::CompositeAccessor;
 use agg_request_tree::CompositeAggregationSource;
 
 /// How many lanes a source has: one for each accessor, a histogram one for all.

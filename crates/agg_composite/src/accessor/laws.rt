@@ -8,11 +8,11 @@ ghost use Rattle.agg_values.specs.Tuple.{KeyTuple};
 ghost use Rattle.agg_values.specs.declared.after_key.AfterKey.{AfterKey};
 ghost use Rattle.agg_segment.specs.Segment.{Stored};
 ghost use Rattle.agg_request_tree.specs.Source.{rules_of};
-ghost use Rattle.agg_accessor.specs.Accessors.{Fits};
-ghost use Rattle.agg_accessor.specs.Encoding.{EncodedTuple, StandsForTuple};
-ghost use Rattle.agg_accessor.specs.declared.request_data.CompositeAggReqData as declared;
+ghost use Rattle.agg_composite.specs.accessor.Accessors.{Fits};
+ghost use Rattle.agg_composite.specs.accessor.Encoding.{EncodedTuple, StandsForTuple};
+ghost use Rattle.agg_composite.specs.declared.accessor.request_data.CompositeAggReqData as declared;
 
-use crate::encoded::Encoded;
+use crate::accessor::encoded::Encoded;
 
 /// In a segment, the encoded tuples of one composite compare as the tuples that they stand for do,
 /// and two are equal only for the same tuple.

@@ -1,6 +1,6 @@
 //! Signed numbers, moved up by 2^63 as columns have them.
 ghost use Rattle.std.specs.Prelude.{◌≡◌, ◌-ℤ◌, ◌^◌, pos};
-ghost use Rattle.agg_accessor.specs.Places.{moved_up};
+ghost use Rattle.agg_composite.specs.accessor.Places.{moved_up};
 
 const FROM_ZERO: u64 = 9_223_372_036_854_775_808;
 

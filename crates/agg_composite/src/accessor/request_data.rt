@@ -5,12 +5,12 @@ ghost use Rattle.agg_values.specs.Names.{Named};
 ghost use Rattle.agg_values.specs.declared.after_key.AfterKey.{AfterKey};
 ghost use Rattle.agg_segment.specs.Segment.{Stored, documents_at};
 ghost use Rattle.agg_request_tree.specs.Uncut.{counted};
-ghost use Rattle.agg_accessor.specs.Accessors.{Fits};
-ghost use Rattle.agg_accessor.specs.Ranges.{AreAllInRange};
+ghost use Rattle.agg_composite.specs.accessor.Accessors.{Fits};
+ghost use Rattle.agg_composite.specs.accessor.Ranges.{AreAllInRange};
 
-use crate::CompositeSourceAccessors;
-use crate::occurrences::count_occurrences;
-use crate::ranges::are_sources_in_range;
+use crate::accessor::CompositeSourceAccessors;
+use crate::accessor::occurrences::count_occurrences;
+use crate::accessor::ranges::are_sources_in_range;
 use agg_request_tree::CompositeAggregation;
 use agg_values::{DocId, ItemList, Text};
 

@@ -3,12 +3,12 @@ ghost use Rattle.std.specs.Prelude.{◌≡◌, ◌≤◌, ◌<◌, ◌+◌, [], 
 ghost use Rattle.std.specs.Prelude.{◌^◌, length, nat_lt};
 ghost use Rattle.std.specs.List.{sum_by};
 
-use crate::bucket::Bucket;
-use crate::page::visit_page;
-use crate::visit_error::VisitError;
+use crate::buckets::bucket::Bucket;
+use crate::buckets::page::visit_page;
+use crate::buckets::visit_error::VisitError;
 use agg_cache::{BucketId, BucketIdProvider};
-use agg_freeing::FreeingIter;
 use agg_heap_map::LazyHeapMap;
+use agg_values::freeing::FreeingIter;
 use agg_values::{DocId, OutOfMemory, Steps};
 use std::alloc::Global;
 use std::hash::Hash;
@@ -31,7 +31,7 @@ pub struct BucketsByParent<S: Ord + Hash> {
 
 impl<S: Ord + Hash> Model for BucketsByParent<S> {
     ghost use Rattle.std.specs.Prelude.{◌<◌, length};
-    ghost use Rattle.agg_buckets.specs.Node.{Counts, Node};
+    ghost use Rattle.agg_composite.specs.buckets.Node.{Counts, Node};
 
     ghost Value = { Node S };
 
@@ -49,7 +49,7 @@ impl<S: Ord + Hash> Model for BucketsByParent<S> {
 }
 
 impl<S: Ord + Hash> BucketsByParent<S> {
-    ghost use Rattle.agg_buckets.specs.Node.{IsNew, Prepares, Takes, TooMany};
+    ghost use Rattle.agg_composite.specs.buckets.Node.{IsNew, Prepares, Takes, TooMany};
 
     /// One parent without buckets.
     pub fn new(alloc: Global) -> Result<BucketsByParent<S>, OutOfMemory>

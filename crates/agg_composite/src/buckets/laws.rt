@@ -1,5 +1,5 @@
 //! Laws of what is kept.
-ghost use Rattle.agg_buckets.specs.Laws.{
+ghost use Rattle.agg_composite.specs.buckets.Laws.{
   CutsCompose,
   HaveTheCut,
   StayRight,

@@ -3,7 +3,7 @@ ghost use Rattle.std.specs.Prelude.{◌≡◌, ◌<◌, ◌≤◌, ◌+◌, ◌�
 ghost use Rattle.std.specs.Prelude.{◌^◌, OnOk, false, length, true};
 ghost use Rattle.std.specs.BTreeMap.{insert_entry, is_at};
 ghost use Rattle.std.specs.Map.{lookup};
-ghost use Rattle.agg_buckets.specs.Page.{
+ghost use Rattle.agg_composite.specs.buckets.Page.{
   HasRoom,
   IsAbove,
   IsAbsent,
@@ -13,8 +13,8 @@ ghost use Rattle.agg_buckets.specs.Page.{
   opened,
 };
 
-use crate::bucket::Bucket;
-use crate::visit_error::VisitError;
+use crate::buckets::bucket::Bucket;
+use crate::buckets::visit_error::VisitError;
 use agg_cache::{BucketId, BucketIdProvider};
 use agg_heap_map::LazyHeapMap;
 use agg_values::{OutOfMemory, Steps};

@@ -1,7 +1,7 @@
 //! Why visits of tuples end early.
 ghost use Rattle.std.specs.Prelude.{◌≡◌};
-ghost use Rattle.agg_buckets.specs.Refusals.{refused};
-ghost use Rattle.agg_buckets.specs.declared.visit_error.VisitError.TheVariants.{
+ghost use Rattle.agg_composite.specs.buckets.Refusals.{refused};
+ghost use Rattle.agg_composite.specs.declared.buckets.visit_error.VisitError.TheVariants.{
   OutOfMemory as NoMemory,
   TooMany as Many,
 };
@@ -44,7 +44,7 @@ impl<T: Drop> From<AllocFailed<T>> for VisitError {
 impl From<VisitError> for CollectError {
     ghost from_gives = { λ error e. e ≡ refused error };
 
-    /// The same, as a collector says it.
+    /// Why a collector refuses documents, by why the visits of their tuples ended early.
     fn from(error: VisitError) -> CollectError {
         match error {
             VisitError::TooMany => CollectError::TooMany,

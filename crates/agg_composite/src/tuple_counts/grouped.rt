@@ -2,10 +2,10 @@
 ghost use Rattle.std.specs.Prelude.{◌≡◌, ◌≤◌, ◌^◌, IfOk, IsErrOf};
 ghost use Rattle.std.specs.List.{sum_by};
 ghost use Rattle.std.specs.declared.cmp.Ordering.TheVariants.{Equal};
-ghost use Rattle.agg_tuple_counts.specs.Counted.{counted};
+ghost use Rattle.agg_composite.specs.tuple_counts.Counted.{counted};
 
-use agg_buckets::VisitError;
-use agg_freeing::FreeingIter;
+use crate::buckets::VisitError;
+use agg_values::freeing::FreeingIter;
 use std::alloc::Global;
 use std::mem;
 

@@ -1,11 +1,11 @@
 ghost use Rattle.std.specs.Prelude.{◌≡◌, ◌≤◌, ◌^◌, [], IfOk, IsErrOf, OnOk, take};
 ghost use Rattle.std.specs.List.{sum_by};
 ghost use Rattle.std.specs.declared.cmp.Ordering.TheVariants.{Equal};
-ghost use Rattle.agg_buckets.specs.Cut.{add_count};
+ghost use Rattle.agg_composite.specs.buckets.Cut.{add_count};
 
-use crate::grouped::grouped;
-use agg_buckets::VisitError;
-use agg_freeing::FreeingIter;
+use crate::buckets::VisitError;
+use crate::tuple_counts::grouped::grouped;
+use agg_values::freeing::FreeingIter;
 use std::alloc::Global;
 use std::marker::Model;
 use std::mem;
@@ -26,7 +26,7 @@ pub struct TupleCounts<S: Ord> {
 
 impl<S: Ord> Model for TupleCounts<S> {
     ghost use Rattle.std.specs.Prelude.{ℕ, List};
-    ghost use Rattle.agg_tuple_counts.specs.Counted.{counted};
+    ghost use Rattle.agg_composite.specs.tuple_counts.Counted.{counted};
 
     ghost Value = { List (S × ℕ) };
 

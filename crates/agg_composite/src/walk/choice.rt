@@ -1,10 +1,10 @@
 //! The values that a tuple may take for a source.
 ghost use Rattle.std.specs.Prelude.{◌≡◌};
-ghost use Rattle.agg_accessor.specs.Accessors.{side_at};
-ghost use Rattle.agg_accessor.specs.AfterKey.{projected_side};
+ghost use Rattle.agg_composite.specs.accessor.Accessors.{side_at};
+ghost use Rattle.agg_composite.specs.accessor.AfterKey.{projected_side};
 ghost use Rattle.agg_composite.specs.Choices.{missing_standing, null_choice};
 
-use agg_accessor::{CompositeSourceAccessors, Encoded, PrecomputedAfterKey, count_of_lanes};
+use crate::accessor::{CompositeSourceAccessors, Encoded, PrecomputedAfterKey, count_of_lanes};
 use agg_request_tree::CompositeAggregationSource;
 use agg_values::Order;
 use std::cmp::Ordering;

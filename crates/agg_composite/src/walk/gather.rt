@@ -1,14 +1,16 @@
 //! The choices that a document gives.
 ghost use Rattle.std.specs.Prelude.{◌≡◌, ◌<◌, ◌++◌, ◌^◌, [], length, map, OnOk};
-ghost use Rattle.agg_accessor.specs.Accessors.{keys_read};
+ghost use Rattle.agg_composite.specs.accessor.Accessors.{keys_read};
 ghost use Rattle.agg_composite.specs.Choices.{AddsChoices, AreGathered, choice_at};
 ghost use Rattle.agg_composite.specs.Choices.{divided_choices, values_read};
-ghost use Rattle.agg_accessor.specs.Starts.{CanDivide, lane_number};
+ghost use Rattle.agg_composite.specs.accessor.Least.{least_at, numbers_from};
+ghost use Rattle.agg_composite.specs.accessor.Starts.{CanDivide, lane_number};
 
 use super::choice::{Choice, missing_choice, side_of};
 use super::index::index_at;
-use agg_accessor::{
-    CompositeAccessor, CompositeSourceAccessors, DividedColumn, Divisor, Encoded, lane_of,
+use crate::accessor::{
+    CompositeAccessor, CompositeSourceAccessors, DividedColumn, Divisor, Encoded,
+    PrecomputedAfterKey, lane_of,
 };
 use agg_request_tree::CompositeAggregationSource;
 use agg_values::{DocId, Order, OutOfMemory};
@@ -96,7 +98,35 @@ fn add_values(
         let index = index_at(order, columns.len(), turn);
         let accessor = &columns[index];
         let numbers = accessor.column.values_for_doc(doc);
-        add_column(choices, source, accessors, accessor, index, numbers)?;
+        add_from(choices, source, accessors, accessor, index, numbers)?;
+    }
+    Ok(())
+}
+
+// Appends those numbers of the accessor at an index that aren't below the source's least value.
+fn add_from(
+    choices: &mut Vec<Choice>,
+    source: &CompositeAggregationSource,
+    accessors: &CompositeSourceAccessors<'_>,
+    accessor: &CompositeAccessor<'_>,
+    index: usize,
+    numbers: &[u64],
+) -> Result<(), OutOfMemory>
+    requires { index < 2 ^ 63 }
+    ensures { OnOk result (choices.new.items ≡ choices.old.items
+        ++ divided_choices source.now accessors.now accessor.now index
+        (numbers_from (least_at accessors.now.min index) numbers.now)) }
+{
+    let least = accessors.least(index);
+    // Most sources have no least value: then no number is looked at one by one.
+    if let PrecomputedAfterKey::Next(0) = least {
+        return add_column(choices, source, accessors, accessor, index, numbers);
+    }
+    for number in numbers {
+        if least.gt(*number) {
+            continue;
+        }
+        add_column(choices, source, accessors, accessor, index, &[*number])?;
     }
     Ok(())
 }

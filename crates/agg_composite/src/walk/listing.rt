@@ -3,19 +3,19 @@ ghost use Rattle.std.specs.Prelude.{◌≡◌, ◌∷◌, [], ℕ, List, false, 
 ghost use Rattle.agg_values.specs.Names.{Named};
 ghost use Rattle.agg_values.specs.declared.after_key.AfterKey.{AfterKey};
 ghost use Rattle.agg_segment.specs.Segment.{Stored};
-ghost use Rattle.agg_accessor.specs.Accessors.{Fits};
-ghost use Rattle.agg_accessor.specs.Ranges.{AreAllInRange};
+ghost use Rattle.agg_composite.specs.accessor.Accessors.{Fits};
+ghost use Rattle.agg_composite.specs.accessor.Ranges.{AreAllInRange};
 ghost use Rattle.agg_composite.specs.Listing.{AnswersDocuments, AnswersListed, AnswersTuples};
 ghost use Rattle.agg_composite.specs.Walk.{walked};
 
 use super::choice::Choice;
 use super::gather::Gathered;
 use crate::PageEntries;
+use crate::accessor::{CompositeAggReqData, Encoded};
+use crate::buckets::VisitError;
 use crate::page_entries::EncodedEntries;
 use crate::stored_tuple::StoredTuple;
-use agg_accessor::{CompositeAggReqData, Encoded};
-use agg_buckets::VisitError;
-use agg_tuple_counts::TupleCounts;
+use crate::tuple_counts::TupleCounts;
 use agg_values::{DocId, Steps};
 use std::alloc::Global;
 use std::cmp::Ordering;

@@ -4,17 +4,17 @@ use Rattle.std.proofs.Common.{take, refl, sym, ap, ◌∙◌, subst}
 use Rattle.std.proofs.lemmas.List.{map-append, reverse-append, reverse-reverse, take_more}
 use Rattle.std.proofs.lemmas.List.Elements.{filter-append}
 use Rattle.std.specs.List.{All}
-use Rattle.agg_column.specs.Columns.{ClassesAscend, StoredColumn, type_of}
+use Rattle.agg_segment.specs.storage.Columns.{ClassesAscend, StoredColumn, type_of}
 use Rattle.agg_segment.specs.Segment.{Stored, columns_in}
 use Rattle.agg_request_tree.specs.Faults.{HasInterval}
 use Rattle.agg_request_tree.specs.Source.{field_of, order_of}
 use Rattle.agg_request_tree.specs.SourceColumns.{reads_type}
 use Rattle.agg_request_tree.specs.declared.source.CompositeAggregationSource as kind
 use kind.{CompositeAggregationSource}
-use Rattle.agg_accessor.specs.Accessors.{AreOfField, IsAccessorOf, columns_read}
-use Rattle.agg_accessor.specs.Lanes.{columns_of, in_requested}
-use Rattle.agg_accessor.specs.declared.accessor.CompositeAccessor.{CompositeAccessor}
-use Rattle.agg_accessor.proofs.ReadColumns.{classes-read}
+use Rattle.agg_composite.specs.accessor.Accessors.{AreOfField, IsAccessorOf, columns_read}
+use Rattle.agg_composite.specs.accessor.Lanes.{columns_of, in_requested}
+use Rattle.agg_composite.specs.declared.accessor.accessor.CompositeAccessor.{CompositeAccessor}
+use Rattle.agg_composite.proofs.lemmas.accessor.ReadColumns.{classes-read}
 
 -- one column more
 pub read_more : (source : CompositeAggregationSource) (xs : List CompositeAccessor)

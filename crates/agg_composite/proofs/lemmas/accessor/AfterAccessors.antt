@@ -7,24 +7,28 @@ use Rattle.std.specs.Prelude.{not}
 use Rattle.agg_values.specs.Column.{class_of}
 use Rattle.agg_values.specs.TypedKey.{CompositeIntermediateKey}
 use Rattle.agg_values.specs.TypedKey.key.{Null}
-use Rattle.agg_column.specs.Columns.{StandsForKey, encoded_key}
+use Rattle.agg_segment.specs.storage.Columns.{StandsForKey, encoded_key}
 use Rattle.agg_segment.specs.Segment.{Stored}
-use Rattle.agg_request_tree.specs.Source.{order_of}
+use Rattle.agg_request_tree.specs.Source.{min_of, order_of}
 use Rattle.agg_request_tree.specs.declared.source.CompositeAggregationSource as kind
 use kind.{CompositeAggregationSource}
-use Rattle.agg_accessor.specs.Accessors.{AreAccessorsOf, AreOfField, accessors_before, is_null}
-use Rattle.agg_accessor.specs.Accessors.{side_at, side_to}
-use Rattle.agg_accessor.specs.AfterKey.{projected_side}
-use Rattle.agg_accessor.specs.Lanes.{keys_at, lane_of, lanes}
-use Rattle.agg_accessor.specs.declared.accessor.CompositeAccessor.{CompositeAccessor}
-use Rattle.agg_accessor.specs.declared.accessor.CompositeSourceAccessors.{CompositeSourceAccessors}
-use Rattle.agg_accessor.proofs.LaneSides.{lane_sides}
+use Rattle.agg_composite.specs.accessor.Accessors.{AreAccessorsOf, AreOfField, accessors_before}
+use Rattle.agg_composite.specs.accessor.Accessors.{is_null, side_at, side_to}
+use Rattle.agg_composite.specs.accessor.AfterKey.{projected_side}
+use Rattle.agg_composite.specs.accessor.Lanes.{keys_at, lane_of, lanes}
+use Rattle.agg_composite.specs.accessor.Least.{AreLeastIn}
+use Rattle.agg_composite.specs.declared.accessor.accessor.CompositeAccessor.{CompositeAccessor}
+use Rattle.agg_composite.specs.declared.accessor.accessor.CompositeSourceAccessors.{
+  CompositeSourceAccessors,
+}
+use Rattle.agg_composite.proofs.lemmas.accessor.LaneSides.{lane_sides}
 
 module _ (segment : Stored) (source : CompositeAggregationSource)
     (accessors : List CompositeAccessor) (of_field : AreOfField segment source accessors) where
   -- accessors that go on from an after value
   pub after_accessors : (k : CompositeIntermediateKey) (a : CompositeSourceAccessors)
       → a.accessors ≡ accessors
+      → AreLeastIn (min_of source) accessors a.min
       → a.after_key_accessor_idx ≡ lane_of source (accessors_before source k accessors)
       → a.skip_missing ≡ is_lt (side_to source (Some k) Null)
       → a.is_after_key_explicit_missing ≡ is_null (Some k)
@@ -34,8 +38,9 @@ module _ (segment : Stored) (source : CompositeAggregationSource)
       ≡ side_to source (Some k)
       (encoded_key (keys_at source accessors a.after_key_accessor_idx) number))
       → AreAccessorsOf segment source (Some k) a
-  after_accessors k a is index skip explicit at = record {
+  after_accessors k a is least index skip explicit at = record {
     columns = subst (AreOfField segment source) (sym is) of_field;
+    least = subst (λ xs. AreLeastIn (min_of source) xs a.min) (sym is) least;
     explicit = explicit;
     skip = skip;
     index = subst

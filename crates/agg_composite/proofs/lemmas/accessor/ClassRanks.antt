@@ -7,9 +7,9 @@ use Rattle.agg_values.specs.TypedKey.{CompositeIntermediateKey}
 use Rattle.agg_values.specs.contracts.column.ColumnPaginationOrderOrd.TheImpl.{ghosts}
 use Rattle.agg_values.specs.declared.column.ColumnPaginationOrder.{ColumnPaginationOrder}
 use Rattle.agg_values.specs.declared.column.ColumnPaginationOrder.TheVariants as class
-use Rattle.agg_column.specs.Columns.{encoded_key, keys_rank}
-use Rattle.agg_column.specs.declared.keys.ColumnKeys.{ColumnKeys}
-use Rattle.agg_accessor.proofs.KeyClasses.{encoded-rank}
+use Rattle.agg_segment.specs.storage.Columns.{encoded_key, keys_rank}
+use Rattle.agg_segment.specs.declared.storage.keys.ColumnKeys.{ColumnKeys}
+use Rattle.agg_composite.proofs.lemmas.accessor.KeyClasses.{encoded-rank}
 
 -- the rank of a class, 0 for none
 abbrev rank_of : Option ColumnPaginationOrder → ℕ

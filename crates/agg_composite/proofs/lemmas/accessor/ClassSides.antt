@@ -13,17 +13,17 @@ use Rattle.agg_values.specs.TypedKey.{CompositeIntermediateKey}
 use Rattle.agg_values.specs.declared.order.MissingOrder.{MissingOrder}
 use Rattle.agg_values.specs.declared.order.Order.{Order}
 use Rattle.agg_values.specs.declared.order.Order.TheVariants.{Asc, Desc}
-use Rattle.agg_column.specs.Columns.{ClassesAscend, encoded_key, keys_rank}
-use Rattle.agg_column.specs.declared.keys.ColumnKeys.{ColumnKeys}
-use Rattle.agg_column.specs.declared.keys.ColumnKeys.TheVariants.{Bools}
-use Rattle.agg_accessor.specs.Classes.{is_of_class_before}
-use Rattle.agg_accessor.specs.Lanes.{class_order, column_at, columns_of, in_requested}
-use Rattle.agg_accessor.specs.declared.accessor.CompositeAccessor.{CompositeAccessor}
-use Rattle.agg_accessor.proofs.FrontCounts.{count_front}
-use Rattle.agg_accessor.proofs.KeyClasses.{encoded-rank, some_rank}
-use Rattle.agg_accessor.proofs.KeyComparisons.{by_class, values-order}
-use Rattle.agg_accessor.proofs.LaneOrder.{classes-in_order}
-use Rattle.agg_accessor.proofs.NumberOrder.{less}
+use Rattle.agg_segment.specs.storage.Columns.{ClassesAscend, encoded_key, keys_rank}
+use Rattle.agg_segment.specs.declared.storage.keys.ColumnKeys.{ColumnKeys}
+use Rattle.agg_segment.specs.declared.storage.keys.ColumnKeys.TheVariants.{Bools}
+use Rattle.agg_composite.specs.accessor.Classes.{is_of_class_before}
+use Rattle.agg_composite.specs.accessor.Lanes.{class_order, column_at, columns_of, in_requested}
+use Rattle.agg_composite.specs.declared.accessor.accessor.CompositeAccessor.{CompositeAccessor}
+use Rattle.agg_composite.proofs.lemmas.accessor.FrontCounts.{count_front}
+use Rattle.agg_composite.proofs.lemmas.accessor.KeyClasses.{encoded-rank, some_rank}
+use Rattle.agg_composite.proofs.lemmas.accessor.KeyComparisons.{by_class, values-order}
+use Rattle.agg_composite.proofs.lemmas.accessor.LaneOrder.{classes-in_order}
+use Rattle.agg_composite.proofs.lemmas.accessor.NumberOrder.{less}
 
 -- any accessor of those
 some_accessor : (accessors : List CompositeAccessor) (i : ℕ) → i < length accessors
@@ -101,7 +101,7 @@ module _ (order : Order) (accessors : List CompositeAccessor)
       less_by_test _ (sym (at_index i d l)
       ∙ (count_front is_before accessors front i d l).0 below)
 
-  -- and those after it are of classes after it
+  -- accessors after the count are of classes after
   pub after_index : (i : ℕ) → count_by is_before accessors < i → i < length accessors
       → class_order order (keys_rank (column_at accessors i)) (class_rank k) ≡ Greater
   after_index i above l =

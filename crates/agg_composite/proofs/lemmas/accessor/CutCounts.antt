@@ -1,7 +1,7 @@
 -- How many occurrences documents have, by numbers that are cut at each step.
 use Rattle.std.proofs.Common.{◌≡◌, inl, inr, ℕ, zero, suc, ◌+◌, ◌*◌, ◌<◌, ◌≤◌, List, [], ◌∷◌}
 use Rattle.std.proofs.Common.{◌++◌, length, length-append, min, take, map, get_or, sym, ap, ◌∙◌}
-use Rattle.std.proofs.Common.{arith}
+use Rattle.std.proofs.Common.{Bool, arith, filter}
 use Rattle.std.proofs.Math.Nat.{add_comm, mul_assoc, mul_comm, zero-mul, suc-mul, one-mul}
 use Rattle.std.proofs.Math.Nat.{mul-one, mul-zero}
 use Rattle.std.proofs.Math.Nat.{le-mul_of_pos_right, min-eq_left, min-eq_right}
@@ -9,10 +9,11 @@ use Rattle.std.specs.List.{flat_map}
 use Rattle.std.proofs.lemmas.Bool.{cases_lt}
 use Rattle.std.proofs.lemmas.List.{map-append, append-nil, length-map, take_more}
 use Rattle.std.proofs.lemmas.List.Concat.{flat_map-append, flat_map-cons}
+use Rattle.std.proofs.lemmas.List.Elements.{filter-append}
 use Rattle.agg_values.specs.Tuple.{KeyTuple}
 use Rattle.agg_values.specs.TypedKey.{CompositeIntermediateKey}
-use Rattle.agg_column.specs.Document.{Fields}
-use Rattle.agg_column.specs.Columns.{StoredColumn, all_keys, column_keys, encoded_key}
+use Rattle.agg_segment.specs.storage.Document.{Fields}
+use Rattle.agg_segment.specs.storage.Columns.{StoredColumn, all_keys, column_keys, encoded_key}
 use Rattle.agg_segment.specs.Segment.{Stored, document_at, documents_at}
 use Rattle.agg_request_tree.specs.declared.source.CompositeAggregationSource as kind
 use kind.{CompositeAggregationSource}
@@ -78,7 +79,7 @@ cut-product a (suc b) most = elim (cases_lt a most) [
       ap (λ n. min (n * suc b) most) cut ∙ min-eq_right kept ∙ sym (min-eq_right greater)
 ]
 
--- and so it is where the other factor is cut, too
+-- the product of two cut factors, cut, is their product, cut
 cut-factors : (a b most : ℕ) → min (min a most * min b most) most ≡ min (a * b) most
 cut-factors a b most =
     cut-product a (min b most) most
@@ -145,7 +146,7 @@ cut-sum count more most = elim (cases_lt more most) [
       ap (λ n. min (count + n) most) cut ∙ min-eq_right kept ∙ sym (min-eq_right greater)
 ]
 
--- and so it is where both parts are cut
+-- the sum of two cut parts, cut, is their sum, cut
 cut-sums : (sum more most : ℕ)
     → min (min sum most + min more most) most ≡ min (sum + more) most
 cut-sums sum more most =
@@ -172,30 +173,35 @@ cut-count sources segment docs i count own most l counted one =
 -- ---- of one source: the values in its columns
 
 -- one column more
-all_keys-more : (columns : List StoredColumn) (doc i : ℕ) (d : StoredColumn)
-    → i < length columns
-    → length (all_keys (take (i + 1) columns) doc)
-    ≡ length (all_keys (take i columns) doc) + length (column_keys (get_or columns i d) doc)
-all_keys-more columns doc i d l =
+all_keys-more : (p : CompositeIntermediateKey → Bool) (columns : List StoredColumn) (doc i : ℕ)
+    (d : StoredColumn) → i < length columns
+    → length (filter p (all_keys (take (i + 1) columns) doc))
+    ≡ length (filter p (all_keys (take i columns) doc))
+    + length (filter p (column_keys (get_or columns i d) doc))
+all_keys-more p columns doc i d l =
     let keys = λ (column : StoredColumn). column_keys column doc in
     let one = get_or columns i d in
-    ap (λ cs. length (flat_map keys cs)) (take_more columns i d l)
-    ∙ ap length (flat_map-append keys (take i columns) (one ∷ []))
-    ∙ length-append (all_keys (take i columns) doc) (flat_map keys (one ∷ []))
-    ∙ ap (λ n. length (all_keys (take i columns) doc) + n)
-    (ap length (flat_map-cons keys one [] ∙ append-nil (keys one)))
+    let before = all_keys (take i columns) doc in
+    ap (λ cs. length (filter p (flat_map keys cs))) (take_more columns i d l)
+    ∙ ap (λ ks. length (filter p ks)) (flat_map-append keys (take i columns) (one ∷ []))
+    ∙ ap length (filter-append p before (flat_map keys (one ∷ [])))
+    ∙ length-append (filter p before) (filter p (flat_map keys (one ∷ [])))
+    ∙ ap (λ n. length (filter p before) + n)
+    (ap (λ ks. length (filter p ks)) (flat_map-cons keys one [] ∙ append-nil (keys one)))
 
--- the cut number of values, one column more
-pub cut-columns-more : (columns : List StoredColumn) (doc i : ℕ) (column : StoredColumn)
-    → (count most : ℕ) (values : List ℕ) → i < length columns → column ≡ get_or columns i column
-    → count ≡ min (length (all_keys (take i columns) doc)) most
-    → map (encoded_key column.keys) values ≡ column_keys column doc
-    → min (count + length values) most ≡ min (length (all_keys (take (i + 1) columns) doc)) most
-cut-columns-more columns doc i column count most values l item c own =
-    let before = length (all_keys (take i columns) doc) in
+-- the cut number of values that pass, one column more
+pub cut-columns-more : (p : CompositeIntermediateKey → Bool) (columns : List StoredColumn)
+    (doc i : ℕ) (column : StoredColumn) (count most : ℕ) (values : List ℕ)
+    → i < length columns → column ≡ get_or columns i column
+    → count ≡ min (length (filter p (all_keys (take i columns) doc))) most
+    → map (encoded_key column.keys) values ≡ filter p (column_keys column doc)
+    → min (count + length values) most
+    ≡ min (length (filter p (all_keys (take (i + 1) columns) doc))) most
+cut-columns-more p columns doc i column count most values l item c own =
+    let before = length (filter p (all_keys (take i columns) doc)) in
     let as_many = sym (length-map values (encoded_key column.keys)) ∙ ap length own in
-    let all = all_keys-more columns doc i column l
-    ∙ ap (λ (x : StoredColumn). before + length (column_keys x doc)) (sym item) in
+    let all = all_keys-more p columns doc i column l
+    ∙ ap (λ (x : StoredColumn). before + length (filter p (column_keys x doc))) (sym item) in
     ap (λ n. min (n + length values) most) c
     ∙ ap (λ n. min n most) (add_comm (min before most) (length values))
     ∙ cut-sum (length values) before most

@@ -10,19 +10,23 @@ use Rattle.agg_values.specs.TypedKey.{CompositeIntermediateKey}
 use Rattle.agg_values.specs.declared.order.Order.{Order}
 use Rattle.agg_values.specs.declared.order.Order.TheVariants.{Asc, Desc}
 use Rattle.agg_values.specs.declared.typed_key.CompositeIntermediateKey.TheVariants.{Null}
-use Rattle.agg_column.specs.Columns.{StandsForKey, encoded_key}
+use Rattle.agg_segment.specs.storage.Columns.{StandsForKey, encoded_key}
 use Rattle.agg_request_tree.specs.Source.{Sources, missing_order_of, order_of}
 use Rattle.agg_request_tree.specs.declared.source.CompositeAggregationSource as kind
 use kind.{CompositeAggregationSource}
-use Rattle.agg_accessor.specs.Decoded.{decoded, decoded_key, decoded_keys, is_outside}
-use Rattle.agg_accessor.specs.Encoding.{EncodedTuple, StandFor, StandsFor}
-use Rattle.agg_accessor.specs.Encoding.{encoded_null, null_lane, raw_of}
-use Rattle.agg_accessor.specs.Lanes.{keys_at, lanes}
-use Rattle.agg_accessor.specs.Encoding.{StandsForTuple}
-use Rattle.agg_accessor.specs.declared.accessor.CompositeAccessor.{CompositeAccessor}
-use Rattle.agg_accessor.specs.declared.accessor.CompositeSourceAccessors.{CompositeSourceAccessors}
-use Rattle.agg_accessor.specs.declared.encoded.Encoded.{Encoded}
-use Rattle.agg_accessor.specs.declared.request_data.CompositeAggReqData.{CompositeAggReqData}
+use Rattle.agg_composite.specs.accessor.Decoded.{decoded, decoded_key, decoded_keys, is_outside}
+use Rattle.agg_composite.specs.accessor.Encoding.{EncodedTuple, StandFor, StandsFor}
+use Rattle.agg_composite.specs.accessor.Encoding.{encoded_null, null_lane, raw_of}
+use Rattle.agg_composite.specs.accessor.Lanes.{keys_at, lanes}
+use Rattle.agg_composite.specs.accessor.Encoding.{StandsForTuple}
+use Rattle.agg_composite.specs.declared.accessor.accessor.CompositeAccessor.{CompositeAccessor}
+use Rattle.agg_composite.specs.declared.accessor.accessor.CompositeSourceAccessors.{
+  CompositeSourceAccessors,
+}
+use Rattle.agg_composite.specs.declared.accessor.encoded.Encoded.{Encoded}
+use Rattle.agg_composite.specs.declared.accessor.request_data.CompositeAggReqData.{
+  CompositeAggReqData,
+}
 
 -- ---- one key
 

@@ -6,8 +6,9 @@ use Rattle.agg_calendar.specs.Start.{IsUsable}
 use Rattle.agg_calendar.specs.declared.interval.PrecomputedDateInterval as interval
 use interval.{PrecomputedDateInterval}
 use interval.TheVariants.{Calendar, FixedNanoseconds, NotApplicable}
-use Rattle.agg_accessor.specs.Starts.{by_numbers, by_time}
-use Rattle.agg_accessor.specs.declared.divisor.Divisor.TheVariants.{Nothing, Numbers, Time}
+use Rattle.agg_composite.specs.accessor.Starts.{by_numbers, by_time}
+use Rattle.agg_composite.specs.declared.accessor.divisor.Divisor.TheVariants.{Nothing, Numbers}
+use Rattle.agg_composite.specs.declared.accessor.divisor.Divisor.TheVariants.{Time}
 
 width-at_least : (width : ℤ) → pos 1 ≤ℤ width → int_lt width (pos 1) ≡ false
 width-at_least width least = grind (arith, ints)
@@ -18,9 +19,9 @@ numbers-divide width least =
     ap (λ b. cond b Nothing (Numbers width)) (width-at_least width least)
 
 -- an interval that is usable divides time
-pub time-divides : (interval : PrecomputedDateInterval) → IsUsable interval
-    → by_time interval ≡ Time interval
-time-divides NotApplicable usable = refl
-time-divides (FixedNanoseconds ns) usable =
-    ap (λ b. cond b Nothing (Time (FixedNanoseconds ns))) (width-at_least ns usable)
-time-divides (Calendar unit) usable = refl
+pub time-divides : (interval : PrecomputedDateInterval) (offset : ℤ) → IsUsable interval
+    → by_time interval offset ≡ Time interval offset
+time-divides NotApplicable offset usable = refl
+time-divides (FixedNanoseconds ns) offset usable =
+    ap (λ b. cond b Nothing (Time (FixedNanoseconds ns) offset)) (width-at_least ns usable)
+time-divides (Calendar unit) offset usable = refl

@@ -10,21 +10,25 @@ use Rattle.agg_values.specs.TypedKey.key.{Null}
 use Rattle.agg_values.specs.declared.order.MissingOrder.{MissingOrder}
 use Rattle.agg_values.specs.declared.order.Order.{Order}
 use Rattle.agg_values.proofs.KeyOrder.{key_order-total}
-use Rattle.agg_column.specs.Columns.{StandsForKey, encoded_key}
+use Rattle.agg_segment.specs.storage.Columns.{StandsForKey, encoded_key}
 use Rattle.agg_request_tree.specs.Source.{missing_order_of, order_of}
 use Rattle.agg_request_tree.specs.declared.source.CompositeAggregationSource as kind
 use kind.{CompositeAggregationSource}
-use Rattle.agg_accessor.specs.Encoding.{StandsFor, encoded_at, encoded_null, encoded_order}
-use Rattle.agg_accessor.specs.Encoding.{null_lane, raw_of}
-use Rattle.agg_accessor.specs.Lanes.{class_order, keys_at, lanes}
-use Rattle.agg_accessor.specs.declared.accessor.CompositeAccessor.{CompositeAccessor}
-use Rattle.agg_accessor.specs.declared.encoded.Encoded.{Encoded}
-use Rattle.agg_accessor.proofs.EncodedOrder.{key_order-total as encoded_order-total}
-use Rattle.agg_accessor.proofs.KeyClasses.{encoded-canonical, encoded-rank, some_rank}
-use Rattle.agg_accessor.proofs.KeyComparisons.{by_class, decided, in_column, null_rank-of_class}
-use Rattle.agg_accessor.proofs.KeyComparisons.{null_sides, values-order}
-use Rattle.agg_accessor.proofs.LaneOrder.{AreLanesInOrder}
-use Rattle.agg_accessor.proofs.NumberOrder.{greater, less}
+use Rattle.agg_composite.specs.accessor.Encoding.{StandsFor, encoded_at, encoded_null}
+use Rattle.agg_composite.specs.accessor.Encoding.{encoded_order, null_lane, raw_of}
+use Rattle.agg_composite.specs.accessor.Lanes.{class_order, keys_at, lanes}
+use Rattle.agg_composite.specs.declared.accessor.accessor.CompositeAccessor.{CompositeAccessor}
+use Rattle.agg_composite.specs.declared.accessor.encoded.Encoded.{Encoded}
+use Rattle.agg_composite.proofs.lemmas.accessor.EncodedOrder.{
+  key_order-total as encoded_order-total,
+}
+use Rattle.agg_composite.proofs.lemmas.accessor.KeyClasses.{encoded-canonical, encoded-rank}
+use Rattle.agg_composite.proofs.lemmas.accessor.KeyClasses.{some_rank}
+use Rattle.agg_composite.proofs.lemmas.accessor.KeyComparisons.{by_class, decided, in_column}
+use Rattle.agg_composite.proofs.lemmas.accessor.KeyComparisons.{null_rank-of_class, null_sides}
+use Rattle.agg_composite.proofs.lemmas.accessor.KeyComparisons.{values-order}
+use Rattle.agg_composite.proofs.lemmas.accessor.LaneOrder.{AreLanesInOrder}
+use Rattle.agg_composite.proofs.lemmas.accessor.NumberOrder.{greater, less}
 
 -- a number of a lane and its key
 abbrev IsNumber : CompositeAggregationSource → List CompositeAccessor → ℕ → ℕ → Type 0

@@ -7,8 +7,8 @@ use Rattle.std.specs.declared.cmp.Ordering.TheVariants.{Equal}
 use Rattle.std.proofs.lemmas.Cmp.{lists_total, nat_cmp_total, on_total, then_total}
 use Rattle.std.proofs.lemmas.Map.Lookups.{exact_unsigned}
 use Rattle.agg_values.proofs.KeyOrder.{then_equal}
-use Rattle.agg_accessor.specs.Encoding.{EncodedTuple, encoded_order, encoded_tuple_order}
-use Rattle.agg_accessor.specs.declared.encoded.Encoded.{Encoded}
+use Rattle.agg_composite.specs.accessor.Encoding.{EncodedTuple, encoded_order, encoded_tuple_order}
+use Rattle.agg_composite.specs.declared.accessor.encoded.Encoded.{Encoded}
 
 -- what stands beyond the end of a list of keys
 abbrev pub nothing : Encoded

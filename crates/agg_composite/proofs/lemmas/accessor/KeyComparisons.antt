@@ -11,10 +11,10 @@ use Rattle.agg_values.specs.declared.order.MissingOrder.{MissingOrder}
 use Rattle.agg_values.specs.declared.order.MissingOrder.TheVariants.{Default, First, Last}
 use Rattle.agg_values.specs.declared.order.Order.{Order}
 use Rattle.agg_values.specs.declared.order.Order.TheVariants.{Asc, Desc}
-use Rattle.agg_column.specs.Columns.{AreInKeyOrder, StandsForKey, encoded_key}
-use Rattle.agg_column.specs.declared.keys.ColumnKeys.{ColumnKeys}
-use Rattle.agg_accessor.specs.Encoding.{raw_of}
-use Rattle.agg_accessor.specs.Lanes.{class_order}
+use Rattle.agg_segment.specs.storage.Columns.{AreInKeyOrder, StandsForKey, encoded_key}
+use Rattle.agg_segment.specs.declared.storage.keys.ColumnKeys.{ColumnKeys}
+use Rattle.agg_composite.specs.accessor.Encoding.{raw_of}
+use Rattle.agg_composite.specs.accessor.Lanes.{class_order}
 
 pub null_rank-of_class : (order : Order) (missing : MissingOrder) (k : CompositeIntermediateKey)
     → 0 < class_rank k → null_rank order missing k ≡ 1

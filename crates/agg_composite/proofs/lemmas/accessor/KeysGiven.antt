@@ -14,12 +14,12 @@ use Rattle.agg_values.specs.TypedKey.{CompositeIntermediateKey, canonical_key, t
 use Rattle.agg_values.specs.declared.typed_key.CompositeIntermediateKey.TheVariants as key
 use Rattle.agg_calendar.specs.Start.{fixed_start}
 use Rattle.agg_request_tree.specs.Ranges.{IsInRange}
-use Rattle.agg_request_tree.specs.Source.{counted_number, date_of, interval_of, keys_in, start_by}
+use Rattle.agg_request_tree.specs.Source.{counted_number, date_of, division_of, keys_in, start_by}
 use Rattle.agg_request_tree.specs.Source.{start_in}
 use Rattle.agg_request_tree.specs.declared.source.CompositeAggregationSource as kind
 use kind.{CompositeAggregationSource}
 use kind.TheVariants.{DateHistogram, Histogram, Terms}
-use Rattle.agg_accessor.specs.Accessors.{starts_in}
+use Rattle.agg_composite.specs.accessor.Accessors.{starts_in}
 
 -- ---- canonical keys
 
@@ -58,7 +58,7 @@ start-canonical (Terms s) k = refl
 start-canonical (Histogram s) k =
     ap (option_map (fixed_start s.interval)) (counted-canonical k)
 start-canonical (DateHistogram s) k =
-    ap (option_map (start_by (interval_of s))) (date-canonical k)
+    ap (option_map (start_by (division_of s))) (date-canonical k)
 
 -- canonical values have the same starts
 pub starts-canonical : (source : CompositeAggregationSource) (xs : List CompositeIntermediateKey)

@@ -7,16 +7,17 @@ use Rattle.std.proofs.lemmas.List.{length-map}
 use Rattle.std.specs.Ordering.{nat_cmp}
 use Rattle.agg_values.specs.declared.order.Order.{Order}
 use Rattle.agg_values.specs.declared.order.Order.TheVariants.{Asc, Desc}
-use Rattle.agg_column.specs.Columns.{AreInKeyOrder, keys_rank}
-use Rattle.agg_column.specs.declared.keys.ColumnKeys.{ColumnKeys}
-use Rattle.agg_column.specs.declared.keys.ColumnKeys.TheVariants.{Bools, Signed}
+use Rattle.agg_segment.specs.storage.Columns.{AreInKeyOrder, keys_rank}
+use Rattle.agg_segment.specs.declared.storage.keys.ColumnKeys.{ColumnKeys}
+use Rattle.agg_segment.specs.declared.storage.keys.ColumnKeys.TheVariants.{Bools, Signed}
 use Rattle.agg_request_tree.specs.declared.source.CompositeAggregationSource as kind
 use kind.{CompositeAggregationSource}
 use kind.TheVariants.{Histogram}
 use Rattle.agg_request_tree.specs.declared.source.HistogramCompositeAggregationSource as numbers
 use numbers.{HistogramCompositeAggregationSource as Counted}
-use Rattle.agg_accessor.specs.Lanes.{class_order, column_keys_of, keys_at, lane_of_numbers, lanes}
-use Rattle.agg_accessor.specs.declared.accessor.CompositeAccessor.{CompositeAccessor}
+use Rattle.agg_composite.specs.accessor.Lanes.{class_order, column_keys_of, keys_at}
+use Rattle.agg_composite.specs.accessor.Lanes.{lane_of_numbers, lanes}
+use Rattle.agg_composite.specs.declared.accessor.accessor.CompositeAccessor.{CompositeAccessor}
 
 -- where each column has a lane, there are as many lanes as accessors
 pub columns-many : (accessors : List CompositeAccessor)
@@ -36,7 +37,7 @@ pub numbers-some : (accessors : List CompositeAccessor) → 0 < length accessors
 numbers-some [] some = absurd (omega arith)
 numbers-some (a ∷ accessors) some = refl
 
--- the same of an index that a lane has
+-- an accessor at an index of a lane of numbers is of signed numbers
 pub numbers-at : (accessors : List CompositeAccessor) (i : ℕ)
     → i < length (lane_of_numbers accessors)
     → get_or (lane_of_numbers accessors) i Bools ≡ Signed
@@ -45,7 +46,7 @@ numbers-at (a ∷ accessors) i l =
     let first : 0 ≡ i = omega (arith, l) in
     subst (λ j. get_or (Signed ∷ []) j Bools ≡ Signed) first refl
 
--- the same of a source that is a histogram
+-- an accessor at an index of the lanes of a histogram is of signed numbers
 pub numbers-lane : (source : CompositeAggregationSource) (s : Counted) → source ≡ Histogram s
     → (accessors : List CompositeAccessor) (i : ℕ) → i < length (lanes source accessors)
     → keys_at source accessors i ≡ Signed

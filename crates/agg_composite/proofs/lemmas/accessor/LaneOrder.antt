@@ -8,20 +8,21 @@ use Rattle.std.specs.List.{All}
 use Rattle.std.specs.Ordering.{nat_cmp}
 use Rattle.agg_values.specs.declared.order.Order.{Order}
 use Rattle.agg_values.specs.declared.order.Order.TheVariants.{Asc, Desc}
-use Rattle.agg_column.specs.Columns.{AreInKeyOrder, ClassesAscend, StoredColumn, keys_rank}
-use Rattle.agg_column.specs.declared.keys.ColumnKeys.{ColumnKeys}
-use Rattle.agg_column.specs.declared.keys.ColumnKeys.TheVariants.{Bools}
+use Rattle.agg_segment.specs.storage.Columns.{AreInKeyOrder, ClassesAscend, StoredColumn, keys_rank}
+use Rattle.agg_segment.specs.declared.storage.keys.ColumnKeys.{ColumnKeys}
+use Rattle.agg_segment.specs.declared.storage.keys.ColumnKeys.TheVariants.{Bools}
 use Rattle.agg_segment.specs.Segment.{Stored}
 use Rattle.agg_request_tree.specs.Source.{order_of}
 use Rattle.agg_request_tree.specs.declared.source.CompositeAggregationSource as kind
 use kind.{CompositeAggregationSource}
 use kind.TheVariants.{DateHistogram, Histogram, Terms}
-use Rattle.agg_accessor.specs.Accessors.{AreOfField}
-use Rattle.agg_accessor.specs.Lanes.{class_order, column_at, columns_of, in_requested, keys_at}
-use Rattle.agg_accessor.specs.Lanes.{lanes}
-use Rattle.agg_accessor.specs.declared.accessor.CompositeAccessor.{CompositeAccessor}
-use Rattle.agg_accessor.proofs.LaneKeys.{columns-many, numbers-at, numbers-classes, signed-order}
-use Rattle.agg_accessor.proofs.NumberOrder.{greater, less}
+use Rattle.agg_composite.specs.accessor.Accessors.{AreOfField}
+use Rattle.agg_composite.specs.accessor.Lanes.{class_order, column_at, columns_of, in_requested}
+use Rattle.agg_composite.specs.accessor.Lanes.{keys_at, lanes}
+use Rattle.agg_composite.specs.declared.accessor.accessor.CompositeAccessor.{CompositeAccessor}
+use Rattle.agg_composite.proofs.lemmas.accessor.LaneKeys.{columns-many, numbers-at, numbers-classes}
+use Rattle.agg_composite.proofs.lemmas.accessor.LaneKeys.{signed-order}
+use Rattle.agg_composite.proofs.lemmas.accessor.NumberOrder.{greater, less}
 
 -- a column with no keys
 abbrev no_column : StoredColumn

@@ -11,21 +11,21 @@ use Rattle.agg_values.specs.TypedKey.key.{Null}
 use Rattle.agg_values.specs.declared.order.MissingOrder.{MissingOrder}
 use Rattle.agg_values.specs.declared.order.Order.{Order}
 use Rattle.agg_values.proofs.KeyOrder.{key_order-total}
-use Rattle.agg_column.specs.Columns.{StandsForKey, encoded_key}
+use Rattle.agg_segment.specs.storage.Columns.{StandsForKey, encoded_key}
 use Rattle.agg_segment.specs.Segment.{Stored}
 use Rattle.agg_request_tree.specs.Source.{missing_order_of, order_of}
 use Rattle.agg_request_tree.specs.declared.source.CompositeAggregationSource as kind
 use kind.{CompositeAggregationSource}
 use kind.TheVariants.{DateHistogram, Histogram, Terms}
-use Rattle.agg_accessor.specs.Accessors.{AreOfField, accessors_before, side_to}
-use Rattle.agg_accessor.specs.Classes.{is_of_class_before}
-use Rattle.agg_accessor.specs.Lanes.{column_at, keys_at, lane_of, lane_of_numbers, lanes}
-use Rattle.agg_accessor.specs.declared.accessor.CompositeAccessor.{CompositeAccessor}
-use Rattle.agg_accessor.proofs.ClassSides.{after_index, before_index, class_side}
-use Rattle.agg_accessor.proofs.KeyClasses.{encoded-rank, some_rank}
-use Rattle.agg_accessor.proofs.KeyComparisons.{null_sides}
-use Rattle.agg_accessor.proofs.LaneKeys.{columns-many, numbers-one}
-use Rattle.agg_accessor.proofs.NullSides.{null_key}
+use Rattle.agg_composite.specs.accessor.Accessors.{AreOfField, accessors_before, side_to}
+use Rattle.agg_composite.specs.accessor.Classes.{is_of_class_before}
+use Rattle.agg_composite.specs.accessor.Lanes.{column_at, keys_at, lane_of, lane_of_numbers, lanes}
+use Rattle.agg_composite.specs.declared.accessor.accessor.CompositeAccessor.{CompositeAccessor}
+use Rattle.agg_composite.proofs.lemmas.accessor.ClassSides.{after_index, before_index, class_side}
+use Rattle.agg_composite.proofs.lemmas.accessor.KeyClasses.{encoded-rank, some_rank}
+use Rattle.agg_composite.proofs.lemmas.accessor.KeyComparisons.{null_sides}
+use Rattle.agg_composite.proofs.lemmas.accessor.LaneKeys.{columns-many, numbers-one}
+use Rattle.agg_composite.proofs.lemmas.accessor.NullSides.{null_key}
 
 -- a side by how one index stands to another
 by_index : (i index : ℕ) (at side : Ordering) → (i < index → side ≡ Less)

@@ -15,9 +15,12 @@ use Rattle.agg_segment.specs.Segment.{Stored}
 use Rattle.agg_request_tree.specs.Source.{missing_order_of, order_of}
 use Rattle.agg_request_tree.specs.declared.source.CompositeAggregationSource as kind
 use kind.{CompositeAggregationSource}
-use Rattle.agg_accessor.specs.Accessors.{AreAccessorsOf, is_null, side_to}
-use Rattle.agg_accessor.specs.declared.accessor.CompositeSourceAccessors.{CompositeSourceAccessors}
-use Rattle.agg_accessor.proofs.KeyComparisons.{decided, null_rank-of_class, null_sides}
+use Rattle.agg_composite.specs.accessor.Accessors.{AreAccessorsOf, is_null, side_to}
+use Rattle.agg_composite.specs.declared.accessor.accessor.CompositeSourceAccessors.{
+  CompositeSourceAccessors,
+}
+use Rattle.agg_composite.proofs.lemmas.accessor.KeyComparisons.{decided, null_rank-of_class}
+use Rattle.agg_composite.proofs.lemmas.accessor.KeyComparisons.{null_sides}
 
 -- Null before a key is Less, and after it Greater
 pub null_key : (order : Order) (missing : MissingOrder) (k : CompositeIntermediateKey)

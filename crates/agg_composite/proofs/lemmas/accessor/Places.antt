@@ -21,20 +21,25 @@ use Rattle.agg_values.specs.declared.order.MissingOrder.{MissingOrder}
 use Rattle.agg_values.specs.declared.order.Order.{Order}
 use Rattle.agg_values.specs.declared.order.Order.TheVariants.{Asc, Desc}
 use Rattle.agg_values.proofs.KeyOrder.{ascending_order-total}
-use Rattle.agg_column.specs.Columns.{StandsForKey, addresses_of, encoded_key, keys_rank, texts_of}
-use Rattle.agg_column.specs.Dictionary.{IsHit, address_cmp}
-use Rattle.agg_column.specs.declared.hit.OrdHit.{OrdHit}
-use Rattle.agg_column.specs.declared.hit.OrdHit.TheVariants as hit
-use Rattle.agg_column.specs.declared.keys.ColumnKeys.{ColumnKeys}
-use Rattle.agg_column.specs.declared.keys.ColumnKeys.TheVariants.{Bools, Texts, Signed, Unsigned}
-use Rattle.agg_column.specs.declared.keys.ColumnKeys.TheVariants.{Addresses, Dates}
-use Rattle.agg_accessor.specs.AfterKey.{projected_side}
-use Rattle.agg_accessor.specs.Places.{IsPlaceOf, hit_place}
-use Rattle.agg_accessor.specs.declared.after_key.PrecomputedAfterKey.{PrecomputedAfterKey}
-use Rattle.agg_accessor.specs.declared.after_key.PrecomputedAfterKey.TheVariants.{AfterLast}
-use Rattle.agg_accessor.specs.declared.after_key.PrecomputedAfterKey.TheVariants.{Exact, Next}
-use Rattle.agg_accessor.proofs.KeyClasses.{encoded-rank, some_rank}
-use Rattle.agg_accessor.proofs.KeyComparisons.{decided, values-order}
+use Rattle.agg_segment.specs.storage.Columns.{StandsForKey, addresses_of, encoded_key, keys_rank}
+use Rattle.agg_segment.specs.storage.Columns.{texts_of}
+use Rattle.agg_segment.specs.storage.Dictionary.{IsHit, address_cmp}
+use Rattle.agg_segment.specs.declared.storage.hit.OrdHit.{OrdHit}
+use Rattle.agg_segment.specs.declared.storage.hit.OrdHit.TheVariants as hit
+use Rattle.agg_segment.specs.declared.storage.keys.ColumnKeys.{ColumnKeys}
+use Rattle.agg_segment.specs.declared.storage.keys.ColumnKeys.TheVariants.{Bools, Texts, Signed}
+use Rattle.agg_segment.specs.declared.storage.keys.ColumnKeys.TheVariants.{Unsigned, Addresses}
+use Rattle.agg_segment.specs.declared.storage.keys.ColumnKeys.TheVariants.{Dates}
+use Rattle.agg_composite.specs.accessor.AfterKey.{projected_side}
+use Rattle.agg_composite.specs.accessor.Places.{IsPlaceOf, hit_place}
+use Rattle.agg_composite.specs.declared.accessor.after_key.PrecomputedAfterKey.{PrecomputedAfterKey}
+use Rattle.agg_composite.specs.declared.accessor.after_key.PrecomputedAfterKey.TheVariants.{
+  AfterLast,
+}
+use Rattle.agg_composite.specs.declared.accessor.after_key.PrecomputedAfterKey.TheVariants.{Exact}
+use Rattle.agg_composite.specs.declared.accessor.after_key.PrecomputedAfterKey.TheVariants.{Next}
+use Rattle.agg_composite.proofs.lemmas.accessor.KeyClasses.{encoded-rank, some_rank}
+use Rattle.agg_composite.proofs.lemmas.accessor.KeyComparisons.{decided, values-order}
 
 -- ---- both orders
 

@@ -7,20 +7,23 @@ use Rattle.std.specs.List.{cons_option}
 use Rattle.std.proofs.lemmas.Bool.{cond_both}
 use Rattle.std.proofs.lemmas.List.{length-map, map-append}
 use Rattle.std.proofs.lemmas.List.Concat.{flat_map-cons}
-use Rattle.std.proofs.lemmas.List.Elements.{filter_map-append}
+use Rattle.std.proofs.lemmas.List.Elements.{filter-append, filter_map-append}
 use Rattle.agg_values.specs.Tuple.{KeyTuple}
 use Rattle.agg_values.specs.TypedKey.{CompositeIntermediateKey, canonical_key, typed_number}
 use Rattle.agg_values.specs.declared.typed_key.CompositeIntermediateKey.TheVariants as key
-use Rattle.agg_column.specs.Columns.{StoredColumn, all_keys, column_keys, encoded_key, numbers_at}
-use Rattle.agg_column.specs.Columns.{type_of}
-use Rattle.agg_column.specs.declared.keys.ColumnKeys.{ColumnKeys}
-use Rattle.agg_column.specs.declared.keys.ColumnKeys.TheVariants.{Bools, Texts, Signed, Unsigned}
-use Rattle.agg_column.specs.declared.keys.ColumnKeys.TheVariants.{Addresses, Dates}
-use Rattle.agg_request_tree.specs.Source.{keys_in, start_in}
+use Rattle.agg_segment.specs.storage.Columns.{StoredColumn, all_keys, column_keys, encoded_key}
+use Rattle.agg_segment.specs.storage.Columns.{numbers_at, type_of}
+use Rattle.agg_segment.specs.declared.storage.keys.ColumnKeys.{ColumnKeys}
+use Rattle.agg_segment.specs.declared.storage.keys.ColumnKeys.TheVariants.{Bools, Texts, Signed}
+use Rattle.agg_segment.specs.declared.storage.keys.ColumnKeys.TheVariants.{Unsigned, Addresses}
+use Rattle.agg_segment.specs.declared.storage.keys.ColumnKeys.TheVariants.{Dates}
+use Rattle.agg_request_tree.specs.Source.{is_from, keys_in, min_of, start_in}
 use Rattle.agg_request_tree.specs.SourceColumns.{reads_type}
 use Rattle.agg_request_tree.specs.declared.source.CompositeAggregationSource as kind
 use kind.{CompositeAggregationSource}
 use kind.TheVariants.{Terms, Histogram, DateHistogram}
+use Rattle.agg_composite.specs.accessor.Accessors.{columns_read, keys_from}
+use Rattle.agg_composite.proofs.lemmas.accessor.LeastValues.{values-from_canonical}
 
 -- something where a source gives a key for a value
 abbrev given : CompositeAggregationSource → CompositeIntermediateKey → Option ℤ
@@ -37,7 +40,7 @@ typed_number-either P signed unsigned n =
     cond_both (int_lt n (pos (2 ^ 63))) (key.I64 n) (key.U64 (unsigned_abs n)) P (λ _. signed n)
     (λ _. unsigned (unsigned_abs n))
 
--- so is the canonical key of an I64 or a U64
+-- the canonical key of a U64 is I64 or U64
 canonical-either : (P : CompositeIntermediateKey → Type 0) → ((n : ℤ) → P (key.I64 n))
     → ((n : ℕ) → P (key.U64 n)) → (n : ℕ) → P (canonical_key (key.U64 n))
 canonical-either P signed unsigned n =
@@ -92,69 +95,103 @@ length-cons_option : (o : Option ℤ) (xs : List ℤ)
 length-cons_option None xs = refl
 length-cons_option (Some x) xs = refl
 
--- all values of a column are given keys, or none
-length-column : (h : CompositeIntermediateKey → Option ℤ) (keys : ColumnKeys) (reads : Bool)
-    → ((n : ℕ) → is_some (h (canonical_key (encoded_key keys n))) ≡ reads) → (ns : List ℕ)
-    → length (filter_map h (map canonical_key (map (encoded_key keys) ns)))
-    ≡ cond reads (length ns) 0
-length-column h keys true each [] = refl
-length-column h keys false each [] = refl
-length-column h keys true each (n ∷ ns) =
-    let rest = filter_map h (map canonical_key (map (encoded_key keys) ns)) in
-    length-cons_option (h (canonical_key (encoded_key keys n))) rest
-    ∙ ap (λ b. cond b (suc (length rest)) (length rest)) (each n)
-    ∙ ap suc (length-column h keys true each ns)
-length-column h keys false each (n ∷ ns) =
-    let rest = filter_map h (map canonical_key (map (encoded_key keys) ns)) in
-    length-cons_option (h (canonical_key (encoded_key keys n))) rest
-    ∙ ap (λ b. cond b (suc (length rest)) (length rest)) (each n)
-    ∙ length-column h keys false each ns
+-- all values of a column that pass are given keys, or none
+module _ (p : CompositeIntermediateKey → Bool) (h : CompositeIntermediateKey → Option ℤ)
+    (keys : ColumnKeys) (reads : Bool)
+    (each : (n : ℕ) → is_some (h (canonical_key (encoded_key keys n))) ≡ reads) where
+  -- the keys of numbers that pass
+  abbrev kept : List ℕ → List CompositeIntermediateKey
+  kept ns = filter p (map (encoded_key keys) ns)
+
+  length-one_more : (n : ℕ) (ks : List CompositeIntermediateKey) (b : Bool)
+      → length (filter_map h (map canonical_key ks)) ≡ cond reads (length ks) 0
+      → length (filter_map h (map canonical_key (cond b (encoded_key keys n ∷ ks) ks)))
+      ≡ cond reads (length (cond b (encoded_key keys n ∷ ks) ks)) 0
+  length-one_more n ks false rest = rest
+  length-one_more n ks true rest =
+      let others = filter_map h (map canonical_key ks) in
+      length-cons_option (h (canonical_key (encoded_key keys n))) others
+      ∙ ap (λ b. cond b (suc (length others)) (length others)) (each n)
+      ∙ ap (λ m. cond reads (suc m) m) rest
+      ∙ by_test reads
+    where
+      by_test : (b : Bool)
+          → cond b (suc (cond b (length ks) 0)) (cond b (length ks) 0)
+          ≡ cond b (suc (length ks)) 0
+      by_test true = refl
+      by_test false = refl
+
+  length-column : (ns : List ℕ)
+      → length (filter_map h (map canonical_key (kept ns))) ≡ cond reads (length (kept ns)) 0
+  length-column [] = by_test reads
+    where
+      by_test : (b : Bool) → ◌≡◌ {A = ℕ} 0 (cond b 0 0)
+      by_test true = refl
+      by_test false = refl
+  length-column (n ∷ ns) =
+      length-one_more n (kept ns) (p (encoded_key keys n)) (length-column ns)
 
 -- ---- columns
 
--- the keys in columns before which one stands or not
-length-kept : (reads : Bool) (column : StoredColumn) (columns : List StoredColumn) (doc : ℕ)
-    → length (all_keys (cond reads (column ∷ columns) columns) doc)
-    ≡ cond reads (length (numbers_at column.cells doc)) 0 + length (all_keys columns doc)
-length-kept true column columns doc =
+-- the keys in columns that pass, of two parts
+kept-split : (p : CompositeIntermediateKey → Bool) (column : StoredColumn)
+    (columns : List StoredColumn) (doc : ℕ)
+    → filter p (all_keys (column ∷ columns) doc)
+    ≡ filter p (column_keys column doc) ++ filter p (all_keys columns doc)
+kept-split p column columns doc =
     let keys = λ (c : StoredColumn). column_keys c doc in
-    ap length (flat_map-cons keys column columns)
-    ∙ length-append (keys column) (all_keys columns doc)
-    ∙ ap (λ n. n + length (all_keys columns doc))
-    (length-map (numbers_at column.cells doc) (encoded_key column.keys))
-length-kept false column columns doc = omega arith
+    ap (filter p) (flat_map-cons keys column columns)
+    ∙ filter-append p (keys column) (all_keys columns doc)
 
--- the columns that a source reads have as many keys
-length-given : (source : CompositeAggregationSource) (columns : List StoredColumn) (doc : ℕ)
-    → length (all_keys (filter (λ c. reads_type source (type_of c.keys)) columns) doc)
-    ≡ length (filter_map (given source) (map canonical_key (all_keys columns doc)))
-length-given source [] doc = refl
-length-given source (column ∷ columns) doc =
-    let keys = λ (c : StoredColumn). column_keys c doc in
+-- those in columns before which one stands or not
+length-kept : (p : CompositeIntermediateKey → Bool) (reads : Bool) (column : StoredColumn)
+    (columns : List StoredColumn) (doc : ℕ)
+    → length (filter p (all_keys (cond reads (column ∷ columns) columns) doc))
+    ≡ cond reads (length (filter p (column_keys column doc))) 0
+    + length (filter p (all_keys columns doc))
+length-kept p true column columns doc =
+    ap length (kept-split p column columns doc)
+    ∙ length-append (filter p (column_keys column doc)) (filter p (all_keys columns doc))
+length-kept p false column columns doc = omega arith
+
+-- the columns that a source reads have as many keys that pass
+length-given : (p : CompositeIntermediateKey → Bool) (source : CompositeAggregationSource)
+    (columns : List StoredColumn) (doc : ℕ)
+    → length (filter p (all_keys (filter (λ c. reads_type source (type_of c.keys)) columns) doc))
+    ≡ length (filter_map (given source) (map canonical_key (filter p (all_keys columns doc))))
+length-given p source [] doc = refl
+length-given p source (column ∷ columns) doc =
     let reads = reads_type source (type_of column.keys) in
     let read = filter (λ (c : StoredColumn). reads_type source (type_of c.keys)) columns in
     let h = given source in
-    let own = map canonical_key (keys column) in
-    let others = map canonical_key (all_keys columns doc) in
-    let split : map canonical_key (all_keys (column ∷ columns) doc) ≡ own ++ others =
-    ap (map canonical_key) (flat_map-cons keys column columns)
-    ∙ map-append canonical_key (keys column) (all_keys columns doc) in
-    let first = length-column h column.keys reads (given-key source column.keys)
+    let own = map canonical_key (filter p (column_keys column doc)) in
+    let others = map canonical_key (filter p (all_keys columns doc)) in
+    let split : map canonical_key (filter p (all_keys (column ∷ columns) doc)) ≡ own ++ others =
+    ap (map canonical_key) (kept-split p column columns doc)
+    ∙ map-append canonical_key (filter p (column_keys column doc))
+    (filter p (all_keys columns doc)) in
+    let first = length-column p h column.keys reads (given-key source column.keys)
     (numbers_at column.cells doc) in
-    let all : length (filter_map h (map canonical_key (all_keys (column ∷ columns) doc)))
+    let all : length (filter_map h (map canonical_key (filter p
+    (all_keys (column ∷ columns) doc))))
     ≡ length (filter_map h own) + length (filter_map h others) =
     ap (λ ks. length (filter_map h ks)) split ∙ ap length (filter_map-append h own others)
     ∙ length-append (filter_map h own) (filter_map h others) in
-    length-kept reads column read doc
-    ∙ ap (λ n. cond reads (length (numbers_at column.cells doc)) 0 + n)
-    (length-given source columns doc)
+    length-kept p reads column read doc
+    ∙ ap (λ n. cond reads (length (filter p (column_keys column doc))) 0 + n)
+    (length-given p source columns doc)
     ∙ ap (λ n. n + length (filter_map h others)) (sym first)
     ∙ sym all
 
--- the columns that a source reads have as many keys as it gives for the values in all columns
+-- the columns that a source reads have as many keys that aren't below its least value as it gives
+-- for the values in all columns
 pub length-read : (source : CompositeAggregationSource) (columns : List StoredColumn) (doc : ℕ)
-    → length (all_keys (filter (λ c. reads_type source (type_of c.keys)) columns) doc)
-    ≡ length (keys_in source (map canonical_key (all_keys columns doc)))
+    → length (keys_from source (columns_read source columns) doc)
+    ≡ length (keys_in source (filter (is_from (min_of source))
+    (map canonical_key (all_keys columns doc))))
 length-read source columns doc =
-    length-given source columns doc
-    ∙ sym (length-keys_in source (map canonical_key (all_keys columns doc)))
+    let from = is_from (min_of source) in
+    length-given from source columns doc
+    ∙ sym (length-keys_in source (map canonical_key (filter from (all_keys columns doc))))
+    ∙ ap (λ ks. length (keys_in source ks))
+    (sym (values-from_canonical (min_of source) (all_keys columns doc)))

@@ -13,18 +13,20 @@ use Rattle.agg_values.specs.declared.order.Order.{Order}
 use Rattle.agg_values.specs.declared.order.Order.TheVariants.{Asc, Desc}
 use Rattle.agg_values.proofs.KeyOrder.{then_equal}
 use Rattle.agg_values.proofs.TupleOrder.{tuple_order-total}
-use Rattle.agg_column.specs.Columns.{encoded_key}
+use Rattle.agg_segment.specs.storage.Columns.{encoded_key}
 use Rattle.agg_request_tree.specs.Occurrences.{same_tuple}
 use Rattle.agg_request_tree.specs.Source.{Sources, order_of, rules_of}
 use Rattle.agg_request_tree.specs.declared.source.CompositeAggregationSource as kind
 use kind.{CompositeAggregationSource}
 use Rattle.agg_request_tree.proofs.Lists.{count-step}
-use Rattle.agg_accessor.specs.Encoding.{EncodedTuple, StandFor, StandsFor, encoded_order}
-use Rattle.agg_accessor.specs.Encoding.{encoded_tuple_order, null_lane, raw_of}
-use Rattle.agg_accessor.specs.Lanes.{keys_at, lanes}
-use Rattle.agg_accessor.specs.declared.accessor.CompositeAccessor.{CompositeAccessor}
-use Rattle.agg_accessor.specs.declared.accessor.CompositeSourceAccessors.{CompositeSourceAccessors}
-use Rattle.agg_accessor.specs.declared.encoded.Encoded.{Encoded}
+use Rattle.agg_composite.specs.accessor.Encoding.{EncodedTuple, StandFor, StandsFor, encoded_order}
+use Rattle.agg_composite.specs.accessor.Encoding.{encoded_tuple_order, null_lane, raw_of}
+use Rattle.agg_composite.specs.accessor.Lanes.{keys_at, lanes}
+use Rattle.agg_composite.specs.declared.accessor.accessor.CompositeAccessor.{CompositeAccessor}
+use Rattle.agg_composite.specs.declared.accessor.accessor.CompositeSourceAccessors.{
+  CompositeSourceAccessors,
+}
+use Rattle.agg_composite.specs.declared.accessor.encoded.Encoded.{Encoded}
 
 -- ---- equal encoded tuples are one
 

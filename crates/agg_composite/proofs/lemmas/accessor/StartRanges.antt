@@ -1,11 +1,13 @@
 -- The starts for what accessors hold are those for the values of their fields, in range or not.
-use Rattle.std.proofs.Common.{◌≡◌, ◌<◌, ◌≤◌, ◌+◌, ◌-◌, ◌++◌, ℕ, zero, suc, List, [], ◌∷◌, All}
+use Rattle.std.proofs.Common.{◌≡◌, ◌<◌, ◌≤◌, ◌+◌, ◌-◌, ◌++◌, ℕ, ℤ, zero, suc, List, [], ◌∷◌, All}
+use Rattle.std.proofs.Common.{Bool, filter}
 use Rattle.std.proofs.Common.{length, get_or, map, reverse, take, refl, sym, ap, ◌∙◌, subst, arith}
 use Rattle.std.specs.List.{AllByRecursion, AllZip}
 use Rattle.std.specs.Prelude.{option_map}
 use Rattle.std.proofs.lemmas.List.{get_or-map, get_or-reverse, length-map, length-reverse}
 use Rattle.std.proofs.lemmas.List.{reverse-reverse, take_all, take_more}
-use Rattle.std.proofs.lemmas.List.Elements.{All-from_recursion, All-map, recursion_from_All}
+use Rattle.std.proofs.lemmas.List.Elements.{All-from_recursion, All-map, filter-append}
+use Rattle.std.proofs.lemmas.List.Elements.{recursion_from_All}
 use Rattle.std.proofs.lemmas.Slice.Zip.{all_zipped_more}
 use Rattle.agg_values.specs.Names.{Named}
 use Rattle.agg_values.specs.TypedKey.{CompositeIntermediateKey, canonical_key}
@@ -13,28 +15,32 @@ use Rattle.agg_values.specs.declared.after_key.AfterKey.{AfterKey}
 use Rattle.agg_values.specs.declared.order.Order.{Order}
 use Rattle.agg_values.specs.declared.order.Order.TheVariants.{Asc, Desc}
 use Rattle.agg_calendar.specs.declared.interval.PrecomputedDateInterval.{PrecomputedDateInterval}
-use Rattle.agg_column.specs.Columns.{StoredColumn, all_keys, column_keys}
+use Rattle.agg_segment.specs.storage.Columns.{StoredColumn, all_keys, column_keys}
 use Rattle.agg_segment.specs.Segment.{Stored, document_at}
 use Rattle.agg_request_tree.specs.Faults.{HasInterval}
 use Rattle.agg_request_tree.specs.Ranges.{AreInRange, IsInRange}
-use Rattle.agg_request_tree.specs.Source.{Sources, date_of, field_of, order_of, start_by, start_in}
-use Rattle.agg_request_tree.specs.Source.{values_at}
+use Rattle.agg_request_tree.specs.Source.{Sources, date_of, field_of, is_from, min_of}
+use Rattle.agg_request_tree.specs.Source.{order_of, start_by, start_in, values_from}
 use Rattle.agg_request_tree.specs.declared.source.CompositeAggregationSource as kind
 use kind.{CompositeAggregationSource}
 use kind.TheVariants.{DateHistogram, Histogram, Terms}
 use Rattle.agg_request_tree.proofs.Faults.{HasInterval-large}
-use Rattle.agg_accessor.specs.Accessors.{AllFit, AreOfField, IsIntervalOf, keys_in_columns}
-use Rattle.agg_accessor.specs.Ranges.{AreAllInRange}
-use Rattle.agg_accessor.specs.Lanes.{columns_of, in_requested}
-use Rattle.agg_accessor.specs.Ranges.{AreColumnsWithin, IsDocumentWithin}
+use Rattle.agg_composite.specs.accessor.Accessors.{AllFit, AreOfField, IsDivisionOf}
+use Rattle.agg_composite.specs.accessor.Accessors.{keys_in_columns}
+use Rattle.agg_composite.specs.accessor.Ranges.{AreAllInRange}
+use Rattle.agg_composite.specs.accessor.Lanes.{columns_of, in_requested}
+use Rattle.agg_composite.specs.accessor.Ranges.{AreColumnsWithin, IsDocumentWithin, divisor_at}
 use Rattle.agg_request_tree.specs.Ranges.{IsWithin}
-use Rattle.agg_accessor.specs.Starts.{divided, divisor_of}
-use Rattle.agg_accessor.specs.declared.accessor.CompositeAccessor.{CompositeAccessor}
-use Rattle.agg_accessor.specs.declared.accessor.CompositeSourceAccessors.{CompositeSourceAccessors}
-use Rattle.agg_accessor.specs.declared.divisor.Divisor.{Divisor}
-use Rattle.agg_accessor.proofs.Divisors.{numbers-divide, time-divides}
-use Rattle.agg_accessor.proofs.FieldColumns.{starts-of_field}
-use Rattle.agg_accessor.proofs.KeysGiven.{range-alike, starts-canonical}
+use Rattle.agg_composite.specs.accessor.Starts.{divided, divisor_of}
+use Rattle.agg_composite.specs.declared.accessor.accessor.CompositeAccessor.{CompositeAccessor}
+use Rattle.agg_composite.specs.declared.accessor.accessor.CompositeSourceAccessors.{
+  CompositeSourceAccessors,
+}
+use Rattle.agg_composite.specs.declared.accessor.divisor.Divisor.{Divisor}
+use Rattle.agg_composite.proofs.lemmas.accessor.Divisors.{numbers-divide, time-divides}
+use Rattle.agg_composite.proofs.lemmas.accessor.FieldColumns.{starts-of_field}
+use Rattle.agg_composite.proofs.lemmas.accessor.KeysGiven.{range-alike, starts-canonical}
+use Rattle.agg_composite.proofs.lemmas.accessor.LeastValues.{values-from_canonical}
 
 -- ---- lists
 
@@ -76,36 +82,49 @@ in_front P (x ∷ xs) ys all =
 
 -- ---- keys of columns
 
-module _ (P : CompositeIntermediateKey → Type 0) (doc : ℕ) where
-  keys-all : (columns : List StoredColumn) → All (λ c. All P (column_keys c doc)) columns
-      → AllByRecursion P (all_keys columns doc)
-  keys-all [] all = tt
-  keys-all (c ∷ columns) all =
-      joined-all P (column_keys c doc) (all_keys columns doc)
-      (recursion_from_All P (column_keys c doc) (all 0 c (omega arith)))
-      (keys-all columns (λ i d l. all (suc i) d (omega (arith, l))))
+module _ (P : CompositeIntermediateKey → Type 0) (p : CompositeIntermediateKey → Bool) (doc : ℕ)
+  where
+    keys-all : (columns : List StoredColumn)
+        → All (λ c. All P (filter p (column_keys c doc))) columns
+        → AllByRecursion P (filter p (all_keys columns doc))
+    keys-all [] all = tt
+    keys-all (c ∷ columns) all =
+        subst (AllByRecursion P)
+        (sym (filter-append p (column_keys c doc) (all_keys columns doc)))
+        (joined-all P (filter p (column_keys c doc)) (filter p (all_keys columns doc))
+        (recursion_from_All P (filter p (column_keys c doc)) (all 0 c (omega arith)))
+        (keys-all columns (λ i d l. all (suc i) d (omega (arith, l)))))
 
-  keys-each : (columns : List StoredColumn) → AllByRecursion P (all_keys columns doc)
-      → All (λ c. All P (column_keys c doc)) columns
-  keys-each [] all i d l = absurd (omega (arith, l))
-  keys-each (c ∷ columns) all zero d l =
-      All-from_recursion P (column_keys c doc)
-      (in_front P (column_keys c doc) (all_keys columns doc) all).0
-  keys-each (c ∷ columns) all (suc i) d l =
-      keys-each columns (in_front P (column_keys c doc) (all_keys columns doc) all).1 i d
-      (omega (arith, l))
+    -- what holds of the keys that pass holds of those of the first column, and of the others
+    pub keys-split : (c : StoredColumn) (columns : List StoredColumn)
+        → AllByRecursion P (filter p (all_keys (c ∷ columns) doc))
+        → AllByRecursion P (filter p (column_keys c doc))
+        × AllByRecursion P (filter p (all_keys columns doc))
+    keys-split c columns all =
+        in_front P (filter p (column_keys c doc)) (filter p (all_keys columns doc))
+        (subst (AllByRecursion P) (filter-append p (column_keys c doc) (all_keys columns doc)) all)
+
+    keys-each : (columns : List StoredColumn)
+        → AllByRecursion P (filter p (all_keys columns doc))
+        → All (λ c. All P (filter p (column_keys c doc))) columns
+    keys-each [] all i d l = absurd (omega (arith, l))
+    keys-each (c ∷ columns) all zero d l =
+        All-from_recursion P (filter p (column_keys c doc)) (keys-split c columns all).0
+    keys-each (c ∷ columns) all (suc i) d l =
+        keys-each columns (keys-split c columns all).1 i d (omega (arith, l))
 
 -- ---- accessors
 
 -- a source's divisor gives its starts
 divisor-start : (source : CompositeAggregationSource) (interval : PrecomputedDateInterval)
-    (k : CompositeIntermediateKey) → HasInterval source → IsIntervalOf source interval
-    → divided (divisor_of source interval) k ≡ start_in source k
-divisor-start (Terms s) interval k has is = refl
-divisor-start (Histogram s) interval k has is =
+    (offset : ℤ) (k : CompositeIntermediateKey)
+    → HasInterval source → IsDivisionOf source interval offset
+    → divided (divisor_of source interval offset) k ≡ start_in source k
+divisor-start (Terms s) interval offset k has is = refl
+divisor-start (Histogram s) interval offset k has is =
     ap (λ (d : Divisor). divided d k) (numbers-divide s.interval (HasInterval-large s has))
-divisor-start (DateHistogram s) interval k has is =
-    ap (λ (d : Divisor). divided d k) (time-divides interval is.1)
+divisor-start (DateHistogram s) interval offset k has is =
+    ap (λ (d : Divisor). divided d k) (time-divides interval offset is.1)
     ∙ (λ x. option_map (start_by (sym is.0 x)) (date_of k))
 
 module _ (segment : Stored) (source : CompositeAggregationSource)
@@ -113,52 +132,63 @@ module _ (segment : Stored) (source : CompositeAggregationSource)
     (doc : ℕ) where
   -- the starts for the keys of an accessor's column lie within i64
   abbrev OwnWithin : CompositeAccessor → Type 0
-  OwnWithin a =
-      IsDocumentWithin (divisor_of source a.date_histogram_interval) a.column.now doc
+  OwnWithin a = IsDocumentWithin (min_of source) (divisor_at source a) a.column.now doc
 
   -- those for the values of the field do
   abbrev FieldWithin : Type 0
-  FieldWithin = All (IsInRange source) (values_at (field_of source) (document_at segment doc))
+  FieldWithin = All (IsInRange source) (values_from source (document_at segment doc))
+
+  -- what isn't below the source's least value
+  abbrev from : List CompositeIntermediateKey → List CompositeIntermediateKey
+  from ks = filter (is_from (min_of source)) ks
 
   abbrev values : List CompositeIntermediateKey
-  values = document_at segment doc (field_of source)
+  values = from (document_at segment doc (field_of source))
+
+  -- they are the values that the source reads
+  values-are : map canonical_key values ≡ values_from source (document_at segment doc)
+  values-are =
+      sym (values-from_canonical (min_of source) (document_at segment doc (field_of source)))
 
   -- how a key of an accessor starts
   own-start : (i : ℕ) (d : CompositeAccessor) → i < length accessors
       → (k : CompositeIntermediateKey)
-      → divided (divisor_of source (get_or accessors i d).date_histogram_interval) k
-      ≡ start_in source k
+      → divided (divisor_at source (get_or accessors i d)) k ≡ start_in source k
   own-start i d l k =
-      divisor-start source (get_or accessors i d).date_histogram_interval k of_field.interval
-      (of_field.each i d l).interval
+      let a = get_or accessors i d in
+      divisor-start source a.date_histogram_interval a.date_offset_ns k of_field.interval
+      (of_field.each i d l).division
 
   columns-field : All OwnWithin accessors → FieldWithin
   unfolding IsDocumentWithin
   columns-field all =
       let each : All (λ (a : CompositeAccessor). All (IsInRange source)
-      (column_keys a.column.now doc)) accessors =
+      (from (column_keys a.column.now doc))) accessors =
       λ i d l j k m. subst IsWithin (own-start i d l _) (all i d l j k m) in
-      All-from_recursion (IsInRange source) (map canonical_key values)
+      subst (All (IsInRange source)) values-are
+      (All-from_recursion (IsInRange source) (map canonical_key values)
       (range-alike source (map canonical_key values) (keys_in_columns source accessors doc)
       (starts-canonical source values ∙ sym (starts-of_field segment source accessors of_field doc))
-      (keys-all (IsInRange source) doc
+      (keys-all (IsInRange source) (is_from (min_of source)) doc
       (in_requested (order_of source) (columns_of accessors))
-      (requested-all (λ c. All (IsInRange source) (column_keys c doc)) (order_of source)
+      (requested-all (λ c. All (IsInRange source) (from (column_keys c doc))) (order_of source)
       (columns_of accessors)
-      (All-map (λ c. All (IsInRange source) (column_keys c doc)) (λ a. a.column.now) accessors
-      each))))
+      (All-map (λ c. All (IsInRange source) (from (column_keys c doc))) (λ a. a.column.now)
+      accessors each)))))
 
   field-columns : FieldWithin → All OwnWithin accessors
   unfolding IsDocumentWithin
   field-columns all =
-      let each = from-map (λ (c : StoredColumn). All (IsInRange source) (column_keys c doc))
+      let each = from-map (λ (c : StoredColumn). All (IsInRange source) (from (column_keys c doc)))
       (λ (a : CompositeAccessor). a.column.now) accessors
-      (given-all (λ c. All (IsInRange source) (column_keys c doc)) (order_of source)
+      (given-all (λ c. All (IsInRange source) (from (column_keys c doc))) (order_of source)
       (columns_of accessors)
-      (keys-each (IsInRange source) doc (in_requested (order_of source) (columns_of accessors))
+      (keys-each (IsInRange source) (is_from (min_of source)) doc
+      (in_requested (order_of source) (columns_of accessors))
       (range-alike source (keys_in_columns source accessors doc) (map canonical_key values)
       (starts-of_field segment source accessors of_field doc ∙ sym (starts-canonical source values))
-      (recursion_from_All (IsInRange source) (map canonical_key values) all)))) in
+      (recursion_from_All (IsInRange source) (map canonical_key values)
+      (subst (All (IsInRange source)) (sym values-are) all))))) in
       λ i d l j k m. subst IsWithin (sym (own-start i d l _)) (each i d l j k m)
 
 -- ---- documents
@@ -172,8 +202,7 @@ module _ (segment : Stored) (after : Named AfterKey) (docs : List ℕ) where
   -- the starts of what a source reads in the documents lie within i64
   abbrev SourceWithin : CompositeAggregationSource → Type 0
   SourceWithin source =
-      All (λ doc. All (IsInRange source) (values_at (field_of source) (document_at segment doc)))
-      docs
+      All (λ doc. All (IsInRange source) (values_from source (document_at segment doc))) docs
 
   sources-values : (sources : Sources) (accessors : List CompositeSourceAccessors)
       → AllFit segment after sources accessors → AreSourcesWithin sources accessors docs

@@ -10,13 +10,17 @@ use Rattle.agg_values.proofs.KeyOrder.{key_order-exact, then_equal}
 use Rattle.agg_segment.specs.Segment.{Stored}
 use Rattle.agg_request_tree.specs.Source.{Sources, missing_order_of, order_of, rules_of}
 use Rattle.agg_request_tree.specs.Source.{after_of}
-use Rattle.agg_accessor.specs.Accessors.{AreAccessorsOf, Fits}
-use Rattle.agg_accessor.specs.Encoding.{EncodedTuple, StandFor, StandsForTuple, encoded_order}
-use Rattle.agg_accessor.specs.Encoding.{encoded_tuple_order}
-use Rattle.agg_accessor.specs.declared.accessor.CompositeSourceAccessors.{CompositeSourceAccessors}
-use Rattle.agg_accessor.specs.declared.request_data.CompositeAggReqData.{CompositeAggReqData}
-use Rattle.agg_accessor.proofs.EncodedKeys.{canonical_key, keys-compare}
-use Rattle.agg_accessor.proofs.LaneOrder.{lanes-in_order}
+use Rattle.agg_composite.specs.accessor.Accessors.{AreAccessorsOf, Fits}
+use Rattle.agg_composite.specs.accessor.Encoding.{EncodedTuple, StandFor, StandsForTuple}
+use Rattle.agg_composite.specs.accessor.Encoding.{encoded_order, encoded_tuple_order}
+use Rattle.agg_composite.specs.declared.accessor.accessor.CompositeSourceAccessors.{
+  CompositeSourceAccessors,
+}
+use Rattle.agg_composite.specs.declared.accessor.request_data.CompositeAggReqData.{
+  CompositeAggReqData,
+}
+use Rattle.agg_composite.proofs.lemmas.accessor.EncodedKeys.{canonical_key, keys-compare}
+use Rattle.agg_composite.proofs.lemmas.accessor.LaneOrder.{lanes-in_order}
 
 module _ (segment : Stored) (after : Named AfterKey) where
   -- each source has its accessors

@@ -3,10 +3,11 @@ use Rattle.std.proofs.Common.{◌≡◌, ◌≢◌, ◌≤◌, ◌+◌, ◌⊎�
 use Rattle.std.proofs.Common.{Bool, true, false, length, sym, ap, ◌∙◌, arith, ⊎_elim}
 use Rattle.std.proofs.lemmas.List.{length_push}
 use Rattle.agg_cache.specs.Waiting.{docs_of, is_id}
-use Rattle.agg_buckets.specs.Node.{Right}
-use Rattle.agg_buckets.specs.Page.{more, opened}
-use Rattle.agg_buckets.specs.declared.bucket.Bucket.{Bucket}
-use Rattle.agg_buckets.proofs.Labels.{docs_of-same, docs_of-other, is_id-same, is_id-other}
+use Rattle.agg_composite.specs.buckets.Node.{Right}
+use Rattle.agg_composite.specs.buckets.Page.{more, opened}
+use Rattle.agg_composite.specs.declared.buckets.bucket.Bucket.{Bucket}
+use Rattle.agg_composite.proofs.lemmas.buckets.Labels.{docs_of-same, docs_of-other, is_id-same}
+use Rattle.agg_composite.proofs.lemmas.buckets.Labels.{is_id-other}
 
 module _ {A : Type 0} (own : A → Bool) (vs : List (A × ℕ)) (o : A) (doc : ℕ) where
   -- a visit of another owner, under another id

@@ -16,15 +16,15 @@ use Rattle.std.proofs.Math.Seq.{take-nil}
 use Rattle.agg_cache.specs.Waiting.{docs_of}
 use Rattle.agg_heap_map.proofs.AscendingKeys.{Ascends, ascends_from_sorted, none-above}
 use Rattle.agg_heap_map.proofs.EachItem.{weaker}
-use Rattle.agg_buckets.specs.Cut.{counts_of, cut, groups_of, spread, tuples_under}
-use Rattle.agg_buckets.specs.Laws.{HaveTheCut, VisitsCut, positive}
-use Rattle.agg_buckets.specs.Node.{IsRightFor}
-use Rattle.agg_buckets.specs.Page.{IsAbove, Page}
-use Rattle.agg_buckets.specs.Visits.{Visit, is_owner}
-use Rattle.agg_buckets.specs.declared.bucket.Bucket.{Bucket}
-use Rattle.agg_buckets.proofs.Groups.{groups-ascend, groups-counted, positive-some}
-use Rattle.agg_buckets.proofs.Owners.{above-each, at-itself, at-same, is-above}
-use Rattle.agg_buckets.proofs.Spread.{cut-spread}
+use Rattle.agg_composite.specs.buckets.Cut.{counts_of, cut, groups_of, spread, tuples_under}
+use Rattle.agg_composite.specs.buckets.Laws.{HaveTheCut, VisitsCut, positive}
+use Rattle.agg_composite.specs.buckets.Node.{IsRightFor}
+use Rattle.agg_composite.specs.buckets.Page.{IsAbove, Page}
+use Rattle.agg_composite.specs.buckets.Visits.{Visit, is_owner}
+use Rattle.agg_composite.specs.declared.buckets.bucket.Bucket.{Bucket}
+use Rattle.agg_composite.proofs.lemmas.buckets.Groups.{groups-ascend, groups-counted, positive-some}
+use Rattle.agg_composite.proofs.lemmas.buckets.Owners.{above-each, at-itself, at-same, is-above}
+use Rattle.agg_composite.proofs.lemmas.buckets.Spread.{cut-spread}
 
 -- a count agrees with a bucket, or there is none, or the tuple is above the buckets
 abbrev Agrees : Type 0 → Option Bucket → Option ℕ → Type 0

@@ -12,10 +12,11 @@ use Rattle.std.proofs.lemmas.Cmp.{alike_right}
 use Rattle.std.proofs.lemmas.List.Sums.{sum_by-cons}
 use Rattle.agg_heap_map.proofs.AscendingKeys.{Ascends, none-above, sorted_from_ascends}
 use Rattle.agg_heap_map.proofs.InsertionTurns.{tied}
-use Rattle.agg_buckets.specs.Cut.{add_count, count_each, groups_of}
-use Rattle.agg_buckets.specs.Laws.{CutsCompose, positive}
-use Rattle.agg_buckets.proofs.Owners.{at-flips, at-same}
-use Rattle.agg_buckets.proofs.Spread.{Ascend, Ascend-add, Ascend-groups, cut-spread}
+use Rattle.agg_composite.specs.buckets.Cut.{add_count, count_each, groups_of}
+use Rattle.agg_composite.specs.buckets.Laws.{CutsCompose, positive}
+use Rattle.agg_composite.proofs.lemmas.buckets.Owners.{at-flips, at-same}
+use Rattle.agg_composite.proofs.lemmas.buckets.Spread.{Ascend, Ascend-add, Ascend-groups}
+use Rattle.agg_composite.proofs.lemmas.buckets.Spread.{cut-spread}
 
 pub positive-some : (n : ℕ) → 0 < n → positive n ≡ Some n
 positive-some zero l = absurd (omega arith)

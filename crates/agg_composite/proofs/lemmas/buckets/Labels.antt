@@ -5,7 +5,7 @@ use Rattle.std.proofs.lemmas.List.{map-append}
 use Rattle.std.proofs.lemmas.List.Concat.{flat_map-append}
 use Rattle.std.proofs.lemmas.Bool.Decides.{nat_tests}
 use Rattle.agg_cache.specs.Waiting.{docs_of, is_id}
-use Rattle.agg_buckets.specs.Visits.{Within, docs_in, weight}
+use Rattle.agg_composite.specs.buckets.Visits.{Within, docs_in, weight}
 
 pub docs_of-append : {A : Type 0} (t : A → Bool) (xs ys : List (A × ℕ))
     → docs_of t (xs ++ ys) ≡ docs_of t xs ++ docs_of t ys

@@ -4,10 +4,10 @@ use Rattle.std.proofs.Common.{◌∷◌, ◌++◌, length, refl, subst, Some, ar
 use Rattle.std.specs.Prelude.{if◌then◌else◌}
 use Rattle.std.proofs.lemmas.List.{length-map}
 use Rattle.agg_cache.specs.Waiting.{docs_of}
-use Rattle.agg_buckets.specs.Node.{BucketsFor, IsPast, IsRightFor, Right, found}
-use Rattle.agg_buckets.specs.Page.{Page}
-use Rattle.agg_buckets.specs.Visits.{Owner, Visit, Within, docs_in, is_owner, weight}
-use Rattle.agg_buckets.specs.declared.bucket.Bucket.{Bucket}
+use Rattle.agg_composite.specs.buckets.Node.{BucketsFor, IsPast, IsRightFor, Right, found}
+use Rattle.agg_composite.specs.buckets.Page.{Page}
+use Rattle.agg_composite.specs.buckets.Visits.{Owner, Visit, Within, docs_in, is_owner, weight}
+use Rattle.agg_composite.specs.declared.buckets.bucket.Bucket.{Bucket}
 
 -- lengths are weights
 length-weight : (xs : List ℕ) → weight (λ d. 1) xs ≡ length xs

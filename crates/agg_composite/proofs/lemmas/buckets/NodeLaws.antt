@@ -4,14 +4,14 @@ use Rattle.std.proofs.Common.{Option, None, Some, length, get_or, refl, sym, ap,
 use Rattle.std.proofs.Common.{append_assoc, append-nil, length-append, Ordering}
 use Rattle.std.specs.Cmp.{IsTotalOrder}
 use Rattle.std.proofs.lemmas.List.{length-map, map-append}
-use Rattle.agg_buckets.specs.Laws.{TuplesCompose, VisitsCompose}
-use Rattle.agg_buckets.specs.Node.{IsGrown, IsPast, Node, NodeFor, NodeTakes, Takes, TooManyVisits}
-use Rattle.agg_buckets.specs.Node.{found}
-use Rattle.agg_buckets.specs.Visits.{Owner, Visit, visits_at}
-use Rattle.agg_buckets.specs.declared.bucket.Bucket.{Bucket}
-use Rattle.agg_buckets.proofs.LargeNumbers.{many-visits}
-use Rattle.agg_buckets.proofs.NodeVisits.{grown-same}
-use Rattle.agg_buckets.proofs.Owners.{above-none}
+use Rattle.agg_composite.specs.buckets.Laws.{TuplesCompose, VisitsCompose}
+use Rattle.agg_composite.specs.buckets.Node.{IsGrown, IsPast, Node, NodeFor, NodeTakes, Takes}
+use Rattle.agg_composite.specs.buckets.Node.{TooManyVisits, found}
+use Rattle.agg_composite.specs.buckets.Visits.{Owner, Visit, visits_at}
+use Rattle.agg_composite.specs.declared.buckets.bucket.Bucket.{Bucket}
+use Rattle.agg_composite.proofs.lemmas.buckets.LargeNumbers.{many-visits}
+use Rattle.agg_composite.proofs.lemmas.buckets.NodeVisits.{grown-same}
+use Rattle.agg_composite.proofs.lemmas.buckets.Owners.{above-none}
 
 module _ {S : Type 0} (R : S → S → Ordering) where
   -- ---- buckets that grew, and grew again

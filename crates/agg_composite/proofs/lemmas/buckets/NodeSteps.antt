@@ -7,16 +7,17 @@ use Rattle.std.specs.Cmp.{IsTotalOrder}
 use Rattle.std.proofs.lemmas.Bool.{cases_Bool}
 use Rattle.std.proofs.lemmas.List.{length_push}
 use Rattle.agg_cache.specs.Waiting.{docs_of, is_id}
-use Rattle.agg_buckets.specs.Node.{AreAscending, AreWithinSize, BucketsFor, IsPast, IsRightFor}
-use Rattle.agg_buckets.specs.Node.{Right, found}
-use Rattle.agg_buckets.specs.Page.{Page, more, opened}
-use Rattle.agg_buckets.specs.Visits.{Owner, Visit, is_owner}
-use Rattle.agg_buckets.specs.declared.bucket.Bucket.{Bucket}
-use Rattle.agg_buckets.proofs.BucketSteps.{more-right, new-right, none-right, other-right}
-use Rattle.agg_buckets.proofs.BucketSteps.{past-right}
-use Rattle.agg_buckets.proofs.Labels.{docs_of-other, is_id-other}
-use Rattle.agg_buckets.proofs.Labels.{within-more, within-push}
-use Rattle.agg_buckets.proofs.Owners.{found-same, owner-flips, owner-same, past-same}
+use Rattle.agg_composite.specs.buckets.Node.{AreAscending, AreWithinSize, BucketsFor, IsPast}
+use Rattle.agg_composite.specs.buckets.Node.{IsRightFor, Right, found}
+use Rattle.agg_composite.specs.buckets.Page.{Page, more, opened}
+use Rattle.agg_composite.specs.buckets.Visits.{Owner, Visit, is_owner}
+use Rattle.agg_composite.specs.declared.buckets.bucket.Bucket.{Bucket}
+use Rattle.agg_composite.proofs.lemmas.buckets.BucketSteps.{more-right, new-right, none-right}
+use Rattle.agg_composite.proofs.lemmas.buckets.BucketSteps.{other-right, past-right}
+use Rattle.agg_composite.proofs.lemmas.buckets.Labels.{docs_of-other, is_id-other}
+use Rattle.agg_composite.proofs.lemmas.buckets.Labels.{within-more, within-push}
+use Rattle.agg_composite.proofs.lemmas.buckets.Owners.{found-same, owner-flips, owner-same}
+use Rattle.agg_composite.proofs.lemmas.buckets.Owners.{past-same}
 
 pub some-same : (a b : Bucket) → Some a ≡ Some b → a ≡ b
 some-same a b e = cc

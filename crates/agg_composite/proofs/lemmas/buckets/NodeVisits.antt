@@ -7,13 +7,14 @@ use Rattle.std.specs.Cmp.{IsTotalOrder}
 use Rattle.std.specs.Map.{lookup}
 use Rattle.std.proofs.lemmas.Bool.{cases_Bool}
 use Rattle.std.proofs.lemmas.List.{set-get_or}
-use Rattle.agg_buckets.specs.Node.{BucketsFor, IsGrown, IsPast, Node, Takes, found}
-use Rattle.agg_buckets.specs.Page.{IsAbove, Page, PageTakes, Puts, more, opened}
-use Rattle.agg_buckets.specs.Visits.{Owner, Visit, is_owner}
-use Rattle.agg_buckets.specs.declared.bucket.Bucket.{Bucket}
-use Rattle.agg_buckets.proofs.NodeSteps.{PutsAt, counts-right, left-right, opens-right}
-use Rattle.agg_buckets.proofs.Owners.{found-same}
-use Rattle.agg_buckets.proofs.PageParents.{puts-at}
+use Rattle.agg_composite.specs.buckets.Node.{BucketsFor, IsGrown, IsPast, Node, Takes, found}
+use Rattle.agg_composite.specs.buckets.Page.{IsAbove, Page, PageTakes, Puts, more, opened}
+use Rattle.agg_composite.specs.buckets.Visits.{Owner, Visit, is_owner}
+use Rattle.agg_composite.specs.declared.buckets.bucket.Bucket.{Bucket}
+use Rattle.agg_composite.proofs.lemmas.buckets.NodeSteps.{PutsAt, counts-right, left-right}
+use Rattle.agg_composite.proofs.lemmas.buckets.NodeSteps.{opens-right}
+use Rattle.agg_composite.proofs.lemmas.buckets.Owners.{found-same}
+use Rattle.agg_composite.proofs.lemmas.buckets.PageParents.{puts-at}
 
 module _ {S : Type 0} (R : S → S → Ordering) where
   -- ---- what came of buckets

@@ -12,9 +12,9 @@ use Rattle.std.proofs.lemmas.Cmp.{alike_right, tied_itself}
 use Rattle.std.proofs.lemmas.List.Elements.{All-from_recursion, recursion_from_All}
 use Rattle.agg_heap_map.proofs.EachItem.{weaker}
 use Rattle.agg_heap_map.proofs.InsertionTurns.{flips, tied}
-use Rattle.agg_buckets.specs.Node.{IsPast, found}
-use Rattle.agg_buckets.specs.Page.{IsAbove, Page}
-use Rattle.agg_buckets.specs.Visits.{Owner, is_owner}
+use Rattle.agg_composite.specs.buckets.Node.{IsPast, found}
+use Rattle.agg_composite.specs.buckets.Page.{IsAbove, Page}
+use Rattle.agg_composite.specs.buckets.Visits.{Owner, is_owner}
 
 both : (b c : Bool) → (b && c) ≡ true → (b ≡ true) × (c ≡ true)
 both true c h = (refl, h)
@@ -56,7 +56,7 @@ module _ {S : Type 0} (R : S → S → Ordering) (total : IsTotalOrder R) where
   pub at-same : (t q : S) → is_at (R t) q ≡ true → is_at (R t) ≡ is_at (R q)
   at-same t q e = λ i x. is_eq (total.congr t q x (tied (R t q) e) i)
 
-  -- and are above the same pages
+  -- tuples that compare as equal are above the same pages
   pub above-same : (size : ℕ) (page : Page S) (t q : S) → is_at (R t) q ≡ true
       → IsAbove R size page t → IsAbove R size page q
   above-same size page t q e above =

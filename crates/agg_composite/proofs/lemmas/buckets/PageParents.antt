@@ -7,12 +7,12 @@ use Rattle.std.specs.List.Sorted.{IsStrictlySortedBy}
 use Rattle.std.specs.Map.{keys_of, lookup}
 use Rattle.std.proofs.lemmas.Bool.{cases_Bool}
 use Rattle.std.proofs.lemmas.List.{get_or-set_same, get_or-set_other}
-use Rattle.agg_buckets.specs.Node.{IsPast}
-use Rattle.agg_buckets.specs.Page.{IsAbove, Page, Puts}
-use Rattle.agg_buckets.specs.Visits.{Owner, is_owner}
-use Rattle.agg_buckets.specs.declared.bucket.Bucket.{Bucket}
-use Rattle.agg_buckets.proofs.NodeSteps.{PutsAt}
-use Rattle.agg_buckets.proofs.Owners.{number-is, number-same}
+use Rattle.agg_composite.specs.buckets.Node.{IsPast}
+use Rattle.agg_composite.specs.buckets.Page.{IsAbove, Page, Puts}
+use Rattle.agg_composite.specs.buckets.Visits.{Owner, is_owner}
+use Rattle.agg_composite.specs.declared.buckets.bucket.Bucket.{Bucket}
+use Rattle.agg_composite.proofs.lemmas.buckets.NodeSteps.{PutsAt}
+use Rattle.agg_composite.proofs.lemmas.buckets.Owners.{number-is, number-same}
 
 module _ {S : Type 0} (R : S → S → Ordering) (size : ℕ) (ps : List (Page S)) (p : ℕ) (t : S)
     (b : Bucket) (page : Page S) (l : p < length ps)

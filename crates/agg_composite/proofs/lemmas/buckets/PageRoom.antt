@@ -17,11 +17,12 @@ use Rattle.agg_heap_map.specs.Eviction.{GreatestIsBelow, TakesGreatest}
 use Rattle.agg_heap_map.proofs.AscendingKeys.{Ascends, all-inserted, ascends-inserted}
 use Rattle.agg_heap_map.proofs.AscendingKeys.{ascends_from_sorted, sorted_from_ascends}
 use Rattle.agg_heap_map.proofs.EachItem.{weaker}
-use Rattle.agg_buckets.specs.Page.{HasRoom, IsAbove, IsAbsent, Page, PageTakes, Puts, opened}
-use Rattle.agg_buckets.specs.declared.bucket.Bucket.{Bucket}
-use Rattle.agg_buckets.proofs.Owners.{above-each, above-none, above-same, is-above}
-use Rattle.agg_buckets.proofs.Owners.{at-flips, at-itself}
-use Rattle.agg_buckets.proofs.PageSteps.{length-insert, lookup-insert}
+use Rattle.agg_composite.specs.buckets.Page.{HasRoom, IsAbove, IsAbsent, Page, PageTakes, Puts}
+use Rattle.agg_composite.specs.buckets.Page.{opened}
+use Rattle.agg_composite.specs.declared.buckets.bucket.Bucket.{Bucket}
+use Rattle.agg_composite.proofs.lemmas.buckets.Owners.{above-each, above-none, above-same, is-above}
+use Rattle.agg_composite.proofs.lemmas.buckets.Owners.{at-flips, at-itself}
+use Rattle.agg_composite.proofs.lemmas.buckets.PageSteps.{length-insert, lookup-insert}
 
 -- ---- lists
 

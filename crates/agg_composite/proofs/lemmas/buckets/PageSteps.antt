@@ -13,9 +13,9 @@ use Rattle.std.proofs.lemmas.Cmp.{alike_right, eq_by_cmp_equiv}
 use Rattle.std.proofs.lemmas.Map.{keys-set_value, length-set_value, lookup-set_value}
 use Rattle.agg_heap_map.proofs.EachItem.{on_entries, on_keys}
 use Rattle.agg_heap_map.proofs.InsertionTurns.{tied}
-use Rattle.agg_buckets.specs.Page.{IsCountedMore, Page, PageTakes, Puts, more}
-use Rattle.agg_buckets.specs.declared.bucket.Bucket.{Bucket}
-use Rattle.agg_buckets.proofs.Owners.{above-each, at-flips, at-itself, is-above}
+use Rattle.agg_composite.specs.buckets.Page.{IsCountedMore, Page, PageTakes, Puts, more}
+use Rattle.agg_composite.specs.declared.buckets.bucket.Bucket.{Bucket}
+use Rattle.agg_composite.proofs.lemmas.buckets.Owners.{above-each, at-flips, at-itself, is-above}
 
 module _ {S : Type 0} (R : S → S → Ordering) (total : IsTotalOrder R) where
   -- ---- a bucket that is there

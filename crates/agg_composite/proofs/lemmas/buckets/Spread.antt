@@ -7,8 +7,8 @@ use Rattle.std.specs.List.{AllByRecursion}
 use Rattle.std.specs.Ordering.{match_ordering, ordering_reverse}
 use Rattle.std.proofs.lemmas.Cmp.{tied_itself}
 use Rattle.agg_heap_map.proofs.EachItem.{weaker}
-use Rattle.agg_buckets.specs.Cut.{add_count, count_each, cut, groups_of, spread}
-use Rattle.agg_buckets.proofs.TupleCounts.{count_each-append, cut-append}
+use Rattle.agg_composite.specs.buckets.Cut.{add_count, count_each, cut, groups_of, spread}
+use Rattle.agg_composite.proofs.lemmas.buckets.TupleCounts.{count_each-append, cut-append}
 
 -- counts with tuples that ascend, each above 0
 abbrev pub Ascend : {S : Type 0} → (S → S → Ordering) → List (S × ℕ) → Type 0

@@ -4,13 +4,13 @@ use Rattle.std.proofs.Common.{get_or, refl, sym, ap, ◌∙◌, subst, arith, ap
 use Rattle.std.specs.BTreeMap.{is_at}
 use Rattle.std.specs.List.Sorted.{IsStrictlySortedBy}
 use Rattle.std.specs.Map.{keys_of, lookup}
-use Rattle.agg_buckets.specs.Laws.{StayRight}
-use Rattle.agg_buckets.specs.Node.{BucketsFor, IsNew, IsRightFor, Node, NodeFor}
-use Rattle.agg_buckets.specs.Node.{Prepares, found}
-use Rattle.agg_buckets.specs.Page.{IsAbove, Page}
-use Rattle.agg_buckets.specs.Visits.{Visit, is_owner}
-use Rattle.agg_buckets.proofs.Labels.{within-same}
-use Rattle.agg_buckets.proofs.NodeSteps.{no-some}
+use Rattle.agg_composite.specs.buckets.Laws.{StayRight}
+use Rattle.agg_composite.specs.buckets.Node.{BucketsFor, IsNew, IsRightFor, Node, NodeFor}
+use Rattle.agg_composite.specs.buckets.Node.{Prepares, found}
+use Rattle.agg_composite.specs.buckets.Page.{IsAbove, Page}
+use Rattle.agg_composite.specs.buckets.Visits.{Visit, is_owner}
+use Rattle.agg_composite.proofs.lemmas.buckets.Labels.{within-same}
+use Rattle.agg_composite.proofs.lemmas.buckets.NodeSteps.{no-some}
 
 module _ {S : Type 0} (R : S → S → Ordering) where
   no_buckets : (p : ℕ) → get_or {A = Page S} ([] ∷ []) p [] ≡ []
@@ -43,7 +43,7 @@ module _ {S : Type 0} (R : S → S → Ordering) where
       (subst (BucketsFor R size node.parents 0 []) (sym new.pushes)
       (nothing-visited size node.parents none))
 
-  -- the same pages, of more parents
+  -- buckets are right for more parents too, where each parent has the page that it had
   same-pages : (size next : ℕ) (old new : List (Page S)) (vs : List (Visit S)) (ws : List (ℕ × ℕ))
       → ((p : ℕ) → get_or new p [] ≡ get_or old p []) → BucketsFor R size old next vs ws
       → BucketsFor R size new next vs ws

@@ -3,7 +3,7 @@ use Rattle.std.proofs.Common.{◌≡◌, ℕ, zero, suc, ◌+◌, List, [], ◌�
 use Rattle.std.proofs.Common.{arith, Ordering, Less, Equal, Greater}
 use Rattle.std.specs.Ordering.{match_ordering}
 use Rattle.std.proofs.lemmas.List.{take-take}
-use Rattle.agg_buckets.specs.Cut.{add_count, count_each, cut, groups_of}
+use Rattle.agg_composite.specs.buckets.Cut.{add_count, count_each, cut, groups_of}
 
 module _ {S : Type 0} (R : S → S → Ordering) where
   -- ---- fronts, for which no law of the order is needed

@@ -4,8 +4,8 @@ use Rattle.std.proofs.Common.{Ordering, Less, Equal, Greater}
 use Rattle.std.specs.List.{sum_by}
 use Rattle.std.specs.Ordering.{match_ordering}
 use Rattle.std.proofs.lemmas.List.Sums.{sum_by-append, sum_by-cons}
-use Rattle.agg_buckets.specs.Cut.{add_count}
-use Rattle.agg_tuple_counts.specs.Counted.{counted}
+use Rattle.agg_composite.specs.buckets.Cut.{add_count}
+use Rattle.agg_composite.specs.tuple_counts.Counted.{counted}
 
 -- the sum of counts
 abbrev pub total_of : {K : Type 0} → List (K × ℕ) → ℕ

@@ -6,8 +6,8 @@ use Rattle.std.specs.List.Sorted.{IsPermutation}
 use Rattle.std.specs.Ordering.{match_ordering, ordering_reverse}
 use Rattle.std.proofs.lemmas.Cmp.{tied_itself}
 use Rattle.agg_heap_map.proofs.Permutations.{along_permutation}
-use Rattle.agg_buckets.specs.Cut.{add_count}
-use Rattle.agg_tuple_counts.specs.Counted.{counted}
+use Rattle.agg_composite.specs.buckets.Cut.{add_count}
+use Rattle.agg_composite.specs.tuple_counts.Counted.{counted}
 
 module _ {K : Type 0} (R : K → K → Ordering) (total : IsTotalOrder R)
     (exact : (k l : K) → R k l ≡ Equal → k ≡ l) where
@@ -78,7 +78,7 @@ module _ {K : Type 0} (R : K → K → Ordering) (total : IsTotalOrder R)
       turn-by (R x.0 a.0) (R y.0 a.0) (R x.0 y.0) x y a es (add_count R es x.0 x.1)
       (add_count R es y.0 y.1) refl refl refl refl refl (count-turn es x y)
 
-  -- and so all of them do
+  -- counts go in in any order
   pub counted-same : (es fs : List (K × ℕ)) → IsPermutation es fs → counted R es ≡ counted R fs
   counted-same =
       along_permutation (λ es fs. counted R es ≡ counted R fs)

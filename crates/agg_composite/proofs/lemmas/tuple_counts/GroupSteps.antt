@@ -5,11 +5,12 @@ use Rattle.std.specs.Cmp.{IsTotalOrder}
 use Rattle.std.specs.List.Sorted.{IsPermutation}
 use Rattle.std.specs.Ordering.{is_eq}
 use Rattle.agg_heap_map.proofs.AscendingKeys.{Ascends}
-use Rattle.agg_tuple_counts.specs.Counted.{counted}
-use Rattle.agg_tuple_counts.proofs.CountTurns.{counted-joined, counted-same}
-use Rattle.agg_tuple_counts.proofs.GroupedCounts.{AllBelow, Climbs, Steps, ascends-last, below-last}
-use Rattle.agg_tuple_counts.proofs.GroupedCounts.{below-next, climbs-sorted, counted-ascending}
-use Rattle.agg_tuple_counts.proofs.GroupedCounts.{next-above}
+use Rattle.agg_composite.specs.tuple_counts.Counted.{counted}
+use Rattle.agg_composite.proofs.lemmas.tuple_counts.CountTurns.{counted-joined, counted-same}
+use Rattle.agg_composite.proofs.lemmas.tuple_counts.GroupedCounts.{AllBelow, Climbs, Steps}
+use Rattle.agg_composite.proofs.lemmas.tuple_counts.GroupedCounts.{ascends-last, below-last}
+use Rattle.agg_composite.proofs.lemmas.tuple_counts.GroupedCounts.{below-next, climbs-sorted}
+use Rattle.agg_composite.proofs.lemmas.tuple_counts.GroupedCounts.{counted-ascending, next-above}
 
 module _ {K : Type 0} (R : K → K → Ordering) (total : IsTotalOrder R) (all : List (K × ℕ)) where
   -- the groups so far, the one that grows, and the counts that are still to come

@@ -6,8 +6,8 @@ use Rattle.std.specs.Cmp.{IsTotalOrder}
 use Rattle.std.specs.List.{AllByRecursion}
 use Rattle.std.specs.Ordering.{is_eq, ordering_reverse}
 use Rattle.agg_heap_map.proofs.AscendingKeys.{Ascends}
-use Rattle.agg_buckets.specs.Cut.{add_count}
-use Rattle.agg_tuple_counts.specs.Counted.{counted}
+use Rattle.agg_composite.specs.buckets.Cut.{add_count}
+use Rattle.agg_composite.specs.tuple_counts.Counted.{counted}
 
 not_above-by : (o : Ordering) → is_lt (ordering_reverse o) ≡ false → is_eq o ≡ false → o ≡ Less
 not_above-by Less not apart = refl

@@ -1,5 +1,5 @@
 use Rattle.std.proofs.Common.{sym, subst}
-use Rattle.agg_accessor.specs.Decoded.{IsEncoded}
+use Rattle.agg_composite.specs.accessor.Decoded.{IsEncoded}
 use Rattle.agg_composite.proofs.BucketPages.{first-encoded}
 use Rattle.agg_composite.proofs.page_entries.next_of.Goals as goal
 

@@ -1,7 +1,7 @@
 use Rattle.std.proofs.Common.{rules, ◌≡◌, ◌≤◌, ◌+◌, List, [], ◌∷◌, Ok, Err, length, sum, arith}
 use Rattle.std.proofs.Common.{length-append, ap, ◌∙◌, subst}
 use Rattle.std.proofs.lemmas.List.Sums.{sum_by-cons}
-use Rattle.agg_accessor.specs.Encoding.{EncodedTuple}
+use Rattle.agg_composite.specs.accessor.Encoding.{EncodedTuple}
 use Rattle.agg_composite.specs.Answers.{AnswersEncoded}
 use Rattle.agg_composite.specs.Walk.{parts, walked}
 use Rattle.agg_composite.specs.declared.walk.choice.Choice.{Choice}

@@ -4,21 +4,23 @@ ghost use Rattle.std.specs.Prelude.{count_by, length};
 ghost use Rattle.std.specs.Ordering.{is_lt};
 ghost use Rattle.agg_values.specs.Column.{class_of};
 ghost use Rattle.agg_values.specs.KeyOrder.{key_order, null_side};
-ghost use Rattle.agg_column.specs.Columns.{StandsForKey, encoded_key};
+ghost use Rattle.agg_segment.specs.storage.Columns.{StandsForKey, encoded_key};
 ghost use Rattle.agg_segment.specs.Segment.{Stored};
 ghost use Rattle.agg_request_tree.specs.Faults.{IsOfOtherType};
-ghost use Rattle.agg_request_tree.specs.Source.{order_of};
-ghost use Rattle.agg_accessor.specs.Accessors.{AreAccessorsOf, AreOfField, IsAccessorOf};
-ghost use Rattle.agg_accessor.specs.Accessors.{IsIntervalOf, accessors_before, columns_read};
-ghost use Rattle.agg_accessor.specs.Accessors.{side_to};
-ghost use Rattle.agg_accessor.specs.AfterKey.{projected_side};
-ghost use Rattle.agg_accessor.specs.Classes.{is_of_class_before};
-ghost use Rattle.agg_accessor.specs.Lanes.{column_at, columns_of, in_requested, keys_at, lanes};
+ghost use Rattle.agg_request_tree.specs.Source.{min_of, order_of};
+ghost use Rattle.agg_composite.specs.accessor.Accessors.{AreAccessorsOf, AreOfField, IsAccessorOf};
+ghost use Rattle.agg_composite.specs.accessor.Accessors.{IsDivisionOf, accessors_before};
+ghost use Rattle.agg_composite.specs.accessor.Accessors.{columns_read, side_to};
+ghost use Rattle.agg_composite.specs.accessor.AfterKey.{projected_side};
+ghost use Rattle.agg_composite.specs.accessor.Classes.{is_of_class_before};
+ghost use Rattle.agg_composite.specs.accessor.Least.{AreLeastIn};
+ghost use Rattle.agg_composite.specs.accessor.Lanes.{column_at, columns_of, in_requested, keys_at};
+ghost use Rattle.agg_composite.specs.accessor.Lanes.{lanes};
 
 use super::{CompositeAccessor, CompositeSourceAccessors};
-use crate::PrecomputedAfterKey;
-use crate::after_key::precompute_among_starts;
-use crate::lanes::lane_of;
+use crate::accessor::PrecomputedAfterKey;
+use crate::accessor::after_key::precompute_among_starts;
+use crate::accessor::lanes::lane_of;
 use agg_calendar::PrecomputedDateInterval;
 use agg_request_tree::CompositeAggregationSource;
 use agg_segment::Column;
@@ -35,15 +37,15 @@ pub fn in_requested_order<'s>(
     alloc: Global,
     columns: &'s [Column],
     source: &CompositeAggregationSource,
-    interval: PrecomputedDateInterval,
+    division: (PrecomputedDateInterval, i64),
 ) -> Result<ItemList<CompositeAccessor<'s>>, OutOfMemory>
-    requires { IsIntervalOf source.now interval }
+    requires { IsDivisionOf source.now division.0 division.1 }
     ensures columns { IfOk result (λ accessors.
         in_requested (order_of source.now) (columns_of accessors)
         ≡ columns_read source.now columns.now) }
     ensures each { IfOk result (λ accessors. All (IsAccessorOf source.now) accessors) }
 {
-    let mut accessors = accessors_of(alloc, columns, source, interval)?;
+    let mut accessors = accessors_of(alloc, columns, source, division)?;
     match source.order() {
         Order::Asc => Ok(ItemList::from_vec(accessors)),
         Order::Desc => {
@@ -58,16 +60,16 @@ fn accessors_of<'s>(
     alloc: Global,
     columns: &'s [Column],
     source: &CompositeAggregationSource,
-    interval: PrecomputedDateInterval,
+    division: (PrecomputedDateInterval, i64),
 ) -> Result<Vec<CompositeAccessor<'s>>, OutOfMemory>
-    requires { IsIntervalOf source.now interval }
+    requires { IsDivisionOf source.now division.0 division.1 }
     ensures columns { IfOk result (λ accessors.
         columns_of accessors.items ≡ columns_read source.now columns.now) }
     ensures each { IfOk result (λ accessors. All (IsAccessorOf source.now) accessors.items) }
 {
     let mut accessors = Vec::with_capacity(alloc, columns.len())?;
     for column in columns {
-        push_if_read(&mut accessors, column, source, interval)?;
+        push_if_read(&mut accessors, column, source, division)?;
     }
     Ok(accessors)
 }
@@ -77,9 +79,9 @@ fn push_if_read<'s>(
     accessors: &mut Vec<CompositeAccessor<'s>>,
     column: &'s Column,
     source: &CompositeAggregationSource,
-    interval: PrecomputedDateInterval,
+    division: (PrecomputedDateInterval, i64),
 ) -> Result<(), OutOfMemory>
-    requires interval { IsIntervalOf source.now interval }
+    requires division { IsDivisionOf source.now division.0 division.1 }
     requires each { All (IsAccessorOf source.now) accessors.old.items }
     ensures columns { OnOk result (columns_of accessors.new.items
         ≡ columns_of accessors.old.items ++ columns_read source.now (column.now ∷ [])) }
@@ -88,9 +90,11 @@ fn push_if_read<'s>(
     if !source.reads(column.column_pagination_order()) {
         return Ok(());
     }
+    let (interval, offset_ns) = division;
     accessors.push(CompositeAccessor {
         column,
         date_histogram_interval: interval,
+        date_offset_ns: offset_ns,
     })?;
     Ok(())
 }
@@ -98,10 +102,13 @@ fn push_if_read<'s>(
 /// Accessors without an after value: every key comes after the start.
 pub fn from_the_start<'s>(
     accessors: ItemList<CompositeAccessor<'s>>,
+    min: ItemList<PrecomputedAfterKey>,
     order: Order,
 ) -> CompositeSourceAccessors<'s>
     ensures { (segment : Stored) (source : CompositeAggregationSource) → order_of source ≡ order
-        → AreOfField segment source accessors.entry → AreAccessorsOf segment source None result }
+        → AreOfField segment source accessors.entry
+        → AreLeastIn (min_of source) accessors.entry min
+        → AreAccessorsOf segment source None result }
 {
     let after_key = match order {
         Order::Asc => PrecomputedAfterKey::Next(0),
@@ -109,6 +116,7 @@ pub fn from_the_start<'s>(
     };
     CompositeSourceAccessors {
         accessors,
+        min,
         after_key,
         after_key_accessor_idx: 0,
         skip_missing: false,
@@ -119,11 +127,13 @@ pub fn from_the_start<'s>(
 /// Accessors that go on from an after value.
 pub fn going_on<'s>(
     accessors: ItemList<CompositeAccessor<'s>>,
+    min: ItemList<PrecomputedAfterKey>,
     source: &CompositeAggregationSource,
     after: &CompositeIntermediateKey,
 ) -> CompositeSourceAccessors<'s>
     requires { ¬ (IsOfOtherType source.now after.now) }
     ensures { (segment : Stored) → AreOfField segment source.now accessors.entry
+        → AreLeastIn (min_of source.now) accessors.entry min
         → AreAccessorsOf segment source.now (Some after.now) result }
 {
     let before = count_before(accessors.as_slice(), source, after);
@@ -131,6 +141,7 @@ pub fn going_on<'s>(
     let after_key = after_key_at(accessors.as_slice(), after_key_accessor_idx, source, after);
     CompositeSourceAccessors {
         accessors,
+        min,
         after_key,
         after_key_accessor_idx,
         skip_missing: null_comes_before(source, after),

@@ -1,12 +1,12 @@
 //! After keys on the numbers of columns of their own class, and Null on those of any column.
 ghost use Rattle.std.specs.Prelude.{◌≡◌, ℕ};
 ghost use Rattle.agg_values.specs.KeyOrder.{key_order};
-ghost use Rattle.agg_column.specs.Columns.{StandsForKey, encoded_key};
-ghost use Rattle.agg_column.specs.declared.keys.ColumnKeys.{ColumnKeys};
-ghost use Rattle.agg_column.specs.declared.keys.ColumnKeys.TheVariants.{Signed};
-ghost use Rattle.agg_accessor.specs.AfterKey.{projected_side};
-ghost use Rattle.agg_accessor.specs.Classes.{HasClassOf, IsNumberOrNull};
-ghost use Rattle.agg_accessor.specs.Places.{IsPlaceOf};
+ghost use Rattle.agg_segment.specs.storage.Columns.{StandsForKey, encoded_key};
+ghost use Rattle.agg_segment.specs.declared.storage.keys.ColumnKeys.{ColumnKeys};
+ghost use Rattle.agg_segment.specs.declared.storage.keys.ColumnKeys.TheVariants.{Signed};
+ghost use Rattle.agg_composite.specs.accessor.AfterKey.{projected_side};
+ghost use Rattle.agg_composite.specs.accessor.Classes.{HasClassOf, IsNumberOrNull};
+ghost use Rattle.agg_composite.specs.accessor.Places.{IsPlaceOf};
 
 use super::PrecomputedAfterKey;
 use agg_segment::{Column, ColumnType};

@@ -1,9 +1,10 @@
 use Rattle.std.proofs.Common.{◌++◌, ◌∷◌, [], get_or, sym, ◌∙◌, subst}
-use Rattle.agg_accessor.specs.Decoded.{decoded_key}
-use Rattle.agg_accessor.specs.Encoding.{StandsFor}
-use Rattle.agg_accessor.proofs.DecodedTuples.{decoded-more, decoded-none, stands-at}
-use Rattle.agg_accessor.proofs.EncodedOrder.{nothing}
-use Rattle.agg_accessor.proofs.decoding.decode_keys.Goals as goal
+use Rattle.agg_composite.specs.accessor.Decoded.{decoded_key}
+use Rattle.agg_composite.specs.accessor.Encoding.{StandsFor}
+use Rattle.agg_composite.proofs.lemmas.accessor.DecodedTuples.{decoded-more, decoded-none}
+use Rattle.agg_composite.proofs.lemmas.accessor.DecodedTuples.{stands-at}
+use Rattle.agg_composite.proofs.lemmas.accessor.EncodedOrder.{nothing}
+use Rattle.agg_composite.proofs.accessor.decoding.decode_keys.Goals as goal
 
 pub loop-i-init : goal.loop-i-init
 loop-i-init c =

@@ -1,6 +1,6 @@
 use Rattle.std.proofs.Common.{◌≡◌, take}
-use Rattle.agg_accessor.specs.Decoded.{decoded_keys}
-use Rattle.agg_accessor.proofs.decoding.decode_keys.Given as goal
+use Rattle.agg_composite.specs.accessor.Decoded.{decoded_keys}
+use Rattle.agg_composite.proofs.accessor.decoding.decode_keys.Given as goal
 
 -- the keys so far
 abbrev pub invariant-loop-i : goal.invariant-loop-i

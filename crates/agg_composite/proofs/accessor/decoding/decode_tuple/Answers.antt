@@ -1,9 +1,11 @@
 use Rattle.std.proofs.Common.{List, length, sym, ap, ◌∙◌, subst}
 use Rattle.agg_request_tree.specs.Source.{Sources}
-use Rattle.agg_accessor.specs.Encoding.{StandFor}
-use Rattle.agg_accessor.specs.declared.accessor.CompositeSourceAccessors.{CompositeSourceAccessors}
-use Rattle.agg_accessor.proofs.DecodedTuples.{as_many}
-use Rattle.agg_accessor.proofs.decoding.decode_tuple.Goals as goal
+use Rattle.agg_composite.specs.accessor.Encoding.{StandFor}
+use Rattle.agg_composite.specs.declared.accessor.accessor.CompositeSourceAccessors.{
+  CompositeSourceAccessors,
+}
+use Rattle.agg_composite.proofs.lemmas.accessor.DecodedTuples.{as_many}
+use Rattle.agg_composite.proofs.accessor.decoding.decode_tuple.Goals as goal
 
 pub decode_keys-requires : goal.decode_keys-requires
 decode_keys-requires c =

@@ -2,8 +2,8 @@ use Rattle.std.proofs.Common.{◌-◌, ◌^◌, ◌∙◌, length, min, ap}
 use Rattle.std.proofs.lemmas.List.{take_all}
 use Rattle.agg_segment.specs.Segment.{documents_at}
 use Rattle.agg_request_tree.specs.Occurrences.{occurrences_in}
-use Rattle.agg_accessor.proofs.CutCounts.{cut-count}
-use Rattle.agg_accessor.proofs.occurrences.count_occurrences.Goals as goal
+use Rattle.agg_composite.proofs.lemmas.accessor.CutCounts.{cut-count}
+use Rattle.agg_composite.proofs.accessor.occurrences.count_occurrences.Goals as goal
 
 pub loop-doc-preserved : goal.loop-doc-preserved
 loop-doc-preserved c segment after fit =

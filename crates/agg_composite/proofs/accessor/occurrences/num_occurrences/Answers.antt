@@ -1,12 +1,11 @@
-use Rattle.std.proofs.Common.{◌≡◌, ◌-◌, ◌^◌, ◌∙◌, length, min, sym, ap, subst}
+use Rattle.std.proofs.Common.{◌≡◌, ◌-◌, ◌^◌, ◌∙◌, length, min, ap, subst}
 use Rattle.std.proofs.lemmas.List.{take_all}
 use Rattle.agg_segment.specs.Segment.{document_at}
 use Rattle.agg_request_tree.specs.Occurrences.{occurrences}
 use Rattle.agg_request_tree.specs.Source.{source_values}
-use Rattle.agg_accessor.proofs.CutCounts.{cut-occurrences-more}
-use Rattle.agg_accessor.specs.Accessors.{AreOfField}
-use Rattle.agg_accessor.proofs.OccurrenceCounts.{fits-at}
-use Rattle.agg_accessor.proofs.occurrences.num_occurrences.Goals as goal
+use Rattle.agg_composite.proofs.lemmas.accessor.CutCounts.{cut-occurrences-more}
+use Rattle.agg_composite.proofs.lemmas.accessor.OccurrenceCounts.{fits-at}
+use Rattle.agg_composite.proofs.accessor.occurrences.num_occurrences.Goals as goal
 
 pub loop-index-preserved : goal.loop-index-preserved
 loop-index-preserved c segment after fit =
@@ -15,12 +14,9 @@ loop-index-preserved c segment after fit =
     let i = c.loop-index.index in
     let source = c.index-sources-index.result in
     let a = c.index-accessors-index.result in
-    let of_field = (fits-at segment after sources c.args.accessors.now i source a
-    c.loop-index-test.true c.index-sources-index.is c.index-accessors-index.is fit).columns in
-    let own = c.num_keys.ensures segment
-    (subst (AreOfField segment source)
-    (sym (c.as_slice-own.ensures ∙ ap (λ x. x.accessors) (sym c.index-accessors-index.is)))
-    of_field) in
+    let fits = fits-at segment after sources c.args.accessors.now i source a
+    c.loop-index-test.true c.index-sources-index.is c.index-accessors-index.is fit in
+    let own = c.num_keys.ensures segment fits.columns fits.least in
     let here = subst (λ s. c.num_keys.result ≡ min (length (source_values s document)) (2 ^ 64 - 1))
     c.index-sources-index.is own in
     let more = cut-occurrences-more sources i source document c.loop-index.product

@@ -3,8 +3,8 @@ use Rattle.agg_values.specs.Names.{Named}
 use Rattle.agg_values.specs.declared.after_key.AfterKey.{AfterKey}
 use Rattle.agg_segment.specs.Segment.{Stored, document_at}
 use Rattle.agg_request_tree.specs.Occurrences.{occurrences}
-use Rattle.agg_accessor.specs.Accessors.{AllFit}
-use Rattle.agg_accessor.proofs.occurrences.num_occurrences.Given as goal
+use Rattle.agg_composite.specs.accessor.Accessors.{AllFit}
+use Rattle.agg_composite.proofs.accessor.occurrences.num_occurrences.Given as goal
 
 abbrev pub invariant-loop-index : goal.invariant-loop-index
 invariant-loop-index l =

@@ -1,5 +1,5 @@
-use Rattle.agg_buckets.proofs.CutPages.{have-the-cut, visits-cut}
-use Rattle.agg_buckets.proofs.laws.buckets_have_the_cut.Goals as goal
+use Rattle.agg_composite.proofs.lemmas.buckets.CutPages.{have-the-cut, visits-cut}
+use Rattle.agg_composite.proofs.buckets.laws.buckets_have_the_cut.Goals as goal
 
 pub returns : goal.returns
 returns g c = record {

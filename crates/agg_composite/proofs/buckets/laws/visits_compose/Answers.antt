@@ -1,5 +1,5 @@
-use Rattle.agg_buckets.proofs.NodeLaws.{compose-tuples, compose-visits}
-use Rattle.agg_buckets.proofs.laws.visits_compose.Goals as goal
+use Rattle.agg_composite.proofs.lemmas.buckets.NodeLaws.{compose-tuples, compose-visits}
+use Rattle.agg_composite.proofs.buckets.laws.visits_compose.Goals as goal
 
 pub returns : goal.returns
 returns g c = record {

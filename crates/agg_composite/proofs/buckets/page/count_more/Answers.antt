@@ -1,8 +1,8 @@
 use Rattle.std.proofs.Common.{◌∙◌, ap, length}
 use Rattle.std.specs.BTreeMap.{is_at}
 use Rattle.std.proofs.lemmas.Map.{length-set_value}
-use Rattle.agg_buckets.specs.declared.bucket.Bucket.{Bucket}
-use Rattle.agg_buckets.proofs.page.count_more.Goals as goal
+use Rattle.agg_composite.specs.declared.buckets.bucket.Bucket.{Bucket}
+use Rattle.agg_composite.proofs.buckets.page.count_more.Goals as goal
 
 pub returns-in_err-bucket-clause-as_many : goal.returns-in_err-bucket-clause-as_many
 returns-in_err-bucket-clause-as_many g c =

@@ -1,7 +1,7 @@
 use Rattle.std.proofs.Common.{◌≤◌, length, arith}
 use Rattle.std.proofs.lemmas.Result.{IfOk-weaker}
-use Rattle.agg_buckets.proofs.PageRoom.{above-page, room-made}
-use Rattle.agg_buckets.proofs.page.make_room.Goals as goal
+use Rattle.agg_composite.proofs.lemmas.buckets.PageRoom.{above-page, room-made}
+use Rattle.agg_composite.proofs.buckets.page.make_room.Goals as goal
 
 pub returns-clause-room : goal.returns-clause-room
 returns-clause-room g c =

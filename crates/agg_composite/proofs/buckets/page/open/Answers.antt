@@ -1,9 +1,9 @@
 use Rattle.std.proofs.Common.{◌≡◌, None, rules}
 use Rattle.std.specs.BTreeMap.{is_at}
 use Rattle.std.specs.Map.{lookup}
-use Rattle.agg_buckets.specs.Page.{opened}
-use Rattle.agg_buckets.proofs.PageRoom.{one-more}
-use Rattle.agg_buckets.proofs.page.open.Goals as goal
+use Rattle.agg_composite.specs.buckets.Page.{opened}
+use Rattle.agg_composite.proofs.lemmas.buckets.PageRoom.{one-more}
+use Rattle.agg_composite.proofs.buckets.page.open.Goals as goal
 
 pub returns-clause-one_more : goal.returns-clause-one_more
 returns-clause-one_more g c =

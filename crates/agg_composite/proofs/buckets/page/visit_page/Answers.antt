@@ -1,8 +1,8 @@
 use Rattle.std.proofs.Common.{◌≡◌, rules, subst}
-use Rattle.agg_buckets.specs.Page.{HasRoom, IsAbsent, IsCountedMore, opened}
-use Rattle.agg_buckets.proofs.PageRoom.{absent-room, takes-new}
-use Rattle.agg_buckets.proofs.PageSteps.{takes-more}
-use Rattle.agg_buckets.proofs.page.visit_page.Goals as goal
+use Rattle.agg_composite.specs.buckets.Page.{HasRoom, IsAbsent, IsCountedMore, opened}
+use Rattle.agg_composite.proofs.lemmas.buckets.PageRoom.{absent-room, takes-new}
+use Rattle.agg_composite.proofs.lemmas.buckets.PageSteps.{takes-more}
+use Rattle.agg_composite.proofs.buckets.page.visit_page.Goals as goal
 
 pub returns-in-Some-clause-ok : goal.returns-in-Some-clause-ok
 returns-in-Some-clause-ok g c =

@@ -1,10 +1,12 @@
 use Rattle.std.proofs.Common.{◌≡◌, All, List, sym, ap, ◌∙◌, subst, map}
 use Rattle.std.specs.Map.{keys_of}
 use Rattle.std.proofs.lemmas.Result.{IfOk-weaker}
-use Rattle.agg_accessor.specs.Decoded.{IsEncoded}
-use Rattle.agg_accessor.specs.Encoding.{EncodedTuple}
-use Rattle.agg_accessor.specs.declared.request_data.CompositeAggReqData.{CompositeAggReqData}
-use Rattle.agg_buckets.specs.Page.{Page}
+use Rattle.agg_composite.specs.accessor.Decoded.{IsEncoded}
+use Rattle.agg_composite.specs.accessor.Encoding.{EncodedTuple}
+use Rattle.agg_composite.specs.declared.accessor.request_data.CompositeAggReqData.{
+  CompositeAggReqData,
+}
+use Rattle.agg_composite.specs.buckets.Page.{Page}
 use Rattle.agg_composite.specs.PageEntries.{decoded_buckets, entry_bucket, page_entries}
 use Rattle.agg_composite.specs.declared.page_entry.PageEntry.{PageEntry}
 use Rattle.agg_composite.proofs.BucketDocuments.{page-handed}

@@ -2,10 +2,10 @@ use Rattle.std.proofs.Common.{◌++◌, Ok, Err, length, sym, ap, ◌∙◌, ref
 use Rattle.std.proofs.lemmas.Slice.Zip.{AllZip-long}
 use Rattle.agg_cache.specs.Waiting.{docs_of, is_id}
 use Rattle.agg_request_tree.specs.Source.{after_of}
-use Rattle.agg_accessor.specs.Accessors.{AreAccessorsOf}
-use Rattle.agg_accessor.specs.Encoding.{encoded_tuple_order}
-use Rattle.agg_buckets.specs.Node.{TooManyVisits}
-use Rattle.agg_buckets.specs.declared.visit_error.VisitError.TheVariants.{OutOfMemory}
+use Rattle.agg_composite.specs.accessor.Accessors.{AreAccessorsOf}
+use Rattle.agg_composite.specs.accessor.Encoding.{encoded_tuple_order}
+use Rattle.agg_composite.specs.buckets.Node.{TooManyVisits}
+use Rattle.agg_composite.specs.declared.buckets.visit_error.VisitError.TheVariants.{OutOfMemory}
 use Rattle.agg_composite.specs.TupleBuckets.{node_of}
 use Rattle.agg_composite.proofs.CollectorAnswers.{collector-takes, walked-begun}
 use Rattle.agg_composite.proofs.VisitsInRow.{passed-on}

@@ -1,6 +1,6 @@
 use Rattle.std.proofs.Common.{◌≡◌, ◌++◌, All, length}
 use Rattle.std.specs.Map.{keys_of}
-use Rattle.agg_accessor.specs.Decoded.{IsEncoded}
+use Rattle.agg_composite.specs.accessor.Decoded.{IsEncoded}
 use Rattle.agg_composite.specs.PageEntries.{page_entries}
 use Rattle.agg_composite.proofs.page_entries.PageEntries.into_list.Given as goal
 

@@ -4,11 +4,12 @@ use Rattle.std.specs.Ordering.{is_eq, is_lt}
 use Rattle.std.proofs.lemmas.Fn.{always_returns_same}
 use Rattle.std.proofs.lemmas.List.Sorted.{ranks_by}
 use Rattle.agg_heap_map.proofs.InsertionTurns.{tied}
-use Rattle.agg_tuple_counts.proofs.CountSums.{two-within}
-use Rattle.agg_tuple_counts.proofs.GroupSteps.{AreGrouped, grouped-again, grouped-all}
-use Rattle.agg_tuple_counts.proofs.GroupSteps.{grouped-first, grouped-joined, grouped-next}
-use Rattle.agg_tuple_counts.proofs.GroupSteps.{same-next}
-use Rattle.agg_tuple_counts.proofs.grouped.grouped.Goals as goal
+use Rattle.agg_composite.proofs.lemmas.tuple_counts.CountSums.{two-within}
+use Rattle.agg_composite.proofs.lemmas.tuple_counts.GroupSteps.{AreGrouped, grouped-again}
+use Rattle.agg_composite.proofs.lemmas.tuple_counts.GroupSteps.{grouped-all, grouped-first}
+use Rattle.agg_composite.proofs.lemmas.tuple_counts.GroupSteps.{grouped-joined, grouped-next}
+use Rattle.agg_composite.proofs.lemmas.tuple_counts.GroupSteps.{same-next}
+use Rattle.agg_composite.proofs.tuple_counts.grouped.grouped.Goals as goal
 
 pub loop-next-init : goal.loop-next-init
 loop-next-init g c =

@@ -1,5 +1,5 @@
-use Rattle.agg_tuple_counts.proofs.GroupSteps.{AreGrouped}
-use Rattle.agg_tuple_counts.proofs.grouped.grouped.Given as goal
+use Rattle.agg_composite.proofs.lemmas.tuple_counts.GroupSteps.{AreGrouped}
+use Rattle.agg_composite.proofs.tuple_counts.grouped.grouped.Given as goal
 
 -- the groups so far, and the one that grows, with the counts that are still to come
 abbrev pub invariant-loop-next : goal.invariant-loop-next

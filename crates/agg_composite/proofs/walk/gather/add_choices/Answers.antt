@@ -1,6 +1,6 @@
 use Rattle.std.proofs.Common.{◌≡◌, ◌∙◌, length, sym}
 use Rattle.agg_request_tree.specs.Source.{missing_bucket_of}
-use Rattle.agg_accessor.specs.Accessors.{keys_read}
+use Rattle.agg_composite.specs.accessor.Accessors.{keys_read}
 use Rattle.agg_composite.proofs.NullChoices.{nothing-chosen, null-chosen, values-chosen}
 use Rattle.agg_composite.proofs.walk.gather.add_choices.Goals as goal
 

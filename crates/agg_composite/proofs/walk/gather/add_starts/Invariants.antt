@@ -1,6 +1,6 @@
 use Rattle.std.proofs.Common.{◌≡◌, ◌++◌, map, take}
 use Rattle.agg_composite.specs.Choices.{choice_at}
-use Rattle.agg_accessor.specs.Starts.{lane_number}
+use Rattle.agg_composite.specs.accessor.Starts.{lane_number}
 use Rattle.agg_composite.proofs.walk.gather.add_starts.Given as goal
 
 abbrev pub invariant-loop-number : goal.invariant-loop-number

@@ -1,5 +1,5 @@
 use Rattle.std.proofs.Common.{[], ◌∷◌, ◌+◌, ◌∙◌, Ok, Err, ap, false, refl, subst}
-use Rattle.agg_accessor.proofs.EncodedOrder.{tuple-exact}
+use Rattle.agg_composite.proofs.lemmas.accessor.EncodedOrder.{tuple-exact}
 use Rattle.agg_composite.specs.Listing.{AnswersTuples, CountsTuples}
 use Rattle.agg_composite.proofs.ListedTuples.{Pass, above-none, above-one, above_of, counted-tuples}
 use Rattle.agg_composite.proofs.ListedTuples.{tuple-counted, tuple-refused}

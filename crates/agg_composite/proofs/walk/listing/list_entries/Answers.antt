@@ -1,5 +1,5 @@
 use Rattle.std.proofs.Common.{Err, ap}
-use Rattle.agg_accessor.proofs.EncodedOrder.{tuple-exact}
+use Rattle.agg_composite.proofs.lemmas.accessor.EncodedOrder.{tuple-exact}
 use Rattle.agg_composite.proofs.ListedEntries.{accessors-long, listed-all, listed-uncounted}
 use Rattle.agg_composite.proofs.ListedEntries.{listed-ungrouped}
 use Rattle.agg_composite.proofs.walk.listing.list_entries.Goals as goal

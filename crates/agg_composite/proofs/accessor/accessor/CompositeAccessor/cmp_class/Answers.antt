@@ -1,7 +1,7 @@
 use Rattle.std.proofs.Common.{◌≡◌, ◌∙◌}
 use Rattle.agg_values.specs.contracts.column.ColumnPaginationOrderOrd.TheImpl.{ghosts}
-use Rattle.agg_accessor.proofs.ClassRanks.{classes-compare}
-use Rattle.agg_accessor.proofs.accessor.CompositeAccessor.cmp_class.Goals as goal
+use Rattle.agg_composite.proofs.lemmas.accessor.ClassRanks.{classes-compare}
+use Rattle.agg_composite.proofs.accessor.accessor.CompositeAccessor.cmp_class.Goals as goal
 
 pub returns : goal.returns
 returns c key is =

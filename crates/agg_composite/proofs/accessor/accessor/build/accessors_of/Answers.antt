@@ -1,6 +1,6 @@
 use Rattle.std.proofs.Common.{◌∙◌, sym}
-use Rattle.agg_accessor.proofs.AccessorColumns.{read_more}
-use Rattle.agg_accessor.proofs.accessor.build.accessors_of.Goals as goal
+use Rattle.agg_composite.proofs.lemmas.accessor.AccessorColumns.{read_more}
+use Rattle.agg_composite.proofs.accessor.accessor.build.accessors_of.Goals as goal
 
 pub loop-column-preserved : goal.loop-column-preserved
 loop-column-preserved c = record {

@@ -1,8 +1,8 @@
 use Rattle.std.proofs.Common.{◌≡◌, take}
 use Rattle.std.specs.List.{All}
-use Rattle.agg_accessor.specs.Accessors.{IsAccessorOf, columns_read}
-use Rattle.agg_accessor.specs.Lanes.{columns_of}
-use Rattle.agg_accessor.proofs.accessor.build.accessors_of.Given as goal
+use Rattle.agg_composite.specs.accessor.Accessors.{IsAccessorOf, columns_read}
+use Rattle.agg_composite.specs.accessor.Lanes.{columns_of}
+use Rattle.agg_composite.proofs.accessor.accessor.build.accessors_of.Given as goal
 
 abbrev pub invariant-loop-column : goal.invariant-loop-column
 invariant-loop-column l = record {

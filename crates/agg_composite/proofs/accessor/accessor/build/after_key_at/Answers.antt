@@ -2,11 +2,11 @@ use Rattle.std.proofs.Common.{◌≡◌, sym, subst}
 use Rattle.agg_values.specs.KeyOrder.{key_order}
 use Rattle.agg_values.specs.declared.order.MissingOrder.{MissingOrder}
 use Rattle.agg_values.specs.declared.order.Order.{Order}
-use Rattle.agg_column.specs.Columns.{StandsForKey, encoded_key}
-use Rattle.agg_column.specs.declared.keys.ColumnKeys.{ColumnKeys}
-use Rattle.agg_accessor.specs.AfterKey.{projected_side}
-use Rattle.agg_accessor.proofs.LaneKeys.{numbers-lane}
-use Rattle.agg_accessor.proofs.accessor.build.after_key_at.Goals as goal
+use Rattle.agg_segment.specs.storage.Columns.{StandsForKey, encoded_key}
+use Rattle.agg_segment.specs.declared.storage.keys.ColumnKeys.{ColumnKeys}
+use Rattle.agg_composite.specs.accessor.AfterKey.{projected_side}
+use Rattle.agg_composite.proofs.lemmas.accessor.LaneKeys.{numbers-lane}
+use Rattle.agg_composite.proofs.accessor.accessor.build.after_key_at.Goals as goal
 
 pub returns-in-Histogram : goal.returns-in-Histogram
 returns-in-Histogram c = λ number l stands.

@@ -1,8 +1,8 @@
 use Rattle.std.proofs.Common.{◌∙◌, sym}
 use Rattle.agg_values.specs.declared.order.Order.TheVariants.{Desc}
-use Rattle.agg_accessor.specs.Lanes.{columns_of, in_requested}
-use Rattle.agg_accessor.proofs.AccessorColumns.{columns-reversed}
-use Rattle.agg_accessor.proofs.accessor.build.in_requested_order.Goals as goal
+use Rattle.agg_composite.specs.accessor.Lanes.{columns_of, in_requested}
+use Rattle.agg_composite.proofs.lemmas.accessor.AccessorColumns.{columns-reversed}
+use Rattle.agg_composite.proofs.accessor.accessor.build.in_requested_order.Goals as goal
 
 pub returns-in-Desc-clause-columns : goal.returns-in-Desc-clause-columns
 returns-in-Desc-clause-columns c =

@@ -1,19 +1,23 @@
-use Rattle.std.proofs.Common.{◌≡◌, ◌++◌, ◌∷◌, [], ℕ, Bool, Some, cond, true, ap, ◌∙◌, sym}
+use Rattle.std.proofs.Common.{◌≡◌, ◌++◌, ◌∷◌, [], ℕ, ℤ, All, Bool, FitsSigned, Some, cond, true, ap}
+use Rattle.std.proofs.Common.{◌∙◌, rules, subst, sym}
+use Rattle.std.specs.Int.{w64}
+use Rattle.std.proofs.lemmas.Int.{to_z-of_z}
 use Rattle.std.proofs.lemmas.List.{append-nil, map-append}
 use Rattle.std.proofs.lemmas.List.Elements.{All-push}
 use Rattle.agg_values.specs.Column.{class_of}
 use Rattle.agg_values.specs.declared.column.ColumnPaginationOrder.{ColumnPaginationOrder}
-use Rattle.agg_column.specs.Columns.{StoredColumn, encoded_key, type_class, type_of}
-use Rattle.agg_column.specs.declared.keys.ColumnKeys.{ColumnKeys}
-use Rattle.agg_column.specs.declared.keys.ColumnKeys.TheVariants.{Bools, Texts, Signed, Unsigned}
-use Rattle.agg_column.specs.declared.keys.ColumnKeys.TheVariants.{Addresses, Dates}
+use Rattle.agg_segment.specs.storage.Columns.{StoredColumn, encoded_key, type_class, type_of}
+use Rattle.agg_segment.specs.declared.storage.keys.ColumnKeys.{ColumnKeys}
+use Rattle.agg_segment.specs.declared.storage.keys.ColumnKeys.TheVariants.{Bools, Texts, Signed}
+use Rattle.agg_segment.specs.declared.storage.keys.ColumnKeys.TheVariants.{Unsigned, Addresses}
+use Rattle.agg_segment.specs.declared.storage.keys.ColumnKeys.TheVariants.{Dates}
 use Rattle.agg_request_tree.specs.SourceColumns.{reads_class, reads_type}
 use Rattle.agg_request_tree.specs.declared.source.CompositeAggregationSource as kind
 use kind.{CompositeAggregationSource}
-use Rattle.agg_accessor.specs.Accessors.{IsAccessorOf, columns_read}
-use Rattle.agg_accessor.specs.Lanes.{columns_of}
-use Rattle.agg_accessor.specs.declared.accessor.CompositeAccessor.{CompositeAccessor}
-use Rattle.agg_accessor.proofs.accessor.build.push_if_read.Goals as goal
+use Rattle.agg_composite.specs.accessor.Accessors.{IsAccessorOf, columns_read}
+use Rattle.agg_composite.specs.accessor.Lanes.{columns_of}
+use Rattle.agg_composite.specs.declared.accessor.accessor.CompositeAccessor.{CompositeAccessor}
+use Rattle.agg_composite.proofs.accessor.accessor.build.push_if_read.Goals as goal
 
 -- the class of a column's keys is that of its type
 type_class-keys : (keys : ColumnKeys) (class : ColumnPaginationOrder)
@@ -56,10 +60,16 @@ returns-clause-columns c =
     let column = c.args.column.now in
     let others = c.args.accessors.now.items in
     let class = c.column_pagination_order in
-    let accessor : CompositeAccessor =
-    record { column = c.args.column; date_histogram_interval = c.args.interval } in
+    let fits : FitsSigned w64 c.args.division.1 = search rules in
+    let accessor : ℤ → CompositeAccessor =
+    λ offset. record {
+      column = c.args.column;
+      date_histogram_interval = c.args.division.0;
+      date_offset_ns = offset;
+    } in
     ap columns_of c.in_ok-push.ensures.items
-    ∙ map-append (λ (a : CompositeAccessor). a.column.now) others (accessor ∷ [])
+    ∙ ap (λ o. columns_of (others ++ accessor o ∷ [])) (to_z-of_z w64 c.args.division.1 fits)
+    ∙ map-append (λ (a : CompositeAccessor). a.column.now) others (accessor c.args.division.1 ∷ [])
     ∙ ap (λ cs. columns_of others ++ cs) (sym (read-one source column true
     (reads-class source column.keys class.result _ class.ensures.class c.reads.ensures
     ∙ c.if-not-reads.false)))
@@ -67,14 +77,21 @@ returns-clause-columns c =
 pub returns-clause-each : goal.returns-clause-each
 returns-clause-each c =
     let source = c.args.source.now in
+    let others = c.args.accessors.now.items in
     let class = c.column_pagination_order in
-    let accessor : CompositeAccessor =
-    record { column = c.args.column; date_histogram_interval = c.args.interval } in
-    let own : IsAccessorOf source accessor = record {
-      interval = c.requires.interval;
+    let fits : FitsSigned w64 c.args.division.1 = search rules in
+    let accessor : ℤ → CompositeAccessor =
+    λ offset. record {
+      column = c.args.column;
+      date_histogram_interval = c.args.division.0;
+      date_offset_ns = offset;
+    } in
+    let own : IsAccessorOf source (accessor c.args.division.1) = record {
+      division = c.requires.division;
       reads = reads-class source c.args.column.now.keys class.result _ class.ensures.class
           c.reads.ensures ∙ c.if-not-reads.false;
       order = class.ensures.order;
     } in
-    rw c.in_ok-push.ensures.items (All-push (IsAccessorOf source) c.args.accessors.now.items
-    accessor c.requires.each own)
+    subst (All (IsAccessorOf source)) (sym (c.in_ok-push.ensures.items
+    ∙ ap (λ o. others ++ accessor o ∷ []) (to_z-of_z w64 c.args.division.1 fits)))
+    (All-push (IsAccessorOf source) others (accessor c.args.division.1) c.requires.each own)

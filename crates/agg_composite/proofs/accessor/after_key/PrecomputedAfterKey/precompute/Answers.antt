@@ -1,10 +1,13 @@
 use Rattle.std.proofs.Common.{◌≡◌, ◌∙◌, Some, sym}
 use Rattle.agg_values.specs.Column.{class_of}
 use Rattle.agg_values.specs.TypedKey.{CompositeIntermediateKey}
-use Rattle.agg_accessor.specs.declared.after_key.PrecomputedAfterKey.TheVariants.{AfterLast, Next}
-use Rattle.agg_accessor.proofs.ClassRanks.{some_class}
-use Rattle.agg_accessor.proofs.Places.{class_above, class_below, requested_side}
-use Rattle.agg_accessor.proofs.after_key.PrecomputedAfterKey.precompute.Goals as goal
+use Rattle.agg_composite.specs.declared.accessor.after_key.PrecomputedAfterKey.TheVariants.{
+  AfterLast,
+}
+use Rattle.agg_composite.specs.declared.accessor.after_key.PrecomputedAfterKey.TheVariants.{Next}
+use Rattle.agg_composite.proofs.lemmas.accessor.ClassRanks.{some_class}
+use Rattle.agg_composite.proofs.lemmas.accessor.Places.{class_above, class_below, requested_side}
+use Rattle.agg_composite.proofs.accessor.after_key.PrecomputedAfterKey.precompute.Goals as goal
 
 pub returns-in-Less : goal.returns-in-Less
 returns-in-Less c =

@@ -1,5 +1,5 @@
-use Rattle.agg_accessor.proofs.Places.{address_place}
-use Rattle.agg_accessor.proofs.after_key.precompute.precompute_address.Goals as goal
+use Rattle.agg_composite.proofs.lemmas.accessor.Places.{address_place}
+use Rattle.agg_composite.proofs.accessor.after_key.precompute.precompute_address.Goals as goal
 
 pub returns : goal.returns
 returns c =

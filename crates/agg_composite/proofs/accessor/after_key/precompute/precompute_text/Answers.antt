@@ -1,5 +1,5 @@
-use Rattle.agg_accessor.proofs.Places.{text_place}
-use Rattle.agg_accessor.proofs.after_key.precompute.precompute_text.Goals as goal
+use Rattle.agg_composite.proofs.lemmas.accessor.Places.{text_place}
+use Rattle.agg_composite.proofs.accessor.after_key.precompute.precompute_text.Goals as goal
 
 pub returns : goal.returns
 returns c =

@@ -2,10 +2,13 @@ use Rattle.std.proofs.Common.{List, Bool, true, false, length, refl, sym, ap, �
 use Rattle.std.proofs.lemmas.Slice.Zip.{AllZip-long}
 use Rattle.std.specs.Prelude.{◌↔◌, IsTrue, MatchBool}
 use Rattle.agg_request_tree.specs.Source.{Sources, after_of}
-use Rattle.agg_accessor.specs.Accessors.{AllFit, AreAccessorsOf}
-use Rattle.agg_accessor.specs.Ranges.{AreAllInRange}
-use Rattle.agg_accessor.specs.declared.accessor.CompositeSourceAccessors.{CompositeSourceAccessors}
-use Rattle.agg_accessor.proofs.request_data.CompositeAggReqData.are_starts_in_range.Goals as goal
+use Rattle.agg_composite.specs.accessor.Accessors.{AllFit, AreAccessorsOf}
+use Rattle.agg_composite.specs.accessor.Ranges.{AreAllInRange}
+use Rattle.agg_composite.specs.declared.accessor.accessor.CompositeSourceAccessors.{
+  CompositeSourceAccessors,
+}
+use Rattle.agg_composite.proofs.accessor.request_data.CompositeAggReqData.are_starts_in_range.Goals
+    as goal
 
 -- a test that tells a fact
 told : (b : Bool) (fact : Type 0) → (IsTrue b ↔ fact) → MatchBool b fact (¬ fact)

@@ -4,9 +4,12 @@ use Rattle.agg_segment.specs.Segment.{documents_at}
 use Rattle.agg_request_tree.specs.Occurrences.{occurrences_in}
 use Rattle.agg_request_tree.specs.Source.{Sources, after_of}
 use Rattle.agg_request_tree.proofs.UncutLength.{length-counted}
-use Rattle.agg_accessor.specs.Accessors.{AllFit, AreAccessorsOf}
-use Rattle.agg_accessor.specs.declared.accessor.CompositeSourceAccessors.{CompositeSourceAccessors}
-use Rattle.agg_accessor.proofs.request_data.CompositeAggReqData.count_occurrences.Goals as goal
+use Rattle.agg_composite.specs.accessor.Accessors.{AllFit, AreAccessorsOf}
+use Rattle.agg_composite.specs.declared.accessor.accessor.CompositeSourceAccessors.{
+  CompositeSourceAccessors,
+}
+use Rattle.agg_composite.proofs.accessor.request_data.CompositeAggReqData.count_occurrences.Goals
+    as goal
 
 pub count_occurrences-requires : goal.count_occurrences-requires
 count_occurrences-requires c =

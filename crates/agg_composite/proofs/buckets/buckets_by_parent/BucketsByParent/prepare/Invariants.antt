@@ -1,6 +1,6 @@
 use Rattle.std.proofs.Common.{◌+◌, ◌-◌, ◌<◌, length}
-use Rattle.agg_buckets.specs.Node.{Counts, Prepares}
-use Rattle.agg_buckets.proofs.buckets_by_parent.BucketsByParent.prepare.Given as goal
+use Rattle.agg_composite.specs.buckets.Node.{Counts, Prepares}
+use Rattle.agg_composite.proofs.buckets.buckets_by_parent.BucketsByParent.prepare.Given as goal
 
 abbrev pub invariant-loop-self : goal.invariant-loop-self
 invariant-loop-self g l = record {

@@ -3,12 +3,12 @@ use Rattle.std.proofs.Common.{subst}
 use Rattle.std.specs.BTreeMap.{is_at}
 use Rattle.std.specs.Map.{lookup}
 use Rattle.std.proofs.lemmas.List.{get_or_default}
-use Rattle.agg_buckets.specs.Node.{Node, Takes, TooManyVisits}
-use Rattle.agg_buckets.specs.Page.{PageTakes}
-use Rattle.agg_buckets.specs.declared.visit_error.VisitError.TheVariants.{TooMany}
-use Rattle.agg_buckets.proofs.Errors.{error-kept}
-use Rattle.agg_buckets.proofs.NodeVisits.{takes-none, takes-some}
-use Rattle.agg_buckets.proofs.buckets_by_parent.BucketsByParent.visit.Goals as goal
+use Rattle.agg_composite.specs.buckets.Node.{Node, Takes, TooManyVisits}
+use Rattle.agg_composite.specs.buckets.Page.{PageTakes}
+use Rattle.agg_composite.specs.declared.buckets.visit_error.VisitError.TheVariants.{TooMany}
+use Rattle.agg_composite.proofs.lemmas.buckets.Errors.{error-kept}
+use Rattle.agg_composite.proofs.lemmas.buckets.NodeVisits.{takes-none, takes-some}
+use Rattle.agg_composite.proofs.buckets.buckets_by_parent.BucketsByParent.visit.Goals as goal
 
 pub returns-in_err-id-clause-too_many : goal.returns-in_err-id-clause-too_many
 returns-in_err-id-clause-too_many g c = λ e.

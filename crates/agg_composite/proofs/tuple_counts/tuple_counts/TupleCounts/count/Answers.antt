@@ -1,8 +1,8 @@
 use Rattle.std.proofs.Common.{◌≡◌, ◌∙◌, ap}
-use Rattle.agg_buckets.specs.Cut.{add_count}
-use Rattle.agg_tuple_counts.specs.Counted.{counted}
-use Rattle.agg_tuple_counts.proofs.CountTurns.{counted-last}
-use Rattle.agg_tuple_counts.proofs.tuple_counts.TupleCounts.count.Goals as goal
+use Rattle.agg_composite.specs.buckets.Cut.{add_count}
+use Rattle.agg_composite.specs.tuple_counts.Counted.{counted}
+use Rattle.agg_composite.proofs.lemmas.tuple_counts.CountTurns.{counted-last}
+use Rattle.agg_composite.proofs.tuple_counts.tuple_counts.TupleCounts.count.Goals as goal
 use goal.{then-len-self+in_ok-group, else-len-self}
 
 pub returns-clause-ok : goal.returns-clause-ok

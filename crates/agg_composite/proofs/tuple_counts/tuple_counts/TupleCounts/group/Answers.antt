@@ -1,9 +1,9 @@
 use Rattle.std.proofs.Common.{◌∙◌, ◌≤◌, ◌^◌, ap, subst, sym}
-use Rattle.agg_buckets.specs.declared.visit_error.VisitError.TheVariants.{TooMany}
-use Rattle.agg_buckets.proofs.Errors.{error-kept}
-use Rattle.agg_tuple_counts.specs.Counted.{counted}
-use Rattle.agg_tuple_counts.proofs.CountSums.{total-counted, total_of}
-use Rattle.agg_tuple_counts.proofs.tuple_counts.TupleCounts.group.Goals as goal
+use Rattle.agg_composite.specs.declared.buckets.visit_error.VisitError.TheVariants.{TooMany}
+use Rattle.agg_composite.proofs.lemmas.buckets.Errors.{error-kept}
+use Rattle.agg_composite.specs.tuple_counts.Counted.{counted}
+use Rattle.agg_composite.proofs.lemmas.tuple_counts.CountSums.{total-counted, total_of}
+use Rattle.agg_composite.proofs.tuple_counts.tuple_counts.TupleCounts.group.Goals as goal
 
 pub returns-clause-ok : goal.returns-clause-ok
 returns-clause-ok g c =

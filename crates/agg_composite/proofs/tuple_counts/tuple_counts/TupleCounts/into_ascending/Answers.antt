@@ -1,8 +1,8 @@
 use Rattle.std.proofs.Common.{◌∙◌, ◌≤◌, ◌^◌, ap, subst, sym}
-use Rattle.agg_buckets.specs.declared.visit_error.VisitError.TheVariants.{TooMany}
-use Rattle.agg_buckets.proofs.Errors.{error-kept}
-use Rattle.agg_tuple_counts.proofs.CountSums.{total-counted, total_of}
-use Rattle.agg_tuple_counts.proofs.tuple_counts.TupleCounts.into_ascending.Goals as goal
+use Rattle.agg_composite.specs.declared.buckets.visit_error.VisitError.TheVariants.{TooMany}
+use Rattle.agg_composite.proofs.lemmas.buckets.Errors.{error-kept}
+use Rattle.agg_composite.proofs.lemmas.tuple_counts.CountSums.{total-counted, total_of}
+use Rattle.agg_composite.proofs.tuple_counts.tuple_counts.TupleCounts.into_ascending.Goals as goal
 
 pub returns-in_err-lowest-clause-too_many : goal.returns-in_err-lowest-clause-too_many
 returns-in_err-lowest-clause-too_many g c = λ e.

@@ -1,0 +1,3 @@
+pub mod accessor
+pub mod buckets
+pub mod tuple_counts
