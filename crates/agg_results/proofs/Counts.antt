@@ -63,7 +63,7 @@ module _ {K : Type 0} (R : K → K → Ordering) (total : IsTotalOrder R) where
   add-end (e ∷ es) k n below =
       rw (reversed e.0 k Less below.0) (ap (λ fs. e ∷ fs) (add-end es k n below.1))
 
-  -- the same, with each key said by its place
+  -- more of a key stands at the end, where each key, told by its place, is below it
   pub add-above : (es : List (K × ℕ)) (k : K) (n : ℕ) → All (λ l. R l k ≡ Less) (keys_of es)
       → add_count R es k n ≡ es ++ (k, n) ∷ []
   add-above es k n below =

@@ -10,7 +10,7 @@ use Rattle.std.specs.Option.{option_map}
 use Rattle.std.proofs.lemmas.List.Elements.{All-contains_itself}
 use Rattle.std.proofs.lemmas.Map.Made.{keys_of-map_values, lookup-map_values}
 use Rattle.agg_values.specs.Names.{name_cmp, value_of}
-use Rattle.agg_column.specs.Document.{Fields}
+use Rattle.agg_segment.specs.storage.Document.{Fields}
 use Rattle.agg_request_tree.specs.Names.{NamesAscend, NamesAscendTo}
 use Rattle.agg_request_tree.specs.Request.{Request, agg_of, below_of}
 use Rattle.agg_request_tree.specs.Source.{rules_of}
@@ -18,12 +18,13 @@ use Rattle.agg_request_tree.specs.declared.aggregation.Aggregation.{Aggregation}
 use Rattle.agg_request_tree.specs.declared.aggregation.Aggregation.TheFolds.{fold_out-Aggregation}
 use Rattle.agg_request_tree.specs.declared.aggregation.AggregationVariants.{AggregationVariants}
 use Rattle.agg_request_tree.specs.declared.aggregation.AggregationVariants.TheVariants as asks
-use Rattle.agg_intermediate_results.specs.Empty.{empty_by, empty_result, empty_results}
-use Rattle.agg_intermediate_results.specs.Intermediate.{Held, composite_of, parts_of}
-use Rattle.agg_intermediate_results.specs.declared as declared
+use Rattle.agg_results.specs.intermediate_results.Empty.{empty_by, empty_result, empty_results}
+use Rattle.agg_results.specs.intermediate_results.Intermediate.{Held, composite_of, parts_of}
+use Rattle.agg_results.specs.declared.intermediate_results as declared
 use declared.results.IntermediateAggregationResult.{IntermediateAggregationResult}
 use Rattle.agg_results.specs.StandsFor.{NamesStand, PartsStand, StandsFor, StandsTo}
-use Rattle.agg_intermediate_results.proofs.ResultParts.{parts-composite, parts-filter}
+use Rattle.agg_results.proofs.lemmas.intermediate_results.ResultParts.{parts-composite}
+use Rattle.agg_results.proofs.lemmas.intermediate_results.ResultParts.{parts-filter}
 use Rattle.agg_results.proofs.NameLookups.{value-found}
 use Rattle.agg_results.proofs.StandingComposites.{stands-empty}
 

@@ -8,7 +8,7 @@ use Rattle.std.proofs.lemmas.Bool.{cond_both}
 use Rattle.std.proofs.lemmas.List.{take-map, take_all}
 use Rattle.std.proofs.lemmas.List.Elements.{All-take, recursion_from_All}
 use Rattle.agg_values.specs.Names.{Named}
-use Rattle.agg_column.specs.Document.{Fields}
+use Rattle.agg_segment.specs.storage.Document.{Fields}
 use Rattle.agg_request_tree.specs.Matching.{matching}
 use Rattle.agg_request_tree.specs.Occurrences.{bound_of}
 use Rattle.agg_request_tree.specs.Page.{IsPage, count_in, documents_with, entry_of}
@@ -19,19 +19,21 @@ use Rattle.agg_request_tree.specs.declared.aggregation.AggregationVariants.TheVa
 use Rattle.agg_request_tree.specs.declared.aggregation.CompositeAggregation.{CompositeAggregation}
 use Rattle.agg_request_tree.proofs.PageFromGroups.{Groups-nothing, IsPage-from_groups}
 use Rattle.agg_request_tree.proofs.PageFromGroups.{groups-entries}
-use Rattle.agg_metric_results.specs.MetricShown.{final_metric, shown_count, shown_max, shown_min}
-use Rattle.agg_metric_results.specs.MetricShown.{shown_sum}
-use Rattle.agg_metric_results.specs.declared.metric.IntermediateMetricResult as metrics
+use Rattle.agg_results.specs.metric_results.MetricShown.{final_metric, shown_count, shown_max}
+use Rattle.agg_results.specs.metric_results.MetricShown.{shown_min, shown_sum}
+use Rattle.agg_results.specs.declared.metric_results.metric.IntermediateMetricResult as metrics
 use metrics.{IntermediateMetricResult}
 use metrics.TheVariants as m
-use Rattle.agg_intermediate_results.specs.Final.{Finish, final_bucket, final_by}
-use Rattle.agg_intermediate_results.specs.Final.{final_nothing, final_page, finish_all, lowest_of}
-use Rattle.agg_intermediate_results.specs.Intermediate.{Entries, Held, Parts, TupleEntry}
-use Rattle.agg_intermediate_results.specs.Intermediate.{below_entry, composite, counts_of}
-use Rattle.agg_intermediate_results.specs.Intermediate.{entries_of, filter, metric}
-use Rattle.agg_intermediate_results.specs.Intermediate.{target_size_of}
-use Rattle.agg_intermediate_results.specs.Shown.{Results, last_tuple, shown_filter, shown_page}
-use Rattle.agg_intermediate_results.specs.declared as declared
+use Rattle.agg_results.specs.intermediate_results.Final.{Finish, final_bucket, final_by}
+use Rattle.agg_results.specs.intermediate_results.Final.{final_nothing, final_page, finish_all}
+use Rattle.agg_results.specs.intermediate_results.Final.{lowest_of}
+use Rattle.agg_results.specs.intermediate_results.Intermediate.{Entries, Held, Parts, TupleEntry}
+use Rattle.agg_results.specs.intermediate_results.Intermediate.{below_entry, composite, counts_of}
+use Rattle.agg_results.specs.intermediate_results.Intermediate.{entries_of, filter, metric}
+use Rattle.agg_results.specs.intermediate_results.Intermediate.{target_size_of}
+use Rattle.agg_results.specs.intermediate_results.Shown.{Results, last_tuple, shown_filter}
+use Rattle.agg_results.specs.intermediate_results.Shown.{shown_page}
+use Rattle.agg_results.specs.declared.intermediate_results as declared
 use declared.composite.IntermediateCompositeBucketResult.{IntermediateCompositeBucketResult}
 use Rattle.agg_results.specs.Results.{IsBucket, IsPageShown, IsResult}
 use Rattle.agg_results.specs.StandsFor.{CompositeStands, EntryStands, HasShapeOf, MetricStands}

@@ -4,18 +4,18 @@ use Rattle.std.proofs.Common.{map, refl, sym, ap, subst, arith, Bool}
 use Rattle.std.specs.List.{AllByRecursion}
 use Rattle.std.proofs.lemmas.List.Elements.{recursion_from_All}
 use Rattle.agg_values.specs.Names.{Named, value_of}
-use Rattle.agg_column.specs.Document.{Fields}
+use Rattle.agg_segment.specs.storage.Document.{Fields}
 use Rattle.agg_request_tree.specs.Request.{Request, agg_of, below_of}
 use Rattle.agg_request_tree.specs.declared.aggregation.Aggregation.{Aggregation}
 use Rattle.agg_request_tree.specs.declared.aggregation.Aggregation.TheFolds.{fold_out-Aggregation}
-use Rattle.agg_intermediate_results.specs.Final.{Finish, final_by_name}
-use Rattle.agg_intermediate_results.specs.Final.{final_result, final_results, final_step}
-use Rattle.agg_intermediate_results.specs.Final.{finish_all}
-use Rattle.agg_intermediate_results.specs.Intermediate.{Held}
-use Rattle.agg_intermediate_results.specs.Intermediate.{parts_of}
-use Rattle.agg_intermediate_results.specs.declared as declared
+use Rattle.agg_results.specs.intermediate_results.Final.{Finish, final_by_name}
+use Rattle.agg_results.specs.intermediate_results.Final.{final_result, final_results, final_step}
+use Rattle.agg_results.specs.intermediate_results.Final.{finish_all}
+use Rattle.agg_results.specs.intermediate_results.Intermediate.{Held}
+use Rattle.agg_results.specs.intermediate_results.Intermediate.{parts_of}
+use Rattle.agg_results.specs.declared.intermediate_results as declared
 use declared.results.IntermediateAggregationResult.{IntermediateAggregationResult}
-use Rattle.agg_final_results.specs.declared.types.AggregationResult.{AggregationResult}
+use Rattle.agg_results.specs.declared.final_results.types.AggregationResult.{AggregationResult}
 use Rattle.agg_results.specs.Results.{AreResults, EachHas}
 use Rattle.agg_results.specs.Results.{IsResultTo}
 use Rattle.agg_results.specs.StandsFor.{NamesStand, StandsFor, StandsTo}

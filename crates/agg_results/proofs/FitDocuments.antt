@@ -4,7 +4,7 @@ use Rattle.std.proofs.Common.{FitsSigned}
 use mir.Syntax.{w128}
 use Rattle.std.specs.List.{AllByRecursion, filter_map, flat_map}
 use Rattle.std.proofs.lemmas.List.Elements.{filter_map-append}
-use Rattle.agg_column.specs.Document.{Fields}
+use Rattle.agg_segment.specs.storage.Document.{Fields}
 use Rattle.agg_request_tree.specs.Metrics.{number_of, numbers_of, sum_of, values_of_field}
 use Rattle.agg_request_tree.proofs.Lists.{AllByRecursion-Has, AllByRecursion-append}
 use Rattle.agg_request_tree.proofs.Lists.{AllByRecursion-from_Has, Has, Has-append_left}

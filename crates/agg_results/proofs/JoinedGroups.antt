@@ -9,7 +9,7 @@ use Rattle.std.proofs.lemmas.List.Sums.{sum_by-append, sum_by-cons}
 use Rattle.agg_values.specs.KeyOrder.{tuple_order}
 use Rattle.agg_values.specs.Tuple.{KeyTuple}
 use Rattle.agg_values.proofs.TupleOrder.{tuple_order-total}
-use Rattle.agg_column.specs.Document.{Fields}
+use Rattle.agg_segment.specs.storage.Document.{Fields}
 use Rattle.agg_request_tree.specs.Groups.{Group}
 use Rattle.agg_request_tree.specs.Occurrences.{occurrences, occurrences_in, past_occurrences}
 use Rattle.agg_request_tree.specs.Occurrences.{same_tuple}

@@ -8,10 +8,10 @@ use Rattle.agg_values.specs.Tuple.{KeyTuple}
 use Rattle.agg_request_tree.specs.Groups.{Group}
 use Rattle.agg_request_tree.proofs.Lists.{AllByRecursion-weaker}
 use Rattle.agg_results.proofs.MergedCounts.{merge, merge-nothing}
-use Rattle.agg_intermediate_results.specs.Intermediate.{Entries, TupleEntry}
-use Rattle.agg_intermediate_results.specs.Intermediate.{counts_of}
-use Rattle.agg_intermediate_results.specs.Merging.{ByOrder, JoinEntries}
-use Rattle.agg_intermediate_results.specs.declared as intermediate
+use Rattle.agg_results.specs.intermediate_results.Intermediate.{Entries, TupleEntry}
+use Rattle.agg_results.specs.intermediate_results.Intermediate.{counts_of}
+use Rattle.agg_results.specs.intermediate_results.Merging.{ByOrder, JoinEntries}
+use Rattle.agg_results.specs.declared.intermediate_results as intermediate
 use intermediate.entry.IntermediateTermBucketEntry.{IntermediateTermBucketEntry}
 
 abbrev Entry : Type 0

@@ -29,3 +29,4 @@ pub mod StandingGroups
 pub mod StandingRefusals
 pub mod StandingResults
 pub mod UncutParts
+pub mod lemmas

@@ -185,7 +185,7 @@ module _ {K : Type 0} (R : K → K → Ordering) (total : IsTotalOrder R) where
     all-merge (e ∷ es) fs all_es all_fs =
         all-merge-first e es all_es.0 (λ gs all. all-merge es gs all_es.1 all) fs all_fs
 
-    -- the same of counts added one by one
+    -- of counts added one by one, and of the sum where keys are tied
     pub all-merged : (es fs : List (K × ℕ)) → Ascend R fs → All P es → All Q fs
         → All S (merged R es fs)
     all-merged es fs up all_es all_fs =

@@ -2,11 +2,11 @@
 use Rattle.std.proofs.Common.{◌≡◌, Bool, List, [], ◌++◌, append_assoc, sym, subst}
 use Rattle.std.specs.List.Sorted.{IsPermutation}
 use Rattle.std.proofs.lemmas.List.Sorted.{IsPermutation-append_comm, IsPermutation-refl}
-use Rattle.agg_column.specs.Document.{Fields}
+use Rattle.agg_segment.specs.storage.Document.{Fields}
 use Rattle.agg_request_tree.specs.Request.{Request}
-use Rattle.agg_intermediate_results.specs.Final.{final_results}
-use Rattle.agg_intermediate_results.specs.Intermediate.{Held}
-use Rattle.agg_intermediate_results.specs.Merging.{AreMerged}
+use Rattle.agg_results.specs.intermediate_results.Final.{final_results}
+use Rattle.agg_results.specs.intermediate_results.Intermediate.{Held}
+use Rattle.agg_results.specs.intermediate_results.Merging.{AreMerged}
 use Rattle.agg_results.specs.StandsFor.{StandsFor}
 use Rattle.agg_results.proofs.FinalResults.{StandsFor-final}
 use Rattle.agg_results.proofs.ListOrders.{IsReordering-from_permutation}

@@ -1,14 +1,14 @@
 -- Metrics over two lists of documents.
 use Rattle.std.proofs.Common.{List, ◌++◌, sym, ap, ◌∙◌, ◌+◌, ◌+ℤ◌}
 use Rattle.std.specs.Int.{int_max, int_min}
-use Rattle.agg_column.specs.Document.{Fields}
+use Rattle.agg_segment.specs.storage.Document.{Fields}
 use Rattle.agg_request_tree.specs.Metrics.{best, best_of, numbers_of, sum_of}
 use Rattle.agg_request_tree.specs.declared.aggregation.AggregationVariants.{AggregationVariants}
 use Rattle.agg_request_tree.specs.declared.aggregation.AggregationVariants.TheVariants as asks
 use Rattle.agg_request_tree.proofs.Metrics.{best-append, count-append, max-assoc, min-assoc}
 use Rattle.agg_request_tree.proofs.Metrics.{numbers-append, sum-append}
-use Rattle.agg_metric_results.specs.MetricMerging.{MetricsDiffer, MetricsMerged}
-use Rattle.agg_metric_results.specs.declared.metric.IntermediateMetricResult as metrics
+use Rattle.agg_results.specs.metric_results.MetricMerging.{MetricsDiffer, MetricsMerged}
+use Rattle.agg_results.specs.declared.metric_results.metric.IntermediateMetricResult as metrics
 use metrics.{IntermediateMetricResult}
 use metrics.TheVariants as m
 use Rattle.agg_results.specs.StandsFor.{MetricStands}

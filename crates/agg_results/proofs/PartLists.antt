@@ -4,7 +4,7 @@ use Rattle.std.proofs.Common.{Bool, true, false, cond, map, replicate, refl, sym
 use Rattle.std.specs.List.{AllByRecursion, count_by, filter}
 use Rattle.std.proofs.lemmas.List.Sums.{count_by-le-length}
 use Rattle.agg_values.specs.Tuple.{KeyTuple}
-use Rattle.agg_column.specs.Document.{Fields}
+use Rattle.agg_segment.specs.storage.Document.{Fields}
 use Rattle.agg_request_tree.specs.Occurrences.{occurrences, same_tuple}
 use Rattle.agg_request_tree.specs.Page.{documents_with}
 use Rattle.agg_request_tree.specs.Source.{Sources, rules_of}
@@ -53,7 +53,7 @@ module _ {X : Type 0} where
       (subst P (sym p.0) all.0, part-all P xs ys p.1 all.1)
   part-all P (x ∷ xs) (y ∷ ys) (inr p) all = part-all P (x ∷ xs) ys p all.1
 
-  -- and of those that pass a test
+  -- what holds of each element holds of those that pass a test
   pub filter-all : (test : X → Bool) (P : X → Type 0) (xs : List X) → AllByRecursion P xs
       → AllByRecursion P (filter test xs)
   filter-all test P [] all = tt

@@ -5,7 +5,7 @@ use Rattle.std.proofs.Common.{FitsSigned}
 use mir.Syntax.{w128}
 use Rattle.std.specs.List.{AllByRecursion, Contains}
 use Rattle.std.proofs.lemmas.List.Elements.{All-contains}
-use Rattle.agg_column.specs.Document.{Fields}
+use Rattle.agg_segment.specs.storage.Document.{Fields}
 use Rattle.agg_request_tree.specs.Matching.{matching}
 use Rattle.agg_request_tree.specs.Metrics.{numbers_of, sum_of}
 use Rattle.agg_request_tree.specs.Page.{documents_with}
@@ -17,15 +17,16 @@ use Rattle.agg_request_tree.specs.declared.aggregation.CompositeAggregation.{Com
 use Rattle.agg_request_tree.proofs.Metrics.{count-append, numbers-append, sum-append}
 use Rattle.agg_request_tree.proofs.UncutLength.{length-each}
 use Rattle.agg_request_tree.proofs.UncutLists.{uncut-append}
-use Rattle.agg_metric_results.specs.MetricMerging.{MetricsPass}
-use Rattle.agg_metric_results.specs.declared.metric.IntermediateMetricResult as metrics
+use Rattle.agg_results.specs.metric_results.MetricMerging.{MetricsPass}
+use Rattle.agg_results.specs.declared.metric_results.metric.IntermediateMetricResult as metrics
 use metrics.{IntermediateMetricResult}
 use metrics.TheVariants as m
-use Rattle.agg_intermediate_results.specs.Intermediate.{Held, Parts, TupleEntry, below_entry}
-use Rattle.agg_intermediate_results.specs.Intermediate.{composite, entries_of, metric}
-use Rattle.agg_intermediate_results.specs.Intermediate as held
-use Rattle.agg_intermediate_results.specs.Merging.{PartsPass}
-use Rattle.agg_intermediate_results.specs.declared as declared
+use Rattle.agg_results.specs.intermediate_results.Intermediate.{Held, Parts, TupleEntry}
+use Rattle.agg_results.specs.intermediate_results.Intermediate.{below_entry, composite, entries_of}
+use Rattle.agg_results.specs.intermediate_results.Intermediate.{metric}
+use Rattle.agg_results.specs.intermediate_results.Intermediate as held
+use Rattle.agg_results.specs.intermediate_results.Merging.{PartsPass}
+use Rattle.agg_results.specs.declared.intermediate_results as declared
 use declared.composite.IntermediateCompositeBucketResult.{IntermediateCompositeBucketResult}
 use Rattle.agg_results.proofs.AddedNumbers.{own_added_field}
 use Rattle.agg_results.specs.StandsFor.{CompositeStands, EntryStands, IsPart, MetricStands}

@@ -3,7 +3,7 @@ use Rattle.std.proofs.Common.{ℕ, zero, suc, ◌≤◌, ◌^◌, ◌⊎◌, inl
 use Rattle.std.proofs.Common.{Some, length, refl, sym, subst}
 use Rattle.std.specs.List.{All, AllByRecursion}
 use Rattle.std.proofs.lemmas.List.Elements.{recursion_from_All}
-use Rattle.agg_column.specs.Document.{Fields}
+use Rattle.agg_segment.specs.storage.Document.{Fields}
 use Rattle.agg_request_tree.specs.Metrics.{numbers_of}
 use Rattle.agg_request_tree.specs.Request.{Request, agg_of, below_of, listed_in, listed_of}
 use Rattle.agg_request_tree.specs.Uncut.{ListsAsMany, uncut, uncut_lists, uncut_lists_of}
@@ -12,9 +12,9 @@ use Rattle.agg_request_tree.proofs.Lists.{AllByRecursion-weaker, Contains-from_H
 use Rattle.agg_request_tree.proofs.Lists.{Has-flat_map, Has-from_Contains}
 use Rattle.agg_request_tree.proofs.RequestTrees.{listed-out}
 use Rattle.agg_request_tree.proofs.UncutLists.{uncut_lists-out}
-use Rattle.agg_intermediate_results.specs.Intermediate.{Held, parts_of}
-use Rattle.agg_intermediate_results.specs.Merging.{CountsPass, PassWithin, SomeOfBoth}
-use Rattle.agg_intermediate_results.specs.declared as declared
+use Rattle.agg_results.specs.intermediate_results.Intermediate.{Held, parts_of}
+use Rattle.agg_results.specs.intermediate_results.Merging.{CountsPass, PassWithin, SomeOfBoth}
+use Rattle.agg_results.specs.declared.intermediate_results as declared
 use declared.results.IntermediateAggregationResult.{IntermediateAggregationResult}
 use Rattle.agg_results.proofs.AddedNumbers.{AddsSmallNumbers, own_added_field}
 use Rattle.agg_results.specs.StandsFor.{IsPart, NamesStand, StandsFor, StandsTo}
@@ -45,7 +45,7 @@ module _ {B : Type 0} (is_match : B → Fields → Bool) (In : List ℕ → Type
       → StandsTo is_match depth a ds (Some r) → StandsTo is_match depth a es (Some o)
       → Pass r o → HasLong (uncut_lists is_match a whole)
 
-  -- and so does some aggregation of a request, where those of some name pass
+  -- some aggregation of a request lists many, where sums of two results of some name pass
   names-few : (Pass : Result → Result → Type 0) (depth : ℕ) → FewOf Pass depth
       → (request : Request B) (whole : List Fields) → AllByRecursion (IsFit In) whole
       → AllByRecursion In (listed_of own_added_field request)

@@ -4,7 +4,7 @@ use Rattle.std.proofs.Common.{subst, length, map}
 use Rattle.std.specs.Int.{int_max, int_min}
 use Rattle.std.specs.List.{AllZip}
 use Rattle.agg_values.specs.Names.{Named}
-use Rattle.agg_column.specs.Document.{Fields}
+use Rattle.agg_segment.specs.storage.Document.{Fields}
 use Rattle.agg_request_tree.specs.Matching.{matching}
 use Rattle.agg_request_tree.specs.Metrics.{best_of, numbers_of, sum_of, values_of_field}
 use Rattle.agg_request_tree.specs.Occurrences.{bound_of}
@@ -18,12 +18,14 @@ use Rattle.agg_request_tree.specs.declared.aggregation.AggregationVariants.{Aggr
 use Rattle.agg_request_tree.specs.declared.aggregation.AggregationVariants.TheVariants as asks
 use Rattle.agg_request_tree.specs.declared.aggregation.CompositeAggregation.{CompositeAggregation}
 use Rattle.agg_request_tree.proofs.PageExists.{page_exists}
-use Rattle.agg_final_results.specs.declared.types as final
+use Rattle.agg_results.specs.declared.final_results.types as final
 use final.AggregationResult.{AggregationResult}
 use final.AggregationResults.{AggregationResults}
 use final.CompositeBucketEntry.{CompositeBucketEntry}
-use Rattle.agg_metric_results.specs.MetricShown.{shown_count, shown_max, shown_min, shown_sum}
-use Rattle.agg_intermediate_results.specs.Shown.{Results, shown_bucket, shown_filter, shown_page}
+use Rattle.agg_results.specs.metric_results.MetricShown.{shown_count, shown_max, shown_min}
+use Rattle.agg_results.specs.metric_results.MetricShown.{shown_sum}
+use Rattle.agg_results.specs.intermediate_results.Shown.{Results, shown_bucket, shown_filter}
+use Rattle.agg_results.specs.intermediate_results.Shown.{shown_page}
 use Rattle.agg_results.specs.Results.{AreResults, EachHas, IsBucket, IsResult, IsResultTo}
 use Rattle.agg_results.specs.Results.{after_tuple}
 

@@ -4,7 +4,7 @@ use Rattle.std.proofs.Common.{◌∙◌, subst, arith, map, replicate}
 use Rattle.std.specs.Int.{int_max, int_min}
 use Rattle.std.specs.List.{AllByRecursion, AllZip, count_by}
 use Rattle.std.proofs.lemmas.List.Elements.{recursion_from_All}
-use Rattle.agg_column.specs.Document.{Fields}
+use Rattle.agg_segment.specs.storage.Document.{Fields}
 use Rattle.agg_request_tree.specs.Matching.{filter_matches}
 use Rattle.agg_request_tree.specs.Metrics.{number_of, numbers_of, values_of_field}
 use Rattle.agg_request_tree.specs.Occurrences.{bound_of, occurrences, same_tuple}
@@ -19,13 +19,14 @@ use Rattle.agg_request_tree.proofs.PageCounts.{counts-permutation}
 use Rattle.agg_request_tree.proofs.Reorderings.{IsPermutation-from_reordering, IsReordering}
 use Rattle.agg_request_tree.proofs.Reorderings.{IsReordering-filter_map, IsReordering-flat_map}
 use Rattle.agg_request_tree.proofs.RequestTrees.{height, height-out, levels}
-use Rattle.agg_final_results.specs.declared.types as final
+use Rattle.agg_results.specs.declared.final_results.types as final
 use final.AggregationResult.{AggregationResult}
 use final.AggregationResults.{AggregationResults}
 use final.CompositeBucketEntry.{CompositeBucketEntry}
-use Rattle.agg_metric_results.specs.MetricShown.{shown_count, shown_max, shown_min, shown_sum}
-use Rattle.agg_intermediate_results.specs.Shown.{Results, last_tuple, shown_bucket, shown_filter}
-use Rattle.agg_intermediate_results.specs.Shown.{shown_page}
+use Rattle.agg_results.specs.metric_results.MetricShown.{shown_count, shown_max, shown_min}
+use Rattle.agg_results.specs.metric_results.MetricShown.{shown_sum}
+use Rattle.agg_results.specs.intermediate_results.Shown.{Results, last_tuple, shown_bucket}
+use Rattle.agg_results.specs.intermediate_results.Shown.{shown_filter, shown_page}
 use Rattle.agg_results.specs.Results.{AreResults, EachHas, IsBucket, IsFilterShown, IsPageShown}
 use Rattle.agg_results.specs.Results.{IsResult, IsResultTo}
 use Rattle.agg_results.proofs.ListOrders.{IsReordering-filter}

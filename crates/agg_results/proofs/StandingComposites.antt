@@ -10,27 +10,27 @@ use Rattle.std.proofs.lemmas.List.Elements.{All-contains, All-nil, All-take, All
 use Rattle.agg_values.proofs.TupleOrder.{tuple_order-total}
 use Rattle.agg_values.specs.KeyOrder.{SourceRules, tuple_order}
 use Rattle.agg_values.specs.Tuple.{KeyTuple}
-use Rattle.agg_column.specs.Document.{Fields}
+use Rattle.agg_segment.specs.storage.Document.{Fields}
 use Rattle.agg_request_tree.specs.Groups.{Group}
 use Rattle.agg_request_tree.specs.Occurrences.{bound_of}
 use Rattle.agg_request_tree.specs.Page.{documents_with}
 use Rattle.agg_request_tree.specs.Source.{rules_of}
 use Rattle.agg_request_tree.specs.declared.aggregation.CompositeAggregation.{CompositeAggregation}
-use Rattle.agg_intermediate_results.specs.Merging.{trimmed}
+use Rattle.agg_results.specs.intermediate_results.Merging.{trimmed}
 use Rattle.agg_results.proofs.Counts.{merged}
 use Rattle.agg_results.specs.StandsFor.{GroupsStandFor}
 use Rattle.agg_results.proofs.JoinedGroups.{stands-left, stands-merged, stands-right}
 use Rattle.agg_results.proofs.MergedCounts.{merged-is_merge}
 use Rattle.agg_results.proofs.StandingGroups.{stands-front, stands-nothing}
-use Rattle.agg_intermediate_results.specs.Intermediate.{Entries, Held, TupleEntry, below_entry}
-use Rattle.agg_intermediate_results.specs.Intermediate.{composite_of}
-use Rattle.agg_intermediate_results.specs.Intermediate.{counts_of, entries_of, orders_of}
-use Rattle.agg_intermediate_results.specs.Intermediate.{target_size_of}
-use Rattle.agg_intermediate_results.specs.Merging.{BothWithRoom, CompositesMerged, EntriesMerged}
-use Rattle.agg_intermediate_results.specs.Merging.{JoinEntries}
-use Rattle.agg_intermediate_results.specs.Merging.{PagesDiffer, SomeTied, trimmed_to}
+use Rattle.agg_results.specs.intermediate_results.Intermediate.{Entries, Held, TupleEntry}
+use Rattle.agg_results.specs.intermediate_results.Intermediate.{below_entry, composite_of}
+use Rattle.agg_results.specs.intermediate_results.Intermediate.{counts_of, entries_of, orders_of}
+use Rattle.agg_results.specs.intermediate_results.Intermediate.{target_size_of}
+use Rattle.agg_results.specs.intermediate_results.Merging.{BothWithRoom, CompositesMerged}
+use Rattle.agg_results.specs.intermediate_results.Merging.{EntriesMerged, JoinEntries, PagesDiffer}
+use Rattle.agg_results.specs.intermediate_results.Merging.{SomeTied, trimmed_to}
 use Rattle.agg_results.specs.StandsFor.{CompositeStands, EntryStands, HasShapeOf, IsPart}
-use Rattle.agg_intermediate_results.specs.declared as intermediate
+use Rattle.agg_results.specs.declared.intermediate_results as intermediate
 use intermediate.composite.IntermediateCompositeBucketResult as held
 use held.{IntermediateCompositeBucketResult, out-roll-IntermediateCompositeBucketResult}
 use Rattle.agg_results.proofs.Joins.{join-all, join-counts}

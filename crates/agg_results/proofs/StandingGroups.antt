@@ -6,7 +6,7 @@ use Rattle.std.proofs.lemmas.List.{take-take, take_all}
 use Rattle.std.proofs.lemmas.List.Elements.{All-take, All-weaker}
 use Rattle.agg_values.specs.KeyOrder.{tuple_order}
 use Rattle.agg_values.specs.Tuple.{KeyTuple}
-use Rattle.agg_column.specs.Document.{Fields}
+use Rattle.agg_segment.specs.storage.Document.{Fields}
 use Rattle.agg_request_tree.specs.Groups.{Group, Groups}
 use Rattle.agg_request_tree.specs.Occurrences.{is_past, occurrences_in, past_occurrences}
 use Rattle.agg_request_tree.specs.Page.{Entry, IsPage, count_in, entry_of, group_of}

@@ -7,7 +7,7 @@ use Rattle.std.specs.Prelude.{IsSome}
 use Rattle.std.proofs.lemmas.List.Elements.{All-contains, All-from_recursion, All-map, All-nil}
 use Rattle.std.proofs.lemmas.List.Elements.{All-weaker}
 use Rattle.agg_values.specs.Names.{value_of}
-use Rattle.agg_column.specs.Document.{Fields}
+use Rattle.agg_segment.specs.storage.Document.{Fields}
 use Rattle.agg_request_tree.specs.Request.{Request, agg_of, below_of}
 use Rattle.agg_request_tree.specs.Source.{rules_of}
 use Rattle.agg_request_tree.specs.declared.aggregation.Aggregation.{Aggregation}
@@ -15,15 +15,16 @@ use Rattle.agg_request_tree.specs.declared.aggregation.AggregationVariants.{Aggr
 use Rattle.agg_request_tree.specs.declared.aggregation.AggregationVariants.TheVariants as asks
 use Rattle.agg_request_tree.specs.declared.aggregation.CompositeAggregation.{CompositeAggregation}
 use Rattle.agg_request_tree.proofs.Lists.{Contains-map, none_of_all}
-use Rattle.agg_metric_results.specs.declared.metric.IntermediateMetricResult as metrics
+use Rattle.agg_results.specs.declared.metric_results.metric.IntermediateMetricResult as metrics
 use metrics.{IntermediateMetricResult}
 use metrics.TheVariants as m
-use Rattle.agg_intermediate_results.specs.Intermediate.{Held, Parts, below_entry, composite}
-use Rattle.agg_intermediate_results.specs.Intermediate.{entries_of, filter, helds_below, metric}
-use Rattle.agg_intermediate_results.specs.Intermediate.{orders_of, parts_of}
-use Rattle.agg_intermediate_results.specs.Refusals.{HoldsOther, HoldsOtherWithin, HoldsUnknown}
-use Rattle.agg_intermediate_results.specs.Refusals.{HoldsUnknownWithin, IsOther}
-use Rattle.agg_intermediate_results.specs.declared as declared
+use Rattle.agg_results.specs.intermediate_results.Intermediate.{Held, Parts, below_entry, composite}
+use Rattle.agg_results.specs.intermediate_results.Intermediate.{entries_of, filter, helds_below}
+use Rattle.agg_results.specs.intermediate_results.Intermediate.{metric, orders_of, parts_of}
+use Rattle.agg_results.specs.intermediate_results.Refusals.{HoldsOther, HoldsOtherWithin}
+use Rattle.agg_results.specs.intermediate_results.Refusals.{HoldsUnknown, HoldsUnknownWithin}
+use Rattle.agg_results.specs.intermediate_results.Refusals.{IsOther}
+use Rattle.agg_results.specs.declared.intermediate_results as declared
 use declared.composite.IntermediateCompositeBucketResult.{IntermediateCompositeBucketResult}
 use declared.results.IntermediateAggregationResult.{IntermediateAggregationResult}
 use Rattle.agg_results.specs.StandsFor.{EntryStands, HasShapeOf, MetricStands, NamesStand}

@@ -7,7 +7,7 @@ use Rattle.std.specs.Map.{keys_of}
 use Rattle.std.proofs.lemmas.List.{append-nil}
 use Rattle.std.proofs.lemmas.List.Elements.{All-contains, filter-append}
 use Rattle.agg_values.specs.Names.{value_of}
-use Rattle.agg_column.specs.Document.{Fields}
+use Rattle.agg_segment.specs.storage.Document.{Fields}
 use Rattle.agg_request_tree.specs.Matching.{filter_matches, matching}
 use Rattle.agg_request_tree.specs.Request.{Request, agg_of, below_of}
 use Rattle.agg_request_tree.specs.declared.aggregation.Aggregation.{Aggregation}
@@ -15,14 +15,14 @@ use Rattle.agg_request_tree.specs.declared.aggregation.AggregationVariants.{Aggr
 use Rattle.agg_request_tree.specs.declared.aggregation.AggregationVariants.TheVariants as asks
 use Rattle.agg_request_tree.specs.declared.aggregation.filter.FilterQuery.{FilterQuery}
 use Rattle.agg_results.proofs.NameLookups.{entry_of_name, name-found, names-found}
-use Rattle.agg_intermediate_results.specs.Intermediate.{Held, Parts, composite, metric, parts_of}
-use Rattle.agg_intermediate_results.specs.Intermediate as held
-use Rattle.agg_intermediate_results.specs.Merging.{AreMerged, DifferWithin, EitherOrBoth, JoinNames}
-use Rattle.agg_intermediate_results.specs.Merging.{MergedTo}
-use Rattle.agg_intermediate_results.specs.Merging.{PartsDiffer, PartsMerged, ShapesDiffer}
-use Rattle.agg_intermediate_results.specs.Merging.{SomeOfBoth}
+use Rattle.agg_results.specs.intermediate_results.Intermediate.{Held, Parts, composite, metric}
+use Rattle.agg_results.specs.intermediate_results.Intermediate.{parts_of}
+use Rattle.agg_results.specs.intermediate_results.Intermediate as held
+use Rattle.agg_results.specs.intermediate_results.Merging.{AreMerged, DifferWithin, EitherOrBoth}
+use Rattle.agg_results.specs.intermediate_results.Merging.{JoinNames, MergedTo, PartsDiffer}
+use Rattle.agg_results.specs.intermediate_results.Merging.{PartsMerged, ShapesDiffer, SomeOfBoth}
 use Rattle.agg_results.specs.StandsFor.{NamesStand, PartsStand, StandsFor, StandsTo}
-use Rattle.agg_intermediate_results.specs.declared as intermediate
+use Rattle.agg_results.specs.declared.intermediate_results as intermediate
 use intermediate.results.IntermediateAggregationResult.{IntermediateAggregationResult}
 use Rattle.agg_results.proofs.Metrics.{metrics-alike, metrics-joined}
 use Rattle.agg_results.proofs.StandingComposites.{composites-alike, composites-joined}

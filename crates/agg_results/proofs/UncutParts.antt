@@ -2,7 +2,7 @@
 use Rattle.std.proofs.Common.{◌≡◌, ℕ, List, [], ◌∷◌, ◌++◌, Bool, length, map, refl, sym, ap, ◌∙◌}
 use Rattle.std.specs.List.{AllByRecursion, filter_map, flat_map}
 use Rattle.std.proofs.lemmas.List.Elements.{filter_map-append}
-use Rattle.agg_column.specs.Document.{Fields}
+use Rattle.agg_segment.specs.storage.Document.{Fields}
 use Rattle.agg_request_tree.specs.Matching.{filter_matches}
 use Rattle.agg_request_tree.specs.Metrics.{number_of, numbers_of, values_of_field}
 use Rattle.agg_request_tree.specs.Occurrences.{occurrences}

@@ -5,7 +5,7 @@ use Rattle.std.specs.Prelude.{◌≡◌, ℕ, zero, suc, List, Bool, Option, len
 use Rattle.std.specs.Int.{int_max, int_min}
 use Rattle.std.specs.List.{AllZip}
 use Rattle.agg_values.specs.Tuple.{KeyTuple}
-use Rattle.agg_column.specs.Document.{Fields}
+use Rattle.agg_segment.specs.storage.Document.{Fields}
 use Rattle.agg_request_tree.specs.Matching.{matching}
 use Rattle.agg_request_tree.specs.Metrics.{best_of, numbers_of, sum_of, values_of_field}
 use Rattle.agg_request_tree.specs.Occurrences.{bound_of}
@@ -16,13 +16,14 @@ use Rattle.agg_request_tree.specs.declared.aggregation.Aggregation.{Aggregation}
 use Rattle.agg_request_tree.specs.declared.aggregation.AggregationVariants.{AggregationVariants}
 use Rattle.agg_request_tree.specs.declared.aggregation.AggregationVariants.TheVariants as asks
 use Rattle.agg_request_tree.specs.declared.aggregation.CompositeAggregation.{CompositeAggregation}
-use Rattle.agg_final_results.specs.declared.types as final
+use Rattle.agg_results.specs.declared.final_results.types as final
 use final.AggregationResult.{AggregationResult}
 use final.AggregationResults.{AggregationResults}
 use final.CompositeBucketEntry.{CompositeBucketEntry}
-use Rattle.agg_metric_results.specs.MetricShown.{shown_count, shown_max, shown_min, shown_sum}
-use Rattle.agg_intermediate_results.specs.Shown.{Results, last_tuple, shown_bucket, shown_filter}
-use Rattle.agg_intermediate_results.specs.Shown.{shown_page}
+use Rattle.agg_results.specs.metric_results.MetricShown.{shown_count, shown_max, shown_min}
+use Rattle.agg_results.specs.metric_results.MetricShown.{shown_sum}
+use Rattle.agg_results.specs.intermediate_results.Shown.{Results, last_tuple, shown_bucket}
+use Rattle.agg_results.specs.intermediate_results.Shown.{shown_filter, shown_page}
 
 -- ---- pages
 
@@ -84,7 +85,8 @@ module _ {B : Type 0} (is_match : B → Fields → Bool) where
   IsResultTo (suc depth) a documents s =
       IsResult (EachHas (IsResultTo depth)) (agg_of a) (below_of a) documents s
 
-  -- the results of a request over documents, at every depth
+  -- the results of a request over documents, at every depth: depth 0 says nothing, and each greater
+  -- one more; the law `each_request_has_one_result` says that there are such results, and only one
   abbrev pub AreResults : Request B → List Fields → AggregationResults → Type 0
   AreResults request documents results =
       (depth : ℕ) → EachHas (IsResultTo depth) request documents results.0

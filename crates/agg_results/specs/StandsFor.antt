@@ -9,7 +9,7 @@ use Rattle.std.specs.Map.{keys_of}
 use Rattle.agg_values.specs.KeyOrder.{tuple_order}
 use Rattle.agg_values.specs.Names.{value_of}
 use Rattle.agg_values.specs.Tuple.{KeyTuple}
-use Rattle.agg_column.specs.Document.{Fields}
+use Rattle.agg_segment.specs.storage.Document.{Fields}
 use Rattle.agg_request_tree.specs.Groups.{Group}
 use Rattle.agg_request_tree.specs.Matching.{matching}
 use Rattle.agg_request_tree.specs.Metrics.{best_of, numbers_of, sum_of, values_of_field}
@@ -21,13 +21,14 @@ use Rattle.agg_request_tree.specs.declared.aggregation.Aggregation.{Aggregation}
 use Rattle.agg_request_tree.specs.declared.aggregation.AggregationVariants.{AggregationVariants}
 use Rattle.agg_request_tree.specs.declared.aggregation.AggregationVariants.TheVariants as asks
 use Rattle.agg_request_tree.specs.declared.aggregation.CompositeAggregation.{CompositeAggregation}
-use Rattle.agg_metric_results.specs.declared.metric.IntermediateMetricResult as metrics
+use Rattle.agg_results.specs.declared.metric_results.metric.IntermediateMetricResult as metrics
 use metrics.{IntermediateMetricResult}
 use metrics.TheVariants as m
-use Rattle.agg_intermediate_results.specs.Intermediate.{Held, Parts, TupleEntry, below_entry}
-use Rattle.agg_intermediate_results.specs.Intermediate.{composite, counts_of, entries_of, filter}
-use Rattle.agg_intermediate_results.specs.Intermediate.{metric, orders_of, parts_of, target_size_of}
-use Rattle.agg_intermediate_results.specs.declared as declared
+use Rattle.agg_results.specs.intermediate_results.Intermediate.{Held, Parts, TupleEntry}
+use Rattle.agg_results.specs.intermediate_results.Intermediate.{below_entry, composite, counts_of}
+use Rattle.agg_results.specs.intermediate_results.Intermediate.{entries_of, filter, metric}
+use Rattle.agg_results.specs.intermediate_results.Intermediate.{orders_of, parts_of, target_size_of}
+use Rattle.agg_results.specs.declared.intermediate_results as declared
 use declared.composite.IntermediateCompositeBucketResult.{IntermediateCompositeBucketResult}
 use declared.results.IntermediateAggregationResult.{IntermediateAggregationResult}
 

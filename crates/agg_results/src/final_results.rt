@@ -1,13 +1,11 @@
 //! Final results, as they are shown, and their text as JSON.
-#![tactic(auto)]
-
-mod bucket_count;
-mod ending_text;
-mod json_text;
-mod own_members;
-mod quoted;
-mod result_text;
-mod types;
+pub(crate) mod bucket_count;
+pub(crate) mod ending_text;
+pub(crate) mod json_text;
+pub(crate) mod own_members;
+pub(crate) mod quoted;
+pub(crate) mod result_text;
+pub(crate) mod types;
 
 pub use types::{
     AggregationResult, AggregationResults, BucketResult, CompositeBucketEntry, FilterBucketResult,

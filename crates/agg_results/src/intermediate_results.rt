@@ -1,17 +1,15 @@
 //! Intermediate results of segments, which merge, and the final results that they become.
-#![tactic(auto)]
+pub(crate) mod composite;
+pub(crate) mod empty;
+pub(crate) mod entry;
+pub(crate) mod error;
+pub(crate) mod final_results;
+pub(crate) mod merged;
+pub(crate) mod merging;
+pub(crate) mod parts;
+pub(crate) mod results;
 
-mod composite;
-mod empty;
-mod entry;
-mod error;
-mod final_results;
-mod merged;
-mod merging;
-mod parts;
-mod results;
-
-pub use agg_metric_results::{
+pub use crate::metric_results::{
     IntermediateCount, IntermediateMax, IntermediateMetricResult, IntermediateMin, IntermediateSum,
     MergeError, greatest, least,
 };

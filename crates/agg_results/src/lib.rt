@@ -1,14 +1,18 @@
-//! What results stand for: intermediate results and documents, final results and documents.
+//! Intermediate results, which merge, final results and their text, and the documents that both
+//! stand for.
 #![tactic(auto)]
 
+pub mod final_results;
+pub mod intermediate_results;
 mod laws;
+pub mod metric_results;
 mod term_buckets;
 
-pub use agg_final_results::{
+pub use crate::final_results::{
     AggregationResult, AggregationResults, BucketResult, CompositeBucketEntry, FilterBucketResult,
     MetricResult, SingleMetricResult,
 };
-pub use agg_intermediate_results::{
+pub use crate::intermediate_results::{
     FinalError, IntermediateAggregationResult, IntermediateAggregationResults,
     IntermediateBucketResult, IntermediateCompositeBucketEntry, IntermediateCompositeBucketResult,
     IntermediateCount, IntermediateFilterBucketResult, IntermediateMax, IntermediateMetricResult,

@@ -1,9 +1,7 @@
 //! Intermediate results of metrics, how they merge, and why merging is refused.
-#![tactic(auto)]
-
-mod error;
-mod metric;
-mod shown;
+pub(crate) mod error;
+pub(crate) mod metric;
+pub(crate) mod shown;
 
 pub use error::MergeError;
 pub use metric::{

@@ -4,8 +4,8 @@ use Rattle.std.specs.Prelude.{filter}
 use Rattle.std.specs.Ordering.{is_gt, is_lt}
 use Rattle.agg_values.specs.Names.{Named, name_cmp}
 use Rattle.agg_values.specs.declared.after_key.AfterKey.{AfterKey}
-use Rattle.agg_final_results.specs.ResultsText.{Texts, comma_unless, member_text, object_text}
-use Rattle.agg_final_results.specs.ResultsText.{quoted_after_key}
+use Rattle.agg_results.specs.final_results.ResultsText.{Texts, comma_unless, member_text}
+use Rattle.agg_results.specs.final_results.ResultsText.{object_text, quoted_after_key}
 
 -- items, each after a comma but the first
 abbrev pub more_items : Bool → List (List ℕ) → List ℕ

@@ -2,16 +2,18 @@
 -- are none.
 use Rattle.std.specs.Prelude.{◌+◌, ℕ, sum}
 use Rattle.std.specs.Map.{values_of}
-use Rattle.agg_final_results.specs.declared.types.AggregationResult.{AggregationResult}
-use Rattle.agg_final_results.specs.declared.types.AggregationResult.TheFolds as folds
+use Rattle.agg_results.specs.declared.final_results.types.AggregationResult.{AggregationResult}
+use Rattle.agg_results.specs.declared.final_results.types.AggregationResult.TheFolds as folds
 use folds.{fold-AggregationResult, fold-AggregationResults, fold-BucketResult}
 use folds.{fold-CompositeBucketEntry}
-use Rattle.agg_final_results.specs.declared.types.AggregationResult.TheOpen as opened
+use Rattle.agg_results.specs.declared.final_results.types.AggregationResult.TheOpen as opened
 use opened.{AggregationResult-F, AggregationResults-F, BucketResult-F, CompositeBucketEntry-F}
 use opened.{FilterBucketResult-F}
-use Rattle.agg_final_results.specs.declared.types.AggregationResults.{AggregationResults}
-use Rattle.agg_final_results.specs.declared.types.BucketResult.{BucketResult}
-use Rattle.agg_final_results.specs.declared.types.CompositeBucketEntry.{CompositeBucketEntry}
+use Rattle.agg_results.specs.declared.final_results.types.AggregationResults.{AggregationResults}
+use Rattle.agg_results.specs.declared.final_results.types.BucketResult.{BucketResult}
+use Rattle.agg_results.specs.declared.final_results.types.CompositeBucketEntry.{
+  CompositeBucketEntry,
+}
 
 -- ---- of each part, where its parts have so many
 

@@ -1,8 +1,8 @@
 -- The members of a bucket or of a filter beside its sub-results.
 use Rattle.std.specs.Prelude.{◌++◌, ℕ, List, [], ◌∷◌, Option, None, Some, codes, decimal}
 use Rattle.std.specs.Prelude.{option_map}
-use Rattle.agg_final_results.specs.ResultsText.{Texts, object_text, shown_key_text}
-use Rattle.agg_final_results.specs.declared.own_members.OwnMembers.{OwnMembers}
+use Rattle.agg_results.specs.final_results.ResultsText.{Texts, object_text, shown_key_text}
+use Rattle.agg_results.specs.declared.final_results.own_members.OwnMembers.{OwnMembers}
 
 -- a member of this name, where there is one
 abbrev pub member_of : {T : Type 0} → List ℕ → (T → List ℕ) → Option T → Texts

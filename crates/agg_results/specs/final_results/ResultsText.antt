@@ -1,4 +1,6 @@
--- The texts of results as JSON: members ascend by their names, and there are no blanks.
+-- The texts of results as JSON: members ascend by their names, and there are no blanks. Of bytes,
+-- 34 is the quote that `quoted` puts around a text, 44 a comma, 58 a colon, 91 and 93 are brackets,
+-- and 123 and 125 braces.
 use Rattle.std.specs.Prelude.{ℕ, ℤ, List, [], ◌∷◌, ◌++◌, Bool, Option, None, Some, if◌then◌else◌}
 use Rattle.std.specs.Prelude.{map, codes, decimal}
 use Rattle.std.specs.Fmt.{signed_decimal}
@@ -9,19 +11,21 @@ use Rattle.agg_values.specs.declared.after_key.AfterKey.{AfterKey}
 use Rattle.agg_values.specs.declared.composite_key.CompositeKey.{CompositeKey}
 use Rattle.agg_values.specs.declared.composite_key.CompositeKey.TheVariants as key
 use Rattle.agg_values.specs.Names.{Named, put}
-use Rattle.agg_final_results.specs.declared.types.AggregationResult.{AggregationResult}
-use Rattle.agg_final_results.specs.declared.types.AggregationResult.TheFolds as folds
+use Rattle.agg_results.specs.declared.final_results.types.AggregationResult.{AggregationResult}
+use Rattle.agg_results.specs.declared.final_results.types.AggregationResult.TheFolds as folds
 use folds.{fold-AggregationResult, fold-AggregationResults, fold-BucketResult}
 use folds.{fold-CompositeBucketEntry, fold-FilterBucketResult}
-use Rattle.agg_final_results.specs.declared.types.AggregationResult.TheOpen as opened
+use Rattle.agg_results.specs.declared.final_results.types.AggregationResult.TheOpen as opened
 use opened.{AggregationResult-F, AggregationResults-F, BucketResult-F, CompositeBucketEntry-F}
 use opened.{FilterBucketResult-F}
-use Rattle.agg_final_results.specs.declared.types.AggregationResults.{AggregationResults}
-use Rattle.agg_final_results.specs.declared.types.BucketResult.{BucketResult}
-use Rattle.agg_final_results.specs.declared.types.CompositeBucketEntry.{CompositeBucketEntry}
-use Rattle.agg_final_results.specs.declared.types.FilterBucketResult.{FilterBucketResult}
-use Rattle.agg_final_results.specs.declared.types.MetricResult.{MetricResult}
-use Rattle.agg_final_results.specs.declared.types.MetricResult.TheVariants as metric
+use Rattle.agg_results.specs.declared.final_results.types.AggregationResults.{AggregationResults}
+use Rattle.agg_results.specs.declared.final_results.types.BucketResult.{BucketResult}
+use Rattle.agg_results.specs.declared.final_results.types.CompositeBucketEntry.{
+  CompositeBucketEntry,
+}
+use Rattle.agg_results.specs.declared.final_results.types.FilterBucketResult.{FilterBucketResult}
+use Rattle.agg_results.specs.declared.final_results.types.MetricResult.{MetricResult}
+use Rattle.agg_results.specs.declared.final_results.types.MetricResult.TheVariants as metric
 
 -- texts by name
 abbrev pub Texts : Type 0

@@ -6,9 +6,11 @@ use Rattle.agg_request_tree.specs.declared.aggregation.Aggregation.{Aggregation}
 use Rattle.agg_request_tree.specs.declared.aggregation.Aggregation.TheFolds.{fold-Aggregation}
 use Rattle.agg_request_tree.specs.declared.aggregation.AggregationVariants.{AggregationVariants}
 use Rattle.agg_request_tree.specs.declared.aggregation.AggregationVariants.TheVariants as asks
-use Rattle.agg_metric_results.specs.declared.metric.IntermediateMetricResult.TheVariants as m
-use Rattle.agg_intermediate_results.specs.Intermediate.{Held, as_composite, as_filter, composite_of}
-use Rattle.agg_intermediate_results.specs.declared as declared
+use Rattle.agg_results.specs.declared.metric_results.metric.IntermediateMetricResult.TheVariants
+    as m
+use Rattle.agg_results.specs.intermediate_results.Intermediate.{Held, as_composite, as_filter}
+use Rattle.agg_results.specs.intermediate_results.Intermediate.{composite_of}
+use Rattle.agg_results.specs.declared.intermediate_results as declared
 use declared.results.IntermediateAggregationResult.{IntermediateAggregationResult}
 use declared.results.IntermediateAggregationResult.TheVariants.{Metric}
 

@@ -8,19 +8,19 @@ use Rattle.agg_request_tree.specs.declared.aggregation.Aggregation.TheFolds.{fol
 use Rattle.agg_request_tree.specs.declared.aggregation.Aggregation.TheOpen.{Aggregation-F}
 use Rattle.agg_request_tree.specs.declared.aggregation.AggregationVariants.{AggregationVariants}
 use Rattle.agg_request_tree.specs.declared.aggregation.AggregationVariants.TheVariants as asks
-use Rattle.agg_final_results.specs.declared.types as final
+use Rattle.agg_results.specs.declared.final_results.types as final
 use final.AggregationResult.{AggregationResult}
 use final.AggregationResults.{AggregationResults}
 use final.CompositeBucketEntry.{CompositeBucketEntry}
-use Rattle.agg_metric_results.specs.MetricShown.{final_metric, shown_count, shown_max, shown_min}
-use Rattle.agg_metric_results.specs.MetricShown.{shown_sum}
-use Rattle.agg_intermediate_results.specs.Intermediate.{Entries, Held, Parts, TupleEntry}
-use Rattle.agg_intermediate_results.specs.Intermediate.{below_entry, composite, counts_of}
-use Rattle.agg_intermediate_results.specs.Intermediate.{entries_of, filter, metric, parts_of}
-use Rattle.agg_intermediate_results.specs.Intermediate.{target_size_of}
-use Rattle.agg_intermediate_results.specs.Shown.{Results, last_tuple, shown_bucket, shown_filter}
-use Rattle.agg_intermediate_results.specs.Shown.{shown_page}
-use Rattle.agg_intermediate_results.specs.declared as declared
+use Rattle.agg_results.specs.metric_results.MetricShown.{final_metric, shown_count, shown_max}
+use Rattle.agg_results.specs.metric_results.MetricShown.{shown_min, shown_sum}
+use Rattle.agg_results.specs.intermediate_results.Intermediate.{Entries, Held, Parts, TupleEntry}
+use Rattle.agg_results.specs.intermediate_results.Intermediate.{below_entry, composite, counts_of}
+use Rattle.agg_results.specs.intermediate_results.Intermediate.{entries_of, filter, metric}
+use Rattle.agg_results.specs.intermediate_results.Intermediate.{parts_of, target_size_of}
+use Rattle.agg_results.specs.intermediate_results.Shown.{Results, last_tuple, shown_bucket}
+use Rattle.agg_results.specs.intermediate_results.Shown.{shown_filter, shown_page}
+use Rattle.agg_results.specs.declared.intermediate_results as declared
 use declared.composite.IntermediateCompositeBucketResult.{IntermediateCompositeBucketResult}
 use declared.results.IntermediateAggregationResult.{IntermediateAggregationResult}
 

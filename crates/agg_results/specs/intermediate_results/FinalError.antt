@@ -1,8 +1,8 @@
 -- The errors of final results, from those of merging.
-use Rattle.agg_metric_results.specs.declared.error.MergeError.{MergeError}
-use Rattle.agg_metric_results.specs.declared.error.MergeError.TheVariants as merge
-use Rattle.agg_intermediate_results.specs.declared.error.FinalError.{FinalError}
-use Rattle.agg_intermediate_results.specs.declared.error.FinalError.TheVariants as last
+use Rattle.agg_results.specs.declared.metric_results.error.MergeError.{MergeError}
+use Rattle.agg_results.specs.declared.metric_results.error.MergeError.TheVariants as merge
+use Rattle.agg_results.specs.declared.intermediate_results.error.FinalError.{FinalError}
+use Rattle.agg_results.specs.declared.intermediate_results.error.FinalError.TheVariants as last
 
 -- the error of final results for one of merging
 abbrev pub error_from_merge : MergeError → FinalError

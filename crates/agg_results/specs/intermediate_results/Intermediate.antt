@@ -4,14 +4,15 @@ use Rattle.agg_values.specs.KeyOrder.{SourceRules}
 use Rattle.agg_values.specs.Names.{Named}
 use Rattle.agg_values.specs.Tuple.{KeyTuple}
 use Rattle.agg_request_tree.specs.Groups.{Group}
-use Rattle.agg_metric_results.specs.declared.metric.IntermediateMetricResult as metrics
+use Rattle.agg_results.specs.declared.metric_results.metric.IntermediateMetricResult as metrics
 use metrics.{IntermediateMetricResult}
-use Rattle.agg_intermediate_results.specs.declared.results.IntermediateAggregationResult as declared
+use Rattle.agg_results.specs.declared.intermediate_results.results.IntermediateAggregationResult
+    as declared
 use declared.{IntermediateAggregationResult}
 use declared.TheVariants.{Bucket, Metric}
 use declared.TheViews.{out-IntermediateBucketResult}
 use declared.TheOpen as opened
-use Rattle.agg_intermediate_results.specs.declared as intermediate
+use Rattle.agg_results.specs.declared.intermediate_results as intermediate
 use intermediate.results.IntermediateBucketResult.{IntermediateBucketResult}
 use intermediate.results.IntermediateBucketResult.TheVariants as buckets
 use intermediate.results.IntermediateAggregationResults.{IntermediateAggregationResults}

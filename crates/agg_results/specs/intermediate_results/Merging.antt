@@ -7,11 +7,13 @@ use Rattle.std.specs.declared.cmp.Ordering.TheVariants.{Less, Equal, Greater}
 use Rattle.agg_values.specs.KeyOrder.{tuple_order}
 use Rattle.agg_values.specs.Names.{Named, value_of}
 use Rattle.agg_values.specs.Tuple.{KeyTuple}
-use Rattle.agg_metric_results.specs.MetricMerging.{MetricsDiffer, MetricsMerged, MetricsPass}
-use Rattle.agg_intermediate_results.specs.Intermediate.{Entries, Held, Parts, below_entry}
-use Rattle.agg_intermediate_results.specs.Intermediate.{composite, composite_of, entries_of, filter}
-use Rattle.agg_intermediate_results.specs.Intermediate.{metric, orders_of, parts_of, target_size_of}
-use Rattle.agg_intermediate_results.specs.declared as intermediate
+use Rattle.agg_results.specs.metric_results.MetricMerging.{MetricsDiffer, MetricsMerged}
+use Rattle.agg_results.specs.metric_results.MetricMerging.{MetricsPass}
+use Rattle.agg_results.specs.intermediate_results.Intermediate.{Entries, Held, Parts, below_entry}
+use Rattle.agg_results.specs.intermediate_results.Intermediate.{composite, composite_of, entries_of}
+use Rattle.agg_results.specs.intermediate_results.Intermediate.{filter, metric, orders_of, parts_of}
+use Rattle.agg_results.specs.intermediate_results.Intermediate.{target_size_of}
+use Rattle.agg_results.specs.declared.intermediate_results as intermediate
 use intermediate.results.IntermediateAggregationResult.{IntermediateAggregationResult}
 use intermediate.composite.IntermediateCompositeBucketResult.{IntermediateCompositeBucketResult}
 use intermediate.entry.IntermediateTermBucketEntry.{IntermediateTermBucketEntry}

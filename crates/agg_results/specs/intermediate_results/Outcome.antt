@@ -5,12 +5,12 @@ use Rattle.std.specs.declared.cmp.Ordering.{Ordering}
 use Rattle.std.specs.declared.cmp.Ordering.TheVariants.{Less}
 use Rattle.agg_values.specs.Names.{value_of}
 use Rattle.agg_values.specs.Tuple.{KeyTuple}
-use Rattle.agg_metric_results.specs.Merges.{Merges}
-use Rattle.agg_intermediate_results.specs.Intermediate.{Held, below_entry}
-use Rattle.agg_intermediate_results.specs.Merging.{CountsPass, EitherOrBoth, EntriesMerged}
-use Rattle.agg_intermediate_results.specs.Merging.{IsMerged, JoinNames, MergedTo, ShapesDiffer}
-use Rattle.agg_intermediate_results.specs.Merging.{SomeOfBoth}
-use Rattle.agg_intermediate_results.specs.declared as intermediate
+use Rattle.agg_results.specs.metric_results.Merges.{Merges}
+use Rattle.agg_results.specs.intermediate_results.Intermediate.{Held, below_entry}
+use Rattle.agg_results.specs.intermediate_results.Merging.{CountsPass, EitherOrBoth, EntriesMerged}
+use Rattle.agg_results.specs.intermediate_results.Merging.{IsMerged, JoinNames, MergedTo}
+use Rattle.agg_results.specs.intermediate_results.Merging.{ShapesDiffer, SomeOfBoth}
+use Rattle.agg_results.specs.declared.intermediate_results as intermediate
 use intermediate.results.IntermediateAggregationResult.{IntermediateAggregationResult}
 use intermediate.entry.IntermediateTermBucketEntry.{IntermediateTermBucketEntry}
 
@@ -29,7 +29,7 @@ abbrev pub IsMergedEntry : IntermediateTermBucketEntry → IntermediateTermBucke
     → IntermediateTermBucketEntry → Type 0
 IsMergedEntry e f w = (depth : ℕ) → EntriesMerged (JoinNames (MergedTo depth)) e f w
 
--- the same, unless a sum was too large
+-- two entries as one, at every depth, unless a sum was too large
 abbrev pub DoneUnless : Bool → IntermediateTermBucketEntry → IntermediateTermBucketEntry
     → IntermediateTermBucketEntry → Type 0
 DoneUnless passed e f w = passed ≡ false → IsMergedEntry e f w

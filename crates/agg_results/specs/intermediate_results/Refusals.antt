@@ -8,13 +8,15 @@ use Rattle.agg_request_tree.specs.Request.{Request, agg_of, below_of}
 use Rattle.agg_request_tree.specs.Source.{rules_of}
 use Rattle.agg_request_tree.specs.declared.aggregation.AggregationVariants.{AggregationVariants}
 use Rattle.agg_request_tree.specs.declared.aggregation.AggregationVariants.TheVariants as asks
-use Rattle.agg_final_results.specs.BucketCount.{results_buckets}
-use Rattle.agg_metric_results.specs.declared.metric.IntermediateMetricResult.TheVariants as m
-use Rattle.agg_intermediate_results.specs.Final.{final_results}
-use Rattle.agg_intermediate_results.specs.Intermediate.{Held, Parts, composite, entries_of, filter}
-use Rattle.agg_intermediate_results.specs.Intermediate.{helds_below, metric, orders_of, parts_of}
-use Rattle.agg_intermediate_results.specs.Merging.{SomeOfBoth}
-use Rattle.agg_intermediate_results.specs.declared as declared
+use Rattle.agg_results.specs.final_results.BucketCount.{results_buckets}
+use Rattle.agg_results.specs.declared.metric_results.metric.IntermediateMetricResult.TheVariants
+    as m
+use Rattle.agg_results.specs.intermediate_results.Final.{final_results}
+use Rattle.agg_results.specs.intermediate_results.Intermediate.{Held, Parts, composite, entries_of}
+use Rattle.agg_results.specs.intermediate_results.Intermediate.{filter, helds_below, metric}
+use Rattle.agg_results.specs.intermediate_results.Intermediate.{orders_of, parts_of}
+use Rattle.agg_results.specs.intermediate_results.Merging.{SomeOfBoth}
+use Rattle.agg_results.specs.declared.intermediate_results as declared
 use declared.error.FinalError.{FinalError}
 use declared.error.FinalError.TheVariants as error
 
@@ -46,14 +48,14 @@ IsOther (asks.Min a) (metric (m.Min r)) = ⊥
 IsOther (asks.Sum a) (metric (m.Sum r)) = ⊥
 IsOther a r = ⊤
 
--- such a result is held, within a depth
+-- a result of another kind, or of entries in other orders, is held within a depth
 abbrev pub HoldsOtherWithin : {B : Type 0} → ℕ → Request B → Held → Type 0
 HoldsOtherWithin zero request held = ⊥
 HoldsOtherWithin (suc depth) request held =
     SomeOfBoth (λ a r. IsOther (agg_of a) (parts_of r)
     ⊎ Any (HoldsOtherWithin depth (below_of a)) (helds_below (parts_of r))) request held
 
--- such a result is held, at some depth
+-- a result of another kind, or of entries in other orders, is held at some depth
 abbrev pub HoldsOther : {B : Type 0} → Request B → Held → Type 0
 HoldsOther request held = (depth : ℕ) × HoldsOtherWithin depth request held
 

@@ -9,7 +9,7 @@ use Rattle.agg_values.specs.declared.after_key.AfterKey.{AfterKey}
 use Rattle.agg_request_tree.specs.BySource.{after_map, by_source}
 use Rattle.agg_request_tree.specs.Groups.{Group}
 use Rattle.agg_request_tree.specs.Source.{Sources}
-use Rattle.agg_final_results.specs.declared.types as final
+use Rattle.agg_results.specs.declared.final_results.types as final
 use final.AggregationResult.{AggregationResult}
 use final.AggregationResult.TheVariants.{BucketResult}
 use final.BucketResult.TheVariants as buckets

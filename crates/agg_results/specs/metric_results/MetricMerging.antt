@@ -3,7 +3,7 @@ use Rattle.std.specs.Prelude.{◌≡◌, ◌≤◌, ◌+◌, ◌^◌, ◌+ℤ◌
 use Rattle.std.specs.Int.{int_max, int_min}
 use mir.Syntax.{w128}
 use Rattle.agg_request_tree.specs.Metrics.{best}
-use Rattle.agg_metric_results.specs.declared.metric.IntermediateMetricResult as declared
+use Rattle.agg_results.specs.declared.metric_results.metric.IntermediateMetricResult as declared
 use declared.{IntermediateMetricResult}
 use declared.TheVariants.{Count, Max, Min, Sum}
 

@@ -1,10 +1,10 @@
 -- Metrics, as they are shown.
 use Rattle.std.specs.Prelude.{ℕ, ℤ, pos, Option, Some}
-use Rattle.agg_final_results.specs.declared.types as final
+use Rattle.agg_results.specs.declared.final_results.types as final
 use final.AggregationResult.{AggregationResult}
 use final.AggregationResult.TheVariants.{MetricResult}
 use final.MetricResult.TheVariants as metrics
-use Rattle.agg_metric_results.specs.declared.metric.IntermediateMetricResult as declared
+use Rattle.agg_results.specs.declared.metric_results.metric.IntermediateMetricResult as declared
 use declared.{IntermediateMetricResult}
 use declared.TheVariants.{Count, Max, Min, Sum}
 

@@ -1,10 +1,12 @@
 //! How many buckets results have: of each composite its buckets with those inside them, and of each
 //! filter those inside it. The count ends at the greatest u64.
 ghost use Rattle.std.specs.Prelude.{◌≡◌, ◌^◌, ◌-◌, map, min, sum};
-ghost use Rattle.agg_final_results.specs.BucketCount.{bucket_result_buckets, entry_buckets};
-ghost use Rattle.agg_final_results.specs.BucketCount.{result_buckets, results_buckets};
+ghost use Rattle.agg_results.specs.final_results.BucketCount.{bucket_result_buckets, entry_buckets};
+ghost use Rattle.agg_results.specs.final_results.BucketCount.{result_buckets, results_buckets};
 
-use crate::{AggregationResult, AggregationResults, BucketResult, CompositeBucketEntry};
+use crate::final_results::{
+    AggregationResult, AggregationResults, BucketResult, CompositeBucketEntry,
+};
 
 impl AggregationResults {
     /// The number of buckets: of each composite its buckets with those inside them, and of each

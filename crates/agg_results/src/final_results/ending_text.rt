@@ -2,13 +2,16 @@
 //! text stands there, so that a long page doesn't stand in memory beside its whole text.
 ghost use Rattle.std.specs.Prelude.{◌≡◌, ◌∷◌, [], ◌++◌, IfOk, MatchOption, OnOk, map};
 ghost use Rattle.std.specs.Prelude.{string_bytes};
-ghost use Rattle.agg_final_results.specs.ResultsText.{bracketed, bucket_text, composite_members};
-ghost use Rattle.agg_final_results.specs.ResultsText.{members_text, result_text, results_text};
+ghost use Rattle.agg_results.specs.final_results.ResultsText.{bracketed, bucket_text};
+ghost use Rattle.agg_results.specs.final_results.ResultsText.{composite_members, members_text};
+ghost use Rattle.agg_results.specs.final_results.ResultsText.{result_text, results_text};
 
-use crate::json_text::{write_comma, write_name};
-use crate::result_text::{write_after_key, write_bucket, write_result};
-use crate::{AggregationResult, AggregationResults, BucketResult, CompositeBucketEntry};
-use agg_freeing::FreeingIter;
+use crate::final_results::json_text::{write_comma, write_name};
+use crate::final_results::result_text::{write_after_key, write_bucket, write_result};
+use crate::final_results::{
+    AggregationResult, AggregationResults, BucketResult, CompositeBucketEntry,
+};
+use agg_values::freeing::FreeingIter;
 use agg_values::{AfterKey, NameMap, OutOfMemory, Text};
 use std::alloc::Global;
 

@@ -1,12 +1,13 @@
 //! Texts as JSON of what has no results inside it. Each writer appends the text of one thing.
 ghost use Rattle.std.specs.Prelude.{◌≡◌, List, [], ℕ, ◌++◌, false, OnOk, decimal};
 ghost use Rattle.std.specs.Prelude.{string_bytes};
-ghost use Rattle.agg_final_results.specs.ResultsText.{comma_unless, member_text, object_text};
-ghost use Rattle.agg_final_results.specs.ResultsText.{metric_text, number_text, quoted_after_key};
-ghost use Rattle.agg_final_results.specs.ResultsText.{shown_key_text, value_text};
+ghost use Rattle.agg_results.specs.final_results.ResultsText.{comma_unless, member_text};
+ghost use Rattle.agg_results.specs.final_results.ResultsText.{object_text, metric_text};
+ghost use Rattle.agg_results.specs.final_results.ResultsText.{number_text, quoted_after_key};
+ghost use Rattle.agg_results.specs.final_results.ResultsText.{shown_key_text, value_text};
 
-use crate::MetricResult;
-use crate::quoted::write_quoted;
+use crate::final_results::MetricResult;
+use crate::final_results::quoted::write_quoted;
 use agg_values::{AfterKey, CompositeKey, NameMap, OutOfMemory};
 use itoa::{Buffer, Integer};
 use std::alloc::Global;

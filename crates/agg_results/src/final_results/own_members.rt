@@ -1,11 +1,11 @@
 //! The members of an object of sub-results beside these.
 ghost use Rattle.std.specs.Prelude.{◌≡◌, [], OnOk, option_map, string_bytes};
-ghost use Rattle.agg_final_results.specs.Appending.{AppendsMembers, above, below};
-ghost use Rattle.agg_final_results.specs.OwnMembers.{member_of, own_members};
-ghost use Rattle.agg_final_results.specs.ResultsText.{count_member, plain_members};
+ghost use Rattle.agg_results.specs.final_results.Appending.{AppendsMembers, above, below};
+ghost use Rattle.agg_results.specs.final_results.OwnMembers.{member_of, own_members};
+ghost use Rattle.agg_results.specs.final_results.ResultsText.{count_member, plain_members};
 
-use crate::json_text::{JsonText, write_comma, write_name};
-use crate::{CompositeBucketEntry, FilterBucketResult};
+use crate::final_results::json_text::{JsonText, write_comma, write_name};
+use crate::final_results::{CompositeBucketEntry, FilterBucketResult};
 use agg_values::{CompositeKey, NameMap, OutOfMemory};
 use std::alloc::Global;
 use std::cmp::Ordering;
@@ -28,7 +28,7 @@ impl<'a> OwnMembers<'a> {
         }
     }
 
-    /// That of a filter.
+    /// The members of a filter.
     pub fn of_filter(filter: &'a FilterBucketResult) -> OwnMembers<'a>
         ensures { own_members result ≡ count_member filter.now.doc_count }
     {
@@ -38,7 +38,7 @@ impl<'a> OwnMembers<'a> {
         }
     }
 
-    /// Those of a bucket.
+    /// The members of a bucket.
     pub fn of_bucket(bucket: &'a CompositeBucketEntry) -> OwnMembers<'a>
         ensures { own_members result ≡ plain_members bucket.now.doc_count bucket.now.key }
     {

@@ -2,7 +2,7 @@
 ghost use Rattle.std.specs.Prelude.{◌≡◌, ◌∷◌, [], ◌++◌, OnOk, string_bytes};
 ghost use Rattle.std.specs.List.{list_all};
 ghost use Rattle.json.specs.Print.{quoted};
-ghost use Rattle.agg_final_results.specs.PlainText.{is_plain};
+ghost use Rattle.agg_results.specs.final_results.PlainText.{is_plain};
 
 use agg_values::OutOfMemory;
 use json::Writer;

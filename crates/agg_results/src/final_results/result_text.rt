@@ -3,16 +3,17 @@ ghost use Rattle.std.specs.Prelude.{◌≡◌, ◌++◌, map, string_bytes, OnOk
 ghost use Rattle.std.specs.List.Sorted.{IsStrictlySortedBy};
 ghost use Rattle.std.specs.Map.{keys_of};
 ghost use Rattle.agg_values.specs.Names.{name_cmp};
-ghost use Rattle.agg_final_results.specs.Appending.{after_key_member};
-ghost use Rattle.agg_final_results.specs.OwnMembers.{own_members};
-ghost use Rattle.agg_final_results.specs.ResultsText.{bracketed, bucket_result_text, bucket_text};
-ghost use Rattle.agg_final_results.specs.ResultsText.{composite_members, filter_text, members_text};
-ghost use Rattle.agg_final_results.specs.ResultsText.{plain_members, put_all, result_text};
-ghost use Rattle.agg_final_results.specs.ResultsText.{results_members};
+ghost use Rattle.agg_results.specs.final_results.Appending.{after_key_member};
+ghost use Rattle.agg_results.specs.final_results.OwnMembers.{own_members};
+ghost use Rattle.agg_results.specs.final_results.ResultsText.{bracketed, bucket_result_text};
+ghost use Rattle.agg_results.specs.final_results.ResultsText.{bucket_text, composite_members};
+ghost use Rattle.agg_results.specs.final_results.ResultsText.{filter_text, members_text};
+ghost use Rattle.agg_results.specs.final_results.ResultsText.{plain_members, put_all, result_text};
+ghost use Rattle.agg_results.specs.final_results.ResultsText.{results_members};
 
-use crate::json_text::{JsonText, write_comma, write_name};
-use crate::own_members::OwnMembers;
-use crate::{
+use crate::final_results::json_text::{JsonText, write_comma, write_name};
+use crate::final_results::own_members::OwnMembers;
+use crate::final_results::{
     AggregationResult, AggregationResults, BucketResult, CompositeBucketEntry, FilterBucketResult,
 };
 use agg_values::{AfterKey, NameMap, OutOfMemory};

@@ -1,10 +1,10 @@
 //! The types of final results.
 ghost use Rattle.std.specs.Prelude.{◌≡◌, ◌++◌, IfOk, OnOk, string_bytes};
-ghost use Rattle.agg_final_results.specs.ResultsText.{results_text};
+ghost use Rattle.agg_results.specs.final_results.ResultsText.{results_text};
 
-use crate::ending_text::write_ending;
-use crate::own_members::OwnMembers;
-use crate::result_text::write_results;
+use crate::final_results::ending_text::write_ending;
+use crate::final_results::own_members::OwnMembers;
+use crate::final_results::result_text::write_results;
 use agg_values::{AfterKey, CompositeKey, ItemList, NameMap, OutOfMemory, Text};
 
 /// The results of a request, by name.

@@ -4,14 +4,14 @@ ghost use Rattle.std.specs.List.Sorted.{IsStrictlySortedBy};
 ghost use Rattle.std.specs.Map.{keys_of};
 ghost use Rattle.agg_values.specs.Names.{name_cmp};
 ghost use Rattle.agg_request_tree.specs.Source.{rules_of};
-ghost use Rattle.agg_intermediate_results.specs.Empty.{empty_result, empty_results};
-ghost use Rattle.agg_intermediate_results.specs.Intermediate.{composite_of};
+ghost use Rattle.agg_results.specs.intermediate_results.Empty.{empty_result, empty_results};
+ghost use Rattle.agg_results.specs.intermediate_results.Intermediate.{composite_of};
 
-use crate::{
+use crate::intermediate_results::{
     IntermediateAggregationResult, IntermediateAggregationResults, IntermediateBucketResult,
     IntermediateCompositeBucketResult,
 };
-use agg_metric_results::{
+use crate::metric_results::{
     IntermediateCount, IntermediateMax, IntermediateMetricResult, IntermediateMin, IntermediateSum,
 };
 use agg_request_tree::{Aggregation, AggregationVariants, Aggregations, CompositeAggregation};

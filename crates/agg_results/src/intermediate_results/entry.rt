@@ -1,11 +1,12 @@
 ghost use Rattle.std.specs.Prelude.{◌≡◌, ◌+◌, OnErr, OnOk, IsErrOf};
-ghost use Rattle.agg_metric_results.specs.Merges.{Merges};
-ghost use Rattle.agg_intermediate_results.specs.Intermediate.{below_entry, plain_entry};
-ghost use Rattle.agg_intermediate_results.specs.Merging.{AreMerged};
-ghost use Rattle.agg_intermediate_results.specs.Outcome.{BelowDiffer, DoneUnless, EntriesPass};
+ghost use Rattle.agg_results.specs.metric_results.Merges.{Merges};
+ghost use Rattle.agg_results.specs.intermediate_results.Intermediate.{below_entry, plain_entry};
+ghost use Rattle.agg_results.specs.intermediate_results.Merging.{AreMerged};
+ghost use Rattle.agg_results.specs.intermediate_results.Outcome.{BelowDiffer, DoneUnless};
+ghost use Rattle.agg_results.specs.intermediate_results.Outcome.{EntriesPass};
 
-use crate::IntermediateAggregationResults;
-use agg_metric_results::{MergeError, add_counts};
+use crate::intermediate_results::IntermediateAggregationResults;
+use crate::metric_results::{MergeError, add_counts};
 
 /// What is held for one group of a composite.
 pub type IntermediateCompositeBucketEntry = IntermediateTermBucketEntry;
@@ -41,7 +42,7 @@ impl IntermediateTermBucketEntry {
         merged
     }
 
-    // The same, where an error leaves something.
+    // Adds what another holds. After an error some of it may be held.
     fn merge_checked(&mut self, other: IntermediateTermBucketEntry) -> Result<(), MergeError>
         ensures count { OnOk result
             (self.new.doc_count ≡ self.old.doc_count + other.doc_count) }

@@ -1,8 +1,9 @@
 ghost use Rattle.std.specs.Prelude.{◌≡◌};
-ghost use Rattle.agg_intermediate_results.specs.FinalError.{error_from_merge};
-ghost use Rattle.agg_intermediate_results.specs.declared.error.FinalError.TheVariants as last;
+ghost use Rattle.agg_results.specs.intermediate_results.FinalError.{error_from_merge};
+ghost use Rattle.agg_results.specs.declared.intermediate_results.error.FinalError.TheVariants
+    as last;
 
-use agg_metric_results::MergeError;
+use crate::metric_results::MergeError;
 use agg_values::{AggregationError, OutOfMemory};
 use thiserror::Error;
 

@@ -1,8 +1,8 @@
 //! Final results, from intermediate ones.
 ghost use Rattle.std.specs.Prelude.{◌≡◌, IfErr, IfOk, OnOk};
-ghost use Rattle.agg_final_results.specs.BucketCount.{results_buckets};
-ghost use Rattle.agg_intermediate_results.specs.Final.{final_results};
-ghost use Rattle.agg_intermediate_results.specs.Refusals.{IsNotFinal, MayBeFinal};
+ghost use Rattle.agg_results.specs.final_results.BucketCount.{results_buckets};
+ghost use Rattle.agg_results.specs.intermediate_results.Final.{final_results};
+ghost use Rattle.agg_results.specs.intermediate_results.Refusals.{IsNotFinal, MayBeFinal};
 
 mod by_name;
 mod other_shapes;
@@ -10,9 +10,9 @@ mod pages;
 mod shown;
 mod unknown_names;
 
-use crate::{FinalError, IntermediateAggregationResults};
+use crate::final_results::AggregationResults;
+use crate::intermediate_results::{FinalError, IntermediateAggregationResults};
 use agg_cache::LimitsLedger;
-use agg_final_results::AggregationResults;
 use agg_request_tree::Aggregations;
 use agg_values::{AggregationError, OutOfMemory};
 use by_name::shown_by_name;

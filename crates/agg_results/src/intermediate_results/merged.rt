@@ -4,19 +4,21 @@ ghost use Rattle.std.specs.Prelude.{IsSomeAnd, OnOk};
 ghost use Rattle.std.specs.List.Sorted.{IsStrictlySortedBy};
 ghost use Rattle.std.specs.Map.{keys_of};
 ghost use Rattle.agg_values.specs.Names.{name_cmp, put, value_of, without};
-ghost use Rattle.agg_metric_results.specs.Merges.{Merges};
-ghost use Rattle.agg_metric_results.specs.declared.metric.IntermediateMetricResult as metrics;
-ghost use Rattle.agg_intermediate_results.specs.Intermediate.{parts_of_bucket};
-ghost use Rattle.agg_intermediate_results.specs.Merging.{AreMerged, CountsPass, EitherOrBoth};
-ghost use Rattle.agg_intermediate_results.specs.Merging.{IsMerged, JoinNames, MergedTo};
-ghost use Rattle.agg_intermediate_results.specs.Merging.{PartsDiffer, PartsMerged, PartsPass};
-ghost use Rattle.agg_intermediate_results.specs.Merging.{ShapesDiffer, SomeOfBoth};
-ghost use Rattle.agg_intermediate_results.specs.Outcome.{IsPut};
+ghost use Rattle.agg_results.specs.metric_results.Merges.{Merges};
+ghost use Rattle.agg_results.specs.declared.metric_results.metric.IntermediateMetricResult
+    as metrics;
+ghost use Rattle.agg_results.specs.intermediate_results.Intermediate.{parts_of_bucket};
+ghost use Rattle.agg_results.specs.intermediate_results.Merging.{AreMerged, CountsPass};
+ghost use Rattle.agg_results.specs.intermediate_results.Merging.{EitherOrBoth, IsMerged, JoinNames};
+ghost use Rattle.agg_results.specs.intermediate_results.Merging.{MergedTo, PartsDiffer};
+ghost use Rattle.agg_results.specs.intermediate_results.Merging.{PartsMerged, PartsPass};
+ghost use Rattle.agg_results.specs.intermediate_results.Merging.{ShapesDiffer, SomeOfBoth};
+ghost use Rattle.agg_results.specs.intermediate_results.Outcome.{IsPut};
 
-use crate::{
+use crate::intermediate_results::{
     IntermediateAggregationResult, IntermediateAggregationResults, IntermediateBucketResult,
 };
-use agg_metric_results::{IntermediateMetricResult, MergeError, add_counts};
+use crate::metric_results::{IntermediateMetricResult, MergeError, add_counts};
 use agg_values::{NameMap, OutOfMemory, Text};
 
 impl IntermediateAggregationResults {
@@ -185,7 +187,7 @@ fn merge_metric(
     }
 }
 
-// The same of results that have buckets.
+// Two results that have buckets as one.
 #[cycle(merging)]
 fn merge_buckets(
     left: IntermediateBucketResult,

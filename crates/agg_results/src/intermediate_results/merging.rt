@@ -4,16 +4,17 @@ ghost use Rattle.std.specs.Prelude.{OnOk};
 ghost use Rattle.std.specs.List.Sorted.{IsStrictlySortedBy};
 ghost use Rattle.std.specs.Map.{keys_of};
 ghost use Rattle.agg_values.specs.KeyOrder.{tuple_order};
-ghost use Rattle.agg_metric_results.specs.Merges.{Merges};
-ghost use Rattle.agg_intermediate_results.specs.Intermediate.{Entries, TupleEntry};
-ghost use Rattle.agg_intermediate_results.specs.Merging.{JoinEntries, SomeTied};
-ghost use Rattle.agg_intermediate_results.specs.Outcome.{AreBelow, BelowDiffer, DoneUnless};
-ghost use Rattle.agg_intermediate_results.specs.Outcome.{EntriesPass};
-ghost use Rattle.agg_intermediate_results.specs.declared.entry.IntermediateTermBucketEntry as held;
+ghost use Rattle.agg_results.specs.metric_results.Merges.{Merges};
+ghost use Rattle.agg_results.specs.intermediate_results.Intermediate.{Entries, TupleEntry};
+ghost use Rattle.agg_results.specs.intermediate_results.Merging.{JoinEntries, SomeTied};
+ghost use Rattle.agg_results.specs.intermediate_results.Outcome.{AreBelow, BelowDiffer, DoneUnless};
+ghost use Rattle.agg_results.specs.intermediate_results.Outcome.{EntriesPass};
+ghost use Rattle.agg_results.specs.declared.intermediate_results.entry.IntermediateTermBucketEntry
+    as held;
 
-use crate::IntermediateTermBucketEntry;
-use agg_metric_results::MergeError;
-use agg_tuple_map::tuple_ordering;
+use crate::intermediate_results::IntermediateTermBucketEntry;
+use crate::metric_results::MergeError;
+use agg_values::tuple_map::tuple_ordering;
 use agg_values::{MissingOrder, Order, OutOfMemory, Tuple};
 use std::alloc::Global;
 use std::cmp::Ordering;

@@ -1,9 +1,9 @@
 //! What intermediate results hold, for the final ones.
 ghost use Rattle.std.specs.Prelude.{◌≡◌, take};
-ghost use Rattle.agg_intermediate_results.specs.Intermediate.{entries_of, orders_of};
-ghost use Rattle.agg_intermediate_results.specs.Intermediate.{target_size_of};
+ghost use Rattle.agg_results.specs.intermediate_results.Intermediate.{entries_of, orders_of};
+ghost use Rattle.agg_results.specs.intermediate_results.Intermediate.{target_size_of};
 
-use crate::{IntermediateCompositeBucketResult, IntermediateTermBucketEntry};
+use crate::intermediate_results::{IntermediateCompositeBucketResult, IntermediateTermBucketEntry};
 use agg_values::{MissingOrder, Order, Tuple};
 
 impl IntermediateCompositeBucketResult {

@@ -3,12 +3,12 @@ ghost use Rattle.std.specs.Prelude.{OnOk, option_map};
 ghost use Rattle.std.specs.List.{IsAmong};
 ghost use Rattle.std.specs.Map.{keys_of, values_of};
 ghost use Rattle.agg_values.specs.Names.{put, value_of, without};
-ghost use Rattle.agg_intermediate_results.specs.Merging.{AreMerged, CountsPass, ShapesDiffer};
-ghost use Rattle.agg_intermediate_results.specs.Merging.{SomeOfBoth};
+ghost use Rattle.agg_results.specs.intermediate_results.Merging.{AreMerged, CountsPass};
+ghost use Rattle.agg_results.specs.intermediate_results.Merging.{ShapesDiffer, SomeOfBoth};
 
-use crate::IntermediateCompositeBucketResult;
-use crate::merged::merged_over;
-use agg_metric_results::{IntermediateMetricResult, MergeError};
+use crate::intermediate_results::IntermediateCompositeBucketResult;
+use crate::intermediate_results::merged::merged_over;
+use crate::metric_results::{IntermediateMetricResult, MergeError};
 use agg_values::{NameEntries, NameKeys, NameMap, Text};
 use std::alloc::Global;
 
@@ -146,7 +146,7 @@ impl IntermediateAggregationResults {
         merged
     }
 
-    // The same, where an error leaves some names.
+    // Adds what other results hold, name by name. After an error some names may be held.
     fn merge_checked(&mut self, other: IntermediateAggregationResults) -> Result<(), MergeError>
         ensures ok { OnOk result (AreMerged self.old.results other.results self.new.results) }
         ensures shapes { OnOk result (¬ (SomeOfBoth ShapesDiffer self.old.results other.results)) }

@@ -1,5 +1,5 @@
 ghost use Rattle.std.specs.Prelude.{◌≡◌};
-ghost use Rattle.agg_metric_results.specs.declared.error.MergeError.TheVariants as merge;
+ghost use Rattle.agg_results.specs.declared.metric_results.error.MergeError.TheVariants as merge;
 
 use agg_values::OutOfMemory;
 use std::alloc::AllocFailed;

@@ -3,10 +3,11 @@ ghost use Rattle.std.specs.Prelude.{◌≡◌, ◌≤◌, ◌+◌, ◌^◌, ◌+
 ghost use Rattle.std.specs.Int.{int_max, int_min};
 ghost use mir.Syntax.{w128};
 ghost use Rattle.agg_request_tree.specs.Metrics.{best};
-ghost use Rattle.agg_metric_results.specs.Merges.{Merges};
-ghost use Rattle.agg_metric_results.specs.MetricMerging.{MetricsDiffer, MetricsMerged, MetricsPass};
+ghost use Rattle.agg_results.specs.metric_results.Merges.{Merges};
+ghost use Rattle.agg_results.specs.metric_results.MetricMerging.{MetricsDiffer, MetricsMerged};
+ghost use Rattle.agg_results.specs.metric_results.MetricMerging.{MetricsPass};
 
-use crate::MergeError;
+use crate::metric_results::MergeError;
 
 /// How many values there are.
 #[derive(Clone, Copy)]

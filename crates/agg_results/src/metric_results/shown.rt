@@ -1,9 +1,9 @@
 //! Metrics, as they are shown.
 ghost use Rattle.std.specs.Prelude.{◌≡◌};
-ghost use Rattle.agg_metric_results.specs.MetricShown.{final_metric};
+ghost use Rattle.agg_results.specs.metric_results.MetricShown.{final_metric};
 
-use crate::IntermediateMetricResult;
-use agg_final_results::{AggregationResult, MetricResult, SingleMetricResult};
+use crate::final_results::{AggregationResult, MetricResult, SingleMetricResult};
+use crate::metric_results::IntermediateMetricResult;
 
 /// The final result of a metric.
 pub fn shown_metric(held: IntermediateMetricResult) -> AggregationResult

@@ -1,8 +1,8 @@
 use Rattle.std.proofs.Common.{ap, map, arith}
 use Rattle.std.specs.Prelude.{sum}
 use Rattle.std.proofs.lemmas.List.{at_drop_all}
-use Rattle.agg_final_results.specs.BucketCount.{entry_buckets, result_buckets}
-use Rattle.agg_final_results.proofs.+bucket_count.Goals as goal
+use Rattle.agg_results.specs.final_results.BucketCount.{entry_buckets, result_buckets}
+use Rattle.agg_results.proofs.final_results.+bucket_count.Goals as goal
 
 pub types::AggregationResults::get_bucket_count-returns :
     goal.types::AggregationResults::get_bucket_count-returns

@@ -1,7 +1,8 @@
 use Rattle.std.proofs.Common.{◌≡◌, ◌+◌, ◌≤◌, drop, map, min}
 use Rattle.std.specs.Prelude.{sum}
-use Rattle.agg_final_results.specs.BucketCount.{entry_buckets, result_buckets, results_buckets}
-use Rattle.agg_final_results.proofs.+bucket_count.Given as goal
+use Rattle.agg_results.specs.final_results.BucketCount.{entry_buckets, result_buckets}
+use Rattle.agg_results.specs.final_results.BucketCount.{results_buckets}
+use Rattle.agg_results.proofs.final_results.+bucket_count.Given as goal
 
 -- the count so far with what is left is the whole, up to the greatest u64
 abbrev pub invariant-types::AggregationResults::get_bucket_count-loop-result :

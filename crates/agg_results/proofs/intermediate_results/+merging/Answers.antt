@@ -4,13 +4,13 @@ mod Kinds
 mod Lists
 mod Names
 mod Steps
-use Rattle.agg_intermediate_results.proofs.+merging.Goals as goal
-use Rattle.agg_intermediate_results.proofs.+merging.Answers.Buckets as buckets
-use Rattle.agg_intermediate_results.proofs.+merging.Answers.Composites as composite
-use Rattle.agg_intermediate_results.proofs.+merging.Answers.Kinds as kinds
-use Rattle.agg_intermediate_results.proofs.+merging.Answers.Lists as lists
-use Rattle.agg_intermediate_results.proofs.+merging.Answers.Names as by_name
-use Rattle.agg_intermediate_results.proofs.+merging.Answers.Steps as steps
+use Rattle.agg_results.proofs.intermediate_results.+merging.Goals as goal
+use Rattle.agg_results.proofs.intermediate_results.+merging.Answers.Buckets as buckets
+use Rattle.agg_results.proofs.intermediate_results.+merging.Answers.Composites as composite
+use Rattle.agg_results.proofs.intermediate_results.+merging.Answers.Kinds as kinds
+use Rattle.agg_results.proofs.intermediate_results.+merging.Answers.Lists as lists
+use Rattle.agg_results.proofs.intermediate_results.+merging.Answers.Names as by_name
+use Rattle.agg_results.proofs.intermediate_results.+merging.Answers.Steps as steps
 
 pub composite::IntermediateCompositeBucketResult::merged_with-merge_lists-requires :
     goal.composite::IntermediateCompositeBucketResult::merged_with-merge_lists-requires

@@ -1,10 +1,12 @@
 use Rattle.std.proofs.Common.{◌+◌, ◌*◌, length}
 use Rattle.agg_values.specs.KeyOrder.{tuple_order}
-use Rattle.agg_intermediate_results.specs.Intermediate.{below_entry, entries_of, parts_of_bucket}
-use Rattle.agg_intermediate_results.proofs.AscendingLists.{Underway}
-use Rattle.agg_intermediate_results.proofs.Levels.{entries_levels, height, levels, parts_height}
-use Rattle.agg_intermediate_results.proofs.Names.{Pushing}
-use Rattle.agg_intermediate_results.proofs.+merging.Given as goal
+use Rattle.agg_results.specs.intermediate_results.Intermediate.{below_entry, entries_of}
+use Rattle.agg_results.specs.intermediate_results.Intermediate.{parts_of_bucket}
+use Rattle.agg_results.proofs.lemmas.intermediate_results.AscendingLists.{Underway}
+use Rattle.agg_results.proofs.lemmas.intermediate_results.Levels.{entries_levels, height, levels}
+use Rattle.agg_results.proofs.lemmas.intermediate_results.Levels.{parts_height}
+use Rattle.agg_results.proofs.lemmas.intermediate_results.Names.{Pushing}
+use Rattle.agg_results.proofs.intermediate_results.+merging.Given as goal
 
 abbrev pub decreases-composite::IntermediateCompositeBucketResult::merged_with :
     goal.decreases-composite::IntermediateCompositeBucketResult::merged_with

@@ -1,4 +1,4 @@
-use Rattle.agg_intermediate_results.specs.Empty.{empty_results}
+use Rattle.agg_results.specs.intermediate_results.Empty.{empty_results}
 use Rattle.agg_results.proofs.Empties.{StandsFor-empty}
 use Rattle.agg_results.proofs.MergedFinals.{final-associative, final-commutative, final-neutral}
 use Rattle.agg_results.proofs.laws.merging_in_any_order_is_final_alike.Goals as goal

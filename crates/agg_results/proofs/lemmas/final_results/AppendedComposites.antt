@@ -5,9 +5,10 @@ use Rattle.std.specs.Prelude.{codes}
 use Rattle.json.specs.Print.{escape_byte}
 use Rattle.agg_values.specs.Names.{Named}
 use Rattle.agg_values.specs.declared.after_key.AfterKey.{AfterKey}
-use Rattle.agg_final_results.specs.Appending.{after_key_member}
-use Rattle.agg_final_results.specs.ResultsText.{braced, bracketed, composite_members, member_text}
-use Rattle.agg_final_results.specs.ResultsText.{members_text, object_text, quoted_after_key}
+use Rattle.agg_results.specs.final_results.Appending.{after_key_member}
+use Rattle.agg_results.specs.final_results.ResultsText.{braced, bracketed, composite_members}
+use Rattle.agg_results.specs.final_results.ResultsText.{member_text, members_text, object_text}
+use Rattle.agg_results.specs.final_results.ResultsText.{quoted_after_key}
 
 -- the buckets alone
 last-written : (before listed : List ℕ)

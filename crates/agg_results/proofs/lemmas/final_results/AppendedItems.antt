@@ -4,8 +4,8 @@ use Rattle.std.proofs.Common.{add-one, append_assoc, drop, drop-cons, get_or, le
 use Rattle.std.proofs.lemmas.List.{append-nil}
 use Rattle.std.specs.List.{join_with_byte}
 use Rattle.json.specs.Print.{quoted}
-use Rattle.agg_final_results.specs.Appending.{more_items}
-use Rattle.agg_final_results.specs.ResultsText.{comma_unless, member_text}
+use Rattle.agg_results.specs.final_results.Appending.{more_items}
+use Rattle.agg_results.specs.final_results.ResultsText.{comma_unless, member_text}
 
 -- items that are joined are all appended
 pub joined : (items : List (List ℕ)) → join_with_byte 44 items ≡ more_items true items

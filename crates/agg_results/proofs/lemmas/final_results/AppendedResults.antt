@@ -11,15 +11,17 @@ use Rattle.std.specs.List.Sorted.{IsStrictlySortedBy}
 use Rattle.std.specs.Map.{keys_of}
 use Rattle.json.specs.Print.{quoted}
 use Rattle.agg_values.specs.Names.{Named, name_cmp}
-use Rattle.agg_final_results.specs.Appending.{AppendsMembers, above, below, more_members}
-use Rattle.agg_final_results.specs.Appending.{still_first}
-use Rattle.agg_final_results.specs.OwnMembers.{member_of}
-use Rattle.agg_final_results.specs.ResultsText.{Texts, comma_unless, member_text, members_text}
-use Rattle.agg_final_results.specs.ResultsText.{put_all, result_text, results_members, results_text}
-use Rattle.agg_final_results.specs.declared.types.AggregationResults.{AggregationResults}
-use Rattle.agg_final_results.proofs.AppendedItems.{all-appended, item-appended, member-appended}
-use Rattle.agg_final_results.proofs.PutMembers.{put_all-none, put_all-splits}
-use Rattle.agg_final_results.proofs.ResultFolds.{results_members-each}
+use Rattle.agg_results.specs.final_results.Appending.{AppendsMembers, above, below, more_members}
+use Rattle.agg_results.specs.final_results.Appending.{still_first}
+use Rattle.agg_results.specs.final_results.OwnMembers.{member_of}
+use Rattle.agg_results.specs.final_results.ResultsText.{Texts, comma_unless, member_text}
+use Rattle.agg_results.specs.final_results.ResultsText.{members_text, put_all, result_text}
+use Rattle.agg_results.specs.final_results.ResultsText.{results_members, results_text}
+use Rattle.agg_results.specs.declared.final_results.types.AggregationResults.{AggregationResults}
+use Rattle.agg_results.proofs.lemmas.final_results.AppendedItems.{all-appended, item-appended}
+use Rattle.agg_results.proofs.lemmas.final_results.AppendedItems.{member-appended}
+use Rattle.agg_results.proofs.lemmas.final_results.PutMembers.{put_all-none, put_all-splits}
+use Rattle.agg_results.proofs.lemmas.final_results.ResultFolds.{results_members-each}
 
 -- the members of a bucket ascend
 pub own-ascend : {A B : Type 0} (f : A → List ℕ) (g : B → List ℕ) (count : Option A)

@@ -5,7 +5,7 @@ use Rattle.std.proofs.lemmas.Bool.{and_parts}
 use Rattle.std.proofs.lemmas.Bool.Decides.{nat_tests}
 use Rattle.json.specs.Print.{escape, escape_byte}
 use Rattle.json.proofs.Printed.Strings.{escape_byte_plain}
-use Rattle.agg_final_results.specs.PlainText.{is_plain}
+use Rattle.agg_results.specs.final_results.PlainText.{is_plain}
 
 byte-plain : (x : ℕ) → is_plain x ≡ true → escape_byte x ≡ x ∷ []
 byte-plain x h = escape_byte_plain x (λ e. grind (arith, nat_tests, h))

@@ -8,8 +8,8 @@ use Rattle.std.specs.Ordering.{match_ordering, ordering_reverse}
 use Rattle.std.proofs.lemmas.Cmp.{nat_list_cmp_total}
 use Rattle.std.proofs.lemmas.Map.Lookups.{exact_bytes}
 use Rattle.agg_values.specs.Names.{name_cmp, put}
-use Rattle.agg_final_results.specs.Appending.{above, below}
-use Rattle.agg_final_results.specs.ResultsText.{Texts, put_all}
+use Rattle.agg_results.specs.final_results.Appending.{above, below}
+use Rattle.agg_results.specs.final_results.ResultsText.{Texts, put_all}
 
 -- the name comes before those of the members
 abbrev IsBefore : List ℕ → Texts → Type 0

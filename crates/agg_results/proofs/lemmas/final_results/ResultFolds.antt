@@ -5,27 +5,30 @@ use Rattle.std.specs.Map.{values_of}
 use Rattle.agg_values.specs.Names.{Named}
 use Rattle.agg_values.specs.declared.after_key.AfterKey.{AfterKey}
 use Rattle.agg_values.specs.declared.composite_key.CompositeKey.{CompositeKey}
-use Rattle.agg_final_results.specs.BucketCount as count
-use Rattle.agg_final_results.specs.BucketCount.{bucket_result_buckets, entry_buckets}
-use Rattle.agg_final_results.specs.BucketCount.{result_buckets, results_buckets}
-use Rattle.agg_final_results.specs.ResultsText as text
-use Rattle.agg_final_results.specs.ResultsText.{Texts, braced, bucket_members, bucket_result_text}
-use Rattle.agg_final_results.specs.ResultsText.{bucket_text, composite_members, filter_members}
-use Rattle.agg_final_results.specs.ResultsText.{member_text, members_text, metric_text}
-use Rattle.agg_final_results.specs.ResultsText.{object_text, result_text, results_members}
-use Rattle.agg_final_results.specs.ResultsText.{results_text, shown_key_text}
-use Rattle.agg_final_results.specs.declared.types.AggregationResult.TheFolds as folds
+use Rattle.agg_results.specs.final_results.BucketCount as count
+use Rattle.agg_results.specs.final_results.BucketCount.{bucket_result_buckets, entry_buckets}
+use Rattle.agg_results.specs.final_results.BucketCount.{result_buckets, results_buckets}
+use Rattle.agg_results.specs.final_results.ResultsText as text
+use Rattle.agg_results.specs.final_results.ResultsText.{Texts, braced, bucket_members}
+use Rattle.agg_results.specs.final_results.ResultsText.{bucket_result_text, bucket_text}
+use Rattle.agg_results.specs.final_results.ResultsText.{composite_members, filter_members}
+use Rattle.agg_results.specs.final_results.ResultsText.{member_text, members_text, metric_text}
+use Rattle.agg_results.specs.final_results.ResultsText.{object_text, result_text, results_members}
+use Rattle.agg_results.specs.final_results.ResultsText.{results_text, shown_key_text}
+use Rattle.agg_results.specs.declared.final_results.types.AggregationResult.TheFolds as folds
 use folds.{fold-roll-AggregationResult, fold-roll-BucketResult}
 use folds.{fold_out-AggregationResults, fold_out-CompositeBucketEntry}
 use folds.{fold_out-FilterBucketResult}
-use Rattle.agg_final_results.specs.declared.types.AggregationResult.TheOpen as opened
-use Rattle.agg_final_results.specs.declared.types.AggregationResult.TheVariants as kind
-use Rattle.agg_final_results.specs.declared.types.AggregationResults.{AggregationResults}
-use Rattle.agg_final_results.specs.declared.types.BucketResult.{BucketResult}
-use Rattle.agg_final_results.specs.declared.types.BucketResult.TheVariants as buckets
-use Rattle.agg_final_results.specs.declared.types.CompositeBucketEntry.{CompositeBucketEntry}
-use Rattle.agg_final_results.specs.declared.types.FilterBucketResult.{FilterBucketResult}
-use Rattle.agg_final_results.specs.declared.types.MetricResult.{MetricResult}
+use Rattle.agg_results.specs.declared.final_results.types.AggregationResult.TheOpen as opened
+use Rattle.agg_results.specs.declared.final_results.types.AggregationResult.TheVariants as kind
+use Rattle.agg_results.specs.declared.final_results.types.AggregationResults.{AggregationResults}
+use Rattle.agg_results.specs.declared.final_results.types.BucketResult.{BucketResult}
+use Rattle.agg_results.specs.declared.final_results.types.BucketResult.TheVariants as buckets
+use Rattle.agg_results.specs.declared.final_results.types.CompositeBucketEntry.{
+  CompositeBucketEntry,
+}
+use Rattle.agg_results.specs.declared.final_results.types.FilterBucketResult.{FilterBucketResult}
+use Rattle.agg_results.specs.declared.final_results.types.MetricResult.{MetricResult}
 
 -- ---- numbers of buckets
 

@@ -12,13 +12,13 @@ use Rattle.std_collections.specs.Layout.Columns.{set_value_at}
 use Rattle.std_collections.proofs.Seek.{AboveFirst, AnswersAt, seek-Ok, seek_err}
 use Rattle.agg_values.specs.Tuple.{KeyTuple}
 use Rattle.agg_request_tree.proofs.Lists.{Contains-from_Has, Has, Has-from_Contains}
-use Rattle.agg_intermediate_results.specs.Intermediate.{Entries, TupleEntry}
-use Rattle.agg_intermediate_results.specs.Merging.{ByOrder, JoinEntries, SomeTied}
-use Rattle.agg_intermediate_results.specs.declared as declared
+use Rattle.agg_results.specs.intermediate_results.Intermediate.{Entries, TupleEntry}
+use Rattle.agg_results.specs.intermediate_results.Merging.{ByOrder, JoinEntries, SomeTied}
+use Rattle.agg_results.specs.declared.intermediate_results as declared
 use declared.entry.IntermediateTermBucketEntry.{IntermediateTermBucketEntry}
-use Rattle.agg_intermediate_results.proofs.JoinedEntries.{join-nothing_right}
-use Rattle.agg_intermediate_results.proofs.KeyTurns.{reversed}
-use Rattle.agg_intermediate_results.proofs.TiedEntries.{key-has}
+use Rattle.agg_results.proofs.lemmas.intermediate_results.JoinedEntries.{join-nothing_right}
+use Rattle.agg_results.proofs.lemmas.intermediate_results.KeyTurns.{reversed}
+use Rattle.agg_results.proofs.lemmas.intermediate_results.TiedEntries.{key-has}
 
 abbrev Entry : Type 0
 Entry = IntermediateTermBucketEntry

@@ -8,17 +8,19 @@ use Rattle.std.specs.Map.{keys_of}
 use Rattle.std.proofs.lemmas.List.{append-nil}
 use Rattle.std.proofs.lemmas.Map.Keys.{sorted_tail}
 use Rattle.agg_values.specs.Tuple.{KeyTuple}
-use Rattle.agg_metric_results.specs.Merges.{Merges}
-use Rattle.agg_intermediate_results.specs.Intermediate.{Entries, TupleEntry}
-use Rattle.agg_intermediate_results.specs.Merging.{ByOrder, JoinEntries, SomeTied}
-use Rattle.agg_intermediate_results.specs.Outcome.{BelowDiffer, DoneUnless, EntriesPass}
-use Rattle.agg_intermediate_results.specs.declared as intermediate
+use Rattle.agg_results.specs.metric_results.Merges.{Merges}
+use Rattle.agg_results.specs.intermediate_results.Intermediate.{Entries, TupleEntry}
+use Rattle.agg_results.specs.intermediate_results.Merging.{ByOrder, JoinEntries, SomeTied}
+use Rattle.agg_results.specs.intermediate_results.Outcome.{BelowDiffer, DoneUnless, EntriesPass}
+use Rattle.agg_results.specs.declared.intermediate_results as intermediate
 use intermediate.entry.IntermediateTermBucketEntry.{IntermediateTermBucketEntry}
-use Rattle.agg_intermediate_results.proofs.JoinedEntries.{join-nothing_right, join-nothing_left}
-use Rattle.agg_intermediate_results.proofs.Levels.{entries_levels}
-use Rattle.agg_intermediate_results.proofs.TiedEntries.{more-both, more-left, more-right, none-tied}
-use Rattle.agg_intermediate_results.proofs.TiedEntries.{tied-equal, tied-first, tied-greater}
-use Rattle.agg_intermediate_results.proofs.TiedEntries.{tied-less}
+use Rattle.agg_results.proofs.lemmas.intermediate_results.JoinedEntries.{join-nothing_right}
+use Rattle.agg_results.proofs.lemmas.intermediate_results.JoinedEntries.{join-nothing_left}
+use Rattle.agg_results.proofs.lemmas.intermediate_results.Levels.{entries_levels}
+use Rattle.agg_results.proofs.lemmas.intermediate_results.TiedEntries.{more-both, more-left}
+use Rattle.agg_results.proofs.lemmas.intermediate_results.TiedEntries.{more-right, none-tied}
+use Rattle.agg_results.proofs.lemmas.intermediate_results.TiedEntries.{tied-equal, tied-first}
+use Rattle.agg_results.proofs.lemmas.intermediate_results.TiedEntries.{tied-greater, tied-less}
 
 abbrev Entry : Type 0
 Entry = IntermediateTermBucketEntry

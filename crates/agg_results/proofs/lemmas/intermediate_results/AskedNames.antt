@@ -9,8 +9,8 @@ use Rattle.std.proofs.lemmas.Option.{none-some}
 use Rattle.agg_values.specs.Names.{Named, name_cmp, value_of}
 use Rattle.agg_values.proofs.NameOrder.{Ascends, value-cases, value-first}
 use Rattle.agg_values.proofs.NameOrder.{value-later}
-use Rattle.agg_intermediate_results.specs.Merging.{SomeOfBoth}
-use Rattle.agg_intermediate_results.proofs.LeftOver.{Any-later}
+use Rattle.agg_results.specs.intermediate_results.Merging.{SomeOfBoth}
+use Rattle.agg_results.proofs.lemmas.intermediate_results.LeftOver.{Any-later}
 
 -- ---- some of a list
 

@@ -11,12 +11,12 @@ use Rattle.std.proofs.lemmas.List.Elements.{All-contains, All-head, recursion_fr
 use Rattle.std.proofs.lemmas.Map.Keys.{Less-from_sorted}
 use Rattle.std.proofs.lemmas.Option.{none-some, same_Some, slice_get-get_or}
 use Rattle.agg_values.specs.Tuple.{KeyTuple}
-use Rattle.agg_intermediate_results.specs.Intermediate.{Entries, TupleEntry}
-use Rattle.agg_intermediate_results.specs.Merging.{ByOrder, JoinEntries, SomeTied}
-use Rattle.agg_intermediate_results.specs.Outcome.{AreBelow}
-use Rattle.agg_intermediate_results.specs.declared as declared
+use Rattle.agg_results.specs.intermediate_results.Intermediate.{Entries, TupleEntry}
+use Rattle.agg_results.specs.intermediate_results.Merging.{ByOrder, JoinEntries, SomeTied}
+use Rattle.agg_results.specs.intermediate_results.Outcome.{AreBelow}
+use Rattle.agg_results.specs.declared.intermediate_results as declared
 use declared.entry.IntermediateTermBucketEntry.{IntermediateTermBucketEntry}
-use Rattle.agg_intermediate_results.proofs.KeyTurns.{reversed}
+use Rattle.agg_results.proofs.lemmas.intermediate_results.KeyTurns.{reversed}
 
 abbrev Entry : Type 0
 Entry = IntermediateTermBucketEntry

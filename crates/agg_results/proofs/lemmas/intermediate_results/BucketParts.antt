@@ -1,17 +1,19 @@
 -- What merging makes of results that have buckets, from what it makes of their parts.
 use Rattle.std.proofs.Common.{◌≡◌, ℕ, ◌+◌, ◌≤◌, ◌^◌, ◌⊎◌, inr, Bool, true, false, refl, sym}
 use Rattle.std.proofs.Common.{◌∙◌, subst}
-use Rattle.agg_metric_results.specs.Merges.{Merges}
-use Rattle.agg_metric_results.specs.declared.metric.IntermediateMetricResult as metrics
+use Rattle.agg_results.specs.metric_results.Merges.{Merges}
+use Rattle.agg_results.specs.declared.metric_results.metric.IntermediateMetricResult as metrics
 use metrics.{IntermediateMetricResult}
-use Rattle.agg_metric_results.proofs.Outcomes.{merges-as, merges-both}
-use Rattle.agg_intermediate_results.specs.Intermediate.{BucketLayer, Parts, composite, metric}
-use Rattle.agg_intermediate_results.specs.Intermediate.{parts_of, parts_of_bucket, parts_of_layer}
-use Rattle.agg_intermediate_results.specs.Intermediate as held
-use Rattle.agg_intermediate_results.specs.Merging.{AreMerged, CompositesMerged, CountsPass}
-use Rattle.agg_intermediate_results.specs.Merging.{IsMerged, JoinNames, MergedTo, PartsDiffer}
-use Rattle.agg_intermediate_results.specs.Merging.{PartsMerged, PartsPass, ShapesDiffer, SomeOfBoth}
-use Rattle.agg_intermediate_results.specs.declared as intermediate
+use Rattle.agg_results.proofs.lemmas.metric_results.Outcomes.{merges-as, merges-both}
+use Rattle.agg_results.specs.intermediate_results.Intermediate.{BucketLayer, Parts, composite}
+use Rattle.agg_results.specs.intermediate_results.Intermediate.{metric, parts_of, parts_of_bucket}
+use Rattle.agg_results.specs.intermediate_results.Intermediate.{parts_of_layer}
+use Rattle.agg_results.specs.intermediate_results.Intermediate as held
+use Rattle.agg_results.specs.intermediate_results.Merging.{AreMerged, CompositesMerged, CountsPass}
+use Rattle.agg_results.specs.intermediate_results.Merging.{IsMerged, JoinNames, MergedTo}
+use Rattle.agg_results.specs.intermediate_results.Merging.{PartsDiffer, PartsMerged, PartsPass}
+use Rattle.agg_results.specs.intermediate_results.Merging.{ShapesDiffer, SomeOfBoth}
+use Rattle.agg_results.specs.declared.intermediate_results as intermediate
 use intermediate.results.IntermediateAggregationResult.{IntermediateAggregationResult}
 use intermediate.results.IntermediateAggregationResult as declared
 use declared.TheVariants.{Bucket, Metric}
@@ -22,9 +24,11 @@ use intermediate.results.IntermediateBucketResult.{IntermediateBucketResult}
 use intermediate.results.IntermediateBucketResult.TheVariants as buckets
 use intermediate.composite.IntermediateCompositeBucketResult as c
 use c.{IntermediateCompositeBucketResult}
-use Rattle.agg_intermediate_results.proofs.Depths.{differ-from_parts, merged-from_parts}
-use Rattle.agg_intermediate_results.proofs.Depths.{merges-from_parts}
-use Rattle.agg_intermediate_results.proofs.ResultParts.{parts-composite, parts-filter}
+use Rattle.agg_results.proofs.lemmas.intermediate_results.Depths.{differ-from_parts}
+use Rattle.agg_results.proofs.lemmas.intermediate_results.Depths.{merged-from_parts}
+use Rattle.agg_results.proofs.lemmas.intermediate_results.Depths.{merges-from_parts}
+use Rattle.agg_results.proofs.lemmas.intermediate_results.ResultParts.{parts-composite}
+use Rattle.agg_results.proofs.lemmas.intermediate_results.ResultParts.{parts-filter}
 
 abbrev pub PartsMerge : Bool → Bool → Parts → Parts → Type 0
 PartsMerge was now p q =

@@ -5,10 +5,10 @@ use Rattle.std.specs.List.{remove}
 use Rattle.std.proofs.lemmas.Bool.{le-ltb}
 use Rattle.std_collections.specs.Layout.Columns.{length-set_value_at, set_value_at}
 use Rattle.agg_values.specs.KeyOrder.{SourceRules}
-use Rattle.agg_intermediate_results.specs.Intermediate.{Entries, composite_of, entries_of}
-use Rattle.agg_intermediate_results.specs.Intermediate.{orders_of, target_size_of}
-use Rattle.agg_intermediate_results.specs.Merging.{trimmed, trimmed_to}
-use Rattle.agg_intermediate_results.specs.declared as intermediate
+use Rattle.agg_results.specs.intermediate_results.Intermediate.{Entries, composite_of, entries_of}
+use Rattle.agg_results.specs.intermediate_results.Intermediate.{orders_of, target_size_of}
+use Rattle.agg_results.specs.intermediate_results.Merging.{trimmed, trimmed_to}
+use Rattle.agg_results.specs.declared.intermediate_results as intermediate
 use intermediate.composite.IntermediateCompositeBucketResult as c
 use c.{IntermediateCompositeBucketResult, out-IntermediateCompositeBucketResult}
 use c.{out-roll-IntermediateCompositeBucketResult, roll-out-IntermediateCompositeBucketResult}

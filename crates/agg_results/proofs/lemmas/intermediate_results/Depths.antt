@@ -1,14 +1,15 @@
 -- What is told of two results at some depth, from what is told of their parts.
 use Rattle.std.proofs.Common.{ℕ, zero, suc, inl, inr, List, Bool, Ordering}
 use Rattle.agg_values.specs.Tuple.{KeyTuple}
-use Rattle.agg_metric_results.specs.Merges.{Merges}
-use Rattle.agg_metric_results.proofs.Outcomes.{merges-as}
-use Rattle.agg_intermediate_results.specs.Intermediate.{Parts, composite, metric, parts_of}
-use Rattle.agg_intermediate_results.specs.Intermediate as held
-use Rattle.agg_intermediate_results.specs.Merging.{CountsPass, DifferWithin, IsMerged, JoinNames}
-use Rattle.agg_intermediate_results.specs.Merging.{MergedTo, PartsDiffer, PartsMerged, PartsPass}
-use Rattle.agg_intermediate_results.specs.Merging.{PassWithin, ShapesDiffer, SomeOfBoth, SomeTied}
-use Rattle.agg_intermediate_results.specs.declared as intermediate
+use Rattle.agg_results.specs.metric_results.Merges.{Merges}
+use Rattle.agg_results.proofs.lemmas.metric_results.Outcomes.{merges-as}
+use Rattle.agg_results.specs.intermediate_results.Intermediate.{Parts, composite, metric, parts_of}
+use Rattle.agg_results.specs.intermediate_results.Intermediate as held
+use Rattle.agg_results.specs.intermediate_results.Merging.{CountsPass, DifferWithin, IsMerged}
+use Rattle.agg_results.specs.intermediate_results.Merging.{JoinNames, MergedTo, PartsDiffer}
+use Rattle.agg_results.specs.intermediate_results.Merging.{PartsMerged, PartsPass, PassWithin}
+use Rattle.agg_results.specs.intermediate_results.Merging.{ShapesDiffer, SomeOfBoth, SomeTied}
+use Rattle.agg_results.specs.declared.intermediate_results as intermediate
 use intermediate.results.IntermediateAggregationResult.{IntermediateAggregationResult}
 
 module _ (r o : IntermediateAggregationResult) where

@@ -9,12 +9,13 @@ use Rattle.agg_request_tree.specs.Source.{Sources, missing_order_of, order_of, r
 use Rattle.agg_request_tree.specs.declared.source.CompositeAggregationSource as kind
 use kind.{CompositeAggregationSource}
 use Rattle.agg_request_tree.proofs.SourceOrders.{rules_of-more}
-use Rattle.agg_intermediate_results.specs.Intermediate.{Entries, composite_of, entries_of}
-use Rattle.agg_intermediate_results.specs.Intermediate.{orders_of, target_size_of}
-use Rattle.agg_intermediate_results.specs.declared as intermediate
+use Rattle.agg_results.specs.intermediate_results.Intermediate.{Entries, composite_of, entries_of}
+use Rattle.agg_results.specs.intermediate_results.Intermediate.{orders_of, target_size_of}
+use Rattle.agg_results.specs.declared.intermediate_results as intermediate
 use intermediate.composite.IntermediateCompositeBucketResult as composite
 use composite.{IntermediateCompositeBucketResult}
-use Rattle.agg_intermediate_results.specs.declared.results.IntermediateAggregationResult as result
+use Rattle.agg_results.specs.declared.intermediate_results.results.IntermediateAggregationResult
+    as result
 use result.TheViews.{out-roll-IntermediateCompositeBucketResult}
 
 -- ---- the parts of a composite's result

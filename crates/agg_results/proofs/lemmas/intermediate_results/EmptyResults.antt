@@ -6,9 +6,9 @@ use Rattle.agg_values.proofs.MadeByName.{by_name-all, by_name-more}
 use Rattle.agg_request_tree.specs.Request.{Request}
 use Rattle.agg_request_tree.specs.declared.aggregation.Aggregation.{Aggregation}
 use Rattle.agg_request_tree.proofs.RequestTrees.{levels}
-use Rattle.agg_intermediate_results.specs.Empty.{empty_result, empty_results}
-use Rattle.agg_intermediate_results.specs.Intermediate.{Held}
-use Rattle.agg_intermediate_results.specs.declared as declared
+use Rattle.agg_results.specs.intermediate_results.Empty.{empty_result, empty_results}
+use Rattle.agg_results.specs.intermediate_results.Intermediate.{Held}
+use Rattle.agg_results.specs.declared.intermediate_results as declared
 use declared.results.IntermediateAggregationResult.{IntermediateAggregationResult}
 
 module _ {B : Type 0} where

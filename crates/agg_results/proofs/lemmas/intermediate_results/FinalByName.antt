@@ -13,11 +13,12 @@ use Rattle.agg_values.proofs.MadeByName.{by_name, by_name-more}
 use Rattle.agg_request_tree.specs.Request.{Request}
 use Rattle.agg_request_tree.specs.declared.aggregation.Aggregation.{Aggregation}
 use Rattle.agg_request_tree.proofs.RequestTrees.{height, levels}
-use Rattle.agg_intermediate_results.specs.Final.{final_result}
-use Rattle.agg_intermediate_results.specs.Intermediate.{Held}
-use Rattle.agg_intermediate_results.specs.declared.results.IntermediateAggregationResult as declared
+use Rattle.agg_results.specs.intermediate_results.Final.{final_result}
+use Rattle.agg_results.specs.intermediate_results.Intermediate.{Held}
+use Rattle.agg_results.specs.declared.intermediate_results.results.IntermediateAggregationResult
+    as declared
 use declared.{IntermediateAggregationResult}
-use Rattle.agg_final_results.specs.declared.types.AggregationResult.{AggregationResult}
+use Rattle.agg_results.specs.declared.final_results.types.AggregationResult.{AggregationResult}
 
 -- what a name of a request makes of what is held
 abbrev pub final_of : {B : Type 0} → Held → List ℕ × Aggregation B → AggregationResult
@@ -50,7 +51,7 @@ front-levels : {B : Type 0} (front : Request B) (name : List ℕ) (a : Aggregati
 front-levels [] name a = omega arith
 front-levels (b ∷ front) name a = let rest = front-levels front name a in omega arith
 
--- and the last has no more
+-- the last has no more levels
 last-height : {B : Type 0} (front : Request B) (name : List ℕ) (a : Aggregation B)
     → height a ≤ levels (front ++ (name, a) ∷ [])
 last-height [] name a = omega arith

@@ -9,23 +9,25 @@ use Rattle.agg_request_tree.specs.declared.aggregation.AggregationVariants.{Aggr
 use Rattle.agg_request_tree.specs.declared.aggregation.AggregationVariants.TheVariants as asks
 use Rattle.agg_request_tree.specs.declared.aggregation.CompositeAggregation.{CompositeAggregation}
 use Rattle.agg_request_tree.specs.declared.aggregation.filter.FilterAggregation.{FilterAggregation}
-use Rattle.agg_intermediate_results.specs.Final.{Finish, final_bucket, final_by, final_by_name}
-use Rattle.agg_intermediate_results.specs.Final.{final_nothing, final_page, final_result}
-use Rattle.agg_intermediate_results.specs.Final.{final_step}
-use Rattle.agg_intermediate_results.specs.Final.{finish_all, lowest_of}
-use Rattle.agg_intermediate_results.specs.Intermediate.{Entries, Held, Parts, below_entry}
-use Rattle.agg_intermediate_results.specs.Intermediate.{composite, counts_of, filter, parts_of}
-use Rattle.agg_intermediate_results.specs.Intermediate.{target_size_of}
-use Rattle.agg_intermediate_results.specs.Shown.{last_tuple, shown_bucket, shown_filter, shown_page}
-use Rattle.agg_intermediate_results.specs.declared as declared
+use Rattle.agg_results.specs.intermediate_results.Final.{Finish, final_bucket, final_by}
+use Rattle.agg_results.specs.intermediate_results.Final.{final_by_name, final_nothing, final_page}
+use Rattle.agg_results.specs.intermediate_results.Final.{final_result, final_step, finish_all}
+use Rattle.agg_results.specs.intermediate_results.Final.{lowest_of}
+use Rattle.agg_results.specs.intermediate_results.Intermediate.{Entries, Held, Parts, below_entry}
+use Rattle.agg_results.specs.intermediate_results.Intermediate.{composite, counts_of, filter}
+use Rattle.agg_results.specs.intermediate_results.Intermediate.{parts_of, target_size_of}
+use Rattle.agg_results.specs.intermediate_results.Shown.{last_tuple, shown_bucket, shown_filter}
+use Rattle.agg_results.specs.intermediate_results.Shown.{shown_page}
+use Rattle.agg_results.specs.declared.intermediate_results as declared
 use declared.composite.IntermediateCompositeBucketResult.{IntermediateCompositeBucketResult}
 use declared.results.IntermediateAggregationResult.{IntermediateAggregationResult}
 use declared.results.IntermediateAggregationResult.TheVariants.{Bucket}
 use declared.results.IntermediateAggregationResults.{IntermediateAggregationResults}
 use declared.results.IntermediateBucketResult.{IntermediateBucketResult}
 use declared.results.IntermediateBucketResult.TheVariants as buckets
-use Rattle.agg_intermediate_results.proofs.ResultParts.{parts-composite, parts-filter}
-use Rattle.agg_intermediate_results.proofs.ShownPages.{shown_entry}
+use Rattle.agg_results.proofs.lemmas.intermediate_results.ResultParts.{parts-composite}
+use Rattle.agg_results.proofs.lemmas.intermediate_results.ResultParts.{parts-filter}
+use Rattle.agg_results.proofs.lemmas.intermediate_results.ShownPages.{shown_entry}
 
 -- what the aggregations of a request make of what is held under their names
 abbrev pub finishes_of : {B : Type 0} → Request B → Named Finish

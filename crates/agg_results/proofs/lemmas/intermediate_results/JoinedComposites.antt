@@ -3,19 +3,20 @@ use Rattle.std.proofs.Common.{◌≡◌, ℕ, ◌<◌, inl, inr, Bool, false, sy
 use Rattle.std.specs.List.Sorted.{IsStrictlySortedBy}
 use Rattle.std.specs.Map.{keys_of}
 use Rattle.agg_values.specs.KeyOrder.{SourceRules, tuple_order}
-use Rattle.agg_metric_results.specs.Merges.{Merges}
-use Rattle.agg_metric_results.proofs.Outcomes.{merges-as}
-use Rattle.agg_intermediate_results.specs.Intermediate.{Entries, composite, entries_of, orders_of}
-use Rattle.agg_intermediate_results.specs.Intermediate.{target_size_of}
-use Rattle.agg_intermediate_results.specs.Merging.{BothWithRoom, CompositesMerged, CountsPass}
-use Rattle.agg_intermediate_results.specs.Merging.{EntriesMerged, JoinEntries, JoinNames, MergedTo}
-use Rattle.agg_intermediate_results.specs.Merging.{PagesDiffer, PartsDiffer, PartsPass}
-use Rattle.agg_intermediate_results.specs.Merging.{ShapesDiffer, SomeOfBoth, SomeTied, trimmed_to}
-use Rattle.agg_intermediate_results.specs.Outcome.{BelowDiffer, DoneUnless, EntriesPass}
-use Rattle.agg_intermediate_results.specs.declared as intermediate
+use Rattle.agg_results.specs.metric_results.Merges.{Merges}
+use Rattle.agg_results.proofs.lemmas.metric_results.Outcomes.{merges-as}
+use Rattle.agg_results.specs.intermediate_results.Intermediate.{Entries, composite, entries_of}
+use Rattle.agg_results.specs.intermediate_results.Intermediate.{orders_of, target_size_of}
+use Rattle.agg_results.specs.intermediate_results.Merging.{BothWithRoom, CompositesMerged}
+use Rattle.agg_results.specs.intermediate_results.Merging.{CountsPass, EntriesMerged, JoinEntries}
+use Rattle.agg_results.specs.intermediate_results.Merging.{JoinNames, MergedTo, PagesDiffer}
+use Rattle.agg_results.specs.intermediate_results.Merging.{PartsDiffer, PartsPass, ShapesDiffer}
+use Rattle.agg_results.specs.intermediate_results.Merging.{SomeOfBoth, SomeTied, trimmed_to}
+use Rattle.agg_results.specs.intermediate_results.Outcome.{BelowDiffer, DoneUnless, EntriesPass}
+use Rattle.agg_results.specs.declared.intermediate_results as intermediate
 use intermediate.composite.IntermediateCompositeBucketResult as c
 use c.{IntermediateCompositeBucketResult}
-use Rattle.agg_intermediate_results.proofs.JoinedEntries.{join-weaker, join-up}
+use Rattle.agg_results.proofs.lemmas.intermediate_results.JoinedEntries.{join-weaker, join-up}
 use Rattle.agg_values.proofs.TupleOrder.{tuple_order-total}
 use Rattle.agg_values.proofs.SameOrders.{same_orders}
 
@@ -53,7 +54,7 @@ module _ (c d : IntermediateCompositeBucketResult) (some : 0 < target_size_of c)
       pub right_up : IsStrictlySortedBy (tuple_order orders) (keys_of right)
       right_up = up (orders_of d) (entries_of d) right same_other same_right other_ascending
 
-      -- and so do they as one
+      -- both lists as one ascend
       pub whole_up : (rules : SourceRules) (now : Bool) (whole : Entries) → orders ≡ rules
           → JoinEntries (tuple_order orders) (DoneUnless now) left right whole
           → IsStrictlySortedBy (tuple_order rules) (keys_of whole)

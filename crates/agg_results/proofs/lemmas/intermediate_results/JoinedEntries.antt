@@ -7,11 +7,11 @@ use Rattle.std.specs.List.Sorted.{IsStrictlySortedBy}
 use Rattle.std.specs.Map.{keys_of}
 use Rattle.std.proofs.lemmas.Map.Keys.{sorted_tail}
 use Rattle.agg_values.specs.Tuple.{KeyTuple}
-use Rattle.agg_intermediate_results.specs.Intermediate.{Entries, TupleEntry}
-use Rattle.agg_intermediate_results.specs.Merging.{ByOrder, JoinEntries}
-use Rattle.agg_intermediate_results.specs.declared as intermediate
+use Rattle.agg_results.specs.intermediate_results.Intermediate.{Entries, TupleEntry}
+use Rattle.agg_results.specs.intermediate_results.Merging.{ByOrder, JoinEntries}
+use Rattle.agg_results.specs.declared.intermediate_results as intermediate
 use intermediate.entry.IntermediateTermBucketEntry.{IntermediateTermBucketEntry}
-use Rattle.agg_intermediate_results.proofs.KeyTurns.{reversed}
+use Rattle.agg_results.proofs.lemmas.intermediate_results.KeyTurns.{reversed}
 
 abbrev Entry : Type 0
 Entry = IntermediateTermBucketEntry
@@ -23,7 +23,7 @@ module _ (R : KeyTuple → KeyTuple → Ordering) where
   join-nothing_left Both [] = (refl, refl)
   join-nothing_left Both (e ∷ es) = refl
 
-  -- and so is a list with nothing
+  -- a list with nothing is the list
   pub join-nothing_right : (Both : Entry → Entry → Entry → Type 0) (es : Entries)
       → JoinEntries R Both es [] es
   join-nothing_right Both [] = (refl, refl)

@@ -6,12 +6,12 @@ use Rattle.std.specs.BTreeMap.{is_at}
 use Rattle.std.specs.Map.{values_of}
 use Rattle.std.proofs.lemmas.Option.{none-some, same_Some}
 use Rattle.agg_values.specs.Names.{name_cmp, value_of, without}
-use Rattle.agg_intermediate_results.specs.Intermediate.{Entries, Held, Parts, TupleEntry}
-use Rattle.agg_intermediate_results.specs.Intermediate.{below_entry, composite, entries_of, metric}
-use Rattle.agg_intermediate_results.specs.Intermediate.{parts_of_bucket, BucketLayer}
-use Rattle.agg_intermediate_results.specs.Intermediate.{parts_of_layer}
-use Rattle.agg_intermediate_results.specs.Intermediate as held
-use Rattle.agg_intermediate_results.specs.declared as intermediate
+use Rattle.agg_results.specs.intermediate_results.Intermediate.{Entries, Held, Parts, TupleEntry}
+use Rattle.agg_results.specs.intermediate_results.Intermediate.{below_entry, composite, entries_of}
+use Rattle.agg_results.specs.intermediate_results.Intermediate.{metric, parts_of_bucket}
+use Rattle.agg_results.specs.intermediate_results.Intermediate.{BucketLayer, parts_of_layer}
+use Rattle.agg_results.specs.intermediate_results.Intermediate as held
+use Rattle.agg_results.specs.declared.intermediate_results as intermediate
 use intermediate.results.IntermediateAggregationResult as declared
 use declared.{IntermediateAggregationResult}
 use declared.TheVariants.{Bucket, Metric}

@@ -13,15 +13,15 @@ use Rattle.agg_values.specs.Names.{name_cmp, put, value_of, without}
 use Rattle.agg_values.proofs.NameValues.{Among, among_keys, among_more, other-gone}
 use Rattle.agg_values.proofs.NameValues.{other-put, same_key, sorted-gone, value-gone}
 use Rattle.agg_values.proofs.NameValues.{value-put}
-use Rattle.agg_metric_results.specs.Merges.{Merges}
-use Rattle.agg_intermediate_results.specs.Intermediate.{Held}
-use Rattle.agg_intermediate_results.specs.Merging.{AreMerged, CountsPass, EitherOrBoth, IsMerged}
-use Rattle.agg_intermediate_results.specs.Merging.{ShapesDiffer, SomeOfBoth}
-use Rattle.agg_intermediate_results.specs.Outcome.{IsPut}
-use Rattle.agg_intermediate_results.specs.declared as intermediate
+use Rattle.agg_results.specs.metric_results.Merges.{Merges}
+use Rattle.agg_results.specs.intermediate_results.Intermediate.{Held}
+use Rattle.agg_results.specs.intermediate_results.Merging.{AreMerged, CountsPass, EitherOrBoth}
+use Rattle.agg_results.specs.intermediate_results.Merging.{IsMerged, ShapesDiffer, SomeOfBoth}
+use Rattle.agg_results.specs.intermediate_results.Outcome.{IsPut}
+use Rattle.agg_results.specs.declared.intermediate_results as intermediate
 use intermediate.results.IntermediateAggregationResult.{IntermediateAggregationResult}
-use Rattle.agg_intermediate_results.proofs.Levels.{levels, levels-gone}
-use Rattle.agg_intermediate_results.proofs.PutResults.{either-left, to_depth}
+use Rattle.agg_results.proofs.lemmas.intermediate_results.Levels.{levels, levels-gone}
+use Rattle.agg_results.proofs.lemmas.intermediate_results.PutResults.{either-left, to_depth}
 
 abbrev Result : Type 0
 Result = IntermediateAggregationResult

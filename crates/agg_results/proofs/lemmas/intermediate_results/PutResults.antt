@@ -3,12 +3,12 @@ use Rattle.std.proofs.Common.{◌≡◌, ℕ, inl, inr, List, Option, None, Some
 use Rattle.std.proofs.Common.{ap, ◌∙◌, subst}
 use Rattle.std.specs.Prelude.{IsSomeAnd}
 use Rattle.agg_values.specs.Names.{value_of}
-use Rattle.agg_metric_results.specs.Merges.{Merges}
-use Rattle.agg_intermediate_results.specs.Intermediate.{Held}
-use Rattle.agg_intermediate_results.specs.Merging.{CountsPass, EitherOrBoth, IsMerged, MergedTo}
-use Rattle.agg_intermediate_results.specs.Merging.{ShapesDiffer}
-use Rattle.agg_intermediate_results.specs.Outcome.{IsPut}
-use Rattle.agg_intermediate_results.specs.declared as intermediate
+use Rattle.agg_results.specs.metric_results.Merges.{Merges}
+use Rattle.agg_results.specs.intermediate_results.Intermediate.{Held}
+use Rattle.agg_results.specs.intermediate_results.Merging.{CountsPass, EitherOrBoth, IsMerged}
+use Rattle.agg_results.specs.intermediate_results.Merging.{MergedTo, ShapesDiffer}
+use Rattle.agg_results.specs.intermediate_results.Outcome.{IsPut}
+use Rattle.agg_results.specs.declared.intermediate_results as intermediate
 use intermediate.results.IntermediateAggregationResult.{IntermediateAggregationResult}
 
 abbrev Result : Type 0

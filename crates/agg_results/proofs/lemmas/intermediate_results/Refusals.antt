@@ -7,12 +7,14 @@ use Rattle.agg_values.specs.Names.{value_of}
 use Rattle.agg_values.proofs.NameOrder.{Ascends}
 use Rattle.agg_request_tree.specs.Request.{Request, agg_of, below_of}
 use Rattle.agg_request_tree.specs.declared.aggregation.Aggregation.{Aggregation}
-use Rattle.agg_intermediate_results.specs.Intermediate.{Held, helds_below, parts_of}
-use Rattle.agg_intermediate_results.specs.Refusals.{HoldsOther, HoldsUnknown}
-use Rattle.agg_intermediate_results.specs.Refusals.{IsOther}
-use Rattle.agg_intermediate_results.specs.declared.results.IntermediateAggregationResult as declared
+use Rattle.agg_results.specs.intermediate_results.Intermediate.{Held, helds_below, parts_of}
+use Rattle.agg_results.specs.intermediate_results.Refusals.{HoldsOther, HoldsUnknown}
+use Rattle.agg_results.specs.intermediate_results.Refusals.{IsOther}
+use Rattle.agg_results.specs.declared.intermediate_results.results.IntermediateAggregationResult
+    as declared
 use declared.{IntermediateAggregationResult}
-use Rattle.agg_intermediate_results.proofs.AskedNames.{IsToldAt, told-entry, value-at}
+use Rattle.agg_results.proofs.lemmas.intermediate_results.AskedNames.{IsToldAt, told-entry}
+use Rattle.agg_results.proofs.lemmas.intermediate_results.AskedNames.{value-at}
 
 abbrev Result : Type 0
 Result = IntermediateAggregationResult

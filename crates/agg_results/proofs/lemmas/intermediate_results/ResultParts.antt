@@ -1,8 +1,8 @@
 -- The parts of results, by the variants that they are.
 use Rattle.std.proofs.Common.{◌≡◌, ℕ, sym, ap, ◌∙◌}
-use Rattle.agg_intermediate_results.specs.Intermediate.{composite, filter}
-use Rattle.agg_intermediate_results.specs.Intermediate.{parts_of_bucket, parts_of_layer}
-use Rattle.agg_intermediate_results.specs.declared as intermediate
+use Rattle.agg_results.specs.intermediate_results.Intermediate.{composite, filter}
+use Rattle.agg_results.specs.intermediate_results.Intermediate.{parts_of_bucket, parts_of_layer}
+use Rattle.agg_results.specs.declared.intermediate_results as intermediate
 use intermediate.results.IntermediateAggregationResult as declared
 use declared.TheOpen as opened
 use declared.TheViews.{out-roll-IntermediateBucketResult}

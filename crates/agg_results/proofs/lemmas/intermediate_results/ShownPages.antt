@@ -9,19 +9,22 @@ use Rattle.agg_values.specs.Tuple.{KeyTuple}
 use Rattle.agg_values.specs.declared.after_key.AfterKey.{AfterKey}
 use Rattle.agg_request_tree.specs.Source.{Sources}
 use Rattle.agg_request_tree.specs.Request.{Request}
-use Rattle.agg_intermediate_results.specs.Final.{final_by_name, lowest_of}
-use Rattle.agg_intermediate_results.specs.Shown.{last_tuple}
-use Rattle.agg_intermediate_results.specs.Intermediate.{Entries, TupleEntry, below_entry, counts_of}
-use Rattle.agg_intermediate_results.specs.Intermediate.{target_size_of}
-use Rattle.agg_intermediate_results.specs.declared as intermediate
+use Rattle.agg_results.specs.intermediate_results.Final.{final_by_name, lowest_of}
+use Rattle.agg_results.specs.intermediate_results.Shown.{last_tuple}
+use Rattle.agg_results.specs.intermediate_results.Intermediate.{Entries, TupleEntry, below_entry}
+use Rattle.agg_results.specs.intermediate_results.Intermediate.{counts_of, target_size_of}
+use Rattle.agg_results.specs.declared.intermediate_results as intermediate
 use intermediate.composite.IntermediateCompositeBucketResult as composite
 use composite.{IntermediateCompositeBucketResult}
-use Rattle.agg_intermediate_results.specs.declared.entry.IntermediateTermBucketEntry as entry
+use Rattle.agg_results.specs.declared.intermediate_results.entry.IntermediateTermBucketEntry
+    as entry
 use entry.{IntermediateTermBucketEntry}
-use Rattle.agg_intermediate_results.specs.Shown.{shown_after, shown_bucket, shown_page}
-use Rattle.agg_final_results.specs.declared.types.AggregationResult.TheVariants as kind
-use Rattle.agg_final_results.specs.declared.types.BucketResult.TheVariants as buckets
-use Rattle.agg_final_results.specs.declared.types.CompositeBucketEntry.{CompositeBucketEntry}
+use Rattle.agg_results.specs.intermediate_results.Shown.{shown_after, shown_bucket, shown_page}
+use Rattle.agg_results.specs.declared.final_results.types.AggregationResult.TheVariants as kind
+use Rattle.agg_results.specs.declared.final_results.types.BucketResult.TheVariants as buckets
+use Rattle.agg_results.specs.declared.final_results.types.CompositeBucketEntry.{
+  CompositeBucketEntry,
+}
 
 -- the last entry has the last tuple
 last-key : (page : Entries) (e : KeyTuple × IntermediateTermBucketEntry) (o : Option KeyTuple)

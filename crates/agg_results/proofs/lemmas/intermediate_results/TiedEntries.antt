@@ -8,10 +8,10 @@ use Rattle.std.specs.Map.{keys_of}
 use Rattle.std.proofs.lemmas.Map.Keys.{sorted_head}
 use Rattle.agg_values.specs.Tuple.{KeyTuple}
 use Rattle.agg_request_tree.proofs.Lists.{Contains-from_Has, Has, Has-from_Contains}
-use Rattle.agg_intermediate_results.proofs.KeyTurns.{reversed}
-use Rattle.agg_intermediate_results.specs.Intermediate.{Entries, TupleEntry}
-use Rattle.agg_intermediate_results.specs.Merging.{SomeTied}
-use Rattle.agg_intermediate_results.specs.declared as intermediate
+use Rattle.agg_results.proofs.lemmas.intermediate_results.KeyTurns.{reversed}
+use Rattle.agg_results.specs.intermediate_results.Intermediate.{Entries, TupleEntry}
+use Rattle.agg_results.specs.intermediate_results.Merging.{SomeTied}
+use Rattle.agg_results.specs.declared.intermediate_results as intermediate
 use intermediate.entry.IntermediateTermBucketEntry.{IntermediateTermBucketEntry}
 
 abbrev Entry : Type 0

@@ -9,12 +9,13 @@ use Rattle.std.proofs.lemmas.Option.{none-some, same_Some}
 use Rattle.agg_values.specs.Names.{name_cmp, put, value_of, without}
 use Rattle.agg_values.proofs.NameValues.{first_or_later, other-gone, other-put}
 use Rattle.agg_values.proofs.NameValues.{same_key, value-first, value-put}
-use Rattle.agg_intermediate_results.specs.Intermediate.{Held}
-use Rattle.agg_intermediate_results.specs.Merging.{AreMerged, CountsPass, EitherOrBoth, IsMerged}
-use Rattle.agg_intermediate_results.specs.Merging.{MergedTo, ShapesDiffer, SomeOfBoth}
-use Rattle.agg_intermediate_results.specs.declared as declared
+use Rattle.agg_results.specs.intermediate_results.Intermediate.{Held}
+use Rattle.agg_results.specs.intermediate_results.Merging.{AreMerged, CountsPass, EitherOrBoth}
+use Rattle.agg_results.specs.intermediate_results.Merging.{IsMerged, MergedTo, ShapesDiffer}
+use Rattle.agg_results.specs.intermediate_results.Merging.{SomeOfBoth}
+use Rattle.agg_results.specs.declared.intermediate_results as declared
 use declared.results.IntermediateAggregationResult.{IntermediateAggregationResult}
-use Rattle.agg_intermediate_results.proofs.PutResults.{either-left, to_depth}
+use Rattle.agg_results.proofs.lemmas.intermediate_results.PutResults.{either-left, to_depth}
 
 abbrev Result : Type 0
 Result = IntermediateAggregationResult

@@ -1,6 +1,6 @@
 -- What merges did, one after another.
 use Rattle.std.proofs.Common.{◌≡◌, ◌⊎◌, inl, inr, Bool, true, false, refl, sym, ◌∙◌}
-use Rattle.agg_metric_results.specs.Merges.{Merges}
+use Rattle.agg_results.specs.metric_results.Merges.{Merges}
 
 pub merges-as : (was now : Bool) (D D' P P' : Type 0) → (D' → D) → (P' → P) → (P → P')
     → Merges was now D P → Merges was now D' P'

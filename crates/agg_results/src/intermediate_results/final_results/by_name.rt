@@ -4,11 +4,11 @@ ghost use Rattle.std.specs.Prelude.{◌≡◌, IfOk, OnOk, map, reverse};
 ghost use Rattle.std.specs.List.Sorted.{IsStrictlySortedBy};
 ghost use Rattle.std.specs.Map.{keys_of};
 ghost use Rattle.agg_values.specs.Names.{name_cmp, put, value_of};
-ghost use Rattle.agg_intermediate_results.specs.Final.{final_by_name, final_result};
+ghost use Rattle.agg_results.specs.intermediate_results.Final.{final_by_name, final_result};
 
 use super::shown::shown_result;
-use crate::IntermediateAggregationResults;
-use agg_final_results::AggregationResult;
+use crate::final_results::AggregationResult;
+use crate::intermediate_results::IntermediateAggregationResults;
 use agg_request_tree::Aggregation;
 use agg_values::{NameMap, OutOfMemory, Text};
 

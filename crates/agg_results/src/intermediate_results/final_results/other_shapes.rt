@@ -1,15 +1,16 @@
 //! Results of another shape than the request asks for.
 ghost use Rattle.std.specs.Prelude.{◌≡◌, ◌↔◌, Any, IsTrue, MatchBool};
 ghost use Rattle.agg_request_tree.specs.Source.{rules_of};
-ghost use Rattle.agg_intermediate_results.specs.Intermediate.{below_entry, composite};
-ghost use Rattle.agg_intermediate_results.specs.Intermediate.{helds_below, metric, parts_of};
-ghost use Rattle.agg_intermediate_results.specs.Refusals.{HoldsOther, IsOther};
+ghost use Rattle.agg_results.specs.intermediate_results.Intermediate.{below_entry, composite};
+ghost use Rattle.agg_results.specs.intermediate_results.Intermediate.{helds_below, metric};
+ghost use Rattle.agg_results.specs.intermediate_results.Intermediate.{parts_of};
+ghost use Rattle.agg_results.specs.intermediate_results.Refusals.{HoldsOther, IsOther};
 
-use crate::{
+use crate::intermediate_results::{
     IntermediateAggregationResult, IntermediateAggregationResults, IntermediateBucketResult,
     IntermediateCompositeBucketResult, IntermediateTermBucketEntry,
 };
-use agg_metric_results::IntermediateMetricResult;
+use crate::metric_results::IntermediateMetricResult;
 use agg_request_tree::{Aggregation, AggregationVariants, CompositeAggregationSource};
 use agg_values::{MissingOrder, NameMap, Order, Tuple};
 
@@ -91,7 +92,7 @@ fn is_other<B: Drop>(asked: &AggregationVariants<B>, found: &IntermediateAggrega
     }
 }
 
-// The same of a metric's result.
+// Whether a metric's result isn't of the aggregation's kind.
 fn is_other_metric<B: Drop>(asked: &AggregationVariants<B>, found: IntermediateMetricResult) -> bool
     ensures { MatchBool result (IsOther asked.now (metric found))
         (¬ (IsOther asked.now (metric found))) }
@@ -104,7 +105,7 @@ fn is_other_metric<B: Drop>(asked: &AggregationVariants<B>, found: IntermediateM
     }
 }
 
-// The same of a composite's result.
+// Whether a composite's result isn't of the aggregation's kind, or has entries in other orders.
 fn is_other_composite<B: Drop>(
     asked: &AggregationVariants<B>,
     found: &IntermediateCompositeBucketResult,

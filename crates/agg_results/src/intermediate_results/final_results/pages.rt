@@ -1,18 +1,18 @@
 //! Pages of composites, as they are shown.
 ghost use Rattle.std.specs.Prelude.{◌≡◌, IfOk, map, option_map};
-ghost use Rattle.agg_intermediate_results.specs.Final.{final_by_name, lowest_of};
-ghost use Rattle.agg_intermediate_results.specs.Intermediate.{below_entry, counts_of};
-ghost use Rattle.agg_intermediate_results.specs.Intermediate.{target_size_of};
-ghost use Rattle.agg_intermediate_results.specs.Shown.{last_tuple, shown_after, shown_bucket};
-ghost use Rattle.agg_intermediate_results.specs.Shown.{shown_page};
+ghost use Rattle.agg_results.specs.intermediate_results.Final.{final_by_name, lowest_of};
+ghost use Rattle.agg_results.specs.intermediate_results.Intermediate.{below_entry, counts_of};
+ghost use Rattle.agg_results.specs.intermediate_results.Intermediate.{target_size_of};
+ghost use Rattle.agg_results.specs.intermediate_results.Shown.{last_tuple, shown_after};
+ghost use Rattle.agg_results.specs.intermediate_results.Shown.{shown_bucket, shown_page};
 
 use super::by_name::shown_by_name;
-use crate::{IntermediateCompositeBucketResult, IntermediateTermBucketEntry};
-use agg_final_results::{
+use crate::final_results::{
     AggregationResult, AggregationResults, BucketResult, CompositeBucketEntry,
 };
-use agg_freeing::FreeingIter;
+use crate::intermediate_results::{IntermediateCompositeBucketResult, IntermediateTermBucketEntry};
 use agg_request_tree::{Aggregation, CompositeAggregationSource, after_keys, shown_keys};
+use agg_values::freeing::FreeingIter;
 use agg_values::{AfterKey, ItemList, NameMap, OutOfMemory, Tuple};
 use std::alloc::Global;
 

@@ -1,15 +1,17 @@
 //! The final result of one aggregation, as it is shown.
 ghost use Rattle.std.specs.Prelude.{◌≡◌, None, Some, IfOk};
-ghost use Rattle.agg_intermediate_results.specs.Final.{final_by_name, final_result};
-ghost use Rattle.agg_intermediate_results.specs.Shown.{shown_filter};
+ghost use Rattle.agg_results.specs.intermediate_results.Final.{final_by_name, final_result};
+ghost use Rattle.agg_results.specs.intermediate_results.Shown.{shown_filter};
 
 use super::by_name::shown_by_name;
 use super::pages::shown_page;
-use crate::{
+use crate::final_results::{
+    AggregationResult, AggregationResults, BucketResult, FilterBucketResult,
+};
+use crate::intermediate_results::{
     IntermediateAggregationResult, IntermediateAggregationResults, IntermediateBucketResult,
 };
-use agg_final_results::{AggregationResult, AggregationResults, BucketResult, FilterBucketResult};
-use agg_metric_results::{
+use crate::metric_results::{
     IntermediateCount, IntermediateMax, IntermediateMetricResult, IntermediateMin, IntermediateSum,
     shown_metric,
 };
@@ -35,7 +37,7 @@ pub fn shown_result<B: Drop>(
     }
 }
 
-// The same where nothing is held.
+// The final result of an aggregation, of which nothing is held.
 #[cycle(shown)]
 fn shown_nothing<B: Drop>(
     alloc: Global,
@@ -69,7 +71,7 @@ fn shown_nothing<B: Drop>(
     }
 }
 
-// The same where a metric is held.
+// The final result of an aggregation, of which a metric is held.
 #[cycle(shown)]
 fn shown_number<B: Drop>(
     alloc: Global,
@@ -87,7 +89,7 @@ fn shown_number<B: Drop>(
     }
 }
 
-// The same where a filter or a composite is held.
+// The final result of an aggregation, of which a filter or a composite is held.
 #[cycle(shown)]
 fn shown_bucket<B: Drop>(
     alloc: Global,

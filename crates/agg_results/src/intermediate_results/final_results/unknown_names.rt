@@ -1,9 +1,10 @@
 //! Names that are held and aren't asked for.
 ghost use Rattle.std.specs.Prelude.{Any, MatchBool};
-ghost use Rattle.agg_intermediate_results.specs.Intermediate.{below_entry, helds_below, parts_of};
-ghost use Rattle.agg_intermediate_results.specs.Refusals.{HoldsUnknown};
+ghost use Rattle.agg_results.specs.intermediate_results.Intermediate.{below_entry, helds_below};
+ghost use Rattle.agg_results.specs.intermediate_results.Intermediate.{parts_of};
+ghost use Rattle.agg_results.specs.intermediate_results.Refusals.{HoldsUnknown};
 
-use crate::{
+use crate::intermediate_results::{
     IntermediateAggregationResult, IntermediateAggregationResults, IntermediateBucketResult,
     IntermediateTermBucketEntry,
 };

@@ -7,8 +7,8 @@ use Rattle.std.proofs.lemmas.Map.Entries.{lookup_head}
 use Rattle.std.proofs.lemmas.Map.Text.{is_eq-slice_cmp}
 use Rattle.std.proofs.lemmas.Slice.Eq.{bytes_eq-Decides}
 use Rattle.agg_values.specs.Names.{Named, name_cmp, value_of, without}
-use Rattle.agg_final_results.specs.declared.types.AggregationResult.{AggregationResult}
-use Rattle.agg_final_results.proofs.ending_text.take_first.Goals as goal
+use Rattle.agg_results.specs.declared.final_results.types.AggregationResult.{AggregationResult}
+use Rattle.agg_results.proofs.final_results.ending_text.take_first.Goals as goal
 
 -- maps without names are empty
 none-left : {T : Type 0} (entries : Named T) (names : List (List ℕ)) → names ≡ keys_of entries

@@ -1,7 +1,7 @@
 use Rattle.std.proofs.Common.{◌≡◌, ◌++◌, length, map, string_bytes, true}
-use Rattle.agg_final_results.specs.Appending.{more_items}
-use Rattle.agg_final_results.specs.ResultsText.{member_text, result_text}
-use Rattle.agg_final_results.proofs.ending_text.write_ending.Given as goal
+use Rattle.agg_results.specs.final_results.Appending.{more_items}
+use Rattle.agg_results.specs.final_results.ResultsText.{member_text, result_text}
+use Rattle.agg_results.proofs.final_results.ending_text.write_ending.Given as goal
 
 -- the text so far with the results that are left is the whole
 abbrev pub invariant-loop-rest : goal.invariant-loop-rest

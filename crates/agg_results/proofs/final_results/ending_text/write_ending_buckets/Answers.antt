@@ -1,7 +1,8 @@
 use Rattle.std.proofs.Common.{◌++◌, ◌∙◌, ap, append_assoc, arith, map, string_bytes}
-use Rattle.agg_final_results.specs.ResultsText.{bucket_text, comma_unless}
-use Rattle.agg_final_results.proofs.AppendedItems.{all-appended, byte-appended, item-appended}
-use Rattle.agg_final_results.proofs.ending_text.write_ending_buckets.Goals as goal
+use Rattle.agg_results.specs.final_results.ResultsText.{bucket_text, comma_unless}
+use Rattle.agg_results.proofs.lemmas.final_results.AppendedItems.{all-appended, byte-appended}
+use Rattle.agg_results.proofs.lemmas.final_results.AppendedItems.{item-appended}
+use Rattle.agg_results.proofs.final_results.ending_text.write_ending_buckets.Goals as goal
 
 pub loop-bucket-preserved : goal.loop-bucket-preserved
 loop-bucket-preserved c =

@@ -1,7 +1,7 @@
 use Rattle.std.proofs.Common.{◌≡◌, ◌++◌, map, string_bytes, true}
-use Rattle.agg_final_results.specs.Appending.{more_items}
-use Rattle.agg_final_results.specs.ResultsText.{bucket_text}
-use Rattle.agg_final_results.proofs.ending_text.write_ending_buckets.Given as goal
+use Rattle.agg_results.specs.final_results.Appending.{more_items}
+use Rattle.agg_results.specs.final_results.ResultsText.{bucket_text}
+use Rattle.agg_results.proofs.final_results.ending_text.write_ending_buckets.Given as goal
 
 -- the text so far with the buckets that are left is the whole
 abbrev pub invariant-loop-bucket : goal.invariant-loop-bucket

@@ -1,8 +1,8 @@
 use Rattle.std.proofs.Common.{arith, map}
-use Rattle.agg_final_results.specs.ResultsText.{bucket_text}
-use Rattle.agg_final_results.proofs.AppendedComposites.{composite-appended}
-use Rattle.agg_final_results.proofs.AppendedItems.{byte-appended}
-use Rattle.agg_final_results.proofs.ending_text.write_ending_composite.Goals as goal
+use Rattle.agg_results.specs.final_results.ResultsText.{bucket_text}
+use Rattle.agg_results.proofs.lemmas.final_results.AppendedComposites.{composite-appended}
+use Rattle.agg_results.proofs.lemmas.final_results.AppendedItems.{byte-appended}
+use Rattle.agg_results.proofs.final_results.ending_text.write_ending_composite.Goals as goal
 
 pub returns : goal.returns
 returns c =

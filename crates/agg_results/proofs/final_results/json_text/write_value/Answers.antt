@@ -1,9 +1,9 @@
 use Rattle.std.proofs.Common.{◌≡◌, ◌++◌, ◌∷◌, [], List, ℕ, arith, append_assoc}
 use Rattle.std.specs.Prelude.{codes}
 use Rattle.json.specs.Print.{escape_byte}
-use Rattle.agg_final_results.specs.ResultsText.{braced, member_text}
-use Rattle.agg_final_results.proofs.AppendedItems.{byte-appended}
-use Rattle.agg_final_results.proofs.json_text.write_value.Goals as goal
+use Rattle.agg_results.specs.final_results.ResultsText.{braced, member_text}
+use Rattle.agg_results.proofs.lemmas.final_results.AppendedItems.{byte-appended}
+use Rattle.agg_results.proofs.final_results.json_text.write_value.Goals as goal
 
 -- the name, then the value, then the brace
 value-written : (before opened valued after value : List ℕ)

@@ -1,8 +1,8 @@
 use Rattle.std.proofs.Common.{◌≡◌, true, rules}
 use Rattle.std.specs.List.{list_all}
-use Rattle.agg_final_results.specs.PlainText.{is_plain}
-use Rattle.agg_final_results.proofs.Escapes.{escape-plain}
-use Rattle.agg_final_results.proofs.quoted.write_quoted.Goals as goal
+use Rattle.agg_results.specs.final_results.PlainText.{is_plain}
+use Rattle.agg_results.proofs.lemmas.final_results.Escapes.{escape-plain}
+use Rattle.agg_results.proofs.final_results.quoted.write_quoted.Goals as goal
 
 pub returns : goal.returns
 returns c =

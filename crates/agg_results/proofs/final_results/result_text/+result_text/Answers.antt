@@ -5,16 +5,18 @@ use Rattle.std.specs.Prelude.{decimal}
 use Rattle.std.specs.List.Sorted.{IsStrictlySortedBy}
 use Rattle.std.specs.Map.{keys_of}
 use Rattle.agg_values.specs.Names.{name_cmp}
-use Rattle.agg_final_results.specs.Appending.{more_members}
-use Rattle.agg_final_results.specs.OwnMembers.{own_members}
-use Rattle.agg_final_results.specs.ResultsText.{bucket_text, comma_unless, object_text, put_all}
-use Rattle.agg_final_results.specs.ResultsText.{result_text, results_members, shown_key_text}
-use Rattle.agg_final_results.proofs.AppendedItems.{all-appended, byte-appended, item-appended}
-use Rattle.agg_final_results.proofs.AppendedItems.{left-at}
-use Rattle.agg_final_results.proofs.AppendedComposites.{composite-appended}
-use Rattle.agg_final_results.proofs.ResultFolds.{results_members-each}
-use Rattle.agg_final_results.proofs.AppendedResults.{own-ascend, result-appended, results-done}
-use Rattle.agg_final_results.proofs.result_text.+result_text.Goals as goal
+use Rattle.agg_results.specs.final_results.Appending.{more_members}
+use Rattle.agg_results.specs.final_results.OwnMembers.{own_members}
+use Rattle.agg_results.specs.final_results.ResultsText.{bucket_text, comma_unless, object_text}
+use Rattle.agg_results.specs.final_results.ResultsText.{put_all, result_text, results_members}
+use Rattle.agg_results.specs.final_results.ResultsText.{shown_key_text}
+use Rattle.agg_results.proofs.lemmas.final_results.AppendedItems.{all-appended, byte-appended}
+use Rattle.agg_results.proofs.lemmas.final_results.AppendedItems.{item-appended, left-at}
+use Rattle.agg_results.proofs.lemmas.final_results.AppendedComposites.{composite-appended}
+use Rattle.agg_results.proofs.lemmas.final_results.ResultFolds.{results_members-each}
+use Rattle.agg_results.proofs.lemmas.final_results.AppendedResults.{own-ascend, result-appended}
+use Rattle.agg_results.proofs.lemmas.final_results.AppendedResults.{results-done}
+use Rattle.agg_results.proofs.final_results.result_text.+result_text.Goals as goal
 
 pub write_composite-returns : goal.write_composite-returns
 write_composite-returns t c =

@@ -2,10 +2,11 @@ use Rattle.std.proofs.Common.{◌≡◌, ◌++◌, drop, map, string_bytes, true
 use Rattle.std.specs.List.Sorted.{IsStrictlySortedBy}
 use Rattle.std.specs.Map.{keys_of}
 use Rattle.agg_values.specs.Names.{name_cmp}
-use Rattle.agg_final_results.specs.Appending.{more_items, more_members}
-use Rattle.agg_final_results.specs.OwnMembers.{own_members}
-use Rattle.agg_final_results.specs.ResultsText.{bucket_text, put_all, result_text, results_members}
-use Rattle.agg_final_results.proofs.result_text.+result_text.Given as goal
+use Rattle.agg_results.specs.final_results.Appending.{more_items, more_members}
+use Rattle.agg_results.specs.final_results.OwnMembers.{own_members}
+use Rattle.agg_results.specs.final_results.ResultsText.{bucket_text, put_all, result_text}
+use Rattle.agg_results.specs.final_results.ResultsText.{results_members}
+use Rattle.agg_results.proofs.final_results.result_text.+result_text.Given as goal
 
 -- the text so far with the buckets that are left is the whole
 abbrev pub invariant-write_buckets-loop-bucket : goal.invariant-write_buckets-loop-bucket

@@ -1,6 +1,6 @@
 use Rattle.std.proofs.Common.{arith}
 use Rattle.std.proofs.lemmas.Grind.{common_steps}
-use Rattle.agg_final_results.proofs.result_text.write_after_key.Goals as goal
+use Rattle.agg_results.proofs.final_results.result_text.write_after_key.Goals as goal
 
 pub returns-in_ok-push : goal.returns-in_ok-push
 returns-in_ok-push c = grind (arith, common_steps)

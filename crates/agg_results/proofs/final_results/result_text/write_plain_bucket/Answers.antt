@@ -1,9 +1,9 @@
 use Rattle.std.proofs.Common.{◌≡◌, ◌++◌, ◌∷◌, [], List, ℕ, arith, append_assoc}
 use Rattle.std.specs.Prelude.{codes}
 use Rattle.json.specs.Print.{escape_byte}
-use Rattle.agg_final_results.specs.ResultsText.{braced, member_text}
-use Rattle.agg_final_results.proofs.AppendedItems.{byte-appended}
-use Rattle.agg_final_results.proofs.result_text.write_plain_bucket.Goals as goal
+use Rattle.agg_results.specs.final_results.ResultsText.{braced, member_text}
+use Rattle.agg_results.proofs.lemmas.final_results.AppendedItems.{byte-appended}
+use Rattle.agg_results.proofs.final_results.result_text.write_plain_bucket.Goals as goal
 
 -- the number of occurrences, then the key, then the brace
 bucket-written : (before opened counted named keyed after count key : List ℕ)

@@ -1,9 +1,10 @@
 -- Results that have buckets.
-use Rattle.agg_intermediate_results.specs.declared as declared
+use Rattle.agg_results.specs.declared.intermediate_results as declared
 use declared.results.IntermediateAggregationResult.TheViews.{outs-Composite, outs-Filter}
-use Rattle.agg_intermediate_results.proofs.BucketParts.{composite-done, composite-parts}
-use Rattle.agg_intermediate_results.proofs.BucketParts.{filters-done, filters-merge}
-use Rattle.agg_intermediate_results.proofs.+merging.Goals as goal
+use Rattle.agg_results.proofs.lemmas.intermediate_results.BucketParts.{composite-done}
+use Rattle.agg_results.proofs.lemmas.intermediate_results.BucketParts.{composite-parts}
+use Rattle.agg_results.proofs.lemmas.intermediate_results.BucketParts.{filters-done, filters-merge}
+use Rattle.agg_results.proofs.intermediate_results.+merging.Goals as goal
 
 pub filters-ok : goal.merged::merge_buckets-returns-in_ok-merge_all-in-Filter-Filter-clause-ok
 filters-ok t c =

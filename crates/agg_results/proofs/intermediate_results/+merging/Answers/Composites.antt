@@ -2,13 +2,15 @@
 use Rattle.std.proofs.Common.{rules, ◌<◌, sym, ap, ◌∙◌, arith}
 use Rattle.std.proofs.lemmas.Bool.{false≢true}
 use Rattle.agg_values.specs.KeyOrder.{SourceRules}
-use Rattle.agg_intermediate_results.specs.Intermediate.{Entries, composite_of, orders_of}
-use Rattle.agg_intermediate_results.specs.Intermediate.{target_size_of}
-use Rattle.agg_intermediate_results.proofs.Composites.{trimmed-made}
-use Rattle.agg_intermediate_results.proofs.JoinedComposites.{composites-done, composites-merge}
-use Rattle.agg_intermediate_results.proofs.JoinedComposites.{left_up, right_up, whole_up}
-use Rattle.agg_intermediate_results.proofs.Levels.{entries_levels}
-use Rattle.agg_intermediate_results.proofs.+merging.Goals as goal
+use Rattle.agg_results.specs.intermediate_results.Intermediate.{Entries, composite_of, orders_of}
+use Rattle.agg_results.specs.intermediate_results.Intermediate.{target_size_of}
+use Rattle.agg_results.proofs.lemmas.intermediate_results.Composites.{trimmed-made}
+use Rattle.agg_results.proofs.lemmas.intermediate_results.JoinedComposites.{composites-done}
+use Rattle.agg_results.proofs.lemmas.intermediate_results.JoinedComposites.{composites-merge}
+use Rattle.agg_results.proofs.lemmas.intermediate_results.JoinedComposites.{left_up, right_up}
+use Rattle.agg_results.proofs.lemmas.intermediate_results.JoinedComposites.{whole_up}
+use Rattle.agg_results.proofs.lemmas.intermediate_results.Levels.{entries_levels}
+use Rattle.agg_results.proofs.intermediate_results.+merging.Goals as goal
 
 pub lists-requires
     : goal.composite::IntermediateCompositeBucketResult::merged_with-merge_lists-requires

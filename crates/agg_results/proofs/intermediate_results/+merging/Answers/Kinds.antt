@@ -1,14 +1,15 @@
 -- Results of any kind.
 use Rattle.std.proofs.Common.{◌≡◌, false, sym, ap, ◌∙◌, subst, arith}
 use Rattle.std.specs.Prelude.{IfOk}
-use Rattle.agg_metric_results.specs.declared.error.MergeError.TheVariants.{Mismatch}
-use Rattle.agg_metric_results.proofs.Exits.{error-kept}
-use Rattle.agg_intermediate_results.specs.Merging.{IsMerged}
-use Rattle.agg_intermediate_results.specs.declared as declared
+use Rattle.agg_results.specs.declared.metric_results.error.MergeError.TheVariants.{Mismatch}
+use Rattle.agg_results.proofs.lemmas.metric_results.Exits.{error-kept}
+use Rattle.agg_results.specs.intermediate_results.Merging.{IsMerged}
+use Rattle.agg_results.specs.declared.intermediate_results as declared
 use declared.results.IntermediateAggregationResult.{IntermediateAggregationResult}
-use Rattle.agg_intermediate_results.proofs.BucketParts.{bucket-differ, bucket-merged, bucket-merges}
-use Rattle.agg_intermediate_results.proofs.Levels.{height, height-bucket}
-use Rattle.agg_intermediate_results.proofs.+merging.Goals as goal
+use Rattle.agg_results.proofs.lemmas.intermediate_results.BucketParts.{bucket-differ, bucket-merged}
+use Rattle.agg_results.proofs.lemmas.intermediate_results.BucketParts.{bucket-merges}
+use Rattle.agg_results.proofs.lemmas.intermediate_results.Levels.{height, height-bucket}
+use Rattle.agg_results.proofs.intermediate_results.+merging.Goals as goal
 
 pub requires : goal.merged::merge_results-merge_buckets-requires
 requires t c =

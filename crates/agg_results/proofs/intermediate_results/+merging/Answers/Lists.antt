@@ -2,14 +2,20 @@
 use Rattle.std.proofs.Common.{ℕ, refl, sym, subst}
 use Rattle.agg_values.proofs.TupleOrder.{tuple_order-total}
 use Rattle.agg_values.specs.KeyOrder.{tuple_order}
-use Rattle.agg_metric_results.proofs.Outcomes.{merges-none}
-use Rattle.agg_intermediate_results.specs.Merging.{JoinEntries}
-use Rattle.agg_intermediate_results.specs.Outcome.{AreBelow, BelowDiffer, DoneUnless, EntriesPass}
-use Rattle.agg_intermediate_results.proofs.BelowLists.{above-untied, below-same, below-untied}
-use Rattle.agg_intermediate_results.proofs.BelowLists.{join-left, join-right}
-use Rattle.agg_intermediate_results.proofs.+merging.Goals as goal
-use Rattle.agg_intermediate_results.proofs.+merging.Goals.{merging::merge_lists-In_ok-joined}
-use Rattle.agg_intermediate_results.proofs.+merging.Goals.{merging::merge_lists-In_ok-joined-2}
+use Rattle.agg_results.proofs.lemmas.metric_results.Outcomes.{merges-none}
+use Rattle.agg_results.specs.intermediate_results.Merging.{JoinEntries}
+use Rattle.agg_results.specs.intermediate_results.Outcome.{AreBelow, BelowDiffer, DoneUnless}
+use Rattle.agg_results.specs.intermediate_results.Outcome.{EntriesPass}
+use Rattle.agg_results.proofs.lemmas.intermediate_results.BelowLists.{above-untied, below-same}
+use Rattle.agg_results.proofs.lemmas.intermediate_results.BelowLists.{below-untied, join-left}
+use Rattle.agg_results.proofs.lemmas.intermediate_results.BelowLists.{join-right}
+use Rattle.agg_results.proofs.intermediate_results.+merging.Goals as goal
+use Rattle.agg_results.proofs.intermediate_results.+merging.Goals.{
+  merging::merge_lists-In_ok-joined,
+}
+use Rattle.agg_results.proofs.intermediate_results.+merging.Goals.{
+  merging::merge_lists-In_ok-joined-2,
+}
 
 -- the left is below the right
 left-below : (t : ℕ) (c : merging::merge_lists-In_ok-joined t)

@@ -1,12 +1,13 @@
 -- Results by name.
 use Rattle.std.proofs.Common.{refl, sym, ap, ◌∙◌, subst, arith}
 use Rattle.agg_values.specs.Names.{put}
-use Rattle.agg_metric_results.proofs.Exits.{ended}
-use Rattle.agg_intermediate_results.proofs.Levels.{height-found}
-use Rattle.agg_intermediate_results.proofs.Names.{pushed_none, pushed_some, pushing-start}
-use Rattle.agg_intermediate_results.proofs.Names as names
-use Rattle.agg_intermediate_results.proofs.PutResults.{put-none, put-some}
-use Rattle.agg_intermediate_results.proofs.+merging.Goals as goal
+use Rattle.agg_results.proofs.lemmas.metric_results.Exits.{ended}
+use Rattle.agg_results.proofs.lemmas.intermediate_results.Levels.{height-found}
+use Rattle.agg_results.proofs.lemmas.intermediate_results.Names.{pushed_none, pushed_some}
+use Rattle.agg_results.proofs.lemmas.intermediate_results.Names.{pushing-start}
+use Rattle.agg_results.proofs.lemmas.intermediate_results.Names as names
+use Rattle.agg_results.proofs.lemmas.intermediate_results.PutResults.{put-none, put-some}
+use Rattle.agg_results.proofs.intermediate_results.+merging.Goals as goal
 use goal.{results::IntermediateAggregationResults::put_over-in-Some+in_ok-value-in-Some}
 use goal.{results::IntermediateAggregationResults::put_over-in-None}
 

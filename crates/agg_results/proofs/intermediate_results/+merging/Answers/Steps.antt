@@ -2,15 +2,16 @@
 use Rattle.std.proofs.Common.{◌++◌, ◌∷◌, [], length, sym, ap, ◌∙◌, subst, arith}
 use Rattle.agg_values.proofs.TupleOrder.{tuple_order-total}
 use Rattle.agg_values.specs.KeyOrder.{tuple_order}
-use Rattle.agg_metric_results.specs.Merges.{Merges}
-use Rattle.agg_metric_results.specs.declared.error.MergeError.TheVariants.{Mismatch}
-use Rattle.agg_metric_results.proofs.Exits.{error-kept}
-use Rattle.agg_intermediate_results.specs.Intermediate.{TupleEntry}
-use Rattle.agg_intermediate_results.specs.Outcome.{BelowDiffer, DoneUnless, EntriesPass}
-use Rattle.agg_intermediate_results.proofs.AscendingLists.{both_differ, heads, next_both, next_left}
-use Rattle.agg_intermediate_results.proofs.AscendingLists.{next_right}
-use Rattle.agg_intermediate_results.proofs.AscendingLists as entries
-use Rattle.agg_intermediate_results.proofs.+merging.Goals as goal
+use Rattle.agg_results.specs.metric_results.Merges.{Merges}
+use Rattle.agg_results.specs.declared.metric_results.error.MergeError.TheVariants.{Mismatch}
+use Rattle.agg_results.proofs.lemmas.metric_results.Exits.{error-kept}
+use Rattle.agg_results.specs.intermediate_results.Intermediate.{TupleEntry}
+use Rattle.agg_results.specs.intermediate_results.Outcome.{BelowDiffer, DoneUnless, EntriesPass}
+use Rattle.agg_results.proofs.lemmas.intermediate_results.AscendingLists.{both_differ, heads}
+use Rattle.agg_results.proofs.lemmas.intermediate_results.AscendingLists.{next_both, next_left}
+use Rattle.agg_results.proofs.lemmas.intermediate_results.AscendingLists.{next_right}
+use Rattle.agg_results.proofs.lemmas.intermediate_results.AscendingLists as entries
+use Rattle.agg_results.proofs.intermediate_results.+merging.Goals as goal
 
 pub left-smaller : goal.merging::merge_ascending-loop-order-smaller-in-Continue-branch-2
 left-smaller t c =

@@ -1,10 +1,12 @@
 use Rattle.std.proofs.Common.{ℕ, ap, ◌∙◌}
 use Rattle.agg_values.specs.Names.{put}
-use Rattle.agg_intermediate_results.proofs.EmptyResults.{AreMadeUpTo, AreMadeUpTo-all}
-use Rattle.agg_intermediate_results.proofs.EmptyResults.{AreMadeUpTo-more, AreMadeUpTo-none}
-use Rattle.agg_intermediate_results.proofs.empty.+empty.Given as given
-use Rattle.agg_intermediate_results.proofs.empty.+empty.Goals as goal
-use Rattle.agg_intermediate_results.proofs.empty.+empty.Goals.{empty_results-In_ok-insert}
+use Rattle.agg_results.proofs.lemmas.intermediate_results.EmptyResults.{AreMadeUpTo}
+use Rattle.agg_results.proofs.lemmas.intermediate_results.EmptyResults.{AreMadeUpTo-all}
+use Rattle.agg_results.proofs.lemmas.intermediate_results.EmptyResults.{AreMadeUpTo-more}
+use Rattle.agg_results.proofs.lemmas.intermediate_results.EmptyResults.{AreMadeUpTo-none}
+use Rattle.agg_results.proofs.intermediate_results.empty.+empty.Given as given
+use Rattle.agg_results.proofs.intermediate_results.empty.+empty.Goals as goal
+use Rattle.agg_results.proofs.intermediate_results.empty.+empty.Goals.{empty_results-In_ok-insert}
 
 pub empty_results-loop-name-init : goal.empty_results-loop-name-init
 empty_results-loop-name-init g t c =

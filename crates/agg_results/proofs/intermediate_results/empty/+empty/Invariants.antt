@@ -1,7 +1,7 @@
 use Rattle.std.proofs.Common.{◌+◌, ◌*◌}
 use Rattle.agg_request_tree.proofs.RequestTrees.{height, levels}
-use Rattle.agg_intermediate_results.proofs.EmptyResults.{AreMadeUpTo}
-use Rattle.agg_intermediate_results.proofs.empty.+empty.Given as goal
+use Rattle.agg_results.proofs.lemmas.intermediate_results.EmptyResults.{AreMadeUpTo}
+use Rattle.agg_results.proofs.intermediate_results.empty.+empty.Given as goal
 
 abbrev pub decreases-empty_results : goal.decreases-empty_results
 decreases-empty_results g l = 2 * levels l.aggs.now + 1

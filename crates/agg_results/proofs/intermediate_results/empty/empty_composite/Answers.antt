@@ -1,7 +1,8 @@
 use Rattle.std.proofs.Common.{take}
-use Rattle.agg_intermediate_results.proofs.EmptyPages.{empty_page-all, empty_page-empty}
-use Rattle.agg_intermediate_results.proofs.EmptyPages.{empty_page-more}
-use Rattle.agg_intermediate_results.proofs.empty.empty_composite.Goals as goal
+use Rattle.agg_results.proofs.lemmas.intermediate_results.EmptyPages.{empty_page-all}
+use Rattle.agg_results.proofs.lemmas.intermediate_results.EmptyPages.{empty_page-empty}
+use Rattle.agg_results.proofs.lemmas.intermediate_results.EmptyPages.{empty_page-more}
+use Rattle.agg_results.proofs.intermediate_results.empty.empty_composite.Goals as goal
 
 pub add_order-requires : goal.add_order-requires
 add_order-requires c = record {

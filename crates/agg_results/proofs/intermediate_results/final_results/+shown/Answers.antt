@@ -1,12 +1,14 @@
 use Rattle.std.proofs.Common.{◌≡◌, subst, arith, ◌∙◌, IfOk}
 use Rattle.agg_request_tree.proofs.RequestTrees.{height-out}
-use Rattle.agg_final_results.specs.declared.types.AggregationResult.{AggregationResult}
-use Rattle.agg_intermediate_results.proofs.FinalByName.{AreNamedBefore-more, AreNamedBefore-none}
-use Rattle.agg_intermediate_results.proofs.FinalByName.{AreShownAfter-height, AreShownAfter-more}
-use Rattle.agg_intermediate_results.proofs.FinalByName.{AreShownAfter-none, popped}
-use Rattle.agg_intermediate_results.proofs.FinalLayers.{held-composite, held-filter}
-use Rattle.agg_intermediate_results.proofs.FinalLayers.{nothing-filter}
-use Rattle.agg_intermediate_results.proofs.final_results.+shown.Goals as goal
+use Rattle.agg_results.specs.declared.final_results.types.AggregationResult.{AggregationResult}
+use Rattle.agg_results.proofs.lemmas.intermediate_results.FinalByName.{AreNamedBefore-more}
+use Rattle.agg_results.proofs.lemmas.intermediate_results.FinalByName.{AreNamedBefore-none}
+use Rattle.agg_results.proofs.lemmas.intermediate_results.FinalByName.{AreShownAfter-height}
+use Rattle.agg_results.proofs.lemmas.intermediate_results.FinalByName.{AreShownAfter-more}
+use Rattle.agg_results.proofs.lemmas.intermediate_results.FinalByName.{AreShownAfter-none, popped}
+use Rattle.agg_results.proofs.lemmas.intermediate_results.FinalLayers.{held-composite, held-filter}
+use Rattle.agg_results.proofs.lemmas.intermediate_results.FinalLayers.{nothing-filter}
+use Rattle.agg_results.proofs.intermediate_results.final_results.+shown.Goals as goal
 
 pub by_name::shown_by_name-loop-name-init : goal.by_name::shown_by_name-loop-name-init
 by_name::shown_by_name-loop-name-init g t c =

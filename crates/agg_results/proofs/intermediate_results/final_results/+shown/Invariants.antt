@@ -1,9 +1,10 @@
 use Rattle.std.proofs.Common.{◌≡◌, ◌+◌, ◌*◌, ◌++◌, length, map}
 use Rattle.agg_request_tree.specs.Request.{below_of}
 use Rattle.agg_request_tree.proofs.RequestTrees.{levels}
-use Rattle.agg_intermediate_results.proofs.FinalByName.{AreNamedBefore, AreShownAfter}
-use Rattle.agg_intermediate_results.proofs.ShownPages.{shown_entry}
-use Rattle.agg_intermediate_results.proofs.final_results.+shown.Given as goal
+use Rattle.agg_results.proofs.lemmas.intermediate_results.FinalByName.{AreNamedBefore}
+use Rattle.agg_results.proofs.lemmas.intermediate_results.FinalByName.{AreShownAfter}
+use Rattle.agg_results.proofs.lemmas.intermediate_results.ShownPages.{shown_entry}
+use Rattle.agg_results.proofs.intermediate_results.final_results.+shown.Given as goal
 
 abbrev pub decreases-by_name::shown_by_name : goal.decreases-by_name::shown_by_name
 decreases-by_name::shown_by_name g l = 8 * levels l.req.now + 3

@@ -3,9 +3,9 @@ use Rattle.std.specs.Ordering.{is_lt}
 use Rattle.std.proofs.lemmas.Bool.{false≢true}
 use Rattle.agg_values.specs.KeyOrder.{tuple_order}
 use Rattle.agg_values.proofs.TupleOrder.{tuple_order-total}
-use Rattle.agg_intermediate_results.proofs.BelowLists.{below_by_ends}
-use Rattle.agg_tuple_map.proofs.TupleSteps.{compared}
-use Rattle.agg_intermediate_results.proofs.merging.is_below.Goals as goal
+use Rattle.agg_results.proofs.lemmas.intermediate_results.BelowLists.{below_by_ends}
+use Rattle.agg_values.proofs.lemmas.tuple_map.TupleSteps.{compared}
+use Rattle.agg_results.proofs.intermediate_results.merging.is_below.Goals as goal
 
 lower : (o : Ordering) → IsTrue (is_lt o) → o ≡ Less
 lower Less is = refl

@@ -1,5 +1,5 @@
 use Rattle.std.proofs.Common.{◌≡◌, ◌++◌, length}
-use Rattle.agg_intermediate_results.proofs.merging.move_all.Given as goal
+use Rattle.agg_results.proofs.intermediate_results.merging.move_all.Given as goal
 
 abbrev pub decreases-loop-entry : goal.decreases-loop-entry
 decreases-loop-entry l = length l.from.items

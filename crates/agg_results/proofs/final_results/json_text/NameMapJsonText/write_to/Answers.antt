@@ -1,8 +1,8 @@
 use Rattle.std.proofs.Common.{ap, map, List, ℕ, arith}
-use Rattle.agg_final_results.specs.ResultsText.{member_text}
-use Rattle.agg_final_results.proofs.AppendedItems.{all-appended, byte-appended, item-appended}
-use Rattle.agg_final_results.proofs.AppendedItems.{member-appended}
-use Rattle.agg_final_results.proofs.json_text.NameMapJsonText.write_to.Goals as goal
+use Rattle.agg_results.specs.final_results.ResultsText.{member_text}
+use Rattle.agg_results.proofs.lemmas.final_results.AppendedItems.{all-appended, byte-appended}
+use Rattle.agg_results.proofs.lemmas.final_results.AppendedItems.{item-appended, member-appended}
+use Rattle.agg_results.proofs.final_results.json_text.NameMapJsonText.write_to.Goals as goal
 
 pub loop-name-preserved : goal.loop-name-preserved
 loop-name-preserved g c =

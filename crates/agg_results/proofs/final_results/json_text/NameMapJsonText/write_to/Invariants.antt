@@ -1,7 +1,7 @@
 use Rattle.std.proofs.Common.{◌≡◌, ◌++◌, string_bytes, true, map}
-use Rattle.agg_final_results.specs.Appending.{more_items}
-use Rattle.agg_final_results.specs.ResultsText.{member_text}
-use Rattle.agg_final_results.proofs.json_text.NameMapJsonText.write_to.Given as goal
+use Rattle.agg_results.specs.final_results.Appending.{more_items}
+use Rattle.agg_results.specs.final_results.ResultsText.{member_text}
+use Rattle.agg_results.proofs.final_results.json_text.NameMapJsonText.write_to.Given as goal
 
 -- the text so far with the members that are left is the whole
 abbrev pub invariant-loop-name : goal.invariant-loop-name

@@ -1,7 +1,7 @@
 use Rattle.std.proofs.Common.{string_bytes}
-use Rattle.agg_final_results.specs.OwnMembers.{own_members}
-use Rattle.agg_final_results.proofs.AppendedResults.{results-alone}
-use Rattle.agg_final_results.proofs.types.AggregationResults.append_json.Goals as goal
+use Rattle.agg_results.specs.final_results.OwnMembers.{own_members}
+use Rattle.agg_results.proofs.lemmas.final_results.AppendedResults.{results-alone}
+use Rattle.agg_results.proofs.final_results.types.AggregationResults.append_json.Goals as goal
 
 pub returns : goal.returns
 returns c =

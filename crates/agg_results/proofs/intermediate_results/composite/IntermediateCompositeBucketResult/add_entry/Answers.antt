@@ -6,13 +6,14 @@ use Rattle.std_collections.proofs.Seek.{found_at}
 use Rattle.agg_values.specs.KeyOrder.{tuple_order}
 use Rattle.agg_values.proofs.NamePlaces.{missing_stays}
 use Rattle.agg_values.proofs.TupleOrder.{tuple_order-total}
-use Rattle.agg_metric_results.proofs.Exits.{on_err}
-use Rattle.agg_intermediate_results.specs.Intermediate.{composite_of, entries_of, orders_of}
-use Rattle.agg_intermediate_results.specs.Intermediate.{target_size_of}
-use Rattle.agg_intermediate_results.specs.Outcome.{BelowDiffer, EntriesPass, IsMergedEntry}
-use Rattle.agg_intermediate_results.proofs.AddedEntries.{held_there, joined_there, put_there}
-use Rattle.agg_intermediate_results.proofs.AddedEntries.{tied_there, told_there, untied, within}
-use Rattle.agg_intermediate_results.proofs as proofs
+use Rattle.agg_results.proofs.lemmas.metric_results.Exits.{on_err}
+use Rattle.agg_results.specs.intermediate_results.Intermediate.{composite_of, entries_of, orders_of}
+use Rattle.agg_results.specs.intermediate_results.Intermediate.{target_size_of}
+use Rattle.agg_results.specs.intermediate_results.Outcome.{BelowDiffer, EntriesPass, IsMergedEntry}
+use Rattle.agg_results.proofs.lemmas.intermediate_results.AddedEntries.{held_there, joined_there}
+use Rattle.agg_results.proofs.lemmas.intermediate_results.AddedEntries.{put_there, tied_there}
+use Rattle.agg_results.proofs.lemmas.intermediate_results.AddedEntries.{told_there, untied, within}
+use Rattle.agg_results.proofs.intermediate_results as proofs
 use proofs.composite.IntermediateCompositeBucketResult.add_entry.Goals as goal
 
 pub merge_at-requires : goal.merge_at-requires

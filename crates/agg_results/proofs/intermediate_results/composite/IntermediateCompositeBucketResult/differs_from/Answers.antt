@@ -1,8 +1,8 @@
 use Rattle.std.proofs.Common.{◌<◌, inl, inr, sym, ◌∙◌, arith}
 use borrow.Author.Tests.{ltb-true}
 use Rattle.agg_values.proofs.SameOrders.{told}
-use Rattle.agg_intermediate_results.specs.Intermediate.{orders_of, target_size_of}
-use Rattle.agg_intermediate_results.proofs as intermediate
+use Rattle.agg_results.specs.intermediate_results.Intermediate.{orders_of, target_size_of}
+use Rattle.agg_results.proofs.intermediate_results as intermediate
 use intermediate.composite.IntermediateCompositeBucketResult.differs_from.Goals as goal
 use goal.{then-self-gt0, else-self-gt0}
 

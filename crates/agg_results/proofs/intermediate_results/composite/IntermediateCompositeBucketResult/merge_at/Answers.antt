@@ -1,13 +1,13 @@
 use Rattle.std.proofs.Common.{◌≡◌, refl, sym, ◌∙◌, subst}
 use Rattle.std.proofs.lemmas.Option.{same_Some}
 use Rattle.std_collections.specs.Layout.Columns.{set_value_at}
-use Rattle.agg_intermediate_results.specs.Intermediate.{composite_of, entries_of, orders_of}
-use Rattle.agg_intermediate_results.specs.Intermediate.{target_size_of}
-use Rattle.agg_intermediate_results.specs.Outcome.{BelowDiffer, EntriesPass, IsMergedEntry}
-use Rattle.agg_intermediate_results.specs.declared as declared
+use Rattle.agg_results.specs.intermediate_results.Intermediate.{composite_of, entries_of, orders_of}
+use Rattle.agg_results.specs.intermediate_results.Intermediate.{target_size_of}
+use Rattle.agg_results.specs.intermediate_results.Outcome.{BelowDiffer, EntriesPass, IsMergedEntry}
+use Rattle.agg_results.specs.declared.intermediate_results as declared
 use declared.entry.IntermediateTermBucketEntry.{IntermediateTermBucketEntry}
-use Rattle.agg_intermediate_results.proofs.Composites.{gone, still_there}
-use Rattle.agg_intermediate_results.proofs as proofs
+use Rattle.agg_results.proofs.lemmas.intermediate_results.Composites.{gone, still_there}
+use Rattle.agg_results.proofs.intermediate_results as proofs
 use proofs.composite.IntermediateCompositeBucketResult.merge_at.Goals as goal
 
 pub remove-requires : goal.remove-requires

@@ -1,8 +1,8 @@
 use Rattle.std.proofs.Common.{◌*◌, ◌≤◌, length, sym, ap, ◌∙◌, arith}
-use Rattle.agg_intermediate_results.specs.Intermediate.{composite_of, entries_of, orders_of}
-use Rattle.agg_intermediate_results.specs.Intermediate.{target_size_of}
-use Rattle.agg_intermediate_results.proofs.Composites.{trimmed-up_to, closed}
-use Rattle.agg_intermediate_results.proofs as intermediate
+use Rattle.agg_results.specs.intermediate_results.Intermediate.{composite_of, entries_of, orders_of}
+use Rattle.agg_results.specs.intermediate_results.Intermediate.{target_size_of}
+use Rattle.agg_results.proofs.lemmas.intermediate_results.Composites.{trimmed-up_to, closed}
+use Rattle.agg_results.proofs.intermediate_results as intermediate
 use intermediate.composite.IntermediateCompositeBucketResult.trim.Goals as goal
 
 pub returns-else-len-from : goal.returns-else-len-from

@@ -1,4 +1,4 @@
-use Rattle.agg_intermediate_results.proofs as proofs
+use Rattle.agg_results.proofs.intermediate_results as proofs
 use proofs.entry.IntermediateTermBucketEntry.merge_checked.Goals as goal
 
 pub returns-clause-count : goal.returns-clause-count

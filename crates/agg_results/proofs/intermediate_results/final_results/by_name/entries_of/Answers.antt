@@ -1,7 +1,7 @@
 use Rattle.std.proofs.Common.{ℕ, List, Bor}
 use Rattle.std.proofs.lemmas.Iterator.Consumers.{YieldsList-from_first, map_from_collect}
 use Rattle.agg_request_tree.specs.declared.aggregation.Aggregation.{Aggregation}
-use Rattle.agg_intermediate_results.proofs.final_results.by_name.entries_of.Goals as goal
+use Rattle.agg_results.proofs.intermediate_results.final_results.by_name.entries_of.Goals as goal
 
 pub returns-clause-entries : goal.returns-clause-entries
 returns-clause-entries g c =

@@ -3,17 +3,18 @@ use Rattle.std.specs.Bool.{MatchBool}
 use Rattle.std.specs.List.{Any}
 use Rattle.agg_request_tree.proofs.Checks.{All-next, All-whole}
 use Rattle.agg_request_tree.proofs.Lists.{none_of_all}
-use Rattle.agg_intermediate_results.specs.Intermediate.{Entries, TupleEntry, below_entry}
-use Rattle.agg_intermediate_results.specs.Intermediate.{helds_below, parts_of}
-use Rattle.agg_intermediate_results.specs.Refusals.{HoldsOther}
-use Rattle.agg_intermediate_results.proofs.AskedNames.{IsToldAt, match-mapped}
-use Rattle.agg_intermediate_results.proofs.LeftOver.{IsLeft-all, IsLeft-found, IsLeft-more}
-use Rattle.agg_intermediate_results.proofs.LeftOver.{IsLeft-none}
-use Rattle.agg_intermediate_results.proofs.Refusals.{OtherHere, asked-alike, other-entry}
-use Rattle.agg_intermediate_results.proofs.Refusals.{other-name}
-use Rattle.agg_intermediate_results.proofs.Refusals.{unasked-alike}
-use Rattle.agg_intermediate_results.proofs.ResultParts.{parts-composite}
-use Rattle.agg_intermediate_results.proofs.final_results.other_shapes.+other_shapes.Goals as goal
+use Rattle.agg_results.specs.intermediate_results.Intermediate.{Entries, TupleEntry, below_entry}
+use Rattle.agg_results.specs.intermediate_results.Intermediate.{helds_below, parts_of}
+use Rattle.agg_results.specs.intermediate_results.Refusals.{HoldsOther}
+use Rattle.agg_results.proofs.lemmas.intermediate_results.AskedNames.{IsToldAt, match-mapped}
+use Rattle.agg_results.proofs.lemmas.intermediate_results.LeftOver.{IsLeft-all, IsLeft-found}
+use Rattle.agg_results.proofs.lemmas.intermediate_results.LeftOver.{IsLeft-more, IsLeft-none}
+use Rattle.agg_results.proofs.lemmas.intermediate_results.Refusals.{OtherHere, asked-alike}
+use Rattle.agg_results.proofs.lemmas.intermediate_results.Refusals.{other-entry, other-name}
+use Rattle.agg_results.proofs.lemmas.intermediate_results.Refusals.{unasked-alike}
+use Rattle.agg_results.proofs.lemmas.intermediate_results.ResultParts.{parts-composite}
+use Rattle.agg_results.proofs.intermediate_results.final_results.other_shapes.+other_shapes.Goals
+    as goal
 use goal.{holds_other-then-is_other-via-then-is_other}
 use goal.{holds_other-then-is_other-via-else-is_other+then-result_holds_other}
 

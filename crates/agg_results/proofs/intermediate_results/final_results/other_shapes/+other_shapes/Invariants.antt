@@ -1,11 +1,12 @@
 use Rattle.std.proofs.Common.{take}
 use Rattle.std.specs.List.{All}
-use Rattle.agg_intermediate_results.specs.Intermediate.{below_entry}
-use Rattle.agg_intermediate_results.specs.Refusals.{HoldsOther}
-use Rattle.agg_intermediate_results.proofs.AskedNames.{IsToldAt}
-use Rattle.agg_intermediate_results.proofs.LeftOver.{IsLeft}
-use Rattle.agg_intermediate_results.proofs.Refusals.{OtherHere}
-use Rattle.agg_intermediate_results.proofs.final_results.other_shapes.+other_shapes.Given as goal
+use Rattle.agg_results.specs.intermediate_results.Intermediate.{below_entry}
+use Rattle.agg_results.specs.intermediate_results.Refusals.{HoldsOther}
+use Rattle.agg_results.proofs.lemmas.intermediate_results.AskedNames.{IsToldAt}
+use Rattle.agg_results.proofs.lemmas.intermediate_results.LeftOver.{IsLeft}
+use Rattle.agg_results.proofs.lemmas.intermediate_results.Refusals.{OtherHere}
+use Rattle.agg_results.proofs.intermediate_results.final_results.other_shapes.+other_shapes.Given
+    as goal
 
 -- no entry so far has one below it
 abbrev pub invariant-entries_hold_other-loop-entry : goal.invariant-entries_hold_other-loop-entry

@@ -1,6 +1,7 @@
 use Rattle.std.proofs.Common.{rules}
 use Rattle.agg_request_tree.proofs.SourceOrders.{orders-all, orders-more, unnegated}
-use Rattle.agg_intermediate_results.proofs.final_results.other_shapes.are_orders_of.Goals as goal
+use Rattle.agg_results.proofs.intermediate_results.final_results.other_shapes.are_orders_of.Goals
+    as goal
 
 pub loop-i-preserved : goal.loop-i-preserved
 loop-i-preserved c =

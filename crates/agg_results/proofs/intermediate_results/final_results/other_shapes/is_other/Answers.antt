@@ -1,9 +1,9 @@
 use Rattle.std.proofs.Common.{sym, ap, ◌∙◌, subst}
 use Rattle.std.specs.Bool.{MatchBool}
-use Rattle.agg_intermediate_results.specs.Intermediate.{parts_of}
-use Rattle.agg_intermediate_results.specs.Refusals.{IsOther}
-use Rattle.agg_intermediate_results.proofs.ResultParts.{parts-composite}
-use Rattle.agg_intermediate_results.proofs.final_results.other_shapes.is_other.Goals as goal
+use Rattle.agg_results.specs.intermediate_results.Intermediate.{parts_of}
+use Rattle.agg_results.specs.intermediate_results.Refusals.{IsOther}
+use Rattle.agg_results.proofs.lemmas.intermediate_results.ResultParts.{parts-composite}
+use Rattle.agg_results.proofs.intermediate_results.final_results.other_shapes.is_other.Goals as goal
 
 pub returns-in-Composite : goal.returns-in-Composite
 returns-in-Composite g c =

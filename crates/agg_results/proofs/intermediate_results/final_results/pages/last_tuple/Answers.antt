@@ -1,5 +1,5 @@
-use Rattle.agg_intermediate_results.proofs.ShownPages.{full-last_tuple}
-use Rattle.agg_intermediate_results.proofs.final_results.pages.last_tuple.Goals as goal
+use Rattle.agg_results.proofs.lemmas.intermediate_results.ShownPages.{full-last_tuple}
+use Rattle.agg_results.proofs.intermediate_results.final_results.pages.last_tuple.Goals as goal
 
 pub returns : goal.returns
 returns c =

@@ -3,16 +3,17 @@ use Rattle.std.specs.Bool.{MatchBool}
 use Rattle.std.specs.List.{Any}
 use Rattle.agg_request_tree.proofs.Checks.{All-next, All-whole}
 use Rattle.agg_request_tree.proofs.Lists.{none_of_all}
-use Rattle.agg_intermediate_results.specs.Intermediate.{Entries, TupleEntry, below_entry}
-use Rattle.agg_intermediate_results.specs.Intermediate.{helds_below, parts_of}
-use Rattle.agg_intermediate_results.specs.Refusals.{HoldsUnknown}
-use Rattle.agg_intermediate_results.proofs.AskedNames.{match-mapped}
-use Rattle.agg_intermediate_results.proofs.LeftOver.{IsLeft-all, IsLeft-found, IsLeft-more}
-use Rattle.agg_intermediate_results.proofs.LeftOver.{IsLeft-none}
-use Rattle.agg_intermediate_results.proofs.Refusals.{IsUnknownAt, asked-known, unknown-entry}
-use Rattle.agg_intermediate_results.proofs.Refusals.{unknown-name}
-use Rattle.agg_intermediate_results.proofs.ResultParts.{parts-composite}
-use Rattle.agg_intermediate_results.proofs.final_results.unknown_names.+unknown_names.Goals as goal
+use Rattle.agg_results.specs.intermediate_results.Intermediate.{Entries, TupleEntry, below_entry}
+use Rattle.agg_results.specs.intermediate_results.Intermediate.{helds_below, parts_of}
+use Rattle.agg_results.specs.intermediate_results.Refusals.{HoldsUnknown}
+use Rattle.agg_results.proofs.lemmas.intermediate_results.AskedNames.{match-mapped}
+use Rattle.agg_results.proofs.lemmas.intermediate_results.LeftOver.{IsLeft-all, IsLeft-found}
+use Rattle.agg_results.proofs.lemmas.intermediate_results.LeftOver.{IsLeft-more, IsLeft-none}
+use Rattle.agg_results.proofs.lemmas.intermediate_results.Refusals.{IsUnknownAt, asked-known}
+use Rattle.agg_results.proofs.lemmas.intermediate_results.Refusals.{unknown-entry, unknown-name}
+use Rattle.agg_results.proofs.lemmas.intermediate_results.ResultParts.{parts-composite}
+use Rattle.agg_results.proofs.intermediate_results.final_results.unknown_names.+unknown_names.Goals
+    as goal
 
 pub entries_hold_unknown-loop-entry-preserved : goal.entries_hold_unknown-loop-entry-preserved
 entries_hold_unknown-loop-entry-preserved g t c =

@@ -1,10 +1,11 @@
 use Rattle.std.proofs.Common.{take}
 use Rattle.std.specs.List.{All}
-use Rattle.agg_intermediate_results.specs.Intermediate.{below_entry}
-use Rattle.agg_intermediate_results.specs.Refusals.{HoldsUnknown}
-use Rattle.agg_intermediate_results.proofs.LeftOver.{IsLeft}
-use Rattle.agg_intermediate_results.proofs.Refusals.{IsUnknownAt}
-use Rattle.agg_intermediate_results.proofs.final_results.unknown_names.+unknown_names.Given as goal
+use Rattle.agg_results.specs.intermediate_results.Intermediate.{below_entry}
+use Rattle.agg_results.specs.intermediate_results.Refusals.{HoldsUnknown}
+use Rattle.agg_results.proofs.lemmas.intermediate_results.LeftOver.{IsLeft}
+use Rattle.agg_results.proofs.lemmas.intermediate_results.Refusals.{IsUnknownAt}
+use Rattle.agg_results.proofs.intermediate_results.final_results.unknown_names.+unknown_names.Given
+    as goal
 
 -- no entry so far has one below it
 abbrev pub invariant-entries_hold_unknown-loop-entry :

@@ -1,11 +1,13 @@
 use Rattle.std.proofs.Common.{[], ap, ◌∙◌}
 use Rattle.agg_values.specs.Names.{put}
-use Rattle.agg_metric_results.specs.declared.error.MergeError.TheVariants.{Mismatch, TooMany}
-use Rattle.agg_metric_results.proofs.Exits.{error-kept}
-use Rattle.agg_intermediate_results.specs.Merging.{CountsPass, ShapesDiffer}
-use Rattle.agg_intermediate_results.proofs.ToldNames.{first_told, nothing_told, passes_alone}
-use Rattle.agg_intermediate_results.proofs.ToldNames.{past_first, pushed-absent, pushed-merged}
-use Rattle.agg_intermediate_results.proofs as proofs
+use Rattle.agg_results.specs.declared.metric_results.error.MergeError.TheVariants.{Mismatch}
+use Rattle.agg_results.specs.declared.metric_results.error.MergeError.TheVariants.{TooMany}
+use Rattle.agg_results.proofs.lemmas.metric_results.Exits.{error-kept}
+use Rattle.agg_results.specs.intermediate_results.Merging.{CountsPass, ShapesDiffer}
+use Rattle.agg_results.proofs.lemmas.intermediate_results.ToldNames.{first_told, nothing_told}
+use Rattle.agg_results.proofs.lemmas.intermediate_results.ToldNames.{passes_alone, past_first}
+use Rattle.agg_results.proofs.lemmas.intermediate_results.ToldNames.{pushed-absent, pushed-merged}
+use Rattle.agg_results.proofs.intermediate_results as proofs
 use proofs.results.IntermediateAggregationResults.push.Goals as goal
 
 pub returns-in_err-value-clause-mismatch : goal.returns-in_err-value-clause-mismatch

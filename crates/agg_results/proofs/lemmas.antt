@@ -1,0 +1,3 @@
+pub mod final_results
+pub mod intermediate_results
+pub mod metric_results
