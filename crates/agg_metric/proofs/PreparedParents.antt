@@ -3,7 +3,7 @@ use Rattle.std.proofs.Common.{◌≡◌, ◌∙◌, refl, sym, ap, ℕ, ◌≤�
 use Rattle.std.proofs.Common.{true, false, length, get_or, take, arith, zero, suc, append-nil}
 use Rattle.std.specs.Prelude.{if◌then◌else◌, replicate}
 use Rattle.std.proofs.lemmas.List.{length-append, take_all}
-use Rattle.agg_column.specs.Columns.{all_keys}
+use Rattle.agg_segment.specs.storage.Columns.{all_keys}
 use Rattle.agg_segment.specs.Segment.{Stored}
 use Rattle.agg_metric.specs.Collector.{Metric, MetricFor, Prepares}
 use Rattle.agg_metric.specs.Metric.{metric_of}

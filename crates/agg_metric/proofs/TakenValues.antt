@@ -11,7 +11,7 @@ use mir.Syntax.{w128}
 use Rattle.agg_values.specs.TypedKey.{CompositeIntermediateKey}
 use Rattle.agg_request_tree.specs.Metrics.{best, best_of, number_of, sum_of}
 use Rattle.agg_request_tree.proofs.Metrics.{best-append, max-assoc, min-assoc, sum-append}
-use Rattle.agg_metric_results.specs.declared.metric as intermediate
+use Rattle.agg_results.specs.declared.metric_results.metric as intermediate
 use intermediate.IntermediateMetricResult.{IntermediateMetricResult}
 use intermediate.IntermediateMetricResult.TheVariants as m
 use intermediate.IntermediateCount.{IntermediateCount}

@@ -8,11 +8,11 @@ use Rattle.std.proofs.lemmas.List.{get_or-set_other, get_or-set_same, get_or_def
 use Rattle.std.proofs.lemmas.List.{map-append}
 use Rattle.agg_cache.specs.Waiting.{docs_of, is_id, under}
 use Rattle.agg_cache.proofs.UnderIds.{docs_of-append, docs_of-other, docs_of-same}
-use Rattle.agg_column.specs.Columns.{all_keys}
+use Rattle.agg_segment.specs.storage.Columns.{all_keys}
 use Rattle.agg_segment.specs.Segment.{Stored, document_at, documents_at}
 use Rattle.agg_request_tree.specs.Metrics.{values_of_field}
 use Rattle.agg_request_tree.proofs.Metrics.{values-append}
-use Rattle.agg_metric_results.specs.declared.metric.IntermediateMetricResult as intermediate
+use Rattle.agg_results.specs.declared.metric_results.metric.IntermediateMetricResult as intermediate
 use intermediate.{IntermediateMetricResult}
 use Rattle.agg_metric.specs.Collector.{Metric, MetricFor, MetricTakes, values_under}
 use Rattle.agg_metric.specs.Metric.{IsTooMany, TakesIn, TooManyWith, metric_of}

@@ -2,10 +2,10 @@
 use Rattle.std.specs.Prelude.{◌≡◌, ◌≤◌, ◌++◌, ℕ, List, [], get_or, length}
 use Rattle.agg_values.specs.TypedKey.{CompositeIntermediateKey}
 use Rattle.agg_cache.specs.Waiting.{docs_of, is_id}
-use Rattle.agg_column.specs.Columns.{StoredColumn, all_keys}
+use Rattle.agg_segment.specs.storage.Columns.{StoredColumn, all_keys}
 use Rattle.agg_segment.specs.Segment.{Stored, document_at, documents_at}
 use Rattle.agg_request_tree.specs.Metrics.{values_of_field}
-use Rattle.agg_metric_results.specs.declared.metric.IntermediateMetricResult as intermediate
+use Rattle.agg_results.specs.declared.metric_results.metric.IntermediateMetricResult as intermediate
 use intermediate.{IntermediateMetricResult}
 use Rattle.agg_metric.specs.Metric.{metric_of}
 use Rattle.agg_metric.specs.declared.request_data.MetricAggReqData.{MetricAggReqData}

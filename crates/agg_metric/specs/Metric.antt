@@ -4,7 +4,7 @@ use Rattle.std.specs.Int.{int_max, int_min}
 use mir.Syntax.{w128}
 use Rattle.agg_values.specs.TypedKey.{CompositeIntermediateKey}
 use Rattle.agg_request_tree.specs.Metrics.{best_of, number_of, sum_of}
-use Rattle.agg_metric_results.specs.declared.metric.IntermediateMetricResult as intermediate
+use Rattle.agg_results.specs.declared.metric_results.metric.IntermediateMetricResult as intermediate
 use intermediate.{IntermediateMetricResult}
 use intermediate.TheVariants as m
 use Rattle.agg_metric.specs.declared.request_data.StatsType.{StatsType}

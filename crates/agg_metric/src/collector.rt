@@ -9,7 +9,7 @@ ghost use Rattle.agg_metric.specs.declared.request_data.MetricAggReqData as decl
 use crate::metric::{metric_of_none, take_documents};
 use crate::{MetricAggReqData, StatsType};
 use agg_cache::{BucketId, CollectError};
-use agg_metric_results::IntermediateMetricResult;
+use agg_results::metric_results::IntermediateMetricResult;
 use agg_segment::{Column, SegmentReader};
 use agg_values::DocId;
 use std::alloc::Global;

@@ -3,16 +3,16 @@ ghost use Rattle.std.specs.Prelude.{◌≡◌, ◌≤◌, ◌+◌, ◌^◌, ◌+
 ghost use Rattle.std.specs.Prelude.{OnErr, OnOk, flat_map, unwrap_or};
 ghost use mir.Syntax.{w128};
 ghost use Rattle.agg_values.specs.TypedKey.{CompositeIntermediateKey};
-ghost use Rattle.agg_column.specs.Columns.{all_keys, column_keys, encoded_key};
+ghost use Rattle.agg_segment.specs.storage.Columns.{all_keys, column_keys, encoded_key};
 ghost use Rattle.agg_request_tree.specs.Metrics.{number_of};
 ghost use Rattle.agg_metric.specs.Metric.{TakesIn, TooManyWith, metric_of};
 
 use crate::StatsType;
-use agg_column::FROM_ZERO;
-use agg_metric_results::{
+use agg_results::metric_results::{
     IntermediateCount, IntermediateMax, IntermediateMetricResult, IntermediateMin, IntermediateSum,
     greatest, least,
 };
+use agg_segment::storage::FROM_ZERO;
 use agg_segment::{Column, ColumnType};
 use agg_values::{DocId, TooMany};
 

@@ -1,5 +1,5 @@
 use Rattle.std.proofs.Common.{take}
-use Rattle.agg_column.specs.Columns.{all_keys}
+use Rattle.agg_segment.specs.storage.Columns.{all_keys}
 use Rattle.agg_metric.specs.Metric.{TakesIn}
 use Rattle.agg_metric.proofs.metric.take_document.Given as goal
 

@@ -1,8 +1,8 @@
 use Rattle.std.proofs.Common.{◌+◌, take, drop, get_or}
 use Rattle.std.specs.List.{flat_map}
 use Rattle.std.proofs.lemmas.List.{get_or_default}
-use Rattle.agg_column.specs.Columns.{all_keys}
-use Rattle.agg_metric_results.proofs.Exits.{on_err}
+use Rattle.agg_segment.specs.storage.Columns.{all_keys}
+use Rattle.agg_results.proofs.lemmas.metric_results.Exits.{on_err}
 use Rattle.agg_metric.proofs.ListParts.{both-parts, next-part}
 use Rattle.agg_metric.proofs.TakenValues.{many-both}
 use Rattle.agg_metric.proofs.metric.take_documents.Goals as goal

@@ -1,6 +1,6 @@
 use Rattle.std.proofs.Common.{take}
 use Rattle.std.specs.List.{flat_map}
-use Rattle.agg_column.specs.Columns.{all_keys}
+use Rattle.agg_segment.specs.storage.Columns.{all_keys}
 use Rattle.agg_metric.specs.Metric.{TakesIn}
 use Rattle.agg_metric.proofs.metric.take_documents.Given as goal
 

@@ -3,8 +3,8 @@ use Rattle.std.specs.List.{flat_map}
 use Rattle.std.proofs.lemmas.List.{get_or_default, take_all}
 use Rattle.std.proofs.lemmas.List.Concat.{flat_map_single}
 use Rattle.agg_values.specs.TypedKey.{CompositeIntermediateKey}
-use Rattle.agg_column.specs.Columns.{column_keys, encoded_key}
-use Rattle.agg_metric_results.proofs.Exits.{on_err}
+use Rattle.agg_segment.specs.storage.Columns.{column_keys, encoded_key}
+use Rattle.agg_results.proofs.lemmas.metric_results.Exits.{on_err}
 use Rattle.agg_metric.specs.Metric.{TakesIn}
 use Rattle.agg_metric.proofs.ListParts.{both-parts, next-part}
 use Rattle.agg_metric.proofs.TakenValues.{many-both}

@@ -1,6 +1,6 @@
 use Rattle.std.proofs.Common.{[], ◌∷◌, take}
 use Rattle.std.specs.List.{flat_map}
-use Rattle.agg_column.specs.Columns.{encoded_key}
+use Rattle.agg_segment.specs.storage.Columns.{encoded_key}
 use Rattle.agg_metric.specs.Metric.{TakesIn}
 use Rattle.agg_metric.proofs.metric.take_in_column.Given as goal
 

@@ -1,7 +1,7 @@
 use Rattle.std.proofs.Common.{◌∙◌, rules, FitsSigned}
 use Rattle.std.proofs.lemmas.Int.{to_z-of_z}
 use mir.Syntax.{w128}
-use Rattle.agg_metric_results.proofs.Exits.{on_err}
+use Rattle.agg_results.proofs.lemmas.metric_results.Exits.{on_err}
 use Rattle.agg_metric.proofs.TakenValues.{many-count, many-sum, takes-max, takes-min, takes-sum}
 use Rattle.agg_metric.proofs.metric.take_value.Goals as goal
 
