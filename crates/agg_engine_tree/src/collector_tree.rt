@@ -1,15 +1,13 @@
 //! The collectors of a request's aggregations in a segment, as a tree.
-#![tactic(auto)]
-
-mod call;
-mod composite;
-mod filter;
-mod filter_collector;
-mod growing;
-mod handing;
-mod metric;
-mod preparing;
-mod tree;
+pub(crate) mod call;
+pub(crate) mod composite;
+pub(crate) mod filter;
+pub(crate) mod filter_collector;
+pub(crate) mod growing;
+pub(crate) mod handing;
+pub(crate) mod metric;
+pub(crate) mod preparing;
+pub(crate) mod tree;
 
 pub use call::Call;
 pub use filter_collector::{FilterCollector, Place};

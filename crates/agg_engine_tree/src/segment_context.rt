@@ -1,13 +1,11 @@
 //! What the aggregations of a request are asked in a segment, and the tree of these.
-#![tactic(auto)]
-
-mod context;
-mod error;
-mod node;
-mod paged;
-mod params;
-mod segment;
-mod view;
+pub(crate) mod context;
+pub(crate) mod error;
+pub(crate) mod node;
+pub(crate) mod paged;
+pub(crate) mod params;
+pub(crate) mod segment;
+pub(crate) mod view;
 
 pub use context::{AggregationsSegmentCtx, PerRequestAggSegCtx};
 pub use error::SetupError;

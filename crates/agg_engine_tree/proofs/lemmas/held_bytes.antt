@@ -6,6 +6,7 @@ pub mod CountedNodes
 pub mod DocumentLists
 pub mod FilterBytes
 pub mod FixedCharges
+pub mod GrownBytes
 pub mod HeldNodes
 pub mod HeldSums
 pub mod LabelSums

@@ -5,12 +5,14 @@ use Rattle.agg_segment.specs.Segment.{documents_at}
 use Rattle.agg_segment.specs.declared.query.QueryTree.{QueryTree}
 use Rattle.agg_request_tree.specs.Request.{Request}
 use Rattle.agg_request_tree.specs.declared.aggregation.Aggregation.{Aggregation}
-use Rattle.agg_buckets.specs.Visits.{docs_in}
-use Rattle.agg_segment_context.specs.Context.{ArePlansOf, IsMeant, IsPlanOf, Meaning}
-use Rattle.agg_segment_context.specs.Plan.{Plan, Plans}
-use Rattle.agg_segment_context.specs.declared.context.PerRequestAggSegCtx.{PerRequestAggSegCtx}
-use Rattle.agg_collector_tree.specs.Counting.{counted_in, counted_of}
-use Rattle.agg_collector_tree.specs.Tree.{Held, IsFor, IsGroupOf, IsOf}
+use Rattle.agg_composite.specs.buckets.Visits.{docs_in}
+use Rattle.agg_engine_tree.specs.segment_context.Context.{ArePlansOf, IsMeant, IsPlanOf, Meaning}
+use Rattle.agg_engine_tree.specs.segment_context.Plan.{Plan, Plans}
+use Rattle.agg_engine_tree.specs.declared.segment_context.context.PerRequestAggSegCtx.{
+  PerRequestAggSegCtx,
+}
+use Rattle.agg_engine_tree.specs.collector_tree.Counting.{counted_in, counted_of}
+use Rattle.agg_engine_tree.specs.collector_tree.Tree.{Held, IsFor, IsGroupOf, IsOf}
 
 -- whatever a tree answers, its steps are at most three for each document that composites count of
 -- all that it took, less what it visited before

@@ -1,8 +1,11 @@
 -- What waits in the caches of a tree, and what the collector of a filter holds.
 use Rattle.std.specs.Prelude.{ℕ, List, [], get_or}
 use Rattle.agg_filter.specs.Filter.{Filter}
-use Rattle.agg_collector_tree.specs.declared.filter_collector.ByPlace.{ByPlace}
-use Rattle.agg_collector_tree.specs.declared.filter_collector.ByPlace.TheVariants.{Below, Top}
+use Rattle.agg_engine_tree.specs.declared.collector_tree.filter_collector.ByPlace.{ByPlace}
+use Rattle.agg_engine_tree.specs.declared.collector_tree.filter_collector.ByPlace.TheVariants.{
+  Below,
+}
+use Rattle.agg_engine_tree.specs.declared.collector_tree.filter_collector.ByPlace.TheVariants.{Top}
 
 -- the documents that wait in a cache, by bucket
 abbrev pub Cache : Type 0

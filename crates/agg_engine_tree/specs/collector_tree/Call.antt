@@ -1,7 +1,7 @@
 -- What a tree is asked: documents under parents, as pairs.
 use Rattle.std.specs.Prelude.{ℕ, List, [], ◌∷◌, Bool, true, false}
 use Rattle.agg_cache.specs.Waiting.{under}
-use Rattle.agg_collector_tree.specs.declared.call.Call as call
+use Rattle.agg_engine_tree.specs.declared.collector_tree.call.Call as call
 use call.{Call}
 use call.TheVariants.{Collect, Flush}
 

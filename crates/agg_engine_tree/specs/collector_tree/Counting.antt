@@ -1,7 +1,7 @@
 -- How many documents the composites of a request count.
 use Rattle.std.specs.Prelude.{◌+◌, ℕ, List, Bool, length}
 use Rattle.std.specs.List.{sum_by}
-use Rattle.agg_column.specs.Document.{Fields}
+use Rattle.agg_segment.specs.storage.Document.{Fields}
 use Rattle.agg_request_tree.specs.declared.aggregation.Aggregation.{Aggregation}
 use Rattle.agg_request_tree.specs.declared.aggregation.Aggregation.TheOpen.{Aggregation-F}
 use Rattle.agg_request_tree.specs.declared.aggregation.Aggregation.TheFolds.{fold-Aggregation}
@@ -16,7 +16,7 @@ own_counted (Composite composite) documents = length (counted composite document
 own_counted _ documents = 0
 
 module _ {B : Type 0} (is_match : B → Fields → Bool) where
-  -- those of a node, and those of the nodes below it, which are taken over the node's own list
+  -- how many documents a node counts, and the nodes below it over the node's own list
   abbrev pub counted_step : Aggregation-F B (List Fields → ℕ) → List Fields → ℕ
   counted_step a documents =
       own_counted a.agg documents

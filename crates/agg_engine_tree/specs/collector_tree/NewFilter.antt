@@ -1,7 +1,7 @@
 -- New collectors of filters.
 use Rattle.std.specs.Prelude.{◌≡◌, ℕ, [], Bool, not}
 use Rattle.agg_filter.specs.Filter.{Filter, FilterFor}
-use Rattle.agg_collector_tree.specs.Caches.{Cache, waiting_in}
+use Rattle.agg_engine_tree.specs.collector_tree.Caches.{Cache, waiting_in}
 
 -- a filter's collector that visited nothing
 pub record IsNewFilter (is_leaf : Bool) (collector : Filter Cache) : Type 0 where

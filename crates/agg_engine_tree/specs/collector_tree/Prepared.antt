@@ -1,6 +1,6 @@
 -- Which parents the collectors of a tree are prepared for.
 use Rattle.std.specs.Prelude.{◌<◌, ℕ, length, ⊤}
-use Rattle.agg_collector_tree.specs.Tree.{Held, Helds}
+use Rattle.agg_engine_tree.specs.collector_tree.Tree.{Held, Helds}
 
 -- the collectors at the top of a tree are prepared for a parent
 abbrev mutual

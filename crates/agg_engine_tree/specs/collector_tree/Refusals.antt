@@ -4,20 +4,24 @@ use Rattle.std.specs.Prelude.{All, Any, length}
 use Rattle.agg_cache.specs.declared.error.CollectError.{CollectError}
 use Rattle.agg_cache.specs.declared.error.CollectError.TheVariants.{BucketOutOfRange, OutOfMemory}
 use Rattle.agg_cache.specs.declared.error.CollectError.TheVariants.{TooMany}
-use Rattle.agg_column.specs.Document.{Fields, HasNumbersOf64Bits}
+use Rattle.agg_segment.specs.storage.Document.{Fields, HasNumbersOf64Bits}
 use Rattle.agg_segment.specs.Query.{matches}
 use Rattle.agg_segment.specs.Segment.{documents_at}
 use Rattle.agg_segment.specs.declared.query.QueryTree.{QueryTree}
 use Rattle.agg_request_tree.specs.Request.{Request}
 use Rattle.agg_request_tree.specs.Uncut.{CountsTooMany, uncut_lists}
 use Rattle.agg_request_tree.specs.declared.aggregation.Aggregation.{Aggregation}
-use Rattle.agg_accessor.specs.Ranges.{AreAllInRange}
-use Rattle.agg_accessor.specs.declared.request_data.CompositeAggReqData.{CompositeAggReqData}
-use Rattle.agg_buckets.specs.Visits.{docs_in}
-use Rattle.agg_segment_context.specs.Context.{ArePlansOf, IsMeant, IsPlanOf, Meaning}
-use Rattle.agg_segment_context.specs.Plan.{Plan, Plans}
-use Rattle.agg_segment_context.specs.declared.context.PerRequestAggSegCtx.{PerRequestAggSegCtx}
-use Rattle.agg_collector_tree.specs.Tree.{Held, Helds, IsFor, IsGroupOf, IsOf, nothing}
+use Rattle.agg_composite.specs.accessor.Ranges.{AreAllInRange}
+use Rattle.agg_composite.specs.declared.accessor.request_data.CompositeAggReqData.{
+  CompositeAggReqData,
+}
+use Rattle.agg_composite.specs.buckets.Visits.{docs_in}
+use Rattle.agg_engine_tree.specs.segment_context.Context.{ArePlansOf, IsMeant, IsPlanOf, Meaning}
+use Rattle.agg_engine_tree.specs.segment_context.Plan.{Plan, Plans}
+use Rattle.agg_engine_tree.specs.declared.segment_context.context.PerRequestAggSegCtx.{
+  PerRequestAggSegCtx,
+}
+use Rattle.agg_engine_tree.specs.collector_tree.Tree.{Held, Helds, IsFor, IsGroupOf, IsOf, nothing}
 
 module _ (meaning : Meaning) (ctx : PerRequestAggSegCtx) where
   -- the composite at an index reads a start outside 64 bits in some of these documents
@@ -26,7 +30,7 @@ module _ (meaning : Meaning) (ctx : PerRequestAggSegCtx) where
       (req : CompositeAggReqData) × (slice_get ctx.composite_req_data index ≡ Some req)
       × (¬ (AreAllInRange meaning.segment req.req.now.sources docs))
 
-  -- so does some composite of a tree
+  -- some composite of a tree reads a start outside 64 bits in some of these documents
   abbrev mutual
     pub HasStartOutOfRange : Held → List ℕ → Type 0
     HasStartOutOfRange (Held.composite index collector h) docs =

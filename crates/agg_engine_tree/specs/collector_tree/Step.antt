@@ -3,10 +3,12 @@ use Rattle.std.specs.Prelude.{◌≡◌, ◌+◌, ℕ, suc, List, Bool, Option, 
 use Rattle.agg_cache.specs.Waiting.{pairs_of}
 use Rattle.agg_cache.specs.declared.cache.Batch.{Batch}
 use Rattle.agg_cache.specs.declared.error.CollectError.{CollectError}
-use Rattle.agg_segment_context.specs.declared.context.PerRequestAggSegCtx.{PerRequestAggSegCtx}
-use Rattle.agg_collector_tree.specs.Bound.{TakesMost}
-use Rattle.agg_collector_tree.specs.Refusals.{IsRefused}
-use Rattle.agg_collector_tree.specs.Tree.{Fits, Held, Helds, Takes}
+use Rattle.agg_engine_tree.specs.declared.segment_context.context.PerRequestAggSegCtx.{
+  PerRequestAggSegCtx,
+}
+use Rattle.agg_engine_tree.specs.collector_tree.Bound.{TakesMost}
+use Rattle.agg_engine_tree.specs.collector_tree.Refusals.{IsRefused}
+use Rattle.agg_engine_tree.specs.collector_tree.Tree.{Fits, Held, Helds, Takes}
 
 -- the index of a node's data, 0 for a group
 abbrev pub index_in : Held → ℕ

@@ -7,17 +7,19 @@ use Rattle.agg_cache.specs.declared.error.CollectError.{CollectError}
 use Rattle.agg_cache.specs.declared.error.CollectError.TheVariants.{BucketOutOfRange, OutOfMemory}
 use Rattle.agg_cache.specs.declared.error.CollectError.TheVariants.{TooMany}
 use Rattle.agg_segment.specs.Segment.{Stored}
-use Rattle.agg_accessor.specs.Ranges.{AreAllInRange}
-use Rattle.agg_accessor.specs.declared.request_data.CompositeAggReqData.{CompositeAggReqData}
-use Rattle.agg_buckets.specs.Visits.{docs_in}
-use Rattle.agg_composite.specs.Composite.{Composite, CompositeFor}
+use Rattle.agg_composite.specs.accessor.Ranges.{AreAllInRange}
+use Rattle.agg_composite.specs.declared.accessor.request_data.CompositeAggReqData.{
+  CompositeAggReqData,
+}
+use Rattle.agg_composite.specs.buckets.Visits.{docs_in}
+use Rattle.agg_composite.specs.Composite.{Composite, CompositeFor, num_buckets}
 use Rattle.agg_filter.specs.Filter.{Filter, FilterFor}
 use Rattle.agg_metric.specs.Collector.{Metric, MetricFor, MetricTakes, values_under}
 use Rattle.agg_metric.specs.Metric.{IsTooMany}
 use Rattle.agg_metric.specs.declared.request_data.MetricAggReqData.{MetricAggReqData}
-use Rattle.agg_collector_tree.specs.Refusals.{AreNotLast}
-use Rattle.agg_collector_tree.specs.Caches.{Cache, waiting_in}
-use Rattle.agg_collector_tree.specs.Tree.{visits_of}
+use Rattle.agg_engine_tree.specs.collector_tree.Refusals.{AreNotLast}
+use Rattle.agg_engine_tree.specs.collector_tree.Caches.{Cache, waiting_in}
+use Rattle.agg_engine_tree.specs.collector_tree.Tree.{visits_of}
 
 -- why a call of a tree is refused
 abbrev pub IsRefusal : CollectError → Type 0
@@ -27,12 +29,13 @@ IsRefusal error = (error ≡ BucketOutOfRange) ⊎ ((error ≡ TooMany) ⊎ (err
 
 module _ (req : CompositeAggReqData) (segment : Stored) (after : Named AfterKey) where
   -- a composite took documents under parents: where it was right, it is right with their visits
-  -- after the others, by one to three steps a visit
+  -- after the others, by one to three steps a visit; it has no fewer buckets
   pub record CompositeTook (pairs : List (ℕ × ℕ)) (old new : Composite Cache) (steps steps_now : ℕ)
       : Type 0 where
     pub takes : (taken given : List (ℕ × ℕ))
         → CompositeFor waiting_in req old (visits_of req segment after taken) given
         → CompositeFor waiting_in req new (visits_of req segment after (taken ++ pairs)) given
+    pub no_fewer : num_buckets old ≤ num_buckets new
     pub room : new.room ≡ old.room
     pub hands_on : new.hands_on ≡ old.hands_on
     pub least : steps + length (visits_of req segment after pairs) ≤ steps_now

@@ -5,22 +5,28 @@ use Rattle.std.specs.List.{flat_map}
 use Rattle.agg_values.specs.Names.{Named}
 use Rattle.agg_values.specs.declared.after_key.AfterKey.{AfterKey}
 use Rattle.agg_segment.specs.Segment.{Stored}
-use Rattle.agg_accessor.specs.declared.request_data.CompositeAggReqData.{CompositeAggReqData}
-use Rattle.agg_composite.specs.Composite.{Composite, CompositeFor}
+use Rattle.agg_composite.specs.declared.accessor.request_data.CompositeAggReqData.{
+  CompositeAggReqData,
+}
+use Rattle.agg_composite.specs.Composite.{Composite, CompositeFor, num_buckets}
 use Rattle.agg_composite.specs.Visits.{TypedVisit, visits_past}
 use Rattle.agg_filter.specs.Filter.{Filter, FilterFor}
 use Rattle.agg_filter.specs.Matching.{is_matching}
 use Rattle.agg_filter.specs.declared.request_data.FilterAggReqData.{FilterAggReqData}
 use Rattle.agg_metric.specs.Collector.{Metric, MetricFor}
 use Rattle.agg_metric.specs.declared.request_data.MetricAggReqData.{MetricAggReqData}
-use Rattle.agg_segment_context.specs.Context.{IsMeant, Meaning}
-use Rattle.agg_segment_context.specs.Plan.{Plan, Plans}
-use Rattle.agg_segment_context.specs.declared.context.PerRequestAggSegCtx.{PerRequestAggSegCtx}
-use Rattle.agg_segment_context.specs.declared.node.AggKind.TheVariants as kind
-use Rattle.agg_collector_tree.specs.Caches.{Cache, waiting_in}
-use Rattle.agg_collector_tree.specs.declared.tree.SegmentCollectorTree.{SegmentCollectorTree}
-use Rattle.agg_collector_tree.specs.declared.tree.SegmentCollectorTree.TheOpen as opened
-use Rattle.agg_collector_tree.specs.declared.tree.SegmentCollectorTree.TheFolds as folds
+use Rattle.agg_engine_tree.specs.segment_context.Context.{IsMeant, Meaning}
+use Rattle.agg_engine_tree.specs.segment_context.Plan.{Plan, Plans}
+use Rattle.agg_engine_tree.specs.declared.segment_context.context.PerRequestAggSegCtx.{
+  PerRequestAggSegCtx,
+}
+use Rattle.agg_engine_tree.specs.declared.segment_context.node.AggKind.TheVariants as kind
+use Rattle.agg_engine_tree.specs.collector_tree.Caches.{Cache, waiting_in}
+use Rattle.agg_engine_tree.specs.declared.collector_tree.tree.SegmentCollectorTree.{
+  SegmentCollectorTree,
+}
+use Rattle.agg_engine_tree.specs.declared.collector_tree.tree.SegmentCollectorTree.TheOpen as opened
+use Rattle.agg_engine_tree.specs.declared.collector_tree.tree.SegmentCollectorTree.TheFolds as folds
 use folds.{fold-SegmentCollectorTree}
 
 -- ---- plain data
@@ -82,19 +88,21 @@ abbrev mutual
   AreOf (Plans.more plan plans) (Helds.more h hs) = IsOf plan h × AreOf plans hs
   AreOf _ _ = ⊥
 
--- two trees have the same nodes: each collector has the index of the other's, at any depth
+-- a tree grows to another one of the same nodes: each collector has the index of the other's, at
+-- any depth, and no composite has fewer buckets
 abbrev mutual
-  pub HasSameNodes : Held → Held → Type 0
-  HasSameNodes (Held.composite i a h) (Held.composite j b k) = (i ≡ j) × HasSameNodes h k
-  HasSameNodes (Held.filter i a h) (Held.filter j b k) = (i ≡ j) × HasSameNodes h k
-  HasSameNodes (Held.metric i a) (Held.metric j b) = i ≡ j
-  HasSameNodes (Held.group hs) (Held.group ks) = HaveSameNodes hs ks
-  HasSameNodes _ _ = ⊥
+  pub GrowsTo : Held → Held → Type 0
+  GrowsTo (Held.composite i a h) (Held.composite j b k) =
+      (i ≡ j) × GrowsTo h k × (num_buckets a ≤ num_buckets b)
+  GrowsTo (Held.filter i a h) (Held.filter j b k) = (i ≡ j) × GrowsTo h k
+  GrowsTo (Held.metric i a) (Held.metric j b) = i ≡ j
+  GrowsTo (Held.group hs) (Held.group ks) = AllGrowTo hs ks
+  GrowsTo _ _ = ⊥
 
-  pub HaveSameNodes : Helds → Helds → Type 0
-  HaveSameNodes Helds.none Helds.none = ⊤
-  HaveSameNodes (Helds.more h hs) (Helds.more k ks) = HasSameNodes h k × HaveSameNodes hs ks
-  HaveSameNodes _ _ = ⊥
+  pub AllGrowTo : Helds → Helds → Type 0
+  AllGrowTo Helds.none Helds.none = ⊤
+  AllGrowTo (Helds.more h hs) (Helds.more k ks) = GrowsTo h k × AllGrowTo hs ks
+  AllGrowTo _ _ = ⊥
 
 -- ---- of which context it is
 
@@ -181,8 +189,8 @@ abbrev mutual
 -- ---- calls
 
 -- a tree took documents under parents: where it was right, it is right with these after the others,
--- by one to three steps a visit; it stays a tree of the same nodes, and nothing waits in it where
--- all was to be handed down
+-- by one to three steps a visit; it stays a tree of the same nodes with no fewer buckets, and
+-- nothing waits in it where all was to be handed down
 pub record Takes (ctx : PerRequestAggSegCtx) (pairs : List (ℕ × ℕ)) (all : Bool) (old new : Held)
     (steps steps_now : ℕ) : Type 0 where
   pub takes : (meaning : Meaning) → IsMeant meaning ctx
@@ -191,6 +199,6 @@ pub record Takes (ctx : PerRequestAggSegCtx) (pairs : List (ℕ × ℕ)) (all : 
       × (visits ≤ visits_now)
       × (steps + visits_now ≤ steps_now + visits)
       × (steps_now + 3 * visits ≤ steps + 3 * visits_now)
-  pub nodes : HasSameNodes old new
+  pub nodes : GrowsTo old new
   pub fits : Fits ctx old → Fits ctx new
   pub flushed : all ≡ true → IsFlushed new

@@ -1,11 +1,15 @@
 -- The bytes of the buckets that the composites of a tree hold.
 use Rattle.std.specs.Prelude.{◌+◌, ◌*◌, ℕ, slice_get}
 use Rattle.std.specs.Option.{option_map_or}
-use Rattle.agg_accessor.specs.declared.request_data.CompositeAggReqData.{CompositeAggReqData}
-use Rattle.agg_charges.specs.Charges.{bucket_bytes}
+use Rattle.agg_composite.specs.declared.accessor.request_data.CompositeAggReqData.{
+  CompositeAggReqData,
+}
+use Rattle.agg_request_tree.specs.charges.Charges.{bucket_bytes}
 use Rattle.agg_composite.specs.Composite.{num_buckets}
-use Rattle.agg_segment_context.specs.declared.context.PerRequestAggSegCtx.{PerRequestAggSegCtx}
-use Rattle.agg_collector_tree.specs.Tree.{Held, Helds}
+use Rattle.agg_engine_tree.specs.declared.segment_context.context.PerRequestAggSegCtx.{
+  PerRequestAggSegCtx,
+}
+use Rattle.agg_engine_tree.specs.collector_tree.Tree.{Held, Helds}
 
 module _ (ctx : PerRequestAggSegCtx) where
   -- the bytes of a bucket of the composite whose data stands at an index

@@ -18,19 +18,24 @@ use Rattle.agg_request_tree.specs.declared.aggregation.AggregationVariants as va
 use variants.{AggregationVariants}
 use variants.TheVariants.{Composite}
 use Rattle.agg_request_tree.specs.declared.aggregation.CompositeAggregation.{CompositeAggregation}
-use Rattle.agg_accessor.specs.Accessors.{Fits}
-use Rattle.agg_accessor.specs.declared.request_data.CompositeAggReqData.{CompositeAggReqData}
+use Rattle.agg_composite.specs.accessor.Accessors.{Fits}
+use Rattle.agg_composite.specs.declared.accessor.request_data.CompositeAggReqData.{
+  CompositeAggReqData,
+}
 use Rattle.agg_filter.specs.declared.request_data.FilterAggReqData.{FilterAggReqData}
 use Rattle.agg_metric.specs.declared.request_data.MetricAggReqData.{MetricAggReqData}
 use Rattle.agg_metric.specs.declared.request_data.StatsType.{StatsType}
-use Rattle.agg_segment_context.specs.Context.{ArePlansOf, IsAskedAt, IsMeant, IsPlanOf, Meaning}
-use Rattle.agg_segment_context.specs.Plan.{plan_of, plans_of}
-use Rattle.agg_segment_context.specs.Trees.{own_tree, trees_of}
-use Rattle.agg_segment_context.specs.declared.context.PerRequestAggSegCtx.{PerRequestAggSegCtx}
-use Rattle.agg_segment_context.specs.declared.node.AggKind.{AggKind}
-use Rattle.agg_segment_context.specs.declared.node.AggRefNode.{AggRefNode}
-use Rattle.agg_segment_context.specs.declared.params.Page.{Page}
-use Rattle.agg_segment_context.specs.declared.segment.origin.Origin.{Origin}
+use Rattle.agg_engine_tree.specs.segment_context.Context.{ArePlansOf, IsAskedAt, IsMeant, IsPlanOf}
+use Rattle.agg_engine_tree.specs.segment_context.Context.{Meaning}
+use Rattle.agg_engine_tree.specs.segment_context.Plan.{plan_of, plans_of}
+use Rattle.agg_engine_tree.specs.segment_context.Trees.{own_tree, trees_of}
+use Rattle.agg_engine_tree.specs.declared.segment_context.context.PerRequestAggSegCtx.{
+  PerRequestAggSegCtx,
+}
+use Rattle.agg_engine_tree.specs.declared.segment_context.node.AggKind.{AggKind}
+use Rattle.agg_engine_tree.specs.declared.segment_context.node.AggRefNode.{AggRefNode}
+use Rattle.agg_engine_tree.specs.declared.segment_context.params.Page.{Page}
+use Rattle.agg_engine_tree.specs.declared.segment_context.segment.origin.Origin.{Origin}
 
 -- ---- the page of a level
 
@@ -167,13 +172,13 @@ module _ {B : Type 0} (from : Origin) (ctx : PerRequestAggSegCtx) where
     pub trees : TreesFollow from ctx (own_tree (with_own_builder made agg))
     pub sound : All IsSound (own_composite (paged_agg (page_of from) name agg))
 
-  -- so of an aggregation and those below it
+  -- the trees of an aggregation and those below it follow, and no composite of them has a fault
   pub record IsReadyIn (name : List ℕ) (a : Aggregation B) : Type 0 where
     pub made : B → QueryTree
     pub trees : TreesFollow from ctx (listed_in own_tree (with_builders_in made a))
     pub sound : All IsSound (composites_in (paged_in (page_of from) name a))
 
-  -- so of a request
+  -- the trees of a request follow, and no composite of it has a fault
   pub record IsReadyFor (request : Request B) : Type 0 where
     pub made : B → QueryTree
     pub trees : TreesFollow from ctx (trees_of (with_builders made request))

@@ -7,7 +7,7 @@ use Rattle.agg_request_tree.specs.Request.{Request, agg_of, aggregation_of, belo
 use Rattle.agg_request_tree.specs.declared.aggregation.Aggregation.{Aggregation}
 use Rattle.agg_request_tree.specs.declared.aggregation.AggregationVariants.{AggregationVariants}
 use Rattle.agg_request_tree.specs.declared.aggregation.AggregationVariants.TheVariants.{Composite}
-use Rattle.agg_segment_context.specs.declared.params.Page.{Page}
+use Rattle.agg_engine_tree.specs.declared.segment_context.params.Page.{Page}
 
 -- an aggregation with another size, if it is a composite
 abbrev pub with_size : {B : Type 0} → ℕ → AggregationVariants B → AggregationVariants B

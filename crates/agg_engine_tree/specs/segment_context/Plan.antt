@@ -1,9 +1,9 @@
 -- The tree of a request's aggregations as plain data, over which relations may go down.
 use Rattle.std.specs.Prelude.{ℕ, List, [], ◌∷◌}
-use Rattle.agg_segment_context.specs.declared.node.AggKind.{AggKind}
-use Rattle.agg_segment_context.specs.declared.node.AggRefNode.{AggRefNode}
-use Rattle.agg_segment_context.specs.declared.node.AggRefNode.TheOpen.{AggRefNode-F}
-use Rattle.agg_segment_context.specs.declared.node.AggRefNode.TheFolds.{fold-AggRefNode}
+use Rattle.agg_engine_tree.specs.declared.segment_context.node.AggKind.{AggKind}
+use Rattle.agg_engine_tree.specs.declared.segment_context.node.AggRefNode.{AggRefNode}
+use Rattle.agg_engine_tree.specs.declared.segment_context.node.AggRefNode.TheOpen.{AggRefNode-F}
+use Rattle.agg_engine_tree.specs.declared.segment_context.node.AggRefNode.TheFolds.{fold-AggRefNode}
 
 -- a node: its kind, its index in the data of that kind, and the nodes below it
 mutual

@@ -4,9 +4,11 @@ use Rattle.agg_values.specs.declared.request_error.RequestError.{RequestError}
 use Rattle.agg_values.specs.declared.request_error.RequestError.TheVariants as request
 use Rattle.agg_request_tree.specs.declared.builder.QueryBuildError.{QueryBuildError}
 use Rattle.agg_request_tree.specs.declared.builder.QueryBuildError.TheVariants as build
-use Rattle.agg_segment_context.specs.declared.error.SetupError.{SetupError}
-use Rattle.agg_segment_context.specs.declared.error.SetupError.TheVariants.{Aggregation, Invalid}
-use Rattle.agg_segment_context.specs.declared.error.SetupError.TheVariants.{OutOfMemory, QueryBuild}
+use Rattle.agg_engine_tree.specs.declared.segment_context.error.SetupError.{SetupError}
+use Rattle.agg_engine_tree.specs.declared.segment_context.error.SetupError.TheVariants.{Aggregation}
+use Rattle.agg_engine_tree.specs.declared.segment_context.error.SetupError.TheVariants.{Invalid}
+use Rattle.agg_engine_tree.specs.declared.segment_context.error.SetupError.TheVariants.{OutOfMemory}
+use Rattle.agg_engine_tree.specs.declared.segment_context.error.SetupError.TheVariants.{QueryBuild}
 
 -- the error for that of a request
 abbrev pub error_from_request : RequestError → SetupError

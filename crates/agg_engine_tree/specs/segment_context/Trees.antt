@@ -6,7 +6,7 @@ use Rattle.agg_request_tree.specs.Request.{Request, builders_of, listed_of, with
 use Rattle.agg_request_tree.specs.declared.aggregation.AggregationVariants.{AggregationVariants}
 use Rattle.agg_request_tree.specs.declared.aggregation.AggregationVariants.TheVariants.{Filter}
 use Rattle.agg_request_tree.specs.declared.aggregation.filter.FilterQuery.{FilterQuery}
-use Rattle.agg_segment_context.specs.Context.{tree_in}
+use Rattle.agg_engine_tree.specs.segment_context.Context.{tree_in}
 
 -- the tree of the filter that an aggregation is, if it is one
 abbrev pub own_tree : AggregationVariants QueryTree → List QueryTree

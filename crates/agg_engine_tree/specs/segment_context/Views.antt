@@ -10,15 +10,19 @@ use Rattle.agg_request_tree.specs.declared.aggregation.Aggregation.TheOpen.{Aggr
 use Rattle.agg_request_tree.specs.declared.aggregation.Aggregation.TheFolds.{fold-Aggregation}
 use Rattle.agg_request_tree.specs.declared.aggregation.AggregationVariants.{AggregationVariants}
 use Rattle.agg_request_tree.specs.declared.aggregation.AggregationVariants.TheVariants as asks
-use Rattle.agg_segment_context.specs.Context.{IsPlanOf, Meaning}
-use Rattle.agg_segment_context.specs.Plan.{plan_of}
-use Rattle.agg_segment_context.specs.declared.context.PerRequestAggSegCtx.{PerRequestAggSegCtx}
-use Rattle.agg_segment_context.specs.declared.node.AggKind.{AggKind}
-use Rattle.agg_segment_context.specs.declared.node.AggKind.TheVariants as kind
-use Rattle.agg_segment_context.specs.declared.node.AggRefNode.{AggRefNode}
-use Rattle.agg_segment_context.specs.declared.node.AggRefNode.TheViews.{out-AggRefNode}
-use Rattle.agg_segment_context.specs.declared.view.AggTreeViewNode.{AggTreeViewNode}
-use Rattle.agg_segment_context.specs.declared.view.AggTreeViewNode.TheViews.{roll-AggTreeViewNode}
+use Rattle.agg_engine_tree.specs.segment_context.Context.{IsPlanOf, Meaning}
+use Rattle.agg_engine_tree.specs.segment_context.Plan.{plan_of}
+use Rattle.agg_engine_tree.specs.declared.segment_context.context.PerRequestAggSegCtx.{
+  PerRequestAggSegCtx,
+}
+use Rattle.agg_engine_tree.specs.declared.segment_context.node.AggKind.{AggKind}
+use Rattle.agg_engine_tree.specs.declared.segment_context.node.AggKind.TheVariants as kind
+use Rattle.agg_engine_tree.specs.declared.segment_context.node.AggRefNode.{AggRefNode}
+use Rattle.agg_engine_tree.specs.declared.segment_context.node.AggRefNode.TheViews.{out-AggRefNode}
+use Rattle.agg_engine_tree.specs.declared.segment_context.view.AggTreeViewNode.{AggTreeViewNode}
+use Rattle.agg_engine_tree.specs.declared.segment_context.view.AggTreeViewNode.TheViews.{
+  roll-AggTreeViewNode,
+}
 
 -- ---- names
 

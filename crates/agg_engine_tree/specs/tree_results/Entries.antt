@@ -7,13 +7,15 @@ use Rattle.agg_values.specs.KeyOrder.{tuple_order}
 use Rattle.agg_request_tree.specs.Source.{Sources, rules_of}
 use Rattle.agg_composite.specs.PageEntries.{entry_group}
 use Rattle.agg_composite.specs.declared.page_entry.PageEntry.{PageEntry}
-use Rattle.agg_intermediate_results.specs.Intermediate.{Entries, TupleEntry, below_entry}
-use Rattle.agg_intermediate_results.specs.Intermediate.{composite_of}
-use Rattle.agg_intermediate_results.specs.declared as intermediate
+use Rattle.agg_results.specs.intermediate_results.Intermediate.{Entries, TupleEntry, below_entry}
+use Rattle.agg_results.specs.intermediate_results.Intermediate.{composite_of}
+use Rattle.agg_results.specs.declared.intermediate_results as intermediate
 use intermediate.composite.IntermediateCompositeBucketResult.{IntermediateCompositeBucketResult}
-use Rattle.agg_segment_context.specs.declared.context.PerRequestAggSegCtx.{PerRequestAggSegCtx}
-use Rattle.agg_collector_tree.specs.Tree.{Held}
-use Rattle.agg_tree_results.specs.Results.{GroupStands}
+use Rattle.agg_engine_tree.specs.declared.segment_context.context.PerRequestAggSegCtx.{
+  PerRequestAggSegCtx,
+}
+use Rattle.agg_engine_tree.specs.collector_tree.Tree.{Held}
+use Rattle.agg_engine_tree.specs.tree_results.Results.{GroupStands}
 
 -- the tuples of a page's entries ascend
 abbrev pub IsAscending : Sources → List PageEntry → Type 0

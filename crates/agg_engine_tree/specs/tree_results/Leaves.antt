@@ -7,9 +7,11 @@ use Rattle.agg_request_tree.specs.Request.{agg_of, below_of}
 use Rattle.agg_request_tree.specs.declared.aggregation.Aggregation.{Aggregation}
 use Rattle.agg_request_tree.specs.declared.aggregation.AggregationVariants.TheVariants as asks
 use Rattle.agg_request_tree.specs.declared.aggregation.CompositeAggregation.{CompositeAggregation}
-use Rattle.agg_accessor.specs.declared.request_data.CompositeAggReqData.{CompositeAggReqData}
+use Rattle.agg_composite.specs.declared.accessor.request_data.CompositeAggReqData.{
+  CompositeAggReqData,
+}
 use Rattle.agg_composite.specs.declared.page_entry.PageEntry.{PageEntry}
-use Rattle.agg_intermediate_results.specs.Intermediate.{TupleEntry, plain_entry}
+use Rattle.agg_results.specs.intermediate_results.Intermediate.{TupleEntry, plain_entry}
 
 -- an aggregation is a composite with nothing below it, and this is its data for an after key
 pub record IsLeafOf (req : CompositeAggReqData) (after : Named AfterKey)

@@ -5,16 +5,18 @@ use Rattle.agg_values.specs.declared.after_key.AfterKey.{AfterKey}
 use Rattle.agg_segment.specs.Segment.{Stored, documents_at}
 use Rattle.agg_request_tree.specs.Occurrences.{bound_of}
 use Rattle.agg_request_tree.specs.Page.{count_in, documents_with}
-use Rattle.agg_accessor.specs.declared.request_data.CompositeAggReqData.{CompositeAggReqData}
-use Rattle.agg_accessor.specs.Encoding.{EncodedTuple}
-use Rattle.agg_buckets.specs.Page.{Page}
+use Rattle.agg_composite.specs.declared.accessor.request_data.CompositeAggReqData.{
+  CompositeAggReqData,
+}
+use Rattle.agg_composite.specs.accessor.Encoding.{EncodedTuple}
+use Rattle.agg_composite.specs.buckets.Page.{Page}
 use Rattle.agg_composite.specs.Composite.{Composite, CompositeFor, page_of}
 use Rattle.agg_composite.specs.PageEntries.{entry_group}
 use Rattle.agg_composite.specs.declared.page_entry.PageEntry.{PageEntry}
 use Rattle.agg_results.specs.StandsFor.{GroupsStandFor}
-use Rattle.agg_collector_tree.specs.Caches.{Cache, waiting_in}
-use Rattle.agg_collector_tree.specs.Tree.{visits_of}
-use Rattle.agg_tree_results.specs.Results.{AreDocsOf, docs_taken}
+use Rattle.agg_engine_tree.specs.collector_tree.Caches.{Cache, waiting_in}
+use Rattle.agg_engine_tree.specs.collector_tree.Tree.{visits_of}
+use Rattle.agg_engine_tree.specs.tree_results.Results.{AreDocsOf, docs_taken}
 
 -- a collector hands documents on, and none waits
 abbrev pub HasHandedAll : Composite Cache → Type 0

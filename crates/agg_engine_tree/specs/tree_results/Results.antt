@@ -8,14 +8,16 @@ use Rattle.agg_segment.specs.Segment.{Stored, documents_at}
 use Rattle.agg_segment.specs.declared.query.QueryTree.{QueryTree}
 use Rattle.agg_request_tree.specs.Request.{Request}
 use Rattle.agg_request_tree.specs.declared.aggregation.Aggregation.{Aggregation}
-use Rattle.agg_intermediate_results.specs.Intermediate.{Held as Results}
+use Rattle.agg_results.specs.intermediate_results.Intermediate.{Held as Results}
 use Rattle.agg_results.specs.StandsFor.{StandsFor, StandsTo}
-use Rattle.agg_segment_context.specs.Context.{ArePlansOf, IsMeant, IsPlanOf, Meaning}
-use Rattle.agg_segment_context.specs.Plan.{Plan, Plans}
-use Rattle.agg_segment_context.specs.declared.context.PerRequestAggSegCtx.{PerRequestAggSegCtx}
-use Rattle.agg_collector_tree.specs.Tree.{Fits, Held, IsFlushed, IsFor}
-use Rattle.agg_collector_tree.specs.Tree.{IsGroupOf, IsOf}
-use Rattle.agg_tree_results.specs.Names.{HasNamesApart, names_of}
+use Rattle.agg_engine_tree.specs.segment_context.Context.{ArePlansOf, IsMeant, IsPlanOf, Meaning}
+use Rattle.agg_engine_tree.specs.segment_context.Plan.{Plan, Plans}
+use Rattle.agg_engine_tree.specs.declared.segment_context.context.PerRequestAggSegCtx.{
+  PerRequestAggSegCtx,
+}
+use Rattle.agg_engine_tree.specs.collector_tree.Tree.{Fits, Held, IsFlushed, IsFor}
+use Rattle.agg_engine_tree.specs.collector_tree.Tree.{IsGroupOf, IsOf}
+use Rattle.agg_engine_tree.specs.tree_results.Names.{HasNamesApart, names_of}
 
 -- the documents that were taken under a parent; without a parent there are none
 abbrev pub docs_taken : Option ℕ → List (ℕ × ℕ) → List ℕ
@@ -45,8 +47,18 @@ module _ (ctx : PerRequestAggSegCtx) (h : Held) (parent : Option ℕ) where
       → (depth : ℕ) → StandsTo matches depth a
       (documents_at meaning.segment (docs_taken parent taken)) (value_of name results)
 
+  -- under the name of each of several aggregations stands the result over the documents that their
+  -- tree took under the parent, at every depth
+  abbrev pub EachStands : Results → Type 0
+  EachStands results =
+      (meaning : Meaning) (taken : List (ℕ × ℕ)) → IsTrail meaning ctx h parent taken
+      → (request : Request QueryTree) (plans : Plans)
+      → ArePlansOf meaning ctx request plans → IsGroupOf plans h
+      → (depth : ℕ) → All (λ a. StandsTo matches depth a.1
+      (documents_at meaning.segment (docs_taken parent taken)) (value_of a.0 results)) request
+
   -- the results of several aggregations stand for the documents that their tree took under the
-  -- parent
+  -- parent: no other name is held
   abbrev pub GroupStands : Results → Type 0
   GroupStands results =
       (meaning : Meaning) (taken : List (ℕ × ℕ)) → IsTrail meaning ctx h parent taken
@@ -92,4 +104,5 @@ pub record Adds (ctx : PerRequestAggSegCtx) (h : Held) (parent : Option ℕ) (ol
   pub known : HasOnlyMore (names_of ctx h) old new
   pub held : HoldsAll (names_of ctx h) new
   pub one : NodeStands ctx h parent new
+  pub each : EachStands ctx h parent new
   pub all : old ≡ [] → GroupStands ctx h parent new

@@ -3,9 +3,9 @@ use Rattle.std.specs.Prelude.{◌≡◌, ℕ, List, Bool, true, false, filter_ma
 use Rattle.agg_values.specs.Names.{Named}
 use Rattle.agg_values.specs.TypedKey.{CompositeIntermediateKey}
 use Rattle.agg_values.specs.declared.after_key.AfterKey.{AfterKey}
-use Rattle.agg_column.specs.Columns.{StoredColumn, all_keys}
-use Rattle.agg_column.specs.declared.hit.ColumnType.{ColumnType}
-use Rattle.agg_column.specs.declared.hit.ColumnType.TheVariants as column
+use Rattle.agg_segment.specs.storage.Columns.{StoredColumn, all_keys}
+use Rattle.agg_segment.specs.declared.storage.hit.ColumnType.{ColumnType}
+use Rattle.agg_segment.specs.declared.storage.hit.ColumnType.TheVariants as column
 use Rattle.agg_segment.specs.Marks.{AreMarks}
 use Rattle.agg_segment.specs.Query.{matches}
 use Rattle.agg_segment.specs.Segment.{Stored, document_at}
@@ -13,13 +13,15 @@ use Rattle.agg_request_tree.specs.Matching.{filter_matches}
 use Rattle.agg_request_tree.specs.Metrics.{number_of}
 use Rattle.agg_request_tree.specs.Source.{Sources}
 use Rattle.agg_request_tree.specs.declared.aggregation.AggregationVariants.TheVariants as asks
-use Rattle.agg_accessor.specs.Accessors.{Fits}
-use Rattle.agg_accessor.specs.declared.request_data.CompositeAggReqData.{CompositeAggReqData}
+use Rattle.agg_composite.specs.accessor.Accessors.{Fits}
+use Rattle.agg_composite.specs.declared.accessor.request_data.CompositeAggReqData.{
+  CompositeAggReqData,
+}
 use Rattle.agg_metric.specs.declared.request_data.StatsType.{StatsType}
 use Rattle.agg_metric.specs.declared.request_data.StatsType.TheVariants as stats
-use Rattle.agg_uncut.specs.Uncut.{Asked}
-use Rattle.agg_uncut.specs.declared.node_data.NodeData.{NodeData}
-use Rattle.agg_uncut.specs.declared.node_data.NodeData.TheVariants as by
+use Rattle.agg_engine_tree.specs.uncut.Uncut.{Asked}
+use Rattle.agg_engine_tree.specs.declared.uncut.node_data.NodeData.{NodeData}
+use Rattle.agg_engine_tree.specs.declared.uncut.node_data.NodeData.TheVariants as by
 
 -- whether the keys of columns of a type are numbers or dates
 abbrev pub has_numbers : ColumnType → Bool

@@ -1,6 +1,6 @@
 -- Whether starts of buckets lie within i64.
 use Rattle.std.specs.Prelude.{List, All, Any, Bool, MatchBool}
-use Rattle.agg_column.specs.Document.{Fields}
+use Rattle.agg_segment.specs.storage.Document.{Fields}
 use Rattle.agg_request_tree.specs.Ranges.{AreInRange, HasOwnStartOutOfRange}
 use Rattle.agg_request_tree.specs.declared.aggregation.CompositeAggregation.{CompositeAggregation}
 

@@ -2,11 +2,11 @@
 use Rattle.std.specs.Prelude.{◌≡◌, ◌<◌, ℕ, List, All, length, map, replicate}
 use Rattle.std.specs.Io.Iter.{u64_saturate}
 use Rattle.agg_segment.specs.Segment.{Stored, documents_of}
-use Rattle.agg_uncut.specs.NodeData.{IsDataOf}
-use Rattle.agg_uncut.specs.Uncut.{Asked}
-use Rattle.agg_uncut.specs.declared.node_data.NodeData.{NodeData}
-use Rattle.agg_uncut.specs.declared.weights.Weights.{Weights}
-use Rattle.agg_uncut.specs.declared.weights.Weights.TheVariants.{Ones, Each}
+use Rattle.agg_engine_tree.specs.uncut.NodeData.{IsDataOf}
+use Rattle.agg_engine_tree.specs.uncut.Uncut.{Asked}
+use Rattle.agg_engine_tree.specs.declared.uncut.node_data.NodeData.{NodeData}
+use Rattle.agg_engine_tree.specs.declared.uncut.weights.Weights.{Weights}
+use Rattle.agg_engine_tree.specs.declared.uncut.weights.Weights.TheVariants.{Ones, Each}
 
 -- the weights of so many documents
 abbrev pub weights_of : Weights → ℕ → List ℕ

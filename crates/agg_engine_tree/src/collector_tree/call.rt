@@ -12,7 +12,7 @@ pub enum Call<'a> {
 }
 
 impl Call<'_> {
-    ghost use Rattle.agg_collector_tree.specs.Call as spec;
+    ghost use Rattle.agg_engine_tree.specs.collector_tree.Call as spec;
 
     /// Whether all is to be handed down.
     pub fn is_flush(self) -> bool

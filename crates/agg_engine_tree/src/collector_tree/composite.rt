@@ -4,14 +4,14 @@ ghost use Rattle.agg_values.specs.Names.{Named};
 ghost use Rattle.agg_values.specs.declared.after_key.AfterKey.{AfterKey};
 ghost use Rattle.agg_cache.specs.Waiting.{under};
 ghost use Rattle.agg_segment.specs.Segment.{Stored};
-ghost use Rattle.agg_accessor.specs.Accessors.{Fits};
-ghost use Rattle.agg_collector_tree.specs.Call.{pairs_in};
-ghost use Rattle.agg_collector_tree.specs.Took.{CompositeAnswers};
+ghost use Rattle.agg_composite.specs.accessor.Accessors.{Fits};
+ghost use Rattle.agg_engine_tree.specs.collector_tree.Call.{pairs_in};
+ghost use Rattle.agg_engine_tree.specs.collector_tree.Took.{CompositeAnswers};
 
-use crate::Call;
-use agg_accessor::CompositeAggReqData;
+use crate::collector_tree::Call;
 use agg_cache::{BucketId, CollectError, HighCardSubAggCache};
 use agg_composite::SegmentCompositeCollector;
+use agg_composite::accessor::CompositeAggReqData;
 use agg_values::{DocId, Steps};
 use std::sync::ledger::Ledger;
 

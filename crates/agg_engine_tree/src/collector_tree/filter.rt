@@ -6,10 +6,10 @@ ghost use Rattle.agg_segment.specs.Query.{matches};
 ghost use Rattle.agg_segment.specs.Segment.{Stored};
 ghost use Rattle.agg_segment.specs.declared.query.QueryTree.{QueryTree};
 ghost use Rattle.agg_filter.specs.Matching.{is_matching};
-ghost use Rattle.agg_collector_tree.specs.Call.{pairs_in, parents_in};
-ghost use Rattle.agg_collector_tree.specs.Took.{FilterAnswers};
+ghost use Rattle.agg_engine_tree.specs.collector_tree.Call.{pairs_in, parents_in};
+ghost use Rattle.agg_engine_tree.specs.collector_tree.Took.{FilterAnswers};
 
-use crate::{Call, FilterCollector};
+use crate::collector_tree::{Call, FilterCollector};
 use agg_cache::{BucketId, CollectError};
 use agg_filter::FilterAggReqData;
 use agg_values::DocId;

@@ -10,8 +10,8 @@ ghost use Rattle.agg_segment.specs.Marks.{AreMarks};
 ghost use Rattle.agg_segment.specs.Query.{matches};
 ghost use Rattle.agg_segment.specs.Segment.{Stored};
 ghost use Rattle.agg_segment.specs.declared.query.QueryTree.{QueryTree};
-ghost use Rattle.agg_collector_tree.specs.Caches.{waiting_in};
-ghost use Rattle.agg_collector_tree.specs.NewFilter.{IsNewFilter};
+ghost use Rattle.agg_engine_tree.specs.collector_tree.Caches.{waiting_in};
+ghost use Rattle.agg_engine_tree.specs.collector_tree.NewFilter.{IsNewFilter};
 
 use agg_cache::{
     Batch, BucketId, CollectError, HighCardSubAggCache, LowCardSubAggCache, SubAggCache,
@@ -45,7 +45,7 @@ pub struct FilterCollector {
 
 impl Model for FilterCollector {
     ghost use Rattle.agg_filter.specs.Filter.{Filter};
-    ghost use Rattle.agg_collector_tree.specs.Caches.{Cache, filter_of};
+    ghost use Rattle.agg_engine_tree.specs.collector_tree.Caches.{Cache, filter_of};
 
     ghost Value = { Filter Cache };
 

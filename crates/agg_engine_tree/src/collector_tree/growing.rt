@@ -3,17 +3,19 @@ ghost use Rattle.std.specs.Prelude.{◌≡◌, ◌≤◌, [], IfOk, map};
 ghost use Rattle.agg_request_tree.specs.Faults.{max_sources};
 ghost use Rattle.agg_request_tree.specs.Request.{Request};
 ghost use Rattle.agg_segment.specs.declared.query.QueryTree.{QueryTree};
-ghost use Rattle.agg_segment_context.specs.Context.{IsContextOf, IsMeant, Meaning};
-ghost use Rattle.agg_segment_context.specs.Plan.{plan_of, plans_of};
-ghost use Rattle.agg_collector_tree.specs.New.{HasData, HaveData, IsNew, IsNewComposite};
-ghost use Rattle.agg_collector_tree.specs.Tree.{Fits, IsFlushed, IsFor, IsGroupOf, IsOf, held_of};
+ghost use Rattle.agg_engine_tree.specs.segment_context.Context.{IsContextOf, IsMeant, Meaning};
+ghost use Rattle.agg_engine_tree.specs.segment_context.Plan.{plan_of, plans_of};
+ghost use Rattle.agg_engine_tree.specs.collector_tree.New.{HasData, HaveData, IsNew};
+ghost use Rattle.agg_engine_tree.specs.collector_tree.New.{IsNewComposite};
+ghost use Rattle.agg_engine_tree.specs.collector_tree.Tree.{Fits, IsFlushed, IsFor, IsGroupOf};
+ghost use Rattle.agg_engine_tree.specs.collector_tree.Tree.{IsOf, held_of};
 
-use crate::{FilterCollector, Place, SegmentCollectorTree};
+use crate::collector_tree::{FilterCollector, Place, SegmentCollectorTree};
+use crate::segment_context::{AggKind, AggRefNode, PerRequestAggSegCtx};
 use agg_cache::HighCardSubAggCache;
 use agg_composite::SegmentCompositeCollector;
 use agg_metric::SegmentMetricCollector;
 use agg_segment::SegmentReader;
-use agg_segment_context::{AggKind, AggRefNode, PerRequestAggSegCtx};
 use agg_values::OutOfMemory;
 use std::alloc::Global;
 

@@ -1,19 +1,19 @@
 //! How a tree of collectors takes documents and hands them down.
 ghost use Rattle.std.specs.Prelude.{◌≡◌, ◌≤◌, IfErr, IfOk, OnOk, map};
 ghost use Rattle.agg_cache.specs.Waiting.{pairs_of};
-ghost use Rattle.agg_segment_context.specs.Context.{IsMeant, Meaning};
-ghost use Rattle.agg_collector_tree.specs.Bound.{TakesMost};
-ghost use Rattle.agg_collector_tree.specs.Call.{is_flush, pairs_in, parents_in};
-ghost use Rattle.agg_collector_tree.specs.Refusals.{IsRefused};
-ghost use Rattle.agg_collector_tree.specs.Step.{TakesAt, index_in};
-ghost use Rattle.agg_collector_tree.specs.Tree.{Fits, Takes, group_of, held_of};
+ghost use Rattle.agg_engine_tree.specs.segment_context.Context.{IsMeant, Meaning};
+ghost use Rattle.agg_engine_tree.specs.collector_tree.Bound.{TakesMost};
+ghost use Rattle.agg_engine_tree.specs.collector_tree.Call.{is_flush, pairs_in, parents_in};
+ghost use Rattle.agg_engine_tree.specs.collector_tree.Refusals.{IsRefused};
+ghost use Rattle.agg_engine_tree.specs.collector_tree.Step.{TakesAt, index_in};
+ghost use Rattle.agg_engine_tree.specs.collector_tree.Tree.{Fits, Takes, group_of, held_of};
 
-use crate::composite::take_in_composite;
-use crate::filter::take_in_filter;
-use crate::metric::take_in_metric;
-use crate::{Call, SegmentCollectorTree};
+use crate::collector_tree::composite::take_in_composite;
+use crate::collector_tree::filter::take_in_filter;
+use crate::collector_tree::metric::take_in_metric;
+use crate::collector_tree::{Call, SegmentCollectorTree};
+use crate::segment_context::PerRequestAggSegCtx;
 use agg_cache::{Batch, CollectError};
-use agg_segment_context::PerRequestAggSegCtx;
 use agg_values::{ItemList, Steps};
 use std::sync::ledger::Ledger;
 

@@ -1,9 +1,9 @@
 //! How a metric takes documents under parents.
 ghost use Rattle.agg_cache.specs.Waiting.{under};
-ghost use Rattle.agg_collector_tree.specs.Call.{pairs_in};
-ghost use Rattle.agg_collector_tree.specs.Took.{MetricAnswers};
+ghost use Rattle.agg_engine_tree.specs.collector_tree.Call.{pairs_in};
+ghost use Rattle.agg_engine_tree.specs.collector_tree.Took.{MetricAnswers};
 
-use crate::Call;
+use crate::collector_tree::Call;
 use agg_cache::{BucketId, CollectError};
 use agg_metric::SegmentMetricCollector;
 use agg_values::DocId;

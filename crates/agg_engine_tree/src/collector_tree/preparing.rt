@@ -1,10 +1,11 @@
 //! How a tree of collectors prepares parents.
 ghost use Rattle.std.specs.Prelude.{◌≡◌, ◌⊎◌, [], ℕ, IfErr, IsErrOf, OnOk, false};
-ghost use Rattle.agg_segment_context.specs.declared.context.PerRequestAggSegCtx as declared;
-ghost use Rattle.agg_collector_tree.specs.Prepared.{IsPrepared};
-ghost use Rattle.agg_collector_tree.specs.Tree.{Takes, group_of, held_of};
+ghost use Rattle.agg_engine_tree.specs.declared.segment_context.context.PerRequestAggSegCtx
+    as declared;
+ghost use Rattle.agg_engine_tree.specs.collector_tree.Prepared.{IsPrepared};
+ghost use Rattle.agg_engine_tree.specs.collector_tree.Tree.{Takes, group_of, held_of};
 
-use crate::SegmentCollectorTree;
+use crate::collector_tree::SegmentCollectorTree;
 use agg_cache::{BucketId, CollectError};
 
 /// Prepares parents up to this one, in each collector at the top of a tree.
@@ -31,7 +32,7 @@ pub fn prepare(
     }
 }
 
-// Does so in each of several trees.
+// Prepares the parents up to a bucket in each of several trees.
 #[cycle(prepare)]
 fn prepare_all(
     children: &mut Vec<SegmentCollectorTree<'_>>,

@@ -1,5 +1,5 @@
 //! The tree of collectors.
-use crate::FilterCollector;
+use crate::collector_tree::FilterCollector;
 use agg_cache::HighCardSubAggCache;
 use agg_composite::SegmentCompositeCollector;
 use agg_metric::SegmentMetricCollector;

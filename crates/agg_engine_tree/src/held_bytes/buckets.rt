@@ -1,12 +1,12 @@
 //! The bytes that the buckets of a tree of collectors take.
-ghost use Rattle.agg_collector_tree.specs.Tree.{Fits, held_of};
-ghost use Rattle.agg_held_bytes.specs.Checked.{IsChecked};
-ghost use Rattle.agg_held_bytes.specs.HeldBytes.{held_bytes};
-ghost use Rattle.agg_segment_context.specs.Context.{IsMeant, Meaning};
+ghost use Rattle.agg_engine_tree.specs.collector_tree.Tree.{Fits, held_of};
+ghost use Rattle.agg_engine_tree.specs.held_bytes.Checked.{IsChecked};
+ghost use Rattle.agg_engine_tree.specs.held_bytes.HeldBytes.{held_bytes};
+ghost use Rattle.agg_engine_tree.specs.segment_context.Context.{IsMeant, Meaning};
 
-use agg_charges::bucket_bytes;
-use agg_collector_tree::SegmentCollectorTree;
-use agg_segment_context::PerRequestAggSegCtx;
+use crate::collector_tree::SegmentCollectorTree;
+use crate::segment_context::PerRequestAggSegCtx;
+use agg_request_tree::charges::bucket_bytes;
 
 /// The bytes that the buckets of a tree take, unless they are more than u64 has.
 pub fn held_bytes(tree: &SegmentCollectorTree<'_>, ctx: &PerRequestAggSegCtx<'_>) -> Option<u64>

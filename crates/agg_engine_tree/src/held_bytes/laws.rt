@@ -1,18 +1,19 @@
 //! The bytes of the buckets of a tree, and those that its request counts over what the tree took.
 ghost use Rattle.std.specs.Prelude.{◌≡◌, ◌≤◌, ℕ, List};
 ghost use Rattle.std.specs.List.{All};
-ghost use Rattle.agg_buckets.specs.Visits.{docs_in};
-ghost use Rattle.agg_charges.specs.Roof.{counts_of};
-ghost use Rattle.agg_collector_tree.specs.Tree.{Held, IsFlushed};
-ghost use Rattle.agg_held_bytes.specs.HeldBytes.{held_bytes};
-ghost use Rattle.agg_held_bytes.specs.Trees.{AreOfSegment, AreUnder, IsTreeOf};
-ghost use Rattle.agg_held_bytes.specs.Trees.{over_parents};
+ghost use Rattle.agg_composite.specs.buckets.Visits.{docs_in};
+ghost use Rattle.agg_request_tree.specs.charges.Roof.{counts_of};
+ghost use Rattle.agg_engine_tree.specs.collector_tree.Tree.{Held, IsFlushed};
+ghost use Rattle.agg_engine_tree.specs.held_bytes.HeldBytes.{held_bytes};
+ghost use Rattle.agg_engine_tree.specs.held_bytes.Trees.{AreOfSegment, AreUnder, IsTreeOf};
+ghost use Rattle.agg_engine_tree.specs.held_bytes.Trees.{over_parents};
 ghost use Rattle.agg_request_tree.specs.Request.{Request};
 ghost use Rattle.agg_segment.specs.Query.{matches};
 ghost use Rattle.agg_segment.specs.Segment.{documents_at};
 ghost use Rattle.agg_segment.specs.declared.query.QueryTree.{QueryTree};
-ghost use Rattle.agg_segment_context.specs.Context.{Meaning};
-ghost use Rattle.agg_segment_context.specs.declared.context.PerRequestAggSegCtx as declared;
+ghost use Rattle.agg_engine_tree.specs.segment_context.Context.{Meaning};
+ghost use Rattle.agg_engine_tree.specs.declared.segment_context.context.PerRequestAggSegCtx
+    as declared;
 
 /// Whatever waits in caches, a tree holds at most the bytes of the buckets that its request counts
 /// over the documents that were taken under each parent, and at most those of the documents that

@@ -1,17 +1,17 @@
 //! The bytes that the nodes of a request take in a segment.
 ghost use Rattle.std.specs.Prelude.{◌≡◌, ℕ, List, [], ◌∷◌, length};
-ghost use Rattle.agg_charges.specs.Charges.{fixed_charge, node_charge};
+ghost use Rattle.agg_request_tree.specs.charges.Charges.{fixed_charge, node_charge};
 ghost use Rattle.agg_request_tree.specs.Request.{Request};
 ghost use Rattle.agg_request_tree.specs.declared.aggregation.Aggregation.{Aggregation};
 ghost use Rattle.agg_request_tree.specs.declared.aggregation.AggregationVariants as variants;
 ghost use Rattle.agg_segment.specs.Segment.{documents_of};
 ghost use Rattle.agg_segment.specs.declared.query.QueryTree.{QueryTree};
-ghost use Rattle.agg_segment_context.specs.Context.{IsContextOf, Meaning};
-ghost use Rattle.agg_held_bytes.specs.Checked.{IsChecked};
-ghost use Rattle.agg_held_bytes.specs.Nodes.{AreNodesOf, IsNodeFor};
+ghost use Rattle.agg_engine_tree.specs.segment_context.Context.{IsContextOf, Meaning};
+ghost use Rattle.agg_engine_tree.specs.held_bytes.Checked.{IsChecked};
+ghost use Rattle.agg_engine_tree.specs.held_bytes.Nodes.{AreNodesOf, IsNodeFor};
 
-use agg_charges::NODE_BYTES;
-use agg_segment_context::{AggKind, AggRefNode, PerRequestAggSegCtx};
+use crate::segment_context::{AggKind, AggRefNode, PerRequestAggSegCtx};
+use agg_request_tree::charges::NODE_BYTES;
 
 /// What the nodes of a request are charged in a segment for themselves, unless it is more than u64
 /// has.

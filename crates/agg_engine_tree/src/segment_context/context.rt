@@ -1,6 +1,6 @@
 //! What the aggregations of a request are asked in a segment.
-use crate::AggRefNode;
-use agg_accessor::CompositeAggReqData;
+use crate::segment_context::AggRefNode;
+use agg_composite::accessor::CompositeAggReqData;
 use agg_filter::FilterAggReqData;
 use agg_metric::MetricAggReqData;
 use agg_values::ItemList;

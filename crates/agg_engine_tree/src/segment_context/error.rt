@@ -1,6 +1,8 @@
 ghost use Rattle.std.specs.Prelude.{◌≡◌};
-ghost use Rattle.agg_segment_context.specs.SetupError.{error_from_builder, error_from_request};
-ghost use Rattle.agg_segment_context.specs.declared.error.SetupError.TheVariants as error;
+ghost use Rattle.agg_engine_tree.specs.segment_context.SetupError.{error_from_builder};
+ghost use Rattle.agg_engine_tree.specs.segment_context.SetupError.{error_from_request};
+ghost use Rattle.agg_engine_tree.specs.declared.segment_context.error.SetupError.TheVariants
+    as error;
 
 use agg_request_tree::QueryBuildError;
 use agg_values::{AggregationError, InvalidArgument, OutOfMemory, RequestError};

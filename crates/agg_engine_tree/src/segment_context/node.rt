@@ -5,11 +5,11 @@ ghost use Rattle.agg_values.specs.Names.{value_of};
 ghost use Rattle.agg_segment.specs.declared.query.QueryTree.{QueryTree as Tree};
 ghost use Rattle.agg_request_tree.specs.Request.{below_of};
 ghost use Rattle.agg_request_tree.specs.declared.aggregation.Aggregation.{Aggregation};
-ghost use Rattle.agg_segment_context.specs.Context.{IsPlanOf, Meaning};
-ghost use Rattle.agg_segment_context.specs.Plan.{plan_of};
-ghost use Rattle.agg_segment_context.specs.Views.{IsNodeOf, children_of, is_named};
+ghost use Rattle.agg_engine_tree.specs.segment_context.Context.{IsPlanOf, Meaning};
+ghost use Rattle.agg_engine_tree.specs.segment_context.Plan.{plan_of};
+ghost use Rattle.agg_engine_tree.specs.segment_context.Views.{IsNodeOf, children_of, is_named};
 
-use crate::PerRequestAggSegCtx;
+use crate::segment_context::PerRequestAggSegCtx;
 use agg_metric::StatsType;
 use agg_values::{ItemList, Text};
 

@@ -4,10 +4,11 @@ ghost use Rattle.agg_request_tree.specs.Faults.{CompositeHasCause, HasCause, IsS
 ghost use Rattle.agg_request_tree.specs.Faults.{IsSoundRequest};
 ghost use Rattle.agg_request_tree.specs.Names.{NamesAscend};
 ghost use Rattle.agg_request_tree.specs.Request.{below_of, composites_in, own_composite};
-ghost use Rattle.agg_segment_context.specs.Additions.{paged_agg, paged_composite, paged_in};
-ghost use Rattle.agg_segment_context.specs.Pages.{paged};
+ghost use Rattle.agg_engine_tree.specs.segment_context.Additions.{paged_agg, paged_composite};
+ghost use Rattle.agg_engine_tree.specs.segment_context.Additions.{paged_in};
+ghost use Rattle.agg_engine_tree.specs.segment_context.Pages.{paged};
 
-use crate::{AggContextParams, Page};
+use crate::segment_context::{AggContextParams, Page};
 use agg_request_tree::{
     Aggregation, AggregationVariants, Aggregations, CompositeAggregation, check_composite,
     check_request,
@@ -34,7 +35,7 @@ pub fn check_paged(
     Ok(())
 }
 
-// The same of an aggregation of a name and those below it.
+// Whether no composite has a fault with the page, in an aggregation of a name and those below it.
 fn check_aggregation(
     alloc: Global,
     name: &Text,
@@ -51,7 +52,7 @@ fn check_aggregation(
     check_request(alloc, &aggregation.sub_aggregation)
 }
 
-// The same of what an aggregation of a name asks by itself.
+// Whether what an aggregation of a name asks by itself has no fault with the page.
 fn check_own(
     alloc: Global,
     name: &Text,

@@ -1,13 +1,13 @@
 //! What contexts of a request are made with in each segment.
 ghost use Rattle.std.specs.Prelude.{◌≡◌, None, Some, IfErr, IfOk, IsErrOf, OnOk, option_map};
-ghost use Rattle.agg_segment_context.specs.SetupError.{IsOfBuilders};
-ghost use Rattle.agg_segment_context.specs.Trees.{AreOfRequest, EachMakesTree, SomeMakesNone};
-ghost use Rattle.agg_segment_context.specs.Trees.{built, trees_of};
+ghost use Rattle.agg_engine_tree.specs.segment_context.SetupError.{IsOfBuilders};
+ghost use Rattle.agg_engine_tree.specs.segment_context.Trees.{AreOfRequest, EachMakesTree};
+ghost use Rattle.agg_engine_tree.specs.segment_context.Trees.{SomeMakesNone, built, trees_of};
 
 mod queries;
 mod trees;
 
-use crate::SetupError;
+use crate::segment_context::SetupError;
 use agg_request_tree::{Aggregation, Aggregations, QueryBuilder};
 use agg_segment::{QueryTree, Schema};
 use agg_values::{AfterKey, ItemList, NameMap, Text};
@@ -36,7 +36,7 @@ pub struct AggContextParams {
 impl Model for AggContextParams {
     ghost use Rattle.std.specs.Coded.{codes};
     ghost use Rattle.agg_segment.specs.contracts.query.QueryTree as tree;
-    ghost use Rattle.agg_segment_context.specs.Params.{Params};
+    ghost use Rattle.agg_engine_tree.specs.segment_context.Params.{Params};
 
     ghost Value = { Params };
 
@@ -70,7 +70,7 @@ impl AggContextParams {
         Ok(AggContextParams { trees, page: None })
     }
 
-    /// The same of a request with such builders.
+    /// The trees of a request with builders of any type, with no page.
     pub fn of_request<B: QueryBuilder>(
         alloc: Global,
         request: &NameMap<Aggregation<B>>,

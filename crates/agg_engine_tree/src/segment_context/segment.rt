@@ -3,17 +3,18 @@ ghost use Rattle.std.specs.Prelude.{◌≡◌, IfErr, IfOk};
 ghost use Rattle.agg_segment.specs.declared.query.QueryTree.{QueryTree as Tree};
 ghost use Rattle.agg_request_tree.specs.Faults.{IsSoundRequest};
 ghost use Rattle.agg_request_tree.specs.Request.{listed_in, with_builders, with_builders_in};
-ghost use Rattle.agg_segment_context.specs.Additions.{AddsIn, AddsRequest, IsReadyFor, IsReadyIn};
-ghost use Rattle.agg_segment_context.specs.Additions.{TreesFollow};
-ghost use Rattle.agg_segment_context.specs.Context.{IsContextOf, Meaning};
-ghost use Rattle.agg_segment_context.specs.Pages.{paged};
-ghost use Rattle.agg_segment_context.specs.Trees.{AreOfRequest, AreTreesOf, own_tree, trees_of};
+ghost use Rattle.agg_engine_tree.specs.segment_context.Additions.{AddsIn, AddsRequest, IsReadyFor};
+ghost use Rattle.agg_engine_tree.specs.segment_context.Additions.{IsReadyIn, TreesFollow};
+ghost use Rattle.agg_engine_tree.specs.segment_context.Context.{IsContextOf, Meaning};
+ghost use Rattle.agg_engine_tree.specs.segment_context.Pages.{paged};
+ghost use Rattle.agg_engine_tree.specs.segment_context.Trees.{AreOfRequest, AreTreesOf, own_tree};
+ghost use Rattle.agg_engine_tree.specs.segment_context.Trees.{trees_of};
 
 mod accessors;
 mod origin;
 mod own;
 
-use crate::{
+use crate::segment_context::{
     AggContextParams, AggRefNode, AggregationsSegmentCtx, PerRequestAggSegCtx, SetupError,
 };
 use agg_request_tree::Aggregation;

@@ -4,12 +4,13 @@ ghost use Rattle.std.specs.Prelude.{option_map};
 ghost use Rattle.agg_segment.specs.declared.query.QueryTree.{QueryTree as Tree};
 ghost use Rattle.agg_request_tree.specs.Request.{Request};
 ghost use Rattle.agg_request_tree.specs.declared.aggregation.Aggregation.{Aggregation};
-ghost use Rattle.agg_segment_context.specs.Context.{ArePlansOf, IsContextOf, IsPlanOf, Meaning};
-ghost use Rattle.agg_segment_context.specs.Plan.{plan_of, plans_of};
-ghost use Rattle.agg_segment_context.specs.Views.{kind_word, name_at, name_in, view_in};
-ghost use Rattle.agg_segment_context.specs.Views.{views_of};
+ghost use Rattle.agg_engine_tree.specs.segment_context.Context.{ArePlansOf, IsContextOf, IsPlanOf};
+ghost use Rattle.agg_engine_tree.specs.segment_context.Context.{Meaning};
+ghost use Rattle.agg_engine_tree.specs.segment_context.Plan.{plan_of, plans_of};
+ghost use Rattle.agg_engine_tree.specs.segment_context.Views.{kind_word, name_at, name_in, view_in};
+ghost use Rattle.agg_engine_tree.specs.segment_context.Views.{views_of};
 
-use crate::{AggKind, AggRefNode, PerRequestAggSegCtx};
+use crate::segment_context::{AggKind, AggRefNode, PerRequestAggSegCtx};
 use agg_values::{ItemList, OutOfMemory, Text};
 
 /// A node as it is shown: its name, the word `Metric`, `Filter` or `Composite`, and those below it.

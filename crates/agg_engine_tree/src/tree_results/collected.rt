@@ -5,13 +5,13 @@ ghost use Rattle.agg_request_tree.specs.Metrics.{values_of_field};
 ghost use Rattle.agg_filter.specs.Filter.{FilterFor};
 ghost use Rattle.agg_metric.specs.Collector.{MetricFor};
 ghost use Rattle.agg_metric.specs.Metric.{metric_of};
-ghost use Rattle.agg_collector_tree.specs.Caches.{waiting_in};
-ghost use Rattle.agg_tree_results.specs.Pages.{encoded_under};
-ghost use Rattle.agg_tree_results.specs.Results.{docs_taken};
+ghost use Rattle.agg_engine_tree.specs.collector_tree.Caches.{waiting_in};
+ghost use Rattle.agg_engine_tree.specs.tree_results.Pages.{encoded_under};
+ghost use Rattle.agg_engine_tree.specs.tree_results.Results.{docs_taken};
 
-use crate::made::metric_of_none;
+use crate::collector_tree::FilterCollector;
+use crate::tree_results::made::metric_of_none;
 use agg_cache::{BucketId, HighCardSubAggCache};
-use agg_collector_tree::FilterCollector;
 use agg_composite::{PageEntries, SegmentCompositeCollector};
 use agg_metric::{MetricAggReqData, SegmentMetricCollector};
 use agg_results::IntermediateMetricResult;

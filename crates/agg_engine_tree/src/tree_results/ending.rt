@@ -1,17 +1,18 @@
 //! The intermediate results of a tree of collectors that ends.
 ghost use Rattle.std.specs.Prelude.{◌≡◌, [], ℕ, List, OnOk, Some};
-ghost use Rattle.agg_segment_context.specs.Context.{IsMeant, Meaning};
-ghost use Rattle.agg_collector_tree.specs.Tree.{Fits, IsFlushed, IsFor, held_of};
-ghost use Rattle.agg_tree_results.specs.Names.{HasNamesApart, names_of};
-ghost use Rattle.agg_tree_results.specs.Results.{Adds, GroupStands, HasOnlyMore, HoldsAll};
-ghost use Rattle.agg_tree_results.specs.Results.{HoldsNone, IsSameBut, MayAdd, NodeStands};
+ghost use Rattle.agg_engine_tree.specs.segment_context.Context.{IsMeant, Meaning};
+ghost use Rattle.agg_engine_tree.specs.collector_tree.Tree.{Fits, IsFlushed, IsFor, held_of};
+ghost use Rattle.agg_engine_tree.specs.tree_results.Names.{HasNamesApart, names_of};
+ghost use Rattle.agg_engine_tree.specs.tree_results.Results.{Adds, EachStands, GroupStands};
+ghost use Rattle.agg_engine_tree.specs.tree_results.Results.{HasOnlyMore, HoldsAll, HoldsNone};
+ghost use Rattle.agg_engine_tree.specs.tree_results.Results.{IsSameBut, MayAdd, NodeStands};
 
-use crate::made::{page_result, put_result};
-use crate::results::{add_results_under, buckets_of};
+use crate::collector_tree::SegmentCollectorTree;
+use crate::segment_context::PerRequestAggSegCtx;
+use crate::tree_results::made::{page_result, put_result};
+use crate::tree_results::results::{add_results_under, buckets_of};
 use agg_cache::BucketId;
-use agg_collector_tree::SegmentCollectorTree;
 use agg_results::IntermediateAggregationResults;
-use agg_segment_context::PerRequestAggSegCtx;
 use agg_values::OutOfMemory;
 use std::alloc::Global;
 
@@ -38,13 +39,15 @@ pub fn into_results(
         results.new.results) }
     ensures one { OnOk result (NodeStands ctx.now (held_of node.entry) (Some parent)
         results.new.results) }
+    ensures each { OnOk result (EachStands ctx.now (held_of node.entry) (Some parent)
+        results.new.results) }
     ensures all { OnOk result (results.old.results ≡ []
         → GroupStands ctx.now (held_of node.entry) (Some parent) results.new.results) }
 {
     into_results_under(alloc, node, ctx, results, parent)
 }
 
-// The same, by what a tree may add and what it added.
+// Adds the results of a tree that ends for a parent, by what a tree may add and what it added.
 fn into_results_under(
     alloc: Global,
     node: SegmentCollectorTree<'_>,

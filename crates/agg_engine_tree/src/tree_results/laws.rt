@@ -4,11 +4,12 @@ ghost use Rattle.std.specs.Map.{keys_of};
 ghost use Rattle.agg_segment.specs.declared.query.QueryTree.{QueryTree};
 ghost use Rattle.agg_request_tree.specs.Names.{NamesAscend};
 ghost use Rattle.agg_request_tree.specs.Request.{Request};
-ghost use Rattle.agg_segment_context.specs.Context.{ArePlansOf, Meaning};
-ghost use Rattle.agg_segment_context.specs.Plan.{Plans};
-ghost use Rattle.agg_segment_context.specs.declared.context.PerRequestAggSegCtx as declared;
-ghost use Rattle.agg_collector_tree.specs.Tree.{Held, IsGroupOf};
-ghost use Rattle.agg_tree_results.specs.Names.{HasNamesApart, names_of};
+ghost use Rattle.agg_engine_tree.specs.segment_context.Context.{ArePlansOf, Meaning};
+ghost use Rattle.agg_engine_tree.specs.segment_context.Plan.{Plans};
+ghost use Rattle.agg_engine_tree.specs.declared.segment_context.context.PerRequestAggSegCtx
+    as declared;
+ghost use Rattle.agg_engine_tree.specs.collector_tree.Tree.{Held, IsGroupOf};
+ghost use Rattle.agg_engine_tree.specs.tree_results.Names.{HasNamesApart, names_of};
 
 /// A tree of a request has the request's names, and they are apart. The names of a request ascend,
 /// as `check_request` says of one in memory.

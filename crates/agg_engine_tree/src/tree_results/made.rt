@@ -5,9 +5,9 @@ ghost use Rattle.std.specs.declared.cmp.Ordering.TheVariants.{Less};
 ghost use Rattle.agg_values.specs.KeyOrder.{tuple_order};
 ghost use Rattle.agg_values.specs.Names.{put, value_of};
 ghost use Rattle.agg_request_tree.specs.Source.{rules_of};
-ghost use Rattle.agg_intermediate_results.specs.Intermediate.{composite_of, entries_of, orders_of};
-ghost use Rattle.agg_intermediate_results.specs.Intermediate.{as_composite, as_filter};
-ghost use Rattle.agg_intermediate_results.specs.Intermediate.{target_size_of};
+ghost use Rattle.agg_results.specs.intermediate_results.Intermediate.{composite_of, entries_of};
+ghost use Rattle.agg_results.specs.intermediate_results.Intermediate.{orders_of, as_composite};
+ghost use Rattle.agg_results.specs.intermediate_results.Intermediate.{as_filter, target_size_of};
 ghost use Rattle.agg_metric.specs.Metric.{metric_of};
 
 use agg_composite::{CompositeAggReqData, PageEntry};

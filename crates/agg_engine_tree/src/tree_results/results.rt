@@ -1,25 +1,26 @@
 //! The intermediate results of a tree of collectors for a parent.
 ghost use Rattle.std.specs.Prelude.{◌≡◌, [], ℕ, List, All, IfOk, OnOk, Some};
 ghost use Rattle.std.specs.Map.{keys_of};
-ghost use Rattle.agg_accessor.specs.Decoded.{IsEncoded};
+ghost use Rattle.agg_composite.specs.accessor.Decoded.{IsEncoded};
 ghost use Rattle.agg_composite.specs.PageEntries.{page_entries};
-ghost use Rattle.agg_segment_context.specs.Context.{IsMeant, Meaning};
-ghost use Rattle.agg_collector_tree.specs.Tree.{Fits, IsFlushed, IsFor, held_of};
-ghost use Rattle.agg_tree_results.specs.Entries.{HoldsPage, IsAscending};
-ghost use Rattle.agg_tree_results.specs.Names.{HasNamesApart, names_of};
-ghost use Rattle.agg_tree_results.specs.Results.{Adds, GroupStands, HasOnlyMore, HoldsAll};
-ghost use Rattle.agg_tree_results.specs.Results.{HoldsNone, IsSameBut, MayAdd, NodeStands};
+ghost use Rattle.agg_engine_tree.specs.segment_context.Context.{IsMeant, Meaning};
+ghost use Rattle.agg_engine_tree.specs.collector_tree.Tree.{Fits, IsFlushed, IsFor, held_of};
+ghost use Rattle.agg_engine_tree.specs.tree_results.Entries.{HoldsPage, IsAscending};
+ghost use Rattle.agg_engine_tree.specs.tree_results.Names.{HasNamesApart, names_of};
+ghost use Rattle.agg_engine_tree.specs.tree_results.Results.{Adds, EachStands, GroupStands};
+ghost use Rattle.agg_engine_tree.specs.tree_results.Results.{HasOnlyMore, HoldsAll, HoldsNone};
+ghost use Rattle.agg_engine_tree.specs.tree_results.Results.{IsSameBut, MayAdd, NodeStands};
 
-use crate::collected::{bucket_under, entries_under, metric_under};
-use crate::made::{add_last, empty_page, filter_result, page_result, put_result};
+use crate::collector_tree::SegmentCollectorTree;
+use crate::segment_context::PerRequestAggSegCtx;
+use crate::tree_results::collected::{bucket_under, entries_under, metric_under};
+use crate::tree_results::made::{add_last, empty_page, filter_result, page_result, put_result};
 use agg_cache::BucketId;
-use agg_collector_tree::SegmentCollectorTree;
 use agg_composite::{CompositeAggReqData, PageEntries};
 use agg_results::{
     IntermediateAggregationResult, IntermediateAggregationResults,
     IntermediateCompositeBucketResult,
 };
-use agg_segment_context::PerRequestAggSegCtx;
 use agg_values::OutOfMemory;
 use std::alloc::Global;
 
@@ -47,13 +48,15 @@ pub fn add_results(
         results.new.results) }
     ensures one { OnOk result (NodeStands ctx.now (held_of node.now) (Some parent)
         results.new.results) }
+    ensures each { OnOk result (EachStands ctx.now (held_of node.now) (Some parent)
+        results.new.results) }
     ensures all { OnOk result (results.old.results ≡ []
         → GroupStands ctx.now (held_of node.now) (Some parent) results.new.results) }
 {
     add_results_under(alloc, node, ctx, results, Some(parent))
 }
 
-// The same for a parent, or over no documents without one.
+// Adds the results of a tree for a parent, or over no documents without one.
 #[cycle(add)]
 pub(crate) fn add_results_under(
     alloc: Global,

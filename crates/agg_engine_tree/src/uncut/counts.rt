@@ -2,12 +2,12 @@
 ghost use Rattle.std.specs.Prelude.{◌≡◌, ◌≤◌, ◌+◌, ◌++◌, ◌^◌, ◌↔◌, List, Any, IsTrue, length, map};
 ghost use Rattle.std.specs.Prelude.{zip};
 ghost use Rattle.std.specs.Io.Iter.{u64_saturate};
-ghost use Rattle.agg_column.specs.Document.{Fields};
+ghost use Rattle.agg_segment.specs.storage.Document.{Fields};
 ghost use Rattle.agg_segment.specs.Query.{matches};
 ghost use Rattle.agg_segment.specs.declared.query.QueryTree.{QueryTree};
 ghost use Rattle.agg_request_tree.specs.Request.{Request};
 ghost use Rattle.agg_request_tree.specs.Uncut.{CountsTooMany};
-ghost use Rattle.agg_uncut.specs.Uncut.{uncut_lengths};
+ghost use Rattle.agg_engine_tree.specs.uncut.Uncut.{uncut_lengths};
 
 use std::marker::Model;
 

@@ -1,19 +1,19 @@
 //! How often a node of a request lists a document.
 ghost use Rattle.std.specs.Prelude.{◌≡◌, ◌<◌, ℕ, List, length, filter_map};
 ghost use Rattle.std.specs.Io.Iter.{u64_saturate};
-ghost use Rattle.agg_column.specs.Columns.{all_keys, column_keys, type_of};
+ghost use Rattle.agg_segment.specs.storage.Columns.{all_keys, column_keys, type_of};
 ghost use Rattle.agg_segment.specs.Segment.{Stored, document_at, documents_of};
 ghost use Rattle.agg_segment.specs.declared.query.QueryTree.{QueryTree};
 ghost use Rattle.agg_request_tree.specs.Metrics.{number_of};
-ghost use Rattle.agg_segment_context.specs.Context.{IsAskedAt, IsMeant, Meaning};
-ghost use Rattle.agg_uncut.specs.NodeData.{has_numbers, num_read};
-ghost use Rattle.agg_uncut.specs.Uncut.{Asked, times};
+ghost use Rattle.agg_engine_tree.specs.segment_context.Context.{IsAskedAt, IsMeant, Meaning};
+ghost use Rattle.agg_engine_tree.specs.uncut.NodeData.{has_numbers, num_read};
+ghost use Rattle.agg_engine_tree.specs.uncut.Uncut.{Asked, times};
 
-use agg_accessor::CompositeAggReqData;
+use crate::segment_context::{AggKind, PerRequestAggSegCtx};
+use agg_composite::accessor::CompositeAggReqData;
 use agg_filter::DocumentQueryEvaluator;
 use agg_metric::StatsType;
 use agg_segment::{Column, ColumnType, SegmentReader};
-use agg_segment_context::{AggKind, PerRequestAggSegCtx};
 use agg_values::DocId;
 
 /// What tells how often a node of a request lists documents of a segment.
@@ -28,7 +28,7 @@ pub enum NodeData<'a, 's> {
 }
 
 impl<'a, 's> NodeData<'a, 's> {
-    ghost use Rattle.agg_uncut.specs.NodeData.{IsDataOf};
+    ghost use Rattle.agg_engine_tree.specs.uncut.NodeData.{IsDataOf};
 
     /// The data of a node of a kind, at its index in the data of that kind.
     pub fn new(

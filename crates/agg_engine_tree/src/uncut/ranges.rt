@@ -6,13 +6,13 @@ ghost use Rattle.agg_request_tree.specs.Ranges.{HasStartOutOfRange};
 ghost use Rattle.agg_request_tree.specs.Request.{Request, composites_in, composites_of};
 ghost use Rattle.agg_request_tree.specs.Request.{own_composite};
 ghost use Rattle.agg_request_tree.specs.declared.aggregation.Aggregation.{Aggregation};
-ghost use Rattle.agg_segment_context.specs.Context.{ArePlansOf, IsAskedAt, IsContextOf, IsMeant};
-ghost use Rattle.agg_segment_context.specs.Context.{IsPlanOf, Meaning};
-ghost use Rattle.agg_segment_context.specs.Plan.{plan_of, plans_of};
-ghost use Rattle.agg_uncut.specs.Ranges.{TellsRange};
-ghost use Rattle.agg_uncut.specs.Uncut.{Asked};
+ghost use Rattle.agg_engine_tree.specs.segment_context.Context.{ArePlansOf, IsAskedAt, IsContextOf};
+ghost use Rattle.agg_engine_tree.specs.segment_context.Context.{IsMeant, IsPlanOf, Meaning};
+ghost use Rattle.agg_engine_tree.specs.segment_context.Plan.{plan_of, plans_of};
+ghost use Rattle.agg_engine_tree.specs.uncut.Ranges.{TellsRange};
+ghost use Rattle.agg_engine_tree.specs.uncut.Uncut.{Asked};
 
-use agg_segment_context::{AggKind, AggRefNode, PerRequestAggSegCtx};
+use crate::segment_context::{AggKind, AggRefNode, PerRequestAggSegCtx};
 use agg_values::DocId;
 
 /// Whether the starts of the buckets of all composites of a request, at any depth, lie within 64

@@ -6,15 +6,16 @@ ghost use Rattle.agg_segment.specs.declared.query.QueryTree.{QueryTree};
 ghost use Rattle.agg_request_tree.specs.Request.{Request};
 ghost use Rattle.agg_request_tree.specs.Uncut.{uncut_lists, uncut_lists_of};
 ghost use Rattle.agg_request_tree.specs.declared.aggregation.Aggregation.{Aggregation};
-ghost use Rattle.agg_segment_context.specs.Context.{ArePlansOf, IsContextOf, IsPlanOf, Meaning};
-ghost use Rattle.agg_segment_context.specs.Plan.{plan_of, plans_of};
-ghost use Rattle.agg_uncut.specs.Block.{AddsFor, IsGiven};
-ghost use Rattle.agg_uncut.specs.Uncut.{uncut_lengths};
+ghost use Rattle.agg_engine_tree.specs.segment_context.Context.{ArePlansOf, IsContextOf, IsPlanOf};
+ghost use Rattle.agg_engine_tree.specs.segment_context.Context.{Meaning};
+ghost use Rattle.agg_engine_tree.specs.segment_context.Plan.{plan_of, plans_of};
+ghost use Rattle.agg_engine_tree.specs.uncut.Block.{AddsFor, IsGiven};
+ghost use Rattle.agg_engine_tree.specs.uncut.Uncut.{uncut_lengths};
 
-use crate::node_data::NodeData;
-use crate::weights::{Weights, num_listed, own_weights, total};
+use crate::segment_context::{AggRefNode, PerRequestAggSegCtx};
+use crate::uncut::node_data::NodeData;
+use crate::uncut::weights::{Weights, num_listed, own_weights, total};
 use agg_segment::SegmentReader;
-use agg_segment_context::{AggRefNode, PerRequestAggSegCtx};
 use agg_values::{DocId, OutOfMemory};
 use std::alloc::Global;
 

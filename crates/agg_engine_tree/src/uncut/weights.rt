@@ -5,11 +5,11 @@ ghost use Rattle.std.specs.Io.Iter.{u64_saturate};
 ghost use Rattle.agg_segment.specs.Query.{matches};
 ghost use Rattle.agg_segment.specs.Segment.{Stored, document_at, documents_at, documents_of};
 ghost use Rattle.agg_request_tree.specs.Uncut.{uncut};
-ghost use Rattle.agg_uncut.specs.NodeData.{IsDataOf};
-ghost use Rattle.agg_uncut.specs.Uncut.{Asked, own_weights, repeated, times};
-ghost use Rattle.agg_uncut.specs.Weights.{AreWeighed, weights_of};
+ghost use Rattle.agg_engine_tree.specs.uncut.NodeData.{IsDataOf};
+ghost use Rattle.agg_engine_tree.specs.uncut.Uncut.{Asked, own_weights, repeated, times};
+ghost use Rattle.agg_engine_tree.specs.uncut.Weights.{AreWeighed, weights_of};
 
-use crate::node_data::NodeData;
+use crate::uncut::node_data::NodeData;
 use agg_values::{DocId, OutOfMemory};
 use std::alloc::Global;
 
@@ -37,7 +37,7 @@ pub fn num_listed(node: &NodeData<'_, '_>, docs: &[DocId], weights: &Weights<'_>
     }
 }
 
-// The same, document by document.
+// How many documents a node lists, counted document by document; at most the greatest u64.
 fn num_weighed(node: &NodeData<'_, '_>, docs: &[DocId], weights: &Weights<'_>) -> u64
     requires { (segment : Stored) × (asks : Asked) × IsDataOf segment asks node.now }
     ensures { (segment : Stored) (asks : Asked) (exact : List ℕ)

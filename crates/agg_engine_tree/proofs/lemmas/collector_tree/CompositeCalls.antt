@@ -11,14 +11,17 @@ use Rattle.agg_cache.specs.declared.error.CollectError.{CollectError}
 use Rattle.agg_cache.specs.declared.error.CollectError.TheVariants as refusal
 use Rattle.agg_segment.specs.Segment.{Stored, documents_at}
 use Rattle.agg_request_tree.specs.Occurrences.{bound_of, past_occurrences}
-use Rattle.agg_accessor.specs.Ranges.{AreAllInRange}
-use Rattle.agg_accessor.specs.declared.request_data.CompositeAggReqData.{CompositeAggReqData}
-use Rattle.agg_buckets.specs.Visits.{docs_in, visits_at}
-use Rattle.agg_composite.specs.Composite.{AnswersCollect, Composite, CompositeFor}
+use Rattle.agg_composite.specs.accessor.Ranges.{AreAllInRange}
+use Rattle.agg_composite.specs.declared.accessor.request_data.CompositeAggReqData.{
+  CompositeAggReqData,
+}
+use Rattle.agg_composite.specs.buckets.Visits.{docs_in, visits_at}
+use Rattle.agg_composite.specs.Composite.{AnswersCollect, Composite, CompositeFor, num_buckets}
+use Rattle.agg_composite.proofs.OpenedBuckets.{no-fewer}
 use Rattle.agg_composite.specs.Visits.{AnswersRange, TypedVisit, visits_past}
-use Rattle.agg_collector_tree.specs.Took.{CompositeAnswers, CompositeTook, IsRefusal}
-use Rattle.agg_collector_tree.specs.Caches.{Cache, waiting_in}
-use Rattle.agg_collector_tree.specs.Tree.{visits_of}
+use Rattle.agg_engine_tree.specs.collector_tree.Took.{CompositeAnswers, CompositeTook, IsRefusal}
+use Rattle.agg_engine_tree.specs.collector_tree.Caches.{Cache, waiting_in}
+use Rattle.agg_engine_tree.specs.collector_tree.Tree.{visits_of}
 
 -- an answer for its range is a refusal of a tree
 range-errors : (in_range : Type 0) (error : CollectError) → AnswersRange in_range (Err error)
@@ -69,6 +72,8 @@ module _ (req : CompositeAggReqData) (segment : Stored) (after : Named AfterKey)
         (ap (λ vs. visits taken ++ vs) (sym (visits-under parent docs))
         ∙ sym (visits-append taken (under parent docs)))
         (a.ok.takes (visits taken) given f);
+    no_fewer = no-fewer waiting_in req
+        (visits_past req.req.now.sources segment after parent docs) old new a.ok;
     room = a.ok.room;
     hands_on = a.ok.hands_on;
     least = omega (arith, a.least, ap length (visits-under parent docs));
@@ -117,12 +122,13 @@ module _ (req : CompositeAggReqData) (segment : Stored) (after : Named AfterKey)
       → ((visited : List TypedVisit) (given : List (ℕ × ℕ))
       → CompositeFor waiting_in req old visited given
       → CompositeFor waiting_in req mid visited given)
-      → mid ≡ record old { node = mid.node }
+      → mid ≡ record old { node = mid.node } → num_buckets old ≤ num_buckets mid
       → CompositeAnswers req segment after pairs mid new steps steps_now result
       → CompositeAnswers req segment after pairs old new steps steps_now result
-  answers-prepared pairs old mid new steps steps_now (Ok done) right rest a = record {
+  answers-prepared pairs old mid new steps steps_now (Ok done) right rest more a = record {
     ok = record {
       takes = λ taken given f. a.ok.takes taken given (right (visits taken) given f);
+      no_fewer = omega (arith, more, a.ok.no_fewer);
       room = a.ok.room ∙ ap (λ (x : Composite Cache). x.room) rest;
       hands_on = a.ok.hands_on ∙ ap (λ (x : Composite Cache). x.hands_on) rest;
       least = a.ok.least;
@@ -134,7 +140,7 @@ module _ (req : CompositeAggReqData) (segment : Stored) (after : Named AfterKey)
     later = a.later;
     most = a.most;
   }
-  answers-prepared pairs old mid new steps steps_now (Err error) right rest a = record {
+  answers-prepared pairs old mid new steps steps_now (Err error) right rest more a = record {
     ok = tt;
     errors = a.errors;
     range = a.range;
@@ -151,6 +157,7 @@ module _ (req : CompositeAggReqData) (segment : Stored) (after : Named AfterKey)
     ok = record {
       takes = λ taken given f.
           subst (λ ps. CompositeFor waiting_in req c (visits ps) given) (sym (append-nil taken)) f;
+      no_fewer = omega arith;
       room = refl;
       hands_on = refl;
       least = omega arith;

@@ -9,21 +9,25 @@ use Rattle.agg_cache.specs.Waiting.{pairs_of}
 use Rattle.agg_cache.specs.declared.cache.Batch.{Batch}
 use Rattle.agg_cache.specs.declared.error.CollectError.{CollectError}
 use Rattle.agg_segment.specs.Segment.{Stored}
-use Rattle.agg_accessor.specs.Accessors as accessor
-use Rattle.agg_accessor.specs.declared.request_data.CompositeAggReqData.{CompositeAggReqData}
-use Rattle.agg_composite.specs.Composite.{Composite, CompositeFor, CompositeGives}
-use Rattle.agg_segment_context.specs.Context.{IsMeant, Meaning}
-use Rattle.agg_segment_context.specs.declared.context.PerRequestAggSegCtx.{PerRequestAggSegCtx}
-use Rattle.agg_collector_tree.specs.Bound.{TakesMost}
-use Rattle.agg_collector_tree.specs.Refusals.{IsRefused}
-use Rattle.agg_collector_tree.specs.Step.{TakesAt}
-use Rattle.agg_collector_tree.specs.Took.{CompositeTook}
-use Rattle.agg_collector_tree.specs.Caches.{Cache}
-use Rattle.agg_collector_tree.specs.Tree.{CompositeIsFor, Fits, Held, IsFor, IsHandedTo}
-use Rattle.agg_collector_tree.specs.Caches.{waiting_in}
-use Rattle.agg_collector_tree.specs.Tree.{Takes, visits_of}
-use Rattle.agg_collector_tree.proofs.CompositeCalls.{visits-append}
-use Rattle.agg_collector_tree.proofs.Levels.{handed-still, same-itself}
+use Rattle.agg_composite.specs.accessor.Accessors as accessor
+use Rattle.agg_composite.specs.declared.accessor.request_data.CompositeAggReqData.{
+  CompositeAggReqData,
+}
+use Rattle.agg_composite.specs.Composite.{Composite, CompositeFor, CompositeGives, num_buckets}
+use Rattle.agg_engine_tree.specs.segment_context.Context.{IsMeant, Meaning}
+use Rattle.agg_engine_tree.specs.declared.segment_context.context.PerRequestAggSegCtx.{
+  PerRequestAggSegCtx,
+}
+use Rattle.agg_engine_tree.specs.collector_tree.Bound.{TakesMost}
+use Rattle.agg_engine_tree.specs.collector_tree.Refusals.{IsRefused}
+use Rattle.agg_engine_tree.specs.collector_tree.Step.{TakesAt}
+use Rattle.agg_engine_tree.specs.collector_tree.Took.{CompositeTook}
+use Rattle.agg_engine_tree.specs.collector_tree.Caches.{Cache}
+use Rattle.agg_engine_tree.specs.collector_tree.Tree.{CompositeIsFor, Fits, Held, IsFor, IsHandedTo}
+use Rattle.agg_engine_tree.specs.collector_tree.Caches.{waiting_in}
+use Rattle.agg_engine_tree.specs.collector_tree.Tree.{Takes, visits_of}
+use Rattle.agg_engine_tree.proofs.lemmas.collector_tree.CompositeCalls.{visits-append}
+use Rattle.agg_engine_tree.proofs.lemmas.collector_tree.Levels.{handed-still, same-itself}
 
 module _ (ctx : PerRequestAggSegCtx) (pairs : List (ℕ × ℕ)) (parents : List ℕ) (all : Bool) (index
     : ℕ)
@@ -132,7 +136,7 @@ module _ (ctx : PerRequestAggSegCtx) (pairs : List (ℕ × ℕ)) (parents : List
     refl,
     record {
       takes = keeps-for h;
-      nodes = (refl, same-itself h);
+      nodes = (refl, same-itself h, took-once.no_fewer);
       fits = fits-still now h h refl refl
           (handed-still old.hands_on now.hands_on h h took-once.hands_on (same-itself h)) (λ x. x);
       flushed = λ e. absurd (cc (few, e));
@@ -190,21 +194,27 @@ module _ (ctx : PerRequestAggSegCtx) (pairs : List (ℕ × ℕ)) (parents : List
       → TakesMost ctx pairs (Held.composite index old h) steps then)
       → TakesAt ctx pairs parents all (Held.composite index old h) (Some down)
       (Held.composite index b h) steps mid
-  composite-hands down b gives rest h fits refused most = (
-    refl,
-    record {
-      refused = refused;
-      most = most;
-      below = fits.2;
-      takes = λ k then t. record {
-        takes = hands-for down b gives h k then t;
-        nodes = (refl, t.nodes);
-        fits = fits-still b h k (ap (λ (x : Composite Cache). x.room) rest)
-            (ap (λ (x : Composite Cache). x.hands_on) rest)
-            (handed-still old.hands_on b.hands_on h k
-            (ap (λ (x : Composite Cache). x.hands_on) rest ∙ took-once.hands_on)
-            t.nodes) t.fits;
-        flushed = λ e. (gives.emptied, t.flushed e);
-      };
-    },
-  )
+  composite-hands down b gives rest h fits refused most =
+      let same : num_buckets b ≡ num_buckets now =
+      ap (λ (x : Composite Cache). num_buckets x) rest in (
+        refl,
+        record {
+          refused = refused;
+          most = most;
+          below = fits.2;
+          takes = λ k then t. record {
+            takes = hands-for down b gives h k then t;
+            nodes = (
+              refl,
+              t.nodes,
+              omega (arith, took-once.no_fewer, same),
+            );
+            fits = fits-still b h k (ap (λ (x : Composite Cache). x.room) rest)
+                (ap (λ (x : Composite Cache). x.hands_on) rest)
+                (handed-still old.hands_on b.hands_on h k
+                (ap (λ (x : Composite Cache). x.hands_on) rest ∙ took-once.hands_on)
+                t.nodes) t.fits;
+            flushed = λ e. (gives.emptied, t.flushed e);
+          };
+        },
+      )

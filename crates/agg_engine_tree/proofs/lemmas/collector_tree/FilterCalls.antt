@@ -8,11 +8,11 @@ use Rattle.std.proofs.lemmas.List.Elements.{All-head, filter-append}
 use Rattle.agg_cache.specs.Waiting.{docs_of, is_id, under}
 use Rattle.agg_cache.specs.declared.error.CollectError.{CollectError}
 use Rattle.agg_cache.specs.declared.error.CollectError.TheVariants as refusal
-use Rattle.agg_buckets.specs.Visits.{docs_in}
-use Rattle.agg_buckets.proofs.Labels.{docs_in-append}
+use Rattle.agg_composite.specs.buckets.Visits.{docs_in}
+use Rattle.agg_composite.proofs.lemmas.buckets.Labels.{docs_in-append}
 use Rattle.agg_filter.specs.Filter.{Filter, FilterFor, FilterTakes, Prepares, count_of}
-use Rattle.agg_collector_tree.specs.Took.{FilterAnswers, FilterTook}
-use Rattle.agg_collector_tree.specs.Caches.{Cache, waiting_in}
+use Rattle.agg_engine_tree.specs.collector_tree.Took.{FilterAnswers, FilterTook}
+use Rattle.agg_engine_tree.specs.collector_tree.Caches.{Cache, waiting_in}
 
 pub docs_in-under : (parent : ℕ) (docs : List ℕ) → docs_in (under parent docs) ≡ docs
 docs_in-under parent [] = refl

@@ -12,15 +12,17 @@ use Rattle.agg_segment.specs.declared.query.QueryTree.{QueryTree}
 use Rattle.agg_filter.specs.Filter.{Filter, FilterGives}
 use Rattle.agg_filter.specs.Matching.{is_matching}
 use Rattle.agg_filter.specs.declared.request_data.FilterAggReqData.{FilterAggReqData}
-use Rattle.agg_segment_context.specs.Context.{IsMeant, Meaning}
-use Rattle.agg_segment_context.specs.declared.context.PerRequestAggSegCtx.{PerRequestAggSegCtx}
-use Rattle.agg_collector_tree.specs.Bound.{TakesMost}
-use Rattle.agg_collector_tree.specs.Refusals.{IsRefused}
-use Rattle.agg_collector_tree.specs.Step.{TakesAt}
-use Rattle.agg_collector_tree.specs.Took.{FilterTook}
-use Rattle.agg_collector_tree.specs.Caches.{Cache, waiting_in}
-use Rattle.agg_collector_tree.specs.Tree.{Fits, Held, IsFor, IsHandedTo, Takes}
-use Rattle.agg_collector_tree.proofs.Levels.{handed-still, same-itself}
+use Rattle.agg_engine_tree.specs.segment_context.Context.{IsMeant, Meaning}
+use Rattle.agg_engine_tree.specs.declared.segment_context.context.PerRequestAggSegCtx.{
+  PerRequestAggSegCtx,
+}
+use Rattle.agg_engine_tree.specs.collector_tree.Bound.{TakesMost}
+use Rattle.agg_engine_tree.specs.collector_tree.Refusals.{IsRefused}
+use Rattle.agg_engine_tree.specs.collector_tree.Step.{TakesAt}
+use Rattle.agg_engine_tree.specs.collector_tree.Took.{FilterTook}
+use Rattle.agg_engine_tree.specs.collector_tree.Caches.{Cache, waiting_in}
+use Rattle.agg_engine_tree.specs.collector_tree.Tree.{Fits, Held, IsFor, IsHandedTo, Takes}
+use Rattle.agg_engine_tree.proofs.lemmas.collector_tree.Levels.{handed-still, same-itself}
 
 module _ (ctx : PerRequestAggSegCtx) (pairs : List (ℕ × ℕ)) (parents : List ℕ) (all : Bool) (index
     : ℕ)

@@ -4,7 +4,7 @@ use Rattle.std.proofs.Common.{filter, refl, sym, ap, ◌∙◌, subst, arith}
 use Rattle.std.specs.Prelude.{◌&&◌, nat_lt}
 use Rattle.agg_values.specs.Names.{Named}
 use Rattle.agg_values.specs.declared.after_key.AfterKey.{AfterKey}
-use Rattle.agg_column.specs.Document.{Fields}
+use Rattle.agg_segment.specs.storage.Document.{Fields}
 use Rattle.agg_segment.specs.Query.{matches}
 use Rattle.agg_segment.specs.Segment.{Stored, document_at, documents_at}
 use Rattle.agg_segment.specs.declared.query.QueryTree.{QueryTree}
@@ -14,18 +14,21 @@ use Rattle.agg_request_tree.specs.Uncut.{counted, once_each}
 use Rattle.agg_request_tree.specs.declared.aggregation.CompositeAggregation.{CompositeAggregation}
 use Rattle.agg_request_tree.specs.declared.aggregation.filter.FilterQuery.{FilterQuery}
 use Rattle.agg_request_tree.specs.declared.aggregation.filter.FilterQuery.TheVariants as by
-use Rattle.agg_accessor.specs.declared.request_data.CompositeAggReqData.{CompositeAggReqData}
-use Rattle.agg_buckets.specs.Visits.{docs_in}
+use Rattle.agg_composite.specs.declared.accessor.request_data.CompositeAggReqData.{
+  CompositeAggReqData,
+}
+use Rattle.agg_composite.specs.buckets.Visits.{docs_in}
 use Rattle.agg_composite.specs.Composite.{Composite, CompositeFor}
 use Rattle.agg_filter.specs.Filter.{Filter, FilterFor}
 use Rattle.agg_filter.specs.Matching.{is_matching}
-use Rattle.agg_segment_context.specs.Context.{tree_in}
-use Rattle.agg_collector_tree.specs.Caches.{Cache, waiting_in}
-use Rattle.agg_collector_tree.specs.Tree.{visits_of}
-use Rattle.agg_collector_tree.proofs.LowerDocuments.{given-visited}
-use Rattle.agg_collector_tree.proofs.MatchedDocuments.{given-matched}
-use Rattle.agg_collector_tree.proofs.UncutParts.{Lighter, lighter-both, lighter-within}
-use Rattle.agg_collector_tree.proofs.UncutParts.{visits-counted, weigh}
+use Rattle.agg_engine_tree.specs.segment_context.Context.{tree_in}
+use Rattle.agg_engine_tree.specs.collector_tree.Caches.{Cache, waiting_in}
+use Rattle.agg_engine_tree.specs.collector_tree.Tree.{visits_of}
+use Rattle.agg_engine_tree.proofs.lemmas.collector_tree.LowerDocuments.{given-visited}
+use Rattle.agg_engine_tree.proofs.lemmas.collector_tree.MatchedDocuments.{given-matched}
+use Rattle.agg_engine_tree.proofs.lemmas.collector_tree.UncutParts.{Lighter, lighter-both}
+use Rattle.agg_engine_tree.proofs.lemmas.collector_tree.UncutParts.{lighter-within, visits-counted}
+use Rattle.agg_engine_tree.proofs.lemmas.collector_tree.UncutParts.{weigh}
 
 -- what a composite gave is no more than what it counts
 pub composite-lighter : (req : CompositeAggReqData) (segment : Stored) (after : Named AfterKey)

@@ -10,15 +10,17 @@ use Rattle.agg_cache.specs.Waiting.{pairs_of}
 use Rattle.agg_cache.specs.declared.cache.Batch.{Batch}
 use Rattle.agg_composite.specs.Composite as c
 use Rattle.agg_filter.specs.Filter as f
-use Rattle.agg_segment_context.specs.declared.context.PerRequestAggSegCtx.{PerRequestAggSegCtx}
-use Rattle.agg_collector_tree.specs.declared.tree.SegmentCollectorTree as declared
+use Rattle.agg_engine_tree.specs.declared.segment_context.context.PerRequestAggSegCtx.{
+  PerRequestAggSegCtx,
+}
+use Rattle.agg_engine_tree.specs.declared.collector_tree.tree.SegmentCollectorTree as declared
 use declared.{SegmentCollectorTree as Tree}
 use declared.{Composite, Filter}
-use Rattle.agg_collector_tree.specs.Step.{TakesAt}
-use Rattle.agg_collector_tree.specs.Caches.{Cache}
-use Rattle.agg_collector_tree.specs.Tree.{Held, Takes, held_of}
-use Rattle.agg_collector_tree.proofs.Groups.{AllTake, all-more}
-use Rattle.agg_collector_tree.proofs.Levels.{held-composite, held-filter}
+use Rattle.agg_engine_tree.specs.collector_tree.Step.{TakesAt}
+use Rattle.agg_engine_tree.specs.collector_tree.Caches.{Cache}
+use Rattle.agg_engine_tree.specs.collector_tree.Tree.{Held, Takes, held_of}
+use Rattle.agg_engine_tree.proofs.lemmas.collector_tree.Groups.{AllTake, all-more}
+use Rattle.agg_engine_tree.proofs.lemmas.collector_tree.Levels.{held-composite, held-filter}
 
 module _ (ctx : PerRequestAggSegCtx) (pairs : List (ℕ × ℕ)) (parents : List ℕ) (all : Bool)
     (old mid new : Tree)

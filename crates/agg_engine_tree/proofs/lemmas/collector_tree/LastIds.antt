@@ -10,16 +10,18 @@ use Rattle.std.proofs.lemmas.List.Elements.{All-cons, All-head, All-nil, All-tai
 use Rattle.agg_cache.specs.Waiting.{docs_of, is_id, pairs_of, under}
 use Rattle.agg_cache.specs.declared.cache.Batch.{Batch}
 use Rattle.agg_cache.proofs.UnderIds.{docs_of-same}
-use Rattle.agg_accessor.specs.declared.request_data.CompositeAggReqData.{CompositeAggReqData}
-use Rattle.agg_buckets.specs.Visits.{docs_in}
-use Rattle.agg_buckets.proofs.Labels.{docs_of-append}
+use Rattle.agg_composite.specs.declared.accessor.request_data.CompositeAggReqData.{
+  CompositeAggReqData,
+}
+use Rattle.agg_composite.specs.buckets.Visits.{docs_in}
+use Rattle.agg_composite.proofs.lemmas.buckets.Labels.{docs_of-append}
 use Rattle.agg_composite.specs.Composite.{Composite, CompositeFor}
 use Rattle.agg_composite.specs.Visits.{TypedVisit}
 use Rattle.agg_filter.specs.Filter.{Filter, FilterFor}
-use Rattle.agg_collector_tree.specs.Refusals.{AreNotLast}
-use Rattle.agg_collector_tree.specs.Caches.{Cache, waiting_in}
-use Rattle.agg_collector_tree.proofs.LowerDocuments.{docs-stand}
-use Rattle.agg_collector_tree.proofs.WithinLists.{within-length}
+use Rattle.agg_engine_tree.specs.collector_tree.Refusals.{AreNotLast}
+use Rattle.agg_engine_tree.specs.collector_tree.Caches.{Cache, waiting_in}
+use Rattle.agg_engine_tree.proofs.lemmas.collector_tree.LowerDocuments.{docs-stand}
+use Rattle.agg_engine_tree.proofs.lemmas.collector_tree.WithinLists.{within-length}
 
 abbrev IsLow : ℕ → Type 0
 IsLow id = id < 4294967295

@@ -5,30 +5,32 @@ use Rattle.std.specs.Prelude.{slice_get}
 use Rattle.std.proofs.lemmas.List.{append_assoc}
 use Rattle.agg_cache.specs.declared.error.CollectError.{CollectError}
 use Rattle.agg_cache.specs.declared.error.CollectError.TheVariants as refusal
-use Rattle.agg_column.specs.Document.{HasNumbersOf64Bits}
+use Rattle.agg_segment.specs.storage.Document.{HasNumbersOf64Bits}
 use Rattle.agg_segment.specs.Segment.{documents_at}
-use Rattle.agg_buckets.specs.Visits.{Within, docs_in}
-use Rattle.agg_buckets.proofs.Labels.{docs_in-append}
-use Rattle.agg_segment_context.specs.Context.{Meaning}
-use Rattle.agg_segment_context.specs.Plan.{Plans}
-use Rattle.agg_segment_context.specs.declared.context.PerRequestAggSegCtx.{PerRequestAggSegCtx}
-use Rattle.agg_collector_tree.specs.Bound.{TakesMost}
-use Rattle.agg_collector_tree.specs.Refusals.{AreNotLast, HasStartOutOfRange, IsRefused, ManyTaken}
-use Rattle.agg_collector_tree.specs.Refusals.{RangeTaken, SomeHasStart}
-use Rattle.agg_collector_tree.specs.Tree.{HasSameNodes, HaveSameNodes, Held, Helds, IsGroupOf}
-use Rattle.agg_collector_tree.specs.Tree.{Takes}
-use Rattle.agg_collector_tree.proofs.Levels.{is-nothing, same-plan, same-plans}
-use Rattle.agg_collector_tree.proofs.ManyLists.{in-more, of-more}
-use Rattle.agg_collector_tree.proofs.MostVisits.{in-less, of-less}
-use Rattle.agg_collector_tree.proofs.RefusedNodes.{start-part}
-use Rattle.agg_collector_tree.proofs.SmallNumbers.{all-part}
-use Rattle.agg_collector_tree.proofs.UncutParts.{lighter-within}
-use Rattle.agg_collector_tree.proofs.WithinLists.{within-contains, within-part}
+use Rattle.agg_composite.specs.buckets.Visits.{Within, docs_in}
+use Rattle.agg_composite.proofs.lemmas.buckets.Labels.{docs_in-append}
+use Rattle.agg_engine_tree.specs.segment_context.Context.{Meaning}
+use Rattle.agg_engine_tree.specs.segment_context.Plan.{Plans}
+use Rattle.agg_engine_tree.specs.declared.segment_context.context.PerRequestAggSegCtx.{
+  PerRequestAggSegCtx,
+}
+use Rattle.agg_engine_tree.specs.collector_tree.Bound.{TakesMost}
+use Rattle.agg_engine_tree.specs.collector_tree.Refusals.{AreNotLast, HasStartOutOfRange, IsRefused}
+use Rattle.agg_engine_tree.specs.collector_tree.Refusals.{ManyTaken, RangeTaken, SomeHasStart}
+use Rattle.agg_engine_tree.specs.collector_tree.Tree.{GrowsTo, AllGrowTo, Held, Helds, IsGroupOf}
+use Rattle.agg_engine_tree.specs.collector_tree.Tree.{Takes}
+use Rattle.agg_engine_tree.proofs.lemmas.collector_tree.Levels.{is-nothing, same-plan, same-plans}
+use Rattle.agg_engine_tree.proofs.lemmas.collector_tree.ManyLists.{in-more, of-more}
+use Rattle.agg_engine_tree.proofs.lemmas.collector_tree.MostVisits.{in-less, of-less}
+use Rattle.agg_engine_tree.proofs.lemmas.collector_tree.RefusedNodes.{start-part}
+use Rattle.agg_engine_tree.proofs.lemmas.collector_tree.SmallNumbers.{all-part}
+use Rattle.agg_engine_tree.proofs.lemmas.collector_tree.UncutParts.{lighter-within}
+use Rattle.agg_engine_tree.proofs.lemmas.collector_tree.WithinLists.{within-contains, within-part}
 
 module _ (meaning : Meaning) (ctx : PerRequestAggSegCtx) (docs : List ℕ) where
   mutual
     -- what has a start out of range has it in each tree of the same nodes
-    start-same : (h k : Held) → HasSameNodes h k → HasStartOutOfRange meaning ctx k docs
+    start-same : (h k : Held) → GrowsTo h k → HasStartOutOfRange meaning ctx k docs
         → HasStartOutOfRange meaning ctx h docs
     start-same (Held.composite i a h) (Held.composite j b k) same (inl (req, at, out)) =
         inl (req, ap (slice_get ctx.composite_req_data) same.0 ∙ at, out)
@@ -39,7 +41,7 @@ module _ (meaning : Meaning) (ctx : PerRequestAggSegCtx) (docs : List ℕ) where
     start-same (Held.group hs) (Held.group ks) same s = some-same hs ks same s
     start-same h k same s = absurd same
 
-    some-same : (hs ks : Helds) → HaveSameNodes hs ks → SomeHasStart meaning ctx ks docs
+    some-same : (hs ks : Helds) → AllGrowTo hs ks → SomeHasStart meaning ctx ks docs
         → SomeHasStart meaning ctx hs docs
     some-same Helds.none Helds.none same s = s
     some-same (Helds.more h hs) (Helds.more k ks) same (inl s) = inl (start-same h k same.0 s)

@@ -7,18 +7,20 @@ use Rattle.std.specs.declared.alloc.Global.{Global}
 use Rattle.agg_composite.specs.Composite as c
 use Rattle.agg_filter.specs.Filter as f
 use Rattle.agg_metric.specs.Collector as m
-use Rattle.agg_segment_context.specs.Plan.{Plan, Plans}
-use Rattle.agg_segment_context.specs.declared.context.PerRequestAggSegCtx.{PerRequestAggSegCtx}
-use Rattle.agg_segment_context.specs.declared.node.AggKind.TheVariants as kind
-use Rattle.agg_collector_tree.specs.declared.tree.SegmentCollectorTree as declared
+use Rattle.agg_engine_tree.specs.segment_context.Plan.{Plan, Plans}
+use Rattle.agg_engine_tree.specs.declared.segment_context.context.PerRequestAggSegCtx.{
+  PerRequestAggSegCtx,
+}
+use Rattle.agg_engine_tree.specs.declared.segment_context.node.AggKind.TheVariants as kind
+use Rattle.agg_engine_tree.specs.declared.collector_tree.tree.SegmentCollectorTree as declared
 use declared.{SegmentCollectorTree as Tree}
 use declared.{Composite, Filter, Metric}
 use declared.{Group, the_lemmas}
-use Rattle.agg_collector_tree.specs.Step.{depth, depths}
-use Rattle.agg_collector_tree.specs.Caches.{Cache}
-use Rattle.agg_collector_tree.specs.Tree.{AllFit, AreOf, Fits, HasSameNodes, HaveSameNodes}
-use Rattle.agg_collector_tree.specs.Tree.{Held, Helds, IsGroupOf, IsHandedTo, IsOf}
-use Rattle.agg_collector_tree.specs.Tree.{group_of, held_of, helds_of, nothing}
+use Rattle.agg_engine_tree.specs.collector_tree.Step.{depth, depths}
+use Rattle.agg_engine_tree.specs.collector_tree.Caches.{Cache}
+use Rattle.agg_engine_tree.specs.collector_tree.Tree.{AllFit, AreOf, Fits, GrowsTo, AllGrowTo}
+use Rattle.agg_engine_tree.specs.collector_tree.Tree.{Held, Helds, IsGroupOf, IsHandedTo, IsOf}
+use Rattle.agg_engine_tree.specs.collector_tree.Tree.{group_of, held_of, helds_of, nothing}
 
 -- ---- plain data
 
@@ -57,19 +59,19 @@ no-node (Plan.node (kind.StatsKind computed) i below) hs x = x
 
 mutual
   -- a tree has its own nodes
-  pub same-itself : (h : Held) → HasSameNodes h h
-  same-itself (Held.composite index collector h) = (refl, same-itself h)
+  pub same-itself : (h : Held) → GrowsTo h h
+  same-itself (Held.composite index collector h) = (refl, same-itself h, omega arith)
   same-itself (Held.filter index collector h) = (refl, same-itself h)
   same-itself (Held.metric index collector) = refl
   same-itself (Held.group hs) = same-each hs
 
-  same-each : (hs : Helds) → HaveSameNodes hs hs
+  same-each : (hs : Helds) → AllGrowTo hs hs
   same-each Helds.none = tt
   same-each (Helds.more h hs) = (same-itself h, same-each hs)
 
 mutual
   -- a tree of the same nodes is that of the same node
-  pub same-plan : (plan : Plan) (h k : Held) → HasSameNodes h k → IsOf plan h → IsOf plan k
+  pub same-plan : (plan : Plan) (h k : Held) → GrowsTo h k → IsOf plan h → IsOf plan k
   same-plan (Plan.node kind.Composite i below) (Held.composite j a h) (Held.composite l b k) same
       is = (is.0 ∙ same.0, same-plans below h k same.1 is.1)
   same-plan (Plan.node kind.Filter i below) (Held.filter j a h) (Held.filter l b k) same is =
@@ -82,14 +84,14 @@ mutual
   same-plan plan (Held.group hs) (Held.group ks) same is = absurd (no-node plan hs is)
   same-plan plan h k same is = absurd same
 
-  -- or that of the same nodes
-  pub same-plans : (plans : Plans) (h k : Held) → HasSameNodes h k → IsGroupOf plans h
+  -- a tree of the same nodes is that of the same list of nodes
+  pub same-plans : (plans : Plans) (h k : Held) → GrowsTo h k → IsGroupOf plans h
       → IsGroupOf plans k
   same-plans plans (Held.group hs) (Held.group ks) same is = same-all plans hs ks same is
   same-plans plans (Held.group hs) k same is = absurd same
   same-plans plans h k same is = absurd is
 
-  same-all : (plans : Plans) (hs ks : Helds) → HaveSameNodes hs ks → AreOf plans hs → AreOf plans ks
+  same-all : (plans : Plans) (hs ks : Helds) → AllGrowTo hs ks → AreOf plans hs → AreOf plans ks
   same-all Plans.none Helds.none Helds.none same is = tt
   same-all (Plans.more plan plans) (Helds.more h hs) (Helds.more k ks) same is =
       (same-plan plan h k same.0 is.0, same-all plans hs ks same.1 is.1)
@@ -99,21 +101,21 @@ mutual
 
 mutual
   -- trees of the same nodes are as deep
-  pub same-depth : (h k : Held) → HasSameNodes h k → depth k ≡ depth h
+  pub same-depth : (h k : Held) → GrowsTo h k → depth k ≡ depth h
   same-depth (Held.composite i a h) (Held.composite j b k) same = ap suc (same-depth h k same.1)
   same-depth (Held.filter i a h) (Held.filter j b k) same = ap suc (same-depth h k same.1)
   same-depth (Held.metric i a) (Held.metric j b) same = refl
   same-depth (Held.group hs) (Held.group ks) same = ap suc (same-depths hs ks same)
   same-depth h k same = absurd same
 
-  same-depths : (hs ks : Helds) → HaveSameNodes hs ks → depths ks ≡ depths hs
+  same-depths : (hs ks : Helds) → AllGrowTo hs ks → depths ks ≡ depths hs
   same-depths Helds.none Helds.none same = refl
   same-depths (Helds.more h hs) (Helds.more k ks) same =
       omega (arith, same-depth h k same.0, same-depths hs ks same.1)
   same-depths hs ks same = absurd same
 
 -- what is handed on is handed on still
-pub handed-still : (before after : Bool) (h k : Held) → after ≡ before → HasSameNodes h k
+pub handed-still : (before after : Bool) (h k : Held) → after ≡ before → GrowsTo h k
     → IsHandedTo before h → IsHandedTo after k
 handed-still before after h k same nodes (inl on) = inl (same ∙ on)
 handed-still before after h k same nodes (inr is) =

@@ -11,15 +11,18 @@ use Rattle.agg_cache.specs.Waiting.{docs_of, is_id}
 use Rattle.agg_segment.specs.Segment.{Stored, documents_at}
 use Rattle.agg_request_tree.specs.Occurrences.{bound_of, past_occurrences}
 use Rattle.agg_request_tree.proofs.Lists.{Contains-from_Has, Has, Has-from_Contains}
-use Rattle.agg_accessor.specs.Encoding.{EncodedTuple}
-use Rattle.agg_accessor.specs.declared.request_data.CompositeAggReqData.{CompositeAggReqData}
-use Rattle.agg_buckets.specs.Visits.{Visit, Within, docs_in, visits_at, weight}
-use Rattle.agg_buckets.proofs.Labels.{docs_in-append, is_id-other, is_id-same, weight-append}
+use Rattle.agg_composite.specs.accessor.Encoding.{EncodedTuple}
+use Rattle.agg_composite.specs.declared.accessor.request_data.CompositeAggReqData.{
+  CompositeAggReqData,
+}
+use Rattle.agg_composite.specs.buckets.Visits.{Visit, Within, docs_in, visits_at, weight}
+use Rattle.agg_composite.proofs.lemmas.buckets.Labels.{docs_in-append, is_id-other, is_id-same}
+use Rattle.agg_composite.proofs.lemmas.buckets.Labels.{weight-append}
 use Rattle.agg_composite.specs.Composite.{Composite, CompositeFor}
 use Rattle.agg_composite.specs.Visits.{StandsForVisit, TypedVisit, visits_past}
-use Rattle.agg_collector_tree.specs.Caches.{Cache, waiting_in}
-use Rattle.agg_collector_tree.specs.Tree.{visits_of}
-use Rattle.agg_collector_tree.proofs.WithinLists.{within-both}
+use Rattle.agg_engine_tree.specs.collector_tree.Caches.{Cache, waiting_in}
+use Rattle.agg_engine_tree.specs.collector_tree.Tree.{visits_of}
+use Rattle.agg_engine_tree.proofs.lemmas.collector_tree.WithinLists.{within-both}
 
 -- ---- by ids
 

@@ -9,36 +9,40 @@ use Rattle.agg_values.specs.declared.after_key.AfterKey.{AfterKey}
 use Rattle.agg_cache.specs.Waiting.{pairs_of}
 use Rattle.agg_cache.specs.declared.cache.Batch.{Batch}
 use Rattle.agg_cache.specs.declared.error.CollectError.TheVariants as refusal
-use Rattle.agg_column.specs.Document.{Fields, HasNumbersOf64Bits}
+use Rattle.agg_segment.specs.storage.Document.{Fields, HasNumbersOf64Bits}
 use Rattle.agg_segment.specs.Query.{matches}
 use Rattle.agg_segment.specs.Segment.{Stored, documents_at}
 use Rattle.agg_segment.specs.declared.query.QueryTree.{QueryTree}
 use Rattle.agg_request_tree.specs.Request.{agg_of, below_of}
 use Rattle.agg_request_tree.specs.Uncut.{uncut}
 use Rattle.agg_request_tree.specs.declared.aggregation.Aggregation.{Aggregation}
-use Rattle.agg_accessor.specs.Accessors as accessor
-use Rattle.agg_accessor.specs.declared.request_data.CompositeAggReqData.{CompositeAggReqData}
-use Rattle.agg_buckets.specs.Visits.{docs_in}
+use Rattle.agg_composite.specs.accessor.Accessors as accessor
+use Rattle.agg_composite.specs.declared.accessor.request_data.CompositeAggReqData.{
+  CompositeAggReqData,
+}
+use Rattle.agg_composite.specs.buckets.Visits.{docs_in}
 use Rattle.agg_composite.specs.Composite.{Composite, CompositeFor, CompositeGives}
-use Rattle.agg_segment_context.specs.Context.{IsMeant, IsPlanOf, Meaning}
-use Rattle.agg_segment_context.specs.Plan.{Plan}
-use Rattle.agg_segment_context.specs.declared.context.PerRequestAggSegCtx.{PerRequestAggSegCtx}
-use Rattle.agg_segment_context.specs.declared.node.AggKind.TheVariants as kind
-use Rattle.agg_collector_tree.specs.Refusals.{ListsTooMany, ManyTaken}
-use Rattle.agg_collector_tree.specs.Took.{CompositeAnswers, CompositeTook}
-use Rattle.agg_collector_tree.specs.Caches.{Cache}
-use Rattle.agg_collector_tree.specs.Tree.{CompositeIsFor, Held, IsFor, IsHandedTo, IsOf}
-use Rattle.agg_collector_tree.specs.Caches.{waiting_in}
-use Rattle.agg_collector_tree.specs.Tree.{visits_of}
-use Rattle.agg_collector_tree.proofs.CompositeNodes.{is-for}
-use Rattle.agg_collector_tree.proofs.HandedDocuments.{composite-lighter}
-use Rattle.agg_collector_tree.proofs.LastIds.{last-visits, low-or-last}
-use Rattle.agg_collector_tree.proofs.LowerDocuments.{given-visited, visited-part}
-use Rattle.agg_collector_tree.proofs.SmallNumbers.{all-part}
-use Rattle.agg_collector_tree.proofs.WithinLists.{within-contains}
-use Rattle.agg_collector_tree.proofs.ManyLists.{many-below, many-own, of-more}
-use Rattle.agg_collector_tree.proofs.MostVisits.{asked-composite, own-most}
-use Rattle.agg_collector_tree.proofs.UncutParts.{Lighter}
+use Rattle.agg_engine_tree.specs.segment_context.Context.{IsMeant, IsPlanOf, Meaning}
+use Rattle.agg_engine_tree.specs.segment_context.Plan.{Plan}
+use Rattle.agg_engine_tree.specs.declared.segment_context.context.PerRequestAggSegCtx.{
+  PerRequestAggSegCtx,
+}
+use Rattle.agg_engine_tree.specs.declared.segment_context.node.AggKind.TheVariants as kind
+use Rattle.agg_engine_tree.specs.collector_tree.Refusals.{ListsTooMany, ManyTaken}
+use Rattle.agg_engine_tree.specs.collector_tree.Took.{CompositeAnswers, CompositeTook}
+use Rattle.agg_engine_tree.specs.collector_tree.Caches.{Cache}
+use Rattle.agg_engine_tree.specs.collector_tree.Tree.{CompositeIsFor, Held, IsFor, IsHandedTo, IsOf}
+use Rattle.agg_engine_tree.specs.collector_tree.Caches.{waiting_in}
+use Rattle.agg_engine_tree.specs.collector_tree.Tree.{visits_of}
+use Rattle.agg_engine_tree.proofs.lemmas.collector_tree.CompositeNodes.{is-for}
+use Rattle.agg_engine_tree.proofs.lemmas.collector_tree.HandedDocuments.{composite-lighter}
+use Rattle.agg_engine_tree.proofs.lemmas.collector_tree.LastIds.{last-visits, low-or-last}
+use Rattle.agg_engine_tree.proofs.lemmas.collector_tree.LowerDocuments.{given-visited, visited-part}
+use Rattle.agg_engine_tree.proofs.lemmas.collector_tree.SmallNumbers.{all-part}
+use Rattle.agg_engine_tree.proofs.lemmas.collector_tree.WithinLists.{within-contains}
+use Rattle.agg_engine_tree.proofs.lemmas.collector_tree.ManyLists.{many-below, many-own, of-more}
+use Rattle.agg_engine_tree.proofs.lemmas.collector_tree.MostVisits.{asked-composite, own-most}
+use Rattle.agg_engine_tree.proofs.lemmas.collector_tree.UncutParts.{Lighter}
 
 module _ (ctx : PerRequestAggSegCtx) (pairs : List (ℕ × ℕ)) (parents : List ℕ) (index : ℕ)
     (req : CompositeAggReqData) (at : slice_get ctx.composite_req_data index ≡ Some req)

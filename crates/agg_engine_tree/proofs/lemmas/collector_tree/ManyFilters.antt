@@ -8,7 +8,7 @@ use Rattle.std.proofs.lemmas.List.{length-map}
 use Rattle.agg_cache.specs.Waiting.{pairs_of}
 use Rattle.agg_cache.specs.declared.cache.Batch.{Batch}
 use Rattle.agg_cache.specs.declared.error.CollectError.TheVariants as refusal
-use Rattle.agg_column.specs.Document.{Fields, HasNumbersOf64Bits}
+use Rattle.agg_segment.specs.storage.Document.{Fields, HasNumbersOf64Bits}
 use Rattle.agg_segment.specs.Marks.{AreMarks}
 use Rattle.agg_segment.specs.Query.{matches}
 use Rattle.agg_segment.specs.Segment.{Stored, document_at, documents_at}
@@ -17,26 +17,30 @@ use Rattle.agg_request_tree.specs.Matching.{matching}
 use Rattle.agg_request_tree.specs.Request.{agg_of, below_of}
 use Rattle.agg_request_tree.specs.Uncut.{uncut}
 use Rattle.agg_request_tree.specs.declared.aggregation.Aggregation.{Aggregation}
-use Rattle.agg_buckets.specs.Visits.{docs_in}
+use Rattle.agg_composite.specs.buckets.Visits.{docs_in}
 use Rattle.agg_filter.specs.Filter.{Filter, FilterGives}
 use Rattle.agg_filter.specs.Matching.{is_matching}
 use Rattle.agg_filter.specs.declared.request_data.FilterAggReqData.{FilterAggReqData}
-use Rattle.agg_segment_context.specs.Context.{IsMeant, IsPlanOf, Meaning, tree_in}
-use Rattle.agg_segment_context.specs.Plan.{Plan}
-use Rattle.agg_segment_context.specs.declared.context.PerRequestAggSegCtx.{PerRequestAggSegCtx}
-use Rattle.agg_segment_context.specs.declared.node.AggKind.TheVariants as kind
-use Rattle.agg_collector_tree.specs.Refusals.{ListsTooMany, ManyTaken}
-use Rattle.agg_collector_tree.specs.Took.{FilterAnswers, FilterTook}
-use Rattle.agg_collector_tree.specs.Caches.{Cache, waiting_in}
-use Rattle.agg_collector_tree.specs.Tree.{Held, IsFor, IsHandedTo, IsOf}
-use Rattle.agg_collector_tree.proofs.HandedDocuments.{filter-lighter, matched-lighter}
-use Rattle.agg_collector_tree.proofs.LastIds.{filter-last, low-or-last}
-use Rattle.agg_collector_tree.proofs.MatchedDocuments.{given-matched, matching-within}
-use Rattle.agg_collector_tree.proofs.SmallNumbers.{all-part}
-use Rattle.agg_collector_tree.proofs.WithinLists.{within-both, within-contains}
-use Rattle.agg_collector_tree.proofs.ManyLists.{many-below, many-own, of-more}
-use Rattle.agg_collector_tree.proofs.MostVisits.{asked-filter}
-use Rattle.agg_collector_tree.proofs.UncutParts.{Lighter, lighter-length}
+use Rattle.agg_engine_tree.specs.segment_context.Context.{IsMeant, IsPlanOf, Meaning, tree_in}
+use Rattle.agg_engine_tree.specs.segment_context.Plan.{Plan}
+use Rattle.agg_engine_tree.specs.declared.segment_context.context.PerRequestAggSegCtx.{
+  PerRequestAggSegCtx,
+}
+use Rattle.agg_engine_tree.specs.declared.segment_context.node.AggKind.TheVariants as kind
+use Rattle.agg_engine_tree.specs.collector_tree.Refusals.{ListsTooMany, ManyTaken}
+use Rattle.agg_engine_tree.specs.collector_tree.Took.{FilterAnswers, FilterTook}
+use Rattle.agg_engine_tree.specs.collector_tree.Caches.{Cache, waiting_in}
+use Rattle.agg_engine_tree.specs.collector_tree.Tree.{Held, IsFor, IsHandedTo, IsOf}
+use Rattle.agg_engine_tree.proofs.lemmas.collector_tree.HandedDocuments.{filter-lighter}
+use Rattle.agg_engine_tree.proofs.lemmas.collector_tree.HandedDocuments.{matched-lighter}
+use Rattle.agg_engine_tree.proofs.lemmas.collector_tree.LastIds.{filter-last, low-or-last}
+use Rattle.agg_engine_tree.proofs.lemmas.collector_tree.MatchedDocuments.{given-matched}
+use Rattle.agg_engine_tree.proofs.lemmas.collector_tree.MatchedDocuments.{matching-within}
+use Rattle.agg_engine_tree.proofs.lemmas.collector_tree.SmallNumbers.{all-part}
+use Rattle.agg_engine_tree.proofs.lemmas.collector_tree.WithinLists.{within-both, within-contains}
+use Rattle.agg_engine_tree.proofs.lemmas.collector_tree.ManyLists.{many-below, many-own, of-more}
+use Rattle.agg_engine_tree.proofs.lemmas.collector_tree.MostVisits.{asked-filter}
+use Rattle.agg_engine_tree.proofs.lemmas.collector_tree.UncutParts.{Lighter, lighter-length}
 
 module _ (ctx : PerRequestAggSegCtx) (pairs : List (ℕ × ℕ)) (parents : List ℕ) (index : ℕ)
     (req : FilterAggReqData) (at : slice_get ctx.filter_req_data index ≡ Some req)

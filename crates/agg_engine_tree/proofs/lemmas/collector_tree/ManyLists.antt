@@ -2,7 +2,7 @@
 use Rattle.std.proofs.Common.{◌≤◌, ◌^◌, ◌++◌, ◌⊎◌, ℕ, List, [], ◌∷◌, inl, inr, ⊎_elim}
 use Rattle.std.proofs.Common.{length, zero, suc, refl, sym, subst, arith}
 use Rattle.std.specs.List.{Any}
-use Rattle.agg_column.specs.Document.{Fields}
+use Rattle.agg_segment.specs.storage.Document.{Fields}
 use Rattle.agg_segment.specs.Query.{matches}
 use Rattle.agg_segment.specs.declared.query.QueryTree.{QueryTree}
 use Rattle.agg_request_tree.specs.Request.{Request, agg_of, below_of}
@@ -10,11 +10,14 @@ use Rattle.agg_request_tree.specs.Uncut.{CountsTooMany, uncut, uncut_lists, uncu
 use Rattle.agg_request_tree.specs.declared.aggregation.Aggregation.{Aggregation}
 use Rattle.agg_request_tree.proofs.CheckedRequests.{Any-back, Any-front}
 use Rattle.agg_request_tree.proofs.UncutLists.{uncut_lists-out}
-use Rattle.agg_segment_context.specs.Context.{ArePlansOf, IsPlanOf, Meaning}
-use Rattle.agg_segment_context.specs.Plan.{Plan, Plans}
-use Rattle.agg_segment_context.specs.declared.context.PerRequestAggSegCtx.{PerRequestAggSegCtx}
-use Rattle.agg_collector_tree.specs.Refusals.{ListsTooMany}
-use Rattle.agg_collector_tree.proofs.UncutParts.{Lighter, lighter-length, lighter-uncut}
+use Rattle.agg_engine_tree.specs.segment_context.Context.{ArePlansOf, IsPlanOf, Meaning}
+use Rattle.agg_engine_tree.specs.segment_context.Plan.{Plan, Plans}
+use Rattle.agg_engine_tree.specs.declared.segment_context.context.PerRequestAggSegCtx.{
+  PerRequestAggSegCtx,
+}
+use Rattle.agg_engine_tree.specs.collector_tree.Refusals.{ListsTooMany}
+use Rattle.agg_engine_tree.proofs.lemmas.collector_tree.UncutParts.{Lighter, lighter-length}
+use Rattle.agg_engine_tree.proofs.lemmas.collector_tree.UncutParts.{lighter-uncut}
 
 -- ---- some element
 
@@ -94,7 +97,7 @@ module _ (meaning : Meaning) (ctx : PerRequestAggSegCtx) where
         (uncut matches (agg_of a) ys) own lower))
         (many-open a xs many)
 
-    -- so are those of a request
+    -- lists of a request that are too long are so over more documents
     pub of-more : (plans : Plans) (request : Request QueryTree)
         → ArePlansOf meaning ctx request plans → (xs ys : List Fields) → Lighter xs ys
         → CountsTooMany matches request xs → CountsTooMany matches request ys

@@ -8,7 +8,7 @@ use Rattle.std.specs.List.{All, filter_map, flat_map}
 use Rattle.std.proofs.lemmas.List.Elements.{filter_map-append}
 use Rattle.agg_cache.specs.Waiting.{docs_of, is_id}
 use Rattle.agg_cache.specs.declared.error.CollectError.TheVariants as refusal
-use Rattle.agg_column.specs.Document.{Fields, HasNumbersOf64Bits}
+use Rattle.agg_segment.specs.storage.Document.{Fields, HasNumbersOf64Bits}
 use Rattle.agg_segment.specs.Query.{matches}
 use Rattle.agg_segment.specs.Segment.{documents_at}
 use Rattle.agg_segment.specs.declared.query.QueryTree.{QueryTree}
@@ -19,30 +19,34 @@ use Rattle.agg_request_tree.specs.declared.aggregation.Aggregation.{Aggregation}
 use Rattle.agg_request_tree.specs.declared.aggregation.AggregationVariants.{AggregationVariants}
 use Rattle.agg_request_tree.specs.declared.aggregation.AggregationVariants.TheVariants as asks
 use Rattle.agg_request_tree.proofs.UncutLength.{length-each}
-use Rattle.agg_buckets.specs.Visits.{Within, docs_in, weight}
-use Rattle.agg_buckets.proofs.Labels.{weight-append}
+use Rattle.agg_composite.specs.buckets.Visits.{Within, docs_in, weight}
+use Rattle.agg_composite.proofs.lemmas.buckets.Labels.{weight-append}
 use Rattle.agg_metric.specs.Collector.{Metric, MetricFor, values_under}
 use Rattle.agg_metric.specs.Metric.{IsTooMany}
 use Rattle.agg_metric.specs.declared.request_data.MetricAggReqData.{MetricAggReqData}
 use Rattle.agg_metric.specs.declared.request_data.StatsType.{StatsType}
 use Rattle.agg_metric.specs.declared.request_data.StatsType.TheVariants as stats
-use Rattle.agg_segment_context.specs.Context.{ArePlansOf, IsAskedAt, IsMeant, IsMetricAt, IsPlanOf}
-use Rattle.agg_segment_context.specs.Context.{Meaning}
-use Rattle.agg_segment_context.specs.Plan.{Plan, Plans}
-use Rattle.agg_segment_context.specs.declared.context.PerRequestAggSegCtx.{PerRequestAggSegCtx}
-use Rattle.agg_segment_context.specs.declared.node.AggKind.TheVariants as kind
-use Rattle.agg_collector_tree.specs.declared.tree.SegmentCollectorTree as declared
+use Rattle.agg_engine_tree.specs.segment_context.Context.{ArePlansOf, IsAskedAt, IsMeant}
+use Rattle.agg_engine_tree.specs.segment_context.Context.{IsMetricAt, IsPlanOf, Meaning}
+use Rattle.agg_engine_tree.specs.segment_context.Plan.{Plan, Plans}
+use Rattle.agg_engine_tree.specs.declared.segment_context.context.PerRequestAggSegCtx.{
+  PerRequestAggSegCtx,
+}
+use Rattle.agg_engine_tree.specs.declared.segment_context.node.AggKind.TheVariants as kind
+use Rattle.agg_engine_tree.specs.declared.collector_tree.tree.SegmentCollectorTree as declared
 use declared.{SegmentCollectorTree as Tree}
-use Rattle.agg_collector_tree.specs.Refusals.{AreNotLast, ListsTooMany, ManyTaken}
-use Rattle.agg_collector_tree.specs.Took.{MetricAnswers}
-use Rattle.agg_collector_tree.specs.Tree.{nothing}
-use Rattle.agg_collector_tree.specs.Tree.{AllFor, AreOf, Held, IsOf, group_of, held_of}
-use Rattle.agg_collector_tree.specs.Tree.{helds_of}
-use Rattle.agg_collector_tree.proofs.Levels.{no-node}
-use Rattle.agg_collector_tree.proofs.ManyLists.{many-first, many-others, many-own}
-use Rattle.agg_collector_tree.proofs.SmallNumbers.{all-part, many-numbers}
-use Rattle.agg_collector_tree.proofs.WithinLists.{within-contains}
-use Rattle.agg_collector_tree.proofs.UncutParts.{lighter-length, lighter-uncut, lighter-within}
+use Rattle.agg_engine_tree.specs.collector_tree.Refusals.{AreNotLast, ListsTooMany, ManyTaken}
+use Rattle.agg_engine_tree.specs.collector_tree.Took.{MetricAnswers}
+use Rattle.agg_engine_tree.specs.collector_tree.Tree.{nothing}
+use Rattle.agg_engine_tree.specs.collector_tree.Tree.{AllFor, AreOf, Held, IsOf, group_of, held_of}
+use Rattle.agg_engine_tree.specs.collector_tree.Tree.{helds_of}
+use Rattle.agg_engine_tree.proofs.lemmas.collector_tree.Levels.{no-node}
+use Rattle.agg_engine_tree.proofs.lemmas.collector_tree.ManyLists.{many-first, many-others}
+use Rattle.agg_engine_tree.proofs.lemmas.collector_tree.ManyLists.{many-own}
+use Rattle.agg_engine_tree.proofs.lemmas.collector_tree.SmallNumbers.{all-part, many-numbers}
+use Rattle.agg_engine_tree.proofs.lemmas.collector_tree.WithinLists.{within-contains}
+use Rattle.agg_engine_tree.proofs.lemmas.collector_tree.UncutParts.{lighter-length, lighter-uncut}
+use Rattle.agg_engine_tree.proofs.lemmas.collector_tree.UncutParts.{lighter-within}
 
 -- ---- values
 

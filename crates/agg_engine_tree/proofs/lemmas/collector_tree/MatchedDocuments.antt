@@ -6,11 +6,12 @@ use Rattle.std.specs.Prelude.{slice_get}
 use Rattle.std.proofs.lemmas.Bool.{cases_eq}
 use Rattle.agg_cache.specs.Waiting.{docs_of, is_id}
 use Rattle.agg_request_tree.proofs.Lists.{Has, Has-from_Contains}
-use Rattle.agg_buckets.specs.Visits.{Within, docs_in, weight}
-use Rattle.agg_buckets.proofs.Labels.{is_id-other, is_id-same, weight-append}
+use Rattle.agg_composite.specs.buckets.Visits.{Within, docs_in, weight}
+use Rattle.agg_composite.proofs.lemmas.buckets.Labels.{is_id-other, is_id-same, weight-append}
 use Rattle.agg_filter.specs.Filter.{Filter, FilterFor}
-use Rattle.agg_collector_tree.specs.Caches.{Cache, waiting_in}
-use Rattle.agg_collector_tree.proofs.LowerDocuments.{below, below-all, below-le, top}
+use Rattle.agg_engine_tree.specs.collector_tree.Caches.{Cache, waiting_in}
+use Rattle.agg_engine_tree.proofs.lemmas.collector_tree.LowerDocuments.{below, below-all, below-le}
+use Rattle.agg_engine_tree.proofs.lemmas.collector_tree.LowerDocuments.{top}
 
 -- ---- sums
 

@@ -9,7 +9,7 @@ use Rattle.agg_segment.specs.Segment.{Stored}
 use Rattle.agg_metric.specs.Collector.{Metric, MetricFor, MetricTakes, Prepares, values_under}
 use Rattle.agg_metric.specs.Metric.{IsTooMany}
 use Rattle.agg_metric.specs.declared.request_data.MetricAggReqData.{MetricAggReqData}
-use Rattle.agg_collector_tree.specs.Took.{MetricAnswers}
+use Rattle.agg_engine_tree.specs.collector_tree.Took.{MetricAnswers}
 
 -- ---- one parent
 

@@ -11,23 +11,26 @@ use Rattle.agg_segment.specs.declared.query.QueryTree.{QueryTree}
 use Rattle.agg_request_tree.specs.Request.{agg_of, below_of}
 use Rattle.agg_request_tree.specs.Uncut.{uncut}
 use Rattle.agg_request_tree.specs.declared.aggregation.Aggregation.{Aggregation}
-use Rattle.agg_buckets.specs.Visits.{docs_in}
+use Rattle.agg_composite.specs.buckets.Visits.{docs_in}
 use Rattle.agg_filter.specs.Filter.{Filter, FilterGives}
 use Rattle.agg_filter.specs.Matching.{is_matching}
 use Rattle.agg_filter.specs.declared.request_data.FilterAggReqData.{FilterAggReqData}
-use Rattle.agg_segment_context.specs.Context.{IsMeant, IsPlanOf, Meaning, tree_in}
-use Rattle.agg_segment_context.specs.Plan.{Plan}
-use Rattle.agg_segment_context.specs.declared.context.PerRequestAggSegCtx.{PerRequestAggSegCtx}
-use Rattle.agg_segment_context.specs.declared.node.AggKind.TheVariants as kind
-use Rattle.agg_collector_tree.specs.Bound.{TakesMost}
-use Rattle.agg_collector_tree.specs.Counting.{counted_in, counted_of}
-use Rattle.agg_collector_tree.specs.Took.{FilterTook}
-use Rattle.agg_collector_tree.specs.Caches.{Cache, waiting_in}
-use Rattle.agg_collector_tree.specs.Tree.{Held, IsFor, IsHandedTo, IsOf}
-use Rattle.agg_collector_tree.proofs.HandedDocuments.{filter-lighter}
-use Rattle.agg_collector_tree.proofs.MostSteps.{nothing-counted}
-use Rattle.agg_collector_tree.proofs.MostVisits.{asked-filter, counted_in-out, of-less}
-use Rattle.agg_collector_tree.proofs.UncutParts.{Lighter}
+use Rattle.agg_engine_tree.specs.segment_context.Context.{IsMeant, IsPlanOf, Meaning, tree_in}
+use Rattle.agg_engine_tree.specs.segment_context.Plan.{Plan}
+use Rattle.agg_engine_tree.specs.declared.segment_context.context.PerRequestAggSegCtx.{
+  PerRequestAggSegCtx,
+}
+use Rattle.agg_engine_tree.specs.declared.segment_context.node.AggKind.TheVariants as kind
+use Rattle.agg_engine_tree.specs.collector_tree.Bound.{TakesMost}
+use Rattle.agg_engine_tree.specs.collector_tree.Counting.{counted_in, counted_of}
+use Rattle.agg_engine_tree.specs.collector_tree.Took.{FilterTook}
+use Rattle.agg_engine_tree.specs.collector_tree.Caches.{Cache, waiting_in}
+use Rattle.agg_engine_tree.specs.collector_tree.Tree.{Held, IsFor, IsHandedTo, IsOf}
+use Rattle.agg_engine_tree.proofs.lemmas.collector_tree.HandedDocuments.{filter-lighter}
+use Rattle.agg_engine_tree.proofs.lemmas.collector_tree.MostSteps.{nothing-counted}
+use Rattle.agg_engine_tree.proofs.lemmas.collector_tree.MostVisits.{asked-filter, counted_in-out}
+use Rattle.agg_engine_tree.proofs.lemmas.collector_tree.MostVisits.{of-less}
+use Rattle.agg_engine_tree.proofs.lemmas.collector_tree.UncutParts.{Lighter}
 
 module _ (ctx : PerRequestAggSegCtx) (pairs : List (ℕ × ℕ)) (index : ℕ)
     (req : FilterAggReqData) (at : slice_get ctx.filter_req_data index ≡ Some req)

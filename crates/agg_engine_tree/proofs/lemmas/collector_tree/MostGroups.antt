@@ -5,19 +5,22 @@ use Rattle.agg_segment.specs.Query.{matches}
 use Rattle.agg_segment.specs.Segment.{documents_at}
 use Rattle.agg_segment.specs.declared.query.QueryTree.{QueryTree}
 use Rattle.agg_request_tree.specs.Request.{Request}
-use Rattle.agg_buckets.specs.Visits.{docs_in}
-use Rattle.agg_segment_context.specs.Context.{ArePlansOf, IsMeant, Meaning}
-use Rattle.agg_segment_context.specs.Plan.{Plans}
-use Rattle.agg_segment_context.specs.declared.context.PerRequestAggSegCtx.{PerRequestAggSegCtx}
-use Rattle.agg_collector_tree.specs.declared.tree.SegmentCollectorTree as declared
+use Rattle.agg_composite.specs.buckets.Visits.{docs_in}
+use Rattle.agg_engine_tree.specs.segment_context.Context.{ArePlansOf, IsMeant, Meaning}
+use Rattle.agg_engine_tree.specs.segment_context.Plan.{Plans}
+use Rattle.agg_engine_tree.specs.declared.segment_context.context.PerRequestAggSegCtx.{
+  PerRequestAggSegCtx,
+}
+use Rattle.agg_engine_tree.specs.declared.collector_tree.tree.SegmentCollectorTree as declared
 use declared.{SegmentCollectorTree as Tree}
-use Rattle.agg_collector_tree.specs.Bound.{TakesMost}
-use Rattle.agg_collector_tree.specs.Counting.{counted_of}
-use Rattle.agg_collector_tree.specs.Tree.{AllFit, AllFor, AreOf, Held, held_of, helds_of}
-use Rattle.agg_collector_tree.proofs.Groups.{AllTake}
-use Rattle.agg_collector_tree.proofs.Levels.{no-node}
-use Rattle.agg_collector_tree.proofs.MostSteps.{no-steps, takes-most}
-use Rattle.agg_collector_tree.proofs.MostVisits.{counted_of-more}
+use Rattle.agg_engine_tree.specs.collector_tree.Bound.{TakesMost}
+use Rattle.agg_engine_tree.specs.collector_tree.Counting.{counted_of}
+use Rattle.agg_engine_tree.specs.collector_tree.Tree.{AllFit, AllFor, AreOf, Held, held_of}
+use Rattle.agg_engine_tree.specs.collector_tree.Tree.{helds_of}
+use Rattle.agg_engine_tree.proofs.lemmas.collector_tree.Groups.{AllTake}
+use Rattle.agg_engine_tree.proofs.lemmas.collector_tree.Levels.{no-node}
+use Rattle.agg_engine_tree.proofs.lemmas.collector_tree.MostSteps.{no-steps, takes-most}
+use Rattle.agg_engine_tree.proofs.lemmas.collector_tree.MostVisits.{counted_of-more}
 
 module _ (ctx : PerRequestAggSegCtx) (pairs : List (ℕ × ℕ)) where
   -- each takes no more steps than it may, from where the one before it ended
@@ -53,7 +56,7 @@ module _ (ctx : PerRequestAggSegCtx) (pairs : List (ℕ × ℕ)) where
             (documents_at meaning.segment (docs_in (taken ++ pairs))),
       )
 
-  -- the same of them as one tree
+  -- trees take few steps as one tree, where each of them does
   group-most : (hs : List Held) (steps steps_now : ℕ) → AllMost hs steps steps_now
       → TakesMost ctx pairs (Held.group (helds_of hs)) steps steps_now
   group-most hs steps steps_now each = record {
@@ -89,7 +92,7 @@ module _ (ctx : PerRequestAggSegCtx) (pairs : List (ℕ × ℕ)) where
         each-most all trees i d (omega arith) fits.1 nows between mid steps_now rest m,
       )
 
-  -- the same of all as one tree
+  -- all trees take few steps as one tree, where one of them does after those before it
   pub some-most : (all : Bool) (trees : List Tree) (i : ℕ) (d : Tree) → i < length trees
       → AllFit ctx (helds_of (map held_of trees)) → (nows : List Held) (steps mid steps_now : ℕ)
       → AllTake ctx pairs all (map held_of (take i trees)) nows steps mid

@@ -6,7 +6,7 @@ use Rattle.agg_values.specs.Names.{Named}
 use Rattle.agg_values.specs.declared.after_key.AfterKey.{AfterKey}
 use Rattle.agg_cache.specs.Waiting.{pairs_of}
 use Rattle.agg_cache.specs.declared.cache.Batch.{Batch}
-use Rattle.agg_column.specs.Document.{Fields}
+use Rattle.agg_segment.specs.storage.Document.{Fields}
 use Rattle.agg_segment.specs.Query.{matches}
 use Rattle.agg_segment.specs.Segment.{Stored, documents_at}
 use Rattle.agg_segment.specs.declared.query.QueryTree.{QueryTree}
@@ -15,32 +15,37 @@ use Rattle.agg_request_tree.specs.Uncut.{counted, uncut}
 use Rattle.agg_request_tree.specs.declared.aggregation.Aggregation.{Aggregation}
 use Rattle.agg_request_tree.specs.declared.aggregation.AggregationVariants.TheVariants as asks
 use Rattle.agg_request_tree.specs.declared.aggregation.CompositeAggregation.{CompositeAggregation}
-use Rattle.agg_accessor.specs.Accessors as accessor
-use Rattle.agg_accessor.specs.declared.request_data.CompositeAggReqData.{CompositeAggReqData}
-use Rattle.agg_buckets.specs.Visits.{Within, docs_in}
-use Rattle.agg_buckets.proofs.Labels.{docs_in-append}
+use Rattle.agg_composite.specs.accessor.Accessors as accessor
+use Rattle.agg_composite.specs.declared.accessor.request_data.CompositeAggReqData.{
+  CompositeAggReqData,
+}
+use Rattle.agg_composite.specs.buckets.Visits.{Within, docs_in}
+use Rattle.agg_composite.proofs.lemmas.buckets.Labels.{docs_in-append}
 use Rattle.agg_composite.specs.Composite.{Composite, CompositeGives}
-use Rattle.agg_segment_context.specs.Context.{ArePlansOf, IsMeant, IsPlanOf, Meaning}
-use Rattle.agg_segment_context.specs.Plan.{Plan, Plans}
-use Rattle.agg_segment_context.specs.declared.context.PerRequestAggSegCtx.{PerRequestAggSegCtx}
-use Rattle.agg_segment_context.specs.declared.node.AggKind.TheVariants as kind
-use Rattle.agg_collector_tree.specs.Bound.{TakesMost}
-use Rattle.agg_collector_tree.specs.Counting.{counted_in, counted_of, own_counted}
-use Rattle.agg_collector_tree.specs.Took.{CompositeTook}
-use Rattle.agg_collector_tree.specs.Caches.{Cache}
-use Rattle.agg_collector_tree.specs.Tree.{AreOf, CompositeIsFor, Fits, Held, Helds, IsFor}
-use Rattle.agg_collector_tree.specs.Tree.{IsGroupOf, IsHandedTo, IsOf, Takes, nothing, visits_of}
-use Rattle.agg_collector_tree.specs.Caches.{waiting_in}
-use Rattle.agg_collector_tree.proofs.CompositeCalls.{visits-append}
-use Rattle.agg_collector_tree.proofs.CompositeNodes.{is-for}
-use Rattle.agg_collector_tree.proofs.HandedDocuments.{composite-lighter}
-use Rattle.agg_collector_tree.proofs.Levels.{same-plan, same-plans}
-use Rattle.agg_collector_tree.proofs.MostVisits.{asked-composite, counted_in-out}
-use Rattle.agg_collector_tree.proofs.MostVisits.{in-less, most-group, most-in, none-most, of-less}
-use Rattle.agg_collector_tree.proofs.MostVisits.{own-most}
-use Rattle.agg_collector_tree.proofs.UncutParts.{Lighter, lighter-both, lighter-uncut}
-use Rattle.agg_collector_tree.proofs.UncutParts.{lighter-within}
-use Rattle.agg_collector_tree.proofs.WithinLists.{within-part}
+use Rattle.agg_engine_tree.specs.segment_context.Context.{ArePlansOf, IsMeant, IsPlanOf, Meaning}
+use Rattle.agg_engine_tree.specs.segment_context.Plan.{Plan, Plans}
+use Rattle.agg_engine_tree.specs.declared.segment_context.context.PerRequestAggSegCtx.{
+  PerRequestAggSegCtx,
+}
+use Rattle.agg_engine_tree.specs.declared.segment_context.node.AggKind.TheVariants as kind
+use Rattle.agg_engine_tree.specs.collector_tree.Bound.{TakesMost}
+use Rattle.agg_engine_tree.specs.collector_tree.Counting.{counted_in, counted_of, own_counted}
+use Rattle.agg_engine_tree.specs.collector_tree.Took.{CompositeTook}
+use Rattle.agg_engine_tree.specs.collector_tree.Caches.{Cache}
+use Rattle.agg_engine_tree.specs.collector_tree.Tree.{AreOf, CompositeIsFor, Fits, Held, Helds}
+use Rattle.agg_engine_tree.specs.collector_tree.Tree.{IsFor, IsGroupOf, IsHandedTo, IsOf, Takes}
+use Rattle.agg_engine_tree.specs.collector_tree.Tree.{nothing, visits_of}
+use Rattle.agg_engine_tree.specs.collector_tree.Caches.{waiting_in}
+use Rattle.agg_engine_tree.proofs.lemmas.collector_tree.CompositeCalls.{visits-append}
+use Rattle.agg_engine_tree.proofs.lemmas.collector_tree.CompositeNodes.{is-for}
+use Rattle.agg_engine_tree.proofs.lemmas.collector_tree.HandedDocuments.{composite-lighter}
+use Rattle.agg_engine_tree.proofs.lemmas.collector_tree.Levels.{same-plan, same-plans}
+use Rattle.agg_engine_tree.proofs.lemmas.collector_tree.MostVisits.{asked-composite, counted_in-out}
+use Rattle.agg_engine_tree.proofs.lemmas.collector_tree.MostVisits.{in-less, most-group, most-in}
+use Rattle.agg_engine_tree.proofs.lemmas.collector_tree.MostVisits.{none-most, of-less, own-most}
+use Rattle.agg_engine_tree.proofs.lemmas.collector_tree.UncutParts.{Lighter, lighter-both}
+use Rattle.agg_engine_tree.proofs.lemmas.collector_tree.UncutParts.{lighter-uncut, lighter-within}
+use Rattle.agg_engine_tree.proofs.lemmas.collector_tree.WithinLists.{within-part}
 
 -- documents of pairs are among those of these with others after them
 pub lighter-after : (segment : Stored) (taken pairs : List (ℕ × ℕ))

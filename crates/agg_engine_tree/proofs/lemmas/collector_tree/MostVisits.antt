@@ -5,7 +5,7 @@ use Rattle.std.specs.Prelude.{slice_get}
 use Rattle.std.specs.List.{sum_by}
 use Rattle.std.proofs.lemmas.List.{length-map}
 use Rattle.std.proofs.lemmas.List.Sums.{sum_by-cons}
-use Rattle.agg_column.specs.Document.{Fields}
+use Rattle.agg_segment.specs.storage.Document.{Fields}
 use Rattle.agg_segment.specs.Query.{matches}
 use Rattle.agg_segment.specs.Segment.{document_at, documents_at}
 use Rattle.agg_segment.specs.declared.query.QueryTree.{QueryTree}
@@ -18,20 +18,25 @@ use Rattle.agg_request_tree.specs.declared.aggregation.AggregationVariants.{Aggr
 use Rattle.agg_request_tree.specs.declared.aggregation.AggregationVariants.TheVariants as asks
 use Rattle.agg_request_tree.specs.declared.aggregation.CompositeAggregation.{CompositeAggregation}
 use Rattle.agg_request_tree.specs.declared.aggregation.filter.FilterAggregation.{FilterAggregation}
-use Rattle.agg_accessor.specs.declared.request_data.CompositeAggReqData.{CompositeAggReqData}
-use Rattle.agg_buckets.specs.Visits.{docs_in}
-use Rattle.agg_segment_context.specs.Context.{ArePlansOf, IsAskedAt, IsCompositeAt, IsFilterAt}
-use Rattle.agg_segment_context.specs.Context.{IsPlanOf, Meaning}
-use Rattle.agg_segment_context.specs.Context.{tree_in}
-use Rattle.agg_segment_context.specs.Plan.{Plan, Plans}
-use Rattle.agg_segment_context.specs.declared.context.PerRequestAggSegCtx.{PerRequestAggSegCtx}
-use Rattle.agg_segment_context.specs.declared.node.AggKind.TheVariants as kind
-use Rattle.agg_collector_tree.specs.Counting.{counted_in, counted_of, counted_step, own_counted}
-use Rattle.agg_collector_tree.specs.Tree.{AllFit, AllFor, AreOf, Fits, Held, Helds, IsFor}
-use Rattle.agg_collector_tree.specs.Tree.{IsGroupOf, IsOf, nothing, visits_of}
-use Rattle.agg_collector_tree.proofs.HandedDocuments.{composite-lighter, filter-lighter}
-use Rattle.agg_collector_tree.proofs.UncutParts.{Lighter, lighter-length, lighter-uncut}
-use Rattle.agg_collector_tree.proofs.UncutParts.{visits-counted}
+use Rattle.agg_composite.specs.declared.accessor.request_data.CompositeAggReqData.{
+  CompositeAggReqData,
+}
+use Rattle.agg_composite.specs.buckets.Visits.{docs_in}
+use Rattle.agg_engine_tree.specs.segment_context.Context.{ArePlansOf, IsAskedAt, IsCompositeAt}
+use Rattle.agg_engine_tree.specs.segment_context.Context.{IsFilterAt, IsPlanOf, Meaning, tree_in}
+use Rattle.agg_engine_tree.specs.segment_context.Plan.{Plan, Plans}
+use Rattle.agg_engine_tree.specs.declared.segment_context.context.PerRequestAggSegCtx.{
+  PerRequestAggSegCtx,
+}
+use Rattle.agg_engine_tree.specs.declared.segment_context.node.AggKind.TheVariants as kind
+use Rattle.agg_engine_tree.specs.collector_tree.Counting.{counted_in, counted_of, counted_step}
+use Rattle.agg_engine_tree.specs.collector_tree.Counting.{own_counted}
+use Rattle.agg_engine_tree.specs.collector_tree.Tree.{AllFit, AllFor, AreOf, Fits, Held, Helds}
+use Rattle.agg_engine_tree.specs.collector_tree.Tree.{IsFor, IsGroupOf, IsOf, nothing, visits_of}
+use Rattle.agg_engine_tree.proofs.lemmas.collector_tree.HandedDocuments.{composite-lighter}
+use Rattle.agg_engine_tree.proofs.lemmas.collector_tree.HandedDocuments.{filter-lighter}
+use Rattle.agg_engine_tree.proofs.lemmas.collector_tree.UncutParts.{Lighter, lighter-length}
+use Rattle.agg_engine_tree.proofs.lemmas.collector_tree.UncutParts.{lighter-uncut, visits-counted}
 
 -- ---- one level open
 

@@ -4,27 +4,33 @@ use Rattle.std.proofs.Common.{get_or, length, map, zero, suc, refl, sym, ap, ◌
 use Rattle.std.specs.Prelude.{◌==◌, not, slice_get}
 use Rattle.std.proofs.lemmas.Bool.Decides.{nat_tests}
 use Rattle.agg_segment.specs.Segment.{Stored}
-use Rattle.agg_accessor.specs.declared.request_data.CompositeAggReqData.{CompositeAggReqData}
+use Rattle.agg_composite.specs.declared.accessor.request_data.CompositeAggReqData.{
+  CompositeAggReqData,
+}
 use Rattle.agg_composite.specs.Composite.{Composite}
 use Rattle.agg_filter.specs.Filter.{Filter}
 use Rattle.agg_filter.specs.Matching.{is_matching}
 use Rattle.agg_filter.specs.declared.request_data.FilterAggReqData.{FilterAggReqData}
 use Rattle.agg_metric.specs.Collector.{Metric, MetricFor}
 use Rattle.agg_metric.specs.declared.request_data.MetricAggReqData.{MetricAggReqData}
-use Rattle.agg_segment_context.specs.Context.{Meaning}
-use Rattle.agg_segment_context.specs.Plan.{Plan, plan_of, plan_step, plans_of}
-use Rattle.agg_segment_context.specs.declared.context.PerRequestAggSegCtx.{PerRequestAggSegCtx}
-use Rattle.agg_segment_context.specs.declared.node.AggKind.{AggKind}
-use Rattle.agg_segment_context.specs.declared.node.AggRefNode.{AggRefNode}
-use Rattle.agg_segment_context.specs.declared.node.AggRefNode.TheFolds.{fold_out-AggRefNode}
-use Rattle.agg_segment_context.specs.declared.node.AggRefNode.TheViews.{out-AggRefNode}
-use Rattle.agg_collector_tree.specs.NewFilter.{IsNewFilter}
-use Rattle.agg_collector_tree.specs.New.{HasData, HaveData, IsNew, IsNewComposite}
-use Rattle.agg_collector_tree.specs.Caches.{Cache}
-use Rattle.agg_collector_tree.specs.Tree.{AllFit, AllFor, AreFlushed, AreOf, Fits, Held}
-use Rattle.agg_collector_tree.specs.Tree.{IsFlushed, IsFor}
-use Rattle.agg_collector_tree.specs.Tree.{IsGroupOf, IsHandedTo, IsOf, helds_of, nothing}
-use Rattle.agg_collector_tree.proofs.Levels.{is-nothing}
+use Rattle.agg_engine_tree.specs.segment_context.Context.{Meaning}
+use Rattle.agg_engine_tree.specs.segment_context.Plan.{Plan, plan_of, plan_step, plans_of}
+use Rattle.agg_engine_tree.specs.declared.segment_context.context.PerRequestAggSegCtx.{
+  PerRequestAggSegCtx,
+}
+use Rattle.agg_engine_tree.specs.declared.segment_context.node.AggKind.{AggKind}
+use Rattle.agg_engine_tree.specs.declared.segment_context.node.AggRefNode.{AggRefNode}
+use Rattle.agg_engine_tree.specs.declared.segment_context.node.AggRefNode.TheFolds.{
+  fold_out-AggRefNode,
+}
+use Rattle.agg_engine_tree.specs.declared.segment_context.node.AggRefNode.TheViews.{out-AggRefNode}
+use Rattle.agg_engine_tree.specs.collector_tree.NewFilter.{IsNewFilter}
+use Rattle.agg_engine_tree.specs.collector_tree.New.{HasData, HaveData, IsNew, IsNewComposite}
+use Rattle.agg_engine_tree.specs.collector_tree.Caches.{Cache}
+use Rattle.agg_engine_tree.specs.collector_tree.Tree.{AllFit, AllFor, AreFlushed, AreOf, Fits, Held}
+use Rattle.agg_engine_tree.specs.collector_tree.Tree.{IsFlushed, IsFor, IsGroupOf, IsHandedTo, IsOf}
+use Rattle.agg_engine_tree.specs.collector_tree.Tree.{helds_of, nothing}
+use Rattle.agg_engine_tree.proofs.lemmas.collector_tree.Levels.{is-nothing}
 
 -- ---- nodes
 

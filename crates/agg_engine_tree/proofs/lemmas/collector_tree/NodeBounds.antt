@@ -7,20 +7,24 @@ use Rattle.agg_values.specs.Names.{Named}
 use Rattle.agg_values.specs.declared.after_key.AfterKey.{AfterKey}
 use Rattle.agg_cache.specs.declared.error.CollectError.{CollectError}
 use Rattle.agg_segment.specs.Segment.{Stored}
-use Rattle.agg_accessor.specs.Accessors as accessor
-use Rattle.agg_accessor.specs.declared.request_data.CompositeAggReqData.{CompositeAggReqData}
+use Rattle.agg_composite.specs.accessor.Accessors as accessor
+use Rattle.agg_composite.specs.declared.accessor.request_data.CompositeAggReqData.{
+  CompositeAggReqData,
+}
 use Rattle.agg_composite.specs.Composite as c
-use Rattle.agg_segment_context.specs.Context.{IsMeant, Meaning}
-use Rattle.agg_segment_context.specs.declared.context.PerRequestAggSegCtx.{PerRequestAggSegCtx}
-use Rattle.agg_collector_tree.specs.declared.tree.SegmentCollectorTree as declared
+use Rattle.agg_engine_tree.specs.segment_context.Context.{IsMeant, Meaning}
+use Rattle.agg_engine_tree.specs.declared.segment_context.context.PerRequestAggSegCtx.{
+  PerRequestAggSegCtx,
+}
+use Rattle.agg_engine_tree.specs.declared.collector_tree.tree.SegmentCollectorTree as declared
 use declared.{SegmentCollectorTree as Tree}
 use declared.{Composite}
-use Rattle.agg_collector_tree.specs.Bound.{TakesMost}
-use Rattle.agg_collector_tree.specs.Took.{CompositeAnswers}
-use Rattle.agg_collector_tree.specs.Caches.{Cache}
-use Rattle.agg_collector_tree.specs.Tree.{Fits, held_of}
-use Rattle.agg_collector_tree.proofs.Levels.{held-composite}
-use Rattle.agg_collector_tree.proofs.MostSteps.{composite-own-most}
+use Rattle.agg_engine_tree.specs.collector_tree.Bound.{TakesMost}
+use Rattle.agg_engine_tree.specs.collector_tree.Took.{CompositeAnswers}
+use Rattle.agg_engine_tree.specs.collector_tree.Caches.{Cache}
+use Rattle.agg_engine_tree.specs.collector_tree.Tree.{Fits, held_of}
+use Rattle.agg_engine_tree.proofs.lemmas.collector_tree.Levels.{held-composite}
+use Rattle.agg_engine_tree.proofs.lemmas.collector_tree.MostSteps.{composite-own-most}
 
 module _ (ctx : PerRequestAggSegCtx) (pairs : List (ℕ × ℕ)) (node : Tree) (field : ℕ)
     (req : CompositeAggReqData) (at : slice_get ctx.composite_req_data field ≡ Some req)

@@ -10,25 +10,32 @@ use Rattle.agg_segment.specs.Marks.{AreMarks}
 use Rattle.agg_segment.specs.Query.{matches}
 use Rattle.agg_segment.specs.Segment.{Stored}
 use Rattle.agg_segment.specs.declared.query.QueryTree.{QueryTree}
-use Rattle.agg_accessor.specs.Accessors as accessor
-use Rattle.agg_accessor.specs.declared.request_data.CompositeAggReqData.{CompositeAggReqData}
+use Rattle.agg_composite.specs.accessor.Accessors as accessor
+use Rattle.agg_composite.specs.declared.accessor.request_data.CompositeAggReqData.{
+  CompositeAggReqData,
+}
 use Rattle.agg_composite.specs.Composite as c
 use Rattle.agg_filter.specs.Filter as f
 use Rattle.agg_filter.specs.Matching.{is_matching}
 use Rattle.agg_filter.specs.declared.request_data.FilterAggReqData.{FilterAggReqData}
 use Rattle.agg_metric.specs.Collector as m
-use Rattle.agg_segment_context.specs.Context.{IsMeant, Meaning}
-use Rattle.agg_segment_context.specs.declared.context.PerRequestAggSegCtx.{PerRequestAggSegCtx}
-use Rattle.agg_collector_tree.specs.declared.tree.SegmentCollectorTree as declared
+use Rattle.agg_engine_tree.specs.segment_context.Context.{IsMeant, Meaning}
+use Rattle.agg_engine_tree.specs.declared.segment_context.context.PerRequestAggSegCtx.{
+  PerRequestAggSegCtx,
+}
+use Rattle.agg_engine_tree.specs.declared.collector_tree.tree.SegmentCollectorTree as declared
 use declared.{SegmentCollectorTree as Tree}
 use declared.{Composite, Filter, Metric}
-use Rattle.agg_collector_tree.specs.Refusals.{IsRefused}
-use Rattle.agg_collector_tree.specs.Took.{CompositeAnswers, FilterAnswers, MetricAnswers}
-use Rattle.agg_collector_tree.specs.Caches.{Cache}
-use Rattle.agg_collector_tree.specs.Tree.{Fits, held_of}
-use Rattle.agg_collector_tree.proofs.Levels.{held-composite, held-filter, held-metric}
-use Rattle.agg_collector_tree.proofs.RefusedFilters.{filter-refused, metric-refused}
-use Rattle.agg_collector_tree.proofs.RefusedNodes.{composite-refused}
+use Rattle.agg_engine_tree.specs.collector_tree.Refusals.{IsRefused}
+use Rattle.agg_engine_tree.specs.collector_tree.Took.{CompositeAnswers, FilterAnswers}
+use Rattle.agg_engine_tree.specs.collector_tree.Took.{MetricAnswers}
+use Rattle.agg_engine_tree.specs.collector_tree.Caches.{Cache}
+use Rattle.agg_engine_tree.specs.collector_tree.Tree.{Fits, held_of}
+use Rattle.agg_engine_tree.proofs.lemmas.collector_tree.Levels.{held-composite, held-filter}
+use Rattle.agg_engine_tree.proofs.lemmas.collector_tree.Levels.{held-metric}
+use Rattle.agg_engine_tree.proofs.lemmas.collector_tree.RefusedFilters.{filter-refused}
+use Rattle.agg_engine_tree.proofs.lemmas.collector_tree.RefusedFilters.{metric-refused}
+use Rattle.agg_engine_tree.proofs.lemmas.collector_tree.RefusedNodes.{composite-refused}
 
 module _ (ctx : PerRequestAggSegCtx) (pairs : List (ℕ × ℕ)) (parents : List ℕ) (node : Tree) where
   pub node-refused-composite : (field : ℕ) (req : CompositeAggReqData)

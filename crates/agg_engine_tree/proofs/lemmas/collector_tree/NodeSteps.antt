@@ -11,28 +11,33 @@ use Rattle.agg_segment.specs.Marks.{AreMarks}
 use Rattle.agg_segment.specs.Query.{matches}
 use Rattle.agg_segment.specs.Segment.{Stored}
 use Rattle.agg_segment.specs.declared.query.QueryTree.{QueryTree}
-use Rattle.agg_accessor.specs.Accessors as accessor
-use Rattle.agg_accessor.specs.declared.request_data.CompositeAggReqData.{CompositeAggReqData}
+use Rattle.agg_composite.specs.accessor.Accessors as accessor
+use Rattle.agg_composite.specs.declared.accessor.request_data.CompositeAggReqData.{
+  CompositeAggReqData,
+}
 use Rattle.agg_composite.specs.Composite as c
 use Rattle.agg_filter.specs.Filter as f
 use Rattle.agg_filter.specs.Matching.{is_matching}
 use Rattle.agg_filter.specs.declared.request_data.FilterAggReqData.{FilterAggReqData}
-use Rattle.agg_segment_context.specs.Context.{IsMeant, Meaning}
-use Rattle.agg_segment_context.specs.declared.context.PerRequestAggSegCtx.{PerRequestAggSegCtx}
-use Rattle.agg_collector_tree.specs.declared.tree.SegmentCollectorTree as declared
+use Rattle.agg_engine_tree.specs.segment_context.Context.{IsMeant, Meaning}
+use Rattle.agg_engine_tree.specs.declared.segment_context.context.PerRequestAggSegCtx.{
+  PerRequestAggSegCtx,
+}
+use Rattle.agg_engine_tree.specs.declared.collector_tree.tree.SegmentCollectorTree as declared
 use declared.{SegmentCollectorTree as Tree}
 use declared.{Composite, Filter}
-use Rattle.agg_collector_tree.specs.Step.{TakesAt}
-use Rattle.agg_collector_tree.specs.Took.{CompositeTook, FilterTook}
-use Rattle.agg_collector_tree.specs.Caches.{Cache, waiting_in}
-use Rattle.agg_collector_tree.specs.Tree.{Fits, held_of}
-use Rattle.agg_collector_tree.proofs.CompositeNodes.{composite-hands, composite-keeps}
-use Rattle.agg_collector_tree.proofs.FilterNodes.{filter-hands, filter-keeps}
-use Rattle.agg_collector_tree.proofs.Levels.{held-composite, held-filter}
-use Rattle.agg_collector_tree.proofs.MostFilters.{filter-lower-most}
-use Rattle.agg_collector_tree.proofs.MostSteps.{composite-lower-most}
-use Rattle.agg_collector_tree.proofs.RefusedFilters.{filter-lower}
-use Rattle.agg_collector_tree.proofs.RefusedNodes.{composite-lower}
+use Rattle.agg_engine_tree.specs.collector_tree.Step.{TakesAt}
+use Rattle.agg_engine_tree.specs.collector_tree.Took.{CompositeTook, FilterTook}
+use Rattle.agg_engine_tree.specs.collector_tree.Caches.{Cache, waiting_in}
+use Rattle.agg_engine_tree.specs.collector_tree.Tree.{Fits, held_of}
+use Rattle.agg_engine_tree.proofs.lemmas.collector_tree.CompositeNodes.{composite-hands}
+use Rattle.agg_engine_tree.proofs.lemmas.collector_tree.CompositeNodes.{composite-keeps}
+use Rattle.agg_engine_tree.proofs.lemmas.collector_tree.FilterNodes.{filter-hands, filter-keeps}
+use Rattle.agg_engine_tree.proofs.lemmas.collector_tree.Levels.{held-composite, held-filter}
+use Rattle.agg_engine_tree.proofs.lemmas.collector_tree.MostFilters.{filter-lower-most}
+use Rattle.agg_engine_tree.proofs.lemmas.collector_tree.MostSteps.{composite-lower-most}
+use Rattle.agg_engine_tree.proofs.lemmas.collector_tree.RefusedFilters.{filter-lower}
+use Rattle.agg_engine_tree.proofs.lemmas.collector_tree.RefusedNodes.{composite-lower}
 
 -- ---- composites
 

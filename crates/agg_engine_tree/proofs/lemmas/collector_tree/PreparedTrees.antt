@@ -1,38 +1,47 @@
 -- Trees in which parents were prepared.
-use Rattle.std.proofs.Common.{◌≡◌, ◌<◌, ◌+◌, ◌++◌, ℕ, List, [], ◌∷◌, Bool, false, append-nil}
-use Rattle.std.proofs.Common.{length, map, set, take, refl, sym, ap, ◌∙◌, subst, arith}
+use Rattle.std.proofs.Common.{◌≡◌, ◌<◌, ◌≤◌, ◌+◌, ◌++◌, ℕ, List, [], ◌∷◌, Bool, false}
+use Rattle.std.proofs.Common.{append-nil, length, map, set, take, refl, sym, ap, ◌∙◌, subst}
+use Rattle.std.proofs.Common.{arith}
 use Rattle.std.specs.declared.boxed.Box.{Box}
 use Rattle.std.specs.declared.alloc.Global.{Global}
-use Rattle.agg_accessor.specs.declared.request_data.CompositeAggReqData.{CompositeAggReqData}
+use Rattle.agg_composite.specs.declared.accessor.request_data.CompositeAggReqData.{
+  CompositeAggReqData,
+}
 use Rattle.agg_composite.specs.Composite as c
+use Rattle.agg_composite.specs.buckets.Node.{Prepares}
 use Rattle.agg_composite.specs.Visits.{TypedVisit}
 use Rattle.agg_filter.specs.Filter as f
 use Rattle.agg_filter.specs.Matching.{is_matching}
 use Rattle.agg_metric.specs.Collector as m
 use Rattle.agg_metric.specs.declared.request_data.MetricAggReqData.{MetricAggReqData}
 use Rattle.agg_segment.specs.Segment.{Stored}
-use Rattle.agg_segment_context.specs.declared.context.PerRequestAggSegCtx.{PerRequestAggSegCtx}
-use Rattle.agg_collector_tree.specs.declared.tree.SegmentCollectorTree as declared
+use Rattle.agg_composite.proofs.OpenedBuckets.{prepared-no_fewer}
+use Rattle.agg_engine_tree.specs.declared.segment_context.context.PerRequestAggSegCtx.{
+  PerRequestAggSegCtx,
+}
+use Rattle.agg_engine_tree.specs.declared.collector_tree.tree.SegmentCollectorTree as declared
 use declared.{SegmentCollectorTree as Tree}
 use declared.{Composite, Filter, Metric}
-use Rattle.agg_collector_tree.specs.Prepared.{ArePrepared, IsPrepared}
-use Rattle.agg_collector_tree.specs.Caches.{Cache}
-use Rattle.agg_collector_tree.specs.Tree.{Held, IsFor, IsHandedTo, Takes, group_of, held_of}
-use Rattle.agg_collector_tree.specs.Caches.{waiting_in}
-use Rattle.agg_collector_tree.specs.Tree.{helds_of, visits_of}
-use Rattle.agg_collector_tree.proofs.Groups.{metric-takes}
-use Rattle.agg_collector_tree.proofs.HandedTrees.{held-next}
-use Rattle.agg_collector_tree.proofs.Levels.{held-composite, held-filter, held-metric, same-itself}
+use Rattle.agg_engine_tree.specs.collector_tree.Prepared.{ArePrepared, IsPrepared}
+use Rattle.agg_engine_tree.specs.collector_tree.Caches.{Cache}
+use Rattle.agg_engine_tree.specs.collector_tree.Tree.{Held, IsFor, IsHandedTo, Takes, group_of}
+use Rattle.agg_engine_tree.specs.collector_tree.Tree.{held_of}
+use Rattle.agg_engine_tree.specs.collector_tree.Caches.{waiting_in}
+use Rattle.agg_engine_tree.specs.collector_tree.Tree.{helds_of, visits_of}
+use Rattle.agg_engine_tree.proofs.lemmas.collector_tree.Groups.{metric-takes}
+use Rattle.agg_engine_tree.proofs.lemmas.collector_tree.HandedTrees.{held-next}
+use Rattle.agg_engine_tree.proofs.lemmas.collector_tree.Levels.{held-composite, held-filter}
+use Rattle.agg_engine_tree.proofs.lemmas.collector_tree.Levels.{held-metric, same-itself}
 
 module _ (ctx : PerRequestAggSegCtx) (steps field : ℕ) (child : Box Tree Global) where
   pub prepared-composite : (collector old now : c.Composite Cache) → old ≡ collector
       → ((req : CompositeAggReqData) (visited : List TypedVisit) (given : List (ℕ × ℕ))
       → c.CompositeFor waiting_in req old visited given
       → c.CompositeFor waiting_in req now visited given)
-      → now ≡ record old { node = now.node }
+      → now ≡ record old { node = now.node } → Prepares old.node now.node
       → Takes ctx [] false (held_of (Composite field collector child))
       (held_of (Composite field now child)) steps steps
-  prepared-composite collector old now is right rest =
+  prepared-composite collector old now is right rest parents =
       let room : now.room ≡ collector.room =
       ap (λ (x : c.Composite Cache). x.room) rest ∙ ap (λ (x : c.Composite Cache). x.room) is in
       let on : now.hands_on ≡ collector.hands_on =
@@ -60,7 +69,15 @@ module _ (ctx : PerRequestAggSegCtx) (steps field : ℕ) (child : Box Tree Globa
           omega arith,
           omega arith,
         );
-        nodes = (refl, same-itself (held_of child.value));
+        nodes = (
+          refl,
+          same-itself (held_of child.value),
+          omega (
+            arith,
+            prepared-no_fewer old now parents,
+            ap (λ (x : c.Composite Cache). c.num_buckets x) is,
+          ),
+        );
         fits = λ x. (
           (x.0.0, x.0.1, omega (arith, x.0.2, room)),
           subst (λ b. IsHandedTo b (held_of child.value)) (sym on) x.1,

@@ -12,27 +12,30 @@ use Rattle.agg_segment.specs.Marks.{AreMarks}
 use Rattle.agg_segment.specs.Query.{matches}
 use Rattle.agg_segment.specs.Segment.{Stored}
 use Rattle.agg_segment.specs.declared.query.QueryTree.{QueryTree}
-use Rattle.agg_buckets.specs.Visits.{Within, docs_in}
+use Rattle.agg_composite.specs.buckets.Visits.{Within, docs_in}
 use Rattle.agg_filter.specs.Filter.{Filter, FilterFor, FilterGives}
 use Rattle.agg_filter.specs.Matching.{is_matching}
 use Rattle.agg_filter.specs.declared.request_data.FilterAggReqData.{FilterAggReqData}
 use Rattle.agg_metric.specs.Collector.{Metric}
 use Rattle.agg_metric.specs.declared.request_data.MetricAggReqData.{MetricAggReqData}
-use Rattle.agg_segment_context.specs.Context.{IsMeant, Meaning}
-use Rattle.agg_segment_context.specs.declared.context.PerRequestAggSegCtx.{PerRequestAggSegCtx}
-use Rattle.agg_collector_tree.specs.declared.tree.SegmentCollectorTree as declared
+use Rattle.agg_engine_tree.specs.segment_context.Context.{IsMeant, Meaning}
+use Rattle.agg_engine_tree.specs.declared.segment_context.context.PerRequestAggSegCtx.{
+  PerRequestAggSegCtx,
+}
+use Rattle.agg_engine_tree.specs.declared.collector_tree.tree.SegmentCollectorTree as declared
 use declared.{SegmentCollectorTree as Tree}
-use Rattle.agg_collector_tree.specs.Refusals.{IsRefused, RangeTaken, SomeHasStart}
-use Rattle.agg_collector_tree.specs.Took.{FilterAnswers, FilterTook, MetricAnswers}
-use Rattle.agg_collector_tree.specs.Caches.{Cache}
-use Rattle.agg_collector_tree.specs.Tree.{AllFor, Held, IsHandedTo, group_of, held_of}
-use Rattle.agg_collector_tree.specs.Caches.{waiting_in}
-use Rattle.agg_collector_tree.specs.Tree.{helds_of}
-use Rattle.agg_collector_tree.proofs.ManyFilters.{filter-lower-many, filter-many}
-use Rattle.agg_collector_tree.proofs.ManyMetrics.{group-many, metric-many}
-use Rattle.agg_collector_tree.proofs.MatchedDocuments.{given-matched, matching-within}
-use Rattle.agg_collector_tree.proofs.RefusedNodes.{nothing-ranges, start-part}
-use Rattle.agg_collector_tree.proofs.WithinLists.{within-both, within-contains}
+use Rattle.agg_engine_tree.specs.collector_tree.Refusals.{IsRefused, RangeTaken, SomeHasStart}
+use Rattle.agg_engine_tree.specs.collector_tree.Took.{FilterAnswers, FilterTook, MetricAnswers}
+use Rattle.agg_engine_tree.specs.collector_tree.Caches.{Cache}
+use Rattle.agg_engine_tree.specs.collector_tree.Tree.{AllFor, Held, IsHandedTo, group_of, held_of}
+use Rattle.agg_engine_tree.specs.collector_tree.Caches.{waiting_in}
+use Rattle.agg_engine_tree.specs.collector_tree.Tree.{helds_of}
+use Rattle.agg_engine_tree.proofs.lemmas.collector_tree.ManyFilters.{filter-lower-many, filter-many}
+use Rattle.agg_engine_tree.proofs.lemmas.collector_tree.ManyMetrics.{group-many, metric-many}
+use Rattle.agg_engine_tree.proofs.lemmas.collector_tree.MatchedDocuments.{given-matched}
+use Rattle.agg_engine_tree.proofs.lemmas.collector_tree.MatchedDocuments.{matching-within}
+use Rattle.agg_engine_tree.proofs.lemmas.collector_tree.RefusedNodes.{nothing-ranges, start-part}
+use Rattle.agg_engine_tree.proofs.lemmas.collector_tree.WithinLists.{within-both, within-contains}
 
 -- an error that is neither of two
 not-these : (error : CollectError) → (error ≡ refusal.TooMany → ⊥)

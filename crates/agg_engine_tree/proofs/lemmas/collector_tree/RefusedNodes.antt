@@ -10,24 +10,31 @@ use Rattle.agg_cache.specs.declared.cache.Batch.{Batch}
 use Rattle.agg_cache.specs.declared.error.CollectError.{CollectError}
 use Rattle.agg_cache.specs.declared.error.CollectError.TheVariants as refusal
 use Rattle.agg_segment.specs.Segment.{Stored}
-use Rattle.agg_accessor.specs.Accessors as accessor
-use Rattle.agg_accessor.specs.declared.request_data.CompositeAggReqData.{CompositeAggReqData}
-use Rattle.agg_buckets.specs.Visits.{Within, docs_in}
-use Rattle.agg_buckets.proofs.Labels.{docs_in-append}
+use Rattle.agg_composite.specs.accessor.Accessors as accessor
+use Rattle.agg_composite.specs.declared.accessor.request_data.CompositeAggReqData.{
+  CompositeAggReqData,
+}
+use Rattle.agg_composite.specs.buckets.Visits.{Within, docs_in}
+use Rattle.agg_composite.proofs.lemmas.buckets.Labels.{docs_in-append}
 use Rattle.agg_composite.specs.Composite.{Composite, CompositeGives}
-use Rattle.agg_segment_context.specs.Context.{IsMeant, Meaning}
-use Rattle.agg_segment_context.specs.declared.context.PerRequestAggSegCtx.{PerRequestAggSegCtx}
-use Rattle.agg_collector_tree.specs.Refusals.{HasStartOutOfRange, IsRefused, RangeTaken}
-use Rattle.agg_collector_tree.specs.Refusals.{SomeHasStart}
-use Rattle.agg_collector_tree.specs.Took.{CompositeAnswers, CompositeTook, IsRefusal}
-use Rattle.agg_collector_tree.specs.Caches.{Cache}
-use Rattle.agg_collector_tree.specs.Tree.{CompositeIsFor, Held, Helds, IsHandedTo, nothing}
-use Rattle.agg_collector_tree.specs.Caches.{waiting_in}
-use Rattle.agg_collector_tree.specs.Tree.{visits_of}
-use Rattle.agg_collector_tree.proofs.CompositeNodes.{is-for}
-use Rattle.agg_collector_tree.proofs.ManyComposites.{composite-lower-many, composite-many}
-use Rattle.agg_collector_tree.proofs.LowerDocuments.{given-visited, visited-part}
-use Rattle.agg_collector_tree.proofs.WithinLists.{range-part, within-contains, within-part}
+use Rattle.agg_engine_tree.specs.segment_context.Context.{IsMeant, Meaning}
+use Rattle.agg_engine_tree.specs.declared.segment_context.context.PerRequestAggSegCtx.{
+  PerRequestAggSegCtx,
+}
+use Rattle.agg_engine_tree.specs.collector_tree.Refusals.{HasStartOutOfRange, IsRefused, RangeTaken}
+use Rattle.agg_engine_tree.specs.collector_tree.Refusals.{SomeHasStart}
+use Rattle.agg_engine_tree.specs.collector_tree.Took.{CompositeAnswers, CompositeTook, IsRefusal}
+use Rattle.agg_engine_tree.specs.collector_tree.Caches.{Cache}
+use Rattle.agg_engine_tree.specs.collector_tree.Tree.{CompositeIsFor, Held, Helds, IsHandedTo}
+use Rattle.agg_engine_tree.specs.collector_tree.Tree.{nothing}
+use Rattle.agg_engine_tree.specs.collector_tree.Caches.{waiting_in}
+use Rattle.agg_engine_tree.specs.collector_tree.Tree.{visits_of}
+use Rattle.agg_engine_tree.proofs.lemmas.collector_tree.CompositeNodes.{is-for}
+use Rattle.agg_engine_tree.proofs.lemmas.collector_tree.ManyComposites.{composite-lower-many}
+use Rattle.agg_engine_tree.proofs.lemmas.collector_tree.ManyComposites.{composite-many}
+use Rattle.agg_engine_tree.proofs.lemmas.collector_tree.LowerDocuments.{given-visited, visited-part}
+use Rattle.agg_engine_tree.proofs.lemmas.collector_tree.WithinLists.{range-part, within-contains}
+use Rattle.agg_engine_tree.proofs.lemmas.collector_tree.WithinLists.{within-part}
 
 -- ---- starts
 

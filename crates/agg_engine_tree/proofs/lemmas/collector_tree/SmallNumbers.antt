@@ -3,7 +3,7 @@ use Rattle.std.proofs.Common.{◌≤◌, ◌^◌, ℕ, List, length, length-appe
 use Rattle.std.specs.List.{All, AllByRecursion, Contains, filter_map}
 use Rattle.std.proofs.Math.Seq.{take-append_seam}
 use Rattle.std.proofs.lemmas.List.Elements.{All-contains, All-map, filter_map-append}
-use Rattle.agg_column.specs.Document.{Fields, HasNumbersOf64Bits}
+use Rattle.agg_segment.specs.storage.Document.{Fields, HasNumbersOf64Bits}
 use Rattle.agg_segment.specs.Segment.{Stored, document_at, documents_at}
 use Rattle.agg_request_tree.specs.Metrics.{number_of, values_of_field}
 use Rattle.agg_request_tree.proofs.Lists.{AllByRecursion-take, All-from_Contains, All-from_map}

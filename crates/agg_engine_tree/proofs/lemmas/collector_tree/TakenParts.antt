@@ -4,15 +4,17 @@ use Rattle.std.proofs.Common.{arith, append-nil}
 use Rattle.std.proofs.lemmas.List.{append_assoc, take_all}
 use Rattle.agg_cache.specs.Waiting.{pairs_of}
 use Rattle.agg_cache.specs.declared.cache.Batch.{Batch}
-use Rattle.agg_segment_context.specs.declared.context.PerRequestAggSegCtx.{PerRequestAggSegCtx}
-use Rattle.agg_collector_tree.specs.Tree.{HasSameNodes, HaveSameNodes, Held, Helds, IsFor, Takes}
-use Rattle.agg_collector_tree.proofs.Levels.{same-itself}
+use Rattle.agg_engine_tree.specs.declared.segment_context.context.PerRequestAggSegCtx.{
+  PerRequestAggSegCtx,
+}
+use Rattle.agg_engine_tree.specs.collector_tree.Tree.{GrowsTo, AllGrowTo, Held, Helds, IsFor, Takes}
+use Rattle.agg_engine_tree.proofs.lemmas.collector_tree.Levels.{same-itself}
 
 mutual
   -- trees with the nodes of a third have the same nodes
-  same-both : (a b c : Held) → HasSameNodes a b → HasSameNodes b c → HasSameNodes a c
+  same-both : (a b c : Held) → GrowsTo a b → GrowsTo b c → GrowsTo a c
   same-both (Held.composite i x a) (Held.composite j y b) (Held.composite k z c) one two =
-      (one.0 ∙ two.0, same-both a b c one.1 two.1)
+      (one.0 ∙ two.0, same-both a b c one.1 two.1, omega (arith, one.2, two.2))
   same-both (Held.filter i x a) (Held.filter j y b) (Held.filter k z c) one two =
       (one.0 ∙ two.0, same-both a b c one.1 two.1)
   same-both (Held.metric i x) (Held.metric j y) (Held.metric k z) one two = one ∙ two
@@ -23,7 +25,7 @@ mutual
   same-both (Held.group hs) (Held.group ks) c one two = absurd two
   same-both a b c one two = absurd one
 
-  all-both : (hs ks ls : Helds) → HaveSameNodes hs ks → HaveSameNodes ks ls → HaveSameNodes hs ls
+  all-both : (hs ks ls : Helds) → AllGrowTo hs ks → AllGrowTo ks ls → AllGrowTo hs ls
   all-both Helds.none Helds.none Helds.none one two = tt
   all-both (Helds.more a hs) (Helds.more b ks) (Helds.more c ls) one two =
       (same-both a b c one.0 two.0, all-both hs ks ls one.1 two.1)

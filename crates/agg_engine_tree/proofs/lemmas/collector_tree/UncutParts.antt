@@ -7,7 +7,7 @@ use Rattle.std.specs.List.{filter_map}
 use Rattle.std.proofs.lemmas.List.{map-append}
 use Rattle.agg_values.specs.Names.{Named}
 use Rattle.agg_values.specs.declared.after_key.AfterKey.{AfterKey}
-use Rattle.agg_column.specs.Document.{Fields}
+use Rattle.agg_segment.specs.storage.Document.{Fields}
 use Rattle.agg_segment.specs.Segment.{Stored, document_at, documents_at}
 use Rattle.agg_request_tree.specs.Matching.{filter_matches}
 use Rattle.agg_request_tree.specs.Metrics.{number_of}
@@ -18,10 +18,12 @@ use Rattle.agg_request_tree.specs.declared.aggregation.AggregationVariants as va
 use variants.{AggregationVariants}
 use variants.TheVariants.{Filter, Composite, Count, Max, Min, Sum}
 use Rattle.agg_request_tree.proofs.OccurrencesLength.{past-fewer}
-use Rattle.agg_accessor.specs.declared.request_data.CompositeAggReqData.{CompositeAggReqData}
-use Rattle.agg_buckets.specs.Visits.{Within, docs_in, visits_at, weight}
-use Rattle.agg_buckets.proofs.Labels.{docs_in-append}
-use Rattle.agg_collector_tree.specs.Tree.{visits_of}
+use Rattle.agg_composite.specs.declared.accessor.request_data.CompositeAggReqData.{
+  CompositeAggReqData,
+}
+use Rattle.agg_composite.specs.buckets.Visits.{Within, docs_in, visits_at, weight}
+use Rattle.agg_composite.proofs.lemmas.buckets.Labels.{docs_in-append}
+use Rattle.agg_engine_tree.specs.collector_tree.Tree.{visits_of}
 
 -- the sum of the weights of documents
 abbrev pub weigh : (Fields → ℕ) → List Fields → ℕ

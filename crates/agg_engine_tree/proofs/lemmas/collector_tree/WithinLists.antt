@@ -10,9 +10,9 @@ use Rattle.agg_request_tree.specs.Ranges.{AreInRange}
 use Rattle.agg_request_tree.specs.Source.{Sources}
 use Rattle.agg_request_tree.proofs.Lists.{All-from_Contains, All-from_map, Contains-from_Has, Has}
 use Rattle.agg_request_tree.proofs.Lists.{Has-from_Contains}
-use Rattle.agg_accessor.specs.Ranges.{AreAllInRange}
-use Rattle.agg_buckets.specs.Visits.{Within, weight}
-use Rattle.agg_buckets.proofs.Labels.{is_id-other, is_id-same, weight-append}
+use Rattle.agg_composite.specs.accessor.Ranges.{AreAllInRange}
+use Rattle.agg_composite.specs.buckets.Visits.{Within, weight}
+use Rattle.agg_composite.proofs.lemmas.buckets.Labels.{is_id-other, is_id-same, weight-append}
 
 -- ---- lengths
 

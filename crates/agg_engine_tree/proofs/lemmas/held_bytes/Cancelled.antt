@@ -1,8 +1,8 @@
 -- What ids count, where those of some parents are counted exactly.
 use Rattle.std.proofs.Common.{◌≡◌, ◌≤◌, ◌+◌, ◌-◌, ℕ, arith}
 use Rattle.std.specs.List.{sum_by}
-use Rattle.agg_charges.proofs.Sums.{sum_by-at_most, sum_by-both, sum_by-same}
-use Rattle.agg_held_bytes.proofs.NumberSums.{up_to}
+use Rattle.agg_request_tree.proofs.lemmas.charges.Sums.{sum_by-at_most, sum_by-both, sum_by-same}
+use Rattle.agg_engine_tree.proofs.lemmas.held_bytes.NumberSums.{up_to}
 
 -- Under each id below `ids` at most `most` is counted, and in all at most the sum over the parents
 -- below `parents` of what is theirs. Of this, what the ids of a parent spare is counted on by none,

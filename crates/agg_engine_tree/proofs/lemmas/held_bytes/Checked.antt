@@ -1,7 +1,7 @@
 -- Numbers that u64 may have no room for.
 use Rattle.std.proofs.Common.{◌≡◌, ◌≤◌, ◌<◌, ◌^◌, ℕ, Option, None, Some, subst, sym, arith}
 use Rattle.std.specs.Option.{SomeIff}
-use Rattle.agg_held_bytes.specs.Checked.{IsChecked}
+use Rattle.agg_engine_tree.specs.held_bytes.Checked.{IsChecked}
 
 -- what a checked operation answers for a number
 pub is-checked : (number : ℕ) (answer : Option ℕ) → SomeIff answer (number < 2 ^ 64) number

@@ -6,24 +6,24 @@ use Rattle.std.specs.Prelude.{slice_get, unwrap_or}
 use Rattle.std.specs.List.{sum_by}
 use Rattle.std.proofs.Math.Nat.{mul-le-mul_left}
 use Rattle.std.proofs.lemmas.Option.{get_or_from_slice_get, unwrap_or-slice_get}
-use Rattle.agg_column.specs.Document.{Fields}
+use Rattle.agg_segment.specs.storage.Document.{Fields}
 use Rattle.agg_cache.specs.Waiting.{docs_of, is_id}
 use Rattle.agg_segment.specs.Segment.{Stored, document_at, documents_at}
 use Rattle.agg_request_tree.specs.Uncut.{counted}
 use Rattle.agg_request_tree.specs.declared.aggregation.CompositeAggregation.{CompositeAggregation}
-use Rattle.agg_charges.specs.Charges.{bucket_bytes}
-use Rattle.agg_charges.specs.Roof.{Counts, composite_counts, has_room, over_tuples, own_bytes}
-use Rattle.agg_charges.specs.Roof.{past_tuples}
-use Rattle.agg_charges.specs.Within.{Within}
-use Rattle.agg_charges.proofs.Lawful.{Lawful}
-use Rattle.agg_charges.proofs.Sums.{sum_by-at_most, sum_by-both, sum_by-map, sum_by-same}
-use Rattle.agg_charges.proofs.Sums.{sum_by-times}
-use Rattle.agg_buckets.specs.Page.{Page}
-use Rattle.agg_buckets.specs.Visits.{docs_in, weight}
-use Rattle.agg_held_bytes.proofs.Cancelled.{cancelled}
-use Rattle.agg_held_bytes.proofs.DocumentLists.{within-front}
-use Rattle.agg_held_bytes.proofs.LabelSums.{weight-labels, weight-sum}
-use Rattle.agg_held_bytes.proofs.NumberSums.{places-least, places-most, up_to}
+use Rattle.agg_request_tree.specs.charges.Charges.{bucket_bytes}
+use Rattle.agg_request_tree.specs.charges.Roof.{Counts, composite_counts, has_room, over_tuples}
+use Rattle.agg_request_tree.specs.charges.Roof.{own_bytes, past_tuples}
+use Rattle.agg_request_tree.specs.charges.Within.{Within}
+use Rattle.agg_request_tree.proofs.lemmas.charges.Lawful.{Lawful}
+use Rattle.agg_request_tree.proofs.lemmas.charges.Sums.{sum_by-at_most, sum_by-both, sum_by-map}
+use Rattle.agg_request_tree.proofs.lemmas.charges.Sums.{sum_by-same, sum_by-times}
+use Rattle.agg_composite.specs.buckets.Page.{Page}
+use Rattle.agg_composite.specs.buckets.Visits.{docs_in, weight}
+use Rattle.agg_engine_tree.proofs.lemmas.held_bytes.Cancelled.{cancelled}
+use Rattle.agg_engine_tree.proofs.lemmas.held_bytes.DocumentLists.{within-front}
+use Rattle.agg_engine_tree.proofs.lemmas.held_bytes.LabelSums.{weight-labels, weight-sum}
+use Rattle.agg_engine_tree.proofs.lemmas.held_bytes.NumberSums.{places-least, places-most, up_to}
 
 -- what the buckets of parents are to the documents that were taken under each: of these the pages
 -- have the lowest tuples, with their documents under the ids where there is room for all tuples
@@ -111,7 +111,7 @@ module _ {S : Type 0} (composite : CompositeAggregation) (below : Counts) (lawfu
   abbrev by_room : Bool → ℕ → ℕ → ℕ
   by_room room each all = if room then each else all
 
-  -- the same over the documents of a parent
+  -- what a composite counts below itself over the documents of a parent
   abbrev own_below : ℕ → ℕ
   own_below p =
       by_room (has_room composite (documents p))

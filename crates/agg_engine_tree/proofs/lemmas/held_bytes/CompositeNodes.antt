@@ -6,33 +6,41 @@ use Rattle.std.specs.List.{AllByRecursion, Contains, sum_by}
 use Rattle.std.specs.Option.{option_map_or}
 use Rattle.agg_cache.specs.Waiting.{docs_of, is_id}
 use Rattle.agg_request_tree.specs.declared.aggregation.CompositeAggregation.{CompositeAggregation}
-use Rattle.agg_charges.specs.Charges.{bucket_bytes}
-use Rattle.agg_charges.specs.Roof.{Counts, composite_counts}
-use Rattle.agg_charges.proofs.Lawful.{Lawful}
-use Rattle.agg_charges.proofs.Sums.{sum_by-same}
-use Rattle.agg_accessor.specs.Accessors as accessors
-use Rattle.agg_accessor.specs.Encoding.{encoded_tuple_order}
-use Rattle.agg_accessor.specs.declared.request_data.CompositeAggReqData.{CompositeAggReqData}
-use Rattle.agg_accessor.proofs.EncodedOrder.{tuple_order-total}
+use Rattle.agg_request_tree.specs.charges.Charges.{bucket_bytes}
+use Rattle.agg_request_tree.specs.charges.Roof.{Counts, composite_counts}
+use Rattle.agg_request_tree.proofs.lemmas.charges.Lawful.{Lawful}
+use Rattle.agg_request_tree.proofs.lemmas.charges.Sums.{sum_by-same}
+use Rattle.agg_composite.specs.accessor.Accessors as accessors
+use Rattle.agg_composite.specs.accessor.Encoding.{encoded_tuple_order}
+use Rattle.agg_composite.specs.declared.accessor.request_data.CompositeAggReqData.{
+  CompositeAggReqData,
+}
+use Rattle.agg_composite.proofs.lemmas.accessor.EncodedOrder.{tuple_order-total}
 use Rattle.agg_segment.specs.Segment.{documents_at}
-use Rattle.agg_buckets.specs.Visits.{Within, docs_in}
+use Rattle.agg_composite.specs.buckets.Visits.{Within, docs_in}
 use Rattle.agg_composite.specs.Composite.{Composite, CompositeFor, num_buckets}
 use Rattle.agg_composite.specs.Visits.{TypedVisit}
-use Rattle.agg_segment_context.specs.Context.{IsMeant, Meaning}
-use Rattle.agg_segment_context.specs.declared.context.PerRequestAggSegCtx.{PerRequestAggSegCtx}
-use Rattle.agg_collector_tree.specs.Caches.{Cache}
-use Rattle.agg_collector_tree.specs.Tree.{Held, IsFor, IsHandedTo, visits_of}
-use Rattle.agg_collector_tree.specs.Caches.{waiting_in}
-use Rattle.agg_collector_tree.proofs.LowerDocuments.{docs-stand, given-within, visited-part}
-use Rattle.agg_collector_tree.proofs.WithinLists.{within-both, within-contains}
-use Rattle.agg_held_bytes.specs.HeldBytes.{bytes_at}
-use Rattle.agg_held_bytes.specs.Trees.{over_parents, taken_under}
-use Rattle.agg_held_bytes.proofs.CompositeBytes.{HasPages, composite-least, composite-most}
-use Rattle.agg_held_bytes.proofs.DocumentLists.{none-past, nothing-first, parents-low}
-use Rattle.agg_held_bytes.proofs.NumberSums.{up_to}
-use Rattle.agg_held_bytes.proofs.PageIds.{sum-buckets}
-use Rattle.agg_held_bytes.proofs.ParentPages as pages
-use Rattle.agg_held_bytes.proofs.ParentVisits.{is_under, visits-covered, visits-inside}
+use Rattle.agg_engine_tree.specs.segment_context.Context.{IsMeant, Meaning}
+use Rattle.agg_engine_tree.specs.declared.segment_context.context.PerRequestAggSegCtx.{
+  PerRequestAggSegCtx,
+}
+use Rattle.agg_engine_tree.specs.collector_tree.Caches.{Cache}
+use Rattle.agg_engine_tree.specs.collector_tree.Tree.{Held, IsFor, IsHandedTo, visits_of}
+use Rattle.agg_engine_tree.specs.collector_tree.Caches.{waiting_in}
+use Rattle.agg_engine_tree.proofs.lemmas.collector_tree.LowerDocuments.{docs-stand, given-within}
+use Rattle.agg_engine_tree.proofs.lemmas.collector_tree.LowerDocuments.{visited-part}
+use Rattle.agg_engine_tree.proofs.lemmas.collector_tree.WithinLists.{within-both, within-contains}
+use Rattle.agg_engine_tree.specs.held_bytes.HeldBytes.{bytes_at}
+use Rattle.agg_engine_tree.specs.held_bytes.Trees.{over_parents, taken_under}
+use Rattle.agg_engine_tree.proofs.lemmas.held_bytes.CompositeBytes.{HasPages, composite-least}
+use Rattle.agg_engine_tree.proofs.lemmas.held_bytes.CompositeBytes.{composite-most}
+use Rattle.agg_engine_tree.proofs.lemmas.held_bytes.DocumentLists.{none-past, nothing-first}
+use Rattle.agg_engine_tree.proofs.lemmas.held_bytes.DocumentLists.{parents-low}
+use Rattle.agg_engine_tree.proofs.lemmas.held_bytes.NumberSums.{up_to}
+use Rattle.agg_engine_tree.proofs.lemmas.held_bytes.PageIds.{sum-buckets}
+use Rattle.agg_engine_tree.proofs.lemmas.held_bytes.ParentPages as pages
+use Rattle.agg_engine_tree.proofs.lemmas.held_bytes.ParentVisits.{is_under, visits-covered}
+use Rattle.agg_engine_tree.proofs.lemmas.held_bytes.ParentVisits.{visits-inside}
 
 module _ (meaning : Meaning) (ctx : PerRequestAggSegCtx) where
   -- of what was handed on under ids, this was given to a tree, which is right for it, and the rest
@@ -109,7 +117,7 @@ module _ (meaning : Meaning) (ctx : PerRequestAggSegCtx) where
         right.buckets.part
 
     module _ (h : Held) (waiting : ℕ → List ℕ) (down : IsPassed h right.handed waiting) where
-      -- and of documents that were taken
+      -- what was handed on is of documents that were taken
       pub given-part : (d : ℕ) → Contains (docs_in down.given) d → Contains (docs_in taken) d
       given-part d c =
           visited-part req meaning.segment (meaning.after_at index) taken d

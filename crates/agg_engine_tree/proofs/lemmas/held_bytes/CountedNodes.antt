@@ -2,7 +2,7 @@
 use Rattle.std.proofs.Common.{◌≡◌, ◌+◌, ℕ, List, [], ◌∷◌, map, refl, sym, ap, ◌∙◌, subst}
 use Rattle.std.specs.List.{sum_by}
 use Rattle.std.proofs.lemmas.List.Sums.{sum_by-cons}
-use Rattle.agg_column.specs.Document.{Fields}
+use Rattle.agg_segment.specs.storage.Document.{Fields}
 use Rattle.agg_segment.specs.Query.{matches}
 use Rattle.agg_segment.specs.Segment.{Stored}
 use Rattle.agg_segment.specs.declared.query.QueryTree.{QueryTree}
@@ -10,19 +10,21 @@ use Rattle.agg_request_tree.specs.Request.{Request, agg_of, below_of}
 use Rattle.agg_request_tree.specs.declared.aggregation.Aggregation.{Aggregation}
 use Rattle.agg_request_tree.specs.declared.aggregation.AggregationVariants.{AggregationVariants}
 use Rattle.agg_request_tree.specs.declared.aggregation.AggregationVariants.TheVariants as asks
-use Rattle.agg_charges.specs.Roof.{Counts, composite_counts, counts, counts_by, counts_of}
-use Rattle.agg_charges.specs.Roof.{nothing as nothing_counted}
-use Rattle.agg_charges.proofs.CountsOut.{counts-out}
-use Rattle.agg_charges.proofs.Sums.{sum_by-both, sum_by-none, sum_by-same}
+use Rattle.agg_request_tree.specs.charges.Roof.{Counts, composite_counts, counts, counts_by}
+use Rattle.agg_request_tree.specs.charges.Roof.{counts_of, nothing as nothing_counted}
+use Rattle.agg_request_tree.proofs.lemmas.charges.CountsOut.{counts-out}
+use Rattle.agg_request_tree.proofs.lemmas.charges.Sums.{sum_by-both, sum_by-none, sum_by-same}
 use Rattle.agg_metric.specs.declared.request_data.StatsType.{StatsType}
-use Rattle.agg_segment_context.specs.Context.{ArePlansOf, IsAskedAt, Meaning}
-use Rattle.agg_segment_context.specs.Plan.{Plans}
-use Rattle.agg_segment_context.specs.declared.context.PerRequestAggSegCtx.{PerRequestAggSegCtx}
-use Rattle.agg_segment_context.specs.declared.node.AggKind.TheVariants as kind
-use Rattle.agg_collector_tree.specs.Tree.{Held, IsGroupOf, nothing}
-use Rattle.agg_tree_results.proofs.NamedNodes.{IsCompositeOf}
-use Rattle.agg_held_bytes.specs.Trees.{over_parents, taken_under}
-use Rattle.agg_held_bytes.proofs.NumberSums.{up_to}
+use Rattle.agg_engine_tree.specs.segment_context.Context.{ArePlansOf, IsAskedAt, Meaning}
+use Rattle.agg_engine_tree.specs.segment_context.Plan.{Plans}
+use Rattle.agg_engine_tree.specs.declared.segment_context.context.PerRequestAggSegCtx.{
+  PerRequestAggSegCtx,
+}
+use Rattle.agg_engine_tree.specs.declared.segment_context.node.AggKind.TheVariants as kind
+use Rattle.agg_engine_tree.specs.collector_tree.Tree.{Held, IsGroupOf, nothing}
+use Rattle.agg_engine_tree.proofs.lemmas.tree_results.NamedNodes.{IsCompositeOf}
+use Rattle.agg_engine_tree.specs.held_bytes.Trees.{over_parents, taken_under}
+use Rattle.agg_engine_tree.proofs.lemmas.held_bytes.NumberSums.{up_to}
 
 -- an aggregation that asks this counts by it, from what those below count together
 pub counts-asked : (a : Aggregation QueryTree) (asked : AggregationVariants QueryTree)

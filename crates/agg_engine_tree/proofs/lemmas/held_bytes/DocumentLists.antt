@@ -8,7 +8,7 @@ use Rattle.std.proofs.lemmas.Bool.Decides.{nat_tests}
 use Rattle.std.proofs.lemmas.List.{map-append}
 use Rattle.std.proofs.lemmas.List.Sums.{sum_by-cons}
 use Rattle.agg_cache.specs.Waiting.{docs_of, is_id}
-use Rattle.agg_column.specs.Document.{Fields}
+use Rattle.agg_segment.specs.storage.Document.{Fields}
 use Rattle.agg_segment.specs.Query.{matches}
 use Rattle.agg_segment.specs.Segment.{Stored, document_at, documents_at}
 use Rattle.agg_segment.specs.declared.query.QueryTree.{QueryTree}
@@ -16,13 +16,13 @@ use Rattle.agg_request_tree.specs.Matching.{matching}
 use Rattle.agg_request_tree.specs.declared.aggregation.filter.FilterQuery.{FilterQuery}
 use Rattle.agg_request_tree.specs.declared.aggregation.filter.FilterQuery.TheVariants as by
 use Rattle.agg_request_tree.proofs.Lists.{Has}
-use Rattle.agg_charges.specs.Within.{Within}
-use Rattle.agg_charges.proofs.WithinLists.{Within-more}
-use Rattle.agg_buckets.specs.Visits.{docs_in}
-use Rattle.agg_buckets.proofs.Labels.{is_id-other, is_id-same}
+use Rattle.agg_request_tree.specs.charges.Within.{Within}
+use Rattle.agg_request_tree.proofs.lemmas.charges.WithinLists.{Within-more}
+use Rattle.agg_composite.specs.buckets.Visits.{docs_in}
+use Rattle.agg_composite.proofs.lemmas.buckets.Labels.{is_id-other, is_id-same}
 use Rattle.agg_filter.specs.Matching.{is_matching}
-use Rattle.agg_segment_context.specs.Context.{tree_in}
-use Rattle.agg_collector_tree.proofs.UncutParts.{Lighter, weigh}
+use Rattle.agg_engine_tree.specs.segment_context.Context.{tree_in}
+use Rattle.agg_engine_tree.proofs.lemmas.collector_tree.UncutParts.{Lighter, weigh}
 
 -- ---- lists within others
 
@@ -79,7 +79,7 @@ parents-low n (e ∷ pairs) none = (
   parents-low n pairs (λ p l. none-after p e pairs (none p l)),
 )
 
--- and the other way round
+-- where all parents are below a number, no document is under one from it on
 pub none-past : (n : ℕ) (pairs : List (ℕ × ℕ)) → AllByRecursion (λ e. e.0 < n) pairs → (p : ℕ)
     → n ≤ p → docs_of (is_id p) pairs ≡ []
 none-past n [] low p l = refl

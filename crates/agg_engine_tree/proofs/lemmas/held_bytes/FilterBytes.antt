@@ -8,27 +8,28 @@ use Rattle.std.proofs.lemmas.Bool.{eqb-true}
 use Rattle.std.proofs.lemmas.Cmp.{nat_eq_equiv}
 use Rattle.std.proofs.lemmas.Map.Views.{list_any-from_Contains}
 use Rattle.agg_cache.specs.Waiting.{docs_of, is_id}
-use Rattle.agg_column.specs.Document.{Fields}
+use Rattle.agg_segment.specs.storage.Document.{Fields}
 use Rattle.agg_segment.specs.Query.{matches}
 use Rattle.agg_segment.specs.Segment.{Stored, documents_at}
 use Rattle.agg_segment.specs.declared.query.QueryTree.{QueryTree}
 use Rattle.agg_request_tree.specs.Matching.{matching}
 use Rattle.agg_request_tree.specs.declared.aggregation.filter.FilterQuery.{FilterQuery}
 use Rattle.agg_request_tree.proofs.Lists.{AllByRecursion-from_Has, Contains-from_Has}
-use Rattle.agg_charges.specs.Roof.{Counts}
-use Rattle.agg_charges.specs.Within.{Within}
-use Rattle.agg_charges.proofs.Lawful.{Lawful}
-use Rattle.agg_charges.proofs.Tests.{by_answer, clash, not_true, second}
-use Rattle.agg_buckets.specs.Visits.{docs_in}
+use Rattle.agg_request_tree.specs.charges.Roof.{Counts}
+use Rattle.agg_request_tree.specs.charges.Within.{Within}
+use Rattle.agg_request_tree.proofs.lemmas.charges.Lawful.{Lawful}
+use Rattle.agg_request_tree.proofs.lemmas.charges.Tests.{by_answer, clash, not_true, second}
+use Rattle.agg_composite.specs.buckets.Visits.{docs_in}
 use Rattle.agg_filter.specs.Filter.{Filter, FilterFor}
 use Rattle.agg_filter.specs.Matching.{is_matching}
-use Rattle.agg_segment_context.specs.Context.{tree_in}
-use Rattle.agg_collector_tree.specs.Caches.{Cache, waiting_in}
-use Rattle.agg_collector_tree.proofs.HandedDocuments.{matched-lighter}
-use Rattle.agg_held_bytes.proofs.DocumentLists.{docs-among, matched-same, nothing-first}
-use Rattle.agg_held_bytes.proofs.DocumentLists.{within-front, within-lighter, within-trans}
-use Rattle.agg_held_bytes.proofs.NumberSums.{Differ, places-least, places-most, sum-below}
-use Rattle.agg_held_bytes.proofs.NumberSums.{sum-listed, up_to}
+use Rattle.agg_engine_tree.specs.segment_context.Context.{tree_in}
+use Rattle.agg_engine_tree.specs.collector_tree.Caches.{Cache, waiting_in}
+use Rattle.agg_engine_tree.proofs.lemmas.collector_tree.HandedDocuments.{matched-lighter}
+use Rattle.agg_engine_tree.proofs.lemmas.held_bytes.DocumentLists.{docs-among, matched-same}
+use Rattle.agg_engine_tree.proofs.lemmas.held_bytes.DocumentLists.{nothing-first, within-front}
+use Rattle.agg_engine_tree.proofs.lemmas.held_bytes.DocumentLists.{within-lighter, within-trans}
+use Rattle.agg_engine_tree.proofs.lemmas.held_bytes.NumberSums.{Differ, places-least, places-most}
+use Rattle.agg_engine_tree.proofs.lemmas.held_bytes.NumberSums.{sum-below, sum-listed, up_to}
 
 -- ---- ids
 

@@ -8,14 +8,16 @@ use Rattle.agg_request_tree.specs.Request.{Request, agg_of, below_of, listed_in,
 use Rattle.agg_request_tree.specs.declared.aggregation.Aggregation.{Aggregation}
 use Rattle.agg_request_tree.specs.declared.aggregation.AggregationVariants.{AggregationVariants}
 use Rattle.agg_request_tree.proofs.RequestTrees.{listed-out}
-use Rattle.agg_charges.specs.Charges.{fixed_charge, node_charge}
-use Rattle.agg_segment_context.specs.Context.{IsPlanOf, Meaning}
-use Rattle.agg_segment_context.specs.declared.context.PerRequestAggSegCtx.{PerRequestAggSegCtx}
-use Rattle.agg_segment_context.specs.declared.node.AggRefNode.{AggRefNode}
-use Rattle.agg_segment_context.specs.declared.node.AggRefNode.TheViews.{out-AggRefNode}
-use Rattle.agg_segment_context.specs.Views.{children_of}
-use Rattle.agg_segment_context.proofs.Views.{plan-below, plan-out}
-use Rattle.agg_held_bytes.specs.Nodes.{AreNodesOf, IsNodeFor}
+use Rattle.agg_request_tree.specs.charges.Charges.{fixed_charge, node_charge}
+use Rattle.agg_engine_tree.specs.segment_context.Context.{IsPlanOf, Meaning}
+use Rattle.agg_engine_tree.specs.declared.segment_context.context.PerRequestAggSegCtx.{
+  PerRequestAggSegCtx,
+}
+use Rattle.agg_engine_tree.specs.declared.segment_context.node.AggRefNode.{AggRefNode}
+use Rattle.agg_engine_tree.specs.declared.segment_context.node.AggRefNode.TheViews.{out-AggRefNode}
+use Rattle.agg_engine_tree.specs.segment_context.Views.{children_of}
+use Rattle.agg_engine_tree.proofs.lemmas.segment_context.Views.{plan-below, plan-out}
+use Rattle.agg_engine_tree.specs.held_bytes.Nodes.{AreNodesOf, IsNodeFor}
 
 -- ---- charges
 
@@ -97,7 +99,7 @@ module _ (meaning : Meaning) (ctx : PerRequestAggSegCtx) where
         );
       }
 
-  -- the same, where the node is read
+  -- the aggregation of a node that is read, which is charged after those before it
   pub next-read : (documents : ℕ) (request : Request QueryTree) (nodes : List AggRefNode) (i : ℕ)
       (node : AggRefNode) → AreNodesOf meaning ctx request nodes → i < length nodes
       → node ≡ get_or nodes i node → IsNext documents request i node
@@ -123,7 +125,7 @@ module _ (meaning : Meaning) (ctx : PerRequestAggSegCtx) where
         asked = plan-below meaning ctx a.0 a.1 node of.asked.0;
       })
 
-  -- and the node itself by what it asks
+  -- a node is asked what its aggregation asks by itself
   pub node-asked : (a : List ℕ × Aggregation QueryTree) (node : AggRefNode)
       → AreNodesOf meaning ctx (a ∷ []) (node ∷ [])
       → IsNodeFor meaning ctx (agg_of a.1) (out-AggRefNode node).kind

@@ -8,18 +8,23 @@ use Rattle.std.specs.declared.boxed.Box.{Box}
 use Rattle.std.specs.declared.vec.Vec.{Vec}
 use Rattle.std.proofs.lemmas.Option.{slice_get_within}
 use Rattle.agg_request_tree.specs.Faults.{max_sources}
-use Rattle.agg_charges.specs.Charges.{bucket_bytes}
-use Rattle.agg_accessor.specs.declared.request_data.CompositeAggReqData.{CompositeAggReqData}
+use Rattle.agg_request_tree.specs.charges.Charges.{bucket_bytes}
+use Rattle.agg_composite.specs.declared.accessor.request_data.CompositeAggReqData.{
+  CompositeAggReqData,
+}
 use Rattle.agg_composite.specs.Composite.{Composite, num_buckets}
-use Rattle.agg_segment_context.specs.Context.{IsMeant, Meaning}
-use Rattle.agg_segment_context.specs.declared.context.PerRequestAggSegCtx.{PerRequestAggSegCtx}
-use Rattle.agg_collector_tree.specs.Caches.{Cache}
-use Rattle.agg_collector_tree.specs.Tree.{Fits, Held, group_of, held_of}
-use Rattle.agg_collector_tree.specs.declared.tree.SegmentCollectorTree as declared
+use Rattle.agg_engine_tree.specs.segment_context.Context.{IsMeant, Meaning}
+use Rattle.agg_engine_tree.specs.declared.segment_context.context.PerRequestAggSegCtx.{
+  PerRequestAggSegCtx,
+}
+use Rattle.agg_engine_tree.specs.collector_tree.Caches.{Cache}
+use Rattle.agg_engine_tree.specs.collector_tree.Tree.{Fits, Held, group_of, held_of}
+use Rattle.agg_engine_tree.specs.declared.collector_tree.tree.SegmentCollectorTree as declared
 use declared.{SegmentCollectorTree}
-use Rattle.agg_collector_tree.proofs.Levels.{fits-each, held-composite, held-group}
-use Rattle.agg_collector_tree.proofs.NodeData.{read-at}
-use Rattle.agg_held_bytes.specs.HeldBytes.{held_bytes}
+use Rattle.agg_engine_tree.proofs.lemmas.collector_tree.Levels.{fits-each, held-composite}
+use Rattle.agg_engine_tree.proofs.lemmas.collector_tree.Levels.{held-group}
+use Rattle.agg_engine_tree.proofs.lemmas.collector_tree.NodeData.{read-at}
+use Rattle.agg_engine_tree.specs.held_bytes.HeldBytes.{held_bytes}
 
 module _ (ctx : PerRequestAggSegCtx) (tree : SegmentCollectorTree)
     (fits : Fits ctx (held_of tree)) where

@@ -1,10 +1,14 @@
 -- The bytes of trees side by side, one after the other.
 use Rattle.std.proofs.Common.{◌≡◌, ◌<◌, ◌≤◌, ◌+◌, ℕ, zero, suc, List, [], ◌∷◌, get_or}
 use Rattle.std.proofs.Common.{length, take, sym, ap, ◌∙◌, arith}
-use Rattle.agg_segment_context.specs.declared.context.PerRequestAggSegCtx.{PerRequestAggSegCtx}
-use Rattle.agg_collector_tree.specs.Tree.{group_of, held_of}
-use Rattle.agg_collector_tree.specs.declared.tree.SegmentCollectorTree.{SegmentCollectorTree}
-use Rattle.agg_held_bytes.specs.HeldBytes.{held_bytes}
+use Rattle.agg_engine_tree.specs.declared.segment_context.context.PerRequestAggSegCtx.{
+  PerRequestAggSegCtx,
+}
+use Rattle.agg_engine_tree.specs.collector_tree.Tree.{group_of, held_of}
+use Rattle.agg_engine_tree.specs.declared.collector_tree.tree.SegmentCollectorTree.{
+  SegmentCollectorTree,
+}
+use Rattle.agg_engine_tree.specs.held_bytes.HeldBytes.{held_bytes}
 
 module _ (ctx : PerRequestAggSegCtx) where
   -- the bytes of trees side by side
@@ -26,7 +30,7 @@ module _ (ctx : PerRequestAggSegCtx) where
         one-more trees i d (omega arith),
       )
 
-  -- the same, where the tree is read
+  -- one more of them, where the tree is read
   pub one-read : (trees : List SegmentCollectorTree) (i : ℕ) (tree : SegmentCollectorTree)
       → i < length trees → tree ≡ get_or trees i tree
       → group_bytes (take (i + 1) trees)

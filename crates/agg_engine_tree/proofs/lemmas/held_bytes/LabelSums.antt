@@ -4,11 +4,11 @@ use Rattle.std.proofs.Common.{if◌then◌else◌, refl, ap, ◌∙◌, arith, �
 use Rattle.std.specs.List.{AllByRecursion, list_any, sum_by}
 use Rattle.std.proofs.lemmas.List.Sums.{sum_by-cons}
 use Rattle.agg_cache.specs.Waiting.{docs_of, is_id}
-use Rattle.agg_buckets.specs.Visits.{docs_in, weight}
-use Rattle.agg_charges.proofs.Sums.{sum_by-both, sum_by-same}
-use Rattle.agg_charges.proofs.Tests.{by_answer, second}
-use Rattle.agg_collector_tree.proofs.LowerDocuments.{below, below-le}
-use Rattle.agg_held_bytes.proofs.NumberSums.{sum-last, up_to}
+use Rattle.agg_composite.specs.buckets.Visits.{docs_in, weight}
+use Rattle.agg_request_tree.proofs.lemmas.charges.Sums.{sum_by-both, sum_by-same}
+use Rattle.agg_request_tree.proofs.lemmas.charges.Tests.{by_answer, second}
+use Rattle.agg_engine_tree.proofs.lemmas.collector_tree.LowerDocuments.{below, below-le}
+use Rattle.agg_engine_tree.proofs.lemmas.held_bytes.NumberSums.{sum-last, up_to}
 
 -- a weight that counts where a test passes
 abbrev if_passes : Bool → ℕ → ℕ

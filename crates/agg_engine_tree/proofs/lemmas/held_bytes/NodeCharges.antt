@@ -6,14 +6,18 @@ use Rattle.agg_segment.specs.Segment.{documents_of}
 use Rattle.agg_segment.specs.declared.query.QueryTree.{QueryTree}
 use Rattle.agg_request_tree.specs.declared.aggregation.AggregationVariants.{AggregationVariants}
 use Rattle.agg_request_tree.specs.declared.aggregation.AggregationVariants.TheVariants as asks
-use Rattle.agg_charges.specs.Charges.{node_charge}
-use Rattle.agg_accessor.specs.declared.request_data.CompositeAggReqData.{CompositeAggReqData}
+use Rattle.agg_request_tree.specs.charges.Charges.{node_charge}
+use Rattle.agg_composite.specs.declared.accessor.request_data.CompositeAggReqData.{
+  CompositeAggReqData,
+}
 use Rattle.agg_filter.specs.declared.request_data.FilterAggReqData.{FilterAggReqData}
-use Rattle.agg_segment_context.specs.Context.{Meaning}
-use Rattle.agg_segment_context.specs.declared.context.PerRequestAggSegCtx.{PerRequestAggSegCtx}
-use Rattle.agg_segment_context.specs.declared.node.AggKind.TheVariants as kind
-use Rattle.agg_collector_tree.proofs.NodeData.{read-at}
-use Rattle.agg_held_bytes.specs.Nodes.{IsNodeFor}
+use Rattle.agg_engine_tree.specs.segment_context.Context.{Meaning}
+use Rattle.agg_engine_tree.specs.declared.segment_context.context.PerRequestAggSegCtx.{
+  PerRequestAggSegCtx,
+}
+use Rattle.agg_engine_tree.specs.declared.segment_context.node.AggKind.TheVariants as kind
+use Rattle.agg_engine_tree.proofs.lemmas.collector_tree.NodeData.{read-at}
+use Rattle.agg_engine_tree.specs.held_bytes.Nodes.{IsNodeFor}
 
 module _ (meaning : Meaning) (ctx : PerRequestAggSegCtx) (index : ℕ) where
   abbrev documents : ℕ

@@ -8,9 +8,9 @@ use Rattle.std.specs.List.{AllByRecursion, list_any, range_with_len, sum_by}
 use Rattle.std.proofs.lemmas.Bool.{cases_eq, eq-eqb, eqb-true}
 use Rattle.std.proofs.lemmas.Cmp.{nat_eq_equiv}
 use Rattle.std.proofs.lemmas.List.Sums.{sum_by-cons}
-use Rattle.agg_charges.proofs.Distinct.{Alike, Apart, sum_by-apart}
-use Rattle.agg_charges.proofs.Sums.{sum_by-filter, sum_by-same}
-use Rattle.agg_charges.proofs.Tests.{by_answer, neither, not_true}
+use Rattle.agg_request_tree.proofs.lemmas.charges.Distinct.{Alike, Apart, sum_by-apart}
+use Rattle.agg_request_tree.proofs.lemmas.charges.Sums.{sum_by-filter, sum_by-same}
+use Rattle.agg_request_tree.proofs.lemmas.charges.Tests.{by_answer, neither, not_true}
 
 -- the numbers below one
 abbrev pub up_to : ℕ → List ℕ
@@ -87,7 +87,7 @@ places-most f w (x ∷ xs) (suc n) most none =
           (λ p l. none (suc p) (omega arith)),
     )
 
--- and at least one over some of its places, with nothing past it
+-- a sum over a list is at least one over some of its places, with nothing past it
 pub places-least : {X : Type 0} (f : X → ℕ) (w : ℕ → ℕ) (xs : List X) (n : ℕ)
     → ((p : ℕ) (x : X) → slice_get xs p ≡ Some x → w p ≤ f x)
     → ((p : ℕ) → slice_get xs p ≡ None → w p ≡ 0) → sum_by w (up_to n) ≤ sum_by f xs

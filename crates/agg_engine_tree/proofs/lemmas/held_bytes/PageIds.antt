@@ -14,16 +14,18 @@ use Rattle.std.proofs.lemmas.Cmp.{eq_by_cmp_equiv}
 use Rattle.std.proofs.lemmas.List.Folds.{list_any-append}
 use Rattle.std.proofs.lemmas.Map.Keys.{IsDistinct-from_sorted}
 use Rattle.std.proofs.lemmas.Map.Views.{lookup-from_Contains}
-use Rattle.agg_charges.proofs.Sums.{sum_by-flat_map, sum_by-map, sum_by-same}
-use Rattle.agg_charges.proofs.Tests.{both, by_answer, clash, neither, not_true, second}
+use Rattle.agg_request_tree.proofs.lemmas.charges.Sums.{sum_by-flat_map, sum_by-map, sum_by-same}
+use Rattle.agg_request_tree.proofs.lemmas.charges.Tests.{both, by_answer, clash, neither, not_true}
+use Rattle.agg_request_tree.proofs.lemmas.charges.Tests.{second}
 use Rattle.agg_request_tree.proofs.Lists.{AllByRecursion-always, AllByRecursion-flat_map}
 use Rattle.agg_request_tree.proofs.Lists.{Contains-from_Has, Has}
-use Rattle.agg_buckets.specs.Node.{BucketsFor, IsPast, IsRightFor, Right, found}
-use Rattle.agg_buckets.specs.Page.{Page}
-use Rattle.agg_buckets.specs.Visits.{Visit, is_owner}
-use Rattle.agg_buckets.specs.declared.bucket.Bucket.{Bucket}
-use Rattle.agg_buckets.proofs.Owners.{same-parent}
-use Rattle.agg_held_bytes.proofs.NumberSums.{Differ, numbers-differ, sum-below, up_to}
+use Rattle.agg_composite.specs.buckets.Node.{BucketsFor, IsPast, IsRightFor, Right, found}
+use Rattle.agg_composite.specs.buckets.Page.{Page}
+use Rattle.agg_composite.specs.buckets.Visits.{Visit, is_owner}
+use Rattle.agg_composite.specs.declared.buckets.bucket.Bucket.{Bucket}
+use Rattle.agg_composite.proofs.lemmas.buckets.Owners.{same-parent}
+use Rattle.agg_engine_tree.proofs.lemmas.held_bytes.NumberSums.{Differ, numbers-differ, sum-below}
+use Rattle.agg_engine_tree.proofs.lemmas.held_bytes.NumberSums.{up_to}
 
 -- the ids of a page
 abbrev pub ids_of : {S : Type 0} → Page S → List ℕ

@@ -17,7 +17,7 @@ use Rattle.agg_values.specs.Tuple.{KeyTuple}
 use Rattle.agg_values.proofs.TupleOrder.{tuple_order-total}
 use Rattle.agg_values.specs.declared.after_key.AfterKey.{AfterKey}
 use Rattle.agg_cache.specs.Waiting.{docs_of, is_id}
-use Rattle.agg_column.specs.Document.{Fields}
+use Rattle.agg_segment.specs.storage.Document.{Fields}
 use Rattle.agg_segment.specs.Segment.{Stored, documents_at}
 use Rattle.agg_request_tree.specs.Groups.{Group, Groups}
 use Rattle.agg_request_tree.specs.Occurrences.{bound_of, is_past, same_tuple}
@@ -26,16 +26,18 @@ use Rattle.agg_request_tree.specs.Source.{Sources, rules_of}
 use Rattle.agg_request_tree.specs.declared.aggregation.CompositeAggregation.{CompositeAggregation}
 use Rattle.agg_request_tree.proofs.Lists.{All-from_map, AllByRecursion-both}
 use Rattle.agg_request_tree.proofs.Lists.{AllByRecursion-weaker}
-use Rattle.agg_charges.specs.Laws.{AreGroupsOf}
-use Rattle.agg_charges.specs.Roof.{has_room, over_tuples, past_tuples}
-use Rattle.agg_charges.proofs.CompositeTuples.{tuples-many, tuples-sums}
-use Rattle.agg_charges.proofs.Sums.{sum_by-map}
-use Rattle.agg_charges.proofs.Tests.{clash}
-use Rattle.agg_accessor.specs.Accessors.{Fits}
-use Rattle.agg_accessor.specs.declared.request_data.CompositeAggReqData.{CompositeAggReqData}
-use Rattle.agg_buckets.specs.Cut.{tuples_under}
-use Rattle.agg_buckets.specs.Visits.{Owner, weight}
-use Rattle.agg_buckets.specs.declared.bucket.Bucket.{Bucket}
+use Rattle.agg_request_tree.specs.charges.Laws.{AreGroupsOf}
+use Rattle.agg_request_tree.specs.charges.Roof.{has_room, over_tuples, past_tuples}
+use Rattle.agg_request_tree.proofs.lemmas.charges.CompositeTuples.{tuples-many, tuples-sums}
+use Rattle.agg_request_tree.proofs.lemmas.charges.Sums.{sum_by-map}
+use Rattle.agg_request_tree.proofs.lemmas.charges.Tests.{clash}
+use Rattle.agg_composite.specs.accessor.Accessors.{Fits}
+use Rattle.agg_composite.specs.declared.accessor.request_data.CompositeAggReqData.{
+  CompositeAggReqData,
+}
+use Rattle.agg_composite.specs.buckets.Cut.{tuples_under}
+use Rattle.agg_composite.specs.buckets.Visits.{Owner, weight}
+use Rattle.agg_composite.specs.declared.buckets.bucket.Bucket.{Bucket}
 use Rattle.agg_composite.specs.Composite.{Composite, CompositeFor, docs_under, page_of}
 use Rattle.agg_composite.specs.PageEntries.{decoded_buckets, entry_bucket, entry_group}
 use Rattle.agg_composite.specs.Visits.{TypedVisit}
@@ -44,11 +46,11 @@ use Rattle.agg_composite.proofs.BucketDocuments.{page-handed}
 use Rattle.agg_composite.proofs.BucketPages.{page-groups}
 use Rattle.agg_results.specs.StandsFor.{GroupsStandFor}
 use Rattle.agg_results.proofs.StandingGroups.{stands-lowest}
-use Rattle.agg_collector_tree.specs.Caches.{Cache, waiting_in}
-use Rattle.agg_collector_tree.specs.Tree.{visits_of}
-use Rattle.agg_tree_results.proofs.TakenVisits.{docs-with, tuples-taken}
-use Rattle.agg_held_bytes.proofs.LabelSums.{weight-covered}
-use Rattle.agg_held_bytes.proofs.ParentVisits.{is_under}
+use Rattle.agg_engine_tree.specs.collector_tree.Caches.{Cache, waiting_in}
+use Rattle.agg_engine_tree.specs.collector_tree.Tree.{visits_of}
+use Rattle.agg_engine_tree.proofs.lemmas.tree_results.TakenVisits.{docs-with, tuples-taken}
+use Rattle.agg_engine_tree.proofs.lemmas.held_bytes.LabelSums.{weight-covered}
+use Rattle.agg_engine_tree.proofs.lemmas.held_bytes.ParentVisits.{is_under}
 
 -- a bucket as an entry
 abbrev entry_for : KeyTuple × Bucket → PageEntry

@@ -15,16 +15,19 @@ use Rattle.agg_request_tree.specs.Occurrences.{bound_of, occurrences, past_occur
 use Rattle.agg_request_tree.specs.Uncut.{once_each}
 use Rattle.agg_request_tree.proofs.Lists.{AllByRecursion-always, AllByRecursion-flat_map}
 use Rattle.agg_request_tree.proofs.Lists.{AllByRecursion-map, AllByRecursion-weaker}
-use Rattle.agg_charges.specs.Within.{Within}
-use Rattle.agg_accessor.specs.declared.request_data.CompositeAggReqData.{CompositeAggReqData}
-use Rattle.agg_buckets.specs.Visits.{Owner, docs_in, visits_at, weight}
-use Rattle.agg_buckets.proofs.Labels.{docs_in-append, docs_of-append, is_id-other, is_id-same}
+use Rattle.agg_request_tree.specs.charges.Within.{Within}
+use Rattle.agg_composite.specs.declared.accessor.request_data.CompositeAggReqData.{
+  CompositeAggReqData,
+}
+use Rattle.agg_composite.specs.buckets.Visits.{Owner, docs_in, visits_at, weight}
+use Rattle.agg_composite.proofs.lemmas.buckets.Labels.{docs_in-append, docs_of-append, is_id-other}
+use Rattle.agg_composite.proofs.lemmas.buckets.Labels.{is_id-same}
 use Rattle.agg_composite.specs.Visits.{TypedVisit, visits_past}
-use Rattle.agg_collector_tree.specs.Tree.{visits_of}
-use Rattle.agg_collector_tree.proofs.UncutParts.{Lighter, visits-counted}
-use Rattle.agg_held_bytes.proofs.DocumentLists.{within-lighter}
-use Rattle.agg_held_bytes.proofs.LabelSums.{docs-all, weight-covered}
-use Rattle.agg_held_bytes.proofs.NumberSums.{among-below, up_to}
+use Rattle.agg_engine_tree.specs.collector_tree.Tree.{visits_of}
+use Rattle.agg_engine_tree.proofs.lemmas.collector_tree.UncutParts.{Lighter, visits-counted}
+use Rattle.agg_engine_tree.proofs.lemmas.held_bytes.DocumentLists.{within-lighter}
+use Rattle.agg_engine_tree.proofs.lemmas.held_bytes.LabelSums.{docs-all, weight-covered}
+use Rattle.agg_engine_tree.proofs.lemmas.held_bytes.NumberSums.{among-below, up_to}
 
 -- whether an owner is of a parent
 abbrev pub is_under : ℕ → Owner KeyTuple → Bool
@@ -113,7 +116,7 @@ module _ (req : CompositeAggReqData) (segment : Stored) (after : Named AfterKey)
         own-first : (e : ℕ × ℕ) (taken : List (ℕ × ℕ)) → own (e ∷ []) ++ own taken ≡ own (e ∷ taken)
         own-first e taken = ap (λ ds. ds ++ own taken) (append-nil _)
 
-    -- and no more than the uncut list of these
+    -- the documents of the visits under a parent are no more than the uncut list of its documents
     pub visits-inside : (taken : List (ℕ × ℕ))
         → Within (documents_at segment (docs_of (is_under p) (visits_of req segment after taken)))
         (once_each (occurrences req.req.now.sources) (documents_at segment (own taken)))

@@ -5,24 +5,26 @@ use Rattle.std.specs.List.{All, AllByRecursion}
 use Rattle.std.proofs.lemmas.List.Elements.{All-weaker, recursion_from_All}
 use Rattle.std.proofs.lemmas.List.Sums.{sum_by-cons}
 use Rattle.agg_cache.specs.Waiting.{docs_of, is_id}
-use Rattle.agg_column.specs.Document.{Fields}
+use Rattle.agg_segment.specs.storage.Document.{Fields}
 use Rattle.agg_segment.specs.Query.{matches}
 use Rattle.agg_segment.specs.Segment.{Stored, documents_at}
 use Rattle.agg_segment.specs.declared.query.QueryTree.{QueryTree}
 use Rattle.agg_request_tree.specs.Request.{Request}
 use Rattle.agg_request_tree.proofs.Lists.{AllByRecursion-Has, AllByRecursion-map}
 use Rattle.agg_request_tree.proofs.Lists.{Has-from_Contains}
-use Rattle.agg_charges.specs.Roof.{counts_of}
-use Rattle.agg_buckets.specs.Visits.{docs_in}
-use Rattle.agg_buckets.proofs.Labels.{is_id-same}
-use Rattle.agg_segment_context.specs.Context.{Meaning}
-use Rattle.agg_segment_context.specs.declared.context.PerRequestAggSegCtx.{PerRequestAggSegCtx}
-use Rattle.agg_collector_tree.specs.Tree.{Held, IsFlushed}
-use Rattle.agg_held_bytes.specs.HeldBytes.{held_bytes}
-use Rattle.agg_held_bytes.specs.Trees.{AreOfSegment, AreUnder, IsTreeOf, over_parents}
-use Rattle.agg_held_bytes.specs.Trees.{taken_under}
-use Rattle.agg_held_bytes.proofs.TreeLeast.{least-group}
-use Rattle.agg_held_bytes.proofs.TreeMost.{most-group}
+use Rattle.agg_request_tree.specs.charges.Roof.{counts_of}
+use Rattle.agg_composite.specs.buckets.Visits.{docs_in}
+use Rattle.agg_composite.proofs.lemmas.buckets.Labels.{is_id-same}
+use Rattle.agg_engine_tree.specs.segment_context.Context.{Meaning}
+use Rattle.agg_engine_tree.specs.declared.segment_context.context.PerRequestAggSegCtx.{
+  PerRequestAggSegCtx,
+}
+use Rattle.agg_engine_tree.specs.collector_tree.Tree.{Held, IsFlushed}
+use Rattle.agg_engine_tree.specs.held_bytes.HeldBytes.{held_bytes}
+use Rattle.agg_engine_tree.specs.held_bytes.Trees.{AreOfSegment, AreUnder, IsTreeOf, over_parents}
+use Rattle.agg_engine_tree.specs.held_bytes.Trees.{taken_under}
+use Rattle.agg_engine_tree.proofs.lemmas.held_bytes.TreeLeast.{least-group}
+use Rattle.agg_engine_tree.proofs.lemmas.held_bytes.TreeMost.{most-group}
 
 -- ---- one parent
 

@@ -8,25 +8,30 @@ use Rattle.agg_request_tree.specs.Matching.{matching}
 use Rattle.agg_request_tree.specs.Request.{Request, below_of}
 use Rattle.agg_request_tree.specs.declared.aggregation.Aggregation.{Aggregation}
 use Rattle.agg_request_tree.specs.declared.aggregation.AggregationVariants.TheVariants as asks
-use Rattle.agg_charges.specs.Roof.{Counts, counts, counts_of}
-use Rattle.agg_charges.proofs.LawfulRequests.{Lawful-request}
-use Rattle.agg_buckets.specs.Visits.{docs_in}
-use Rattle.agg_segment_context.specs.Context.{ArePlansOf, IsMeant, IsPlanOf, Meaning}
-use Rattle.agg_segment_context.specs.Plan.{Plan, Plans}
-use Rattle.agg_segment_context.specs.declared.context.PerRequestAggSegCtx.{PerRequestAggSegCtx}
+use Rattle.agg_request_tree.specs.charges.Roof.{Counts, counts, counts_of}
+use Rattle.agg_request_tree.proofs.lemmas.charges.LawfulRequests.{Lawful-request}
+use Rattle.agg_composite.specs.buckets.Visits.{docs_in}
+use Rattle.agg_engine_tree.specs.segment_context.Context.{ArePlansOf, IsMeant, IsPlanOf, Meaning}
+use Rattle.agg_engine_tree.specs.segment_context.Plan.{Plan, Plans}
+use Rattle.agg_engine_tree.specs.declared.segment_context.context.PerRequestAggSegCtx.{
+  PerRequestAggSegCtx,
+}
 use Rattle.agg_filter.specs.Matching.{is_matching}
-use Rattle.agg_collector_tree.specs.Tree.{AllFit, AllFor, AreFlushed, AreOf, Fits, Held, Helds}
-use Rattle.agg_collector_tree.specs.Tree.{IsFlushed, IsFor, IsGroupOf, IsOf}
-use Rattle.agg_collector_tree.proofs.Levels.{no-node}
-use Rattle.agg_collector_tree.proofs.MatchedDocuments.{given-matched, matching-within}
-use Rattle.agg_collector_tree.proofs.WithinLists.{within-both, within-contains}
-use Rattle.agg_tree_results.proofs.NamedNodes.{composite-node, filter-node, metric-node}
-use Rattle.agg_held_bytes.specs.HeldBytes.{bytes_of_all, held_bytes}
-use Rattle.agg_held_bytes.specs.Trees.{over_parents}
-use Rattle.agg_held_bytes.proofs.CompositeNodes.{given-part, node-least, passed}
-use Rattle.agg_held_bytes.proofs.CountedNodes.{asked-composite, counts-asked, counts-more}
-use Rattle.agg_held_bytes.proofs.CountedNodes.{asked-metric, no-counts, nothing-asked}
-use Rattle.agg_held_bytes.proofs.FilterBytes.{above, filter-least}
+use Rattle.agg_engine_tree.specs.collector_tree.Tree.{AllFit, AllFor, AreFlushed, AreOf, Fits, Held}
+use Rattle.agg_engine_tree.specs.collector_tree.Tree.{Helds, IsFlushed, IsFor, IsGroupOf, IsOf}
+use Rattle.agg_engine_tree.proofs.lemmas.collector_tree.Levels.{no-node}
+use Rattle.agg_engine_tree.proofs.lemmas.collector_tree.MatchedDocuments.{given-matched}
+use Rattle.agg_engine_tree.proofs.lemmas.collector_tree.MatchedDocuments.{matching-within}
+use Rattle.agg_engine_tree.proofs.lemmas.collector_tree.WithinLists.{within-both, within-contains}
+use Rattle.agg_engine_tree.proofs.lemmas.tree_results.NamedNodes.{composite-node, filter-node}
+use Rattle.agg_engine_tree.proofs.lemmas.tree_results.NamedNodes.{metric-node}
+use Rattle.agg_engine_tree.specs.held_bytes.HeldBytes.{bytes_of_all, held_bytes}
+use Rattle.agg_engine_tree.specs.held_bytes.Trees.{over_parents}
+use Rattle.agg_engine_tree.proofs.lemmas.held_bytes.CompositeNodes.{given-part, node-least, passed}
+use Rattle.agg_engine_tree.proofs.lemmas.held_bytes.CountedNodes.{asked-composite, counts-asked}
+use Rattle.agg_engine_tree.proofs.lemmas.held_bytes.CountedNodes.{counts-more, asked-metric}
+use Rattle.agg_engine_tree.proofs.lemmas.held_bytes.CountedNodes.{no-counts, nothing-asked}
+use Rattle.agg_engine_tree.proofs.lemmas.held_bytes.FilterBytes.{above, filter-least}
 
 module _ (meaning : Meaning) (ctx : PerRequestAggSegCtx) (is : IsMeant meaning ctx) where
   -- the documents of pairs are of the segment

@@ -6,22 +6,25 @@ use Rattle.agg_segment.specs.declared.query.QueryTree.{QueryTree}
 use Rattle.agg_request_tree.specs.Request.{Request, below_of}
 use Rattle.agg_request_tree.specs.declared.aggregation.Aggregation.{Aggregation}
 use Rattle.agg_request_tree.specs.declared.aggregation.AggregationVariants.TheVariants as asks
-use Rattle.agg_charges.specs.Roof.{Counts, counts, counts_of}
-use Rattle.agg_charges.proofs.LawfulRequests.{Lawful-request}
-use Rattle.agg_segment_context.specs.Context.{ArePlansOf, IsMeant, IsPlanOf, Meaning}
-use Rattle.agg_segment_context.specs.Plan.{Plan, Plans}
-use Rattle.agg_segment_context.specs.declared.context.PerRequestAggSegCtx.{PerRequestAggSegCtx}
-use Rattle.agg_collector_tree.specs.Tree.{AllFit, AllFor, AreOf, Fits, Held, Helds, IsFor}
-use Rattle.agg_collector_tree.specs.Tree.{IsGroupOf, IsOf}
-use Rattle.agg_collector_tree.proofs.Levels.{no-node}
-use Rattle.agg_collector_tree.proofs.LowerDocuments.{top}
-use Rattle.agg_tree_results.proofs.NamedNodes.{composite-node, filter-node}
-use Rattle.agg_held_bytes.specs.HeldBytes.{bytes_of_all, held_bytes}
-use Rattle.agg_held_bytes.specs.Trees.{over_parents}
-use Rattle.agg_held_bytes.proofs.CompositeNodes.{given-low, node-most, passed}
-use Rattle.agg_held_bytes.proofs.CountedNodes.{asked-composite, counts-asked, counts-more}
-use Rattle.agg_held_bytes.proofs.DocumentLists.{none-past}
-use Rattle.agg_held_bytes.proofs.FilterBytes.{filter-most}
+use Rattle.agg_request_tree.specs.charges.Roof.{Counts, counts, counts_of}
+use Rattle.agg_request_tree.proofs.lemmas.charges.LawfulRequests.{Lawful-request}
+use Rattle.agg_engine_tree.specs.segment_context.Context.{ArePlansOf, IsMeant, IsPlanOf, Meaning}
+use Rattle.agg_engine_tree.specs.segment_context.Plan.{Plan, Plans}
+use Rattle.agg_engine_tree.specs.declared.segment_context.context.PerRequestAggSegCtx.{
+  PerRequestAggSegCtx,
+}
+use Rattle.agg_engine_tree.specs.collector_tree.Tree.{AllFit, AllFor, AreOf, Fits, Held, Helds}
+use Rattle.agg_engine_tree.specs.collector_tree.Tree.{IsFor, IsGroupOf, IsOf}
+use Rattle.agg_engine_tree.proofs.lemmas.collector_tree.Levels.{no-node}
+use Rattle.agg_engine_tree.proofs.lemmas.collector_tree.LowerDocuments.{top}
+use Rattle.agg_engine_tree.proofs.lemmas.tree_results.NamedNodes.{composite-node, filter-node}
+use Rattle.agg_engine_tree.specs.held_bytes.HeldBytes.{bytes_of_all, held_bytes}
+use Rattle.agg_engine_tree.specs.held_bytes.Trees.{over_parents}
+use Rattle.agg_engine_tree.proofs.lemmas.held_bytes.CompositeNodes.{given-low, node-most, passed}
+use Rattle.agg_engine_tree.proofs.lemmas.held_bytes.CountedNodes.{asked-composite, counts-asked}
+use Rattle.agg_engine_tree.proofs.lemmas.held_bytes.CountedNodes.{counts-more}
+use Rattle.agg_engine_tree.proofs.lemmas.held_bytes.DocumentLists.{none-past}
+use Rattle.agg_engine_tree.proofs.lemmas.held_bytes.FilterBytes.{filter-most}
 
 -- the parents of pairs are below the number above them all
 below-top : (m : ℕ) (pairs : List (ℕ × ℕ)) → top pairs ≤ m → AllByRecursion (λ e. e.0 < m) pairs

@@ -11,10 +11,10 @@ use Rattle.agg_request_tree.specs.Faults.{IsSoundSource}
 use Rattle.agg_request_tree.specs.declared.source.CompositeAggregationSource as kind
 use kind.{CompositeAggregationSource}
 use Rattle.agg_request_tree.proofs.PairedLists.{AllZip-append}
-use Rattle.agg_accessor.specs.Accessors.{HasNoAccessors}
-use Rattle.agg_segment_context.specs.SetupError.{error_from_request}
-use Rattle.agg_segment_context.specs.declared.error.SetupError.{SetupError}
-use Rattle.agg_segment_context.specs.declared.error.SetupError.TheVariants.{OutOfMemory}
+use Rattle.agg_composite.specs.accessor.Accessors.{HasNoAccessors}
+use Rattle.agg_engine_tree.specs.segment_context.SetupError.{error_from_request}
+use Rattle.agg_engine_tree.specs.declared.segment_context.error.SetupError.{SetupError}
+use Rattle.agg_engine_tree.specs.declared.segment_context.error.SetupError.TheVariants.{OutOfMemory}
 
 -- one item more on each side
 pub AllZip-one_more : {A B : Type 0} (R : A → B → Type 0) (xs : List A) (i : ℕ) (ys zs : List B)

@@ -13,18 +13,25 @@ use Rattle.agg_segment.specs.Segment.{Stored}
 use Rattle.agg_segment.specs.declared.query.QueryTree.{QueryTree}
 use Rattle.agg_request_tree.specs.Faults.{IsSound, max_sources}
 use Rattle.agg_request_tree.specs.declared.aggregation.CompositeAggregation.{CompositeAggregation}
-use Rattle.agg_accessor.specs.Accessors.{Fits}
-use Rattle.agg_accessor.specs.declared.request_data.CompositeAggReqData.{CompositeAggReqData}
+use Rattle.agg_composite.specs.accessor.Accessors.{Fits}
+use Rattle.agg_composite.specs.declared.accessor.request_data.CompositeAggReqData.{
+  CompositeAggReqData,
+}
 use Rattle.agg_filter.specs.declared.request_data.FilterAggReqData.{FilterAggReqData}
 use Rattle.agg_metric.specs.declared.request_data.StatsType.{StatsType}
-use Rattle.agg_segment_context.specs.Additions.{AddsData, AppendsComposite, AppendsFilter}
-use Rattle.agg_segment_context.specs.Additions.{AppendsMetric, GivesFrom, KeepsData, TreesFollow}
-use Rattle.agg_segment_context.specs.Context.{HasFewSources, IsCompositeAt, IsCompositeMeant}
-use Rattle.agg_segment_context.specs.Context.{IsFilterMeant, IsMeant, IsMetricAt, Meaning}
-use Rattle.agg_segment_context.specs.declared.context.PerRequestAggSegCtx.{PerRequestAggSegCtx}
-use Rattle.agg_segment_context.specs.declared.segment.origin.Origin.{Origin}
-use Rattle.agg_segment_context.proofs.Keeps.{keeps-same, keeps-then}
-use Rattle.agg_segment_context.proofs.Stays.{at-end, gives-parts, in-appended, stays-append}
+use Rattle.agg_engine_tree.specs.segment_context.Additions.{AddsData, AppendsComposite}
+use Rattle.agg_engine_tree.specs.segment_context.Additions.{AppendsFilter, AppendsMetric, GivesFrom}
+use Rattle.agg_engine_tree.specs.segment_context.Additions.{KeepsData, TreesFollow}
+use Rattle.agg_engine_tree.specs.segment_context.Context.{HasFewSources, IsCompositeAt}
+use Rattle.agg_engine_tree.specs.segment_context.Context.{IsCompositeMeant, IsFilterMeant, IsMeant}
+use Rattle.agg_engine_tree.specs.segment_context.Context.{IsMetricAt, Meaning}
+use Rattle.agg_engine_tree.specs.declared.segment_context.context.PerRequestAggSegCtx.{
+  PerRequestAggSegCtx,
+}
+use Rattle.agg_engine_tree.specs.declared.segment_context.segment.origin.Origin.{Origin}
+use Rattle.agg_engine_tree.proofs.lemmas.segment_context.Keeps.{keeps-same, keeps-then}
+use Rattle.agg_engine_tree.proofs.lemmas.segment_context.Stays.{at-end, gives-parts, in-appended}
+use Rattle.agg_engine_tree.proofs.lemmas.segment_context.Stays.{stays-append}
 
 -- ---- steps
 
@@ -43,7 +50,7 @@ module _ (segment : Stored) where
     told = λ meaning same queries afters meant. (meant, so meaning);
   }
 
-  -- the same, said otherwise
+  -- what was added, told by equal trees and after keys, and by what follows of the context
   pub adds-so : (trees others : List QueryTree) (afters keys : List (Named AfterKey))
       (IsSo IsToo : So) (old new : PerRequestAggSegCtx) → AddsData segment trees afters IsSo old new
       → trees ≡ others → afters ≡ keys

@@ -8,7 +8,7 @@ use Rattle.agg_request_tree.specs.declared.aggregation.Aggregation.TheFolds as f
 use folds.{fold_out-Aggregation}
 use Rattle.agg_request_tree.specs.declared.aggregation.AggregationVariants.{AggregationVariants}
 use Rattle.agg_request_tree.proofs.RequestTrees.{agg-made, below-made, listed-out}
-use Rattle.agg_segment_context.proofs.Levels.{OfEach, by_levels}
+use Rattle.agg_engine_tree.proofs.lemmas.segment_context.Levels.{OfEach, by_levels}
 
 module _ {B C : Type 0} (made : B → C) where
   -- one level of an aggregation with something else in place of each builder
@@ -25,7 +25,7 @@ module _ {B C : Type 0} (made : B → C) where
       ap (λ (x : Aggregation C). agg_of x) (built-out a)
       ∙ agg-made (with_own_builder made (agg_of a)) (with_builders made (below_of a))
 
-  -- and what is below it
+  -- what is below it
   pub below-built : (a : Aggregation B)
       → below_of (with_builders_in made a) ≡ with_builders made (below_of a)
   below-built a =
@@ -55,7 +55,7 @@ module _ {B C X : Type 0} (made : B → C) (own : AggregationVariants C → List
       ∙ ap (λ xs. own_built (agg_of a) ++ xs) (each_listed (below_of a) below)
       ∙ sym (listed-out own_built a))
 
-  -- and what a request lists
+  -- what a request lists
   pub listed-built : (request : Request B)
       → listed_of own (with_builders made request)
       ≡ listed_of (λ agg. own (with_own_builder made agg)) request

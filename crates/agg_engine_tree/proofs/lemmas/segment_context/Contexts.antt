@@ -8,20 +8,23 @@ use Rattle.agg_segment.specs.declared.query.QueryTree.{QueryTree}
 use Rattle.agg_segment.specs.declared.query.QueryTree.TheVariants.{Empty}
 use Rattle.agg_request_tree.specs.Faults.{IsSound, IsSoundRequest}
 use Rattle.agg_request_tree.specs.Request.{Request, composites_of, with_builders}
-use Rattle.agg_segment_context.specs.Additions.{AddsRequest, GivesFrom, IsReadyFor, TreesFollow}
-use Rattle.agg_segment_context.specs.Additions.{afters_of, page_of, paged_each}
-use Rattle.agg_segment_context.specs.Context.{ArePlansOf, IsCompositeMeant, IsContextOf}
-use Rattle.agg_segment_context.specs.Context.{IsFilterMeant, IsMeant, Meaning}
-use Rattle.agg_segment_context.specs.Pages.{paged}
-use Rattle.agg_segment_context.specs.Plan.{plan_of, plans_of}
-use Rattle.agg_segment_context.specs.Trees.{AreOfRequest, AreTreesOf, trees_of}
-use Rattle.agg_segment_context.specs.declared.context.PerRequestAggSegCtx.{PerRequestAggSegCtx}
-use Rattle.agg_segment_context.specs.declared.node.AggRefNode.{AggRefNode}
-use Rattle.agg_segment_context.specs.declared.params.Page.{Page}
-use Rattle.agg_segment_context.specs.declared.segment.origin.Origin.{Origin}
-use Rattle.agg_segment_context.proofs.Keeps.{plans-kept}
-use Rattle.agg_segment_context.proofs.Pages.{paged-each}
-use Rattle.agg_segment_context.proofs.Stays.{gives-get_or, gives-slice_get}
+use Rattle.agg_engine_tree.specs.segment_context.Additions.{AddsRequest, GivesFrom, IsReadyFor}
+use Rattle.agg_engine_tree.specs.segment_context.Additions.{TreesFollow, afters_of, page_of}
+use Rattle.agg_engine_tree.specs.segment_context.Additions.{paged_each}
+use Rattle.agg_engine_tree.specs.segment_context.Context.{ArePlansOf, IsCompositeMeant, IsContextOf}
+use Rattle.agg_engine_tree.specs.segment_context.Context.{IsFilterMeant, IsMeant, Meaning}
+use Rattle.agg_engine_tree.specs.segment_context.Pages.{paged}
+use Rattle.agg_engine_tree.specs.segment_context.Plan.{plan_of, plans_of}
+use Rattle.agg_engine_tree.specs.segment_context.Trees.{AreOfRequest, AreTreesOf, trees_of}
+use Rattle.agg_engine_tree.specs.declared.segment_context.context.PerRequestAggSegCtx.{
+  PerRequestAggSegCtx,
+}
+use Rattle.agg_engine_tree.specs.declared.segment_context.node.AggRefNode.{AggRefNode}
+use Rattle.agg_engine_tree.specs.declared.segment_context.params.Page.{Page}
+use Rattle.agg_engine_tree.specs.declared.segment_context.segment.origin.Origin.{Origin}
+use Rattle.agg_engine_tree.proofs.lemmas.segment_context.Keeps.{plans-kept}
+use Rattle.agg_engine_tree.proofs.lemmas.segment_context.Pages.{paged-each}
+use Rattle.agg_engine_tree.proofs.lemmas.segment_context.Stays.{gives-get_or, gives-slice_get}
 
 -- a context without data
 pub record IsEmpty (ctx : PerRequestAggSegCtx) : Type 0 where

@@ -7,12 +7,14 @@ use Rattle.agg_request_tree.specs.declared.aggregation.AggregationVariants as va
 use variants.{AggregationVariants}
 use variants.TheVariants as asks
 use Rattle.agg_metric.specs.declared.request_data.StatsType.TheVariants as stats
-use Rattle.agg_segment_context.specs.Additions.{KeepsData}
-use Rattle.agg_segment_context.specs.Context.{ArePlansOf, IsAskedAt, IsPlanOf, Meaning}
-use Rattle.agg_segment_context.specs.Plan.{Plan, Plans, plans_of}
-use Rattle.agg_segment_context.specs.declared.context.PerRequestAggSegCtx.{PerRequestAggSegCtx}
-use Rattle.agg_segment_context.specs.declared.node.AggKind.{AggKind}
-use Rattle.agg_segment_context.specs.declared.node.AggKind.TheVariants as kind
+use Rattle.agg_engine_tree.specs.segment_context.Additions.{KeepsData}
+use Rattle.agg_engine_tree.specs.segment_context.Context.{ArePlansOf, IsAskedAt, IsPlanOf, Meaning}
+use Rattle.agg_engine_tree.specs.segment_context.Plan.{Plan, Plans, plans_of}
+use Rattle.agg_engine_tree.specs.declared.segment_context.context.PerRequestAggSegCtx.{
+  PerRequestAggSegCtx,
+}
+use Rattle.agg_engine_tree.specs.declared.segment_context.node.AggKind.{AggKind}
+use Rattle.agg_engine_tree.specs.declared.segment_context.node.AggKind.TheVariants as kind
 
 -- nothing is lost where nothing changes
 pub keeps-same : (ctx : PerRequestAggSegCtx) → KeepsData ctx ctx
@@ -22,7 +24,7 @@ keeps-same ctx = record {
   composites = λ i x at. at;
 }
 
--- nor where data is kept twice
+-- nothing is lost where data is kept twice
 pub keeps-then : (old mid new : PerRequestAggSegCtx) → KeepsData old mid → KeepsData mid new
     → KeepsData old new
 keeps-then old mid new first then = record {
@@ -58,7 +60,7 @@ module _ (meaning : Meaning) (old new : PerRequestAggSegCtx) (kept : KeepsData o
       plans-kept (below_of a) below is.1,
     )
 
-    -- and plans stay those of a request
+    -- plans stay those of a request
     pub plans-kept : (request : Request QueryTree) (plans : Plans)
         → ArePlansOf meaning old request plans → ArePlansOf meaning new request plans
     plans-kept [] Plans.none are = tt

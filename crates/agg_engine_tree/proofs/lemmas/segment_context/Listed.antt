@@ -6,7 +6,7 @@ use Rattle.agg_request_tree.specs.Request.{Request, agg_of, below_of, listed_in,
 use Rattle.agg_request_tree.specs.declared.aggregation.Aggregation.{Aggregation}
 use Rattle.agg_request_tree.specs.declared.aggregation.AggregationVariants.{AggregationVariants}
 use Rattle.agg_request_tree.proofs.RequestTrees.{listed-out}
-use Rattle.agg_segment_context.proofs.Levels.{OfEach, by_levels}
+use Rattle.agg_engine_tree.proofs.lemmas.segment_context.Levels.{OfEach, by_levels}
 
 -- two requests joined list what both list
 pub listed-append : {B X : Type 0} (own : AggregationVariants B → List X) (xs ys : Request B)
@@ -37,7 +37,7 @@ module _ {B X Y : Type 0} (own : AggregationVariants B → List X)
       ∙ sym (flat_map-append f (own (agg_of a)) (listed_of own (below_of a)))
       ∙ ap (λ xs. flat_map f xs) (sym (listed-out own a)))
 
-  -- and so of a request
+  -- what a request lists is that which comes of what it lists otherwise
   pub listed-flat : (request : Request B)
       → listed_of other request ≡ flat_map f (listed_of own request)
   listed-flat [] = refl

@@ -10,19 +10,22 @@ use Rattle.agg_request_tree.specs.Request.{own_composite, with_builders, with_bu
 use Rattle.agg_request_tree.specs.declared.aggregation.Aggregation.{Aggregation}
 use Rattle.agg_request_tree.specs.declared.aggregation.CompositeAggregation.{CompositeAggregation}
 use Rattle.agg_request_tree.proofs.RequestTrees.{height, levels}
-use Rattle.agg_segment_context.specs.Additions.{AddsIn, AddsRequest, IsReadyFor, IsReadyIn}
-use Rattle.agg_segment_context.specs.Additions.{TreesFollow, afters_of, page_of, paged_each}
-use Rattle.agg_segment_context.specs.Additions.{paged_in}
-use Rattle.agg_segment_context.specs.Context.{ArePlansOf, IsPlanOf, Meaning}
-use Rattle.agg_segment_context.specs.Plan.{Plan, plan_of, plans_of}
-use Rattle.agg_segment_context.specs.Trees.{own_tree, trees_of}
-use Rattle.agg_segment_context.specs.declared.context.PerRequestAggSegCtx.{PerRequestAggSegCtx}
-use Rattle.agg_segment_context.specs.declared.node.AggRefNode.{AggRefNode}
-use Rattle.agg_segment_context.specs.declared.segment.origin.Origin.{Origin}
-use Rattle.agg_segment_context.proofs.Additions.{adds-so, adds-then}
-use Rattle.agg_segment_context.proofs.Keeps.{plans-kept, plans-more}
-use Rattle.agg_segment_context.proofs.Listed.{listed-append}
-use Rattle.agg_segment_context.proofs.Parts.{All-parts, follows-first, follows-next}
+use Rattle.agg_engine_tree.specs.segment_context.Additions.{AddsIn, AddsRequest, IsReadyFor}
+use Rattle.agg_engine_tree.specs.segment_context.Additions.{IsReadyIn, TreesFollow, afters_of}
+use Rattle.agg_engine_tree.specs.segment_context.Additions.{page_of, paged_each, paged_in}
+use Rattle.agg_engine_tree.specs.segment_context.Context.{ArePlansOf, IsPlanOf, Meaning}
+use Rattle.agg_engine_tree.specs.segment_context.Plan.{Plan, plan_of, plans_of}
+use Rattle.agg_engine_tree.specs.segment_context.Trees.{own_tree, trees_of}
+use Rattle.agg_engine_tree.specs.declared.segment_context.context.PerRequestAggSegCtx.{
+  PerRequestAggSegCtx,
+}
+use Rattle.agg_engine_tree.specs.declared.segment_context.node.AggRefNode.{AggRefNode}
+use Rattle.agg_engine_tree.specs.declared.segment_context.segment.origin.Origin.{Origin}
+use Rattle.agg_engine_tree.proofs.lemmas.segment_context.Additions.{adds-so, adds-then}
+use Rattle.agg_engine_tree.proofs.lemmas.segment_context.Keeps.{plans-kept, plans-more}
+use Rattle.agg_engine_tree.proofs.lemmas.segment_context.Listed.{listed-append}
+use Rattle.agg_engine_tree.proofs.lemmas.segment_context.Parts.{All-parts, follows-first}
+use Rattle.agg_engine_tree.proofs.lemmas.segment_context.Parts.{follows-next}
 
 module _ {B : Type 0} (made : B → QueryTree) (from : Origin) (done : Request B) (name : List ℕ)
     (a : Aggregation B) (nodes : List AggRefNode) (node : AggRefNode)

@@ -13,24 +13,31 @@ use Rattle.agg_request_tree.specs.declared.aggregation.Aggregation.{Aggregation}
 use Rattle.agg_request_tree.specs.declared.aggregation.AggregationVariants.{AggregationVariants}
 use Rattle.agg_request_tree.specs.declared.aggregation.CompositeAggregation.{CompositeAggregation}
 use Rattle.agg_request_tree.proofs.RequestTrees.{listed-out}
-use Rattle.agg_segment_context.specs.Additions.{AddsData, AddsIn, AddsOwn, AddsRequest, IsReadyFor}
-use Rattle.agg_segment_context.specs.Additions.{IsReadyForOwn, IsReadyIn, TreesFollow, afters_of}
-use Rattle.agg_segment_context.specs.Additions.{page_of, paged_agg, paged_each, paged_in}
-use Rattle.agg_segment_context.specs.Context.{ArePlansOf, IsAskedAt, IsPlanOf, Meaning}
-use Rattle.agg_segment_context.specs.Plan.{Plan, plan_of, plan_step, plans_of}
-use Rattle.agg_segment_context.specs.Trees.{own_tree, trees_of}
-use Rattle.agg_segment_context.specs.declared.context.PerRequestAggSegCtx.{PerRequestAggSegCtx}
-use Rattle.agg_segment_context.specs.declared.node.AggKind.{AggKind}
-use Rattle.agg_segment_context.specs.declared.node.AggRefNode.{AggRefNode}
-use Rattle.agg_segment_context.specs.declared.node.AggRefNode.TheFolds.{fold-roll-AggRefNode}
-use Rattle.agg_segment_context.specs.declared.node.AggRefNode.TheViews.{roll-AggRefNode}
-use Rattle.agg_segment_context.specs.declared.params.Page.{Page}
-use Rattle.agg_segment_context.specs.declared.segment.origin.Origin.{Origin}
-use Rattle.agg_segment_context.proofs.Additions.{adds-so, adds-then}
-use Rattle.agg_segment_context.proofs.Built.{agg-built, below-built}
-use Rattle.agg_segment_context.proofs.Keeps.{asked-kept}
-use Rattle.agg_segment_context.proofs.Pages.{agg-paged, below-paged, paged-each, composites-paged}
-use Rattle.agg_segment_context.proofs.Parts.{All-parts, follows-first, follows-next}
+use Rattle.agg_engine_tree.specs.segment_context.Additions.{AddsData, AddsIn, AddsOwn, AddsRequest}
+use Rattle.agg_engine_tree.specs.segment_context.Additions.{IsReadyFor, IsReadyForOwn, IsReadyIn}
+use Rattle.agg_engine_tree.specs.segment_context.Additions.{TreesFollow, afters_of, page_of}
+use Rattle.agg_engine_tree.specs.segment_context.Additions.{paged_agg, paged_each, paged_in}
+use Rattle.agg_engine_tree.specs.segment_context.Context.{ArePlansOf, IsAskedAt, IsPlanOf, Meaning}
+use Rattle.agg_engine_tree.specs.segment_context.Plan.{Plan, plan_of, plan_step, plans_of}
+use Rattle.agg_engine_tree.specs.segment_context.Trees.{own_tree, trees_of}
+use Rattle.agg_engine_tree.specs.declared.segment_context.context.PerRequestAggSegCtx.{
+  PerRequestAggSegCtx,
+}
+use Rattle.agg_engine_tree.specs.declared.segment_context.node.AggKind.{AggKind}
+use Rattle.agg_engine_tree.specs.declared.segment_context.node.AggRefNode.{AggRefNode}
+use Rattle.agg_engine_tree.specs.declared.segment_context.node.AggRefNode.TheFolds.{
+  fold-roll-AggRefNode,
+}
+use Rattle.agg_engine_tree.specs.declared.segment_context.node.AggRefNode.TheViews.{roll-AggRefNode}
+use Rattle.agg_engine_tree.specs.declared.segment_context.params.Page.{Page}
+use Rattle.agg_engine_tree.specs.declared.segment_context.segment.origin.Origin.{Origin}
+use Rattle.agg_engine_tree.proofs.lemmas.segment_context.Additions.{adds-so, adds-then}
+use Rattle.agg_engine_tree.proofs.lemmas.segment_context.Built.{agg-built, below-built}
+use Rattle.agg_engine_tree.proofs.lemmas.segment_context.Keeps.{asked-kept}
+use Rattle.agg_engine_tree.proofs.lemmas.segment_context.Pages.{agg-paged, below-paged, paged-each}
+use Rattle.agg_engine_tree.proofs.lemmas.segment_context.Pages.{composites-paged}
+use Rattle.agg_engine_tree.proofs.lemmas.segment_context.Parts.{All-parts, follows-first}
+use Rattle.agg_engine_tree.proofs.lemmas.segment_context.Parts.{follows-next}
 
 -- where no page is set, nothing is changed
 each-unpaged : {B : Type 0} (page : Option Page) → page ≡ None → (request : Request B)
@@ -93,7 +100,7 @@ module _ {B : Type 0} where
       sound = sounds.0;
     }
 
-    -- and then what is below it
+    -- after what it asks, what is below it is ready
     pub ready-below : (below : Origin) (place : AggKind × ℕ) (mid : PerRequestAggSegCtx)
         → page_of below ≡ None → below.trees.now ≡ from.trees.now
         → ((made : B → QueryTree)

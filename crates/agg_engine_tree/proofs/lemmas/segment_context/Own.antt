@@ -12,17 +12,21 @@ use Rattle.agg_request_tree.specs.declared.aggregation.filter.FilterAggregation 
 use filters.{FilterAggregation}
 use Rattle.agg_metric.specs.declared.request_data.StatsType.{StatsType}
 use Rattle.agg_metric.specs.declared.request_data.StatsType.TheVariants as stats
-use Rattle.agg_segment_context.specs.Additions.{AddsOwn, AppendsComposite, AppendsFilter}
-use Rattle.agg_segment_context.specs.Additions.{AppendsMetric, TreesFollow, page_of, paged_agg}
-use Rattle.agg_segment_context.specs.Additions.{paged_composite}
-use Rattle.agg_segment_context.specs.Context.{tree_in}
-use Rattle.agg_segment_context.specs.Trees.{own_tree}
-use Rattle.agg_segment_context.specs.declared.context.PerRequestAggSegCtx.{PerRequestAggSegCtx}
-use Rattle.agg_segment_context.specs.declared.error.SetupError.{SetupError}
-use Rattle.agg_segment_context.specs.declared.node.AggKind.{AggKind}
-use Rattle.agg_segment_context.specs.declared.node.AggKind.TheVariants as kind
-use Rattle.agg_segment_context.specs.declared.segment.origin.Origin.{Origin}
-use Rattle.agg_segment_context.proofs.Additions.{adds-composite, adds-filter, adds-metric}
+use Rattle.agg_engine_tree.specs.segment_context.Additions.{AddsOwn, AppendsComposite}
+use Rattle.agg_engine_tree.specs.segment_context.Additions.{AppendsFilter, AppendsMetric}
+use Rattle.agg_engine_tree.specs.segment_context.Additions.{TreesFollow, page_of, paged_agg}
+use Rattle.agg_engine_tree.specs.segment_context.Additions.{paged_composite}
+use Rattle.agg_engine_tree.specs.segment_context.Context.{tree_in}
+use Rattle.agg_engine_tree.specs.segment_context.Trees.{own_tree}
+use Rattle.agg_engine_tree.specs.declared.segment_context.context.PerRequestAggSegCtx.{
+  PerRequestAggSegCtx,
+}
+use Rattle.agg_engine_tree.specs.declared.segment_context.error.SetupError.{SetupError}
+use Rattle.agg_engine_tree.specs.declared.segment_context.node.AggKind.{AggKind}
+use Rattle.agg_engine_tree.specs.declared.segment_context.node.AggKind.TheVariants as kind
+use Rattle.agg_engine_tree.specs.declared.segment_context.segment.origin.Origin.{Origin}
+use Rattle.agg_engine_tree.proofs.lemmas.segment_context.Additions.{adds-composite, adds-filter}
+use Rattle.agg_engine_tree.proofs.lemmas.segment_context.Additions.{adds-metric}
 
 -- a metric computes this of a field
 abbrev pub IsStats : {B : Type 0} → AggregationVariants B → StatsType → List ℕ → Type 0

@@ -20,12 +20,12 @@ use variants.TheVariants.{Composite}
 use Rattle.agg_request_tree.specs.declared.aggregation.CompositeAggregation.{CompositeAggregation}
 use Rattle.agg_request_tree.proofs.CheckedRequests as checked
 use checked.{Any-back, EachAscends, NamesAscend-whole}
-use Rattle.agg_segment_context.specs.Additions.{paged_agg, paged_composite, paged_each}
-use Rattle.agg_segment_context.specs.Additions.{paged_in}
-use Rattle.agg_segment_context.specs.Pages.{paged}
-use Rattle.agg_segment_context.specs.declared.params.Page.{Page}
-use Rattle.agg_segment_context.proofs.Pages.{below-paged, composites-paged, paged-each}
-use Rattle.agg_segment_context.proofs.Pages.{with-parts}
+use Rattle.agg_engine_tree.specs.segment_context.Additions.{paged_agg, paged_composite, paged_each}
+use Rattle.agg_engine_tree.specs.segment_context.Additions.{paged_in}
+use Rattle.agg_engine_tree.specs.segment_context.Pages.{paged}
+use Rattle.agg_engine_tree.specs.declared.segment_context.params.Page.{Page}
+use Rattle.agg_engine_tree.proofs.lemmas.segment_context.Pages.{below-paged, composites-paged}
+use Rattle.agg_engine_tree.proofs.lemmas.segment_context.Pages.{paged-each, with-parts}
 
 module _ {B : Type 0} (page : Option Page) where
   -- ---- one by one

@@ -19,9 +19,10 @@ use Rattle.agg_request_tree.specs.declared.aggregation.CompositeAggregation.{Com
 use Rattle.agg_request_tree.proofs.Faults.{IsSound-sources}
 use Rattle.agg_request_tree.proofs.RequestTrees.{agg-made, below-made, composites-out}
 use Rattle.agg_request_tree.proofs.RequestTrees.{made-of_parts}
-use Rattle.agg_segment_context.specs.Additions.{paged_agg, paged_composite, paged_each, paged_in}
-use Rattle.agg_segment_context.specs.Pages.{changed, paged, with_after, with_size}
-use Rattle.agg_segment_context.specs.declared.params.Page.{Page}
+use Rattle.agg_engine_tree.specs.segment_context.Additions.{paged_agg, paged_composite, paged_each}
+use Rattle.agg_engine_tree.specs.segment_context.Additions.{paged_in}
+use Rattle.agg_engine_tree.specs.segment_context.Pages.{changed, paged, with_after, with_size}
+use Rattle.agg_engine_tree.specs.declared.segment_context.params.Page.{Page}
 
 -- ---- the page for a composite
 

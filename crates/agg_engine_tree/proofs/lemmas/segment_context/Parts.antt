@@ -5,10 +5,12 @@ use Rattle.std.specs.List.{All, slice_get}
 use Rattle.std.proofs.Math.ListN.{get_or-append}
 use Rattle.std.proofs.lemmas.List.{get_or-append-add, length-map, map-append}
 use Rattle.agg_segment.specs.declared.query.QueryTree.{QueryTree}
-use Rattle.agg_segment_context.specs.Additions.{GivesFrom, TreesFollow}
-use Rattle.agg_segment_context.specs.declared.context.PerRequestAggSegCtx.{PerRequestAggSegCtx}
-use Rattle.agg_segment_context.specs.declared.segment.origin.Origin.{Origin}
-use Rattle.agg_segment_context.proofs.Stays.{gives-parts}
+use Rattle.agg_engine_tree.specs.segment_context.Additions.{GivesFrom, TreesFollow}
+use Rattle.agg_engine_tree.specs.declared.segment_context.context.PerRequestAggSegCtx.{
+  PerRequestAggSegCtx,
+}
+use Rattle.agg_engine_tree.specs.declared.segment_context.segment.origin.Origin.{Origin}
+use Rattle.agg_engine_tree.proofs.lemmas.segment_context.Stays.{gives-parts}
 
 -- what holds of each of two lists together holds of each of both
 pub All-parts : {X : Type 0} (P : X → Type 0) (xs ys : List X) → All P (xs ++ ys)
@@ -35,7 +37,7 @@ module _ (from : Origin) (ctx : PerRequestAggSegCtx) (xs ys : List QueryTree)
   pub follows-first : TreesFollow from ctx xs
   follows-first = both.0
 
-  -- and then the others
+  -- the other trees follow after the first
   pub follows-next : (below : Origin) (next : PerRequestAggSegCtx)
       → below.trees.now ≡ from.trees.now
       → length next.filter_req_data ≡ length ctx.filter_req_data + length xs

@@ -4,7 +4,7 @@ use Rattle.agg_request_tree.specs.Request.{Request, agg_of, below_of, listed_in}
 use Rattle.agg_request_tree.specs.declared.aggregation.Aggregation.{Aggregation}
 use Rattle.agg_request_tree.specs.declared.aggregation.filter.FilterQuery.{FilterQuery}
 use Rattle.agg_request_tree.proofs.RequestTrees.{levels, listed-out}
-use Rattle.agg_segment_context.specs.Trees.{own_query, queries_of}
+use Rattle.agg_engine_tree.specs.segment_context.Trees.{own_query, queries_of}
 
 module _ {B : Type 0} where
   -- what has been gathered, and what is left, are the queries of the whole

@@ -6,7 +6,7 @@ use Rattle.std.specs.List.{slice_get}
 use Rattle.std.proofs.Math.ListN.{get_or-append}
 use Rattle.std.proofs.Math.Seq.{get_or-append_seam}
 use Rattle.std.proofs.lemmas.Option.{get_or_from_slice_get, slice_get-get_or, slice_get_within}
-use Rattle.agg_segment_context.specs.Additions.{GivesFrom, StaysIn}
+use Rattle.agg_engine_tree.specs.segment_context.Additions.{GivesFrom, StaysIn}
 
 -- ---- what stands at an index
 

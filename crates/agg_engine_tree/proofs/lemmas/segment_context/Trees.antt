@@ -21,14 +21,15 @@ use Rattle.agg_request_tree.specs.declared.builder.QueryBuildError.{QueryBuildEr
 use Rattle.agg_request_tree.specs.declared.builder.QueryBuildError.TheVariants as build
 use Rattle.agg_request_tree.proofs.Lists.{Contains-from_Has, Has, Has-flat_map}
 use Rattle.agg_request_tree.proofs.Lists.{Has-from_Contains}
-use Rattle.agg_segment_context.specs.Context.{tree_in}
-use Rattle.agg_segment_context.specs.SetupError.{error_from_builder}
-use Rattle.agg_segment_context.specs.declared.error.SetupError.{SetupError}
-use Rattle.agg_segment_context.specs.declared.error.SetupError.TheVariants.{QueryBuild}
-use Rattle.agg_segment_context.specs.Trees.{EachMakesTree, SomeMakesNone, built, built_tree}
-use Rattle.agg_segment_context.specs.Trees.{own_query, own_tree, queries_of, trees_of}
-use Rattle.agg_segment_context.proofs.Built.{listed-built}
-use Rattle.agg_segment_context.proofs.Listed.{listed-flat}
+use Rattle.agg_engine_tree.specs.segment_context.Context.{tree_in}
+use Rattle.agg_engine_tree.specs.segment_context.SetupError.{error_from_builder}
+use Rattle.agg_engine_tree.specs.declared.segment_context.error.SetupError.{SetupError}
+use Rattle.agg_engine_tree.specs.declared.segment_context.error.SetupError.TheVariants.{QueryBuild}
+use Rattle.agg_engine_tree.specs.segment_context.Trees.{EachMakesTree, SomeMakesNone, built}
+use Rattle.agg_engine_tree.specs.segment_context.Trees.{built_tree, own_query, own_tree, queries_of}
+use Rattle.agg_engine_tree.specs.segment_context.Trees.{trees_of}
+use Rattle.agg_engine_tree.proofs.lemmas.segment_context.Built.{listed-built}
+use Rattle.agg_engine_tree.proofs.lemmas.segment_context.Listed.{listed-flat}
 
 -- a builder that gives no tree is refused as such
 pub none-refused : {T B : Type 0} (query_for : B → Option QueryTree) (query : FilterQuery B)

@@ -9,7 +9,7 @@ use Rattle.std.specs.Str.{bytes_eq}
 use Rattle.std.specs.Cmp.Lexicographic.{texts_ties}
 use Rattle.std.proofs.lemmas.List.{at_drop_more, map-append, take-append-drop, take_all, take_more}
 use Rattle.std.proofs.lemmas.List.Folds.{find-append}
-use Rattle.agg_column.proofs.Places.{same_texts}
+use Rattle.agg_segment.proofs.lemmas.storage.Places.{same_texts}
 use Rattle.agg_values.specs.Names.{value_of}
 use Rattle.agg_segment.specs.declared.query.QueryTree.{QueryTree}
 use Rattle.agg_request_tree.specs.Request.{Request, agg_of, below_of}
@@ -18,19 +18,26 @@ use Rattle.agg_request_tree.specs.declared.aggregation.Aggregation.TheFolds.{fol
 use Rattle.agg_request_tree.specs.declared.aggregation.AggregationVariants.{AggregationVariants}
 use Rattle.agg_request_tree.specs.declared.aggregation.AggregationVariants.TheVariants as asks
 use Rattle.agg_metric.specs.declared.request_data.StatsType.TheVariants as stats
-use Rattle.agg_segment_context.specs.Context.{ArePlansOf, IsAskedAt, IsContextOf, IsPlanOf}
-use Rattle.agg_segment_context.specs.Context.{Meaning}
-use Rattle.agg_segment_context.specs.Plan.{Plan, plan_of, plan_step, plans_of}
-use Rattle.agg_segment_context.specs.Views.{IsNodeOf, asked_word, children_of, is_named, kind_word}
-use Rattle.agg_segment_context.specs.Views.{name_at, name_in, view_in, view_step, views_of}
-use Rattle.agg_segment_context.specs.declared.context.PerRequestAggSegCtx.{PerRequestAggSegCtx}
-use Rattle.agg_segment_context.specs.declared.node.AggKind.{AggKind}
-use Rattle.agg_segment_context.specs.declared.node.AggKind.TheVariants as kind
-use Rattle.agg_segment_context.specs.declared.node.AggRefNode.{AggRefNode}
-use Rattle.agg_segment_context.specs.declared.node.AggRefNode.TheFolds.{fold_out-AggRefNode}
-use Rattle.agg_segment_context.specs.declared.node.AggRefNode.TheViews.{out-AggRefNode}
-use Rattle.agg_segment_context.specs.declared.view.AggTreeViewNode.{AggTreeViewNode}
-use Rattle.agg_segment_context.specs.declared.view.AggTreeViewNode.TheViews.{roll-AggTreeViewNode}
+use Rattle.agg_engine_tree.specs.segment_context.Context.{ArePlansOf, IsAskedAt, IsContextOf}
+use Rattle.agg_engine_tree.specs.segment_context.Context.{IsPlanOf, Meaning}
+use Rattle.agg_engine_tree.specs.segment_context.Plan.{Plan, plan_of, plan_step, plans_of}
+use Rattle.agg_engine_tree.specs.segment_context.Views.{IsNodeOf, asked_word, children_of, is_named}
+use Rattle.agg_engine_tree.specs.segment_context.Views.{kind_word, name_at, name_in, view_in}
+use Rattle.agg_engine_tree.specs.segment_context.Views.{view_step, views_of}
+use Rattle.agg_engine_tree.specs.declared.segment_context.context.PerRequestAggSegCtx.{
+  PerRequestAggSegCtx,
+}
+use Rattle.agg_engine_tree.specs.declared.segment_context.node.AggKind.{AggKind}
+use Rattle.agg_engine_tree.specs.declared.segment_context.node.AggKind.TheVariants as kind
+use Rattle.agg_engine_tree.specs.declared.segment_context.node.AggRefNode.{AggRefNode}
+use Rattle.agg_engine_tree.specs.declared.segment_context.node.AggRefNode.TheFolds.{
+  fold_out-AggRefNode,
+}
+use Rattle.agg_engine_tree.specs.declared.segment_context.node.AggRefNode.TheViews.{out-AggRefNode}
+use Rattle.agg_engine_tree.specs.declared.segment_context.view.AggTreeViewNode.{AggTreeViewNode}
+use Rattle.agg_engine_tree.specs.declared.segment_context.view.AggTreeViewNode.TheViews.{
+  roll-AggTreeViewNode,
+}
 
 -- ---- a node's plan
 
@@ -78,7 +85,7 @@ module _ (meaning : Meaning) (ctx : PerRequestAggSegCtx) where
         (asked-name name (agg_of a) (out-AggRefNode node).kind
         (out-AggRefNode node).idx_in_req_data parts.0).1
 
-    -- and below it the nodes of those below the aggregation
+    -- below the node are the nodes of those below the aggregation
     pub plan-below : ArePlansOf meaning ctx (below_of a)
         (plans_of (map plan_of (children_of node)))
     plan-below = parts.1

@@ -12,13 +12,17 @@ use Rattle.agg_segment.specs.declared.query.QueryTree.{QueryTree}
 use Rattle.agg_request_tree.specs.Names.{NamesAscend}
 use Rattle.agg_request_tree.specs.Request.{Request, below_of}
 use Rattle.agg_request_tree.specs.declared.aggregation.Aggregation.{Aggregation}
-use Rattle.agg_segment_context.specs.Context.{ArePlansOf, IsPlanOf, Meaning}
-use Rattle.agg_segment_context.specs.Plan.{Plan, Plans}
-use Rattle.agg_segment_context.specs.declared.context.PerRequestAggSegCtx.{PerRequestAggSegCtx}
-use Rattle.agg_segment_context.specs.declared.node.AggKind.TheVariants as kind
-use Rattle.agg_collector_tree.specs.Tree.{AreOf, Held, Helds, IsGroupOf, IsOf}
-use Rattle.agg_tree_results.specs.Names.{HasNamesApart, HaveNamesApart, names_in, names_of}
-use Rattle.agg_tree_results.proofs.NamedNodes.{composite-node, filter-node, names-asked, names-own}
+use Rattle.agg_engine_tree.specs.segment_context.Context.{ArePlansOf, IsPlanOf, Meaning}
+use Rattle.agg_engine_tree.specs.segment_context.Plan.{Plan, Plans}
+use Rattle.agg_engine_tree.specs.declared.segment_context.context.PerRequestAggSegCtx.{
+  PerRequestAggSegCtx,
+}
+use Rattle.agg_engine_tree.specs.declared.segment_context.node.AggKind.TheVariants as kind
+use Rattle.agg_engine_tree.specs.collector_tree.Tree.{AreOf, Held, Helds, IsGroupOf, IsOf}
+use Rattle.agg_engine_tree.specs.tree_results.Names.{HasNamesApart, HaveNamesApart, names_in}
+use Rattle.agg_engine_tree.specs.tree_results.Names.{names_of}
+use Rattle.agg_engine_tree.proofs.lemmas.tree_results.NamedNodes.{composite-node, filter-node}
+use Rattle.agg_engine_tree.proofs.lemmas.tree_results.NamedNodes.{names-asked, names-own}
 
 -- a name is none of those above it
 not_above : (name : List ℕ) (names : List (List ℕ)) → IsStrictlySortedBy name_cmp (name ∷ names)

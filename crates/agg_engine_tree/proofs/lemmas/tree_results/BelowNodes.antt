@@ -5,19 +5,21 @@ use Rattle.std.proofs.Common.{subst}
 use Rattle.std.specs.List.{All}
 use Rattle.std.proofs.lemmas.List.Elements.{All-nil}
 use Rattle.agg_values.specs.Names.{value_of}
-use Rattle.agg_column.specs.Document.{Fields}
+use Rattle.agg_segment.specs.storage.Document.{Fields}
 use Rattle.agg_segment.specs.Query.{matches}
 use Rattle.agg_segment.specs.Segment.{documents_at}
 use Rattle.agg_segment.specs.declared.query.QueryTree.{QueryTree}
 use Rattle.agg_request_tree.specs.Request.{Request}
 use Rattle.agg_request_tree.specs.declared.aggregation.Aggregation.{Aggregation}
-use Rattle.agg_intermediate_results.specs.Intermediate.{Held as Results}
+use Rattle.agg_results.specs.intermediate_results.Intermediate.{Held as Results}
 use Rattle.agg_results.specs.StandsFor.{StandsFor, StandsTo}
-use Rattle.agg_segment_context.specs.Context.{ArePlansOf, IsMeant, Meaning}
-use Rattle.agg_segment_context.specs.Plan.{Plans}
-use Rattle.agg_segment_context.specs.declared.context.PerRequestAggSegCtx.{PerRequestAggSegCtx}
-use Rattle.agg_collector_tree.specs.Tree.{Held, IsFor, IsGroupOf, IsHandedTo, nothing}
-use Rattle.agg_tree_results.specs.Results.{AreDocsOf, GroupStands, IsTrail, docs_taken}
+use Rattle.agg_engine_tree.specs.segment_context.Context.{ArePlansOf, IsMeant, Meaning}
+use Rattle.agg_engine_tree.specs.segment_context.Plan.{Plans}
+use Rattle.agg_engine_tree.specs.declared.segment_context.context.PerRequestAggSegCtx.{
+  PerRequestAggSegCtx,
+}
+use Rattle.agg_engine_tree.specs.collector_tree.Tree.{Held, IsFor, IsGroupOf, IsHandedTo, nothing}
+use Rattle.agg_engine_tree.specs.tree_results.Results.{AreDocsOf, GroupStands, IsTrail, docs_taken}
 
 module _ (meaning : Meaning) (ctx : PerRequestAggSegCtx) (meant : IsMeant meaning ctx)
     (given : List (ℕ × ℕ)) (visits : ℕ) (id : Option ℕ) (documents : List Fields)

@@ -5,7 +5,7 @@ use Rattle.std.specs.Prelude.{slice_get}
 use Rattle.std.specs.List.{All, AllByRecursion, AllZip}
 use Rattle.std.proofs.lemmas.List.Elements.{All-from_recursion, recursion_from_All}
 use Rattle.std.proofs.lemmas.Option.{same_Some}
-use Rattle.agg_column.specs.Document.{Fields}
+use Rattle.agg_segment.specs.storage.Document.{Fields}
 use Rattle.agg_segment.specs.Query.{matches}
 use Rattle.agg_segment.specs.Segment.{documents_at}
 use Rattle.agg_segment.specs.declared.query.QueryTree.{QueryTree}
@@ -16,31 +16,36 @@ use Rattle.agg_request_tree.specs.Source.{Sources, rules_of}
 use Rattle.agg_request_tree.specs.declared.aggregation.Aggregation.{Aggregation}
 use Rattle.agg_request_tree.specs.declared.aggregation.AggregationVariants.{AggregationVariants}
 use Rattle.agg_request_tree.specs.declared.aggregation.AggregationVariants.TheVariants as asks
-use Rattle.agg_accessor.specs.declared.request_data.CompositeAggReqData.{CompositeAggReqData}
+use Rattle.agg_composite.specs.declared.accessor.request_data.CompositeAggReqData.{
+  CompositeAggReqData,
+}
 use Rattle.agg_composite.specs.Composite.{Composite}
 use Rattle.agg_composite.specs.PageEntries.{entry_group}
 use Rattle.agg_composite.specs.declared.page_entry.PageEntry.{PageEntry}
-use Rattle.agg_intermediate_results.specs.Intermediate.{Entries, Held as Results, TupleEntry}
-use Rattle.agg_intermediate_results.specs.Intermediate.{as_composite, below_entry, composite_of}
-use Rattle.agg_intermediate_results.specs.Intermediate.{counts_of, parts_of}
-use Rattle.agg_intermediate_results.specs.declared as intermediate
+use Rattle.agg_results.specs.intermediate_results.Intermediate.{Entries, Held as Results}
+use Rattle.agg_results.specs.intermediate_results.Intermediate.{TupleEntry, as_composite}
+use Rattle.agg_results.specs.intermediate_results.Intermediate.{below_entry, composite_of}
+use Rattle.agg_results.specs.intermediate_results.Intermediate.{counts_of, parts_of}
+use Rattle.agg_results.specs.declared.intermediate_results as intermediate
 use intermediate.composite.IntermediateCompositeBucketResult.{IntermediateCompositeBucketResult}
 use intermediate.results.IntermediateBucketResult.TheVariants as buckets
-use Rattle.agg_intermediate_results.proofs.ResultParts.{parts-composite}
+use Rattle.agg_results.proofs.lemmas.intermediate_results.ResultParts.{parts-composite}
 use Rattle.agg_results.specs.StandsFor.{CompositeStands, EntryStands, GroupsStandFor, NamesStand}
 use Rattle.agg_results.specs.StandsFor.{PartsStand, StandsTo}
 use Rattle.agg_results.proofs.Parts.{length-with, part-itself}
 use Rattle.agg_results.proofs.StandingComposites.{stands-made}
-use Rattle.agg_segment_context.specs.Context.{IsPlanOf, Meaning}
-use Rattle.agg_segment_context.specs.Plan.{Plan}
-use Rattle.agg_segment_context.specs.declared.context.PerRequestAggSegCtx.{PerRequestAggSegCtx}
-use Rattle.agg_collector_tree.specs.Caches.{Cache, waiting_in}
-use Rattle.agg_collector_tree.specs.Tree.{Held, IsHandedTo, IsOf}
-use Rattle.agg_tree_results.specs.Entries.{IsEntryOf}
-use Rattle.agg_tree_results.specs.Pages.{IsPageUnder}
-use Rattle.agg_tree_results.specs.Results.{GroupStands, IsTrail, docs_taken}
-use Rattle.agg_tree_results.proofs.BelowNodes.{below-stands}
-use Rattle.agg_tree_results.proofs.NamedNodes.{composite-node}
+use Rattle.agg_engine_tree.specs.segment_context.Context.{IsPlanOf, Meaning}
+use Rattle.agg_engine_tree.specs.segment_context.Plan.{Plan}
+use Rattle.agg_engine_tree.specs.declared.segment_context.context.PerRequestAggSegCtx.{
+  PerRequestAggSegCtx,
+}
+use Rattle.agg_engine_tree.specs.collector_tree.Caches.{Cache, waiting_in}
+use Rattle.agg_engine_tree.specs.collector_tree.Tree.{Held, IsHandedTo, IsOf}
+use Rattle.agg_engine_tree.specs.tree_results.Entries.{IsEntryOf}
+use Rattle.agg_engine_tree.specs.tree_results.Pages.{IsPageUnder}
+use Rattle.agg_engine_tree.specs.tree_results.Results.{GroupStands, IsTrail, docs_taken}
+use Rattle.agg_engine_tree.proofs.lemmas.tree_results.BelowNodes.{below-stands}
+use Rattle.agg_engine_tree.proofs.lemmas.tree_results.NamedNodes.{composite-node}
 
 counts-entries : (ctx : PerRequestAggSegCtx) (h : Held) (page : List PageEntry) (es : Entries)
     → AllZip (IsEntryOf ctx h) page es → counts_of es ≡ map entry_group page

@@ -5,7 +5,7 @@ use Rattle.std.specs.List.{AllByRecursion}
 use Rattle.std.proofs.lemmas.Bool.Decides.{nat_tests}
 use Rattle.std.proofs.lemmas.List.{length-map}
 use Rattle.std.proofs.lemmas.List.Elements.{All-filter, filter_agree, recursion_from_All}
-use Rattle.agg_column.specs.Document.{Fields}
+use Rattle.agg_segment.specs.storage.Document.{Fields}
 use Rattle.agg_segment.specs.Query.{matches}
 use Rattle.agg_segment.specs.Segment.{Stored, document_at, documents_at}
 use Rattle.agg_segment.specs.declared.query.QueryTree.{QueryTree}
@@ -18,21 +18,23 @@ use Rattle.agg_request_tree.specs.declared.aggregation.filter.FilterQuery.{Filte
 use Rattle.agg_request_tree.specs.declared.aggregation.filter.FilterQuery.TheVariants as by
 use Rattle.agg_filter.specs.Filter.{Filter, FilterFor}
 use Rattle.agg_filter.specs.Matching.{is_matching}
-use Rattle.agg_intermediate_results.specs.Intermediate.{as_filter}
-use Rattle.agg_intermediate_results.specs.Intermediate.{parts_of}
-use Rattle.agg_intermediate_results.specs.declared as intermediate
+use Rattle.agg_results.specs.intermediate_results.Intermediate.{as_filter}
+use Rattle.agg_results.specs.intermediate_results.Intermediate.{parts_of}
+use Rattle.agg_results.specs.declared.intermediate_results as intermediate
 use intermediate.results.IntermediateAggregationResults.{IntermediateAggregationResults}
 use intermediate.results.IntermediateBucketResult.TheVariants as buckets
-use Rattle.agg_intermediate_results.proofs.ResultParts.{parts-filter}
+use Rattle.agg_results.proofs.lemmas.intermediate_results.ResultParts.{parts-filter}
 use Rattle.agg_results.specs.StandsFor.{NamesStand, PartsStand, StandsTo}
-use Rattle.agg_segment_context.specs.Context.{IsPlanOf, Meaning, tree_in}
-use Rattle.agg_segment_context.specs.Plan.{Plan}
-use Rattle.agg_segment_context.specs.declared.context.PerRequestAggSegCtx.{PerRequestAggSegCtx}
-use Rattle.agg_collector_tree.specs.Caches.{Cache, waiting_in}
-use Rattle.agg_collector_tree.specs.Tree.{Held, IsHandedTo, IsOf}
-use Rattle.agg_tree_results.specs.Results.{AreDocsOf, GroupStands, IsTrail, docs_taken}
-use Rattle.agg_tree_results.proofs.BelowNodes.{below-stands}
-use Rattle.agg_tree_results.proofs.NamedNodes.{filter-node}
+use Rattle.agg_engine_tree.specs.segment_context.Context.{IsPlanOf, Meaning, tree_in}
+use Rattle.agg_engine_tree.specs.segment_context.Plan.{Plan}
+use Rattle.agg_engine_tree.specs.declared.segment_context.context.PerRequestAggSegCtx.{
+  PerRequestAggSegCtx,
+}
+use Rattle.agg_engine_tree.specs.collector_tree.Caches.{Cache, waiting_in}
+use Rattle.agg_engine_tree.specs.collector_tree.Tree.{Held, IsHandedTo, IsOf}
+use Rattle.agg_engine_tree.specs.tree_results.Results.{AreDocsOf, GroupStands, IsTrail, docs_taken}
+use Rattle.agg_engine_tree.proofs.lemmas.tree_results.BelowNodes.{below-stands}
+use Rattle.agg_engine_tree.proofs.lemmas.tree_results.NamedNodes.{filter-node}
 
 -- ---- the documents that match
 

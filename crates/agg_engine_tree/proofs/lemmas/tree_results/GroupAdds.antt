@@ -4,14 +4,17 @@ use Rattle.std.proofs.Common.{get_or, map, take, drop, sym, ap, ◌∙◌, subst
 use Rattle.std.specs.declared.alloc.Global.{Global}
 use Rattle.std.specs.declared.vec.Vec.{Vec}
 use Rattle.std.proofs.lemmas.List.{map-append, take_all, take_more}
-use Rattle.agg_intermediate_results.specs.Intermediate.{Held as Results}
-use Rattle.agg_segment_context.specs.declared.context.PerRequestAggSegCtx.{PerRequestAggSegCtx}
-use Rattle.agg_collector_tree.specs.Tree.{Held, held_of, helds_of}
-use Rattle.agg_collector_tree.specs.declared.tree.SegmentCollectorTree as tree
+use Rattle.agg_results.specs.intermediate_results.Intermediate.{Held as Results}
+use Rattle.agg_engine_tree.specs.declared.segment_context.context.PerRequestAggSegCtx.{
+  PerRequestAggSegCtx,
+}
+use Rattle.agg_engine_tree.specs.collector_tree.Tree.{Held, held_of, helds_of}
+use Rattle.agg_engine_tree.specs.declared.collector_tree.tree.SegmentCollectorTree as tree
 use tree.{SegmentCollectorTree}
-use Rattle.agg_tree_results.specs.Results.{Adds, MayAdd}
-use Rattle.agg_tree_results.proofs.Levels.{held-group}
-use Rattle.agg_tree_results.proofs.SideBySide.{AddInTurn, add-more, adds-group, may-next}
+use Rattle.agg_engine_tree.specs.tree_results.Results.{Adds, MayAdd}
+use Rattle.agg_engine_tree.proofs.lemmas.tree_results.Levels.{held-group}
+use Rattle.agg_engine_tree.proofs.lemmas.tree_results.SideBySide.{AddInTurn, add-more, adds-group}
+use Rattle.agg_engine_tree.proofs.lemmas.tree_results.SideBySide.{may-next}
 
 -- a list is what is before an element of it, the element, and what is after it
 split-at : {X : Type 0} (xs : List X) (i : ℕ) (x : X)
@@ -46,7 +49,7 @@ module _ (ctx : PerRequestAggSegCtx) (node : SegmentCollectorTree) (old : Result
         (subst (λ hs. MayAdd ctx (Held.group (helds_of hs)) old)
         (ap (map held_of) split ∙ map-append held_of before (child ∷ after)) group_may) added
 
-    -- and then one more did
+    -- with the next one, one more added its results
     pub following-added : (new : Results) → Adds ctx (held_of child) parent now new
         → AddInTurn ctx parent (map held_of (before ++ child ∷ [])) old new
     following-added new adds =
@@ -73,7 +76,7 @@ module _ (ctx : PerRequestAggSegCtx) (node : SegmentCollectorTree) (old : Result
         following-may (take i items) child (drop (suc i) items)
         (split-at items i child within read) now added
 
-    -- and then so many more did
+    -- with the next one, so many more added their results
     pub next-added : (new : Results) → Adds ctx (held_of child) parent now new
         → AddInTurn ctx parent (map held_of (take (i + 1) items)) old new
     next-added new adds =

@@ -10,19 +10,21 @@ use Rattle.agg_values.specs.KeyOrder.{SourceRules, tuple_order}
 use Rattle.agg_request_tree.specs.Source.{Sources, rules_of}
 use Rattle.agg_composite.specs.PageEntries.{entry_group}
 use Rattle.agg_composite.specs.declared.page_entry.PageEntry.{PageEntry}
-use Rattle.agg_intermediate_results.specs.Intermediate.{Entries, composite_of}
-use Rattle.agg_intermediate_results.specs.Intermediate.{entries_of, orders_of, target_size_of}
-use Rattle.agg_intermediate_results.specs.declared as declared
+use Rattle.agg_results.specs.intermediate_results.Intermediate.{Entries, composite_of, entries_of}
+use Rattle.agg_results.specs.intermediate_results.Intermediate.{orders_of, target_size_of}
+use Rattle.agg_results.specs.declared.intermediate_results as declared
 use declared.composite.IntermediateCompositeBucketResult as composites
 use composites.{IntermediateCompositeBucketResult, out-IntermediateCompositeBucketResult}
 use composites.{out-roll-IntermediateCompositeBucketResult}
 use declared.entry.IntermediateTermBucketEntry.{IntermediateTermBucketEntry}
 use declared.results.IntermediateAggregationResults.{IntermediateAggregationResults}
-use Rattle.agg_segment_context.specs.declared.context.PerRequestAggSegCtx.{PerRequestAggSegCtx}
-use Rattle.agg_collector_tree.specs.Tree.{Held}
-use Rattle.agg_tree_results.specs.Entries.{HoldsPage, IsAscending, IsEntryOf}
-use Rattle.agg_tree_results.specs.Results.{GroupStands}
-use Rattle.agg_tree_results.proofs.AscendingKeys.{below-before}
+use Rattle.agg_engine_tree.specs.declared.segment_context.context.PerRequestAggSegCtx.{
+  PerRequestAggSegCtx,
+}
+use Rattle.agg_engine_tree.specs.collector_tree.Tree.{Held}
+use Rattle.agg_engine_tree.specs.tree_results.Entries.{HoldsPage, IsAscending, IsEntryOf}
+use Rattle.agg_engine_tree.specs.tree_results.Results.{GroupStands}
+use Rattle.agg_engine_tree.proofs.lemmas.tree_results.AscendingKeys.{below-before}
 
 -- the parts of a composite's result
 pub record HasParts (c : IntermediateCompositeBucketResult) (rules : SourceRules) (size : ℕ)
@@ -98,7 +100,7 @@ module _ (ctx : PerRequestAggSegCtx) (h : Held) (sources : Sources) (size : ℕ)
         next-above sources size page holds.entries c has (keys-are page holds.entries holds.are)
         whole entry rest split up
 
-    -- and with it the result holds one more
+    -- with the next entry the result holds one more
     pub holds-more : (entry : PageEntry) (below : IntermediateAggregationResults)
         (d : IntermediateCompositeBucketResult)
         → GroupStands ctx h (Some entry.bucket_id) below.results

@@ -7,15 +7,15 @@ use Rattle.agg_values.specs.KeyOrder.{tuple_order}
 use Rattle.agg_request_tree.specs.Source.{Sources, rules_of}
 use Rattle.agg_composite.specs.PageEntries.{entry_group}
 use Rattle.agg_composite.specs.declared.page_entry.PageEntry.{PageEntry}
-use Rattle.agg_intermediate_results.specs.Intermediate.{composite_of, counts_of, entries_of}
-use Rattle.agg_intermediate_results.specs.Intermediate.{orders_of, target_size_of}
-use Rattle.agg_intermediate_results.specs.declared as declared
+use Rattle.agg_results.specs.intermediate_results.Intermediate.{composite_of, counts_of, entries_of}
+use Rattle.agg_results.specs.intermediate_results.Intermediate.{orders_of, target_size_of}
+use Rattle.agg_results.specs.declared.intermediate_results as declared
 use declared.composite.IntermediateCompositeBucketResult.{IntermediateCompositeBucketResult}
 use declared.entry.IntermediateTermBucketEntry.{IntermediateTermBucketEntry}
 use declared.results.IntermediateAggregationResults.{IntermediateAggregationResults}
-use Rattle.agg_tree_results.specs.Entries.{IsAscending}
-use Rattle.agg_tree_results.specs.Leaves.{leaf_entry}
-use Rattle.agg_tree_results.proofs.HeldEntries.{HasParts, next-above, parts-made}
+use Rattle.agg_engine_tree.specs.tree_results.Entries.{IsAscending}
+use Rattle.agg_engine_tree.specs.tree_results.Leaves.{leaf_entry}
+use Rattle.agg_engine_tree.proofs.lemmas.tree_results.HeldEntries.{HasParts, next-above, parts-made}
 
 -- they count the groups of the page
 pub counts-leaves : (page : List PageEntry)
@@ -42,7 +42,7 @@ module _ (sources : Sources) (size : ℕ) (page : List PageEntry)
       next-above sources size page (map leaf_entry page) c has (keys-leaves page) whole entry rest
       split up
 
-  -- and with it the result holds one more
+  -- with the next entry the result holds one more
   pub leaves-more : (entry : PageEntry) (below : IntermediateAggregationResults)
       (d : IntermediateCompositeBucketResult) → below.results ≡ []
       → (let held : IntermediateTermBucketEntry = record {

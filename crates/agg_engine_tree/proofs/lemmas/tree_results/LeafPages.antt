@@ -9,7 +9,7 @@ use Rattle.agg_values.specs.Names.{Named, put, value_of}
 use Rattle.agg_values.specs.Tuple.{KeyTuple}
 use Rattle.agg_values.specs.declared.after_key.AfterKey.{AfterKey}
 use Rattle.agg_values.proofs.NameValues.{value-put}
-use Rattle.agg_column.specs.Document.{Fields}
+use Rattle.agg_segment.specs.storage.Document.{Fields}
 use Rattle.agg_segment.specs.Query.{matches}
 use Rattle.agg_segment.specs.Segment.{Stored, documents_at}
 use Rattle.agg_segment.specs.declared.query.QueryTree.{QueryTree}
@@ -24,26 +24,28 @@ use Rattle.agg_request_tree.specs.declared.aggregation.AggregationVariants.TheVa
 use Rattle.agg_request_tree.specs.declared.aggregation.CompositeAggregation.{CompositeAggregation}
 use Rattle.agg_request_tree.proofs.Lists.{All-from_map, Contains-here}
 use Rattle.agg_request_tree.proofs.PageFromGroups.{IsPage-from_groups}
-use Rattle.agg_accessor.specs.Encoding.{EncodedTuple}
-use Rattle.agg_accessor.specs.declared.request_data.CompositeAggReqData.{CompositeAggReqData}
-use Rattle.agg_buckets.specs.Page.{Page}
+use Rattle.agg_composite.specs.accessor.Encoding.{EncodedTuple}
+use Rattle.agg_composite.specs.declared.accessor.request_data.CompositeAggReqData.{
+  CompositeAggReqData,
+}
+use Rattle.agg_composite.specs.buckets.Page.{Page}
 use Rattle.agg_composite.specs.Listing.{IsLowest}
 use Rattle.agg_composite.specs.PageEntries.{entry_group, page_entries}
 use Rattle.agg_composite.specs.declared.page_entry.PageEntry.{PageEntry}
-use Rattle.agg_intermediate_results.specs.Intermediate.{Held as Results, as_composite}
-use Rattle.agg_intermediate_results.specs.Intermediate.{composite_of, parts_of}
-use Rattle.agg_intermediate_results.specs.declared as intermediate
+use Rattle.agg_results.specs.intermediate_results.Intermediate.{Held as Results, as_composite}
+use Rattle.agg_results.specs.intermediate_results.Intermediate.{composite_of, parts_of}
+use Rattle.agg_results.specs.declared.intermediate_results as intermediate
 use intermediate.composite.IntermediateCompositeBucketResult.{IntermediateCompositeBucketResult}
 use intermediate.results.IntermediateBucketResult.TheVariants as buckets
-use Rattle.agg_intermediate_results.proofs.ResultParts.{parts-composite}
+use Rattle.agg_results.proofs.lemmas.intermediate_results.ResultParts.{parts-composite}
 use Rattle.agg_results.specs.StandsFor.{CompositeStands, EntryStands, GroupsStandFor, NamesStand}
 use Rattle.agg_results.specs.StandsFor.{PartsStand, StandsFor, StandsTo}
 use Rattle.agg_results.proofs.Parts.{length-with, part-itself}
 use Rattle.agg_results.proofs.StandingComposites.{stands-made}
 use Rattle.agg_results.proofs.StandingGroups.{stands-lowest}
-use Rattle.agg_tree_results.specs.Entries.{IsAscending}
-use Rattle.agg_tree_results.specs.Leaves.{IsLeafOf, leaf_entry}
-use Rattle.agg_tree_results.proofs.HeldLeaves.{counts-leaves}
+use Rattle.agg_engine_tree.specs.tree_results.Entries.{IsAscending}
+use Rattle.agg_engine_tree.specs.tree_results.Leaves.{IsLeafOf, leaf_entry}
+use Rattle.agg_engine_tree.proofs.lemmas.tree_results.HeldLeaves.{counts-leaves}
 
 module _ (segment : Stored) (after : Named AfterKey) (req : CompositeAggReqData) (docs : List ℕ)
     (entries : Page EncodedTuple) (lowest : IsLowest segment after req docs entries) where
@@ -67,11 +69,11 @@ module _ (segment : Stored) (after : Named AfterKey) (req : CompositeAggReqData)
       subst (GroupsStandFor sources req.size bound documents) (sym lowest.lowest)
       (stands-lowest sources req.size bound documents lowest.groups lowest.are)
 
-  -- so they ascend
+  -- the lowest groups ascend
   pub lowest-ascend : IsAscending sources page
   lowest-ascend = groups-lowest.ascending
 
-  -- and their counts are exact
+  -- the counts of the lowest groups are exact
   counted-lowest : All (λ entry. entry.doc_count ≡ count_in sources documents entry.key) page
   counted-lowest =
       let are = IsPage-from_groups sources documents req.size bound lowest.groups lowest.are in
@@ -136,7 +138,7 @@ module _ (segment : Stored) (after : Named AfterKey) (req : CompositeAggReqData)
         (composite-leaf (NamesStand matches (StandsTo matches depth) (below_of a))
         (none-below depth)))
 
-    -- and alone under its name it is the result of its request
+    -- alone under its name, the result of a leaf is that of its request
     pub alone-stands : (results : Results) → results ≡ put req.name (as_composite made) []
         → StandsFor matches ((req.name, a) ∷ []) documents results
     alone-stands results is =

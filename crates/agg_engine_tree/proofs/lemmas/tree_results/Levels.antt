@@ -6,9 +6,9 @@ use Rattle.std.specs.declared.vec.Vec.{Vec}
 use Rattle.agg_composite.specs.Composite.{Composite as CompositeCollector}
 use Rattle.agg_filter.specs.Filter.{Filter as FilterCollector}
 use Rattle.agg_metric.specs.Collector.{Metric as MetricCollector}
-use Rattle.agg_collector_tree.specs.Caches.{Cache}
-use Rattle.agg_collector_tree.specs.Tree.{Held, held_of, helds_of}
-use Rattle.agg_collector_tree.specs.declared.tree.SegmentCollectorTree as declared
+use Rattle.agg_engine_tree.specs.collector_tree.Caches.{Cache}
+use Rattle.agg_engine_tree.specs.collector_tree.Tree.{Held, held_of, helds_of}
+use Rattle.agg_engine_tree.specs.declared.collector_tree.tree.SegmentCollectorTree as declared
 use declared.{SegmentCollectorTree, Composite, Filter, Metric, Group, the_lemmas}
 
 pub held-composite : (index : ℕ) (collector : CompositeCollector Cache)

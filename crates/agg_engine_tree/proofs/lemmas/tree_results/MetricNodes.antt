@@ -2,7 +2,7 @@
 use Rattle.std.proofs.Common.{◌≡◌, ℕ, zero, suc, List, Option, Some, refl, sym, ◌∙◌, subst}
 use Rattle.std.specs.Prelude.{slice_get}
 use Rattle.std.proofs.lemmas.Option.{same_Some}
-use Rattle.agg_column.specs.Document.{Fields}
+use Rattle.agg_segment.specs.storage.Document.{Fields}
 use Rattle.agg_segment.specs.Query.{matches}
 use Rattle.agg_segment.specs.Segment.{Stored, documents_at}
 use Rattle.agg_segment.specs.declared.query.QueryTree.{QueryTree}
@@ -11,10 +11,10 @@ use Rattle.agg_request_tree.specs.Request.{Request, agg_of, below_of}
 use Rattle.agg_request_tree.specs.declared.aggregation.Aggregation.{Aggregation}
 use Rattle.agg_request_tree.specs.declared.aggregation.AggregationVariants.{AggregationVariants}
 use Rattle.agg_request_tree.specs.declared.aggregation.AggregationVariants.TheVariants as asks
-use Rattle.agg_metric_results.specs.declared.metric.IntermediateMetricResult as metrics
+use Rattle.agg_results.specs.declared.metric_results.metric.IntermediateMetricResult as metrics
 use metrics.{IntermediateMetricResult}
-use Rattle.agg_intermediate_results.specs.Intermediate.{Held as Results, metric}
-use Rattle.agg_intermediate_results.specs.declared as intermediate
+use Rattle.agg_results.specs.intermediate_results.Intermediate.{Held as Results, metric}
+use Rattle.agg_results.specs.declared.intermediate_results as intermediate
 use intermediate.results.IntermediateAggregationResult.TheVariants as result
 use Rattle.agg_metric.specs.Collector.{Metric, MetricFor}
 use Rattle.agg_metric.specs.Metric.{metric_of}
@@ -22,13 +22,15 @@ use Rattle.agg_metric.specs.declared.request_data.MetricAggReqData.{MetricAggReq
 use Rattle.agg_metric.specs.declared.request_data.StatsType.{StatsType}
 use Rattle.agg_metric.specs.declared.request_data.StatsType.TheVariants as stats
 use Rattle.agg_results.specs.StandsFor.{NamesStand, PartsStand, StandsTo}
-use Rattle.agg_segment_context.specs.Context.{IsAskedAt, IsMetricAt, IsPlanOf, Meaning}
-use Rattle.agg_segment_context.specs.Plan.{Plan}
-use Rattle.agg_segment_context.specs.declared.context.PerRequestAggSegCtx.{PerRequestAggSegCtx}
-use Rattle.agg_segment_context.specs.declared.node.AggKind.TheVariants as kind
-use Rattle.agg_collector_tree.specs.Tree.{Held, IsOf}
-use Rattle.agg_tree_results.specs.Results.{IsTrail, docs_taken}
-use Rattle.agg_tree_results.proofs.NamedNodes.{metric-node}
+use Rattle.agg_engine_tree.specs.segment_context.Context.{IsAskedAt, IsMetricAt, IsPlanOf, Meaning}
+use Rattle.agg_engine_tree.specs.segment_context.Plan.{Plan}
+use Rattle.agg_engine_tree.specs.declared.segment_context.context.PerRequestAggSegCtx.{
+  PerRequestAggSegCtx,
+}
+use Rattle.agg_engine_tree.specs.declared.segment_context.node.AggKind.TheVariants as kind
+use Rattle.agg_engine_tree.specs.collector_tree.Tree.{Held, IsOf}
+use Rattle.agg_engine_tree.specs.tree_results.Results.{IsTrail, docs_taken}
+use Rattle.agg_engine_tree.proofs.lemmas.tree_results.NamedNodes.{metric-node}
 
 module _ (meaning : Meaning) (ctx : PerRequestAggSegCtx) (name : List ℕ) (index : ℕ)
     (documents : List Fields) (r : IntermediateMetricResult)

@@ -10,7 +10,9 @@ use Rattle.agg_request_tree.specs.declared.aggregation.AggregationVariants.{Aggr
 use Rattle.agg_request_tree.specs.declared.aggregation.AggregationVariants.TheVariants as asks
 use Rattle.agg_request_tree.specs.declared.aggregation.CompositeAggregation.{CompositeAggregation}
 use Rattle.agg_request_tree.specs.declared.aggregation.filter.FilterQuery.{FilterQuery}
-use Rattle.agg_accessor.specs.declared.request_data.CompositeAggReqData.{CompositeAggReqData}
+use Rattle.agg_composite.specs.declared.accessor.request_data.CompositeAggReqData.{
+  CompositeAggReqData,
+}
 use Rattle.agg_composite.specs.Composite.{Composite}
 use Rattle.agg_filter.specs.Filter.{Filter}
 use Rattle.agg_filter.specs.declared.request_data.FilterAggReqData.{FilterAggReqData}
@@ -18,15 +20,17 @@ use Rattle.agg_metric.specs.Collector.{Metric}
 use Rattle.agg_metric.specs.declared.request_data.MetricAggReqData.{MetricAggReqData}
 use Rattle.agg_metric.specs.declared.request_data.StatsType.{StatsType}
 use Rattle.agg_metric.specs.declared.request_data.StatsType.TheVariants as stats
-use Rattle.agg_segment_context.specs.Context.{ArePlansOf, IsAskedAt, IsCompositeAt, IsFilterAt}
-use Rattle.agg_segment_context.specs.Context.{IsMetricAt, IsPlanOf, Meaning}
-use Rattle.agg_segment_context.specs.Plan.{Plan, Plans}
-use Rattle.agg_segment_context.specs.declared.context.PerRequestAggSegCtx.{PerRequestAggSegCtx}
-use Rattle.agg_segment_context.specs.declared.node.AggKind.TheVariants as kind
-use Rattle.agg_collector_tree.specs.Caches.{Cache}
-use Rattle.agg_collector_tree.specs.Tree.{AreOf, Held, Helds, IsGroupOf, IsOf}
-use Rattle.agg_tree_results.specs.Names.{composite_name, filter_name, metric_name, names_in}
-use Rattle.agg_tree_results.specs.Names.{names_of}
+use Rattle.agg_engine_tree.specs.segment_context.Context.{ArePlansOf, IsAskedAt, IsCompositeAt}
+use Rattle.agg_engine_tree.specs.segment_context.Context.{IsFilterAt, IsMetricAt, IsPlanOf, Meaning}
+use Rattle.agg_engine_tree.specs.segment_context.Plan.{Plan, Plans}
+use Rattle.agg_engine_tree.specs.declared.segment_context.context.PerRequestAggSegCtx.{
+  PerRequestAggSegCtx,
+}
+use Rattle.agg_engine_tree.specs.declared.segment_context.node.AggKind.TheVariants as kind
+use Rattle.agg_engine_tree.specs.collector_tree.Caches.{Cache}
+use Rattle.agg_engine_tree.specs.collector_tree.Tree.{AreOf, Held, Helds, IsGroupOf, IsOf}
+use Rattle.agg_engine_tree.specs.tree_results.Names.{composite_name, filter_name, metric_name}
+use Rattle.agg_engine_tree.specs.tree_results.Names.{names_in, names_of}
 
 module _ (meaning : Meaning) (ctx : PerRequestAggSegCtx) where
   -- an aggregation is a composite at an index, a filter or a metric, with those below it

@@ -14,10 +14,12 @@ use Rattle.agg_values.specs.Names.{put, value_of}
 use Rattle.agg_segment.specs.Segment.{Stored, documents_at}
 use Rattle.agg_request_tree.specs.Metrics.{values_of_field}
 use Rattle.agg_request_tree.proofs.Lists.{Contains-here}
-use Rattle.agg_accessor.specs.Decoded.{IsEncoded}
-use Rattle.agg_accessor.specs.Encoding.{EncodedTuple}
-use Rattle.agg_accessor.specs.declared.request_data.CompositeAggReqData.{CompositeAggReqData}
-use Rattle.agg_buckets.specs.Page.{Page}
+use Rattle.agg_composite.specs.accessor.Decoded.{IsEncoded}
+use Rattle.agg_composite.specs.accessor.Encoding.{EncodedTuple}
+use Rattle.agg_composite.specs.declared.accessor.request_data.CompositeAggReqData.{
+  CompositeAggReqData,
+}
+use Rattle.agg_composite.specs.buckets.Page.{Page}
 use Rattle.agg_composite.specs.Composite.{Composite, CompositeFor}
 use Rattle.agg_composite.specs.PageEntries.{page_entries}
 use Rattle.agg_filter.specs.Filter.{Filter, FilterFor}
@@ -25,30 +27,35 @@ use Rattle.agg_filter.specs.declared.request_data.FilterAggReqData.{FilterAggReq
 use Rattle.agg_metric.specs.Collector.{Metric, MetricFor}
 use Rattle.agg_metric.specs.Metric.{metric_of}
 use Rattle.agg_metric.specs.declared.request_data.MetricAggReqData.{MetricAggReqData}
-use Rattle.agg_metric_results.specs.declared.metric.IntermediateMetricResult as metrics
+use Rattle.agg_results.specs.declared.metric_results.metric.IntermediateMetricResult as metrics
 use metrics.{IntermediateMetricResult}
-use Rattle.agg_intermediate_results.specs.Intermediate.{Held as Results, as_composite, as_filter}
-use Rattle.agg_intermediate_results.specs.declared as intermediate
+use Rattle.agg_results.specs.intermediate_results.Intermediate.{Held as Results, as_composite}
+use Rattle.agg_results.specs.intermediate_results.Intermediate.{as_filter}
+use Rattle.agg_results.specs.declared.intermediate_results as intermediate
 use intermediate.composite.IntermediateCompositeBucketResult.{IntermediateCompositeBucketResult}
 use intermediate.results.IntermediateAggregationResult.TheVariants as result
 use intermediate.results.IntermediateAggregationResults.{IntermediateAggregationResults}
-use Rattle.agg_segment_context.specs.Context.{IsCompositeMeant}
-use Rattle.agg_segment_context.specs.declared.context.PerRequestAggSegCtx.{PerRequestAggSegCtx}
-use Rattle.agg_collector_tree.specs.Caches.{Cache, waiting_in}
-use Rattle.agg_collector_tree.specs.Tree.{Held, held_of, visits_of}
-use Rattle.agg_collector_tree.specs.declared.tree.SegmentCollectorTree as tree
+use Rattle.agg_engine_tree.specs.segment_context.Context.{IsCompositeMeant}
+use Rattle.agg_engine_tree.specs.declared.segment_context.context.PerRequestAggSegCtx.{
+  PerRequestAggSegCtx,
+}
+use Rattle.agg_engine_tree.specs.collector_tree.Caches.{Cache, waiting_in}
+use Rattle.agg_engine_tree.specs.collector_tree.Tree.{Held, held_of, visits_of}
+use Rattle.agg_engine_tree.specs.declared.collector_tree.tree.SegmentCollectorTree as tree
 use tree.{SegmentCollectorTree}
-use Rattle.agg_tree_results.specs.Entries.{HoldsPage, IsAscending}
-use Rattle.agg_tree_results.specs.Names.{composite_name, filter_name, metric_name}
-use Rattle.agg_tree_results.specs.Pages.{IsPageUnder, encoded_under}
-use Rattle.agg_tree_results.specs.Results.{Adds, GroupStands, MayAdd, docs_taken}
-use Rattle.agg_tree_results.proofs.CompositeNodes.{composite-stands}
-use Rattle.agg_tree_results.proofs.FilterNodes.{filter-stands}
-use Rattle.agg_tree_results.proofs.Levels.{held-composite, held-filter, held-metric}
-use Rattle.agg_tree_results.proofs.MetricNodes.{metric-stands}
-use Rattle.agg_tree_results.proofs.NamedNodes.{composite_name-at, filter_name-at, metric_name-at}
-use Rattle.agg_tree_results.proofs.PutNames.{adds-node}
-use Rattle.agg_tree_results.proofs.TakenPages.{entries-encoded, entries-told}
+use Rattle.agg_engine_tree.specs.tree_results.Entries.{HoldsPage, IsAscending}
+use Rattle.agg_engine_tree.specs.tree_results.Names.{composite_name, filter_name, metric_name}
+use Rattle.agg_engine_tree.specs.tree_results.Pages.{IsPageUnder, encoded_under}
+use Rattle.agg_engine_tree.specs.tree_results.Results.{Adds, GroupStands, MayAdd, docs_taken}
+use Rattle.agg_engine_tree.proofs.lemmas.tree_results.CompositeNodes.{composite-stands}
+use Rattle.agg_engine_tree.proofs.lemmas.tree_results.FilterNodes.{filter-stands}
+use Rattle.agg_engine_tree.proofs.lemmas.tree_results.Levels.{held-composite, held-filter}
+use Rattle.agg_engine_tree.proofs.lemmas.tree_results.Levels.{held-metric}
+use Rattle.agg_engine_tree.proofs.lemmas.tree_results.MetricNodes.{metric-stands}
+use Rattle.agg_engine_tree.proofs.lemmas.tree_results.NamedNodes.{composite_name-at, filter_name-at}
+use Rattle.agg_engine_tree.proofs.lemmas.tree_results.NamedNodes.{metric_name-at}
+use Rattle.agg_engine_tree.proofs.lemmas.tree_results.PutNames.{adds-node}
+use Rattle.agg_engine_tree.proofs.lemmas.tree_results.TakenPages.{entries-encoded, entries-told}
 
 -- what is read at an index is there
 pub found-at : {X : Type 0} (xs ys : List X) (i : ℕ) (x : X) → xs ≡ ys → i < length xs
@@ -64,7 +71,7 @@ index-within xs ys i same x found =
 
 module _ (ctx : PerRequestAggSegCtx) (node : SegmentCollectorTree) (old : Results)
     (may : MayAdd ctx (held_of node) old) where
-  -- the same of what a node is
+  -- what may be added, by what the node is
   abbrev as_is : (h : Held) → held_of node ≡ h → MayAdd ctx h old
   as_is h is = subst (λ h. MayAdd ctx h old) is may
 
@@ -131,7 +138,7 @@ module _ (ctx : PerRequestAggSegCtx) (node : SegmentCollectorTree) (old : Result
             (composite-told composite_may.meaning.segment (composite_may.meaning.after_at index)
             composite_may.taken composite_may.right.0 composite-right).groups.ascending
 
-        -- and their tuples stand for tuples
+        -- the tuples of the entries stand for tuples
         pub composite-encoded : All (IsEncoded req) (keys_of entries)
         composite-encoded =
             subst (λ (es : Page EncodedTuple). All (IsEncoded req) (keys_of es)) (sym are)

@@ -15,18 +15,21 @@ use Rattle.agg_segment.specs.Segment.{documents_at}
 use Rattle.agg_segment.specs.declared.query.QueryTree.{QueryTree}
 use Rattle.agg_request_tree.specs.declared.aggregation.Aggregation.{Aggregation}
 use Rattle.agg_request_tree.proofs.Lists.{Contains-here}
-use Rattle.agg_intermediate_results.specs.Intermediate.{Held as Results}
-use Rattle.agg_intermediate_results.specs.declared.results as results
+use Rattle.agg_results.specs.intermediate_results.Intermediate.{Held as Results}
+use Rattle.agg_results.specs.declared.intermediate_results.results as results
 use results.IntermediateAggregationResult.{IntermediateAggregationResult}
 use Rattle.agg_results.specs.StandsFor.{StandsTo}
 use Rattle.agg_results.proofs.NameLookups.{name-found, names-found}
-use Rattle.agg_segment_context.specs.Context.{IsPlanOf, Meaning}
-use Rattle.agg_segment_context.specs.Plan.{Plan, Plans}
-use Rattle.agg_segment_context.specs.declared.context.PerRequestAggSegCtx.{PerRequestAggSegCtx}
-use Rattle.agg_collector_tree.specs.Tree.{Held, IsGroupOf, IsOf}
-use Rattle.agg_tree_results.specs.Names.{names_of}
-use Rattle.agg_tree_results.specs.Results.{Adds, HasOnlyMore, HoldsAll, IsTrail, docs_taken}
-use Rattle.agg_tree_results.proofs.NamedNodes.{names-own}
+use Rattle.agg_engine_tree.specs.segment_context.Context.{IsPlanOf, Meaning}
+use Rattle.agg_engine_tree.specs.segment_context.Plan.{Plan, Plans}
+use Rattle.agg_engine_tree.specs.declared.segment_context.context.PerRequestAggSegCtx.{
+  PerRequestAggSegCtx,
+}
+use Rattle.agg_engine_tree.specs.collector_tree.Tree.{Held, IsGroupOf, IsOf}
+use Rattle.agg_engine_tree.specs.tree_results.Names.{names_of}
+use Rattle.agg_engine_tree.specs.tree_results.Results.{Adds, HasOnlyMore, HoldsAll, IsTrail}
+use Rattle.agg_engine_tree.specs.tree_results.Results.{docs_taken}
+use Rattle.agg_engine_tree.proofs.lemmas.tree_results.NamedNodes.{names-own}
 
 module _ (name : List ℕ) (value : IntermediateAggregationResult) (old : Results) where
   abbrev new : Results
@@ -80,6 +83,7 @@ module _ (name : List ℕ) (value : IntermediateAggregationResult) (old : Result
             (sym (ap (λ n. value_of n new) same
             ∙ value-put nat_list_cmp_total exact_bytes old name value))
             (stands meaning taken trail own a plan asked is depth);
+        each = λ meaning taken trail request plans asked group. absurd (no_group plans group);
         all = λ none meaning taken trail request plans asked group. absurd (no_group plans group);
       }
         where

@@ -14,18 +14,22 @@ use Rattle.agg_segment.specs.declared.query.QueryTree.{QueryTree}
 use Rattle.agg_request_tree.specs.Request.{Request}
 use Rattle.agg_request_tree.specs.declared.aggregation.Aggregation.{Aggregation}
 use Rattle.agg_request_tree.proofs.Lists.{All-from_Contains, Contains-here}
-use Rattle.agg_intermediate_results.specs.Intermediate.{Held as Results}
+use Rattle.agg_results.specs.intermediate_results.Intermediate.{Held as Results}
 use Rattle.agg_results.specs.StandsFor.{StandsTo}
-use Rattle.agg_segment_context.specs.Context.{ArePlansOf, Meaning}
-use Rattle.agg_segment_context.specs.Plan.{Plan, Plans}
-use Rattle.agg_segment_context.specs.declared.context.PerRequestAggSegCtx.{PerRequestAggSegCtx}
-use Rattle.agg_segment_context.specs.declared.node.AggKind.TheVariants as kind
-use Rattle.agg_collector_tree.specs.Tree.{AllFit, AllFor, AreFlushed, AreOf, Fits, Held, IsFlushed}
-use Rattle.agg_collector_tree.specs.Tree.{IsFor, IsOf, helds_of}
-use Rattle.agg_tree_results.specs.Names.{HasNamesApart, HaveNamesApart, names_in, names_of}
-use Rattle.agg_tree_results.specs.Results.{Adds, HasOnlyMore, HoldsAll, IsSameBut, IsTrail, MayAdd}
-use Rattle.agg_tree_results.specs.Results.{NodeStands, docs_taken}
-use Rattle.agg_tree_results.proofs.NamedNodes.{names-asked, names-own}
+use Rattle.agg_engine_tree.specs.segment_context.Context.{ArePlansOf, Meaning}
+use Rattle.agg_engine_tree.specs.segment_context.Plan.{Plan, Plans}
+use Rattle.agg_engine_tree.specs.declared.segment_context.context.PerRequestAggSegCtx.{
+  PerRequestAggSegCtx,
+}
+use Rattle.agg_engine_tree.specs.declared.segment_context.node.AggKind.TheVariants as kind
+use Rattle.agg_engine_tree.specs.collector_tree.Tree.{AllFit, AllFor, AreFlushed, AreOf, Fits, Held}
+use Rattle.agg_engine_tree.specs.collector_tree.Tree.{IsFlushed, IsFor, IsOf, helds_of}
+use Rattle.agg_engine_tree.specs.tree_results.Names.{HasNamesApart, HaveNamesApart, names_in}
+use Rattle.agg_engine_tree.specs.tree_results.Names.{names_of}
+use Rattle.agg_engine_tree.specs.tree_results.Results.{Adds, EachStands, HasOnlyMore, HoldsAll}
+use Rattle.agg_engine_tree.specs.tree_results.Results.{IsSameBut, IsTrail, MayAdd}
+use Rattle.agg_engine_tree.specs.tree_results.Results.{NodeStands, docs_taken}
+use Rattle.agg_engine_tree.proofs.lemmas.tree_results.NamedNodes.{names-asked, names-own}
 
 module _ (ctx : PerRequestAggSegCtx) where
   -- the names of nodes in a list
@@ -124,7 +128,7 @@ module _ (ctx : PerRequestAggSegCtx) where
       each-stands hs added.0 new apart.2 added.2,
     )
 
-    -- and all are held
+    -- the names of all are held
     all-held : (hs : List Held) (old new : Results) → HaveNamesApart ctx (helds_of hs)
         → AddInTurn hs old new → HoldsAll (names hs) new
     all-held [] old new apart added = All-nil (λ n. IsSome (value_of n new))
@@ -159,6 +163,22 @@ module _ (ctx : PerRequestAggSegCtx) where
             group-each request plans hs right.1 trail asked.1 are.1 right.3 stand.1,
           )
 
+    -- under the name of each of a group stands its result
+    each-added : (hs : List Held) (old new : Results) → HaveNamesApart ctx (helds_of hs)
+        → AddInTurn hs old new → EachStands ctx (Held.group (helds_of hs)) parent new
+    each-added hs old new apart added meaning taken trail request plans asked are depth =
+        let one_by_one : (h : Held) (visits : ℕ) → IsFor meaning ctx h taken visits
+        → IsTrail meaning ctx h parent taken =
+        λ h visits right. record {
+          meant = trail.meant;
+          visits = visits;
+          right = right;
+          within = trail.within;
+        } in
+        All-from_recursion (Stands meaning new taken depth) request
+        (group-each meaning new taken depth request plans hs trail.visits one_by_one asked are
+        trail.right (each-stands hs old new apart added))
+
     -- the results of a group are added
     pub adds-group : (hs : List Held) (old new : Results) → HaveNamesApart ctx (helds_of hs)
         → AddInTurn hs old new → Adds ctx (Held.group (helds_of hs)) parent old new
@@ -167,24 +187,15 @@ module _ (ctx : PerRequestAggSegCtx) where
       known = names-known hs old new added;
       held = all-held hs old new apart added;
       one = λ meaning taken trail name a plan asked is depth. absurd (no_group plan is);
-      all = λ none meaning taken trail request plans asked are depth.
-          let one_by_one : (h : Held) (visits : ℕ) → IsFor meaning ctx h taken visits
-          → IsTrail meaning ctx h parent taken =
-          λ h visits right. record {
-            meant = trail.meant;
-            visits = visits;
-            right = right;
-            within = trail.within;
-          } in
-          record {
-            each = All-from_recursion (Stands meaning new taken depth) request
-                (group-each meaning new taken depth request plans hs trail.visits one_by_one
-                asked are trail.right (each-stands hs old new apart added));
-            known = All-from_Contains (Contains (keys_of request)) (keys_of new)
-                (λ name has. only meaning new taken depth request plans none asked are name
-                (All-contains (λ n. Contains (keys_of old) n ⊎ Contains (names hs) n)
-                (keys_of new) name (names-known hs old new added) has));
-          };
+      each = each-added hs old new apart added;
+      all = λ none meaning taken trail request plans asked are depth. record {
+        each = each-added hs old new apart added meaning taken trail request plans asked are
+            depth;
+        known = All-from_Contains (Contains (keys_of request)) (keys_of new)
+            (λ name has. only meaning new taken depth request plans none asked are name
+            (All-contains (λ n. Contains (keys_of old) n ⊎ Contains (names hs) n)
+            (keys_of new) name (names-known hs old new added) has));
+      };
     }
       where
         no_group : (plan : Plan) → IsOf plan (Held.group (helds_of hs)) → ⊥

@@ -15,10 +15,12 @@ use Rattle.agg_request_tree.specs.Page.{Entry, count_in, documents_with, entry_o
 use Rattle.agg_request_tree.specs.Source.{Sources, rules_of}
 use Rattle.agg_request_tree.proofs.Lists.{All-from_map}
 use Rattle.agg_request_tree.proofs.PageFromGroups.{Groups-nothing, IsPage-from_groups}
-use Rattle.agg_accessor.specs.Accessors.{Fits}
-use Rattle.agg_accessor.specs.Decoded.{IsEncoded}
-use Rattle.agg_accessor.specs.declared.request_data.CompositeAggReqData.{CompositeAggReqData}
-use Rattle.agg_buckets.specs.Cut.{tuples_under}
+use Rattle.agg_composite.specs.accessor.Accessors.{Fits}
+use Rattle.agg_composite.specs.accessor.Decoded.{IsEncoded}
+use Rattle.agg_composite.specs.declared.accessor.request_data.CompositeAggReqData.{
+  CompositeAggReqData,
+}
+use Rattle.agg_composite.specs.buckets.Cut.{tuples_under}
 use Rattle.agg_composite.specs.Composite.{Composite, CompositeFor, docs_under, page_of}
 use Rattle.agg_composite.specs.PageEntries.{entry_group, page_entries}
 use Rattle.agg_composite.specs.Visits.{TypedVisit}
@@ -27,11 +29,12 @@ use Rattle.agg_composite.proofs.BucketDocuments.{page-handed}
 use Rattle.agg_composite.proofs.BucketPages.{entries-decoded, page-encoded, page-groups}
 use Rattle.agg_results.specs.StandsFor.{GroupsStandFor}
 use Rattle.agg_results.proofs.StandingGroups.{stands-lowest}
-use Rattle.agg_collector_tree.specs.Caches.{Cache, waiting_in}
-use Rattle.agg_collector_tree.specs.Tree.{visits_of}
-use Rattle.agg_tree_results.specs.Pages.{IsPageUnder, encoded_under}
-use Rattle.agg_tree_results.specs.Results.{AreDocsOf, docs_taken}
-use Rattle.agg_tree_results.proofs.TakenVisits.{docs-all, docs-with, tuples-taken}
+use Rattle.agg_engine_tree.specs.collector_tree.Caches.{Cache, waiting_in}
+use Rattle.agg_engine_tree.specs.collector_tree.Tree.{visits_of}
+use Rattle.agg_engine_tree.specs.tree_results.Pages.{IsPageUnder, encoded_under}
+use Rattle.agg_engine_tree.specs.tree_results.Results.{AreDocsOf, docs_taken}
+use Rattle.agg_engine_tree.proofs.lemmas.tree_results.TakenVisits.{docs-all, docs-with}
+use Rattle.agg_engine_tree.proofs.lemmas.tree_results.TakenVisits.{tuples-taken}
 
 module _ (req : CompositeAggReqData) (collector : Composite Cache) where
   abbrev sources : Sources

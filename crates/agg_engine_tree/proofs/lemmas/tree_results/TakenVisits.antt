@@ -13,21 +13,23 @@ use Rattle.agg_values.specs.Names.{Named}
 use Rattle.agg_values.specs.Tuple.{KeyTuple}
 use Rattle.agg_values.specs.declared.after_key.AfterKey.{AfterKey}
 use Rattle.agg_cache.specs.Waiting.{docs_of, is_id}
-use Rattle.agg_column.specs.Document.{Fields}
+use Rattle.agg_segment.specs.storage.Document.{Fields}
 use Rattle.agg_segment.specs.Segment.{Stored, document_at, documents_at}
 use Rattle.agg_request_tree.specs.Occurrences.{bound_of, is_past, occurrences, occurrences_in}
 use Rattle.agg_request_tree.specs.Occurrences.{past_occurrences, same_tuple}
 use Rattle.agg_request_tree.specs.Page.{documents_with}
 use Rattle.agg_request_tree.specs.Source.{Sources, rules_of}
 use Rattle.agg_request_tree.proofs.PageFromGroups.{count_by-past}
-use Rattle.agg_accessor.specs.declared.request_data.CompositeAggReqData.{CompositeAggReqData}
-use Rattle.agg_buckets.specs.Cut.{tuples_under}
-use Rattle.agg_buckets.specs.Visits.{Owner, visits_at}
-use Rattle.agg_buckets.proofs.Labels.{docs_of-append, is_id-other, is_id-same}
+use Rattle.agg_composite.specs.declared.accessor.request_data.CompositeAggReqData.{
+  CompositeAggReqData,
+}
+use Rattle.agg_composite.specs.buckets.Cut.{tuples_under}
+use Rattle.agg_composite.specs.buckets.Visits.{Owner, visits_at}
+use Rattle.agg_composite.proofs.lemmas.buckets.Labels.{docs_of-append, is_id-other, is_id-same}
 use Rattle.agg_composite.specs.Composite.{docs_under}
 use Rattle.agg_composite.specs.Visits.{TypedVisit, visits_past}
 use Rattle.agg_composite.proofs.VisitsPast.{tuples_under-past}
-use Rattle.agg_collector_tree.specs.Tree.{visits_of}
+use Rattle.agg_engine_tree.specs.collector_tree.Tree.{visits_of}
 use Rattle.agg_results.proofs.Parts.{with-append}
 
 -- these if so, else none

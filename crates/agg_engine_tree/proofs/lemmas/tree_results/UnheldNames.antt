@@ -1,13 +1,13 @@
 -- A result under a name that isn't held.
 use Rattle.std.proofs.Common.{◌≡◌, ◌≢◌, ℕ, [], ◌∷◌, List, None, sym}
 use Rattle.agg_values.specs.Names.{value_of}
-use Rattle.agg_metric_results.specs.declared.error.MergeError.{MergeError}
-use Rattle.agg_metric_results.specs.declared.error.MergeError.TheVariants as merge
-use Rattle.agg_intermediate_results.specs.Intermediate.{Held}
-use Rattle.agg_intermediate_results.specs.Merging.{SomeOfBoth}
-use Rattle.agg_intermediate_results.specs.declared as declared
+use Rattle.agg_results.specs.declared.metric_results.error.MergeError.{MergeError}
+use Rattle.agg_results.specs.declared.metric_results.error.MergeError.TheVariants as merge
+use Rattle.agg_results.specs.intermediate_results.Intermediate.{Held}
+use Rattle.agg_results.specs.intermediate_results.Merging.{SomeOfBoth}
+use Rattle.agg_results.specs.declared.intermediate_results as declared
 use declared.results.IntermediateAggregationResult.{IntermediateAggregationResult}
-use Rattle.agg_intermediate_results.proofs.ToldNames.{nothing_told, past_first}
+use Rattle.agg_results.proofs.lemmas.intermediate_results.ToldNames.{nothing_told, past_first}
 
 abbrev Result : Type 0
 Result = IntermediateAggregationResult

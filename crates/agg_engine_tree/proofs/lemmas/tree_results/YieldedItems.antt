@@ -7,7 +7,7 @@ module _ {X : Type 0} (whole yielded left : List X) (split : whole ≡ yielded +
     pub next-split : whole ≡ yielded ++ next ∷ rest
     next-split = split ∙ ap (λ xs. yielded ++ xs) goes
 
-    -- and is yielded with it
+    -- the next element is yielded after what was yielded
     pub next-yielded : whole ≡ (yielded ++ next ∷ []) ++ rest
     next-yielded = next-split ∙ sym (append_assoc yielded (next ∷ []) rest)
 

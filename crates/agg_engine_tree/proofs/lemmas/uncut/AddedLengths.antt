@@ -4,16 +4,17 @@ use Rattle.std.proofs.Common.{arith, append_assoc, append-nil}
 use Rattle.std.specs.Io.Iter.{u64_saturate}
 use Rattle.std.proofs.lemmas.List.{map-append}
 use Rattle.std.proofs.lemmas.List.Concat.{flat_map-append}
-use Rattle.agg_column.specs.Document.{Fields}
+use Rattle.agg_segment.specs.storage.Document.{Fields}
 use Rattle.agg_segment.specs.Query.{matches}
 use Rattle.agg_segment.specs.declared.query.QueryTree.{QueryTree}
 use Rattle.agg_request_tree.specs.Request.{Request, agg_of, below_of}
 use Rattle.agg_request_tree.specs.Uncut.{uncut, uncut_lists, uncut_lists_of}
 use Rattle.agg_request_tree.specs.declared.aggregation.Aggregation.{Aggregation}
 use Rattle.agg_request_tree.proofs.UncutLists.{uncut_lists-out}
-use Rattle.agg_uncut.specs.Uncut.{AddsLengths, lengths_of, repeated, own_weights}
-use Rattle.agg_uncut.proofs.CutNumbers.{cut-total}
-use Rattle.agg_uncut.proofs.WeighedLists.{length-repeated, length-own_weights, uncut-repeated}
+use Rattle.agg_engine_tree.specs.uncut.Uncut.{AddsLengths, lengths_of, repeated, own_weights}
+use Rattle.agg_engine_tree.proofs.lemmas.uncut.CutNumbers.{cut-total}
+use Rattle.agg_engine_tree.proofs.lemmas.uncut.WeighedLists.{length-repeated, length-own_weights}
+use Rattle.agg_engine_tree.proofs.lemmas.uncut.WeighedLists.{uncut-repeated}
 
 -- lengths end to end
 pub lengths-append : (lists others : List (List Fields))

@@ -21,7 +21,7 @@ cut-product a (suc b) most = elim (cases_lt a most) [
       ap (λ n. min (n * suc b) most) cut ∙ min-eq_right kept ∙ sym (min-eq_right greater)
 ]
 
--- and so it is where the other factor is cut, too
+-- the product of two cut factors, cut, is their product, cut
 pub cut-factors : (a b most : ℕ) → min (min a most * min b most) most ≡ min (a * b) most
 cut-factors a b most =
     cut-product a (min b most) most
@@ -33,7 +33,7 @@ cut-factors a b most =
 pub cut-sum : (a b most : ℕ) → min (min a most + min b most) most ≡ min (a + b) most
 cut-sum a b most = omega arith
 
--- and so it is of many
+-- a sum of many cut numbers is their sum, cut
 pub cut-total : (a : ℕ) (ns : List ℕ)
     → fold (λ s n. u64_saturate (s + n)) (u64_saturate a) (map u64_saturate ns)
     ≡ u64_saturate (a + sum ns)

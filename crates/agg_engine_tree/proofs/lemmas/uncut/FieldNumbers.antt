@@ -9,12 +9,14 @@ use Rattle.std.proofs.lemmas.List.Concat.{flat_map-append, flat_map-cons}
 use Rattle.std.proofs.lemmas.List.Elements.{filter_map-append}
 use Rattle.agg_values.specs.TypedKey.{CompositeIntermediateKey, typed_number}
 use Rattle.agg_values.specs.declared.typed_key.CompositeIntermediateKey.TheVariants as key
-use Rattle.agg_column.specs.Columns.{StoredColumn, all_keys, column_keys, encoded_key, type_of}
-use Rattle.agg_column.specs.declared.keys.ColumnKeys.{ColumnKeys}
-use Rattle.agg_column.specs.declared.keys.ColumnKeys.TheVariants.{Bools, Texts, Signed, Unsigned}
-use Rattle.agg_column.specs.declared.keys.ColumnKeys.TheVariants.{Addresses, Dates}
+use Rattle.agg_segment.specs.storage.Columns.{StoredColumn, all_keys, column_keys, encoded_key}
+use Rattle.agg_segment.specs.storage.Columns.{type_of}
+use Rattle.agg_segment.specs.declared.storage.keys.ColumnKeys.{ColumnKeys}
+use Rattle.agg_segment.specs.declared.storage.keys.ColumnKeys.TheVariants.{Bools, Texts, Signed}
+use Rattle.agg_segment.specs.declared.storage.keys.ColumnKeys.TheVariants.{Unsigned, Addresses}
+use Rattle.agg_segment.specs.declared.storage.keys.ColumnKeys.TheVariants.{Dates}
 use Rattle.agg_request_tree.specs.Metrics.{number_of}
-use Rattle.agg_uncut.specs.NodeData.{has_numbers}
+use Rattle.agg_engine_tree.specs.uncut.NodeData.{has_numbers}
 
 -- ---- one key
 

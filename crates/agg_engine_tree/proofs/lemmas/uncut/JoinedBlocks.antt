@@ -4,7 +4,7 @@ use Rattle.std.proofs.Common.{◌++◌, Any, get_or, length, length-append, map,
 use Rattle.std.specs.Prelude.{zip}
 use Rattle.std.specs.Io.Iter.{u64_saturate}
 use Rattle.std.proofs.lemmas.List.{get_or-map, get_or_default, length-map}
-use Rattle.agg_column.specs.Document.{Fields}
+use Rattle.agg_segment.specs.storage.Document.{Fields}
 use Rattle.agg_segment.specs.Query.{matches}
 use Rattle.agg_segment.specs.declared.query.QueryTree.{QueryTree}
 use Rattle.agg_request_tree.specs.Request.{Request, agg_of, below_of}
@@ -12,8 +12,8 @@ use Rattle.agg_request_tree.specs.Uncut.{uncut, uncut_lists, uncut_lists_of}
 use Rattle.agg_request_tree.specs.declared.aggregation.Aggregation.{Aggregation}
 use Rattle.agg_request_tree.proofs.RequestTrees.{height, height-out, levels}
 use Rattle.agg_request_tree.proofs.UncutLists.{uncut-append, uncut_lists-out}
-use Rattle.agg_uncut.specs.Uncut.{lengths_of, uncut_lengths}
-use Rattle.agg_uncut.proofs.CutNumbers.{cut-sum}
+use Rattle.agg_engine_tree.specs.uncut.Uncut.{lengths_of, uncut_lengths}
+use Rattle.agg_engine_tree.proofs.lemmas.uncut.CutNumbers.{cut-sum}
 
 -- ---- lists joined place by place
 
@@ -33,7 +33,7 @@ joined-long : {ls ms ns : List (List Fields)} → AreJoined ls ms ns
 joined-long none = refl
 joined-long (more joined) = ap suc (joined-long joined)
 
--- and their lengths add up
+-- the lengths of joined lists add up
 joined-lengths : {ls ms ns : List (List Fields)} → AreJoined ls ms ns
     → lengths_of ns ≡ map (λ p. u64_saturate (p.0 + p.1)) (zip (lengths_of ls) (lengths_of ms))
 joined-lengths none = refl

@@ -9,8 +9,8 @@ use Rattle.std.proofs.lemmas.List.Concat.{flat_map-cons}
 use mir.Val.{bool_byte}
 use Rattle.agg_values.specs.Names.{Named}
 use Rattle.agg_values.specs.declared.after_key.AfterKey.{AfterKey}
-use Rattle.agg_column.specs.Columns.{StoredColumn, all_keys}
-use Rattle.agg_column.specs.Document.{Fields}
+use Rattle.agg_segment.specs.storage.Columns.{StoredColumn, all_keys}
+use Rattle.agg_segment.specs.storage.Document.{Fields}
 use Rattle.agg_segment.specs.Marks.{AreMarks, mark_at}
 use Rattle.agg_segment.specs.Query.{matches}
 use Rattle.agg_segment.specs.Segment.{Stored, document_at, documents_at, documents_of}
@@ -25,19 +25,23 @@ use Rattle.agg_request_tree.specs.declared.aggregation.CompositeAggregation.{Com
 use Rattle.agg_request_tree.specs.declared.aggregation.filter.FilterQuery.{FilterQuery}
 use Rattle.agg_request_tree.specs.declared.aggregation.filter.FilterQuery.TheVariants as by_query
 use Rattle.agg_request_tree.proofs.UncutLength.{length-each}
-use Rattle.agg_accessor.specs.Accessors.{Fits}
-use Rattle.agg_accessor.specs.declared.request_data.CompositeAggReqData.{CompositeAggReqData}
+use Rattle.agg_composite.specs.accessor.Accessors.{Fits}
+use Rattle.agg_composite.specs.declared.accessor.request_data.CompositeAggReqData.{
+  CompositeAggReqData,
+}
 use Rattle.agg_filter.specs.declared.request_data.FilterAggReqData.{FilterAggReqData}
 use Rattle.agg_metric.specs.declared.request_data.MetricAggReqData.{MetricAggReqData}
 use Rattle.agg_metric.specs.declared.request_data.StatsType.{StatsType}
 use Rattle.agg_metric.specs.declared.request_data.StatsType.TheVariants as stats
-use Rattle.agg_segment_context.specs.Context.{IsAskedAt, IsCompositeAt, IsMeant, IsMetricAt}
-use Rattle.agg_segment_context.specs.Context.{Meaning, tree_in}
-use Rattle.agg_segment_context.specs.declared.context.PerRequestAggSegCtx.{PerRequestAggSegCtx}
-use Rattle.agg_segment_context.specs.declared.node.AggKind.TheVariants as kind
-use Rattle.agg_uncut.specs.NodeData.{AreColumnsOf, HasAccessorsFor, IsDataOf, num_read}
-use Rattle.agg_uncut.specs.Uncut.{times}
-use Rattle.agg_uncut.specs.declared.node_data.NodeData.TheVariants as by
+use Rattle.agg_engine_tree.specs.segment_context.Context.{IsAskedAt, IsCompositeAt, IsMeant}
+use Rattle.agg_engine_tree.specs.segment_context.Context.{IsMetricAt, Meaning, tree_in}
+use Rattle.agg_engine_tree.specs.declared.segment_context.context.PerRequestAggSegCtx.{
+  PerRequestAggSegCtx,
+}
+use Rattle.agg_engine_tree.specs.declared.segment_context.node.AggKind.TheVariants as kind
+use Rattle.agg_engine_tree.specs.uncut.NodeData.{AreColumnsOf, HasAccessorsFor, IsDataOf, num_read}
+use Rattle.agg_engine_tree.specs.uncut.Uncut.{times}
+use Rattle.agg_engine_tree.specs.declared.uncut.node_data.NodeData.TheVariants as by
 
 -- a filter's query matches what its tree does
 tree-matches : (query : FilterQuery QueryTree)

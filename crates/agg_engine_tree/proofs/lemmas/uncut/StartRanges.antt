@@ -7,7 +7,7 @@ use Rattle.std.proofs.lemmas.List.Concat.{flat_map-append}
 use Rattle.std.proofs.lemmas.List.Elements.{All-append, All-from_recursion}
 use Rattle.agg_values.specs.Names.{Named}
 use Rattle.agg_values.specs.declared.after_key.AfterKey.{AfterKey}
-use Rattle.agg_column.specs.Document.{Fields}
+use Rattle.agg_segment.specs.storage.Document.{Fields}
 use Rattle.agg_segment.specs.Segment.{Stored, documents_at}
 use Rattle.agg_segment.specs.declared.query.QueryTree.{QueryTree}
 use Rattle.agg_request_tree.specs.Ranges.{AreInRange, HasOwnStartOutOfRange, HasStartOutOfRange}
@@ -17,15 +17,19 @@ use Rattle.agg_request_tree.specs.declared.aggregation.AggregationVariants.{Aggr
 use Rattle.agg_request_tree.specs.declared.aggregation.AggregationVariants.TheVariants as asks
 use Rattle.agg_request_tree.specs.declared.aggregation.CompositeAggregation.{CompositeAggregation}
 use Rattle.agg_request_tree.proofs.CheckedRequests.{Any-back, Any-front}
-use Rattle.agg_accessor.specs.Accessors.{Fits}
-use Rattle.agg_accessor.specs.Ranges.{AreAllInRange}
-use Rattle.agg_accessor.specs.declared.request_data.CompositeAggReqData.{CompositeAggReqData}
-use Rattle.agg_segment_context.specs.Context.{IsAskedAt, IsMeant, Meaning}
-use Rattle.agg_segment_context.specs.declared.context.PerRequestAggSegCtx.{PerRequestAggSegCtx}
-use Rattle.agg_segment_context.specs.declared.node.AggKind.TheVariants as kind
-use Rattle.agg_uncut.specs.Ranges.{TellsRange}
-use Rattle.agg_uncut.proofs.NodeData.{composite-accessors}
-use Rattle.agg_uncut.proofs.Plans.{request-more}
+use Rattle.agg_composite.specs.accessor.Accessors.{Fits}
+use Rattle.agg_composite.specs.accessor.Ranges.{AreAllInRange}
+use Rattle.agg_composite.specs.declared.accessor.request_data.CompositeAggReqData.{
+  CompositeAggReqData,
+}
+use Rattle.agg_engine_tree.specs.segment_context.Context.{IsAskedAt, IsMeant, Meaning}
+use Rattle.agg_engine_tree.specs.declared.segment_context.context.PerRequestAggSegCtx.{
+  PerRequestAggSegCtx,
+}
+use Rattle.agg_engine_tree.specs.declared.segment_context.node.AggKind.TheVariants as kind
+use Rattle.agg_engine_tree.specs.uncut.Ranges.{TellsRange}
+use Rattle.agg_engine_tree.proofs.lemmas.uncut.NodeData.{composite-accessors}
+use Rattle.agg_engine_tree.proofs.lemmas.uncut.Plans.{request-more}
 
 -- ---- some composites and some others
 
@@ -45,7 +49,7 @@ module _ (documents : List Fields) where
   tells-one true composite all = All-from_recursion are_within (composite ∷ []) (all, tt)
   tells-one false composite some = (0, composite, omega arith, refl, some)
 
-  -- those behind tell it, where all before lie within
+  -- those after tell it, where all before lie within
   pub tells-behind : (b : Bool) (before behind : List CompositeAggregation)
       → TellsRange true before documents → TellsRange b behind documents
       → TellsRange b (before ++ behind) documents
@@ -106,7 +110,7 @@ module _ (meaning : Meaning) (ctx : PerRequestAggSegCtx) (meant : IsMeant meanin
   own-fits (asks.Min a) asked = absurd asked
   own-fits (asks.Sum a) asked = absurd asked
 
-  -- and tells of its starts
+  -- its data tells of its starts
   pub own-tells : (b : Bool) (docs : List ℕ)
       → ((segment : Stored) (after : Named AfterKey) → Fits segment after req
       → MatchBool b (AreAllInRange segment req.req.now.sources docs)

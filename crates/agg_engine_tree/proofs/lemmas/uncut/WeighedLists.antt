@@ -9,7 +9,7 @@ use Rattle.std.proofs.Math.Nat.{add_comm, zero-mul, suc-mul}
 use Rattle.std.proofs.lemmas.List.{append-nil, get_or-map, length-map, length-replicate, map-append}
 use Rattle.std.proofs.lemmas.List.{replicate-append-replicate, take_all, take_more}
 use Rattle.std.proofs.lemmas.List.Sums.{sum_by-append, sum_by-cons}
-use Rattle.agg_column.specs.Document.{Fields}
+use Rattle.agg_segment.specs.storage.Document.{Fields}
 use Rattle.agg_segment.specs.Query.{matches}
 use Rattle.agg_segment.specs.Segment.{Stored, document_at, documents_at}
 use Rattle.agg_segment.specs.declared.query.QueryTree.{QueryTree}
@@ -20,8 +20,8 @@ use Rattle.agg_request_tree.specs.Uncut.{once_each, uncut}
 use Rattle.agg_request_tree.specs.declared.aggregation.AggregationVariants.{AggregationVariants}
 use Rattle.agg_request_tree.specs.declared.aggregation.AggregationVariants.TheVariants as asks
 use Rattle.agg_request_tree.proofs.UncutLists.{uncut-append}
-use Rattle.agg_uncut.specs.Uncut.{repeated, times, own_weights}
-use Rattle.agg_uncut.proofs.CutNumbers.{cut-sum}
+use Rattle.agg_engine_tree.specs.uncut.Uncut.{repeated, times, own_weights}
+use Rattle.agg_engine_tree.proofs.lemmas.uncut.CutNumbers.{cut-sum}
 
 -- ---- repeated documents
 
@@ -40,7 +40,7 @@ pub repeated-once : (ds : List Fields) → repeated (replicate (length ds) 1) ds
 repeated-once [] = refl
 repeated-once (d ∷ ds) = ap (λ others. d ∷ others) (repeated-once ds)
 
--- and their weights are not cut
+-- weights of one are not cut
 pub cut-ones : (n : ℕ) → replicate n 1 ≡ map u64_saturate (replicate n 1)
 cut-ones zero = refl
 cut-ones (suc n) = ap (λ ns. 1 ∷ ns) (cut-ones n)

@@ -1,7 +1,7 @@
 //! The queries of the filters of a request.
 ghost use Rattle.std.specs.Prelude.{◌≡◌, ◌++◌, IfOk, OnOk, map};
 ghost use Rattle.agg_request_tree.specs.Request.{listed_in};
-ghost use Rattle.agg_segment_context.specs.Trees.{own_query, queries_of};
+ghost use Rattle.agg_engine_tree.specs.segment_context.Trees.{own_query, queries_of};
 
 use agg_request_tree::{Aggregation, AggregationVariants, FilterQuery};
 use agg_values::{ItemList, NameMap, OutOfMemory};

@@ -1,11 +1,11 @@
 //! The tree of a filter: a copy of its own, or the one that its builder makes.
 ghost use Rattle.std.specs.Prelude.{◌≡◌, None, Some, All, Any, IfErr, IfOk, IsErrOf, IsSome, OnOk};
 ghost use Rattle.agg_request_tree.specs.Request.{query_builder, with_query_builder};
-ghost use Rattle.agg_segment_context.specs.Context.{tree_in};
-ghost use Rattle.agg_segment_context.specs.SetupError.{IsOfBuilders};
-ghost use Rattle.agg_segment_context.specs.Trees.{built_tree};
+ghost use Rattle.agg_engine_tree.specs.segment_context.Context.{tree_in};
+ghost use Rattle.agg_engine_tree.specs.segment_context.SetupError.{IsOfBuilders};
+ghost use Rattle.agg_engine_tree.specs.segment_context.Trees.{built_tree};
 
-use crate::SetupError;
+use crate::segment_context::SetupError;
 use agg_request_tree::{FilterQuery, NamedBuilder, QueryBuildError, QueryBuilder};
 use agg_segment::{QueryTree, Schema};
 use std::alloc::Global;

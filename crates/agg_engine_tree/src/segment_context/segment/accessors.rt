@@ -2,10 +2,10 @@
 ghost use Rattle.std.specs.Prelude.{◌≡◌, All, option_map, IfErr, IfOk};
 ghost use Rattle.agg_request_tree.specs.Faults.{IsSoundSource};
 ghost use Rattle.agg_request_tree.specs.Source.{after_of};
-ghost use Rattle.agg_accessor.specs.Accessors.{AllFit};
+ghost use Rattle.agg_composite.specs.accessor.Accessors.{AllFit};
 
-use crate::SetupError;
-use agg_accessor::CompositeSourceAccessors;
+use crate::segment_context::SetupError;
+use agg_composite::accessor::CompositeSourceAccessors;
 use agg_request_tree::CompositeAggregationSource;
 use agg_segment::SegmentReader;
 use agg_values::{AfterKey, CompositeIntermediateKey, ItemList, NameMap};

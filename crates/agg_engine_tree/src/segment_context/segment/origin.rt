@@ -1,4 +1,4 @@
-use crate::Page;
+use crate::segment_context::Page;
 use agg_segment::{QueryTree, SegmentReader};
 use std::alloc::Global;
 

@@ -1,5 +1,5 @@
-use Rattle.agg_collector_tree.proofs.CompositeCalls.{answers-none}
-use Rattle.agg_collector_tree.proofs.composite.take_in_composite.Goals as goal
+use Rattle.agg_engine_tree.proofs.lemmas.collector_tree.CompositeCalls.{answers-none}
+use Rattle.agg_engine_tree.proofs.collector_tree.composite.take_in_composite.Goals as goal
 
 pub returns-in-Flush : goal.returns-in-Flush
 returns-in-Flush g c = λ segment after fits.

@@ -1,11 +1,12 @@
 use Rattle.std.proofs.Common.{[], ◌∷◌, ap, Err}
 use Rattle.agg_cache.specs.Waiting.{under}
 use Rattle.agg_filter.specs.Matching.{is_matching}
-use Rattle.agg_collector_tree.specs.Took.{FilterAnswers}
-use Rattle.agg_collector_tree.proofs.FilterCalls.{answers-prepared, answers-under}
-use Rattle.agg_collector_tree.proofs.FilterCalls.{answers-unprepared}
-use Rattle.agg_collector_tree.proofs.PassedErrors.{error-passed}
-use Rattle.agg_collector_tree.proofs.filter.collect_under.Goals as goal
+use Rattle.agg_engine_tree.specs.collector_tree.Took.{FilterAnswers}
+use Rattle.agg_engine_tree.proofs.lemmas.collector_tree.FilterCalls.{answers-prepared}
+use Rattle.agg_engine_tree.proofs.lemmas.collector_tree.FilterCalls.{answers-under}
+use Rattle.agg_engine_tree.proofs.lemmas.collector_tree.FilterCalls.{answers-unprepared}
+use Rattle.agg_engine_tree.proofs.lemmas.collector_tree.PassedErrors.{error-passed}
+use Rattle.agg_engine_tree.proofs.collector_tree.filter.collect_under.Goals as goal
 
 pub returns-in_err-prepare_max_bucket : goal.returns-in_err-prepare_max_bucket
 returns-in_err-prepare_max_bucket c = λ tree segment marks.

@@ -1,10 +1,10 @@
 use Rattle.std.proofs.Common.{sym, subst}
 use Rattle.agg_filter.specs.Matching.{is_matching}
-use Rattle.agg_collector_tree.specs.Call.{pairs_in, parents_in}
-use Rattle.agg_collector_tree.specs.Took.{FilterAnswers}
-use Rattle.agg_collector_tree.specs.declared.call.Call.{Call}
-use Rattle.agg_collector_tree.proofs.FilterCalls.{answers-none}
-use Rattle.agg_collector_tree.proofs.filter.take_in_filter.Goals as goal
+use Rattle.agg_engine_tree.specs.collector_tree.Call.{pairs_in, parents_in}
+use Rattle.agg_engine_tree.specs.collector_tree.Took.{FilterAnswers}
+use Rattle.agg_engine_tree.specs.declared.collector_tree.call.Call.{Call}
+use Rattle.agg_engine_tree.proofs.lemmas.collector_tree.FilterCalls.{answers-none}
+use Rattle.agg_engine_tree.proofs.collector_tree.filter.take_in_filter.Goals as goal
 
 pub returns-in-Collect : goal.returns-in-Collect
 returns-in-Collect c = λ tree segment marks.

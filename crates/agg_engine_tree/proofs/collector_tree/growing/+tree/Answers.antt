@@ -2,20 +2,23 @@ use Rattle.std.proofs.Common.{◌≡◌, ◌≤◌, ◌+◌, ◌++◌, ◌∷◌
 use Rattle.std.proofs.Common.{sym, ap, ◌∙◌, subst, arith, rules}
 use Rattle.std.proofs.lemmas.List.{map-append, take_all, take_more}
 use Rattle.std.proofs.lemmas.Option.{slice_get_within}
-use Rattle.agg_accessor.specs.declared.request_data.CompositeAggReqData.{CompositeAggReqData}
+use Rattle.agg_composite.specs.declared.accessor.request_data.CompositeAggReqData.{
+  CompositeAggReqData,
+}
 use Rattle.agg_request_tree.specs.Faults.{max_sources}
-use Rattle.agg_segment_context.specs.Plan.{plan_of, plans_of}
-use Rattle.agg_segment_context.specs.declared.node.AggKind.TheVariants as kind
-use Rattle.agg_segment_context.specs.declared.node.AggRefNode.{the_lemmas}
-use Rattle.agg_segment_context.specs.declared.node.AggRefNode.TheViews.{out-AggRefNode}
-use Rattle.agg_collector_tree.specs.New.{HasData, IsNew}
-use Rattle.agg_collector_tree.specs.Tree.{Held, IsGroupOf, group_of, held_of, helds_of}
-use Rattle.agg_collector_tree.proofs.Levels.{held-composite, held-filter, held-group, held-metric}
-use Rattle.agg_collector_tree.proofs.NewTrees.{data-each, group-more, handed-new, new-composite}
-use Rattle.agg_collector_tree.proofs.NewTrees.{new-filter}
-use Rattle.agg_collector_tree.proofs.NewTrees.{new-metric, new-more, plan-is}
-use Rattle.agg_collector_tree.proofs.NodeData.{read-at}
-use Rattle.agg_collector_tree.proofs.growing.+tree.Goals as goal
+use Rattle.agg_engine_tree.specs.segment_context.Plan.{plan_of, plans_of}
+use Rattle.agg_engine_tree.specs.declared.segment_context.node.AggKind.TheVariants as kind
+use Rattle.agg_engine_tree.specs.declared.segment_context.node.AggRefNode.{the_lemmas}
+use Rattle.agg_engine_tree.specs.declared.segment_context.node.AggRefNode.TheViews.{out-AggRefNode}
+use Rattle.agg_engine_tree.specs.collector_tree.New.{HasData, IsNew}
+use Rattle.agg_engine_tree.specs.collector_tree.Tree.{Held, IsGroupOf, group_of, held_of, helds_of}
+use Rattle.agg_engine_tree.proofs.lemmas.collector_tree.Levels.{held-composite, held-filter}
+use Rattle.agg_engine_tree.proofs.lemmas.collector_tree.Levels.{held-group, held-metric}
+use Rattle.agg_engine_tree.proofs.lemmas.collector_tree.NewTrees.{data-each, group-more, handed-new}
+use Rattle.agg_engine_tree.proofs.lemmas.collector_tree.NewTrees.{new-composite, new-filter}
+use Rattle.agg_engine_tree.proofs.lemmas.collector_tree.NewTrees.{new-metric, new-more, plan-is}
+use Rattle.agg_engine_tree.proofs.lemmas.collector_tree.NodeData.{read-at}
+use Rattle.agg_engine_tree.proofs.collector_tree.growing.+tree.Goals as goal
 
 -- ---- a composite
 

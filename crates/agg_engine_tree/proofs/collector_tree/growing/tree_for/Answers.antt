@@ -1,8 +1,8 @@
 use Rattle.std.proofs.Common.{map, subst, sym}
-use Rattle.agg_segment_context.specs.Plan.{plan_of, plans_of}
-use Rattle.agg_collector_tree.specs.New.{HaveData}
-use Rattle.agg_collector_tree.proofs.ContextData.{all-data}
-use Rattle.agg_collector_tree.proofs.growing.tree_for.Goals as goal
+use Rattle.agg_engine_tree.specs.segment_context.Plan.{plan_of, plans_of}
+use Rattle.agg_engine_tree.specs.collector_tree.New.{HaveData}
+use Rattle.agg_engine_tree.proofs.lemmas.collector_tree.ContextData.{all-data}
+use Rattle.agg_engine_tree.proofs.collector_tree.growing.tree_for.Goals as goal
 
 pub trees_for-requires : goal.trees_for-requires
 trees_for-requires c =

@@ -5,24 +5,31 @@ use Rattle.std.proofs.lemmas.List.{get_or-set_other, take_all}
 use Rattle.std.proofs.lemmas.List.Elements.{All-nil}
 use Rattle.std.proofs.lemmas.Result.{IfErr-weaker, on_ok_weaker}
 use Rattle.agg_cache.specs.Waiting.{pairs_of, under}
-use Rattle.agg_collector_tree.specs.declared.tree.SegmentCollectorTree.TheViews.{outs-Composite}
-use Rattle.agg_collector_tree.specs.declared.tree.SegmentCollectorTree.TheViews.{outs-Filter}
-use Rattle.agg_collector_tree.specs.Bound.{TakesMost}
-use Rattle.agg_collector_tree.specs.Refusals.{IsRefused}
-use Rattle.agg_collector_tree.specs.Step.{depth, depths}
-use Rattle.agg_collector_tree.specs.Call.{is_flush, pairs_in, parents_in}
-use Rattle.agg_collector_tree.specs.Tree.{Fits, Takes, group_of, held_of, helds_of}
-use Rattle.agg_collector_tree.proofs.Batches.{bucket_of, pairs_of-more, pairs_of-split}
-use Rattle.agg_collector_tree.proofs.Groups.{AllTake, group-takes}
-use Rattle.agg_collector_tree.proofs.HandedTrees.{all-next, handed-composite, handed-filter}
-use Rattle.agg_collector_tree.proofs.LaterParts.{later-most, later-refused}
-use Rattle.agg_collector_tree.proofs.Levels.{fits-each, less-deep, same-depth}
-use Rattle.agg_collector_tree.proofs.MostGroups.{some-most}
-use Rattle.agg_collector_tree.proofs.MostSteps.{takes-most}
-use Rattle.agg_collector_tree.proofs.PassedErrors.{error-passed}
-use Rattle.agg_collector_tree.proofs.RefusedFilters.{group-refused}
-use Rattle.agg_collector_tree.proofs.TakenParts.{taken-all, takes-both, takes-none}
-use Rattle.agg_collector_tree.proofs.handing.+hand.Goals as goal
+use Rattle.agg_engine_tree.specs.declared.collector_tree.tree.SegmentCollectorTree.TheViews.{
+  outs-Composite,
+}
+use Rattle.agg_engine_tree.specs.declared.collector_tree.tree.SegmentCollectorTree.TheViews.{
+  outs-Filter,
+}
+use Rattle.agg_engine_tree.specs.collector_tree.Bound.{TakesMost}
+use Rattle.agg_engine_tree.specs.collector_tree.Refusals.{IsRefused}
+use Rattle.agg_engine_tree.specs.collector_tree.Step.{depth, depths}
+use Rattle.agg_engine_tree.specs.collector_tree.Call.{is_flush, pairs_in, parents_in}
+use Rattle.agg_engine_tree.specs.collector_tree.Tree.{Fits, Takes, group_of, held_of, helds_of}
+use Rattle.agg_engine_tree.proofs.lemmas.collector_tree.Batches.{bucket_of, pairs_of-more}
+use Rattle.agg_engine_tree.proofs.lemmas.collector_tree.Batches.{pairs_of-split}
+use Rattle.agg_engine_tree.proofs.lemmas.collector_tree.Groups.{AllTake, group-takes}
+use Rattle.agg_engine_tree.proofs.lemmas.collector_tree.HandedTrees.{all-next, handed-composite}
+use Rattle.agg_engine_tree.proofs.lemmas.collector_tree.HandedTrees.{handed-filter}
+use Rattle.agg_engine_tree.proofs.lemmas.collector_tree.LaterParts.{later-most, later-refused}
+use Rattle.agg_engine_tree.proofs.lemmas.collector_tree.Levels.{fits-each, less-deep, same-depth}
+use Rattle.agg_engine_tree.proofs.lemmas.collector_tree.MostGroups.{some-most}
+use Rattle.agg_engine_tree.proofs.lemmas.collector_tree.MostSteps.{takes-most}
+use Rattle.agg_engine_tree.proofs.lemmas.collector_tree.PassedErrors.{error-passed}
+use Rattle.agg_engine_tree.proofs.lemmas.collector_tree.RefusedFilters.{group-refused}
+use Rattle.agg_engine_tree.proofs.lemmas.collector_tree.TakenParts.{taken-all, takes-both}
+use Rattle.agg_engine_tree.proofs.lemmas.collector_tree.TakenParts.{takes-none}
+use Rattle.agg_engine_tree.proofs.collector_tree.handing.+hand.Goals as goal
 
 pub hand-returns-in-Some-clause-ok : goal.hand-returns-in-Some-clause-ok
 hand-returns-in-Some-clause-ok g t c =

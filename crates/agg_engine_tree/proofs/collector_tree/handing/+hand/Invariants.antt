@@ -1,10 +1,10 @@
 use Rattle.std.proofs.Common.{◌≤◌, ◌+◌, ◌*◌, false, map, take}
 use Rattle.agg_cache.specs.Waiting.{pairs_of}
-use Rattle.agg_collector_tree.specs.Call.{is_flush, pairs_in}
-use Rattle.agg_collector_tree.specs.Step.{depth, depths}
-use Rattle.agg_collector_tree.specs.Tree.{Takes, held_of, helds_of}
-use Rattle.agg_collector_tree.proofs.Groups.{AllTake}
-use Rattle.agg_collector_tree.proofs.handing.+hand.Given as goal
+use Rattle.agg_engine_tree.specs.collector_tree.Call.{is_flush, pairs_in}
+use Rattle.agg_engine_tree.specs.collector_tree.Step.{depth, depths}
+use Rattle.agg_engine_tree.specs.collector_tree.Tree.{Takes, held_of, helds_of}
+use Rattle.agg_engine_tree.proofs.lemmas.collector_tree.Groups.{AllTake}
+use Rattle.agg_engine_tree.proofs.collector_tree.handing.+hand.Given as goal
 
 abbrev pub decreases-hand : goal.decreases-hand
 decreases-hand g l = 2 * depth (held_of l.node.now)

@@ -3,31 +3,40 @@ use Rattle.std.specs.Prelude.{IfErr, slice_get}
 use Rattle.std.proofs.lemmas.Option.{slice_get_within}
 use Rattle.agg_composite.specs.Composite.{Composite}
 use Rattle.agg_metric.specs.Collector.{MetricTakes}
-use Rattle.agg_collector_tree.specs.Bound.{TakesMost}
-use Rattle.agg_collector_tree.specs.Call.{is_flush, pairs_in, parents_in}
-use Rattle.agg_collector_tree.specs.Refusals.{IsRefused}
-use Rattle.agg_collector_tree.specs.Caches.{Cache}
-use Rattle.agg_collector_tree.specs.Tree.{Fits, held_of}
-use Rattle.agg_collector_tree.specs.declared.tree.SegmentCollectorTree as declared
+use Rattle.agg_engine_tree.specs.collector_tree.Bound.{TakesMost}
+use Rattle.agg_engine_tree.specs.collector_tree.Call.{is_flush, pairs_in, parents_in}
+use Rattle.agg_engine_tree.specs.collector_tree.Refusals.{IsRefused}
+use Rattle.agg_engine_tree.specs.collector_tree.Caches.{Cache}
+use Rattle.agg_engine_tree.specs.collector_tree.Tree.{Fits, held_of}
+use Rattle.agg_engine_tree.specs.declared.collector_tree.tree.SegmentCollectorTree as declared
 use declared.{SegmentCollectorTree as Tree}
-use Rattle.agg_collector_tree.specs.declared.tree.SegmentCollectorTree.TheViews.{outs-Composite}
-use Rattle.agg_collector_tree.specs.declared.tree.SegmentCollectorTree.TheViews.{outs-Filter}
-use Rattle.agg_collector_tree.specs.declared.tree.SegmentCollectorTree.TheViews.{outs-Metric}
-use Rattle.agg_collector_tree.proofs.MostSteps.{no-steps}
-use Rattle.agg_collector_tree.proofs.NodeBounds.{node-bounds-composite}
-use Rattle.agg_collector_tree.proofs.NodeSteps.{node-hands-composite, node-hands-filter}
-use Rattle.agg_collector_tree.proofs.NodeSteps.{node-keeps-composite, node-keeps-filter}
-use Rattle.agg_collector_tree.proofs.Groups.{metric-takes}
-use Rattle.agg_collector_tree.proofs.Levels.{held-metric}
-use Rattle.agg_collector_tree.proofs.NodeData.{composite-data, composite-read}
-use Rattle.agg_collector_tree.proofs.NodeData.{filter-data, filter-read}
-use Rattle.agg_collector_tree.proofs.NodeRefusals.{node-refused-composite, node-refused-filter}
-use Rattle.agg_collector_tree.proofs.NodeRefusals.{node-refused-metric}
-use Rattle.agg_collector_tree.proofs.PassedErrors.{error-passed}
-use Rattle.agg_collector_tree.proofs.handing.take_at.Given as given
-use Rattle.agg_collector_tree.proofs.handing.take_at.Goals as goal
-use Rattle.agg_collector_tree.proofs.handing.take_at.Goals.{After-take_in_composite}
-use Rattle.agg_collector_tree.proofs.handing.take_at.Goals.{After-take_in_filter}
+use Rattle.agg_engine_tree.specs.declared.collector_tree.tree.SegmentCollectorTree.TheViews.{
+  outs-Composite,
+}
+use Rattle.agg_engine_tree.specs.declared.collector_tree.tree.SegmentCollectorTree.TheViews.{
+  outs-Filter,
+}
+use Rattle.agg_engine_tree.specs.declared.collector_tree.tree.SegmentCollectorTree.TheViews.{
+  outs-Metric,
+}
+use Rattle.agg_engine_tree.proofs.lemmas.collector_tree.MostSteps.{no-steps}
+use Rattle.agg_engine_tree.proofs.lemmas.collector_tree.NodeBounds.{node-bounds-composite}
+use Rattle.agg_engine_tree.proofs.lemmas.collector_tree.NodeSteps.{node-hands-composite}
+use Rattle.agg_engine_tree.proofs.lemmas.collector_tree.NodeSteps.{node-hands-filter}
+use Rattle.agg_engine_tree.proofs.lemmas.collector_tree.NodeSteps.{node-keeps-composite}
+use Rattle.agg_engine_tree.proofs.lemmas.collector_tree.NodeSteps.{node-keeps-filter}
+use Rattle.agg_engine_tree.proofs.lemmas.collector_tree.Groups.{metric-takes}
+use Rattle.agg_engine_tree.proofs.lemmas.collector_tree.Levels.{held-metric}
+use Rattle.agg_engine_tree.proofs.lemmas.collector_tree.NodeData.{composite-data, composite-read}
+use Rattle.agg_engine_tree.proofs.lemmas.collector_tree.NodeData.{filter-data, filter-read}
+use Rattle.agg_engine_tree.proofs.lemmas.collector_tree.NodeRefusals.{node-refused-composite}
+use Rattle.agg_engine_tree.proofs.lemmas.collector_tree.NodeRefusals.{node-refused-filter}
+use Rattle.agg_engine_tree.proofs.lemmas.collector_tree.NodeRefusals.{node-refused-metric}
+use Rattle.agg_engine_tree.proofs.lemmas.collector_tree.PassedErrors.{error-passed}
+use Rattle.agg_engine_tree.proofs.collector_tree.handing.take_at.Given as given
+use Rattle.agg_engine_tree.proofs.collector_tree.handing.take_at.Goals as goal
+use Rattle.agg_engine_tree.proofs.collector_tree.handing.take_at.Goals.{After-take_in_composite}
+use Rattle.agg_engine_tree.proofs.collector_tree.handing.take_at.Goals.{After-take_in_filter}
 
 -- ---- composites
 

@@ -1,9 +1,10 @@
 use Rattle.agg_cache.specs.Waiting.{under}
-use Rattle.agg_collector_tree.specs.Took.{MetricAnswers}
-use Rattle.agg_collector_tree.proofs.MetricCalls.{answers-prepared, answers-under}
-use Rattle.agg_collector_tree.proofs.MetricCalls.{answers-unprepared}
-use Rattle.agg_collector_tree.proofs.PassedErrors.{error-passed}
-use Rattle.agg_collector_tree.proofs.metric.collect_under.Goals as goal
+use Rattle.agg_engine_tree.specs.collector_tree.Took.{MetricAnswers}
+use Rattle.agg_engine_tree.proofs.lemmas.collector_tree.MetricCalls.{answers-prepared}
+use Rattle.agg_engine_tree.proofs.lemmas.collector_tree.MetricCalls.{answers-under}
+use Rattle.agg_engine_tree.proofs.lemmas.collector_tree.MetricCalls.{answers-unprepared}
+use Rattle.agg_engine_tree.proofs.lemmas.collector_tree.PassedErrors.{error-passed}
+use Rattle.agg_engine_tree.proofs.collector_tree.metric.collect_under.Goals as goal
 
 pub returns-in_err-prepare_max_bucket : goal.returns-in_err-prepare_max_bucket
 returns-in_err-prepare_max_bucket c =

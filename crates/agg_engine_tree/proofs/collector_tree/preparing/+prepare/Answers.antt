@@ -2,18 +2,28 @@ use Rattle.std.proofs.Common.{◌≡◌, ◌<◌, ◌≤◌, [], false, get_or, 
 use Rattle.std.proofs.Common.{subst, arith}
 use Rattle.std.proofs.lemmas.List.{get_or-set_other, take_all}
 use Rattle.std.proofs.lemmas.Result.{on_ok_weaker}
-use Rattle.agg_collector_tree.specs.declared.tree.SegmentCollectorTree.TheViews.{outs-Composite}
-use Rattle.agg_collector_tree.specs.declared.tree.SegmentCollectorTree.TheViews.{outs-Filter}
-use Rattle.agg_collector_tree.specs.declared.tree.SegmentCollectorTree.TheViews.{outs-Group}
-use Rattle.agg_collector_tree.specs.declared.tree.SegmentCollectorTree.TheViews.{outs-Metric}
-use Rattle.agg_collector_tree.specs.Prepared.{IsPrepared}
-use Rattle.agg_collector_tree.specs.Tree.{Takes, group_of, held_of}
-use Rattle.agg_collector_tree.proofs.Groups.{AllTake, group-takes}
-use Rattle.agg_collector_tree.proofs.HandedTrees.{all-next}
-use Rattle.agg_collector_tree.proofs.Levels.{held-group}
-use Rattle.agg_collector_tree.proofs.PreparedTrees.{prepared-composite, prepared-filter}
-use Rattle.agg_collector_tree.proofs.PreparedTrees.{prepared-metric, prepared-next}
-use Rattle.agg_collector_tree.proofs.preparing.+prepare.Goals as goal
+use Rattle.agg_engine_tree.specs.declared.collector_tree.tree.SegmentCollectorTree.TheViews.{
+  outs-Composite,
+}
+use Rattle.agg_engine_tree.specs.declared.collector_tree.tree.SegmentCollectorTree.TheViews.{
+  outs-Filter,
+}
+use Rattle.agg_engine_tree.specs.declared.collector_tree.tree.SegmentCollectorTree.TheViews.{
+  outs-Group,
+}
+use Rattle.agg_engine_tree.specs.declared.collector_tree.tree.SegmentCollectorTree.TheViews.{
+  outs-Metric,
+}
+use Rattle.agg_engine_tree.specs.collector_tree.Prepared.{IsPrepared}
+use Rattle.agg_engine_tree.specs.collector_tree.Tree.{Takes, group_of, held_of}
+use Rattle.agg_engine_tree.proofs.lemmas.collector_tree.Groups.{AllTake, group-takes}
+use Rattle.agg_engine_tree.proofs.lemmas.collector_tree.HandedTrees.{all-next}
+use Rattle.agg_engine_tree.proofs.lemmas.collector_tree.Levels.{held-group}
+use Rattle.agg_engine_tree.proofs.lemmas.collector_tree.PreparedTrees.{prepared-composite}
+use Rattle.agg_engine_tree.proofs.lemmas.collector_tree.PreparedTrees.{prepared-filter}
+use Rattle.agg_engine_tree.proofs.lemmas.collector_tree.PreparedTrees.{prepared-metric}
+use Rattle.agg_engine_tree.proofs.lemmas.collector_tree.PreparedTrees.{prepared-next}
+use Rattle.agg_engine_tree.proofs.collector_tree.preparing.+prepare.Goals as goal
 
 pub prepare-returns-in_ok-prepare_max_bucket-in-Composite-clause-ok :
     goal.prepare-returns-in_ok-prepare_max_bucket-in-Composite-clause-ok
@@ -22,7 +32,7 @@ prepare-returns-in_ok-prepare_max_bucket-in-Composite-clause-ok t c =
     rw (x.is, outs-Composite x.field-0 x.collector x.field-2)
     (λ ctx steps. prepared-composite ctx steps x.field-0 x.field-2 x.collector _
     c.prepare_max_bucket.new.self x.collector-is c.prepare_max_bucket.ensures.right
-    c.prepare_max_bucket.ensures.rest)
+    c.prepare_max_bucket.ensures.rest c.prepare_max_bucket.ensures.parents)
 
 pub prepare-returns-in-Filter-clause-ok : goal.prepare-returns-in-Filter-clause-ok
 prepare-returns-in-Filter-clause-ok t c =

@@ -1,9 +1,11 @@
 use Rattle.std.proofs.Common.{ℕ, [], false, map, take}
-use Rattle.agg_segment_context.specs.declared.context.PerRequestAggSegCtx.{PerRequestAggSegCtx}
-use Rattle.agg_collector_tree.specs.Prepared.{IsPrepared}
-use Rattle.agg_collector_tree.specs.Tree.{group_of, held_of}
-use Rattle.agg_collector_tree.proofs.Groups.{AllTake}
-use Rattle.agg_collector_tree.proofs.preparing.+prepare.Given as goal
+use Rattle.agg_engine_tree.specs.declared.segment_context.context.PerRequestAggSegCtx.{
+  PerRequestAggSegCtx,
+}
+use Rattle.agg_engine_tree.specs.collector_tree.Prepared.{IsPrepared}
+use Rattle.agg_engine_tree.specs.collector_tree.Tree.{group_of, held_of}
+use Rattle.agg_engine_tree.proofs.lemmas.collector_tree.Groups.{AllTake}
+use Rattle.agg_engine_tree.proofs.collector_tree.preparing.+prepare.Given as goal
 
 abbrev pub invariant-prepare_all-loop-i : goal.invariant-prepare_all-loop-i
 invariant-prepare_all-loop-i l = record {

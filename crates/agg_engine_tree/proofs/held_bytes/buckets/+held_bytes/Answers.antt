@@ -1,16 +1,17 @@
 use Rattle.std.proofs.Common.{◌≡◌, ◌+◌, ◌*◌, None, refl, sym, ap, ◌∙◌, subst, arith, rules}
 use Rattle.std.proofs.lemmas.List.{take_all}
-use Rattle.agg_charges.specs.Charges.{bucket_bytes}
-use Rattle.agg_collector_tree.specs.Tree.{held_of}
-use Rattle.agg_collector_tree.specs.declared.tree.SegmentCollectorTree.{the_lemmas}
+use Rattle.agg_request_tree.specs.charges.Charges.{bucket_bytes}
+use Rattle.agg_engine_tree.specs.collector_tree.Tree.{held_of}
+use Rattle.agg_engine_tree.specs.declared.collector_tree.tree.SegmentCollectorTree.{the_lemmas}
 use Rattle.agg_composite.specs.Composite.{num_buckets}
-use Rattle.agg_held_bytes.specs.Checked.{IsChecked}
-use Rattle.agg_held_bytes.specs.HeldBytes.{held_bytes}
-use Rattle.agg_held_bytes.proofs.Checked.{is-checked, none-checked}
-use Rattle.agg_held_bytes.proofs.HeldNodes.{composite-bytes, few-sources, group-bytes, group-each}
-use Rattle.agg_held_bytes.proofs.HeldNodes.{index-within}
-use Rattle.agg_held_bytes.proofs.HeldSums.{first-most, group_bytes, one-read}
-use Rattle.agg_held_bytes.proofs.buckets.+held_bytes.Goals as goal
+use Rattle.agg_engine_tree.specs.held_bytes.Checked.{IsChecked}
+use Rattle.agg_engine_tree.specs.held_bytes.HeldBytes.{held_bytes}
+use Rattle.agg_engine_tree.proofs.lemmas.held_bytes.Checked.{is-checked, none-checked}
+use Rattle.agg_engine_tree.proofs.lemmas.held_bytes.HeldNodes.{composite-bytes, few-sources}
+use Rattle.agg_engine_tree.proofs.lemmas.held_bytes.HeldNodes.{group-bytes, group-each}
+use Rattle.agg_engine_tree.proofs.lemmas.held_bytes.HeldNodes.{index-within}
+use Rattle.agg_engine_tree.proofs.lemmas.held_bytes.HeldSums.{first-most, group_bytes, one-read}
+use Rattle.agg_engine_tree.proofs.held_bytes.buckets.+held_bytes.Goals as goal
 
 -- ---- a composite
 

@@ -1,5 +1,6 @@
-use Rattle.agg_held_bytes.proofs.TreeLaws.{least, least-one}
-use Rattle.agg_held_bytes.proofs.laws.flushed_trees_hold_at_least_their_low_roof.Goals as goal
+use Rattle.agg_engine_tree.proofs.lemmas.held_bytes.TreeLaws.{least, least-one}
+use Rattle.agg_engine_tree.proofs.held_bytes.laws.flushed_trees_hold_at_least_their_low_roof.Goals
+    as goal
 
 pub returns-clause-parents : goal.returns-clause-parents
 returns-clause-parents c = least

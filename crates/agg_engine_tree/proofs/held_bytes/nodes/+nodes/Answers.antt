@@ -2,13 +2,14 @@ use Rattle.std.proofs.Common.{◌≡◌, ◌+◌, [], ◌∷◌, None, length, a
 use Rattle.std.proofs.lemmas.List.{take_all}
 use Rattle.agg_segment.specs.Segment.{documents_of}
 use Rattle.agg_request_tree.specs.Request.{agg_of, below_of}
-use Rattle.agg_charges.specs.Charges.{fixed_charge}
-use Rattle.agg_segment_context.specs.declared.node.AggRefNode.{the_lemmas}
-use Rattle.agg_held_bytes.specs.Checked.{IsChecked}
-use Rattle.agg_held_bytes.proofs.Checked.{is-checked, none-checked}
-use Rattle.agg_held_bytes.proofs.FixedCharges.{as-many, charge-node, charge-part, next-read}
-use Rattle.agg_held_bytes.proofs.FixedCharges.{node-asked, nodes-below}
-use Rattle.agg_held_bytes.proofs.nodes.+nodes.Goals as goal
+use Rattle.agg_request_tree.specs.charges.Charges.{fixed_charge}
+use Rattle.agg_engine_tree.specs.declared.segment_context.node.AggRefNode.{the_lemmas}
+use Rattle.agg_engine_tree.specs.held_bytes.Checked.{IsChecked}
+use Rattle.agg_engine_tree.proofs.lemmas.held_bytes.Checked.{is-checked, none-checked}
+use Rattle.agg_engine_tree.proofs.lemmas.held_bytes.FixedCharges.{as-many, charge-node, charge-part}
+use Rattle.agg_engine_tree.proofs.lemmas.held_bytes.FixedCharges.{next-read, node-asked}
+use Rattle.agg_engine_tree.proofs.lemmas.held_bytes.FixedCharges.{nodes-below}
+use Rattle.agg_engine_tree.proofs.held_bytes.nodes.+nodes.Goals as goal
 
 -- ---- a node
 

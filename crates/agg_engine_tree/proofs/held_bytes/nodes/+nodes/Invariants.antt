@@ -2,10 +2,10 @@ use Rattle.std.proofs.Common.{◌≡◌, length, take}
 use Rattle.agg_segment.specs.Segment.{documents_of}
 use Rattle.agg_segment.specs.declared.query.QueryTree.{QueryTree}
 use Rattle.agg_request_tree.specs.Request.{Request}
-use Rattle.agg_charges.specs.Charges.{fixed_charge}
-use Rattle.agg_segment_context.specs.Context.{Meaning}
-use Rattle.agg_held_bytes.specs.Nodes.{AreNodesOf}
-use Rattle.agg_held_bytes.proofs.nodes.+nodes.Given as goal
+use Rattle.agg_request_tree.specs.charges.Charges.{fixed_charge}
+use Rattle.agg_engine_tree.specs.segment_context.Context.{Meaning}
+use Rattle.agg_engine_tree.specs.held_bytes.Nodes.{AreNodesOf}
+use Rattle.agg_engine_tree.proofs.held_bytes.nodes.+nodes.Given as goal
 
 -- the charges of the nodes so far
 abbrev pub invariant-charge_of_nodes-loop-node : goal.invariant-charge_of_nodes-loop-node

@@ -1,6 +1,6 @@
 use Rattle.std.proofs.Common.{subst, sym}
-use Rattle.agg_held_bytes.specs.Nodes.{AreNodesOf}
-use Rattle.agg_held_bytes.proofs.nodes.fixed_bytes.Goals as goal
+use Rattle.agg_engine_tree.specs.held_bytes.Nodes.{AreNodesOf}
+use Rattle.agg_engine_tree.proofs.held_bytes.nodes.fixed_bytes.Goals as goal
 
 pub charge_of_nodes-requires : goal.charge_of_nodes-requires
 charge_of_nodes-requires c =

@@ -1,8 +1,8 @@
 use Rattle.std.proofs.Common.{◌∙◌, subst}
-use Rattle.agg_segment_context.specs.declared.node.AggKind.{AggKind}
-use Rattle.agg_held_bytes.specs.Nodes.{IsNodeFor}
-use Rattle.agg_held_bytes.proofs.NodeCharges.{composite-charge, filter-charge}
-use Rattle.agg_held_bytes.proofs.nodes.own_charge.Goals as goal
+use Rattle.agg_engine_tree.specs.declared.segment_context.node.AggKind.{AggKind}
+use Rattle.agg_engine_tree.specs.held_bytes.Nodes.{IsNodeFor}
+use Rattle.agg_engine_tree.proofs.lemmas.held_bytes.NodeCharges.{composite-charge, filter-charge}
+use Rattle.agg_engine_tree.proofs.held_bytes.nodes.own_charge.Goals as goal
 
 pub returns-in-Composite : goal.returns-in-Composite
 returns-in-Composite c meaning asked of =

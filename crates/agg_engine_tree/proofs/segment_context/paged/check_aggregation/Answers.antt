@@ -4,9 +4,9 @@ use Rattle.std.proofs.lemmas.Result.{on_ok_weaker}
 use Rattle.agg_request_tree.specs.Faults.{CompositeHasCause, HasCause}
 use Rattle.agg_request_tree.specs.Request.{below_of, composites_in}
 use Rattle.agg_request_tree.proofs.CheckedRequests.{each-refusal}
-use Rattle.agg_segment_context.specs.Additions.{paged_in}
-use Rattle.agg_segment_context.proofs.PagedChecks.{below-refused, sound-paged}
-use Rattle.agg_segment_context.proofs.paged.check_aggregation.Goals as goal
+use Rattle.agg_engine_tree.specs.segment_context.Additions.{paged_in}
+use Rattle.agg_engine_tree.proofs.lemmas.segment_context.PagedChecks.{below-refused, sound-paged}
+use Rattle.agg_engine_tree.proofs.segment_context.paged.check_aggregation.Goals as goal
 
 pub returns-clause-ok : goal.returns-clause-ok
 returns-clause-ok g c =

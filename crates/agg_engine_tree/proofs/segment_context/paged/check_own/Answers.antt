@@ -3,9 +3,9 @@ use Rattle.std.specs.List.{Any}
 use Rattle.agg_request_tree.specs.Faults.{CompositeHasCause}
 use Rattle.agg_request_tree.specs.Request.{own_composite}
 use Rattle.agg_request_tree.proofs.CheckedRequests.{each-refusal}
-use Rattle.agg_segment_context.specs.Additions.{paged_agg}
-use Rattle.agg_segment_context.proofs.PagedChecks.{composite-refused}
-use Rattle.agg_segment_context.proofs.paged.check_own.Goals as goal
+use Rattle.agg_engine_tree.specs.segment_context.Additions.{paged_agg}
+use Rattle.agg_engine_tree.proofs.lemmas.segment_context.PagedChecks.{composite-refused}
+use Rattle.agg_engine_tree.proofs.segment_context.paged.check_own.Goals as goal
 
 pub returns-in-Composite-clause-err : goal.returns-in-Composite-clause-err
 returns-in-Composite-clause-err g c =

@@ -4,12 +4,12 @@ use Rattle.std.specs.List.{All, Any}
 use Rattle.agg_request_tree.specs.Faults.{CompositeHasCause, HasCause, IsSound}
 use Rattle.agg_request_tree.specs.Request.{composites_in}
 use Rattle.agg_request_tree.proofs.Checks.{passed_on}
-use Rattle.agg_segment_context.specs.Additions.{paged_in}
-use Rattle.agg_segment_context.specs.Pages.{paged}
-use Rattle.agg_segment_context.specs.declared.params.Page.{Page}
-use Rattle.agg_segment_context.proofs.PagedChecks.{ascend-all, checked-all, checked-more}
-use Rattle.agg_segment_context.proofs.PagedChecks.{checked-refused}
-use Rattle.agg_segment_context.proofs.paged.check_paged.Goals as goal
+use Rattle.agg_engine_tree.specs.segment_context.Additions.{paged_in}
+use Rattle.agg_engine_tree.specs.segment_context.Pages.{paged}
+use Rattle.agg_engine_tree.specs.declared.segment_context.params.Page.{Page}
+use Rattle.agg_engine_tree.proofs.lemmas.segment_context.PagedChecks.{ascend-all, checked-all}
+use Rattle.agg_engine_tree.proofs.lemmas.segment_context.PagedChecks.{checked-more, checked-refused}
+use Rattle.agg_engine_tree.proofs.segment_context.paged.check_paged.Goals as goal
 
 pub loop-name-preserved : goal.loop-name-preserved
 loop-name-preserved g c =

@@ -1,5 +1,5 @@
-use Rattle.agg_segment_context.proofs.PagedChecks.{IsCheckedUpTo}
-use Rattle.agg_segment_context.proofs.paged.check_paged.Given as goal
+use Rattle.agg_engine_tree.proofs.lemmas.segment_context.PagedChecks.{IsCheckedUpTo}
+use Rattle.agg_engine_tree.proofs.segment_context.paged.check_paged.Given as goal
 
 abbrev pub invariant-loop-name : goal.invariant-loop-name
 invariant-loop-name g l = IsCheckedUpTo l.params.page l.request l.name-iterator

@@ -1,9 +1,12 @@
 use Rattle.std.proofs.Common.{ap, sym, ◌∙◌}
-use Rattle.agg_segment_context.proofs.Pages.{IsPaged, page-named, page-none, page-other}
-use Rattle.agg_segment_context.proofs.paged.page_for.Goals as goal
-use Rattle.agg_segment_context.proofs.paged.page_for.Goals.{in_default-via-in-Some+else-eq}
-use Rattle.agg_segment_context.proofs.paged.page_for.Goals.{in_default-via-in_default}
-use Rattle.agg_segment_context.proofs.paged.page_for.Goals.{In_default}
+use Rattle.agg_engine_tree.proofs.lemmas.segment_context.Pages.{IsPaged, page-named, page-none}
+use Rattle.agg_engine_tree.proofs.lemmas.segment_context.Pages.{page-other}
+use Rattle.agg_engine_tree.proofs.segment_context.paged.page_for.Goals as goal
+use Rattle.agg_engine_tree.proofs.segment_context.paged.page_for.Goals.{
+  in_default-via-in-Some+else-eq,
+}
+use Rattle.agg_engine_tree.proofs.segment_context.paged.page_for.Goals.{in_default-via-in_default}
+use Rattle.agg_engine_tree.proofs.segment_context.paged.page_for.Goals.{In_default}
 
 -- the composite has no page of its name
 unpaged : (c : In_default)

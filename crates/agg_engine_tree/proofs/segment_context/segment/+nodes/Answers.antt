@@ -1,10 +1,11 @@
 use Rattle.std.proofs.Common.{None, arith, false, refl}
 use Rattle.agg_request_tree.proofs.RequestTrees.{height-out}
-use Rattle.agg_segment_context.specs.declared.segment.origin.Origin.{Origin}
-use Rattle.agg_segment_context.proofs.NodeLists.{AreAddedUpTo-height, AreAddedUpTo-more}
-use Rattle.agg_segment_context.proofs.NodeLists.{AreAddedUpTo-ready}
-use Rattle.agg_segment_context.proofs.Nodes.{node-added, ready-below, ready-own}
-use Rattle.agg_segment_context.proofs.segment.+nodes.Goals as goal
+use Rattle.agg_engine_tree.specs.declared.segment_context.segment.origin.Origin.{Origin}
+use Rattle.agg_engine_tree.proofs.lemmas.segment_context.NodeLists.{AreAddedUpTo-height}
+use Rattle.agg_engine_tree.proofs.lemmas.segment_context.NodeLists.{AreAddedUpTo-more}
+use Rattle.agg_engine_tree.proofs.lemmas.segment_context.NodeLists.{AreAddedUpTo-ready}
+use Rattle.agg_engine_tree.proofs.lemmas.segment_context.Nodes.{node-added, ready-below, ready-own}
+use Rattle.agg_engine_tree.proofs.segment_context.segment.+nodes.Goals as goal
 
 pub aggregation_node-add_data-requires : goal.aggregation_node-add_data-requires
 aggregation_node-add_data-requires g t c =

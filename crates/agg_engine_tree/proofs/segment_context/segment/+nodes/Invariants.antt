@@ -1,7 +1,7 @@
 use Rattle.std.proofs.Common.{◌+◌, ◌*◌}
 use Rattle.agg_request_tree.proofs.RequestTrees.{height, levels}
-use Rattle.agg_segment_context.proofs.NodeLists.{AreAddedUpTo}
-use Rattle.agg_segment_context.proofs.segment.+nodes.Given as goal
+use Rattle.agg_engine_tree.proofs.lemmas.segment_context.NodeLists.{AreAddedUpTo}
+use Rattle.agg_engine_tree.proofs.segment_context.segment.+nodes.Given as goal
 
 abbrev pub decreases-request_nodes : goal.decreases-request_nodes
 decreases-request_nodes g l = 2 * levels l.request.now + 1

@@ -1,6 +1,6 @@
 use Rattle.std.proofs.Common.{true}
-use Rattle.agg_segment_context.proofs.Contexts.{context-of, request-ready}
-use Rattle.agg_segment_context.proofs.segment.segment_context.Goals as goal
+use Rattle.agg_engine_tree.proofs.lemmas.segment_context.Contexts.{context-of, request-ready}
+use Rattle.agg_engine_tree.proofs.segment_context.segment.segment_context.Goals as goal
 
 pub request_nodes-requires : goal.request_nodes-requires
 request_nodes-requires g c =

@@ -1,4 +1,4 @@
-use Rattle.agg_tree_results.proofs.collected.entries_under.Goals as goal
+use Rattle.agg_engine_tree.proofs.tree_results.collected.entries_under.Goals as goal
 
 pub returns-in-Some : goal.returns-in-Some
 returns-in-Some c = rw c.in-Some.is c.entries.ensures

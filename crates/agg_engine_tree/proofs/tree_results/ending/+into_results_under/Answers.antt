@@ -4,16 +4,21 @@ use Rattle.std.proofs.lemmas.List.{nil_from_length}
 use Rattle.std.proofs.lemmas.Result.{on_ok_weaker}
 use Rattle.agg_values.specs.Names.{put}
 use Rattle.agg_composite.specs.PageEntries.{page_entries}
-use Rattle.agg_collector_tree.specs.Tree.{held_of}
-use Rattle.agg_collector_tree.specs.declared.tree.SegmentCollectorTree.{the_lemmas}
-use Rattle.agg_tree_results.specs.Entries.{HoldsPage}
-use Rattle.agg_tree_results.proofs.GroupAdds.{following-added, following-may, whole-added}
-use Rattle.agg_tree_results.proofs.NodeAdds.{composite-absent, composite-added, composite-ascending}
-use Rattle.agg_tree_results.proofs.NodeAdds.{composite-below, composite-encoded}
-use Rattle.agg_tree_results.proofs.NodeAdds.{composite-within, found-at}
-use Rattle.agg_tree_results.proofs.YieldedItems.{all-yielded, next-split, next-yielded}
-use Rattle.agg_tree_results.proofs.ending.+into_results_under.Goals as goal
-use Rattle.agg_tree_results.proofs.ending.+into_results_under.Goals.{After-index-as_slice-index}
+use Rattle.agg_engine_tree.specs.collector_tree.Tree.{held_of}
+use Rattle.agg_engine_tree.specs.declared.collector_tree.tree.SegmentCollectorTree.{the_lemmas}
+use Rattle.agg_engine_tree.specs.tree_results.Entries.{HoldsPage}
+use Rattle.agg_engine_tree.proofs.lemmas.tree_results.GroupAdds.{following-added, following-may}
+use Rattle.agg_engine_tree.proofs.lemmas.tree_results.GroupAdds.{whole-added}
+use Rattle.agg_engine_tree.proofs.lemmas.tree_results.NodeAdds.{composite-absent, composite-added}
+use Rattle.agg_engine_tree.proofs.lemmas.tree_results.NodeAdds.{composite-ascending}
+use Rattle.agg_engine_tree.proofs.lemmas.tree_results.NodeAdds.{composite-below, composite-encoded}
+use Rattle.agg_engine_tree.proofs.lemmas.tree_results.NodeAdds.{composite-within, found-at}
+use Rattle.agg_engine_tree.proofs.lemmas.tree_results.YieldedItems.{all-yielded, next-split}
+use Rattle.agg_engine_tree.proofs.lemmas.tree_results.YieldedItems.{next-yielded}
+use Rattle.agg_engine_tree.proofs.tree_results.ending.+into_results_under.Goals as goal
+use Rattle.agg_engine_tree.proofs.tree_results.ending.+into_results_under.Goals.{
+  After-index-as_slice-index,
+}
 
 -- ---- a composite
 

@@ -1,7 +1,7 @@
 use Rattle.std.proofs.Common.{◌≡◌, ◌++◌, Some, map}
-use Rattle.agg_collector_tree.specs.Tree.{held_of}
-use Rattle.agg_tree_results.proofs.SideBySide.{AddInTurn}
-use Rattle.agg_tree_results.proofs.ending.+into_results_under.Given as goal
+use Rattle.agg_engine_tree.specs.collector_tree.Tree.{held_of}
+use Rattle.agg_engine_tree.proofs.lemmas.tree_results.SideBySide.{AddInTurn}
+use Rattle.agg_engine_tree.proofs.tree_results.ending.+into_results_under.Given as goal
 
 -- the nodes so far added their results
 abbrev pub invariant-loop-child : goal.invariant-loop-child

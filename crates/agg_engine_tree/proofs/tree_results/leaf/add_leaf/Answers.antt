@@ -1,9 +1,9 @@
 use Rattle.std.proofs.Common.{[], ap, ◌∙◌}
 use Rattle.std.proofs.lemmas.Result.{on_ok_weaker}
 use Rattle.agg_values.specs.Names.{put, value_of}
-use Rattle.agg_intermediate_results.specs.Intermediate.{as_composite}
-use Rattle.agg_tree_results.proofs.LeafPages.{alone-stands, lowest-ascend}
-use Rattle.agg_tree_results.proofs.leaf.add_leaf.Goals as goal
+use Rattle.agg_results.specs.intermediate_results.Intermediate.{as_composite}
+use Rattle.agg_engine_tree.proofs.lemmas.tree_results.LeafPages.{alone-stands, lowest-ascend}
+use Rattle.agg_engine_tree.proofs.tree_results.leaf.add_leaf.Goals as goal
 
 pub leaf_page-requires : goal.leaf_page-requires
 leaf_page-requires c =

@@ -2,11 +2,12 @@ use Rattle.std.proofs.Common.{◌≡◌, [], ◌∷◌, ◌++◌, map, refl, ap,
 use Rattle.agg_request_tree.specs.Source.{rules_of}
 use Rattle.agg_composite.specs.PageEntries.{page_entries}
 use Rattle.agg_composite.proofs.BucketPages.{first-encoded, next-entries}
-use Rattle.agg_intermediate_results.specs.Intermediate.{composite_of}
-use Rattle.agg_tree_results.specs.Leaves.{leaf_entry}
-use Rattle.agg_tree_results.proofs.HeldLeaves.{leaves-below, leaves-more}
-use Rattle.agg_tree_results.proofs.YieldedItems.{all-yielded, next-split, next-yielded}
-use Rattle.agg_tree_results.proofs.leaf.leaf_page.Goals as goal
+use Rattle.agg_results.specs.intermediate_results.Intermediate.{composite_of}
+use Rattle.agg_engine_tree.specs.tree_results.Leaves.{leaf_entry}
+use Rattle.agg_engine_tree.proofs.lemmas.tree_results.HeldLeaves.{leaves-below, leaves-more}
+use Rattle.agg_engine_tree.proofs.lemmas.tree_results.YieldedItems.{all-yielded, next-split}
+use Rattle.agg_engine_tree.proofs.lemmas.tree_results.YieldedItems.{next-yielded}
+use Rattle.agg_engine_tree.proofs.tree_results.leaf.leaf_page.Goals as goal
 
 pub loop-buckets-init : goal.loop-buckets-init
 loop-buckets-init c = record {

@@ -1,12 +1,12 @@
 use Rattle.std.proofs.Common.{◌≡◌, List, All, ◌++◌, length, map}
 use Rattle.std.specs.Map.{keys_of}
 use Rattle.agg_request_tree.specs.Source.{rules_of}
-use Rattle.agg_accessor.specs.Decoded.{IsEncoded}
+use Rattle.agg_composite.specs.accessor.Decoded.{IsEncoded}
 use Rattle.agg_composite.specs.PageEntries.{page_entries}
 use Rattle.agg_composite.specs.declared.page_entry.PageEntry.{PageEntry}
-use Rattle.agg_intermediate_results.specs.Intermediate.{composite_of}
-use Rattle.agg_tree_results.specs.Leaves.{leaf_entry}
-use Rattle.agg_tree_results.proofs.leaf.leaf_page.Given as goal
+use Rattle.agg_results.specs.intermediate_results.Intermediate.{composite_of}
+use Rattle.agg_engine_tree.specs.tree_results.Leaves.{leaf_entry}
+use Rattle.agg_engine_tree.proofs.tree_results.leaf.leaf_page.Given as goal
 
 -- the entries that are gone are held
 abbrev pub invariant-loop-buckets : goal.invariant-loop-buckets

@@ -1,7 +1,7 @@
 use Rattle.std.proofs.Common.{◌≡◌, [], take}
 use Rattle.agg_request_tree.specs.Source.{rules_of}
-use Rattle.agg_intermediate_results.specs.Intermediate.{composite_of}
-use Rattle.agg_tree_results.proofs.made.empty_page.Given as goal
+use Rattle.agg_results.specs.intermediate_results.Intermediate.{composite_of}
+use Rattle.agg_engine_tree.proofs.tree_results.made.empty_page.Given as goal
 
 -- the orders of the sources so far
 abbrev pub invariant-loop-source : goal.invariant-loop-source

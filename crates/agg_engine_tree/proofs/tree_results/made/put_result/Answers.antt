@@ -1,8 +1,8 @@
 use Rattle.std.proofs.Common.{Err, ap, ◌∙◌}
 use Rattle.agg_values.specs.Names.{value_of}
-use Rattle.agg_intermediate_results.specs.Merging.{CountsPass, ShapesDiffer}
-use Rattle.agg_tree_results.proofs.UnheldNames.{is_out_of_memory, unheld}
-use Rattle.agg_tree_results.proofs.made.put_result.Goals as goal
+use Rattle.agg_results.specs.intermediate_results.Merging.{CountsPass, ShapesDiffer}
+use Rattle.agg_engine_tree.proofs.lemmas.tree_results.UnheldNames.{is_out_of_memory, unheld}
+use Rattle.agg_engine_tree.proofs.tree_results.made.put_result.Goals as goal
 
 pub out_of_memory-requires : goal.out_of_memory-requires
 out_of_memory-requires c =

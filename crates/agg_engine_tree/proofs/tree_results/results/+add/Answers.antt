@@ -5,20 +5,27 @@ use Rattle.std.proofs.lemmas.Result.{on_ok_weaker}
 use Rattle.agg_values.specs.Names.{put}
 use Rattle.agg_composite.specs.PageEntries.{page_entries}
 use Rattle.agg_composite.proofs.BucketPages.{first-encoded, next-entries}
-use Rattle.agg_collector_tree.specs.Tree.{held_of}
-use Rattle.agg_collector_tree.specs.declared.tree.SegmentCollectorTree.{the_lemmas}
-use Rattle.agg_tree_results.specs.Entries.{HoldsPage}
-use Rattle.agg_tree_results.specs.Results.{GroupStands, MayAdd}
-use Rattle.agg_tree_results.proofs.GroupAdds.{all-added, next-added, next-may}
-use Rattle.agg_tree_results.proofs.HeldEntries.{holds-below, holds-more, holds-none}
-use Rattle.agg_tree_results.proofs.NodeAdds.{composite-absent, composite-added, composite-ascending}
-use Rattle.agg_tree_results.proofs.NodeAdds.{composite-below, composite-encoded}
-use Rattle.agg_tree_results.proofs.NodeAdds.{composite-within, filter-absent}
-use Rattle.agg_tree_results.proofs.NodeAdds.{filter-added, filter-below, filter-within, found-at}
-use Rattle.agg_tree_results.proofs.NodeAdds.{metric-absent, metric-added, metric-within}
-use Rattle.agg_tree_results.proofs.YieldedItems.{all-yielded, next-split, next-yielded}
-use Rattle.agg_tree_results.proofs.results.+add.Goals as goal
-use Rattle.agg_tree_results.proofs.results.+add.Goals.{add_results_under-After-index-as_slice-index}
+use Rattle.agg_engine_tree.specs.collector_tree.Tree.{held_of}
+use Rattle.agg_engine_tree.specs.declared.collector_tree.tree.SegmentCollectorTree.{the_lemmas}
+use Rattle.agg_engine_tree.specs.tree_results.Entries.{HoldsPage}
+use Rattle.agg_engine_tree.specs.tree_results.Results.{GroupStands, MayAdd}
+use Rattle.agg_engine_tree.proofs.lemmas.tree_results.GroupAdds.{all-added, next-added, next-may}
+use Rattle.agg_engine_tree.proofs.lemmas.tree_results.HeldEntries.{holds-below, holds-more}
+use Rattle.agg_engine_tree.proofs.lemmas.tree_results.HeldEntries.{holds-none}
+use Rattle.agg_engine_tree.proofs.lemmas.tree_results.NodeAdds.{composite-absent, composite-added}
+use Rattle.agg_engine_tree.proofs.lemmas.tree_results.NodeAdds.{composite-ascending}
+use Rattle.agg_engine_tree.proofs.lemmas.tree_results.NodeAdds.{composite-below, composite-encoded}
+use Rattle.agg_engine_tree.proofs.lemmas.tree_results.NodeAdds.{composite-within, filter-absent}
+use Rattle.agg_engine_tree.proofs.lemmas.tree_results.NodeAdds.{filter-added, filter-below}
+use Rattle.agg_engine_tree.proofs.lemmas.tree_results.NodeAdds.{filter-within, found-at}
+use Rattle.agg_engine_tree.proofs.lemmas.tree_results.NodeAdds.{metric-absent, metric-added}
+use Rattle.agg_engine_tree.proofs.lemmas.tree_results.NodeAdds.{metric-within}
+use Rattle.agg_engine_tree.proofs.lemmas.tree_results.YieldedItems.{all-yielded, next-split}
+use Rattle.agg_engine_tree.proofs.lemmas.tree_results.YieldedItems.{next-yielded}
+use Rattle.agg_engine_tree.proofs.tree_results.results.+add.Goals as goal
+use Rattle.agg_engine_tree.proofs.tree_results.results.+add.Goals.{
+  add_results_under-After-index-as_slice-index,
+}
 
 -- ---- a page
 

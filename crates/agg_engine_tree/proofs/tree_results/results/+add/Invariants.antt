@@ -1,12 +1,12 @@
 use Rattle.std.proofs.Common.{◌≡◌, List, All, ◌++◌, length, map, take}
 use Rattle.std.specs.Map.{keys_of}
-use Rattle.agg_accessor.specs.Decoded.{IsEncoded}
+use Rattle.agg_composite.specs.accessor.Decoded.{IsEncoded}
 use Rattle.agg_composite.specs.PageEntries.{page_entries}
 use Rattle.agg_composite.specs.declared.page_entry.PageEntry.{PageEntry}
-use Rattle.agg_collector_tree.specs.Tree.{held_of}
-use Rattle.agg_tree_results.specs.Entries.{HoldsPage}
-use Rattle.agg_tree_results.proofs.SideBySide.{AddInTurn}
-use Rattle.agg_tree_results.proofs.results.+add.Given as goal
+use Rattle.agg_engine_tree.specs.collector_tree.Tree.{held_of}
+use Rattle.agg_engine_tree.specs.tree_results.Entries.{HoldsPage}
+use Rattle.agg_engine_tree.proofs.lemmas.tree_results.SideBySide.{AddInTurn}
+use Rattle.agg_engine_tree.proofs.tree_results.results.+add.Given as goal
 
 -- the entries that are gone are held
 abbrev pub invariant-buckets_of-loop-buckets : goal.invariant-buckets_of-loop-buckets

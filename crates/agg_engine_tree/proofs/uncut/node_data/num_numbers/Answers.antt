@@ -1,6 +1,6 @@
 use Rattle.std.proofs.Common.{◌∙◌, ◌-◌, ◌^◌}
-use Rattle.agg_uncut.proofs.FieldNumbers.{cut-numbers-more}
-use Rattle.agg_uncut.proofs.node_data.num_numbers.Goals as goal
+use Rattle.agg_engine_tree.proofs.lemmas.uncut.FieldNumbers.{cut-numbers-more}
+use Rattle.agg_engine_tree.proofs.uncut.node_data.num_numbers.Goals as goal
 
 pub loop-column-preserved : goal.loop-column-preserved
 loop-column-preserved c =

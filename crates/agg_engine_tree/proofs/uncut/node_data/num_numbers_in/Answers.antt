@@ -1,10 +1,10 @@
 use Rattle.std.proofs.Common.{length, sym, ap, ◌∙◌}
 use Rattle.std.specs.Prelude.{filter_map}
-use Rattle.agg_column.specs.Columns.{numbers_at}
+use Rattle.agg_segment.specs.storage.Columns.{numbers_at}
 use Rattle.agg_request_tree.specs.Metrics.{number_of}
-use Rattle.agg_uncut.specs.NodeData.{has_numbers}
-use Rattle.agg_uncut.proofs.FieldNumbers.{length-no_numbers, length-numbers}
-use Rattle.agg_uncut.proofs.node_data.num_numbers_in.Goals as goal
+use Rattle.agg_engine_tree.specs.uncut.NodeData.{has_numbers}
+use Rattle.agg_engine_tree.proofs.lemmas.uncut.FieldNumbers.{length-no_numbers, length-numbers}
+use Rattle.agg_engine_tree.proofs.uncut.node_data.num_numbers_in.Goals as goal
 
 pub returns-then-not-has_numbers : goal.returns-then-not-has_numbers
 returns-then-not-has_numbers c =

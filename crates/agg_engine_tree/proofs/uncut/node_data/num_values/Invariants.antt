@@ -1,6 +1,6 @@
 use Rattle.std.proofs.Common.{◌≡◌, ◌-◌, ◌^◌, length, min, take}
-use Rattle.agg_column.specs.Columns.{all_keys}
-use Rattle.agg_uncut.proofs.node_data.num_values.Given as goal
+use Rattle.agg_segment.specs.storage.Columns.{all_keys}
+use Rattle.agg_engine_tree.proofs.uncut.node_data.num_values.Given as goal
 
 abbrev pub invariant-loop-column : goal.invariant-loop-column
 invariant-loop-column l =

@@ -7,12 +7,12 @@ use Rattle.agg_request_tree.specs.Request.{Request, agg_of, below_of, composites
 use Rattle.agg_request_tree.specs.Request.{own_composite}
 use Rattle.agg_request_tree.specs.declared.aggregation.CompositeAggregation.{CompositeAggregation}
 use Rattle.agg_request_tree.proofs.RequestTrees.{composites-out}
-use Rattle.agg_segment_context.specs.declared.node.AggRefNode.{the_lemmas}
-use Rattle.agg_uncut.specs.Ranges.{TellsRange}
-use Rattle.agg_uncut.proofs.Plans.{plan-asked, plan-at, plan-below, plans-long}
-use Rattle.agg_uncut.proofs.StartRanges.{composites-more, composites-split, tells-before}
-use Rattle.agg_uncut.proofs.StartRanges.{tells-behind, tells-none}
-use Rattle.agg_uncut.proofs.ranges.+ranges.Goals as goal
+use Rattle.agg_engine_tree.specs.declared.segment_context.node.AggRefNode.{the_lemmas}
+use Rattle.agg_engine_tree.specs.uncut.Ranges.{TellsRange}
+use Rattle.agg_engine_tree.proofs.lemmas.uncut.Plans.{plan-asked, plan-at, plan-below, plans-long}
+use Rattle.agg_engine_tree.proofs.lemmas.uncut.StartRanges.{composites-more, composites-split}
+use Rattle.agg_engine_tree.proofs.lemmas.uncut.StartRanges.{tells-before, tells-behind, tells-none}
+use Rattle.agg_engine_tree.proofs.uncut.ranges.+ranges.Goals as goal
 
 -- ---- a list of nodes
 

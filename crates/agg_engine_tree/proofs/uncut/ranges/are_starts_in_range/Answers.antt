@@ -1,7 +1,7 @@
 use Rattle.agg_segment.specs.Segment.{documents_at}
-use Rattle.agg_uncut.proofs.Plans.{plans-same}
-use Rattle.agg_uncut.proofs.StartRanges.{tells-request}
-use Rattle.agg_uncut.proofs.ranges.are_starts_in_range.Goals as goal
+use Rattle.agg_engine_tree.proofs.lemmas.uncut.Plans.{plans-same}
+use Rattle.agg_engine_tree.proofs.lemmas.uncut.StartRanges.{tells-request}
+use Rattle.agg_engine_tree.proofs.uncut.ranges.are_starts_in_range.Goals as goal
 
 pub are_nodes_in_range-requires : goal.are_nodes_in_range-requires
 are_nodes_in_range-requires c =

@@ -1,7 +1,7 @@
 use Rattle.std.proofs.Common.{◌∙◌, ap, get_or, subst}
-use Rattle.agg_segment_context.specs.Context.{IsAskedAt}
-use Rattle.agg_uncut.proofs.StartRanges.{own-fits, own-tells}
-use Rattle.agg_uncut.proofs.ranges.is_own_in_range.Goals as goal
+use Rattle.agg_engine_tree.specs.segment_context.Context.{IsAskedAt}
+use Rattle.agg_engine_tree.proofs.lemmas.uncut.StartRanges.{own-fits, own-tells}
+use Rattle.agg_engine_tree.proofs.uncut.ranges.is_own_in_range.Goals as goal
 
 pub are_starts_in_range-requires : goal.are_starts_in_range-requires
 are_starts_in_range-requires c =

@@ -8,13 +8,14 @@ use Rattle.agg_segment.specs.Segment.{document_at, documents_at}
 use Rattle.agg_segment.specs.declared.query.QueryTree.{QueryTree}
 use Rattle.agg_request_tree.specs.Request.{Request, agg_of, below_of}
 use Rattle.agg_request_tree.specs.Uncut.{uncut_lists_of}
-use Rattle.agg_segment_context.specs.declared.node.AggRefNode.{the_lemmas}
-use Rattle.agg_uncut.specs.Block.{AddsFor}
-use Rattle.agg_uncut.specs.Weights.{weights_of}
-use Rattle.agg_uncut.proofs.AddedLengths.{adds-inner, adds-leaf, adds-more, adds-none}
-use Rattle.agg_uncut.proofs.Plans.{plan-asked, plan-at, plan-below, plan-leaf, plans-long}
-use Rattle.agg_uncut.proofs.Plans.{request-more}
-use Rattle.agg_uncut.proofs.uncut.+uncut.Goals as goal
+use Rattle.agg_engine_tree.specs.declared.segment_context.node.AggRefNode.{the_lemmas}
+use Rattle.agg_engine_tree.specs.uncut.Block.{AddsFor}
+use Rattle.agg_engine_tree.specs.uncut.Weights.{weights_of}
+use Rattle.agg_engine_tree.proofs.lemmas.uncut.AddedLengths.{adds-inner, adds-leaf, adds-more}
+use Rattle.agg_engine_tree.proofs.lemmas.uncut.AddedLengths.{adds-none}
+use Rattle.agg_engine_tree.proofs.lemmas.uncut.Plans.{plan-asked, plan-at, plan-below, plan-leaf}
+use Rattle.agg_engine_tree.proofs.lemmas.uncut.Plans.{plans-long, request-more}
+use Rattle.agg_engine_tree.proofs.uncut.uncut.+uncut.Goals as goal
 
 pub add_node-new-own_data-requires : goal.add_node-new-own_data-requires
 add_node-new-own_data-requires t c =

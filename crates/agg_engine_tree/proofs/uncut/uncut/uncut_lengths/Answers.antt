@@ -3,10 +3,10 @@ use Rattle.std.proofs.lemmas.List.{length-map, length-replicate}
 use Rattle.agg_segment.specs.Query.{matches}
 use Rattle.agg_segment.specs.Segment.{document_at, documents_at}
 use Rattle.agg_request_tree.specs.Uncut.{uncut_lists_of}
-use Rattle.agg_uncut.specs.Uncut.{lengths_of, repeated}
-use Rattle.agg_uncut.proofs.Plans.{plans-same}
-use Rattle.agg_uncut.proofs.WeighedLists.{cut-ones, repeated-once}
-use Rattle.agg_uncut.proofs.uncut.uncut_lengths.Goals as goal
+use Rattle.agg_engine_tree.specs.uncut.Uncut.{lengths_of, repeated}
+use Rattle.agg_engine_tree.proofs.lemmas.uncut.Plans.{plans-same}
+use Rattle.agg_engine_tree.proofs.lemmas.uncut.WeighedLists.{cut-ones, repeated-once}
+use Rattle.agg_engine_tree.proofs.uncut.uncut.uncut_lengths.Goals as goal
 
 pub add_nodes-requires : goal.add_nodes-requires
 add_nodes-requires c =

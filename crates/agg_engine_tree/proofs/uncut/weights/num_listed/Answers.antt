@@ -2,11 +2,11 @@ use Rattle.std.proofs.Common.{◌≡◌, ◌∙◌, ap, length, map, subst, sym}
 use Rattle.std.specs.Io.Iter.{u64_saturate}
 use Rattle.agg_segment.specs.Query.{matches}
 use Rattle.agg_request_tree.specs.Uncut.{uncut}
-use Rattle.agg_uncut.specs.NodeData.{IsDataOf}
-use Rattle.agg_uncut.specs.Weights.{weights_of}
-use Rattle.agg_uncut.proofs.NodeData.{composite-lists}
-use Rattle.agg_uncut.proofs.WeighedLists.{repeated-ones}
-use Rattle.agg_uncut.proofs.weights.num_listed.Goals as goal
+use Rattle.agg_engine_tree.specs.uncut.NodeData.{IsDataOf}
+use Rattle.agg_engine_tree.specs.uncut.Weights.{weights_of}
+use Rattle.agg_engine_tree.proofs.lemmas.uncut.NodeData.{composite-lists}
+use Rattle.agg_engine_tree.proofs.lemmas.uncut.WeighedLists.{repeated-ones}
+use Rattle.agg_engine_tree.proofs.uncut.weights.num_listed.Goals as goal
 
 pub returns-in-Composite-Ones : goal.returns-in-Composite-Ones
 returns-in-Composite-Ones c segment asks exact weighed =

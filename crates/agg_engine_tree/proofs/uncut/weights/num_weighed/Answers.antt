@@ -1,9 +1,10 @@
 use Rattle.std.proofs.Common.{refl, ◌∙◌, ap, get_or, length}
 use Rattle.std.specs.Prelude.{sum}
 use Rattle.std.specs.Io.Iter.{u64_saturate}
-use Rattle.agg_uncut.specs.Weights.{weights_of}
-use Rattle.agg_uncut.proofs.WeighedLists.{first-all, sum-more, sum-weights, weight-cut}
-use Rattle.agg_uncut.proofs.weights.num_weighed.Goals as goal
+use Rattle.agg_engine_tree.specs.uncut.Weights.{weights_of}
+use Rattle.agg_engine_tree.proofs.lemmas.uncut.WeighedLists.{first-all, sum-more, sum-weights}
+use Rattle.agg_engine_tree.proofs.lemmas.uncut.WeighedLists.{weight-cut}
+use Rattle.agg_engine_tree.proofs.uncut.weights.num_weighed.Goals as goal
 
 pub loop-index-init : goal.loop-index-init
 loop-index-init c segment asks exact weighed = refl

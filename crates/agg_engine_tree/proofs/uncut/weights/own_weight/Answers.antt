@@ -1,9 +1,9 @@
 use Rattle.std.proofs.Common.{◌∙◌, ◌-◌, ◌^◌, ◌*◌}
 use Rattle.std.specs.Io.Iter.{u64_saturate}
 use Rattle.agg_segment.specs.Segment.{document_at}
-use Rattle.agg_uncut.specs.Uncut.{times}
-use Rattle.agg_uncut.proofs.CutNumbers.{cut-factors}
-use Rattle.agg_uncut.proofs.weights.own_weight.Goals as goal
+use Rattle.agg_engine_tree.specs.uncut.Uncut.{times}
+use Rattle.agg_engine_tree.proofs.lemmas.uncut.CutNumbers.{cut-factors}
+use Rattle.agg_engine_tree.proofs.uncut.weights.own_weight.Goals as goal
 
 pub returns : goal.returns
 returns c segment asks exact of within cut =

@@ -1,8 +1,8 @@
 use Rattle.std.proofs.Common.{◌∙◌, ◌++◌, ◌∷◌, [], ap, get_or, length, map}
 use Rattle.std.specs.Io.Iter.{u64_saturate}
-use Rattle.agg_uncut.specs.Weights.{weights_of}
-use Rattle.agg_uncut.proofs.WeighedLists.{cut-more, first-all, weight-cut}
-use Rattle.agg_uncut.proofs.weights.own_weights.Goals as goal
+use Rattle.agg_engine_tree.specs.uncut.Weights.{weights_of}
+use Rattle.agg_engine_tree.proofs.lemmas.uncut.WeighedLists.{cut-more, first-all, weight-cut}
+use Rattle.agg_engine_tree.proofs.uncut.weights.own_weights.Goals as goal
 
 pub loop-index-init : goal.loop-index-init
 loop-index-init c segment asks exact weighed = c.in_ok-own.ensures.items

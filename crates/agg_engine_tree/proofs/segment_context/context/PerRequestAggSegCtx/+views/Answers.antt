@@ -1,11 +1,11 @@
 use Rattle.std.proofs.Common.{◌≡◌, [], ◌∷◌, ◌++◌, Some, ap, map, sym, subst, ◌∙◌}
 use Rattle.std.proofs.lemmas.Result.{on_ok_weaker}
 use Rattle.agg_request_tree.specs.Request.{below_of}
-use Rattle.agg_segment_context.specs.Context.{ArePlansOf}
-use Rattle.agg_segment_context.specs.Plan.{plan_of, plans_of}
-use Rattle.agg_segment_context.proofs.Views.{AreShown-all, AreShown-more, plan-below, plan-word}
-use Rattle.agg_segment_context.proofs.Views.{view-made}
-use Rattle.agg_segment_context.proofs.context.PerRequestAggSegCtx.+views.Goals as goal
+use Rattle.agg_engine_tree.specs.segment_context.Context.{ArePlansOf}
+use Rattle.agg_engine_tree.specs.segment_context.Plan.{plan_of, plans_of}
+use Rattle.agg_engine_tree.proofs.lemmas.segment_context.Views.{AreShown-all, AreShown-more}
+use Rattle.agg_engine_tree.proofs.lemmas.segment_context.Views.{plan-below, plan-word, view-made}
+use Rattle.agg_engine_tree.proofs.segment_context.context.PerRequestAggSegCtx.+views.Goals as goal
 
 pub add_view-returns : goal.add_view-returns
 add_view-returns t c =

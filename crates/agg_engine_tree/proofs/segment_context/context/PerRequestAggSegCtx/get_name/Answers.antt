@@ -1,6 +1,6 @@
 use Rattle.std.proofs.Common.{◌∙◌}
-use Rattle.agg_segment_context.proofs.Views.{plan-name}
-use Rattle.agg_segment_context.proofs.context.PerRequestAggSegCtx.get_name.Goals as goal
+use Rattle.agg_engine_tree.proofs.lemmas.segment_context.Views.{plan-name}
+use Rattle.agg_engine_tree.proofs.segment_context.context.PerRequestAggSegCtx.get_name.Goals as goal
 
 pub returns-clause-request : goal.returns-clause-request
 returns-clause-request c = λ meaning name a is.

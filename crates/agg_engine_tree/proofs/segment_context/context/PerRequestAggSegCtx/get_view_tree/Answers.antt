@@ -1,9 +1,10 @@
 use Rattle.std.proofs.Common.{map, subst, sym}
 use Rattle.std.proofs.lemmas.Result.{IfOk-weaker}
-use Rattle.agg_segment_context.specs.Context.{ArePlansOf}
-use Rattle.agg_segment_context.specs.Plan.{plan_of, plans_of}
-use Rattle.agg_segment_context.proofs.Views.{AreShown, IsShown}
-use Rattle.agg_segment_context.proofs.context.PerRequestAggSegCtx.get_view_tree.Goals as goal
+use Rattle.agg_engine_tree.specs.segment_context.Context.{ArePlansOf}
+use Rattle.agg_engine_tree.specs.segment_context.Plan.{plan_of, plans_of}
+use Rattle.agg_engine_tree.proofs.lemmas.segment_context.Views.{AreShown, IsShown}
+use Rattle.agg_engine_tree.proofs.segment_context.context.PerRequestAggSegCtx.get_view_tree.Goals
+    as goal
 
 pub returns : goal.returns
 returns c =

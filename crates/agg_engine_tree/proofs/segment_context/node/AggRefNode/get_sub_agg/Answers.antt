@@ -1,10 +1,10 @@
 use Rattle.std.proofs.Common.{◌≡◌, Some, None, ap, sym, ◌∙◌}
 use Rattle.std.specs.List.{find}
 use Rattle.std.proofs.lemmas.List.{take_all}
-use Rattle.agg_segment_context.specs.Views.{children_of, is_named}
-use Rattle.agg_segment_context.proofs.Views.{child-found, find-here, find-more}
-use Rattle.agg_segment_context.proofs.node.AggRefNode.get_sub_agg.Goals as goal
-use Rattle.agg_segment_context.proofs.node.AggRefNode.get_sub_agg.Goals.{Then-has_name}
+use Rattle.agg_engine_tree.specs.segment_context.Views.{children_of, is_named}
+use Rattle.agg_engine_tree.proofs.lemmas.segment_context.Views.{child-found, find-here, find-more}
+use Rattle.agg_engine_tree.proofs.segment_context.node.AggRefNode.get_sub_agg.Goals as goal
+use Rattle.agg_engine_tree.proofs.segment_context.node.AggRefNode.get_sub_agg.Goals.{Then-has_name}
 
 -- the child is the first of its name
 here : (c : Then-has_name) → Some c.child-item.result

@@ -1,7 +1,8 @@
 use Rattle.std.proofs.Common.{ap, map, ◌∙◌}
-use Rattle.agg_segment_context.specs.Trees.{built_tree}
-use Rattle.agg_segment_context.proofs.Trees.{kept-all, kept-more, makes-all, none-among}
-use Rattle.agg_segment_context.proofs.params.AggContextParams.of_request.Goals as goal
+use Rattle.agg_engine_tree.specs.segment_context.Trees.{built_tree}
+use Rattle.agg_engine_tree.proofs.lemmas.segment_context.Trees.{kept-all, kept-more, makes-all}
+use Rattle.agg_engine_tree.proofs.lemmas.segment_context.Trees.{none-among}
+use Rattle.agg_engine_tree.proofs.segment_context.params.AggContextParams.of_request.Goals as goal
 
 pub loop-query-preserved : goal.loop-query-preserved
 loop-query-preserved g c =

@@ -1,6 +1,6 @@
 use Rattle.std.proofs.Common.{map, take}
-use Rattle.agg_segment_context.proofs.Trees.{AreKept}
-use Rattle.agg_segment_context.proofs.params.AggContextParams.of_request.Given as goal
+use Rattle.agg_engine_tree.proofs.lemmas.segment_context.Trees.{AreKept}
+use Rattle.agg_engine_tree.proofs.segment_context.params.AggContextParams.of_request.Given as goal
 
 -- the trees of the queries so far
 abbrev pub invariant-loop-query : goal.invariant-loop-query

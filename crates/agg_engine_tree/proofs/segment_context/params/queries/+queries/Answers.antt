@@ -1,7 +1,7 @@
 use Rattle.std.proofs.Common.{map}
 use Rattle.std.proofs.lemmas.Result.{on_ok_weaker}
-use Rattle.agg_segment_context.proofs.Queries.{queries-out}
-use Rattle.agg_segment_context.proofs.params.queries.+queries.Goals as goal
+use Rattle.agg_engine_tree.proofs.lemmas.segment_context.Queries.{queries-out}
+use Rattle.agg_engine_tree.proofs.segment_context.params.queries.+queries.Goals as goal
 
 pub add_queries_in-returns : goal.add_queries_in-returns
 add_queries_in-returns g t c =

@@ -1,7 +1,7 @@
 use Rattle.std.proofs.Common.{map, ◌+◌, ◌*◌}
 use Rattle.agg_request_tree.proofs.RequestTrees.{height, levels}
-use Rattle.agg_segment_context.proofs.Queries.{AreGatheredUpTo}
-use Rattle.agg_segment_context.proofs.params.queries.+queries.Given as goal
+use Rattle.agg_engine_tree.proofs.lemmas.segment_context.Queries.{AreGatheredUpTo}
+use Rattle.agg_engine_tree.proofs.segment_context.params.queries.+queries.Given as goal
 
 abbrev pub decreases-add_queries : goal.decreases-add_queries
 decreases-add_queries g l = 2 * levels l.request.now + 1

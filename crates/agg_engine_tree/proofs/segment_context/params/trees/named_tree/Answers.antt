@@ -1,5 +1,5 @@
-use Rattle.agg_segment_context.proofs.Trees.{none-refused}
-use Rattle.agg_segment_context.proofs.params.trees.named_tree.Goals as goal
+use Rattle.agg_engine_tree.proofs.lemmas.segment_context.Trees.{none-refused}
+use Rattle.agg_engine_tree.proofs.segment_context.params.trees.named_tree.Goals as goal
 
 pub returns-in_err-named_query-in-CustomBuilder-clause-none :
     goal.returns-in_err-named_query-in-CustomBuilder-clause-none

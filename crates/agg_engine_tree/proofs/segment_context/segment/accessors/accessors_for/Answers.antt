@@ -1,10 +1,10 @@
 use Rattle.std.proofs.Common.{option_map, subst, sym, arith}
 use Rattle.agg_request_tree.specs.Faults.{IsSoundSource}
 use Rattle.agg_request_tree.specs.Source.{after_of}
-use Rattle.agg_accessor.specs.Accessors.{AreAccessorsOf}
-use Rattle.agg_segment_context.proofs.Accessors.{AllZip-one_more}
-use Rattle.agg_segment_context.proofs.Accessors.{only-memory}
-use Rattle.agg_segment_context.proofs.segment.accessors.accessors_for.Goals as goal
+use Rattle.agg_composite.specs.accessor.Accessors.{AreAccessorsOf}
+use Rattle.agg_engine_tree.proofs.lemmas.segment_context.Accessors.{AllZip-one_more}
+use Rattle.agg_engine_tree.proofs.lemmas.segment_context.Accessors.{only-memory}
+use Rattle.agg_engine_tree.proofs.segment_context.segment.accessors.accessors_for.Goals as goal
 
 pub loop-source-preserved : goal.loop-source-preserved
 loop-source-preserved c =

@@ -1,6 +1,6 @@
 use Rattle.std.proofs.Common.{take}
-use Rattle.agg_accessor.specs.Accessors.{AllFit}
-use Rattle.agg_segment_context.proofs.segment.accessors.accessors_for.Given as goal
+use Rattle.agg_composite.specs.accessor.Accessors.{AllFit}
+use Rattle.agg_engine_tree.proofs.segment_context.segment.accessors.accessors_for.Given as goal
 
 -- the accessors of the sources so far
 abbrev pub invariant-loop-source : goal.invariant-loop-source

@@ -1,6 +1,6 @@
-use Rattle.agg_segment_context.specs.Additions.{page_of}
-use Rattle.agg_segment_context.proofs.Pages.{sound-sources}
-use Rattle.agg_segment_context.proofs.segment.own.add_composite.Goals as goal
+use Rattle.agg_engine_tree.specs.segment_context.Additions.{page_of}
+use Rattle.agg_engine_tree.proofs.lemmas.segment_context.Pages.{sound-sources}
+use Rattle.agg_engine_tree.proofs.segment_context.segment.own.add_composite.Goals as goal
 
 pub accessors_for-requires : goal.accessors_for-requires
 accessors_for-requires c = record {

@@ -1,8 +1,8 @@
 use Rattle.std.proofs.Common.{refl, subst, sym}
 use Rattle.agg_metric.specs.declared.request_data.StatsType.TheVariants as stats
-use Rattle.agg_segment_context.proofs.Own.{IsStats, own-composite, own-filter, own-metric}
-use Rattle.agg_segment_context.proofs.Own.{sound-own}
-use Rattle.agg_segment_context.proofs.segment.own.add_data.Goals as goal
+use Rattle.agg_engine_tree.proofs.lemmas.segment_context.Own.{IsStats, own-composite, own-filter}
+use Rattle.agg_engine_tree.proofs.lemmas.segment_context.Own.{own-metric, sound-own}
+use Rattle.agg_engine_tree.proofs.segment_context.segment.own.add_data.Goals as goal
 
 pub add_composite-requires : goal.add_composite-requires
 add_composite-requires g c =

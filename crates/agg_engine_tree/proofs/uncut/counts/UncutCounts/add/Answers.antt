@@ -5,8 +5,8 @@ use Rattle.std.specs.Io.Iter.{u64_saturate}
 use Rattle.std.proofs.Math.Seq.{take-append_seam}
 use Rattle.std.proofs.lemmas.Bool.{cases_lt}
 use Rattle.std.proofs.lemmas.List.{get_or-set_other, get_or-set_same}
-use Rattle.agg_uncut.proofs.JoinedBlocks.{uncut-long, uncut-sums, zip-sums}
-use Rattle.agg_uncut.proofs.counts.UncutCounts.add.Goals as goal
+use Rattle.agg_engine_tree.proofs.lemmas.uncut.JoinedBlocks.{uncut-long, uncut-sums, zip-sums}
+use Rattle.agg_engine_tree.proofs.uncut.counts.UncutCounts.add.Goals as goal
 
 pub loop-index-init : goal.loop-index-init
 loop-index-init c = record {

@@ -1,6 +1,6 @@
 use Rattle.std.proofs.Common.{◌≡◌, ◌+◌, ◌<◌, ◌≤◌, ℕ, get_or}
 use Rattle.std.specs.Io.Iter.{u64_saturate}
-use Rattle.agg_uncut.proofs.counts.UncutCounts.add.Given as goal
+use Rattle.agg_engine_tree.proofs.uncut.counts.UncutCounts.add.Given as goal
 
 abbrev pub invariant-loop-index : goal.invariant-loop-index
 invariant-loop-index l = record {

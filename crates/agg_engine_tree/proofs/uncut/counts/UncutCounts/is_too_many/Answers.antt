@@ -1,8 +1,8 @@
 use Rattle.std.proofs.Common.{◌≤◌, ◌^◌, ◌↔◌, Any, IsTrue, sym, rules, subst}
 use Rattle.agg_segment.specs.Query.{matches}
 use Rattle.agg_request_tree.specs.Uncut.{uncut_lists_of}
-use Rattle.agg_uncut.proofs.JoinedBlocks.{long-lists}
-use Rattle.agg_uncut.proofs.counts.UncutCounts.is_too_many.Goals as goal
+use Rattle.agg_engine_tree.proofs.lemmas.uncut.JoinedBlocks.{long-lists}
+use Rattle.agg_engine_tree.proofs.uncut.counts.UncutCounts.is_too_many.Goals as goal
 
 pub returns-clause-documents : goal.returns-clause-documents
 returns-clause-documents c request documents is =

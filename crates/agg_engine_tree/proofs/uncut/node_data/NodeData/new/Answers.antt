@@ -1,8 +1,8 @@
 use Rattle.std.proofs.Common.{◌∙◌, ap, get_or, subst}
-use Rattle.agg_segment_context.specs.Context.{IsAskedAt}
-use Rattle.agg_uncut.specs.NodeData.{AreColumnsOf}
-use Rattle.agg_uncut.proofs.NodeData.{composite-data, filter-data, metric-data}
-use Rattle.agg_uncut.proofs.node_data.NodeData.new.Goals as goal
+use Rattle.agg_engine_tree.specs.segment_context.Context.{IsAskedAt}
+use Rattle.agg_engine_tree.specs.uncut.NodeData.{AreColumnsOf}
+use Rattle.agg_engine_tree.proofs.lemmas.uncut.NodeData.{composite-data, filter-data, metric-data}
+use Rattle.agg_engine_tree.proofs.uncut.node_data.NodeData.new.Goals as goal
 
 pub returns-in-Composite : goal.returns-in-Composite
 returns-in-Composite c meaning name asks is meant asked =

@@ -1,8 +1,9 @@
 use Rattle.std.proofs.Common.{◌∙◌, ap, subst}
 use Rattle.std.specs.Io.Iter.{u64_saturate}
-use Rattle.agg_uncut.specs.NodeData.{IsDataOf}
-use Rattle.agg_uncut.proofs.NodeData.{composite-times, filter-times, metric-times}
-use Rattle.agg_uncut.proofs.node_data.NodeData.times.Goals as goal
+use Rattle.agg_engine_tree.specs.uncut.NodeData.{IsDataOf}
+use Rattle.agg_engine_tree.proofs.lemmas.uncut.NodeData.{composite-times, filter-times}
+use Rattle.agg_engine_tree.proofs.lemmas.uncut.NodeData.{metric-times}
+use Rattle.agg_engine_tree.proofs.uncut.node_data.NodeData.times.Goals as goal
 
 pub returns-in-Composite : goal.returns-in-Composite
 returns-in-Composite c segment asks of within =
