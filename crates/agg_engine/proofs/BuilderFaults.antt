@@ -5,10 +5,10 @@ use Rattle.agg_cache.specs.Limits.{Limits}
 use Rattle.agg_segment.specs.declared.query.QueryTree.{QueryTree}
 use Rattle.agg_request_tree.specs.Faults.{IsSoundRequest}
 use Rattle.agg_request_tree.specs.Request.{Request}
-use Rattle.agg_segment_context.specs.SetupError.{IsOfBuilders}
-use Rattle.agg_segment_context.specs.Trees.{SomeMakesNone}
-use Rattle.agg_segment_context.specs.declared.error.SetupError.{SetupError}
-use Rattle.agg_segment_context.specs.declared.error.SetupError.TheVariants as setup
+use Rattle.agg_engine_tree.specs.segment_context.SetupError.{IsOfBuilders}
+use Rattle.agg_engine_tree.specs.segment_context.Trees.{SomeMakesNone}
+use Rattle.agg_engine_tree.specs.declared.segment_context.error.SetupError.{SetupError}
+use Rattle.agg_engine_tree.specs.declared.segment_context.error.SetupError.TheVariants as setup
 use Rattle.agg_engine.specs.NamedComposite.{NamesComposite}
 use Rattle.agg_engine.specs.Refusals.{HasCause}
 use Rattle.agg_segment.specs.Snapshot.{SnapshotDocuments}

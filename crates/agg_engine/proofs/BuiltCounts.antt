@@ -5,7 +5,7 @@ use Rattle.std.specs.Prelude.{option_map}
 use Rattle.std.specs.BTreeMap.{is_at}
 use Rattle.std.proofs.lemmas.List.Sums.{sum_by-cons}
 use Rattle.agg_values.specs.Names.{name_cmp, value_of}
-use Rattle.agg_column.specs.Document.{Fields}
+use Rattle.agg_segment.specs.storage.Document.{Fields}
 use Rattle.agg_segment.specs.Query.{matches}
 use Rattle.agg_segment.specs.declared.query.QueryTree.{QueryTree}
 use Rattle.agg_request_tree.specs.Request.{Request, agg_of, below_of, composites_of, listed_of}
@@ -16,11 +16,13 @@ use Rattle.agg_request_tree.specs.declared.aggregation.Aggregation.{Aggregation}
 use Rattle.agg_request_tree.specs.declared.aggregation.AggregationVariants as variants
 use variants.{AggregationVariants}
 use variants.TheVariants.{Filter, Composite, Count, Max, Min, Sum}
-use Rattle.agg_segment_context.proofs.Built.{agg-built, below-built, listed-built}
-use Rattle.agg_segment_context.proofs.Levels.{OfEach, by_levels}
-use Rattle.agg_snapshot.specs.Steps.{counted_in, counted_of, own_counted, past_named, past_own}
-use Rattle.agg_snapshot.proofs.JoinedCounts.{counted_in-out}
-use Rattle.agg_collectors.proofs.BuiltLists.{uncut-built}
+use Rattle.agg_engine_tree.proofs.lemmas.segment_context.Built.{agg-built, below-built}
+use Rattle.agg_engine_tree.proofs.lemmas.segment_context.Built.{listed-built}
+use Rattle.agg_engine_tree.proofs.lemmas.segment_context.Levels.{OfEach, by_levels}
+use Rattle.agg_engine.specs.snapshot_results.Steps.{counted_in, counted_of, own_counted, past_named}
+use Rattle.agg_engine.specs.snapshot_results.Steps.{past_own}
+use Rattle.agg_engine.proofs.lemmas.snapshot_results.JoinedCounts.{counted_in-out}
+use Rattle.agg_engine.proofs.lemmas.collectors.BuiltLists.{uncut-built}
 
 module _ {B C : Type 0} (made : B → C) where
   -- ---- composites

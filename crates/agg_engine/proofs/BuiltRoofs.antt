@@ -1,7 +1,7 @@
 -- What a request is charged with the trees that its builders made in their place.
 use Rattle.std.proofs.Common.{◌≡◌, ◌+◌, ℕ, List, [], ◌∷◌, Bool, refl, sym, ap, ◌∙◌}
 use Rattle.std.proofs.Common.{filter, length, map}
-use Rattle.agg_column.specs.Document.{Fields}
+use Rattle.agg_segment.specs.storage.Document.{Fields}
 use Rattle.agg_segment.specs.Query.{matches}
 use Rattle.agg_segment.specs.declared.query.QueryTree.{QueryTree}
 use Rattle.agg_request_tree.specs.Request.{Request, agg_of, below_of, with_builders}
@@ -11,13 +11,13 @@ use Rattle.agg_request_tree.specs.declared.aggregation.AggregationVariants as va
 use variants.{AggregationVariants}
 use variants.TheVariants.{Filter, Composite, Count, Max, Min, Sum}
 use Rattle.agg_request_tree.proofs.Lists.{AllByRecursion-always}
-use Rattle.agg_charges.specs.Roof.{Counts, counts, counts_by, counts_of, together}
-use Rattle.agg_charges.proofs.CountsOut.{counts-out}
-use Rattle.agg_segment_context.proofs.Built.{agg-built, below-built}
-use Rattle.agg_segment_context.proofs.Levels.{OfEach, by_levels}
-use Rattle.agg_snapshot.specs.MemoryLimits.{low_roof_in, roof_in}
-use Rattle.agg_collectors.proofs.BuiltRequests.{same-matching}
-use Rattle.agg_collectors.proofs.FixedCharges.{fixed-built}
+use Rattle.agg_request_tree.specs.charges.Roof.{Counts, counts, counts_by, counts_of, together}
+use Rattle.agg_request_tree.proofs.lemmas.charges.CountsOut.{counts-out}
+use Rattle.agg_engine_tree.proofs.lemmas.segment_context.Built.{agg-built, below-built}
+use Rattle.agg_engine_tree.proofs.lemmas.segment_context.Levels.{OfEach, by_levels}
+use Rattle.agg_engine.specs.snapshot_results.MemoryLimits.{low_roof_in, roof_in}
+use Rattle.agg_engine.proofs.lemmas.collectors.BuiltRequests.{same-matching}
+use Rattle.agg_engine.proofs.lemmas.collectors.FixedCharges.{fixed-built}
 
 -- ---- what is counted
 
@@ -61,7 +61,7 @@ module _ {B : Type 0} (is_match : B → Fields → Bool) (of : B → QueryTree)
       ∙ sym (counts-out is_match a))
 
   module _ (request : Request B) where
-    -- so does a request
+    -- a request counts the same with its builders' trees
     pub counts-built : counts_of matches (with_builders of request) ≡ counts_of is_match request
     counts-built =
         each_counts request
@@ -76,7 +76,7 @@ module _ {B : Type 0} (is_match : B → Fields → Bool) (of : B → QueryTree)
         fixed-built of (length documents) request i
         + (counts-built i).bytes (filter (matches query) documents)
 
-    -- so is its low roof
+    -- its low roof in a segment is the same
     pub low_roof-built : (query : QueryTree)
         → low_roof_in matches query (with_builders of request)
         ≡ low_roof_in is_match query request

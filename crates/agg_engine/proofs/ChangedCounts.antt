@@ -6,7 +6,7 @@ use Rattle.std.specs.BTreeMap.{is_at}
 use Rattle.std.proofs.lemmas.List.Sums.{sum_by-cons}
 use Rattle.agg_values.specs.Names.{Named, name_cmp, value_of}
 use Rattle.agg_values.specs.declared.after_key.AfterKey.{AfterKey}
-use Rattle.agg_column.specs.Document.{Fields}
+use Rattle.agg_segment.specs.storage.Document.{Fields}
 use Rattle.agg_request_tree.specs.Occurrences.{occurrences}
 use Rattle.agg_request_tree.specs.Request.{Request, agg_of, below_of}
 use Rattle.agg_request_tree.specs.Uncut.{once_each, uncut}
@@ -15,11 +15,12 @@ use Rattle.agg_request_tree.specs.declared.aggregation.AggregationVariants as va
 use variants.{AggregationVariants}
 use variants.TheVariants.{Filter, Composite, Count, Max, Min, Sum}
 use Rattle.agg_request_tree.proofs.RequestTrees.{agg-made, below-made}
-use Rattle.agg_segment_context.specs.Pages.{changed, request_after, request_at_size}
-use Rattle.agg_segment_context.specs.Pages.{request_changed_at, with_after, with_size}
-use Rattle.agg_snapshot.specs.Steps.{counted_in, counted_of, own_counted, past_named, past_own}
-use Rattle.agg_snapshot.proofs.JoinedCounts.{counted_in-out}
-use Rattle.agg_collectors.proofs.ChangedRequests.{AsksLike, after-like, size-like}
+use Rattle.agg_engine_tree.specs.segment_context.Pages.{changed, request_after, request_at_size}
+use Rattle.agg_engine_tree.specs.segment_context.Pages.{request_changed_at, with_after, with_size}
+use Rattle.agg_engine.specs.snapshot_results.Steps.{counted_in, counted_of, own_counted, past_named}
+use Rattle.agg_engine.specs.snapshot_results.Steps.{past_own}
+use Rattle.agg_engine.proofs.lemmas.snapshot_results.JoinedCounts.{counted_in-out}
+use Rattle.agg_engine.proofs.lemmas.collectors.ChangedRequests.{AsksLike, after-like, size-like}
 use Rattle.agg_engine.proofs.NamedPlaces.{named-changed}
 
 module _ {B : Type 0} (is_match : B → Fields → Bool) where
@@ -76,7 +77,7 @@ module _ {B : Type 0} (is_match : B → Fields → Bool) where
         by true = one-changed e.1
         by false = refl
 
-  -- so they are in a request with a size and an after key
+  -- a request counts as many documents with a size and an after key
   pub counted-here : (name : List ℕ) (size : ℕ) (after : Named AfterKey) (request : Request B)
       (documents : List Fields)
       → counted_of is_match (request_at_size name size (request_after name after request))

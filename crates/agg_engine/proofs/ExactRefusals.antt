@@ -4,16 +4,17 @@ use Rattle.std.proofs.Common.{inl, inr, sym, subst, arith}
 use Rattle.std.specs.List.{All}
 use Rattle.agg_values.specs.declared.request_error.AggregationError.TheVariants as aggregation
 use Rattle.agg_cache.specs.Limits.{Limits}
-use Rattle.agg_column.specs.Document.{Fields}
+use Rattle.agg_segment.specs.storage.Document.{Fields}
 use Rattle.agg_segment.specs.Query.{matches}
 use Rattle.agg_segment.specs.Snapshot.{SnapshotDocuments}
 use Rattle.agg_segment.specs.declared.query.QueryTree.{QueryTree}
 use Rattle.agg_request_tree.specs.Request.{Request}
-use Rattle.agg_charges.specs.Roof.{IsSettled}
-use Rattle.agg_charges.proofs.Roofs.{low-at_most, low-settled}
-use Rattle.agg_segment_context.specs.Pages.{request_after, request_at_size}
-use Rattle.agg_snapshot.specs.MemoryLimits.{TellsMemory, low_roof_in}
-use Rattle.agg_engine.specs.Refusals.{HasToBeRefused, HasToRefuse, MayBeRefused, MayRefuse}
+use Rattle.agg_request_tree.specs.charges.Roof.{IsSettled}
+use Rattle.agg_request_tree.proofs.lemmas.charges.Roofs.{low-at_most, low-settled}
+use Rattle.agg_engine_tree.specs.segment_context.Pages.{request_after, request_at_size}
+use Rattle.agg_engine.specs.snapshot_results.MemoryLimits.{TellsMemory, low_roof_in}
+use Rattle.agg_engine.specs.Refusals.{AreSettled, HasToBeRefused, HasToRefuse, MayBeRefused}
+use Rattle.agg_engine.specs.Refusals.{MayRefuse}
 use Rattle.agg_engine.specs.Walk.{after_in}
 use Rattle.agg_engine.specs.declared.walk.error.WalkError.{WalkError}
 use Rattle.agg_engine.specs.declared.walk.error.WalkError.TheVariants as error
@@ -104,5 +105,26 @@ module _ {B : Type 0} (is_match : B → Fields → Bool) (limits : Limits) (name
           later.1.2,
           may_refuse (request_after name (after_in name later.1.0) request) snapshots why
               later.1.3,
+        ),
+      )
+
+  -- and one that may be has to be, where its request is settled at each snapshot that it reaches
+  pub has_to_refuse : (request : Request B) (snapshots : List SnapshotDocuments) (why : WalkError)
+      → AreSettled is_match name query request snapshots
+      → MayRefuse is_match limits name query request snapshots why
+      → HasToRefuse is_match limits name query request snapshots why
+  has_to_refuse request [] why settled refused = absurd refused
+  has_to_refuse request (s ∷ snapshots) why settled (inl here) =
+      inl (has-from_may is_match limits query (request_at_size name s.page_size request)
+      s.segments settled.0 why here)
+  has_to_refuse request (s ∷ snapshots) why settled (inr later) =
+      inr (
+        later.0,
+        (
+          later.1.0,
+          later.1.1,
+          later.1.2,
+          has_to_refuse (request_after name (after_in name later.1.0) request) snapshots why
+              (settled.1 later.1.0 later.1.1 later.1.2) later.1.3,
         ),
       )

@@ -21,3 +21,4 @@ pub mod WalkLoop
 pub mod WalkPages
 pub mod WalkRefusals
 pub mod WalkState
+pub mod lemmas

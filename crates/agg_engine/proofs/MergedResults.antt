@@ -2,16 +2,16 @@
 -- its builders made.
 use Rattle.std.proofs.Common.{◌≡◌, List, Bool, sym, subst}
 use Rattle.std.specs.List.{Any}
-use Rattle.agg_column.specs.Document.{Fields}
+use Rattle.agg_segment.specs.storage.Document.{Fields}
 use Rattle.agg_segment.specs.Query.{matches}
 use Rattle.agg_segment.specs.declared.query.QueryTree.{QueryTree}
 use Rattle.agg_request_tree.specs.Ranges.{HasOwnStartOutOfRange, HasStartOutOfRange}
 use Rattle.agg_request_tree.specs.Request.{Request, with_builders}
 use Rattle.agg_request_tree.specs.Uncut.{CountsTooMany}
-use Rattle.agg_intermediate_results.specs.Intermediate.{Held}
+use Rattle.agg_results.specs.intermediate_results.Intermediate.{Held}
 use Rattle.agg_results.specs.StandsFor.{StandsFor}
-use Rattle.agg_collectors.proofs.BuiltLists.{lists-built}
-use Rattle.agg_collectors.proofs.BuiltRequests.{stands-built}
+use Rattle.agg_engine.proofs.lemmas.collectors.BuiltLists.{lists-built}
+use Rattle.agg_engine.proofs.lemmas.collectors.BuiltRequests.{stands-built}
 use Rattle.agg_engine.proofs.BuiltCounts.{composites-built}
 
 -- merged results stand for documents, whose starts are in range and of which few are counted
@@ -37,7 +37,7 @@ module _ {B : Type 0} (is_match : B → Fields → Bool) (of : B → QueryTree)
   range-made =
       subst (Any (λ c. HasOwnStartOutOfRange c documents)) (sym (composites-built of request))
 
-  -- and so are too many counted
+  -- too many are counted in both or in none
   pub many-built : CountsTooMany matches made documents → CountsTooMany is_match request documents
   many-built = subst (Any _) (lists-built is_match of built request documents)
 

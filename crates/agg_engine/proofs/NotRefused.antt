@@ -3,13 +3,13 @@ use Rattle.std.proofs.Common.{◌≤◌, ◌+◌, List, Bool, ap, ◌∙◌, sub
 use Rattle.agg_values.specs.Nothing.{NoneIs}
 use Rattle.agg_values.specs.declared.request_error.AggregationError.TheVariants as aggregation
 use Rattle.agg_cache.specs.Limits.{Limits}
-use Rattle.agg_column.specs.Document.{Fields}
+use Rattle.agg_segment.specs.storage.Document.{Fields}
 use Rattle.agg_segment.specs.declared.query.QueryTree.{QueryTree}
 use Rattle.agg_request_tree.specs.Request.{Request}
-use Rattle.agg_final_results.specs.BucketCount.{results_buckets}
-use Rattle.agg_final_results.specs.declared.types.AggregationResults.{AggregationResults}
+use Rattle.agg_results.specs.final_results.BucketCount.{results_buckets}
+use Rattle.agg_results.specs.declared.final_results.types.AggregationResults.{AggregationResults}
 use Rattle.agg_results.specs.Results.{AreResults}
-use Rattle.agg_snapshot.specs.MemoryLimits.{HaveRoom, TellsMemory, low_roof_in}
+use Rattle.agg_engine.specs.snapshot_results.MemoryLimits.{HaveRoom, TellsMemory, low_roof_in}
 use Rattle.agg_engine.specs.Refusals.{HasToBeRefused, MayBeCounted}
 use Rattle.agg_engine.specs.Walk.{matching_among}
 use Rattle.agg_engine.specs.declared.walk.error.WalkError.TheVariants as error

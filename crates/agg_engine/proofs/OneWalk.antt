@@ -2,12 +2,12 @@
 use Rattle.std.proofs.Common.{◌≡◌, ℕ, List, [], ◌∷◌, Bool, true, false, refl, sym, ◌∙◌, subst}
 use Rattle.agg_values.specs.Names.{Named}
 use Rattle.agg_values.specs.declared.after_key.AfterKey.{AfterKey}
-use Rattle.agg_column.specs.Document.{Fields}
+use Rattle.agg_segment.specs.storage.Document.{Fields}
 use Rattle.agg_segment.specs.declared.query.QueryTree.{QueryTree}
 use Rattle.agg_request_tree.specs.Request.{Request}
-use Rattle.agg_final_results.specs.declared.types.AggregationResults.{AggregationResults}
+use Rattle.agg_results.specs.declared.final_results.types.AggregationResults.{AggregationResults}
 use Rattle.agg_request_tree.proofs.Reorderings.{same}
-use Rattle.agg_segment_context.specs.Pages.{request_after, request_at_size}
+use Rattle.agg_engine_tree.specs.segment_context.Pages.{request_after, request_at_size}
 use Rattle.agg_results.proofs.ResultExists.{AreResults-exist}
 use Rattle.agg_results.proofs.ResultOrders.{AreResults-reordering}
 use Rattle.agg_results.specs.Results.{AreResults}

@@ -12,7 +12,7 @@ use Rattle.std.proofs.lemmas.List.Elements.{recursion_from_All}
 use Rattle.agg_values.specs.Names.{Named, name_cmp, put}
 use Rattle.agg_values.specs.Tuple.{KeyTuple}
 use Rattle.agg_values.specs.declared.after_key.AfterKey.{AfterKey}
-use Rattle.agg_column.specs.Document.{Fields}
+use Rattle.agg_segment.specs.storage.Document.{Fields}
 use Rattle.agg_request_tree.specs.BySource.{after_map}
 use Rattle.agg_request_tree.specs.Occurrences.{occurrences, occurrences_in}
 use Rattle.agg_request_tree.specs.Page.{Entry, IsPage, MayList, group_of}
@@ -22,10 +22,12 @@ use Rattle.agg_request_tree.proofs.Lists.{AllByRecursion-Has, AllByRecursion-alw
 use Rattle.agg_request_tree.proofs.Lists.{AllByRecursion-flat_map, AllByRecursion-map}
 use Rattle.agg_request_tree.proofs.Lists.{Has-from_Contains}
 use Rattle.agg_request_tree.proofs.PageKeys.{AllByRecursion-weaker}
-use Rattle.agg_final_results.specs.declared.types.AggregationResult as result
+use Rattle.agg_results.specs.declared.final_results.types.AggregationResult as result
 use result.{the_lemmas}
-use Rattle.agg_final_results.specs.declared.types.CompositeBucketEntry.{CompositeBucketEntry}
-use Rattle.agg_intermediate_results.specs.Shown.{shown_after, shown_page}
+use Rattle.agg_results.specs.declared.final_results.types.CompositeBucketEntry.{
+  CompositeBucketEntry,
+}
+use Rattle.agg_results.specs.intermediate_results.Shown.{shown_after, shown_page}
 use Rattle.agg_results.specs.Results.{after_tuple}
 use Rattle.agg_engine.specs.Walk.{after_of_result}
 
@@ -135,7 +137,7 @@ last-full size page tuple is =
     by true test last = grind (arith, nat_tests, test)
     by false test last = cc last
 
--- and then it has one, where it has room
+-- a full page has a last tuple, where it has room
 pub full-last : (size : ℕ) (page : List Entry) → length page ≡ size → size ≢ 0
     → (tuple : KeyTuple) × (after_tuple size page ≡ Some tuple)
 full-last size page long room =

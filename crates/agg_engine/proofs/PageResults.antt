@@ -6,34 +6,35 @@ use Rattle.std.specs.Result.{IsErrAnd}
 use Rattle.std.proofs.lemmas.Result.{err_from_is_err_and}
 use Rattle.agg_values.specs.declared.request_error.AggregationError.TheVariants as aggregation
 use Rattle.agg_cache.specs.Limits.{Limits}
-use Rattle.agg_column.specs.Document.{Fields}
+use Rattle.agg_segment.specs.storage.Document.{Fields}
 use Rattle.agg_segment.specs.Query.{matches}
 use Rattle.agg_segment.specs.Segment.{Stored, documents_of}
 use Rattle.agg_segment.specs.declared.query.QueryTree.{QueryTree}
 use Rattle.agg_request_tree.specs.Ranges.{HasStartOutOfRange}
 use Rattle.agg_request_tree.specs.Request.{Request, with_builders}
 use Rattle.agg_request_tree.specs.Uncut.{CountsTooMany}
-use Rattle.agg_final_results.specs.BucketCount.{results_buckets}
-use Rattle.agg_final_results.specs.declared.types.AggregationResults.{AggregationResults}
-use Rattle.agg_intermediate_results.specs.Final.{final_results}
-use Rattle.agg_intermediate_results.specs.Intermediate.{Held}
-use Rattle.agg_intermediate_results.specs.Refusals.{HaveTooMany}
-use Rattle.agg_intermediate_results.specs.declared.results.IntermediateAggregationResults as held
+use Rattle.agg_results.specs.final_results.BucketCount.{results_buckets}
+use Rattle.agg_results.specs.declared.final_results.types.AggregationResults.{AggregationResults}
+use Rattle.agg_results.specs.intermediate_results.Final.{final_results}
+use Rattle.agg_results.specs.intermediate_results.Intermediate.{Held}
+use Rattle.agg_results.specs.intermediate_results.Refusals.{HaveTooMany}
+use Rattle.agg_results.specs.declared.intermediate_results.results.IntermediateAggregationResults
+    as held
 use held.{IntermediateAggregationResults}
 use Rattle.agg_results.specs.Results.{AreResults}
 use Rattle.agg_results.specs.StandsFor.{StandsFor}
-use Rattle.agg_segment_context.specs.Pages.{paged}
-use Rattle.agg_segment_context.specs.Trees.{AreTreesOf}
-use Rattle.agg_segment_context.specs.declared.params.Page.{Page}
-use Rattle.agg_snapshot.specs.Answers.{AnswersResults, IsRefusal}
-use Rattle.agg_snapshot.specs.Asked.{IsAsked}
-use Rattle.agg_snapshot.specs.declared.context.PageRequest.{PageRequest}
-use Rattle.agg_snapshot.specs.declared.error.SnapshotError.{SnapshotError}
-use Rattle.agg_snapshot.specs.declared.error.SnapshotError.TheVariants as snapshot
-use Rattle.agg_snapshot.specs.Documents.{matching_in}
-use Rattle.agg_snapshot.specs.MemoryLimits.{HaveRoom, TellsMemory}
-use Rattle.agg_snapshot.specs.Steps.{counted_of, past_named}
-use Rattle.agg_collectors.proofs.BuiltPages.{built-paged}
+use Rattle.agg_engine_tree.specs.segment_context.Pages.{paged}
+use Rattle.agg_engine_tree.specs.segment_context.Trees.{AreTreesOf}
+use Rattle.agg_engine_tree.specs.declared.segment_context.params.Page.{Page}
+use Rattle.agg_engine.specs.snapshot_results.Answers.{AnswersResults, IsRefusal}
+use Rattle.agg_engine.specs.snapshot_results.Asked.{IsAsked}
+use Rattle.agg_engine.specs.declared.snapshot_results.context.PageRequest.{PageRequest}
+use Rattle.agg_engine.specs.declared.snapshot_results.error.SnapshotError.{SnapshotError}
+use Rattle.agg_engine.specs.declared.snapshot_results.error.SnapshotError.TheVariants as snapshot
+use Rattle.agg_engine.specs.snapshot_results.Documents.{matching_in}
+use Rattle.agg_engine.specs.snapshot_results.MemoryLimits.{HaveRoom, TellsMemory}
+use Rattle.agg_engine.specs.snapshot_results.Steps.{counted_of, past_named}
+use Rattle.agg_engine.proofs.lemmas.collectors.BuiltPages.{built-paged}
 use Rattle.agg_engine.specs.PageAnswers.{AnswersPage, IsFinalRefusal}
 use Rattle.agg_engine.specs.Refusals.{MayBeRefused}
 use Rattle.agg_engine.specs.Walk.{matching_among}

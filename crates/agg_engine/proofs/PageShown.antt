@@ -4,7 +4,7 @@ use Rattle.std.proofs.Common.{Option, None, Some, length, refl, sym, ap, ◌∙�
 use Rattle.std.specs.Prelude.{option_map}
 use Rattle.std.specs.BTreeMap.{is_at}
 use Rattle.agg_values.specs.Names.{name_cmp, value_of}
-use Rattle.agg_column.specs.Document.{Fields}
+use Rattle.agg_segment.specs.storage.Document.{Fields}
 use Rattle.agg_request_tree.specs.Occurrences.{bound_of}
 use Rattle.agg_request_tree.specs.Page.{Entry, IsPage}
 use Rattle.agg_request_tree.specs.Request.{Request, agg_of, below_of}
@@ -13,9 +13,9 @@ use Rattle.agg_request_tree.specs.declared.aggregation.AggregationVariants.{Aggr
 use Rattle.agg_request_tree.specs.declared.aggregation.AggregationVariants.TheVariants.{Composite}
 use Rattle.agg_request_tree.specs.declared.aggregation.CompositeAggregation.{CompositeAggregation}
 use Rattle.agg_request_tree.proofs.PageUnique.{IsPage-same}
-use Rattle.agg_final_results.specs.declared.types.AggregationResult.{AggregationResult}
-use Rattle.agg_final_results.specs.declared.types.AggregationResults.{AggregationResults}
-use Rattle.agg_intermediate_results.specs.Shown.{Results, shown_after}
+use Rattle.agg_results.specs.declared.final_results.types.AggregationResult.{AggregationResult}
+use Rattle.agg_results.specs.declared.final_results.types.AggregationResults.{AggregationResults}
+use Rattle.agg_results.specs.intermediate_results.Shown.{Results, shown_after}
 use Rattle.agg_results.specs.Results.{AreResults, EachHas, IsResult, IsResultTo, after_tuple}
 use Rattle.agg_engine.specs.NamedComposite.{IsCompositeNamed}
 use Rattle.agg_engine.specs.Walk.{after_in, after_of_result}

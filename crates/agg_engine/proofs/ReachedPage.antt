@@ -2,20 +2,20 @@
 use Rattle.std.proofs.Common.{◌≤◌, List, Bool, Option, subst}
 use Rattle.agg_values.specs.Nothing.{NoneIs}
 use Rattle.agg_cache.specs.Limits.{Limits}
-use Rattle.agg_column.specs.Document.{Fields}
+use Rattle.agg_segment.specs.storage.Document.{Fields}
 use Rattle.agg_segment.specs.declared.query.QueryTree.{QueryTree}
 use Rattle.agg_request_tree.specs.Request.{Request}
-use Rattle.agg_final_results.specs.BucketCount.{results_buckets}
-use Rattle.agg_intermediate_results.specs.Final.{final_results}
-use Rattle.agg_intermediate_results.specs.Intermediate.{Held}
-use Rattle.agg_intermediate_results.specs.Refusals.{HoldsOther, HoldsUnknown}
+use Rattle.agg_results.specs.final_results.BucketCount.{results_buckets}
+use Rattle.agg_results.specs.intermediate_results.Final.{final_results}
+use Rattle.agg_results.specs.intermediate_results.Intermediate.{Held}
+use Rattle.agg_results.specs.intermediate_results.Refusals.{HoldsOther, HoldsUnknown}
 use Rattle.agg_results.specs.Results.{AreResults}
 use Rattle.agg_results.proofs.FinalResults.{StandsFor-final}
 use Rattle.agg_results.proofs.StandingRefusals.{StandsFor-known, StandsFor-shapes}
-use Rattle.agg_segment_context.specs.Pages.{paged}
-use Rattle.agg_segment_context.specs.declared.params.Page.{Page}
-use Rattle.agg_snapshot.specs.MemoryLimits.{HaveRoom}
-use Rattle.agg_collectors.proofs.PagedFinals.{final-paged, other-paged, unknown-paged}
+use Rattle.agg_engine_tree.specs.segment_context.Pages.{paged}
+use Rattle.agg_engine_tree.specs.declared.segment_context.params.Page.{Page}
+use Rattle.agg_engine.specs.snapshot_results.MemoryLimits.{HaveRoom}
+use Rattle.agg_engine.proofs.lemmas.collectors.PagedFinals.{final-paged, other-paged, unknown-paged}
 use Rattle.agg_engine.specs.Refusals.{HasToBeRefused}
 use Rattle.agg_engine.specs.Walk.{matching_among}
 use Rattle.agg_engine.proofs.MergedResults.{IsMergedOf}

@@ -7,15 +7,15 @@ use Rattle.std.proofs.lemmas.Bool.Decides.{nat_tests}
 use Rattle.std.proofs.lemmas.List.{get_or-map, length-map}
 use Rattle.std.proofs.lemmas.List.Elements.{All-map}
 use Rattle.std.proofs.lemmas.List.Folds.{Any-from_list_any, flat_map-map, list_any_at}
-use Rattle.agg_column.specs.Document.{Fields}
+use Rattle.agg_segment.specs.storage.Document.{Fields}
 use Rattle.agg_segment.specs.Query.{matches}
 use Rattle.agg_segment.specs.Segment.{Stored, documents_of}
 use Rattle.agg_segment.specs.declared.query.QueryTree.{QueryTree}
 use Rattle.agg_request_tree.specs.Faults.{IsSoundRequest}
 use Rattle.agg_request_tree.specs.Request.{Request}
 use Rattle.agg_request_tree.specs.declared.aggregation.CompositeAggregation.{CompositeAggregation}
-use Rattle.agg_segment_context.specs.Trees.{EachMakesTree}
-use Rattle.agg_snapshot.specs.Documents.{matching_in}
+use Rattle.agg_engine_tree.specs.segment_context.Trees.{EachMakesTree}
+use Rattle.agg_engine.specs.snapshot_results.Documents.{matching_in}
 use Rattle.agg_engine.specs.NamedComposite.{IsCompositeNamed}
 use Rattle.agg_segment.specs.Snapshot.{SnapshotDocuments, snapshot_documents, snapshots_documents}
 use Rattle.agg_engine.specs.Walk.{HaveRoom, MayBeAsked, matching_among}
@@ -64,7 +64,7 @@ module _ (snapshots items : List Snapshot) (same : items ≡ snapshots) where
   may_be_asked query_for name request composite sound named none each =
       record { sound = sound; room = have_room none; named = (composite, named); each = each }
 
--- so has that of each
+-- the page of each snapshot has room
 pub room-at : (snapshots items others : List Snapshot) → items ≡ snapshots → others ≡ snapshots
     → list_any (λ (s : Snapshot). s.page_size == 0) items ≡ false → (at : ℕ) (s : Snapshot)
     → at < length others → s ≡ get_or others at s → s.page_size ≢ 0

@@ -8,16 +8,16 @@ use Rattle.agg_values.specs.Names.{Named, name_cmp}
 use Rattle.agg_values.specs.Nothing.{NoneIs}
 use Rattle.agg_values.specs.declared.after_key.AfterKey.{AfterKey}
 use Rattle.agg_cache.specs.Limits.{Limits}
-use Rattle.agg_column.specs.Document.{Fields}
+use Rattle.agg_segment.specs.storage.Document.{Fields}
 use Rattle.agg_segment.specs.declared.query.QueryTree.{QueryTree}
 use Rattle.agg_request_tree.specs.Faults.{IsSoundRequest}
 use Rattle.agg_request_tree.specs.Names.{NamesAscend}
 use Rattle.agg_request_tree.specs.Request.{Request}
 use Rattle.agg_request_tree.specs.declared.aggregation.CompositeAggregation.{CompositeAggregation}
 use Rattle.agg_request_tree.proofs.Faults.{IsSound-sources}
-use Rattle.agg_final_results.specs.declared.types.AggregationResults.{AggregationResults}
-use Rattle.agg_segment_context.specs.Pages.{paged, request_after}
-use Rattle.agg_segment_context.specs.declared.params.Page.{Page}
+use Rattle.agg_results.specs.declared.final_results.types.AggregationResults.{AggregationResults}
+use Rattle.agg_engine_tree.specs.segment_context.Pages.{paged, request_after}
+use Rattle.agg_engine_tree.specs.declared.segment_context.params.Page.{Page}
 use Rattle.agg_engine.specs.NamedComposite.{IsCompositeNamed}
 use Rattle.agg_engine.specs.PageAnswers.{MayGoOnFrom}
 use Rattle.agg_engine.specs.Refusals.{HasToRefuse}
@@ -36,7 +36,7 @@ pub record MayGoOn {B : Type 0} (name : List ℕ) (request : Request B)
   pub sound : IsSoundRequest request
   pub goes_on : MayGoOnFrom composite.sources after
 
--- and the walk has come so far and goes on from the after key
+-- the walk has come so far, and may go on from the after key
 pub record IsWalking {B : Type 0} (is_match : B → Fields → Bool) (limits : Limits) (name : List ℕ)
     (query : QueryTree) (request : Request B) (snapshots : List SnapshotDocuments)
     (composite : CompositeAggregation) (after : Named AfterKey) (rest : List SnapshotDocuments)
@@ -105,7 +105,7 @@ module _ (P : List SnapshotDocuments → Type 0) (snapshots items : List Snapsho
       ∙ ap (λ x. x ∷ drop (at + 1) snapshots) (ap (λ l. get_or l at s) (sym same) ∙ sym item) in
       subst (λ (rest : List Snapshot). P (snapshots_documents rest)) cut left
 
-  -- and after the last one
+  -- what holds of the snapshots that are left, after the last one
   pub left-end : length items ≤ at → P []
   left-end past =
       subst (λ (rest : List Snapshot). P (snapshots_documents rest))

@@ -8,17 +8,17 @@ use Rattle.agg_values.specs.Names.{Named}
 use Rattle.agg_values.specs.Nothing.{NoneIs}
 use Rattle.agg_values.specs.declared.after_key.AfterKey.{AfterKey}
 use Rattle.agg_cache.specs.Limits.{Limits}
-use Rattle.agg_column.specs.Document.{Fields}
+use Rattle.agg_segment.specs.storage.Document.{Fields}
 use Rattle.agg_segment.specs.declared.query.QueryTree.{QueryTree}
 use Rattle.agg_request_tree.specs.Occurrences.{bound_of}
 use Rattle.agg_request_tree.specs.Request.{Request}
 use Rattle.agg_request_tree.specs.declared.aggregation.CompositeAggregation.{CompositeAggregation}
 use Rattle.agg_request_tree.proofs.Faults.{IsSound-intervals, IsSound-names}
-use Rattle.agg_final_results.specs.BucketCount.{results_buckets}
-use Rattle.agg_final_results.specs.declared.types.AggregationResults.{AggregationResults}
-use Rattle.agg_segment_context.specs.Pages.{paged, request_after, request_at_size}
-use Rattle.agg_segment_context.specs.declared.params.Page.{Page}
-use Rattle.agg_snapshot.specs.Steps.{counted_of, past_named}
+use Rattle.agg_results.specs.final_results.BucketCount.{results_buckets}
+use Rattle.agg_results.specs.declared.final_results.types.AggregationResults.{AggregationResults}
+use Rattle.agg_engine_tree.specs.segment_context.Pages.{paged, request_after, request_at_size}
+use Rattle.agg_engine_tree.specs.declared.segment_context.params.Page.{Page}
+use Rattle.agg_engine.specs.snapshot_results.Steps.{counted_of, past_named}
 use Rattle.agg_engine.specs.PageAnswers.{AnswersPage, IsShown, MayGoOnFrom}
 use Rattle.agg_engine.specs.Refusals.{HasToRefuse}
 use Rattle.agg_segment.specs.Snapshot.{SnapshotDocuments}

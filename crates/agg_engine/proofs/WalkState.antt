@@ -7,12 +7,12 @@ use Rattle.agg_values.specs.Names.{Named}
 use Rattle.agg_values.specs.Nothing.{NoneIs}
 use Rattle.agg_values.specs.declared.after_key.AfterKey.{AfterKey}
 use Rattle.agg_cache.specs.Limits.{Limits}
-use Rattle.agg_column.specs.Document.{Fields}
+use Rattle.agg_segment.specs.storage.Document.{Fields}
 use Rattle.agg_segment.specs.declared.query.QueryTree.{QueryTree}
 use Rattle.agg_request_tree.specs.Request.{Request}
-use Rattle.agg_final_results.specs.BucketCount.{results_buckets}
-use Rattle.agg_final_results.specs.declared.types.AggregationResults.{AggregationResults}
-use Rattle.agg_segment_context.specs.Pages.{request_after}
+use Rattle.agg_results.specs.final_results.BucketCount.{results_buckets}
+use Rattle.agg_results.specs.declared.final_results.types.AggregationResults.{AggregationResults}
+use Rattle.agg_engine_tree.specs.segment_context.Pages.{request_after}
 use Rattle.agg_engine.specs.Refusals.{HasToBeRefusedAt, HasToRefuse, MayBeRefusedAt}
 use Rattle.agg_engine.specs.Refusals.{MayRefuse}
 use Rattle.agg_segment.specs.Snapshot.{SnapshotDocuments}

@@ -4,4 +4,6 @@ pub mod Refusals
 pub mod Steps
 pub mod Walk
 pub mod WalkError
+pub mod collectors
+pub mod snapshot_results
 pub use Rattle.agg_segment.specs.Snapshot

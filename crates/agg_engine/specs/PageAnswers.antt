@@ -5,21 +5,21 @@ use Rattle.agg_values.specs.Names.{Named}
 use Rattle.agg_values.specs.Nothing.{NoneIs}
 use Rattle.agg_values.specs.declared.after_key.AfterKey.{AfterKey}
 use Rattle.agg_cache.specs.Limits.{Limits}
-use Rattle.agg_column.specs.Document.{Fields}
+use Rattle.agg_segment.specs.storage.Document.{Fields}
 use Rattle.agg_segment.specs.declared.query.QueryTree.{QueryTree}
 use Rattle.agg_request_tree.specs.Faults.{IsSoundSource}
 use Rattle.agg_request_tree.specs.Matching.{built_matches}
 use Rattle.agg_request_tree.specs.Request.{Request}
 use Rattle.agg_request_tree.specs.Source.{Sources, after_of}
-use Rattle.agg_final_results.specs.BucketCount.{results_buckets}
-use Rattle.agg_final_results.specs.declared.types.AggregationResults.{AggregationResults}
-use Rattle.agg_intermediate_results.specs.Intermediate.{Held}
-use Rattle.agg_intermediate_results.specs.Refusals.{TellsTooMany}
+use Rattle.agg_results.specs.final_results.BucketCount.{results_buckets}
+use Rattle.agg_results.specs.declared.final_results.types.AggregationResults.{AggregationResults}
+use Rattle.agg_results.specs.intermediate_results.Intermediate.{Held}
+use Rattle.agg_results.specs.intermediate_results.Refusals.{TellsTooMany}
 use Rattle.agg_results.specs.Results.{AreResults}
-use Rattle.agg_segment_context.specs.Pages.{paged}
-use Rattle.agg_segment_context.specs.Trees.{AreTreesOf, built_tree}
-use Rattle.agg_snapshot.specs.declared.context.PageRequest.{PageRequest}
-use Rattle.agg_snapshot.specs.Steps.{counted_of, past_named}
+use Rattle.agg_engine_tree.specs.segment_context.Pages.{paged}
+use Rattle.agg_engine_tree.specs.segment_context.Trees.{AreTreesOf, built_tree}
+use Rattle.agg_engine.specs.declared.snapshot_results.context.PageRequest.{PageRequest}
+use Rattle.agg_engine.specs.snapshot_results.Steps.{counted_of, past_named}
 use Rattle.agg_engine.specs.Refusals.{HasToBeRefused, MayBeRefused}
 use Rattle.agg_engine.specs.Walk.{matching_among}
 use Rattle.agg_engine.specs.declared.walk.error.WalkError.{WalkError}
@@ -46,7 +46,7 @@ pub record AnswersPage {B : Type 0} (is_match : B → Fields → Bool) (limits :
       (steps + past_named name request (matching_among query segments) ≤ steps_now)
   pub most : steps_now ≤ steps + 3 * counted_of is_match request (matching_among query segments)
 
--- the same of a page that is asked, whatever queries its builders made
+-- what a call for a page that is asked answers, whatever queries its builders made
 abbrev pub AnswersAsked : {B : Type 0} → PageRequest B → Limits → List (List Fields) → ℕ → ℕ
     → Result AggregationResults WalkError → Type 0
 AnswersAsked {B = B} page limits segments steps steps_now result =

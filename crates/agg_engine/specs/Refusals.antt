@@ -1,23 +1,31 @@
--- Why a walk gave no pages.
+-- Why a walk gave no pages. `IsRefusedBy` has six names, by what is held against the memory limit
+-- and by what is walked:
+--                   segments        a snapshot        a walk
+--     the low roof  HasToBeRefused  HasToBeRefusedAt  HasToRefuse
+--     the roof      MayBeRefused    MayBeRefusedAt    MayRefuse
 use Rattle.std.specs.Prelude.{◌≡◌, ◌≢◌, ◌<◌, ◌⊎◌, ◌+◌, ℕ, List, [], ◌∷◌, Bool, Option, Any, ⊤}
+use Rattle.std.specs.Prelude.{filter}
+use Rattle.std.specs.List.{All}
 use Rattle.agg_values.specs.Nothing.{NoneIs}
 use Rattle.agg_values.specs.declared.request_error.AggregationError.TheVariants as aggregation
 use Rattle.agg_values.specs.declared.request_error.RequestError.TheVariants as refusal
 use Rattle.agg_cache.specs.Limits.{Limits}
-use Rattle.agg_column.specs.Document.{Fields}
+use Rattle.agg_segment.specs.storage.Document.{Fields}
+use Rattle.agg_segment.specs.Query.{matches}
 use Rattle.agg_segment.specs.Snapshot.{SnapshotDocuments}
 use Rattle.agg_segment.specs.declared.query.QueryTree.{QueryTree}
 use Rattle.agg_request_tree.specs.Faults.{IsSoundRequest, RequestHasFault}
 use Rattle.agg_request_tree.specs.Matching.{built_matches}
 use Rattle.agg_request_tree.specs.Ranges.{HasStartOutOfRange}
 use Rattle.agg_request_tree.specs.Request.{Request}
+use Rattle.agg_request_tree.specs.charges.Roof.{IsSettled}
 use Rattle.agg_request_tree.specs.Uncut.{CountsTooMany}
-use Rattle.agg_final_results.specs.BucketCount.{results_buckets}
-use Rattle.agg_final_results.specs.declared.types.AggregationResults.{AggregationResults}
+use Rattle.agg_results.specs.final_results.BucketCount.{results_buckets}
+use Rattle.agg_results.specs.declared.final_results.types.AggregationResults.{AggregationResults}
 use Rattle.agg_results.specs.Results.{AreResults}
-use Rattle.agg_segment_context.specs.Pages.{request_after, request_at_size}
-use Rattle.agg_segment_context.specs.Trees.{SomeMakesNone}
-use Rattle.agg_snapshot.specs.MemoryLimits as memory
+use Rattle.agg_engine_tree.specs.segment_context.Pages.{request_after, request_at_size}
+use Rattle.agg_engine_tree.specs.segment_context.Trees.{SomeMakesNone}
+use Rattle.agg_engine.specs.snapshot_results.MemoryLimits as memory
 use memory.{TellsMemory, low_roof_in, roof_in}
 use Rattle.agg_engine.specs.NamedComposite.{NamesComposite}
 use Rattle.agg_engine.specs.Walk.{AreResultsAt, HasFault, HaveRoom, MayBeAsked, after_in}
@@ -35,7 +43,7 @@ module _ {B : Type 0} (is_match : B → Fields → Bool) (query : QueryTree) whe
       (¬ (HasStartOutOfRange request (matching_among query segments)))
       × (¬ (CountsTooMany is_match request (matching_among query segments)))
 
-  -- its results over them have so many buckets
+  -- the results of a request over segments have so many buckets
   abbrev pub HasBuckets : Request B → List (List Fields) → ℕ → Type 0
   HasBuckets request segments n =
       (results : AggregationResults)
@@ -67,11 +75,11 @@ module _ {B : Type 0} (is_match : B → Fields → Bool) (limits : Limits) (quer
       × HasBuckets is_match query request segments n
   IsRefusedBy bytes request segments _ = ⊥
 
-  -- it may be refused: for memory, where the limit is passed within the roof of a segment
+  -- a request may be refused: for memory, where the limit is passed within the roof of a segment
   abbrev pub MayBeRefused : Request B → List (List Fields) → WalkError → Type 0
   MayBeRefused = IsRefusedBy (roof_in is_match query)
 
-  -- it has to be refused: for memory, where the limit is passed within the low roof
+  -- a request has to be refused: for memory, where the limit is passed within the low roof
   abbrev pub HasToBeRefused : Request B → List (List Fields) → WalkError → Type 0
   HasToBeRefused = IsRefusedBy (low_roof_in is_match query)
 
@@ -84,7 +92,7 @@ module _ {B : Type 0} (is_match : B → Fields → Bool) (limits : Limits) (name
   MayBeRefusedAt request s =
       MayBeRefused is_match limits query (request_at_size name s.page_size request) s.segments
 
-  -- it has to be refused there
+  -- the request has to be refused at a snapshot
   abbrev pub HasToBeRefusedAt : Request B → SnapshotDocuments → WalkError → Type 0
   HasToBeRefusedAt request s =
       HasToBeRefused is_match limits query (request_at_size name s.page_size request) s.segments
@@ -107,10 +115,22 @@ module _ {B : Type 0} (is_match : B → Fields → Bool) (limits : Limits) (name
   MayRefuse request snapshots error =
       Reaches (λ now s. MayBeRefusedAt now s error) request snapshots
 
-  -- it has to be refused: it reaches a snapshot where its request has to be
+  -- the walk has to be refused: it reaches a snapshot where its request has to be
   abbrev pub HasToRefuse : Request B → List SnapshotDocuments → WalkError → Type 0
   HasToRefuse request snapshots error =
       Reaches (λ now s. HasToBeRefusedAt now s error) request snapshots
+
+module _ {B : Type 0} (is_match : B → Fields → Bool) (name : List ℕ) (query : QueryTree) where
+  -- at each snapshot that a walk reaches, its request is settled over the documents of each segment
+  -- that match
+  abbrev pub AreSettled : Request B → List SnapshotDocuments → Type 0
+  AreSettled request [] = ⊤
+  AreSettled request (s ∷ snapshots) =
+      All (λ documents. IsSettled is_match (request_at_size name s.page_size request)
+      (filter (matches query) documents)) s.segments
+      × ((r : AggregationResults) → AreResultsAt is_match name query request s r
+      → after_in name r ≢ []
+      → AreSettled (request_after name (after_in name r) request) snapshots)
 
 module _ {B : Type 0} (query_for : B → Option QueryTree) (limits : Limits) (name : List ℕ)
     (query : QueryTree) where

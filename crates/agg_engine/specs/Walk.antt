@@ -7,15 +7,15 @@ use Rattle.agg_values.specs.declared.after_key.AfterKey.{AfterKey}
 use Rattle.agg_values.specs.declared.error.InvalidArgument.{InvalidArgument}
 use Rattle.agg_values.specs.declared.error.InvalidArgument.TheVariants.{ZeroSize}
 use Rattle.agg_values.specs.declared.request_error.RequestError.TheVariants.{Invalid}
-use Rattle.agg_column.specs.Document.{Fields}
+use Rattle.agg_segment.specs.storage.Document.{Fields}
 use Rattle.agg_segment.specs.Query.{matches}
 use Rattle.agg_segment.specs.declared.query.QueryTree.{QueryTree}
 use Rattle.agg_request_tree.specs.Faults.{IsSoundRequest, RequestHasFault}
 use Rattle.agg_request_tree.specs.Request.{Request}
-use Rattle.agg_segment_context.specs.Pages.{request_after, request_at_size}
-use Rattle.agg_segment_context.specs.Trees.{EachMakesTree}
+use Rattle.agg_engine_tree.specs.segment_context.Pages.{request_after, request_at_size}
+use Rattle.agg_engine_tree.specs.segment_context.Trees.{EachMakesTree}
 use Rattle.agg_engine.specs.NamedComposite.{NamesComposite}
-use Rattle.agg_final_results.specs.declared.types as final
+use Rattle.agg_results.specs.declared.final_results.types as final
 use final.AggregationResult.{AggregationResult}
 use final.AggregationResult.TheOpen as opened
 use final.AggregationResult.TheVariants.{BucketResult, MetricResult}
@@ -71,7 +71,7 @@ module _ {B : Type 0} (is_match : B → Fields → Bool) (name : List ℕ) (quer
       results
 
   -- the walk: each snapshot's results, as long as the page before is full; it has ended where a
-  -- page isn't full
+  -- page isn't full; over no snapshot it has no page and has not ended
   abbrev pub IsWalk : Request B → List SnapshotDocuments → List AggregationResults → Bool → Type 0
   IsWalk request [] [] ended = ended ≡ false
   IsWalk request [] (r ∷ rs) ended = ⊥

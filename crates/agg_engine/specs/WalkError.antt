@@ -9,10 +9,10 @@ use parsing.{DateHistogramParseError}
 use parsing.TheVariants as parse
 use Rattle.agg_values.specs.declared.request_error.RequestError.{RequestError}
 use Rattle.agg_values.specs.declared.request_error.RequestError.TheVariants as request
-use Rattle.agg_segment_context.specs.declared.error.SetupError.{SetupError}
-use Rattle.agg_segment_context.specs.declared.error.SetupError.TheVariants as setup
-use Rattle.agg_snapshot.specs.declared.error.SnapshotError.{SnapshotError}
-use Rattle.agg_snapshot.specs.declared.error.SnapshotError.TheVariants as snapshot
+use Rattle.agg_engine_tree.specs.declared.segment_context.error.SetupError.{SetupError}
+use Rattle.agg_engine_tree.specs.declared.segment_context.error.SetupError.TheVariants as setup
+use Rattle.agg_engine.specs.declared.snapshot_results.error.SnapshotError.{SnapshotError}
+use Rattle.agg_engine.specs.declared.snapshot_results.error.SnapshotError.TheVariants as snapshot
 use Rattle.agg_engine.specs.declared.walk.error.WalkError.{WalkError}
 use Rattle.agg_engine.specs.declared.walk.error.WalkError.TheVariants.{Invalid, UnknownComposite}
 use Rattle.agg_engine.specs.declared.walk.error.WalkError.TheVariants.{TooMany, OutOfMemory}
@@ -61,14 +61,14 @@ error_from_request (request.Invalid given) = Invalid given
 error_from_request (request.Aggregation given) = Aggregation given
 error_from_request request.OutOfMemory = OutOfMemory
 
--- that for one of the builders of a request
+-- the error of a walk for one of the builders of a request
 abbrev pub error_from_setup : SetupError → WalkError
 error_from_setup (setup.Invalid given) = Invalid given
 error_from_setup setup.QueryBuild = QueryBuild
 error_from_setup (setup.Aggregation given) = Aggregation given
 error_from_setup setup.OutOfMemory = OutOfMemory
 
--- and that for one of a snapshot
+-- the error of a walk for one of a snapshot
 abbrev pub error_from_snapshot : SnapshotError → WalkError
 error_from_snapshot snapshot.BucketOutOfRange = BucketOutOfRange
 error_from_snapshot snapshot.TooMany = TooMany

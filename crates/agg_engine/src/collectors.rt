@@ -1,12 +1,10 @@
 //! The collectors that users hold: of a request in a segment, and of a request over segments.
-#![tactic(auto)]
-
-mod collector;
-mod distributed;
-mod empty;
-mod merging;
-mod segment;
-mod tree;
+pub(crate) mod collector;
+pub(crate) mod distributed;
+pub(crate) mod empty;
+pub(crate) mod merging;
+pub(crate) mod segment;
+pub(crate) mod tree;
 
 pub use collector::AggregationCollector;
 pub use distributed::DistributedAggregationCollector;

@@ -2,18 +2,21 @@
 ghost use Rattle.std.specs.Prelude.{◌≡◌, ◌≢◌, ◌↔◌, ℕ, List, [], Bool, false, All, filter, length};
 ghost use Rattle.agg_values.specs.Tuple.{KeyTuple};
 ghost use Rattle.agg_cache.specs.Limits.{Limits};
-ghost use Rattle.agg_column.specs.Document.{Fields};
+ghost use Rattle.agg_segment.specs.storage.Document.{Fields};
 ghost use Rattle.agg_segment.specs.Query.{matches};
 ghost use Rattle.agg_segment.specs.declared.query.QueryTree.{QueryTree};
 ghost use Rattle.agg_request_tree.specs.Occurrences.{bound_of};
 ghost use Rattle.agg_request_tree.specs.Page.{Entry, IsPage};
 ghost use Rattle.agg_request_tree.specs.Request.{Request};
 ghost use Rattle.agg_request_tree.specs.declared.aggregation.CompositeAggregation as composites;
-ghost use Rattle.agg_charges.specs.Roof.{IsSettled};
-ghost use Rattle.agg_final_results.specs.declared.types.AggregationResults.{AggregationResults};
+ghost use Rattle.agg_request_tree.specs.charges.Roof.{IsSettled};
+ghost use Rattle.agg_results.specs.declared.final_results.types.AggregationResults.{
+  AggregationResults,
+};
 ghost use Rattle.agg_results.specs.Results.{AreResults};
 ghost use Rattle.agg_engine.specs.NamedComposite.{IsCompositeNamed};
-ghost use Rattle.agg_engine.specs.Refusals.{HasToBeRefused, HasToRefuse, MayBeRefused, MayRefuse};
+ghost use Rattle.agg_engine.specs.Refusals.{AreSettled, HasToBeRefused, HasToRefuse, MayBeRefused};
+ghost use Rattle.agg_engine.specs.Refusals.{MayRefuse};
 ghost use Rattle.agg_segment.specs.Snapshot.{SnapshotDocuments};
 ghost use Rattle.agg_engine.specs.Walk.{IsWalk, after_in};
 ghost use Rattle.agg_engine.specs.declared.walk.error.WalkError.{WalkError};
@@ -79,4 +82,14 @@ pub fn settled_snapshots_are_refused_exactly<B>()
         → All (λ documents. IsSettled is_match request (filter (matches query) documents)) segments
         → MayBeRefused is_match limits query request segments why
         ↔ HasToBeRefused is_match limits query request segments why }
+{}
+
+/// A walk whose request is settled at each snapshot that it reaches has to be refused exactly where
+/// it may be.
+pub fn settled_walks_are_refused_exactly<B>()
+    ensures { (is_match : B → Fields → Bool) (limits : Limits) (name : List ℕ) (query : QueryTree)
+        (request : Request B) (snapshots : List SnapshotDocuments) (why : WalkError)
+        → AreSettled is_match name query request snapshots
+        → MayRefuse is_match limits name query request snapshots why
+        ↔ HasToRefuse is_match limits name query request snapshots why }
 {}

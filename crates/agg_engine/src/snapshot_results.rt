@@ -1,18 +1,16 @@
 //! The intermediate results of a request over the segments of a snapshot.
-#![tactic(auto)]
-
-mod charge;
-mod charge_error;
-mod charged_tree;
-mod checks;
-mod context;
-mod error;
-mod listed;
-mod lone;
-mod matching;
-mod segment;
-mod snapshot;
-mod taking;
+pub(crate) mod charge;
+pub(crate) mod charge_error;
+pub(crate) mod charged_tree;
+pub(crate) mod checks;
+pub(crate) mod context;
+pub(crate) mod error;
+pub(crate) mod listed;
+pub(crate) mod lone;
+pub(crate) mod matching;
+pub(crate) mod segment;
+pub(crate) mod snapshot;
+pub(crate) mod taking;
 
 pub use charge_error::ChargeError;
 pub use charged_tree::ChargedTree;

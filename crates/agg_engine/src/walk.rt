@@ -11,19 +11,19 @@ ghost use Rattle.agg_values.specs.declared.request_error.AggregationError.TheVar
 ghost use Rattle.agg_values.specs.declared.request_error.DateHistogramParseError as text;
 ghost use Rattle.agg_values.specs.Nothing.{NoneIs};
 ghost use Rattle.agg_request_tree.specs.Matching.{built_matches};
-ghost use Rattle.agg_final_results.specs.BucketCount.{results_buckets};
+ghost use Rattle.agg_results.specs.final_results.BucketCount.{results_buckets};
 ghost use Rattle.agg_engine.specs.Refusals.{HasCause, HasToRefuse};
 ghost use Rattle.agg_segment.specs.Snapshot.{snapshots_documents};
 ghost use Rattle.agg_engine.specs.Steps.{TakesAtMost, past_pages};
 ghost use Rattle.agg_engine.specs.Walk.{IsWalk, MayBeAsked};
 ghost use Rattle.agg_engine.specs.declared.walk.error.WalkError.{WalkError as Refusal};
 
+use crate::snapshot_results::PageRequest;
 use agg_cache::LimitsLedger;
+use agg_engine_tree::segment_context::AggContextParams;
 use agg_request_tree::{Aggregations, check_request};
 use agg_results::AggregationResults;
 use agg_segment::{QueryTree, Schema, Snapshot};
-use agg_segment_context::AggContextParams;
-use agg_snapshot::PageRequest;
 use agg_values::{InvalidArgument, ItemList, Steps, Text};
 pub use error::WalkError;
 use page::{set_page, snapshot_page};

@@ -8,7 +8,7 @@ use Rattle.agg_cache.specs.Limits.{Limits}
 use Rattle.agg_cache.specs.Waiting.{under}
 use Rattle.agg_cache.specs.declared.error.CollectError.{CollectError}
 use Rattle.agg_cache.specs.declared.error.CollectError.TheVariants as error
-use Rattle.agg_column.specs.Document.{HasNumbersOf64Bits}
+use Rattle.agg_segment.specs.storage.Document.{HasNumbersOf64Bits}
 use Rattle.agg_segment.specs.Query.{matches}
 use Rattle.agg_segment.specs.Segment.{Stored, documents_at, documents_of}
 use Rattle.agg_segment.specs.declared.query.QueryTree.{QueryTree}
@@ -17,18 +17,18 @@ use Rattle.agg_request_tree.specs.Names.{NamesAscend}
 use Rattle.agg_request_tree.specs.Ranges.{HasStartOutOfRange}
 use Rattle.agg_request_tree.specs.Request.{Request}
 use Rattle.agg_request_tree.specs.Uncut.{CountsTooMany}
-use Rattle.agg_charges.specs.Charges.{fixed_charge}
-use Rattle.agg_charges.specs.Roof.{low_roof, roof}
-use Rattle.agg_segment_context.specs.Context.{Meaning}
-use Rattle.agg_segment_context.specs.declared.error.SetupError.{SetupError}
-use Rattle.agg_segment_context.specs.declared.error.SetupError.TheVariants as setup
-use Rattle.agg_uncut.specs.Uncut.{uncut_lengths}
-use Rattle.agg_collector_tree.specs.Counting.{counted_of}
-use Rattle.agg_collector_tree.specs.Tree.{held_of}
-use Rattle.agg_snapshot.specs.ChargedTrees.{IsCharged}
-use Rattle.agg_snapshot.specs.MemoryLimits.{TellsMemory}
-use Rattle.agg_snapshot.specs.Trees.{IsRight}
-use Rattle.agg_collectors.specs.declared.segment.AggregationSegmentCollector as declared
+use Rattle.agg_request_tree.specs.charges.Charges.{fixed_charge}
+use Rattle.agg_request_tree.specs.charges.Roof.{low_roof, roof}
+use Rattle.agg_engine_tree.specs.segment_context.Context.{Meaning}
+use Rattle.agg_engine_tree.specs.declared.segment_context.error.SetupError.{SetupError}
+use Rattle.agg_engine_tree.specs.declared.segment_context.error.SetupError.TheVariants as setup
+use Rattle.agg_engine_tree.specs.uncut.Uncut.{uncut_lengths}
+use Rattle.agg_engine_tree.specs.collector_tree.Counting.{counted_of}
+use Rattle.agg_engine_tree.specs.collector_tree.Tree.{held_of}
+use Rattle.agg_engine.specs.snapshot_results.ChargedTrees.{IsCharged}
+use Rattle.agg_engine.specs.snapshot_results.MemoryLimits.{TellsMemory}
+use Rattle.agg_engine.specs.snapshot_results.Trees.{IsRight}
+use Rattle.agg_engine.specs.declared.collectors.segment.AggregationSegmentCollector as declared
 use declared.{AggregationSegmentCollector}
 
 -- an error is that memory is exceeded, and of the limit and the sum that it tells this holds
@@ -73,7 +73,7 @@ pub record IsRightFor (request : Request QueryTree) (segment : Stored) (docs : L
   pub charged : IsCharged collector.aggregations.per_request collector.tree
   pub fixed : collector.tree.fixed ≡ fixed_charge request (length (documents_of segment))
 
--- so is a collector that has not failed
+-- a collector is right for documents that it took, and no call of it has failed
 pub record CollectorFor (request : Request QueryTree) (segment : Stored) (docs : List ℕ)
     (visits : ℕ) (collector : AggregationSegmentCollector) : Type 0 where
   pub right : IsRightFor request segment docs visits collector
@@ -102,7 +102,8 @@ module _ (docs : List ℕ) (old : AggregationSegmentCollector) where
         × (steps + visits_now ≤ steps_now + visits)
         × (steps_now + 3 * visits ≤ steps + 3 * visits_now)
 
-  -- so did a collector that has not failed
+  -- a collector that has not failed took documents after those before, by one to three steps each
+  -- visit
   pub record TakesBlock (new : AggregationSegmentCollector) (steps steps_now : ℕ) : Type 0 where
     pub working : old.has_failed ≡ false
     pub takes : (request : Request QueryTree) (segment : Stored) (taken : List ℕ) (visits : ℕ)
@@ -127,7 +128,7 @@ module _ (docs : List ℕ) (old : AggregationSegmentCollector) where
       → IsRightFor request segment taken visits old
       → HasStartOutOfRange request (documents_at segment docs)
 
-  -- none does, and some aggregation lists too many documents in all
+  -- no bucket starts out of range, and some aggregation lists too many documents in all
   abbrev pub ListsTooMany : Type 0
   ListsTooMany =
       (request : Request QueryTree) (segment : Stored) (taken : List ℕ) (visits : ℕ)
@@ -136,8 +137,9 @@ module _ (docs : List ℕ) (old : AggregationSegmentCollector) where
       × CountsTooMany matches request (documents_at segment (taken ++ docs))
 
   module _ (limits : Limits) where
-    -- neither holds, and more bytes than the limit may be in use with those of all documents: with
-    -- the roof over them in the place of what the collector has charged
+    -- no bucket starts out of range, few documents are listed, and more bytes than the limit may be
+    -- in use with those of all documents: with the roof over them in the place of what the
+    -- collector has charged
     abbrev pub TakesTooMuch : ℕ → ℕ → Type 0
     TakesTooMuch told current =
         (request : Request QueryTree) (segment : Stored) (taken : List ℕ) (visits : ℕ)
@@ -157,7 +159,7 @@ module _ (docs : List ℕ) (old : AggregationSegmentCollector) where
     IsTreeCause error.CollectorFailed = ⊥
     IsTreeCause error.OutOfMemory = ⊤
 
-    -- the same, or an earlier call has failed
+    -- why a block of documents is refused: a cause of the tree, or an earlier call has failed
     abbrev pub IsBlockCause : CollectError → Type 0
     IsBlockCause error.CollectorFailed = old.has_failed ≡ true
     IsBlockCause given = IsTreeCause given

@@ -6,15 +6,17 @@ use Rattle.agg_cache.specs.declared.error.CollectError.TheVariants as error
 use Rattle.agg_segment.specs.Query.{matches}
 use Rattle.agg_segment.specs.declared.query.QueryTree.{QueryTree}
 use Rattle.agg_request_tree.specs.Request.{Request}
-use Rattle.agg_charges.specs.Roof.{counts_of}
-use Rattle.agg_segment_context.specs.Context.{Meaning}
-use Rattle.agg_segment_context.specs.declared.context.PerRequestAggSegCtx.{PerRequestAggSegCtx}
-use Rattle.agg_collector_tree.specs.Refusals.{IsRefused}
-use Rattle.agg_collector_tree.specs.Tree.{Held}
-use Rattle.agg_held_bytes.specs.HeldBytes.{held_bytes}
-use Rattle.agg_held_bytes.specs.Trees.{AreUnder, IsTreeOf, over_parents}
-use Rattle.agg_snapshot.specs.MemoryLimits.{TellsMemory}
-use Rattle.agg_collectors.specs.Segment.{IsMemoryExceeded}
+use Rattle.agg_request_tree.specs.charges.Roof.{counts_of}
+use Rattle.agg_engine_tree.specs.segment_context.Context.{Meaning}
+use Rattle.agg_engine_tree.specs.declared.segment_context.context.PerRequestAggSegCtx.{
+  PerRequestAggSegCtx,
+}
+use Rattle.agg_engine_tree.specs.collector_tree.Refusals.{IsRefused}
+use Rattle.agg_engine_tree.specs.collector_tree.Tree.{Held}
+use Rattle.agg_engine_tree.specs.held_bytes.HeldBytes.{held_bytes}
+use Rattle.agg_engine_tree.specs.held_bytes.Trees.{AreUnder, IsAsGroup, IsTreeOf, over_parents}
+use Rattle.agg_engine.specs.snapshot_results.MemoryLimits.{TellsMemory}
+use Rattle.agg_engine.specs.collectors.Segment.{IsMemoryExceeded}
 
 -- why bytes that buckets have grown by aren't charged: more than the limit would be in use; running
 -- out of memory needs no cause
@@ -29,8 +31,8 @@ module _ (ctx : PerRequestAggSegCtx) (limits : Limits) (pairs : List (ℕ × ℕ
   -- of each parent, in the place of the bytes that the tree held
   abbrev pub CountsTooMuch : ℕ → ℕ → Type 0
   CountsTooMuch told current =
-      (meaning : Meaning) (request : Request QueryTree) (taken : List (ℕ × ℕ))
-      → IsTreeOf meaning ctx request old taken
+      (meaning : Meaning) (request : Request QueryTree) (root : Held) (taken : List (ℕ × ℕ))
+      → IsAsGroup old root → IsTreeOf meaning ctx request root taken
       → (count : ℕ) → AreUnder count (taken ++ pairs)
       → TellsMemory limits.memory_limit
       (limits.in_use + over_parents (counts_of matches request).bytes meaning.segment

@@ -1,21 +1,22 @@
 -- What calls answer of a snapshot's segments.
 use Rattle.std.specs.Prelude.{◌≤◌, ◌+◌, ◌*◌, ℕ, List, Result, IfOk, OnOk, ⊤, map}
 use Rattle.agg_cache.specs.Limits.{Limits}
-use Rattle.agg_column.specs.Document.{Fields}
+use Rattle.agg_segment.specs.storage.Document.{Fields}
 use Rattle.agg_segment.specs.Query.{matches}
 use Rattle.agg_segment.specs.Segment.{Stored, documents_of}
 use Rattle.agg_segment.specs.declared.query.QueryTree.{QueryTree}
 use Rattle.agg_request_tree.specs.Ranges.{HasStartOutOfRange}
 use Rattle.agg_request_tree.specs.Request.{Request}
 use Rattle.agg_request_tree.specs.Uncut.{CountsTooMany}
-use Rattle.agg_intermediate_results.specs.declared.results.IntermediateAggregationResults as held
+use Rattle.agg_results.specs.declared.intermediate_results.results.IntermediateAggregationResults
+    as held
 use held.{IntermediateAggregationResults}
 use Rattle.agg_results.specs.StandsFor.{StandsFor}
-use Rattle.agg_snapshot.specs.Documents.{matching_in}
-use Rattle.agg_snapshot.specs.MemoryLimits.{MayPassLimit}
-use Rattle.agg_snapshot.specs.Steps.{counted_of, past_named}
-use Rattle.agg_snapshot.specs.declared.error.SnapshotError.{SnapshotError}
-use Rattle.agg_snapshot.specs.declared.error.SnapshotError.TheVariants as error
+use Rattle.agg_engine.specs.snapshot_results.Documents.{matching_in}
+use Rattle.agg_engine.specs.snapshot_results.MemoryLimits.{MayPassLimit}
+use Rattle.agg_engine.specs.snapshot_results.Steps.{counted_of, past_named}
+use Rattle.agg_engine.specs.declared.snapshot_results.error.SnapshotError.{SnapshotError}
+use Rattle.agg_engine.specs.declared.snapshot_results.error.SnapshotError.TheVariants as error
 
 -- why there are no results over the documents of segments that match: a bucket starts outside i64,
 -- or, where none does, some aggregation counts too many, or, where none does, the memory limit is

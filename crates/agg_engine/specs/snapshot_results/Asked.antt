@@ -4,9 +4,9 @@ use Rattle.agg_segment.specs.declared.query.QueryTree.{QueryTree}
 use Rattle.agg_request_tree.specs.Faults.{IsSoundRequest}
 use Rattle.agg_request_tree.specs.Names.{NamesAscend}
 use Rattle.agg_request_tree.specs.Request.{Request, with_builders}
-use Rattle.agg_segment_context.specs.Pages.{paged}
-use Rattle.agg_segment_context.specs.Trees.{AreOfRequest, AreTreesOf}
-use Rattle.agg_snapshot.specs.declared.context.PageRequest.{PageRequest}
+use Rattle.agg_engine_tree.specs.segment_context.Pages.{paged}
+use Rattle.agg_engine_tree.specs.segment_context.Trees.{AreOfRequest, AreTreesOf}
+use Rattle.agg_engine.specs.declared.snapshot_results.context.PageRequest.{PageRequest}
 
 -- a page may be asked: the trees are those of the request, which is sound with its page, and whose
 -- names ascend

@@ -2,12 +2,12 @@
 use Rattle.agg_values.specs.declared.request_error.AggregationError.TheVariants as aggregation
 use Rattle.agg_cache.specs.declared.error.CollectError.{CollectError}
 use Rattle.agg_cache.specs.declared.error.CollectError.TheVariants as collect
-use Rattle.agg_segment_context.specs.declared.error.SetupError.{SetupError}
-use Rattle.agg_segment_context.specs.declared.error.SetupError.TheVariants as setup
-use Rattle.agg_snapshot.specs.declared.charge_error.ChargeError.{ChargeError}
-use Rattle.agg_snapshot.specs.declared.charge_error.ChargeError.TheVariants as charge
-use Rattle.agg_snapshot.specs.declared.error.SnapshotError.{SnapshotError}
-use Rattle.agg_snapshot.specs.declared.error.SnapshotError.TheVariants as snapshot
+use Rattle.agg_engine_tree.specs.declared.segment_context.error.SetupError.{SetupError}
+use Rattle.agg_engine_tree.specs.declared.segment_context.error.SetupError.TheVariants as setup
+use Rattle.agg_engine.specs.declared.snapshot_results.charge_error.ChargeError.{ChargeError}
+use Rattle.agg_engine.specs.declared.snapshot_results.charge_error.ChargeError.TheVariants as charge
+use Rattle.agg_engine.specs.declared.snapshot_results.error.SnapshotError.{SnapshotError}
+use Rattle.agg_engine.specs.declared.snapshot_results.error.SnapshotError.TheVariants as snapshot
 
 -- the error of a snapshot
 abbrev pub snapshot_error : ChargeError → SnapshotError

@@ -1,31 +1,34 @@
 -- A tree of collectors, and what is charged for it.
-use Rattle.std.specs.Prelude.{◌≡◌, ◌+◌, ◌-◌, ◌++◌, ℕ, List, ⊤, length}
+use Rattle.std.specs.Prelude.{◌≡◌, ◌≤◌, ◌+◌, ◌-◌, ◌++◌, ℕ, List, ⊤, length}
 use Rattle.std.specs.List.{All}
 use Rattle.agg_cache.specs.Limits.{Limits}
-use Rattle.agg_charges.specs.Charges.{fixed_charge}
-use Rattle.agg_charges.specs.Roof.{counts_of}
+use Rattle.agg_request_tree.specs.charges.Charges.{fixed_charge}
+use Rattle.agg_request_tree.specs.charges.Roof.{counts_of}
 use Rattle.agg_request_tree.specs.Request.{Request}
 use Rattle.agg_segment.specs.Query.{matches}
 use Rattle.agg_segment.specs.Segment.{Stored, documents_at, documents_of}
 use Rattle.agg_segment.specs.declared.query.QueryTree.{QueryTree}
-use Rattle.agg_buckets.specs.Visits.{docs_in}
-use Rattle.agg_segment_context.specs.Context.{IsContextOf, Meaning}
-use Rattle.agg_segment_context.specs.declared.context.PerRequestAggSegCtx.{PerRequestAggSegCtx}
-use Rattle.agg_collector_tree.specs.Tree.{held_of}
-use Rattle.agg_held_bytes.specs.HeldBytes.{held_bytes}
-use Rattle.agg_snapshot.specs.MemoryLimits.{TellsMemory}
-use Rattle.agg_snapshot.specs.Trees.{IsNew, IsRight}
-use Rattle.agg_snapshot.specs.declared.charge_error.ChargeError.{ChargeError}
-use Rattle.agg_snapshot.specs.declared.charge_error.ChargeError.TheVariants as error
-use Rattle.agg_snapshot.specs.declared.charged_tree.ChargedTree.{ChargedTree}
+use Rattle.agg_composite.specs.buckets.Visits.{docs_in}
+use Rattle.agg_engine_tree.specs.segment_context.Context.{IsContextOf, Meaning}
+use Rattle.agg_engine_tree.specs.declared.segment_context.context.PerRequestAggSegCtx.{
+  PerRequestAggSegCtx,
+}
+use Rattle.agg_engine_tree.specs.collector_tree.Tree.{held_of}
+use Rattle.agg_engine_tree.specs.held_bytes.HeldBytes.{held_bytes}
+use Rattle.agg_engine.specs.snapshot_results.MemoryLimits.{TellsMemory}
+use Rattle.agg_engine.specs.snapshot_results.Trees.{IsNew, IsRight}
+use Rattle.agg_engine.specs.declared.snapshot_results.charge_error.ChargeError.{ChargeError}
+use Rattle.agg_engine.specs.declared.snapshot_results.charge_error.ChargeError.TheVariants as error
+use Rattle.agg_engine.specs.declared.snapshot_results.charged_tree.ChargedTree.{ChargedTree}
 
 -- what is charged for a tree is what its request takes, and the bytes of the buckets that it holds
 abbrev pub IsCharged : PerRequestAggSegCtx → ChargedTree → Type 0
 IsCharged ctx tree = tree.guard ≡ tree.fixed + held_bytes ctx (held_of tree.tree)
 
--- what is charged for a tree, and with it what a ledger has in use, has changed
+-- what is charged for a tree, and with it what a ledger has in use, has grown by the same bytes
 pub record ChargesAnew (old new : ChargedTree) (limits limits_now : Limits) : Type 0 where
   pub fixed : new.fixed ≡ old.fixed
+  pub grows : old.guard ≤ new.guard
   pub in_use : limits_now.in_use + old.guard ≡ limits.in_use + new.guard
   pub memory_limit : limits_now.memory_limit ≡ limits.memory_limit
   pub bucket_limit : limits_now.bucket_limit ≡ limits.bucket_limit
@@ -64,8 +67,8 @@ IsFixedCause bytes limits (error.MemoryExceeded told current) =
     TellsMemory limits.memory_limit (limits.in_use + bytes) 0 told current
 IsFixedCause bytes limits error.OutOfMemory = ⊤
 
--- why a tree isn't charged anew: more than the limit would be in use with what it takes now, in
--- place of what was charged; running out of memory needs no cause
+-- why the growth of a tree isn't charged: more than the limit would be in use with what it takes
+-- now, in place of what was charged; running out of memory needs no cause
 abbrev pub IsHeldCause : PerRequestAggSegCtx → ChargedTree → Limits → ChargeError → Type 0
 IsHeldCause ctx old limits (error.MemoryExceeded told current) =
     TellsMemory limits.memory_limit

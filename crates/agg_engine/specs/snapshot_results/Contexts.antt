@@ -1,7 +1,7 @@
 -- The contexts of segments for a page.
 use Rattle.std.specs.Prelude.{◌≡◌, ◌<◌, List, All, filter, length}
 use Rattle.std.specs.List.{AllZip}
-use Rattle.agg_column.specs.Document.{HasNumbersOf64Bits}
+use Rattle.agg_segment.specs.storage.Document.{HasNumbersOf64Bits}
 use Rattle.agg_segment.specs.Query.{matches}
 use Rattle.agg_segment.specs.Segment.{Stored, documents_at, documents_of}
 use Rattle.agg_segment.specs.declared.query.QueryTree.{QueryTree}
@@ -9,10 +9,10 @@ use Rattle.agg_request_tree.specs.Names.{NamesAscend}
 use Rattle.agg_request_tree.specs.Ranges.{HasStartOutOfRange}
 use Rattle.agg_request_tree.specs.Request.{Request}
 use Rattle.agg_request_tree.specs.Uncut.{CountsTooMany}
-use Rattle.agg_segment_context.specs.Context as context
-use Rattle.agg_segment_context.specs.Context.{Meaning}
-use Rattle.agg_snapshot.specs.Documents.{matching_in}
-use Rattle.agg_snapshot.specs.declared.context.SegmentContext.{SegmentContext}
+use Rattle.agg_engine_tree.specs.segment_context.Context as context
+use Rattle.agg_engine_tree.specs.segment_context.Context.{Meaning}
+use Rattle.agg_engine.specs.snapshot_results.Documents.{matching_in}
+use Rattle.agg_engine.specs.declared.snapshot_results.context.SegmentContext.{SegmentContext}
 
 -- what the data of a segment's context means
 pub record IsOfSegment (request : Request QueryTree) (segment : Stored) (given : SegmentContext)

@@ -2,8 +2,8 @@
 use Rattle.std.specs.Prelude.{◌≡◌, ◌≤◌, ◌<◌, ◌+◌, ◌-◌, ◌^◌, ℕ, List, Bool, Any, filter, length, min}
 use Rattle.std.specs.List.{All}
 use Rattle.agg_cache.specs.Limits.{Limits}
-use Rattle.agg_charges.specs.Roof.{low_roof, roof}
-use Rattle.agg_column.specs.Document.{Fields}
+use Rattle.agg_request_tree.specs.charges.Roof.{low_roof, roof}
+use Rattle.agg_segment.specs.storage.Document.{Fields}
 use Rattle.agg_request_tree.specs.Request.{Request}
 use Rattle.agg_segment.specs.Query.{matches}
 use Rattle.agg_segment.specs.declared.query.QueryTree.{QueryTree}

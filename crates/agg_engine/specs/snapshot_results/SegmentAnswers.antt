@@ -5,14 +5,15 @@ use Rattle.agg_segment.specs.Query.{matches}
 use Rattle.agg_segment.specs.Segment.{Stored, documents_of}
 use Rattle.agg_segment.specs.declared.query.QueryTree.{QueryTree}
 use Rattle.agg_request_tree.specs.Request.{Request}
-use Rattle.agg_intermediate_results.specs.declared.results.IntermediateAggregationResults as held
+use Rattle.agg_results.specs.declared.intermediate_results.results.IntermediateAggregationResults
+    as held
 use held.{IntermediateAggregationResults}
-use Rattle.agg_snapshot.specs.Answers.{AnswersResults, IsMemoryRefusal}
-use Rattle.agg_snapshot.specs.Contexts.{MayBeCollected}
-use Rattle.agg_snapshot.specs.Documents.{matching_in}
-use Rattle.agg_snapshot.specs.MemoryLimits.{HaveRoom}
-use Rattle.agg_snapshot.specs.declared.context.SegmentContext.{SegmentContext}
-use Rattle.agg_snapshot.specs.declared.error.SnapshotError.{SnapshotError}
+use Rattle.agg_engine.specs.snapshot_results.Answers.{AnswersResults, IsMemoryRefusal}
+use Rattle.agg_engine.specs.snapshot_results.Contexts.{MayBeCollected}
+use Rattle.agg_engine.specs.snapshot_results.Documents.{matching_in}
+use Rattle.agg_engine.specs.snapshot_results.MemoryLimits.{HaveRoom}
+use Rattle.agg_engine.specs.declared.snapshot_results.context.SegmentContext.{SegmentContext}
+use Rattle.agg_engine.specs.declared.snapshot_results.error.SnapshotError.{SnapshotError}
 
 module _ (context : SegmentContext) where
   -- the segment of a context may be collected for some request and query

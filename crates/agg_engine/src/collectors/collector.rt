@@ -2,26 +2,28 @@
 ghost use Rattle.std.specs.Prelude.{◌≡◌, ◌≤◌, ◌+◌, [], All, IfErr, IfOk, List, OnErr, OnOk, Option};
 ghost use Rattle.std.specs.Prelude.{false, length};
 ghost use Rattle.agg_cache.specs.Limits.{charged};
-ghost use Rattle.agg_charges.specs.Charges.{fixed_charge};
-ghost use Rattle.agg_column.specs.Document.{Fields, HasNumbersOf64Bits};
+ghost use Rattle.agg_request_tree.specs.Faults.{IsSoundRequest};
+ghost use Rattle.agg_request_tree.specs.charges.Charges.{fixed_charge};
+ghost use Rattle.agg_segment.specs.storage.Document.{Fields, HasNumbersOf64Bits};
 ghost use Rattle.agg_segment.specs.Segment.{documents_of};
 ghost use Rattle.agg_segment.specs.declared.query.QueryTree.{QueryTree as Tree};
 ghost use Rattle.agg_request_tree.specs.Matching.{built_matches};
 ghost use Rattle.agg_request_tree.specs.Request.{with_builders};
-ghost use Rattle.agg_final_results.specs.BucketCount.{results_buckets};
+ghost use Rattle.agg_results.specs.final_results.BucketCount.{results_buckets};
 ghost use Rattle.agg_results.specs.Results.{AreResults};
-ghost use Rattle.agg_segment_context.specs.Pages.{paged};
-ghost use Rattle.agg_segment_context.specs.Trees.{AreOfRequest, AreTreesOf, built, built_tree};
-ghost use Rattle.agg_collectors.specs.Fruits.{IsFinalCause, StandForEach, joined};
-ghost use Rattle.agg_collectors.specs.Segment.{CollectorFor, IsSetupCause, MayBeUsed};
+ghost use Rattle.agg_engine_tree.specs.segment_context.Pages.{paged};
+ghost use Rattle.agg_engine_tree.specs.segment_context.Trees.{AreOfRequest, AreTreesOf, built};
+ghost use Rattle.agg_engine_tree.specs.segment_context.Trees.{built_tree};
+ghost use Rattle.agg_engine.specs.collectors.Fruits.{IsFinalCause, StandForEach, joined};
+ghost use Rattle.agg_engine.specs.collectors.Segment.{CollectorFor, IsSetupCause, MayBeUsed};
 
-use crate::AggregationSegmentCollector;
-use crate::merging::merged;
+use crate::collectors::AggregationSegmentCollector;
+use crate::collectors::merging::merged;
 use agg_cache::LimitsLedger;
+use agg_engine_tree::segment_context::{AggContextParams, SetupError};
 use agg_request_tree::Aggregations;
 use agg_results::{AggregationResults, FinalError, IntermediateAggregationResults};
 use agg_segment::SegmentReader;
-use agg_segment_context::{AggContextParams, SetupError};
 use agg_values::ItemList;
 
 /// A request with its context. Each segment gets a collector, and the results of all segments
@@ -57,6 +59,8 @@ impl<'a> AggregationCollector<'a> {
         ensures reader { IfOk result (λ collector. collector.reader.now ≡ reader.now) }
         ensures num_docs { IfOk result
             (λ collector. collector.num_docs ≡ length (documents_of reader.now)) }
+        ensures sound { OnOk result
+            (IsSoundRequest (paged self.now.context.page self.now.agg.now)) }
         ensures cause { IfErr result (IsSetupCause (paged self.now.context.page self.now.agg.now)
             (length (documents_of reader.now)) limits.old) }
         ensures within { OnOk result (limits.old.in_use + fixed_charge

@@ -2,28 +2,29 @@
 ghost use Rattle.std.specs.Prelude.{◌≡◌, ◌≤◌, ◌+◌, [], All, IfErr, IfOk, List, OnErr, OnOk, false};
 ghost use Rattle.std.specs.Prelude.{length};
 ghost use Rattle.agg_cache.specs.Limits.{charged};
-ghost use Rattle.agg_charges.specs.Charges.{fixed_charge};
-ghost use Rattle.agg_column.specs.Document.{Fields, HasNumbersOf64Bits};
+ghost use Rattle.agg_request_tree.specs.Faults.{IsSoundRequest};
+ghost use Rattle.agg_request_tree.specs.charges.Charges.{fixed_charge};
+ghost use Rattle.agg_segment.specs.storage.Document.{Fields, HasNumbersOf64Bits};
 ghost use Rattle.agg_segment.specs.Query.{matches};
 ghost use Rattle.agg_segment.specs.Segment.{documents_of};
 ghost use Rattle.agg_segment.specs.declared.query.QueryTree.{QueryTree as Tree};
 ghost use Rattle.agg_request_tree.specs.Names.{NamesAscend};
 ghost use Rattle.agg_request_tree.specs.Request.{Request, with_builders};
-ghost use Rattle.agg_intermediate_results.specs.Empty.{empty_results};
+ghost use Rattle.agg_results.specs.intermediate_results.Empty.{empty_results};
 ghost use Rattle.agg_results.specs.StandsFor.{StandsFor};
-ghost use Rattle.agg_segment_context.specs.Pages.{paged};
-ghost use Rattle.agg_segment_context.specs.Trees.{AreOfRequest, AreTreesOf};
-ghost use Rattle.agg_collectors.specs.Fruits.{IsMergeCause, StandForEach, joined};
-ghost use Rattle.agg_collectors.specs.Segment.{CollectorFor, IsSetupCause, MayBeUsed};
+ghost use Rattle.agg_engine_tree.specs.segment_context.Pages.{paged};
+ghost use Rattle.agg_engine_tree.specs.segment_context.Trees.{AreOfRequest, AreTreesOf};
+ghost use Rattle.agg_engine.specs.collectors.Fruits.{IsMergeCause, StandForEach, joined};
+ghost use Rattle.agg_engine.specs.collectors.Segment.{CollectorFor, IsSetupCause, MayBeUsed};
 
-use crate::AggregationSegmentCollector;
-use crate::empty::empty_paged;
-use crate::merging::merged;
+use crate::collectors::AggregationSegmentCollector;
+use crate::collectors::empty::empty_paged;
+use crate::collectors::merging::merged;
 use agg_cache::LimitsLedger;
+use agg_engine_tree::segment_context::{AggContextParams, SetupError};
 use agg_request_tree::Aggregations;
 use agg_results::{IntermediateAggregationResults, MergeError};
 use agg_segment::SegmentReader;
-use agg_segment_context::{AggContextParams, SetupError};
 use agg_values::ItemList;
 
 /// A request with its context. Each segment gets a collector, and the results of all segments
@@ -62,6 +63,8 @@ impl<'a> DistributedAggregationCollector<'a> {
         ensures reader { IfOk result (λ collector. collector.reader.now ≡ reader.now) }
         ensures num_docs { IfOk result
             (λ collector. collector.num_docs ≡ length (documents_of reader.now)) }
+        ensures sound { OnOk result
+            (IsSoundRequest (paged self.now.context.page self.now.agg.now)) }
         ensures cause { IfErr result (IsSetupCause (paged self.now.context.page self.now.agg.now)
             (length (documents_of reader.now)) limits.old) }
         ensures within { OnOk result (limits.old.in_use + fixed_charge
@@ -100,7 +103,7 @@ impl<'a> DistributedAggregationCollector<'a> {
         ensures empty { fruits ≡ [] → IfOk result (λ whole.
             whole.results ≡ empty_results (paged self.now.context.page self.now.agg.now)) }
         ensures ok { IfOk result (λ whole. (made : _ → Tree)
-            → NamesAscend self.now.agg.now → (lists : List (List Fields))
+            → (fruits ≡ [] → NamesAscend self.now.agg.now) → (lists : List (List Fields))
             → StandForEach (paged self.now.context.page (with_builders made self.now.agg.now))
             lists fruits
             → StandsFor matches

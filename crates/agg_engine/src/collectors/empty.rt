@@ -1,16 +1,16 @@
 //! Intermediate results over no documents, with a page that is set.
 ghost use Rattle.std.specs.Prelude.{◌≡◌, [], IfErr, IfOk, option_map};
 ghost use Rattle.agg_request_tree.specs.Source.{rules_of};
-ghost use Rattle.agg_intermediate_results.specs.Empty.{empty_results};
-ghost use Rattle.agg_intermediate_results.specs.Intermediate.{as_composite, composite_of};
-ghost use Rattle.agg_segment_context.specs.Pages.{paged};
+ghost use Rattle.agg_results.specs.intermediate_results.Empty.{empty_results};
+ghost use Rattle.agg_results.specs.intermediate_results.Intermediate.{as_composite, composite_of};
+ghost use Rattle.agg_engine_tree.specs.segment_context.Pages.{paged};
 
+use agg_engine_tree::segment_context::Page;
 use agg_request_tree::{AggregationVariants, Aggregations, CompositeAggregation};
 use agg_results::{
     IntermediateAggregationResult, IntermediateAggregationResults, IntermediateBucketResult,
     IntermediateCompositeBucketResult, MergeError,
 };
-use agg_segment_context::Page;
 use agg_values::OutOfMemory;
 use std::alloc::Global;
 

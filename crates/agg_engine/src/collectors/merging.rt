@@ -1,12 +1,12 @@
 //! The results of segments, merged in their order.
 ghost use Rattle.std.specs.Prelude.{◌≡◌, ◌+◌, ◌≤◌, All, IfErr, IfOk, List, OnOk, drop, take};
 ghost use Rattle.std.specs.Vec.Iter.{into_iter_items, into_iter_len};
-ghost use Rattle.agg_column.specs.Document.{Fields, HasNumbersOf64Bits};
+ghost use Rattle.agg_segment.specs.storage.Document.{Fields, HasNumbersOf64Bits};
 ghost use Rattle.agg_segment.specs.Query.{matches};
 ghost use Rattle.agg_segment.specs.declared.query.QueryTree.{QueryTree as Tree};
 ghost use Rattle.agg_request_tree.specs.Request.{Request};
 ghost use Rattle.agg_results.specs.StandsFor.{StandsFor};
-ghost use Rattle.agg_collectors.specs.Fruits.{IsMergeCause, StandForEach, joined};
+ghost use Rattle.agg_engine.specs.collectors.Fruits.{IsMergeCause, StandForEach, joined};
 
 use agg_results::{IntermediateAggregationResults, MergeError};
 use agg_values::ItemList;

@@ -2,30 +2,31 @@
 ghost use Rattle.std.specs.Prelude.{◌≡◌, ◌≤◌, ◌+◌, ◌<◌, ◌∷◌, [], All, Err, ℕ, List, true};
 ghost use Rattle.std.specs.Prelude.{IfErr, IfOk, OnErr, OnOk, length};
 ghost use Rattle.agg_cache.specs.Limits.{charged};
-ghost use Rattle.agg_charges.specs.Charges.{fixed_charge};
+ghost use Rattle.agg_request_tree.specs.Faults.{IsSoundRequest};
+ghost use Rattle.agg_request_tree.specs.charges.Charges.{fixed_charge};
 ghost use Rattle.agg_segment.specs.Query.{matches};
 ghost use Rattle.agg_segment.specs.Segment.{Stored, documents_at, documents_of};
 ghost use Rattle.agg_segment.specs.declared.query.QueryTree.{QueryTree as Tree};
 ghost use Rattle.agg_request_tree.specs.Request.{Request, with_builders};
 ghost use Rattle.agg_results.specs.StandsFor.{StandsFor};
-ghost use Rattle.agg_segment_context.specs.Pages.{paged};
-ghost use Rattle.agg_segment_context.specs.Trees.{AreOfRequest, AreTreesOf};
-ghost use Rattle.agg_snapshot.specs.ChargedTrees.{ChargesAnew};
-ghost use Rattle.agg_collectors.specs.Segment.{CollectorFor, GivesBack, HarvestsFew, HasRoom};
-ghost use Rattle.agg_collectors.specs.Segment.{IsBlockCause, IsHarvestCause, IsRightForSome};
-ghost use Rattle.agg_collectors.specs.Segment.{IsSetupCause, IsTreeCause, MayBeUsed};
-ghost use Rattle.agg_collectors.specs.Segment.{TakesBlock, TakesFew, TakesInTree};
+ghost use Rattle.agg_engine_tree.specs.segment_context.Pages.{paged};
+ghost use Rattle.agg_engine_tree.specs.segment_context.Trees.{AreOfRequest, AreTreesOf};
+ghost use Rattle.agg_engine.specs.snapshot_results.ChargedTrees.{ChargesAnew};
+ghost use Rattle.agg_engine.specs.collectors.Segment.{CollectorFor, GivesBack, HarvestsFew};
+ghost use Rattle.agg_engine.specs.collectors.Segment.{HasRoom, IsBlockCause, IsHarvestCause};
+ghost use Rattle.agg_engine.specs.collectors.Segment.{IsRightForSome, IsSetupCause, IsTreeCause};
+ghost use Rattle.agg_engine.specs.collectors.Segment.{MayBeUsed, TakesBlock, TakesFew, TakesInTree};
 
+use crate::snapshot_results::ChargedTree;
 use agg_cache::{CollectError, LimitsLedger};
+use agg_engine_tree::segment_context::{
+    AggContextParams, AggregationsSegmentCtx, SetupError, check_paged, segment_context,
+};
+use agg_engine_tree::tree_results::into_results;
+use agg_engine_tree::uncut::{UncutCounts, are_starts_in_range, uncut_lengths};
 use agg_request_tree::Aggregations;
 use agg_results::IntermediateAggregationResults;
 use agg_segment::SegmentReader;
-use agg_segment_context::{
-    AggContextParams, AggregationsSegmentCtx, SetupError, check_paged, segment_context,
-};
-use agg_snapshot::ChargedTree;
-use agg_tree_results::into_results;
-use agg_uncut::{UncutCounts, are_starts_in_range, uncut_lengths};
 use agg_values::{DocId, Steps};
 use std::alloc::Global;
 use std::sync::ledger::Ledger;
@@ -62,6 +63,7 @@ impl<'s> AggregationSegmentCollector<'s> {
         ensures reader { IfOk result (λ collector. collector.reader.now ≡ reader.now) }
         ensures num_docs { IfOk result
             (λ collector. collector.num_docs ≡ length (documents_of reader.now)) }
+        ensures sound { OnOk result (IsSoundRequest (paged context.now.page agg.now)) }
         ensures cause { IfErr result (IsSetupCause (paged context.now.page agg.now)
             (length (documents_of reader.now)) limits.old) }
         ensures within { OnOk result (limits.old.in_use + fixed_charge

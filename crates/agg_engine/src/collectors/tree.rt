@@ -4,22 +4,23 @@ ghost use Rattle.std.specs.Prelude.{IfErr, IfOk, IsErrOf, OnErr, OnOk, length, z
 ghost use Rattle.agg_cache.specs.Limits.{Grown, Limits, charged};
 ghost use Rattle.agg_cache.specs.Waiting.{under};
 ghost use Rattle.agg_cache.specs.declared.error.CollectError as declared;
-ghost use Rattle.agg_segment_context.specs.Context.{IsMeant, Meaning};
-ghost use Rattle.agg_segment_context.specs.declared.context.AggregationsSegmentCtx as context;
-ghost use Rattle.agg_intermediate_results.specs.Intermediate.{Held as Results};
-ghost use Rattle.agg_collector_tree.specs.Prepared.{IsPrepared};
-ghost use Rattle.agg_collector_tree.specs.Refusals.{IsRefused};
-ghost use Rattle.agg_collector_tree.specs.Tree.{Fits, Takes, held_of};
-ghost use Rattle.agg_tree_results.specs.Results.{Adds, MayAdd};
-ghost use Rattle.agg_held_bytes.specs.HeldBytes.{held_bytes};
-ghost use Rattle.agg_collectors.specs.Trees.{IsGrowthRefusal, IsTreeRefusal};
+ghost use Rattle.agg_engine_tree.specs.segment_context.Context.{IsMeant, Meaning};
+ghost use Rattle.agg_engine_tree.specs.declared.segment_context.context.AggregationsSegmentCtx
+    as context;
+ghost use Rattle.agg_results.specs.intermediate_results.Intermediate.{Held as Results};
+ghost use Rattle.agg_engine_tree.specs.collector_tree.Prepared.{IsPrepared};
+ghost use Rattle.agg_engine_tree.specs.collector_tree.Refusals.{IsRefused};
+ghost use Rattle.agg_engine_tree.specs.collector_tree.Tree.{Fits, Takes, held_of};
+ghost use Rattle.agg_engine_tree.specs.tree_results.Results.{Adds, MayAdd};
+ghost use Rattle.agg_engine_tree.specs.held_bytes.HeldBytes.{held_bytes};
+ghost use Rattle.agg_engine.specs.collectors.Trees.{IsGrowthRefusal, IsTreeRefusal};
 
 use agg_cache::{AggregationLimitsGuard, BucketId, CollectError, LimitsLedger};
-use agg_collector_tree::{Call, SegmentCollectorTree, hand, prepare};
-use agg_held_bytes::held_bytes;
+use agg_engine_tree::collector_tree::{Call, SegmentCollectorTree, hand, prepare};
+use agg_engine_tree::held_bytes::held_bytes;
+use agg_engine_tree::segment_context::{AggregationsSegmentCtx, PerRequestAggSegCtx};
+use agg_engine_tree::tree_results::add_results;
 use agg_results::IntermediateAggregationResults;
-use agg_segment_context::{AggregationsSegmentCtx, PerRequestAggSegCtx};
-use agg_tree_results::add_results;
 use agg_values::{DocId, OutOfMemory, Steps};
 use std::sync::ledger::Ledger;
 

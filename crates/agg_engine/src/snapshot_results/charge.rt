@@ -1,10 +1,11 @@
 //! How bytes are charged that may be more than 64 bits.
-ghost use Rattle.std.specs.Prelude.{◌≡◌, ◌≤◌, ◌+◌, ℕ, IfErr, IfOk, OnErr, OnOk, Some};
+ghost use Rattle.std.specs.Prelude.{◌≡◌, ◌≤◌, ◌+◌, ◌-◌, ◌<◌, ◌^◌, ℕ, IfErr, IfOk, OnErr, OnOk};
+ghost use Rattle.std.specs.Prelude.{Some};
 ghost use Rattle.agg_cache.specs.Limits.{charged};
-ghost use Rattle.agg_held_bytes.specs.Checked.{IsChecked};
-ghost use Rattle.agg_snapshot.specs.ChargedTrees.{IsFixedCause};
+ghost use Rattle.agg_engine_tree.specs.held_bytes.Checked.{IsChecked};
+ghost use Rattle.agg_engine.specs.snapshot_results.ChargedTrees.{IsFixedCause};
 
-use crate::ChargeError;
+use crate::snapshot_results::ChargeError;
 use agg_cache::{AggregationLimitsGuard, LimitsLedger};
 use agg_values::AggregationError;
 
@@ -26,13 +27,28 @@ pub fn charge(
     ensures guard_kept { OnErr result (guard.new ≡ guard.old) }
 {
     let Some(bytes) = bytes else {
-        return Err(ChargeError::MemoryExceeded {
-            limit: limits.memory_limit(),
-            current: u64::MAX,
-        });
+        return Err(past_64_bits(limits));
     };
+    charge_bytes(guard, bytes, limits)?;
+    Ok(bytes)
+}
+
+/// Charges bytes to a guard and to the ledger.
+pub fn charge_bytes(
+    guard: &mut AggregationLimitsGuard,
+    bytes: u64,
+    limits: &mut LimitsLedger,
+) -> Result<(), ChargeError>
+    requires { guard.old ≤ limits.old.in_use }
+    ensures ledger { OnOk result (limits.new ≡ charged bytes limits.old) }
+    ensures guard { OnOk result (guard.new ≡ guard.old + bytes) }
+    ensures within { OnOk result (limits.new.in_use ≤ limits.new.memory_limit) }
+    ensures cause { IfErr result (IsFixedCause bytes limits.old) }
+    ensures kept { OnErr result (limits.new ≡ limits.old) }
+    ensures guard_kept { OnErr result (guard.new ≡ guard.old) }
+{
     match guard.add_memory_consumed(limits, bytes) {
-        Ok(()) => Ok(bytes),
+        Ok(()) => Ok(()),
         Err(AggregationError::MemoryExceeded { limit, current }) => {
             Err(ChargeError::MemoryExceeded { limit, current })
         }
@@ -40,5 +56,16 @@ pub fn charge(
             AggregationError::DateHistogramParseError(_)
             | AggregationError::BucketLimitExceeded { .. },
         ) => unreachable!(),
+    }
+}
+
+/// The refusal of more bytes than 64 bits hold.
+pub fn past_64_bits(limits: &LimitsLedger) -> ChargeError
+    ensures told { result ≡ ChargeError.MemoryExceeded limits.now.memory_limit (2 ^ 64 - 1) }
+    ensures low { limits.now.memory_limit < 2 ^ 64 }
+{
+    ChargeError::MemoryExceeded {
+        limit: limits.memory_limit(),
+        current: u64::MAX,
     }
 }

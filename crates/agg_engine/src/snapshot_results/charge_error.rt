@@ -1,11 +1,14 @@
 //! Why a tree of collectors isn't charged, or takes no documents.
 ghost use Rattle.std.specs.Prelude.{◌≡◌};
-ghost use Rattle.agg_snapshot.specs.ChargeErrors.{collect_error, setup_error, snapshot_error};
-ghost use Rattle.agg_snapshot.specs.declared.charge_error.ChargeError.{ChargeError as Refusal};
+ghost use Rattle.agg_engine.specs.snapshot_results.ChargeErrors.{collect_error, setup_error};
+ghost use Rattle.agg_engine.specs.snapshot_results.ChargeErrors.{snapshot_error};
+ghost use Rattle.agg_engine.specs.declared.snapshot_results.charge_error.ChargeError.{
+  ChargeError as Refusal,
+};
 
-use crate::SnapshotError;
+use crate::snapshot_results::SnapshotError;
 use agg_cache::CollectError;
-use agg_segment_context::SetupError;
+use agg_engine_tree::segment_context::SetupError;
 use agg_values::{AggregationError, OutOfMemory};
 use thiserror::Error;
 

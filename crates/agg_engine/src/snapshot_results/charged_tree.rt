@@ -3,34 +3,35 @@ ghost use Rattle.std.specs.Prelude.{◌≡◌, ◌≤◌, ◌+◌, ◌*◌, [], 
 ghost use Rattle.std.specs.Prelude.{false, length, map, true};
 ghost use Rattle.agg_cache.specs.Limits.{charged};
 ghost use Rattle.agg_cache.specs.Waiting.{under};
-ghost use Rattle.agg_charges.specs.Charges as charges;
-ghost use Rattle.agg_charges.specs.Charges.{fixed_charge};
+ghost use Rattle.agg_request_tree.specs.charges.Charges as charges;
+ghost use Rattle.agg_request_tree.specs.charges.Charges.{fixed_charge};
 ghost use Rattle.agg_request_tree.specs.Faults.{max_sources};
 ghost use Rattle.agg_request_tree.specs.Request.{Request};
 ghost use Rattle.agg_segment.specs.Segment.{documents_of};
 ghost use Rattle.agg_segment.specs.declared.query.QueryTree.{QueryTree};
-ghost use Rattle.agg_segment_context.specs.Context.{IsContextOf, IsMeant, Meaning};
-ghost use Rattle.agg_segment_context.specs.Plan.{plan_of, plans_of};
-ghost use Rattle.agg_collector_tree.specs.Refusals.{AreNotLast};
-ghost use Rattle.agg_collector_tree.specs.Call.{is_flush, pairs_in, parents_in};
-ghost use Rattle.agg_collector_tree.specs.Tree.{Fits, IsFlushed, IsFor, IsGroupOf, Takes};
-ghost use Rattle.agg_collector_tree.specs.Tree.{held_of};
-ghost use Rattle.agg_held_bytes.specs.Checked.{IsChecked};
-ghost use Rattle.agg_held_bytes.specs.HeldBytes.{held_bytes};
-ghost use Rattle.agg_snapshot.specs.ChargedTrees.{ChargesAnew, IsChargeCause, IsCharged};
-ghost use Rattle.agg_snapshot.specs.ChargedTrees.{IsFixedCause, IsHeldCause};
-ghost use Rattle.agg_snapshot.specs.Trees.{MayTake, MostSteps};
+ghost use Rattle.agg_engine_tree.specs.segment_context.Context.{IsContextOf, IsMeant, Meaning};
+ghost use Rattle.agg_engine_tree.specs.segment_context.Plan.{plan_of, plans_of};
+ghost use Rattle.agg_engine_tree.specs.collector_tree.Refusals.{AreNotLast};
+ghost use Rattle.agg_engine_tree.specs.collector_tree.Call.{is_flush, pairs_in, parents_in};
+ghost use Rattle.agg_engine_tree.specs.collector_tree.Tree.{Fits, IsFlushed, IsFor, IsGroupOf};
+ghost use Rattle.agg_engine_tree.specs.collector_tree.Tree.{Takes, held_of};
+ghost use Rattle.agg_engine_tree.specs.held_bytes.Checked.{IsChecked};
+ghost use Rattle.agg_engine_tree.specs.held_bytes.HeldBytes.{held_bytes};
+ghost use Rattle.agg_engine.specs.snapshot_results.ChargedTrees.{ChargesAnew, IsChargeCause};
+ghost use Rattle.agg_engine.specs.snapshot_results.ChargedTrees.{IsCharged, IsFixedCause};
+ghost use Rattle.agg_engine.specs.snapshot_results.ChargedTrees.{IsHeldCause};
+ghost use Rattle.agg_engine.specs.snapshot_results.Trees.{MayTake, MostSteps};
 
-use crate::ChargeError;
-use crate::charge::charge;
-use crate::taking::take;
-use agg_accessor::CompositeAggReqData;
+use crate::snapshot_results::ChargeError;
+use crate::snapshot_results::charge::{charge, charge_bytes, past_64_bits};
+use crate::snapshot_results::taking::take;
 use agg_cache::{AggregationLimitsGuard, LimitsLedger};
-use agg_charges::bucket_bytes;
-use agg_collector_tree::{Call, SegmentCollectorTree, tree_for};
-use agg_held_bytes::{fixed_bytes, held_bytes};
+use agg_composite::accessor::CompositeAggReqData;
+use agg_engine_tree::collector_tree::{Call, SegmentCollectorTree, tree_for};
+use agg_engine_tree::held_bytes::{fixed_bytes, held_bytes};
+use agg_engine_tree::segment_context::PerRequestAggSegCtx;
+use agg_request_tree::charges::bucket_bytes;
 use agg_segment::SegmentReader;
-use agg_segment_context::PerRequestAggSegCtx;
 use agg_values::{DocId, Steps};
 use std::alloc::Global;
 use std::mem;
@@ -93,6 +94,7 @@ impl<'s> ChargedTree<'s> {
         steps: &mut Steps<L>,
     ) -> Result<(), ChargeError>
         requires may { MayTake ctx.now (held_of self.old.tree) (under 0 docs.now) }
+        requires exact { IsCharged ctx.now self.old }
         requires charged { self.old.guard ≤ limits.old.in_use }
         ensures takes { OnOk result (Takes ctx.now (under 0 docs.now) false (held_of self.old.tree)
             (held_of self.new.tree) steps.old steps.new) }
@@ -121,6 +123,7 @@ impl<'s> ChargedTree<'s> {
         steps: &mut Steps<L>,
     ) -> Result<(), ChargeError>
         requires may { MayTake ctx.now (held_of self.old.tree) [] }
+        requires exact { IsCharged ctx.now self.old }
         requires charged { self.old.guard ≤ limits.old.in_use }
         ensures takes { OnOk result (Takes ctx.now [] true (held_of self.old.tree)
             (held_of self.new.tree) steps.old steps.new) }
@@ -196,6 +199,7 @@ impl<'s> ChargedTree<'s> {
     ) -> Result<(), ChargeError>
         requires may { MayTake ctx.now (held_of self.old.tree) (pairs_in call) }
         requires low { AreNotLast (parents_in call) }
+        requires exact { IsCharged ctx.now self.old }
         requires charged { self.old.guard ≤ limits.old.in_use }
         ensures takes { OnOk result (Takes ctx.now (pairs_in call.entry)
             (is_flush call.entry) (held_of self.old.tree) (held_of self.new.tree) steps.old
@@ -210,12 +214,11 @@ impl<'s> ChargedTree<'s> {
             (IsChargeCause ctx.now (pairs_in call.entry) self.old limits.old) }
     {
         take(&mut self.tree, call, ctx, steps)?;
-        self.charge_anew(ctx, limits)
+        self.charge_growth(ctx, limits)
     }
 
-    // Gives back what is charged for the tree, and charges what it takes now. After a refusal
-    // nothing is charged for it.
-    fn charge_anew(
+    // Charges what the tree takes now beyond what is charged for it. A refusal charges nothing.
+    fn charge_growth(
         &mut self,
         ctx: &PerRequestAggSegCtx<'_>,
         limits: &mut LimitsLedger,
@@ -223,16 +226,20 @@ impl<'s> ChargedTree<'s> {
         requires meant { (meaning : Meaning) × IsMeant meaning ctx.now }
         requires fits { Fits ctx.now (held_of self.old.tree) }
         requires charged { self.old.guard ≤ limits.old.in_use }
+        requires grown { self.old.guard ≤ self.old.fixed
+            + held_bytes ctx.now (held_of self.old.tree) }
         ensures tree { self.new.tree ≡ self.old.tree }
         ensures charges { ChargesAnew self.old self.new limits.old limits.new }
         ensures exact { OnOk result (IsCharged ctx.now self.new) }
         ensures within { OnOk result (limits.new.in_use ≤ limits.new.memory_limit) }
         ensures cause { IfErr result (IsHeldCause ctx.now self.old limits.old) }
+        ensures kept { OnErr result (limits.new ≡ limits.old) }
     {
-        let bytes = self.bytes(ctx);
-        mem::replace(&mut self.guard, limits.guard()).give_back(limits);
-        charge(&mut self.guard, bytes, limits)?;
-        Ok(())
+        let Some(bytes) = self.bytes(ctx) else {
+            return Err(past_64_bits(limits));
+        };
+        let more = bytes - self.guard.allocated();
+        charge_bytes(&mut self.guard, more, limits)
     }
 
     // What the request takes for itself, and the bytes of the tree's buckets.

@@ -6,14 +6,14 @@ ghost use Rattle.agg_segment.specs.declared.query.QueryTree.{QueryTree};
 ghost use Rattle.agg_request_tree.specs.Ranges.{HasStartOutOfRange};
 ghost use Rattle.agg_request_tree.specs.Request.{Request};
 ghost use Rattle.agg_request_tree.specs.Uncut.{CountsTooMany};
-ghost use Rattle.agg_uncut.specs.Uncut as uncut;
-ghost use Rattle.agg_snapshot.specs.Answers.{IsCountRefusal, IsStartRefusal};
-ghost use Rattle.agg_snapshot.specs.Contexts.{AreContextsOf, IsContextOf};
-ghost use Rattle.agg_snapshot.specs.Documents.{matching_in};
+ghost use Rattle.agg_engine_tree.specs.uncut.Uncut as uncut;
+ghost use Rattle.agg_engine.specs.snapshot_results.Answers.{IsCountRefusal, IsStartRefusal};
+ghost use Rattle.agg_engine.specs.snapshot_results.Contexts.{AreContextsOf, IsContextOf};
+ghost use Rattle.agg_engine.specs.snapshot_results.Documents.{matching_in};
 
-use crate::SnapshotError;
-use crate::context::SegmentContext;
-use agg_uncut::{UncutCounts, are_starts_in_range, uncut_lengths};
+use crate::snapshot_results::SnapshotError;
+use crate::snapshot_results::context::SegmentContext;
+use agg_engine_tree::uncut::{UncutCounts, are_starts_in_range, uncut_lengths};
 use agg_values::OutOfMemory;
 use std::alloc::Global;
 

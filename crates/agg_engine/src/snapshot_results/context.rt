@@ -2,14 +2,14 @@
 ghost use Rattle.std.specs.Prelude.{◌≡◌, IfErr, IfOk};
 ghost use Rattle.agg_segment.specs.declared.query.QueryTree.{QueryTree as Tree};
 ghost use Rattle.agg_request_tree.specs.Request.{Request};
-ghost use Rattle.agg_snapshot.specs.Asked.{IsAsked, MayBeAsked};
-ghost use Rattle.agg_snapshot.specs.Contexts.{AreContextsOf, IsContextOf};
+ghost use Rattle.agg_engine.specs.snapshot_results.Asked.{IsAsked, MayBeAsked};
+ghost use Rattle.agg_engine.specs.snapshot_results.Contexts.{AreContextsOf, IsContextOf};
 
-use crate::SnapshotError;
-use crate::matching::matching_docs;
+use crate::snapshot_results::SnapshotError;
+use crate::snapshot_results::matching::matching_docs;
+use agg_engine_tree::segment_context::{AggContextParams, AggregationsSegmentCtx, segment_context};
 use agg_request_tree::Aggregation;
 use agg_segment::{QueryTree, SegmentReader};
-use agg_segment_context::{AggContextParams, AggregationsSegmentCtx, segment_context};
 use agg_values::{DocId, ItemList, NameMap};
 use std::alloc::Global;
 

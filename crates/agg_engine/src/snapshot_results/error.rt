@@ -1,5 +1,5 @@
 ghost use Rattle.std.specs.Prelude.{◌≡◌};
-ghost use Rattle.agg_snapshot.specs.declared.error.SnapshotError.{SnapshotError};
+ghost use Rattle.agg_engine.specs.declared.snapshot_results.error.SnapshotError.{SnapshotError};
 
 use agg_values::OutOfMemory;
 use thiserror::Error;

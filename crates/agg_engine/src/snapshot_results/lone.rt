@@ -4,13 +4,13 @@ ghost use Rattle.agg_values.specs.Names.{Named};
 ghost use Rattle.agg_values.specs.declared.after_key.AfterKey.{AfterKey};
 ghost use Rattle.agg_segment.specs.Segment.{Stored, documents_at};
 ghost use Rattle.agg_request_tree.specs.Uncut.{counted};
-ghost use Rattle.agg_accessor.specs.Accessors.{Fits};
-ghost use Rattle.agg_segment_context.specs.Context.{IsMeant, Meaning};
-ghost use Rattle.agg_snapshot.specs.Lone.{IsLone};
+ghost use Rattle.agg_composite.specs.accessor.Accessors.{Fits};
+ghost use Rattle.agg_engine_tree.specs.segment_context.Context.{IsMeant, Meaning};
+ghost use Rattle.agg_engine.specs.snapshot_results.Lone.{IsLone};
 
-use crate::context::SegmentContext;
-use agg_accessor::CompositeAggReqData;
-use agg_segment_context::AggKind;
+use crate::snapshot_results::context::SegmentContext;
+use agg_composite::accessor::CompositeAggReqData;
+use agg_engine_tree::segment_context::AggKind;
 use agg_values::DocId;
 
 /// A composite that stands alone in a segment, with one source and nothing below it.

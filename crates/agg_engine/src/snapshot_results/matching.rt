@@ -1,7 +1,7 @@
 //! The documents that a query matches.
 ghost use Rattle.std.specs.Prelude.{◌≡◌, ◌<◌, All, IfOk, filter, length};
 ghost use Rattle.std.specs.List.{range_with_len};
-ghost use Rattle.agg_column.specs.Document.{HasNumbersOf64Bits};
+ghost use Rattle.agg_segment.specs.storage.Document.{HasNumbersOf64Bits};
 ghost use Rattle.agg_segment.specs.Query.{matches};
 ghost use Rattle.agg_segment.specs.Segment.{documents_at, documents_of};
 

@@ -1,16 +1,17 @@
 //! The results of one segment.
 ghost use Rattle.std.specs.Prelude.{◌≡◌, ◌≤◌};
-ghost use Rattle.agg_snapshot.specs.ChargedTrees.{ChargesAnew, IsMade, before};
-ghost use Rattle.agg_snapshot.specs.SegmentAnswers.{AnswersSegment, HasLowRoom, HasMemoryCause};
-ghost use Rattle.agg_snapshot.specs.SegmentAnswers.{IsReady};
+ghost use Rattle.agg_engine.specs.snapshot_results.ChargedTrees.{ChargesAnew, IsCharged, IsMade};
+ghost use Rattle.agg_engine.specs.snapshot_results.ChargedTrees.{before};
+ghost use Rattle.agg_engine.specs.snapshot_results.SegmentAnswers.{AnswersSegment, HasLowRoom};
+ghost use Rattle.agg_engine.specs.snapshot_results.SegmentAnswers.{HasMemoryCause, IsReady};
 
-use crate::context::SegmentContext;
-use crate::listed::listed_results;
-use crate::lone::lone_composite;
-use crate::{ChargedTree, SnapshotError};
+use crate::snapshot_results::context::SegmentContext;
+use crate::snapshot_results::listed::listed_results;
+use crate::snapshot_results::lone::lone_composite;
+use crate::snapshot_results::{ChargedTree, SnapshotError};
 use agg_cache::LimitsLedger;
+use agg_engine_tree::tree_results::into_results;
 use agg_results::IntermediateAggregationResults;
-use agg_tree_results::into_results;
 use agg_values::Steps;
 use std::alloc::Global;
 use std::sync::ledger::Ledger;
@@ -47,6 +48,7 @@ fn made_results<L: Ledger>(
 ) -> Result<IntermediateAggregationResults, SnapshotError>
     requires ready { IsReady context.now }
     requires made { IsMade context.now.aggregations.per_request context.now.reader.now tree.old }
+    requires exact { IsCharged context.now.aggregations.per_request tree.old }
     requires charged { tree.old.guard ≤ limits.old.in_use }
     ensures results { AnswersSegment context.now steps.old steps.new result }
     ensures cause { HasMemoryCause context.now (before tree.old.guard limits.old) result }
@@ -70,6 +72,7 @@ fn tree_results<L: Ledger>(
 ) -> Result<IntermediateAggregationResults, SnapshotError>
     requires ready { IsReady context.now }
     requires made { IsMade context.now.aggregations.per_request context.now.reader.now tree.old }
+    requires exact { IsCharged context.now.aggregations.per_request tree.old }
     requires charged { tree.old.guard ≤ limits.old.in_use }
     ensures results { AnswersSegment context.now steps.old steps.new result }
     ensures cause { HasMemoryCause context.now (before tree.old.guard limits.old) result }

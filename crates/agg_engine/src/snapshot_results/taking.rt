@@ -1,13 +1,13 @@
 //! How a tree of collectors takes documents that it may take.
 ghost use Rattle.std.specs.Prelude.{◌≡◌, ◌≤◌, OnOk};
-ghost use Rattle.agg_collector_tree.specs.Call.{is_flush, pairs_in, parents_in};
-ghost use Rattle.agg_collector_tree.specs.Refusals.{AreNotLast};
-ghost use Rattle.agg_collector_tree.specs.Tree.{Takes, held_of};
-ghost use Rattle.agg_snapshot.specs.Trees.{MayTake, MostSteps};
+ghost use Rattle.agg_engine_tree.specs.collector_tree.Call.{is_flush, pairs_in, parents_in};
+ghost use Rattle.agg_engine_tree.specs.collector_tree.Refusals.{AreNotLast};
+ghost use Rattle.agg_engine_tree.specs.collector_tree.Tree.{Takes, held_of};
+ghost use Rattle.agg_engine.specs.snapshot_results.Trees.{MayTake, MostSteps};
 
 use agg_cache::CollectError;
-use agg_collector_tree::{Call, SegmentCollectorTree, hand};
-use agg_segment_context::PerRequestAggSegCtx;
+use agg_engine_tree::collector_tree::{Call, SegmentCollectorTree, hand};
+use agg_engine_tree::segment_context::PerRequestAggSegCtx;
 use agg_values::{OutOfMemory, Steps};
 use std::sync::ledger::Ledger;
 

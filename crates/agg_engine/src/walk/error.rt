@@ -4,8 +4,8 @@ ghost use Rattle.agg_engine.specs.WalkError.{error_from_snapshot, error_name};
 ghost use Rattle.agg_engine.specs.WalkError.{aggregation_name, argument_name, parse_name};
 ghost use Rattle.agg_engine.specs.declared.walk.error.WalkError.TheVariants.{OutOfMemory as Memory};
 
-use agg_segment_context::SetupError;
-use agg_snapshot::SnapshotError;
+use crate::snapshot_results::SnapshotError;
+use agg_engine_tree::segment_context::SetupError;
 use agg_values::{
     AggregationError, DateHistogramParseError, InvalidArgument, OutOfMemory, RequestError,
 };

@@ -1,7 +1,8 @@
 //! The results of a page.
 ghost use Rattle.std.specs.Prelude.{◌≡◌, IfErr, IfOk, OnOk};
-ghost use Rattle.agg_intermediate_results.specs.Final.{final_results};
-ghost use Rattle.agg_intermediate_results.specs.Refusals.{HaveTooMany, HoldsOther, HoldsUnknown};
+ghost use Rattle.agg_results.specs.intermediate_results.Final.{final_results};
+ghost use Rattle.agg_results.specs.intermediate_results.Refusals.{HaveTooMany, HoldsOther};
+ghost use Rattle.agg_results.specs.intermediate_results.Refusals.{HoldsUnknown};
 ghost use Rattle.agg_engine.specs.PageAnswers.{IsFinalRefusal};
 
 use super::WalkError;

@@ -1,18 +1,18 @@
 //! The page of a snapshot: its results, and what they are asked with.
 ghost use Rattle.std.specs.Prelude.{◌≡◌, ◌≤◌, Some, OnOk, map};
 ghost use Rattle.agg_segment.specs.Segment.{documents_of};
-ghost use Rattle.agg_snapshot.specs.Asked.{MayBeAsked};
+ghost use Rattle.agg_engine.specs.snapshot_results.Asked.{MayBeAsked};
 ghost use Rattle.agg_engine.specs.PageAnswers.{AnswersAsked};
 
 use super::WalkError;
 use super::bound::copied;
 use super::finish::page_results;
+use crate::snapshot_results::{PageRequest, snapshot_results};
 use agg_cache::LimitsLedger;
+use agg_engine_tree::segment_context::AggContextParams;
 use agg_request_tree::NamedBuilder;
 use agg_results::AggregationResults;
 use agg_segment::SegmentReader;
-use agg_segment_context::AggContextParams;
-use agg_snapshot::{PageRequest, snapshot_results};
 use agg_values::{AfterKey, NameMap, OutOfMemory, Steps, Text};
 use std::alloc::Global;
 use std::sync::ledger::Ledger;

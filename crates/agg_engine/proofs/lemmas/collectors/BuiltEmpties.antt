@@ -7,7 +7,7 @@ use Rattle.std.specs.Map.{keys_of}
 use Rattle.std.proofs.lemmas.List.Elements.{All-map, All-weaker}
 use Rattle.std.proofs.lemmas.Map.Made.{keys_of-map_values}
 use Rattle.agg_values.specs.Names.{name_cmp}
-use Rattle.agg_column.specs.Document.{Fields}
+use Rattle.agg_segment.specs.storage.Document.{Fields}
 use Rattle.agg_segment.specs.Query.{matches}
 use Rattle.agg_segment.specs.declared.query.QueryTree.{QueryTree}
 use Rattle.agg_request_tree.specs.Names.{NamesAscend, NamesAscendTo}
@@ -18,19 +18,20 @@ use Rattle.agg_request_tree.specs.declared.aggregation.AggregationVariants as va
 use variants.{AggregationVariants}
 use variants.TheVariants.{Filter, Composite, Count, Max, Min, Sum}
 use Rattle.agg_request_tree.proofs.RequestTrees.{below-made}
-use Rattle.agg_intermediate_results.specs.Empty.{empty_by, empty_result, empty_results}
-use Rattle.agg_intermediate_results.specs.Intermediate.{Held}
-use Rattle.agg_intermediate_results.specs.declared.results.IntermediateAggregationResults as held
+use Rattle.agg_results.specs.intermediate_results.Empty.{empty_by, empty_result, empty_results}
+use Rattle.agg_results.specs.intermediate_results.Intermediate.{Held}
+use Rattle.agg_results.specs.declared.intermediate_results.results.IntermediateAggregationResults
+    as held
 use held.{IntermediateAggregationResults}
 use Rattle.agg_results.specs.StandsFor.{StandsFor}
 use Rattle.agg_results.proofs.Empties.{StandsFor-empty, empty-out}
-use Rattle.agg_segment_context.specs.Pages.{changed, paged, request_after, request_changed_at}
-use Rattle.agg_segment_context.specs.Pages.{with_after, with_size}
-use Rattle.agg_segment_context.specs.declared.params.Page.{Page}
-use Rattle.agg_segment_context.proofs.Built.{agg-built, below-built}
-use Rattle.agg_segment_context.proofs.Levels.{OfEach, by_levels}
-use Rattle.agg_collectors.specs.Fruits.{StandForEach, joined}
-use Rattle.agg_collectors.proofs.BuiltPages.{built-paged}
+use Rattle.agg_engine_tree.specs.segment_context.Pages.{changed, paged, request_after}
+use Rattle.agg_engine_tree.specs.segment_context.Pages.{request_changed_at, with_after, with_size}
+use Rattle.agg_engine_tree.specs.declared.segment_context.params.Page.{Page}
+use Rattle.agg_engine_tree.proofs.lemmas.segment_context.Built.{agg-built, below-built}
+use Rattle.agg_engine_tree.proofs.lemmas.segment_context.Levels.{OfEach, by_levels}
+use Rattle.agg_engine.specs.collectors.Fruits.{StandForEach, joined}
+use Rattle.agg_engine.proofs.lemmas.collectors.BuiltPages.{built-paged}
 
 -- ---- empty results
 

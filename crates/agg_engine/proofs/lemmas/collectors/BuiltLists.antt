@@ -1,6 +1,6 @@
 -- What a request lists with the trees that its builders made in their place.
 use Rattle.std.proofs.Common.{◌≡◌, ◌++◌, List, [], ◌∷◌, Bool, refl, sym, ap, ◌∙◌}
-use Rattle.agg_column.specs.Document.{Fields}
+use Rattle.agg_segment.specs.storage.Document.{Fields}
 use Rattle.agg_segment.specs.Query.{matches}
 use Rattle.agg_segment.specs.declared.query.QueryTree.{QueryTree}
 use Rattle.agg_request_tree.specs.Request.{Request, agg_of, below_of}
@@ -11,9 +11,9 @@ use Rattle.agg_request_tree.specs.declared.aggregation.AggregationVariants as va
 use variants.{AggregationVariants}
 use variants.TheVariants.{Filter, Composite, Count, Max, Min, Sum}
 use Rattle.agg_request_tree.proofs.UncutLists.{uncut_lists-out}
-use Rattle.agg_segment_context.proofs.Built.{agg-built, below-built}
-use Rattle.agg_segment_context.proofs.Levels.{OfEach, by_levels}
-use Rattle.agg_collectors.proofs.BuiltRequests.{same-matching}
+use Rattle.agg_engine_tree.proofs.lemmas.segment_context.Built.{agg-built, below-built}
+use Rattle.agg_engine_tree.proofs.lemmas.segment_context.Levels.{OfEach, by_levels}
+use Rattle.agg_engine.proofs.lemmas.collectors.BuiltRequests.{same-matching}
 
 module _ {B : Type 0} (is_match : B → Fields → Bool) (of : B → QueryTree)
     (built : (b : B) (d : Fields) → is_match b d ≡ matches (of b) d) where
@@ -51,7 +51,7 @@ module _ {B : Type 0} (is_match : B → Fields → Bool) (of : B → QueryTree)
       (each_lists (below_of a) below (uncut is_match (agg_of a) documents))
       ∙ sym (uncut_lists-out is_match a documents))
 
-  -- the same is listed
+  -- a request lists the same documents with its builders' trees
   pub lists-built : (request : Request B) (documents : List Fields)
       → uncut_lists_of matches (with_builders of request) documents
       ≡ uncut_lists_of is_match request documents

@@ -10,10 +10,10 @@ use Rattle.agg_request_tree.specs.declared.aggregation.AggregationVariants as va
 use variants.{AggregationVariants}
 use variants.TheVariants.{Filter, Composite, Count, Max, Min, Sum}
 use Rattle.agg_request_tree.proofs.RequestTrees.{agg-made, below-made}
-use Rattle.agg_segment_context.specs.Pages.{changed, paged, request_changed_at, with_after}
-use Rattle.agg_segment_context.specs.Pages.{request_after, with_size}
-use Rattle.agg_segment_context.specs.declared.params.Page.{Page}
-use Rattle.agg_segment_context.proofs.Built.{agg-built, below-built, built-out}
+use Rattle.agg_engine_tree.specs.segment_context.Pages.{changed, paged, request_changed_at}
+use Rattle.agg_engine_tree.specs.segment_context.Pages.{with_after, request_after, with_size}
+use Rattle.agg_engine_tree.specs.declared.segment_context.params.Page.{Page}
+use Rattle.agg_engine_tree.proofs.lemmas.segment_context.Built.{agg-built, below-built, built-out}
 
 module _ {B C : Type 0} (made : B → C) where
   module _ (f : AggregationVariants B → AggregationVariants B)

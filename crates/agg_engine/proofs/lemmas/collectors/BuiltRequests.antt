@@ -8,7 +8,7 @@ use Rattle.std.specs.Map.{keys_of}
 use Rattle.std.proofs.lemmas.List.Elements.{All-weaker, filter_agree}
 use Rattle.std.proofs.lemmas.Map.Made.{keys_of-map_values}
 use Rattle.agg_values.specs.Names.{value_of}
-use Rattle.agg_column.specs.Document.{Fields}
+use Rattle.agg_segment.specs.storage.Document.{Fields}
 use Rattle.agg_segment.specs.Query.{matches}
 use Rattle.agg_segment.specs.declared.query.QueryTree.{QueryTree}
 use Rattle.agg_request_tree.specs.Matching.{filter_matches, matching}
@@ -23,14 +23,15 @@ use Rattle.agg_request_tree.specs.declared.aggregation.filter.FilterQuery.{Filte
 use Rattle.agg_request_tree.specs.declared.aggregation.filter.FilterQuery.TheVariants as by
 use by.{Tree, CustomBuilder}
 use Rattle.agg_request_tree.proofs.Lists.{All-from_map}
-use Rattle.agg_segment_context.proofs.Built.{agg-built, below-built}
-use Rattle.agg_metric_results.specs.declared.metric.IntermediateMetricResult as metrics
+use Rattle.agg_engine_tree.proofs.lemmas.segment_context.Built.{agg-built, below-built}
+use Rattle.agg_results.specs.declared.metric_results.metric.IntermediateMetricResult as metrics
 use metrics.{IntermediateMetricResult}
 use metrics.TheVariants as m
-use Rattle.agg_intermediate_results.specs.Intermediate.{Held, Parts, TupleEntry, below_entry}
-use Rattle.agg_intermediate_results.specs.Intermediate.{composite, entries_of, filter, metric}
-use Rattle.agg_intermediate_results.specs.Intermediate.{parts_of}
-use Rattle.agg_intermediate_results.specs.declared.results.IntermediateAggregationResult as held
+use Rattle.agg_results.specs.intermediate_results.Intermediate.{Held, Parts, TupleEntry}
+use Rattle.agg_results.specs.intermediate_results.Intermediate.{below_entry, composite, entries_of}
+use Rattle.agg_results.specs.intermediate_results.Intermediate.{filter, metric, parts_of}
+use Rattle.agg_results.specs.declared.intermediate_results.results.IntermediateAggregationResult
+    as held
 use held.{IntermediateAggregationResult}
 use Rattle.agg_results.specs.StandsFor.{EntryStands, MetricStands, NamesStand, PartsStand}
 use Rattle.agg_results.specs.StandsFor.{StandsFor, StandsTo}

@@ -2,7 +2,7 @@
 use Rattle.std.proofs.Common.{◌≡◌, Bool, Option, None, Some, false, refl, sym, ap, ◌∙◌}
 use Rattle.std.specs.Prelude.{unwrap_or}
 use Rattle.std.specs.Option.{option_map_or}
-use Rattle.agg_column.specs.Document.{Fields}
+use Rattle.agg_segment.specs.storage.Document.{Fields}
 use Rattle.agg_segment.specs.Query.{matches, matches_by}
 use Rattle.agg_segment.specs.declared.query.QueryTree.{QueryTree}
 use Rattle.agg_segment.specs.declared.query.QueryTree.TheFolds.{fold-roll-QueryTree}
@@ -10,7 +10,7 @@ use Rattle.agg_segment.specs.declared.query.QueryTree.TheOpen as layer
 use Rattle.agg_segment.specs.declared.query.QueryTree.TheVariants as tree
 use tree.{Empty}
 use Rattle.agg_request_tree.specs.Matching.{built_matches}
-use Rattle.agg_segment_context.specs.Trees.{built_tree}
+use Rattle.agg_engine_tree.specs.segment_context.Trees.{built_tree}
 
 -- nothing matches the empty query
 none-matches : (document : Fields) → false ≡ matches Empty document

@@ -7,9 +7,10 @@ use Rattle.agg_cache.specs.declared.error.CollectError.TheVariants as error
 use Rattle.agg_segment.specs.Segment.{Stored}
 use Rattle.agg_segment.specs.declared.query.QueryTree.{QueryTree}
 use Rattle.agg_request_tree.specs.Request.{Request}
-use Rattle.agg_collectors.specs.Segment.{IsBlockCause, IsRightFor, IsRightForSome, IsTreeCause}
-use Rattle.agg_collectors.specs.Segment.{MayBeUsed, TakesBlock, TakesFew, TakesInTree}
-use Rattle.agg_collectors.specs.declared.segment.AggregationSegmentCollector as declared
+use Rattle.agg_engine.specs.collectors.Segment.{IsBlockCause, IsRightFor, IsRightForSome}
+use Rattle.agg_engine.specs.collectors.Segment.{IsTreeCause, MayBeUsed, TakesBlock, TakesFew}
+use Rattle.agg_engine.specs.collectors.Segment.{TakesInTree}
+use Rattle.agg_engine.specs.declared.collectors.segment.AggregationSegmentCollector as declared
 use declared.{AggregationSegmentCollector}
 
 -- a collector that may be used and has not failed is right for some documents

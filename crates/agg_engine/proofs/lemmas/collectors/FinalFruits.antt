@@ -2,34 +2,34 @@
 use Rattle.std.proofs.Common.{◌<◌, ◌^◌, ℕ, List, Option, sym, subst}
 use Rattle.std.specs.List.{Any}
 use Rattle.agg_values.specs.declared.request_error.AggregationError.TheVariants as aggregation
-use Rattle.agg_column.specs.Document.{Fields}
+use Rattle.agg_segment.specs.storage.Document.{Fields}
 use Rattle.agg_segment.specs.Query.{matches}
 use Rattle.agg_segment.specs.declared.query.QueryTree.{QueryTree}
 use Rattle.agg_request_tree.specs.Matching.{built_matches}
 use Rattle.agg_request_tree.specs.Request.{Request}
 use Rattle.agg_request_tree.specs.Uncut.{ListsAsMany}
-use Rattle.agg_intermediate_results.specs.Final.{final_results}
-use Rattle.agg_intermediate_results.specs.Intermediate.{Held}
-use Rattle.agg_intermediate_results.specs.Refusals.{IsNotFinal}
-use Rattle.agg_intermediate_results.specs.declared as held
+use Rattle.agg_results.specs.intermediate_results.Final.{final_results}
+use Rattle.agg_results.specs.intermediate_results.Intermediate.{Held}
+use Rattle.agg_results.specs.intermediate_results.Refusals.{IsNotFinal}
+use Rattle.agg_results.specs.declared.intermediate_results as held
 use held.error.FinalError.{FinalError}
 use held.error.FinalError.TheVariants as last
-use Rattle.agg_metric_results.specs.declared.error.MergeError.{MergeError}
-use Rattle.agg_metric_results.specs.declared.error.MergeError.TheVariants as merge
+use Rattle.agg_results.specs.declared.metric_results.error.MergeError.{MergeError}
+use Rattle.agg_results.specs.declared.metric_results.error.MergeError.TheVariants as merge
 use Rattle.agg_results.specs.Results.{AreResults}
 use Rattle.agg_results.specs.StandsFor.{StandsFor}
 use Rattle.agg_results.proofs.FinalResults.{StandsFor-final}
 use Rattle.agg_results.proofs.StandingRefusals.{StandsFor-known, StandsFor-shapes}
-use Rattle.agg_segment_context.specs.Pages.{paged}
-use Rattle.agg_segment_context.specs.Trees.{built, built_tree}
-use Rattle.agg_segment_context.specs.declared.params.Page.{Page}
-use Rattle.agg_intermediate_results.specs.FinalError.{error_from_merge}
-use Rattle.agg_collectors.specs.Fruits.{IsFinalCause, IsMergeCause}
-use Rattle.agg_collectors.proofs.BuiltLists.{lists-built}
-use Rattle.agg_collectors.proofs.BuiltPages.{built-paged}
-use Rattle.agg_collectors.proofs.BuiltRequests.{stands-built}
-use Rattle.agg_collectors.proofs.BuiltTrees.{tree-matches}
-use Rattle.agg_collectors.proofs.PagedFinals.{final-paged, other-paged, unknown-paged}
+use Rattle.agg_engine_tree.specs.segment_context.Pages.{paged}
+use Rattle.agg_engine_tree.specs.segment_context.Trees.{built, built_tree}
+use Rattle.agg_engine_tree.specs.declared.segment_context.params.Page.{Page}
+use Rattle.agg_results.specs.intermediate_results.FinalError.{error_from_merge}
+use Rattle.agg_engine.specs.collectors.Fruits.{IsFinalCause, IsMergeCause}
+use Rattle.agg_engine.proofs.lemmas.collectors.BuiltLists.{lists-built}
+use Rattle.agg_engine.proofs.lemmas.collectors.BuiltPages.{built-paged}
+use Rattle.agg_engine.proofs.lemmas.collectors.BuiltRequests.{stands-built}
+use Rattle.agg_engine.proofs.lemmas.collectors.BuiltTrees.{tree-matches}
+use Rattle.agg_engine.proofs.lemmas.collectors.PagedFinals.{final-paged, other-paged, unknown-paged}
 
 module _ {B : Type 0} (query_for : B → Option QueryTree) (page : Option Page) (request : Request B)
     (documents : List Fields) where
@@ -37,7 +37,7 @@ module _ {B : Type 0} (query_for : B → Option QueryTree) (page : Option Page) 
   abbrev now : Request B
   now = paged page request
 
-  -- and as it was built
+  -- the request as it was built, with the page
   abbrev made : Request QueryTree
   made = paged page (built query_for request)
 
@@ -70,7 +70,7 @@ module _ {B : Type 0} (query_for : B → Option QueryTree) (page : Option Page) 
         (final-paged request whole page)
         (StandsFor-final (built_matches query_for) now documents whole stands)
 
-    -- and where nothing is final, there is a cause
+    -- where nothing is final of it, there is a cause
     pub final-cause : (limit : ℕ) (error : FinalError) → IsNotFinal limit request whole error
         → IsFinalCause (built_matches query_for) limit now documents error
     final-cause limit last.UnknownAggregation unknown =

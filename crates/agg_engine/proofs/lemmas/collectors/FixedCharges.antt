@@ -5,11 +5,11 @@ use Rattle.agg_request_tree.specs.Request.{Request, listed_of, with_builders, wi
 use Rattle.agg_request_tree.specs.declared.aggregation.AggregationVariants as variants
 use variants.{AggregationVariants}
 use variants.TheVariants.{Filter, Composite, Count, Max, Min, Sum}
-use Rattle.agg_charges.specs.Charges.{fixed_charge, node_charge}
-use Rattle.agg_segment_context.specs.Pages.{paged}
-use Rattle.agg_segment_context.specs.declared.params.Page.{Page}
-use Rattle.agg_segment_context.proofs.Built.{listed-built}
-use Rattle.agg_collectors.proofs.BuiltPages.{built-paged}
+use Rattle.agg_request_tree.specs.charges.Charges.{fixed_charge, node_charge}
+use Rattle.agg_engine_tree.specs.segment_context.Pages.{paged}
+use Rattle.agg_engine_tree.specs.declared.segment_context.params.Page.{Page}
+use Rattle.agg_engine_tree.proofs.lemmas.segment_context.Built.{listed-built}
+use Rattle.agg_engine.proofs.lemmas.collectors.BuiltPages.{built-paged}
 
 module _ {B C : Type 0} (made : B → C) (documents : ℕ) where
   -- that of a node
@@ -30,7 +30,7 @@ module _ {B C : Type 0} (made : B → C) (documents : ℕ) where
       (listed-built made (λ (agg : AggregationVariants C). node_charge documents agg ∷ []) request
       ∙ (λ i. listed_of (λ (agg : AggregationVariants B). node-built agg i ∷ []) request))
 
-  -- and that of a request with its page
+  -- the fixed charge of a request with its page
   pub fixed-paged : (page : Option Page) (request : Request B)
       → fixed_charge (paged page (with_builders made request)) documents
       ≡ fixed_charge (paged page request) documents

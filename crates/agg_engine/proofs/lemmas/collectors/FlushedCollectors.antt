@@ -11,30 +11,31 @@ use Rattle.agg_segment.specs.Segment.{Stored, document_at, documents_at, documen
 use Rattle.agg_segment.specs.declared.query.QueryTree.{QueryTree}
 use Rattle.agg_request_tree.specs.Request.{Request}
 use Rattle.agg_request_tree.specs.Uncut.{CountsTooMany}
-use Rattle.agg_charges.specs.Roof.{counts_of, low_roof, roof}
-use Rattle.agg_intermediate_results.specs.Intermediate.{Held as Results}
+use Rattle.agg_request_tree.specs.charges.Roof.{counts_of, low_roof, roof}
+use Rattle.agg_results.specs.intermediate_results.Intermediate.{Held as Results}
 use Rattle.agg_results.specs.StandsFor.{StandsFor}
-use Rattle.agg_segment_context.specs.Plan.{plan_of, plans_of}
-use Rattle.agg_uncut.specs.Uncut.{uncut_lengths}
-use Rattle.agg_collector_tree.specs.Counting.{counted_of}
-use Rattle.agg_collector_tree.specs.Tree.{Held, Takes, held_of}
-use Rattle.agg_tree_results.specs.Names.{HasNamesApart}
-use Rattle.agg_tree_results.specs.Results.{GroupStands}
-use Rattle.agg_held_bytes.specs.HeldBytes.{held_bytes}
-use Rattle.agg_held_bytes.specs.Trees.{AreOfSegment, IsTreeOf}
-use Rattle.agg_held_bytes.proofs.TreeLaws.{least-one}
-use Rattle.agg_snapshot.specs.ChargedTrees.{ChargesAnew, IsChargeCause, IsCharged}
-use Rattle.agg_snapshot.specs.MemoryLimits.{TellsMemory}
-use Rattle.agg_snapshot.specs.Trees.{IsRight, MayTake, MostSteps}
-use Rattle.agg_snapshot.specs.declared.charge_error.ChargeError.TheVariants as charge
-use Rattle.agg_snapshot.specs.declared.charged_tree.ChargedTree.{ChargedTree}
-use Rattle.agg_snapshot.proofs.StartRanges.{none-of_none}
-use Rattle.agg_snapshot.proofs.RightTrees.{docs_in-under, right-apart, right-more, right-stands}
-use Rattle.agg_collectors.specs.Segment.{HarvestsFew, IsRightFor, TakesFew}
-use Rattle.agg_collectors.specs.declared.segment.AggregationSegmentCollector as declared
+use Rattle.agg_engine_tree.specs.segment_context.Plan.{plan_of, plans_of}
+use Rattle.agg_engine_tree.specs.uncut.Uncut.{uncut_lengths}
+use Rattle.agg_engine_tree.specs.collector_tree.Counting.{counted_of}
+use Rattle.agg_engine_tree.specs.collector_tree.Tree.{Held, Takes, held_of}
+use Rattle.agg_engine_tree.specs.tree_results.Names.{HasNamesApart}
+use Rattle.agg_engine_tree.specs.tree_results.Results.{GroupStands}
+use Rattle.agg_engine_tree.specs.held_bytes.HeldBytes.{held_bytes}
+use Rattle.agg_engine_tree.specs.held_bytes.Trees.{AreOfSegment, IsTreeOf}
+use Rattle.agg_engine_tree.proofs.lemmas.held_bytes.TreeLaws.{least-one}
+use Rattle.agg_engine.specs.snapshot_results.ChargedTrees.{ChargesAnew, IsChargeCause, IsCharged}
+use Rattle.agg_engine.specs.snapshot_results.MemoryLimits.{TellsMemory}
+use Rattle.agg_engine.specs.snapshot_results.Trees.{IsRight, MayTake, MostSteps}
+use Rattle.agg_engine.specs.declared.snapshot_results.charge_error.ChargeError.TheVariants as charge
+use Rattle.agg_engine.specs.declared.snapshot_results.charged_tree.ChargedTree.{ChargedTree}
+use Rattle.agg_engine.proofs.lemmas.snapshot_results.StartRanges.{none-of_none}
+use Rattle.agg_engine.proofs.lemmas.snapshot_results.RightTrees.{docs_in-under, right-apart}
+use Rattle.agg_engine.proofs.lemmas.snapshot_results.RightTrees.{right-more, right-stands}
+use Rattle.agg_engine.specs.collectors.Segment.{HarvestsFew, IsRightFor, TakesFew}
+use Rattle.agg_engine.specs.declared.collectors.segment.AggregationSegmentCollector as declared
 use declared.{AggregationSegmentCollector}
-use Rattle.agg_collectors.proofs.RightCollectors.{Passes, few-none, few-taken, may-take}
-use Rattle.agg_collectors.proofs.RightCollectors.{tells-roof}
+use Rattle.agg_engine.proofs.lemmas.collectors.RightCollectors.{Passes, few-none, few-taken}
+use Rattle.agg_engine.proofs.lemmas.collectors.RightCollectors.{may-take, tells-roof}
 
 module _ (request : Request QueryTree) (segment : Stored) (docs : List ℕ) (visits : ℕ)
     (old : AggregationSegmentCollector) (r : IsRightFor request segment docs visits old) where
@@ -175,6 +176,6 @@ module _ (old : AggregationSegmentCollector) (steps : ℕ) where
   few-flushed steps_now most =
       few-harvested steps_now (few-taken old [] steps steps_now most)
 
-  -- so are none
+  -- no steps are few
   pub few-failed : HarvestsFew old steps steps
   few-failed = few-harvested steps (few-none old [] steps)

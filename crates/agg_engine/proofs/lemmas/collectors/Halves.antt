@@ -10,24 +10,26 @@ use Rattle.std.proofs.Math.Seq.{take-add}
 use Rattle.std.proofs.lemmas.List.Concat.{flat_map-append}
 use Rattle.std.proofs.lemmas.List.Elements.{All-from_recursion, All-nil}
 use Rattle.agg_values.specs.Names.{value_of}
-use Rattle.agg_column.specs.Document.{Fields, HasNumbersOf64Bits}
+use Rattle.agg_segment.specs.storage.Document.{Fields, HasNumbersOf64Bits}
 use Rattle.agg_segment.specs.Query.{matches}
 use Rattle.agg_segment.specs.declared.query.QueryTree.{QueryTree}
 use Rattle.agg_segment.proofs.EncodedColumns.{back_all, front_all}
 use Rattle.agg_request_tree.specs.Request.{Request}
 use Rattle.agg_request_tree.specs.declared.aggregation.Aggregation.{Aggregation}
 use Rattle.agg_request_tree.proofs.Lists.{AllByRecursion-always}
-use Rattle.agg_intermediate_results.specs.Merging.{AreMerged, CountsPass, ShapesDiffer, SomeOfBoth}
-use Rattle.agg_metric_results.specs.declared.error.MergeError.{MergeError}
-use Rattle.agg_metric_results.specs.declared.error.MergeError.TheVariants as merge
-use Rattle.agg_intermediate_results.specs.declared.results.IntermediateAggregationResults as held
+use Rattle.agg_results.specs.intermediate_results.Merging.{AreMerged, CountsPass, ShapesDiffer}
+use Rattle.agg_results.specs.intermediate_results.Merging.{SomeOfBoth}
+use Rattle.agg_results.specs.declared.metric_results.error.MergeError.{MergeError}
+use Rattle.agg_results.specs.declared.metric_results.error.MergeError.TheVariants as merge
+use Rattle.agg_results.specs.declared.intermediate_results.results.IntermediateAggregationResults
+    as held
 use held.{IntermediateAggregationResults}
 use Rattle.agg_results.specs.StandsFor.{StandsFor, StandsTo}
 use Rattle.agg_results.proofs.AddedNumbers.{adds-small}
 use Rattle.agg_results.proofs.PassingResults.{StandsFor-few}
 use Rattle.agg_results.proofs.StandingResults.{StandsFor-alike, StandsFor-joined}
-use Rattle.agg_collectors.specs.Fruits.{IsMergeCause, StandForEach, joined}
-use Rattle.agg_snapshot.proofs.PartCounts.{as_many-back, as_many-front}
+use Rattle.agg_engine.specs.collectors.Fruits.{IsMergeCause, StandForEach, joined}
+use Rattle.agg_engine.proofs.lemmas.snapshot_results.PartCounts.{as_many-back, as_many-front}
 
 -- ---- the parts of a list
 
@@ -186,7 +188,7 @@ module _ (first second fruits : List IntermediateAggregationResults)
         (StandsFor-joined matches request (joined p.front) (joined p.back) held.results
         more.results (a request p.front p.first) (b request p.back p.second) merged.results are)
 
-    -- or there is a cause why they aren't merged
+    -- where they aren't merged, there is a cause
     pub both-cause : (error : MergeError)
         → (error ≡ merge.Mismatch → SomeOfBoth ShapesDiffer held.results more.results)
         → (error ≡ merge.TooMany → SomeOfBoth CountsPass held.results more.results)

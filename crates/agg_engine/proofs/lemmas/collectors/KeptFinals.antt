@@ -12,20 +12,23 @@ use Rattle.agg_request_tree.specs.declared.aggregation.AggregationVariants.TheVa
 use Rattle.agg_request_tree.specs.declared.aggregation.CompositeAggregation.{CompositeAggregation}
 use Rattle.agg_request_tree.specs.Source.{rules_of}
 use Rattle.agg_request_tree.proofs.RequestTrees.{agg-made, below-made}
-use Rattle.agg_final_results.specs.declared.types.AggregationResult.{AggregationResult}
-use Rattle.agg_intermediate_results.specs.Final.{Finish, final_by, final_by_name, final_nothing}
-use Rattle.agg_intermediate_results.specs.Final.{final_page, final_result, final_results}
-use Rattle.agg_intermediate_results.specs.Final.{final_step}
-use Rattle.agg_intermediate_results.specs.Intermediate.{Held, Parts, composite, filter, metric}
-use Rattle.agg_intermediate_results.specs.Intermediate.{helds_below, parts_of}
-use Rattle.agg_intermediate_results.specs.Merging.{SomeOfBoth}
-use Rattle.agg_intermediate_results.specs.Refusals.{HoldsOther, HoldsOtherWithin, HoldsUnknown}
-use Rattle.agg_intermediate_results.specs.Refusals.{HoldsUnknownWithin, IsOther}
-use Rattle.agg_intermediate_results.specs.Shown.{shown_page}
-use Rattle.agg_intermediate_results.specs.declared.results.IntermediateAggregationResult as held
+use Rattle.agg_results.specs.declared.final_results.types.AggregationResult.{AggregationResult}
+use Rattle.agg_results.specs.intermediate_results.Final.{Finish, final_by, final_by_name}
+use Rattle.agg_results.specs.intermediate_results.Final.{final_nothing, final_page, final_result}
+use Rattle.agg_results.specs.intermediate_results.Final.{final_results, final_step}
+use Rattle.agg_results.specs.intermediate_results.Intermediate.{Held, Parts, composite, filter}
+use Rattle.agg_results.specs.intermediate_results.Intermediate.{metric, helds_below, parts_of}
+use Rattle.agg_results.specs.intermediate_results.Merging.{SomeOfBoth}
+use Rattle.agg_results.specs.intermediate_results.Refusals.{HoldsOther, HoldsOtherWithin}
+use Rattle.agg_results.specs.intermediate_results.Refusals.{HoldsUnknown, HoldsUnknownWithin}
+use Rattle.agg_results.specs.intermediate_results.Refusals.{IsOther}
+use Rattle.agg_results.specs.intermediate_results.Shown.{shown_page}
+use Rattle.agg_results.specs.declared.intermediate_results.results.IntermediateAggregationResult
+    as held
 use held.{IntermediateAggregationResult}
-use Rattle.agg_segment_context.specs.Pages.{changed, request_changed_at}
-use Rattle.agg_collectors.proofs.ChangedRequests.{AsksLike, IsLike, none-changed, some-changed}
+use Rattle.agg_engine_tree.specs.segment_context.Pages.{changed, request_changed_at}
+use Rattle.agg_engine.proofs.lemmas.collectors.ChangedRequests.{AsksLike, IsLike, none-changed}
+use Rattle.agg_engine.proofs.lemmas.collectors.ChangedRequests.{some-changed}
 
 -- ---- of one aggregation
 

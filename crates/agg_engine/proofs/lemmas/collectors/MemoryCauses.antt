@@ -11,17 +11,18 @@ use Rattle.agg_request_tree.specs.Faults.{HasCause, IsSoundRequest}
 use Rattle.agg_request_tree.specs.Ranges.{HasStartOutOfRange}
 use Rattle.agg_request_tree.specs.Request.{Request}
 use Rattle.agg_request_tree.specs.Uncut.{CountsTooMany}
-use Rattle.agg_charges.specs.Charges.{fixed_charge}
-use Rattle.agg_segment_context.specs.SetupError.{error_from_request}
-use Rattle.agg_snapshot.specs.ChargeErrors.{collect_error, setup_error}
-use Rattle.agg_snapshot.specs.ChargedTrees.{IsChargeCause, IsFixedCause}
-use Rattle.agg_snapshot.specs.declared.charge_error.ChargeError.{ChargeError}
-use Rattle.agg_snapshot.specs.declared.charge_error.ChargeError.TheVariants as charge
-use Rattle.agg_collectors.specs.Segment.{IsHarvestCause, IsRightFor, IsSetupCause, IsTreeCause}
-use Rattle.agg_collectors.specs.declared.segment.AggregationSegmentCollector as declared
+use Rattle.agg_request_tree.specs.charges.Charges.{fixed_charge}
+use Rattle.agg_engine_tree.specs.segment_context.SetupError.{error_from_request}
+use Rattle.agg_engine.specs.snapshot_results.ChargeErrors.{collect_error, setup_error}
+use Rattle.agg_engine.specs.snapshot_results.ChargedTrees.{IsChargeCause, IsFixedCause}
+use Rattle.agg_engine.specs.declared.snapshot_results.charge_error.ChargeError.{ChargeError}
+use Rattle.agg_engine.specs.declared.snapshot_results.charge_error.ChargeError.TheVariants as charge
+use Rattle.agg_engine.specs.collectors.Segment.{IsHarvestCause, IsRightFor, IsSetupCause}
+use Rattle.agg_engine.specs.collectors.Segment.{IsTreeCause}
+use Rattle.agg_engine.specs.declared.collectors.segment.AggregationSegmentCollector as declared
 use declared.{AggregationSegmentCollector}
-use Rattle.agg_collectors.proofs.FlushedCollectors.{tells-flushed}
-use Rattle.agg_collectors.proofs.RightCollectors.{tells-roof}
+use Rattle.agg_engine.proofs.lemmas.collectors.FlushedCollectors.{tells-flushed}
+use Rattle.agg_engine.proofs.lemmas.collectors.RightCollectors.{tells-roof}
 
 module _ {B : Type 0} (request : Request B) (documents : ℕ) (limits : Limits) where
   -- a request has a fault

@@ -15,16 +15,16 @@ use Rattle.agg_values.specs.Names.{name_cmp, put, value_of, without}
 use Rattle.agg_request_tree.specs.Request.{Request}
 use Rattle.agg_request_tree.specs.declared.aggregation.Aggregation.{Aggregation}
 use Rattle.agg_request_tree.proofs.PageFromGroups.{equal-from_is_eq}
-use Rattle.agg_intermediate_results.specs.Empty.{empty_result, empty_results}
-use Rattle.agg_intermediate_results.specs.Intermediate.{Held}
-use Rattle.agg_intermediate_results.specs.Merging.{CountsPass, ShapesDiffer, SomeOfBoth}
-use Rattle.agg_intermediate_results.specs.declared as declared
-use Rattle.agg_metric_results.specs.declared.error.MergeError.{MergeError}
-use Rattle.agg_metric_results.specs.declared.error.MergeError.TheVariants as merge
+use Rattle.agg_results.specs.intermediate_results.Empty.{empty_result, empty_results}
+use Rattle.agg_results.specs.intermediate_results.Intermediate.{Held}
+use Rattle.agg_results.specs.intermediate_results.Merging.{CountsPass, ShapesDiffer, SomeOfBoth}
+use Rattle.agg_results.specs.declared.intermediate_results as declared
+use Rattle.agg_results.specs.declared.metric_results.error.MergeError.{MergeError}
+use Rattle.agg_results.specs.declared.metric_results.error.MergeError.TheVariants as merge
 use declared.results.IntermediateAggregationResult.{IntermediateAggregationResult}
 use Rattle.agg_values.proofs.NameOrder.{value-cases}
 use Rattle.agg_values.proofs.NameValues.{value-gone}
-use Rattle.agg_intermediate_results.proofs.ToldNames.{nothing_told, past_first}
+use Rattle.agg_results.proofs.lemmas.intermediate_results.ToldNames.{nothing_told, past_first}
 
 abbrev pub Result : Type 0
 Result = IntermediateAggregationResult

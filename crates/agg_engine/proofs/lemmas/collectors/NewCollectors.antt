@@ -2,22 +2,22 @@
 use Rattle.std.proofs.Common.{◌≡◌, ◌<◌, ◌^◌, [], false, length, refl, arith}
 use Rattle.std.specs.List.{All}
 use Rattle.std.proofs.lemmas.List.Elements.{All-nil}
-use Rattle.agg_column.specs.Document.{HasNumbersOf64Bits}
+use Rattle.agg_segment.specs.storage.Document.{HasNumbersOf64Bits}
 use Rattle.agg_segment.specs.Query.{matches}
 use Rattle.agg_segment.specs.Segment.{documents_of}
 use Rattle.agg_segment.specs.declared.query.QueryTree.{QueryTree}
 use Rattle.agg_request_tree.specs.Names.{NamesAscend}
 use Rattle.agg_request_tree.specs.Request.{Request}
-use Rattle.agg_charges.specs.Charges.{fixed_charge}
-use Rattle.agg_segment_context.specs.Context.{IsContextOf, Meaning}
-use Rattle.agg_uncut.specs.Uncut.{uncut_lengths}
-use Rattle.agg_collector_tree.specs.Tree.{held_of}
-use Rattle.agg_snapshot.specs.ChargedTrees.{IsCharged}
-use Rattle.agg_snapshot.proofs.PartCounts.{as_many-none}
-use Rattle.agg_snapshot.specs.Trees.{IsNew}
-use Rattle.agg_snapshot.proofs.StartRanges.{none-of_none}
-use Rattle.agg_collectors.specs.Segment.{CollectorFor}
-use Rattle.agg_collectors.specs.declared.segment.AggregationSegmentCollector as declared
+use Rattle.agg_request_tree.specs.charges.Charges.{fixed_charge}
+use Rattle.agg_engine_tree.specs.segment_context.Context.{IsContextOf, Meaning}
+use Rattle.agg_engine_tree.specs.uncut.Uncut.{uncut_lengths}
+use Rattle.agg_engine_tree.specs.collector_tree.Tree.{held_of}
+use Rattle.agg_engine.specs.snapshot_results.ChargedTrees.{IsCharged}
+use Rattle.agg_engine.proofs.lemmas.snapshot_results.PartCounts.{as_many-none}
+use Rattle.agg_engine.specs.snapshot_results.Trees.{IsNew}
+use Rattle.agg_engine.proofs.lemmas.snapshot_results.StartRanges.{none-of_none}
+use Rattle.agg_engine.specs.collectors.Segment.{CollectorFor}
+use Rattle.agg_engine.specs.declared.collectors.segment.AggregationSegmentCollector as declared
 use declared.{AggregationSegmentCollector}
 
 -- a collector whose tree is new took nothing

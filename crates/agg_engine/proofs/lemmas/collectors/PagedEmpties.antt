@@ -16,13 +16,13 @@ use variants.TheVariants.{Filter, Composite, Count, Max, Min, Sum}
 use Rattle.agg_request_tree.specs.declared.aggregation.CompositeAggregation.{CompositeAggregation}
 use Rattle.agg_request_tree.proofs.Lists.{AllByRecursion-weaker}
 use Rattle.agg_request_tree.proofs.RequestTrees.{agg-made, below-made}
-use Rattle.agg_intermediate_results.specs.Empty.{empty_by, empty_result, empty_results}
-use Rattle.agg_intermediate_results.specs.Intermediate.{as_composite, composite_of}
+use Rattle.agg_results.specs.intermediate_results.Empty.{empty_by, empty_result, empty_results}
+use Rattle.agg_results.specs.intermediate_results.Intermediate.{as_composite, composite_of}
 use Rattle.agg_results.proofs.Empties.{empty-out}
-use Rattle.agg_segment_context.specs.Pages.{changed, paged, with_after, with_size}
-use Rattle.agg_segment_context.specs.declared.params.Page.{Page}
-use Rattle.agg_collectors.proofs.NamedEmpties.{AtName, Result, none-found, only-found, other_at}
-use Rattle.agg_collectors.proofs.NamedEmpties.{put-other, with_other}
+use Rattle.agg_engine_tree.specs.segment_context.Pages.{changed, paged, with_after, with_size}
+use Rattle.agg_engine_tree.specs.declared.segment_context.params.Page.{Page}
+use Rattle.agg_engine.proofs.lemmas.collectors.NamedEmpties.{AtName, Result, none-found, only-found}
+use Rattle.agg_engine.proofs.lemmas.collectors.NamedEmpties.{other_at, put-other, with_other}
 
 -- the empty page of a composite, with a size
 abbrev pub empty_of : ℕ → CompositeAggregation → Result
@@ -169,7 +169,7 @@ module _ {B : Type 0} (page : Page) where
         (λ e same is. subst P (sym (same is)) holds) request
         (only-found page.name request a up found)
 
-    -- and where no composite has it
+    -- the empty results of a request don't hang on the page where no composite has its name
     pub paged-other : ((c : CompositeAggregation) → ¬ (agg_of a ≡ Composite c))
         → empty_results request ≡ empty_results (paged (Some page) request)
     paged-other other =

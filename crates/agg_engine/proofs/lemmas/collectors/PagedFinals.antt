@@ -1,13 +1,14 @@
 -- What is final of a request, and what isn't, doesn't hang on its page.
 use Rattle.std.proofs.Common.{◌≡◌, Option, None, Some, ◌∙◌, refl}
 use Rattle.agg_request_tree.specs.Request.{Request}
-use Rattle.agg_intermediate_results.specs.Final.{final_results}
-use Rattle.agg_intermediate_results.specs.Intermediate.{Held}
-use Rattle.agg_intermediate_results.specs.Refusals.{HoldsOther, HoldsUnknown}
-use Rattle.agg_segment_context.specs.Pages.{paged, request_after, with_after, with_size}
-use Rattle.agg_segment_context.specs.declared.params.Page.{Page}
-use Rattle.agg_collectors.proofs.ChangedRequests.{after-like, size-like}
-use Rattle.agg_collectors.proofs.KeptFinals.{final-changed, other-changed, unknown-changed}
+use Rattle.agg_results.specs.intermediate_results.Final.{final_results}
+use Rattle.agg_results.specs.intermediate_results.Intermediate.{Held}
+use Rattle.agg_results.specs.intermediate_results.Refusals.{HoldsOther, HoldsUnknown}
+use Rattle.agg_engine_tree.specs.segment_context.Pages.{paged, request_after, with_after, with_size}
+use Rattle.agg_engine_tree.specs.declared.segment_context.params.Page.{Page}
+use Rattle.agg_engine.proofs.lemmas.collectors.ChangedRequests.{after-like, size-like}
+use Rattle.agg_engine.proofs.lemmas.collectors.KeptFinals.{final-changed, other-changed}
+use Rattle.agg_engine.proofs.lemmas.collectors.KeptFinals.{unknown-changed}
 
 module _ {B : Type 0} (request : Request B) (merged : Held) where
   -- what is final doesn't hang on the page
@@ -19,7 +20,7 @@ module _ {B : Type 0} (request : Request B) (merged : Held) where
       (request_after page.name page.after request) merged
       ∙ final-changed (with_after page.after) page.name (after-like page.after) request merged
 
-  -- nor does what has no name
+  -- that something has no name doesn't hang on the page
   pub unknown-paged : (page : Option Page) → HoldsUnknown request merged
       → HoldsUnknown (paged page request) merged
   unknown-paged None unknown = unknown
@@ -29,7 +30,7 @@ module _ {B : Type 0} (request : Request B) (merged : Held) where
       (unknown-changed (with_after page.after) page.name (after-like page.after) request merged
       unknown)
 
-  -- nor what has another shape
+  -- that something has another shape doesn't hang on the page
   pub other-paged : (page : Option Page) → HoldsOther request merged
       → HoldsOther (paged page request) merged
   other-paged None other = other

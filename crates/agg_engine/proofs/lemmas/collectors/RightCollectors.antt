@@ -6,32 +6,32 @@ use Rattle.std.proofs.lemmas.List.{map-append}
 use Rattle.std.proofs.lemmas.List.Elements.{All-append, All-map}
 use Rattle.agg_cache.specs.Limits.{Limits}
 use Rattle.agg_cache.specs.Waiting.{under}
-use Rattle.agg_column.specs.Document.{HasNumbersOf64Bits}
+use Rattle.agg_segment.specs.storage.Document.{HasNumbersOf64Bits}
 use Rattle.agg_segment.specs.Query.{matches}
 use Rattle.agg_segment.specs.Segment.{Stored, document_at, documents_at, documents_of}
 use Rattle.agg_segment.specs.declared.query.QueryTree.{QueryTree}
 use Rattle.agg_request_tree.specs.Ranges.{HasStartOutOfRange}
 use Rattle.agg_request_tree.specs.Request.{Request}
 use Rattle.agg_request_tree.specs.Uncut.{CountsTooMany}
-use Rattle.agg_charges.specs.Roof.{counts_of, roof}
-use Rattle.agg_buckets.specs.Visits.{docs_in}
-use Rattle.agg_uncut.specs.Uncut.{uncut_lengths}
-use Rattle.agg_collector_tree.specs.Counting.{counted_of}
-use Rattle.agg_collector_tree.specs.Tree.{Held, Takes, held_of}
-use Rattle.agg_collector_tree.proofs.MostSteps.{no-steps}
-use Rattle.agg_snapshot.specs.ChargedTrees.{IsChargeCause, IsCharged}
-use Rattle.agg_snapshot.specs.MemoryLimits.{TellsMemory}
-use Rattle.agg_snapshot.specs.Trees.{IsRight, MayBeTaken, MayTake, MostSteps}
-use Rattle.agg_snapshot.specs.declared.charge_error.ChargeError.TheVariants as charge
-use Rattle.agg_snapshot.specs.declared.charged_tree.ChargedTree.{ChargedTree}
-use Rattle.agg_snapshot.proofs.StartRanges.{none-out}
-use Rattle.agg_snapshot.proofs.RightTrees.{docs_in-under, right-more}
-use Rattle.agg_snapshot.proofs.TakenTrees.{most-of}
-use Rattle.agg_collectors.specs.Segment.{IsRightFor, TakesFew}
-use Rattle.agg_collectors.specs.declared.segment.AggregationSegmentCollector as declared
+use Rattle.agg_request_tree.specs.charges.Roof.{counts_of, roof}
+use Rattle.agg_composite.specs.buckets.Visits.{docs_in}
+use Rattle.agg_engine_tree.specs.uncut.Uncut.{uncut_lengths}
+use Rattle.agg_engine_tree.specs.collector_tree.Counting.{counted_of}
+use Rattle.agg_engine_tree.specs.collector_tree.Tree.{Held, Takes, held_of}
+use Rattle.agg_engine_tree.proofs.lemmas.collector_tree.MostSteps.{no-steps}
+use Rattle.agg_engine.specs.snapshot_results.ChargedTrees.{IsChargeCause, IsCharged}
+use Rattle.agg_engine.specs.snapshot_results.MemoryLimits.{TellsMemory}
+use Rattle.agg_engine.specs.snapshot_results.Trees.{IsRight, MayBeTaken, MayTake, MostSteps}
+use Rattle.agg_engine.specs.declared.snapshot_results.charge_error.ChargeError.TheVariants as charge
+use Rattle.agg_engine.specs.declared.snapshot_results.charged_tree.ChargedTree.{ChargedTree}
+use Rattle.agg_engine.proofs.lemmas.snapshot_results.StartRanges.{none-out}
+use Rattle.agg_engine.proofs.lemmas.snapshot_results.RightTrees.{docs_in-under, right-more}
+use Rattle.agg_engine.proofs.lemmas.snapshot_results.TakenTrees.{most-of}
+use Rattle.agg_engine.specs.collectors.Segment.{IsRightFor, TakesFew}
+use Rattle.agg_engine.specs.declared.collectors.segment.AggregationSegmentCollector as declared
 use declared.{AggregationSegmentCollector}
-use Rattle.agg_collectors.proofs.StoredDocuments.{stored-all}
-use Rattle.agg_collectors.proofs.ToldMemory.{tells-more}
+use Rattle.agg_engine.proofs.lemmas.collectors.StoredDocuments.{stored-all}
+use Rattle.agg_engine.proofs.lemmas.collectors.ToldMemory.{tells-more}
 
 module _ (request : Request QueryTree) (segment : Stored) (taken : List ℕ) (visits : ℕ)
     (old : AggregationSegmentCollector) (r : IsRightFor request segment taken visits old) where
@@ -183,7 +183,7 @@ module _ (old : AggregationSegmentCollector) (docs : List ℕ) (steps : ℕ) whe
         most-taken request segment taken visits old r docs steps steps_now most;
   }
 
-  -- so does one that takes none
+  -- a collector whose tree takes no documents takes few steps
   pub few-none : TakesFew docs old steps steps
   few-none = record {
     most = λ request segment taken visits r.

@@ -1,6 +1,6 @@
 -- What an error tells of memory that is exceeded.
 use Rattle.std.proofs.Common.{◌≤◌, ℕ, arith}
-use Rattle.agg_snapshot.specs.MemoryLimits.{TellsMemory}
+use Rattle.agg_engine.specs.snapshot_results.MemoryLimits.{TellsMemory}
 
 -- it tells so where the bytes are at most more
 pub tells-more : (limit most more given_up told current : ℕ) → most ≤ more

@@ -10,13 +10,13 @@ use Rattle.agg_segment.specs.declared.query.QueryTree.{QueryTree}
 use Rattle.agg_request_tree.specs.Names.{NamesAscend, NamesAscendTo}
 use Rattle.agg_request_tree.specs.Request.{Request, below_of, with_builders, with_builders_in}
 use Rattle.agg_request_tree.specs.declared.aggregation.Aggregation.{Aggregation}
-use Rattle.agg_segment_context.specs.Additions.{paged_each, paged_in}
-use Rattle.agg_segment_context.specs.Pages.{paged}
-use Rattle.agg_segment_context.specs.declared.params.Page.{Page}
-use Rattle.agg_segment_context.proofs.Built.{below-built}
-use Rattle.agg_segment_context.proofs.Pages.{below-paged, paged-each}
-use Rattle.agg_snapshot.specs.Asked.{IsAsked, MayBeAsked}
-use Rattle.agg_snapshot.specs.declared.context.PageRequest.{PageRequest}
+use Rattle.agg_engine_tree.specs.segment_context.Additions.{paged_each, paged_in}
+use Rattle.agg_engine_tree.specs.segment_context.Pages.{paged}
+use Rattle.agg_engine_tree.specs.declared.segment_context.params.Page.{Page}
+use Rattle.agg_engine_tree.proofs.lemmas.segment_context.Built.{below-built}
+use Rattle.agg_engine_tree.proofs.lemmas.segment_context.Pages.{below-paged, paged-each}
+use Rattle.agg_engine.specs.snapshot_results.Asked.{IsAsked, MayBeAsked}
+use Rattle.agg_engine.specs.declared.snapshot_results.context.PageRequest.{PageRequest}
 
 -- with something else in place of each builder
 names-built : {B C : Type 0} (made : B → C) (depth : ℕ) (request : Request B)

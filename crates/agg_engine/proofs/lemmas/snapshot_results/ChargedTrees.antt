@@ -1,36 +1,41 @@
 -- What is charged for a tree of collectors, from call to call.
-use Rattle.std.proofs.Common.{◌≡◌, ◌≤◌, ◌+◌, ◌++◌, ℕ, List, [], Bool, false, map, refl, sym, ap}
-use Rattle.std.proofs.Common.{◌∙◌, subst, arith}
+use Rattle.std.proofs.Common.{◌≡◌, ◌≤◌, ◌<◌, ◌+◌, ◌-◌, ◌^◌, ◌++◌, ℕ, List, [], Bool, false, map}
+use Rattle.std.proofs.Common.{refl, sym, ap, ◌∙◌, subst, arith}
 use Rattle.std.specs.List.{All}
+use Rattle.std.proofs.Math.Nat.{min-eq_right}
 use Rattle.std.proofs.lemmas.List.{append_assoc}
 use Rattle.std.proofs.lemmas.List.Elements.{All-map, All-nil}
 use Rattle.agg_cache.specs.Limits.{Limits}
 use Rattle.agg_cache.specs.Waiting.{under}
-use Rattle.agg_column.specs.Document.{Fields}
+use Rattle.agg_segment.specs.storage.Document.{Fields}
 use Rattle.agg_segment.specs.Query.{matches}
 use Rattle.agg_segment.specs.Segment.{Stored, documents_at}
 use Rattle.agg_segment.specs.declared.query.QueryTree.{QueryTree}
 use Rattle.agg_segment.proofs.EncodedColumns.{front_all}
 use Rattle.agg_request_tree.specs.Request.{Request}
-use Rattle.agg_charges.specs.Roof.{counts_of}
-use Rattle.agg_charges.proofs.LawfulRequests.{Lawful-request}
-use Rattle.agg_charges.proofs.WithinLists.{Within-more}
-use Rattle.agg_buckets.specs.Visits.{docs_in}
-use Rattle.agg_segment_context.specs.Context.{IsContextOf, Meaning}
-use Rattle.agg_segment_context.specs.Plan.{plan_of, plans_of}
-use Rattle.agg_segment_context.specs.declared.context.PerRequestAggSegCtx.{PerRequestAggSegCtx}
-use Rattle.agg_collector_tree.specs.Tree.{Held, Takes, held_of}
-use Rattle.agg_held_bytes.specs.HeldBytes.{held_bytes}
-use Rattle.agg_held_bytes.specs.Trees.{IsTreeOf}
-use Rattle.agg_held_bytes.proofs.TreeLaws.{most-one}
-use Rattle.agg_snapshot.specs.ChargedTrees.{ChargesAnew, IsChargeCause, IsHeldCause}
-use Rattle.agg_snapshot.specs.MemoryLimits.{TellsMemory}
-use Rattle.agg_snapshot.specs.Trees.{IsNew, IsRight}
-use Rattle.agg_snapshot.specs.declared.charge_error.ChargeError.{ChargeError}
-use Rattle.agg_snapshot.specs.declared.charge_error.ChargeError.TheVariants as error
-use Rattle.agg_snapshot.specs.declared.charged_tree.ChargedTree.{ChargedTree}
-use Rattle.agg_snapshot.proofs.RightTrees.{right-more}
-use Rattle.agg_snapshot.proofs.TakenParts.{documents-append}
+use Rattle.agg_request_tree.specs.charges.Roof.{counts_of}
+use Rattle.agg_request_tree.proofs.lemmas.charges.LawfulRequests.{Lawful-request}
+use Rattle.agg_request_tree.proofs.lemmas.charges.WithinLists.{Within-more}
+use Rattle.agg_composite.specs.buckets.Visits.{docs_in}
+use Rattle.agg_engine_tree.specs.segment_context.Context.{IsContextOf, Meaning}
+use Rattle.agg_engine_tree.specs.segment_context.Plan.{plan_of, plans_of}
+use Rattle.agg_engine_tree.specs.declared.segment_context.context.PerRequestAggSegCtx.{
+  PerRequestAggSegCtx,
+}
+use Rattle.agg_engine_tree.specs.collector_tree.Tree.{Held, Takes, held_of}
+use Rattle.agg_engine_tree.specs.held_bytes.HeldBytes.{held_bytes}
+use Rattle.agg_engine_tree.specs.held_bytes.Trees.{IsTreeOf}
+use Rattle.agg_engine_tree.proofs.lemmas.held_bytes.GrownBytes.{held-more}
+use Rattle.agg_engine_tree.proofs.lemmas.held_bytes.TreeLaws.{most-one}
+use Rattle.agg_engine.specs.snapshot_results.ChargedTrees.{ChargesAnew, IsChargeCause, IsCharged}
+use Rattle.agg_engine.specs.snapshot_results.ChargedTrees.{IsFixedCause, IsHeldCause}
+use Rattle.agg_engine.specs.snapshot_results.MemoryLimits.{TellsMemory}
+use Rattle.agg_engine.specs.snapshot_results.Trees.{IsNew, IsRight}
+use Rattle.agg_engine.specs.declared.snapshot_results.charge_error.ChargeError.{ChargeError}
+use Rattle.agg_engine.specs.declared.snapshot_results.charge_error.ChargeError.TheVariants as error
+use Rattle.agg_engine.specs.declared.snapshot_results.charged_tree.ChargedTree.{ChargedTree}
+use Rattle.agg_engine.proofs.lemmas.snapshot_results.RightTrees.{right-more}
+use Rattle.agg_engine.proofs.lemmas.snapshot_results.TakenParts.{documents-append}
 
 -- ---- what is told
 
@@ -57,7 +62,7 @@ module _ (request : Request QueryTree) where
       let lawful = Lawful-request matches request in
       omega (arith, lawful.most [], lawful.weighs [])
 
-  -- nor fewer where documents are added
+  -- no fewer bytes are counted where documents are added
   pub bytes-more : (xs ys : List Fields)
       → (counts_of matches request).bytes xs ≤ (counts_of matches request).bytes (xs ++ ys)
   bytes-more xs ys = (Lawful-request matches request).rises xs (xs ++ ys) (Within-more xs ys)
@@ -116,6 +121,7 @@ module _ (old new : ChargedTree) (limits limits_now : Limits)
       → ChargesAnew new last limits_now limits_last → ChargesAnew old last limits limits_last
   charges-both last limits_last second = record {
     fixed = second.fixed ∙ charges.fixed;
+    grows = omega (arith, charges.grows, second.grows);
     in_use = omega (arith, charges.in_use, second.in_use);
     memory_limit = second.memory_limit ∙ charges.memory_limit;
     bucket_limit = second.bucket_limit ∙ charges.bucket_limit;
@@ -127,7 +133,18 @@ module _ (ctx : PerRequestAggSegCtx) (pairs : List (ℕ × ℕ)) (old mid : Char
     (limits : Limits) (all : Bool) (steps steps_now : ℕ)
     (took : Takes ctx pairs all (held_of old.tree) (held_of mid.tree) steps steps_now)
     (fixed : mid.fixed ≡ old.fixed) (guard : mid.guard ≡ old.guard) where
-  -- a tree that took documents, and isn't charged anew
+  -- a tree that took documents has what is charged for it at least
+  pub grown-taken : IsCharged ctx old → mid.guard ≤ mid.fixed + held_bytes ctx (held_of mid.tree)
+  grown-taken charged =
+      omega (
+        arith,
+        charged,
+        fixed,
+        guard,
+        held-more ctx (held_of old.tree) (held_of mid.tree) took.nodes,
+      )
+
+  -- a tree that took documents, and whose growth isn't charged
   pub cause-taken : (e : ChargeError) → IsHeldCause ctx mid limits e
       → IsChargeCause ctx pairs old limits e
   cause-taken (error.MemoryExceeded told current) tells = λ request meaning taken visits right zero.
@@ -142,6 +159,31 @@ module _ (ctx : PerRequestAggSegCtx) (pairs : List (ℕ × ℕ)) (old mid : Char
       (documents_at meaning.segment (docs_in (taken ++ pairs)))) mid.guard old.guard told current
       refl (omega (arith, most, fixed, guard)) tells
   cause-taken error.OutOfMemory tells = tt
+
+module _ (ctx : PerRequestAggSegCtx) (old : ChargedTree) (limits : Limits) where
+  -- a tree whose growth isn't charged
+  pub cause-growth : (bytes : ℕ) → bytes ≡ old.fixed + held_bytes ctx (held_of old.tree)
+      → old.guard ≤ old.fixed + held_bytes ctx (held_of old.tree) → (e : ChargeError)
+      → IsFixedCause (bytes - old.guard) limits e → IsHeldCause ctx old limits e
+  cause-growth bytes are grown (error.MemoryExceeded told current) tells =
+      tells-within limits.memory_limit limits.memory_limit (limits.in_use + (bytes - old.guard))
+      (limits.in_use + old.fixed + held_bytes ctx (held_of old.tree)) 0 old.guard told current refl
+      (omega (arith, are, grown)) tells
+  cause-growth bytes are grown error.OutOfMemory tells = tt
+
+  -- one that takes more bytes than 64 bits hold
+  pub cause-past : limits.memory_limit < 2 ^ 64 → old.guard ≤ limits.in_use
+      → 2 ^ 64 ≤ old.fixed + held_bytes ctx (held_of old.tree) → (e : ChargeError)
+      → e ≡ error.MemoryExceeded limits.memory_limit (2 ^ 64 - 1) → IsHeldCause ctx old limits e
+  cause-past low within many e is =
+      let all = limits.in_use + old.fixed + held_bytes ctx (held_of old.tree) - old.guard in
+      subst (IsHeldCause ctx old limits) (sym is) (record {
+        is_limit = refl;
+        sum = all;
+        above = omega (arith, low, within, many);
+        within = omega (arith, within, many);
+        is_sum = sym (min-eq_right (omega (arith, within, many)));
+      })
 
 module _ (ctx : PerRequestAggSegCtx) (xs ys : List (ℕ × ℕ)) (old : ChargedTree)
     (limits : Limits) where
@@ -168,7 +210,7 @@ module _ (ctx : PerRequestAggSegCtx) (xs ys : List (ℕ × ℕ)) (old : ChargedT
       (cause request meaning taken visits right front)
   cause-first error.OutOfMemory cause = tt
 
-  -- so is one of the second part, after the first
+  -- a refusal of the second part, after the first, is one of both
   pub cause-second : (mid : ChargedTree) (limits_mid : Limits) (steps steps_mid : ℕ)
       → Takes ctx xs false (held_of old.tree) (held_of mid.tree) steps steps_mid
       → ChargesAnew old mid limits limits_mid → (e : ChargeError)

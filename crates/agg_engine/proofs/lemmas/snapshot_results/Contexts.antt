@@ -6,20 +6,20 @@ use Rattle.std.proofs.lemmas.List.{take-append-drop, take_more}
 use Rattle.std.proofs.lemmas.List.Concat.{flat_map-append, flat_map-cons}
 use Rattle.std.proofs.lemmas.List.Elements.{filter-append}
 use Rattle.std.proofs.lemmas.Slice.Zip.{AllZip-long}
-use Rattle.agg_column.specs.Document.{Fields}
+use Rattle.agg_segment.specs.storage.Document.{Fields}
 use Rattle.agg_segment.specs.Query.{matches}
 use Rattle.agg_segment.specs.Segment.{Stored, documents_at, documents_of}
 use Rattle.agg_segment.specs.declared.query.QueryTree.{QueryTree}
 use Rattle.agg_request_tree.specs.Ranges.{HasStartOutOfRange}
 use Rattle.agg_request_tree.specs.Request.{Request}
 use Rattle.agg_request_tree.specs.Uncut.{CountsTooMany}
-use Rattle.agg_segment_context.specs.Context as context
-use Rattle.agg_segment_context.specs.Context.{Meaning}
-use Rattle.agg_snapshot.specs.Contexts.{AreContextsOf, IsContextOf, MayBeCollected}
-use Rattle.agg_snapshot.specs.Documents.{matching_in}
-use Rattle.agg_snapshot.specs.declared.context.SegmentContext.{SegmentContext}
-use Rattle.agg_snapshot.proofs.PartCounts.{as_many-back, as_many-front}
-use Rattle.agg_snapshot.proofs.StartRanges.{none-out, out-back, out-front}
+use Rattle.agg_engine_tree.specs.segment_context.Context as context
+use Rattle.agg_engine_tree.specs.segment_context.Context.{Meaning}
+use Rattle.agg_engine.specs.snapshot_results.Contexts.{AreContextsOf, IsContextOf, MayBeCollected}
+use Rattle.agg_engine.specs.snapshot_results.Documents.{matching_in}
+use Rattle.agg_engine.specs.declared.snapshot_results.context.SegmentContext.{SegmentContext}
+use Rattle.agg_engine.proofs.lemmas.snapshot_results.PartCounts.{as_many-back, as_many-front}
+use Rattle.agg_engine.proofs.lemmas.snapshot_results.StartRanges.{none-out, out-back, out-front}
 
 -- ---- pairs of two lists
 

@@ -7,7 +7,7 @@ use Rattle.std.specs.Map.{keys_of}
 use Rattle.std.specs.List.{All}
 use Rattle.std.proofs.lemmas.List.Elements.{All-append, All-filter, All-from_recursion}
 use Rattle.std.proofs.lemmas.List.Elements.{All-nil}
-use Rattle.agg_column.specs.Document.{Fields, HasNumbersOf64Bits}
+use Rattle.agg_segment.specs.storage.Document.{Fields, HasNumbersOf64Bits}
 use Rattle.agg_segment.specs.Query.{matches}
 use Rattle.agg_segment.specs.Segment.{Stored, documents_of}
 use Rattle.agg_segment.specs.declared.query.QueryTree.{QueryTree}
@@ -15,26 +15,31 @@ use Rattle.agg_request_tree.specs.Request.{Request}
 use Rattle.agg_request_tree.specs.Uncut.{CountsTooMany}
 use Rattle.agg_request_tree.specs.declared.aggregation.Aggregation.{Aggregation}
 use Rattle.agg_values.specs.Names.{value_of}
-use Rattle.agg_metric_results.specs.declared.error.MergeError.{MergeError}
-use Rattle.agg_metric_results.specs.declared.error.MergeError.TheVariants as merge
-use Rattle.agg_intermediate_results.specs.Merging.{AreMerged, CountsPass, ShapesDiffer, SomeOfBoth}
-use Rattle.agg_intermediate_results.specs.declared.results.IntermediateAggregationResults as held
+use Rattle.agg_results.specs.declared.metric_results.error.MergeError.{MergeError}
+use Rattle.agg_results.specs.declared.metric_results.error.MergeError.TheVariants as merge
+use Rattle.agg_results.specs.intermediate_results.Merging.{AreMerged, CountsPass, ShapesDiffer}
+use Rattle.agg_results.specs.intermediate_results.Merging.{SomeOfBoth}
+use Rattle.agg_results.specs.declared.intermediate_results.results.IntermediateAggregationResults
+    as held
 use held.{IntermediateAggregationResults}
 use Rattle.agg_request_tree.proofs.Lists.{AllByRecursion-always}
 use Rattle.agg_results.specs.StandsFor.{StandsFor, StandsTo}
 use Rattle.agg_results.proofs.AddedNumbers.{adds-small}
 use Rattle.agg_results.proofs.PassingResults.{StandsFor-few}
 use Rattle.agg_results.proofs.StandingResults.{StandsFor-alike, StandsFor-joined}
-use Rattle.agg_snapshot.specs.Answers.{AnswersResults}
-use Rattle.agg_snapshot.specs.Contexts.{AreContextsOf, MayBeCollected}
-use Rattle.agg_snapshot.specs.Documents.{matching_in}
-use Rattle.agg_snapshot.specs.Steps.{counted_of, past_named}
-use Rattle.agg_snapshot.specs.declared.context.SegmentContext.{SegmentContext}
-use Rattle.agg_snapshot.specs.declared.error.SnapshotError.{SnapshotError}
-use Rattle.agg_snapshot.proofs.Contexts.{documents-back, documents-cut, documents-front, few-cut}
-use Rattle.agg_snapshot.proofs.Contexts.{matching-append, matching-one, ready-back, ready-front}
-use Rattle.agg_snapshot.proofs.JoinedCounts.{counted-append, past-append, past-none}
-use Rattle.agg_snapshot.proofs.PartCounts.{as_many-fewer}
+use Rattle.agg_engine.specs.snapshot_results.Answers.{AnswersResults}
+use Rattle.agg_engine.specs.snapshot_results.Contexts.{AreContextsOf, MayBeCollected}
+use Rattle.agg_engine.specs.snapshot_results.Documents.{matching_in}
+use Rattle.agg_engine.specs.snapshot_results.Steps.{counted_of, past_named}
+use Rattle.agg_engine.specs.declared.snapshot_results.context.SegmentContext.{SegmentContext}
+use Rattle.agg_engine.specs.declared.snapshot_results.error.SnapshotError.{SnapshotError}
+use Rattle.agg_engine.proofs.lemmas.snapshot_results.Contexts.{documents-back, documents-cut}
+use Rattle.agg_engine.proofs.lemmas.snapshot_results.Contexts.{documents-front, few-cut}
+use Rattle.agg_engine.proofs.lemmas.snapshot_results.Contexts.{matching-append, matching-one}
+use Rattle.agg_engine.proofs.lemmas.snapshot_results.Contexts.{ready-back, ready-front}
+use Rattle.agg_engine.proofs.lemmas.snapshot_results.JoinedCounts.{counted-append, past-append}
+use Rattle.agg_engine.proofs.lemmas.snapshot_results.JoinedCounts.{past-none}
+use Rattle.agg_engine.proofs.lemmas.snapshot_results.PartCounts.{as_many-fewer}
 
 -- ---- two lists of documents
 
@@ -150,7 +155,7 @@ module _ (contexts first second : List SegmentContext) (half : ℕ)
         b request query (drop half segments)
         (ready-back request query segments contexts half ready second back)
 
-    -- so are those of both
+    -- the steps of both parts are at most three for each counted document
     pub both-most : steps_now ≤ steps + 3 * counted_of matches request (matching_in query segments)
     both-most =
         let first = first-answers.most in

@@ -7,7 +7,7 @@ use Rattle.std.proofs.lemmas.List.Concat.{flat_map-append}
 use Rattle.std.proofs.lemmas.List.Elements.{filter-append}
 use Rattle.std.proofs.lemmas.List.Sums.{sum_by-cons}
 use Rattle.agg_values.specs.Names.{value_of}
-use Rattle.agg_column.specs.Document.{Fields}
+use Rattle.agg_segment.specs.storage.Document.{Fields}
 use Rattle.agg_request_tree.specs.Occurrences.{bound_of, is_past, occurrences, occurrences_in}
 use Rattle.agg_request_tree.specs.Occurrences.{past_occurrences}
 use Rattle.agg_request_tree.specs.Request.{Request, agg_of, below_of}
@@ -21,8 +21,8 @@ use Rattle.agg_request_tree.specs.declared.aggregation.AggregationVariants.TheVa
 use variants.{Filter, Composite, Count, Max, Min, Sum}
 use Rattle.agg_request_tree.proofs.RequestTrees.{height, height-out, levels}
 use Rattle.agg_request_tree.proofs.UncutLists.{once_each-append, uncut-append}
-use Rattle.agg_snapshot.specs.Steps.{counted_in, counted_of, counted_step, own_counted, past_named}
-use Rattle.agg_snapshot.specs.Steps.{past_own}
+use Rattle.agg_engine.specs.snapshot_results.Steps.{counted_in, counted_of, counted_step}
+use Rattle.agg_engine.specs.snapshot_results.Steps.{own_counted, past_named, past_own}
 
 -- a sum over mapped items
 sum-mapped : {X Y : Type 0} (f : Y → ℕ) (g : X → Y) (xs : List X)
@@ -121,7 +121,7 @@ past-own (Some (Min a)) xs ys = refl
 past-own (Some (Sum a)) xs ys = refl
 past-own (Some (Composite c)) xs ys = past-joined c.sources (bound_of c.sources c.after) xs ys
 
--- so of the aggregation of a name
+-- those past the after key of the aggregation of a name
 pub past-append : {B : Type 0} (name : List ℕ) (request : Request B) (xs ys : List Fields)
     → past_named name request (xs ++ ys) ≡ past_named name request xs + past_named name request ys
 past-append {B = B} name request =

@@ -3,17 +3,17 @@ use Rattle.std.proofs.Common.{◌≡◌, ◌≤◌, ◌+◌, ◌++◌, ℕ, List
 use Rattle.std.proofs.lemmas.List.{map-append, take-append-drop}
 use Rattle.std.proofs.lemmas.List.Elements.{All-append}
 use Rattle.agg_cache.specs.Limits.{Limits}
-use Rattle.agg_column.specs.Document.{Fields}
+use Rattle.agg_segment.specs.storage.Document.{Fields}
 use Rattle.agg_segment.specs.Query.{matches}
 use Rattle.agg_segment.specs.Segment.{Stored, documents_of}
 use Rattle.agg_segment.specs.declared.query.QueryTree.{QueryTree}
 use Rattle.agg_request_tree.specs.Request.{Request}
-use Rattle.agg_snapshot.specs.Answers.{IsMemoryRefusal}
-use Rattle.agg_snapshot.specs.MemoryLimits.{HaveRoom, MayPassLimit, TellsMemory, low_roof_in}
-use Rattle.agg_snapshot.specs.MemoryLimits.{roof_in}
-use Rattle.agg_snapshot.specs.declared.error.SnapshotError.{SnapshotError}
-use Rattle.agg_snapshot.specs.declared.error.SnapshotError.TheVariants as error
-use Rattle.agg_snapshot.proofs.TreeRanges.{any-left, any-right}
+use Rattle.agg_engine.specs.snapshot_results.Answers.{IsMemoryRefusal}
+use Rattle.agg_engine.specs.snapshot_results.MemoryLimits.{HaveRoom, MayPassLimit, TellsMemory}
+use Rattle.agg_engine.specs.snapshot_results.MemoryLimits.{low_roof_in, roof_in}
+use Rattle.agg_engine.specs.declared.snapshot_results.error.SnapshotError.{SnapshotError}
+use Rattle.agg_engine.specs.declared.snapshot_results.error.SnapshotError.TheVariants as error
+use Rattle.agg_engine.proofs.lemmas.snapshot_results.TreeRanges.{any-left, any-right}
 
 module _ (request : Request QueryTree) (query : QueryTree) (segments : List Stored) (i : ℕ)
     (limits : Limits) where
@@ -43,7 +43,7 @@ module _ (request : Request QueryTree) (query : QueryTree) (segments : List Stor
   refusal-front error.BucketOutOfRange refused = absurd refused
   refusal-front error.TooMany refused = absurd refused
 
-  -- so is one of those that are left
+  -- a refusal of the segments that are left is one of all
   pub refusal-back : (e : SnapshotError)
       → IsMemoryRefusal request query (drop i segments) limits e
       → IsMemoryRefusal request query segments limits e

@@ -15,7 +15,7 @@ use Rattle.agg_values.specs.Names.{Named, name_cmp}
 use Rattle.agg_values.specs.Tuple.{KeyTuple}
 use Rattle.agg_values.specs.declared.after_key.AfterKey.{AfterKey}
 use Rattle.agg_values.proofs.TupleOrder.{tuple_order-total}
-use Rattle.agg_column.specs.Document.{Fields}
+use Rattle.agg_segment.specs.storage.Document.{Fields}
 use Rattle.agg_segment.specs.Query.{matches}
 use Rattle.agg_segment.specs.Segment.{Stored, documents_at}
 use Rattle.agg_segment.specs.declared.query.QueryTree.{QueryTree}
@@ -28,21 +28,24 @@ use Rattle.agg_request_tree.specs.declared.aggregation.AggregationVariants.TheVa
 use Rattle.agg_request_tree.specs.declared.aggregation.CompositeAggregation.{CompositeAggregation}
 use Rattle.agg_request_tree.proofs.OccurrencesLength.{past-fewer}
 use Rattle.agg_request_tree.proofs.UncutLength.{length-counted}
-use Rattle.agg_charges.specs.Distinct.{distinct}
-use Rattle.agg_charges.specs.Roof.{composite_counts, counts, counts_by, counts_of, has_room}
-use Rattle.agg_charges.specs.Roof.{over_tuples, own_bytes, past_tuples, together}
-use Rattle.agg_charges.proofs.CountsOut.{counts-out}
-use Rattle.agg_charges.proofs.Distinct.{Apart-distinct}
-use Rattle.agg_charges.proofs.KeySums.{sum_by-other_keys}
-use Rattle.agg_charges.proofs.Sums.{sum_by-constant, sum_by-none}
-use Rattle.agg_accessor.specs.Encoding.{EncodedTuple}
-use Rattle.agg_accessor.specs.declared.request_data.CompositeAggReqData.{CompositeAggReqData}
-use Rattle.agg_buckets.specs.Page.{Page}
+use Rattle.agg_request_tree.specs.charges.Distinct.{distinct}
+use Rattle.agg_request_tree.specs.charges.Roof.{composite_counts, counts, counts_by, counts_of}
+use Rattle.agg_request_tree.specs.charges.Roof.{has_room, over_tuples, own_bytes, past_tuples}
+use Rattle.agg_request_tree.specs.charges.Roof.{together}
+use Rattle.agg_request_tree.proofs.lemmas.charges.CountsOut.{counts-out}
+use Rattle.agg_request_tree.proofs.lemmas.charges.Distinct.{Apart-distinct}
+use Rattle.agg_request_tree.proofs.lemmas.charges.KeySums.{sum_by-other_keys}
+use Rattle.agg_request_tree.proofs.lemmas.charges.Sums.{sum_by-constant, sum_by-none}
+use Rattle.agg_composite.specs.accessor.Encoding.{EncodedTuple}
+use Rattle.agg_composite.specs.declared.accessor.request_data.CompositeAggReqData.{
+  CompositeAggReqData,
+}
+use Rattle.agg_composite.specs.buckets.Page.{Page}
 use Rattle.agg_composite.specs.Listing.{IsLowest, past_of}
 use Rattle.agg_composite.specs.PageEntries.{entry_group, entry_of, page_entries}
-use Rattle.agg_collector_tree.specs.Counting.{counted_of, own_counted}
-use Rattle.agg_collector_tree.proofs.MostVisits.{counted_in-out, counted_of-more}
-use Rattle.agg_snapshot.specs.Steps.{past_named, past_own}
+use Rattle.agg_engine_tree.specs.collector_tree.Counting.{counted_of, own_counted}
+use Rattle.agg_engine_tree.proofs.lemmas.collector_tree.MostVisits.{counted_in-out, counted_of-more}
+use Rattle.agg_engine.specs.snapshot_results.Steps.{past_named, past_own}
 
 -- ---- a request of one composite
 
@@ -71,7 +74,7 @@ module _ (name : List ℕ) (a : Aggregation QueryTree) (asked : CompositeAggrega
   leaf-bytes documents =
       omega (arith, ap (λ c. c.bytes documents) counts-alone, none-below documents)
 
-  -- and so are the low bytes
+  -- the low bytes are those of its own buckets
   pub leaf-low_bytes : (documents : List Fields)
       → (counts_of matches ((name, a) ∷ [])).low_bytes documents ≡ own_bytes asked documents
   leaf-low_bytes documents =

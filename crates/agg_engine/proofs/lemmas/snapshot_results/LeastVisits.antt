@@ -6,7 +6,7 @@ use Rattle.std.specs.Prelude.{option_map, slice_get}
 use Rattle.std.specs.BTreeMap.{is_at}
 use Rattle.agg_values.specs.Names.{Named, name_cmp, value_of}
 use Rattle.agg_values.specs.declared.after_key.AfterKey.{AfterKey}
-use Rattle.agg_column.specs.Document.{Fields}
+use Rattle.agg_segment.specs.storage.Document.{Fields}
 use Rattle.agg_segment.specs.Segment.{Stored, documents_at}
 use Rattle.agg_segment.specs.declared.query.QueryTree.{QueryTree}
 use Rattle.agg_request_tree.specs.Occurrences.{bound_of, past_occurrences}
@@ -14,18 +14,22 @@ use Rattle.agg_request_tree.specs.Request.{Request, agg_of}
 use Rattle.agg_request_tree.specs.declared.aggregation.Aggregation.{Aggregation}
 use Rattle.agg_request_tree.specs.declared.aggregation.AggregationVariants.{AggregationVariants}
 use Rattle.agg_request_tree.specs.declared.aggregation.AggregationVariants.TheVariants as asks
-use Rattle.agg_accessor.specs.declared.request_data.CompositeAggReqData.{CompositeAggReqData}
-use Rattle.agg_buckets.specs.Visits.{docs_in}
+use Rattle.agg_composite.specs.declared.accessor.request_data.CompositeAggReqData.{
+  CompositeAggReqData,
+}
+use Rattle.agg_composite.specs.buckets.Visits.{docs_in}
 use Rattle.agg_composite.proofs.VisitsPast.{length-past}
-use Rattle.agg_segment_context.specs.Context.{ArePlansOf, IsAskedAt, IsPlanOf, Meaning}
-use Rattle.agg_segment_context.specs.Plan.{Plan, Plans}
-use Rattle.agg_segment_context.specs.declared.context.PerRequestAggSegCtx.{PerRequestAggSegCtx}
-use Rattle.agg_segment_context.specs.declared.node.AggKind.TheVariants as kind
-use Rattle.agg_collector_tree.specs.Tree.{AllFor, AreOf, Held, Helds, IsFor, IsGroupOf, IsOf}
-use Rattle.agg_collector_tree.specs.Tree.{visits_of}
-use Rattle.agg_collector_tree.proofs.MostVisits.{asked-composite}
-use Rattle.agg_snapshot.specs.Steps.{past_named, past_own}
-use Rattle.agg_snapshot.proofs.JoinedCounts.{past-joined}
+use Rattle.agg_engine_tree.specs.segment_context.Context.{ArePlansOf, IsAskedAt, IsPlanOf, Meaning}
+use Rattle.agg_engine_tree.specs.segment_context.Plan.{Plan, Plans}
+use Rattle.agg_engine_tree.specs.declared.segment_context.context.PerRequestAggSegCtx.{
+  PerRequestAggSegCtx,
+}
+use Rattle.agg_engine_tree.specs.declared.segment_context.node.AggKind.TheVariants as kind
+use Rattle.agg_engine_tree.specs.collector_tree.Tree.{AllFor, AreOf, Held, Helds, IsFor, IsGroupOf}
+use Rattle.agg_engine_tree.specs.collector_tree.Tree.{IsOf, visits_of}
+use Rattle.agg_engine_tree.proofs.lemmas.collector_tree.MostVisits.{asked-composite}
+use Rattle.agg_engine.specs.snapshot_results.Steps.{past_named, past_own}
+use Rattle.agg_engine.proofs.lemmas.snapshot_results.JoinedCounts.{past-joined}
 
 -- a composite makes a visit for each occurrence of what it took that lies past its after key
 visits-past : (req : CompositeAggReqData) (segment : Stored) (after : Named AfterKey)

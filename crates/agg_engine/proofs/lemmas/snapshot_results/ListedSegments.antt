@@ -5,9 +5,9 @@ use Rattle.std.proofs.lemmas.List.Elements.{All-cons, All-nil}
 use Rattle.agg_values.specs.Names.{Named}
 use Rattle.agg_values.specs.declared.after_key.AfterKey.{AfterKey}
 use Rattle.agg_cache.specs.Limits.{Limits}
-use Rattle.agg_charges.specs.Charges.{bucket_bytes}
-use Rattle.agg_charges.specs.Roof.{Counts, counts_of, own_bytes}
-use Rattle.agg_column.specs.Document.{Fields}
+use Rattle.agg_request_tree.specs.charges.Charges.{bucket_bytes}
+use Rattle.agg_request_tree.specs.charges.Roof.{Counts, counts_of, own_bytes}
+use Rattle.agg_segment.specs.storage.Document.{Fields}
 use Rattle.agg_segment.specs.Query.{matches}
 use Rattle.agg_segment.specs.Segment.{Stored, documents_at, documents_of}
 use Rattle.agg_segment.specs.declared.query.QueryTree.{QueryTree}
@@ -16,35 +16,41 @@ use Rattle.agg_request_tree.specs.Ranges.{HasStartOutOfRange}
 use Rattle.agg_request_tree.specs.Request.{Request}
 use Rattle.agg_request_tree.specs.Source.{Sources}
 use Rattle.agg_request_tree.specs.Uncut.{CountsTooMany}
-use Rattle.agg_accessor.specs.Encoding.{EncodedTuple}
-use Rattle.agg_accessor.specs.Ranges.{AreAllInRange}
-use Rattle.agg_accessor.specs.declared.request_data.CompositeAggReqData.{CompositeAggReqData}
-use Rattle.agg_buckets.specs.Page.{Page}
+use Rattle.agg_composite.specs.accessor.Encoding.{EncodedTuple}
+use Rattle.agg_composite.specs.accessor.Ranges.{AreAllInRange}
+use Rattle.agg_composite.specs.declared.accessor.request_data.CompositeAggReqData.{
+  CompositeAggReqData,
+}
+use Rattle.agg_composite.specs.buckets.Page.{Page}
 use Rattle.agg_composite.specs.Listing.{IsLowest, past_of}
-use Rattle.agg_intermediate_results.specs.declared.results.IntermediateAggregationResults as held
+use Rattle.agg_results.specs.declared.intermediate_results.results.IntermediateAggregationResults
+    as held
 use held.{IntermediateAggregationResults}
 use Rattle.agg_results.specs.StandsFor.{StandsFor}
-use Rattle.agg_segment_context.specs.Context.{ArePlansOf}
-use Rattle.agg_collector_tree.specs.Counting.{counted_of}
-use Rattle.agg_snapshot.specs.Answers.{AnswersResults, IsMemoryRefusal}
-use Rattle.agg_snapshot.specs.ChargeErrors.{snapshot_error}
-use Rattle.agg_snapshot.specs.ChargedTrees.{ChargesAnew, IsFixedCause, IsMade, before}
-use Rattle.agg_snapshot.specs.Contexts.{IsContextOf, MayBeCollected}
-use Rattle.agg_snapshot.specs.Documents.{matching_in}
-use Rattle.agg_snapshot.specs.Listed.{MayBeListed}
-use Rattle.agg_snapshot.specs.Lone.{IsLone}
-use Rattle.agg_snapshot.specs.MemoryLimits.{HaveRoom, low_roof_in, roof_in}
-use Rattle.agg_snapshot.specs.Steps.{past_named}
-use Rattle.agg_snapshot.specs.declared.charge_error.ChargeError.{ChargeError}
-use Rattle.agg_snapshot.specs.declared.charge_error.ChargeError.TheVariants as error
-use Rattle.agg_snapshot.specs.declared.charged_tree.ChargedTree.{ChargedTree}
-use Rattle.agg_snapshot.specs.declared.context.SegmentContext.{SegmentContext}
-use Rattle.agg_snapshot.proofs.ChargedTrees.{tells-within}
-use Rattle.agg_snapshot.proofs.Contexts.{documents-here, matching-one}
-use Rattle.agg_snapshot.proofs.LeafBytes.{leaf-bytes, leaf-counted, leaf-low_bytes, leaf-past}
-use Rattle.agg_snapshot.proofs.LeafBytes.{listed-many}
-use Rattle.agg_snapshot.proofs.LoneRequests.{IsOneLeaf, leaf-few, leaf-in_range, one-leaf}
-use Rattle.agg_snapshot.proofs.SegmentMemory.{tree-fixed}
+use Rattle.agg_engine_tree.specs.segment_context.Context.{ArePlansOf}
+use Rattle.agg_engine_tree.specs.collector_tree.Counting.{counted_of}
+use Rattle.agg_engine.specs.snapshot_results.Answers.{AnswersResults, IsMemoryRefusal}
+use Rattle.agg_engine.specs.snapshot_results.ChargeErrors.{snapshot_error}
+use Rattle.agg_engine.specs.snapshot_results.ChargedTrees.{ChargesAnew, IsFixedCause, IsMade}
+use Rattle.agg_engine.specs.snapshot_results.ChargedTrees.{before}
+use Rattle.agg_engine.specs.snapshot_results.Contexts.{IsContextOf, MayBeCollected}
+use Rattle.agg_engine.specs.snapshot_results.Documents.{matching_in}
+use Rattle.agg_engine.specs.snapshot_results.Listed.{MayBeListed}
+use Rattle.agg_engine.specs.snapshot_results.Lone.{IsLone}
+use Rattle.agg_engine.specs.snapshot_results.MemoryLimits.{HaveRoom, low_roof_in, roof_in}
+use Rattle.agg_engine.specs.snapshot_results.Steps.{past_named}
+use Rattle.agg_engine.specs.declared.snapshot_results.charge_error.ChargeError.{ChargeError}
+use Rattle.agg_engine.specs.declared.snapshot_results.charge_error.ChargeError.TheVariants as error
+use Rattle.agg_engine.specs.declared.snapshot_results.charged_tree.ChargedTree.{ChargedTree}
+use Rattle.agg_engine.specs.declared.snapshot_results.context.SegmentContext.{SegmentContext}
+use Rattle.agg_engine.proofs.lemmas.snapshot_results.ChargedTrees.{tells-within}
+use Rattle.agg_engine.proofs.lemmas.snapshot_results.Contexts.{documents-here, matching-one}
+use Rattle.agg_engine.proofs.lemmas.snapshot_results.LeafBytes.{leaf-bytes, leaf-counted}
+use Rattle.agg_engine.proofs.lemmas.snapshot_results.LeafBytes.{leaf-low_bytes, leaf-past}
+use Rattle.agg_engine.proofs.lemmas.snapshot_results.LeafBytes.{listed-many}
+use Rattle.agg_engine.proofs.lemmas.snapshot_results.LoneRequests.{IsOneLeaf, leaf-few}
+use Rattle.agg_engine.proofs.lemmas.snapshot_results.LoneRequests.{leaf-in_range, one-leaf}
+use Rattle.agg_engine.proofs.lemmas.snapshot_results.SegmentMemory.{tree-fixed}
 
 module _ (request : Request QueryTree) (query : QueryTree) (segment : Stored)
     (given : SegmentContext) (ready : MayBeCollected request query (segment ∷ []) (given ∷ []))

@@ -1,15 +1,19 @@
 -- A node that stands alone in a context.
 use Rattle.std.proofs.Common.{◌≡◌, ◌<◌, ℕ, List, [], Some, get_or, length, map, sym, ap, ◌∙◌}
 use Rattle.std.specs.Prelude.{slice_get}
-use Rattle.agg_accessor.specs.declared.request_data.CompositeAggReqData.{CompositeAggReqData}
-use Rattle.agg_segment_context.specs.Plan.{Plan, Plans, plan_of, plans_of}
-use Rattle.agg_segment_context.specs.declared.context.PerRequestAggSegCtx.{PerRequestAggSegCtx}
-use Rattle.agg_segment_context.specs.declared.node.AggKind.TheVariants as kind
-use Rattle.agg_segment_context.specs.declared.node.AggRefNode.{AggRefNode}
-use Rattle.agg_segment_context.specs.declared.node.AggRefNode.TheViews.{out-AggRefNode}
-use Rattle.agg_segment_context.proofs.Views.{plan-out}
-use Rattle.agg_snapshot.specs.Lone.{IsLone}
-use Rattle.agg_snapshot.proofs.Contexts.{no-item, only-item}
+use Rattle.agg_composite.specs.declared.accessor.request_data.CompositeAggReqData.{
+  CompositeAggReqData,
+}
+use Rattle.agg_engine_tree.specs.segment_context.Plan.{Plan, Plans, plan_of, plans_of}
+use Rattle.agg_engine_tree.specs.declared.segment_context.context.PerRequestAggSegCtx.{
+  PerRequestAggSegCtx,
+}
+use Rattle.agg_engine_tree.specs.declared.segment_context.node.AggKind.TheVariants as kind
+use Rattle.agg_engine_tree.specs.declared.segment_context.node.AggRefNode.{AggRefNode}
+use Rattle.agg_engine_tree.specs.declared.segment_context.node.AggRefNode.TheViews.{out-AggRefNode}
+use Rattle.agg_engine_tree.proofs.lemmas.segment_context.Views.{plan-out}
+use Rattle.agg_engine.specs.snapshot_results.Lone.{IsLone}
+use Rattle.agg_engine.proofs.lemmas.snapshot_results.Contexts.{no-item, only-item}
 
 -- data is that of a lone composite, where its node is the only one and has no children
 pub lone-read : (ctx : PerRequestAggSegCtx) (nodes : List AggRefNode) (node : AggRefNode)

@@ -6,7 +6,7 @@ use Rattle.std.specs.List.{All, Any}
 use Rattle.std.proofs.Math.Nat.{lt_of_not-le}
 use Rattle.agg_values.specs.Names.{Named}
 use Rattle.agg_values.specs.declared.after_key.AfterKey.{AfterKey}
-use Rattle.agg_column.specs.Document.{Fields}
+use Rattle.agg_segment.specs.storage.Document.{Fields}
 use Rattle.agg_segment.specs.Query.{matches}
 use Rattle.agg_segment.specs.declared.query.QueryTree.{QueryTree}
 use Rattle.agg_request_tree.specs.Ranges.{AreInRange, HasOwnStartOutOfRange, HasStartOutOfRange}
@@ -17,17 +17,22 @@ use Rattle.agg_request_tree.specs.declared.aggregation.AggregationVariants.{Aggr
 use Rattle.agg_request_tree.specs.declared.aggregation.AggregationVariants.TheVariants as asks
 use Rattle.agg_request_tree.specs.declared.aggregation.CompositeAggregation.{CompositeAggregation}
 use Rattle.agg_request_tree.proofs.RequestTrees.{composites-plain}
-use Rattle.agg_accessor.specs.declared.request_data.CompositeAggReqData.{CompositeAggReqData}
-use Rattle.agg_segment_context.specs.Context.{ArePlansOf, Meaning}
-use Rattle.agg_segment_context.specs.Plan.{Plan, Plans}
-use Rattle.agg_segment_context.specs.declared.context.PerRequestAggSegCtx.{PerRequestAggSegCtx}
-use Rattle.agg_segment_context.specs.declared.node.AggKind.TheVariants as kind
-use Rattle.agg_collector_tree.specs.Counting.{counted_of, own_counted}
-use Rattle.agg_collector_tree.proofs.ManyLists.{IsLong, many-first, many-own}
-use Rattle.agg_collector_tree.proofs.MostVisits.{asked-composite, counted_in-out, counted_of-more}
-use Rattle.agg_tree_results.specs.Leaves.{IsLeafOf}
-use Rattle.agg_snapshot.proofs.StableRanges.{ranges-stable}
-use Rattle.agg_snapshot.proofs.TreeRanges.{any-left}
+use Rattle.agg_composite.specs.declared.accessor.request_data.CompositeAggReqData.{
+  CompositeAggReqData,
+}
+use Rattle.agg_engine_tree.specs.segment_context.Context.{ArePlansOf, Meaning}
+use Rattle.agg_engine_tree.specs.segment_context.Plan.{Plan, Plans}
+use Rattle.agg_engine_tree.specs.declared.segment_context.context.PerRequestAggSegCtx.{
+  PerRequestAggSegCtx,
+}
+use Rattle.agg_engine_tree.specs.declared.segment_context.node.AggKind.TheVariants as kind
+use Rattle.agg_engine_tree.specs.collector_tree.Counting.{counted_of, own_counted}
+use Rattle.agg_engine_tree.proofs.lemmas.collector_tree.ManyLists.{IsLong, many-first, many-own}
+use Rattle.agg_engine_tree.proofs.lemmas.collector_tree.MostVisits.{asked-composite, counted_in-out}
+use Rattle.agg_engine_tree.proofs.lemmas.collector_tree.MostVisits.{counted_of-more}
+use Rattle.agg_engine_tree.specs.tree_results.Leaves.{IsLeafOf}
+use Rattle.agg_engine.proofs.lemmas.snapshot_results.StableRanges.{ranges-stable}
+use Rattle.agg_engine.proofs.lemmas.snapshot_results.TreeRanges.{any-left}
 
 -- ---- of which data it is
 

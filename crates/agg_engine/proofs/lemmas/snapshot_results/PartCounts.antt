@@ -2,7 +2,7 @@
 use Rattle.std.proofs.Common.{◌≡◌, ◌≤◌, ◌<◌, ◌++◌, ℕ, zero, suc, List, [], ◌∷◌, Bool}
 use Rattle.std.proofs.Common.{length, arith, refl, sym, subst, ap, ◌∙◌}
 use Rattle.std.specs.List.{AllByRecursion, AllZip, Any}
-use Rattle.agg_column.specs.Document.{Fields}
+use Rattle.agg_segment.specs.storage.Document.{Fields}
 use Rattle.agg_request_tree.specs.Request.{Request, agg_of, below_of}
 use Rattle.agg_request_tree.specs.Uncut.{ListsAsMany, uncut, uncut_lists, uncut_lists_of}
 use Rattle.agg_request_tree.specs.declared.aggregation.Aggregation.{Aggregation}
@@ -73,7 +73,7 @@ module _ {B : Type 0} (is_match : B → Fields → Bool) where
       long-part limit (uncut_lists_of is_match request xs) (uncut_lists_of is_match request ys)
       (lists-part request xs ys part)
 
-  -- so of the documents in front, and of those that are left
+  -- an aggregation that lists as many of the documents in front, or of those left, does so of all
   pub as_many-front : (limit : ℕ) (request : Request B) (xs ys : List Fields)
       → ListsAsMany is_match limit request xs → ListsAsMany is_match limit request (xs ++ ys)
   as_many-front limit request xs ys =

@@ -2,20 +2,20 @@
 use Rattle.std.proofs.Common.{◌≡◌, List, Result, Ok, Err, IfErr, IsErrAnd, OnOk, refl, sym, subst}
 use Rattle.std.proofs.lemmas.Result.{err_from_is_err_and}
 use Rattle.agg_cache.specs.Limits.{Limits}
-use Rattle.agg_column.specs.Document.{Fields}
+use Rattle.agg_segment.specs.storage.Document.{Fields}
 use Rattle.agg_segment.specs.Query.{matches}
 use Rattle.agg_segment.specs.Segment.{Stored}
 use Rattle.agg_segment.specs.declared.query.QueryTree.{QueryTree}
 use Rattle.agg_request_tree.specs.Ranges.{HasStartOutOfRange}
 use Rattle.agg_request_tree.specs.Request.{Request}
 use Rattle.agg_request_tree.specs.Uncut.{CountsTooMany}
-use Rattle.agg_snapshot.specs.Answers.{IsCountRefusal, IsMemoryRefusal, IsRefusal}
-use Rattle.agg_snapshot.specs.Answers.{IsStartRefusal}
-use Rattle.agg_snapshot.specs.Documents.{matching_in}
-use Rattle.agg_snapshot.specs.Asked.{IsAsked, MayBeAsked}
-use Rattle.agg_snapshot.specs.declared.context.PageRequest.{PageRequest}
-use Rattle.agg_snapshot.specs.declared.error.SnapshotError.{SnapshotError}
-use Rattle.agg_snapshot.specs.declared.error.SnapshotError.TheVariants as error
+use Rattle.agg_engine.specs.snapshot_results.Answers.{IsCountRefusal, IsMemoryRefusal, IsRefusal}
+use Rattle.agg_engine.specs.snapshot_results.Answers.{IsStartRefusal}
+use Rattle.agg_engine.specs.snapshot_results.Documents.{matching_in}
+use Rattle.agg_engine.specs.snapshot_results.Asked.{IsAsked, MayBeAsked}
+use Rattle.agg_engine.specs.declared.snapshot_results.context.PageRequest.{PageRequest}
+use Rattle.agg_engine.specs.declared.snapshot_results.error.SnapshotError.{SnapshotError}
+use Rattle.agg_engine.specs.declared.snapshot_results.error.SnapshotError.TheVariants as error
 
 -- a page that may be asked asks a request
 pub asked-some : {B : Type 0} (page : PageRequest B) → MayBeAsked page
@@ -48,7 +48,7 @@ module _ (request : Request QueryTree) (query : QueryTree) (segments : List Stor
   refusal-starts (error.MemoryExceeded told current) refused = absurd refused
   refusal-starts error.OutOfMemory refused = absurd refused
 
-  -- so is one of the counts, where no start is out of range
+  -- a refusal of the counts is one of all, where no start is out of range
   pub refusal-counts : (given : SnapshotError) → ¬ (HasStartOutOfRange request documents)
       → IsCountRefusal request documents given → IsRefusal request query segments limits given
   refusal-counts error.BucketOutOfRange in_range refused = absurd refused
@@ -56,7 +56,7 @@ module _ (request : Request QueryTree) (query : QueryTree) (segments : List Stor
   refusal-counts (error.MemoryExceeded told current) in_range refused = absurd refused
   refusal-counts error.OutOfMemory in_range refused = tt
 
-  -- so is one of memory, where few are counted as well
+  -- a refusal of memory is one of all, where no start is out of range and few are counted
   pub refusal-memory : (given : SnapshotError) → ¬ (HasStartOutOfRange request documents)
       → ¬ (CountsTooMany matches request documents)
       → IsMemoryRefusal request query segments limits given

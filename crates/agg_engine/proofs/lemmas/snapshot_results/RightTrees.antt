@@ -10,18 +10,20 @@ use Rattle.agg_segment.specs.Segment.{document_at, documents_at, documents_of}
 use Rattle.agg_segment.specs.declared.query.QueryTree.{QueryTree}
 use Rattle.agg_request_tree.specs.Names.{NamesAscend}
 use Rattle.agg_request_tree.specs.Request.{Request}
-use Rattle.agg_buckets.specs.Visits.{docs_in}
-use Rattle.agg_intermediate_results.specs.Intermediate.{Held as Results}
+use Rattle.agg_composite.specs.buckets.Visits.{docs_in}
+use Rattle.agg_results.specs.intermediate_results.Intermediate.{Held as Results}
 use Rattle.agg_results.specs.StandsFor.{StandsFor}
-use Rattle.agg_segment_context.specs.Context.{Meaning}
-use Rattle.agg_segment_context.specs.Plan.{Plans, plan_of, plans_of}
-use Rattle.agg_segment_context.specs.declared.context.PerRequestAggSegCtx.{PerRequestAggSegCtx}
-use Rattle.agg_collector_tree.specs.Tree.{Held, Takes}
-use Rattle.agg_collector_tree.proofs.Levels.{same-plans}
-use Rattle.agg_tree_results.specs.Names.{HasNamesApart}
-use Rattle.agg_tree_results.specs.Results.{AreDocsOf, GroupStands, IsTrail}
-use Rattle.agg_tree_results.proofs.ApartNames.{apart-group}
-use Rattle.agg_snapshot.specs.Trees.{IsRight}
+use Rattle.agg_engine_tree.specs.segment_context.Context.{Meaning}
+use Rattle.agg_engine_tree.specs.segment_context.Plan.{Plans, plan_of, plans_of}
+use Rattle.agg_engine_tree.specs.declared.segment_context.context.PerRequestAggSegCtx.{
+  PerRequestAggSegCtx,
+}
+use Rattle.agg_engine_tree.specs.collector_tree.Tree.{Held, Takes}
+use Rattle.agg_engine_tree.proofs.lemmas.collector_tree.Levels.{same-plans}
+use Rattle.agg_engine_tree.specs.tree_results.Names.{HasNamesApart}
+use Rattle.agg_engine_tree.specs.tree_results.Results.{AreDocsOf, GroupStands, IsTrail}
+use Rattle.agg_engine_tree.proofs.lemmas.tree_results.ApartNames.{apart-group}
+use Rattle.agg_engine.specs.snapshot_results.Trees.{IsRight}
 
 -- the numbers of pairs under a parent
 pub docs_in-under : (docs : List ℕ) → docs_in (under 0 docs) ≡ docs

@@ -7,32 +7,33 @@ use Rattle.std.proofs.lemmas.List.FromFn.{length-map-range_with_len}
 use Rattle.agg_cache.specs.Limits.{Limits, charged}
 use Rattle.agg_cache.proofs.SameLimits.{same-limits}
 use Rattle.agg_cache.specs.Waiting.{under}
-use Rattle.agg_column.specs.Document.{Fields}
+use Rattle.agg_segment.specs.storage.Document.{Fields}
 use Rattle.agg_segment.specs.Query.{matches}
 use Rattle.agg_segment.specs.Segment.{Stored, document_at, documents_at, documents_of}
 use Rattle.agg_segment.specs.declared.query.QueryTree.{QueryTree}
 use Rattle.agg_request_tree.specs.Request.{Request}
-use Rattle.agg_charges.specs.Charges.{fixed_charge}
-use Rattle.agg_charges.specs.Roof.{Counts, counts_of}
-use Rattle.agg_buckets.specs.Visits.{docs_in}
-use Rattle.agg_collector_tree.specs.Tree.{Takes, held_of}
-use Rattle.agg_held_bytes.specs.Trees.{AreOfSegment}
-use Rattle.agg_held_bytes.proofs.TreeLaws.{least-one}
-use Rattle.agg_snapshot.specs.Answers.{IsMemoryRefusal}
-use Rattle.agg_snapshot.specs.ChargeErrors.{snapshot_error}
-use Rattle.agg_snapshot.specs.ChargedTrees.{ChargesAnew, IsChargeCause, IsCharged, IsFixedCause}
-use Rattle.agg_snapshot.specs.ChargedTrees.{IsMade, before}
-use Rattle.agg_snapshot.specs.Contexts.{IsContextOf, MayBeCollected}
-use Rattle.agg_snapshot.specs.MemoryLimits.{HaveRoom, low_roof_in, roof_in}
-use Rattle.agg_snapshot.specs.declared.charge_error.ChargeError.{ChargeError}
-use Rattle.agg_snapshot.specs.declared.charge_error.ChargeError.TheVariants as error
-use Rattle.agg_snapshot.specs.declared.charged_tree.ChargedTree.{ChargedTree}
-use Rattle.agg_snapshot.specs.declared.context.SegmentContext.{SegmentContext}
-use Rattle.agg_snapshot.proofs.ChargedTrees.{cause-second, charges-both, tells-within, tree-of}
-use Rattle.agg_snapshot.proofs.ChargedTrees.{under-zero}
-use Rattle.agg_snapshot.proofs.Contexts.{matching-one}
-use Rattle.agg_snapshot.proofs.SegmentTrees.{ctx, documents-taken, meaning, right-flushed}
-use Rattle.agg_snapshot.proofs.SegmentTrees.{right-new}
+use Rattle.agg_request_tree.specs.charges.Charges.{fixed_charge}
+use Rattle.agg_request_tree.specs.charges.Roof.{Counts, counts_of}
+use Rattle.agg_composite.specs.buckets.Visits.{docs_in}
+use Rattle.agg_engine_tree.specs.collector_tree.Tree.{Takes, held_of}
+use Rattle.agg_engine_tree.specs.held_bytes.Trees.{AreOfSegment}
+use Rattle.agg_engine_tree.proofs.lemmas.held_bytes.TreeLaws.{least-one}
+use Rattle.agg_engine.specs.snapshot_results.Answers.{IsMemoryRefusal}
+use Rattle.agg_engine.specs.snapshot_results.ChargeErrors.{snapshot_error}
+use Rattle.agg_engine.specs.snapshot_results.ChargedTrees.{ChargesAnew, IsChargeCause, IsCharged}
+use Rattle.agg_engine.specs.snapshot_results.ChargedTrees.{IsFixedCause, IsMade, before}
+use Rattle.agg_engine.specs.snapshot_results.Contexts.{IsContextOf, MayBeCollected}
+use Rattle.agg_engine.specs.snapshot_results.MemoryLimits.{HaveRoom, low_roof_in, roof_in}
+use Rattle.agg_engine.specs.declared.snapshot_results.charge_error.ChargeError.{ChargeError}
+use Rattle.agg_engine.specs.declared.snapshot_results.charge_error.ChargeError.TheVariants as error
+use Rattle.agg_engine.specs.declared.snapshot_results.charged_tree.ChargedTree.{ChargedTree}
+use Rattle.agg_engine.specs.declared.snapshot_results.context.SegmentContext.{SegmentContext}
+use Rattle.agg_engine.proofs.lemmas.snapshot_results.ChargedTrees.{cause-second, charges-both}
+use Rattle.agg_engine.proofs.lemmas.snapshot_results.ChargedTrees.{tells-within, tree-of}
+use Rattle.agg_engine.proofs.lemmas.snapshot_results.ChargedTrees.{under-zero}
+use Rattle.agg_engine.proofs.lemmas.snapshot_results.Contexts.{matching-one}
+use Rattle.agg_engine.proofs.lemmas.snapshot_results.SegmentTrees.{ctx, documents-taken, meaning}
+use Rattle.agg_engine.proofs.lemmas.snapshot_results.SegmentTrees.{right-flushed, right-new}
 
 -- ---- ledgers
 
@@ -125,7 +126,7 @@ module _ (request : Request QueryTree) (query : QueryTree) (segment : Stored)
         (took : Takes (ctx request query segment given ready docs same) (under 0 docs) false
         (held_of tree.tree) (held_of mid.tree) steps steps_mid)
         (charges : ChargesAnew tree mid limits limits_mid) where
-      -- nor does it hand down what waits
+      -- it doesn't hand down what waits where there may be too many buckets
       pub refusal-flushed : (e : ChargeError)
           → IsChargeCause (ctx request query segment given ready docs same) [] mid limits_mid e
           → IsMemoryRefusal request query (segment ∷ []) (before tree.guard limits)

@@ -4,35 +4,39 @@ use Rattle.std.proofs.Common.{Ok, length, map, refl, sym, ap, ◌∙◌, subst, 
 use Rattle.std.specs.List.{All}
 use Rattle.std.proofs.lemmas.List.Elements.{All-filter}
 use Rattle.agg_cache.specs.Waiting.{under}
-use Rattle.agg_column.specs.Document.{HasNumbersOf64Bits}
+use Rattle.agg_segment.specs.storage.Document.{HasNumbersOf64Bits}
 use Rattle.agg_segment.specs.Query.{matches}
 use Rattle.agg_segment.specs.Segment.{Stored, documents_at, documents_of}
 use Rattle.agg_segment.specs.declared.query.QueryTree.{QueryTree}
 use Rattle.agg_request_tree.specs.Ranges.{HasStartOutOfRange}
 use Rattle.agg_request_tree.specs.Request.{Request}
 use Rattle.agg_request_tree.specs.Uncut.{CountsTooMany}
-use Rattle.agg_buckets.specs.Visits.{docs_in}
-use Rattle.agg_intermediate_results.specs.declared.results.IntermediateAggregationResults as held
+use Rattle.agg_composite.specs.buckets.Visits.{docs_in}
+use Rattle.agg_results.specs.declared.intermediate_results.results.IntermediateAggregationResults
+    as held
 use held.{IntermediateAggregationResults}
 use Rattle.agg_results.specs.StandsFor.{StandsFor}
-use Rattle.agg_segment_context.specs.Context.{Meaning}
-use Rattle.agg_segment_context.specs.Plan.{plan_of, plans_of}
-use Rattle.agg_segment_context.specs.declared.context.PerRequestAggSegCtx.{PerRequestAggSegCtx}
-use Rattle.agg_collector_tree.specs.Counting.{counted_of}
-use Rattle.agg_collector_tree.specs.Tree.{Held, Takes}
-use Rattle.agg_collector_tree.proofs.TakenParts.{takes-both}
-use Rattle.agg_tree_results.specs.Names.{HasNamesApart}
-use Rattle.agg_tree_results.specs.Results.{GroupStands}
-use Rattle.agg_snapshot.specs.Answers.{AnswersResults}
-use Rattle.agg_snapshot.specs.Contexts.{IsContextOf, MayBeCollected}
-use Rattle.agg_snapshot.specs.Documents.{matching_in}
-use Rattle.agg_snapshot.specs.Steps.{past_named}
-use Rattle.agg_snapshot.specs.Trees.{IsNew, IsRight, MayBeTaken, MayTake, MostSteps}
-use Rattle.agg_snapshot.specs.declared.context.SegmentContext.{SegmentContext}
-use Rattle.agg_snapshot.proofs.Contexts.{documents-here, matching-one}
-use Rattle.agg_snapshot.proofs.LeastVisits.{group-least}
-use Rattle.agg_snapshot.proofs.RightTrees.{docs_in-under, right-apart, right-more, right-stands}
-use Rattle.agg_snapshot.proofs.TakenParts.{may-second, most-both}
+use Rattle.agg_engine_tree.specs.segment_context.Context.{Meaning}
+use Rattle.agg_engine_tree.specs.segment_context.Plan.{plan_of, plans_of}
+use Rattle.agg_engine_tree.specs.declared.segment_context.context.PerRequestAggSegCtx.{
+  PerRequestAggSegCtx,
+}
+use Rattle.agg_engine_tree.specs.collector_tree.Counting.{counted_of}
+use Rattle.agg_engine_tree.specs.collector_tree.Tree.{Held, Takes}
+use Rattle.agg_engine_tree.proofs.lemmas.collector_tree.TakenParts.{takes-both}
+use Rattle.agg_engine_tree.specs.tree_results.Names.{HasNamesApart}
+use Rattle.agg_engine_tree.specs.tree_results.Results.{GroupStands}
+use Rattle.agg_engine.specs.snapshot_results.Answers.{AnswersResults}
+use Rattle.agg_engine.specs.snapshot_results.Contexts.{IsContextOf, MayBeCollected}
+use Rattle.agg_engine.specs.snapshot_results.Documents.{matching_in}
+use Rattle.agg_engine.specs.snapshot_results.Steps.{past_named}
+use Rattle.agg_engine.specs.snapshot_results.Trees.{IsNew, IsRight, MayBeTaken, MayTake, MostSteps}
+use Rattle.agg_engine.specs.declared.snapshot_results.context.SegmentContext.{SegmentContext}
+use Rattle.agg_engine.proofs.lemmas.snapshot_results.Contexts.{documents-here, matching-one}
+use Rattle.agg_engine.proofs.lemmas.snapshot_results.LeastVisits.{group-least}
+use Rattle.agg_engine.proofs.lemmas.snapshot_results.RightTrees.{docs_in-under, right-apart}
+use Rattle.agg_engine.proofs.lemmas.snapshot_results.RightTrees.{right-more, right-stands}
+use Rattle.agg_engine.proofs.lemmas.snapshot_results.TakenParts.{may-second, most-both}
 
 module _ (request : Request QueryTree) (query : QueryTree) (segment : Stored)
     (given : SegmentContext) (ready : MayBeCollected request query (segment ∷ []) (given ∷ []))

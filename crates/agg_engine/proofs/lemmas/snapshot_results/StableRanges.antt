@@ -4,9 +4,9 @@ use Rattle.std.specs.Prelude.{FitsSigned, ℤ}
 use Rattle.std.specs.Int.{w64}
 use Rattle.std.specs.List.{All}
 use Rattle.std.proofs.Math.Nat.{lt_of_not-le, not-le_of_lt}
-use Rattle.agg_column.specs.Document.{Fields}
+use Rattle.agg_segment.specs.storage.Document.{Fields}
 use Rattle.agg_request_tree.specs.Ranges.{AreInRange, IsInRange, IsWithin}
-use Rattle.agg_request_tree.specs.Source.{Sources, field_of, start_in, values_at}
+use Rattle.agg_request_tree.specs.Source.{Sources, start_in, values_from}
 
 -- what isn't refuted of each of a list holds of each, where it does so of an element
 all-stable : {X : Type 0} (P : X → Type 0) → ((x : X) → ¬ (¬ (P x)) → P x) → (xs : List X)
@@ -20,18 +20,18 @@ fits-stable n kept = record {
   sfits = lt_of_not-le (λ over. kept (λ fits. not-le_of_lt fits.sfits over));
 }
 
--- so is a start
+-- a start that isn't out of range is in range
 within-stable : (start : Option ℤ) → ¬ (¬ (IsWithin start)) → IsWithin start
 within-stable None kept = tt
 within-stable (Some n) kept = fits-stable n kept
 
--- so are those of documents
+-- starts in documents that aren't out of range are in range
 pub ranges-stable : (sources : Sources) (documents : List Fields)
     → ¬ (¬ (All (AreInRange sources) documents)) → All (AreInRange sources) documents
 ranges-stable sources =
     all-stable (AreInRange sources)
     (λ document.
-    all-stable (λ source. All (IsInRange source) (values_at (field_of source) document))
+    all-stable (λ source. All (IsInRange source) (values_from source document))
     (λ source.
     all-stable (IsInRange source) (λ k. within-stable (start_in source k))
-    (values_at (field_of source) document)) sources)
+    (values_from source document)) sources)

@@ -1,7 +1,7 @@
 -- Starts of buckets over lists of documents end to end.
 use Rattle.std.proofs.Common.{◌++◌, List, []}
 use Rattle.std.proofs.lemmas.List.Elements.{All-append, All-nil}
-use Rattle.agg_column.specs.Document.{Fields}
+use Rattle.agg_segment.specs.storage.Document.{Fields}
 use Rattle.agg_segment.proofs.EncodedColumns.{back_all, front_all}
 use Rattle.agg_request_tree.specs.Ranges.{AreInRange, HasStartOutOfRange}
 use Rattle.agg_request_tree.specs.Request.{Request}

@@ -4,7 +4,7 @@ use Rattle.std.proofs.Common.{◌∙◌, subst, arith, take, drop}
 use Rattle.std.specs.List.{All}
 use Rattle.std.proofs.lemmas.List.{append_assoc, map-append, take-append-drop}
 use Rattle.agg_cache.specs.Waiting.{under}
-use Rattle.agg_column.specs.Document.{Fields, HasNumbersOf64Bits}
+use Rattle.agg_segment.specs.storage.Document.{Fields, HasNumbersOf64Bits}
 use Rattle.agg_segment.specs.Query.{matches}
 use Rattle.agg_segment.specs.Segment.{document_at, documents_at}
 use Rattle.agg_segment.specs.declared.query.QueryTree.{QueryTree}
@@ -12,17 +12,19 @@ use Rattle.agg_segment.proofs.EncodedColumns.{front_all}
 use Rattle.agg_request_tree.specs.Ranges.{HasStartOutOfRange}
 use Rattle.agg_request_tree.specs.Request.{Request}
 use Rattle.agg_request_tree.specs.Uncut.{CountsTooMany}
-use Rattle.agg_buckets.specs.Visits.{docs_in}
-use Rattle.agg_buckets.proofs.Labels.{docs_in-append}
-use Rattle.agg_segment_context.specs.Context.{Meaning}
-use Rattle.agg_segment_context.specs.declared.context.PerRequestAggSegCtx.{PerRequestAggSegCtx}
-use Rattle.agg_collector_tree.specs.Counting.{counted_of}
-use Rattle.agg_collector_tree.specs.Tree.{Held, Takes}
-use Rattle.agg_snapshot.specs.Trees.{IsRight, MayBeTaken, MayTake, MostSteps}
-use Rattle.agg_snapshot.proofs.JoinedCounts.{counted-append}
-use Rattle.agg_snapshot.proofs.PartCounts.{as_many-front}
-use Rattle.agg_snapshot.proofs.RightTrees.{right-more}
-use Rattle.agg_snapshot.proofs.StartRanges.{out-front}
+use Rattle.agg_composite.specs.buckets.Visits.{docs_in}
+use Rattle.agg_composite.proofs.lemmas.buckets.Labels.{docs_in-append}
+use Rattle.agg_engine_tree.specs.segment_context.Context.{Meaning}
+use Rattle.agg_engine_tree.specs.declared.segment_context.context.PerRequestAggSegCtx.{
+  PerRequestAggSegCtx,
+}
+use Rattle.agg_engine_tree.specs.collector_tree.Counting.{counted_of}
+use Rattle.agg_engine_tree.specs.collector_tree.Tree.{Held, Takes}
+use Rattle.agg_engine.specs.snapshot_results.Trees.{IsRight, MayBeTaken, MayTake, MostSteps}
+use Rattle.agg_engine.proofs.lemmas.snapshot_results.JoinedCounts.{counted-append}
+use Rattle.agg_engine.proofs.lemmas.snapshot_results.PartCounts.{as_many-front}
+use Rattle.agg_engine.proofs.lemmas.snapshot_results.RightTrees.{right-more}
+use Rattle.agg_engine.proofs.lemmas.snapshot_results.StartRanges.{out-front}
 
 -- documents under a parent, in two parts
 pub under-cut : (docs first second : List ℕ) (half : ℕ) → first ≡ take half docs

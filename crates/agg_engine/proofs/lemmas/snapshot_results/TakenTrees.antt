@@ -2,14 +2,16 @@
 use Rattle.std.proofs.Common.{◌≡◌, ◌++◌, ℕ, List, map, refl}
 use Rattle.agg_cache.specs.declared.error.CollectError.{CollectError}
 use Rattle.agg_cache.specs.declared.error.CollectError.TheVariants as error
-use Rattle.agg_buckets.specs.Visits.{docs_in}
-use Rattle.agg_segment_context.specs.Plan.{plan_of, plans_of}
-use Rattle.agg_segment_context.specs.declared.context.PerRequestAggSegCtx.{PerRequestAggSegCtx}
-use Rattle.agg_collector_tree.specs.Bound.{TakesMost}
-use Rattle.agg_collector_tree.specs.Refusals.{AreNotLast, IsRefused}
-use Rattle.agg_collector_tree.specs.Tree.{Held}
-use Rattle.agg_snapshot.specs.Trees.{MayTake, MostSteps}
-use Rattle.agg_snapshot.proofs.TreeRanges.{group-out}
+use Rattle.agg_composite.specs.buckets.Visits.{docs_in}
+use Rattle.agg_engine_tree.specs.segment_context.Plan.{plan_of, plans_of}
+use Rattle.agg_engine_tree.specs.declared.segment_context.context.PerRequestAggSegCtx.{
+  PerRequestAggSegCtx,
+}
+use Rattle.agg_engine_tree.specs.collector_tree.Bound.{TakesMost}
+use Rattle.agg_engine_tree.specs.collector_tree.Refusals.{AreNotLast, IsRefused}
+use Rattle.agg_engine_tree.specs.collector_tree.Tree.{Held}
+use Rattle.agg_engine.specs.snapshot_results.Trees.{MayTake, MostSteps}
+use Rattle.agg_engine.proofs.lemmas.snapshot_results.TreeRanges.{group-out}
 
 module _ (ctx : PerRequestAggSegCtx) (pairs : List (ℕ × ℕ)) (parents : List ℕ)
     (old : Held) where

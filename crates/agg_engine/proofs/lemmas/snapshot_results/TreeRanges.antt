@@ -12,14 +12,16 @@ use Rattle.agg_request_tree.specs.declared.aggregation.Aggregation.{Aggregation}
 use Rattle.agg_request_tree.specs.declared.aggregation.AggregationVariants.{AggregationVariants}
 use Rattle.agg_request_tree.specs.declared.aggregation.CompositeAggregation.{CompositeAggregation}
 use Rattle.agg_request_tree.proofs.RequestTrees.{composites-out}
-use Rattle.agg_accessor.specs.Ranges.{AreAllInRange}
-use Rattle.agg_segment_context.specs.Context.{ArePlansOf, IsPlanOf, Meaning}
-use Rattle.agg_segment_context.specs.Plan.{Plan, Plans}
-use Rattle.agg_segment_context.specs.declared.context.PerRequestAggSegCtx.{PerRequestAggSegCtx}
-use Rattle.agg_segment_context.specs.declared.node.AggKind.TheVariants as kind
-use Rattle.agg_collector_tree.specs.Refusals.{HasStartOutOfRange, SomeHasStart}
-use Rattle.agg_collector_tree.specs.Tree.{AreOf, Held, Helds, IsGroupOf, IsOf}
-use Rattle.agg_collector_tree.proofs.MostVisits.{asked-composite}
+use Rattle.agg_composite.specs.accessor.Ranges.{AreAllInRange}
+use Rattle.agg_engine_tree.specs.segment_context.Context.{ArePlansOf, IsPlanOf, Meaning}
+use Rattle.agg_engine_tree.specs.segment_context.Plan.{Plan, Plans}
+use Rattle.agg_engine_tree.specs.declared.segment_context.context.PerRequestAggSegCtx.{
+  PerRequestAggSegCtx,
+}
+use Rattle.agg_engine_tree.specs.declared.segment_context.node.AggKind.TheVariants as kind
+use Rattle.agg_engine_tree.specs.collector_tree.Refusals.{HasStartOutOfRange, SomeHasStart}
+use Rattle.agg_engine_tree.specs.collector_tree.Tree.{AreOf, Held, Helds, IsGroupOf, IsOf}
+use Rattle.agg_engine_tree.proofs.lemmas.collector_tree.MostVisits.{asked-composite}
 
 module _ {X : Type 0} (P : X → Type 0) where
   -- what some of a list is, some of a longer one is

@@ -1,7 +1,7 @@
 use Rattle.std.proofs.Common.{◌≡◌, ◌≤◌, drop, unwrap_or}
 use Rattle.agg_request_tree.specs.Matching.{built_matches}
-use Rattle.agg_segment_context.specs.Pages.{request_after}
-use Rattle.agg_segment_context.specs.Trees.{AreTreesOf, built_tree}
+use Rattle.agg_engine_tree.specs.segment_context.Pages.{request_after}
+use Rattle.agg_engine_tree.specs.segment_context.Trees.{AreTreesOf, built_tree}
 use Rattle.agg_segment.specs.Snapshot.{snapshots_documents}
 use Rattle.agg_engine.proofs.StepsTaken.{IsCounting}
 use Rattle.agg_engine.proofs.WalkLoop.{IsWalking}

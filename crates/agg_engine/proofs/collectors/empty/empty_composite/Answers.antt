@@ -1,8 +1,9 @@
 use Rattle.std.proofs.Common.{take, ap}
-use Rattle.agg_intermediate_results.specs.Intermediate.{as_composite}
-use Rattle.agg_intermediate_results.proofs.EmptyPages.{empty_page-all, empty_page-empty}
-use Rattle.agg_intermediate_results.proofs.EmptyPages.{empty_page-more}
-use Rattle.agg_collectors.proofs.empty.empty_composite.Goals as goal
+use Rattle.agg_results.specs.intermediate_results.Intermediate.{as_composite}
+use Rattle.agg_results.proofs.lemmas.intermediate_results.EmptyPages.{empty_page-all}
+use Rattle.agg_results.proofs.lemmas.intermediate_results.EmptyPages.{empty_page-empty}
+use Rattle.agg_results.proofs.lemmas.intermediate_results.EmptyPages.{empty_page-more}
+use Rattle.agg_engine.proofs.collectors.empty.empty_composite.Goals as goal
 
 pub add_order-requires : goal.add_order-requires
 add_order-requires c = record {

@@ -1,6 +1,6 @@
 use Rattle.std.proofs.Common.{◌≡◌, take}
-use Rattle.agg_intermediate_results.proofs.EmptyPages.{empty_page}
-use Rattle.agg_collectors.proofs.empty.empty_composite.Given as goal
+use Rattle.agg_results.proofs.lemmas.intermediate_results.EmptyPages.{empty_page}
+use Rattle.agg_engine.proofs.collectors.empty.empty_composite.Given as goal
 
 -- the page has the orders of the sources so far
 abbrev pub invariant-loop-source : goal.invariant-loop-source

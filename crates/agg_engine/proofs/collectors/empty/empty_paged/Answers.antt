@@ -1,16 +1,18 @@
 use Rattle.std.proofs.Common.{◌≡◌, Bor, Option, Some, Err, sym, ap, ◌∙◌}
 use Rattle.std.specs.Prelude.{option_map}
 use Rattle.agg_values.specs.Names.{put, without}
-use Rattle.agg_intermediate_results.specs.Empty.{empty_results}
-use Rattle.agg_metric_results.specs.declared.error.MergeError.TheVariants.{OutOfMemory}
-use Rattle.agg_intermediate_results.specs.declared.results.IntermediateAggregationResults as held
+use Rattle.agg_results.specs.intermediate_results.Empty.{empty_results}
+use Rattle.agg_results.specs.declared.metric_results.error.MergeError.TheVariants.{OutOfMemory}
+use Rattle.agg_results.specs.declared.intermediate_results.results.IntermediateAggregationResults
+    as held
 use held.{IntermediateAggregationResults}
-use Rattle.agg_segment_context.specs.Pages.{paged}
-use Rattle.agg_segment_context.specs.declared.params.Page.{Page}
-use Rattle.agg_collectors.proofs.Halves.{err-kept}
-use Rattle.agg_collectors.proofs.NamedEmpties.{only-memory, taken-out}
-use Rattle.agg_collectors.proofs.PagedEmpties.{paged-composite, paged-none, paged-other}
-use Rattle.agg_collectors.proofs.empty.empty_paged.Goals as goal
+use Rattle.agg_engine_tree.specs.segment_context.Pages.{paged}
+use Rattle.agg_engine_tree.specs.declared.segment_context.params.Page.{Page}
+use Rattle.agg_engine.proofs.lemmas.collectors.Halves.{err-kept}
+use Rattle.agg_engine.proofs.lemmas.collectors.NamedEmpties.{only-memory, taken-out}
+use Rattle.agg_engine.proofs.lemmas.collectors.PagedEmpties.{paged-composite, paged-none}
+use Rattle.agg_engine.proofs.lemmas.collectors.PagedEmpties.{paged-other}
+use Rattle.agg_engine.proofs.collectors.empty.empty_paged.Goals as goal
 use goal.{in-Composite+in_ok-value+in_ok-try_clone+in_ok-push, in_default-agg}
 
 -- the page that is set

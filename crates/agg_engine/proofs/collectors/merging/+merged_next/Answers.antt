@@ -1,9 +1,10 @@
 use Rattle.std.proofs.Common.{◌-◌, ◌/◌, ◌++◌, Err, drop, take, sym, ap, ◌∙◌, arith}
 use Rattle.std.specs.Option.{option_to_list}
 use Rattle.std.specs.Vec.Iter.{into_iter_items}
-use Rattle.agg_collectors.proofs.Halves.{HasCause, both-cause, both-stand, err-kept, first-cause}
-use Rattle.agg_collectors.proofs.Halves.{second-cause, stands-first, stands-none-taken, take-front}
-use Rattle.agg_collectors.proofs.merging.+merged_next.Goals as goal
+use Rattle.agg_engine.proofs.lemmas.collectors.Halves.{HasCause, both-cause, both-stand, err-kept}
+use Rattle.agg_engine.proofs.lemmas.collectors.Halves.{first-cause, second-cause, stands-first}
+use Rattle.agg_engine.proofs.lemmas.collectors.Halves.{stands-none-taken, take-front}
+use Rattle.agg_engine.proofs.collectors.merging.+merged_next.Goals as goal
 
 pub returns-in_err-whole-in_default-clause-cause :
     goal.returns-in_err-whole-in_default-clause-cause

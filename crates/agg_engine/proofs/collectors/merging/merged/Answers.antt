@@ -1,8 +1,8 @@
 use Rattle.std.proofs.Common.{IfOk, length, subst, ap, ◌∙◌, arith}
 use Rattle.std.specs.Vec.Iter.{into_iter_items}
 use Rattle.std.proofs.lemmas.List.{take_all}
-use Rattle.agg_collectors.proofs.Halves.{Stands}
-use Rattle.agg_collectors.proofs.merging.merged.Goals as goal
+use Rattle.agg_engine.proofs.lemmas.collectors.Halves.{Stands}
+use Rattle.agg_engine.proofs.collectors.merging.merged.Goals as goal
 
 pub returns-clause-ok : goal.returns-clause-ok
 returns-clause-ok c =

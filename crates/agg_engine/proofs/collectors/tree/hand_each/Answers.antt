@@ -3,13 +3,13 @@ use Rattle.std.specs.Prelude.{IfErr}
 use Rattle.std.proofs.lemmas.List.{length_push, take_all}
 use Rattle.std.proofs.lemmas.Slice.Zip.{length-zip, zip_end, zip_turn}
 use Rattle.agg_cache.specs.Waiting.{under}
-use Rattle.agg_collector_tree.specs.Refusals.{IsRefused}
-use Rattle.agg_collector_tree.specs.Tree.{Takes, held_of}
-use Rattle.agg_collector_tree.proofs.LaterParts.{later-refused}
-use Rattle.agg_collector_tree.proofs.PassedErrors.{error-passed}
-use Rattle.agg_collector_tree.proofs.TakenParts.{takes-both, takes-none}
-use Rattle.agg_collectors.proofs.ZippedPairs.{first-of, next-zipped, split-zipped}
-use Rattle.agg_collectors.proofs.tree.hand_each.Goals as goal
+use Rattle.agg_engine_tree.specs.collector_tree.Refusals.{IsRefused}
+use Rattle.agg_engine_tree.specs.collector_tree.Tree.{Takes, held_of}
+use Rattle.agg_engine_tree.proofs.lemmas.collector_tree.LaterParts.{later-refused}
+use Rattle.agg_engine_tree.proofs.lemmas.collector_tree.PassedErrors.{error-passed}
+use Rattle.agg_engine_tree.proofs.lemmas.collector_tree.TakenParts.{takes-both, takes-none}
+use Rattle.agg_engine.proofs.lemmas.collectors.ZippedPairs.{first-of, next-zipped, split-zipped}
+use Rattle.agg_engine.proofs.collectors.tree.hand_each.Goals as goal
 
 pub loop-bucket_id-init : goal.loop-bucket_id-init
 loop-bucket_id-init g c = record {

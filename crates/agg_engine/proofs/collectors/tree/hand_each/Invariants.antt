@@ -1,6 +1,6 @@
 use Rattle.std.proofs.Common.{◌≤◌, false, length, take, zip}
-use Rattle.agg_collector_tree.specs.Tree.{Takes, held_of}
-use Rattle.agg_collectors.proofs.tree.hand_each.Given as goal
+use Rattle.agg_engine_tree.specs.collector_tree.Tree.{Takes, held_of}
+use Rattle.agg_engine.proofs.collectors.tree.hand_each.Given as goal
 
 abbrev pub invariant-loop-bucket_id : goal.invariant-loop-bucket_id
 invariant-loop-bucket_id g l = record {

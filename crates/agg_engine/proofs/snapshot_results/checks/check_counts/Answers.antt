@@ -8,13 +8,14 @@ use Rattle.agg_segment.specs.Segment.{Stored}
 use Rattle.agg_segment.specs.declared.query.QueryTree.{QueryTree}
 use Rattle.agg_request_tree.specs.Request.{Request}
 use Rattle.agg_request_tree.specs.Uncut.{CountsTooMany}
-use Rattle.agg_uncut.specs.Uncut as uncut
-use Rattle.agg_snapshot.specs.Contexts.{AreContextsOf, IsContextOf}
-use Rattle.agg_snapshot.specs.Documents.{matching_in}
-use Rattle.agg_snapshot.proofs.Contexts.{at, first-of, no-item, no-segment, one_more}
-use Rattle.agg_snapshot.proofs.PartCounts.{as_many-none}
-use Rattle.agg_snapshot.proofs.checks.check_counts.Goals as goal
-use Rattle.agg_snapshot.proofs.checks.check_counts.Goals.{After-is_too_many as Whole}
+use Rattle.agg_engine_tree.specs.uncut.Uncut as uncut
+use Rattle.agg_engine.specs.snapshot_results.Contexts.{AreContextsOf, IsContextOf}
+use Rattle.agg_engine.specs.snapshot_results.Documents.{matching_in}
+use Rattle.agg_engine.proofs.lemmas.snapshot_results.Contexts.{at, first-of, no-item, no-segment}
+use Rattle.agg_engine.proofs.lemmas.snapshot_results.Contexts.{one_more}
+use Rattle.agg_engine.proofs.lemmas.snapshot_results.PartCounts.{as_many-none}
+use Rattle.agg_engine.proofs.snapshot_results.checks.check_counts.Goals as goal
+use Rattle.agg_engine.proofs.snapshot_results.checks.check_counts.Goals.{After-is_too_many as Whole}
 
 -- the context at an index of the others is the one at the next index
 next-item : {A : Type 0} (xs ys : List A) (x y : A) (i : ℕ) → xs ≡ x ∷ ys → y ≡ get_or ys i y

@@ -2,10 +2,10 @@ use Rattle.std.proofs.Common.{◌≡◌, ◌+◌, List, take}
 use Rattle.agg_segment.specs.Segment.{Stored}
 use Rattle.agg_segment.specs.declared.query.QueryTree.{QueryTree}
 use Rattle.agg_request_tree.specs.Request.{Request}
-use Rattle.agg_uncut.specs.Uncut as uncut
-use Rattle.agg_snapshot.specs.Contexts.{AreContextsOf}
-use Rattle.agg_snapshot.specs.Documents.{matching_in}
-use Rattle.agg_snapshot.proofs.checks.check_counts.Given as goal
+use Rattle.agg_engine_tree.specs.uncut.Uncut as uncut
+use Rattle.agg_engine.specs.snapshot_results.Contexts.{AreContextsOf}
+use Rattle.agg_engine.specs.snapshot_results.Documents.{matching_in}
+use Rattle.agg_engine.proofs.snapshot_results.checks.check_counts.Given as goal
 
 -- the counts of the segments so far
 abbrev pub invariant-loop-context : goal.invariant-loop-context

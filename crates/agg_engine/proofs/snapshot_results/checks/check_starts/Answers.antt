@@ -2,11 +2,12 @@ use Rattle.std.proofs.Common.{subst, arith}
 use Rattle.std.proofs.lemmas.List.{take_all}
 use Rattle.std.proofs.lemmas.Slice.Zip.{AllZip-long}
 use Rattle.agg_request_tree.specs.Ranges.{HasStartOutOfRange}
-use Rattle.agg_snapshot.specs.Contexts.{IsContextOf}
-use Rattle.agg_snapshot.specs.Documents.{matching_in}
-use Rattle.agg_snapshot.proofs.Contexts.{at, documents-here, range-more, range-refused}
-use Rattle.agg_snapshot.proofs.StartRanges.{none-of_none}
-use Rattle.agg_snapshot.proofs.checks.check_starts.Goals as goal
+use Rattle.agg_engine.specs.snapshot_results.Contexts.{IsContextOf}
+use Rattle.agg_engine.specs.snapshot_results.Documents.{matching_in}
+use Rattle.agg_engine.proofs.lemmas.snapshot_results.Contexts.{at, documents-here, range-more}
+use Rattle.agg_engine.proofs.lemmas.snapshot_results.Contexts.{range-refused}
+use Rattle.agg_engine.proofs.lemmas.snapshot_results.StartRanges.{none-of_none}
+use Rattle.agg_engine.proofs.snapshot_results.checks.check_starts.Goals as goal
 
 pub loop-context-init : goal.loop-context-init
 loop-context-init c = λ request query segments are. none-of_none request

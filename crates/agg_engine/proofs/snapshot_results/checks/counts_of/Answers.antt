@@ -1,9 +1,9 @@
 use Rattle.std.proofs.Common.{◌≡◌, ◌<◌, IfOk, length, subst, sym, ◌∙◌}
 use Rattle.std.specs.List.{All}
 use Rattle.agg_segment.specs.Segment.{documents_at, documents_of}
-use Rattle.agg_uncut.specs.Uncut as uncut
-use Rattle.agg_snapshot.proofs.Contexts.{data-here, documents-one}
-use Rattle.agg_snapshot.proofs.checks.counts_of.Goals as goal
+use Rattle.agg_engine_tree.specs.uncut.Uncut as uncut
+use Rattle.agg_engine.proofs.lemmas.snapshot_results.Contexts.{data-here, documents-one}
+use Rattle.agg_engine.proofs.snapshot_results.checks.counts_of.Goals as goal
 
 pub uncut_lengths-requires-clause-docs : goal.uncut_lengths-requires-clause-docs
 uncut_lengths-requires-clause-docs c =

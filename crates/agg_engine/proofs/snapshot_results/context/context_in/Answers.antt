@@ -1,6 +1,6 @@
 use Rattle.std.proofs.Common.{refl, subst, sym}
-use Rattle.agg_segment_context.specs.Context as context
-use Rattle.agg_snapshot.proofs.context.context_in.Goals as goal
+use Rattle.agg_engine_tree.specs.segment_context.Context as context
+use Rattle.agg_engine.proofs.snapshot_results.context.context_in.Goals as goal
 
 pub returns-in-Ok-clause-ok : goal.returns-in-Ok-clause-ok
 returns-in-Ok-clause-ok g c = λ request asked.

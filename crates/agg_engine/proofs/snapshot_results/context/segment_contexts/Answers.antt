@@ -1,7 +1,7 @@
 use Rattle.std.proofs.Common.{arith}
-use Rattle.agg_snapshot.specs.Contexts.{IsContextOf}
-use Rattle.agg_snapshot.proofs.Contexts.{zipped-more}
-use Rattle.agg_snapshot.proofs.context.segment_contexts.Goals as goal
+use Rattle.agg_engine.specs.snapshot_results.Contexts.{IsContextOf}
+use Rattle.agg_engine.proofs.lemmas.snapshot_results.Contexts.{zipped-more}
+use Rattle.agg_engine.proofs.snapshot_results.context.segment_contexts.Goals as goal
 
 pub loop-segment-preserved : goal.loop-segment-preserved
 loop-segment-preserved g c = λ request asked.

@@ -1,9 +1,9 @@
 use Rattle.std.proofs.Common.{take}
 use Rattle.agg_segment.specs.declared.query.QueryTree.{QueryTree as Tree}
 use Rattle.agg_request_tree.specs.Request.{Request}
-use Rattle.agg_snapshot.specs.Asked.{IsAsked}
-use Rattle.agg_snapshot.specs.Contexts.{AreContextsOf}
-use Rattle.agg_snapshot.proofs.context.segment_contexts.Given as goal
+use Rattle.agg_engine.specs.snapshot_results.Asked.{IsAsked}
+use Rattle.agg_engine.specs.snapshot_results.Contexts.{AreContextsOf}
+use Rattle.agg_engine.proofs.snapshot_results.context.segment_contexts.Given as goal
 
 -- the contexts of the segments so far
 abbrev pub invariant-loop-segment : goal.invariant-loop-segment

@@ -1,22 +1,24 @@
 use Rattle.std.proofs.Common.{◌≡◌, ◌≤◌, ◌+◌, ◌*◌, [], ◌∷◌, subst}
-use Rattle.agg_charges.specs.Charges.{bucket_bytes}
+use Rattle.agg_request_tree.specs.charges.Charges.{bucket_bytes}
 use Rattle.agg_segment.specs.Segment.{Stored}
 use Rattle.agg_segment.specs.declared.query.QueryTree.{QueryTree}
 use Rattle.agg_segment.specs.Query.{matches}
 use Rattle.agg_request_tree.specs.Request.{Request}
-use Rattle.agg_snapshot.specs.Answers.{IsMemoryRefusal}
-use Rattle.agg_snapshot.specs.ChargeErrors.{snapshot_error}
-use Rattle.agg_snapshot.specs.ChargedTrees.{IsFixedCause, before}
-use Rattle.agg_snapshot.specs.Contexts.{MayBeCollected}
-use Rattle.agg_snapshot.specs.Documents.{matching_in}
-use Rattle.agg_snapshot.specs.Steps.{counted_of}
-use Rattle.agg_snapshot.proofs.Halves.{answers-failed}
-use Rattle.agg_snapshot.proofs.ListedSegments.{after, answers-listed, leaf, may-list, most-listed}
-use Rattle.agg_snapshot.proofs.ListedSegments.{refusal-listed, room-listed, stored}
-use Rattle.agg_snapshot.proofs.Refusals.{caused-by}
-use Rattle.agg_snapshot.proofs.listed.listed_results.Given as given
-use Rattle.agg_snapshot.proofs.listed.listed_results.Goals as goal
-use Rattle.agg_snapshot.proofs.listed.listed_results.Goals.{After-lowest_entries}
+use Rattle.agg_engine.specs.snapshot_results.Answers.{IsMemoryRefusal}
+use Rattle.agg_engine.specs.snapshot_results.ChargeErrors.{snapshot_error}
+use Rattle.agg_engine.specs.snapshot_results.ChargedTrees.{IsFixedCause, before}
+use Rattle.agg_engine.specs.snapshot_results.Contexts.{MayBeCollected}
+use Rattle.agg_engine.specs.snapshot_results.Documents.{matching_in}
+use Rattle.agg_engine.specs.snapshot_results.Steps.{counted_of}
+use Rattle.agg_engine.proofs.lemmas.snapshot_results.Halves.{answers-failed}
+use Rattle.agg_engine.proofs.lemmas.snapshot_results.ListedSegments.{after, answers-listed, leaf}
+use Rattle.agg_engine.proofs.lemmas.snapshot_results.ListedSegments.{may-list, most-listed}
+use Rattle.agg_engine.proofs.lemmas.snapshot_results.ListedSegments.{refusal-listed, room-listed}
+use Rattle.agg_engine.proofs.lemmas.snapshot_results.ListedSegments.{stored}
+use Rattle.agg_engine.proofs.lemmas.snapshot_results.Refusals.{caused-by}
+use Rattle.agg_engine.proofs.snapshot_results.listed.listed_results.Given as given
+use Rattle.agg_engine.proofs.snapshot_results.listed.listed_results.Goals as goal
+use Rattle.agg_engine.proofs.snapshot_results.listed.listed_results.Goals.{After-lowest_entries}
 
 -- after the tuples were listed, the steps are few
 few : (g : given.Over) (c : After-lowest_entries g)

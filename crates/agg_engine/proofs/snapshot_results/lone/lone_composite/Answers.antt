@@ -1,10 +1,12 @@
 use Rattle.std.proofs.Common.{◌<◌, List, arith, length, ap, ◌∙◌, get_or}
 use Rattle.std.proofs.lemmas.Bool.Decides.{nat_tests}
 use Rattle.std.proofs.lemmas.Option.{slice_get_read}
-use Rattle.agg_accessor.specs.declared.request_data.CompositeAggReqData.{CompositeAggReqData}
-use Rattle.agg_segment_context.specs.declared.node.AggRefNode.TheViews.{out-AggRefNode}
-use Rattle.agg_snapshot.proofs.LoneNodes.{lone-read}
-use Rattle.agg_snapshot.proofs.lone.lone_composite.Goals as goal
+use Rattle.agg_composite.specs.declared.accessor.request_data.CompositeAggReqData.{
+  CompositeAggReqData,
+}
+use Rattle.agg_engine_tree.specs.declared.segment_context.node.AggRefNode.TheViews.{out-AggRefNode}
+use Rattle.agg_engine.proofs.lemmas.snapshot_results.LoneNodes.{lone-read}
+use Rattle.agg_engine.proofs.snapshot_results.lone.lone_composite.Goals as goal
 
 pub returns-clause-lone : goal.returns-clause-lone
 returns-clause-lone c =

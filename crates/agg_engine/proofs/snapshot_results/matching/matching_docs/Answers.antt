@@ -3,14 +3,15 @@ use Rattle.std.proofs.Common.{◌<◌, ℕ, length, subst}
 use Rattle.std.specs.List.{All as Each, range_with_len}
 use Rattle.std.proofs.lemmas.List.FromFn.{length-map-range_with_len}
 use Rattle.std.proofs.lemmas.List.{length-map}
-use Rattle.agg_column.specs.Document.{Fields}
+use Rattle.agg_segment.specs.storage.Document.{Fields}
 use Rattle.agg_segment.specs.Query.{matches, matches_by}
 use Rattle.agg_segment.specs.Segment.{Stored, document_at, documents_at, documents_of}
 use Rattle.agg_segment.specs.declared.query.QueryTree.TheFolds.{fold-roll-QueryTree}
 use Rattle.agg_segment.specs.declared.query.QueryTree.TheOpen as layer
 use Rattle.agg_segment.specs.declared.query.QueryTree.TheVariants.{All, rolls-All}
-use Rattle.agg_snapshot.proofs.MarkedDocuments.{first-within, given-so, given-within}
-use Rattle.agg_snapshot.proofs.matching.matching_docs.Goals as goal
+use Rattle.agg_engine.proofs.lemmas.snapshot_results.MarkedDocuments.{first-within, given-so}
+use Rattle.agg_engine.proofs.lemmas.snapshot_results.MarkedDocuments.{given-within}
+use Rattle.agg_engine.proofs.snapshot_results.matching.matching_docs.Goals as goal
 
 matches-All : (document : Fields) → matches All document ≡ true
 matches-All document =

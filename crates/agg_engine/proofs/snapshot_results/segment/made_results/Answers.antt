@@ -2,9 +2,9 @@ use Rattle.std.proofs.Common.{◌≡◌, [], ◌∷◌, subst, sym}
 use Rattle.agg_segment.specs.Segment.{Stored}
 use Rattle.agg_segment.specs.declared.query.QueryTree.{QueryTree}
 use Rattle.agg_request_tree.specs.Request.{Request}
-use Rattle.agg_snapshot.specs.Contexts.{MayBeCollected}
-use Rattle.agg_snapshot.specs.declared.context.SegmentContext.{SegmentContext}
-use Rattle.agg_snapshot.proofs.segment.made_results.Goals as goal
+use Rattle.agg_engine.specs.snapshot_results.Contexts.{MayBeCollected}
+use Rattle.agg_engine.specs.declared.snapshot_results.context.SegmentContext.{SegmentContext}
+use Rattle.agg_engine.proofs.snapshot_results.segment.made_results.Goals as goal
 
 -- the context of a composite that stands alone may be collected, since it is the segment's
 ready-alone : (given context : SegmentContext) → given ≡ context → (request : Request QueryTree)

@@ -2,13 +2,13 @@ use Rattle.std.proofs.Common.{[], ◌∷◌, IfErr, OnOk, refl, subst, sym, ◌�
 use Rattle.agg_cache.specs.Limits.{Limits}
 use Rattle.agg_segment.specs.Query.{matches}
 use Rattle.agg_segment.specs.Segment.{documents_of}
-use Rattle.agg_snapshot.specs.Answers.{IsMemoryRefusal}
-use Rattle.agg_snapshot.specs.ChargeErrors.{snapshot_error}
-use Rattle.agg_snapshot.specs.MemoryLimits.{HaveRoom}
-use Rattle.agg_snapshot.proofs.Contexts.{data-here}
-use Rattle.agg_snapshot.proofs.Refusals.{caused-by}
-use Rattle.agg_snapshot.proofs.SegmentMemory.{before-made, refusal-made}
-use Rattle.agg_snapshot.proofs.segment.segment_results.Goals as goal
+use Rattle.agg_engine.specs.snapshot_results.Answers.{IsMemoryRefusal}
+use Rattle.agg_engine.specs.snapshot_results.ChargeErrors.{snapshot_error}
+use Rattle.agg_engine.specs.snapshot_results.MemoryLimits.{HaveRoom}
+use Rattle.agg_engine.proofs.lemmas.snapshot_results.Contexts.{data-here}
+use Rattle.agg_engine.proofs.lemmas.snapshot_results.Refusals.{caused-by}
+use Rattle.agg_engine.proofs.lemmas.snapshot_results.SegmentMemory.{before-made, refusal-made}
+use Rattle.agg_engine.proofs.snapshot_results.segment.segment_results.Goals as goal
 
 pub new-requires : goal.new-requires
 new-requires g c =

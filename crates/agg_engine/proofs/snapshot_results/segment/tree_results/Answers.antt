@@ -1,29 +1,32 @@
 use Rattle.std.proofs.Common.{◌≤◌, ◌+◌, ◌*◌, [], ◌∷◌, Some, subst, sym}
 use Rattle.agg_cache.specs.Waiting.{under}
-use Rattle.agg_collector_tree.specs.Tree.{IsFor, held_of}
-use Rattle.agg_collector_tree.specs.declared.tree.SegmentCollectorTree.{SegmentCollectorTree}
-use Rattle.agg_tree_results.specs.Names.{HasNamesApart}
-use Rattle.agg_tree_results.specs.Results.{GroupStands}
+use Rattle.agg_engine_tree.specs.collector_tree.Tree.{IsFor, held_of}
+use Rattle.agg_engine_tree.specs.declared.collector_tree.tree.SegmentCollectorTree.{
+  SegmentCollectorTree,
+}
+use Rattle.agg_engine_tree.specs.tree_results.Names.{HasNamesApart}
+use Rattle.agg_engine_tree.specs.tree_results.Results.{GroupStands}
 use Rattle.agg_segment.specs.Query.{matches}
 use Rattle.agg_segment.specs.Segment.{Stored}
 use Rattle.agg_segment.specs.declared.query.QueryTree.{QueryTree}
 use Rattle.agg_request_tree.specs.Request.{Request}
-use Rattle.agg_snapshot.specs.Answers.{IsMemoryRefusal}
-use Rattle.agg_snapshot.specs.ChargeErrors.{snapshot_error}
-use Rattle.agg_snapshot.specs.ChargedTrees.{before}
-use Rattle.agg_snapshot.specs.Contexts.{MayBeCollected}
-use Rattle.agg_snapshot.specs.Documents.{matching_in}
-use Rattle.agg_snapshot.specs.Steps.{counted_of}
-use Rattle.agg_snapshot.proofs.Halves.{answers-failed}
-use Rattle.agg_snapshot.proofs.ChargedTrees.{charges-within}
-use Rattle.agg_snapshot.proofs.Refusals.{caused-by}
-use Rattle.agg_snapshot.proofs.SegmentMemory.{refusal-flushed, refusal-taken, room-flushed}
-use Rattle.agg_snapshot.proofs.SegmentTrees.{answers-flushed, apart-flushed, may-flush}
-use Rattle.agg_snapshot.proofs.SegmentTrees.{may-new, most-flushed, most-taken}
-use Rattle.agg_snapshot.proofs.SegmentTrees.{right-flushed}
-use Rattle.agg_snapshot.proofs.segment.tree_results.Given as given
-use Rattle.agg_snapshot.proofs.segment.tree_results.Goals as goal
-use Rattle.agg_snapshot.proofs.segment.tree_results.Goals.{After-flush}
+use Rattle.agg_engine.specs.snapshot_results.Answers.{IsMemoryRefusal}
+use Rattle.agg_engine.specs.snapshot_results.ChargeErrors.{snapshot_error}
+use Rattle.agg_engine.specs.snapshot_results.ChargedTrees.{before}
+use Rattle.agg_engine.specs.snapshot_results.Contexts.{MayBeCollected}
+use Rattle.agg_engine.specs.snapshot_results.Documents.{matching_in}
+use Rattle.agg_engine.specs.snapshot_results.Steps.{counted_of}
+use Rattle.agg_engine.proofs.lemmas.snapshot_results.Halves.{answers-failed}
+use Rattle.agg_engine.proofs.lemmas.snapshot_results.ChargedTrees.{charges-within}
+use Rattle.agg_engine.proofs.lemmas.snapshot_results.Refusals.{caused-by}
+use Rattle.agg_engine.proofs.lemmas.snapshot_results.SegmentMemory.{refusal-flushed, refusal-taken}
+use Rattle.agg_engine.proofs.lemmas.snapshot_results.SegmentMemory.{room-flushed}
+use Rattle.agg_engine.proofs.lemmas.snapshot_results.SegmentTrees.{answers-flushed, apart-flushed}
+use Rattle.agg_engine.proofs.lemmas.snapshot_results.SegmentTrees.{may-flush, may-new, most-flushed}
+use Rattle.agg_engine.proofs.lemmas.snapshot_results.SegmentTrees.{most-taken, right-flushed}
+use Rattle.agg_engine.proofs.snapshot_results.segment.tree_results.Given as given
+use Rattle.agg_engine.proofs.snapshot_results.segment.tree_results.Goals as goal
+use Rattle.agg_engine.proofs.snapshot_results.segment.tree_results.Goals.{After-flush}
 
 -- after all that waits was handed down, the steps are few
 few : (g : given.Over) (c : After-flush g)

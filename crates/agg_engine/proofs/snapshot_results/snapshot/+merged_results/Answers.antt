@@ -5,20 +5,24 @@ use Rattle.agg_segment.specs.Query.{matches}
 use Rattle.agg_segment.specs.Segment.{Stored, documents_of}
 use Rattle.agg_segment.specs.declared.query.QueryTree.{QueryTree}
 use Rattle.agg_request_tree.specs.Request.{Request}
-use Rattle.agg_snapshot.specs.Answers.{AnswersResults, IsMemoryRefusal}
-use Rattle.agg_snapshot.specs.Contexts.{MayBeCollected}
-use Rattle.agg_snapshot.specs.Documents.{matching_in}
-use Rattle.agg_snapshot.specs.MemoryLimits.{HaveRoom, low_roof_in}
-use Rattle.agg_snapshot.specs.Steps.{counted_of}
-use Rattle.agg_snapshot.proofs.Contexts.{lone-segment, no-item, no-segment, only-item}
-use Rattle.agg_snapshot.proofs.Contexts.{ready-back, ready-front}
-use Rattle.agg_snapshot.proofs.Halves.{answers-failed, answers-none, both-joined, both-memory}
-use Rattle.agg_snapshot.proofs.Halves.{both-most, first-most}
-use Rattle.agg_snapshot.proofs.JoinedLimits.{refusal-back, refusal-front, room-both}
-use Rattle.agg_snapshot.proofs.Refusals.{caused-by}
-use Rattle.agg_snapshot.proofs.snapshot.+merged_results.Given as given
-use Rattle.agg_snapshot.proofs.snapshot.+merged_results.Goals as goal
-use Rattle.agg_snapshot.proofs.snapshot.+merged_results.Goals.{After-merged_results-in_default}
+use Rattle.agg_engine.specs.snapshot_results.Answers.{AnswersResults, IsMemoryRefusal}
+use Rattle.agg_engine.specs.snapshot_results.Contexts.{MayBeCollected}
+use Rattle.agg_engine.specs.snapshot_results.Documents.{matching_in}
+use Rattle.agg_engine.specs.snapshot_results.MemoryLimits.{HaveRoom, low_roof_in}
+use Rattle.agg_engine.specs.snapshot_results.Steps.{counted_of}
+use Rattle.agg_engine.proofs.lemmas.snapshot_results.Contexts.{lone-segment, no-item, no-segment}
+use Rattle.agg_engine.proofs.lemmas.snapshot_results.Contexts.{only-item, ready-back, ready-front}
+use Rattle.agg_engine.proofs.lemmas.snapshot_results.Halves.{answers-failed, answers-none}
+use Rattle.agg_engine.proofs.lemmas.snapshot_results.Halves.{both-joined, both-memory, both-most}
+use Rattle.agg_engine.proofs.lemmas.snapshot_results.Halves.{first-most}
+use Rattle.agg_engine.proofs.lemmas.snapshot_results.JoinedLimits.{refusal-back, refusal-front}
+use Rattle.agg_engine.proofs.lemmas.snapshot_results.JoinedLimits.{room-both}
+use Rattle.agg_engine.proofs.lemmas.snapshot_results.Refusals.{caused-by}
+use Rattle.agg_engine.proofs.snapshot_results.snapshot.+merged_results.Given as given
+use Rattle.agg_engine.proofs.snapshot_results.snapshot.+merged_results.Goals as goal
+use Rattle.agg_engine.proofs.snapshot_results.snapshot.+merged_results.Goals.{
+  After-merged_results-in_default,
+}
 
 -- after the calls for both parts the steps are few
 few : (g : given.Over) (t : ℕ) (c : After-merged_results-in_default g t)

@@ -2,14 +2,15 @@ use Rattle.std.proofs.Common.{subst, sym}
 use Rattle.std.proofs.lemmas.Result.{IfErr-weaker}
 use Rattle.agg_segment.specs.declared.query.QueryTree.{QueryTree}
 use Rattle.agg_request_tree.specs.Request.{Request}
-use Rattle.agg_snapshot.specs.Answers.{IsMemoryRefusal, IsRefusal}
-use Rattle.agg_snapshot.specs.Asked.{IsAsked}
-use Rattle.agg_snapshot.specs.Contexts.{AreContextsOf, MayBeCollected}
-use Rattle.agg_snapshot.proofs.AskedNames.{asked-ascend}
-use Rattle.agg_snapshot.proofs.Refusals.{asked-some, caused-by, on_ok-so, refusal-counts}
-use Rattle.agg_snapshot.proofs.Refusals.{refusal-memory, refusal-starts}
-use Rattle.agg_snapshot.proofs.snapshot.snapshot_results.Goals as goal
-use Rattle.agg_snapshot.proofs.snapshot.snapshot_results.Goals.{After-merged_results}
+use Rattle.agg_engine.specs.snapshot_results.Answers.{IsMemoryRefusal, IsRefusal}
+use Rattle.agg_engine.specs.snapshot_results.Asked.{IsAsked}
+use Rattle.agg_engine.specs.snapshot_results.Contexts.{AreContextsOf, MayBeCollected}
+use Rattle.agg_engine.proofs.lemmas.snapshot_results.AskedNames.{asked-ascend}
+use Rattle.agg_engine.proofs.lemmas.snapshot_results.Refusals.{asked-some, caused-by, on_ok-so}
+use Rattle.agg_engine.proofs.lemmas.snapshot_results.Refusals.{refusal-counts, refusal-memory}
+use Rattle.agg_engine.proofs.lemmas.snapshot_results.Refusals.{refusal-starts}
+use Rattle.agg_engine.proofs.snapshot_results.snapshot.snapshot_results.Goals as goal
+use Rattle.agg_engine.proofs.snapshot_results.snapshot.snapshot_results.Goals.{After-merged_results}
 
 -- after the checks, the segments may be collected
 ready : (g : _) (c : After-merged_results g) (request : Request QueryTree)

@@ -1,7 +1,7 @@
-use Rattle.agg_collector_tree.specs.Call.{pairs_in, parents_in}
-use Rattle.agg_collector_tree.specs.Tree.{held_of}
-use Rattle.agg_snapshot.proofs.TakenTrees.{most-of, only-memory}
-use Rattle.agg_snapshot.proofs.taking.take.Goals as goal
+use Rattle.agg_engine_tree.specs.collector_tree.Call.{pairs_in, parents_in}
+use Rattle.agg_engine_tree.specs.collector_tree.Tree.{held_of}
+use Rattle.agg_engine.proofs.lemmas.snapshot_results.TakenTrees.{most-of, only-memory}
+use Rattle.agg_engine.proofs.snapshot_results.taking.take.Goals as goal
 
 pub out_of_memory-requires : goal.out_of_memory-requires
 out_of_memory-requires g c =

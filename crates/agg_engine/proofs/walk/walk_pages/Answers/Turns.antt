@@ -4,9 +4,9 @@ use Rattle.std.proofs.Common.{unwrap_or, map, sym, ap, subst, arith}
 use Rattle.std.proofs.Common.{◌∙◌}
 use Rattle.agg_segment.specs.Segment.{documents_of}
 use Rattle.agg_request_tree.specs.Matching.{built_matches}
-use Rattle.agg_segment_context.specs.Pages.{paged, request_after}
-use Rattle.agg_segment_context.specs.Trees.{AreTreesOf, built_tree}
-use Rattle.agg_final_results.specs.declared.types.AggregationResults.{AggregationResults}
+use Rattle.agg_engine_tree.specs.segment_context.Pages.{paged, request_after}
+use Rattle.agg_engine_tree.specs.segment_context.Trees.{AreTreesOf, built_tree}
+use Rattle.agg_results.specs.declared.final_results.types.AggregationResults.{AggregationResults}
 use Rattle.agg_engine.specs.PageAnswers.{AnswersPage}
 use Rattle.agg_segment.specs.Snapshot.{SnapshotDocuments, snapshot_documents, snapshots_documents}
 use Rattle.agg_engine.specs.Steps.{TakesAtMost}

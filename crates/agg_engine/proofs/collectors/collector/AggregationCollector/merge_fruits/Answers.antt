@@ -2,11 +2,11 @@ use Rattle.std.proofs.Common.{sym, subst}
 use Rattle.std.proofs.lemmas.Result.{IfErr-weaker, IfOk-weaker}
 use Rattle.agg_results.specs.Results.{AreResults}
 use Rattle.agg_request_tree.specs.Matching.{built_matches}
-use Rattle.agg_segment_context.specs.Pages.{paged}
-use Rattle.agg_segment_context.specs.Trees.{built}
-use Rattle.agg_collectors.specs.Fruits.{IsFinalCause, joined}
-use Rattle.agg_collectors.proofs.FinalFruits.{final-cause, final-fruits, merge-cause}
-use Rattle.agg_collectors.proofs.collector.AggregationCollector.merge_fruits.Goals as goal
+use Rattle.agg_engine_tree.specs.segment_context.Pages.{paged}
+use Rattle.agg_engine_tree.specs.segment_context.Trees.{built}
+use Rattle.agg_engine.specs.collectors.Fruits.{IsFinalCause, joined}
+use Rattle.agg_engine.proofs.lemmas.collectors.FinalFruits.{final-cause, final-fruits, merge-cause}
+use Rattle.agg_engine.proofs.collectors.collector.AggregationCollector.merge_fruits.Goals as goal
 
 pub returns-in-Ok-clause-ok : goal.returns-in-Ok-clause-ok
 returns-in-Ok-clause-ok g c =

@@ -3,11 +3,11 @@ use Rattle.std.proofs.lemmas.Bool.Decides.{nat_tests}
 use Rattle.std.proofs.lemmas.List.{nil_from_length}
 use Rattle.std.proofs.lemmas.Result.{IfOk-weaker}
 use Rattle.agg_request_tree.specs.Request.{with_builders}
-use Rattle.agg_intermediate_results.specs.Empty.{empty_results}
-use Rattle.agg_segment_context.specs.Pages.{paged}
-use Rattle.agg_segment_context.specs.declared.params.Page.{Page}
-use Rattle.agg_collectors.proofs.BuiltEmpties.{nothing-stands}
-use Rattle.agg_collectors.proofs.distributed.DistributedAggregationCollector as collector
+use Rattle.agg_results.specs.intermediate_results.Empty.{empty_results}
+use Rattle.agg_engine_tree.specs.segment_context.Pages.{paged}
+use Rattle.agg_engine_tree.specs.declared.segment_context.params.Page.{Page}
+use Rattle.agg_engine.proofs.lemmas.collectors.BuiltEmpties.{nothing-stands}
+use Rattle.agg_engine.proofs.collectors.distributed.DistributedAggregationCollector as collector
 use collector.merge_fruits.Goals as goal
 
 pub returns-then-is_empty-clause-empty : goal.returns-then-is_empty-clause-empty
@@ -23,7 +23,7 @@ returns-then-is_empty-clause-ok g c =
     let few : length c.as_slice.result.now ≡ 0 = grind (arith, nat_tests, c.if-is_empty.ensures) in
     let none = sym c.as_slice.ensures ∙ nil_from_length c.as_slice.result.now few in
     IfOk-weaker c.empty_paged.result _ _ (λ whole is made up lists all.
-    nothing-stands made page request up c.args.fruits lists whole none is all)
+    nothing-stands made page request (up none) c.args.fruits lists whole none is all)
     (subst (λ (page : Option Page). IfOk c.empty_paged.result
     (λ whole. whole.results ≡ empty_results (paged page request))) c.page.ensures
     c.empty_paged.ensures.ok)

@@ -1,10 +1,12 @@
 use Rattle.std.proofs.Common.{false, true}
 use Rattle.agg_values.proofs.KeyTexts.{passed_on}
-use Rattle.agg_collectors.specs.Segment.{IsBlockCause}
-use Rattle.agg_collectors.proofs.FailedCollectors.{cause-marked, few-marked, right-marked}
-use Rattle.agg_collectors.proofs.FailedCollectors.{right-usable, takes-marked, usable-taken}
-use Rattle.agg_collectors.proofs.RightCollectors.{few-none}
-use Rattle.agg_collectors.proofs.segment.AggregationSegmentCollector.collect_block.Goals as goal
+use Rattle.agg_engine.specs.collectors.Segment.{IsBlockCause}
+use Rattle.agg_engine.proofs.lemmas.collectors.FailedCollectors.{cause-marked, few-marked}
+use Rattle.agg_engine.proofs.lemmas.collectors.FailedCollectors.{right-marked, right-usable}
+use Rattle.agg_engine.proofs.lemmas.collectors.FailedCollectors.{takes-marked, usable-taken}
+use Rattle.agg_engine.proofs.lemmas.collectors.RightCollectors.{few-none}
+use Rattle.agg_engine.proofs.collectors.segment.AggregationSegmentCollector.collect_block.Goals
+    as goal
 
 pub returns-then-self-clause-most : goal.returns-then-self-clause-most
 returns-then-self-clause-most g c =

@@ -3,16 +3,16 @@ use Rattle.agg_values.proofs.KeyTexts.{passed_on}
 use Rattle.agg_cache.specs.Limits.{charged}
 use Rattle.agg_segment.specs.Segment.{documents_of}
 use Rattle.agg_request_tree.specs.Request.{with_builders}
-use Rattle.agg_segment_context.specs.Pages.{paged}
-use Rattle.agg_segment_context.specs.SetupError.{error_from_request}
-use Rattle.agg_snapshot.specs.ChargeErrors.{setup_error}
-use Rattle.agg_snapshot.specs.ChargedTrees.{IsFixedCause}
-use Rattle.agg_snapshot.proofs.AskedNames.{names-asked}
-use Rattle.agg_collectors.specs.Segment.{IsSetupCause}
-use Rattle.agg_collectors.proofs.FixedCharges.{fixed-paged}
-use Rattle.agg_collectors.proofs.MemoryCauses.{cause-fault, cause-fixed}
-use Rattle.agg_collectors.proofs.NewCollectors.{collector-new}
-use Rattle.agg_collectors.proofs as proofs
+use Rattle.agg_engine_tree.specs.segment_context.Pages.{paged}
+use Rattle.agg_engine_tree.specs.segment_context.SetupError.{error_from_request}
+use Rattle.agg_engine.specs.snapshot_results.ChargeErrors.{setup_error}
+use Rattle.agg_engine.specs.snapshot_results.ChargedTrees.{IsFixedCause}
+use Rattle.agg_engine.proofs.lemmas.snapshot_results.AskedNames.{names-asked}
+use Rattle.agg_engine.specs.collectors.Segment.{IsSetupCause}
+use Rattle.agg_engine.proofs.lemmas.collectors.FixedCharges.{fixed-paged}
+use Rattle.agg_engine.proofs.lemmas.collectors.MemoryCauses.{cause-fault, cause-fixed}
+use Rattle.agg_engine.proofs.lemmas.collectors.NewCollectors.{collector-new}
+use Rattle.agg_engine.proofs.collectors as proofs
 use proofs.segment.AggregationSegmentCollector.from_agg_req_and_reader.Goals as goal
 
 pub uncut_lengths-requires-clause-context : goal.uncut_lengths-requires-clause-context

@@ -1,16 +1,17 @@
 use Rattle.std.proofs.Common.{Some, subst}
 use Rattle.agg_values.proofs.KeyTexts.{passed_on}
 use Rattle.agg_cache.specs.Waiting.{under}
-use Rattle.agg_collector_tree.specs.Tree.{held_of}
-use Rattle.agg_tree_results.specs.Results.{GroupStands}
-use Rattle.agg_snapshot.specs.ChargeErrors.{collect_error}
-use Rattle.agg_collectors.specs.Segment.{IsHarvestCause}
-use Rattle.agg_collectors.proofs.FailedCollectors.{right-usable}
-use Rattle.agg_collectors.proofs.FlushedCollectors.{apart-flushed, few-failed, few-flushed}
-use Rattle.agg_collectors.proofs.FlushedCollectors.{may-flush, right-flushed, room-flushed}
-use Rattle.agg_collectors.proofs.FlushedCollectors.{stands-flushed}
-use Rattle.agg_collectors.proofs.MemoryCauses.{cause-flushed}
-use Rattle.agg_collectors.proofs.segment.AggregationSegmentCollector.results.Goals as goal
+use Rattle.agg_engine_tree.specs.collector_tree.Tree.{held_of}
+use Rattle.agg_engine_tree.specs.tree_results.Results.{GroupStands}
+use Rattle.agg_engine.specs.snapshot_results.ChargeErrors.{collect_error}
+use Rattle.agg_engine.specs.collectors.Segment.{IsHarvestCause}
+use Rattle.agg_engine.proofs.lemmas.collectors.FailedCollectors.{right-usable}
+use Rattle.agg_engine.proofs.lemmas.collectors.FlushedCollectors.{apart-flushed, few-failed}
+use Rattle.agg_engine.proofs.lemmas.collectors.FlushedCollectors.{few-flushed, may-flush}
+use Rattle.agg_engine.proofs.lemmas.collectors.FlushedCollectors.{right-flushed, room-flushed}
+use Rattle.agg_engine.proofs.lemmas.collectors.FlushedCollectors.{stands-flushed}
+use Rattle.agg_engine.proofs.lemmas.collectors.MemoryCauses.{cause-flushed}
+use Rattle.agg_engine.proofs.collectors.segment.AggregationSegmentCollector.results.Goals as goal
 
 pub returns-then-self-clause-most : goal.returns-then-self-clause-most
 returns-then-self-clause-most g c = few-failed c.args.self.now c.args.steps.now
@@ -19,6 +20,10 @@ pub flush-requires-clause-may : goal.flush-requires-clause-may
 flush-requires-clause-may g c =
     let r = right-usable c.args.self.now c.requires.usable c.if-self.false in
     may-flush r.0 r.1 r.2 r.3 c.args.self.now r.4
+
+pub flush-requires-clause-exact : goal.flush-requires-clause-exact
+flush-requires-clause-exact g c =
+    (right-usable c.args.self.now c.requires.usable c.if-self.false).4.charged
 
 pub returns-in_err-flush-clause-cause : goal.returns-in_err-flush-clause-cause
 returns-in_err-flush-clause-cause g c =

@@ -9,15 +9,17 @@ use Rattle.agg_segment.specs.declared.query.QueryTree.{QueryTree}
 use Rattle.agg_request_tree.specs.Ranges.{HasStartOutOfRange}
 use Rattle.agg_request_tree.specs.Request.{Request}
 use Rattle.agg_request_tree.specs.Uncut.{CountsTooMany}
-use Rattle.agg_uncut.specs.Uncut.{uncut_lengths}
-use Rattle.agg_snapshot.specs.ChargeErrors.{collect_error}
-use Rattle.agg_collectors.specs.Segment.{IsRightFor, IsTreeCause}
-use Rattle.agg_collectors.proofs.MemoryCauses.{Pass, cause-charged}
-use Rattle.agg_collectors.proofs.RightCollectors.{Passes, few-none, few-taken, may-take}
-use Rattle.agg_collectors.proofs.RightCollectors.{right-taken}
-use Rattle.agg_collectors.proofs.segment.AggregationSegmentCollector.take.Given as given
-use Rattle.agg_collectors.proofs.segment.AggregationSegmentCollector.take.Goals as goal
-use Rattle.agg_collectors.proofs.segment.AggregationSegmentCollector.take.Goals.{After-is_too_many}
+use Rattle.agg_engine_tree.specs.uncut.Uncut.{uncut_lengths}
+use Rattle.agg_engine.specs.snapshot_results.ChargeErrors.{collect_error}
+use Rattle.agg_engine.specs.collectors.Segment.{IsRightFor, IsTreeCause}
+use Rattle.agg_engine.proofs.lemmas.collectors.MemoryCauses.{Pass, cause-charged}
+use Rattle.agg_engine.proofs.lemmas.collectors.RightCollectors.{Passes, few-none, few-taken}
+use Rattle.agg_engine.proofs.lemmas.collectors.RightCollectors.{may-take, right-taken}
+use Rattle.agg_engine.proofs.collectors.segment.AggregationSegmentCollector.take.Given as given
+use Rattle.agg_engine.proofs.collectors.segment.AggregationSegmentCollector.take.Goals as goal
+use Rattle.agg_engine.proofs.collectors.segment.AggregationSegmentCollector.take.Goals.{
+  After-is_too_many,
+}
 
 module _ (g : given.Over) (c : After-is_too_many g) (request : Request QueryTree)
     (segment : Stored) (taken : List ℕ) (visits : ℕ)
@@ -99,6 +101,9 @@ take_blocks-requires-clause-may g c =
     let r = c.requires.right in
     may-take r.0 r.1 r.2 r.3 c.args.self.now r.4 c.args.docs.now c.add.new.self
     (passes g at r.0 r.1 r.2 r.3 r.4 c.if-is_too_many.false)
+
+pub take_blocks-requires-clause-exact : goal.take_blocks-requires-clause-exact
+take_blocks-requires-clause-exact g c = c.requires.right.4.charged
 
 pub returns-in_err-take_blocks-clause-cause : goal.returns-in_err-take_blocks-clause-cause
 returns-in_err-take_blocks-clause-cause g c =

@@ -1,8 +1,9 @@
 use Rattle.std.proofs.Common.{◌∷◌, [], false}
 use Rattle.agg_cache.specs.Waiting.{under}
-use Rattle.agg_collector_tree.specs.Tree.{held_of}
-use Rattle.agg_collectors.proofs.GrownTrees.{growth-passed}
-use Rattle.agg_collectors.proofs.tree.SegmentCollectorTreeSegmentAggregationCollector as of_tree
+use Rattle.agg_engine_tree.specs.collector_tree.Tree.{held_of}
+use Rattle.agg_engine.proofs.lemmas.collectors.GrownTrees.{growth-passed}
+use Rattle.agg_engine.proofs.collectors.tree.SegmentCollectorTreeSegmentAggregationCollector
+    as of_tree
 use of_tree.collect.Goals as goal
 
 pub returns-clause-cause : goal.returns-clause-cause

@@ -1,7 +1,8 @@
 use Rattle.std.proofs.Common.{false, zip}
-use Rattle.agg_collector_tree.specs.Tree.{held_of}
-use Rattle.agg_collectors.proofs.GrownTrees.{growth-passed}
-use Rattle.agg_collectors.proofs.tree.SegmentCollectorTreeSegmentAggregationCollector as of_tree
+use Rattle.agg_engine_tree.specs.collector_tree.Tree.{held_of}
+use Rattle.agg_engine.proofs.lemmas.collectors.GrownTrees.{growth-passed}
+use Rattle.agg_engine.proofs.collectors.tree.SegmentCollectorTreeSegmentAggregationCollector
+    as of_tree
 use of_tree.collect_multiple.Goals as goal
 
 pub returns-clause-cause : goal.returns-clause-cause

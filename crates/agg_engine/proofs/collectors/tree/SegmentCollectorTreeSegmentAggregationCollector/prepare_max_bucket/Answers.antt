@@ -1,5 +1,6 @@
 use Rattle.std.proofs.lemmas.Result.{on_ok_weaker}
-use Rattle.agg_collectors.proofs.tree.SegmentCollectorTreeSegmentAggregationCollector as of_tree
+use Rattle.agg_engine.proofs.collectors.tree.SegmentCollectorTreeSegmentAggregationCollector
+    as of_tree
 use of_tree.prepare_max_bucket.Goals as goal
 
 pub returns-clause-ok : goal.returns-clause-ok

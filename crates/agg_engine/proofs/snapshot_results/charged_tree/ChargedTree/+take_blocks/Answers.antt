@@ -1,16 +1,16 @@
 use Rattle.std.proofs.Common.{◌/◌, ◌++◌, false, length, subst, rules}
 use Rattle.std.proofs.lemmas.Result.{IfErr-weaker, on_ok_weaker}
 use Rattle.agg_cache.specs.Waiting.{under}
-use Rattle.agg_collector_tree.specs.Tree.{held_of}
-use Rattle.agg_collector_tree.proofs.TakenParts.{takes-both}
-use Rattle.agg_snapshot.specs.ChargedTrees.{IsChargeCause}
-use Rattle.agg_snapshot.specs.Trees.{MayTake}
-use Rattle.agg_snapshot.proofs.ChargedTrees.{cause-first, cause-second, charges-both}
-use Rattle.agg_snapshot.proofs.ChargedTrees.{charges-within}
-use Rattle.agg_snapshot.proofs.Refusals.{caused-by}
-use Rattle.agg_snapshot.proofs.TakenParts.{may-first, may-second, most-both, most-first}
-use Rattle.agg_snapshot.proofs.TakenParts.{under-cut}
-use Rattle.agg_snapshot.proofs.charged_tree.ChargedTree.+take_blocks.Goals as goal
+use Rattle.agg_engine_tree.specs.collector_tree.Tree.{held_of}
+use Rattle.agg_engine_tree.proofs.lemmas.collector_tree.TakenParts.{takes-both}
+use Rattle.agg_engine.specs.snapshot_results.ChargedTrees.{IsChargeCause}
+use Rattle.agg_engine.specs.snapshot_results.Trees.{MayTake}
+use Rattle.agg_engine.proofs.lemmas.snapshot_results.ChargedTrees.{cause-first, cause-second}
+use Rattle.agg_engine.proofs.lemmas.snapshot_results.ChargedTrees.{charges-both, charges-within}
+use Rattle.agg_engine.proofs.lemmas.snapshot_results.Refusals.{caused-by}
+use Rattle.agg_engine.proofs.lemmas.snapshot_results.TakenParts.{may-first, may-second, most-both}
+use Rattle.agg_engine.proofs.lemmas.snapshot_results.TakenParts.{most-first, under-cut}
+use Rattle.agg_engine.proofs.snapshot_results.charged_tree.ChargedTree.+take_blocks.Goals as goal
 
 pub take_blocks-requires : goal.take_blocks-requires
 take_blocks-requires g t c κs within =

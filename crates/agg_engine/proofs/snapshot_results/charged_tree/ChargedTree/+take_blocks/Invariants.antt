@@ -1,5 +1,5 @@
 use Rattle.std.proofs.Common.{length}
-use Rattle.agg_snapshot.proofs.charged_tree.ChargedTree.+take_blocks.Given as goal
+use Rattle.agg_engine.proofs.snapshot_results.charged_tree.ChargedTree.+take_blocks.Given as goal
 
 abbrev pub decreases-take_blocks : goal.decreases-take_blocks
 decreases-take_blocks g l = length l.docs.now

@@ -1,10 +1,10 @@
 use Rattle.std.proofs.Common.{◌*◌, subst}
-use Rattle.agg_charges.specs.Charges.{bucket_bytes}
-use Rattle.agg_held_bytes.specs.Checked.{IsChecked}
-use Rattle.agg_held_bytes.proofs.Checked.{is-checked}
-use Rattle.agg_snapshot.specs.ChargedTrees.{IsFixedCause}
-use Rattle.agg_snapshot.proofs.Refusals.{caused-by}
-use Rattle.agg_snapshot.proofs.charged_tree.ChargedTree.charge_buckets.Goals as goal
+use Rattle.agg_request_tree.specs.charges.Charges.{bucket_bytes}
+use Rattle.agg_engine_tree.specs.held_bytes.Checked.{IsChecked}
+use Rattle.agg_engine_tree.proofs.lemmas.held_bytes.Checked.{is-checked}
+use Rattle.agg_engine.specs.snapshot_results.ChargedTrees.{IsFixedCause}
+use Rattle.agg_engine.proofs.lemmas.snapshot_results.Refusals.{caused-by}
+use Rattle.agg_engine.proofs.snapshot_results.charged_tree.ChargedTree.charge_buckets.Goals as goal
 
 pub returns-in_err-charge-clause-cause : goal.returns-in_err-charge-clause-cause
 returns-in_err-charge-clause-cause c =

@@ -1,12 +1,12 @@
 use Rattle.std.proofs.Common.{◌≡◌, length, subst, arith}
-use Rattle.agg_charges.specs.Charges.{fixed_charge}
+use Rattle.agg_request_tree.specs.charges.Charges.{fixed_charge}
 use Rattle.agg_segment.specs.Segment.{Stored, documents_of}
-use Rattle.agg_collector_tree.specs.Tree.{held_of}
-use Rattle.agg_held_bytes.specs.Checked.{IsChecked}
-use Rattle.agg_snapshot.specs.ChargedTrees.{IsFixedCause}
-use Rattle.agg_snapshot.proofs.ChargedTrees.{held-new}
-use Rattle.agg_snapshot.proofs.Refusals.{caused-by}
-use Rattle.agg_snapshot.proofs.charged_tree.ChargedTree.new.Goals as goal
+use Rattle.agg_engine_tree.specs.collector_tree.Tree.{held_of}
+use Rattle.agg_engine_tree.specs.held_bytes.Checked.{IsChecked}
+use Rattle.agg_engine.specs.snapshot_results.ChargedTrees.{IsFixedCause}
+use Rattle.agg_engine.proofs.lemmas.snapshot_results.ChargedTrees.{held-new}
+use Rattle.agg_engine.proofs.lemmas.snapshot_results.Refusals.{caused-by}
+use Rattle.agg_engine.proofs.snapshot_results.charged_tree.ChargedTree.new.Goals as goal
 
 pub returns-in_err-fixed-clause-cause : goal.returns-in_err-fixed-clause-cause
 returns-in_err-fixed-clause-cause c = λ meaning request same context.

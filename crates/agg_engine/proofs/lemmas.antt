@@ -1,0 +1,2 @@
+pub mod collectors
+pub mod snapshot_results
