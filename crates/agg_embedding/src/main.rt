@@ -2,7 +2,7 @@
 #![tactic(auto)]
 
 ghost use Rattle.std.specs.Prelude.{IfErr, IfOk, Some, codes};
-ghost use Rattle.agg_column.specs.declared.document.FieldValue.TheVariants as value;
+ghost use Rattle.agg_segment.specs.declared.storage.document.FieldValue.TheVariants as value;
 ghost use Rattle.agg_segment.specs.declared.query.QueryTree.TheVariants as tree;
 ghost use Rattle.agg_embedding.specs.NoPages.{HaveNoPages};
 ghost use Rattle.agg_pages.specs.Answer.{IsPrintedWalk};

@@ -3,10 +3,10 @@ use Rattle.std.proofs.Common.{ℕ, List, [], Option, arith, replicate}
 use Rattle.agg_request_tree.specs.Matching.{built_matches}
 use Rattle.agg_segment.specs.declared.query.QueryTree.{QueryTree}
 use Rattle.agg_segment.specs.declared.query.QueryTree.TheVariants.{All}
-use Rattle.agg_generator.specs.Documents.{generated_snapshot}
-use Rattle.agg_generator.specs.Generator.{generated}
-use Rattle.agg_generated_walks.proofs.GeneratedInputs.{may_ask, snapshots_small}
-use Rattle.agg_generated_walks.proofs.NoRefusals.{never-refused}
+use Rattle.agg_pages.specs.generator.Documents.{generated_snapshot}
+use Rattle.agg_pages.specs.generator.Generator.{generated}
+use Rattle.agg_pages.proofs.lemmas.generated_walks.GeneratedInputs.{may_ask, snapshots_small}
+use Rattle.agg_pages.proofs.lemmas.generated_walks.NoRefusals.{never-refused}
 use Rattle.agg_pages.specs.Answer.{IsNeverRefused, limits_of, query_in}
 
 -- under the limits of such an input there is room for its walk

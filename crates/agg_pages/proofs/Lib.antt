@@ -4,3 +4,4 @@ pub mod Replies
 pub mod Seeds
 pub mod Statuses
 pub mod Words
+pub mod lemmas

@@ -3,7 +3,7 @@ use Rattle.std.proofs.Common.{◌≡◌, ◌∙◌, ◌++◌, ℕ, List, Option,
 use Rattle.agg_segment.specs.declared.query.QueryTree.{QueryTree}
 use Rattle.agg_engine.proofs.OneWalk.{walk-exists, walk-same}
 use Rattle.agg_engine.specs.declared.walk.Walk.{Walk}
-use Rattle.agg_input.specs.Input.{Input}
+use Rattle.agg_pages.specs.input_text.Input.{Input}
 use Rattle.agg_pages.specs.Answer.{IsPlainWalkText, IsSummary, matches_in}
 use Rattle.agg_pages.specs.Output.{ended_line, page_lines, summary_text}
 
@@ -16,7 +16,7 @@ plain_text-unique tree_for i text other (walk, is, said) (next, so, too) =
     i.snapshots walk.pages next.pages walk.ended next.ended is so in
     said ∙ (λ k. page_lines 1 (same.0 k) ++ ended_line (same.1 k)) ∙ sym too
 
--- and exactly one summary
+-- an input has one summary at most
 pub summary-unique : {B : Type 0} (tree_for : B → List (List ℕ) → Option QueryTree) (i : Input B)
     (text other : List ℕ)
     → IsSummary tree_for i text → IsSummary tree_for i other → text ≡ other

@@ -13,7 +13,7 @@ use Rattle.agg_engine.specs.declared.walk.error.WalkError.TheVariants.{TooMany, 
 use Rattle.agg_engine.specs.declared.walk.error.WalkError.TheVariants.{Aggregation}
 use Rattle.agg_engine.specs.declared.walk.error.WalkError.TheVariants.{BucketOutOfRange}
 use Rattle.agg_request_tree.proofs.Lists.{none_of_all}
-use Rattle.agg_input.specs.Input.{Input, IsInput}
+use Rattle.agg_pages.specs.input_text.Input.{Input, IsInput}
 use Rattle.agg_values.specs.Nothing.{NoneIs}
 use Rattle.agg_cache.specs.Limits.{Limits}
 use Rattle.agg_engine.specs.Refusals.{HasCause, HasToRefuse}
@@ -22,7 +22,7 @@ use Rattle.agg_engine.specs.declared.walk.Walk.{Walk}
 use Rattle.agg_pages.specs.Answer.{IsNeverRefused, IsRefusal, IsValid, MayRefuse}
 use Rattle.agg_pages.specs.Answer.{limits_of, matches_in, query_in}
 use Rattle.agg_pages.specs.Reading.{GivesAll}
-use Rattle.agg_input.proofs.Inputs.{IsInput-unique}
+use Rattle.agg_pages.proofs.lemmas.input_text.Inputs.{IsInput-unique}
 
 -- ---- what is never refused
 

@@ -1,7 +1,7 @@
 -- What statuses of a run come from, and which have no answer.
 use Rattle.std.proofs.Common.{◌≡◌, ◌⊎◌, inl, inr, refl}
-use Rattle.agg_document_json.specs.declared.input_error.InputError.{InputError}
-use Rattle.agg_document_json.specs.declared.input_error.InputError.TheVariants as refused
+use Rattle.agg_pages.specs.declared.document_json.input_error.InputError.{InputError}
+use Rattle.agg_pages.specs.declared.document_json.input_error.InputError.TheVariants as refused
 use Rattle.agg_pages.specs.declared.status.Status.{Status}
 use Rattle.agg_pages.specs.declared.source.reading.ReadAllError.{ReadAllError}
 use Rattle.agg_pages.specs.declared.source.reading.ReadAllError.TheVariants.{ReadFault, TooLong}
@@ -16,7 +16,7 @@ too_long-from_status ReadFault e = cc
 too_long-from_status TooLong e = refl
 too_long-from_status OutOfMemory e = cc
 
--- and the one of bytes that were read
+-- the one fault of bytes that were read that is a fault of the input
 pub not_input-from_status : (error : InputError) → status_of_input error ≡ status.Input
     → error ≡ refused.NotInput
 not_input-from_status refused.NotInput e = refl

@@ -3,7 +3,7 @@ use Rattle.std.specs.Prelude.{◌≡◌, ◌≢◌, ◌<◌, ◌+◌, ◌⊎◌,
 use Rattle.std.specs.Prelude.{Option, Some, drop, take, length, unwrap_or}
 use Rattle.agg_values.specs.Nothing.{NoneIs}
 use Rattle.agg_cache.specs.Limits.{Limits}
-use Rattle.agg_column.specs.Document.{Fields}
+use Rattle.agg_segment.specs.storage.Document.{Fields}
 use Rattle.agg_segment.specs.declared.query.QueryTree.{QueryTree}
 use Rattle.agg_request_tree.specs.Matching.{built_matches}
 use Rattle.agg_engine.specs.declared.walk.Walk.{Walk}
@@ -12,7 +12,7 @@ use Rattle.agg_engine.specs.declared.walk.error.WalkError.TheVariants.{OutOfMemo
 use Rattle.agg_engine.specs.Refusals as refusals
 use refusals.{HasCause, HasToRefuse}
 use Rattle.agg_engine.specs.Walk.{IsWalk, MayBeAsked}
-use Rattle.agg_input.specs.Input.{AreNoInput, Input, max_input_bytes}
+use Rattle.agg_pages.specs.input_text.Input.{AreNoInput, Input, max_input_bytes}
 use Rattle.agg_pages.specs.Output.{refusal_text, summary_text, walk_text}
 
 -- the limits of an input, with nothing in use: its own, or 500,000,000 bytes and 65,000 buckets

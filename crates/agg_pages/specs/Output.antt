@@ -1,11 +1,11 @@
 -- The text of an answer.
 use Rattle.std.specs.Prelude.{◌+◌, ℕ, List, [], ◌∷◌, ◌++◌, Bool, if◌then◌else◌, codes, decimal}
 use Rattle.std.specs.Prelude.{length, sum_by}
-use Rattle.agg_final_results.specs.declared.types.AggregationResults.{AggregationResults}
+use Rattle.agg_results.specs.declared.final_results.types.AggregationResults.{AggregationResults}
 use Rattle.agg_engine.specs.declared.walk.Walk.{Walk}
 use Rattle.agg_engine.specs.declared.walk.error.WalkError.{WalkError}
-use Rattle.agg_final_results.specs.BucketCount.{results_buckets}
-use Rattle.agg_final_results.specs.ResultsText.{results_text}
+use Rattle.agg_results.specs.final_results.BucketCount.{results_buckets}
+use Rattle.agg_results.specs.final_results.ResultsText.{results_text}
 use Rattle.agg_engine.specs.WalkError.{error_name}
 
 -- the line of a page, pages counted from 1

@@ -10,8 +10,8 @@ use Rattle.agg_pages.specs.declared.status.Status.TheVariants.{WriteFault, OutOf
 use Rattle.agg_pages.specs.Answer.{IsNeverRefused, IsNoInput, IsPrintedWalk, IsRefusal}
 use Rattle.agg_pages.specs.Answer.{IsReplyPrefix, IsSummary, IsSummaryPrefix}
 use Rattle.agg_pages.specs.Commands.{AskFor, IsSeed, make_arguments, walk_arguments}
-use Rattle.agg_input.specs.Input.{Input, IsInput, max_input_bytes}
-use Rattle.agg_generator.specs.Generator.{generated}
+use Rattle.agg_pages.specs.input_text.Input.{Input, IsInput, max_input_bytes}
+use Rattle.agg_pages.specs.generator.Generator.{generated}
 use Rattle.agg_pages.specs.Observed.{Observed, HadFault, IsUntouched, bytes_after, bytes_before}
 use Rattle.agg_pages.specs.Reading.{GivesAll, TakesAtMost}
 use Rattle.agg_pages.specs.Status.{IsUnanswered}
@@ -72,7 +72,7 @@ pub record IsWalkAnswered {R W B : Type 0} (builders : List B) (name_of : B → 
   pub write_fault : status ≡ WriteFault → HadFault sink
   pub prefix : status ≡ WriteFault
       → HasWritten builders name_of (IsReplyPrefix tree_for) source sink
-  -- these write nothing
+  -- where no answer is given, nothing is written
   pub quiet : IsUnanswered status → IsUntouched sink
   -- whatever the status, no more than one byte past the limit is gone
   pub taken : TakesAtMost (max_input_bytes + 1) (bytes_before source) (bytes_after source)

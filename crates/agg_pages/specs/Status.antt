@@ -1,7 +1,7 @@
 -- How a run of the program ended.
 use Rattle.std.specs.Prelude.{◌≡◌, ◌⊎◌, ℕ}
-use Rattle.agg_document_json.specs.declared.input_error.InputError.{InputError}
-use Rattle.agg_document_json.specs.declared.input_error.InputError.TheVariants as refused
+use Rattle.agg_pages.specs.declared.document_json.input_error.InputError.{InputError}
+use Rattle.agg_pages.specs.declared.document_json.input_error.InputError.TheVariants as refused
 use Rattle.agg_pages.specs.declared.source.reading.ReadAllError.{ReadAllError}
 use Rattle.agg_pages.specs.declared.source.reading.ReadAllError.TheVariants as reading
 use Rattle.agg_pages.specs.declared.status.Status.{Status}

@@ -1,10 +1,8 @@
 //! Documents from the lines of an input.
-#![tactic(auto)]
-
-mod document;
-mod input_error;
-mod line_value;
-mod tokens;
+pub(crate) mod document;
+pub(crate) mod input_error;
+pub(crate) mod line_value;
+pub(crate) mod tokens;
 
 pub use document::read_document;
 pub use input_error::InputError;

@@ -1,6 +1,4 @@
 //! What holds of the walks of generated inputs.
-#![tactic(auto)]
-
-mod laws;
+pub(crate) mod laws;
 
 pub use laws::generated_walks_are_never_refused;

@@ -1,11 +1,9 @@
 //! An input for measurements, generated from a seed.
-#![tactic(auto)]
-
-mod documents;
-mod draws;
-mod input;
-mod request;
-mod snapshots;
+pub(crate) mod documents;
+pub(crate) mod draws;
+pub(crate) mod input;
+pub(crate) mod request;
+pub(crate) mod snapshots;
 
 pub use draws::Generator;
 pub use input::generated_input;

@@ -1,14 +1,12 @@
 //! The header of an input of `walk`, as a line of text.
-#![tactic(auto)]
-
 ghost use Rattle.std.specs.Prelude.{◌≡◌, IfOk, Some, string_bytes, true};
 ghost use Rattle.serde_json.specs.View.{members_view, view};
-ghost use Rattle.agg_json.specs.Query.{IsQuery};
+ghost use Rattle.agg_request.specs.json_values.Query.{IsQuery};
 ghost use Rattle.agg_request_tree.specs.Request.{builders_of};
 ghost use Rattle.agg_request.specs.Written.{all_may_be_written};
-ghost use Rattle.agg_input.specs.Header.{IsHeader, texts_of};
-ghost use Rattle.agg_header_text.specs.HeaderText.{HasQuery, IsHeaderText, filter_request};
-ghost use Rattle.agg_header_text.specs.HeaderText.{header_of, plain_members};
+ghost use Rattle.agg_pages.specs.input_text.Header.{IsHeader, texts_of};
+ghost use Rattle.agg_pages.specs.header_text.HeaderText.{HasQuery, IsHeaderText, filter_request};
+ghost use Rattle.agg_pages.specs.header_text.HeaderText.{header_of, plain_members};
 
 use agg_request::{
     Aggregation, AggregationVariants, Aggregations, FilterAggregation, FilterQuery,

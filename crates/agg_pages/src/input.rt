@@ -1,3 +1,3 @@
 //! The input that bytes stand for.
 
-pub use agg_input::{Header, Input, InputError, read_input};
+pub use crate::input_text::{Header, Input, InputError, read_input};

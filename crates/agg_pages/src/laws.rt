@@ -1,8 +1,8 @@
 //! What holds of printed walks, of summaries and of generated inputs, as their definitions say it.
 ghost use Rattle.std.specs.Prelude.{◌≡◌, ℕ, List, Option};
 ghost use Rattle.agg_segment.specs.declared.query.QueryTree.{QueryTree};
-ghost use Rattle.agg_input.specs.Input.{Input};
-ghost use Rattle.agg_generator.specs.Generator.{generated};
+ghost use Rattle.agg_pages.specs.input_text.Input.{Input};
+ghost use Rattle.agg_pages.specs.generator.Generator.{generated};
 ghost use Rattle.agg_pages.specs.Answer.{IsNeverRefused, IsPlainWalkText, IsPrintedWalk};
 ghost use Rattle.agg_pages.specs.Answer.{IsSummary, IsValid};
 

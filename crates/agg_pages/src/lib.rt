@@ -1,10 +1,15 @@
-//! The outside of walks: the reading of a source, the text of an answer, and the run that joins
-//! them with the reading of an input.
+//! The outside of walks: the input that bytes stand for, the text of an answer, the run that joins
+//! them over any source and sink, and inputs that are generated.
 #![tactic(auto)]
 
 mod any_field;
 mod command;
+pub mod document_json;
+pub mod generated_walks;
+pub mod generator;
+pub mod header_text;
 pub mod input;
+pub mod input_text;
 mod laws;
 pub mod output;
 mod program;

@@ -1,6 +1,6 @@
 //! The text of an answer.
 ghost use Rattle.std.specs.Prelude.{◌≡◌, ◌++◌, IfOk, OnOk, string_bytes, sum_by};
-ghost use Rattle.agg_final_results.specs.BucketCount.{results_buckets};
+ghost use Rattle.agg_results.specs.final_results.BucketCount.{results_buckets};
 ghost use Rattle.agg_pages.specs.Output.{ended_line, page_line, refusal_text};
 ghost use Rattle.agg_pages.specs.Output.{summary_text, walk_text};
 

@@ -4,7 +4,7 @@ ghost use Rattle.std.specs.Prelude.{◌≡◌, ◌≢◌, ◌<◌, ◌+◌, ◌�
 ghost use Rattle.agg_pages.specs.Answer.{IsNeverRefused, IsReply, IsSummary};
 ghost use Rattle.agg_pages.specs.Answer.{IsSummaryPrefix};
 ghost use Rattle.agg_streams.specs.Causes.{Rose};
-ghost use Rattle.agg_input.specs.Input.{Input as Meant, input_of, max_input_bytes};
+ghost use Rattle.agg_pages.specs.input_text.Input.{Input as Meant, input_of, max_input_bytes};
 ghost use Rattle.agg_pages.specs.Observed.{over};
 ghost use Rattle.agg_pages.specs.Reading.{TakesAtMost};
 ghost use Rattle.agg_pages.specs.Run.{GaveInput, HadNoInput, HasAppended, IsAnswered};
@@ -12,11 +12,11 @@ ghost use Rattle.agg_pages.specs.Run.{IsWalkAnswered, invocation};
 ghost use Rattle.agg_pages.specs.Status.{IsUnanswered};
 
 use crate::command::{Command, command_of};
+use crate::generator::generated_input;
+use crate::input_text::{Input, read_input};
 use crate::reply::{Reply, deliver, reply_to, summary_of};
 use crate::source::{Source, read_all};
 use crate::status::Status;
-use agg_generator::generated_input;
-use agg_input::{Input, read_input};
 use agg_request::NamedBuilder;
 use agg_streams::sink::Sink;
 use agg_values::{Steps, Text};
@@ -48,7 +48,7 @@ pub fn run<R: Source, W: Sink, L: Ledger>(
     }
 }
 
-/// The same, where nobody counts the steps.
+/// Does all that the program does, where nobody counts the steps.
 pub fn run_uncounted<R: Source, W: Sink>(
     alloc: Global,
     words: &[Text],
@@ -63,7 +63,7 @@ pub fn run_uncounted<R: Source, W: Sink>(
     run_over::<R, W, Brand>(alloc, words, builders, source, sink, Blank::new(1))
 }
 
-// The same, where a blank makes the counter.
+// Does all that the program does, where a blank makes the counter of steps.
 fn run_over<R: Source, W: Sink, L: Ledger>(
     alloc: Global,
     words: &[Text],

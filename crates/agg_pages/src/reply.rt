@@ -3,15 +3,15 @@ ghost use Rattle.std.specs.Prelude.{◌≡◌, ◌≢◌, ◌⊎◌, ℕ, take, 
 ghost use Rattle.std.specs.Prelude.{string_bytes};
 ghost use Rattle.std.specs.Io.KnownBytes.{Appends};
 ghost use Rattle.agg_streams.specs.Causes.{Rose};
-ghost use Rattle.agg_input.specs.Input.{input_of};
+ghost use Rattle.agg_pages.specs.input_text.Input.{input_of};
 ghost use Rattle.agg_pages.specs.Answer.{IsNeverRefused, IsPlainWalk, IsReply, IsSummary};
 ghost use Rattle.agg_pages.specs.Answer.{IsValid, MayRefuse};
 
+use crate::input_text::Input;
 use crate::output::{refusal_text, summary_text, walk_text};
 use crate::status::Status;
 use agg_cache::LimitsLedger;
 use agg_engine::{Walk, WalkError, walk_pages};
-use agg_input::Input;
 use agg_streams::sink::{Sink, write_all};
 use agg_values::{OutOfMemory, Steps};
 use std::alloc::Global;

@@ -2,8 +2,8 @@ ghost use Rattle.std.specs.Prelude.{◌≡◌};
 ghost use Rattle.agg_pages.specs.Status.{code_of, status_of_input, status_of_reading};
 ghost use Rattle.agg_pages.specs.declared.status.Status.TheVariants.{OutOfMemory as NoMemory};
 
+use crate::input_text::InputError;
 use crate::source::ReadAllError;
-use agg_input::InputError;
 use agg_values::OutOfMemory;
 
 /// How a run of the program ended.

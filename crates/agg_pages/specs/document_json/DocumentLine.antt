@@ -10,8 +10,8 @@ use Rattle.serde_json.specs.Read.{read}
 use Rattle.agg_values.specs.AddressGrammar.{IsAddressText}
 use Rattle.agg_values.specs.TypedKey.{CompositeIntermediateKey, typed_number}
 use Rattle.agg_values.specs.declared.typed_key.CompositeIntermediateKey.TheVariants as key
-use Rattle.agg_column.specs.Document.{Fields, by_class}
-use Rattle.agg_json.specs.Json.{IsOr, only_named, whole_number}
+use Rattle.agg_segment.specs.storage.Document.{Fields, by_class}
+use Rattle.agg_request.specs.json_values.Json.{IsOr, only_named, whole_number}
 
 -- a date: an object whose one member is `dt`, its nanoseconds within i64
 abbrev pub date_of : Data → Option ℤ

@@ -1,9 +1,9 @@
 -- Values of a field, put into a document.
 use Rattle.std.specs.Prelude.{◌≡◌, ℕ, List, ◌++◌, map}
 use Rattle.serde_json.specs.Data.{Data}
-use Rattle.agg_column.specs.Document.{key_of}
-use Rattle.agg_column.specs.declared.document.FieldValue.{FieldValue}
-use Rattle.agg_document_json.specs.DocumentLine.{HaveKeys}
+use Rattle.agg_segment.specs.storage.Document.{key_of}
+use Rattle.agg_segment.specs.declared.storage.document.FieldValue.{FieldValue}
+use Rattle.agg_pages.specs.document_json.DocumentLine.{HaveKeys}
 
 -- these values, as they stand in a document under the name of their field
 abbrev pub named_values : List ℕ → List FieldValue → List (List ℕ × FieldValue)

@@ -9,16 +9,16 @@ use Rattle.serde_json.specs.Data.{object, unsigned, negative}
 use Rattle.serde_json.specs.Find.{as_array}
 use Rattle.serde_json.specs.Read.{converted, of_items, of_json, of_members}
 use Rattle.agg_values.specs.TypedKey.{CompositeIntermediateKey}
-use Rattle.agg_column.specs.Document.{by_class}
+use Rattle.agg_segment.specs.storage.Document.{by_class}
 use Rattle.agg_segment.specs.Segment.{Gathered, IsNameOf, open_document}
-use Rattle.agg_json.specs.Json.{alone}
-use Rattle.agg_document_json.specs.declared.tokens.number.WholeNumber.{WholeNumber}
-use Rattle.agg_document_json.specs.declared.tokens.number.WholeNumber.TheVariants.{
+use Rattle.agg_request.specs.json_values.Json.{alone}
+use Rattle.agg_pages.specs.declared.document_json.tokens.number.WholeNumber.{WholeNumber}
+use Rattle.agg_pages.specs.declared.document_json.tokens.number.WholeNumber.TheVariants.{
   Unsigned,
   Negative,
 }
-use Rattle.agg_document_json.specs.DocumentLine.{HasKey, HaveKeys, IsDocument, field_values}
-use Rattle.agg_document_json.specs.DocumentLine.{values_among}
+use Rattle.agg_pages.specs.document_json.DocumentLine.{HasKey, HaveKeys, IsDocument, field_values}
+use Rattle.agg_pages.specs.document_json.DocumentLine.{values_among}
 
 -- a whole number as that of a JSON value
 abbrev pub num_of : WholeNumber → Num

@@ -6,8 +6,8 @@ use Rattle.agg_request_tree.specs.Matching.{built_matches}
 use Rattle.agg_engine.specs.Refusals.{MayRefuse}
 use Rattle.agg_engine.specs.Walk.{MayBeAsked}
 use Rattle.agg_engine.specs.declared.walk.error.WalkError.{WalkError}
-use Rattle.agg_input.specs.Input.{Input}
-use Rattle.agg_generator.specs.Generator.{generated}
+use Rattle.agg_pages.specs.input_text.Input.{Input}
+use Rattle.agg_pages.specs.generator.Generator.{generated}
 
 -- ---- room
 
@@ -27,12 +27,12 @@ module _ {B : Type 0} (query_for : B → Option QueryTree) (seed : ℕ) where
   abbrev input : Input B
   input = generated seed
 
-  -- its walk may be asked, where the builders make these queries
+  -- the walk of a seed's input may be asked, where the builders make these queries
   abbrev pub GeneratedMayBeAsked : Type 0
   GeneratedMayBeAsked =
       MayBeAsked query_for input.header.name input.header.request input.snapshots
 
-  -- its walk may be refused so
+  -- the walk of a seed's input may be refused so
   abbrev pub GeneratedMayRefuse : Limits → WalkError → Type 0
   GeneratedMayRefuse limits =
       MayRefuse (built_matches query_for) limits input.header.name input.header.query

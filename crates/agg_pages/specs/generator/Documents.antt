@@ -2,11 +2,11 @@
 use Rattle.std.specs.Prelude.{ℕ, ◌+◌, ◌*◌, ◌%◌, ◌==◌, pos, List, [], ◌∷◌, ◌++◌, codes, map}
 use Rattle.std.specs.Prelude.{decimal, if◌then◌else◌}
 use Rattle.std.specs.List.{range_with_len}
-use Rattle.agg_column.specs.Document.{Fields, meaning}
-use Rattle.agg_column.specs.declared.document.FieldValue.{FieldValue}
-use Rattle.agg_column.specs.declared.document.FieldValue.TheVariants as value
+use Rattle.agg_segment.specs.storage.Document.{Fields, meaning}
+use Rattle.agg_segment.specs.declared.storage.document.FieldValue.{FieldValue}
+use Rattle.agg_segment.specs.declared.storage.document.FieldValue.TheVariants as value
 use Rattle.agg_segment.specs.Snapshot.{SnapshotDocuments}
-use Rattle.agg_generator.specs.Draws.{draw}
+use Rattle.agg_pages.specs.generator.Draws.{draw}
 
 -- a number by its draw: one below 50
 abbrev pub number_drawn : ℕ → FieldValue
@@ -29,7 +29,7 @@ abbrev pub values_drawn : ℕ → ℕ → ℕ → List (List ℕ × FieldValue)
 values_drawn a b d =
     (codes "a", number_drawn a) ∷ [] ++ texts_drawn b ++ (codes "d", date_drawn d) ∷ []
 
--- those of the document of a place: each document takes the next three draws
+-- the values of the document of a place: each document takes the next three draws
 abbrev pub generated_values : ℕ → ℕ → List (List ℕ × FieldValue)
 generated_values seed place =
     values_drawn (draw seed (3 * place)) (draw seed (3 * place + 1)) (draw seed (3 * place + 2))

@@ -1,10 +1,10 @@
 -- The input that is generated from a seed.
 use Rattle.std.specs.Prelude.{ℕ, [], ◌∷◌, None, codes, replicate}
 use Rattle.agg_segment.specs.declared.query.QueryTree.TheVariants.{All}
-use Rattle.agg_input.specs.declared.header.Header.{Header}
-use Rattle.agg_input.specs.Input.{Input}
-use Rattle.agg_generator.specs.Documents.{generated_snapshot}
-use Rattle.agg_generator.specs.Request.{generated_request}
+use Rattle.agg_pages.specs.declared.input_text.header.Header.{Header}
+use Rattle.agg_pages.specs.input_text.Input.{Input}
+use Rattle.agg_pages.specs.generator.Documents.{generated_snapshot}
+use Rattle.agg_pages.specs.generator.Request.{generated_request}
 
 -- the header: that request over all documents, with no limits
 abbrev pub generated_header : {B : Type 0} → Header B

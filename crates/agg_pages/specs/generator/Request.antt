@@ -1,5 +1,5 @@
 -- The request of a generated input.
-use Rattle.std.specs.Prelude.{ℕ, List, [], ◌∷◌, Bool, true, false, codes}
+use Rattle.std.specs.Prelude.{ℕ, List, [], ◌∷◌, Bool, true, false, None, codes}
 use Rattle.agg_values.specs.declared.order.Order.{Order}
 use Rattle.agg_values.specs.declared.order.Order.TheVariants.{Asc, Desc}
 use Rattle.agg_values.specs.declared.order.MissingOrder.TheVariants.{Default}
@@ -19,6 +19,7 @@ values_source field order has_missing = Terms (record {
   order = order;
   missing_bucket = has_missing;
   missing_order = Default;
+  min = None;
 })
 
 -- the groups by number and text, texts descending and with a group of those that have none

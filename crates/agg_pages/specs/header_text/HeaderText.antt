@@ -3,12 +3,12 @@ use Rattle.std.specs.Prelude.{◌≡◌, ◌≤◌, ◌∷◌, [], ℕ, List, No
 use Rattle.serde_json.specs.Data.{Data, Members, depth, member, no_members, put}
 use Rattle.serde_json.specs.Read.{max_depth, read}
 use Rattle.agg_segment.specs.declared.query.QueryTree.{QueryTree}
-use Rattle.agg_json.specs.Query.{IsQuery}
+use Rattle.agg_request.specs.json_values.Query.{IsQuery}
 use Rattle.agg_request_tree.specs.Request.{Request, aggregation_of}
 use Rattle.agg_request_tree.specs.declared.aggregation.AggregationVariants.TheVariants.{Filter}
 use Rattle.agg_request_tree.specs.declared.aggregation.filter.FilterQuery.TheVariants.{Tree}
-use Rattle.agg_input.specs.Header.{IsHeader}
-use Rattle.agg_input.specs.declared.header.Header.{Header}
+use Rattle.agg_pages.specs.input_text.Header.{IsHeader}
+use Rattle.agg_pages.specs.declared.input_text.header.Header.{Header}
 
 -- a header without limits
 abbrev pub header_of : {B : Type 0} → Request B → List ℕ → List (List ℕ) → QueryTree → Header B

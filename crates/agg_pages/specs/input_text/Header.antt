@@ -6,11 +6,12 @@ use Rattle.serde_json.specs.Find.{as_array, as_number, as_str, as_u64, get}
 use Rattle.serde_json.specs.Read.{read}
 use Rattle.agg_segment.specs.declared.query.QueryTree.{QueryTree}
 use Rattle.agg_segment.specs.declared.query.QueryTree.TheVariants.{All}
-use Rattle.agg_json.specs.Json.{IsGiven, IsOr, each_item, has_members, small_number, text_at}
-use Rattle.agg_json.specs.Query.{IsQuery}
+use Rattle.agg_request.specs.json_values.Json.{IsGiven, IsOr, each_item, has_members, small_number}
+use Rattle.agg_request.specs.json_values.Json.{text_at}
+use Rattle.agg_request.specs.json_values.Query.{IsQuery}
 use Rattle.agg_request_tree.specs.Request.{Request}
-use Rattle.agg_request_json.specs.RequestJson.{IsRequestJson}
-use Rattle.agg_input.specs.declared.header.Header.{Header}
+use Rattle.agg_request.specs.reading.RequestJson.{IsRequestJson}
+use Rattle.agg_pages.specs.declared.input_text.header.Header.{Header}
 
 -- the request of this member, which has to be there
 abbrev pub IsRequestAt : {B : Type 0} → List B → (B → List ℕ) → Option Data → Request B → Type 0

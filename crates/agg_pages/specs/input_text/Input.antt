@@ -2,12 +2,12 @@
 use Rattle.std.specs.Prelude.{◌≤◌, ℕ, List, [], ◌∷◌, IsTrue, length}
 use Rattle.std.specs.Str.{is_utf8}
 use Rattle.agg_segment.specs.Snapshot.{SnapshotDocuments, snapshots_documents}
-use Rattle.agg_input.specs.declared.input.Input as stored
-use Rattle.agg_input.specs.declared.header.Header.{Header}
-use Rattle.agg_input.specs.Header.{IsHeaderLine}
-use Rattle.agg_input.specs.Lines.{lines_of}
+use Rattle.agg_pages.specs.declared.input_text.input.Input as stored
+use Rattle.agg_pages.specs.declared.input_text.header.Header.{Header}
+use Rattle.agg_pages.specs.input_text.Header.{IsHeaderLine}
+use Rattle.agg_pages.specs.input_text.Lines.{lines_of}
 use Rattle.agg_values.specs.Nothing.{NoneIs}
-use Rattle.agg_input.specs.SnapshotLines.{AreSnapshots}
+use Rattle.agg_pages.specs.input_text.SnapshotLines.{AreSnapshots}
 
 -- an input: what a walk is asked for, with such builders of queries, and over what
 pub record Input (B : Type 0) : Type 0 where

@@ -7,7 +7,7 @@ use Rattle.agg_values.specs.declared.typed_key.CompositeIntermediateKey.TheVaria
 use key.{I64, U64, DateTime, IpAddr}
 use Rattle.agg_request_tree.specs.BySource.{after_map}
 use Rattle.agg_request_tree.specs.Source.{Sources}
-use Rattle.agg_final_results.specs.ResultsText.{object_text, quoted_after_key}
+use Rattle.agg_results.specs.final_results.ResultsText.{object_text, quoted_after_key}
 
 -- a number or a date is within 64 bits, an address within 128
 abbrev pub IsWithinType : CompositeIntermediateKey → Type 0

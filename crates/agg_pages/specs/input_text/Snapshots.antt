@@ -1,13 +1,13 @@
 -- Snapshots in the making, and what a line makes of them.
 use Rattle.std.specs.Prelude.{◌≡◌, ℕ, List, [], ◌∷◌, ◌++◌, Bool, true, false, map}
 use Rattle.std.specs.List.{All}
-use Rattle.agg_column.specs.Document.{Fields}
+use Rattle.agg_segment.specs.storage.Document.{Fields}
 use Rattle.agg_segment.specs.Segment.{documents_of, gathered_documents}
 use Rattle.agg_segment.specs.Snapshot.{SnapshotDocuments, snapshots_documents}
-use Rattle.agg_input.specs.declared.snapshots.OpenSnapshot.{OpenSnapshot}
-use Rattle.agg_input.specs.declared.snapshots.SnapshotsBuilder.{SnapshotsBuilder}
-use Rattle.agg_input.specs.SnapshotLines.{FitSegment, Line, Says, SegmentsFit, begins, holds, opens}
-use Rattle.agg_input.specs.SnapshotLines.{unopened_segment}
+use Rattle.agg_pages.specs.declared.input_text.snapshots.OpenSnapshot.{OpenSnapshot}
+use Rattle.agg_pages.specs.declared.input_text.snapshots.SnapshotsBuilder.{SnapshotsBuilder}
+use Rattle.agg_pages.specs.input_text.SnapshotLines.{FitSegment, Line, Says, SegmentsFit, begins}
+use Rattle.agg_pages.specs.input_text.SnapshotLines.{holds, opens, unopened_segment}
 
 -- ---- snapshots in the making
 

@@ -2,7 +2,7 @@
 
 ghost use Rattle.std.specs.Prelude.{◌≡◌, ◌↔◌};
 
-use agg_json::ReadError;
+use agg_request::json_values::ReadError;
 use agg_segment::BuildError;
 use agg_values::OutOfMemory;
 use serde_json::Category;
@@ -18,7 +18,8 @@ pub enum InputError {
 }
 
 impl From<OutOfMemory> for InputError {
-    ghost use Rattle.agg_document_json.specs.declared.input_error.InputError.TheVariants as error;
+    ghost use Rattle.agg_pages.specs.declared.document_json.input_error.InputError.TheVariants
+        as error;
 
     ghost from_gives = { λ _ e. e ≡ error.OutOfMemory };
 
@@ -29,7 +30,9 @@ impl From<OutOfMemory> for InputError {
 
 impl From<serde_json::Error> for InputError {
     ghost use Rattle.serde_json.specs.Errors.{IsMemory};
-    ghost use Rattle.agg_document_json.specs.declared.input_error.InputError.TheVariants.{NotInput};
+    ghost use Rattle.agg_pages.specs.declared.document_json.input_error.InputError.TheVariants.{
+      NotInput,
+    };
 
     ghost from_gives = { λ error e. (e ≡ NotInput) ↔ (¬ (IsMemory error)) };
 
@@ -45,7 +48,9 @@ impl From<BuildError> for InputError {
     ghost use Rattle.std.specs.Prelude.{◌⊎◌};
     ghost use Rattle.agg_segment.specs.declared.builder.BuildError.TheVariants.{MixedNumbers};
     ghost use Rattle.agg_segment.specs.declared.builder.BuildError.TheVariants.{TooManyDocuments};
-    ghost use Rattle.agg_document_json.specs.declared.input_error.InputError.TheVariants.{NotInput};
+    ghost use Rattle.agg_pages.specs.declared.document_json.input_error.InputError.TheVariants.{
+      NotInput,
+    };
 
     ghost from_gives = { λ error e.
         (e ≡ NotInput) ↔ ((error ≡ TooManyDocuments) ⊎ (error ≡ MixedNumbers)) };
@@ -60,10 +65,18 @@ impl From<BuildError> for InputError {
 
 impl From<ReadError> for InputError {
     ghost use Rattle.std.specs.Prelude.{◌⊎◌};
-    ghost use Rattle.agg_json.specs.declared.read_error.ReadError.TheVariants.{Grammar};
-    ghost use Rattle.agg_json.specs.declared.read_error.ReadError.TheVariants.{Unsupported};
-    ghost use Rattle.agg_json.specs.declared.read_error.ReadError.TheVariants.{UnknownBuilder};
-    ghost use Rattle.agg_document_json.specs.declared.input_error.InputError.TheVariants.{NotInput};
+    ghost use Rattle.agg_request.specs.declared.json_values.read_error.ReadError.TheVariants.{
+      Grammar,
+    };
+    ghost use Rattle.agg_request.specs.declared.json_values.read_error.ReadError.TheVariants.{
+      Unsupported,
+    };
+    ghost use Rattle.agg_request.specs.declared.json_values.read_error.ReadError.TheVariants.{
+      UnknownBuilder,
+    };
+    ghost use Rattle.agg_pages.specs.declared.document_json.input_error.InputError.TheVariants.{
+      NotInput,
+    };
 
     ghost from_gives = { λ error e. (e ≡ NotInput)
         ↔ ((error ≡ Unsupported) ⊎ ((error ≡ Grammar) ⊎ (error ≡ UnknownBuilder))) };

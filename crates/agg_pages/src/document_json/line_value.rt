@@ -3,7 +3,7 @@ ghost use Rattle.std.specs.Prelude.{◌≡◌, Some, None, IfOk, IsErrOf};
 ghost use Rattle.serde_json.specs.Read.{read};
 ghost use Rattle.serde_json.specs.View.{view};
 
-use crate::InputError;
+use crate::document_json::InputError;
 use serde_json::Value;
 use std::alloc::Global;
 

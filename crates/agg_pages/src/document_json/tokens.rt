@@ -1,15 +1,15 @@
 //! A document, from the tokens of its line: no tree of values is built.
 ghost use Rattle.std.specs.Prelude.{◌≡◌, true, false, IfOk, IsErrOf, IsTrue};
 ghost use Rattle.agg_segment.specs.Segment.{gathered_documents, no_fields, open_document};
-ghost use Rattle.agg_document_json.specs.DocumentLine.{IsDocumentLine};
-ghost use Rattle.agg_document_json.specs.AddedDocument.{HasNoDocument, HoldsLine};
-ghost use Rattle.agg_document_json.specs.Tokens.{AreDistinct, TakesMembers};
+ghost use Rattle.agg_pages.specs.document_json.DocumentLine.{IsDocumentLine};
+ghost use Rattle.agg_pages.specs.document_json.AddedDocument.{HasNoDocument, HoldsLine};
+ghost use Rattle.agg_pages.specs.document_json.Tokens.{AreDistinct, TakesMembers};
 
 mod number;
 mod value;
 mod values;
 
-use crate::InputError;
+use crate::document_json::InputError;
 use agg_segment::SegmentBuilder;
 use agg_values::OutOfMemory;
 use json::{Reader, Scratch, Token};

@@ -2,10 +2,11 @@
 ghost use Rattle.std.specs.Prelude.{◌≡◌, ◌*◌, ◌≤◌, ◌++◌, Ok, IfOk, OnOk, IsOkUnless};
 ghost use Rattle.std.specs.Prelude.{codes, decimal};
 ghost use Rattle.agg_segment.specs.Segment.{documents_of, max_documents};
-ghost use Rattle.agg_generator.specs.Draws.{draw, state_after};
-ghost use Rattle.agg_generator.specs.Documents.{generated_documents, texts_drawn, values_drawn};
+ghost use Rattle.agg_pages.specs.generator.Draws.{draw, state_after};
+ghost use Rattle.agg_pages.specs.generator.Documents.{generated_documents, texts_drawn};
+ghost use Rattle.agg_pages.specs.generator.Documents.{values_drawn};
 
-use crate::draws::Generator;
+use crate::generator::draws::Generator;
 use agg_segment::{BuildError, Document, FieldValue, SegmentBuilder, SegmentReader};
 use agg_values::{OutOfMemory, Text};
 use std::alloc::Global;

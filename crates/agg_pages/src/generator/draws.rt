@@ -1,6 +1,6 @@
 //! Random numbers.
 ghost use Rattle.std.specs.Prelude.{◌≡◌};
-ghost use Rattle.agg_generator.specs.Draws.{drawn, next_state};
+ghost use Rattle.agg_pages.specs.generator.Draws.{drawn, next_state};
 
 use std::marker::Model;
 

@@ -1,18 +1,18 @@
 //! The input that is generated from a seed.
 ghost use Rattle.std.specs.Prelude.{◌≡◌, [], ◌∷◌, IfOk, codes};
-ghost use Rattle.agg_input.specs.Input.{input_of};
-ghost use Rattle.agg_generator.specs.Generator.{generated, generated_header};
+ghost use Rattle.agg_pages.specs.input_text.Input.{input_of};
+ghost use Rattle.agg_pages.specs.generator.Generator.{generated, generated_header};
 
-use crate::request::generated_request;
-use crate::snapshots::generated_snapshots;
-use agg_input::{Header, Input};
+use crate::generator::request::generated_request;
+use crate::generator::snapshots::generated_snapshots;
+use crate::input_text::{Header, Input};
 use agg_segment::{QueryTree, Schema};
 use agg_values::{OutOfMemory, Text};
 use std::alloc::Global;
 
 /// The input of a seed: the groups of 4,096 random documents, a page at a time, over twelve
 /// snapshots that hold the same documents.
-#[tactic(auto, unfolding(crate::specs::Generator::generated))]
+#[tactic(auto, unfolding(crate::specs::generator::Generator::generated))]
 pub fn generated_input<B: Drop>(alloc: Global, seed: u64) -> Result<Input<B>, OutOfMemory>
     ensures { IfOk result (λ input. input_of input ≡ generated seed) }
 {

@@ -1,7 +1,7 @@
 //! The request of a generated input.
 ghost use Rattle.std.specs.Prelude.{◌≡◌, [], ◌∷◌, IfOk};
-ghost use Rattle.agg_generator.specs.Request.{count_of_dates, generated_composite};
-ghost use Rattle.agg_generator.specs.Request.{generated_request, values_source};
+ghost use Rattle.agg_pages.specs.generator.Request.{count_of_dates, generated_composite};
+ghost use Rattle.agg_pages.specs.generator.Request.{generated_request, values_source};
 
 use agg_request_tree::{
     Aggregation, AggregationVariants, CompositeAggregation, CompositeAggregationSource,
@@ -63,6 +63,7 @@ fn source(
         order,
         missing_bucket,
         missing_order: MissingOrder::Default,
+        min: None,
     }))
 }
 

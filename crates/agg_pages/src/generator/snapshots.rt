@@ -3,10 +3,10 @@ ghost use Rattle.std.specs.Prelude.{◌≡◌, IfOk, map, replicate};
 ghost use Rattle.std.specs.List.{range_with_len};
 ghost use Rattle.agg_segment.specs.Segment.{documents_of};
 ghost use Rattle.agg_segment.specs.Snapshot.{snapshot_documents, snapshots_documents};
-ghost use Rattle.agg_generator.specs.Documents.{generated_segment, generated_snapshot};
+ghost use Rattle.agg_pages.specs.generator.Documents.{generated_segment, generated_snapshot};
 
-use crate::documents::next_segment;
-use crate::draws::Generator;
+use crate::generator::documents::next_segment;
+use crate::generator::draws::Generator;
 use agg_segment::{SegmentReader, Snapshot};
 use agg_values::{ItemList, OutOfMemory};
 use std::alloc::Global;

@@ -2,13 +2,13 @@
 
 ghost use Rattle.std.specs.Prelude.{◌≡◌, IfOk, IsErrOf};
 ghost use Rattle.agg_segment.specs.Snapshot.{snapshots_documents};
-ghost use Rattle.agg_input.specs.Input.{AreNoInput, IsInput, IsInputOfLines, input_of};
+ghost use Rattle.agg_pages.specs.input_text.Input.{AreNoInput, IsInput, IsInputOfLines, input_of};
 ghost use Rattle.agg_values.specs.Nothing.{NoneIs};
 
-use crate::header::{Header, read_header};
-use crate::lines::Lines;
-use crate::snapshots::read_snapshots;
-use agg_document_json::InputError;
+use crate::document_json::InputError;
+use crate::input_text::header::{Header, read_header};
+use crate::input_text::lines::Lines;
+use crate::input_text::snapshots::read_snapshots;
 use agg_request::{HasName, NamedBuilder};
 use agg_segment::Snapshot;
 use agg_values::ItemList;

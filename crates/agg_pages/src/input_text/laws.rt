@@ -10,9 +10,9 @@ ghost use Rattle.agg_request_tree.specs.Faults.{HaveOwnNames};
 ghost use Rattle.agg_request_tree.specs.Occurrences.{bound_of};
 ghost use Rattle.agg_request_tree.specs.Source.{Sources};
 ghost use Rattle.agg_request_tree.specs.declared.aggregation.CompositeAggregation as declared;
-ghost use Rattle.agg_request_json.specs.CompositeJson.{AreKeys, IsCompositeJson};
-ghost use Rattle.agg_input.specs.Input.{Input, IsInput};
-ghost use Rattle.agg_input.specs.PrintedAfterKeys.{IsWithinType, printed_after_key};
+ghost use Rattle.agg_request.specs.reading.CompositeJson.{AreKeys, IsCompositeJson};
+ghost use Rattle.agg_pages.specs.input_text.Input.{Input, IsInput};
+ghost use Rattle.agg_pages.specs.input_text.PrintedAfterKeys.{IsWithinType, printed_after_key};
 
 /// Bytes are at most one input, for the same builders.
 pub fn bytes_are_at_most_one_input<B>()

@@ -1,7 +1,7 @@
 //! A line on which a snapshot or a segment begins.
 ghost use Rattle.std.specs.Prelude.{◌≡◌, ◌↔◌, IsTrue};
-ghost use Rattle.agg_input.specs.SnapshotLines.{begun_size, is_snapshot_line, page_size_of};
-ghost use Rattle.agg_input.specs.SnapshotLines.{segment_line};
+ghost use Rattle.agg_pages.specs.input_text.SnapshotLines.{begun_size, is_snapshot_line};
+ghost use Rattle.agg_pages.specs.input_text.SnapshotLines.{page_size_of, segment_line};
 
 const SNAPSHOT: &str = "snapshot ";
 

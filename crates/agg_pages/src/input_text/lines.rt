@@ -3,7 +3,7 @@ ghost use Rattle.std.specs.Prelude.{◌≡◌, ◌∷◌, []};
 ghost use Rattle.std.specs.Option.{option_map_or};
 ghost use Rattle.std.specs.Iterator.{YieldsFirstRef, item_count};
 ghost use Rattle.std.specs.Str.Lines.{strip_carriage_return};
-ghost use Rattle.agg_input.specs.Lines.{all_lines_of, is_blank, lines_of};
+ghost use Rattle.agg_pages.specs.input_text.Lines.{all_lines_of, is_blank, lines_of};
 
 use memchr::memchr;
 use std::marker::Model;
@@ -18,7 +18,7 @@ pub struct Lines<'a> {
 impl<'a> Model for Lines<'a> {
     ghost use Rattle.std.specs.Prelude.{List, ℕ, []};
     ghost use Rattle.std.specs.Option.{option_map_or};
-    ghost use Rattle.agg_input.specs.Lines.{lines_of};
+    ghost use Rattle.agg_pages.specs.input_text.Lines.{lines_of};
 
     ghost Value = { List (List ℕ) };
 

@@ -3,7 +3,7 @@ ghost use Rattle.agg_streams.specs.Causes.{Rose};
 ghost use Rattle.agg_pages.specs.Reading.{GivesAll, TakesAtMost};
 
 use super::Source;
-use agg_input::MAX_INPUT_BYTES;
+use crate::input_text::MAX_INPUT_BYTES;
 use agg_streams::Failed;
 use std::alloc::{AllocError, Global};
 

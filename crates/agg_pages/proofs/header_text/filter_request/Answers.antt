@@ -2,7 +2,7 @@ use Rattle.std.proofs.Common.{◌∙◌}
 use Rattle.agg_values.specs.Names.{put}
 use Rattle.agg_request_tree.specs.Request.{aggregation_of}
 use Rattle.agg_request_tree.specs.declared.aggregation.AggregationVariants.TheVariants.{Filter}
-use Rattle.agg_header_text.proofs.filter_request.Goals as goal
+use Rattle.agg_pages.proofs.header_text.filter_request.Goals as goal
 
 pub returns : goal.returns
 returns g c =

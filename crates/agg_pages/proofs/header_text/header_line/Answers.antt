@@ -1,5 +1,5 @@
 use Rattle.serde_json.specs.View.{view}
-use Rattle.agg_header_text.proofs.header_line.Goals as goal
+use Rattle.agg_pages.proofs.header_text.header_line.Goals as goal
 
 pub returns : goal.returns
 returns g c = record {

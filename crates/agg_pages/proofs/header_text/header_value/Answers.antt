@@ -3,8 +3,9 @@ use Rattle.serde_json.specs.Data.{string}
 use Rattle.serde_json.specs.Find.{as_str}
 use Rattle.serde_json.specs.View.{members_view, view}
 use Rattle.agg_request_tree.specs.Request.{builders_of}
-use Rattle.agg_header_text.proofs.HeaderMembers.{plain-header, query-header, reads-itself}
-use Rattle.agg_header_text.proofs.header_value.Goals as goal
+use Rattle.agg_pages.proofs.lemmas.header_text.HeaderMembers.{plain-header, query-header}
+use Rattle.agg_pages.proofs.lemmas.header_text.HeaderMembers.{reads-itself}
+use Rattle.agg_pages.proofs.header_text.header_value.Goals as goal
 
 pub returns-in-All : goal.returns-in-All
 returns-in-All g c =

@@ -1,8 +1,8 @@
 use Rattle.std.proofs.Common.{subst, sym}
 use Rattle.serde_json.specs.View.{view}
-use Rattle.agg_json.specs.Query.{IsQuery}
-use Rattle.agg_header_text.proofs.FilterRequests.{found-says}
-use Rattle.agg_header_text.proofs.query_value.Goals as goal
+use Rattle.agg_request.specs.json_values.Query.{IsQuery}
+use Rattle.agg_pages.proofs.lemmas.header_text.FilterRequests.{found-says}
+use Rattle.agg_pages.proofs.header_text.query_value.Goals as goal
 
 pub returns : goal.returns
 returns c =

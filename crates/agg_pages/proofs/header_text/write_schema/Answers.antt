@@ -2,8 +2,8 @@ use Rattle.std.proofs.Common.{◌≡◌, ◌∙◌, ap, map}
 use Rattle.std.proofs.lemmas.List.{take_all}
 use Rattle.serde_json.specs.Data.{string}
 use Rattle.serde_json.specs.View.{view}
-use Rattle.agg_header_text.proofs.HeaderMembers.{texts-written}
-use Rattle.agg_header_text.proofs.write_schema.Goals as goal
+use Rattle.agg_pages.proofs.lemmas.header_text.HeaderMembers.{texts-written}
+use Rattle.agg_pages.proofs.header_text.write_schema.Goals as goal
 
 pub returns : goal.returns
 returns c =

@@ -10,7 +10,7 @@ use Rattle.std.proofs.lemmas.Map.Keys.{below_from_sorted, sorted_from_strictly_i
 use Rattle.std.specs.List.{AllByRecursion, Contains, IsDistinct, dedup, dedup_from}
 use Rattle.std.specs.List.Sorted.{IsPermutation, IsSorted, IsStrictlyIncreasing}
 use Rattle.std.specs.Ordering.{nat_cmp}
-use Rattle.agg_document_json.specs.Tokens.{AreDistinct}
+use Rattle.agg_pages.specs.document_json.Tokens.{AreDistinct}
 
 -- whether two numbers are the same
 abbrev same : ℕ → ℕ → Bool

@@ -15,12 +15,12 @@ use Rattle.serde_json.specs.Find.{get_member}
 use Rattle.serde_json.specs.View.{view, members_view}
 use Rattle.serde_json.specs.declared.value.Value.{Value}
 use Rattle.serde_json.proofs.Views.{Entry, member_here, member_later}
-use Rattle.agg_column.specs.Document.{Fields, by_class, key_of, meaning, values_in}
-use Rattle.agg_column.specs.declared.document.FieldValue.{FieldValue}
-use Rattle.agg_document_json.specs.DocumentLine.{HaveKeys, IsDocument, IsField, field_values}
-use Rattle.agg_document_json.specs.Fields.{AddsValues, named_values}
+use Rattle.agg_segment.specs.storage.Document.{Fields, by_class, key_of, meaning, values_in}
+use Rattle.agg_segment.specs.declared.storage.document.FieldValue.{FieldValue}
+use Rattle.agg_pages.specs.document_json.DocumentLine.{HaveKeys, IsDocument, IsField, field_values}
+use Rattle.agg_pages.specs.document_json.Fields.{AddsValues, named_values}
 use Rattle.agg_values.specs.Nothing.{NoneIs}
-use Rattle.agg_document_json.proofs.Documents.{none_is_some}
+use Rattle.agg_pages.proofs.lemmas.document_json.Documents.{none_is_some}
 
 -- the values that a document has, in the order in which they were added
 abbrev pub Stored : Type 0

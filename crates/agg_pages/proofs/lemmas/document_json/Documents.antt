@@ -11,12 +11,12 @@ use Rattle.agg_values.specs.TypedKey.{CompositeIntermediateKey}
 use Rattle.agg_values.specs.declared.address.Address.{Address}
 use Rattle.agg_values.specs.declared.typed_key.CompositeIntermediateKey.TheVariants as key
 use Rattle.agg_values.proofs.AddressTexts.{IsAddressText-unique}
-use Rattle.agg_column.specs.Document.{Fields, by_class}
-use Rattle.agg_json.specs.Json.{only_member, only_named}
-use Rattle.agg_document_json.proofs.Beside.{AllZip-unique}
-use Rattle.agg_document_json.specs.DocumentLine.{HasKey, IsAddressKey, IsDocument, IsDocumentLine}
-use Rattle.agg_document_json.specs.DocumentLine.{IsField, address_text_of, date_of}
-use Rattle.agg_document_json.specs.DocumentLine.{field_values, plain_key}
+use Rattle.agg_segment.specs.storage.Document.{Fields, by_class}
+use Rattle.agg_request.specs.json_values.Json.{only_member, only_named}
+use Rattle.agg_pages.proofs.lemmas.document_json.Beside.{AllZip-unique}
+use Rattle.agg_pages.specs.document_json.DocumentLine.{HasKey, IsAddressKey, IsDocument}
+use Rattle.agg_pages.specs.document_json.DocumentLine.{IsDocumentLine, IsField, address_text_of}
+use Rattle.agg_pages.specs.document_json.DocumentLine.{date_of, field_values, plain_key}
 use Rattle.agg_values.specs.Nothing.{NoneIs}
 
 pub same_value : {A : Type 0} (a b : A) → Some a ≡ Some b → a ≡ b

@@ -9,11 +9,11 @@ use Rattle.serde_json.specs.Find.{as_null}
 use Rattle.serde_json.specs.View.{items_view, view}
 use Rattle.serde_json.specs.declared.value.Value.{Value}
 use Rattle.agg_values.specs.TypedKey.{CompositeIntermediateKey}
-use Rattle.agg_column.specs.Document.{key_of}
-use Rattle.agg_column.specs.declared.document.FieldValue.{FieldValue}
-use Rattle.agg_document_json.proofs.Beside.{AllZip-append, AllZip-parts, map-append}
-use Rattle.agg_document_json.specs.DocumentLine.{HasKey, HaveKeys, values_among}
-use Rattle.agg_document_json.specs.Fields.{AddsValues, named_values}
+use Rattle.agg_segment.specs.storage.Document.{key_of}
+use Rattle.agg_segment.specs.declared.storage.document.FieldValue.{FieldValue}
+use Rattle.agg_pages.proofs.lemmas.document_json.Beside.{AllZip-append, AllZip-parts, map-append}
+use Rattle.agg_pages.specs.document_json.DocumentLine.{HasKey, HaveKeys, values_among}
+use Rattle.agg_pages.specs.document_json.Fields.{AddsValues, named_values}
 use Rattle.agg_values.specs.Nothing.{NoneIs}
 
 -- the values among these

@@ -12,17 +12,17 @@ use Rattle.serde_json.specs.Data.{string}
 use Rattle.serde_json.specs.Find.{as_array, as_null}
 use Rattle.serde_json.specs.Read.{converted, of_items, of_json}
 use Rattle.agg_values.specs.TypedKey.{CompositeIntermediateKey}
-use Rattle.agg_column.specs.Document.{Fields, by_class}
+use Rattle.agg_segment.specs.storage.Document.{Fields, by_class}
 use Rattle.agg_segment.specs.Segment.{Gathered, IsNameOf, open_document, with_key}
-use Rattle.agg_column.proofs.Classes.{by_class_more}
-use Rattle.agg_document_json.specs.DocumentLine.{HasKey, field_values, values_among}
-use Rattle.agg_document_json.specs.Tokens.{GainsKeys, TakesItem, TakesItems, TakesValue}
-use Rattle.agg_document_json.specs.Tokens.{TakesValues}
-use Rattle.agg_document_json.proofs.Beside.{AllZip-append}
-use Rattle.agg_document_json.proofs.Documents.{none_is_some}
-use Rattle.agg_document_json.proofs.TokenTurns.{converted-array, item_read, items_before}
-use Rattle.agg_document_json.proofs.TokenTurns.{items_over}
-use Rattle.agg_document_json.proofs.TokenTurns.{none_before, one_more_item}
+use Rattle.agg_segment.proofs.lemmas.storage.Classes.{by_class_more}
+use Rattle.agg_pages.specs.document_json.DocumentLine.{HasKey, field_values, values_among}
+use Rattle.agg_pages.specs.document_json.Tokens.{GainsKeys, TakesItem, TakesItems, TakesValue}
+use Rattle.agg_pages.specs.document_json.Tokens.{TakesValues}
+use Rattle.agg_pages.proofs.lemmas.document_json.Beside.{AllZip-append}
+use Rattle.agg_pages.proofs.lemmas.document_json.Documents.{none_is_some}
+use Rattle.agg_pages.proofs.lemmas.document_json.TokenTurns.{converted-array, item_read}
+use Rattle.agg_pages.proofs.lemmas.document_json.TokenTurns.{items_before, items_over, none_before}
+use Rattle.agg_pages.proofs.lemmas.document_json.TokenTurns.{one_more_item}
 
 -- ---- keys in the open document
 

@@ -2,7 +2,7 @@
 use Rattle.std.proofs.Common.{◌≡◌, ◌++◌, ◌∷◌, [], List, ℕ, ap, ◌∙◌}
 use Rattle.std.proofs.Common.{subst}
 use Rattle.agg_segment.specs.Segment.{Gathered, gathered_documents}
-use Rattle.agg_document_json.specs.AddedDocument.{HasNoDocument, HoldsLine, IsRefused}
+use Rattle.agg_pages.specs.document_json.AddedDocument.{HasNoDocument, HoldsLine, IsRefused}
 
 module _ (line : List ℕ) (old now : Gathered)
     (kept : gathered_documents now ≡ gathered_documents old) where

@@ -12,16 +12,16 @@ use Rattle.serde_json.specs.Data.{Data, Members, no_members, object, put}
 use Rattle.serde_json.specs.Find.{get_member}
 use Rattle.serde_json.specs.Read.{converted, of_json, of_members}
 use Rattle.serde_json.proofs.Views.{get_member-put, get_member-put_other}
-use Rattle.agg_column.specs.Document.{by_class}
+use Rattle.agg_segment.specs.storage.Document.{by_class}
 use Rattle.agg_segment.specs.Segment.{Gathered, IsNameOf, no_fields, open_document}
-use Rattle.agg_column.proofs.Classes.{by_class_nil}
-use Rattle.agg_document_json.specs.DocumentLine.{IsDocumentLine, IsField}
-use Rattle.agg_document_json.specs.Tokens.{AreDistinct, TakesMembers, TakesValues}
-use Rattle.agg_document_json.proofs.DistinctNumbers.{distinct_front, last_is_new}
-use Rattle.agg_document_json.proofs.Documents.{none_is_some, same_value}
-use Rattle.agg_document_json.proofs.TokenFields.{same_name}
-use Rattle.agg_document_json.proofs.TokenTurns.{converted-object, member_read, members_over}
-use Rattle.agg_document_json.proofs.TokenTurns.{whole_read}
+use Rattle.agg_segment.proofs.lemmas.storage.Classes.{by_class_nil}
+use Rattle.agg_pages.specs.document_json.DocumentLine.{IsDocumentLine, IsField}
+use Rattle.agg_pages.specs.document_json.Tokens.{AreDistinct, TakesMembers, TakesValues}
+use Rattle.agg_pages.proofs.lemmas.document_json.DistinctNumbers.{distinct_front, last_is_new}
+use Rattle.agg_pages.proofs.lemmas.document_json.Documents.{none_is_some, same_value}
+use Rattle.agg_pages.proofs.lemmas.document_json.TokenFields.{same_name}
+use Rattle.agg_pages.proofs.lemmas.document_json.TokenTurns.{converted-object, member_read}
+use Rattle.agg_pages.proofs.lemmas.document_json.TokenTurns.{members_over, whole_read}
 
 -- the members before these were taken
 pub record HasTakenMembers (old now : List Token) (fields : List ℕ) (after : Gathered) : Type 0

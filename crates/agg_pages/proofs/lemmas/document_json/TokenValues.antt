@@ -13,10 +13,11 @@ use Rattle.agg_values.specs.declared.address.Address.{Address}
 use Rattle.agg_values.specs.AddressGrammar.{IsAddressText}
 use Rattle.agg_values.specs.TypedKey.{CompositeIntermediateKey, typed_number}
 use Rattle.agg_values.specs.declared.typed_key.CompositeIntermediateKey.TheVariants as key
-use Rattle.agg_column.specs.Document.{key_of}
-use Rattle.agg_column.specs.declared.document.FieldValue.{FieldValue}
-use Rattle.agg_document_json.specs.Tokens.{IsOnlyMember, TakesValue}
-use Rattle.agg_document_json.proofs.TokenTurns.{converted-object, member_read, members_over}
+use Rattle.agg_segment.specs.storage.Document.{key_of}
+use Rattle.agg_segment.specs.declared.storage.document.FieldValue.{FieldValue}
+use Rattle.agg_pages.specs.document_json.Tokens.{IsOnlyMember, TakesValue}
+use Rattle.agg_pages.proofs.lemmas.document_json.TokenTurns.{converted-object, member_read}
+use Rattle.agg_pages.proofs.lemmas.document_json.TokenTurns.{members_over}
 
 -- ---- values of one token
 

@@ -5,7 +5,7 @@ use Rattle.std.specs.Prelude.{sum}
 use Rattle.std.specs.List.{AllZip}
 use Rattle.std.proofs.lemmas.List.Sums.{sum_by-cons}
 use Rattle.agg_values.specs.Names.{Named}
-use Rattle.agg_column.specs.Document.{Fields}
+use Rattle.agg_segment.specs.storage.Document.{Fields}
 use Rattle.agg_request_tree.specs.Page.{Entry}
 use Rattle.agg_request_tree.specs.Request.{Request, agg_of, below_of}
 use Rattle.agg_request_tree.specs.Source.{Sources}
@@ -14,18 +14,22 @@ use variants.{AggregationVariants}
 use variants.TheVariants.{Composite}
 use Rattle.agg_request_tree.specs.declared.aggregation.CompositeAggregation.{CompositeAggregation}
 use Rattle.agg_request_tree.proofs.RequestTrees.{agg-made, below-made}
-use Rattle.agg_final_results.specs.BucketCount.{entry_buckets, result_buckets, results_buckets}
-use Rattle.agg_final_results.specs.declared.types as final
+use Rattle.agg_results.specs.final_results.BucketCount.{entry_buckets, result_buckets}
+use Rattle.agg_results.specs.final_results.BucketCount.{results_buckets}
+use Rattle.agg_results.specs.declared.final_results.types as final
 use final.AggregationResult.{AggregationResult}
 use final.AggregationResults.{AggregationResults}
 use final.CompositeBucketEntry.{CompositeBucketEntry}
-use Rattle.agg_final_results.proofs.ResultFolds.{bucket_result_buckets-sum, entry_buckets-inside}
-use Rattle.agg_final_results.proofs.ResultFolds.{result_buckets-kind, result_buckets-metric}
-use Rattle.agg_final_results.proofs.ResultFolds.{results_buckets-sum}
+use Rattle.agg_results.proofs.lemmas.final_results.ResultFolds.{bucket_result_buckets-sum}
+use Rattle.agg_results.proofs.lemmas.final_results.ResultFolds.{entry_buckets-inside}
+use Rattle.agg_results.proofs.lemmas.final_results.ResultFolds.{result_buckets-kind}
+use Rattle.agg_results.proofs.lemmas.final_results.ResultFolds.{result_buckets-metric}
+use Rattle.agg_results.proofs.lemmas.final_results.ResultFolds.{results_buckets-sum}
 use Rattle.agg_results.specs.Results.{AreResults, EachHas, IsBucket, IsPageShown, IsResult}
 use Rattle.agg_results.specs.Results.{IsResultTo}
-use Rattle.agg_generator.specs.Request.{count_of_dates}
-use Rattle.agg_generated_walks.proofs.GeneratedRequests.{aggregated, below, dates, request_of}
+use Rattle.agg_pages.specs.generator.Request.{count_of_dates}
+use Rattle.agg_pages.proofs.lemmas.generated_walks.GeneratedRequests.{aggregated, below, dates}
+use Rattle.agg_pages.proofs.lemmas.generated_walks.GeneratedRequests.{request_of}
 
 module _ {B : Type 0} (is_match : B → Fields → Bool) where
   -- what is told of the results below a composite, down to a depth of one
@@ -45,7 +49,7 @@ module _ {B : Type 0} (is_match : B → Fields → Bool) where
       omega arith
   none-inside documents (r ∷ s ∷ inside) has = absurd has.1
 
-  -- so a bucket is one
+  -- a bucket counts as one
   bucket-one : (sources : Sources) (entry : Entry) (bucket : CompositeBucketEntry)
       → IsBucket is_match Below sources below entry bucket → entry_buckets bucket ≡ 1
   bucket-one sources entry bucket (inside, has, is) =
@@ -54,7 +58,7 @@ module _ {B : Type 0} (is_match : B → Fields → Bool) where
       ∙ ap (λ n. 1 + n)
       (results_buckets-sum (record { 0 = inside }) ∙ none-inside entry.documents inside has)
 
-  -- and a page has as many as entries
+  -- a page has as many buckets as entries
   page-buckets : (sources : Sources) (page : List Entry) (buckets : List CompositeBucketEntry)
       → AllZip (IsBucket is_match Below sources below) page buckets
       → sum (map entry_buckets buckets) ≡ length page
@@ -80,7 +84,7 @@ module _ {B : Type 0} (is_match : B → Fields → Bool) where
       ∙ page-buckets c.sources page buckets each in
       omega arith
 
-  -- so the results of the request
+  -- the results of the request have no more buckets than the size
   results-few : (c : CompositeAggregation) (documents : List Fields)
       (results : Named AggregationResult)
       → EachHas is_match (IsResultTo is_match 2) (request_of c) documents results

@@ -1,28 +1,30 @@
 -- Generated documents have few occurrences, which start no buckets.
-use Rattle.std.proofs.Common.{◌≤◌, ◌<◌, ◌^◌, List, [], ◌∷◌, Bool, true, false, codes, length, map}
-use Rattle.std.proofs.Common.{subst, arith}
+use Rattle.std.proofs.Common.{◌≡◌, ◌≤◌, ◌<◌, ◌^◌, ℕ, List, [], ◌∷◌, None, Bool, true, false}
+use Rattle.std.proofs.Common.{ap, arith, codes, filter, length, map, refl, subst}
 use Rattle.std.specs.List.{All, AllByRecursion, Any}
 use Rattle.std.proofs.lemmas.List.{length-map}
 use Rattle.std.proofs.lemmas.List.Elements.{All-from_recursion}
 use Rattle.agg_values.specs.Names.{Named}
 use Rattle.agg_values.specs.TypedKey.{CompositeIntermediateKey, canonical_key}
 use Rattle.agg_values.specs.declared.after_key.AfterKey.{AfterKey}
-use Rattle.agg_column.specs.Document.{Fields}
+use Rattle.agg_segment.specs.storage.Document.{Fields}
 use Rattle.agg_request_tree.specs.Occurrences.{occurrences}
 use Rattle.agg_request_tree.specs.Ranges.{AreInRange, HasOwnStartOutOfRange, HasStartOutOfRange}
 use Rattle.agg_request_tree.specs.Ranges.{IsInRange}
 use Rattle.agg_request_tree.specs.Request.{own_composite}
-use Rattle.agg_request_tree.specs.Source.{Sources, field_of, or_missing, source_values, values_at}
+use Rattle.agg_request_tree.specs.Source.{Sources, is_from, or_missing, source_values, values_at}
+use Rattle.agg_request_tree.specs.Source.{values_from}
 use Rattle.agg_request_tree.specs.Uncut.{CountsTooMany, counted, once_each}
 use Rattle.agg_request_tree.specs.declared.aggregation.CompositeAggregation.{CompositeAggregation}
 use Rattle.agg_request_tree.proofs.Lists.{AllByRecursion-always, AllByRecursion-weaker}
 use Rattle.agg_request_tree.proofs.Lists.{none_of_all}
 use Rattle.agg_request_tree.proofs.UncutLength.{length-each}
-use Rattle.agg_generator.specs.Request.{generated_composite}
-use Rattle.agg_generated_walks.proofs.FewValues.{HasFewValues}
-use Rattle.agg_generated_walks.proofs.GeneratedRequests.{composite_after, listed, request_of}
-use Rattle.agg_generated_walks.proofs.GeneratedRequests.{uncut_lists-request}
-use Rattle.agg_generated_walks.proofs.Ones.{all-once_each, length-ones}
+use Rattle.agg_pages.specs.generator.Request.{generated_composite}
+use Rattle.agg_pages.proofs.lemmas.generated_walks.FewValues.{HasFewValues}
+use Rattle.agg_pages.proofs.lemmas.generated_walks.GeneratedRequests.{composite_after, listed}
+use Rattle.agg_pages.proofs.lemmas.generated_walks.GeneratedRequests.{request_of}
+use Rattle.agg_pages.proofs.lemmas.generated_walks.GeneratedRequests.{uncut_lists-request}
+use Rattle.agg_pages.proofs.lemmas.generated_walks.Ones.{all-once_each, length-ones}
 
 -- the sources of a generated composite
 abbrev sources : Sources
@@ -54,18 +56,33 @@ occurrences-few document (source ∷ sources) each =
           (source_values source document)),
     )
 
--- so it is in a document of few values
+-- where a source has no least value, it reads all values
+all-read : (ks : List CompositeIntermediateKey) → filter (is_from None) ks ≡ ks
+all-read [] = refl
+all-read (k ∷ ks) = ap (λ xs. k ∷ xs) (all-read ks)
+
+-- so it reads at most one of a field that has at most one
+read-few : (field : List ℕ) (document : Fields) → length (document field) ≤ 1
+    → length (filter (is_from None) (values_at field document)) ≤ 1
+read-few field document few =
+    omega (
+      arith,
+      ap length (all-read (values_at field document)),
+      length-map (document field) canonical_key,
+    )
+
+-- a document of few values has one occurrence at most
 occurrences-one : (document : Fields) → HasFewValues document
     → length (occurrences sources document) ≤ 1
 occurrences-one document few =
     let number = few.number in
     let text = few.text in
     occurrences-few document sources (
-      or_missing-few false (values_at (codes "a") document)
-          (omega (arith, length-map (document (codes "a")) canonical_key)),
+      or_missing-few false (filter (is_from None) (values_at (codes "a") document))
+          (read-few (codes "a") document number),
       (
-        or_missing-few true (values_at (codes "b") document)
-            (omega (arith, length-map (document (codes "b")) canonical_key)),
+        or_missing-few true (filter (is_from None) (values_at (codes "b") document))
+            (read-few (codes "b") document text),
         tt,
       ),
     )
@@ -82,7 +99,7 @@ module _ {B : Type 0} (is_match : B → Fields → Bool) (after : Named AfterKey
         occurrences-one documents few),
   )
 
-  -- and the count below it each of these
+  -- the count below a generated composite counts each of its documents once at most
   dates-few : length (once_each (λ d. d (codes "d")) (counted (composite_after after) documents))
       ≤ length documents
   dates-few =
@@ -97,7 +114,7 @@ module _ {B : Type 0} (is_match : B → Fields → Bool) (after : Named AfterKey
             (all-once_each HasFewValues (occurrences sources) documents few)),
       )
 
-  -- so they aren't too many
+  -- the documents that are counted aren't too many
   pub not-many : length documents < 2 ^ 32
       → ¬ (CountsTooMany is_match (request_of (composite_after after)) documents)
   not-many short many =
@@ -119,7 +136,7 @@ in-range documents =
     All-from_recursion (AreInRange sources) documents
     (AllByRecursion-always (AreInRange sources)
     (λ d.
-    All-from_recursion (λ source. All (IsInRange source) (values_at (field_of source) d)) sources
+    All-from_recursion (λ source. All (IsInRange source) (values_from source d)) sources
     ((λ k e within. tt), ((λ k e within. tt), tt)))
     documents)
 

@@ -5,13 +5,13 @@ use Rattle.std.specs.Prelude.{◌==◌, if◌then◌else◌}
 use Rattle.std.specs.List.{AllByRecursion, range_with_len}
 use Rattle.std.proofs.lemmas.List.{length-map}
 use Rattle.std.proofs.lemmas.List.Sorted.{length_permutation}
-use Rattle.agg_column.specs.Document.{Fields, by_class, key_of, meaning, values_in}
-use Rattle.agg_column.specs.declared.document.FieldValue.{FieldValue}
-use Rattle.agg_column.proofs.Classes.{by_class_moves}
+use Rattle.agg_segment.specs.storage.Document.{Fields, by_class, key_of, meaning, values_in}
+use Rattle.agg_segment.specs.declared.storage.document.FieldValue.{FieldValue}
+use Rattle.agg_segment.proofs.lemmas.storage.Classes.{by_class_moves}
 use Rattle.agg_request_tree.proofs.Lists.{AllByRecursion-always, AllByRecursion-map}
-use Rattle.agg_generator.specs.Documents.{date_drawn, generated_document, generated_documents}
-use Rattle.agg_generator.specs.Documents.{number_drawn, text_drawn, values_drawn}
-use Rattle.agg_generator.specs.Draws.{draw}
+use Rattle.agg_pages.specs.generator.Documents.{date_drawn, generated_document, generated_documents}
+use Rattle.agg_pages.specs.generator.Documents.{number_drawn, text_drawn, values_drawn}
+use Rattle.agg_pages.specs.generator.Draws.{draw}
 
 -- a document has one number, one text and one date at most
 pub record HasFewValues (document : Fields) : Type 0 where
@@ -50,7 +50,7 @@ drawn_few a b d = by_test (b % 7 == 0)
           date = omega (arith, length-meaning values (codes "d"));
         }
 
--- so has each of generated documents
+-- each of generated documents has few values
 pub generated_few : (seed first count : ℕ)
     → AllByRecursion HasFewValues (generated_documents seed first count)
 unfolding generated_documents

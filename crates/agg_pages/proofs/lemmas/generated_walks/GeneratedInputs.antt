@@ -16,12 +16,12 @@ use Rattle.agg_request_tree.proofs.Faults.{IsSound-parts, IsSoundSource-parts}
 use Rattle.agg_request_tree.proofs.Lists.{AllByRecursion-flat_map}
 use Rattle.agg_request_tree.proofs.RequestTrees.{agg-made}
 use Rattle.agg_engine.specs.Walk.{MayBeAsked}
-use Rattle.agg_generator.specs.Documents.{generated_segment, generated_snapshot}
-use Rattle.agg_generator.specs.Request.{generated_composite, generated_request, values_source}
-use Rattle.agg_generator.proofs.DrawnDocuments.{length-generated_documents}
-use Rattle.agg_generated_walks.proofs.FewValues.{HasFewValues, generated_few}
-use Rattle.agg_generated_walks.proofs.GeneratedRequests.{below, listed}
-use Rattle.agg_generated_walks.proofs.NoRefusals.{IsSmall}
+use Rattle.agg_pages.specs.generator.Documents.{generated_segment, generated_snapshot}
+use Rattle.agg_pages.specs.generator.Request.{generated_composite, generated_request, values_source}
+use Rattle.agg_pages.proofs.lemmas.generator.DrawnDocuments.{length-generated_documents}
+use Rattle.agg_pages.proofs.lemmas.generated_walks.FewValues.{HasFewValues, generated_few}
+use Rattle.agg_pages.proofs.lemmas.generated_walks.GeneratedRequests.{below, listed}
+use Rattle.agg_pages.proofs.lemmas.generated_walks.NoRefusals.{IsSmall}
 
 -- ---- snapshots
 
@@ -56,7 +56,7 @@ snapshot_small seed =
       size = refl;
     }
 
--- so are all
+-- all generated snapshots are small
 pub snapshots_small : (seed count : ℕ)
     → AllByRecursion IsSmall (replicate count (generated_snapshot seed))
 snapshots_small seed count =
@@ -72,7 +72,7 @@ values_sound field order has_missing =
     IsSoundSource-parts (values_source field order has_missing) None
     (λ null. let is = null.0 in cc) (λ refusal is. is) (λ other. other)
 
--- nor has the generated composite
+-- the generated composite has no fault
 composite_sound : IsSound generated_composite
 composite_sound =
     IsSound-parts generated_composite (λ none. cc) (λ many. omega (arith, many)) (λ none. cc) own

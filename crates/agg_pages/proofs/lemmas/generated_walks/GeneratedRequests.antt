@@ -3,7 +3,7 @@ use Rattle.std.proofs.Common.{◌≡◌, List, [], ◌∷◌, ◌++◌, Bool, co
 use Rattle.std.proofs.lemmas.List.{append-nil}
 use Rattle.agg_values.specs.Names.{Named}
 use Rattle.agg_values.specs.declared.after_key.AfterKey.{AfterKey}
-use Rattle.agg_column.specs.Document.{Fields}
+use Rattle.agg_segment.specs.storage.Document.{Fields}
 use Rattle.agg_request_tree.specs.Request.{Request, aggregation_of, listed_in}
 use Rattle.agg_request_tree.specs.Request.{listed_of}
 use Rattle.agg_request_tree.specs.Uncut.{counted, once_each, uncut, uncut_lists, uncut_lists_of}
@@ -14,9 +14,9 @@ use variants.TheVariants.{Composite, Count}
 use Rattle.agg_request_tree.specs.declared.aggregation.CompositeAggregation.{CompositeAggregation}
 use Rattle.agg_request_tree.proofs.RequestTrees.{agg-made, below-made}
 use Rattle.agg_request_tree.proofs.UncutLists.{uncut_lists-out}
-use Rattle.agg_charges.proofs.CountsOut.{listed-made}
-use Rattle.agg_segment_context.specs.Pages.{request_changed_at}
-use Rattle.agg_generator.specs.Request.{count_of_dates, generated_composite}
+use Rattle.agg_request_tree.proofs.lemmas.charges.CountsOut.{listed-made}
+use Rattle.agg_engine_tree.specs.segment_context.Pages.{request_changed_at}
+use Rattle.agg_pages.specs.generator.Request.{count_of_dates, generated_composite}
 
 -- the generated composite that goes on from an after key
 abbrev pub composite_after : Named AfterKey → CompositeAggregation

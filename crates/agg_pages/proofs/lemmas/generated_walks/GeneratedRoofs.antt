@@ -4,15 +4,15 @@ use Rattle.std.proofs.Common.{ap, refl, ◌∙◌, arith}
 use Rattle.std.specs.Prelude.{if◌then◌else◌, sum}
 use Rattle.agg_values.specs.Names.{Named}
 use Rattle.agg_values.specs.declared.after_key.AfterKey.{AfterKey}
-use Rattle.agg_column.specs.Document.{Fields}
-use Rattle.agg_charges.specs.Charges.{fixed_charge, node_charge}
-use Rattle.agg_charges.specs.Roof.{Counts, composite_counts, counts_of, has_room, nothing}
-use Rattle.agg_charges.specs.Roof.{past_tuples, roof, together}
-use Rattle.agg_charges.proofs.CountsOut.{counts-made}
-use Rattle.agg_charges.proofs.Sums.{sum_by-none}
-use Rattle.agg_generated_walks.specs.Walks.{most_bytes}
-use Rattle.agg_generated_walks.proofs.GeneratedRequests.{below, composite_after, dates, listed}
-use Rattle.agg_generated_walks.proofs.GeneratedRequests.{request_of}
+use Rattle.agg_segment.specs.storage.Document.{Fields}
+use Rattle.agg_request_tree.specs.charges.Charges.{fixed_charge, node_charge}
+use Rattle.agg_request_tree.specs.charges.Roof.{Counts, composite_counts, counts_of, has_room}
+use Rattle.agg_request_tree.specs.charges.Roof.{nothing, past_tuples, roof, together}
+use Rattle.agg_request_tree.proofs.lemmas.charges.CountsOut.{counts-made}
+use Rattle.agg_request_tree.proofs.lemmas.charges.Sums.{sum_by-none}
+use Rattle.agg_pages.specs.generated_walks.Walks.{most_bytes}
+use Rattle.agg_pages.proofs.lemmas.generated_walks.GeneratedRequests.{below, composite_after, dates}
+use Rattle.agg_pages.proofs.lemmas.generated_walks.GeneratedRequests.{listed, request_of}
 
 -- what is counted below the composite: nothing
 abbrev nothing_below : Counts

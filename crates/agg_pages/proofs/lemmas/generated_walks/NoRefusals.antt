@@ -9,23 +9,23 @@ use Rattle.agg_values.specs.Names.{Named}
 use Rattle.agg_values.specs.declared.after_key.AfterKey.{AfterKey}
 use Rattle.agg_values.specs.declared.request_error.AggregationError.TheVariants as aggregation
 use Rattle.agg_cache.specs.Limits.{Limits}
-use Rattle.agg_column.specs.Document.{Fields}
+use Rattle.agg_segment.specs.storage.Document.{Fields}
 use Rattle.agg_segment.specs.Query.{matches}
 use Rattle.agg_segment.specs.Snapshot.{SnapshotDocuments}
 use Rattle.agg_segment.specs.declared.query.QueryTree.{QueryTree}
 use Rattle.agg_request_tree.specs.Request.{Request}
-use Rattle.agg_segment_context.specs.Pages.{with_after, with_size}
+use Rattle.agg_engine_tree.specs.segment_context.Pages.{with_after, with_size}
 use Rattle.agg_engine.specs.Refusals.{MayBeRefused, MayBeRefusedAt, MayRefuse}
 use Rattle.agg_engine.specs.Walk.{after_in, documents_in, matching_among}
 use Rattle.agg_engine.specs.declared.walk.error.WalkError.{WalkError}
 use Rattle.agg_engine.specs.declared.walk.error.WalkError.TheVariants as error
-use Rattle.agg_generated_walks.specs.Walks.{most_buckets, most_bytes}
-use Rattle.agg_generated_walks.proofs.FewBuckets.{buckets-few}
-use Rattle.agg_generated_walks.proofs.FewOccurrences.{not-many, not-out}
-use Rattle.agg_generated_walks.proofs.FewValues.{HasFewValues}
-use Rattle.agg_generated_walks.proofs.GeneratedRequests.{changed-request, composite_after}
-use Rattle.agg_generated_walks.proofs.GeneratedRequests.{request_of}
-use Rattle.agg_generated_walks.proofs.GeneratedRoofs.{roof-most}
+use Rattle.agg_pages.specs.generated_walks.Walks.{most_buckets, most_bytes}
+use Rattle.agg_pages.proofs.lemmas.generated_walks.FewBuckets.{buckets-few}
+use Rattle.agg_pages.proofs.lemmas.generated_walks.FewOccurrences.{not-many, not-out}
+use Rattle.agg_pages.proofs.lemmas.generated_walks.FewValues.{HasFewValues}
+use Rattle.agg_pages.proofs.lemmas.generated_walks.GeneratedRequests.{changed-request}
+use Rattle.agg_pages.proofs.lemmas.generated_walks.GeneratedRequests.{composite_after, request_of}
+use Rattle.agg_pages.proofs.lemmas.generated_walks.GeneratedRoofs.{roof-most}
 
 -- few documents of few values, and pages of 100
 pub record IsSmall (snapshot : SnapshotDocuments) : Type 0 where
@@ -89,7 +89,7 @@ module _ {B : Type 0} (is_match : B → Fields → Bool) (limits : Limits)
     not-refused error.QueryBuild is = is
     not-refused error.OutOfMemory is = is
 
-  -- nor at a snapshot
+  -- it isn't refused at a snapshot
   not-here : (after : Named AfterKey) (s : SnapshotDocuments) → IsSmall s → (why : WalkError)
       → ¬ (MayBeRefusedAt is_match limits (codes "g") query (asked after) s why)
   not-here after s small why is =
@@ -100,7 +100,7 @@ module _ {B : Type 0} (is_match : B → Fields → Bool) (limits : Limits)
       ∙ ap (λ size. request_of (record (composite_after after) { size = size })) small.size)
       is)
 
-  -- nor later
+  -- no snapshot of a walk refuses it
   pub never-refused : (after : Named AfterKey) (snapshots : List SnapshotDocuments)
       → AllByRecursion IsSmall snapshots → (why : WalkError)
       → ¬ (MayRefuse is_match limits (codes "g") query (asked after) snapshots why)

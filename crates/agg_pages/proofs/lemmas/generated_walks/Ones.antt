@@ -1,7 +1,7 @@
 -- Lists of which each element gives one at most.
 use Rattle.std.proofs.Common.{◌≤◌, List, [], ◌∷◌, length, length-append, map, arith}
 use Rattle.std.specs.List.{AllByRecursion, flat_map}
-use Rattle.agg_column.specs.Document.{Fields}
+use Rattle.agg_segment.specs.storage.Document.{Fields}
 use Rattle.agg_request_tree.specs.Uncut.{once_each}
 use Rattle.agg_request_tree.proofs.Lists.{AllByRecursion-always, AllByRecursion-flat_map}
 use Rattle.agg_request_tree.proofs.Lists.{AllByRecursion-map, AllByRecursion-weaker}

@@ -2,12 +2,12 @@
 use Rattle.std.proofs.Common.{◌≡◌, ◌+◌, ◌*◌, ◌∷◌, ◌++◌, [], ℕ, List, zero, suc, length}
 use Rattle.std.proofs.Common.{refl, sym, ap, ◌∙◌, add_assoc, add-zero, arith}
 use Rattle.std.proofs.lemmas.List.FromFn.{length-map-range_with_len, map-range_with_len_more}
-use Rattle.agg_column.specs.Document.{Fields, meaning}
-use Rattle.agg_column.specs.declared.document.FieldValue.{FieldValue}
-use Rattle.agg_generator.specs.Draws.{draw, state_after}
-use Rattle.agg_generator.specs.Documents.{generated_document, generated_documents}
-use Rattle.agg_generator.specs.Documents.{generated_segment, generated_values, values_drawn}
-use Rattle.agg_generator.proofs.States.{draw-state_after}
+use Rattle.agg_segment.specs.storage.Document.{Fields, meaning}
+use Rattle.agg_segment.specs.declared.storage.document.FieldValue.{FieldValue}
+use Rattle.agg_pages.specs.generator.Draws.{draw, state_after}
+use Rattle.agg_pages.specs.generator.Documents.{generated_document, generated_documents}
+use Rattle.agg_pages.specs.generator.Documents.{generated_segment, generated_values, values_drawn}
+use Rattle.agg_pages.proofs.lemmas.generator.States.{draw-state_after}
 
 -- a draw after those of some documents, by its place among all
 draw_at : (first seed at place : ℕ) → 3 * first + at ≡ place

@@ -10,17 +10,17 @@ use Rattle.std.proofs.lemmas.List.Sorted.{Contains-permutation}
 use Rattle.std.proofs.lemmas.Map.Made.{Contains-from_values_of}
 use Rattle.agg_values.specs.TypedKey.{CompositeIntermediateKey}
 use Rattle.agg_values.specs.declared.typed_key.CompositeIntermediateKey.TheVariants as key
-use Rattle.agg_column.specs.Document.{Fields, key_of, meaning, values_in}
-use Rattle.agg_column.specs.Signs.{sign_of}
-use Rattle.agg_column.specs.declared.document.FieldValue.{FieldValue}
-use Rattle.agg_column.specs.declared.sign.Sign.TheVariants.{Small, Negative}
-use Rattle.agg_column.proofs.Classes.{by_class_moves}
-use Rattle.agg_column.proofs.Members.{from_filter, from_flat, from_map}
+use Rattle.agg_segment.specs.storage.Document.{Fields, key_of, meaning, values_in}
+use Rattle.agg_segment.specs.storage.Signs.{sign_of}
+use Rattle.agg_segment.specs.declared.storage.document.FieldValue.{FieldValue}
+use Rattle.agg_segment.specs.declared.storage.sign.Sign.TheVariants.{Small, Negative}
+use Rattle.agg_segment.proofs.lemmas.storage.Classes.{by_class_moves}
+use Rattle.agg_segment.proofs.lemmas.storage.Members.{from_filter, from_flat, from_map}
 use Rattle.agg_segment.specs.Segment.{IsMixed}
-use Rattle.agg_generator.specs.Documents.{date_drawn, generated_document, generated_documents}
-use Rattle.agg_generator.specs.Documents.{generated_values, number_drawn, text_drawn, texts_drawn}
-use Rattle.agg_generator.specs.Documents.{values_drawn}
-use Rattle.agg_generator.specs.Draws.{draw}
+use Rattle.agg_pages.specs.generator.Documents.{date_drawn, generated_document, generated_documents}
+use Rattle.agg_pages.specs.generator.Documents.{generated_values, number_drawn, text_drawn}
+use Rattle.agg_pages.specs.generator.Documents.{texts_drawn, values_drawn}
+use Rattle.agg_pages.specs.generator.Draws.{draw}
 
 -- the value of a field is no number below zero
 abbrev IsNotNegative : List ℕ × FieldValue → Type 0
@@ -30,7 +30,7 @@ IsNotNegative p = sign_of (key_of p.1) ≢ Negative
 sign_of_natural : (n : ℕ) → sign_of (key.I64 (pos n)) ≡ Small
 sign_of_natural n = grind (arith, nat_tests)
 
--- nor is a text that is drawn
+-- a text that is drawn is no number below zero
 texts_drawn_sign : (b : ℕ) → All IsNotNegative (texts_drawn b)
 texts_drawn_sign b = by_test (b % 7 == 0)
   where
@@ -39,7 +39,7 @@ texts_drawn_sign b = by_test (b % 7 == 0)
     by_test false =
         All-cons IsNotNegative (codes "b", text_drawn b) [] (λ is. cc) (All-nil IsNotNegative)
 
--- nor is any value of a document
+-- no value of a document is a number below zero
 values_drawn_sign : (a b d : ℕ) → All IsNotNegative (values_drawn a b d)
 values_drawn_sign a b d =
     let number : List ℕ × FieldValue = (codes "a", number_drawn a) in

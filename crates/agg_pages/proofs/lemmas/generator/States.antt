@@ -1,6 +1,6 @@
 -- Draws after others.
 use Rattle.std.proofs.Common.{◌≡◌, ◌+◌, ℕ, zero, suc, sym, ap, ◌∙◌, add-zero, add-suc, add_assoc}
-use Rattle.agg_generator.specs.Draws.{next_state, state_after, drawn, draw}
+use Rattle.agg_pages.specs.generator.Draws.{next_state, state_after, drawn, draw}
 
 -- the state after some draws and then more
 pub state_after-state_after : (more draws seed : ℕ)

@@ -6,10 +6,10 @@ use Rattle.std.proofs.lemmas.Option.{same_Some}
 use Rattle.serde_json.specs.Data.{Data, depth, member, no_members}
 use Rattle.serde_json.specs.Find.{get}
 use Rattle.agg_segment.specs.declared.query.QueryTree.{QueryTree}
-use Rattle.agg_json.specs.Json.{alone}
-use Rattle.agg_json.specs.Query.{IsQuery}
-use Rattle.agg_request_json.specs.RequestJson.{IsAggregation, IsKind, IsRequestJson}
-use Rattle.agg_request_json.specs.RequestJson.{IsRequestWithin}
+use Rattle.agg_request.specs.json_values.Json.{alone}
+use Rattle.agg_request.specs.json_values.Query.{IsQuery}
+use Rattle.agg_request.specs.reading.RequestJson.{IsAggregation, IsKind, IsRequestJson}
+use Rattle.agg_request.specs.reading.RequestJson.{IsRequestWithin}
 use Rattle.agg_request_tree.specs.Request.{Request, agg_of, aggregation_of, builders_of}
 use Rattle.agg_request_tree.specs.declared.aggregation.Aggregation.{Aggregation}
 use Rattle.agg_request_tree.specs.declared.aggregation.Aggregation.TheFolds as folds
@@ -20,7 +20,7 @@ use Rattle.agg_request_tree.specs.declared.aggregation.filter.FilterQuery.TheVar
 use Rattle.agg_request_tree.proofs.RequestTrees.{agg-made}
 use Rattle.agg_request.specs.ReadBack.{ReadsBack}
 use Rattle.agg_request.specs.WrittenJson.{aggregation_step, data_of_query, data_of_request}
-use Rattle.agg_header_text.specs.HeaderText.{filter_request}
+use Rattle.agg_pages.specs.header_text.HeaderText.{filter_request}
 
 module _ (B : Type 0) (tree : QueryTree) where
   -- what the filter asks

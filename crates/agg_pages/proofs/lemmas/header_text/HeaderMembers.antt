@@ -9,12 +9,12 @@ use Rattle.serde_json.specs.View.{items_of, items_view, view}
 use Rattle.serde_json.specs.declared.value.Value.{Value}
 use Rattle.agg_segment.specs.declared.query.QueryTree.{QueryTree}
 use Rattle.agg_segment.specs.declared.query.QueryTree.TheVariants.{All}
-use Rattle.agg_json.specs.Json.{each_item}
-use Rattle.agg_request_json.specs.RequestJson.{IsRequestJson}
+use Rattle.agg_request.specs.json_values.Json.{each_item}
+use Rattle.agg_request.specs.reading.RequestJson.{IsRequestJson}
 use Rattle.agg_request_tree.specs.Request.{Request, builders_of}
 use Rattle.agg_request.specs.ReadBack.{ReadsBack}
-use Rattle.agg_input.specs.Header.{IsHeader, texts_of}
-use Rattle.agg_header_text.specs.HeaderText.{HasQuery, header_of, plain_members}
+use Rattle.agg_pages.specs.input_text.Header.{IsHeader, texts_of}
+use Rattle.agg_pages.specs.header_text.HeaderText.{HasQuery, header_of, plain_members}
 
 -- an array of texts is read as these texts
 pub each-strings : (names : List (List ℕ))

@@ -11,14 +11,15 @@ use Rattle.agg_values.specs.declared.order.Order.{Order}
 use Rattle.agg_values.specs.declared.order.Order.TheVariants.{Asc, Desc}
 use Rattle.agg_values.specs.declared.order.MissingOrder.{MissingOrder}
 use Rattle.agg_values.specs.declared.order.MissingOrder.TheVariants.{Default, First, Last}
-use Rattle.agg_request_json.specs.CompositeJson.{AreIntervals, AreSources, IsAfter, IsCompositeJson}
-use Rattle.agg_request_json.specs.CompositeJson.{IsFlag, IsKeyJson, IsSharedBody, IsSourceJson}
-use Rattle.agg_request_json.specs.CompositeJson.{IsSourceOfKind, IsWordOr, missing_order_word}
-use Rattle.agg_request_json.specs.CompositeJson.{order_word, unit_word}
-use Rattle.agg_json.specs.Json.{EachIs, EachNamedIs, IsGiven, IsWholeAt, only_member}
-use Rattle.agg_json.specs.Json.{only_named, present, small_number, whole_number}
-use Rattle.agg_request_tree.specs.Source.{field_of, missing_bucket_of, missing_order_of, name_of}
-use Rattle.agg_request_tree.specs.Source.{order_of}
+use Rattle.agg_request.specs.reading.CompositeJson.{AreIntervals, AreSources, IsAfter}
+use Rattle.agg_request.specs.reading.CompositeJson.{IsCompositeJson, IsFlag, IsKeyJson}
+use Rattle.agg_request.specs.reading.CompositeJson.{IsSharedBody, IsSourceJson, IsSourceOfKind}
+use Rattle.agg_request.specs.reading.CompositeJson.{IsTextAt, IsWordOr, SaysValue}
+use Rattle.agg_request.specs.reading.CompositeJson.{missing_order_word, order_word, unit_word}
+use Rattle.agg_request.specs.json_values.Json.{EachIs, EachNamedIs, IsGiven, IsWholeAt, only_member}
+use Rattle.agg_request.specs.json_values.Json.{only_named, present, small_number, whole_number}
+use Rattle.agg_request_tree.specs.Source.{field_of, min_key_of, missing_bucket_of}
+use Rattle.agg_request_tree.specs.Source.{missing_order_of, name_of, order_of}
 use Rattle.agg_request_tree.specs.declared.aggregation.CompositeAggregation.{CompositeAggregation}
 use Rattle.agg_request_tree.specs.declared.source.CompositeAggregationSource as any_source
 use any_source.{CompositeAggregationSource}
@@ -29,10 +30,10 @@ use Rattle.agg_request_tree.specs.declared.source.HistogramCompositeAggregationS
 use numbers.{HistogramCompositeAggregationSource as Numbers}
 use Rattle.agg_request_tree.specs.declared.source.DateHistogramCompositeAggregationSource as dates
 use dates.{DateHistogramCompositeAggregationSource as Dates}
-use Rattle.agg_request_json.proofs.CompositeSources.{unit_word-one}
-use Rattle.agg_json.proofs.ValueTexts.{said_strictly}
-use Rattle.agg_document_json.proofs.Documents.{same_value}
-use Rattle.agg_input.proofs.Queries.{EachIs-unique}
+use Rattle.agg_request.proofs.lemmas.reading.CompositeSources.{unit_word-one}
+use Rattle.agg_request.proofs.lemmas.json_values.ValueTexts.{said_strictly}
+use Rattle.agg_pages.proofs.lemmas.document_json.Documents.{same_value}
+use Rattle.agg_pages.proofs.lemmas.input_text.Queries.{EachIs-unique}
 
 -- ---- a name, and the body under the one word inside
 
@@ -88,6 +89,37 @@ IsFlag-unique : (o : Option Data) (a b : Bool) → IsFlag o a → IsFlag o b →
 IsFlag-unique None a b h k = h ∙ sym k
 IsFlag-unique (Some d) a b h k = same_value a b (sym h ∙ k)
 
+-- ---- values that are given
+
+-- one value is given at most
+pub IsGiven-unique : {A : Type 0} (Is : Data → A → Type 0)
+    → ((d : Data) (a b : A) → Is d a → Is d b → a ≡ b) → (o : Option Data) (a b : Option A)
+    → IsGiven Is o a → IsGiven Is o b → a ≡ b
+IsGiven-unique Is one None None None h k = refl
+IsGiven-unique Is one None None (Some b) h k = absurd k
+IsGiven-unique Is one None (Some a) b h k = absurd h
+IsGiven-unique Is one (Some d) None b h k = absurd h
+IsGiven-unique Is one (Some d) (Some a) None h k = absurd k
+IsGiven-unique Is one (Some d) (Some a) (Some b) h k = ap Some (one d a b h k)
+
+IsTextAt-unique : (name : List ℕ) (body : Data) (a b : Option (List ℕ)) → IsTextAt name body a
+    → IsTextAt name body b → a ≡ b
+IsTextAt-unique name body =
+    IsGiven-unique (λ d text. as_str d ≡ Some text) (λ d s t h k. same_value s t (sym h ∙ k))
+    (present name body)
+
+IsKeyJson-unique : (d : Data) (a b : AfterKey) → IsKeyJson false d a → IsKeyJson false d b
+    → a ≡ b
+IsKeyJson-unique d a b (text, is, says) (text_too, is_too, says_too) =
+    let same : text_too ≡ text = same_value text_too text (sym is_too ∙ is) in
+    let there : IsKeyText text b.0 =
+    subst (λ t. IsKeyText t b.0) same (said_strictly text_too b.0 says_too) in
+    let keys : a.0 ≡ b.0 = IsKeyText-unique text a.0 b.0 (said_strictly text a.0 says) there in
+    λ i. record { 0 = keys i }
+
+SaysValue-unique : (d : Data) (a b : AfterKey) → SaysValue false d a → SaysValue false d b → a ≡ b
+SaysValue-unique d a b h k = IsKeyJson-unique d a b (h.0, h.1, h.2) (k.0, k.1, k.2)
+
 -- ---- sources
 
 -- what two sources of one body share is the same
@@ -97,9 +129,10 @@ record SameShared (a b : CompositeAggregationSource) : Type 0 where
   order : order_of a ≡ order_of b
   missing_bucket : missing_bucket_of a ≡ missing_bucket_of b
   missing_order : missing_order_of a ≡ missing_order_of b
+  min : min_key_of a ≡ min_key_of b
 
 shared-unique : (name : List ℕ) (body : Data) (a b : CompositeAggregationSource)
-    → IsSharedBody name body a → IsSharedBody name body b → SameShared a b
+    → IsSharedBody false name body a → IsSharedBody false name body b → SameShared a b
 shared-unique name body a b h k = record {
   named = h.named ∙ sym k.named;
   field = same_value (field_of a) (field_of b) (sym h.field ∙ k.field);
@@ -110,6 +143,8 @@ shared-unique name body a b h k = record {
   missing_order = IsWordOr-unique Default missing_order_word missing_order_word-one
       (get (codes "missing_order") body) (missing_order_of a) (missing_order_of b) h.missing_order
       k.missing_order;
+  min = IsGiven-unique (SaysValue false) SaysValue-unique (present (codes "min") body)
+      (min_key_of a) (min_key_of b) h.min k.min;
 }
 
 terms-unique : (a b : Term) → SameShared (Terms a) (Terms b) → a ≡ b
@@ -119,6 +154,7 @@ terms-unique a b same = λ i. record {
   order = same.order i;
   missing_bucket = same.missing_bucket i;
   missing_order = same.missing_order i;
+  min = same.min i;
 }
 
 -- the numbers that stand at one member are the same
@@ -137,38 +173,32 @@ numbers-unique a b same intervals = λ i. record {
   order = same.order i;
   missing_bucket = same.missing_bucket i;
   missing_order = same.missing_order i;
+  min = same.min i;
 }
-
--- one value is given at most
-pub IsGiven-unique : {A : Type 0} (Is : Data → A → Type 0)
-    → ((d : Data) (a b : A) → Is d a → Is d b → a ≡ b) → (o : Option Data) (a b : Option A)
-    → IsGiven Is o a → IsGiven Is o b → a ≡ b
-IsGiven-unique Is one None None None h k = refl
-IsGiven-unique Is one None None (Some b) h k = absurd k
-IsGiven-unique Is one None (Some a) b h k = absurd h
-IsGiven-unique Is one (Some d) None b h k = absurd h
-IsGiven-unique Is one (Some d) (Some a) None h k = absurd k
-IsGiven-unique Is one (Some d) (Some a) (Some b) h k = ap Some (one d a b h k)
 
 dates-unique : (body : Data) (a b : Dates) → SameShared (DateHistogram a) (DateHistogram b)
     → AreIntervals body a → AreIntervals body b → a ≡ b
-dates-unique body a b same (fixed, unit) (fixed_too, unit_too) =
+dates-unique body a b same (fixed, unit, offset) (fixed_too, unit_too, offset_too) =
     let texts : a.fixed_interval ≡ b.fixed_interval =
-    IsGiven-unique (λ d text. as_str d ≡ Some text) (λ d s t h k. same_value s t (sym h ∙ k))
-    (present (codes "fixed_interval") body) a.fixed_interval b.fixed_interval fixed fixed_too in
+    IsTextAt-unique (codes "fixed_interval") body a.fixed_interval b.fixed_interval fixed fixed_too
+    in
     let units : a.calendar_interval ≡ b.calendar_interval =
     IsGiven-unique (λ d unit. as_str d ≡ Some (unit_word unit))
     (λ d u v h k. unit_word-one u v (same_value (unit_word u) (unit_word v) (sym h ∙ k)))
     (present (codes "calendar_interval") body) a.calendar_interval b.calendar_interval unit
     unit_too in
+    let offsets : a.offset ≡ b.offset =
+    IsTextAt-unique (codes "offset") body a.offset b.offset offset offset_too in
     λ i. record {
       name = same.named i;
       field = same.field i;
       fixed_interval = texts i;
       calendar_interval = units i;
+      offset = offsets i;
       order = same.order i;
       missing_bucket = same.missing_bucket i;
       missing_order = same.missing_order i;
+      min = same.min i;
     }
 
 IsSourceOfKind-unique : (name kind : List ℕ) (body : Data) (a b : CompositeAggregationSource)
@@ -219,15 +249,6 @@ AreSources-unique body a b (items, is, each) (items_too, is_too, each_too) =
     (subst (λ l. EachIs (IsSourceJson false) l b) same each_too)
 
 -- ---- the size and the after key
-
-IsKeyJson-unique : (d : Data) (a b : AfterKey) → IsKeyJson false d a → IsKeyJson false d b
-    → a ≡ b
-IsKeyJson-unique d a b (text, is, says) (text_too, is_too, says_too) =
-    let same : text_too ≡ text = same_value text_too text (sym is_too ∙ is) in
-    let there : IsKeyText text b.0 =
-    subst (λ t. IsKeyText t b.0) same (said_strictly text_too b.0 says_too) in
-    let keys : a.0 ≡ b.0 = IsKeyText-unique text a.0 b.0 (said_strictly text a.0 says) there in
-    λ i. record { 0 = keys i }
 
 EachNamedIs-unique : {A : Type 0} (Is : Data → A → Type 0)
     → ((d : Data) (a b : A) → Is d a → Is d b → a ≡ b) → (members : Members) (xs ys : Named A)

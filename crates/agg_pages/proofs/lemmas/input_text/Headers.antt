@@ -6,17 +6,17 @@ use Rattle.serde_json.specs.Data.{Data}
 use Rattle.serde_json.specs.Find.{as_str, get}
 use Rattle.serde_json.specs.Read.{read}
 use Rattle.agg_segment.specs.declared.query.QueryTree.{QueryTree}
-use Rattle.agg_json.specs.Json.{has_members, small_number}
+use Rattle.agg_request.specs.json_values.Json.{has_members, small_number}
 use Rattle.agg_request_tree.specs.Request.{Request}
-use Rattle.agg_input.specs.declared.header.Header.{Header}
-use Rattle.agg_input.specs.Header.{IsBucketLimitOf, IsHeader, IsHeaderLine, IsMemoryLimitOf}
-use Rattle.agg_input.specs.Header.{IsQueryOf, IsRequestAt, header_members, texts_of}
-use Rattle.agg_input.specs.Header.{unsigned_number}
+use Rattle.agg_pages.specs.declared.input_text.header.Header.{Header}
+use Rattle.agg_pages.specs.input_text.Header.{IsBucketLimitOf, IsHeader, IsHeaderLine}
+use Rattle.agg_pages.specs.input_text.Header.{IsMemoryLimitOf, IsQueryOf, IsRequestAt}
+use Rattle.agg_pages.specs.input_text.Header.{header_members, texts_of, unsigned_number}
 use Rattle.agg_values.specs.Nothing.{NoneIs}
-use Rattle.agg_input.proofs.Composites.{IsGiven-unique}
-use Rattle.agg_document_json.proofs.Documents.{none_is_some, same_value}
-use Rattle.agg_input.proofs.Queries.{IsQuery-unique}
-use Rattle.agg_input.proofs.Requests.{IsRequestJson-unique}
+use Rattle.agg_pages.proofs.lemmas.input_text.Composites.{IsGiven-unique}
+use Rattle.agg_pages.proofs.lemmas.document_json.Documents.{none_is_some, same_value}
+use Rattle.agg_pages.proofs.lemmas.input_text.Queries.{IsQuery-unique}
+use Rattle.agg_pages.proofs.lemmas.input_text.Requests.{IsRequestJson-unique}
 
 -- ---- one header at most
 

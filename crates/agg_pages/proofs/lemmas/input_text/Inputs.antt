@@ -4,14 +4,14 @@ use Rattle.std.proofs.Common.{◌∙◌, subst, arith}
 use Rattle.std.specs.Str.{IsUtf8}
 use Rattle.std.proofs.lemmas.Str.{IsUtf8-from_is_utf8, is_utf8-from_IsUtf8}
 use Rattle.agg_segment.specs.Snapshot.{SnapshotDocuments}
-use Rattle.agg_input.specs.Header.{IsHeaderLine}
-use Rattle.agg_input.specs.Input.{AreNoInput, Input, IsInput, IsInputOfLines}
-use Rattle.agg_input.specs.Lines.{lines_of}
+use Rattle.agg_pages.specs.input_text.Header.{IsHeaderLine}
+use Rattle.agg_pages.specs.input_text.Input.{AreNoInput, Input, IsInput, IsInputOfLines}
+use Rattle.agg_pages.specs.input_text.Lines.{lines_of}
 use Rattle.agg_values.specs.Nothing.{NoneIs}
-use Rattle.agg_input.specs.SnapshotLines.{AreSnapshots, Says, begun_snapshots}
-use Rattle.agg_document_json.proofs.Beside.{AllZip-unique}
-use Rattle.agg_input.proofs.Headers.{IsHeaderLine-unique}
-use Rattle.agg_input.proofs.SnapshotSteps.{Says-unique}
+use Rattle.agg_pages.specs.input_text.SnapshotLines.{AreSnapshots, Says, begun_snapshots}
+use Rattle.agg_pages.proofs.lemmas.document_json.Beside.{AllZip-unique}
+use Rattle.agg_pages.proofs.lemmas.input_text.Headers.{IsHeaderLine-unique}
+use Rattle.agg_pages.proofs.lemmas.input_text.SnapshotSteps.{Says-unique}
 
 -- ---- one input at most
 

@@ -22,7 +22,7 @@ use Rattle.serde_json.proofs.Texts.{print-outline}
 use Rattle.agg_values.specs.KeyText.{key_text}
 use Rattle.agg_values.specs.Names.{Named, name_cmp, put}
 use Rattle.agg_values.specs.declared.after_key.AfterKey.{AfterKey}
-use Rattle.agg_final_results.specs.ResultsText.{member_text, object_text, quoted_after_key}
+use Rattle.agg_results.specs.final_results.ResultsText.{member_text, object_text, quoted_after_key}
 
 -- ---- names that ascend
 

@@ -15,8 +15,8 @@ use Rattle.std.proofs.lemmas.List.Splits.{slice_split_at, slice_split_none}
 use Rattle.std.specs.List.{All}
 use Rattle.std.proofs.Math.Seq.{get_or-append_seam, split_at, take-append_seam}
 use Rattle.memchr.specs.Find.{NoneBefore, Nowhere, Passes, is_byte}
-use Rattle.agg_input.specs.SnapshotLines.{page_size_of}
-use Rattle.agg_input.specs.Lines.{all_lines_of}
+use Rattle.agg_pages.specs.input_text.SnapshotLines.{page_size_of}
+use Rattle.agg_pages.specs.input_text.Lines.{all_lines_of}
 
 -- ---- the carriage return
 
@@ -81,7 +81,7 @@ abbrev pub FeedsAt : List ℕ → ℕ → Type 0
 FeedsAt text feed =
     NoneBefore (Passes (is_byte 10) text) 0 (length text) feed × Passes (is_byte 10) text feed
 
--- and a line feed stands there
+-- at the place of the first line feed stands one
 pub feed_there : (text : List ℕ) (feed : ℕ) → FeedsAt text feed → get_or text feed 0 ≡ 10
 feed_there text feed found = eqb-true (get_or text feed 0) 10 found.1
 
@@ -109,7 +109,7 @@ cut_at_place text feed found =
 abbrev pub NoFeed : List ℕ → Type 0
 NoFeed text = Nowhere (Passes (is_byte 10) text) 0 (length text)
 
--- and is one line
+-- a text without a line feed is one line
 pub cut_nowhere : (text : List ℕ) → NoFeed text
     → all_lines_of text ≡ strip_carriage_return text ∷ []
 cut_nowhere text none =

@@ -18,16 +18,17 @@ use Rattle.agg_values.specs.declared.after_key.AfterKey.{AfterKey}
 use Rattle.agg_values.proofs.AddressTexts.{IsAddressText-address_text}
 use Rattle.agg_values.proofs.KeyTexts.{IsKeyText-unique, IsSignedText-signed_decimal}
 use Rattle.agg_values.proofs.KeyTexts.{IsUnsignedText-decimal}
-use Rattle.agg_json.specs.Json.{EachNamedIs}
-use Rattle.agg_request_json.specs.CompositeJson.{AreKeys, IsAfter, IsCompositeJson, IsKeyJson}
+use Rattle.agg_request.specs.json_values.Json.{EachNamedIs}
+use Rattle.agg_request.specs.reading.CompositeJson.{AreKeys, IsAfter, IsCompositeJson, IsKeyJson}
 use Rattle.agg_request_tree.specs.declared.aggregation.CompositeAggregation.{CompositeAggregation}
 use Rattle.agg_request_tree.specs.BySource.{after_map}
 use Rattle.agg_request_tree.specs.Faults.{HaveOwnNames}
 use Rattle.agg_request_tree.specs.Occurrences.{bound_of}
 use Rattle.agg_request_tree.specs.Source.{Sources, name_of}
 use Rattle.agg_request_tree.proofs.PageAfter.{bound_of-after_map}
-use Rattle.agg_input.specs.PrintedAfterKeys.{IsWithinType, printed_after_key}
-use Rattle.agg_input.proofs.KeyMembers.{Ascends, Ascends-put, key_members, read-object_text}
+use Rattle.agg_pages.specs.input_text.PrintedAfterKeys.{IsWithinType, printed_after_key}
+use Rattle.agg_pages.proofs.lemmas.input_text.KeyMembers.{Ascends, Ascends-put, key_members}
+use Rattle.agg_pages.proofs.lemmas.input_text.KeyMembers.{read-object_text}
 
 -- ---- the keys of an after key
 
@@ -158,7 +159,7 @@ printed_after_key-bound sources tuple d after own_names whole within reads keys 
     ap (bound_of sources) (same_after d entries after each is keys)
     ∙ bound_of-after_map sources tuple own_names whole
 
--- so it is of a composite whose body has it
+-- a printed after key is the bound of a composite whose body has it
 pub composite-bound : (composite : CompositeAggregation) (tuple : KeyTuple) (body d : Data)
     → HaveOwnNames composite.sources → length tuple ≡ length composite.sources
     → All IsWithinType tuple → read (printed_after_key composite.sources tuple) ≡ Some d

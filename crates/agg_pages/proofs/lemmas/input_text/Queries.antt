@@ -8,19 +8,19 @@ use Rattle.agg_values.proofs.KeyTexts.{IsKeyText-unique}
 use Rattle.agg_values.specs.KeyText.{IsKeyText}
 use Rattle.agg_values.specs.TypedKey.{CompositeIntermediateKey}
 use Rattle.agg_values.specs.declared.typed_key.CompositeIntermediateKey.TheVariants as key
-use Rattle.agg_column.specs.Document.{said_key}
-use Rattle.agg_column.specs.declared.document.FieldValue.{FieldValue}
-use Rattle.agg_column.specs.declared.document.FieldValue.TheVariants as value
+use Rattle.agg_segment.specs.storage.Document.{said_key}
+use Rattle.agg_segment.specs.declared.storage.document.FieldValue.{FieldValue}
+use Rattle.agg_segment.specs.declared.storage.document.FieldValue.TheVariants as value
 use Rattle.agg_segment.specs.declared.query.RangeBound.{RangeBound}
 use Rattle.agg_segment.specs.declared.query.RangeBound.TheVariants.{Unbounded, Included, Excluded}
 use Rattle.agg_segment.specs.declared.query.QueryTree.{QueryTree}
 use Rattle.agg_segment.specs.declared.query.QueryTree.TheVariants.{Term, Range, Exists, Boolean}
 use Rattle.agg_segment.specs.declared.query.QueryTree.TheVariants.{All, Empty}
-use Rattle.agg_json.specs.Json.{EachIs, IsList}
-use Rattle.agg_json.specs.Query.{IsBoolean, IsBound, IsExists, IsFilter, IsOfKind, IsPlain}
-use Rattle.agg_json.specs.Query.{IsQuery, IsRange, IsTerm, SaysAt}
-use Rattle.agg_json.proofs.ValueTexts.{said_strictly}
-use Rattle.agg_document_json.proofs.Documents.{none_is_some, same_value}
+use Rattle.agg_request.specs.json_values.Json.{EachIs, IsList}
+use Rattle.agg_request.specs.json_values.Query.{IsBoolean, IsBound, IsExists, IsFilter, IsOfKind}
+use Rattle.agg_request.specs.json_values.Query.{IsPlain, IsQuery, IsRange, IsTerm, SaysAt}
+use Rattle.agg_request.proofs.lemmas.json_values.ValueTexts.{said_strictly}
+use Rattle.agg_pages.proofs.lemmas.document_json.Documents.{none_is_some, same_value}
 
 -- ---- values
 

@@ -5,7 +5,7 @@ use Rattle.std.proofs.Common.{bytes_eq, option_and_then, option_map}
 use Rattle.serde_json.specs.Data.{Data, Members, no_members, member, depth}
 use Rattle.serde_json.specs.Find.{as_str, get}
 use Rattle.agg_segment.specs.declared.query.QueryTree.{QueryTree}
-use Rattle.agg_json.specs.Query.{IsOfKind, IsQuery}
+use Rattle.agg_request.specs.json_values.Query.{IsOfKind, IsQuery}
 use Rattle.agg_request_tree.specs.Request.{Request, agg_of, below_of}
 use Rattle.agg_request_tree.specs.declared.aggregation.Aggregation.{Aggregation}
 use Rattle.agg_request_tree.specs.declared.aggregation.AggregationVariants as variants
@@ -16,14 +16,14 @@ use Rattle.agg_request_tree.specs.declared.aggregation.filter.FilterQuery.{Filte
 use Rattle.agg_request_tree.specs.declared.aggregation.filter.FilterQuery.TheVariants as by
 use by.{Tree, CustomBuilder}
 use Rattle.agg_request_tree.proofs.RequestTrees.{made-of_parts}
-use Rattle.agg_request_json.specs.Builders.{builder_name, left_behind, left_by_kind, taken}
-use Rattle.agg_request_json.specs.CompositeJson.{IsCompositeJson}
-use Rattle.agg_request_json.specs.RequestJson.{AreAggregations, IsAggregation, IsBelow, IsBody}
-use Rattle.agg_request_json.specs.RequestJson.{IsKind, IsLeft, IsMetric, IsQueryOf, IsRequestJson}
-use Rattle.agg_request_json.specs.RequestJson.{kind_word}
-use Rattle.agg_document_json.proofs.Documents.{none_is_some, same_value}
-use Rattle.agg_input.proofs.Composites.{IsCompositeJson-unique}
-use Rattle.agg_input.proofs.Queries.{IsQuery-unique}
+use Rattle.agg_request.specs.reading.Builders.{builder_name, left_behind, left_by_kind, taken}
+use Rattle.agg_request.specs.reading.CompositeJson.{IsCompositeJson}
+use Rattle.agg_request.specs.reading.RequestJson.{AreAggregations, IsAggregation, IsBelow, IsBody}
+use Rattle.agg_request.specs.reading.RequestJson.{IsKind, IsLeft, IsMetric, IsQueryOf}
+use Rattle.agg_request.specs.reading.RequestJson.{IsRequestJson, kind_word}
+use Rattle.agg_pages.proofs.lemmas.document_json.Documents.{none_is_some, same_value}
+use Rattle.agg_pages.proofs.lemmas.input_text.Composites.{IsCompositeJson-unique}
+use Rattle.agg_pages.proofs.lemmas.input_text.Queries.{IsQuery-unique}
 
 -- ---- a tree asks for no builder
 

@@ -6,17 +6,19 @@ use Rattle.std.proofs.lemmas.List.{length-append}
 use Rattle.std.proofs.lemmas.List.Elements.{All-append, All-cons, All-head, All-nil, All-tail}
 use Rattle.std.proofs.lemmas.List.Elements.{All-push, Contains-append_left}
 use Rattle.std.specs.List.{Contains, flat_map}
-use Rattle.agg_column.specs.Document.{Fields}
+use Rattle.agg_segment.specs.storage.Document.{Fields}
 use Rattle.agg_segment.specs.Segment.{HasSign, IsMixed}
-use Rattle.agg_column.specs.Signs.{sign_of}
-use Rattle.agg_column.specs.declared.sign.Sign.{Sign}
+use Rattle.agg_segment.specs.storage.Signs.{sign_of}
+use Rattle.agg_segment.specs.declared.storage.sign.Sign.{Sign}
 use Rattle.agg_segment.specs.Snapshot.{SnapshotDocuments}
-use Rattle.agg_input.specs.SnapshotLines.{FitSegment, Line, SegmentsFit, StandForSnapshots, begins}
-use Rattle.agg_input.specs.SnapshotLines.{begun_snapshots, holds, leading_documents, opens}
-use Rattle.agg_input.specs.SnapshotLines.{opened_segments}
-use Rattle.agg_input.specs.Snapshots.{AreFit, Made, Open, all_segments, begun, last_segment}
-use Rattle.agg_input.specs.Snapshots.{snapshots_made, whole_snapshot, with_line}
-use Rattle.agg_document_json.proofs.Beside.{map-append}
+use Rattle.agg_pages.specs.input_text.SnapshotLines.{FitSegment, Line, SegmentsFit}
+use Rattle.agg_pages.specs.input_text.SnapshotLines.{StandForSnapshots, begins, begun_snapshots}
+use Rattle.agg_pages.specs.input_text.SnapshotLines.{holds, leading_documents, opens}
+use Rattle.agg_pages.specs.input_text.SnapshotLines.{opened_segments}
+use Rattle.agg_pages.specs.input_text.Snapshots.{AreFit, Made, Open, all_segments, begun}
+use Rattle.agg_pages.specs.input_text.Snapshots.{last_segment, snapshots_made, whole_snapshot}
+use Rattle.agg_pages.specs.input_text.Snapshots.{with_line}
+use Rattle.agg_pages.proofs.lemmas.document_json.Beside.{map-append}
 
 -- ---- segments of fewer documents
 

@@ -8,27 +8,29 @@ use Rattle.json.specs.Json.{value}
 use Rattle.json.specs.Lex.{lex, punctuate}
 use Rattle.json.specs.Word.{after_number, word}
 use Rattle.serde_json.specs.Read.{read}
-use Rattle.agg_column.specs.Document.{Fields}
+use Rattle.agg_segment.specs.storage.Document.{Fields}
 use Rattle.agg_segment.specs.Segment.{Gathered, gathered_documents}
 use Rattle.agg_segment.specs.Snapshot.{SnapshotDocuments, snapshots_documents}
-use Rattle.agg_input.specs.declared.snapshots.OpenSnapshot.{OpenSnapshot}
-use Rattle.agg_input.specs.declared.snapshots.SnapshotsBuilder.{SnapshotsBuilder}
-use Rattle.agg_document_json.specs.declared.tokens.LineRoom.{LineRoom}
-use Rattle.agg_document_json.specs.DocumentLine.{IsDocumentLine}
+use Rattle.agg_pages.specs.declared.input_text.snapshots.OpenSnapshot.{OpenSnapshot}
+use Rattle.agg_pages.specs.declared.input_text.snapshots.SnapshotsBuilder.{SnapshotsBuilder}
+use Rattle.agg_pages.specs.declared.document_json.tokens.LineRoom.{LineRoom}
+use Rattle.agg_pages.specs.document_json.DocumentLine.{IsDocumentLine}
 use Rattle.agg_values.specs.Nothing.{NoneIs}
-use Rattle.agg_input.specs.SnapshotLines.{AreSnapshots, FitSegment, Line, Says, StandForSnapshots}
-use Rattle.agg_input.specs.SnapshotLines.{begins, begun_size, holds, is_snapshot_line, opens}
-use Rattle.agg_input.specs.SnapshotLines.{segment_line}
-use Rattle.agg_input.specs.Snapshots.{AreFit, CannotFollow}
-use Rattle.agg_document_json.specs.AddedDocument.{HasNoDocument, HoldsLine, IsRefused}
-use Rattle.agg_input.specs.Snapshots.{Open, TakesLine, begun, made_by, open_of, snapshots_made}
-use Rattle.agg_input.specs.Snapshots.{with_line, with_segment}
-use Rattle.agg_document_json.proofs.Beside.{AllZip-append, AllZip-parts, AllZip-unique}
-use Rattle.agg_document_json.proofs.Documents.{IsDocumentLine-unique, none_is_some, same_value}
-use Rattle.agg_input.proofs.SnapshotLists.{AreFit-before, AreFit-begins, AreFit-first, AreFit-made}
-use Rattle.agg_input.proofs.SnapshotLists.{AreFit-opens, StandForSnapshots-made}
-use Rattle.agg_input.proofs.SnapshotLists.{StandForSnapshots-none, begun-made, first, with_lines}
-use Rattle.agg_input.proofs.SnapshotLists.{with_lines-append}
+use Rattle.agg_pages.specs.input_text.SnapshotLines.{AreSnapshots, FitSegment, Line, Says}
+use Rattle.agg_pages.specs.input_text.SnapshotLines.{StandForSnapshots, begins, begun_size, holds}
+use Rattle.agg_pages.specs.input_text.SnapshotLines.{is_snapshot_line, opens, segment_line}
+use Rattle.agg_pages.specs.input_text.Snapshots.{AreFit, CannotFollow}
+use Rattle.agg_pages.specs.document_json.AddedDocument.{HasNoDocument, HoldsLine, IsRefused}
+use Rattle.agg_pages.specs.input_text.Snapshots.{Open, TakesLine, begun, made_by, open_of}
+use Rattle.agg_pages.specs.input_text.Snapshots.{snapshots_made, with_line, with_segment}
+use Rattle.agg_pages.proofs.lemmas.document_json.Beside.{AllZip-append, AllZip-parts, AllZip-unique}
+use Rattle.agg_pages.proofs.lemmas.document_json.Documents.{IsDocumentLine-unique, none_is_some}
+use Rattle.agg_pages.proofs.lemmas.document_json.Documents.{same_value}
+use Rattle.agg_pages.proofs.lemmas.input_text.SnapshotLists.{AreFit-before, AreFit-begins}
+use Rattle.agg_pages.proofs.lemmas.input_text.SnapshotLists.{AreFit-first, AreFit-made}
+use Rattle.agg_pages.proofs.lemmas.input_text.SnapshotLists.{AreFit-opens, StandForSnapshots-made}
+use Rattle.agg_pages.proofs.lemmas.input_text.SnapshotLists.{StandForSnapshots-none, begun-made}
+use Rattle.agg_pages.proofs.lemmas.input_text.SnapshotLists.{first, with_lines, with_lines-append}
 
 -- ---- what a line says
 

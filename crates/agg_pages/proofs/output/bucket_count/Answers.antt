@@ -1,6 +1,6 @@
 use Rattle.std.proofs.Common.{arith, sum_by}
 use Rattle.std.proofs.lemmas.List.{at_drop_all}
-use Rattle.agg_final_results.specs.BucketCount.{results_buckets}
+use Rattle.agg_results.specs.final_results.BucketCount.{results_buckets}
 use Rattle.agg_pages.proofs.output.bucket_count.Goals as goal
 
 pub returns-in_default : goal.returns-in_default

@@ -1,5 +1,5 @@
 use Rattle.std.proofs.Common.{◌≡◌, ◌+◌, ◌≤◌, drop, min, sum_by}
-use Rattle.agg_final_results.specs.BucketCount.{results_buckets}
+use Rattle.agg_results.specs.final_results.BucketCount.{results_buckets}
 use Rattle.agg_pages.proofs.output.bucket_count.Given as goal
 
 -- the count so far with what is left is the whole, up to the greatest u64

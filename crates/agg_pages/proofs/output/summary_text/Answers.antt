@@ -1,6 +1,6 @@
 use Rattle.std.proofs.Common.{◌≡◌, ◌++◌, ◌∙◌, ℕ, List, ap, append_assoc, codes, decimal, length}
 use Rattle.std.proofs.Common.{refl, sum_by}
-use Rattle.agg_final_results.specs.BucketCount.{results_buckets}
+use Rattle.agg_results.specs.final_results.BucketCount.{results_buckets}
 use Rattle.agg_pages.specs.Output.{buckets_of_walk, ended_text}
 use Rattle.agg_pages.proofs.output.summary_text.Goals as goal
 

@@ -1,5 +1,5 @@
 use Rattle.std.proofs.Common.{◌≡◌, ℕ, List, ◌∷◌, ◌+◌, ◌++◌, ◌∙◌, ap, append_assoc, arith, sym}
-use Rattle.agg_final_results.specs.declared.types.AggregationResults.{AggregationResults}
+use Rattle.agg_results.specs.declared.final_results.types.AggregationResults.{AggregationResults}
 use Rattle.agg_pages.specs.Output.{page_line, page_lines}
 use Rattle.agg_pages.proofs.output.walk_text.Goals as goal
 

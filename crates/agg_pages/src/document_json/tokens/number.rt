@@ -3,10 +3,10 @@ ghost use Rattle.std.specs.Prelude.{◌≡◌, ◌==◌, ◌<◌, Some, IfSome, 
 ghost use Rattle.std.specs.Prelude.{option_map, true, false};
 ghost use Rattle.serde_json.specs.Find.{as_i64, as_integer};
 ghost use Rattle.serde_json.specs.Read.{number_from, number_of};
-ghost use Rattle.agg_column.specs.Document.{key_of};
+ghost use Rattle.agg_segment.specs.storage.Document.{key_of};
 ghost use Rattle.agg_values.specs.TypedKey.{typed_number};
 ghost use Rattle.agg_values.specs.declared.typed_key.CompositeIntermediateKey.TheVariants as key;
-ghost use Rattle.agg_document_json.specs.Tokens.{num_of};
+ghost use Rattle.agg_pages.specs.document_json.Tokens.{num_of};
 
 use agg_segment::FieldValue;
 use fast_float::Numeral;

@@ -5,9 +5,9 @@ ghost use Rattle.json.specs.Token.{Token as SpecToken};
 ghost use Rattle.serde_json.specs.Data.{Num};
 ghost use Rattle.serde_json.specs.Find.{as_integer};
 ghost use Rattle.serde_json.specs.Read.{number_of};
-ghost use Rattle.agg_column.specs.Document.{key_of};
+ghost use Rattle.agg_segment.specs.storage.Document.{key_of};
 ghost use Rattle.agg_values.specs.TypedKey.{typed_number};
-ghost use Rattle.agg_document_json.specs.Tokens.{IsOnlyMember, TakesValue};
+ghost use Rattle.agg_pages.specs.document_json.Tokens.{IsOnlyMember, TakesValue};
 
 use super::number::whole_number;
 use agg_segment::FieldValue;

@@ -2,7 +2,7 @@
 ghost use Rattle.std.specs.Prelude.{◌≡◌, ◌∷◌, ℕ, List, IfOk, IsTrue};
 ghost use Rattle.json.specs.Reads.{token_of};
 ghost use Rattle.agg_segment.specs.Segment.{IsNameOf, gathered_documents};
-ghost use Rattle.agg_document_json.specs.Tokens.{TakesItem, TakesItems, TakesValues};
+ghost use Rattle.agg_pages.specs.document_json.Tokens.{TakesItem, TakesItems, TakesValues};
 
 use super::value::read_value;
 use agg_segment::SegmentBuilder;

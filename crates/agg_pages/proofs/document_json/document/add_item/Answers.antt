@@ -1,7 +1,7 @@
 use Rattle.std.proofs.Common.{[], ◌∷◌, ◌++◌, sym, ap, ◌∙◌}
 use Rattle.std.proofs.lemmas.Result.{err_from_is_err_and}
-use Rattle.agg_document_json.proofs.FieldValues.{adds_item, no_keys_item}
-use Rattle.agg_document_json.proofs.document.add_item.Goals as goal
+use Rattle.agg_pages.proofs.lemmas.document_json.FieldValues.{adds_item, no_keys_item}
+use Rattle.agg_pages.proofs.document_json.document.add_item.Goals as goal
 
 pub returns-in_err-value-clause-not_input : goal.returns-in_err-value-clause-not_input
 returns-in_err-value-clause-not_input c = λ refused.

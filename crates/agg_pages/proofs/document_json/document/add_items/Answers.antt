@@ -1,6 +1,6 @@
 use Rattle.std.proofs.lemmas.Result.{err_from_is_err_and}
-use Rattle.agg_document_json.proofs.FieldValues.{adds_more, no_keys_at}
-use Rattle.agg_document_json.proofs.document.add_items.Goals as goal
+use Rattle.agg_pages.proofs.lemmas.document_json.FieldValues.{adds_more, no_keys_at}
+use Rattle.agg_pages.proofs.document_json.document.add_items.Goals as goal
 
 pub returns-in_err-add_item-clause-not_input : goal.returns-in_err-add_item-clause-not_input
 returns-in_err-add_item-clause-not_input c = λ refused.

@@ -2,8 +2,8 @@ use Rattle.std.proofs.Common.{Some, ap, ◌∙◌}
 use Rattle.serde_json.specs.Data.{object}
 use Rattle.serde_json.specs.View.{members_view, view}
 use Rattle.serde_json.proofs.Views.{view-Object}
-use Rattle.agg_document_json.proofs.Documents.{no_document}
-use Rattle.agg_document_json.proofs.document.document_of.Goals as goal
+use Rattle.agg_pages.proofs.lemmas.document_json.Documents.{no_document}
+use Rattle.agg_pages.proofs.document_json.document.document_of.Goals as goal
 
 pub returns-in-Object-clause-not_input : goal.returns-in-Object-clause-not_input
 returns-in-Object-clause-not_input c = λ refused.

@@ -1,10 +1,11 @@
 use Rattle.std.proofs.Common.{subst}
 use Rattle.std.proofs.lemmas.Result.{err_from_is_err_and}
 use Rattle.serde_json.specs.View.{view}
-use Rattle.agg_document_json.specs.DocumentLine.{field_values}
-use Rattle.agg_document_json.specs.Fields.{AddsValues}
-use Rattle.agg_document_json.proofs.DocumentMembers.{HasRead-none, HasRead-more, HasRead-refused}
-use Rattle.agg_document_json.proofs.document.document_of_members.Goals as goal
+use Rattle.agg_pages.specs.document_json.DocumentLine.{field_values}
+use Rattle.agg_pages.specs.document_json.Fields.{AddsValues}
+use Rattle.agg_pages.proofs.lemmas.document_json.DocumentMembers.{HasRead-none, HasRead-more}
+use Rattle.agg_pages.proofs.lemmas.document_json.DocumentMembers.{HasRead-refused}
+use Rattle.agg_pages.proofs.document_json.document.document_of_members.Goals as goal
 
 pub loop-name-init : goal.loop-name-init
 loop-name-init c =

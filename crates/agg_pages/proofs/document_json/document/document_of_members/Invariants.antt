@@ -1,5 +1,5 @@
-use Rattle.agg_document_json.proofs.DocumentMembers.{HasRead}
-use Rattle.agg_document_json.proofs.document.document_of_members.Given as goal
+use Rattle.agg_pages.proofs.lemmas.document_json.DocumentMembers.{HasRead}
+use Rattle.agg_pages.proofs.document_json.document.document_of_members.Given as goal
 
 -- the members so far were put into the document
 abbrev pub invariant-loop-name : goal.invariant-loop-name

@@ -1,7 +1,7 @@
 use Rattle.std.proofs.Common.{Some, ap, ◌∙◌}
 use Rattle.serde_json.specs.View.{view}
-use Rattle.agg_document_json.proofs.Documents.{no_address}
-use Rattle.agg_document_json.proofs.document.read_address.Goals as goal
+use Rattle.agg_pages.proofs.lemmas.document_json.Documents.{no_address}
+use Rattle.agg_pages.proofs.document_json.document.read_address.Goals as goal
 
 pub returns-in_ok-copy_of-in-Some-clause-none : goal.returns-in_ok-copy_of-in-Some-clause-none
 returns-in_ok-copy_of-in-Some-clause-none c =

@@ -1,9 +1,9 @@
 use Rattle.std.proofs.Common.{[], ◌∷◌, ◌++◌, Err, inl, inr, ap, subst}
 use Rattle.std.proofs.lemmas.Result.{err_from_is_err_and}
-use Rattle.agg_column.specs.Document.{meaning}
+use Rattle.agg_segment.specs.storage.Document.{meaning}
 use Rattle.agg_segment.specs.Segment.{IsMixed, gathered_documents}
-use Rattle.agg_document_json.proofs.Documents.{IsDocumentLine-unique}
-use Rattle.agg_document_json.proofs.document.read_by_value.Goals as goal
+use Rattle.agg_pages.proofs.lemmas.document_json.Documents.{IsDocumentLine-unique}
+use Rattle.agg_pages.proofs.document_json.document.read_by_value.Goals as goal
 
 pub returns-in_err-document-clause-not_input : goal.returns-in_err-document-clause-not_input
 returns-in_err-document-clause-not_input c = λ refused document stands.

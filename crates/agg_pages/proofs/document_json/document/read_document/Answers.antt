@@ -1,6 +1,6 @@
 use Rattle.std.proofs.lemmas.Result.{err_from_is_err_and, on_ok_weaker}
-use Rattle.agg_document_json.proofs.TokenLines.{held_from, none_from}
-use Rattle.agg_document_json.proofs.document.read_document.Goals as goal
+use Rattle.agg_pages.proofs.lemmas.document_json.TokenLines.{held_from, none_from}
+use Rattle.agg_pages.proofs.document_json.document.read_document.Goals as goal
 
 pub returns-in_err-read_document_tokens-clause-not_input
     : goal.returns-in_err-read_document_tokens-clause-not_input

@@ -1,8 +1,8 @@
 use Rattle.std.proofs.Common.{sym, ap, ◌∙◌, option_map}
 use Rattle.serde_json.specs.View.{view}
-use Rattle.agg_column.specs.Document.{key_of}
-use Rattle.agg_document_json.proofs.Documents.{no_key}
-use Rattle.agg_document_json.proofs.document.read_value.Goals as goal
+use Rattle.agg_segment.specs.storage.Document.{key_of}
+use Rattle.agg_pages.proofs.lemmas.document_json.Documents.{no_key}
+use Rattle.agg_pages.proofs.document_json.document.read_value.Goals as goal
 
 pub returns-in-None-2-clause-not_input : goal.returns-in-None-2-clause-not_input
 returns-in-None-2-clause-not_input c = λ _.

@@ -1,8 +1,8 @@
 use Rattle.std.proofs.Common.{◌≡◌, ◌==◌, length, ap, sym, ◌∙◌, arith}
 use Rattle.std.proofs.lemmas.List.Filters.{dedup_is}
 use Rattle.std.specs.List.{dedup}
-use Rattle.agg_document_json.proofs.DistinctNumbers.{distinct_numbers, few_distinct}
-use Rattle.agg_document_json.proofs.tokens.are_distinct.Goals as goal
+use Rattle.agg_pages.proofs.lemmas.document_json.DistinctNumbers.{distinct_numbers, few_distinct}
+use Rattle.agg_pages.proofs.document_json.tokens.are_distinct.Goals as goal
 
 pub returns-then-count-lt2 : goal.returns-then-count-lt2
 returns-then-count-lt2 c = λ _. few_distinct c.args.numbers.now.items (grind arith)

@@ -1,7 +1,7 @@
 use Rattle.std.proofs.Common.{◌≡◌, [], sym, ◌∙◌, subst, rules}
-use Rattle.agg_document_json.specs.Tokens.{TakesMembers}
-use Rattle.agg_document_json.proofs.TokenMembers.{whole_line}
-use Rattle.agg_document_json.proofs.tokens.open_line.Goals as goal
+use Rattle.agg_pages.specs.document_json.Tokens.{TakesMembers}
+use Rattle.agg_pages.proofs.lemmas.document_json.TokenMembers.{whole_line}
+use Rattle.agg_pages.proofs.document_json.tokens.open_line.Goals as goal
 
 pub returns-clause-taken : goal.returns-clause-taken
 returns-clause-taken c = λ apart.

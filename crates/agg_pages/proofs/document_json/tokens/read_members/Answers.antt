@@ -1,7 +1,8 @@
 use Rattle.std.proofs.Common.{◌≡◌, ◌++◌, ◌∷◌, [], Some, refl, ◌∙◌, rules}
 use Rattle.json.specs.Json.{read_key}
-use Rattle.agg_document_json.proofs.TokenMembers.{all_members, no_members_yet, one_member}
-use Rattle.agg_document_json.proofs.tokens.read_members.Goals as goal
+use Rattle.agg_pages.proofs.lemmas.document_json.TokenMembers.{all_members, no_members_yet}
+use Rattle.agg_pages.proofs.lemmas.document_json.TokenMembers.{one_member}
+use Rattle.agg_pages.proofs.document_json.tokens.read_members.Goals as goal
 
 pub members-init : goal.members-init
 members-init c = (

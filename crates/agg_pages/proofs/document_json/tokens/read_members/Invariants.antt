@@ -1,7 +1,7 @@
 use Rattle.std.proofs.Common.{◌≡◌, length}
 use Rattle.agg_segment.specs.Segment.{gathered_documents}
-use Rattle.agg_document_json.proofs.TokenMembers.{HasTakenMembers}
-use Rattle.agg_document_json.proofs.tokens.read_members.Given as goal
+use Rattle.agg_pages.proofs.lemmas.document_json.TokenMembers.{HasTakenMembers}
+use Rattle.agg_pages.proofs.document_json.tokens.read_members.Given as goal
 
 -- the members so far were taken, and no document was closed
 abbrev pub invariant-members : goal.invariant-members

@@ -1,11 +1,11 @@
 use Rattle.std.proofs.Common.{[], replicate}
 use Rattle.agg_request_tree.specs.Matching.{built_matches}
 use Rattle.agg_segment.specs.declared.query.QueryTree.TheVariants.{All}
-use Rattle.agg_generator.specs.Documents.{generated_snapshot}
-use Rattle.agg_generator.specs.Generator.{generated}
-use Rattle.agg_generated_walks.proofs.GeneratedInputs.{may_ask, snapshots_small}
-use Rattle.agg_generated_walks.proofs.NoRefusals.{never-refused}
-use Rattle.agg_generated_walks.proofs.laws.generated_walks_are_never_refused.Goals as goal
+use Rattle.agg_pages.specs.generator.Documents.{generated_snapshot}
+use Rattle.agg_pages.specs.generator.Generator.{generated}
+use Rattle.agg_pages.proofs.lemmas.generated_walks.GeneratedInputs.{may_ask, snapshots_small}
+use Rattle.agg_pages.proofs.lemmas.generated_walks.NoRefusals.{never-refused}
+use Rattle.agg_pages.proofs.generated_walks.laws.generated_walks_are_never_refused.Goals as goal
 
 pub returns-clause-asked : goal.returns-clause-asked
 unfolding generated

@@ -1,6 +1,6 @@
 use Rattle.std.proofs.Common.{rules}
-use Rattle.agg_generator.specs.Draws.{state_after}
-use Rattle.agg_generator.proofs.documents.next_document.Goals as goal
+use Rattle.agg_pages.specs.generator.Draws.{state_after}
+use Rattle.agg_pages.proofs.generator.documents.next_document.Goals as goal
 
 pub returns-clause-values : goal.returns-clause-values
 unfolding state_after

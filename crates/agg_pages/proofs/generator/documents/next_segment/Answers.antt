@@ -2,17 +2,17 @@ use Rattle.std.proofs.Common.{◌≡◌, ◌+◌, ◌*◌, ◌∷◌, ◌++◌, 
 use Rattle.std.proofs.Common.{length, refl, ap, subst, ◌∙◌, arith}
 use Rattle.std.specs.Prelude.{IsErrOf, IsOkUnless}
 use Rattle.std.proofs.lemmas.Result.{IfOk-at_ok}
-use Rattle.agg_column.specs.Document.{meaning}
+use Rattle.agg_segment.specs.storage.Document.{meaning}
 use Rattle.agg_segment.specs.Segment.{IsMixed, gathered_documents}
 use Rattle.agg_segment.specs.declared.builder.BuildError.{BuildError}
 use Rattle.agg_segment.specs.declared.builder.BuildError.TheVariants as error
-use Rattle.agg_generator.specs.Draws.{state_after}
-use Rattle.agg_generator.specs.Documents.{generated_documents}
-use Rattle.agg_generator.proofs.DrawnDocuments.{generated_documents_next}
-use Rattle.agg_generator.proofs.DrawnDocuments.{length-generated_documents}
-use Rattle.agg_generator.proofs.NumbersDrawn.{generated_documents_fit}
-use Rattle.agg_generator.proofs.States.{state_after-state_after}
-use Rattle.agg_generator.proofs.documents.next_segment.Goals as goal
+use Rattle.agg_pages.specs.generator.Draws.{state_after}
+use Rattle.agg_pages.specs.generator.Documents.{generated_documents}
+use Rattle.agg_pages.proofs.lemmas.generator.DrawnDocuments.{generated_documents_next}
+use Rattle.agg_pages.proofs.lemmas.generator.DrawnDocuments.{length-generated_documents}
+use Rattle.agg_pages.proofs.lemmas.generator.NumbersDrawn.{generated_documents_fit}
+use Rattle.agg_pages.proofs.lemmas.generator.States.{state_after-state_after}
+use Rattle.agg_pages.proofs.generator.documents.next_segment.Goals as goal
 
 -- where no number and no count is refused, memory is
 memory_alone : {T : Type 0} (r : Result T BuildError) → ¬ IsErrOf r error.MixedNumbers

@@ -1,8 +1,8 @@
 use Rattle.std.proofs.Common.{◌≡◌, ◌*◌}
 use Rattle.agg_segment.specs.Segment.{gathered_documents}
-use Rattle.agg_generator.specs.Draws.{state_after}
-use Rattle.agg_generator.specs.Documents.{generated_documents}
-use Rattle.agg_generator.proofs.documents.next_segment.Given as goal
+use Rattle.agg_pages.specs.generator.Draws.{state_after}
+use Rattle.agg_pages.specs.generator.Documents.{generated_documents}
+use Rattle.agg_pages.proofs.generator.documents.next_segment.Given as goal
 
 -- the documents so far
 abbrev pub invariant-loop : goal.invariant-loop

@@ -2,13 +2,13 @@ use Rattle.std.proofs.Common.{◌*◌, ◌∷◌, ◌++◌, List, [], map, ap, s
 use Rattle.std.specs.List.{range_with_len}
 use Rattle.std.proofs.lemmas.List.{map-append}
 use Rattle.std.proofs.lemmas.List.FromFn.{map-range_with_len_more}
-use Rattle.agg_column.specs.Document.{Fields}
+use Rattle.agg_segment.specs.storage.Document.{Fields}
 use Rattle.agg_segment.specs.Segment.{documents_of}
-use Rattle.agg_generator.specs.Draws.{state_after}
-use Rattle.agg_generator.specs.Documents.{generated_segment}
-use Rattle.agg_generator.proofs.DrawnDocuments.{generated_segment_state}
-use Rattle.agg_generator.proofs.States.{state_after-state_after}
-use Rattle.agg_generator.proofs.snapshots.generated_segments.Goals as goal
+use Rattle.agg_pages.specs.generator.Draws.{state_after}
+use Rattle.agg_pages.specs.generator.Documents.{generated_segment}
+use Rattle.agg_pages.proofs.lemmas.generator.DrawnDocuments.{generated_segment_state}
+use Rattle.agg_pages.proofs.lemmas.generator.States.{state_after-state_after}
+use Rattle.agg_pages.proofs.generator.snapshots.generated_segments.Goals as goal
 
 pub loop-init : goal.loop-init
 unfolding state_after

@@ -1,9 +1,9 @@
 use Rattle.std.proofs.Common.{◌≡◌, ◌*◌, map}
 use Rattle.std.specs.List.{range_with_len}
 use Rattle.agg_segment.specs.Segment.{documents_of}
-use Rattle.agg_generator.specs.Draws.{state_after}
-use Rattle.agg_generator.specs.Documents.{generated_segment}
-use Rattle.agg_generator.proofs.snapshots.generated_segments.Given as goal
+use Rattle.agg_pages.specs.generator.Draws.{state_after}
+use Rattle.agg_pages.specs.generator.Documents.{generated_segment}
+use Rattle.agg_pages.proofs.generator.snapshots.generated_segments.Given as goal
 
 -- the segments so far
 abbrev pub invariant-loop : goal.invariant-loop

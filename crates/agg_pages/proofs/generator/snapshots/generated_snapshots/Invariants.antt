@@ -1,7 +1,7 @@
 use Rattle.std.proofs.Common.{◌≡◌, replicate}
 use Rattle.agg_segment.specs.Snapshot.{snapshots_documents}
-use Rattle.agg_generator.specs.Documents.{generated_snapshot}
-use Rattle.agg_generator.proofs.snapshots.generated_snapshots.Given as goal
+use Rattle.agg_pages.specs.generator.Documents.{generated_snapshot}
+use Rattle.agg_pages.proofs.generator.snapshots.generated_snapshots.Given as goal
 
 -- the snapshots so far
 abbrev pub invariant-loop : goal.invariant-loop

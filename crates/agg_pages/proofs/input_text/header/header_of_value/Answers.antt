@@ -1,10 +1,11 @@
 use Rattle.std.proofs.Common.{sym, ap, ◌∙◌}
 use Rattle.std.proofs.lemmas.Result.{err_from_is_err_and}
 use Rattle.serde_json.specs.View.{view}
-use Rattle.agg_json.specs.Json.{has_members}
-use Rattle.agg_input.proofs.Headers.{no_bucket_limit, no_memory_limit, no_name, no_query}
-use Rattle.agg_input.proofs.Headers.{no_request, no_schema, other_members}
-use Rattle.agg_input.proofs.header.header_of_value.Goals as goal
+use Rattle.agg_request.specs.json_values.Json.{has_members}
+use Rattle.agg_pages.proofs.lemmas.input_text.Headers.{no_bucket_limit, no_memory_limit, no_name}
+use Rattle.agg_pages.proofs.lemmas.input_text.Headers.{no_query, no_request, no_schema}
+use Rattle.agg_pages.proofs.lemmas.input_text.Headers.{other_members}
+use Rattle.agg_pages.proofs.input_text.header.header_of_value.Goals as goal
 
 pub returns-then-not-has_members-clause-not_input
     : goal.returns-then-not-has_members-clause-not_input

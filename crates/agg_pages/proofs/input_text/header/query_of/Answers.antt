@@ -1,10 +1,10 @@
 use Rattle.std.proofs.Common.{Err, inl, inr, ap, subst}
 use Rattle.std.proofs.lemmas.Result.{err_from_is_err_and}
 use Rattle.serde_json.specs.View.{view}
-use Rattle.agg_json.specs.Query.{IsQuery}
-use Rattle.agg_input.specs.Header.{IsQueryOf}
+use Rattle.agg_request.specs.json_values.Query.{IsQuery}
+use Rattle.agg_pages.specs.input_text.Header.{IsQueryOf}
 use Rattle.agg_values.specs.Nothing.{NoneIs}
-use Rattle.agg_input.proofs.header.query_of.Goals as goal
+use Rattle.agg_pages.proofs.input_text.header.query_of.Goals as goal
 
 pub returns-in_err-read_query-in-Some-clause-not_input
     : goal.returns-in_err-read_query-in-Some-clause-not_input

@@ -1,6 +1,6 @@
 use Rattle.serde_json.specs.View.{view}
-use Rattle.agg_input.proofs.Headers.{no_header}
-use Rattle.agg_input.proofs.header.read_header.Goals as goal
+use Rattle.agg_pages.proofs.lemmas.input_text.Headers.{no_header}
+use Rattle.agg_pages.proofs.input_text.header.read_header.Goals as goal
 
 pub returns-clause-not_input : goal.returns-clause-not_input
 returns-clause-not_input g c = λ refused.

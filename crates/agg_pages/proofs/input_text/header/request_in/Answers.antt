@@ -1,10 +1,10 @@
 use Rattle.std.proofs.Common.{Err, inl, inr, ap, subst, sym}
 use Rattle.std.proofs.lemmas.Result.{err_from_is_err_and}
 use Rattle.serde_json.specs.View.{view}
-use Rattle.agg_request_json.specs.RequestJson.{IsNoRequest}
-use Rattle.agg_input.specs.Header.{IsRequestAt}
+use Rattle.agg_request.specs.reading.RequestJson.{IsNoRequest}
+use Rattle.agg_pages.specs.input_text.Header.{IsRequestAt}
 use Rattle.agg_values.specs.Nothing.{NoneIs}
-use Rattle.agg_input.proofs.header.request_in.Goals as goal
+use Rattle.agg_pages.proofs.input_text.header.request_in.Goals as goal
 
 pub returns-in_err-read_request-clause-not_input : goal.returns-in_err-read_request-clause-not_input
 returns-in_err-read_request-clause-not_input g c = λ refused.

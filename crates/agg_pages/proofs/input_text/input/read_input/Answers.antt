@@ -1,10 +1,10 @@
 use Rattle.std.proofs.Common.{ap, ◌∙◌, arith, subst}
 use Rattle.std.proofs.lemmas.Result.{IfOk-weaker}
-use Rattle.agg_input.specs.Input.{IsInput, IsInputOfLines, input_of}
-use Rattle.agg_input.specs.Lines.{lines_of}
+use Rattle.agg_pages.specs.input_text.Input.{IsInput, IsInputOfLines, input_of}
+use Rattle.agg_pages.specs.input_text.Lines.{lines_of}
 use Rattle.agg_values.specs.Nothing.{NoneIs}
-use Rattle.agg_input.proofs.Inputs.{input_some, no_lines, no_text}
-use Rattle.agg_input.proofs.input.read_input.Goals as goal
+use Rattle.agg_pages.proofs.lemmas.input_text.Inputs.{input_some, no_lines, no_text}
+use Rattle.agg_pages.proofs.input_text.input.read_input.Goals as goal
 
 pub returns-in-Ok-clause-ok : goal.returns-in-Ok-clause-ok
 returns-in-Ok-clause-ok g c =

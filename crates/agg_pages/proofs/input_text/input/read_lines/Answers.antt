@@ -1,9 +1,9 @@
 use Rattle.std.proofs.Common.{sym, subst}
 use Rattle.std.proofs.lemmas.Result.{err_from_is_err_and}
-use Rattle.agg_input.specs.declared.input.Input.{Input as Stored}
-use Rattle.agg_input.specs.Input.{IsInputOfLines, input_of}
-use Rattle.agg_input.proofs.Inputs.{no_header_lines, no_snapshot_lines}
-use Rattle.agg_input.proofs.input.read_lines.Goals as goal
+use Rattle.agg_pages.specs.declared.input_text.input.Input.{Input as Stored}
+use Rattle.agg_pages.specs.input_text.Input.{IsInputOfLines, input_of}
+use Rattle.agg_pages.proofs.lemmas.input_text.Inputs.{no_header_lines, no_snapshot_lines}
+use Rattle.agg_pages.proofs.input_text.input.read_lines.Goals as goal
 
 pub returns-in_err-header-clause-not_input : goal.returns-in_err-header-clause-not_input
 returns-in_err-header-clause-not_input g c = λ refused.

@@ -3,8 +3,8 @@ use Rattle.std.specs.Str.{all_ascii_digits}
 use Rattle.std.proofs.lemmas.Bool.{false≢true}
 use Rattle.std.proofs.lemmas.Str.Parse.{parse_plain, numerals_by_value, tells_all_ascii_digits}
 use Rattle.std.proofs.lemmas.Str.Pattern.{starts_char}
-use Rattle.agg_input.proofs.LinesLemmas.{page_size_is}
-use Rattle.agg_input.proofs.line.page_size.Goals as goal
+use Rattle.agg_pages.proofs.lemmas.input_text.LinesLemmas.{page_size_is}
+use Rattle.agg_pages.proofs.input_text.line.page_size.Goals as goal
 
 pub returns : goal.returns
 returns c =

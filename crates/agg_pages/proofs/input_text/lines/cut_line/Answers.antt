@@ -2,9 +2,10 @@ use Rattle.std.proofs.Common.{◌≡◌, ◌+◌, get_or, take, drop, ap, sym, s
 use Rattle.std.proofs.Common.{◌∷◌, [], ◌∙◌, arith}
 use Rattle.std.specs.Str.Lines.{strip_carriage_return}
 use Rattle.std.proofs.lemmas.Str.{IsCharBoundary-after_ascii}
-use Rattle.agg_input.specs.Lines.{all_lines_of}
-use Rattle.agg_input.proofs.LinesLemmas.{FeedsAt, NoFeed, cut_at_place, cut_nowhere, feed_there}
-use Rattle.agg_input.proofs.lines.cut_line.Goals as goal
+use Rattle.agg_pages.specs.input_text.Lines.{all_lines_of}
+use Rattle.agg_pages.proofs.lemmas.input_text.LinesLemmas.{FeedsAt, NoFeed, cut_at_place}
+use Rattle.agg_pages.proofs.lemmas.input_text.LinesLemmas.{cut_nowhere, feed_there}
+use Rattle.agg_pages.proofs.input_text.lines.cut_line.Goals as goal
 
 pub range_from-requires : goal.range_from-requires
 range_from-requires c = λ _.

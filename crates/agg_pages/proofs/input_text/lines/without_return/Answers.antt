@@ -1,7 +1,7 @@
 use Rattle.std.proofs.Common.{ap, ◌∙◌, arith}
 use Rattle.std.proofs.lemmas.Str.Pattern.{strip_suffix_char}
-use Rattle.agg_input.proofs.LinesLemmas.{stripped}
-use Rattle.agg_input.proofs.lines.without_return.Goals as goal
+use Rattle.agg_pages.proofs.lemmas.input_text.LinesLemmas.{stripped}
+use Rattle.agg_pages.proofs.input_text.lines.without_return.Goals as goal
 
 pub returns : goal.returns
 returns c =

@@ -1,11 +1,11 @@
 use Rattle.std.proofs.Common.{◌≡◌, ◌∷◌, sym, ◌∙◌, subst}
 use Rattle.std.proofs.lemmas.Result.{err_from_is_err_and, IfOk-weaker}
 use Rattle.agg_segment.specs.Snapshot.{snapshots_documents}
-use Rattle.agg_input.specs.SnapshotLines.{AreSnapshots}
-use Rattle.agg_input.specs.Snapshots.{made_by, snapshots_made}
-use Rattle.agg_input.proofs.SnapshotSteps.{HasTaken, HasTaken-all, HasTaken-first, HasTaken-more}
-use Rattle.agg_input.proofs.SnapshotSteps.{HasTaken-refused}
-use Rattle.agg_input.proofs.snapshots.read_from.Goals as goal
+use Rattle.agg_pages.specs.input_text.SnapshotLines.{AreSnapshots}
+use Rattle.agg_pages.specs.input_text.Snapshots.{made_by, snapshots_made}
+use Rattle.agg_pages.proofs.lemmas.input_text.SnapshotSteps.{HasTaken, HasTaken-all, HasTaken-first}
+use Rattle.agg_pages.proofs.lemmas.input_text.SnapshotSteps.{HasTaken-more, HasTaken-refused}
+use Rattle.agg_pages.proofs.input_text.snapshots.read_from.Goals as goal
 
 pub loop-line-init : goal.loop-line-init
 loop-line-init c = (

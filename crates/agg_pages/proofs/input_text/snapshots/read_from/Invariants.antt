@@ -1,6 +1,6 @@
 use Rattle.std.proofs.Common.{◌∷◌}
-use Rattle.agg_input.proofs.SnapshotSteps.{HasTaken}
-use Rattle.agg_input.proofs.snapshots.read_from.Given as goal
+use Rattle.agg_pages.proofs.lemmas.input_text.SnapshotSteps.{HasTaken}
+use Rattle.agg_pages.proofs.input_text.snapshots.read_from.Given as goal
 
 -- the lines so far were taken
 abbrev pub invariant-loop-line : goal.invariant-loop-line

@@ -21,7 +21,7 @@ left-Consumes (Some xs) (Some ys) gone all consumed known =
       ap Some (sym (drop-append_seam gone ys) ∙ ap (drop (length gone)) (sym split)),
     )
 
--- the same, where what is gone came in two parts of n bytes
+-- of known bytes, those that are gone in two parts, n in all, stood there, and the others are left
 left-both : (old mid new : Option (List ℕ)) (kept given all : List ℕ) (n : ℕ)
     → Consumes old mid kept → Consumes mid new given → length kept + length given ≡ n
     → old ≡ Some all

@@ -1,7 +1,7 @@
 -- What is gone from the source is what was kept, and the count of faults hasn't fallen.
 use Rattle.std.proofs.Common.{◌≤◌, ◌-◌, vec_len}
 use Rattle.std.specs.Io.KnownBytes.{Consumes}
-use Rattle.agg_input.specs.declared.input.TheConstants.{MAX_INPUT_BYTES}
+use Rattle.agg_pages.specs.declared.input_text.input.TheConstants.{MAX_INPUT_BYTES}
 use Rattle.agg_pages.proofs.source.reading.read_all.Given as goal
 
 abbrev pub invariant-loop-bytes : goal.invariant-loop-bytes

@@ -2,8 +2,8 @@ use Rattle.std.proofs.Common.{◌≡◌, ◌==◌, drop, get_or, true, false, So
 use Rattle.std.proofs.Common.{subst, arith, take_all, length-drop}
 use Rattle.fast_float.specs.Text.{scan}
 use Rattle.serde_json.specs.Read.{number_of, number_from}
-use Rattle.agg_document_json.specs.Tokens.{num_of}
-use Rattle.agg_document_json.proofs.tokens.number.whole_number.Goals as goal
+use Rattle.agg_pages.specs.document_json.Tokens.{num_of}
+use Rattle.agg_pages.proofs.document_json.tokens.number.whole_number.Goals as goal
 
 pub returns-then-has_minus : goal.returns-then-has_minus
 unfolding number_of

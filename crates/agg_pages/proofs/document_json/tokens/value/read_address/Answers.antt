@@ -1,7 +1,7 @@
 use Rattle.std.proofs.Common.{subst}
 use Rattle.agg_values.specs.AddressGrammar.{IsAddressText}
-use Rattle.agg_document_json.proofs.TokenValues.{address_member}
-use Rattle.agg_document_json.proofs.tokens.value.read_address.Goals as goal
+use Rattle.agg_pages.proofs.lemmas.document_json.TokenValues.{address_member}
+use Rattle.agg_pages.proofs.document_json.tokens.value.read_address.Goals as goal
 
 pub returns : goal.returns
 returns c =

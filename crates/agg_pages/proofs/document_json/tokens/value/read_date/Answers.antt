@@ -1,6 +1,6 @@
-use Rattle.agg_document_json.specs.Tokens.{num_of}
-use Rattle.agg_document_json.proofs.TokenValues.{if_date}
-use Rattle.agg_document_json.proofs.tokens.value.read_date.Goals as goal
+use Rattle.agg_pages.specs.document_json.Tokens.{num_of}
+use Rattle.agg_pages.proofs.lemmas.document_json.TokenValues.{if_date}
+use Rattle.agg_pages.proofs.document_json.tokens.value.read_date.Goals as goal
 
 pub returns : goal.returns
 returns c =

@@ -1,9 +1,9 @@
 use Rattle.std.proofs.Common.{◌≡◌, ◌∷◌, Some, ap, ◌∙◌}
 use Rattle.json.specs.Json.{read_key}
 use Rattle.json.specs.Reads.{token_of}
-use Rattle.agg_column.specs.Document.{key_of}
-use Rattle.agg_document_json.proofs.TokenValues.{object_value}
-use Rattle.agg_document_json.proofs.tokens.value.read_object.Goals as goal
+use Rattle.agg_segment.specs.storage.Document.{key_of}
+use Rattle.agg_pages.proofs.lemmas.document_json.TokenValues.{object_value}
+use Rattle.agg_pages.proofs.document_json.tokens.value.read_object.Goals as goal
 
 pub returns : goal.returns
 returns c =

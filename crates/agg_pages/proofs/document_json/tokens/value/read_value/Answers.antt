@@ -1,5 +1,5 @@
-use Rattle.agg_document_json.proofs.TokenValues.{bool_value, if_number, text_value}
-use Rattle.agg_document_json.proofs.tokens.value.read_value.Goals as goal
+use Rattle.agg_pages.proofs.lemmas.document_json.TokenValues.{bool_value, if_number, text_value}
+use Rattle.agg_pages.proofs.document_json.tokens.value.read_value.Goals as goal
 
 pub returns-in-Bool : goal.returns-in-Bool
 returns-in-Bool c = rw c.in-Bool.is (bool_value c.in-Bool.b c.args.reader.now)

@@ -1,8 +1,8 @@
 use Rattle.std.proofs.Common.{◌∷◌}
 use Rattle.json.specs.Reads.{token_of}
-use Rattle.agg_column.specs.Document.{key_of}
-use Rattle.agg_document_json.proofs.TokenFields.{null_item, one_item}
-use Rattle.agg_document_json.proofs.tokens.values.read_item.Goals as goal
+use Rattle.agg_segment.specs.storage.Document.{key_of}
+use Rattle.agg_pages.proofs.lemmas.document_json.TokenFields.{null_item, one_item}
+use Rattle.agg_pages.proofs.document_json.tokens.values.read_item.Goals as goal
 
 pub returns-in-Null-clause-taken : goal.returns-in-Null-clause-taken
 returns-in-Null-clause-taken c = λ taken.

@@ -1,9 +1,9 @@
 use Rattle.std.proofs.Common.{◌≡◌, ◌∷◌, None, sym, refl, ◌∙◌, subst, arith}
 use Rattle.json.specs.Json.{after_end_array}
 use Rattle.json.specs.Reads.{token_of}
-use Rattle.agg_document_json.specs.Tokens.{TakesItem}
-use Rattle.agg_document_json.proofs.TokenFields.{all_items, no_items_yet, one_more}
-use Rattle.agg_document_json.proofs.tokens.values.read_items.Goals as goal
+use Rattle.agg_pages.specs.document_json.Tokens.{TakesItem}
+use Rattle.agg_pages.proofs.lemmas.document_json.TokenFields.{all_items, no_items_yet, one_more}
+use Rattle.agg_pages.proofs.document_json.tokens.values.read_items.Goals as goal
 
 pub items-init : goal.items-init
 items-init c = (no_items_yet c.args.field c.args.reader.now c.args.builder.now, refl)

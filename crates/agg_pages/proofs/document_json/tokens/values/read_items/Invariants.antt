@@ -1,7 +1,7 @@
 use Rattle.std.proofs.Common.{◌≡◌, length}
 use Rattle.agg_segment.specs.Segment.{gathered_documents}
-use Rattle.agg_document_json.proofs.TokenFields.{HasTakenItems}
-use Rattle.agg_document_json.proofs.tokens.values.read_items.Given as goal
+use Rattle.agg_pages.proofs.lemmas.document_json.TokenFields.{HasTakenItems}
+use Rattle.agg_pages.proofs.document_json.tokens.values.read_items.Given as goal
 
 -- the items so far were taken into the field, and no document was closed
 abbrev pub invariant-items : goal.invariant-items

@@ -1,5 +1,5 @@
-use Rattle.agg_document_json.proofs.TokenFields.{if_array}
-use Rattle.agg_document_json.proofs.tokens.values.read_values.Goals as goal
+use Rattle.agg_pages.proofs.lemmas.document_json.TokenFields.{if_array}
+use Rattle.agg_pages.proofs.document_json.tokens.values.read_values.Goals as goal
 
 pub returns-in-Some-BeginArray-clause-taken : goal.returns-in-Some-BeginArray-clause-taken
 returns-in-Some-BeginArray-clause-taken c =

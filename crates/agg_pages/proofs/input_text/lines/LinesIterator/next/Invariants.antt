@@ -1,7 +1,7 @@
 use Rattle.std.proofs.Common.{◌≡◌, [], length}
 use Rattle.std.specs.Option.{option_map_or}
-use Rattle.agg_input.specs.Lines.{all_lines_of, lines_of}
-use Rattle.agg_input.proofs.lines.LinesIterator.next.Given as goal
+use Rattle.agg_pages.specs.input_text.Lines.{all_lines_of, lines_of}
+use Rattle.agg_pages.proofs.input_text.lines.LinesIterator.next.Given as goal
 
 abbrev pub invariant-loop-self : goal.invariant-loop-self
 invariant-loop-self l =

@@ -1,8 +1,9 @@
 use Rattle.std.proofs.Common.{sym, ◌∙◌}
 use Rattle.std.proofs.lemmas.Bool.{false≢true}
 use Rattle.std.proofs.lemmas.Result.{on_ok_weaker}
-use Rattle.agg_input.proofs.SnapshotSteps.{cannot_hold, took_begins, took_holds, took_opens}
-use Rattle.agg_input.proofs.snapshots.SnapshotsBuilder.add_line.Goals as goal
+use Rattle.agg_pages.proofs.lemmas.input_text.SnapshotSteps.{cannot_hold, took_begins, took_holds}
+use Rattle.agg_pages.proofs.lemmas.input_text.SnapshotSteps.{took_opens}
+use Rattle.agg_pages.proofs.input_text.snapshots.SnapshotsBuilder.add_line.Goals as goal
 
 pub returns-then-is_snapshot_line-clause-ok : goal.returns-then-is_snapshot_line-clause-ok
 returns-then-is_snapshot_line-clause-ok c =
