@@ -1,3 +1,4 @@
 pub mod Mistakes
 pub mod RequestBuilders
 pub mod Verdicts
+pub mod lemmas

@@ -2,8 +2,8 @@
 use Rattle.std.proofs.Common.{◌≡◌, List, [], ◌∷◌, ◌++◌, Bool, true, false, refl, ◌∙◌}
 use Rattle.std.specs.Prelude.{◌||◌}
 use Rattle.std.proofs.lemmas.List.Folds.{list_any-append}
-use Rattle.agg_findings.specs.Findings.{has_mistake, is_mistake}
-use Rattle.agg_findings.specs.declared.finding.Finding.{Finding}
+use Rattle.agg_check.specs.findings.Findings.{has_mistake, is_mistake}
+use Rattle.agg_check.specs.declared.findings.finding.Finding.{Finding}
 
 -- one is enough
 or-last : (before last : Bool) → last ≡ true → (before || (last || false)) ≡ true

@@ -6,7 +6,7 @@ use Rattle.agg_request_tree.specs.Request.{Request, agg_of, below_of, builders_o
 use Rattle.agg_request_tree.specs.Request.{own_builder}
 use Rattle.agg_request_tree.specs.declared.aggregation.Aggregation.{Aggregation}
 use Rattle.agg_request_tree.proofs.RequestTrees.{listed-out}
-use Rattle.agg_refusals.proofs.SeenRequests.{IsSeenUpTo}
+use Rattle.agg_check.proofs.lemmas.refusals.SeenRequests.{IsSeenUpTo}
 
 -- the middle of nothing is nothing
 empty-middle : {X : Type 0} (xs ys zs : List X) → xs ++ (ys ++ zs) ≡ [] → ys ≡ []

@@ -11,10 +11,10 @@ use Rattle.agg_request_tree.specs.Faults.{HasFault, IsSoundRequest, RequestHasFa
 use Rattle.agg_request_tree.specs.Request.{Request, builders_of}
 use Rattle.agg_segment.specs.Snapshot.{SnapshotDocuments}
 use Rattle.agg_engine.specs.Walk.{HaveRoom}
-use Rattle.agg_segment_context.specs.Trees.{EachMakesTree}
+use Rattle.agg_engine_tree.specs.segment_context.Trees.{EachMakesTree}
 use Rattle.agg_pages.specs.AnyField.{any_field}
-use Rattle.agg_input.specs.Input.{Input, IsInput}
-use Rattle.agg_input.proofs.Inputs.{IsInput-unique}
+use Rattle.agg_pages.specs.input_text.Input.{Input, IsInput}
+use Rattle.agg_pages.proofs.lemmas.input_text.Inputs.{IsInput-unique}
 use Rattle.agg_check.specs.Check.{GoesOn, MayBeWalked, known_builders}
 use Rattle.agg_check.specs.declared.verdict.BuilderName.{BuilderName}
 use Rattle.agg_check.proofs.RequestBuilders.{empty-where_none}
@@ -73,7 +73,7 @@ of_input bytes i (Ok (Some x)) is walked = λ goes.
     walked (subst MayBeWalked
     (IsInput-unique known_builders (λ b. b.name) bytes goes.0 i goes.1 is) goes.2)
 
--- and one of bytes that are no input doesn't
+-- a walk of bytes that are no input doesn't go on
 pub of_none : (bytes : List ℕ)
     → ((i : Input BuilderName) → ¬ (IsInput known_builders (λ b. b.name) bytes i))
     → ¬ (GoesOn bytes)

@@ -1,7 +1,7 @@
 -- Whether a walk of bytes goes on to its pages.
 use Rattle.std.specs.Prelude.{ℕ, List, [], ◌∷◌, codes}
 use Rattle.agg_engine.specs.Walk.{MayBeAsked}
-use Rattle.agg_input.specs.Input.{Input, IsInput}
+use Rattle.agg_pages.specs.input_text.Input.{Input, IsInput}
 use Rattle.agg_pages.specs.AnyField.{any_field}
 use Rattle.agg_check.specs.declared.verdict.BuilderName.{BuilderName}
 

@@ -1,15 +1,15 @@
 //! The findings of an input.
 ghost use Rattle.std.specs.Prelude.{◌≡◌, IfOk, IfSome, MatchOption, false, true};
-ghost use Rattle.agg_input.specs.Input.{AreNoInput, IsInput, input_of};
+ghost use Rattle.agg_pages.specs.input_text.Input.{AreNoInput, IsInput, input_of};
 ghost use Rattle.agg_check.specs.Check.{known_builders as known};
 ghost use Rattle.agg_check.specs.Check.{GoesOn, MayBeWalked};
-ghost use Rattle.agg_findings.specs.Findings.{has_mistake, is_mistake};
+ghost use Rattle.agg_check.specs.findings.Findings.{has_mistake, is_mistake};
 
+use crate::findings::{check_lines, header_line};
 use crate::refused::refusal_finding;
 use crate::verdict::{BuilderName, known_builders, refusal_of};
 use crate::{Finding, Severity};
-use agg_findings::{check_lines, header_line};
-use agg_input::{Input, InputError, MAX_INPUT_BYTES, read_input};
+use agg_pages::input_text::{Input, InputError, MAX_INPUT_BYTES, read_input};
 use agg_values::{OutOfMemory, Text};
 use memchr::{memchr_iter, memrchr};
 use std::alloc::Global;

@@ -2,8 +2,10 @@
 #![tactic(auto)]
 
 mod check;
+pub mod findings;
+pub mod refusals;
 mod refused;
 mod verdict;
 
-pub use agg_findings::{Finding, Severity};
+pub use crate::findings::{Finding, Severity};
 pub use check::check_input;

@@ -1,12 +1,12 @@
 //! The finding for a request that is refused.
 ghost use Rattle.std.specs.Prelude.{◌≡◌, IfOk, true};
-ghost use Rattle.agg_findings.specs.Findings.{is_mistake};
+ghost use Rattle.agg_check.specs.findings.Findings.{is_mistake};
 
+use crate::findings::{Finding, Path, Severity};
+use crate::refusals::{refused_composite, refused_source, write_refusal};
 use crate::verdict::BuilderName;
 use agg_engine::WalkError;
-use agg_findings::{Finding, Path, Severity};
-use agg_input::Header;
-use agg_refusals::{refused_composite, refused_source, write_refusal};
+use agg_pages::input_text::Header;
 use agg_values::{OutOfMemory, Text};
 use std::alloc::Global;
 
@@ -65,7 +65,7 @@ fn placed_below(
     }
 }
 
-// The same in the aggregation itself.
+// The path and the column of a source of an aggregation, or else of its composite.
 fn placed_in(
     alloc: Global,
     line: &str,

@@ -2,17 +2,17 @@
 ghost use Rattle.std.specs.Prelude.{◌≡◌, ◌==◌, [], IfOk, MatchBool, MatchOption};
 ghost use Rattle.std.specs.List.{list_any};
 ghost use Rattle.agg_engine.specs.NamedComposite.{NamesComposite};
-ghost use Rattle.agg_input.specs.Input.{input_of};
+ghost use Rattle.agg_pages.specs.input_text.Input.{input_of};
 ghost use Rattle.agg_pages.specs.AnyField.{any_field};
 ghost use Rattle.agg_request_tree.specs.Faults.{IsSoundRequest};
-ghost use Rattle.agg_segment_context.specs.Trees.{EachMakesTree};
+ghost use Rattle.agg_engine_tree.specs.segment_context.Trees.{EachMakesTree};
 ghost use Rattle.agg_request_tree.specs.Request.{builders_of, listed_in, own_builder};
 ghost use Rattle.agg_check.specs.Check.{MayBeWalked, known_builders as builders};
 
+use crate::refusals::refused_composite;
 use agg_engine::WalkError;
-use agg_input::{Header, Input};
-use agg_refusals::refused_composite;
-use agg_request_json::HasName;
+use agg_pages::input_text::{Header, Input};
+use agg_request::reading::HasName;
 use agg_request_tree::{Aggregation, AggregationVariants, FilterQuery};
 use agg_segment::Snapshot;
 use agg_values::{InvalidArgument, NameMap, OutOfMemory, Text};
@@ -27,7 +27,7 @@ pub struct BuilderName {
 impl HasName for BuilderName {
     ghost name_of = { λ b. b.name };
 
-    /// Its name.
+    /// The name of the builder.
     fn name(&self) -> &str {
         self.name.as_str()
     }
@@ -57,7 +57,7 @@ pub fn refusal_of(
     }
 }
 
-// The same, where each composite may be asked.
+// Why a walk is refused before any snapshot, if it is, where each composite may be asked.
 fn later_refusal(input: &Input<BuilderName>) -> Option<WalkError>
     requires { IsSoundRequest input.now.header.request }
     ensures { MatchOption result (MayBeWalked (input_of input.now))
@@ -119,7 +119,7 @@ fn asks_for_builder<B>(request: &NameMap<Aggregation<B>>) -> bool
     false
 }
 
-// The same of an aggregation and those below it.
+// Whether some filter of an aggregation and those below it asks for a builder.
 #[cycle(builders)]
 fn has_builder<B>(aggregation: &Aggregation<B>) -> bool
     ensures { MatchBool result (¬ (listed_in own_builder aggregation.now ≡ []))
@@ -128,7 +128,7 @@ fn has_builder<B>(aggregation: &Aggregation<B>) -> bool
     is_built(&aggregation.agg) || asks_for_builder(&aggregation.sub_aggregation)
 }
 
-// The same of what an aggregation asks by itself.
+// Whether an aggregation is a filter that asks for a builder.
 fn is_built<B>(agg: &AggregationVariants<B>) -> bool
     ensures { MatchBool result (¬ (own_builder agg.now ≡ [])) (own_builder agg.now ≡ []) }
 {

@@ -1,9 +1,9 @@
 -- Mistakes among findings.
 use Rattle.std.specs.Prelude.{List, Bool, true, false}
 use Rattle.std.specs.List.{list_any}
-use Rattle.agg_findings.specs.declared.finding.Finding.{Finding}
-use Rattle.agg_findings.specs.declared.finding.Severity.{Severity}
-use Rattle.agg_findings.specs.declared.finding.Severity.TheVariants.{Mistake, Warning}
+use Rattle.agg_check.specs.declared.findings.finding.Finding.{Finding}
+use Rattle.agg_check.specs.declared.findings.finding.Severity.{Severity}
+use Rattle.agg_check.specs.declared.findings.finding.Severity.TheVariants.{Mistake, Warning}
 
 -- whether this severity is that of a mistake
 abbrev pub is_of_mistakes : Severity → Bool

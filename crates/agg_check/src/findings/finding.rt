@@ -1,5 +1,5 @@
 ghost use Rattle.std.specs.Prelude.{◌≡◌};
-ghost use Rattle.agg_findings.specs.Findings.{is_mistake};
+ghost use Rattle.agg_check.specs.findings.Findings.{is_mistake};
 
 use agg_values::Text;
 use std::fmt;
@@ -7,9 +7,9 @@ use std::fmt;
 /// Whether a walk goes on.
 #[derive(Clone, Copy, Debug, PartialEq, Eq)]
 pub enum Severity {
-    /// It doesn't go on to its pages.
+    /// A walk doesn't go on to its pages.
     Mistake,
-    /// It does, perhaps in another way than is meant.
+    /// A walk goes on, perhaps in another way than is meant.
     Warning,
 }
 

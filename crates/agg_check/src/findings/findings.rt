@@ -1,7 +1,7 @@
 //! What was found so far.
 
-use crate::path::Path;
-use crate::{Finding, Severity};
+use crate::findings::path::Path;
+use crate::findings::{Finding, Severity};
 use agg_values::{OutOfMemory, Text};
 use std::alloc::Global;
 
@@ -50,12 +50,12 @@ impl Findings {
         }
     }
 
-    /// Whether there is enough to tell.
+    /// Whether there are 100 findings or more: then no more lines are looked at.
     pub fn is_full(&self) -> bool {
         self.list.len() >= MANY_FINDINGS
     }
 
-    /// Tells a mistake in a value.
+    /// Tells a mistake in the value of a line that a path leads to.
     pub fn mistake(
         &mut self,
         text: &str,
@@ -66,7 +66,7 @@ impl Findings {
         self.tell(Severity::Mistake, offset, path, what)
     }
 
-    /// Tells what there is to tell of the name of a member.
+    /// Tells a mistake in the name of the member that a path leads to, or a warning of it.
     pub fn of_name(
         &mut self,
         severity: Severity,
@@ -78,7 +78,7 @@ impl Findings {
         self.tell(severity, offset, path, what)
     }
 
-    /// Tells a mistake at a byte of the line.
+    /// Tells a mistake at a byte of the line, from 0, with no path.
     pub fn at(&mut self, offset: usize, what: &str) -> Result<(), OutOfMemory> {
         let what = String::from_str(self.alloc, what)?;
         self.tell(Severity::Mistake, offset, &Path::Root(""), what)
@@ -103,7 +103,7 @@ impl Findings {
         Ok(self.list.push(finding)?)
     }
 
-    /// Keeps a field that the request reads.
+    /// Keeps a field that the request reads, and where it first names it; of 100 fields at most.
     pub fn read_field(
         &mut self,
         text: &str,
@@ -129,7 +129,7 @@ impl Findings {
         Ok(self.fields.push(field)?)
     }
 
-    /// Keeps that a document has a field.
+    /// Keeps that a document has a field. The first 20 names are kept for messages.
     pub fn see_field(&mut self, name: &str) -> Result<(), OutOfMemory> {
         for field in self.fields.iter_mut() {
             if field.name.as_str() == name {
@@ -148,7 +148,8 @@ impl Findings {
         self.has_documents = true;
     }
 
-    /// Tells the fields that the request reads and no document has.
+    /// Warns of the fields that the request reads and no document has, if there are documents and
+    /// fewer than 100 findings.
     pub fn tell_unseen(&mut self) -> Result<(), OutOfMemory> {
         if !self.has_documents || self.is_full() {
             return Ok(());

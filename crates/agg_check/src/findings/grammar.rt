@@ -12,14 +12,18 @@ pub enum Form {
     Whole(i128, i128),
     /// One of these words.
     Word(&'static [&'static str]),
-    /// The same, or null.
+    /// One of these words, or null.
     WordOrNull(&'static [&'static str]),
     /// The text of an interval of dates, or null.
     FixedInterval,
+    /// The text of an offset of dates, or null.
+    Offset,
     /// The text of an after key.
     Key,
-    /// The same, and not null.
+    /// The text of an after key that isn't null.
     KeyOfValue,
+    /// The text of an after key that isn't null, or null in place of the text.
+    KeyOfValueOrNull,
     Address,
     Null,
     /// What is known, and not read.
@@ -30,7 +34,7 @@ pub enum Form {
     Objects(Shape),
     /// A value of a document.
     Value,
-    /// The same, or an array of these.
+    /// A value of a document, or an array of these.
     Values,
 }
 
@@ -41,11 +45,11 @@ pub enum Need {
     Optional,
     /// Exactly one of these is there: it tells the kind.
     Kind,
-    /// The same, of a kind that has none of `aggs`.
+    /// Exactly one of these is there: it tells a kind that has none of `aggs`.
     Leaf,
     /// At most one of these is there.
     Lower,
-    /// The same.
+    /// At most one of these is there.
     Upper,
 }
 
@@ -56,7 +60,7 @@ pub type Member = (&'static str, Form, Need);
 #[derive(Clone, Copy)]
 pub enum Others {
     Refused,
-    /// They are read past.
+    /// Other members are read past.
     PassedOver,
     /// Each is of this form, whatever its name.
     Each(Form),
@@ -156,7 +160,9 @@ const SOURCE_KIND: &[Member] = &[
     ),
 ];
 
-const TERMS: &[Member] = &[FIELD, ORDER, MISSING_BUCKET, MISSING_ORDER];
+const MIN: Member = ("min", Form::KeyOfValueOrNull, Need::Optional);
+
+const TERMS: &[Member] = &[FIELD, ORDER, MISSING_BUCKET, MISSING_ORDER, MIN];
 
 const HISTOGRAM: &[Member] = &[
     FIELD,
@@ -168,6 +174,7 @@ const HISTOGRAM: &[Member] = &[
     ORDER,
     MISSING_BUCKET,
     MISSING_ORDER,
+    MIN,
 ];
 
 const DATE_HISTOGRAM: &[Member] = &[
@@ -178,9 +185,11 @@ const DATE_HISTOGRAM: &[Member] = &[
         Form::WordOrNull(&["year", "month", "week"]),
         Need::Optional,
     ),
+    ("offset", Form::Offset, Need::Optional),
     ORDER,
     MISSING_BUCKET,
     MISSING_ORDER,
+    MIN,
 ];
 
 const METRIC: &[Member] = &[FIELD, ("missing", Form::Null, Need::Optional)];
@@ -232,7 +241,7 @@ const TYPED_VALUE: &[Member] = &[
 ];
 
 impl Shape {
-    /// The members with a meaning of their own.
+    /// The members with a meaning of their own: what each has to be, and when it has to be there.
     pub fn members(self) -> &'static [Member] {
         match self {
             Shape::Header => HEADER,
@@ -255,12 +264,12 @@ impl Shape {
         }
     }
 
-    /// Whether a member tells the kind.
+    /// Whether some of these members tells the kind.
     pub fn has_kinds(self) -> bool {
         self.members().iter().any(|member| member.2 == Need::Kind)
     }
 
-    /// The other members.
+    /// What other members an object of this shape may have.
     pub fn others(self) -> Others {
         match self {
             Shape::Request | Shape::Below => Others::Each(Form::Object(Shape::Aggregation)),

@@ -1,11 +1,11 @@
 //! The lines of an input: a header, and then snapshots with their documents.
 
-use crate::Finding;
-use crate::findings::Findings;
-use crate::grammar::{Form, Shape};
-use crate::object::check_value;
-use crate::path::{Path, fault_place};
-use crate::words::Nearest;
+use crate::findings::Finding;
+use crate::findings::findings::Findings;
+use crate::findings::grammar::{Form, Shape};
+use crate::findings::object::check_value;
+use crate::findings::path::{Path, fault_place};
+use crate::findings::words::Nearest;
 use agg_values::OutOfMemory;
 use json::{Error, Scratch, Value};
 use serde_json::Category;
@@ -24,7 +24,8 @@ enum Stage {
     Documents,
 }
 
-/// What was found in the lines of a text.
+/// What was found in the lines of a text, line by line, and then of fields that no document has.
+/// Once 100 things are found no more lines are looked at.
 pub fn check_lines(alloc: Global, text: &str) -> Result<Vec<Finding>, OutOfMemory> {
     let mut found = Findings::new(alloc);
     let mut scratch = Scratch::new(alloc);
@@ -44,7 +45,8 @@ pub fn check_lines(alloc: Global, text: &str) -> Result<Vec<Finding>, OutOfMemor
     Ok(found.list)
 }
 
-/// The number and the text of the first line that says something.
+/// The number, from 1, and the text of the first line that isn't blank, without its end; 1 and an
+/// empty text where all are blank.
 pub fn header_line(text: &str) -> (u64, &str) {
     let mut number = 0u64;
     for line in text.split('\n') {

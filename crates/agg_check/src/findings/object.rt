@@ -1,11 +1,11 @@
 //! What is wrong with a value, down its members and items.
 
-use crate::Severity;
-use crate::findings::Findings;
-use crate::grammar::{Form, Need, Others, Shape};
-use crate::path::Path;
-use crate::scalar::check_scalar;
-use crate::words::{names_of, other_words};
+use crate::findings::Severity;
+use crate::findings::findings::Findings;
+use crate::findings::grammar::{Form, Need, Others, Shape};
+use crate::findings::path::Path;
+use crate::findings::scalar::check_scalar;
+use crate::findings::words::{names_of, other_words};
 use agg_values::{OutOfMemory, Text};
 use json::Value;
 

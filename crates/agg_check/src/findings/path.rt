@@ -37,7 +37,8 @@ impl<'p> Path<'p> {
         }
     }
 
-    /// The byte of a line where the value begins. Of members of one name it is the last.
+    /// The byte of a line where the value begins, None where it isn't found. Of members of one name
+    /// it is the last.
     pub fn value_place(&self, alloc: Global, line: &str) -> Option<usize> {
         match self {
             Path::Root(_) => Some(place_of_start(alloc, line)?),
@@ -53,7 +54,8 @@ impl<'p> Path<'p> {
         }
     }
 
-    /// The byte of a line where the name of the member begins, or else the value.
+    /// The byte of a line where the name of the member begins, or, where the path leads to no
+    /// member, the value; None where it isn't found.
     pub fn name_place(&self, alloc: Global, line: &str) -> Option<usize> {
         let Path::Member(outer, name) = self else {
             return self.value_place(alloc, line);

@@ -1,11 +1,11 @@
 //! What is wrong with a value that has no members or items, or shouldn't have.
 
-use crate::findings::Findings;
-use crate::grammar::Form;
-use crate::path::Path;
-use crate::words::word_fault;
-use agg_calendar::PrecomputedDateInterval;
-use agg_interval_faults::write_interval_fault;
+use crate::findings::findings::Findings;
+use crate::findings::grammar::Form;
+use crate::findings::path::Path;
+use crate::findings::words::word_fault;
+use agg_calendar::interval_faults::{write_interval_fault, write_offset_fault};
+use agg_calendar::{PrecomputedDateInterval, parse_offset_into_milliseconds};
 use agg_values::{
     Address, AfterKey, CompositeIntermediateKey, KeyTextError, OutOfMemory, RequestError, Text,
 };
@@ -48,7 +48,9 @@ fn scalar_fault(
             word_fault(alloc, word, words),
         (Form::Key, Value::String(text)) => key_fault(alloc, text, true),
         (Form::KeyOfValue, Value::String(text)) => key_fault(alloc, text, false),
+        (Form::KeyOfValueOrNull, Value::String(text)) => key_fault(alloc, text, false),
         (Form::FixedInterval, Value::String(text)) => interval_fault(alloc, text),
+        (Form::Offset, Value::String(text)) => offset_fault(alloc, text),
         (Form::Address, Value::String(text)) => address_fault(alloc, text),
         _ if is_of_form(value, form) => Ok(None),
         _ => Ok(Some(expected_words(alloc, value, form)?)),
@@ -62,6 +64,8 @@ fn is_of_form(value: &Value<'_>, form: Form) -> bool {
         | (Form::Flag, Value::Bool(_))
         | (Form::Null, Value::Null)
         | (Form::FixedInterval, Value::Null)
+        | (Form::Offset, Value::Null)
+        | (Form::KeyOfValueOrNull, Value::Null)
         | (Form::WordOrNull(_), Value::Null) => true,
         (Form::Whole(least, most), Value::Number(text)) => is_whole(text, least, most),
         (Form::Value, Value::Number(text)) | (Form::Values, Value::Number(text)) => {
@@ -116,6 +120,20 @@ fn interval_fault(alloc: Global, text: &str) -> Result<Option<String>, OutOfMemo
     }
 }
 
+// The fault of the text of an offset.
+fn offset_fault(alloc: Global, text: &str) -> Result<Option<String>, OutOfMemory> {
+    let text = Text::copy_of(alloc, text)?;
+    match parse_offset_into_milliseconds(alloc, &text) {
+        Ok(_) => Ok(None),
+        Err(RequestError::OutOfMemory) => Err(OutOfMemory),
+        Err(error) => {
+            let mut out = String::new(alloc);
+            write_offset_fault(&mut out, &text, &error)?;
+            Ok(Some(out))
+        }
+    }
+}
+
 // The fault of the text of an address.
 fn address_fault(alloc: Global, text: &str) -> Result<Option<String>, OutOfMemory> {
     if Address::read(&Text::copy_of(alloc, text)?).is_some() {
@@ -153,7 +171,9 @@ fn expected(value: &Value<'_>, form: Form) -> &'static str {
         (Form::Flag, _) => "true or false",
         (Form::Word(_), _) | (Form::WordOrNull(_), _) => "a word in quotes",
         (Form::FixedInterval, _) => "an interval, as \"1d\"",
-        (Form::Key, _) | (Form::KeyOfValue, _) => "a typed value, as \"i64:7\" or \"str:red\"",
+        (Form::Offset, _) => "an offset, as \"6h\" or \"-1d\"",
+        (Form::Key, _) | (Form::KeyOfValue, _) | (Form::KeyOfValueOrNull, _) =>
+            "a typed value, as \"i64:7\" or \"str:red\"",
         (Form::Address, _) => "the text of an address",
         (Form::Null, _) => "null, as a value for documents without one is not supported",
         (Form::Object(_), _) => "an object",

@@ -1,7 +1,7 @@
 //! Words about names: which may stand in a place, and which is meant by a misspelt one.
 
-use crate::Severity;
-use crate::grammar::{Form, Need, Shape};
+use crate::findings::Severity;
+use crate::findings::grammar::{Form, Need, Shape};
 use agg_values::OutOfMemory;
 use std::alloc::Global;
 use strsim::levenshtein;
@@ -12,7 +12,8 @@ const MANY_EDITS: usize = 2;
 // A longer name is no misspelt one.
 const LONGEST_NAME: usize = 40;
 
-/// The words about a member without a meaning.
+/// The words about a member without a meaning: the name that is meant, or, where none is and it is
+/// a mistake, all names.
 pub fn other_words(
     alloc: Global,
     name: &str,
@@ -40,7 +41,7 @@ pub fn other_words(
     Ok(out)
 }
 
-/// The words about a word that is none of these.
+/// The words about a word that is none of these, None where it is one of them.
 pub fn word_fault(
     alloc: Global,
     word: &str,
@@ -94,7 +95,7 @@ pub struct Nearest {
 }
 
 impl Nearest {
-    /// None so far.
+    /// No word so far.
     pub fn new() -> Nearest {
         Nearest {
             word: None,
@@ -102,7 +103,8 @@ impl Nearest {
         }
     }
 
-    /// Takes a word, if it is nearer to what was written.
+    /// Takes a known word, if it is nearer to what was written than those before, or as near and
+    /// begins alike.
     pub fn look_at(
         &mut self,
         alloc: Global,

@@ -4,7 +4,7 @@ ghost use Rattle.agg_request_tree.specs.Faults.{HasFault, IsSound, IsSoundReques
 ghost use Rattle.agg_request_tree.specs.Faults.{RequestHasFault};
 ghost use Rattle.agg_request_tree.specs.Request.{composites_in, own_composite};
 
-use agg_calendar::PrecomputedDateInterval;
+use agg_calendar::date_division;
 use agg_request_tree::{
     Aggregation, AggregationVariants, CompositeAggregation, CompositeAggregationSource,
     DateHistogramCompositeAggregationSource, check_composite,
@@ -39,7 +39,7 @@ pub fn refused_composite<'a, B: Drop>(
     Ok(None)
 }
 
-// The same of an aggregation and those below it.
+// The first composite that may not be asked, in an aggregation and those below it.
 #[cycle(places)]
 fn refused_below<'a, B: Drop>(
     alloc: Global,
@@ -54,7 +54,7 @@ fn refused_below<'a, B: Drop>(
     }
 }
 
-// The same of what an aggregation asks by itself, with no name yet.
+// The composite that an aggregation asks by itself, with no name yet, if it may not be asked.
 fn refused_own<'a, B: Drop>(
     alloc: Global,
     agg: &'a AggregationVariants<B>,
@@ -76,7 +76,7 @@ fn refused_own<'a, B: Drop>(
     }
 }
 
-// The same composite below another name.
+// A refused composite, found below one more name.
 fn named<'a>(
     alloc: Global,
     name: &Text,
@@ -90,7 +90,7 @@ fn named<'a>(
     Ok(found)
 }
 
-/// The first source of a composite that has its fault, if that is one of sources.
+/// The index of the first source of a composite that has its fault, None where no source has it.
 pub fn refused_source(
     alloc: Global,
     refused: &RefusedComposite<'_>,
@@ -141,14 +141,14 @@ fn has_no_interval(
     }
 }
 
-// The same of a source of dates.
+// Whether a source of dates has no interval that may be asked, or an offset that may not.
 fn has_no_dates(
     alloc: Global,
     dates: &DateHistogramCompositeAggregationSource,
 ) -> Result<bool, OutOfMemory> {
     let fixed = dates.fixed_interval.as_ref();
     let calendar = dates.calendar_interval;
-    match PrecomputedDateInterval::from_date_histogram_source_intervals(alloc, fixed, calendar) {
+    match date_division(alloc, fixed, calendar, dates.offset.as_ref()) {
         Ok(_) => Ok(false),
         Err(RequestError::OutOfMemory) => Err(OutOfMemory),
         Err(_) => Ok(true),

@@ -1,8 +1,9 @@
 //! Refusals of walks in words.
 
-use crate::place::{RefusedComposite, refused_composite, refused_source};
+use crate::refusals::place::{RefusedComposite, refused_composite, refused_source};
+use agg_calendar::PrecomputedDateInterval;
+use agg_calendar::interval_faults::{write_interval_fault, write_offset_fault};
 use agg_engine::WalkError;
-use agg_interval_faults::write_interval_fault;
 use agg_request_tree::{
     Aggregation, AggregationVariants, CompositeAggregation, CompositeAggregationSource,
     DateHistogramCompositeAggregationSource,
@@ -139,7 +140,7 @@ fn write_of_source(
         RequestError::Invalid(InvalidArgument::AfterType) => {
             write_other_after(alloc, out, composite, source)
         }
-        _ => write_interval(out, source, fault),
+        _ => write_interval(alloc, out, source, fault),
     }
 }
 
@@ -163,6 +164,7 @@ fn write_other_after(
 
 // An interval that divides nothing.
 fn write_interval(
+    alloc: Global,
     out: &mut String,
     source: &CompositeAggregationSource,
     fault: &RequestError,
@@ -176,21 +178,60 @@ fn write_interval(
                 histogram.interval
             )?)
         }
-        CompositeAggregationSource::DateHistogram(dates) => write_dates(out, dates, fault),
+        CompositeAggregationSource::DateHistogram(dates) => write_dates(alloc, out, dates, fault),
     }
 }
 
-// Intervals of dates that divide nothing.
+// Intervals of dates that divide nothing, or an offset that is none.
 fn write_dates(
+    alloc: Global,
     out: &mut String,
     dates: &DateHistogramCompositeAggregationSource,
     fault: &RequestError,
 ) -> Result<(), OutOfMemory> {
     match (&dates.fixed_interval, dates.calendar_interval) {
-        (Some(text), None) => write_interval_fault(out, text, fault),
         (None, None) => {
             Ok(out.push_str("neither fixed_interval nor calendar_interval is there")?)
         }
-        _ => Ok(out.push_str("fixed_interval and calendar_interval are both there")?),
+        (Some(_), Some(_)) => {
+            Ok(out.push_str("fixed_interval and calendar_interval are both there")?)
+        }
+        (Some(text), None) => write_fixed(alloc, out, dates, text, fault),
+        (None, Some(_)) => write_offset(out, dates, fault),
+    }
+}
+
+// A text that is no fixed interval, or else an offset that is none.
+fn write_fixed(
+    alloc: Global,
+    out: &mut String,
+    dates: &DateHistogramCompositeAggregationSource,
+    text: &Text,
+    fault: &RequestError,
+) -> Result<(), OutOfMemory> {
+    if has_interval_fault(alloc, text)? {
+        return write_interval_fault(out, text, fault);
+    }
+    write_offset(out, dates, fault)
+}
+
+// Whether a text is no fixed interval.
+fn has_interval_fault(alloc: Global, text: &Text) -> Result<bool, OutOfMemory> {
+    match PrecomputedDateInterval::from_date_histogram_source_intervals(alloc, Some(text), None) {
+        Ok(_) => Ok(false),
+        Err(RequestError::OutOfMemory) => Err(OutOfMemory),
+        Err(_) => Ok(true),
+    }
+}
+
+// An offset that is none.
+fn write_offset(
+    out: &mut String,
+    dates: &DateHistogramCompositeAggregationSource,
+    fault: &RequestError,
+) -> Result<(), OutOfMemory> {
+    match &dates.offset {
+        Some(text) => write_offset_fault(out, text, fault),
+        None => Ok(()),
     }
 }

@@ -1,5 +1,5 @@
-use Rattle.agg_input.specs.Input.{AreNoInput, IsInput, input_of}
-use Rattle.agg_refusals.proofs.SoundRequests.{told-none, told-some}
+use Rattle.agg_pages.specs.input_text.Input.{AreNoInput, IsInput, input_of}
+use Rattle.agg_check.proofs.lemmas.refusals.SoundRequests.{told-none, told-some}
 use Rattle.agg_check.specs.Check.{known_builders}
 use Rattle.agg_check.proofs.Verdicts.{of_input, of_none}
 use Rattle.agg_check.proofs.check.mistake_of.Goals as goal

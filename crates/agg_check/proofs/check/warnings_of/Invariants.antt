@@ -1,5 +1,5 @@
 use Rattle.std.proofs.Common.{◌≡◌, false}
-use Rattle.agg_findings.specs.Findings.{has_mistake}
+use Rattle.agg_check.specs.findings.Findings.{has_mistake}
 use Rattle.agg_check.proofs.check.warnings_of.Given as goal
 
 -- no mistake is kept

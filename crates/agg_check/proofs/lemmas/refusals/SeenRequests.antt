@@ -75,7 +75,7 @@ module _ {B X : Type 0} (own : AggregationVariants B → List X) (P : X → Type
       subst (Any P) (sym (listed-out own a))
       (Any-front P (own (agg_of a)) (listed_of own (below_of a)) has)
 
-  -- and what those below it list
+  -- an aggregation lists what those below it list
   pub Any-of_below : Any P (listed_of own (below_of a)) → Any P (listed_in own a)
   Any-of_below has =
       subst (Any P) (sym (listed-out own a))

@@ -5,7 +5,7 @@ use Rattle.agg_values.specs.declared.request_error.RequestError.{RequestError}
 use Rattle.agg_request_tree.specs.Faults.{HasFault, IsSound, IsSoundRequest, RequestHasFault}
 use Rattle.agg_request_tree.specs.Request.{agg_of, below_of, composites_in, own_composite}
 use Rattle.agg_request_tree.specs.declared.aggregation.Aggregation.{Aggregation}
-use Rattle.agg_refusals.proofs.SeenRequests.{All-of_parts, Any-of_below}
+use Rattle.agg_check.proofs.lemmas.refusals.SeenRequests.{All-of_parts, Any-of_below}
 
 -- what is told of nothing, and of something
 pub told-none : {A : Type 0} (P : Type 0) (Q : A → Type 0) (o : Option A) → o ≡ None

@@ -1,6 +1,6 @@
 use Rattle.agg_check.proofs.RequestBuilders.{builder-of_next, builders-below, empty-where_none}
 use Rattle.agg_request_tree.specs.Request.{builders_of, own_builder}
-use Rattle.agg_refusals.proofs.SeenRequests.{IsSeenUpTo-all}
+use Rattle.agg_check.proofs.lemmas.refusals.SeenRequests.{IsSeenUpTo-all}
 use Rattle.agg_check.proofs.verdict.+builders.Goals as goal
 
 pub asks_for_builder-returns-then-has_builder : goal.asks_for_builder-returns-then-has_builder

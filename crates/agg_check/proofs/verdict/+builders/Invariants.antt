@@ -1,7 +1,7 @@
 use Rattle.std.proofs.Common.{◌+◌, ◌*◌}
 use Rattle.agg_request_tree.specs.Request.{own_builder}
 use Rattle.agg_request_tree.proofs.RequestTrees.{height, levels}
-use Rattle.agg_refusals.proofs.SeenRequests.{IsSeenUpTo}
+use Rattle.agg_check.proofs.lemmas.refusals.SeenRequests.{IsSeenUpTo}
 use Rattle.agg_check.proofs.verdict.+builders.Given as goal
 
 abbrev pub decreases-asks_for_builder : goal.decreases-asks_for_builder

@@ -1,5 +1,5 @@
 use Rattle.agg_request_tree.specs.Faults.{IsSoundRequest, RequestHasFault}
-use Rattle.agg_refusals.proofs.SoundRequests.{told-none, told-some}
+use Rattle.agg_check.proofs.lemmas.refusals.SoundRequests.{told-none, told-some}
 use Rattle.agg_check.proofs.Verdicts.{unsound}
 use Rattle.agg_check.proofs.verdict.refusal_of.Goals as goal
 

@@ -1,5 +1,5 @@
 use Rattle.std.proofs.Common.{◌+◌, ◌*◌}
-use Rattle.agg_findings.proofs.object.+values.Given as goal
+use Rattle.agg_check.proofs.findings.object.+values.Given as goal
 
 abbrev pub decreases-check_value : goal.decreases-check_value
 decreases-check_value l = 4 * l.asked.1

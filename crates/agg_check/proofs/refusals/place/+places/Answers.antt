@@ -2,9 +2,10 @@ use Rattle.std.proofs.Common.{sym, subst}
 use Rattle.std.specs.List.{All, Any}
 use Rattle.agg_request_tree.specs.Faults.{HasFault, IsSound, RequestHasFault}
 use Rattle.agg_request_tree.specs.Request.{agg_of, composites_in, own_composite}
-use Rattle.agg_refusals.proofs.SeenRequests.{Any-of_next, IsSeenUpTo-more, IsSeenUpTo-none}
-use Rattle.agg_refusals.proofs.SoundRequests.{found-below, told-none, told-some}
-use Rattle.agg_refusals.proofs.place.+places.Goals as goal
+use Rattle.agg_check.proofs.lemmas.refusals.SeenRequests.{Any-of_next, IsSeenUpTo-more}
+use Rattle.agg_check.proofs.lemmas.refusals.SeenRequests.{IsSeenUpTo-none}
+use Rattle.agg_check.proofs.lemmas.refusals.SoundRequests.{found-below, told-none, told-some}
+use Rattle.agg_check.proofs.refusals.place.+places.Goals as goal
 
 pub refused_composite-loop-name-init : goal.refused_composite-loop-name-init
 refused_composite-loop-name-init g t c =

@@ -2,8 +2,8 @@ use Rattle.std.proofs.Common.{◌+◌, ◌*◌}
 use Rattle.agg_request_tree.specs.Faults.{IsSound}
 use Rattle.agg_request_tree.specs.Request.{own_composite}
 use Rattle.agg_request_tree.proofs.RequestTrees.{height, levels}
-use Rattle.agg_refusals.proofs.SeenRequests.{IsSeenUpTo}
-use Rattle.agg_refusals.proofs.place.+places.Given as goal
+use Rattle.agg_check.proofs.lemmas.refusals.SeenRequests.{IsSeenUpTo}
+use Rattle.agg_check.proofs.refusals.place.+places.Given as goal
 
 abbrev pub decreases-refused_composite : goal.decreases-refused_composite
 decreases-refused_composite g l = 2 * levels l.request.now + 1
