@@ -1,11 +1,9 @@
 //! Decimal texts as whole numbers of their last place, both ways.
-#![tactic(auto)]
-
-mod error;
-mod laws;
-mod places;
-mod read;
-mod write;
+pub(crate) mod error;
+pub(crate) mod laws;
+pub(crate) mod places;
+pub(crate) mod read;
+pub(crate) mod write;
 
 pub use error::DecimalError;
 pub use laws::decimal_texts_are_read_back;

@@ -1,14 +1,12 @@
 //! What the fields of records hold, the values that their texts and numbers stand for, and how
 //! values are shown.
-#![tactic(auto)]
-
-mod error;
-mod field_type;
-mod field_types;
-mod laws;
-mod read;
-mod shown;
-mod whole;
+pub(crate) mod error;
+pub(crate) mod field_type;
+pub(crate) mod field_types;
+pub(crate) mod laws;
+pub(crate) mod read;
+pub(crate) mod shown;
+pub(crate) mod whole;
 
 pub use error::ValueError;
 pub use field_type::FieldType;

@@ -1,13 +1,11 @@
 //! The grammars of what `--by`, `--where`, `--date` and `--decimal` take, over borrowed texts, and
 //! the metrics of fields.
-#![tactic(auto)]
-
-mod by;
-mod condition;
-mod cut;
-mod date_field;
-mod decimal_field;
-mod metric;
+pub(crate) mod by;
+pub(crate) mod condition;
+pub(crate) mod cut;
+pub(crate) mod date_field;
+pub(crate) mod decimal_field;
+pub(crate) mod metric;
 
 pub use by::{BySpec, BySpecError, Missing, read_by};
 pub use condition::{Condition, ConditionError, Test, read_condition};

@@ -14,8 +14,8 @@ use Rattle.jiff_fmt.specs.Text.{date_text, datetime_text, zulu_text}
 use Rattle.jiff_fmt.specs.Temporal.{DateParts, TimeParts, PiecesParts, OffsetPiece, ZonePiece}
 use Rattle.jiff_fmt.specs.Temporal.{date_spec, parse_pieces, parts_nanos, piece_seconds}
 use Rattle.jiff_fmt.specs.Temporal.{time_or_midnight}
-use Rattle.agg_dates.specs.declared.error.DateError.{DateError}
-use Rattle.agg_dates.specs.declared.error.DateError.TheVariants as error
+use Rattle.peslumok_texts.specs.declared.dates.error.DateError.{DateError}
+use Rattle.peslumok_texts.specs.declared.dates.error.DateError.TheVariants as error
 
 -- seconds east of UTC; a text without an offset is in UTC
 abbrev pub seconds_east : Option OffsetPiece → ℤ

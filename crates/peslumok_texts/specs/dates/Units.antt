@@ -1,8 +1,8 @@
 -- Units of numbers that count from 1970.
 use Rattle.std.specs.Prelude.{ℕ, List, Option, Some, None, if◌then◌else◌, codes}
 use Rattle.std.specs.Str.{bytes_eq}
-use Rattle.agg_dates.specs.declared.unit.DateUnit.{DateUnit}
-use Rattle.agg_dates.specs.declared.unit.DateUnit.TheVariants as unit
+use Rattle.peslumok_texts.specs.declared.dates.unit.DateUnit.{DateUnit}
+use Rattle.peslumok_texts.specs.declared.dates.unit.DateUnit.TheVariants as unit
 
 -- the unit of a word
 abbrev pub unit_of : List ℕ → Option DateUnit

@@ -6,8 +6,8 @@ use Rattle.std.specs.Prelude.{take_while}
 use Rattle.std.specs.Prelude.{Option, Some, None, Result, Ok, Err}
 use Rattle.std.specs.List.{list_all, prefix_len}
 use Rattle.std.specs.Char.{is_ascii_digit}
-use Rattle.agg_decimals.specs.declared.error.DecimalError.{DecimalError}
-use Rattle.agg_decimals.specs.declared.error.DecimalError.TheVariants as error
+use Rattle.peslumok_texts.specs.declared.decimals.error.DecimalError.{DecimalError}
+use Rattle.peslumok_texts.specs.declared.decimals.error.DecimalError.TheVariants as error
 
 -- the number that digits write when they follow those of n
 abbrev pub number_after : ℕ → List ℕ → ℕ

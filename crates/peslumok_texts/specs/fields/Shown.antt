@@ -7,10 +7,10 @@ use Rattle.agg_values.specs.declared.typed_key.CompositeIntermediateKey.{Composi
 use Rattle.agg_values.specs.declared.typed_key.CompositeIntermediateKey.TheVariants as key
 use Rattle.agg_values.specs.declared.composite_key.CompositeKey.{CompositeKey}
 use Rattle.agg_values.specs.declared.composite_key.CompositeKey.TheVariants as shown
-use Rattle.agg_dates.specs.Dates.{IsDateText, in_range}
-use Rattle.agg_decimals.specs.Decimal.{decimal_text}
-use Rattle.agg_fields.specs.declared.field_type.FieldType.{FieldType}
-use Rattle.agg_fields.specs.declared.field_type.FieldType.TheVariants as of
+use Rattle.peslumok_texts.specs.dates.Dates.{IsDateText, in_range}
+use Rattle.peslumok_texts.specs.decimals.Decimal.{decimal_text}
+use Rattle.peslumok_texts.specs.declared.fields.field_type.FieldType.{FieldType}
+use Rattle.peslumok_texts.specs.declared.fields.field_type.FieldType.TheVariants as of
 
 -- the word of a truth value
 abbrev pub bool_text : Bool → List ℕ

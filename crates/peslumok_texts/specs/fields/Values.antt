@@ -1,20 +1,20 @@
 -- The values of texts, and of JSON's numbers and strings, by the type of their field.
 use Rattle.std.specs.Prelude.{ℕ, ℤ, pos, ◌*ℤ◌, ◌^◌, int_lt, unsigned_abs, List, if◌then◌else◌}
 use Rattle.std.specs.Prelude.{Option, Some, None, Result, Ok, Err}
-use Rattle.agg_column.specs.declared.document.FieldValue.{FieldValue}
-use Rattle.agg_column.specs.declared.document.FieldValue.TheVariants as value
-use Rattle.agg_dates.specs.Dates.{date_of, in_range}
-use Rattle.agg_dates.specs.Units.{nanos_each}
-use Rattle.agg_dates.specs.declared.error.DateError.{DateError}
-use Rattle.agg_dates.specs.declared.error.DateError.TheVariants as date
-use Rattle.agg_dates.specs.declared.unit.DateUnit.{DateUnit}
-use Rattle.agg_decimals.specs.Decimal.{decimal_of}
-use Rattle.agg_decimals.specs.declared.error.DecimalError.{DecimalError}
-use Rattle.agg_fields.specs.Wholes.{whole_of}
-use Rattle.agg_fields.specs.declared.error.ValueError.{ValueError}
-use Rattle.agg_fields.specs.declared.error.ValueError.TheVariants as error
-use Rattle.agg_fields.specs.declared.field_type.FieldType.{FieldType}
-use Rattle.agg_fields.specs.declared.field_type.FieldType.TheVariants as of
+use Rattle.agg_segment.specs.declared.storage.document.FieldValue.{FieldValue}
+use Rattle.agg_segment.specs.declared.storage.document.FieldValue.TheVariants as value
+use Rattle.peslumok_texts.specs.dates.Dates.{date_of, in_range}
+use Rattle.peslumok_texts.specs.dates.Units.{nanos_each}
+use Rattle.peslumok_texts.specs.declared.dates.error.DateError.{DateError}
+use Rattle.peslumok_texts.specs.declared.dates.error.DateError.TheVariants as date
+use Rattle.peslumok_texts.specs.declared.dates.unit.DateUnit.{DateUnit}
+use Rattle.peslumok_texts.specs.decimals.Decimal.{decimal_of}
+use Rattle.peslumok_texts.specs.declared.decimals.error.DecimalError.{DecimalError}
+use Rattle.peslumok_texts.specs.fields.Wholes.{whole_of}
+use Rattle.peslumok_texts.specs.declared.fields.error.ValueError.{ValueError}
+use Rattle.peslumok_texts.specs.declared.fields.error.ValueError.TheVariants as error
+use Rattle.peslumok_texts.specs.declared.fields.field_type.FieldType.{FieldType}
+use Rattle.peslumok_texts.specs.declared.fields.field_type.FieldType.TheVariants as of
 
 -- a number as an I64 where it is one, else as a U64
 abbrev pub number_value : ℤ → FieldValue

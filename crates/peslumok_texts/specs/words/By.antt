@@ -4,12 +4,13 @@ use Rattle.std.specs.Prelude.{Bool, IsTrue, IsFalse, true, false, ◌==◌, ◌&
 use Rattle.std.specs.Prelude.{Option, Some, None, IsSomeAnd, option_and_then}
 use Rattle.std.specs.Option.{option_map_or}
 use Rattle.std.specs.Str.{bytes_eq}
-use Rattle.agg_words.specs.Cut.{cut, Lacks, LacksIfAny}
-use Rattle.agg_words.specs.declared.by.BySpec.{BySpec}
-use Rattle.agg_words.specs.declared.by.BySpecError.{BySpecError}
-use Rattle.agg_words.specs.declared.by.BySpecError.TheVariants as error
-use Rattle.agg_words.specs.declared.by.Missing.{Missing}
-use Rattle.agg_words.specs.declared.by.Missing.TheVariants.{NoGroup, ByOrder, First, Last}
+use Rattle.peslumok_texts.specs.words.Cut.{cut, Lacks, LacksIfAny}
+use Rattle.peslumok_texts.specs.declared.words.by.BySpec.{BySpec}
+use Rattle.peslumok_texts.specs.declared.words.by.BySpecError.{BySpecError}
+use Rattle.peslumok_texts.specs.declared.words.by.BySpecError.TheVariants as error
+use Rattle.peslumok_texts.specs.declared.words.by.Missing.{Missing}
+use Rattle.peslumok_texts.specs.declared.words.by.Missing.TheVariants.{NoGroup, ByOrder, First}
+use Rattle.peslumok_texts.specs.declared.words.by.Missing.TheVariants.{Last}
 
 -- what a text stands for
 pub record Parts : Type 0 where

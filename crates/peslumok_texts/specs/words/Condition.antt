@@ -5,12 +5,12 @@ use Rattle.std.specs.Prelude.{nat_eq, slice_get, IsSomeAnd}
 use Rattle.std.specs.Prelude.{if◌then◌else◌, Option, Some, None, option_map, option_and_then}
 use Rattle.std.specs.List.{position, starts_with}
 use Rattle.std.specs.Str.{bytes_eq}
-use Rattle.agg_words.specs.declared.condition.Condition.{Condition}
-use Rattle.agg_words.specs.declared.condition.ConditionError.{ConditionError}
-use Rattle.agg_words.specs.declared.condition.ConditionError.TheVariants as error
-use Rattle.agg_words.specs.declared.condition.Test.{Test}
-use Rattle.agg_words.specs.declared.condition.Test.TheVariants.{Is, IsNot, Below, AtMost, Above}
-use Rattle.agg_words.specs.declared.condition.Test.TheVariants.{AtLeast, Exists}
+use Rattle.peslumok_texts.specs.declared.words.condition.Condition.{Condition}
+use Rattle.peslumok_texts.specs.declared.words.condition.ConditionError.{ConditionError}
+use Rattle.peslumok_texts.specs.declared.words.condition.ConditionError.TheVariants as error
+use Rattle.peslumok_texts.specs.declared.words.condition.Test.{Test}
+use Rattle.peslumok_texts.specs.declared.words.condition.Test.TheVariants.{Is, IsNot, Below, AtMost}
+use Rattle.peslumok_texts.specs.declared.words.condition.Test.TheVariants.{Above, AtLeast, Exists}
 
 -- what a value has to be
 pub data Demand : Type 0 where

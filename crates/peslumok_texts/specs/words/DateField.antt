@@ -1,12 +1,13 @@
 -- The texts of `--date`: FIELD[=seconds|millis|nanos]
 use Rattle.std.specs.Prelude.{◌≡◌, ◌<◌, ℕ, List, length, ◌==◌, if◌then◌else◌, option_map}
 use Rattle.std.specs.Prelude.{Option, Some, None}
-use Rattle.agg_dates.specs.Units.{unit_of}
-use Rattle.agg_dates.specs.declared.unit.DateUnit.{DateUnit}
-use Rattle.agg_words.specs.Cut.{cut}
-use Rattle.agg_words.specs.declared.date_field.DateField.{DateField}
-use Rattle.agg_words.specs.declared.date_field.DateFieldError.{DateFieldError}
-use Rattle.agg_words.specs.declared.date_field.DateFieldError.TheVariants.{NoField, UnknownUnit}
+use Rattle.peslumok_texts.specs.dates.Units.{unit_of}
+use Rattle.peslumok_texts.specs.declared.dates.unit.DateUnit.{DateUnit}
+use Rattle.peslumok_texts.specs.words.Cut.{cut}
+use Rattle.peslumok_texts.specs.declared.words.date_field.DateField.{DateField}
+use Rattle.peslumok_texts.specs.declared.words.date_field.DateFieldError.{DateFieldError}
+use Rattle.peslumok_texts.specs.declared.words.date_field.DateFieldError.TheVariants.{NoField}
+use Rattle.peslumok_texts.specs.declared.words.date_field.DateFieldError.TheVariants.{UnknownUnit}
 
 -- what a text stands for
 pub record Parts : Type 0 where

@@ -1,9 +1,9 @@
 -- The texts of `--decimal`: FIELD=PLACES
 use Rattle.std.specs.Prelude.{◌≡◌, ◌≤◌, ◌<◌, ℕ, List, length, Some, None, IsSomeAnd}
 use Rattle.std.specs.Str.Parse.{IsNumeral, digits_value, without_leading_plus}
-use Rattle.agg_words.specs.Cut.{cut}
-use Rattle.agg_words.specs.declared.decimal_field.DecimalFieldError.{DecimalFieldError}
-use Rattle.agg_words.specs.declared.decimal_field.DecimalFieldError.TheVariants as error
+use Rattle.peslumok_texts.specs.words.Cut.{cut}
+use Rattle.peslumok_texts.specs.declared.words.decimal_field.DecimalFieldError.{DecimalFieldError}
+use Rattle.peslumok_texts.specs.declared.words.decimal_field.DecimalFieldError.TheVariants as error
 
 -- digits write a number of places, 18 at most
 pub record IsPlaces (text : List ℕ) (places : ℕ) : Type 0 where

@@ -1,7 +1,7 @@
 -- The words of metrics.
 use Rattle.std.specs.Prelude.{ℕ, List, codes}
-use Rattle.agg_words.specs.declared.metric.MetricKind.{MetricKind}
-use Rattle.agg_words.specs.declared.metric.MetricKind.TheVariants.{Count, Sum, Min, Max}
+use Rattle.peslumok_texts.specs.declared.words.metric.MetricKind.{MetricKind}
+use Rattle.peslumok_texts.specs.declared.words.metric.MetricKind.TheVariants.{Count, Sum, Min, Max}
 
 -- the word for what a metric tells
 abbrev pub word_of : MetricKind → List ℕ

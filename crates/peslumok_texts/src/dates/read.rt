@@ -3,9 +3,9 @@ ghost use Rattle.std.specs.Prelude.{◌==◌, ◌&&◌, option_map};
 ghost use Rattle.jiff_core.specs.Calendar.{IsBetween};
 ghost use Rattle.jiff_core.specs.Timestamp.{nanos_of_seconds};
 ghost use Rattle.jiff_fmt.specs.Temporal as temporal;
-ghost use Rattle.agg_dates.specs.Dates as spec;
+ghost use Rattle.peslumok_texts.specs.dates.Dates as spec;
 
-use crate::DateError;
+use crate::dates::DateError;
 use jiff_core::civil::{Date, Time};
 use jiff_fmt::temporal::{Pieces, PiecesOffset, parse_pieces, parser};
 

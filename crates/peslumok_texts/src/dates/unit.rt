@@ -1,7 +1,7 @@
 ghost use Rattle.std.specs.Prelude.{◌≡◌, ◌*ℤ◌, pos, FitsSigned};
 ghost use Rattle.std.specs.Int.{w64};
 ghost use Rattle.std.specs.Option.{SomeIff};
-ghost use Rattle.agg_dates.specs.Units as spec;
+ghost use Rattle.peslumok_texts.specs.dates.Units as spec;
 
 /// A unit of numbers that count from 1970.
 #[derive(Clone, Copy, Debug, PartialEq, Eq)]

@@ -1,6 +1,6 @@
 ghost use Rattle.std.specs.Prelude.{◌≡◌, ◌++◌, ℕ, List, Ok, OnOk, string_bytes};
 ghost use Rattle.jiff_core.specs.DateTime.{civil_nanos};
-ghost use Rattle.agg_dates.specs.Dates as spec;
+ghost use Rattle.peslumok_texts.specs.dates.Dates as spec;
 
 use jiff_core::civil::DateTime;
 use jiff_core::{Offset, Timestamp};

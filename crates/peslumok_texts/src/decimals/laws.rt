@@ -1,6 +1,6 @@
 //! What holds of decimal texts, as their definitions say it.
 ghost use Rattle.std.specs.Prelude.{◌≡◌, ◌<◌, ◌^◌, ℕ, ℤ, Ok, unsigned_abs};
-ghost use Rattle.agg_decimals.specs.Decimal.{decimal_of, decimal_text};
+ghost use Rattle.peslumok_texts.specs.decimals.Decimal.{decimal_of, decimal_text};
 
 /// What is written of a number within 63 bits is read back.
 pub fn decimal_texts_are_read_back()

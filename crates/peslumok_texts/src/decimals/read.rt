@@ -3,9 +3,9 @@ ghost use Rattle.std.specs.Prelude.{if◌then◌else◌, pos, neg_ℤ};
 ghost use Rattle.std.specs.List.{list_all, prefix_len};
 ghost use Rattle.std.specs.Option.{SomeIff};
 ghost use Rattle.std.specs.Char.{is_ascii_digit};
-ghost use Rattle.agg_decimals.specs.Decimal as spec;
+ghost use Rattle.peslumok_texts.specs.decimals.Decimal as spec;
 
-use crate::{DecimalError, Places};
+use crate::decimals::{DecimalError, Places};
 
 /// The whole number of the last place that a text is: 12.50 in two places is 1250.
 pub fn read_decimal(text: &str, places: Places) -> Result<i64, DecimalError>
@@ -39,7 +39,7 @@ fn split_sign(text: &[u8]) -> (bool, &[u8])
 }
 
 // The number of the last place that an unsigned text is.
-#[tactic(auto, unfolding(crate::specs::Decimal::magnitude))]
+#[tactic(auto, unfolding(crate::specs::decimals::Decimal::magnitude))]
 fn magnitude(body: &[u8], places: u32) -> Result<u64, DecimalError>
     requires { places ≤ 18 }
     ensures value { result ≡ spec.magnitude places body.now }
@@ -87,7 +87,7 @@ fn digits_len(text: &[u8]) -> usize
 }
 
 // Digits before and after the point as a number of the last place, where it fits.
-#[tactic(auto, using(crate::proofs::Digits::after_append))]
+#[tactic(auto, using(crate::proofs::lemmas::decimals::Digits::after_append))]
 fn in_places(places: u32, whole: &[u8], part: &[u8]) -> Option<u64>
     requires fewer { length part.now ≤ places }
     requires most { places ≤ 18 }
@@ -106,7 +106,7 @@ fn in_places(places: u32, whole: &[u8], part: &[u8]) -> Option<u64>
 }
 
 // The number that digits write when they follow those of another, where it fits.
-#[tactic(auto, using(crate::proofs::Digits::stuck, crate::proofs::Digits::at_end))]
+#[tactic(auto, using(crate::proofs::lemmas::decimals::Digits::stuck, crate::proofs::lemmas::decimals::Digits::at_end))]
 fn push_digits(number: u64, digits: &[u8]) -> Option<u64>
     ensures { SomeIff
         result

@@ -1,7 +1,7 @@
 ghost use Rattle.std.specs.Prelude.{◌≡◌, ◌≤◌, ◌<◌, ◌+◌, ◌^◌, ◌++◌, ◌∷◌, [], OnOk, string_bytes};
-ghost use Rattle.agg_decimals.specs.Decimal as spec;
+ghost use Rattle.peslumok_texts.specs.decimals.Decimal as spec;
 
-use crate::Places;
+use crate::decimals::Places;
 use std::alloc::AllocError;
 use std::fmt::Write;
 
@@ -40,7 +40,7 @@ fn write_fraction(out: &mut String, number: u128, places: u32) -> Result<(), All
 }
 
 // Appends the last digits of a number.
-#[tactic(auto, using(crate::proofs::Digits::digit_written))]
+#[tactic(auto, using(crate::proofs::lemmas::decimals::Digits::digit_written))]
 fn write_last_digits(out: &mut String, number: u128, count: u32) -> Result<(), AllocError>
     requires { count ≤ 18 }
     ensures { OnOk result (string_bytes out.new
@@ -61,7 +61,7 @@ fn write_digit(out: &mut String, digit: u128) -> Result<(), AllocError>
 }
 
 // How many of the last place are one.
-#[tactic(auto, using(crate::proofs::Digits::unit_positive))]
+#[tactic(auto, using(crate::proofs::lemmas::decimals::Digits::unit_positive))]
 fn unit(places: u32) -> u128
     requires { places ≤ 18 }
     ensures value { result ≡ 10 ^ places }

@@ -1,7 +1,7 @@
 ghost use Rattle.std.specs.Prelude.{◌≡◌};
 
-use agg_dates::DateError;
-use agg_decimals::{DecimalError, Places};
+use crate::dates::DateError;
+use crate::decimals::{DecimalError, Places};
 use agg_values::OutOfMemory;
 use std::error::Error;
 use std::fmt;
@@ -59,7 +59,7 @@ fn write_decimal_error<W: fmt::Write>(
 impl Error for ValueError {}
 
 impl From<OutOfMemory> for ValueError {
-    ghost use Rattle.agg_fields.specs.declared.error.ValueError.TheVariants as refusal;
+    ghost use Rattle.peslumok_texts.specs.declared.fields.error.ValueError.TheVariants as refusal;
 
     ghost from_gives = { λ _ error. error ≡ refusal.OutOfMemory };
 

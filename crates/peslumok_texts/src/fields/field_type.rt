@@ -1,5 +1,5 @@
-use agg_dates::DateUnit;
-use agg_decimals::Places;
+use crate::dates::DateUnit;
+use crate::decimals::Places;
 
 /// What a field of records holds.
 #[derive(Clone, Copy, Debug, PartialEq, Eq)]

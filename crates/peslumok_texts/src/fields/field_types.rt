@@ -1,8 +1,8 @@
 ghost use Rattle.std.specs.Prelude.{◌≡◌, [], IfOk, OnOk, OnErr};
 ghost use Rattle.agg_values.specs.Names.{value_of, put};
-ghost use Rattle.agg_fields.specs.Types.{type_of};
+ghost use Rattle.peslumok_texts.specs.fields.Types.{type_of};
 
-use crate::FieldType;
+use crate::fields::FieldType;
 use agg_values::{NameMap, OutOfMemory, Text};
 use std::alloc::Global;
 use std::marker::Model;
@@ -15,7 +15,7 @@ pub struct FieldTypes {
 
 impl Model for FieldTypes {
     ghost use Rattle.agg_values.specs.Names.{Named};
-    ghost use Rattle.agg_fields.specs.declared.field_type.FieldType.{FieldType};
+    ghost use Rattle.peslumok_texts.specs.declared.fields.field_type.FieldType.{FieldType};
 
     ghost Value = { Named FieldType };
 

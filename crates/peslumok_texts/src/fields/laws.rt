@@ -3,12 +3,12 @@ ghost use Rattle.std.specs.Prelude.{◌≡◌, ◌↔◌, ◌<◌, ◌^◌, ℕ,
 ghost use Rattle.std.specs.Prelude.{unsigned_abs, FitsSigned};
 ghost use Rattle.std.specs.Fmt.{signed_decimal};
 ghost use Rattle.std.specs.Int.{w64};
-ghost use Rattle.agg_column.specs.declared.document.FieldValue.TheVariants as value;
-ghost use Rattle.agg_dates.specs.Dates.{IsDateText};
-ghost use Rattle.agg_decimals.specs.Decimal.{decimal_text};
-ghost use Rattle.agg_fields.specs.Values.{text_value, number_value};
-ghost use Rattle.agg_fields.specs.Wholes.{whole_of, has_64_bits};
-ghost use Rattle.agg_fields.specs.declared.field_type.FieldType.TheVariants as of;
+ghost use Rattle.agg_segment.specs.declared.storage.document.FieldValue.TheVariants as value;
+ghost use Rattle.peslumok_texts.specs.dates.Dates.{IsDateText};
+ghost use Rattle.peslumok_texts.specs.decimals.Decimal.{decimal_text};
+ghost use Rattle.peslumok_texts.specs.fields.Values.{text_value, number_value};
+ghost use Rattle.peslumok_texts.specs.fields.Wholes.{whole_of, has_64_bits};
+ghost use Rattle.peslumok_texts.specs.declared.fields.field_type.FieldType.TheVariants as of;
 
 /// A text is a whole number exactly where it is how that number is written.
 pub fn whole_numbers_are_as_they_are_written()

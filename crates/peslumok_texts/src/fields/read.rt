@@ -1,14 +1,14 @@
 ghost use Rattle.std.specs.Prelude.{◌≡◌, ◌⊎◌, ℤ, Some, Ok, Err, IsTrue, IfOk, IfErr};
-ghost use Rattle.agg_dates.specs.Dates.{date_of};
-ghost use Rattle.agg_decimals.specs.Decimal.{decimal_of};
-ghost use Rattle.agg_fields.specs.Values as spec;
-ghost use Rattle.agg_fields.specs.Wholes.{whole_of, has_64_bits};
+ghost use Rattle.peslumok_texts.specs.dates.Dates.{date_of};
+ghost use Rattle.peslumok_texts.specs.decimals.Decimal.{decimal_of};
+ghost use Rattle.peslumok_texts.specs.fields.Values as spec;
+ghost use Rattle.peslumok_texts.specs.fields.Wholes.{whole_of, has_64_bits};
 
-use crate::whole::whole_number;
-use crate::{FieldType, ValueError};
-use agg_column::FieldValue;
-use agg_dates::{DateError, DateUnit, read_date};
-use agg_decimals::{Places, read_decimal};
+use crate::dates::{DateError, DateUnit, read_date};
+use crate::decimals::{Places, read_decimal};
+use crate::fields::whole::whole_number;
+use crate::fields::{FieldType, ValueError};
+use agg_segment::storage::FieldValue;
 use agg_values::{OutOfMemory, Text};
 use std::alloc::Global;
 

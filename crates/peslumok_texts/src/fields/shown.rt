@@ -1,10 +1,10 @@
 ghost use Rattle.std.specs.Prelude.{◌≡◌, ◌++◌, ℕ, List, OnOk, string_bytes};
 ghost use Rattle.std.specs.Fmt.{signed_decimal};
-ghost use Rattle.agg_fields.specs.Shown as spec;
+ghost use Rattle.peslumok_texts.specs.fields.Shown as spec;
 
-use crate::FieldType;
-use agg_dates::write_date;
-use agg_decimals::write_decimal;
+use crate::dates::write_date;
+use crate::decimals::write_decimal;
+use crate::fields::FieldType;
 use agg_values::{CompositeIntermediateKey, CompositeKey, OutOfMemory};
 use std::fmt::Write;
 

@@ -1,6 +1,6 @@
 //! Texts that are exactly how a whole number is written.
 ghost use Rattle.std.specs.Prelude.{◌≡◌, IsTrue, IfSome};
-ghost use Rattle.agg_fields.specs.Wholes as spec;
+ghost use Rattle.peslumok_texts.specs.fields.Wholes as spec;
 
 /// The whole number that a text is exactly how one writes, within i64 or u64.
 pub(crate) fn whole_number(text: &str) -> Option<i128>

@@ -1,9 +1,9 @@
 ghost use Rattle.std.specs.Prelude.{◌≡◌, Some, None, IfErr, MatchResult, option_map};
-ghost use Rattle.agg_words.specs.By as spec;
-ghost use Rattle.agg_words.specs.By.{AreUnknownWords, Parts};
-ghost use Rattle.agg_words.specs.Cut.{cut as cut_of};
+ghost use Rattle.peslumok_texts.specs.words.By as spec;
+ghost use Rattle.peslumok_texts.specs.words.By.{AreUnknownWords, Parts};
+ghost use Rattle.peslumok_texts.specs.words.Cut.{cut as cut_of};
 
-use crate::cut::cut;
+use crate::words::cut::cut;
 use thiserror::Error;
 
 /// Whether records without a value have a group, and where it stands.
@@ -125,7 +125,7 @@ fn is_blank(part: Option<&str>) -> bool
 }
 
 // What the words after the first comma say.
-#[tactic(auto, using(crate::proofs::Words::other), unfolding(crate::specs::By::words_of))]
+#[tactic(auto, using(crate::proofs::lemmas::words::Words::other), unfolding(crate::specs::words::By::words_of))]
 fn read_words(words: &str) -> Option<(bool, Missing)>
     ensures { result ≡ spec.words_of words.now }
 {

@@ -1,6 +1,6 @@
 ghost use Rattle.std.specs.Prelude.{◌≡◌, Some, None, IfErr, MatchResult, option_map};
 ghost use Rattle.std.specs.List.{position};
-ghost use Rattle.agg_words.specs.Condition as spec;
+ghost use Rattle.peslumok_texts.specs.words.Condition as spec;
 
 use thiserror::Error;
 
@@ -89,7 +89,7 @@ fn is_sign(byte: u8) -> bool
 }
 
 // What a text says from its sign on.
-#[tactic(auto, using(crate::proofs::Words::other))]
+#[tactic(auto, using(crate::proofs::lemmas::words::Words::other))]
 fn read_test(text: &str) -> Option<Test<'_>>
     ensures { option_map spec.demand result ≡ spec.test_of text.now }
 {

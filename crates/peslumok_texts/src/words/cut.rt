@@ -1,5 +1,5 @@
 ghost use Rattle.std.specs.Prelude.{◌≡◌, ◌<◌, option_map};
-ghost use Rattle.agg_words.specs.Cut as spec;
+ghost use Rattle.peslumok_texts.specs.words.Cut as spec;
 
 /// A text up to the first of a character, and what stands after that.
 pub(crate) fn cut(text: &str, delimiter: char) -> (&str, Option<&str>)

@@ -1,8 +1,8 @@
 ghost use Rattle.std.specs.Prelude.{◌≡◌, Some, None, MatchResult, IfErr};
-ghost use Rattle.agg_words.specs.DateField as spec;
+ghost use Rattle.peslumok_texts.specs.words.DateField as spec;
 
-use crate::cut::cut;
-use agg_dates::DateUnit;
+use crate::dates::DateUnit;
+use crate::words::cut::cut;
 use thiserror::Error;
 
 /// A field that holds dates: texts, or numbers of a unit.

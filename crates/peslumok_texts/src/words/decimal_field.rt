@@ -1,8 +1,9 @@
 ghost use Rattle.std.specs.Prelude.{ℕ, List, IfOk, IfErr, MatchOption};
-ghost use Rattle.agg_words.specs.DecimalField.{IsDecimalField, IsDecimalFieldFault, IsPlaces};
+ghost use Rattle.peslumok_texts.specs.words.DecimalField.{IsDecimalField, IsDecimalFieldFault};
+ghost use Rattle.peslumok_texts.specs.words.DecimalField.{IsPlaces};
 
-use crate::cut::cut;
-use agg_decimals::Places;
+use crate::decimals::Places;
+use crate::words::cut::cut;
 use thiserror::Error;
 
 /// A field that holds decimal numbers, and how many decimals they have.

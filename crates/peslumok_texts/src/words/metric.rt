@@ -1,5 +1,5 @@
 ghost use Rattle.std.specs.Prelude.{◌≡◌};
-ghost use Rattle.agg_words.specs.Metric.{word_of};
+ghost use Rattle.peslumok_texts.specs.words.Metric.{word_of};
 
 /// What a metric tells of a field's values.
 #[derive(Clone, Copy, Debug, PartialEq, Eq)]

@@ -16,8 +16,8 @@ use Rattle.jiff_fmt.specs.Temporal.{temporal_datetime, parse_pieces, zulu, date_
 use Rattle.jiff_fmt.specs.Temporal.{PiecesParts}
 use Rattle.std.proofs.lemmas.Int.{ints}
 use Rattle.std.proofs.lemmas.Bool.Decides.{nat_tests}
-use Rattle.agg_dates.specs.Dates.{date_of, clock_text, IsDateText, in_range, writes_sixty}
-use Rattle.agg_dates.specs.Dates.{writes_sixty_after}
+use Rattle.peslumok_texts.specs.dates.Dates.{date_of, clock_text, IsDateText, in_range}
+use Rattle.peslumok_texts.specs.dates.Dates.{writes_sixty, writes_sixty_after}
 use Rattle.jiff_fmt.proofs.RoundTrip.{Stops, date_spec-text, datetime-text, time_spec-text}
 use Rattle.jiff_fmt.proofs.RoundTrip.{offset-zulu, annotations-empty}
 

@@ -4,7 +4,7 @@ use Rattle.std.proofs.Common.{refl, arith, drop, length, get_or, ◌∙◌, subs
 use Rattle.std.proofs.Common.{◌/◌, ◌%◌}
 use Rattle.std.proofs.lemmas.List.{append_assoc}
 use native.Mathlib.Numerals.{unary_clauses}
-use Rattle.agg_decimals.specs.Decimal.{number_after, last_digits}
+use Rattle.peslumok_texts.specs.decimals.Decimal.{number_after, last_digits}
 
 -- more digits make no smaller number
 pub after_ge : (n : ℕ) (ds : List ℕ) → n ≤ number_after n ds

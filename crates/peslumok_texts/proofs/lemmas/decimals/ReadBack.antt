@@ -13,10 +13,10 @@ use Rattle.std.proofs.lemmas.Bool.Decides.{nat_tests}
 use Rattle.std.proofs.lemmas.Int.{ints}
 use Rattle.std.proofs.lemmas.Fmt.{decimal_by_steps, decimal_nonempty}
 use Rattle.std.proofs.lemmas.List.Folds.{list_all-append}
-use Rattle.agg_decimals.specs.Decimal.{number_after, last_digits, fraction, fraction_text, sign}
-use Rattle.agg_decimals.specs.Decimal.{sign_text, magnitude, in_places, counted, decimal_of}
-use Rattle.agg_decimals.specs.Decimal.{decimal_text}
-use Rattle.agg_decimals.proofs.Digits.{after_append, unit_positive, pow_more}
+use Rattle.peslumok_texts.specs.decimals.Decimal.{number_after, last_digits, fraction}
+use Rattle.peslumok_texts.specs.decimals.Decimal.{fraction_text, sign, sign_text, magnitude}
+use Rattle.peslumok_texts.specs.decimals.Decimal.{in_places, counted, decimal_of, decimal_text}
+use Rattle.peslumok_texts.proofs.lemmas.decimals.Digits.{after_append, unit_positive, pow_more}
 
 pub digit_is : (n : ℕ) → is_ascii_digit (48 + n % 10) ≡ true
 digit_is n = grind (arith, nat_tests)

@@ -4,11 +4,11 @@ use Rattle.std.proofs.Common.{w64}
 use Rattle.std.proofs.lemmas.Int.{ints}
 use Rattle.agg_values.specs.declared.typed_key.CompositeIntermediateKey.{CompositeIntermediateKey}
 use Rattle.agg_values.specs.declared.typed_key.CompositeIntermediateKey.TheVariants.{DateTime}
-use Rattle.agg_dates.specs.Dates.{IsDateText, in_range}
-use Rattle.agg_dates.specs.declared.unit.DateUnit.{DateUnit}
-use Rattle.agg_fields.specs.Shown.{IsNanosText, IsNumberText, IsValueText}
-use Rattle.agg_fields.specs.declared.field_type.FieldType.{FieldType}
-use Rattle.agg_fields.specs.declared.field_type.FieldType.TheVariants.{Date, DateNumber}
+use Rattle.peslumok_texts.specs.dates.Dates.{IsDateText, in_range}
+use Rattle.peslumok_texts.specs.declared.dates.unit.DateUnit.{DateUnit}
+use Rattle.peslumok_texts.specs.fields.Shown.{IsNanosText, IsNumberText, IsValueText}
+use Rattle.peslumok_texts.specs.declared.fields.field_type.FieldType.{FieldType}
+use Rattle.peslumok_texts.specs.declared.fields.field_type.FieldType.TheVariants.{Date, DateNumber}
 
 in_range-fits : (n : ℤ) → FitsSigned w64 n → in_range n ≡ Ok n
 in_range-fits n fits = grind (arith, ints, fits)

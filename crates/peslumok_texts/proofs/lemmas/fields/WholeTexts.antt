@@ -15,7 +15,7 @@ use Rattle.std.proofs.lemmas.Fmt.{decimal-digits_value}
 use Rattle.std.proofs.lemmas.Int.{ints}
 use Rattle.std.proofs.lemmas.Slice.Eq.{bytes_eq-Decides}
 use Rattle.std.proofs.lemmas.Str.Parse.{IsNumeralModel, numerals_by_value, tells_digits, digit_at}
-use Rattle.agg_fields.specs.Wholes.{has_64_bits, whole_of, begins_bare}
+use Rattle.peslumok_texts.specs.fields.Wholes.{has_64_bits, whole_of, begins_bare}
 
 own : IsNumeralModel (AllDigits 10) (digits_value 10)
 own = numerals_by_value (AllDigits 10) tells_digits

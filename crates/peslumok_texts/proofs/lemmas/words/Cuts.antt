@@ -4,7 +4,7 @@ use Rattle.std.proofs.Common.{arith, length, nat_lt, drop, take_at, drop_at, len
 use Rattle.std.proofs.Common.{subst, sym}
 use Rattle.std.proofs.lemmas.List.{append_assoc}
 use Rattle.std.proofs.lemmas.Bool.Decides.{nat_tests}
-use Rattle.agg_words.specs.Cut.{Lacks, cut, place_of}
+use Rattle.peslumok_texts.specs.words.Cut.{Lacks, cut, place_of}
 
 pub lacks_append : (c : ℕ) (xs ys : List ℕ) → Lacks c xs → Lacks c ys → Lacks c (xs ++ ys)
 lacks_append c [] ys l m = m

@@ -3,7 +3,7 @@ use Rattle.std.proofs.Common.{◌≡◌, ℕ, List, Option, Some, None, refl, tr
 use Rattle.std.specs.Prelude.{MatchOption}
 use Rattle.std.specs.Str.Pattern.{FindsTextPrefix, StripsPrefix}
 use Rattle.std.proofs.lemmas.Str.Pattern.{starts_text}
-use Rattle.agg_words.specs.Condition.{after_prefix}
+use Rattle.peslumok_texts.specs.words.Condition.{after_prefix}
 
 -- `strip_prefix` gives what stands after a prefix
 pub after_prefix-strips : (n s : List ℕ) (r : Option (Bor (List ℕ)))

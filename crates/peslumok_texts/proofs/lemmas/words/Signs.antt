@@ -8,8 +8,8 @@ use Rattle.std.proofs.lemmas.Str.{IsCharBoundary-before_ascii}
 use Rattle.std.proofs.lemmas.List.Quantifiers.{position-Some}
 use Rattle.std.specs.List.{position}
 use Rattle.std.specs.Str.{IsCharBoundary}
-use Rattle.agg_words.specs.Condition.{Demand, LacksTest, after_prefix, at_sign}
-use Rattle.agg_words.specs.Condition.{demand_or, is_sign, test_of}
+use Rattle.peslumok_texts.specs.words.Condition.{Demand, LacksTest, after_prefix, at_sign}
+use Rattle.peslumok_texts.specs.words.Condition.{demand_or, is_sign, test_of}
 
 -- a sign is ASCII
 is_sign-ascii : (b : ℕ) → is_sign b ≡ true → b < 128

@@ -2,12 +2,14 @@
 use Rattle.std.proofs.Common.{◌≡◌, ◌++◌, ◌==◌, ℕ, List, [], ◌∷◌, Bool, true, false, Some, None}
 use Rattle.std.proofs.Common.{Option, refl, append-nil, codes}
 use Rattle.std.proofs.lemmas.List.{append_assoc}
-use Rattle.agg_words.specs.Cut.{Lacks, LacksIfAny, cut}
-use Rattle.agg_words.specs.By.{Parts, IsPlain, words_of, words_after, words_text, name_text}
-use Rattle.agg_words.specs.By.{interval_text, head_text, by_text, by_of, name_and_rest}
-use Rattle.agg_words.specs.declared.by.Missing.{Missing}
-use Rattle.agg_words.specs.declared.by.Missing.TheVariants.{NoGroup, ByOrder, First, Last}
-use Rattle.agg_words.proofs.Cuts.{lacks_append, cut-none, cut-at}
+use Rattle.peslumok_texts.specs.words.Cut.{Lacks, LacksIfAny, cut}
+use Rattle.peslumok_texts.specs.words.By.{Parts, IsPlain, words_of, words_after, words_text}
+use Rattle.peslumok_texts.specs.words.By.{name_text, interval_text, head_text, by_text, by_of}
+use Rattle.peslumok_texts.specs.words.By.{name_and_rest}
+use Rattle.peslumok_texts.specs.declared.words.by.Missing.{Missing}
+use Rattle.peslumok_texts.specs.declared.words.by.Missing.TheVariants.{NoGroup, ByOrder, First}
+use Rattle.peslumok_texts.specs.declared.words.by.Missing.TheVariants.{Last}
+use Rattle.peslumok_texts.proofs.lemmas.words.Cuts.{lacks_append, cut-none, cut-at}
 
 -- the words are cut off and read
 words_cut : (head : List ℕ) (d : Bool) (m : Missing) → Lacks 44 head

@@ -1,9 +1,9 @@
 use Rattle.std.proofs.Common.{◌≡◌, refl, string_bytes, FitsSigned, w64, Ok}
 use Rattle.std.proofs.lemmas.Int.{to_z-of_z}
 use Rattle.jiff_core.specs.DateTime.{civil_nanos}
-use Rattle.agg_dates.specs.Dates.{clock_text, date_of, IsDateText}
-use Rattle.agg_dates.proofs.Printed.{appended, reads-date}
-use Rattle.agg_dates.proofs.write.write_date.Goals as goal
+use Rattle.peslumok_texts.specs.dates.Dates.{clock_text, date_of, IsDateText}
+use Rattle.peslumok_texts.proofs.lemmas.dates.Printed.{appended, reads-date}
+use Rattle.peslumok_texts.proofs.dates.write.write_date.Goals as goal
 
 pub returns-clause-text : goal.returns-clause-text
 returns-clause-text c =

@@ -1,7 +1,7 @@
 use Rattle.std.proofs.Common.{◌<◌, ◌-◌, length, subst}
-use Rattle.agg_decimals.specs.Decimal.{number_after}
-use Rattle.agg_decimals.proofs.Digits.{too_large, too_large_after}
-use Rattle.agg_decimals.proofs.read.in_places.Goals as goal
+use Rattle.peslumok_texts.specs.decimals.Decimal.{number_after}
+use Rattle.peslumok_texts.proofs.lemmas.decimals.Digits.{too_large, too_large_after}
+use Rattle.peslumok_texts.proofs.decimals.read.in_places.Goals as goal
 
 pub returns-in_default : goal.returns-in_default
 returns-in_default c =

@@ -1,6 +1,6 @@
 use Rattle.std.proofs.Common.{◌<◌, length, arith, subst}
-use Rattle.agg_decimals.proofs.Digits.{stuck}
-use Rattle.agg_decimals.proofs.read.push_digits.Goals as goal
+use Rattle.peslumok_texts.proofs.lemmas.decimals.Digits.{stuck}
+use Rattle.peslumok_texts.proofs.decimals.read.push_digits.Goals as goal
 
 pub returns-in-None : goal.returns-in-None
 returns-in-None c =

@@ -1,6 +1,6 @@
 use Rattle.std.proofs.Common.{◌≡◌, ◌<◌, ◌^◌, drop}
-use Rattle.agg_decimals.specs.Decimal.{number_after}
-use Rattle.agg_decimals.proofs.read.push_digits.Given as goal
+use Rattle.peslumok_texts.specs.decimals.Decimal.{number_after}
+use Rattle.peslumok_texts.proofs.decimals.read.push_digits.Given as goal
 
 -- what is still to come leads from the value so far to the number of all
 abbrev pub invariant-loop-digit : goal.invariant-loop-digit

@@ -1,7 +1,7 @@
 use Rattle.std.proofs.Common.{◌<◌, ◌/◌, ◌%◌, ◌++◌, string_bytes, arith, ap}
-use Rattle.agg_decimals.specs.Decimal.{last_digits}
-use Rattle.agg_decimals.proofs.Digits.{digit_written}
-use Rattle.agg_decimals.proofs.write.write_last_digits.Goals as goal
+use Rattle.peslumok_texts.specs.decimals.Decimal.{last_digits}
+use Rattle.peslumok_texts.proofs.lemmas.decimals.Digits.{digit_written}
+use Rattle.peslumok_texts.proofs.decimals.write.write_last_digits.Goals as goal
 
 pub loop-written-preserved : goal.loop-written-preserved
 loop-written-preserved c =

@@ -1,6 +1,6 @@
 use Rattle.std.proofs.Common.{◌≡◌, ◌++◌, ◌-◌, string_bytes}
-use Rattle.agg_decimals.specs.Decimal.{last_digits}
-use Rattle.agg_decimals.proofs.write.write_last_digits.Given as goal
+use Rattle.peslumok_texts.specs.decimals.Decimal.{last_digits}
+use Rattle.peslumok_texts.proofs.decimals.write.write_last_digits.Given as goal
 
 -- what is written and what is to come are all of them
 abbrev pub invariant-loop-written : goal.invariant-loop-written

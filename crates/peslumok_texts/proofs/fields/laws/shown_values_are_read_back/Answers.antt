@@ -1,10 +1,10 @@
 use Rattle.std.proofs.Common.{ap, Ok}
-use Rattle.agg_dates.proofs.Printed.{reads-date}
-use Rattle.agg_decimals.proofs.ReadBack.{decimal_of-decimal_text}
-use Rattle.agg_fields.specs.Values.{number_or_text, date_value, decimal_value}
+use Rattle.peslumok_texts.proofs.lemmas.dates.Printed.{reads-date}
+use Rattle.peslumok_texts.proofs.lemmas.decimals.ReadBack.{decimal_of-decimal_text}
+use Rattle.peslumok_texts.specs.fields.Values.{number_or_text, date_value, decimal_value}
 use Rattle.std.specs.Fmt.{signed_decimal}
-use Rattle.agg_fields.proofs.WholeTexts.{whole_of-signed_decimal}
-use Rattle.agg_fields.proofs.laws.shown_values_are_read_back.Goals as goal
+use Rattle.peslumok_texts.proofs.lemmas.fields.WholeTexts.{whole_of-signed_decimal}
+use Rattle.peslumok_texts.proofs.fields.laws.shown_values_are_read_back.Goals as goal
 
 pub returns-clause-numbers : goal.returns-clause-numbers
 returns-clause-numbers c = λ number small.

@@ -1,8 +1,8 @@
 use Rattle.std.proofs.Common.{◌≡◌, ◌∙◌, ℤ, FitsSigned, w64, subst, ap, to_z, of_z}
 use mir.Syntax.{w128}
 use Rattle.std.proofs.lemmas.Int.{to_z-of_z}
-use Rattle.agg_fields.proofs.ShownTexts.{nanos_text}
-use Rattle.agg_fields.proofs.shown.write_nanos.Goals as goal
+use Rattle.peslumok_texts.proofs.lemmas.fields.ShownTexts.{nanos_text}
+use Rattle.peslumok_texts.proofs.fields.shown.write_nanos.Goals as goal
 
 pub returns-in_ok-write_date-in-Ok : goal.returns-in_ok-write_date-in-Ok
 returns-in_ok-write_date-in-Ok c =

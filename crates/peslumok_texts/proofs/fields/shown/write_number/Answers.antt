@@ -2,8 +2,8 @@ use Rattle.std.proofs.Common.{◌≡◌, to_z, of_z}
 use mir.Syntax.{w128}
 use Rattle.std.proofs.lemmas.Int.{to_z-of_z}
 use Rattle.std.proofs.lemmas.Result.{on_ok_weaker}
-use Rattle.agg_fields.proofs.ShownTexts.{number_text}
-use Rattle.agg_fields.proofs.shown.write_number.Goals as goal
+use Rattle.peslumok_texts.proofs.lemmas.fields.ShownTexts.{number_text}
+use Rattle.peslumok_texts.proofs.fields.shown.write_number.Goals as goal
 
 pub returns-in-Date : goal.returns-in-Date
 returns-in-Date c =

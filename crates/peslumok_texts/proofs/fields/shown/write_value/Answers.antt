@@ -1,6 +1,6 @@
 use Rattle.std.proofs.Common.{◌≡◌, rules, w64, to_z, of_z}
-use Rattle.agg_fields.proofs.ShownTexts.{date_text}
-use Rattle.agg_fields.proofs.shown.write_value.Goals as goal
+use Rattle.peslumok_texts.proofs.lemmas.fields.ShownTexts.{date_text}
+use Rattle.peslumok_texts.proofs.fields.shown.write_value.Goals as goal
 
 pub returns-in_ok-write_date-in-DateTime : goal.returns-in_ok-write_date-in-DateTime
 returns-in_ok-write_date-in-DateTime c =

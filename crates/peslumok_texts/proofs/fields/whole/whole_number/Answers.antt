@@ -2,9 +2,10 @@ use Rattle.std.proofs.Common.{◌≡◌, ◌∙◌, ℤ, true, false, sym, ap, S
 use mir.Syntax.{w128}
 use Rattle.std.specs.Str.Parse.{signed_digits_value}
 use Rattle.std.proofs.lemmas.Int.{to_z-of_z}
-use Rattle.agg_fields.specs.Wholes.{begins_bare, has_64_bits}
-use Rattle.agg_fields.proofs.WholeTexts.{none_unless_bare, none_unless_digits, some_where_bare}
-use Rattle.agg_fields.proofs.whole.whole_number.Goals as goal
+use Rattle.peslumok_texts.specs.fields.Wholes.{begins_bare, has_64_bits}
+use Rattle.peslumok_texts.proofs.lemmas.fields.WholeTexts.{none_unless_bare, none_unless_digits}
+use Rattle.peslumok_texts.proofs.lemmas.fields.WholeTexts.{some_where_bare}
+use Rattle.peslumok_texts.proofs.fields.whole.whole_number.Goals as goal
 
 pub returns-then-not-begins_bare-clause-value : goal.returns-then-not-begins_bare-clause-value
 returns-then-not-begins_bare-clause-value c =

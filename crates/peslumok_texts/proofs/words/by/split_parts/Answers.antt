@@ -1,5 +1,5 @@
 use Rattle.std.proofs.Common.{refl}
-use Rattle.agg_words.proofs.by.split_parts.Goals as goal
+use Rattle.peslumok_texts.proofs.words.by.split_parts.Goals as goal
 
 pub returns : goal.returns
 returns c =

@@ -1,5 +1,5 @@
-use Rattle.agg_words.proofs.Prefixes.{after_prefix-strips}
-use Rattle.agg_words.proofs.condition.after_prefix.Goals as goal
+use Rattle.peslumok_texts.proofs.lemmas.words.Prefixes.{after_prefix-strips}
+use Rattle.peslumok_texts.proofs.words.condition.after_prefix.Goals as goal
 
 pub returns : goal.returns
 returns c =

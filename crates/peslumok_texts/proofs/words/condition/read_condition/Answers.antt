@@ -1,6 +1,6 @@
 use Rattle.std.proofs.Common.{lit<, sym}
-use Rattle.agg_words.proofs.Signs.{more_after_question}
-use Rattle.agg_words.proofs.condition.read_condition.Goals as goal
+use Rattle.peslumok_texts.proofs.lemmas.words.Signs.{more_after_question}
+use Rattle.peslumok_texts.proofs.words.condition.read_condition.Goals as goal
 
 pub returns-in-None-2-clause-cause : goal.returns-in-None-2-clause-cause
 returns-in-None-2-clause-cause c =

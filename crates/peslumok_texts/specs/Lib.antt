@@ -1,0 +1,4 @@
+pub mod dates
+pub mod decimals
+pub mod fields
+pub mod words

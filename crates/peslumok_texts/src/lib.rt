@@ -1,0 +1,6 @@
+#![tactic(auto)]
+
+pub mod dates;
+pub mod decimals;
+pub mod fields;
+pub mod words;
