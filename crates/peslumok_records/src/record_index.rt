@@ -1,9 +1,7 @@
 //! Records as the one snapshot of their documents, and what is told of them.
-#![tactic(auto)]
-
-mod format;
-mod index;
-mod report;
+pub(crate) mod format;
+pub(crate) mod index;
+pub(crate) mod report;
 
 pub use format::format_of;
 pub use index::Index;

@@ -3,12 +3,12 @@ use Rattle.std.specs.Prelude.{◌+◌, ℕ, List, [], ◌∷◌}
 use Rattle.std.specs.Prelude.{Option, Some, None, option_and_then, option_map}
 use Rattle.std.specs.Prelude.{slice_get}
 use Rattle.csv.specs.Records.{field_at}
-use Rattle.agg_column.specs.Document.{Fields, meaning}
-use Rattle.agg_column.specs.declared.document.FieldValue.{FieldValue}
-use Rattle.agg_fields.specs.Values.{text_value}
-use Rattle.agg_fields.specs.declared.field_type.FieldType.{FieldType}
-use Rattle.agg_held_records.specs.Values.{alone, joined, named_values, value_read}
-use Rattle.agg_held_records.specs.declared.asked.AskedField.{AskedField}
+use Rattle.agg_segment.specs.storage.Document.{Fields, meaning}
+use Rattle.agg_segment.specs.declared.storage.document.FieldValue.{FieldValue}
+use Rattle.peslumok_texts.specs.fields.Values.{text_value}
+use Rattle.peslumok_texts.specs.declared.fields.field_type.FieldType.{FieldType}
+use Rattle.peslumok_records.specs.held.Values.{alone, joined, named_values, value_read}
+use Rattle.peslumok_records.specs.declared.held.asked.AskedField.{AskedField}
 
 -- the values of a cell: an empty one has none
 abbrev pub cell_values : FieldType → List ℕ → Option (List FieldValue)

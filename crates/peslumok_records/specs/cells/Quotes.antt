@@ -3,8 +3,8 @@ use Rattle.std.specs.Prelude.{◌≡◌, ◌==◌, ◌⊎◌, ◌++◌, ◌∷�
 use Rattle.std.specs.List.{list_any}
 use Rattle.csv.specs.declared.parser.State.{State}
 use Rattle.csv.specs.declared.parser.State.TheVariants as st
-use Rattle.agg_cell_records.specs.declared.quotes.CellPart.{CellPart}
-use Rattle.agg_cell_records.specs.declared.quotes.CellPart.TheVariants as part
+use Rattle.peslumok_records.specs.declared.cells.quotes.CellPart.{CellPart}
+use Rattle.peslumok_records.specs.declared.cells.quotes.CellPart.TheVariants as part
 
 -- the reader of cells is in this state where the next byte stands in this part of a cell
 abbrev pub IsStateIn : CellPart → State → Type 0

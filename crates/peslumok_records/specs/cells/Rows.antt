@@ -8,10 +8,10 @@ use Rattle.csv.specs.declared.error.ErrorKind.TheVariants as kind
 use Rattle.csv.specs.declared.parser.State.TheVariants as st
 use Rattle.csv.specs.declared.reader.Trim.TheVariants as trim
 use Rattle.agg_values.specs.Nothing.{NoneIs}
-use Rattle.agg_held_records.specs.declared.asked.AskedField.{AskedField}
-use Rattle.agg_cell_records.specs.Csv.{AreEven, AreRowsOf, AreTexts, cells_config}
-use Rattle.agg_cell_records.specs.Table.{AreTableDocuments}
-use Rattle.agg_cell_records.specs.declared.rows.Rows.{Rows}
+use Rattle.peslumok_records.specs.declared.held.asked.AskedField.{AskedField}
+use Rattle.peslumok_records.specs.cells.Csv.{AreEven, AreRowsOf, AreTexts, cells_config}
+use Rattle.peslumok_records.specs.cells.Table.{AreTableDocuments}
+use Rattle.peslumok_records.specs.declared.cells.rows.Rows.{Rows}
 
 -- how many cells the first of these rows has
 abbrev pub width_of : List (List (List ℕ)) → Option ℕ

@@ -2,11 +2,11 @@
 use Rattle.std.specs.Prelude.{◌≡◌, ◌≢◌, ◌⊎◌, ◌∷◌, ℕ, List, [], Option, Some, None, map}
 use Rattle.std.specs.List.{AllZip}
 use Rattle.csv.specs.Records.{field_at}
-use Rattle.agg_column.specs.Document.{Fields}
-use Rattle.agg_held_records.specs.Documents.{AreRead}
-use Rattle.agg_held_records.specs.declared.asked.AskedField.{AskedField}
-use Rattle.agg_cell_records.specs.Cells.{row_document}
-use Rattle.agg_cell_records.specs.Csv.{AreRowsOf}
+use Rattle.agg_segment.specs.storage.Document.{Fields}
+use Rattle.peslumok_records.specs.held.Documents.{AreRead}
+use Rattle.peslumok_records.specs.declared.held.asked.AskedField.{AskedField}
+use Rattle.peslumok_records.specs.cells.Cells.{row_document}
+use Rattle.peslumok_records.specs.cells.Csv.{AreRowsOf}
 
 -- the place of the one cell of a header that is this name, or that no cell is
 abbrev pub IsPlaceOf : List (List ℕ) → List ℕ → Option ℕ → Type 0

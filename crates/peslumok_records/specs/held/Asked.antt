@@ -1,8 +1,8 @@
 -- The fields that are asked for.
 use Rattle.std.specs.Prelude.{◌≡◌, ◌==◌, ◌⊎◌, ◌++◌, ◌∷◌, [], ℕ, List, Any}
 use Rattle.std.specs.List.{slice_split}
-use Rattle.agg_fields.specs.declared.field_type.FieldType.{FieldType}
-use Rattle.agg_held_records.specs.declared.asked.AskedField.{AskedField}
+use Rattle.peslumok_texts.specs.declared.fields.field_type.FieldType.{FieldType}
+use Rattle.peslumok_records.specs.declared.held.asked.AskedField.{AskedField}
 
 -- a name cut at its points
 abbrev pub path_of : List ℕ → List (List ℕ)

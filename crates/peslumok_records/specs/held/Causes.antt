@@ -1,7 +1,7 @@
 -- What the cause of an error tells of a text.
 use Rattle.std.specs.Prelude.{Bool, true, false}
-use Rattle.agg_held_records.specs.declared.error.RecordCause.{RecordCause}
-use Rattle.agg_held_records.specs.declared.error.RecordCause.TheVariants as cause
+use Rattle.peslumok_records.specs.declared.held.error.RecordCause.{RecordCause}
+use Rattle.peslumok_records.specs.declared.held.error.RecordCause.TheVariants as cause
 
 -- the text is in another encoding, or has a fault, or memory ended
 pub data CauseKind : Type 0 where

@@ -1,7 +1,7 @@
 -- Documents that are read one by one.
 use Rattle.std.specs.Prelude.{◌≡◌, ◌∷◌, [], List, Option, Some}
 use Rattle.std.specs.List.{AllZip}
-use Rattle.agg_column.specs.Document.{Fields}
+use Rattle.agg_segment.specs.storage.Document.{Fields}
 use Rattle.agg_segment.specs.Segment.{IsMixed}
 
 -- a segment can hold the document: no field has a number below zero and one above those of an i64

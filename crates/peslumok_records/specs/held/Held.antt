@@ -1,9 +1,9 @@
 -- The documents of records that were read.
 use Rattle.std.specs.Prelude.{◌≡◌, ◌++◌, ◌∷◌, [], List, Option, flat_map}
-use Rattle.agg_column.specs.Document.{Fields}
+use Rattle.agg_segment.specs.storage.Document.{Fields}
 use Rattle.agg_segment.specs.Segment.{documents_of, gathered_documents}
-use Rattle.agg_held_records.specs.Documents.{IsRead}
-use Rattle.agg_held_records.specs.declared.records.Records.{Records}
+use Rattle.peslumok_records.specs.held.Documents.{IsRead}
+use Rattle.peslumok_records.specs.declared.held.records.Records.{Records}
 
 -- the documents of the records: those of the built segments, and those of the open one
 abbrev pub held_documents : Records → List Fields

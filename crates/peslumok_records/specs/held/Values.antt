@@ -1,10 +1,10 @@
 -- The values of asked fields, and the document that they make.
 use Rattle.std.specs.Prelude.{◌≡◌, ◌++◌, ◌∷◌, ℕ, List, [], Option, Some, None, map, option_and_then}
 use Rattle.std.specs.Prelude.{option_map, Result, Ok, Err}
-use Rattle.agg_column.specs.Document.{Fields, key_of, meaning}
-use Rattle.agg_column.specs.declared.document.FieldValue.{FieldValue}
+use Rattle.agg_segment.specs.storage.Document.{Fields, key_of, meaning}
+use Rattle.agg_segment.specs.declared.storage.document.FieldValue.{FieldValue}
 use Rattle.agg_segment.specs.Segment.{Gathered, open_document, with_key}
-use Rattle.agg_held_records.specs.declared.asked.AskedField.{AskedField}
+use Rattle.peslumok_records.specs.declared.held.asked.AskedField.{AskedField}
 
 -- the value that was read
 abbrev pub value_read : {A E : Type 0} → Result A E → Option A

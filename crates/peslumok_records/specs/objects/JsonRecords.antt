@@ -3,12 +3,12 @@ use Rattle.std.specs.Prelude.{◌≡◌, ◌-◌, ℕ, List, Option, Some, map, 
 use Rattle.json.specs.Json.{Json, array, document, max_depth, value}
 use Rattle.json.specs.Token.{Token}
 use Rattle.json.specs.Value.{items_of}
-use Rattle.agg_column.specs.Document.{Fields}
-use Rattle.agg_held_records.specs.Documents.{AreRead}
-use Rattle.agg_held_records.specs.Held.{Holds}
-use Rattle.agg_held_records.specs.declared.asked.AskedField.{AskedField}
-use Rattle.agg_held_records.specs.declared.records.Records.{Records}
-use Rattle.agg_json_records.specs.Objects.{object_document}
+use Rattle.agg_segment.specs.storage.Document.{Fields}
+use Rattle.peslumok_records.specs.held.Documents.{AreRead}
+use Rattle.peslumok_records.specs.held.Held.{Holds}
+use Rattle.peslumok_records.specs.declared.held.asked.AskedField.{AskedField}
+use Rattle.peslumok_records.specs.declared.held.records.Records.{Records}
+use Rattle.peslumok_records.specs.objects.Objects.{object_document}
 
 -- the document of the object that a text is
 abbrev pub text_document : List AskedField → List ℕ → Option Fields

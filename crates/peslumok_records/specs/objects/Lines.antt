@@ -3,10 +3,10 @@ use Rattle.std.specs.Prelude.{◌≡◌, ◌==◌, ◌||◌, ◌+◌, ◌-◌, �
 use Rattle.std.specs.Prelude.{filter, length, map, min, not}
 use Rattle.std.specs.List.{list_all, slice_split}
 use Rattle.agg_values.specs.Nothing.{NoneIs}
-use Rattle.agg_column.specs.Document.{Fields}
-use Rattle.agg_held_records.specs.Documents.{AreRead, IsRead}
-use Rattle.agg_held_records.specs.declared.asked.AskedField.{AskedField}
-use Rattle.agg_json_records.specs.JsonRecords.{text_document}
+use Rattle.agg_segment.specs.storage.Document.{Fields}
+use Rattle.peslumok_records.specs.held.Documents.{AreRead, IsRead}
+use Rattle.peslumok_records.specs.declared.held.asked.AskedField.{AskedField}
+use Rattle.peslumok_records.specs.objects.JsonRecords.{text_document}
 
 -- the lines of a text: cut at each line feed
 abbrev pub all_lines_of : List ℕ → List (List ℕ)

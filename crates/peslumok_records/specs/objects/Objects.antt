@@ -4,15 +4,15 @@ use Rattle.std.specs.Prelude.{Bool, codes, if◌then◌else◌}
 use Rattle.json.specs.Json.{Json, null, boolean, number, string, array, object, Items}
 use Rattle.json.specs.Json.{no_items, item}
 use Rattle.json.specs.Find.{as_object, get, later_or}
-use Rattle.agg_column.specs.Document.{Fields}
-use Rattle.agg_column.specs.declared.document.FieldValue.{FieldValue}
-use Rattle.agg_column.specs.declared.document.FieldValue.TheVariants as value
-use Rattle.agg_fields.specs.Values.{numeral_value, string_value}
-use Rattle.agg_fields.specs.declared.field_type.FieldType.{FieldType}
-use Rattle.agg_fields.specs.declared.field_type.FieldType.TheVariants as of
-use Rattle.agg_held_records.specs.Asked.{path_of}
-use Rattle.agg_held_records.specs.Values.{alone, document_of_fields, joined, value_read}
-use Rattle.agg_held_records.specs.declared.asked.AskedField.{AskedField}
+use Rattle.agg_segment.specs.storage.Document.{Fields}
+use Rattle.agg_segment.specs.declared.storage.document.FieldValue.{FieldValue}
+use Rattle.agg_segment.specs.declared.storage.document.FieldValue.TheVariants as value
+use Rattle.peslumok_texts.specs.fields.Values.{numeral_value, string_value}
+use Rattle.peslumok_texts.specs.declared.fields.field_type.FieldType.{FieldType}
+use Rattle.peslumok_texts.specs.declared.fields.field_type.FieldType.TheVariants as of
+use Rattle.peslumok_records.specs.held.Asked.{path_of}
+use Rattle.peslumok_records.specs.held.Values.{alone, document_of_fields, joined, value_read}
+use Rattle.peslumok_records.specs.declared.held.asked.AskedField.{AskedField}
 
 -- the member at the end of a path
 abbrev pub member_at : List (List ℕ) → Json → Option Json

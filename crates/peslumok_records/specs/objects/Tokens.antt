@@ -6,14 +6,15 @@ use Rattle.std.specs.Str.{bytes_eq}
 use Rattle.json.specs.Json.{Items, Json, Members, document, items, max_depth, members, object}
 use Rattle.json.specs.Json.{value}
 use Rattle.json.specs.Token.{Token}
-use Rattle.agg_fields.specs.declared.field_type.FieldType.{FieldType}
+use Rattle.peslumok_texts.specs.declared.fields.field_type.FieldType.{FieldType}
 use Rattle.agg_segment.specs.Segment.{Gathered}
-use Rattle.agg_held_records.specs.Asked.{path_of}
-use Rattle.agg_held_records.specs.Values.{Gains, named_values, values_of_fields}
-use Rattle.agg_held_records.specs.declared.asked.AskedField.{AskedField}
-use Rattle.agg_json_records.specs.Objects.{field_values, item_values, member_values, single_values}
-use Rattle.agg_json_records.specs.declared.tokens.Place.{Place}
-use Rattle.agg_json_records.specs.declared.tokens.Place.TheVariants as place
+use Rattle.peslumok_records.specs.held.Asked.{path_of}
+use Rattle.peslumok_records.specs.held.Values.{Gains, named_values, values_of_fields}
+use Rattle.peslumok_records.specs.declared.held.asked.AskedField.{AskedField}
+use Rattle.peslumok_records.specs.objects.Objects.{field_values, item_values, member_values}
+use Rattle.peslumok_records.specs.objects.Objects.{single_values}
+use Rattle.peslumok_records.specs.declared.objects.tokens.Place.{Place}
+use Rattle.peslumok_records.specs.declared.objects.tokens.Place.TheVariants as place
 
 -- ---- which field a member is of
 

@@ -1,9 +1,9 @@
 -- The snapshot of documents, and the fields that none of them has.
 use Rattle.std.specs.Prelude.{◌≡◌, ◌∷◌, [], ℕ, List, Bool, filter, flat_map, map, not}
 use Rattle.std.specs.List.{list_any}
-use Rattle.agg_column.specs.Columns.{StoredColumn, column_keys}
-use Rattle.agg_column.specs.Document.{Fields}
-use Rattle.agg_held_records.specs.declared.asked.AskedField.{AskedField}
+use Rattle.agg_segment.specs.storage.Columns.{StoredColumn, column_keys}
+use Rattle.agg_segment.specs.storage.Document.{Fields}
+use Rattle.peslumok_records.specs.declared.held.asked.AskedField.{AskedField}
 use Rattle.agg_segment.specs.Query.{holds, is_any}
 use Rattle.agg_segment.specs.Snapshot.{SnapshotDocuments}
 

@@ -2,13 +2,13 @@
 use Rattle.std.specs.Prelude.{ℕ, List}
 use Rattle.std.specs.Str.{IsUtf8}
 use Rattle.csv.specs.Reading.{strip_bom}
-use Rattle.agg_column.specs.Document.{Fields}
-use Rattle.agg_held_records.specs.declared.asked.AskedField.{AskedField}
-use Rattle.agg_cell_records.specs.Table.{AreTableDocuments}
-use Rattle.agg_json_records.specs.JsonRecords.{AreItemDocuments}
-use Rattle.agg_json_records.specs.Lines.{AreLineDocuments, lines_of}
-use Rattle.agg_records.specs.declared.format.RecordFormat.{RecordFormat}
-use Rattle.agg_records.specs.declared.format.RecordFormat.TheVariants as format
+use Rattle.agg_segment.specs.storage.Document.{Fields}
+use Rattle.peslumok_records.specs.declared.held.asked.AskedField.{AskedField}
+use Rattle.peslumok_records.specs.cells.Table.{AreTableDocuments}
+use Rattle.peslumok_records.specs.objects.JsonRecords.{AreItemDocuments}
+use Rattle.peslumok_records.specs.objects.Lines.{AreLineDocuments, lines_of}
+use Rattle.peslumok_records.specs.declared.records.format.RecordFormat.{RecordFormat}
+use Rattle.peslumok_records.specs.declared.records.format.RecordFormat.TheVariants as format
 
 -- these are the documents of a text in a format, by the asked fields
 abbrev pub AreDocumentsOf : RecordFormat → List AskedField → List ℕ → List Fields → Type 0

@@ -1,5 +1,5 @@
 //! Places of rows in a text.
-use agg_held_records::line_of;
+use crate::held::line_of;
 
 /// The line where a row begins that may have line ends before it.
 pub fn line_of_row(bytes: &[u8], offset: usize) -> u64 {

@@ -3,10 +3,10 @@ ghost use Rattle.std.specs.Prelude.{◌≡◌, ◌≢◌, false, true};
 ghost use Rattle.csv.specs.Machine.{step};
 ghost use Rattle.csv.specs.Reading.{strip_bom};
 ghost use Rattle.csv.specs.declared.parser.State.{State};
-ghost use Rattle.agg_cell_records.specs.Csv.{IsClosed, cells_config};
-ghost use Rattle.agg_cell_records.specs.Quotes.{IsStateIn, MayBeOpenIn};
+ghost use Rattle.peslumok_records.specs.cells.Csv.{IsClosed, cells_config};
+ghost use Rattle.peslumok_records.specs.cells.Quotes.{IsStateIn, MayBeOpenIn};
 
-use crate::encoding::without_mark;
+use crate::cells::encoding::without_mark;
 
 // Where in a cell a byte stands.
 #[derive(Clone, Copy)]

@@ -3,10 +3,10 @@ ghost use Rattle.std.specs.Prelude.{◌≡◌, ◌++◌, ◌∷◌, [], ℕ, Lis
 ghost use Rattle.std.specs.Prelude.{IfErr, IfOk, IfSome};
 ghost use Rattle.csv.specs.Reading.{strip_bom};
 ghost use Rattle.csv.specs.Records.{fields_of};
-ghost use Rattle.agg_held_records.specs.Causes.{is_encoding, is_fault};
+ghost use Rattle.peslumok_records.specs.held.Causes.{is_encoding, is_fault};
 
-use crate::quotes::{ends_in_quotes, may_end_in_quotes};
-use agg_held_records::RecordCause;
+use crate::cells::quotes::{ends_in_quotes, may_end_in_quotes};
+use crate::held::RecordCause;
 use csv::{ErrorKind, Reader, ReaderBuilder, StringRecord};
 use std::alloc::Global;
 use std::mem;
@@ -30,9 +30,10 @@ pub struct RowError {
 }
 
 impl<'a> Rows<'a> {
-    ghost use Rattle.agg_cell_records.specs.Csv.{IsClosed};
-    ghost use Rattle.agg_cell_records.specs.Quotes.{MayBeOpenAfter};
-    ghost use Rattle.agg_cell_records.specs.Rows.{HasNoDocuments, HasRead, HasReadAll, ReadsRow};
+    ghost use Rattle.peslumok_records.specs.cells.Csv.{IsClosed};
+    ghost use Rattle.peslumok_records.specs.cells.Quotes.{MayBeOpenAfter};
+    ghost use Rattle.peslumok_records.specs.cells.Rows.{HasNoDocuments, HasRead, HasReadAll};
+    ghost use Rattle.peslumok_records.specs.cells.Rows.{ReadsRow};
 
     /// The rows of a text, of which none is read yet.
     pub fn new(alloc: Global, delimiter: u8, text: &'a [u8]) -> Rows<'a>
@@ -123,7 +124,7 @@ fn last_cell(row: &StringRecord) -> Option<&str>
 }
 
 impl RowError {
-    ghost use Rattle.agg_cell_records.specs.Rows.{refuses_row};
+    ghost use Rattle.peslumok_records.specs.cells.Rows.{refuses_row};
 
     // Of no cell.
     fn of(cause: RecordCause) -> RowError

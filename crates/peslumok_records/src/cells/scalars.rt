@@ -1,11 +1,11 @@
 //! The value that a cell is, by the type of its field.
 ghost use Rattle.std.specs.Prelude.{◌≡◌, Some, None, IfOk, IfErr, false, true, option_to_list};
-ghost use Rattle.agg_held_records.specs.Causes.{is_encoding, is_fault};
-ghost use Rattle.agg_cell_records.specs.Cells.{cell_values};
+ghost use Rattle.peslumok_records.specs.held.Causes.{is_encoding, is_fault};
+ghost use Rattle.peslumok_records.specs.cells.Cells.{cell_values};
 
-use agg_column::FieldValue;
-use agg_fields::{FieldType, value_of_text};
-use agg_held_records::{RecordCause, value_or_cause};
+use crate::held::{RecordCause, value_or_cause};
+use agg_segment::storage::FieldValue;
+use peslumok_texts::fields::{FieldType, value_of_text};
 use std::alloc::Global;
 
 /// The value of a cell. An empty one has none.

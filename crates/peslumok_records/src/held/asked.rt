@@ -1,10 +1,10 @@
 //! The fields that are read of records.
 ghost use Rattle.std.specs.Prelude.{IfOk, OnErr, OnOk, [], ◌≡◌};
 ghost use Rattle.std.specs.List.{All};
-ghost use Rattle.agg_held_records.specs.Asked.{Asks, IsCut, path_of};
+ghost use Rattle.peslumok_records.specs.held.Asked.{Asks, IsCut, path_of};
 
-use agg_fields::FieldType;
 use agg_values::{OutOfMemory, Text};
+use peslumok_texts::fields::FieldType;
 use std::alloc::Global;
 use std::marker::Model;
 
@@ -27,8 +27,8 @@ pub struct AskedFields {
 impl Model for AskedFields {
     ghost use Rattle.std.specs.Prelude.{List};
     ghost use Rattle.std.specs.List.{All};
-    ghost use Rattle.agg_held_records.specs.Asked.{IsCut};
-    ghost use Rattle.agg_held_records.specs.declared.asked.AskedField.{AskedField};
+    ghost use Rattle.peslumok_records.specs.held.Asked.{IsCut};
+    ghost use Rattle.peslumok_records.specs.declared.held.asked.AskedField.{AskedField};
 
     ghost Value = { List AskedField };
 

@@ -1,9 +1,9 @@
 //! Where and why records cannot be read.
 ghost use Rattle.std.specs.Prelude.{◌≡◌, ◌≢◌, false, true};
-ghost use Rattle.agg_held_records.specs.Causes.{is_encoding, is_fault};
+ghost use Rattle.peslumok_records.specs.held.Causes.{is_encoding, is_fault};
 
-use agg_fields::ValueError;
 use agg_values::{OutOfMemory, Text};
+use peslumok_texts::fields::ValueError;
 use std::alloc::Global;
 use std::fmt;
 use thiserror::Error;

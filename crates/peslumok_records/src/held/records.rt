@@ -2,10 +2,10 @@
 ghost use Rattle.std.specs.Prelude.{◌≡◌, ◌++◌, ◌∷◌, [], true, false, flat_map, IfOk, OnOk};
 ghost use Rattle.agg_segment.specs.Segment.{documents_of, gathered_documents, no_fields};
 ghost use Rattle.agg_segment.specs.Segment.{IsMixed, open_document};
-ghost use Rattle.agg_held_records.specs.Documents.{FitsSegment};
-ghost use Rattle.agg_held_records.specs.Held.{held_documents};
+ghost use Rattle.peslumok_records.specs.held.Documents.{FitsSegment};
+ghost use Rattle.peslumok_records.specs.held.Held.{held_documents};
 
-use crate::AskedFields;
+use crate::held::AskedFields;
 use agg_segment::{BuildError, SegmentBuilder, SegmentReader};
 use agg_values::{OutOfMemory, Text};
 use std::alloc::Global;

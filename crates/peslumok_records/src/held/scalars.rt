@@ -1,12 +1,12 @@
 //! The value that a text is, or why it is none.
 ghost use Rattle.std.specs.Prelude.{◌≡◌, ◌≢◌, Some, Ok, Err, IfOk, IfErr, false, true};
-ghost use Rattle.agg_column.specs.declared.document.FieldValue.{FieldValue};
-ghost use Rattle.agg_fields.specs.declared.error.ValueError.{ValueError};
-ghost use Rattle.agg_held_records.specs.Causes.{is_encoding, is_fault};
+ghost use Rattle.agg_segment.specs.declared.storage.document.FieldValue.{FieldValue};
+ghost use Rattle.peslumok_texts.specs.declared.fields.error.ValueError.{ValueError};
+ghost use Rattle.peslumok_records.specs.held.Causes.{is_encoding, is_fault};
 
-use crate::RecordCause;
-use agg_column::FieldValue;
-use agg_fields::ValueError;
+use crate::held::RecordCause;
+use agg_segment::storage::FieldValue;
+use peslumok_texts::fields::ValueError;
 use std::alloc::Global;
 
 /// The value, or why a text is none.

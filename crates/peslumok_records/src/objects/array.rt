@@ -5,15 +5,15 @@ ghost use Rattle.json.specs.Json.{Json, max_depth, value};
 ghost use Rattle.json.specs.Reads.{token_of};
 ghost use Rattle.json.specs.Token.{Token as SpecToken};
 ghost use Rattle.agg_values.specs.Nothing.{NoneIs};
-ghost use Rattle.agg_held_records.specs.Documents.{IsRead};
-ghost use Rattle.agg_held_records.specs.Causes.{is_encoding, is_fault};
-ghost use Rattle.agg_held_records.specs.Held.{Adds};
-ghost use Rattle.agg_json_records.specs.JsonRecords.{AreItemDocuments, HoldsNext};
-ghost use Rattle.agg_json_records.specs.Objects.{object_document};
+ghost use Rattle.peslumok_records.specs.held.Documents.{IsRead};
+ghost use Rattle.peslumok_records.specs.held.Causes.{is_encoding, is_fault};
+ghost use Rattle.peslumok_records.specs.held.Held.{Adds};
+ghost use Rattle.peslumok_records.specs.objects.JsonRecords.{AreItemDocuments, HoldsNext};
+ghost use Rattle.peslumok_records.specs.objects.Objects.{object_document};
 
-use crate::objects::add_object;
-use crate::place::offset_of;
-use agg_held_records::{AskedFields, RecordCause, RecordError, Records, line_of};
+use crate::held::{AskedFields, RecordCause, RecordError, Records, line_of};
+use crate::objects::objects::add_object;
+use crate::objects::place::offset_of;
 use json::{Error, MAX_DEPTH, Reader, Scratch, Token, Value};
 use std::alloc::Global;
 

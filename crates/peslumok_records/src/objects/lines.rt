@@ -1,16 +1,17 @@
 //! JSON lines: an object on each line.
 ghost use Rattle.std.specs.Prelude.{◌≡◌, IfErr, IfOk, OnOk, false, true};
 ghost use Rattle.agg_values.specs.Nothing.{NoneIs};
-ghost use Rattle.agg_held_records.specs.Documents.{IsRead};
-ghost use Rattle.agg_held_records.specs.Causes.{is_encoding, is_fault};
-ghost use Rattle.agg_held_records.specs.Held.{Adds, Holds, held_documents};
-ghost use Rattle.agg_json_records.specs.JsonRecords.{text_document};
-ghost use Rattle.agg_json_records.specs.Lines.{AreLineDocuments, IsFirstFault, is_blank, lines_of};
+ghost use Rattle.peslumok_records.specs.held.Documents.{IsRead};
+ghost use Rattle.peslumok_records.specs.held.Causes.{is_encoding, is_fault};
+ghost use Rattle.peslumok_records.specs.held.Held.{Adds, Holds, held_documents};
+ghost use Rattle.peslumok_records.specs.objects.JsonRecords.{text_document};
+ghost use Rattle.peslumok_records.specs.objects.Lines.{AreLineDocuments, IsFirstFault, is_blank};
+ghost use Rattle.peslumok_records.specs.objects.Lines.{lines_of};
 
-use crate::objects::add_object;
-use crate::place::offset_of;
-use crate::tokens::push_text;
-use agg_held_records::{AskedFields, RecordCause, RecordError, Records};
+use crate::held::{AskedFields, RecordCause, RecordError, Records};
+use crate::objects::objects::add_object;
+use crate::objects::place::offset_of;
+use crate::objects::tokens::push_text;
 use json::{Error, Scratch, Value};
 use std::alloc::Global;
 

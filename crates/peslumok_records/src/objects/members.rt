@@ -1,10 +1,11 @@
 //! The members of an object that are asked for.
 ghost use Rattle.std.specs.Prelude.{◌≡◌, option_map};
 ghost use Rattle.json.specs.Value.{value_view};
-ghost use Rattle.agg_held_records.specs.Asked.{IsCut};
-ghost use Rattle.agg_json_records.specs.Objects.{member_at as at_path, member_of as of_field};
+ghost use Rattle.peslumok_records.specs.held.Asked.{IsCut};
+ghost use Rattle.peslumok_records.specs.objects.Objects.{member_at as at_path};
+ghost use Rattle.peslumok_records.specs.objects.Objects.{member_of as of_field};
 
-use agg_held_records::AskedField;
+use crate::held::AskedField;
 use agg_values::Text;
 use json::Value;
 

@@ -1,5 +1,5 @@
 //! Places where a record of JSON is wrong.
-use agg_held_records::{AskedField, AskedFields, RecordCause, RecordError};
+use crate::held::{AskedField, AskedFields, RecordCause, RecordError};
 use agg_values::Text;
 use json::{MAX_DEPTH, Reader, Scratch};
 use std::alloc::Global;

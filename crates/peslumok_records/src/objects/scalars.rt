@@ -2,16 +2,16 @@
 ghost use Rattle.std.specs.Prelude.{◌≡◌, Some, None, IfOk, IfErr, false, true};
 ghost use Rattle.std.specs.Prelude.{option_map, option_to_list};
 ghost use Rattle.json.specs.Value.{value_view};
-ghost use Rattle.agg_fields.specs.Values as spec;
-ghost use Rattle.agg_held_records.specs.Causes.{is_encoding, is_fault};
-ghost use Rattle.agg_held_records.specs.Values.{alone, value_read};
-ghost use Rattle.agg_json_records.specs.Objects.{bool_value as value_of_bool, single_values};
-ghost use Rattle.agg_json_records.specs.Objects.{bool_word as word_of_bool};
+ghost use Rattle.peslumok_texts.specs.fields.Values as spec;
+ghost use Rattle.peslumok_records.specs.held.Causes.{is_encoding, is_fault};
+ghost use Rattle.peslumok_records.specs.held.Values.{alone, value_read};
+ghost use Rattle.peslumok_records.specs.objects.Objects.{bool_value as value_of_bool};
+ghost use Rattle.peslumok_records.specs.objects.Objects.{single_values, bool_word as word_of_bool};
 
-use agg_column::FieldValue;
-use agg_fields::{FieldType, value_of_number, value_of_string};
-use agg_held_records::{RecordCause, value_or_cause};
+use crate::held::{RecordCause, value_or_cause};
+use agg_segment::storage::FieldValue;
 use json::Value;
+use peslumok_texts::fields::{FieldType, value_of_number, value_of_string};
 use std::alloc::Global;
 
 /// The value of a JSON value that is no array. `null` is none.

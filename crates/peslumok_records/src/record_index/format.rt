@@ -2,9 +2,9 @@
 ghost use Rattle.std.specs.Prelude.{◌≡◌, find, not, option_copied};
 ghost use Rattle.std.specs.Char.{is_ascii_whitespace};
 ghost use Rattle.csv.specs.Reading.{strip_bom};
-ghost use Rattle.agg_record_index.specs.Format as spec;
+ghost use Rattle.peslumok_records.specs.record_index.Format as spec;
 
-use agg_records::RecordFormat;
+use crate::records::RecordFormat;
 use std::path::Path;
 
 /// The format of a file: by the end of its name, or else by its first byte that isn't blank.
@@ -25,7 +25,7 @@ fn format_of_name(name: &str) -> Option<RecordFormat>
 }
 
 // The format that a file's extension tells.
-#[tactic(auto, using(crate::proofs::Words::other), unfolding(crate::specs::Format::format_of_end))]
+#[tactic(auto, using(crate::proofs::lemmas::record_index::Words::other), unfolding(crate::specs::record_index::Format::format_of_end))]
 fn format_of_extension(extension: &str) -> Option<RecordFormat>
     ensures { result ≡ spec.format_of_end extension.now }
 {

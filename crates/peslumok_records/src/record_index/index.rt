@@ -1,13 +1,14 @@
 //! The records of all files, kept for as many pages as are asked for.
 ghost use Rattle.std.specs.Prelude.{◌≡◌, IfOk, flat_map};
 ghost use Rattle.std.specs.List.{range_with_len};
-ghost use Rattle.agg_held_records.specs.Held.{held_documents};
+ghost use Rattle.peslumok_records.specs.held.Held.{held_documents};
 ghost use Rattle.agg_segment.specs.Segment.{documents_of};
 ghost use Rattle.agg_segment.specs.Snapshot.{snapshots_documents};
-ghost use Rattle.agg_record_index.specs.Index.{AreOneOf, has_keys, is_seen, unseen_names};
+ghost use Rattle.peslumok_records.specs.record_index.Index.{AreOneOf, has_keys, is_seen};
+ghost use Rattle.peslumok_records.specs.record_index.Index.{unseen_names};
 
-use crate::report::Report;
-use agg_held_records::{AskedFields, Records};
+use crate::held::{AskedFields, Records};
+use crate::record_index::report::Report;
 use agg_segment::{Column, SegmentReader, Snapshot};
 use agg_values::{ItemList, OutOfMemory, Text};
 use std::alloc::Global;

@@ -1,9 +1,9 @@
 //! Texts that begin as another encoding does.
 ghost use Rattle.std.specs.Prelude.{◌≡◌, ◌↔◌, IfErr, IsErrOf, IsTrue, OnOk, false};
-ghost use Rattle.agg_held_records.specs.Causes.{is_fault};
-ghost use Rattle.agg_records.specs.Encodings.{begins_as_gzip, begins_as_utf16};
+ghost use Rattle.peslumok_records.specs.held.Causes.{is_fault};
+ghost use Rattle.peslumok_records.specs.records.Encodings.{begins_as_gzip, begins_as_utf16};
 
-use agg_held_records::RecordCause;
+use crate::held::RecordCause;
 
 /// Refuses UTF-16, told by its byte order mark, and gzip.
 pub fn refuse_other_encodings(bytes: &[u8]) -> Result<(), RecordCause>

@@ -6,9 +6,9 @@ use Rattle.csv.specs.Machine.{step}
 use Rattle.csv.specs.declared.parser.Config.{Config}
 use Rattle.csv.specs.declared.parser.State.{State}
 use Rattle.csv.specs.declared.parser.State.TheVariants as st
-use Rattle.agg_cell_records.specs.Csv.{cells_config, state_after}
-use Rattle.agg_cell_records.specs.Quotes.{IsStateIn}
-use Rattle.agg_cell_records.specs.declared.quotes.CellPart.{CellPart}
+use Rattle.peslumok_records.specs.cells.Csv.{cells_config, state_after}
+use Rattle.peslumok_records.specs.cells.Quotes.{IsStateIn}
+use Rattle.peslumok_records.specs.declared.cells.quotes.CellPart.{CellPart}
 
 state_after-push : (config : Config) (s : State) (bytes : List ℕ) (byte : ℕ)
     → state_after config s (bytes ++ byte ∷ []) ≡ (step config (state_after config s bytes) byte).0

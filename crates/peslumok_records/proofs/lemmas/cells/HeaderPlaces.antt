@@ -6,10 +6,10 @@ use mathlib.Core.Bool.{true≢false}
 use Rattle.std.proofs.lemmas.Option.{none-some}
 use Rattle.csv.specs.Records.{field_at}
 use Rattle.agg_values.specs.Nothing.{NoneIs}
-use Rattle.agg_held_records.specs.declared.asked.AskedField.{AskedField}
-use Rattle.agg_held_records.proofs.HeldDocuments.{zip_more}
-use Rattle.agg_held_records.proofs.SoleDocuments.{some_is}
-use Rattle.agg_cell_records.specs.Table.{ArePlaces, IsPlaceOf}
+use Rattle.peslumok_records.specs.declared.held.asked.AskedField.{AskedField}
+use Rattle.peslumok_records.proofs.lemmas.held.HeldDocuments.{zip_more}
+use Rattle.peslumok_records.proofs.lemmas.held.SoleDocuments.{some_is}
+use Rattle.peslumok_records.specs.cells.Table.{ArePlaces, IsPlaceOf}
 use Rattle.std.proofs.Common.{◌++◌, take, get_or, refl, sym, ap, ◌∙◌, subst}
 use Rattle.std.proofs.lemmas.List.{take_more}
 

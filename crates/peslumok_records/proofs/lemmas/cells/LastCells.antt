@@ -8,7 +8,7 @@ use Rattle.std.proofs.lemmas.Bool.Decides.{Decides-eqb}
 use Rattle.std.proofs.lemmas.List.{append_cancel_right}
 use Rattle.std.proofs.lemmas.Slice.Eq.{ends_is, strip_suffix_is}
 use mathlib.Core.Bool.{true≢false}
-use Rattle.agg_cell_records.specs.Quotes.{MayBeOpenIn}
+use Rattle.peslumok_records.specs.cells.Quotes.{MayBeOpenIn}
 
 -- what `strip_suffix` says of a text and a cell
 abbrev pub Strips : List ℕ → List ℕ → Option (Bor (List ℕ)) → Type 0

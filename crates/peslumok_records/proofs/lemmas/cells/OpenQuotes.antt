@@ -14,9 +14,9 @@ use Rattle.csv.specs.declared.parser.Action.TheVariants as act
 use Rattle.csv.specs.declared.parser.Config.{Config}
 use Rattle.csv.specs.declared.parser.State.{State}
 use Rattle.csv.specs.declared.parser.State.TheVariants as st
-use Rattle.agg_held_records.proofs.SoleDocuments.{some_is}
-use Rattle.agg_cell_records.specs.Csv.{cells_config, state_after}
-use Rattle.agg_cell_records.specs.Quotes.{MayBeOpenAfter, MayBeOpenIn}
+use Rattle.peslumok_records.proofs.lemmas.held.SoleDocuments.{some_is}
+use Rattle.peslumok_records.specs.cells.Csv.{cells_config, state_after}
+use Rattle.peslumok_records.specs.cells.Quotes.{MayBeOpenAfter, MayBeOpenIn}
 
 -- what a state tells of the field at hand and the bytes so far
 abbrev Tells : State → List ℕ → List ℕ → Type 0

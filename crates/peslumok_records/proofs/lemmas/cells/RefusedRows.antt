@@ -19,16 +19,17 @@ use Rattle.csv.specs.declared.parser.State.TheVariants as st
 use Rattle.csv.specs.declared.reader.Reader.{Reader}
 use Rattle.csv.proofs.ReadFacts.{reached-more}
 use Rattle.agg_values.specs.Nothing.{NoneIs}
-use Rattle.agg_held_records.specs.Documents.{AreRead, IsRead}
-use Rattle.agg_held_records.specs.declared.asked.AskedField.{AskedField}
-use Rattle.agg_held_records.proofs.NoDocuments.{none_among}
-use Rattle.agg_held_records.proofs.SoleDocuments.{some_is}
-use Rattle.agg_cell_records.specs.Cells.{row_document}
-use Rattle.agg_cell_records.specs.Csv.{AreEven, AreRowsOf, cells_config}
-use Rattle.agg_cell_records.specs.Rows.{HasRead, refuses_row, width_of}
-use Rattle.agg_cell_records.specs.Table.{ArePlaces, AreTableDocuments, IsPlaceOf}
-use Rattle.agg_cell_records.specs.declared.rows.Rows.{Rows}
-use Rattle.agg_cell_records.proofs.SoleRows.{first_row, places_once, rows_after, rows_first}
+use Rattle.peslumok_records.specs.held.Documents.{AreRead, IsRead}
+use Rattle.peslumok_records.specs.declared.held.asked.AskedField.{AskedField}
+use Rattle.peslumok_records.proofs.lemmas.held.NoDocuments.{none_among}
+use Rattle.peslumok_records.proofs.lemmas.held.SoleDocuments.{some_is}
+use Rattle.peslumok_records.specs.cells.Cells.{row_document}
+use Rattle.peslumok_records.specs.cells.Csv.{AreEven, AreRowsOf, cells_config}
+use Rattle.peslumok_records.specs.cells.Rows.{HasRead, refuses_row, width_of}
+use Rattle.peslumok_records.specs.cells.Table.{ArePlaces, AreTableDocuments, IsPlaceOf}
+use Rattle.peslumok_records.specs.declared.cells.rows.Rows.{Rows}
+use Rattle.peslumok_records.proofs.lemmas.cells.SoleRows.{first_row, places_once, rows_after}
+use Rattle.peslumok_records.proofs.lemmas.cells.SoleRows.{rows_first}
 
 -- an error that is passed on
 pub error_passed : {A E : Type 0} (P : E → Type 0) (result : Result A E) (error : E)

@@ -3,13 +3,14 @@ use Rattle.std.proofs.Common.{◌≡◌, ◌<◌, ◌+◌, ℕ, zero, suc, List,
 use Rattle.std.proofs.Common.{length, sym, ap, ◌∙◌, subst, arith}
 use Rattle.std.specs.Prelude.{Option, None, option_map}
 use Rattle.std.proofs.lemmas.List.{take_more, length-take-le}
-use Rattle.agg_column.specs.declared.document.FieldValue.{FieldValue}
+use Rattle.agg_segment.specs.declared.storage.document.FieldValue.{FieldValue}
 use Rattle.agg_segment.specs.Segment.{Gathered}
-use Rattle.agg_held_records.specs.Values.{Gains, joined, named_values}
-use Rattle.agg_held_records.specs.declared.asked.AskedField.{AskedField}
-use Rattle.agg_held_records.proofs.Gains.{gains-then, joined-nil, joined_assoc, some_nil}
-use Rattle.agg_held_records.proofs.NoDocuments.{joined-none}
-use Rattle.agg_cell_records.specs.Cells.{cell_at, values_at, values_from, values_of_row}
+use Rattle.peslumok_records.specs.held.Values.{Gains, joined, named_values}
+use Rattle.peslumok_records.specs.declared.held.asked.AskedField.{AskedField}
+use Rattle.peslumok_records.proofs.lemmas.held.Gains.{gains-then, joined-nil, joined_assoc}
+use Rattle.peslumok_records.proofs.lemmas.held.Gains.{some_nil}
+use Rattle.peslumok_records.proofs.lemmas.held.NoDocuments.{joined-none}
+use Rattle.peslumok_records.specs.cells.Cells.{cell_at, values_at, values_from, values_of_row}
 
 -- the values of the field of a number
 abbrev values_of : ℕ → AskedField → List (Option ℕ) → List (List ℕ)

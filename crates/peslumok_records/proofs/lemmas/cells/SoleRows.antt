@@ -7,12 +7,12 @@ use Rattle.csv.specs.Machine.{Read, next_record}
 use Rattle.csv.specs.Reading.{AreRecords, Reached, strip_bom}
 use Rattle.csv.specs.declared.parser.Config.{Config}
 use Rattle.csv.specs.declared.parser.State.{State}
-use Rattle.agg_column.specs.Document.{Fields}
-use Rattle.agg_held_records.specs.Documents.{AreRead}
-use Rattle.agg_held_records.specs.declared.asked.AskedField.{AskedField}
-use Rattle.agg_held_records.proofs.SoleDocuments.{read_once, some_is}
-use Rattle.agg_cell_records.specs.Cells.{row_document}
-use Rattle.agg_cell_records.specs.Table.{ArePlaces, AreTableDocuments, IsPlaceOf}
+use Rattle.agg_segment.specs.storage.Document.{Fields}
+use Rattle.peslumok_records.specs.held.Documents.{AreRead}
+use Rattle.peslumok_records.specs.declared.held.asked.AskedField.{AskedField}
+use Rattle.peslumok_records.proofs.lemmas.held.SoleDocuments.{read_once, some_is}
+use Rattle.peslumok_records.specs.cells.Cells.{row_document}
+use Rattle.peslumok_records.specs.cells.Table.{ArePlaces, AreTableDocuments, IsPlaceOf}
 
 -- ---- rows
 

@@ -1,14 +1,14 @@
 -- Rows of a table, appended one after the other.
 use Rattle.std.proofs.Common.{ℕ, List, [], ◌∷◌, ◌++◌, map, sym, subst, append_assoc, append-nil}
 use Rattle.std.specs.Prelude.{Option}
-use Rattle.agg_held_records.specs.Documents.{AreRead}
-use Rattle.agg_held_records.specs.Held.{Adds, Holds}
-use Rattle.agg_held_records.specs.declared.asked.AskedField.{AskedField}
-use Rattle.agg_held_records.specs.declared.records.Records.{Records}
-use Rattle.agg_held_records.proofs.HeldDocuments.{adds_none, adds_one}
-use Rattle.agg_cell_records.specs.Cells.{row_document}
-use Rattle.agg_cell_records.specs.Rows.{HasRead}
-use Rattle.agg_cell_records.specs.declared.rows.Rows.{Rows}
+use Rattle.peslumok_records.specs.held.Documents.{AreRead}
+use Rattle.peslumok_records.specs.held.Held.{Adds, Holds}
+use Rattle.peslumok_records.specs.declared.held.asked.AskedField.{AskedField}
+use Rattle.peslumok_records.specs.declared.held.records.Records.{Records}
+use Rattle.peslumok_records.proofs.lemmas.held.HeldDocuments.{adds_none, adds_one}
+use Rattle.peslumok_records.specs.cells.Cells.{row_document}
+use Rattle.peslumok_records.specs.cells.Rows.{HasRead}
+use Rattle.peslumok_records.specs.declared.cells.rows.Rows.{Rows}
 
 -- more rows were read, and their documents appended
 abbrev pub GoesOn : List AskedField → List (Option ℕ) → Rows → Rows → Records → Records → Type 0

@@ -1,16 +1,16 @@
 -- Documents that were closed after those that the records held.
 use Rattle.std.proofs.Common.{◌≡◌, ℕ, List, [], ◌∷◌, ◌++◌, ap, subst, sym, ◌∙◌}
 use Rattle.std.specs.Prelude.{Option, flat_map, option_map}
-use Rattle.agg_column.specs.Document.{Fields, meaning}
-use Rattle.agg_column.specs.declared.document.FieldValue.{FieldValue}
+use Rattle.agg_segment.specs.storage.Document.{Fields, meaning}
+use Rattle.agg_segment.specs.declared.storage.document.FieldValue.{FieldValue}
 use Rattle.agg_segment.specs.Segment.{Gathered, IsMixed, documents_of, gathered_documents}
 use Rattle.agg_segment.specs.Segment.{no_fields, open_document}
-use Rattle.agg_held_records.specs.Documents.{FitsSegment, IsRead}
-use Rattle.agg_held_records.specs.Held.{Holds, held_documents}
-use Rattle.agg_held_records.specs.Values.{Gains, with_values}
-use Rattle.agg_held_records.specs.declared.records.Records.{Records}
-use Rattle.agg_held_records.proofs.Gains.{with_values-meaning}
-use Rattle.agg_held_records.proofs.SoleDocuments.{some_is}
+use Rattle.peslumok_records.specs.held.Documents.{FitsSegment, IsRead}
+use Rattle.peslumok_records.specs.held.Held.{Holds, held_documents}
+use Rattle.peslumok_records.specs.held.Values.{Gains, with_values}
+use Rattle.peslumok_records.specs.declared.held.records.Records.{Records}
+use Rattle.peslumok_records.proofs.lemmas.held.Gains.{with_values-meaning}
+use Rattle.peslumok_records.proofs.lemmas.held.SoleDocuments.{some_is}
 
 -- the documents of the records, with this open segment
 abbrev pub held_with : Records → Gathered → List Fields

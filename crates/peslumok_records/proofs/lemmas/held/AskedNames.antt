@@ -4,8 +4,8 @@ use Rattle.std.proofs.Common.{sym, ap, ◌∙◌, arith, suc, zero, refl, rules}
 use Rattle.std.specs.Prelude.{nat_eq, ◌||◌}
 use Rattle.std.specs.List.{list_any}
 use Rattle.std.specs.Cmp.Lexicographic.{other_text, pointwise, same_text}
-use Rattle.agg_held_records.specs.Asked.{IsAsked}
-use Rattle.agg_held_records.specs.declared.asked.AskedField.{AskedField}
+use Rattle.peslumok_records.specs.held.Asked.{IsAsked}
+use Rattle.peslumok_records.specs.declared.held.asked.AskedField.{AskedField}
 
 -- whether a field has this name
 abbrev pub is_named : List ℕ → AskedField → Bool

@@ -3,13 +3,13 @@ use Rattle.std.proofs.Common.{◌≡◌, ℕ, List, [], ◌∷◌, ◌++◌, ref
 use Rattle.std.proofs.Common.{append_assoc, append-nil}
 use Rattle.std.specs.Prelude.{Option, Some, None, option_map}
 use Rattle.std.proofs.lemmas.List.{map-append}
-use Rattle.agg_column.specs.Document.{Fields, key_of, meaning}
-use Rattle.agg_column.specs.declared.document.FieldValue.{FieldValue}
+use Rattle.agg_segment.specs.storage.Document.{Fields, key_of, meaning}
+use Rattle.agg_segment.specs.declared.storage.document.FieldValue.{FieldValue}
 use Rattle.agg_segment.specs.Segment.{Gathered, no_fields, open_document, with_key}
 use Rattle.agg_segment.proofs.AddedValues.{add_all, add_all_is}
-use Rattle.agg_held_records.specs.Values.{Gains, joined, named_values, values_of_fields}
-use Rattle.agg_held_records.specs.Values.{with_values}
-use Rattle.agg_held_records.specs.declared.asked.AskedField.{AskedField}
+use Rattle.peslumok_records.specs.held.Values.{Gains, joined, named_values, values_of_fields}
+use Rattle.peslumok_records.specs.held.Values.{with_values}
+use Rattle.peslumok_records.specs.declared.held.asked.AskedField.{AskedField}
 
 -- ---- lists that may be missing
 

@@ -4,10 +4,10 @@ use Rattle.std.proofs.Common.{append_assoc, subst}
 use Rattle.std.specs.List.{AllZip}
 use Rattle.std.specs.Prelude.{Option}
 use Rattle.std.proofs.lemmas.List.{map-append}
-use Rattle.agg_column.specs.Document.{Fields}
-use Rattle.agg_held_records.specs.Documents.{AreRead, IsRead}
-use Rattle.agg_held_records.specs.Held.{Adds, Holds, held_documents}
-use Rattle.agg_held_records.specs.declared.records.Records.{Records}
+use Rattle.agg_segment.specs.storage.Document.{Fields}
+use Rattle.peslumok_records.specs.held.Documents.{AreRead, IsRead}
+use Rattle.peslumok_records.specs.held.Held.{Adds, Holds, held_documents}
+use Rattle.peslumok_records.specs.declared.held.records.Records.{Records}
 
 pub zip_more : {X Y : Type 0} (P : X → Y → Type 0) (xs : List X) (ys : List Y) (x : X) (y : Y)
     → AllZip P xs ys → P x y → AllZip P (xs ++ x ∷ []) (ys ++ y ∷ [])

@@ -4,11 +4,11 @@ use Rattle.std.proofs.Common.{refl, sym, ap, ◌∙◌, arith}
 use Rattle.std.specs.Prelude.{Option, Some, None, option_map}
 use Rattle.std.proofs.lemmas.Option.{none-some}
 use Rattle.agg_values.specs.Nothing.{NoneIs}
-use Rattle.agg_column.specs.Document.{Fields}
-use Rattle.agg_column.specs.declared.document.FieldValue.{FieldValue}
-use Rattle.agg_held_records.specs.Documents.{AreRead, IsRead}
-use Rattle.agg_held_records.specs.Values.{joined, named_values, values_of_fields}
-use Rattle.agg_held_records.specs.declared.asked.AskedField.{AskedField}
+use Rattle.agg_segment.specs.storage.Document.{Fields}
+use Rattle.agg_segment.specs.declared.storage.document.FieldValue.{FieldValue}
+use Rattle.peslumok_records.specs.held.Documents.{AreRead, IsRead}
+use Rattle.peslumok_records.specs.held.Values.{joined, named_values, values_of_fields}
+use Rattle.peslumok_records.specs.declared.held.asked.AskedField.{AskedField}
 
 -- ---- values
 

@@ -5,11 +5,11 @@ use Rattle.std.specs.List.{Contains}
 use Rattle.std.proofs.lemmas.Grind.{flat_map-append}
 use Rattle.std.proofs.lemmas.List.{map-append}
 use Rattle.std.proofs.lemmas.List.Elements.{Contains-append_right}
-use Rattle.agg_column.specs.Document.{Fields}
-use Rattle.agg_column.specs.Signs.{sign_of}
-use Rattle.agg_column.specs.declared.sign.Sign.{Sign}
+use Rattle.agg_segment.specs.storage.Document.{Fields}
+use Rattle.agg_segment.specs.storage.Signs.{sign_of}
+use Rattle.agg_segment.specs.declared.storage.sign.Sign.{Sign}
 use Rattle.agg_segment.specs.Segment.{HasSign, IsMixed}
-use Rattle.agg_held_records.specs.Documents.{FitsSegment}
+use Rattle.peslumok_records.specs.held.Documents.{FitsSegment}
 
 sign_after : (before after : List Fields) (field : _) (sign : Sign) → HasSign after field sign
     → HasSign (before ++ after) field sign

@@ -1,8 +1,8 @@
 -- Documents that are read once more are the same.
 use Rattle.std.proofs.Common.{◌≡◌, List, [], ◌∷◌, refl, sym, ap, ◌∙◌}
 use Rattle.std.specs.Prelude.{Option, Some}
-use Rattle.agg_column.specs.Document.{Fields}
-use Rattle.agg_held_records.specs.Documents.{AreRead}
+use Rattle.agg_segment.specs.storage.Document.{Fields}
+use Rattle.peslumok_records.specs.held.Documents.{AreRead}
 
 pub some_is : {A : Type 0} (x y : A) → Some x ≡ Some y → x ≡ y
 some_is x y e = cc e

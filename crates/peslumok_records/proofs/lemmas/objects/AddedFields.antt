@@ -5,14 +5,14 @@ use Rattle.std.specs.Prelude.{◌⊎◌, ⊤, Option, Some, None, option_map}
 use Rattle.std.specs.Str.{bytes_eq}
 use Rattle.std.proofs.lemmas.Bool.{cases_Bool}
 use Rattle.std.proofs.lemmas.Slice.Eq.{bytes_eq-Decides}
-use Rattle.agg_column.specs.Document.{Fields, key_of}
-use Rattle.agg_column.specs.declared.document.FieldValue.{FieldValue}
+use Rattle.agg_segment.specs.storage.Document.{Fields, key_of}
+use Rattle.agg_segment.specs.declared.storage.document.FieldValue.{FieldValue}
 use Rattle.agg_values.specs.TypedKey.{CompositeIntermediateKey}
 use Rattle.agg_segment.specs.Segment.{Gathered, open_document, with_key}
-use Rattle.agg_held_records.specs.Values.{Gains, joined, named_values, values_of_fields}
-use Rattle.agg_held_records.specs.Values.{with_values}
-use Rattle.agg_held_records.specs.declared.asked.AskedField.{AskedField}
-use Rattle.agg_held_records.proofs.Gains.{joined_assoc, some_nil, with_values-append}
+use Rattle.peslumok_records.specs.held.Values.{Gains, joined, named_values, values_of_fields}
+use Rattle.peslumok_records.specs.held.Values.{with_values}
+use Rattle.peslumok_records.specs.declared.held.asked.AskedField.{AskedField}
+use Rattle.peslumok_records.proofs.lemmas.held.Gains.{joined_assoc, some_nil, with_values-append}
 
 -- ---- keys of two fields, in either order
 

@@ -5,14 +5,14 @@ use Rattle.json.specs.Json.{Json, after_end_array, array, max_depth, parse_map, 
 use Rattle.json.specs.Token.{Token}
 use Rattle.json.specs.Value.{items_of}
 use Rattle.json.proofs.Grammar.{value-begin_array}
-use Rattle.agg_held_records.specs.Documents.{AreRead}
-use Rattle.agg_held_records.specs.Held.{Adds}
-use Rattle.agg_held_records.specs.declared.asked.AskedField.{AskedField}
-use Rattle.agg_held_records.specs.declared.records.Records.{Records}
-use Rattle.agg_held_records.proofs.HeldDocuments.{adds_none, adds_one}
-use Rattle.agg_json_records.specs.JsonRecords.{HoldsNext}
-use Rattle.agg_json_records.specs.Objects.{object_document}
-use Rattle.agg_json_records.proofs.ReadItems as items
+use Rattle.peslumok_records.specs.held.Documents.{AreRead}
+use Rattle.peslumok_records.specs.held.Held.{Adds}
+use Rattle.peslumok_records.specs.declared.held.asked.AskedField.{AskedField}
+use Rattle.peslumok_records.specs.declared.held.records.Records.{Records}
+use Rattle.peslumok_records.proofs.lemmas.held.HeldDocuments.{adds_none, adds_one}
+use Rattle.peslumok_records.specs.objects.JsonRecords.{HoldsNext}
+use Rattle.peslumok_records.specs.objects.Objects.{object_document}
+use Rattle.peslumok_records.proofs.lemmas.objects.ReadItems as items
 
 -- the items so far were read, and their documents appended
 pub record HasItems (asked : List AskedField) (start now : List Token) (old new : Records)

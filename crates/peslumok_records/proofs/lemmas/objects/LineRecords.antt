@@ -5,7 +5,7 @@ use Rattle.std.specs.Prelude.{filter, not}
 use Rattle.std.proofs.Math.Seq.{split_at}
 use Rattle.std.proofs.lemmas.List.{length-append, length-map, map-append}
 use Rattle.std.proofs.lemmas.List.Elements.{filter-append}
-use Rattle.agg_json_records.specs.Lines.{is_blank, without_blank}
+use Rattle.peslumok_records.specs.objects.Lines.{is_blank, without_blank}
 
 -- lines that were cut off a text
 abbrev pub texts_of : List (Bor (List ℕ)) → List (List ℕ)

@@ -5,9 +5,9 @@ use Rattle.std.specs.Prelude.{◌⊎◌, [], ◌∷◌, Option, Some, None, slic
 use Rattle.std.proofs.lemmas.Option.{none-some}
 use Rattle.std.proofs.lemmas.Bool.{cases_lt}
 use Rattle.std.proofs.lemmas.List.{get_or_default}
-use Rattle.agg_held_records.specs.declared.asked.AskedField.{AskedField}
-use Rattle.agg_json_records.specs.Tokens.{IsOther, IsPlaceOf}
-use Rattle.agg_json_records.specs.declared.tokens.Place.TheVariants as place
+use Rattle.peslumok_records.specs.declared.held.asked.AskedField.{AskedField}
+use Rattle.peslumok_records.specs.objects.Tokens.{IsOther, IsPlaceOf}
+use Rattle.peslumok_records.specs.declared.objects.tokens.Place.TheVariants as place
 
 -- the same among the fields before a place
 abbrev pub IsPlaceBefore : List AskedField → List ℕ → ℕ → Option ℕ → Type 0

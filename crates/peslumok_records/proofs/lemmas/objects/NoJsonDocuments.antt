@@ -16,17 +16,18 @@ use Rattle.json.specs.declared.value.Value.{Value}
 use Rattle.json.proofs.Grammar.{items_end, items_fail, items_more, value-begin_array}
 use Rattle.json.proofs.Grammar.{value-begin_object, value_is}
 use Rattle.agg_values.specs.Nothing.{NoneIs}
-use Rattle.agg_column.specs.Document.{Fields}
-use Rattle.agg_fields.specs.declared.field_type.FieldType.{FieldType}
-use Rattle.agg_held_records.specs.Documents.{AreRead, IsRead}
-use Rattle.agg_held_records.specs.Values.{joined}
-use Rattle.agg_held_records.specs.declared.asked.AskedField.{AskedField}
-use Rattle.agg_held_records.proofs.NoDocuments.{joined-none, none_among, none_first, none_later}
-use Rattle.agg_json_records.specs.JsonRecords.{AreItemDocuments}
-use Rattle.agg_json_records.specs.Lines.{is_blank, without_blank}
-use Rattle.agg_json_records.specs.Objects.{item_values, object_document, single_values}
-use Rattle.agg_json_records.proofs.ReadItems.{HasRead, before}
-use Rattle.agg_json_records.proofs.SoleItems.{in_array, listed, listed-items_of}
+use Rattle.agg_segment.specs.storage.Document.{Fields}
+use Rattle.peslumok_texts.specs.declared.fields.field_type.FieldType.{FieldType}
+use Rattle.peslumok_records.specs.held.Documents.{AreRead, IsRead}
+use Rattle.peslumok_records.specs.held.Values.{joined}
+use Rattle.peslumok_records.specs.declared.held.asked.AskedField.{AskedField}
+use Rattle.peslumok_records.proofs.lemmas.held.NoDocuments.{joined-none, none_among, none_first}
+use Rattle.peslumok_records.proofs.lemmas.held.NoDocuments.{none_later}
+use Rattle.peslumok_records.specs.objects.JsonRecords.{AreItemDocuments}
+use Rattle.peslumok_records.specs.objects.Lines.{is_blank, without_blank}
+use Rattle.peslumok_records.specs.objects.Objects.{item_values, object_document, single_values}
+use Rattle.peslumok_records.proofs.lemmas.objects.ReadItems.{HasRead, before}
+use Rattle.peslumok_records.proofs.lemmas.objects.SoleItems.{in_array, listed, listed-items_of}
 
 -- ---- values
 

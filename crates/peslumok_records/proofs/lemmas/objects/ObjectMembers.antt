@@ -7,10 +7,10 @@ use Rattle.std.proofs.lemmas.Slice.Eq.{bytes_eq-Decides}
 use Rattle.json.specs.Find.{get, later_or}
 use Rattle.json.specs.Json.{Json, Members, member, no_members, object, parse_map}
 use Rattle.json.specs.Token.{Token}
-use Rattle.agg_held_records.specs.Asked.{path_of}
-use Rattle.agg_held_records.specs.declared.asked.AskedField.{AskedField}
-use Rattle.agg_json_records.specs.Objects.{member_at, member_of}
-use Rattle.agg_json_records.specs.Tokens.{IsOther}
+use Rattle.peslumok_records.specs.held.Asked.{path_of}
+use Rattle.peslumok_records.specs.declared.held.asked.AskedField.{AskedField}
+use Rattle.peslumok_records.specs.objects.Objects.{member_at, member_of}
+use Rattle.peslumok_records.specs.objects.Tokens.{IsOther}
 
 -- members with these before them
 abbrev pub before : List (List ℕ × Json) → Members → Members

@@ -5,15 +5,14 @@ use Rattle.std.specs.Prelude.{Option, option_map}
 use Rattle.std.proofs.lemmas.List.{take_more}
 use Rattle.json.specs.Value.{items_view, value_view}
 use Rattle.json.specs.declared.value.Value.{Value}
-use Rattle.agg_column.specs.declared.document.FieldValue.{FieldValue}
-use Rattle.agg_fields.specs.declared.field_type.FieldType.{FieldType}
+use Rattle.agg_segment.specs.declared.storage.document.FieldValue.{FieldValue}
+use Rattle.peslumok_texts.specs.declared.fields.field_type.FieldType.{FieldType}
 use Rattle.agg_segment.specs.Segment.{Gathered}
-use Rattle.agg_held_records.specs.Values.{Gains, joined, named_values, values_of_fields}
-use Rattle.agg_held_records.specs.declared.asked.AskedField.{AskedField}
-use Rattle.agg_held_records.proofs.Gains.{gains-then, joined-nil, joined_assoc, named-joined}
-use Rattle.agg_held_records.proofs.Gains.{some_nil}
-use Rattle.agg_held_records.proofs.Gains.{values_of_fields-more}
-use Rattle.agg_json_records.specs.Objects.{item_values, single_values}
+use Rattle.peslumok_records.specs.held.Values.{Gains, joined, named_values, values_of_fields}
+use Rattle.peslumok_records.specs.declared.held.asked.AskedField.{AskedField}
+use Rattle.peslumok_records.proofs.lemmas.held.Gains.{gains-then, joined-nil, joined_assoc}
+use Rattle.peslumok_records.proofs.lemmas.held.Gains.{named-joined, some_nil, values_of_fields-more}
+use Rattle.peslumok_records.specs.objects.Objects.{item_values, single_values}
 
 item_values-more : {A : Type 0} (of : FieldType) (items : List (Value A)) (item : Value A)
     → item_values of (items_view (items ++ item ∷ []))

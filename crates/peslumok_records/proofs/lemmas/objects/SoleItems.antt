@@ -4,12 +4,12 @@ use Rattle.std.specs.Prelude.{Option, Some, None}
 use Rattle.json.specs.Json.{Items, Json, array, boolean, item, no_items, null, number}
 use Rattle.json.specs.Json.{object, string}
 use Rattle.json.specs.Value.{items_of}
-use Rattle.agg_column.specs.Document.{Fields}
-use Rattle.agg_held_records.specs.Documents.{AreRead}
-use Rattle.agg_held_records.specs.declared.asked.AskedField.{AskedField}
-use Rattle.agg_held_records.proofs.SoleDocuments.{read_once}
-use Rattle.agg_json_records.specs.JsonRecords.{AreItemDocuments}
-use Rattle.agg_json_records.specs.Objects.{object_document}
+use Rattle.agg_segment.specs.storage.Document.{Fields}
+use Rattle.peslumok_records.specs.held.Documents.{AreRead}
+use Rattle.peslumok_records.specs.declared.held.asked.AskedField.{AskedField}
+use Rattle.peslumok_records.proofs.lemmas.held.SoleDocuments.{read_once}
+use Rattle.peslumok_records.specs.objects.JsonRecords.{AreItemDocuments}
+use Rattle.peslumok_records.specs.objects.Objects.{object_document}
 
 abbrev pub listed : Items → List Json
 listed no_items = []

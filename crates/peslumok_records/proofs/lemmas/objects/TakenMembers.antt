@@ -14,17 +14,20 @@ use Rattle.json.specs.Json.{read_key, skip_value, value}
 use Rattle.json.specs.Lex.{tokens}
 use Rattle.json.specs.Token.{Token}
 use Rattle.json.proofs.Grammar.{members_end, members_more, read_key-shorter, value-begin_object}
-use Rattle.agg_column.specs.declared.document.FieldValue.{FieldValue}
+use Rattle.agg_segment.specs.declared.storage.document.FieldValue.{FieldValue}
 use Rattle.agg_segment.specs.Segment.{Gathered}
-use Rattle.agg_held_records.specs.Asked.{path_of}
-use Rattle.agg_held_records.specs.Values.{Gains, joined, named_values, values_of_fields}
-use Rattle.agg_held_records.specs.declared.asked.AskedField.{AskedField}
-use Rattle.agg_held_records.proofs.Gains.{gains-none}
-use Rattle.agg_json_records.specs.Objects.{field_values, member_of, values_of_member}
-use Rattle.agg_json_records.specs.Tokens.{IsOnlyOf, IsOther, TakesMembers, TakesText, TakesValue}
-use Rattle.agg_json_records.proofs.AddedFields.{AreOthers, AreSame, gains_between, same_values}
-use Rattle.agg_json_records.proofs.ObjectMembers.{before, member_of-last, member_of-none}
-use Rattle.agg_json_records.proofs.ObjectMembers.{member_of-other, object_of, one_more, same_map}
+use Rattle.peslumok_records.specs.held.Asked.{path_of}
+use Rattle.peslumok_records.specs.held.Values.{Gains, joined, named_values, values_of_fields}
+use Rattle.peslumok_records.specs.declared.held.asked.AskedField.{AskedField}
+use Rattle.peslumok_records.proofs.lemmas.held.Gains.{gains-none}
+use Rattle.peslumok_records.specs.objects.Objects.{field_values, member_of, values_of_member}
+use Rattle.peslumok_records.specs.objects.Tokens.{IsOnlyOf, IsOther, TakesMembers, TakesText}
+use Rattle.peslumok_records.specs.objects.Tokens.{TakesValue}
+use Rattle.peslumok_records.proofs.lemmas.objects.AddedFields.{AreOthers, AreSame, gains_between}
+use Rattle.peslumok_records.proofs.lemmas.objects.AddedFields.{same_values}
+use Rattle.peslumok_records.proofs.lemmas.objects.ObjectMembers.{before, member_of-last}
+use Rattle.peslumok_records.proofs.lemmas.objects.ObjectMembers.{member_of-none, member_of-other}
+use Rattle.peslumok_records.proofs.lemmas.objects.ObjectMembers.{object_of, one_more, same_map}
 
 -- ---- fields by their places
 

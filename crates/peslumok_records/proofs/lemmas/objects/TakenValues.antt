@@ -8,16 +8,17 @@ use Rattle.json.specs.Token.{Token}
 use Rattle.json.specs.Value.{items_of, value_view}
 use Rattle.json.specs.declared.value.Value as tree
 use Rattle.json.proofs.Grammar.{after_end_array-shorter, value-begin_array, value_is}
-use Rattle.agg_fields.specs.declared.field_type.FieldType.{FieldType}
+use Rattle.peslumok_texts.specs.declared.fields.field_type.FieldType.{FieldType}
 use Rattle.agg_segment.specs.Segment.{Gathered, open_document}
-use Rattle.agg_held_records.specs.Values.{Gains, joined, named_values}
-use Rattle.agg_held_records.specs.declared.asked.AskedField.{AskedField}
-use Rattle.agg_held_records.proofs.Gains.{gains-from, gains-none, gains-then, joined-nil}
-use Rattle.agg_held_records.proofs.Gains.{joined_assoc, named-joined, some_nil}
-use Rattle.agg_json_records.specs.Objects.{item_values, single_values}
-use Rattle.agg_json_records.specs.Tokens.{IsScalar, TakesItems, TakesScalar, TakesValue}
-use Rattle.agg_json_records.proofs.ReadItems.{HasRead}
-use Rattle.agg_json_records.proofs.ReadItems as items
+use Rattle.peslumok_records.specs.held.Values.{Gains, joined, named_values}
+use Rattle.peslumok_records.specs.declared.held.asked.AskedField.{AskedField}
+use Rattle.peslumok_records.proofs.lemmas.held.Gains.{gains-from, gains-none, gains-then}
+use Rattle.peslumok_records.proofs.lemmas.held.Gains.{joined-nil, joined_assoc, named-joined}
+use Rattle.peslumok_records.proofs.lemmas.held.Gains.{some_nil}
+use Rattle.peslumok_records.specs.objects.Objects.{item_values, single_values}
+use Rattle.peslumok_records.specs.objects.Tokens.{IsScalar, TakesItems, TakesScalar, TakesValue}
+use Rattle.peslumok_records.proofs.lemmas.objects.ReadItems.{HasRead}
+use Rattle.peslumok_records.proofs.lemmas.objects.ReadItems as items
 
 values_of_items-more : (of : FieldType) (js : List Json) (j : Json)
     → item_values of (items_of (js ++ j ∷ []))

@@ -1,10 +1,10 @@
 -- The one snapshot of documents.
 use Rattle.std.proofs.Common.{◌≡◌, ◌++◌, ◌∷◌, ◌∙◌, [], ℕ, List, ap, flat_map, map, refl}
-use Rattle.agg_column.specs.Document.{Fields}
+use Rattle.agg_segment.specs.storage.Document.{Fields}
 use Rattle.agg_segment.specs.Segment.{Stored, documents_of}
 use Rattle.agg_segment.specs.Snapshot.{snapshot_documents, snapshots_documents}
 use Rattle.agg_segment.specs.declared.snapshot.Snapshot.{Snapshot}
-use Rattle.agg_record_index.specs.Index.{AreOneOf}
+use Rattle.peslumok_records.specs.record_index.Index.{AreOneOf}
 
 -- the documents of segments, joined
 joined-segments : (segments : List Stored)

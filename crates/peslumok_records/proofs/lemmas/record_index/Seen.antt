@@ -9,12 +9,12 @@ use Rattle.std.proofs.lemmas.List.Elements.{filter-append}
 use Rattle.std.proofs.lemmas.List.Folds.{list_any-append, list_any_at, list_any_none}
 use Rattle.std.proofs.lemmas.List.FromFn.{get_or-range_with_len, length-range_with_len}
 use Rattle.agg_values.specs.TypedKey.{CompositeIntermediateKey}
-use Rattle.agg_column.specs.Columns.{StoredColumn, all_keys, column_keys}
-use Rattle.agg_column.specs.Document.{Fields}
-use Rattle.agg_held_records.specs.declared.asked.AskedField.{AskedField}
+use Rattle.agg_segment.specs.storage.Columns.{StoredColumn, all_keys, column_keys}
+use Rattle.agg_segment.specs.storage.Document.{Fields}
+use Rattle.peslumok_records.specs.declared.held.asked.AskedField.{AskedField}
 use Rattle.agg_segment.specs.Query.{holds, is_any}
 use Rattle.agg_segment.specs.Segment.{Stored, document_at, documents_of}
-use Rattle.agg_record_index.specs.Index.{has_keys, is_seen, unseen_names}
+use Rattle.peslumok_records.specs.record_index.Index.{has_keys, is_seen, unseen_names}
 
 -- ---- a column
 

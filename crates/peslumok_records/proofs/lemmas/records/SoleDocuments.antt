@@ -1,14 +1,14 @@
 -- A text has at most one list of documents.
 use Rattle.std.proofs.Common.{◌≡◌, ℕ, List}
 use Rattle.csv.specs.Reading.{strip_bom}
-use Rattle.agg_column.specs.Document.{Fields}
-use Rattle.agg_held_records.specs.declared.asked.AskedField.{AskedField}
-use Rattle.agg_held_records.proofs.SoleDocuments.{read_once}
-use Rattle.agg_cell_records.proofs.SoleRows.{table_once}
-use Rattle.agg_json_records.proofs.SoleItems.{items_once}
-use Rattle.agg_records.specs.Formats.{AreDocumentsOf}
-use Rattle.agg_records.specs.declared.format.RecordFormat.{RecordFormat}
-use Rattle.agg_records.specs.declared.format.RecordFormat.TheVariants as format
+use Rattle.agg_segment.specs.storage.Document.{Fields}
+use Rattle.peslumok_records.specs.declared.held.asked.AskedField.{AskedField}
+use Rattle.peslumok_records.proofs.lemmas.held.SoleDocuments.{read_once}
+use Rattle.peslumok_records.proofs.lemmas.cells.SoleRows.{table_once}
+use Rattle.peslumok_records.proofs.lemmas.objects.SoleItems.{items_once}
+use Rattle.peslumok_records.specs.records.Formats.{AreDocumentsOf}
+use Rattle.peslumok_records.specs.declared.records.format.RecordFormat.{RecordFormat}
+use Rattle.peslumok_records.specs.declared.records.format.RecordFormat.TheVariants as format
 
 pub documents_once : (f : RecordFormat) (asked : List AskedField) (bytes : List ℕ)
     (first second : List Fields) → AreDocumentsOf f asked bytes first

@@ -1,7 +1,8 @@
 use Rattle.std.proofs.Common.{◌≡◌, length, subst, arith, rules}
 use Rattle.csv.specs.Records.{fields_of}
-use Rattle.agg_cell_records.proofs.HeaderPlaces.{IsPlaceBefore, no_one_place, place_of_all}
-use Rattle.agg_cell_records.proofs.cells.place_of.Goals as goal
+use Rattle.peslumok_records.proofs.lemmas.cells.HeaderPlaces.{IsPlaceBefore, no_one_place}
+use Rattle.peslumok_records.proofs.lemmas.cells.HeaderPlaces.{place_of_all}
+use Rattle.peslumok_records.proofs.cells.cells.place_of.Goals as goal
 
 pub returns-clause-ok : goal.returns-clause-ok
 returns-clause-ok c =

@@ -1,11 +1,11 @@
 use Rattle.std.proofs.Common.{◌≡◌, true, subst, rules}
 use Rattle.std.specs.Result.{is_ok}
 use Rattle.csv.specs.Records.{fields_of}
-use Rattle.agg_cell_records.specs.Table.{IsPlaceOf}
+use Rattle.peslumok_records.specs.cells.Table.{IsPlaceOf}
 use Rattle.agg_values.specs.Nothing.{NoneIs}
-use Rattle.agg_cell_records.proofs.HeaderPlaces.{places_more}
-use Rattle.agg_cell_records.proofs.RefusedRows.{no_places}
-use Rattle.agg_cell_records.proofs.cells.places_of.Goals as goal
+use Rattle.peslumok_records.proofs.lemmas.cells.HeaderPlaces.{places_more}
+use Rattle.peslumok_records.proofs.lemmas.cells.RefusedRows.{no_places}
+use Rattle.peslumok_records.proofs.cells.cells.places_of.Goals as goal
 
 pub loop-field-preserved : goal.loop-field-preserved
 loop-field-preserved c =

@@ -1,10 +1,10 @@
 use Rattle.std.proofs.Common.{◌≡◌, ◌<◌, ◌∙◌, length, subst, arith}
 use Rattle.std.specs.Prelude.{None, option_map}
 use Rattle.csv.specs.Records.{fields_of}
-use Rattle.agg_held_records.specs.Values.{Gains, named_values}
-use Rattle.agg_cell_records.specs.Cells.{values_at}
-use Rattle.agg_cell_records.proofs.RowValues.{gains_cell, no_cell}
-use Rattle.agg_cell_records.proofs.cells.push_row.Goals as goal
+use Rattle.peslumok_records.specs.held.Values.{Gains, named_values}
+use Rattle.peslumok_records.specs.cells.Cells.{values_at}
+use Rattle.peslumok_records.proofs.lemmas.cells.RowValues.{gains_cell, no_cell}
+use Rattle.peslumok_records.proofs.cells.cells.push_row.Goals as goal
 
 pub loop-index-preserved : goal.loop-index-preserved
 loop-index-preserved c =

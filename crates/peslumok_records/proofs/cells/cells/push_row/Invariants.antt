@@ -1,9 +1,9 @@
 use Rattle.std.proofs.Common.{◌≡◌, take}
 use Rattle.csv.specs.Records.{fields_of}
 use Rattle.agg_segment.specs.Segment.{gathered_documents}
-use Rattle.agg_held_records.specs.Values.{Gains}
-use Rattle.agg_cell_records.specs.Cells.{values_of_row}
-use Rattle.agg_cell_records.proofs.cells.push_row.Given as goal
+use Rattle.peslumok_records.specs.held.Values.{Gains}
+use Rattle.peslumok_records.specs.cells.Cells.{values_of_row}
+use Rattle.peslumok_records.proofs.cells.cells.push_row.Given as goal
 
 -- the values of the fields so far were appended
 abbrev pub invariant-loop-index : goal.invariant-loop-index

@@ -1,10 +1,10 @@
 use Rattle.std.proofs.Common.{◌≡◌, ◌∙◌, [], subst}
 use Rattle.csv.specs.Records.{fields_of}
 use Rattle.agg_segment.specs.Segment.{gathered_documents}
-use Rattle.agg_held_records.specs.Values.{Gains}
-use Rattle.agg_held_records.proofs.Appended.{holds_closed, mixed_closed}
-use Rattle.agg_cell_records.specs.Cells.{values_of_row}
-use Rattle.agg_cell_records.proofs.cells.try_row.Goals as goal
+use Rattle.peslumok_records.specs.held.Values.{Gains}
+use Rattle.peslumok_records.proofs.lemmas.held.Appended.{holds_closed, mixed_closed}
+use Rattle.peslumok_records.specs.cells.Cells.{values_of_row}
+use Rattle.peslumok_records.proofs.cells.cells.try_row.Goals as goal
 
 pub returns-clause-taken : goal.returns-clause-taken
 returns-clause-taken c = λ taken.

@@ -1,6 +1,6 @@
 use Rattle.std.proofs.Common.{ap, ◌∙◌}
-use Rattle.agg_cell_records.proofs.Marks.{stripped}
-use Rattle.agg_cell_records.proofs.encoding.without_mark.Goals as goal
+use Rattle.peslumok_records.proofs.lemmas.cells.Marks.{stripped}
+use Rattle.peslumok_records.proofs.cells.encoding.without_mark.Goals as goal
 
 pub returns : goal.returns
 returns c =

@@ -1,9 +1,9 @@
 use Rattle.std.proofs.Common.{◌≡◌, ◌∙◌, arith, subst, take}
 use Rattle.std.proofs.lemmas.List.{take_all}
 use Rattle.csv.specs.Reading.{strip_bom}
-use Rattle.agg_cell_records.specs.declared.quotes.CellPart.TheVariants as part
-use Rattle.agg_cell_records.proofs.CellParts.{IsPartAfter, part_more}
-use Rattle.agg_cell_records.proofs.quotes.ends_in_quotes.Goals as goal
+use Rattle.peslumok_records.specs.declared.cells.quotes.CellPart.TheVariants as part
+use Rattle.peslumok_records.proofs.lemmas.cells.CellParts.{IsPartAfter, part_more}
+use Rattle.peslumok_records.proofs.cells.quotes.ends_in_quotes.Goals as goal
 
 pub loop-byte-preserved : goal.loop-byte-preserved
 loop-byte-preserved c =

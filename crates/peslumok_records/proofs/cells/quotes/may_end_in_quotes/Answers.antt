@@ -1,9 +1,9 @@
 use Rattle.std.proofs.Common.{◌≡◌, ◌==◌, ◌∙◌, false, rules, subst, sym}
 use Rattle.std.specs.List.{list_any}
 use Rattle.std.specs.Prelude.{None, Some}
-use Rattle.agg_cell_records.specs.Quotes.{MayBeOpenIn}
-use Rattle.agg_cell_records.proofs.LastCells.{Strips, no_quote_before, no_suffix}
-use Rattle.agg_cell_records.proofs.quotes.may_end_in_quotes.Goals as goal
+use Rattle.peslumok_records.specs.cells.Quotes.{MayBeOpenIn}
+use Rattle.peslumok_records.proofs.lemmas.cells.LastCells.{Strips, no_quote_before, no_suffix}
+use Rattle.peslumok_records.proofs.cells.quotes.may_end_in_quotes.Goals as goal
 
 pub returns-in-Some : goal.returns-in-Some
 returns-in-Some c = λ no_quote.

@@ -1,7 +1,7 @@
 use Rattle.std.proofs.Common.{◌≡◌, ◌+◌, length, rules}
 use Rattle.csv.specs.Records.{fields_of}
-use Rattle.agg_cell_records.proofs.HeaderPlaces.{last_of_row, no_cell_left}
-use Rattle.agg_cell_records.proofs.rows.last_cell.Goals as goal
+use Rattle.peslumok_records.proofs.lemmas.cells.HeaderPlaces.{last_of_row, no_cell_left}
+use Rattle.peslumok_records.proofs.cells.rows.last_cell.Goals as goal
 
 pub returns-clause-some : goal.returns-clause-some
 returns-clause-some c =

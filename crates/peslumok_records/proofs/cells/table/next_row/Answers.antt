@@ -1,4 +1,4 @@
-use Rattle.agg_cell_records.proofs.table.next_row.Goals as goal
+use Rattle.peslumok_records.proofs.cells.table.next_row.Goals as goal
 
 pub returns-in-Err-clause-none : goal.returns-in-Err-clause-none
 returns-in-Err-clause-none c = λ fault delimiter text before has fields.

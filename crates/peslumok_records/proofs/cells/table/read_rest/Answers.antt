@@ -1,14 +1,14 @@
 use Rattle.std.proofs.Common.{◌≡◌, ◌++◌, ◌∷◌, subst, true}
 use Rattle.csv.specs.Records.{Row, fields_of}
 use Rattle.agg_values.specs.Nothing.{NoneIs}
-use Rattle.agg_held_records.specs.Causes.{is_fault}
-use Rattle.agg_held_records.specs.Documents.{IsRead}
-use Rattle.agg_held_records.specs.Held.{Holds}
-use Rattle.agg_held_records.specs.declared.error.RecordError.{RecordError}
-use Rattle.agg_cell_records.specs.Cells.{row_document}
-use Rattle.agg_cell_records.proofs.RefusedRows.{NoneUnder, error_passed, none_with_row}
-use Rattle.agg_cell_records.proofs.TableRows.{goes_on-more, goes_on-none}
-use Rattle.agg_cell_records.proofs.table.read_rest.Goals as goal
+use Rattle.peslumok_records.specs.held.Causes.{is_fault}
+use Rattle.peslumok_records.specs.held.Documents.{IsRead}
+use Rattle.peslumok_records.specs.held.Held.{Holds}
+use Rattle.peslumok_records.specs.declared.held.error.RecordError.{RecordError}
+use Rattle.peslumok_records.specs.cells.Cells.{row_document}
+use Rattle.peslumok_records.proofs.lemmas.cells.RefusedRows.{NoneUnder, error_passed, none_with_row}
+use Rattle.peslumok_records.proofs.lemmas.cells.TableRows.{goes_on-more, goes_on-none}
+use Rattle.peslumok_records.proofs.cells.table.read_rest.Goals as goal
 
 pub returns-then-not-branch-clause-ok : goal.returns-then-not-branch-clause-ok
 returns-then-not-branch-clause-ok c = λ delimiter text before has.

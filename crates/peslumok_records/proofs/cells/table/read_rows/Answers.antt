@@ -3,18 +3,18 @@ use Rattle.std.proofs.Common.{sym, true}
 use Rattle.std.proofs.lemmas.Result.{IfErr-weaker, on_ok_weaker}
 use Rattle.csv.specs.Records.{Row, fields_of}
 use Rattle.agg_values.specs.Nothing.{NoneIs}
-use Rattle.agg_held_records.specs.Causes.{is_fault}
-use Rattle.agg_held_records.specs.Documents.{AreRead}
-use Rattle.agg_held_records.specs.Held.{Adds, held_documents}
-use Rattle.agg_held_records.specs.declared.asked.AskedField.{AskedField}
-use Rattle.agg_held_records.specs.declared.error.RecordError.{RecordError}
-use Rattle.agg_held_records.proofs.HeldDocuments.{adds_later}
-use Rattle.agg_cell_records.specs.Cells.{row_document}
-use Rattle.agg_cell_records.specs.Rows.{HasRead}
-use Rattle.agg_cell_records.specs.Table.{ArePlaces, AreTableDocuments}
-use Rattle.agg_cell_records.specs.declared.rows.Rows.{Rows}
-use Rattle.agg_cell_records.proofs.RefusedRows.{NoneUnder, error_passed, none_placed}
-use Rattle.agg_cell_records.proofs.table.read_rows.Goals as goal
+use Rattle.peslumok_records.specs.held.Causes.{is_fault}
+use Rattle.peslumok_records.specs.held.Documents.{AreRead}
+use Rattle.peslumok_records.specs.held.Held.{Adds, held_documents}
+use Rattle.peslumok_records.specs.declared.held.asked.AskedField.{AskedField}
+use Rattle.peslumok_records.specs.declared.held.error.RecordError.{RecordError}
+use Rattle.peslumok_records.proofs.lemmas.held.HeldDocuments.{adds_later}
+use Rattle.peslumok_records.specs.cells.Cells.{row_document}
+use Rattle.peslumok_records.specs.cells.Rows.{HasRead}
+use Rattle.peslumok_records.specs.cells.Table.{ArePlaces, AreTableDocuments}
+use Rattle.peslumok_records.specs.declared.cells.rows.Rows.{Rows}
+use Rattle.peslumok_records.proofs.lemmas.cells.RefusedRows.{NoneUnder, error_passed, none_placed}
+use Rattle.peslumok_records.proofs.cells.table.read_rows.Goals as goal
 
 placed_under : (seen row : Row) (fields asked : List AskedField) (places : List (Option ℕ))
     → seen ≡ row → fields ≡ asked → ArePlaces (fields_of seen) fields places

@@ -1,6 +1,6 @@
 use Rattle.std.proofs.Common.{ap, ◌∙◌, sym}
-use Rattle.agg_held_records.specs.Causes.{is_fault}
-use Rattle.agg_cell_records.proofs.table.read_table.Goals as goal
+use Rattle.peslumok_records.specs.held.Causes.{is_fault}
+use Rattle.peslumok_records.proofs.cells.table.read_table.Goals as goal
 
 pub returns-clause-none : goal.returns-clause-none
 returns-clause-none c = λ fault.

@@ -1,7 +1,7 @@
 use Rattle.std.proofs.Common.{◌∙◌, lit<}
 use Rattle.std.proofs.lemmas.Iterator.Consumers.{YieldsList-at, YieldsList-end}
 use Rattle.std.proofs.lemmas.Iterator.Splits.{YieldsList-from_str_split}
-use Rattle.agg_held_records.proofs.asked.path_of.Goals as goal
+use Rattle.peslumok_records.proofs.held.asked.path_of.Goals as goal
 
 pub returns : goal.returns
 returns c =

@@ -4,11 +4,12 @@ use Rattle.std.proofs.lemmas.Grind.{common_steps}
 use Rattle.json.specs.Json.{after_end_array, if_last, max_depth, value}
 use Rattle.json.specs.Lex.{tokens}
 use Rattle.json.specs.Token.{Token}
-use Rattle.agg_held_records.specs.Causes.{is_fault}
-use Rattle.agg_json_records.proofs.ArrayItems.{all_items, no_items_yet, one_item_more}
-use Rattle.agg_json_records.proofs.NoJsonDocuments.{none_after, none_with, none_without}
-use Rattle.agg_json_records.proofs.NoJsonDocuments.{some_token}
-use Rattle.agg_json_records.proofs.array.read_array.Goals as goal
+use Rattle.peslumok_records.specs.held.Causes.{is_fault}
+use Rattle.peslumok_records.proofs.lemmas.objects.ArrayItems.{all_items, no_items_yet}
+use Rattle.peslumok_records.proofs.lemmas.objects.ArrayItems.{one_item_more}
+use Rattle.peslumok_records.proofs.lemmas.objects.NoJsonDocuments.{none_after, none_with}
+use Rattle.peslumok_records.proofs.lemmas.objects.NoJsonDocuments.{none_without, some_token}
+use Rattle.peslumok_records.proofs.objects.array.read_array.Goals as goal
 
 pub items-init : goal.items-init
 items-init c = no_items_yet c.args.asked.now c.take_begin_array.new.reader c.args.into.now

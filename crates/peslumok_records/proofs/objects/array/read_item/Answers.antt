@@ -4,12 +4,12 @@ use Rattle.json.specs.Json.{Json, max_depth, value}
 use Rattle.json.specs.Token.{Token}
 use Rattle.json.specs.Value.{value_view}
 use Rattle.agg_values.specs.Nothing.{NoneIs}
-use Rattle.agg_held_records.specs.Documents.{IsRead}
-use Rattle.agg_held_records.specs.Causes.{is_fault}
-use Rattle.agg_held_records.specs.declared.error.RecordError.{RecordError}
-use Rattle.agg_json_records.specs.Objects.{object_document}
-use Rattle.agg_json_records.proofs.NoJsonDocuments.{json_in}
-use Rattle.agg_json_records.proofs.array.read_item.Goals as goal
+use Rattle.peslumok_records.specs.held.Documents.{IsRead}
+use Rattle.peslumok_records.specs.held.Causes.{is_fault}
+use Rattle.peslumok_records.specs.declared.held.error.RecordError.{RecordError}
+use Rattle.peslumok_records.specs.objects.Objects.{object_document}
+use Rattle.peslumok_records.proofs.lemmas.objects.NoJsonDocuments.{json_in}
+use Rattle.peslumok_records.proofs.objects.array.read_item.Goals as goal
 
 pub returns-in-Ok-clause-none : goal.returns-in-Ok-clause-none
 returns-in-Ok-clause-none c =

@@ -1,12 +1,12 @@
 use Rattle.std.proofs.Common.{rules, subst, sym}
 use Rattle.std.specs.Prelude.{option_and_then}
 use Rattle.json.specs.Json.{object}
-use Rattle.agg_held_records.specs.Held.{Holds}
-use Rattle.agg_held_records.specs.Values.{values_of_fields}
-use Rattle.agg_held_records.proofs.Appended.{holds_closed}
-use Rattle.agg_json_records.specs.Objects.{field_values, object_document}
-use Rattle.agg_json_records.specs.Tokens.{TakesText}
-use Rattle.agg_json_records.proofs.lines.add_tokens.Goals as goal
+use Rattle.peslumok_records.specs.held.Held.{Holds}
+use Rattle.peslumok_records.specs.held.Values.{values_of_fields}
+use Rattle.peslumok_records.proofs.lemmas.held.Appended.{holds_closed}
+use Rattle.peslumok_records.specs.objects.Objects.{field_values, object_document}
+use Rattle.peslumok_records.specs.objects.Tokens.{TakesText}
+use Rattle.peslumok_records.proofs.objects.lines.add_tokens.Goals as goal
 
 pub returns-clause-taken : goal.returns-clause-taken
 returns-clause-taken c = λ taken.

@@ -3,14 +3,14 @@ use Rattle.std.specs.Prelude.{option_and_then}
 use Rattle.std.proofs.lemmas.Result.{IfErr-weaker, on_ok_weaker}
 use Rattle.json.specs.Value.{value_view}
 use Rattle.agg_values.specs.Nothing.{NoneIs}
-use Rattle.agg_held_records.specs.Documents.{IsRead}
-use Rattle.agg_held_records.specs.Causes.{is_fault}
-use Rattle.agg_held_records.specs.Held.{Holds}
-use Rattle.agg_held_records.specs.declared.error.RecordError.{RecordError}
-use Rattle.agg_held_records.proofs.Appended.{holds_later}
-use Rattle.agg_json_records.specs.JsonRecords.{text_document}
-use Rattle.agg_json_records.specs.Objects.{object_document}
-use Rattle.agg_json_records.proofs.lines.read_line.Goals as goal
+use Rattle.peslumok_records.specs.held.Documents.{IsRead}
+use Rattle.peslumok_records.specs.held.Causes.{is_fault}
+use Rattle.peslumok_records.specs.held.Held.{Holds}
+use Rattle.peslumok_records.specs.declared.held.error.RecordError.{RecordError}
+use Rattle.peslumok_records.proofs.lemmas.held.Appended.{holds_later}
+use Rattle.peslumok_records.specs.objects.JsonRecords.{text_document}
+use Rattle.peslumok_records.specs.objects.Objects.{object_document}
+use Rattle.peslumok_records.proofs.objects.lines.read_line.Goals as goal
 
 pub returns-in-Ok-clause-ok : goal.returns-in-Ok-clause-ok
 returns-in-Ok-clause-ok c =

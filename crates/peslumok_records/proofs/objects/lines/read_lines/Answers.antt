@@ -3,16 +3,16 @@ use Rattle.std.proofs.Common.{rules}
 use Rattle.std.proofs.lemmas.Iterator.Consumers.{YieldsList-at, YieldsList-end}
 use Rattle.std.proofs.lemmas.Iterator.Consumers.{YieldsList-so_far, YieldsList-turn}
 use Rattle.std.proofs.lemmas.Iterator.Splits.{YieldsList-from_str_split}
-use Rattle.agg_held_records.specs.Causes.{is_fault}
-use Rattle.agg_held_records.specs.Held.{Adds}
-use Rattle.agg_held_records.proofs.HeldDocuments.{adds_one}
-use Rattle.agg_json_records.specs.JsonRecords.{text_document}
-use Rattle.agg_json_records.specs.Lines.{AreLineDocuments, all_lines_of, is_blank, without_blank}
-use Rattle.agg_json_records.proofs.LineRecords.{around_next, counted_after, counted_more}
-use Rattle.agg_json_records.proofs.LineRecords.{filled_line}
-use Rattle.agg_json_records.proofs.LineRecords.{texts_of}
-use Rattle.agg_json_records.proofs.NoJsonDocuments.{none_of_lines}
-use Rattle.agg_json_records.proofs.lines.read_lines.Goals as goal
+use Rattle.peslumok_records.specs.held.Causes.{is_fault}
+use Rattle.peslumok_records.specs.held.Held.{Adds}
+use Rattle.peslumok_records.proofs.lemmas.held.HeldDocuments.{adds_one}
+use Rattle.peslumok_records.specs.objects.JsonRecords.{text_document}
+use Rattle.peslumok_records.specs.objects.Lines.{AreLineDocuments, all_lines_of, is_blank}
+use Rattle.peslumok_records.specs.objects.Lines.{without_blank}
+use Rattle.peslumok_records.proofs.lemmas.objects.LineRecords.{around_next, counted_after}
+use Rattle.peslumok_records.proofs.lemmas.objects.LineRecords.{counted_more, filled_line, texts_of}
+use Rattle.peslumok_records.proofs.lemmas.objects.NoJsonDocuments.{none_of_lines}
+use Rattle.peslumok_records.proofs.objects.lines.read_lines.Goals as goal
 
 pub loop-line-preserved-in_default : goal.loop-line-preserved-in_default
 loop-line-preserved-in_default c =

@@ -1,7 +1,7 @@
 use Rattle.std.proofs.Common.{◌≡◌, ◌-◌, ◌^◌, length, map, min}
-use Rattle.agg_held_records.specs.Held.{Adds}
-use Rattle.agg_json_records.specs.Lines.{AreLineDocuments, without_blank}
-use Rattle.agg_json_records.proofs.lines.read_lines.Given as goal
+use Rattle.peslumok_records.specs.held.Held.{Adds}
+use Rattle.peslumok_records.specs.objects.Lines.{AreLineDocuments, without_blank}
+use Rattle.peslumok_records.proofs.objects.lines.read_lines.Given as goal
 
 abbrev pub invariant-loop-line : goal.invariant-loop-line
 invariant-loop-line l = record {

@@ -1,5 +1,5 @@
 use Rattle.std.proofs.Common.{length}
-use Rattle.agg_json_records.proofs.members.+member_at.Given as goal
+use Rattle.peslumok_records.proofs.objects.members.+member_at.Given as goal
 
 abbrev pub decreases-member_at : goal.decreases-member_at
 decreases-member_at l = length l.path.now

@@ -4,11 +4,11 @@ use Rattle.json.specs.Find.{as_object}
 use Rattle.json.specs.Value.{members_view, value_view}
 use Rattle.json.proofs.Trees.{view-Object}
 use Rattle.agg_values.specs.Nothing.{NoneIs}
-use Rattle.agg_held_records.specs.Documents.{IsRead}
-use Rattle.agg_held_records.specs.Causes.{is_fault}
-use Rattle.agg_held_records.specs.Values.{document_of_fields}
-use Rattle.agg_json_records.specs.Objects.{field_values, object_document}
-use Rattle.agg_json_records.proofs.objects.add_object.Goals as goal
+use Rattle.peslumok_records.specs.held.Documents.{IsRead}
+use Rattle.peslumok_records.specs.held.Causes.{is_fault}
+use Rattle.peslumok_records.specs.held.Values.{document_of_fields}
+use Rattle.peslumok_records.specs.objects.Objects.{field_values, object_document}
+use Rattle.peslumok_records.proofs.objects.objects.add_object.Goals as goal
 
 pub returns-in_err-try_object-clause-none : goal.returns-in_err-try_object-clause-none
 returns-in_err-try_object-clause-none c =

@@ -1,11 +1,11 @@
 use Rattle.std.proofs.Common.{◌≡◌, None, ap, rules, true, ◌∙◌}
 use Rattle.json.specs.Value.{items_view}
-use Rattle.agg_column.specs.Cells.{number_of}
-use Rattle.agg_held_records.specs.Causes.{is_fault}
-use Rattle.agg_json_records.specs.Objects.{item_values}
-use Rattle.agg_json_records.proofs.NoJsonDocuments.{no_item}
-use Rattle.agg_json_records.proofs.ObjectValues.{gains_item}
-use Rattle.agg_json_records.proofs.objects.push_items.Goals as goal
+use Rattle.agg_segment.specs.storage.Cells.{number_of}
+use Rattle.peslumok_records.specs.held.Causes.{is_fault}
+use Rattle.peslumok_records.specs.objects.Objects.{item_values}
+use Rattle.peslumok_records.proofs.lemmas.objects.NoJsonDocuments.{no_item}
+use Rattle.peslumok_records.proofs.lemmas.objects.ObjectValues.{gains_item}
+use Rattle.peslumok_records.proofs.objects.objects.push_items.Goals as goal
 
 pub loop-item-preserved : goal.loop-item-preserved
 loop-item-preserved c =

@@ -2,9 +2,9 @@ use Rattle.std.proofs.Common.{◌≡◌, take}
 use Rattle.std.specs.Prelude.{option_map}
 use Rattle.json.specs.Value.{items_view}
 use Rattle.agg_segment.specs.Segment.{IsNameOf, gathered_documents}
-use Rattle.agg_held_records.specs.Values.{Gains, named_values}
-use Rattle.agg_json_records.specs.Objects.{item_values}
-use Rattle.agg_json_records.proofs.objects.push_items.Given as goal
+use Rattle.peslumok_records.specs.held.Values.{Gains, named_values}
+use Rattle.peslumok_records.specs.objects.Objects.{item_values}
+use Rattle.peslumok_records.proofs.objects.objects.push_items.Given as goal
 
 -- the values of the items so far were appended
 abbrev pub invariant-loop-item : goal.invariant-loop-item

@@ -1,9 +1,9 @@
 use Rattle.std.proofs.Common.{◌∙◌}
 use Rattle.json.specs.Value.{value_view}
-use Rattle.agg_held_records.proofs.NoDocuments.{no_field}
-use Rattle.agg_json_records.specs.Objects.{field_values}
-use Rattle.agg_json_records.proofs.ObjectValues.{gains_field}
-use Rattle.agg_json_records.proofs.objects.push_object.Goals as goal
+use Rattle.peslumok_records.proofs.lemmas.held.NoDocuments.{no_field}
+use Rattle.peslumok_records.specs.objects.Objects.{field_values}
+use Rattle.peslumok_records.proofs.lemmas.objects.ObjectValues.{gains_field}
+use Rattle.peslumok_records.proofs.objects.objects.push_object.Goals as goal
 
 pub loop-field-preserved : goal.loop-field-preserved
 loop-field-preserved c =

@@ -1,9 +1,9 @@
 use Rattle.std.proofs.Common.{◌≡◌, take}
 use Rattle.json.specs.Value.{value_view}
 use Rattle.agg_segment.specs.Segment.{gathered_documents}
-use Rattle.agg_held_records.specs.Values.{Gains, values_of_fields}
-use Rattle.agg_json_records.specs.Objects.{field_values}
-use Rattle.agg_json_records.proofs.objects.push_object.Given as goal
+use Rattle.peslumok_records.specs.held.Values.{Gains, values_of_fields}
+use Rattle.peslumok_records.specs.objects.Objects.{field_values}
+use Rattle.peslumok_records.proofs.objects.objects.push_object.Given as goal
 
 -- the values of the fields so far were appended
 abbrev pub invariant-loop-field : goal.invariant-loop-field

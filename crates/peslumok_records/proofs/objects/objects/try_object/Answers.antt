@@ -1,10 +1,10 @@
 use Rattle.std.proofs.Common.{◌≡◌, ◌∙◌, [], subst}
 use Rattle.json.specs.Value.{value_view}
 use Rattle.agg_segment.specs.Segment.{gathered_documents}
-use Rattle.agg_held_records.specs.Values.{Gains, values_of_fields}
-use Rattle.agg_held_records.proofs.Appended.{holds_closed, mixed_closed}
-use Rattle.agg_json_records.specs.Objects.{field_values}
-use Rattle.agg_json_records.proofs.objects.try_object.Goals as goal
+use Rattle.peslumok_records.specs.held.Values.{Gains, values_of_fields}
+use Rattle.peslumok_records.proofs.lemmas.held.Appended.{holds_closed, mixed_closed}
+use Rattle.peslumok_records.specs.objects.Objects.{field_values}
+use Rattle.peslumok_records.proofs.objects.objects.try_object.Goals as goal
 
 pub returns-clause-taken : goal.returns-clause-taken
 returns-clause-taken c = λ taken.

@@ -1,5 +1,5 @@
 use Rattle.std.proofs.Common.{length}
-use Rattle.agg_json_records.proofs.place.offset_of_member.Given as goal
+use Rattle.peslumok_records.proofs.objects.place.offset_of_member.Given as goal
 
 abbrev pub decreases-members : goal.decreases-members
 decreases-members l = length l.reader

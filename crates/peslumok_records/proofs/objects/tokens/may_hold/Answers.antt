@@ -1,7 +1,7 @@
 use Rattle.std.proofs.Common.{◌≡◌, ◌∙◌, rules, sym}
 use Rattle.std.specs.Prelude.{Some, slice_get}
-use Rattle.agg_json_records.proofs.MemberPlaces.{first_part}
-use Rattle.agg_json_records.proofs.tokens.may_hold.Goals as goal
+use Rattle.peslumok_records.proofs.lemmas.objects.MemberPlaces.{first_part}
+use Rattle.peslumok_records.proofs.objects.tokens.may_hold.Goals as goal
 
 pub returns-in-Some : goal.returns-in-Some
 returns-in-Some c = λ apart.

@@ -1,5 +1,5 @@
-use Rattle.agg_json_records.proofs.MemberPlaces.{IsPlaceBefore}
-use Rattle.agg_json_records.proofs.tokens.place_of.Given as goal
+use Rattle.peslumok_records.proofs.lemmas.objects.MemberPlaces.{IsPlaceBefore}
+use Rattle.peslumok_records.proofs.objects.tokens.place_of.Given as goal
 
 abbrev pub invariant-loop-index : goal.invariant-loop-index
 invariant-loop-index l = IsPlaceBefore l.asked l.name l.index l.found

@@ -1,9 +1,9 @@
 use Rattle.std.proofs.Common.{◌≡◌, ◌∙◌, Some, None, ap, sym, arith, rules}
 use Rattle.json.specs.Json.{after_end_array}
 use Rattle.json.specs.Reads.{token_of}
-use Rattle.agg_column.specs.Cells.{number_of}
-use Rattle.agg_json_records.proofs.TakenValues.{all_items, one_item_more}
-use Rattle.agg_json_records.proofs.tokens.push_array.Goals as goal
+use Rattle.agg_segment.specs.storage.Cells.{number_of}
+use Rattle.peslumok_records.proofs.lemmas.objects.TakenValues.{all_items, one_item_more}
+use Rattle.peslumok_records.proofs.objects.tokens.push_array.Goals as goal
 
 pub items-preserved : goal.items-preserved
 items-preserved c =

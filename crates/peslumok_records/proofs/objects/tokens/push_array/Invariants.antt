@@ -1,7 +1,7 @@
 use Rattle.std.proofs.Common.{◌≡◌, length}
 use Rattle.agg_segment.specs.Segment.{IsNameOf, gathered_documents}
-use Rattle.agg_json_records.proofs.TakenValues.{HasTakenItems}
-use Rattle.agg_json_records.proofs.tokens.push_array.Given as goal
+use Rattle.peslumok_records.proofs.lemmas.objects.TakenValues.{HasTakenItems}
+use Rattle.peslumok_records.proofs.objects.tokens.push_array.Given as goal
 
 -- the items so far were taken, and no document was closed
 abbrev pub invariant-items : goal.invariant-items

@@ -2,10 +2,11 @@ use Rattle.std.proofs.Common.{◌≡◌, ◌-◌, ◌∙◌, Some, true, refl, s
 use Rattle.std.specs.Prelude.{slice_set}
 use Rattle.std.specs.List.{All}
 use Rattle.json.specs.Json.{max_depth, read_key, skip_value}
-use Rattle.agg_json_records.specs.Tokens.{IsOnlyOf, IsOther, IsPlaceOf}
-use Rattle.agg_json_records.proofs.TakenMembers.{HasTaken, all_members, no_members_yet, one_field}
-use Rattle.agg_json_records.proofs.TakenMembers.{one_other}
-use Rattle.agg_json_records.proofs.tokens.push_members.Goals as goal
+use Rattle.peslumok_records.specs.objects.Tokens.{IsOnlyOf, IsOther, IsPlaceOf}
+use Rattle.peslumok_records.proofs.lemmas.objects.TakenMembers.{HasTaken, all_members}
+use Rattle.peslumok_records.proofs.lemmas.objects.TakenMembers.{no_members_yet, one_field}
+use Rattle.peslumok_records.proofs.lemmas.objects.TakenMembers.{one_other}
+use Rattle.peslumok_records.proofs.objects.tokens.push_members.Goals as goal
 
 pub members-init : goal.members-init
 members-init c = record {

@@ -1,7 +1,7 @@
 use Rattle.std.proofs.Common.{◌≡◌, length}
 use Rattle.agg_segment.specs.Segment.{gathered_documents}
-use Rattle.agg_json_records.proofs.TakenMembers.{HasTaken}
-use Rattle.agg_json_records.proofs.tokens.push_members.Given as goal
+use Rattle.peslumok_records.proofs.lemmas.objects.TakenMembers.{HasTaken}
+use Rattle.peslumok_records.proofs.objects.tokens.push_members.Given as goal
 
 -- the members so far were taken, and no document was closed
 abbrev pub invariant-members : goal.invariant-members

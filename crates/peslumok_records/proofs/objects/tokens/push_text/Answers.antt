@@ -2,9 +2,9 @@ use Rattle.std.proofs.Common.{◌≡◌, ◌∷◌, [], arith, rules, subst}
 use Rattle.json.specs.Lex.{tokens}
 use Rattle.json.specs.Token.{Token}
 use Rattle.std.proofs.lemmas.Grind.{common_steps}
-use Rattle.agg_json_records.specs.Tokens.{TakesMembers}
-use Rattle.agg_json_records.proofs.TakenMembers.{whole_text}
-use Rattle.agg_json_records.proofs.tokens.push_text.Goals as goal
+use Rattle.peslumok_records.specs.objects.Tokens.{TakesMembers}
+use Rattle.peslumok_records.proofs.lemmas.objects.TakenMembers.{whole_text}
+use Rattle.peslumok_records.proofs.objects.tokens.push_text.Goals as goal
 
 pub returns-clause-taken : goal.returns-clause-taken
 returns-clause-taken c = λ over.

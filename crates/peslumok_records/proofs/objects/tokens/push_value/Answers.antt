@@ -1,7 +1,7 @@
 use Rattle.std.proofs.Common.{◌≡◌, ◌∷◌, arith}
 use Rattle.json.specs.Token.{Token}
-use Rattle.agg_json_records.proofs.TakenValues.{value_of_array}
-use Rattle.agg_json_records.proofs.tokens.push_value.Goals as goal
+use Rattle.peslumok_records.proofs.lemmas.objects.TakenValues.{value_of_array}
+use Rattle.peslumok_records.proofs.objects.tokens.push_value.Goals as goal
 
 pub returns-in-Some-BeginArray-clause-taken : goal.returns-in-Some-BeginArray-clause-taken
 returns-in-Some-BeginArray-clause-taken c = λ taken.

@@ -1,11 +1,12 @@
 use Rattle.std.proofs.Common.{sym, subst}
 use Rattle.json.specs.Json.{boolean, null, number, string}
 use Rattle.json.specs.Reads.{token_of}
-use Rattle.agg_json_records.specs.Tokens.{IsScalar}
-use Rattle.agg_json_records.proofs.TakenValues.{scalar_boolean, scalar_null, scalar_number}
-use Rattle.agg_json_records.proofs.TakenValues.{scalar_string, view-Bool, view-Null, view-Number}
-use Rattle.agg_json_records.proofs.TakenValues.{view-String}
-use Rattle.agg_json_records.proofs.tokens.scalar_of.Goals as goal
+use Rattle.peslumok_records.specs.objects.Tokens.{IsScalar}
+use Rattle.peslumok_records.proofs.lemmas.objects.TakenValues.{scalar_boolean, scalar_null}
+use Rattle.peslumok_records.proofs.lemmas.objects.TakenValues.{scalar_number, scalar_string}
+use Rattle.peslumok_records.proofs.lemmas.objects.TakenValues.{view-Bool, view-Null, view-Number}
+use Rattle.peslumok_records.proofs.lemmas.objects.TakenValues.{view-String}
+use Rattle.peslumok_records.proofs.objects.tokens.scalar_of.Goals as goal
 
 pub returns-in-String : goal.returns-in-String
 returns-in-String c =

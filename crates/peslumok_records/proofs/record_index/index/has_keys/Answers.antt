@@ -1,7 +1,7 @@
 use Rattle.std.proofs.Common.{arith, below_more, sym}
-use Rattle.agg_record_index.proofs.Seen.{has_keys-at, has_keys-none, is-none, is-some, no-keys}
-use Rattle.agg_record_index.proofs.Seen.{some-keys}
-use Rattle.agg_record_index.proofs.index.has_keys.Goals as goal
+use Rattle.peslumok_records.proofs.lemmas.record_index.Seen.{has_keys-at, has_keys-none, is-none}
+use Rattle.peslumok_records.proofs.lemmas.record_index.Seen.{is-some, no-keys, some-keys}
+use Rattle.peslumok_records.proofs.record_index.index.has_keys.Goals as goal
 
 pub loop-doc-preserved : goal.loop-doc-preserved
 loop-doc-preserved c =

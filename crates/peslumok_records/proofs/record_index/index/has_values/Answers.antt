@@ -2,10 +2,10 @@ use Rattle.std.proofs.Common.{◌≡◌, ◌∙◌, List, false, subst, sym, tru
 use Rattle.std.specs.List.{list_any, range_with_len}
 use Rattle.std.proofs.lemmas.List.{take_all}
 use Rattle.std.proofs.lemmas.List.Folds.{list_any_at}
-use Rattle.agg_column.specs.Columns.{StoredColumn}
-use Rattle.agg_record_index.specs.Index.{has_keys}
-use Rattle.agg_record_index.proofs.Seen.{segment-seen}
-use Rattle.agg_record_index.proofs.index.has_values.Goals as goal
+use Rattle.agg_segment.specs.storage.Columns.{StoredColumn}
+use Rattle.peslumok_records.specs.record_index.Index.{has_keys}
+use Rattle.peslumok_records.proofs.lemmas.record_index.Seen.{segment-seen}
+use Rattle.peslumok_records.proofs.record_index.index.has_values.Goals as goal
 
 pub returns-then-has_keys : goal.returns-then-has_keys
 returns-then-has_keys c =

@@ -1,7 +1,7 @@
 use Rattle.std.proofs.Common.{◌≡◌, false, take}
 use Rattle.std.specs.List.{list_any, range_with_len}
-use Rattle.agg_record_index.specs.Index.{has_keys}
-use Rattle.agg_record_index.proofs.index.has_values.Given as goal
+use Rattle.peslumok_records.specs.record_index.Index.{has_keys}
+use Rattle.peslumok_records.proofs.record_index.index.has_values.Given as goal
 
 -- the columns so far have no key
 abbrev pub invariant-loop-column : goal.invariant-loop-column

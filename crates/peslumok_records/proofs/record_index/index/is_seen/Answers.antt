@@ -4,9 +4,9 @@ use Rattle.std.proofs.lemmas.List.{take_all}
 use Rattle.std.proofs.lemmas.List.Folds.{list_any_at}
 use Rattle.agg_segment.specs.Query.{holds, is_any}
 use Rattle.agg_segment.specs.Segment.{Stored, documents_of}
-use Rattle.agg_record_index.specs.Index.{is_seen}
-use Rattle.agg_record_index.proofs.Seen.{any-flat_map}
-use Rattle.agg_record_index.proofs.index.is_seen.Goals as goal
+use Rattle.peslumok_records.specs.record_index.Index.{is_seen}
+use Rattle.peslumok_records.proofs.lemmas.record_index.Seen.{any-flat_map}
+use Rattle.peslumok_records.proofs.record_index.index.is_seen.Goals as goal
 
 pub returns-then-has_values : goal.returns-then-has_values
 returns-then-has_values c =

@@ -1,8 +1,8 @@
 use Rattle.std.proofs.Common.{◌≡◌, false, take}
 use Rattle.std.specs.List.{list_any}
 use Rattle.agg_segment.specs.Segment.{documents_of}
-use Rattle.agg_record_index.specs.Index.{is_seen}
-use Rattle.agg_record_index.proofs.index.is_seen.Given as goal
+use Rattle.peslumok_records.specs.record_index.Index.{is_seen}
+use Rattle.peslumok_records.proofs.record_index.index.is_seen.Given as goal
 
 -- the segments so far have no value of the field
 abbrev pub invariant-loop-segment : goal.invariant-loop-segment

@@ -1,7 +1,7 @@
 use Rattle.std.proofs.Common.{◌≡◌, flat_map, take}
 use Rattle.agg_segment.specs.Segment.{documents_of}
-use Rattle.agg_record_index.specs.Index.{unseen_names}
-use Rattle.agg_record_index.proofs.index.unseen_of.Given as goal
+use Rattle.peslumok_records.specs.record_index.Index.{unseen_names}
+use Rattle.peslumok_records.proofs.record_index.index.unseen_of.Given as goal
 
 -- the names so far are those of the fields so far
 abbrev pub invariant-loop-field : goal.invariant-loop-field

@@ -3,14 +3,14 @@ use Rattle.std.specs.Str.{IsUtf8}
 use Rattle.std.proofs.lemmas.Result.{IfErr-weaker, on_ok_weaker}
 use Rattle.csv.specs.Reading.{strip_bom}
 use Rattle.agg_values.specs.Nothing.{NoneIs}
-use Rattle.agg_held_records.specs.Causes.{is_fault}
-use Rattle.agg_held_records.specs.declared.error.RecordError.{RecordError}
-use Rattle.agg_held_records.proofs.HeldDocuments.{adds_later}
-use Rattle.agg_json_records.specs.JsonRecords.{AreItemDocuments}
-use Rattle.agg_json_records.specs.Lines.{AreLineDocuments, IsFirstFault, lines_of}
-use Rattle.agg_records.specs.Formats.{AreDocumentsOf}
-use Rattle.agg_records.specs.declared.format.RecordFormat.TheVariants as format
-use Rattle.agg_records.proofs.read.read_records.Goals as goal
+use Rattle.peslumok_records.specs.held.Causes.{is_fault}
+use Rattle.peslumok_records.specs.declared.held.error.RecordError.{RecordError}
+use Rattle.peslumok_records.proofs.lemmas.held.HeldDocuments.{adds_later}
+use Rattle.peslumok_records.specs.objects.JsonRecords.{AreItemDocuments}
+use Rattle.peslumok_records.specs.objects.Lines.{AreLineDocuments, IsFirstFault, lines_of}
+use Rattle.peslumok_records.specs.records.Formats.{AreDocumentsOf}
+use Rattle.peslumok_records.specs.declared.records.format.RecordFormat.TheVariants as format
+use Rattle.peslumok_records.proofs.records.read.read_records.Goals as goal
 
 pub returns-in_ok-text_of-in-JsonLines-clause-held :
     goal.returns-in_ok-text_of-in-JsonLines-clause-held

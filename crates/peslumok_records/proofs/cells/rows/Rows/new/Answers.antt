@@ -5,8 +5,8 @@ use Rattle.csv.specs.Reading.{builder_names_headers, builder_trim, strip_bom, wi
 use Rattle.csv.specs.Reading.{with_names_headers}
 use Rattle.csv.specs.Records.{AllText}
 use Rattle.csv.specs.declared.parser.Config.{Config}
-use Rattle.agg_cell_records.proofs.RefusedRows.{no_last}
-use Rattle.agg_cell_records.proofs.rows.Rows.new.Goals as goal
+use Rattle.peslumok_records.proofs.lemmas.cells.RefusedRows.{no_last}
+use Rattle.peslumok_records.proofs.cells.rows.Rows.new.Goals as goal
 
 pub returns : goal.returns
 unfolding Reached

@@ -5,12 +5,13 @@ use Rattle.csv.specs.Reading.{AreRecords, ExplainsRead, ReadRecord, Reached, str
 use Rattle.csv.specs.Records.{AllText, Row, fields_of}
 use Rattle.csv.specs.declared.parser.State.TheVariants as st
 use Rattle.csv.proofs.ReadFacts.{rows-end, rows-more}
-use Rattle.agg_cell_records.specs.Csv.{AreEven, AreTexts, IsClosed, cells_config}
-use Rattle.agg_cell_records.specs.Quotes.{MayBeOpenAfter}
-use Rattle.agg_cell_records.specs.Rows.{width_of}
-use Rattle.agg_cell_records.proofs.OpenQuotes.{open_after}
-use Rattle.agg_cell_records.proofs.RefusedRows.{even_more, no_table, none_refused, same_last}
-use Rattle.agg_cell_records.proofs.rows.Rows.read.Goals as goal
+use Rattle.peslumok_records.specs.cells.Csv.{AreEven, AreTexts, IsClosed, cells_config}
+use Rattle.peslumok_records.specs.cells.Quotes.{MayBeOpenAfter}
+use Rattle.peslumok_records.specs.cells.Rows.{width_of}
+use Rattle.peslumok_records.proofs.lemmas.cells.OpenQuotes.{open_after}
+use Rattle.peslumok_records.proofs.lemmas.cells.RefusedRows.{even_more, no_table, none_refused}
+use Rattle.peslumok_records.proofs.lemmas.cells.RefusedRows.{same_last}
+use Rattle.peslumok_records.proofs.cells.rows.Rows.read.Goals as goal
 
 -- the bytes that are left of a text in memory
 abbrev left : Bor (List ℕ) → Option (List ℕ)

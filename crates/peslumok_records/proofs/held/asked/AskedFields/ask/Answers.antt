@@ -2,8 +2,8 @@ use Rattle.std.proofs.Common.{◌≡◌, ◌∙◌, inl, inr, refl, rules, sym, 
 use Rattle.std.specs.List.{list_any}
 use Rattle.std.proofs.lemmas.Iterator.{YieldsList-from_slice}
 use Rattle.std.proofs.lemmas.Iterator.Search.{any_from_yields_List}
-use Rattle.agg_held_records.proofs.AskedNames.{asked_by_test, is_named, unasked_by_test}
-use Rattle.agg_held_records.proofs.asked.AskedFields.ask.Goals as goal
+use Rattle.peslumok_records.proofs.lemmas.held.AskedNames.{asked_by_test, is_named, unasked_by_test}
+use Rattle.peslumok_records.proofs.held.asked.AskedFields.ask.Goals as goal
 
 pub returns-then-any-clause-ok : goal.returns-then-any-clause-ok
 returns-then-any-clause-ok c =

@@ -1,7 +1,7 @@
 use Rattle.std.proofs.Common.{subst}
 use Rattle.agg_segment.specs.Segment.{IsMixed, gathered_documents, open_document}
-use Rattle.agg_held_records.proofs.SingleDocuments.{fits_alone}
-use Rattle.agg_held_records.proofs.records.Records.close.Goals as goal
+use Rattle.peslumok_records.proofs.lemmas.held.SingleDocuments.{fits_alone}
+use Rattle.peslumok_records.proofs.held.records.Records.close.Goals as goal
 
 pub returns-in-Ok-clause-fits : goal.returns-in-Ok-clause-fits
 returns-in-Ok-clause-fits c = λ _.

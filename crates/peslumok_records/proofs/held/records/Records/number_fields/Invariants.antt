@@ -1,7 +1,7 @@
 use Rattle.std.proofs.Common.{◌≡◌}
 use Rattle.agg_segment.specs.Segment.{gathered_documents, open_document}
-use Rattle.agg_held_records.specs.Held.{held_documents}
-use Rattle.agg_held_records.proofs.records.Records.number_fields.Given as goal
+use Rattle.peslumok_records.specs.held.Held.{held_documents}
+use Rattle.peslumok_records.proofs.held.records.Records.number_fields.Given as goal
 
 -- the documents stay as they were
 abbrev pub invariant-loop-field : goal.invariant-loop-field

@@ -1,5 +1,5 @@
-use Rattle.agg_record_index.proofs.OneSnapshot.{one-snapshot}
-use Rattle.agg_record_index.proofs.index.Index.of.Goals as goal
+use Rattle.peslumok_records.proofs.lemmas.record_index.OneSnapshot.{one-snapshot}
+use Rattle.peslumok_records.proofs.record_index.index.Index.of.Goals as goal
 
 pub returns-clause-snapshots : goal.returns-clause-snapshots
 returns-clause-snapshots c =

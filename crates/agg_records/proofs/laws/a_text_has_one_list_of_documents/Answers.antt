@@ -1,5 +1,0 @@
-use Rattle.agg_records.proofs.SoleDocuments.{documents_once}
-use Rattle.agg_records.proofs.laws.a_text_has_one_list_of_documents.Goals as goal
-
-pub returns : goal.returns
-returns c = record { is_sole = documents_once }

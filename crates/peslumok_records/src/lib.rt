@@ -1,0 +1,7 @@
+#![tactic(auto)]
+
+pub mod cells;
+pub mod held;
+pub mod objects;
+pub mod record_index;
+pub mod records;
