@@ -1,15 +1,13 @@
 //! What a grouping of records asks, and the request, the query and the fields that it stands for.
-#![tactic(auto)]
-
-mod boolean;
-mod condition;
-mod error;
-mod fields;
-mod grouping;
-mod laws;
-mod query;
-mod request;
-mod source;
+pub(crate) mod boolean;
+pub(crate) mod condition;
+pub(crate) mod error;
+pub(crate) mod fields;
+pub(crate) mod grouping;
+pub(crate) mod laws;
+pub(crate) mod query;
+pub(crate) mod request;
+pub(crate) mod source;
 
 pub use error::{GroupingError, IntervalFault, QueryFault};
 pub use fields::asked_fields;

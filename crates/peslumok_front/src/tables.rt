@@ -1,14 +1,12 @@
 //! Groups of a page as a table, as JSON lines or as CSV.
-#![tactic(auto)]
-
-mod cells;
-mod columns;
-mod csv_lines;
-mod json_lines;
-mod output;
-mod row;
-mod table;
-mod visible;
+pub(crate) mod cells;
+pub(crate) mod columns;
+pub(crate) mod csv_lines;
+pub(crate) mod json_lines;
+pub(crate) mod output;
+pub(crate) mod row;
+pub(crate) mod table;
+pub(crate) mod visible;
 
 pub use cells::{cells_of_group, cells_of_total};
 pub use columns::{Column, Columns};

@@ -1,6 +1,4 @@
 //! The groups with the most documents.
-#![tactic(auto)]
-
-mod groups;
+pub(crate) mod groups;
 
 pub use groups::TopGroups;

@@ -9,19 +9,19 @@ use Rattle.agg_values.specs.Names.{Named, put}
 use Rattle.agg_values.specs.Nothing.{NoneIs}
 use Rattle.agg_values.specs.TypedKey.{CompositeIntermediateKey}
 use Rattle.agg_values.specs.declared.after_key.AfterKey.{AfterKey}
-use Rattle.agg_column.specs.Document.{said_key}
-use Rattle.agg_column.specs.declared.document.FieldValue.{FieldValue}
-use Rattle.agg_fields.specs.Types.{type_of}
-use Rattle.agg_fields.specs.Values.{text_value}
-use Rattle.agg_fields.specs.declared.error.ValueError.{ValueError}
-use Rattle.agg_fields.specs.declared.error.ValueError.TheVariants as why
-use Rattle.agg_fields.specs.declared.field_type.FieldType.{FieldType}
-use Rattle.agg_words.specs.By.{parts}
-use Rattle.agg_words.specs.declared.by.BySpec.{BySpec}
-use Rattle.agg_grouping.specs.Sources.{column_name}
-use Rattle.agg_grouping.specs.declared.error.GroupingError.{GroupingError}
-use Rattle.agg_grouping.specs.declared.error.GroupingError.TheVariants as error
-use Rattle.agg_grouping.specs.declared.grouping.Grouping.{Grouping}
+use Rattle.agg_segment.specs.storage.Document.{said_key}
+use Rattle.agg_segment.specs.declared.storage.document.FieldValue.{FieldValue}
+use Rattle.peslumok_texts.specs.fields.Types.{type_of}
+use Rattle.peslumok_texts.specs.fields.Values.{text_value}
+use Rattle.peslumok_texts.specs.declared.fields.error.ValueError.{ValueError}
+use Rattle.peslumok_texts.specs.declared.fields.error.ValueError.TheVariants as why
+use Rattle.peslumok_texts.specs.declared.fields.field_type.FieldType.{FieldType}
+use Rattle.peslumok_texts.specs.words.By.{parts}
+use Rattle.peslumok_texts.specs.declared.words.by.BySpec.{BySpec}
+use Rattle.peslumok_front.specs.grouping.Sources.{column_name}
+use Rattle.peslumok_front.specs.declared.grouping.error.GroupingError.{GroupingError}
+use Rattle.peslumok_front.specs.declared.grouping.error.GroupingError.TheVariants as error
+use Rattle.peslumok_front.specs.declared.grouping.grouping.Grouping.{Grouping}
 
 -- ---- values
 

@@ -3,10 +3,10 @@ use Rattle.std.specs.Prelude.{◌≡◌, ◌≢◌, ◌∷◌, [], ℕ, List}
 use Rattle.csv.specs.Reading.{strip_bom}
 use Rattle.agg_values.specs.Names.{Named}
 use Rattle.agg_values.specs.declared.after_key.AfterKey.{AfterKey}
-use Rattle.agg_fields.specs.Types.{type_of}
-use Rattle.agg_fields.specs.declared.field_type.FieldType.{FieldType}
-use Rattle.agg_words.specs.declared.by.BySpec.{BySpec}
-use Rattle.agg_after_text.specs.After.{ReadsAs}
+use Rattle.peslumok_texts.specs.fields.Types.{type_of}
+use Rattle.peslumok_texts.specs.declared.fields.field_type.FieldType.{FieldType}
+use Rattle.peslumok_texts.specs.declared.words.by.BySpec.{BySpec}
+use Rattle.peslumok_front.specs.after_text.After.{ReadsAs}
 
 -- a text that shows as a cell wherever it stands: it isn't empty, and begins with no byte order
 -- mark

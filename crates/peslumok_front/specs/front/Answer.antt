@@ -4,29 +4,31 @@ use Rattle.std.specs.List.{flat_map}
 use Rattle.std.specs.Io.KnownBytes.{Appends}
 use Rattle.agg_values.specs.Names.{Named}
 use Rattle.agg_values.specs.declared.after_key.AfterKey.{AfterKey}
-use Rattle.agg_column.specs.Document.{Fields}
+use Rattle.agg_segment.specs.storage.Document.{Fields}
 use Rattle.agg_segment.specs.declared.query.QueryTree.{QueryTree}
-use Rattle.agg_final_results.specs.declared.types.AggregationResults.{AggregationResults}
-use Rattle.agg_final_results.specs.declared.types.CompositeBucketEntry.{CompositeBucketEntry}
-use Rattle.agg_final_results.specs.declared.types.FilterBucketResult.{FilterBucketResult}
-use Rattle.agg_held_records.specs.declared.asked.AskedField.{AskedField}
-use Rattle.agg_grouping.specs.Query.{IsQueryOf}
-use Rattle.agg_grouping.specs.declared.grouping.Grouping.{Grouping}
-use Rattle.agg_tables.specs.declared.columns.Column.{Column}
-use Rattle.agg_tables.specs.declared.output.OutputFormat.{OutputFormat}
-use Rattle.agg_after_text.specs.After.{HaveOwnColumns, IsAfterText, NamesFirst}
-use Rattle.agg_record_index.specs.Index.{unseen_names}
-use Rattle.agg_front.specs.Asking.{AskAll}
-use Rattle.agg_front.specs.Check.{BeginsAfter, after_asked}
-use Rattle.agg_front.specs.Columns.{columns_asked}
-use Rattle.agg_front.specs.Files.{AreDocumentsOfFiles}
-use Rattle.agg_front.specs.Pages.{ArePages, last_after, room_of}
-use Rattle.agg_top_groups.specs.Top.{AreTop}
-use Rattle.agg_record_index.specs.declared.report.Report.{Report}
-use Rattle.agg_front.specs.Written.{IsGroupsText, IsTextOf, groups_in, last_total}
-use Rattle.agg_front.specs.declared.asked.Asked.{Asked}
-use Rattle.agg_front.specs.declared.asked.Pages.{Pages}
-use Rattle.agg_front.specs.declared.asked.RecordFile.{RecordFile}
+use Rattle.agg_results.specs.declared.final_results.types.AggregationResults.{AggregationResults}
+use Rattle.agg_results.specs.declared.final_results.types.CompositeBucketEntry.{
+  CompositeBucketEntry,
+}
+use Rattle.agg_results.specs.declared.final_results.types.FilterBucketResult.{FilterBucketResult}
+use Rattle.peslumok_records.specs.declared.held.asked.AskedField.{AskedField}
+use Rattle.peslumok_front.specs.grouping.Query.{IsQueryOf}
+use Rattle.peslumok_front.specs.declared.grouping.grouping.Grouping.{Grouping}
+use Rattle.peslumok_front.specs.declared.tables.columns.Column.{Column}
+use Rattle.peslumok_front.specs.declared.tables.output.OutputFormat.{OutputFormat}
+use Rattle.peslumok_front.specs.after_text.After.{HaveOwnColumns, IsAfterText, NamesFirst}
+use Rattle.peslumok_records.specs.record_index.Index.{unseen_names}
+use Rattle.peslumok_front.specs.front.Asking.{AskAll}
+use Rattle.peslumok_front.specs.front.Check.{BeginsAfter, after_asked}
+use Rattle.peslumok_front.specs.front.Columns.{columns_asked}
+use Rattle.peslumok_front.specs.front.Files.{AreDocumentsOfFiles}
+use Rattle.peslumok_front.specs.front.Pages.{ArePages, last_after, room_of}
+use Rattle.peslumok_front.specs.top_groups.Top.{AreTop}
+use Rattle.peslumok_records.specs.declared.record_index.report.Report.{Report}
+use Rattle.peslumok_front.specs.front.Written.{IsGroupsText, IsTextOf, groups_in, last_total}
+use Rattle.peslumok_front.specs.declared.front.asked.Asked.{Asked}
+use Rattle.peslumok_front.specs.declared.front.asked.Pages.{Pages}
+use Rattle.peslumok_front.specs.declared.front.asked.RecordFile.{RecordFile}
 
 -- files hold documents, in the fields that are asked for; in some of these no document has a value
 pub record AreRead (grouping : Grouping) (query : QueryTree) (files : List RecordFile)

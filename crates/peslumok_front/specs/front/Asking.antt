@@ -2,10 +2,10 @@
 use Rattle.std.specs.Prelude.{◌≡◌, ℕ, List, map}
 use Rattle.agg_values.specs.Names.{Named}
 use Rattle.agg_segment.specs.declared.query.QueryTree.{QueryTree}
-use Rattle.agg_fields.specs.declared.field_type.FieldType.{FieldType}
-use Rattle.agg_held_records.specs.declared.asked.AskedField.{AskedField}
-use Rattle.agg_grouping.specs.Fields.{AreFieldsOf}
-use Rattle.agg_grouping.specs.declared.grouping.Grouping.{Grouping}
+use Rattle.peslumok_texts.specs.declared.fields.field_type.FieldType.{FieldType}
+use Rattle.peslumok_records.specs.declared.held.asked.AskedField.{AskedField}
+use Rattle.peslumok_front.specs.grouping.Fields.{AreFieldsOf}
+use Rattle.peslumok_front.specs.declared.grouping.grouping.Grouping.{Grouping}
 
 -- an asked field, as its name and its type
 abbrev pub named_type : AskedField → List ℕ × FieldType

@@ -3,28 +3,28 @@ use Rattle.std.specs.Prelude.{◌⊎◌, ◌^◌, ◌-◌, ℕ, List, Option, No
 use Rattle.agg_values.specs.Names.{Named}
 use Rattle.agg_values.specs.declared.after_key.AfterKey.{AfterKey}
 use Rattle.agg_cache.specs.Limits.{Limits}
-use Rattle.agg_column.specs.Document.{Fields}
+use Rattle.agg_segment.specs.storage.Document.{Fields}
 use Rattle.agg_segment.specs.Snapshot.{SnapshotDocuments}
 use Rattle.agg_segment.specs.declared.query.QueryTree.{QueryTree}
 use Rattle.agg_request_tree.specs.Request.{Request}
 use Rattle.agg_engine.specs.Refusals.{HasCause}
 use Rattle.agg_engine.specs.declared.walk.error.WalkError.{WalkError}
-use Rattle.agg_grouping.specs.Query.{HasNoQuery, IsQueryOf}
-use Rattle.agg_grouping.specs.Request.{HasNoRequest, IsRequestOf}
-use Rattle.agg_grouping.specs.declared.error.GroupingError.{GroupingError}
-use Rattle.agg_grouping.specs.declared.grouping.Grouping.{Grouping}
-use Rattle.agg_grouping.specs.declared.request.Page.{Page}
-use Rattle.agg_after_text.specs.After.{IsNoAfterText}
-use Rattle.agg_record_index.specs.Index.{AreOneOf}
-use Rattle.agg_front.specs.Answer.{AreRead}
-use Rattle.agg_front.specs.Check.{after_asked}
-use Rattle.agg_front.specs.Columns.{ShareHeader, columns_asked}
-use Rattle.agg_front.specs.Files.{AreUnreadable}
-use Rattle.agg_front.specs.Pages.{room_of}
-use Rattle.agg_front.specs.declared.asked.Asked.{Asked}
-use Rattle.agg_front.specs.declared.asked.RecordFile.{RecordFile}
-use Rattle.agg_front.specs.declared.failure.Failure.{Failure}
-use Rattle.agg_front.specs.declared.failure.Failure.TheVariants as failure
+use Rattle.peslumok_front.specs.grouping.Query.{HasNoQuery, IsQueryOf}
+use Rattle.peslumok_front.specs.grouping.Request.{HasNoRequest, IsRequestOf}
+use Rattle.peslumok_front.specs.declared.grouping.error.GroupingError.{GroupingError}
+use Rattle.peslumok_front.specs.declared.grouping.grouping.Grouping.{Grouping}
+use Rattle.peslumok_front.specs.declared.grouping.request.Page.{Page}
+use Rattle.peslumok_front.specs.after_text.After.{IsNoAfterText}
+use Rattle.peslumok_records.specs.record_index.Index.{AreOneOf}
+use Rattle.peslumok_front.specs.front.Answer.{AreRead}
+use Rattle.peslumok_front.specs.front.Check.{after_asked}
+use Rattle.peslumok_front.specs.front.Columns.{ShareHeader, columns_asked}
+use Rattle.peslumok_front.specs.front.Files.{AreUnreadable}
+use Rattle.peslumok_front.specs.front.Pages.{room_of}
+use Rattle.peslumok_front.specs.declared.front.asked.Asked.{Asked}
+use Rattle.peslumok_front.specs.declared.front.asked.RecordFile.{RecordFile}
+use Rattle.peslumok_front.specs.declared.front.failure.Failure.{Failure}
+use Rattle.peslumok_front.specs.declared.front.failure.Failure.TheVariants as failure
 
 -- ---- what is asked
 

@@ -3,11 +3,11 @@ use Rattle.std.specs.Prelude.{◌≡◌, [], ℕ, List, Option, None, Some, opti
 use Rattle.agg_values.specs.Names.{Named}
 use Rattle.agg_values.specs.declared.after_key.AfterKey.{AfterKey}
 use Rattle.agg_segment.specs.declared.query.QueryTree.{QueryTree}
-use Rattle.agg_grouping.specs.Query.{IsQueryOf}
-use Rattle.agg_grouping.specs.declared.grouping.Grouping.{Grouping}
-use Rattle.agg_after_text.specs.After.{IsAfterText}
-use Rattle.agg_front.specs.Columns.{HaveOwnHeaders, columns_asked}
-use Rattle.agg_front.specs.declared.asked.Asked.{Asked}
+use Rattle.peslumok_front.specs.grouping.Query.{IsQueryOf}
+use Rattle.peslumok_front.specs.declared.grouping.grouping.Grouping.{Grouping}
+use Rattle.peslumok_front.specs.after_text.After.{IsAfterText}
+use Rattle.peslumok_front.specs.front.Columns.{HaveOwnHeaders, columns_asked}
+use Rattle.peslumok_front.specs.declared.front.asked.Asked.{Asked}
 
 -- the text of the key after which the first page begins, if there is one
 abbrev pub after_asked : Asked → Option (List ℕ)

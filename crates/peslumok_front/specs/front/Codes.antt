@@ -2,10 +2,10 @@
 use Rattle.std.specs.Prelude.{ℕ}
 use Rattle.agg_engine.specs.declared.walk.error.WalkError.{WalkError}
 use Rattle.agg_engine.specs.declared.walk.error.WalkError.TheVariants as walk
-use Rattle.agg_grouping.specs.declared.error.GroupingError.{GroupingError}
-use Rattle.agg_grouping.specs.declared.error.GroupingError.TheVariants as grouping
-use Rattle.agg_front.specs.declared.failure.Failure.{Failure}
-use Rattle.agg_front.specs.declared.failure.Failure.TheVariants as failure
+use Rattle.peslumok_front.specs.declared.grouping.error.GroupingError.{GroupingError}
+use Rattle.peslumok_front.specs.declared.grouping.error.GroupingError.TheVariants as grouping
+use Rattle.peslumok_front.specs.declared.front.failure.Failure.{Failure}
+use Rattle.peslumok_front.specs.declared.front.failure.Failure.TheVariants as failure
 
 -- the exit code of a run that fails so
 abbrev pub code_of : Failure → ℕ

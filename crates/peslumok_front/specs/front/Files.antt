@@ -1,11 +1,11 @@
 -- The documents of files, and why files can't be read.
 use Rattle.std.specs.Prelude.{◌≡◌, ◌++◌, ◌∷◌, [], ℕ, List, Any, ⊤}
-use Rattle.agg_column.specs.Document.{Fields}
-use Rattle.agg_held_records.specs.declared.asked.AskedField.{AskedField}
-use Rattle.agg_records.specs.Formats.{AreDocumentsOf}
-use Rattle.agg_front.specs.declared.asked.RecordFile.{RecordFile}
-use Rattle.agg_front.specs.declared.failure.Failure.{Failure}
-use Rattle.agg_front.specs.declared.failure.Failure.TheVariants as failure
+use Rattle.agg_segment.specs.storage.Document.{Fields}
+use Rattle.peslumok_records.specs.declared.held.asked.AskedField.{AskedField}
+use Rattle.peslumok_records.specs.records.Formats.{AreDocumentsOf}
+use Rattle.peslumok_front.specs.declared.front.asked.RecordFile.{RecordFile}
+use Rattle.peslumok_front.specs.declared.front.failure.Failure.{Failure}
+use Rattle.peslumok_front.specs.declared.front.failure.Failure.TheVariants as failure
 
 -- the documents of a file, by the asked fields
 abbrev pub AreDocumentsOfFile : List AskedField → RecordFile → List Fields → Type 0

@@ -4,7 +4,7 @@ use Rattle.std.specs.Prelude.{codes, if◌then◌else◌}
 use Rattle.std.specs.List.{AllZip, last_or}
 use Rattle.std.specs.Option.{option_and_then}
 use Rattle.agg_values.specs.Names.{value_of}
-use Rattle.agg_final_results.specs.declared.types as final
+use Rattle.agg_results.specs.declared.final_results.types as final
 use final.AggregationResult.{AggregationResult}
 use final.AggregationResult.TheOpen as opened
 use final.AggregationResult.TheVariants.{BucketResult, MetricResult}
@@ -12,12 +12,12 @@ use final.AggregationResults.{AggregationResults}
 use final.BucketResult as buckets
 use final.CompositeBucketEntry.{CompositeBucketEntry}
 use final.FilterBucketResult.{FilterBucketResult}
-use Rattle.agg_tables.specs.Cells.{is_total, shown_cells}
-use Rattle.agg_tables.specs.Groups.{ShowsGroup, ShowsTotals}
-use Rattle.agg_tables.specs.Output.{AppendsRows}
-use Rattle.agg_tables.specs.declared.columns.Column.{Column}
-use Rattle.agg_tables.specs.declared.output.OutputFormat.{OutputFormat}
-use Rattle.agg_tables.specs.declared.row.Row.{Row}
+use Rattle.peslumok_front.specs.tables.Cells.{is_total, shown_cells}
+use Rattle.peslumok_front.specs.tables.Groups.{ShowsGroup, ShowsTotals}
+use Rattle.peslumok_front.specs.tables.Output.{AppendsRows}
+use Rattle.peslumok_front.specs.declared.tables.columns.Column.{Column}
+use Rattle.peslumok_front.specs.declared.tables.output.OutputFormat.{OutputFormat}
+use Rattle.peslumok_front.specs.declared.tables.row.Row.{Row}
 
 -- ---- what a page shows
 

@@ -7,10 +7,10 @@ use Rattle.agg_segment.specs.declared.query.QueryTree.{QueryTree}
 use Rattle.agg_segment.specs.declared.query.QueryTree.TheOpen.{QueryTree-F, All, Empty, Term}
 use Rattle.agg_segment.specs.declared.query.QueryTree.TheOpen.{Range, Exists, Boolean}
 use Rattle.agg_segment.specs.declared.query.QueryTree.TheFolds.{fold-QueryTree}
-use Rattle.agg_json.specs.Json.{is_among}
-use Rattle.agg_fields.specs.Types.{type_of}
-use Rattle.agg_fields.specs.declared.field_type.FieldType.{FieldType}
-use Rattle.agg_grouping.specs.declared.grouping.Grouping.{Grouping}
+use Rattle.agg_request.specs.json_values.Json.{is_among}
+use Rattle.peslumok_texts.specs.fields.Types.{type_of}
+use Rattle.peslumok_texts.specs.declared.fields.field_type.FieldType.{FieldType}
+use Rattle.peslumok_front.specs.declared.grouping.grouping.Grouping.{Grouping}
 
 -- the fields that the parts of a query name
 abbrev pub all_of : List (List (List ℕ)) → List (List ℕ)

@@ -9,31 +9,31 @@ use Rattle.serde_json.specs.Read.{read}
 use Rattle.agg_values.specs.Names.{Named}
 use Rattle.agg_values.specs.Nothing.{NoneIs}
 use Rattle.agg_values.specs.TypedKey.{CompositeIntermediateKey}
-use Rattle.agg_column.specs.Document.{Fields}
-use Rattle.agg_column.specs.declared.document.FieldValue.{FieldValue}
-use Rattle.agg_column.specs.declared.document.FieldValue.TheVariants as field_value
+use Rattle.agg_segment.specs.storage.Document.{Fields}
+use Rattle.agg_segment.specs.declared.storage.document.FieldValue.{FieldValue}
+use Rattle.agg_segment.specs.declared.storage.document.FieldValue.TheVariants as field_value
 use Rattle.agg_segment.specs.Query.{holds, is_any, is_between, is_value, matches}
 use Rattle.agg_segment.specs.declared.query.QueryTree.{QueryTree}
 use Rattle.agg_segment.specs.declared.query.QueryTree.TheVariants.{All}
 use Rattle.agg_segment.specs.declared.query.RangeBound.{RangeBound}
 use Rattle.agg_segment.specs.declared.query.RangeBound.TheVariants.{Unbounded, Included, Excluded}
-use Rattle.agg_json.specs.Query.{HasUnsupportedQuery, IsQuery}
-use Rattle.agg_json.specs.declared.read_error.ReadError.{ReadError}
-use Rattle.agg_json.specs.declared.read_error.ReadError.TheVariants as reading
-use Rattle.agg_fields.specs.Types.{type_of}
-use Rattle.agg_fields.specs.Values.{text_value}
-use Rattle.agg_fields.specs.declared.error.ValueError.{ValueError}
-use Rattle.agg_fields.specs.declared.field_type.FieldType.{FieldType}
-use Rattle.agg_fields.specs.declared.field_type.FieldType.TheVariants.{Plain}
-use Rattle.agg_words.specs.Condition.{Demand, Parts, parts}
-use Rattle.agg_words.specs.Condition.{is, is_not, below, at_most, above, at_least, exists}
-use Rattle.agg_grouping.specs.declared.condition.End.{End}
-use Rattle.agg_grouping.specs.declared.condition.End.TheVariants.{With, Without}
-use Rattle.agg_grouping.specs.declared.error.GroupingError.{GroupingError}
-use Rattle.agg_grouping.specs.declared.error.GroupingError.TheVariants as error
-use Rattle.agg_grouping.specs.declared.error.QueryFault.{QueryFault}
-use Rattle.agg_grouping.specs.declared.error.QueryFault.TheVariants as fault
-use Rattle.agg_grouping.specs.declared.grouping.Grouping.{Grouping}
+use Rattle.agg_request.specs.json_values.Query.{HasUnsupportedQuery, IsQuery}
+use Rattle.agg_request.specs.declared.json_values.read_error.ReadError.{ReadError}
+use Rattle.agg_request.specs.declared.json_values.read_error.ReadError.TheVariants as reading
+use Rattle.peslumok_texts.specs.fields.Types.{type_of}
+use Rattle.peslumok_texts.specs.fields.Values.{text_value}
+use Rattle.peslumok_texts.specs.declared.fields.error.ValueError.{ValueError}
+use Rattle.peslumok_texts.specs.declared.fields.field_type.FieldType.{FieldType}
+use Rattle.peslumok_texts.specs.declared.fields.field_type.FieldType.TheVariants.{Plain}
+use Rattle.peslumok_texts.specs.words.Condition.{Demand, Parts, parts, is, is_not, below, at_most}
+use Rattle.peslumok_texts.specs.words.Condition.{above, at_least, exists}
+use Rattle.peslumok_front.specs.declared.grouping.condition.End.{End}
+use Rattle.peslumok_front.specs.declared.grouping.condition.End.TheVariants.{With, Without}
+use Rattle.peslumok_front.specs.declared.grouping.error.GroupingError.{GroupingError}
+use Rattle.peslumok_front.specs.declared.grouping.error.GroupingError.TheVariants as error
+use Rattle.peslumok_front.specs.declared.grouping.error.QueryFault.{QueryFault}
+use Rattle.peslumok_front.specs.declared.grouping.error.QueryFault.TheVariants as fault
+use Rattle.peslumok_front.specs.declared.grouping.grouping.Grouping.{Grouping}
 
 -- ---- conditions
 

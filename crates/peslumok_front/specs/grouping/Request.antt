@@ -10,16 +10,16 @@ use variants.{AggregationVariants}
 use variants.TheVariants.{Filter, Composite, Count, Max, Min, Sum}
 use Rattle.agg_request_tree.specs.declared.aggregation.filter.FilterQuery.TheVariants.{Tree}
 use Rattle.agg_request_tree.specs.declared.aggregation.CompositeAggregation.{CompositeAggregation}
-use Rattle.agg_words.specs.By.{parts}
-use Rattle.agg_words.specs.Metric.{word_of}
-use Rattle.agg_words.specs.declared.metric.Metric.{Metric}
-use Rattle.agg_words.specs.declared.metric.MetricKind.{MetricKind}
-use Rattle.agg_words.specs.declared.metric.MetricKind.TheVariants as kind
-use Rattle.agg_grouping.specs.Sources.{HasNoSource, source_asked}
-use Rattle.agg_grouping.specs.declared.error.GroupingError.{GroupingError}
-use Rattle.agg_grouping.specs.declared.error.GroupingError.TheVariants as error
-use Rattle.agg_grouping.specs.declared.grouping.Grouping.{Grouping}
-use Rattle.agg_grouping.specs.declared.request.Page.{Page}
+use Rattle.peslumok_texts.specs.words.By.{parts}
+use Rattle.peslumok_texts.specs.words.Metric.{word_of}
+use Rattle.peslumok_texts.specs.declared.words.metric.Metric.{Metric}
+use Rattle.peslumok_texts.specs.declared.words.metric.MetricKind.{MetricKind}
+use Rattle.peslumok_texts.specs.declared.words.metric.MetricKind.TheVariants as kind
+use Rattle.peslumok_front.specs.grouping.Sources.{HasNoSource, source_asked}
+use Rattle.peslumok_front.specs.declared.grouping.error.GroupingError.{GroupingError}
+use Rattle.peslumok_front.specs.declared.grouping.error.GroupingError.TheVariants as error
+use Rattle.peslumok_front.specs.declared.grouping.grouping.Grouping.{Grouping}
+use Rattle.peslumok_front.specs.declared.grouping.request.Page.{Page}
 
 -- ---- metrics
 

@@ -16,21 +16,22 @@ use Rattle.agg_calendar.specs.declared.interval.CalendarInterval.TheVariants.{Ye
 use Rattle.agg_request_tree.specs.declared.source.CompositeAggregationSource as source
 use source.{CompositeAggregationSource}
 use source.TheVariants.{Terms, Histogram, DateHistogram}
-use Rattle.agg_decimals.specs.Decimal.{decimal_of}
-use Rattle.agg_decimals.specs.declared.error.DecimalError.{DecimalError}
-use Rattle.agg_fields.specs.Types.{type_of}
-use Rattle.agg_fields.specs.declared.field_type.FieldType.{FieldType}
-use Rattle.agg_fields.specs.declared.field_type.FieldType.TheVariants as of
-use Rattle.agg_grouping.specs.declared.error.GroupingError.{GroupingError}
-use Rattle.agg_grouping.specs.declared.error.GroupingError.TheVariants as error
-use Rattle.agg_grouping.specs.declared.error.IntervalFault.{IntervalFault}
-use Rattle.agg_grouping.specs.declared.error.IntervalFault.TheVariants as fault
-use Rattle.agg_grouping.specs.declared.source.Division.{Division}
-use Rattle.agg_grouping.specs.declared.source.Division.TheVariants.{Width, Fixed, Calendar}
-use Rattle.agg_grouping.specs.declared.source.SourceParts.{SourceParts}
-use Rattle.agg_words.specs.By.{Parts}
-use Rattle.agg_words.specs.declared.by.Missing.{Missing}
-use Rattle.agg_words.specs.declared.by.Missing.TheVariants as missing
+use Rattle.peslumok_texts.specs.decimals.Decimal.{decimal_of}
+use Rattle.peslumok_texts.specs.declared.decimals.error.DecimalError.{DecimalError}
+use Rattle.peslumok_texts.specs.fields.Types.{type_of}
+use Rattle.peslumok_texts.specs.declared.fields.field_type.FieldType.{FieldType}
+use Rattle.peslumok_texts.specs.declared.fields.field_type.FieldType.TheVariants as of
+use Rattle.peslumok_front.specs.declared.grouping.error.GroupingError.{GroupingError}
+use Rattle.peslumok_front.specs.declared.grouping.error.GroupingError.TheVariants as error
+use Rattle.peslumok_front.specs.declared.grouping.error.IntervalFault.{IntervalFault}
+use Rattle.peslumok_front.specs.declared.grouping.error.IntervalFault.TheVariants as fault
+use Rattle.peslumok_front.specs.declared.grouping.source.Division.{Division}
+use Rattle.peslumok_front.specs.declared.grouping.source.Division.TheVariants.{Width, Fixed}
+use Rattle.peslumok_front.specs.declared.grouping.source.Division.TheVariants.{Calendar}
+use Rattle.peslumok_front.specs.declared.grouping.source.SourceParts.{SourceParts}
+use Rattle.peslumok_texts.specs.words.By.{Parts}
+use Rattle.peslumok_texts.specs.declared.words.by.Missing.{Missing}
+use Rattle.peslumok_texts.specs.declared.words.by.Missing.TheVariants as missing
 
 -- ---- sources
 
@@ -71,6 +72,7 @@ values_source made = Terms (record {
   order = made.order;
   missing_bucket = made.missing_bucket;
   missing_order = made.missing_order;
+  min = None;
 })
 
 -- the source of the starts of intervals of a width
@@ -82,6 +84,7 @@ width_source made interval = Histogram (record {
   order = made.order;
   missing_bucket = made.missing_bucket;
   missing_order = made.missing_order;
+  min = None;
 })
 
 -- the source of the starts of intervals of dates
@@ -92,9 +95,11 @@ date_source made fixed calendar = DateHistogram (record {
   field = made.field;
   fixed_interval = fixed;
   calendar_interval = calendar;
+  offset = None;
   order = made.order;
   missing_bucket = made.missing_bucket;
   missing_order = made.missing_order;
+  min = None;
 })
 
 -- the source whose values are divided so

@@ -1,9 +1,9 @@
 -- What the cells of a line show.
 use Rattle.std.specs.Prelude.{ℕ, List, Bool, Option, None, Some, codes, if◌then◌else◌, map}
 use Rattle.std.specs.Prelude.{string_bytes}
-use Rattle.agg_tables.specs.declared.row.Cell.{Cell}
-use Rattle.agg_tables.specs.declared.row.Cell.TheVariants as cell
-use Rattle.agg_tables.specs.declared.row.Row.{Row}
+use Rattle.peslumok_front.specs.declared.tables.row.Cell.{Cell}
+use Rattle.peslumok_front.specs.declared.tables.row.Cell.TheVariants as cell
+use Rattle.peslumok_front.specs.declared.tables.row.Row.{Row}
 
 -- a text, a number, true or false, or no value
 pub data Shown : Type 0 where

@@ -1,7 +1,7 @@
 -- What columns show.
 use Rattle.std.specs.Prelude.{ℕ, List, Bool, true, false, codes}
-use Rattle.agg_tables.specs.declared.columns.Column.{Column}
-use Rattle.agg_tables.specs.declared.columns.Column.TheVariants as column
+use Rattle.peslumok_front.specs.declared.tables.columns.Column.{Column}
+use Rattle.peslumok_front.specs.declared.tables.columns.Column.TheVariants as column
 
 -- what stands above a column
 abbrev pub header_of : Column → List ℕ

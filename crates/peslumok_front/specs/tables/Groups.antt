@@ -5,20 +5,21 @@ use Rattle.std.specs.List.{AllZip}
 use Rattle.agg_values.specs.Names.{value_of}
 use Rattle.agg_values.specs.declared.composite_key.CompositeKey.{CompositeKey}
 use Rattle.agg_values.specs.declared.composite_key.CompositeKey.TheVariants as key
-use Rattle.agg_fields.specs.Shown.{IsNumberText, shown_number}
-use Rattle.agg_fields.specs.declared.field_type.FieldType.{FieldType}
-use Rattle.agg_fields.specs.declared.field_type.FieldType.TheVariants as of
-use Rattle.agg_final_results.specs.declared.types as final
+use Rattle.peslumok_texts.specs.fields.Shown.{IsNumberText, shown_number}
+use Rattle.peslumok_texts.specs.declared.fields.field_type.FieldType.{FieldType}
+use Rattle.peslumok_texts.specs.declared.fields.field_type.FieldType.TheVariants as of
+use Rattle.agg_results.specs.declared.final_results.types as final
 use final.AggregationResult.{AggregationResult}
 use final.AggregationResult.TheVariants as result
 use final.AggregationResults.{AggregationResults}
 use final.CompositeBucketEntry.{CompositeBucketEntry}
 use final.MetricResult.{MetricResult}
 use final.MetricResult.TheVariants as metric
-use Rattle.agg_tables.specs.Cells.{Shown, shows_bool, shows_nothing, shows_number, shows_text}
-use Rattle.agg_tables.specs.Columns.{is_key}
-use Rattle.agg_tables.specs.declared.columns.Column.{Column}
-use Rattle.agg_tables.specs.declared.columns.Column.TheVariants as column
+use Rattle.peslumok_front.specs.tables.Cells.{Shown, shows_bool, shows_nothing, shows_number}
+use Rattle.peslumok_front.specs.tables.Cells.{shows_text}
+use Rattle.peslumok_front.specs.tables.Columns.{is_key}
+use Rattle.peslumok_front.specs.declared.tables.columns.Column.{Column}
+use Rattle.peslumok_front.specs.declared.tables.columns.Column.TheVariants as column
 
 -- whether numbers of a type are shown as dates
 abbrev pub is_date : FieldType → Bool

@@ -1,12 +1,12 @@
 -- Lines of JSON: an object for each row.
 use Rattle.std.specs.Prelude.{◌++◌, ◌&&◌, ℕ, List, [], ◌∷◌, Bool, codes, if◌then◌else◌}
 use Rattle.json.specs.Print.{quoted}
-use Rattle.agg_final_results.specs.ResultsText.{braced, member_text}
-use Rattle.agg_tables.specs.Cells.{Shown, bool_text, is_total, shown_cells}
-use Rattle.agg_tables.specs.Cells.{shows_bool, shows_nothing, shows_number, shows_text}
-use Rattle.agg_tables.specs.Columns.{header_of, is_key}
-use Rattle.agg_tables.specs.declared.columns.Column.{Column}
-use Rattle.agg_tables.specs.declared.row.Row.{Row}
+use Rattle.agg_results.specs.final_results.ResultsText.{braced, member_text}
+use Rattle.peslumok_front.specs.tables.Cells.{Shown, bool_text, is_total, shown_cells}
+use Rattle.peslumok_front.specs.tables.Cells.{shows_bool, shows_nothing, shows_number, shows_text}
+use Rattle.peslumok_front.specs.tables.Columns.{header_of, is_key}
+use Rattle.peslumok_front.specs.declared.tables.columns.Column.{Column}
+use Rattle.peslumok_front.specs.declared.tables.row.Row.{Row}
 
 -- a cell as a value
 abbrev pub json_text : Shown → List ℕ

@@ -4,13 +4,13 @@ use Rattle.std.specs.Prelude.{unwrap_or, ⊤}
 use Rattle.csv.specs.Reading.{AreRecords, default_config}
 use Rattle.csv.specs.Writing.{default_writer, read_back, row_text}
 use Rattle.csv.specs.declared.parser.State.TheVariants as st
-use Rattle.agg_tables.specs.Cells.{Shown, shown_cells, shown_text}
-use Rattle.agg_tables.specs.Columns.{header_of}
-use Rattle.agg_tables.specs.JsonLines.{json_line}
-use Rattle.agg_tables.specs.declared.columns.Column.{Column}
-use Rattle.agg_tables.specs.declared.output.OutputFormat.{OutputFormat}
-use Rattle.agg_tables.specs.declared.output.OutputFormat.TheVariants as format
-use Rattle.agg_tables.specs.declared.row.Row.{Row}
+use Rattle.peslumok_front.specs.tables.Cells.{Shown, shown_cells, shown_text}
+use Rattle.peslumok_front.specs.tables.Columns.{header_of}
+use Rattle.peslumok_front.specs.tables.JsonLines.{json_line}
+use Rattle.peslumok_front.specs.declared.tables.columns.Column.{Column}
+use Rattle.peslumok_front.specs.declared.tables.output.OutputFormat.{OutputFormat}
+use Rattle.peslumok_front.specs.declared.tables.output.OutputFormat.TheVariants as format
+use Rattle.peslumok_front.specs.declared.tables.row.Row.{Row}
 
 -- a cell of CSV, empty where there is no value
 abbrev pub csv_cell : Shown → List ℕ

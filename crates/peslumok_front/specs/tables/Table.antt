@@ -1,8 +1,8 @@
 -- Columns that are aligned.
 use Rattle.std.specs.Prelude.{◌-◌, ◌++◌, ℕ, List, chars, false, replicate}
 use Rattle.unicode_width.specs.Width.{str_width}
-use Rattle.agg_tables.specs.declared.table.Side.{Side}
-use Rattle.agg_tables.specs.declared.table.Side.TheVariants as side
+use Rattle.peslumok_front.specs.declared.tables.table.Side.{Side}
+use Rattle.peslumok_front.specs.declared.tables.table.Side.TheVariants as side
 
 -- as many spaces as fill a column beside a text
 abbrev pub filling : ℕ → List ℕ → List ℕ

@@ -1,7 +1,9 @@
 -- The groups with the most documents.
 use Rattle.std.specs.Prelude.{◌≡◌, ℕ, List, Bool, nat_lt, take}
 use Rattle.std.specs.List.Sorted.{IsSortedBy, IsStableBy}
-use Rattle.agg_final_results.specs.declared.types.CompositeBucketEntry.{CompositeBucketEntry}
+use Rattle.agg_results.specs.declared.final_results.types.CompositeBucketEntry.{
+  CompositeBucketEntry,
+}
 
 -- whether a group has more documents than another
 abbrev pub has_more : CompositeBucketEntry → CompositeBucketEntry → Bool

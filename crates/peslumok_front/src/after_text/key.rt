@@ -4,15 +4,15 @@ ghost use Rattle.std.specs.Prelude.{option_map};
 ghost use Rattle.agg_values.specs.KeyText.{IsKeyText};
 ghost use Rattle.agg_values.specs.Nothing.{NoneIs};
 ghost use Rattle.agg_values.specs.TypedKey.{CompositeIntermediateKey as Key};
-ghost use Rattle.agg_column.specs.Document.{said_key};
-ghost use Rattle.agg_fields.specs.Types.{type_of};
-ghost use Rattle.agg_after_text.specs.After.{IsUnreadKey, ReadsAs, refusal_of};
+ghost use Rattle.agg_segment.specs.storage.Document.{said_key};
+ghost use Rattle.peslumok_texts.specs.fields.Types.{type_of};
+ghost use Rattle.peslumok_front.specs.after_text.After.{IsUnreadKey, ReadsAs, refusal_of};
 
-use agg_column::FieldValue;
-use agg_fields::{FieldTypes, ValueError, value_of_text};
-use agg_grouping::GroupingError;
+use crate::grouping::GroupingError;
+use agg_segment::storage::FieldValue;
 use agg_values::{AfterKey, CompositeIntermediateKey, KeyTextError, OutOfMemory, Text};
-use agg_words::BySpec;
+use peslumok_texts::fields::{FieldTypes, ValueError, value_of_text};
+use peslumok_texts::words::BySpec;
 use std::alloc::Global;
 
 /// The key of a source that a value is read as.

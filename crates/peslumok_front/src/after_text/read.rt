@@ -3,16 +3,16 @@ ghost use Rattle.std.specs.Prelude.{◌≡◌, ◌≤◌, IfErr, IfOk, MatchResu
 ghost use Rattle.agg_values.specs.Names.{Named};
 ghost use Rattle.agg_values.specs.declared.after_key.AfterKey.{AfterKey as Key};
 ghost use Rattle.csv.specs.Records.{fields_of};
-ghost use Rattle.agg_after_text.specs.After.{IsAfterText, IsExtra, IsKeyOfValues, IsNoAfterText};
-ghost use Rattle.agg_after_text.specs.After.{IsUnreadValue};
+ghost use Rattle.peslumok_front.specs.after_text.After.{IsAfterText, IsExtra, IsKeyOfValues};
+ghost use Rattle.peslumok_front.specs.after_text.After.{IsNoAfterText, IsUnreadValue};
 
-use crate::key::key_of;
-use crate::values::values_of;
-use agg_fields::FieldTypes;
-use agg_grouping::{Grouping, GroupingError, column_of};
+use crate::after_text::key::key_of;
+use crate::after_text::values::values_of;
+use crate::grouping::{Grouping, GroupingError, column_of};
 use agg_values::{AfterKey, NameMap, Text};
-use agg_words::BySpec;
 use csv::StringRecord;
+use peslumok_texts::fields::FieldTypes;
+use peslumok_texts::words::BySpec;
 use std::alloc::Global;
 
 /// The key that a text has: values separated by commas, one for each source in order. A value is

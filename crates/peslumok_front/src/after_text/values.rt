@@ -4,7 +4,7 @@ ghost use Rattle.csv.specs.Machine.{next_record};
 ghost use Rattle.csv.specs.Reading.{default_config, strip_bom};
 ghost use Rattle.csv.specs.Records.{fields_of};
 ghost use Rattle.csv.specs.declared.parser.State.TheVariants as st;
-ghost use Rattle.agg_after_text.specs.After.{values_in};
+ghost use Rattle.peslumok_front.specs.after_text.After.{values_in};
 
 use agg_values::OutOfMemory;
 use csv::{ReaderBuilder, StringRecord};

@@ -4,15 +4,15 @@ ghost use Rattle.csv.specs.Writing.{default_writer, fields_text, row_body};
 ghost use Rattle.agg_values.specs.KeyText.{IsKeyText};
 ghost use Rattle.agg_values.specs.Nothing.{NoneIs};
 ghost use Rattle.agg_values.specs.declared.after_key.AfterKey.{AfterKey as Key};
-ghost use Rattle.agg_after_text.specs.After.{HaveOwnColumns, IsAfterText, IsValueKey, NamesFirst};
-ghost use Rattle.agg_after_text.specs.After.{ReadsAs, keys_by_name};
-ghost use Rattle.agg_after_text.specs.AfterCells.{AreTextsOf, IsCell};
+ghost use Rattle.peslumok_front.specs.after_text.After.{HaveOwnColumns, IsAfterText, IsValueKey};
+ghost use Rattle.peslumok_front.specs.after_text.After.{NamesFirst, ReadsAs, keys_by_name};
+ghost use Rattle.peslumok_front.specs.after_text.AfterCells.{AreTextsOf, IsCell};
 
-use crate::key::{prefixed_key, typed_key};
-use agg_fields::{FieldType, ValueError, value_of_text, write_value};
-use agg_grouping::{Grouping, column_of};
-use agg_tables::write_csv_cell;
+use crate::after_text::key::{prefixed_key, typed_key};
+use crate::grouping::{Grouping, column_of};
+use crate::tables::write_csv_cell;
 use agg_values::{AfterKey, NameMap, OutOfMemory, Text};
+use peslumok_texts::fields::{FieldType, ValueError, value_of_text, write_value};
 use std::alloc::Global;
 
 /// Appends the text of a key, which `after_of` reads back: the values of the sources in order, up

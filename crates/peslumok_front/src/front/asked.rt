@@ -1,15 +1,15 @@
 //! What is asked of records, and where they are.
 ghost use Rattle.std.specs.Prelude.{◌≡◌};
-ghost use Rattle.agg_front.specs.Pages.{room_of};
+ghost use Rattle.peslumok_front.specs.front.Pages.{room_of};
 
-use agg_grouping::Grouping;
-use agg_records::RecordFormat;
-use agg_tables::OutputFormat;
+use crate::grouping::Grouping;
+use crate::tables::OutputFormat;
+use peslumok_records::records::RecordFormat;
 
 /// The records of a file.
 #[derive(Drop)]
 pub struct RecordFile<'a> {
-    /// Its name in messages.
+    /// The name of the file in messages.
     pub name: &'a str,
     pub format: RecordFormat,
     pub bytes: Vec<u8>,

@@ -1,13 +1,13 @@
 //! What is asked, before any record is read.
 ghost use Rattle.std.specs.Prelude.{IfErr, IfOk, OnOk};
-ghost use Rattle.agg_front.specs.Causes.{HasNoFirst, IsRefusedAtOnce};
-ghost use Rattle.agg_front.specs.Check.{BeginsAfter, MayBeAsked, after_asked};
+ghost use Rattle.peslumok_front.specs.front.Causes.{HasNoFirst, IsRefusedAtOnce};
+ghost use Rattle.peslumok_front.specs.front.Check.{BeginsAfter, MayBeAsked, after_asked};
 
-use crate::asked::Asked;
-use crate::columns::columns_of;
-use crate::failure::Failure;
-use agg_after_text::after_of;
-use agg_grouping::query_of;
+use crate::after_text::after_of;
+use crate::front::asked::Asked;
+use crate::front::columns::columns_of;
+use crate::front::failure::Failure;
+use crate::grouping::query_of;
 use agg_values::{AfterKey, NameMap};
 use std::alloc::Global;
 

@@ -1,15 +1,15 @@
 //! The columns of the output.
 ghost use Rattle.std.specs.Prelude.{◌≡◌, ◌++◌, IfErr, IfOk, IfNone, IfSome, OnOk, map};
-ghost use Rattle.agg_fields.specs.Types.{type_of};
-ghost use Rattle.agg_tables.specs.Columns.{header_of};
-ghost use Rattle.agg_front.specs.Columns as spec;
+ghost use Rattle.peslumok_texts.specs.fields.Types.{type_of};
+ghost use Rattle.peslumok_front.specs.tables.Columns.{header_of};
+ghost use Rattle.peslumok_front.specs.front.Columns as spec;
 
-use crate::failure::Failure;
-use agg_fields::{FieldType, FieldTypes};
-use agg_grouping::{Grouping, column_of, metric_name};
-use agg_tables::{Column, Columns};
+use crate::front::failure::Failure;
+use crate::grouping::{Grouping, column_of, metric_name};
+use crate::tables::{Column, Columns};
 use agg_values::{OutOfMemory, Text};
-use agg_words::{BySpec, Metric, MetricKind};
+use peslumok_texts::fields::{FieldType, FieldTypes};
+use peslumok_texts::words::{BySpec, Metric, MetricKind};
 use std::alloc::Global;
 
 /// A column for each source, the number of records, and a column for each metric, each of a name of

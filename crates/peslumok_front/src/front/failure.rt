@@ -1,13 +1,13 @@
 //! Why groups weren't written to their end.
 ghost use Rattle.std.specs.Prelude.{◌≡◌};
-ghost use Rattle.agg_front.specs.Codes.{code_of, failure_of_grouping, failure_of_walk};
-ghost use Rattle.agg_front.specs.declared.failure.Failure.TheVariants as failure;
+ghost use Rattle.peslumok_front.specs.front.Codes.{code_of, failure_of_grouping, failure_of_walk};
+ghost use Rattle.peslumok_front.specs.declared.front.failure.Failure.TheVariants as failure;
 
+use crate::grouping::GroupingError;
 use agg_engine::WalkError;
-use agg_grouping::GroupingError;
-use agg_records::RecordError;
 use agg_streams::Failed;
 use agg_values::{OutOfMemory, Text};
+use peslumok_records::records::RecordError;
 use std::alloc::{AllocError, AllocFailed};
 use thiserror::Error;
 

@@ -1,12 +1,13 @@
 //! The records of files.
 ghost use Rattle.std.specs.Prelude.{IfErr, IfOk};
-ghost use Rattle.agg_held_records.specs.Held.{held_documents};
-ghost use Rattle.agg_front.specs.Files.{AreDocumentsOfFiles, AreUnreadable, IsUnreadable};
+ghost use Rattle.peslumok_records.specs.held.Held.{held_documents};
+ghost use Rattle.peslumok_front.specs.front.Files.{AreDocumentsOfFiles, AreUnreadable};
+ghost use Rattle.peslumok_front.specs.front.Files.{IsUnreadable};
 
-use crate::RecordFile;
-use crate::failure::Failure;
-use agg_records::{AskedFields, RecordCause, RecordError, Records, read_records};
+use crate::front::RecordFile;
+use crate::front::failure::Failure;
 use agg_values::Text;
+use peslumok_records::records::{AskedFields, RecordCause, RecordError, Records, read_records};
 use std::alloc::Global;
 
 /// The records of files, one after another. The bytes of each are given up as soon as its

@@ -1,28 +1,28 @@
 //! A whole grouping: records in, pages out.
 ghost use Rattle.std.specs.Prelude.{◌≡◌, ℕ, IfErr, IfOk, List, length};
 ghost use Rattle.std.specs.Io.KnownBytes.{Appends};
-ghost use Rattle.agg_column.specs.Document.{Fields};
+ghost use Rattle.agg_segment.specs.storage.Document.{Fields};
 ghost use Rattle.agg_segment.specs.Snapshot.{snapshots_documents};
 ghost use Rattle.agg_streams.specs.Causes.{Rose};
-ghost use Rattle.agg_record_index.specs.Index.{AreOneOf};
-ghost use Rattle.agg_front.specs.Answer.{AreRead, IsAnswered, IsWritten};
-ghost use Rattle.agg_front.specs.Asking.{AskAll, AskFor};
-ghost use Rattle.agg_front.specs.Causes.{HasFailed, HasNoText, HaveNoRecords};
-ghost use Rattle.agg_front.specs.Pages.{room_of};
+ghost use Rattle.peslumok_records.specs.record_index.Index.{AreOneOf};
+ghost use Rattle.peslumok_front.specs.front.Answer.{AreRead, IsAnswered, IsWritten};
+ghost use Rattle.peslumok_front.specs.front.Asking.{AskAll, AskFor};
+ghost use Rattle.peslumok_front.specs.front.Causes.{HasFailed, HasNoText, HaveNoRecords};
+ghost use Rattle.peslumok_front.specs.front.Pages.{room_of};
 
-use crate::asked::{Asked, RecordFile};
-use crate::failure::Failure;
-use crate::files::records_of;
-use crate::page::Question;
-use crate::pages::write_pages;
-use crate::top::write_top;
-use agg_fields::FieldType;
-use agg_grouping::{Grouping, asked_fields, query_of};
-use agg_record_index::{Index, Report};
-use agg_records::AskedFields;
+use crate::front::asked::{Asked, RecordFile};
+use crate::front::failure::Failure;
+use crate::front::files::records_of;
+use crate::front::page::Question;
+use crate::front::pages::write_pages;
+use crate::front::top::write_top;
+use crate::grouping::{Grouping, asked_fields, query_of};
 use agg_segment::QueryTree;
 use agg_streams::sink::Sink;
 use agg_values::{NameMap, OutOfMemory, Text};
+use peslumok_records::record_index::{Index, Report};
+use peslumok_records::records::AskedFields;
+use peslumok_texts::fields::FieldType;
 use std::alloc::Global;
 
 /// Groups the records of files, and writes the pages that are asked for, each as soon as it is

@@ -1,17 +1,17 @@
 //! A page of the groups.
 ghost use Rattle.std.specs.Prelude.{◌≡◌, ◌<◌, IfErr, IfOk, List, length};
-ghost use Rattle.agg_column.specs.Document.{Fields};
+ghost use Rattle.agg_segment.specs.storage.Document.{Fields};
 ghost use Rattle.agg_segment.specs.Snapshot.{snapshots_documents};
-ghost use Rattle.agg_record_index.specs.Index.{AreOneOf};
-ghost use Rattle.agg_front.specs.Causes.{HasNoPage};
-ghost use Rattle.agg_front.specs.Pages.{IsPageOf, IsPageWalk};
+ghost use Rattle.peslumok_records.specs.record_index.Index.{AreOneOf};
+ghost use Rattle.peslumok_front.specs.front.Causes.{HasNoPage};
+ghost use Rattle.peslumok_front.specs.front.Pages.{IsPageOf, IsPageWalk};
 
-use crate::asked::Asked;
-use crate::failure::Failure;
+use crate::front::asked::Asked;
+use crate::front::failure::Failure;
+use crate::grouping::{GROUPS, Page, request_of};
 use agg_cache::LimitsLedger;
 use agg_engine::{Snapshot, Walk, walk_pages};
-use agg_final_results::AggregationResults;
-use agg_grouping::{GROUPS, Page, request_of};
+use agg_results::final_results::AggregationResults;
 use agg_segment::{QueryTree, Schema};
 use agg_values::{ItemList, Steps, Text};
 use std::alloc::Global;
@@ -58,7 +58,7 @@ pub fn walk_page(alloc: Global, question: &Question<'_, '_>, page: Page) -> Resu
     walk_over::<Brand>(alloc, question, page, Blank::new(1))
 }
 
-// The same, where a blank makes the counter of steps, which nobody reads.
+// The walk over a page of the groups. A blank makes the counter of steps, which nobody reads.
 fn walk_over<L: Ledger>(
     alloc: Global,
     question: &Question<'_, '_>,

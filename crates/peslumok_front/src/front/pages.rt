@@ -1,22 +1,22 @@
 //! Pages, one after another.
 ghost use Rattle.std.specs.Prelude.{◌≡◌, ◌≤◌, ℕ, List, IfErr, IfOk, None, OnOk, length};
 ghost use Rattle.std.specs.Io.KnownBytes.{Appends};
-ghost use Rattle.agg_column.specs.Document.{Fields};
+ghost use Rattle.agg_segment.specs.storage.Document.{Fields};
 ghost use Rattle.agg_segment.specs.Snapshot.{snapshots_documents};
 ghost use Rattle.agg_streams.specs.Causes.{Rose};
-ghost use Rattle.agg_record_index.specs.Index.{AreOneOf};
-ghost use Rattle.agg_front.specs.Answer.{AreWritten, IsWritten, TellsKey};
-ghost use Rattle.agg_front.specs.Causes.{HasNoText, IsUnwritten};
-ghost use Rattle.agg_front.specs.Pages.{is_last, room_of};
-ghost use Rattle.agg_front.specs.Written.{IsPageText};
+ghost use Rattle.peslumok_records.specs.record_index.Index.{AreOneOf};
+ghost use Rattle.peslumok_front.specs.front.Answer.{AreWritten, IsWritten, TellsKey};
+ghost use Rattle.peslumok_front.specs.front.Causes.{HasNoText, IsUnwritten};
+ghost use Rattle.peslumok_front.specs.front.Pages.{is_last, room_of};
+ghost use Rattle.peslumok_front.specs.front.Written.{IsPageText};
 
-use crate::check::first_after;
-use crate::failure::Failure;
-use crate::page::{Question, page_of};
-use crate::written::{PageWriter, next_after};
-use agg_after_text::write_after;
-use agg_final_results::AggregationResults;
-use agg_grouping::{Grouping, Page};
+use crate::after_text::write_after;
+use crate::front::check::first_after;
+use crate::front::failure::Failure;
+use crate::front::page::{Question, page_of};
+use crate::front::written::{PageWriter, next_after};
+use crate::grouping::{Grouping, Page};
+use agg_results::final_results::AggregationResults;
 use agg_streams::sink::{Sink, write_all};
 use agg_values::{AfterKey, NameMap, OutOfMemory, Text};
 use std::alloc::Global;

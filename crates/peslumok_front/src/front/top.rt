@@ -1,26 +1,26 @@
 //! The text of the groups with the most documents.
 ghost use Rattle.std.specs.Prelude.{◌≡◌, ℕ, List, IfErr, IfOk, None, OnOk, Some, length};
 ghost use Rattle.std.specs.Io.KnownBytes.{Appends};
-ghost use Rattle.agg_column.specs.Document.{Fields};
+ghost use Rattle.agg_segment.specs.storage.Document.{Fields};
 ghost use Rattle.agg_segment.specs.Snapshot.{snapshots_documents};
 ghost use Rattle.agg_streams.specs.Causes.{Rose};
-ghost use Rattle.agg_record_index.specs.Index.{AreOneOf};
-ghost use Rattle.agg_front.specs.Answer.{HasMost, IsWritten};
-ghost use Rattle.agg_front.specs.Causes.{HasNoText};
-ghost use Rattle.agg_front.specs.Pages.{room_of};
-ghost use Rattle.agg_front.specs.Written.{groups_in, total_in};
+ghost use Rattle.peslumok_records.specs.record_index.Index.{AreOneOf};
+ghost use Rattle.peslumok_front.specs.front.Answer.{HasMost, IsWritten};
+ghost use Rattle.peslumok_front.specs.front.Causes.{HasNoText};
+ghost use Rattle.peslumok_front.specs.front.Pages.{room_of};
+ghost use Rattle.peslumok_front.specs.front.Written.{groups_in, total_in};
 
-use crate::check::first_after;
-use crate::failure::Failure;
-use crate::page::{Question, page_of};
-use crate::pages::is_last;
-use crate::written::{PageWriter, next_after};
-use agg_final_results::{
+use crate::front::check::first_after;
+use crate::front::failure::Failure;
+use crate::front::page::{Question, page_of};
+use crate::front::pages::is_last;
+use crate::front::written::{PageWriter, next_after};
+use crate::grouping::{GROUPS, Page, TOTAL};
+use crate::top_groups::TopGroups;
+use agg_results::final_results::{
     AggregationResult, AggregationResults, BucketResult, CompositeBucketEntry, FilterBucketResult,
 };
-use agg_grouping::{GROUPS, Page, TOTAL};
 use agg_streams::sink::{Sink, write_all};
-use agg_top_groups::TopGroups;
 use agg_values::{AfterKey, NameMap, OutOfMemory, Text};
 use std::alloc::Global;
 
@@ -60,7 +60,7 @@ struct Most {
     total: Option<FilterBucketResult>,
 }
 
-// Those of all pages after a key, so many of them.
+// So many groups with the most documents of all pages after a key, and the total.
 fn most_of(
     alloc: Global,
     question: &Question<'_, '_>,

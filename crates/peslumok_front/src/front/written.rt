@@ -2,20 +2,21 @@
 ghost use Rattle.std.specs.Prelude.{◌≡◌, ◌++◌, IfErr, IfOk, List, OnOk, option_map};
 ghost use Rattle.std.specs.Prelude.{string_bytes};
 ghost use Rattle.std.specs.List.{AllZip};
-ghost use Rattle.agg_tables.specs.declared.row.Row.{Row as Line};
-ghost use Rattle.agg_front.specs.Columns.{HaveNoColumns, HaveOwnHeaders, columns_asked};
-ghost use Rattle.agg_front.specs.Pages.{next_after};
-ghost use Rattle.agg_front.specs.Written.{AreRowsOf, AreTotalRows, IsGroupRow, IsGroupsText};
-ghost use Rattle.agg_front.specs.Written.{IsPageText, groups_in, total_in, total_written};
+ghost use Rattle.peslumok_front.specs.declared.tables.row.Row.{Row as Line};
+ghost use Rattle.peslumok_front.specs.front.Columns.{HaveNoColumns, HaveOwnHeaders, columns_asked};
+ghost use Rattle.peslumok_front.specs.front.Pages.{next_after};
+ghost use Rattle.peslumok_front.specs.front.Written.{AreRowsOf, AreTotalRows, IsGroupRow};
+ghost use Rattle.peslumok_front.specs.front.Written.{IsGroupsText, IsPageText, groups_in, total_in};
+ghost use Rattle.peslumok_front.specs.front.Written.{total_written};
 
-use crate::asked::Asked;
-use crate::columns::columns_of;
-use crate::failure::Failure;
-use agg_final_results::{
+use crate::front::asked::Asked;
+use crate::front::columns::columns_of;
+use crate::front::failure::Failure;
+use crate::grouping::{GROUPS, TOTAL};
+use crate::tables::{Columns, OutputFormat, Row, cells_of_group, cells_of_total, write_rows};
+use agg_results::final_results::{
     AggregationResult, AggregationResults, BucketResult, CompositeBucketEntry, FilterBucketResult,
 };
-use agg_grouping::{GROUPS, TOTAL};
-use agg_tables::{Columns, OutputFormat, Row, cells_of_group, cells_of_total, write_rows};
 use agg_values::{AfterKey, NameMap, OutOfMemory, Text};
 use std::alloc::Global;
 
@@ -106,7 +107,7 @@ pub fn next_after(
     copy_of(alloc, after_key)
 }
 
-// The same key once more.
+// An equal after key.
 fn copy_of(alloc: Global, after: &NameMap<AfterKey>) -> Result<NameMap<AfterKey>, OutOfMemory>
     ensures { IfOk result (λ copy. copy ≡ after.now) }
 {

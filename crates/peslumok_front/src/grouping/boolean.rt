@@ -1,6 +1,6 @@
 //! Queries of other queries.
 ghost use Rattle.std.specs.Prelude.{◌≡◌, IfOk, not};
-ghost use Rattle.agg_column.specs.Document.{Fields};
+ghost use Rattle.agg_segment.specs.storage.Document.{Fields};
 ghost use Rattle.agg_segment.specs.Query.{all_match, matches, some_matches};
 
 use agg_segment::QueryTree;

@@ -1,20 +1,21 @@
 //! The queries of conditions.
 ghost use Rattle.std.specs.Prelude.{◌≡◌, ◌∷◌, ◌++◌, [], Ok, IfOk, IfErr, OnOk, not};
-ghost use Rattle.agg_column.specs.Document.{Fields};
-ghost use Rattle.agg_fields.specs.Values.{text_value};
+ghost use Rattle.agg_segment.specs.storage.Document.{Fields};
+ghost use Rattle.peslumok_texts.specs.fields.Values.{text_value};
 ghost use Rattle.agg_segment.specs.Query.{holds, matches};
-ghost use Rattle.agg_words.specs.Condition.{demand, parts};
-ghost use Rattle.agg_grouping.specs.Query.{RefusesCondition, RefusesTest, RefusesText, bound_at};
-ghost use Rattle.agg_grouping.specs.Query.{holds_between, holds_text, is_one_of, meets, no_bound};
-ghost use Rattle.agg_grouping.specs.Query.{passes, plain_values, truth_of};
+ghost use Rattle.peslumok_texts.specs.words.Condition.{demand, parts};
+ghost use Rattle.peslumok_front.specs.grouping.Query.{RefusesCondition, RefusesTest, RefusesText};
+ghost use Rattle.peslumok_front.specs.grouping.Query.{bound_at, holds_between, holds_text};
+ghost use Rattle.peslumok_front.specs.grouping.Query.{is_one_of, meets, no_bound, passes};
+ghost use Rattle.peslumok_front.specs.grouping.Query.{plain_values, truth_of};
 
-use crate::boolean::{none_of, some_of};
-use crate::error::GroupingError;
-use agg_column::FieldValue;
-use agg_fields::{FieldType, FieldTypes, ValueError, value_of_text};
+use crate::grouping::boolean::{none_of, some_of};
+use crate::grouping::error::GroupingError;
+use agg_segment::storage::FieldValue;
 use agg_segment::{QueryTree, RangeBound};
 use agg_values::{ItemList, OutOfMemory, Text};
-use agg_words::{Condition, Test};
+use peslumok_texts::fields::{FieldType, FieldTypes, ValueError, value_of_text};
+use peslumok_texts::words::{Condition, Test};
 use std::alloc::Global;
 
 /// The query of one condition.
@@ -200,7 +201,7 @@ impl End {
 }
 
 // The truth value of a word.
-#[tactic(auto, using(agg_words::proofs::Words::other))]
+#[tactic(auto, using(peslumok_texts::proofs::lemmas::words::Words::other))]
 fn truth_of(text: &str) -> Option<bool>
     ensures { result ≡ truth_of text.now }
 {

@@ -1,9 +1,9 @@
 //! Why a grouping can't be asked.
 ghost use Rattle.std.specs.Prelude.{◌≡◌};
 
-use agg_fields::ValueError;
-use agg_json::ReadError;
+use agg_request::json_values::ReadError;
 use agg_values::{OutOfMemory, Text};
+use peslumok_texts::fields::ValueError;
 use std::alloc::{AllocError, AllocFailed};
 use thiserror::Error;
 
@@ -69,7 +69,8 @@ pub enum QueryFault {
 }
 
 impl From<OutOfMemory> for GroupingError {
-    ghost use Rattle.agg_grouping.specs.declared.error.GroupingError.TheVariants as refusal;
+    ghost use Rattle.peslumok_front.specs.declared.grouping.error.GroupingError.TheVariants
+        as refusal;
 
     ghost from_gives = { λ _ error. error ≡ refusal.OutOfMemory };
 
@@ -79,7 +80,8 @@ impl From<OutOfMemory> for GroupingError {
 }
 
 impl From<AllocError> for GroupingError {
-    ghost use Rattle.agg_grouping.specs.declared.error.GroupingError.TheVariants as refusal;
+    ghost use Rattle.peslumok_front.specs.declared.grouping.error.GroupingError.TheVariants
+        as refusal;
 
     ghost from_gives = { λ _ error. error ≡ refusal.OutOfMemory };
 
@@ -89,7 +91,8 @@ impl From<AllocError> for GroupingError {
 }
 
 impl<T: Drop> From<AllocFailed<T>> for GroupingError {
-    ghost use Rattle.agg_grouping.specs.declared.error.GroupingError.TheVariants as refusal;
+    ghost use Rattle.peslumok_front.specs.declared.grouping.error.GroupingError.TheVariants
+        as refusal;
 
     ghost from_gives = { λ _ error. error ≡ refusal.OutOfMemory };
 
@@ -99,7 +102,7 @@ impl<T: Drop> From<AllocFailed<T>> for GroupingError {
 }
 
 impl From<ReadError> for GroupingError {
-    ghost use Rattle.agg_grouping.specs.Query.{refusal_of};
+    ghost use Rattle.peslumok_front.specs.grouping.Query.{refusal_of};
 
     ghost from_gives = { λ error refusal. refusal ≡ refusal_of error };
 

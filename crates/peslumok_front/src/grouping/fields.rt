@@ -1,13 +1,13 @@
 //! The fields that a grouping asks for.
 ghost use Rattle.std.specs.Prelude.{◌∷◌, [], IfOk, OnOk, map};
 ghost use Rattle.std.specs.List.{flat_map};
-ghost use Rattle.agg_grouping.specs.Fields.{AreAdded, AreFieldsOf, fields_in};
+ghost use Rattle.peslumok_front.specs.grouping.Fields.{AreAdded, AreFieldsOf, fields_in};
 
-use crate::Grouping;
-use agg_fields::{FieldType, FieldTypes};
+use crate::grouping::Grouping;
 use agg_segment::QueryTree;
 use agg_values::{ItemList, NameMap, OutOfMemory, Text};
-use agg_words::{BySpec, Metric};
+use peslumok_texts::fields::{FieldType, FieldTypes};
+use peslumok_texts::words::{BySpec, Metric};
 use std::alloc::Global;
 
 /// The fields of a grouping's sources and metrics and of its query, each with its type.

@@ -1,12 +1,12 @@
 //! What a grouping asks.
 ghost use Rattle.std.specs.Prelude.{◌≡◌, IfOk};
-ghost use Rattle.agg_grouping.specs.Request.{metric_name};
-ghost use Rattle.agg_grouping.specs.Sources.{column_name};
-ghost use Rattle.agg_words.specs.By.{parts};
+ghost use Rattle.peslumok_front.specs.grouping.Request.{metric_name};
+ghost use Rattle.peslumok_front.specs.grouping.Sources.{column_name};
+ghost use Rattle.peslumok_texts.specs.words.By.{parts};
 
-use agg_fields::FieldTypes;
 use agg_values::{OutOfMemory, Text};
-use agg_words::{BySpec, Condition, Metric};
+use peslumok_texts::fields::FieldTypes;
+use peslumok_texts::words::{BySpec, Condition, Metric};
 use std::alloc::Global;
 
 /// The name of a metric's column, such as `sum(amount)`.
@@ -27,7 +27,7 @@ pub fn column_of<'a>(by: &BySpec<'a>) -> &'a str
 #[derive(Drop)]
 pub struct Grouping<'a> {
     pub by: Vec<BySpec<'a>>,
-    /// Those that a record has to meet.
+    /// The conditions that a record has to meet.
     pub conditions: Vec<Condition<'a>>,
     /// The JSON of a query that a record has to match too.
     pub query: Option<&'a str>,

@@ -5,12 +5,12 @@ ghost use Rattle.agg_segment.specs.declared.query.QueryTree.{QueryTree};
 ghost use Rattle.agg_request_tree.specs.Request.{Request, builders_of, with_builders};
 ghost use Rattle.agg_request_tree.specs.Source.{name_of};
 ghost use Rattle.agg_request_tree.specs.declared.source.CompositeAggregationSource as sources;
-ghost use Rattle.agg_fields.specs.declared.field_type.FieldType.{FieldType};
-ghost use Rattle.agg_words.specs.By.{Parts};
-ghost use Rattle.agg_grouping.specs.Request.{IsRequestOf};
-ghost use Rattle.agg_grouping.specs.Sources.{column_name, source_asked};
-ghost use Rattle.agg_grouping.specs.declared.grouping.Grouping.{Grouping};
-ghost use Rattle.agg_grouping.specs.declared.request.Page.{Page};
+ghost use Rattle.peslumok_texts.specs.declared.fields.field_type.FieldType.{FieldType};
+ghost use Rattle.peslumok_texts.specs.words.By.{Parts};
+ghost use Rattle.peslumok_front.specs.grouping.Request.{IsRequestOf};
+ghost use Rattle.peslumok_front.specs.grouping.Sources.{column_name, source_asked};
+ghost use Rattle.peslumok_front.specs.declared.grouping.grouping.Grouping.{Grouping};
+ghost use Rattle.peslumok_front.specs.declared.grouping.request.Page.{Page};
 
 /// The request of a grouping has no builder, so it asks the same whatever builders make.
 pub fn groupings_have_no_builders<B>()

@@ -2,16 +2,16 @@
 ghost use Rattle.std.specs.Prelude.{◌≡◌, Some, IfOk, IfErr};
 ghost use Rattle.serde_json.specs.Read.{read};
 ghost use Rattle.serde_json.specs.View.{view};
-ghost use Rattle.agg_column.specs.Document.{Fields};
+ghost use Rattle.agg_segment.specs.storage.Document.{Fields};
 ghost use Rattle.agg_segment.specs.Query.{all_match, matches};
-ghost use Rattle.agg_grouping.specs.Query.{HasNoQuery, IsQueryOf, RefusesConditions, RefusesSaid};
-ghost use Rattle.agg_grouping.specs.Query.{SaysQuery, meets_all};
+ghost use Rattle.peslumok_front.specs.grouping.Query.{HasNoQuery, IsQueryOf, RefusesConditions};
+ghost use Rattle.peslumok_front.specs.grouping.Query.{RefusesSaid, SaysQuery, meets_all};
 
-use crate::Grouping;
-use crate::boolean::all_of;
-use crate::condition::tree_of;
-use crate::error::{GroupingError, QueryFault};
-use agg_json::read_query;
+use crate::grouping::Grouping;
+use crate::grouping::boolean::all_of;
+use crate::grouping::condition::tree_of;
+use crate::grouping::error::{GroupingError, QueryFault};
+use agg_request::json_values::read_query;
 use agg_segment::QueryTree;
 use agg_values::ItemList;
 use serde_json::{Category, Value};

@@ -1,20 +1,21 @@
 //! The request that a grouping stands for.
 ghost use Rattle.std.specs.Prelude.{◌≡◌, IfOk, IfErr, OnOk};
 ghost use Rattle.agg_values.specs.Names.{put};
-ghost use Rattle.agg_grouping.specs.Request.{AreGroupsOf, AreMetricsOf, HasGroups, HasNoRequest};
-ghost use Rattle.agg_grouping.specs.Request.{HasTotal, IsCompositeOf, IsRequestOf, IsTotalOf};
-ghost use Rattle.agg_grouping.specs.Request.{metric_asked, metric_name, of_kind};
+ghost use Rattle.peslumok_front.specs.grouping.Request.{AreGroupsOf, AreMetricsOf, HasGroups};
+ghost use Rattle.peslumok_front.specs.grouping.Request.{HasNoRequest, HasTotal, IsCompositeOf};
+ghost use Rattle.peslumok_front.specs.grouping.Request.{IsRequestOf, IsTotalOf, metric_asked};
+ghost use Rattle.peslumok_front.specs.grouping.Request.{metric_name, of_kind};
 
-use crate::error::GroupingError;
-use crate::source::source_of;
-use crate::{Grouping, metric_name};
+use crate::grouping::error::GroupingError;
+use crate::grouping::source::source_of;
+use crate::grouping::{Grouping, metric_name};
 use agg_request_tree::{
     Aggregation, AggregationVariants, CompositeAggregation, CountAggregation, FilterAggregation,
     FilterQuery, MaxAggregation, MinAggregation, SumAggregation,
 };
 use agg_segment::QueryTree;
 use agg_values::{AfterKey, ItemList, NameMap, OutOfMemory, Text};
-use agg_words::{Metric, MetricKind};
+use peslumok_texts::words::{Metric, MetricKind};
 use std::alloc::Global;
 
 /// The name of the composite that is paged over.

@@ -1,24 +1,25 @@
 //! The sources of a composite.
 ghost use Rattle.std.specs.Prelude.{◌≡◌, Ok, IfOk, IfErr};
-ghost use Rattle.agg_decimals.specs.Decimal.{decimal_of};
-ghost use Rattle.agg_grouping.specs.Sources.{HasNoSource, date_division, date_source};
-ghost use Rattle.agg_grouping.specs.Sources.{decimal_division, division_asked, divided_source};
-ghost use Rattle.agg_grouping.specs.Sources.{fixed_division, has_group, number_division};
-ghost use Rattle.agg_grouping.specs.Sources.{order_asked, source_asked, source_parts, standing_of};
-ghost use Rattle.agg_grouping.specs.Sources.{values_source, width_division, width_source};
-ghost use Rattle.agg_words.specs.By.{parts};
+ghost use Rattle.peslumok_texts.specs.decimals.Decimal.{decimal_of};
+ghost use Rattle.peslumok_front.specs.grouping.Sources.{HasNoSource, date_division, date_source};
+ghost use Rattle.peslumok_front.specs.grouping.Sources.{decimal_division, division_asked};
+ghost use Rattle.peslumok_front.specs.grouping.Sources.{divided_source, fixed_division, has_group};
+ghost use Rattle.peslumok_front.specs.grouping.Sources.{number_division, order_asked, source_asked};
+ghost use Rattle.peslumok_front.specs.grouping.Sources.{source_parts, standing_of, values_source};
+ghost use Rattle.peslumok_front.specs.grouping.Sources.{width_division, width_source};
+ghost use Rattle.peslumok_texts.specs.words.By.{parts};
 
-use crate::column_of;
-use crate::error::{GroupingError, IntervalFault};
+use crate::grouping::column_of;
+use crate::grouping::error::{GroupingError, IntervalFault};
 use agg_calendar::{CalendarInterval, PrecomputedDateInterval};
-use agg_decimals::{Places, read_decimal};
-use agg_fields::{FieldType, FieldTypes};
 use agg_request_tree::{
     CompositeAggregationSource, DateHistogramCompositeAggregationSource,
     HistogramCompositeAggregationSource, TermCompositeAggregationSource,
 };
 use agg_values::{MissingOrder, Order, OutOfMemory, RequestError, Text};
-use agg_words::{BySpec, Missing};
+use peslumok_texts::decimals::{Places, read_decimal};
+use peslumok_texts::fields::{FieldType, FieldTypes};
+use peslumok_texts::words::{BySpec, Missing};
 use std::alloc::Global;
 
 /// The source that groups are made by.
@@ -70,7 +71,7 @@ impl Division {
         }
     }
 
-    #[tactic(auto, using(agg_words::proofs::Words::other))]
+    #[tactic(auto, using(peslumok_texts::proofs::lemmas::words::Words::other))]
     fn of_dates(
         alloc: Global,
         interval: &str,
@@ -174,6 +175,7 @@ impl SourceParts {
             order,
             missing_bucket,
             missing_order,
+            min: None,
         })
     }
 
@@ -205,6 +207,7 @@ impl SourceParts {
             order,
             missing_bucket,
             missing_order,
+            min: None,
         })
     }
 
@@ -227,9 +230,11 @@ impl SourceParts {
             field,
             fixed_interval,
             calendar_interval,
+            offset: None,
             order,
             missing_bucket,
             missing_order,
+            min: None,
         })
     }
 }

@@ -1,20 +1,20 @@
 //! The cells of groups and of totals.
 ghost use Rattle.std.specs.Prelude.{◌≡◌, IfOk, codes, decimal, false, option_map, string_bytes};
 ghost use Rattle.std.specs.Prelude.{[], if◌then◌else◌, true};
-ghost use Rattle.agg_fields.specs.Shown.{IsNumberText, IsShownKeyText};
-ghost use Rattle.agg_tables.specs.Cells.{is_total, shown_by, shown_cells, shows_number};
-ghost use Rattle.agg_tables.specs.Columns.{is_key};
-ghost use Rattle.agg_tables.specs.Groups.{IsGroupCell, IsKeyCell, IsMetricCell, IsTotalCell};
-ghost use Rattle.agg_tables.specs.Groups.{ShowsGroup, ShowsTotals, metric_number, metric_value};
-ghost use Rattle.agg_tables.specs.Groups.{number_shown};
+ghost use Rattle.peslumok_texts.specs.fields.Shown.{IsNumberText, IsShownKeyText};
+ghost use Rattle.peslumok_front.specs.tables.Cells.{is_total, shown_by, shown_cells, shows_number};
+ghost use Rattle.peslumok_front.specs.tables.Columns.{is_key};
+ghost use Rattle.peslumok_front.specs.tables.Groups.{IsGroupCell, IsKeyCell, IsMetricCell};
+ghost use Rattle.peslumok_front.specs.tables.Groups.{IsTotalCell, ShowsGroup, ShowsTotals};
+ghost use Rattle.peslumok_front.specs.tables.Groups.{metric_number, metric_value, number_shown};
 
-use crate::{Cell, Column, Columns, Row};
-use agg_fields::{FieldType, write_number, write_shown_key};
-use agg_final_results::{
+use crate::tables::{Cell, Column, Columns, Row};
+use agg_results::final_results::{
     AggregationResult, AggregationResults, CompositeBucketEntry, MetricResult,
 };
 use agg_values::{CompositeKey, OutOfMemory, Text};
 use itoa::Buffer;
+use peslumok_texts::fields::{FieldType, write_number, write_shown_key};
 use std::alloc::Global;
 
 /// The line of a group.

@@ -1,9 +1,9 @@
 //! The columns of the lines.
 ghost use Rattle.std.specs.Prelude.{◌≡◌, [], ◌∷◌, ◌++◌, OnOk, OnErr};
-ghost use Rattle.agg_tables.specs.Columns.{header_of, is_key};
+ghost use Rattle.peslumok_front.specs.tables.Columns.{header_of, is_key};
 
-use agg_fields::FieldType;
 use agg_values::{ItemList, OutOfMemory, Text};
+use peslumok_texts::fields::FieldType;
 use std::alloc::Global;
 use std::marker::Model;
 
@@ -43,7 +43,7 @@ pub struct Columns(ItemList<Column>);
 
 impl Model for Columns {
     ghost use Rattle.std.specs.Prelude.{List};
-    ghost use Rattle.agg_tables.specs.declared.columns.Column.{Column};
+    ghost use Rattle.peslumok_front.specs.declared.tables.columns.Column.{Column};
 
     ghost Value = { List Column };
 

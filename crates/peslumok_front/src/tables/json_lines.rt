@@ -2,13 +2,13 @@
 ghost use Rattle.std.specs.Prelude.{◌≡◌, ◌++◌, [], OnOk, codes, false, if◌then◌else◌, map, not};
 ghost use Rattle.std.specs.Prelude.{string_bytes};
 ghost use Rattle.json.specs.Print.{quoted};
-ghost use Rattle.agg_final_results.specs.Appending.{more_items};
-ghost use Rattle.agg_final_results.specs.ResultsText.{comma_unless, member_text};
-ghost use Rattle.agg_tables.specs.Cells.{is_total, shown_by, shown_cells};
-ghost use Rattle.agg_tables.specs.Columns.{header_of};
-ghost use Rattle.agg_tables.specs.JsonLines.{column_members, json_line, json_text};
+ghost use Rattle.agg_results.specs.final_results.Appending.{more_items};
+ghost use Rattle.agg_results.specs.final_results.ResultsText.{comma_unless, member_text};
+ghost use Rattle.peslumok_front.specs.tables.Cells.{is_total, shown_by, shown_cells};
+ghost use Rattle.peslumok_front.specs.tables.Columns.{header_of};
+ghost use Rattle.peslumok_front.specs.tables.JsonLines.{column_members, json_line, json_text};
 
-use crate::{Cell, Column, Columns, Row};
+use crate::tables::{Cell, Column, Columns, Row};
 use agg_values::OutOfMemory;
 use json::Writer;
 use std::alloc::Global;

@@ -1,14 +1,14 @@
 //! Rows in the format that is asked for.
 ghost use Rattle.std.specs.Prelude.{◌≡◌, ◌++◌, IfOk, OnOk, flat_map, map, string_bytes};
-ghost use Rattle.agg_tables.specs.Columns.{header_of};
-ghost use Rattle.agg_tables.specs.JsonLines.{json_line};
-ghost use Rattle.agg_tables.specs.Output.{AppendsRows, ReadBack, csv_lines, csv_record};
-ghost use Rattle.agg_tables.specs.Output.{csv_records, header_records};
+ghost use Rattle.peslumok_front.specs.tables.Columns.{header_of};
+ghost use Rattle.peslumok_front.specs.tables.JsonLines.{json_line};
+ghost use Rattle.peslumok_front.specs.tables.Output.{AppendsRows, ReadBack, csv_lines, csv_record};
+ghost use Rattle.peslumok_front.specs.tables.Output.{csv_records, header_records};
 
-use crate::csv_lines::write_csv_line;
-use crate::json_lines::write_json_line;
-use crate::table::write_table;
-use crate::{Columns, Row};
+use crate::tables::csv_lines::write_csv_line;
+use crate::tables::json_lines::write_json_line;
+use crate::tables::table::write_table;
+use crate::tables::{Columns, Row};
 use agg_values::OutOfMemory;
 use std::alloc::Global;
 

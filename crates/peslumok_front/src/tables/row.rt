@@ -1,6 +1,6 @@
 //! The lines of output.
 ghost use Rattle.std.specs.Prelude.{◌≡◌, map, option_map};
-ghost use Rattle.agg_tables.specs.Cells.{is_total, shown_by, shown_cells, shown_text};
+ghost use Rattle.peslumok_front.specs.tables.Cells.{is_total, shown_by, shown_cells, shown_text};
 
 /// What a line shows in a column.
 #[derive(Debug, Drop)]

@@ -1,10 +1,10 @@
 //! Tables whose columns are aligned.
 ghost use Rattle.std.specs.Prelude.{◌≡◌, ◌++◌, IfOk, OnOk, replicate, string_bytes};
-ghost use Rattle.agg_tables.specs.Table.{padded};
-ghost use Rattle.agg_tables.specs.Visible.{visible};
+ghost use Rattle.peslumok_front.specs.tables.Table.{padded};
+ghost use Rattle.peslumok_front.specs.tables.Visible.{visible};
 
-use crate::visible::write_visible;
-use crate::{Cell, Column, Columns, Row};
+use crate::tables::visible::write_visible;
+use crate::tables::{Cell, Column, Columns, Row};
 use agg_values::OutOfMemory;
 use std::alloc::Global;
 use unicode_width::UnicodeWidthStr;
@@ -23,7 +23,8 @@ struct Placed {
     side: Side,
 }
 
-/// Appends rows as a table: texts to the left, numbers to the right.
+/// Appends rows as a table, a line each, under the names of the columns if it has a header: texts
+/// to the left, numbers to the right, and two spaces between columns.
 pub fn write_table(
     alloc: Global,
     out: &mut String,

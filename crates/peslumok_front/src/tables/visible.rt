@@ -1,6 +1,7 @@
 //! Texts whose control characters show as escapes.
 ghost use Rattle.std.specs.Prelude.{◌≡◌, ◌++◌, OnOk, string_bytes};
-ghost use Rattle.agg_tables.specs.Visible.{IsHarmless, is_escaped, visible, visible_char};
+ghost use Rattle.peslumok_front.specs.tables.Visible.{IsHarmless, is_escaped, visible};
+ghost use Rattle.peslumok_front.specs.tables.Visible.{visible_char};
 
 use agg_values::OutOfMemory;
 use std::fmt::Write;

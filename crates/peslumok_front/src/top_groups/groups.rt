@@ -2,10 +2,12 @@
 ghost use Rattle.std.specs.Prelude.{◌≡◌, ◌≤◌, ◌++◌, ◌∷◌, [], List, OnOk, length, nat_lt, vec_len};
 ghost use Rattle.std.specs.List.{position_or_len};
 ghost use Rattle.std.specs.List.Sorted.{IsSortedBy};
-ghost use Rattle.agg_final_results.specs.declared.types.CompositeBucketEntry.{CompositeBucketEntry};
-ghost use Rattle.agg_top_groups.specs.Top.{AreTop, has_more};
+ghost use Rattle.agg_results.specs.declared.final_results.types.CompositeBucketEntry.{
+  CompositeBucketEntry,
+};
+ghost use Rattle.peslumok_front.specs.top_groups.Top.{AreTop, has_more};
 
-use agg_final_results::CompositeBucketEntry;
+use agg_results::final_results::CompositeBucketEntry;
 use agg_values::OutOfMemory;
 use std::alloc::Global;
 
@@ -15,7 +17,7 @@ use std::alloc::Global;
 pub struct TopGroups {
     /// How many there are at most.
     pub count: usize,
-    /// Those that were added and have the most documents.
+    /// Of the groups that were added, those with the most documents.
     pub groups: Vec<CompositeBucketEntry>,
     ghost few: { vec_len groups ≤ count },
 }

@@ -13,8 +13,8 @@ use Rattle.csv.specs.Writing.{row_body}
 use Rattle.csv.specs.declared.parser.State.TheVariants as st
 use Rattle.csv.proofs.RoundTrip.{field-run, plain-run, quoted-run}
 use Rattle.csv.proofs.RoundTrip.{record-same, start-same}
-use Rattle.agg_after_text.specs.After.{values_in}
-use Rattle.agg_after_text.specs.AfterCells.{IsCell}
+use Rattle.peslumok_front.specs.after_text.After.{values_in}
+use Rattle.peslumok_front.specs.after_text.AfterCells.{IsCell}
 
 -- each text is a cell
 abbrev pub AreCells : List (List ℕ) → Type 0

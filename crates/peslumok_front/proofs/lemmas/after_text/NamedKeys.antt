@@ -11,20 +11,20 @@ use Rattle.agg_values.specs.Names.{Named, put, value_of}
 use Rattle.agg_values.specs.declared.after_key.AfterKey.{AfterKey}
 use Rattle.agg_values.specs.TypedKey.{CompositeIntermediateKey}
 use Rattle.agg_request_tree.proofs.PageAfter.{value_of-put, value_of-put_other}
-use Rattle.agg_fields.specs.Types.{type_of}
-use Rattle.agg_fields.specs.declared.error.ValueError.{ValueError}
-use Rattle.agg_fields.specs.declared.field_type.FieldType.{FieldType}
-use Rattle.agg_words.specs.By.{parts}
-use Rattle.agg_words.specs.declared.by.BySpec.{BySpec}
-use Rattle.agg_grouping.specs.Sources.{column_name}
-use Rattle.agg_grouping.specs.declared.grouping.Grouping.{Grouping}
-use Rattle.agg_grouping.specs.declared.error.GroupingError.{GroupingError}
-use Rattle.agg_grouping.specs.declared.error.GroupingError.TheVariants as error
-use Rattle.agg_after_text.specs.After.{AreReadAs, HasBadValue, HaveOwnColumns, IsUnreadKey}
-use Rattle.agg_after_text.specs.After.{IsUnreadValue}
-use Rattle.agg_after_text.specs.After.{IsAfterText, IsKeyOfValues, ReadsAs, keys_by_name, values_in}
-use Rattle.agg_after_text.specs.AfterCells.{AreTextsOf}
-use Rattle.agg_after_text.proofs.CsvLine.{AreCells}
+use Rattle.peslumok_texts.specs.fields.Types.{type_of}
+use Rattle.peslumok_texts.specs.declared.fields.error.ValueError.{ValueError}
+use Rattle.peslumok_texts.specs.declared.fields.field_type.FieldType.{FieldType}
+use Rattle.peslumok_texts.specs.words.By.{parts}
+use Rattle.peslumok_texts.specs.declared.words.by.BySpec.{BySpec}
+use Rattle.peslumok_front.specs.grouping.Sources.{column_name}
+use Rattle.peslumok_front.specs.declared.grouping.grouping.Grouping.{Grouping}
+use Rattle.peslumok_front.specs.declared.grouping.error.GroupingError.{GroupingError}
+use Rattle.peslumok_front.specs.declared.grouping.error.GroupingError.TheVariants as error
+use Rattle.peslumok_front.specs.after_text.After.{AreReadAs, HasBadValue, HaveOwnColumns}
+use Rattle.peslumok_front.specs.after_text.After.{IsUnreadKey, IsUnreadValue, IsAfterText}
+use Rattle.peslumok_front.specs.after_text.After.{IsKeyOfValues, ReadsAs, keys_by_name, values_in}
+use Rattle.peslumok_front.specs.after_text.AfterCells.{AreTextsOf}
+use Rattle.peslumok_front.proofs.lemmas.after_text.CsvLine.{AreCells}
 
 -- ---- lists from a place on
 

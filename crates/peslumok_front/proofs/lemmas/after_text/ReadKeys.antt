@@ -13,18 +13,18 @@ use Rattle.agg_values.specs.declared.after_key.AfterKey.{AfterKey}
 use Rattle.agg_values.specs.declared.error.KeyTextError.{KeyTextError}
 use Rattle.agg_values.specs.declared.error.KeyTextError.TheVariants as key_error
 use Rattle.agg_values.specs.declared.error.OutOfMemory.{OutOfMemory}
-use Rattle.agg_column.specs.Document.{said_key}
-use Rattle.agg_column.specs.declared.document.FieldValue.{FieldValue}
-use Rattle.agg_fields.specs.Types.{type_of}
-use Rattle.agg_fields.specs.Values.{text_value}
-use Rattle.agg_fields.specs.declared.error.ValueError.{ValueError}
-use Rattle.agg_fields.specs.declared.error.ValueError.TheVariants as why
-use Rattle.agg_fields.specs.declared.field_type.FieldType.{FieldType}
-use Rattle.agg_words.specs.declared.by.BySpec.{BySpec}
-use Rattle.agg_grouping.specs.declared.error.GroupingError.TheVariants as refusal
-use Rattle.agg_cell_records.proofs.Marks.{mark, unmarked}
-use Rattle.agg_after_text.specs.AfterCells.{IsCell}
-use Rattle.agg_after_text.specs.After.{IsUnreadKey, IsValueKey, ReadsAs, refusal_of}
+use Rattle.agg_segment.specs.storage.Document.{said_key}
+use Rattle.agg_segment.specs.declared.storage.document.FieldValue.{FieldValue}
+use Rattle.peslumok_texts.specs.fields.Types.{type_of}
+use Rattle.peslumok_texts.specs.fields.Values.{text_value}
+use Rattle.peslumok_texts.specs.declared.fields.error.ValueError.{ValueError}
+use Rattle.peslumok_texts.specs.declared.fields.error.ValueError.TheVariants as why
+use Rattle.peslumok_texts.specs.declared.fields.field_type.FieldType.{FieldType}
+use Rattle.peslumok_texts.specs.declared.words.by.BySpec.{BySpec}
+use Rattle.peslumok_front.specs.declared.grouping.error.GroupingError.TheVariants as refusal
+use Rattle.peslumok_records.proofs.lemmas.cells.Marks.{mark, unmarked}
+use Rattle.peslumok_front.specs.after_text.AfterCells.{IsCell}
+use Rattle.peslumok_front.specs.after_text.After.{IsUnreadKey, IsValueKey, ReadsAs, refusal_of}
 
 -- a reading finds each key that a text has with its kind in front
 abbrev pub FindsEach : List ℕ → Option AfterKey → Type 0

@@ -13,19 +13,19 @@ use Rattle.agg_values.specs.TypedKey.{CompositeIntermediateKey}
 use Rattle.agg_values.specs.TypedKey.key.{Bool as Truth, Str, I64, U64, DateTime, IpAddr, Null}
 use Rattle.agg_values.specs.declared.after_key.AfterKey.{AfterKey}
 use Rattle.agg_values.specs.declared.error.OutOfMemory.{OutOfMemory}
-use Rattle.agg_fields.specs.Types.{type_of}
-use Rattle.agg_fields.specs.declared.field_type.FieldType.{FieldType}
-use Rattle.agg_words.specs.By.{parts}
-use Rattle.agg_words.specs.declared.by.BySpec.{BySpec}
-use Rattle.agg_grouping.specs.Sources.{column_name}
-use Rattle.agg_grouping.specs.declared.grouping.Grouping.{Grouping}
-use Rattle.agg_after_text.specs.After.{HaveOwnColumns, IsAfterText, NamesFirst, ReadsAs}
-use Rattle.agg_after_text.specs.After.{keys_by_name}
-use Rattle.agg_after_text.specs.AfterCells.{AreTextsOf, IsCell}
-use Rattle.agg_after_text.proofs.CsvLine.{line-reads}
-use Rattle.agg_after_text.proofs.NamedKeys.{drop-all, drop-get, drop-none, key-there, texts-cells}
-use Rattle.agg_after_text.proofs.NamedKeys.{texts-end}
-use Rattle.agg_after_text.proofs.NamedKeys.{texts-read}
+use Rattle.peslumok_texts.specs.fields.Types.{type_of}
+use Rattle.peslumok_texts.specs.declared.fields.field_type.FieldType.{FieldType}
+use Rattle.peslumok_texts.specs.words.By.{parts}
+use Rattle.peslumok_texts.specs.declared.words.by.BySpec.{BySpec}
+use Rattle.peslumok_front.specs.grouping.Sources.{column_name}
+use Rattle.peslumok_front.specs.declared.grouping.grouping.Grouping.{Grouping}
+use Rattle.peslumok_front.specs.after_text.After.{HaveOwnColumns, IsAfterText, NamesFirst, ReadsAs}
+use Rattle.peslumok_front.specs.after_text.After.{keys_by_name}
+use Rattle.peslumok_front.specs.after_text.AfterCells.{AreTextsOf, IsCell}
+use Rattle.peslumok_front.proofs.lemmas.after_text.CsvLine.{line-reads}
+use Rattle.peslumok_front.proofs.lemmas.after_text.NamedKeys.{drop-all, drop-get, drop-none}
+use Rattle.peslumok_front.proofs.lemmas.after_text.NamedKeys.{key-there, texts-cells, texts-end}
+use Rattle.peslumok_front.proofs.lemmas.after_text.NamedKeys.{texts-read}
 
 -- a text with its kind in front is a cell
 pub kind-first : (key : CompositeIntermediateKey) → IsCell (key_text key)

@@ -8,11 +8,11 @@ use Rattle.std.specs.Ordering.{ordering_reverse}
 use Rattle.std.proofs.lemmas.Cmp.{nat_list_cmp_total}
 use Rattle.std.proofs.lemmas.List.{map-append}
 use Rattle.agg_values.specs.Names.{Named, name_cmp}
-use Rattle.agg_fields.specs.declared.field_type.FieldType.{FieldType}
-use Rattle.agg_held_records.specs.Asked.{Asks, IsAsked, StandsLast}
-use Rattle.agg_held_records.specs.declared.asked.AskedField.{AskedField}
+use Rattle.peslumok_texts.specs.declared.fields.field_type.FieldType.{FieldType}
+use Rattle.peslumok_records.specs.held.Asked.{Asks, IsAsked, StandsLast}
+use Rattle.peslumok_records.specs.declared.held.asked.AskedField.{AskedField}
 use Rattle.agg_engine.proofs.AscendingKeys.{below-before}
-use Rattle.agg_front.specs.Asking.{named_type}
+use Rattle.peslumok_front.specs.front.Asking.{named_type}
 
 -- no name is below itself
 not-below : (name other : List ℕ) → other ≡ name → name_cmp other name ≡ Less → ⊥

@@ -6,7 +6,7 @@ use Rattle.std.specs.Prelude.{All, Any, IsSome, codes}
 use Rattle.agg_values.specs.declared.request_error.AggregationError.TheVariants as aggregation
 use Rattle.agg_values.specs.declared.request_error.RequestError.{RequestError}
 use Rattle.agg_values.specs.declared.request_error.RequestError.TheVariants as refusal
-use Rattle.agg_column.specs.Document.{Fields}
+use Rattle.agg_segment.specs.storage.Document.{Fields}
 use Rattle.agg_segment.specs.Query.{matches}
 use Rattle.agg_segment.specs.Snapshot.{SnapshotDocuments}
 use Rattle.agg_segment.specs.declared.query.QueryTree.{QueryTree}
@@ -15,31 +15,31 @@ use Rattle.agg_request_tree.specs.Matching.{built_matches}
 use Rattle.agg_request_tree.specs.Ranges.{HasOwnStartOutOfRange, HasStartOutOfRange}
 use Rattle.agg_request_tree.specs.Request.{Request, with_builders}
 use Rattle.agg_request_tree.specs.Uncut.{CountsTooMany}
-use Rattle.agg_segment_context.specs.Pages.{request_at_size, with_size}
-use Rattle.agg_segment_context.specs.Trees.{built_tree}
-use Rattle.agg_collectors.proofs.BuiltLists.{lists-built}
-use Rattle.agg_collectors.proofs.BuiltPages.{built-changed}
-use Rattle.agg_collectors.proofs.BuiltTrees.{tree-matches}
+use Rattle.agg_engine_tree.specs.segment_context.Pages.{request_at_size, with_size}
+use Rattle.agg_engine_tree.specs.segment_context.Trees.{built_tree}
+use Rattle.agg_engine.proofs.lemmas.collectors.BuiltLists.{lists-built}
+use Rattle.agg_engine.proofs.lemmas.collectors.BuiltPages.{built-changed}
+use Rattle.agg_engine.proofs.lemmas.collectors.BuiltTrees.{tree-matches}
 use Rattle.agg_cache.specs.Limits.{Limits}
-use Rattle.agg_snapshot.specs.MemoryLimits.{TellsMemory}
+use Rattle.agg_engine.specs.snapshot_results.MemoryLimits.{TellsMemory}
 use Rattle.agg_engine.specs.Refusals.{HasCause, MayBeCounted, MayBeRefused, MayRefuse}
 use Rattle.agg_engine.specs.Walk.{MayBeAsked, matching_among}
 use Rattle.agg_engine.specs.declared.walk.error.WalkError.{WalkError}
 use Rattle.agg_engine.specs.declared.walk.error.WalkError.TheVariants as error
 use Rattle.agg_engine.proofs.BuiltCounts.{composites-built}
 use Rattle.agg_engine.proofs.BuiltRoofs.{low_roof-built, roof-built}
-use Rattle.agg_grouping.specs.Request.{HasNoRequest, IsRequestOf}
-use Rattle.agg_grouping.specs.declared.error.GroupingError.{GroupingError}
-use Rattle.agg_grouping.specs.declared.grouping.Grouping.{Grouping}
-use Rattle.agg_grouping.specs.declared.request.Page.{Page}
-use Rattle.agg_grouping.proofs.NoBuilders.{request-none}
-use Rattle.agg_record_index.specs.Index.{AreOneOf}
-use Rattle.agg_front.specs.Causes.{HasNoPage, IsPageRefused, limits_of_people}
-use Rattle.agg_front.specs.Codes.{failure_of_grouping, failure_of_walk}
-use Rattle.agg_front.proofs.BuiltRequests.{request-built}
-use Rattle.agg_front.proofs.BuiltWalks.{results-built, size-built}
-use Rattle.agg_front.proofs.Failures.{of-grouping, of-walk}
-use Rattle.agg_front.proofs.ShownKeys.{groups-named}
+use Rattle.peslumok_front.specs.grouping.Request.{HasNoRequest, IsRequestOf}
+use Rattle.peslumok_front.specs.declared.grouping.error.GroupingError.{GroupingError}
+use Rattle.peslumok_front.specs.declared.grouping.grouping.Grouping.{Grouping}
+use Rattle.peslumok_front.specs.declared.grouping.request.Page.{Page}
+use Rattle.peslumok_front.proofs.lemmas.grouping.NoBuilders.{request-none}
+use Rattle.peslumok_records.specs.record_index.Index.{AreOneOf}
+use Rattle.peslumok_front.specs.front.Causes.{HasNoPage, IsPageRefused, limits_of_people}
+use Rattle.peslumok_front.specs.front.Codes.{failure_of_grouping, failure_of_walk}
+use Rattle.peslumok_front.proofs.lemmas.front.BuiltRequests.{request-built}
+use Rattle.peslumok_front.proofs.lemmas.front.BuiltWalks.{results-built, size-built}
+use Rattle.peslumok_front.proofs.lemmas.front.Failures.{of-grouping, of-walk}
+use Rattle.peslumok_front.proofs.lemmas.front.ShownKeys.{groups-named}
 
 -- what holds of some element of one holds of that
 of-one : {X : Type 0} (P : X → Type 0) (x : X) → Any P (x ∷ []) → P x
@@ -221,7 +221,7 @@ no-walk query_for grouping query page request snapshots documents name limits wh
     (λ error. page-refused query_for grouping query page request snapshots documents name limits
     error named most asked one) why
 
--- nor is there one where it has no request
+-- there is no page where there is no request
 pub no-request : (grouping : Grouping) (query : QueryTree) (page : Page) (documents : List Fields)
     (why : GroupingError) → HasNoRequest grouping why
     → HasNoPage grouping query documents page (failure_of_grouping why)

@@ -14,20 +14,21 @@ use Rattle.agg_request_tree.specs.Request.{with_builders, with_builders_in, with
 use Rattle.agg_request_tree.specs.declared.aggregation.Aggregation.{Aggregation}
 use Rattle.agg_request_tree.proofs.Lists.{Contains-map}
 use Rattle.agg_request_tree.proofs.RequestTrees.{agg-made, below-made}
-use Rattle.agg_segment_context.specs.Trees.{built_tree}
-use Rattle.agg_segment_context.proofs.Built.{agg-built, below-built, built-out}
-use Rattle.agg_collectors.proofs.BuiltTrees.{tree-matches}
-use Rattle.agg_final_results.specs.declared.types.AggregationResults.{AggregationResults}
+use Rattle.agg_engine_tree.specs.segment_context.Trees.{built_tree}
+use Rattle.agg_engine_tree.proofs.lemmas.segment_context.Built.{agg-built, below-built, built-out}
+use Rattle.agg_engine.proofs.lemmas.collectors.BuiltTrees.{tree-matches}
+use Rattle.agg_results.specs.declared.final_results.types.AggregationResults.{AggregationResults}
 use Rattle.agg_engine.specs.Walk.{IsWalk}
-use Rattle.agg_words.specs.declared.metric.Metric.{Metric}
-use Rattle.agg_words.specs.declared.metric.MetricKind.{MetricKind}
-use Rattle.agg_words.specs.declared.metric.MetricKind.TheVariants as kind
-use Rattle.agg_grouping.specs.Request.{AreGroupsOf, AreMetricsOf, AreTotals, IsRequestOf, IsTotalOf}
-use Rattle.agg_grouping.specs.Request.{metric_asked, metric_name, named_metric, of_kind}
-use Rattle.agg_grouping.specs.declared.grouping.Grouping.{Grouping}
-use Rattle.agg_grouping.specs.declared.request.Page.{Page}
-use Rattle.agg_front.specs.Pages.{IsPageWalk}
-use Rattle.agg_front.proofs.BuiltWalks.{walk-built}
+use Rattle.peslumok_texts.specs.declared.words.metric.Metric.{Metric}
+use Rattle.peslumok_texts.specs.declared.words.metric.MetricKind.{MetricKind}
+use Rattle.peslumok_texts.specs.declared.words.metric.MetricKind.TheVariants as kind
+use Rattle.peslumok_front.specs.grouping.Request.{AreGroupsOf, AreMetricsOf, AreTotals, IsRequestOf}
+use Rattle.peslumok_front.specs.grouping.Request.{IsTotalOf, metric_asked, metric_name}
+use Rattle.peslumok_front.specs.grouping.Request.{named_metric, of_kind}
+use Rattle.peslumok_front.specs.declared.grouping.grouping.Grouping.{Grouping}
+use Rattle.peslumok_front.specs.declared.grouping.request.Page.{Page}
+use Rattle.peslumok_front.specs.front.Pages.{IsPageWalk}
+use Rattle.peslumok_front.proofs.lemmas.front.BuiltWalks.{walk-built}
 
 -- what holds of each that is mapped holds of all of the map
 all-mapped : {X Y : Type 0} (P : Y → Type 0) (f : X → Y) (xs : List X) → All (λ x. P (f x)) xs

@@ -3,7 +3,7 @@ use Rattle.std.proofs.Common.{◌≡◌, ℕ, zero, suc, List, [], ◌∷◌, Bo
 use Rattle.std.specs.List.{AllZip}
 use Rattle.agg_values.specs.Names.{Named}
 use Rattle.agg_values.specs.declared.after_key.AfterKey.{AfterKey}
-use Rattle.agg_column.specs.Document.{Fields}
+use Rattle.agg_segment.specs.storage.Document.{Fields}
 use Rattle.agg_segment.specs.Query.{matches}
 use Rattle.agg_segment.specs.Snapshot.{SnapshotDocuments}
 use Rattle.agg_segment.specs.declared.query.QueryTree.{QueryTree}
@@ -13,13 +13,14 @@ use Rattle.agg_request_tree.specs.declared.aggregation.Aggregation.{Aggregation}
 use Rattle.agg_request_tree.specs.declared.aggregation.AggregationVariants as variants
 use variants.{AggregationVariants}
 use variants.TheVariants.{Filter, Composite, Count, Max, Min, Sum}
-use Rattle.agg_segment_context.specs.Pages.{request_after, request_at_size, with_after, with_size}
-use Rattle.agg_segment_context.proofs.Built.{agg-built, below-built}
-use Rattle.agg_collectors.proofs.BuiltPages.{built-changed}
-use Rattle.agg_collectors.proofs.BuiltRequests.{same-matching}
-use Rattle.agg_final_results.specs.declared.types.AggregationResult.{AggregationResult}
-use Rattle.agg_final_results.specs.declared.types.AggregationResults.{AggregationResults}
-use Rattle.agg_intermediate_results.specs.Shown.{Results}
+use Rattle.agg_engine_tree.specs.segment_context.Pages.{request_after, request_at_size, with_after}
+use Rattle.agg_engine_tree.specs.segment_context.Pages.{with_size}
+use Rattle.agg_engine_tree.proofs.lemmas.segment_context.Built.{agg-built, below-built}
+use Rattle.agg_engine.proofs.lemmas.collectors.BuiltPages.{built-changed}
+use Rattle.agg_engine.proofs.lemmas.collectors.BuiltRequests.{same-matching}
+use Rattle.agg_results.specs.declared.final_results.types.AggregationResult.{AggregationResult}
+use Rattle.agg_results.specs.declared.final_results.types.AggregationResults.{AggregationResults}
+use Rattle.agg_results.specs.intermediate_results.Shown.{Results}
 use Rattle.agg_results.specs.Results.{AreResults, EachHas, IsBucket, IsFilterShown, IsResult}
 use Rattle.agg_results.specs.Results.{IsResultTo}
 use Rattle.agg_engine.specs.Walk.{IfFull, IsWalk, after_in, matching_documents}

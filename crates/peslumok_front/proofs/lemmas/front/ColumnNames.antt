@@ -10,9 +10,9 @@ use Rattle.std.proofs.lemmas.Bool.{cases_Bool, false≢true}
 use Rattle.std.proofs.lemmas.List.{take_all, take_more}
 use Rattle.std.proofs.lemmas.List.Quantifiers.{all_pairs_push}
 use Rattle.std.proofs.lemmas.Slice.Eq.{bytes_eq-Decides}
-use Rattle.agg_tables.specs.Columns.{header_of}
-use Rattle.agg_tables.specs.declared.columns.Column.{Column}
-use Rattle.agg_front.specs.Columns.{HaveOwnHeaders, ShareHeader, has_header}
+use Rattle.peslumok_front.specs.tables.Columns.{header_of}
+use Rattle.peslumok_front.specs.declared.tables.columns.Column.{Column}
+use Rattle.peslumok_front.specs.front.Columns.{HaveOwnHeaders, ShareHeader, has_header}
 
 -- what a list has at a place
 pub get-at : (columns : List Column) (i : ℕ) (column : Column) → i < length columns

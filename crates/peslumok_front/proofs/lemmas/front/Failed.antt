@@ -1,18 +1,18 @@
 -- Why what is asked of files fails, by why a part of it does.
 use Rattle.std.proofs.Common.{ℕ, List, inl, inr}
-use Rattle.agg_column.specs.Document.{Fields}
+use Rattle.agg_segment.specs.storage.Document.{Fields}
 use Rattle.agg_segment.specs.declared.query.QueryTree.{QueryTree}
-use Rattle.agg_grouping.specs.Query.{HasNoQuery, IsQueryOf}
-use Rattle.agg_grouping.specs.declared.error.GroupingError.{GroupingError}
-use Rattle.agg_front.specs.Answer.{AreRead}
-use Rattle.agg_front.specs.Causes.{HasFailed, HasNoText, HaveNoRecords}
-use Rattle.agg_front.specs.Codes.{failure_of_grouping}
-use Rattle.agg_front.specs.Files.{AreUnreadable}
-use Rattle.agg_front.specs.declared.asked.Asked.{Asked}
-use Rattle.agg_front.specs.declared.asked.RecordFile.{RecordFile}
-use Rattle.agg_front.specs.declared.failure.Failure.{Failure}
-use Rattle.agg_front.specs.declared.failure.Failure.TheVariants as failure
-use Rattle.agg_front.proofs.Failures.{of-grouping}
+use Rattle.peslumok_front.specs.grouping.Query.{HasNoQuery, IsQueryOf}
+use Rattle.peslumok_front.specs.declared.grouping.error.GroupingError.{GroupingError}
+use Rattle.peslumok_front.specs.front.Answer.{AreRead}
+use Rattle.peslumok_front.specs.front.Causes.{HasFailed, HasNoText, HaveNoRecords}
+use Rattle.peslumok_front.specs.front.Codes.{failure_of_grouping}
+use Rattle.peslumok_front.specs.front.Files.{AreUnreadable}
+use Rattle.peslumok_front.specs.declared.front.asked.Asked.{Asked}
+use Rattle.peslumok_front.specs.declared.front.asked.RecordFile.{RecordFile}
+use Rattle.peslumok_front.specs.declared.front.failure.Failure.{Failure}
+use Rattle.peslumok_front.specs.declared.front.failure.Failure.TheVariants as failure
+use Rattle.peslumok_front.proofs.lemmas.front.Failures.{of-grouping}
 
 -- files that can't be read give no records
 pub no-records : (files : List RecordFile) (why : Failure) → AreUnreadable files why

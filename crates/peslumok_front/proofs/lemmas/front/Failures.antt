@@ -1,11 +1,11 @@
 -- Failures that errors become.
 use Rattle.agg_engine.specs.declared.walk.error.WalkError.{WalkError}
 use Rattle.agg_engine.specs.declared.walk.error.WalkError.TheVariants as walk
-use Rattle.agg_grouping.specs.declared.error.GroupingError.{GroupingError}
-use Rattle.agg_grouping.specs.declared.error.GroupingError.TheVariants as grouping
-use Rattle.agg_front.specs.Codes.{failure_of_grouping, failure_of_walk}
-use Rattle.agg_front.specs.declared.failure.Failure.{Failure}
-use Rattle.agg_front.specs.declared.failure.Failure.TheVariants as failure
+use Rattle.peslumok_front.specs.declared.grouping.error.GroupingError.{GroupingError}
+use Rattle.peslumok_front.specs.declared.grouping.error.GroupingError.TheVariants as grouping
+use Rattle.peslumok_front.specs.front.Codes.{failure_of_grouping, failure_of_walk}
+use Rattle.peslumok_front.specs.declared.front.failure.Failure.{Failure}
+use Rattle.peslumok_front.specs.declared.front.failure.Failure.TheVariants as failure
 
 -- a cause of an error is one of its failure, if it is one of that of its kind
 pub of-grouping : (Has : GroupingError → Type 0) (Fails : Failure → Type 0)
@@ -19,7 +19,7 @@ of-grouping Has Fails memory usage (grouping.AfterValue field why) has = usage _
 of-grouping Has Fails memory usage (grouping.ExtraValue text) has = usage _ has
 of-grouping Has Fails memory usage (grouping.TwoTypes field) has = usage _ has
 
--- the same of a refused walk
+-- a cause of an error of a walk is one of its failure, if it is one of that of its kind
 pub of-walk : (Has : WalkError → Type 0) (Fails : Failure → Type 0)
     → Fails failure.OutOfMemory → ((why : WalkError) → Has why → Fails (failure.Refused why))
     → (error : WalkError) → Has error → Fails (failure_of_walk error)

@@ -1,10 +1,10 @@
 -- The documents of files, one file more.
 use Rattle.std.proofs.Common.{◌≡◌, ◌++◌, ◌∷◌, ◌∙◌, [], List, ap, append_assoc, append-nil, refl}
 use Rattle.std.proofs.Common.{sym}
-use Rattle.agg_column.specs.Document.{Fields}
-use Rattle.agg_held_records.specs.declared.asked.AskedField.{AskedField}
-use Rattle.agg_front.specs.Files.{AreDocumentsOfFile, AreDocumentsOfFiles}
-use Rattle.agg_front.specs.declared.asked.RecordFile.{RecordFile}
+use Rattle.agg_segment.specs.storage.Document.{Fields}
+use Rattle.peslumok_records.specs.declared.held.asked.AskedField.{AskedField}
+use Rattle.peslumok_front.specs.front.Files.{AreDocumentsOfFile, AreDocumentsOfFiles}
+use Rattle.peslumok_front.specs.declared.front.asked.RecordFile.{RecordFile}
 
 -- the documents of one file more stand after those of the files before
 pub file-more : (asked : List AskedField) (files : List RecordFile) (file : RecordFile)

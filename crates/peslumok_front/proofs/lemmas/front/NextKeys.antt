@@ -4,15 +4,16 @@ use Rattle.std.proofs.Common.{ap, arith, get_or, length, length-append, map, ref
 use Rattle.std.proofs.lemmas.List.{length-map}
 use Rattle.agg_values.specs.Names.{Named}
 use Rattle.agg_values.specs.declared.after_key.AfterKey.{AfterKey}
-use Rattle.agg_fields.specs.declared.field_type.FieldType.{FieldType}
-use Rattle.agg_tables.specs.Columns.{header_of}
-use Rattle.agg_tables.specs.declared.columns.Column.{Column}
-use Rattle.agg_tables.specs.declared.columns.Column.TheVariants.{Count}
-use Rattle.agg_words.specs.declared.by.BySpec.{BySpec}
-use Rattle.agg_grouping.specs.declared.grouping.Grouping.{Grouping}
-use Rattle.agg_after_text.specs.After.{HaveOwnColumns, NamesFirst}
-use Rattle.agg_front.specs.Answer.{TellsKey, TellsNext}
-use Rattle.agg_front.specs.Columns.{HaveOwnHeaders, columns_asked, key_column, metric_column}
+use Rattle.peslumok_texts.specs.declared.fields.field_type.FieldType.{FieldType}
+use Rattle.peslumok_front.specs.tables.Columns.{header_of}
+use Rattle.peslumok_front.specs.declared.tables.columns.Column.{Column}
+use Rattle.peslumok_front.specs.declared.tables.columns.Column.TheVariants.{Count}
+use Rattle.peslumok_texts.specs.declared.words.by.BySpec.{BySpec}
+use Rattle.peslumok_front.specs.declared.grouping.grouping.Grouping.{Grouping}
+use Rattle.peslumok_front.specs.after_text.After.{HaveOwnColumns, NamesFirst}
+use Rattle.peslumok_front.specs.front.Answer.{TellsKey, TellsNext}
+use Rattle.peslumok_front.specs.front.Columns.{HaveOwnHeaders, columns_asked, key_column}
+use Rattle.peslumok_front.specs.front.Columns.{metric_column}
 
 at-source : (types : Named FieldType) (by : List BySpec) (rest : List Column) (i : ℕ) (d : BySpec)
     → i < length by

@@ -2,14 +2,14 @@
 use Rattle.std.proofs.Common.{◌≡◌, ◌≤◌, ℕ, List, arith, inl, subst}
 use Rattle.agg_values.specs.Names.{Named}
 use Rattle.agg_values.specs.declared.after_key.AfterKey.{AfterKey}
-use Rattle.agg_column.specs.Document.{Fields}
+use Rattle.agg_segment.specs.storage.Document.{Fields}
 use Rattle.agg_segment.specs.declared.query.QueryTree.{QueryTree}
 use Rattle.agg_streams.specs.Causes.{Rose}
-use Rattle.agg_front.specs.Causes.{HasNoPage, HasNoText, IsPageRefused, IsUnwritten}
-use Rattle.agg_front.specs.Pages.{room_of}
-use Rattle.agg_front.specs.declared.asked.Asked.{Asked}
-use Rattle.agg_front.specs.declared.failure.Failure.{Failure}
-use Rattle.agg_front.specs.declared.failure.Failure.TheVariants as failure
+use Rattle.peslumok_front.specs.front.Causes.{HasNoPage, HasNoText, IsPageRefused, IsUnwritten}
+use Rattle.peslumok_front.specs.front.Pages.{room_of}
+use Rattle.peslumok_front.specs.declared.front.asked.Asked.{Asked}
+use Rattle.peslumok_front.specs.declared.front.failure.Failure.{Failure}
+use Rattle.peslumok_front.specs.declared.front.failure.Failure.TheVariants as failure
 
 module _ (asked : Asked) (query : QueryTree) (documents : List Fields)
     (SinkFailed : Type 0) where

@@ -4,20 +4,20 @@ use Rattle.std.proofs.Common.{append-nil, get_or, refl, subst, sym, ap, true}
 use Rattle.std.specs.Prelude.{codes}
 use Rattle.agg_values.specs.Names.{Named}
 use Rattle.agg_values.specs.declared.after_key.AfterKey.{AfterKey}
-use Rattle.agg_column.specs.Document.{Fields}
+use Rattle.agg_segment.specs.storage.Document.{Fields}
 use Rattle.agg_segment.specs.Query.{matches}
 use Rattle.agg_segment.specs.Snapshot.{SnapshotDocuments, snapshots_documents}
 use Rattle.agg_segment.specs.declared.query.QueryTree.{QueryTree}
 use Rattle.agg_segment.specs.declared.snapshot.Snapshot.{Snapshot}
-use Rattle.agg_segment_context.specs.Pages.{request_after, request_at_size}
+use Rattle.agg_engine_tree.specs.segment_context.Pages.{request_after, request_at_size}
 use Rattle.agg_request_tree.specs.Request.{Request}
-use Rattle.agg_final_results.specs.declared.types.AggregationResults.{AggregationResults}
+use Rattle.agg_results.specs.declared.final_results.types.AggregationResults.{AggregationResults}
 use Rattle.agg_results.specs.Results.{AreResults}
 use Rattle.agg_engine.specs.Walk.{IfFull, IsWalk, after_in, documents_in}
-use Rattle.agg_grouping.specs.declared.grouping.Grouping.{Grouping}
-use Rattle.agg_grouping.specs.declared.request.Page.{Page}
-use Rattle.agg_record_index.specs.Index.{AreOneOf}
-use Rattle.agg_front.specs.Pages.{IsPageOf, IsPageWalk, snapshot_of}
+use Rattle.peslumok_front.specs.declared.grouping.grouping.Grouping.{Grouping}
+use Rattle.peslumok_front.specs.declared.grouping.request.Page.{Page}
+use Rattle.peslumok_records.specs.record_index.Index.{AreOneOf}
+use Rattle.peslumok_front.specs.front.Pages.{IsPageOf, IsPageWalk, snapshot_of}
 
 -- no page stands after that of the last snapshot
 no-more : (request : Request QueryTree) (query : QueryTree) (after : Named AfterKey)

@@ -7,8 +7,8 @@ use Rattle.std.proofs.lemmas.Bool.{cases_Bool}
 use Rattle.std.proofs.lemmas.Map.Lookups.{exact_bytes}
 use Rattle.agg_values.specs.Names.{Named, name_cmp, value_of, without}
 use Rattle.agg_request_tree.proofs.PageFromGroups.{equal-from_is_eq}
-use Rattle.agg_final_results.specs.declared.types.AggregationResult.{AggregationResult}
-use Rattle.agg_front.specs.Written.{filtered_of_result}
+use Rattle.agg_results.specs.declared.final_results.types.AggregationResult.{AggregationResult}
+use Rattle.peslumok_front.specs.front.Written.{filtered_of_result}
 
 module _ {T : Type 0} (name other : List ℕ)
     (apart : (k : List ℕ) → is_at (name_cmp name) k ≡ true → is_at (name_cmp other) k ≡ false) where

@@ -7,17 +7,17 @@ use Rattle.std.specs.Prelude.{MatchBool}
 use Rattle.std.proofs.lemmas.Bool.Decides.{eqb_tells}
 use Rattle.agg_values.specs.Names.{Named}
 use Rattle.agg_values.specs.declared.after_key.AfterKey.{AfterKey}
-use Rattle.agg_column.specs.Document.{Fields}
+use Rattle.agg_segment.specs.storage.Document.{Fields}
 use Rattle.agg_segment.specs.declared.query.QueryTree.{QueryTree}
-use Rattle.agg_final_results.specs.declared.types.AggregationResults.{AggregationResults}
-use Rattle.agg_grouping.specs.declared.grouping.Grouping.{Grouping}
-use Rattle.agg_tables.specs.declared.columns.Column.{Column}
-use Rattle.agg_tables.specs.declared.output.OutputFormat.{OutputFormat}
-use Rattle.agg_front.specs.Answer.{AreWritten}
-use Rattle.agg_front.specs.Pages.{ArePages, IsPageOf, is_end, is_last, last_after, next_after}
-use Rattle.agg_front.specs.Pages.{room_of}
-use Rattle.agg_front.specs.Written.{IsPageText, IsTextOf, ends}
-use Rattle.agg_front.specs.declared.asked.Pages.{Pages}
+use Rattle.agg_results.specs.declared.final_results.types.AggregationResults.{AggregationResults}
+use Rattle.peslumok_front.specs.declared.grouping.grouping.Grouping.{Grouping}
+use Rattle.peslumok_front.specs.declared.tables.columns.Column.{Column}
+use Rattle.peslumok_front.specs.declared.tables.output.OutputFormat.{OutputFormat}
+use Rattle.peslumok_front.specs.front.Answer.{AreWritten}
+use Rattle.peslumok_front.specs.front.Pages.{ArePages, IsPageOf, is_end, is_last, last_after}
+use Rattle.peslumok_front.specs.front.Pages.{next_after, room_of}
+use Rattle.peslumok_front.specs.front.Written.{IsPageText, IsTextOf, ends}
+use Rattle.peslumok_front.specs.declared.front.asked.Pages.{Pages}
 
 module _ (grouping : Grouping) (query : QueryTree) (documents : List Fields) (asked : Pages)
     (format : OutputFormat) (columns : List Column) where

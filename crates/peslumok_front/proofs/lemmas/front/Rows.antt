@@ -4,10 +4,12 @@ use Rattle.std.proofs.Common.{get_or, length, sym, take}
 use Rattle.std.specs.List.{AllZip}
 use Rattle.std.proofs.lemmas.List.{take_more}
 use Rattle.std.proofs.lemmas.Slice.Zip.{all_zipped_more}
-use Rattle.agg_final_results.specs.declared.types.CompositeBucketEntry.{CompositeBucketEntry}
-use Rattle.agg_tables.specs.declared.columns.Column.{Column}
-use Rattle.agg_tables.specs.declared.row.Row.{Row}
-use Rattle.agg_front.specs.Written.{IsGroupRow}
+use Rattle.agg_results.specs.declared.final_results.types.CompositeBucketEntry.{
+  CompositeBucketEntry,
+}
+use Rattle.peslumok_front.specs.declared.tables.columns.Column.{Column}
+use Rattle.peslumok_front.specs.declared.tables.row.Row.{Row}
+use Rattle.peslumok_front.specs.front.Written.{IsGroupRow}
 
 -- the row of one group more
 pub group-more : (columns : List Column) (groups : List CompositeBucketEntry) (index : ℕ)

@@ -6,7 +6,7 @@ use Rattle.agg_values.specs.Names.{Named, put, value_of}
 use Rattle.agg_values.specs.Tuple.{KeyTuple}
 use Rattle.agg_values.specs.TypedKey.{CompositeIntermediateKey}
 use Rattle.agg_values.specs.declared.after_key.AfterKey.{AfterKey}
-use Rattle.agg_column.specs.Document.{Fields}
+use Rattle.agg_segment.specs.storage.Document.{Fields}
 use Rattle.agg_segment.specs.Query.{matches}
 use Rattle.agg_segment.specs.declared.query.QueryTree.{QueryTree}
 use Rattle.agg_request_tree.specs.BySource.{after_map}
@@ -14,24 +14,25 @@ use Rattle.agg_request_tree.specs.Request.{Request, agg_of}
 use Rattle.agg_request_tree.specs.Source.{Sources}
 use Rattle.agg_request_tree.specs.declared.aggregation.Aggregation.{Aggregation}
 use Rattle.agg_request_tree.specs.declared.aggregation.CompositeAggregation.{CompositeAggregation}
-use Rattle.agg_fields.specs.declared.field_type.FieldType.{FieldType}
-use Rattle.agg_segment_context.specs.Pages.{request_at_size, with_size}
-use Rattle.agg_final_results.specs.declared.types.AggregationResults.{AggregationResults}
-use Rattle.agg_intermediate_results.specs.Shown.{shown_after}
+use Rattle.peslumok_texts.specs.declared.fields.field_type.FieldType.{FieldType}
+use Rattle.agg_engine_tree.specs.segment_context.Pages.{request_at_size, with_size}
+use Rattle.agg_results.specs.declared.final_results.types.AggregationResults.{AggregationResults}
+use Rattle.agg_results.specs.intermediate_results.Shown.{shown_after}
 use Rattle.agg_results.specs.Results.{after_tuple}
 use Rattle.agg_engine.specs.NamedComposite.{IsCompositeNamed}
 use Rattle.agg_engine.specs.Walk.{matching_documents}
 use Rattle.agg_engine.proofs.NamedPlaces.{named-changed}
 use Rattle.agg_engine.proofs.PageShown.{page_shown}
-use Rattle.agg_words.specs.By.{parts}
-use Rattle.agg_words.specs.declared.by.BySpec.{BySpec}
-use Rattle.agg_grouping.specs.Request.{IsRequestOf}
-use Rattle.agg_grouping.specs.Sources.{source_asked}
-use Rattle.agg_grouping.specs.declared.grouping.Grouping.{Grouping}
-use Rattle.agg_grouping.specs.declared.request.Page.{Page}
-use Rattle.agg_grouping.proofs.AskedSources.{called-as_column}
-use Rattle.agg_after_text.specs.After.{NamesFirst, keys_by_name}
-use Rattle.agg_front.specs.Pages.{ArePages, IsPageOf, is_last, last_after, next_after, snapshot_of}
+use Rattle.peslumok_texts.specs.words.By.{parts}
+use Rattle.peslumok_texts.specs.declared.words.by.BySpec.{BySpec}
+use Rattle.peslumok_front.specs.grouping.Request.{IsRequestOf}
+use Rattle.peslumok_front.specs.grouping.Sources.{source_asked}
+use Rattle.peslumok_front.specs.declared.grouping.grouping.Grouping.{Grouping}
+use Rattle.peslumok_front.specs.declared.grouping.request.Page.{Page}
+use Rattle.peslumok_front.proofs.lemmas.grouping.AskedSources.{called-as_column}
+use Rattle.peslumok_front.specs.after_text.After.{NamesFirst, keys_by_name}
+use Rattle.peslumok_front.specs.front.Pages.{ArePages, IsPageOf, is_last, last_after, next_after}
+use Rattle.peslumok_front.specs.front.Pages.{snapshot_of}
 
 abbrev after_key : CompositeIntermediateKey → AfterKey
 after_key key = record { 0 = key }

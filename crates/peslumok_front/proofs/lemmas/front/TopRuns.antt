@@ -7,16 +7,18 @@ use Rattle.std.specs.Option.{option_and_then}
 use Rattle.std.proofs.lemmas.Grind.{flat_map-append}
 use Rattle.agg_values.specs.Names.{Named}
 use Rattle.agg_values.specs.declared.after_key.AfterKey.{AfterKey}
-use Rattle.agg_column.specs.Document.{Fields}
+use Rattle.agg_segment.specs.storage.Document.{Fields}
 use Rattle.agg_segment.specs.declared.query.QueryTree.{QueryTree}
-use Rattle.agg_final_results.specs.declared.types.AggregationResults.{AggregationResults}
-use Rattle.agg_final_results.specs.declared.types.CompositeBucketEntry.{CompositeBucketEntry}
-use Rattle.agg_final_results.specs.declared.types.FilterBucketResult.{FilterBucketResult}
-use Rattle.agg_grouping.specs.declared.grouping.Grouping.{Grouping}
-use Rattle.agg_front.specs.Answer.{HasMost}
-use Rattle.agg_front.specs.Pages.{ArePages, IsPageOf, is_last, next_after}
-use Rattle.agg_top_groups.specs.Top.{AreTop}
-use Rattle.agg_front.specs.Written.{groups_in, total_in}
+use Rattle.agg_results.specs.declared.final_results.types.AggregationResults.{AggregationResults}
+use Rattle.agg_results.specs.declared.final_results.types.CompositeBucketEntry.{
+  CompositeBucketEntry,
+}
+use Rattle.agg_results.specs.declared.final_results.types.FilterBucketResult.{FilterBucketResult}
+use Rattle.peslumok_front.specs.declared.grouping.grouping.Grouping.{Grouping}
+use Rattle.peslumok_front.specs.front.Answer.{HasMost}
+use Rattle.peslumok_front.specs.front.Pages.{ArePages, IsPageOf, is_last, next_after}
+use Rattle.peslumok_front.specs.top_groups.Top.{AreTop}
+use Rattle.peslumok_front.specs.front.Written.{groups_in, total_in}
 
 last-added : (o : Option AggregationResults) (before : List AggregationResults)
     (page : AggregationResults) → last_or o (before ++ page ∷ []) ≡ Some page

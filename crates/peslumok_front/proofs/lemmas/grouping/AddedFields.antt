@@ -17,10 +17,10 @@ use Rattle.agg_segment.specs.declared.query.QueryTree.{QueryTree}
 use Rattle.agg_segment.specs.declared.query.QueryTree.TheVariants.{Boolean, rolls-Boolean}
 use Rattle.agg_segment.specs.declared.query.QueryTree.TheOpen as layer
 use Rattle.agg_segment.specs.declared.query.QueryTree.TheFolds.{fold-roll-QueryTree}
-use Rattle.agg_json.specs.Json.{is_among}
-use Rattle.agg_fields.specs.Types.{type_of}
-use Rattle.agg_fields.specs.declared.field_type.FieldType.{FieldType}
-use Rattle.agg_grouping.specs.Fields.{AreAdded, all_of, fields_by, fields_in}
+use Rattle.agg_request.specs.json_values.Json.{is_among}
+use Rattle.peslumok_texts.specs.fields.Types.{type_of}
+use Rattle.peslumok_texts.specs.declared.fields.field_type.FieldType.{FieldType}
+use Rattle.peslumok_front.specs.grouping.Fields.{AreAdded, all_of, fields_by, fields_in}
 
 -- a type that is put stands under its name
 pub added-put : (types before now : Named FieldType) (field : List ℕ)

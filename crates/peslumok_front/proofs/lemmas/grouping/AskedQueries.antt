@@ -2,15 +2,15 @@
 use Rattle.std.proofs.Common.{◌≡◌, ◌∙◌, refl, sym, ap, Bool, true, ◌&&◌, List, [], ◌∷◌, ◌++◌, ℕ}
 use Rattle.std.proofs.Common.{Bor, Some, None}
 use Rattle.std.proofs.lemmas.List.Folds.{list_all-append}
-use Rattle.agg_column.specs.Document.{Fields}
+use Rattle.agg_segment.specs.storage.Document.{Fields}
 use Rattle.agg_segment.specs.Query.{all_match, matches, matches_by}
 use Rattle.agg_segment.specs.declared.query.QueryTree.{QueryTree}
 use Rattle.agg_segment.specs.declared.query.QueryTree.TheVariants.{All, rolls-All}
 use Rattle.agg_segment.specs.declared.query.QueryTree.TheOpen as layer
 use Rattle.agg_segment.specs.declared.query.QueryTree.TheFolds.{fold-roll-QueryTree}
-use Rattle.agg_grouping.specs.Query.{IsQueryOf, SaysQuery, meets_all}
-use Rattle.agg_grouping.specs.declared.grouping.Grouping.{Grouping}
-use Rattle.agg_grouping.proofs.MatchedTerms.{and_true}
+use Rattle.peslumok_front.specs.grouping.Query.{IsQueryOf, SaysQuery, meets_all}
+use Rattle.peslumok_front.specs.declared.grouping.grouping.Grouping.{Grouping}
+use Rattle.peslumok_front.proofs.lemmas.grouping.MatchedTerms.{and_true}
 
 matches-All : (document : Fields) → matches All document ≡ true
 matches-All document =

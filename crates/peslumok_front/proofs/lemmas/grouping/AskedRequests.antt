@@ -9,11 +9,11 @@ use Rattle.agg_request_tree.specs.declared.aggregation.CompositeAggregation.{Com
 use Rattle.agg_request_tree.specs.declared.aggregation.filter.FilterAggregation.{FilterAggregation}
 use Rattle.agg_request_tree.specs.declared.aggregation.filter.FilterQuery.TheVariants.{Tree}
 use Rattle.agg_request_tree.proofs.RequestTrees.{agg-made, below-made}
-use Rattle.agg_words.specs.declared.metric.Metric.{Metric}
-use Rattle.agg_grouping.specs.Request.{AreGroupsOf, AreMetricsOf, AreTotals, HasGroups, HasTotal}
-use Rattle.agg_grouping.specs.Request.{IsCompositeOf, IsRequestOf, IsTotalOf}
-use Rattle.agg_grouping.specs.declared.grouping.Grouping.{Grouping}
-use Rattle.agg_grouping.specs.declared.request.Page.{Page}
+use Rattle.peslumok_texts.specs.declared.words.metric.Metric.{Metric}
+use Rattle.peslumok_front.specs.grouping.Request.{AreGroupsOf, AreMetricsOf, AreTotals, HasGroups}
+use Rattle.peslumok_front.specs.grouping.Request.{HasTotal, IsCompositeOf, IsRequestOf, IsTotalOf}
+use Rattle.peslumok_front.specs.declared.grouping.grouping.Grouping.{Grouping}
+use Rattle.peslumok_front.specs.declared.grouping.request.Page.{Page}
 
 -- the groups of a composite with the metrics below
 pub groups-made : {B : Type 0} (grouping : Grouping) (page : Page)

@@ -5,16 +5,17 @@ use Rattle.agg_values.specs.Names.{Named}
 use Rattle.agg_request_tree.specs.declared.source.CompositeAggregationSource as source
 use source.{CompositeAggregationSource}
 use Rattle.agg_request_tree.specs.Source.{name_of}
-use Rattle.agg_fields.specs.Types.{type_of}
-use Rattle.agg_fields.specs.declared.field_type.FieldType.{FieldType}
-use Rattle.agg_words.specs.By.{Parts}
-use Rattle.agg_grouping.specs.Sources.{HasNoInterval, column_name, division_asked}
-use Rattle.agg_grouping.specs.Sources.{divided_source, source_asked, source_by, source_parts}
-use Rattle.agg_grouping.specs.Sources.{values_source, with_division}
-use Rattle.agg_grouping.specs.declared.error.IntervalFault.{IntervalFault}
-use Rattle.agg_grouping.specs.declared.source.Division.{Division}
-use Rattle.agg_grouping.specs.declared.source.Division.TheVariants.{Width, Fixed, Calendar}
-use Rattle.agg_grouping.specs.declared.source.SourceParts.{SourceParts}
+use Rattle.peslumok_texts.specs.fields.Types.{type_of}
+use Rattle.peslumok_texts.specs.declared.fields.field_type.FieldType.{FieldType}
+use Rattle.peslumok_texts.specs.words.By.{Parts}
+use Rattle.peslumok_front.specs.grouping.Sources.{HasNoInterval, column_name, division_asked}
+use Rattle.peslumok_front.specs.grouping.Sources.{divided_source, source_asked, source_by}
+use Rattle.peslumok_front.specs.grouping.Sources.{source_parts, values_source, with_division}
+use Rattle.peslumok_front.specs.declared.grouping.error.IntervalFault.{IntervalFault}
+use Rattle.peslumok_front.specs.declared.grouping.source.Division.{Division}
+use Rattle.peslumok_front.specs.declared.grouping.source.Division.TheVariants.{Width, Fixed}
+use Rattle.peslumok_front.specs.declared.grouping.source.Division.TheVariants.{Calendar}
+use Rattle.peslumok_front.specs.declared.grouping.source.SourceParts.{SourceParts}
 
 -- what is known of a source with an interval: its parts, and the type of its field
 pub record IsDivided (types : Named FieldType) (by : Parts) (interval : List ℕ) (of : FieldType)

@@ -2,9 +2,9 @@
 use Rattle.std.proofs.Common.{◌≡◌, ◌≢◌, ◌∙◌, refl, sym, ap, Bool, true, false, ◌&&◌, ◌||◌, not}
 use Rattle.std.proofs.Common.{ℕ, List, [], ◌∷◌, ◌++◌, map, length, Ok, Some, None}
 use Rattle.std.specs.List.{list_any}
-use Rattle.agg_column.specs.Document.{Fields}
-use Rattle.agg_column.specs.declared.document.FieldValue.{FieldValue}
-use Rattle.agg_column.specs.declared.document.FieldValue.TheVariants as field_value
+use Rattle.agg_segment.specs.storage.Document.{Fields}
+use Rattle.agg_segment.specs.declared.storage.document.FieldValue.{FieldValue}
+use Rattle.agg_segment.specs.declared.storage.document.FieldValue.TheVariants as field_value
 use Rattle.agg_segment.specs.Query.{all_match, holds, is_value, matches, matches_by}
 use Rattle.agg_segment.specs.Query.{some_matches}
 use Rattle.agg_segment.specs.declared.query.QueryTree.{QueryTree}
@@ -12,11 +12,11 @@ use Rattle.agg_segment.specs.declared.query.QueryTree.TheVariants.{Boolean, Term
 use Rattle.agg_segment.specs.declared.query.QueryTree.TheOpen as layer
 use Rattle.agg_segment.specs.declared.query.QueryTree.TheFolds.{fold-roll-QueryTree}
 use Rattle.agg_segment.proofs.Queries.{matches-must, matches-should}
-use Rattle.agg_fields.specs.Values.{text_value}
-use Rattle.agg_fields.specs.declared.field_type.FieldType.{FieldType}
-use Rattle.agg_fields.specs.declared.field_type.FieldType.TheVariants as kind
-use Rattle.agg_grouping.specs.Query.{holds_text, is_one_of, other_values, plain_values}
-use Rattle.agg_grouping.specs.Query.{truth_of}
+use Rattle.peslumok_texts.specs.fields.Values.{text_value}
+use Rattle.peslumok_texts.specs.declared.fields.field_type.FieldType.{FieldType}
+use Rattle.peslumok_texts.specs.declared.fields.field_type.FieldType.TheVariants as kind
+use Rattle.peslumok_front.specs.grouping.Query.{holds_text, is_one_of, other_values, plain_values}
+use Rattle.peslumok_front.specs.grouping.Query.{truth_of}
 
 -- ---- truth values
 
@@ -101,7 +101,7 @@ pub two-terms : (field text copy : List ℕ) (v : FieldValue) (start one two : L
 two-terms field text copy v start one two none first second is no_truth =
     rw (second, first, none, is, no_truth) refl
 
--- the same where it is
+-- the queries of what a text means in a plain field where it is a truth value's word
 pub three-terms : (field text copy : List ℕ) (v : FieldValue) (b : Bool)
     (start one two three : List QueryTree)
     → start ≡ [] → one ≡ start ++ Term field v ∷ []

@@ -17,12 +17,12 @@ use Rattle.agg_values.proofs.NameValues.{other-put, same_key, value-put}
 use Rattle.agg_request_tree.specs.Request.{Request, aggregation_of}
 use Rattle.agg_request_tree.specs.declared.aggregation.Aggregation.{Aggregation}
 use Rattle.agg_request_tree.specs.declared.aggregation.AggregationVariants.{AggregationVariants}
-use Rattle.agg_words.specs.Metric.{word_of}
-use Rattle.agg_words.specs.declared.metric.Metric.{Metric}
-use Rattle.agg_words.specs.declared.metric.MetricKind.{MetricKind}
-use Rattle.agg_words.specs.declared.metric.MetricKind.TheVariants.{Count, Sum, Min, Max}
-use Rattle.agg_grouping.specs.Request.{AreMetricsOf, metric_asked, metric_name, named_metric}
-use Rattle.agg_grouping.specs.Request.{of_kind}
+use Rattle.peslumok_texts.specs.words.Metric.{word_of}
+use Rattle.peslumok_texts.specs.declared.words.metric.Metric.{Metric}
+use Rattle.peslumok_texts.specs.declared.words.metric.MetricKind.{MetricKind}
+use Rattle.peslumok_texts.specs.declared.words.metric.MetricKind.TheVariants.{Count, Sum, Min, Max}
+use Rattle.peslumok_front.specs.grouping.Request.{AreMetricsOf, metric_asked, metric_name}
+use Rattle.peslumok_front.specs.grouping.Request.{named_metric, of_kind}
 
 -- ---- names
 
@@ -30,7 +30,7 @@ use Rattle.agg_grouping.specs.Request.{of_kind}
 abbrev pub name_by : MetricKind → List ℕ → List ℕ
 name_by kind field = word_of kind ++ (codes "(" ++ (field ++ codes ")"))
 
--- the same text has the same byte at a place
+-- equal texts have the same byte at a place
 byte_same : {xs ys : List ℕ} (i : ℕ) → xs ≡ ys → get_or xs i 0 ≡ get_or ys i 0
 byte_same i e = ap (λ (text : List ℕ). get_or text i 0) e
 
@@ -85,7 +85,7 @@ module _ {B : Type 0} (m : Metric) (below now : Request B)
   own_value =
       rw is (value-put nat_list_cmp_total exact_bytes below (metric_name m) (metric_asked m))
 
-  -- and each other under its own
+  -- each other metric stands under its own name
   kept_value : (n : Metric) → value_of (metric_name n) below ≡ Some (metric_asked n)
       → value_of (metric_name n) now ≡ Some (metric_asked n)
   kept_value n before = by_name (is_at (name_cmp (metric_name n)) (metric_name m)) refl

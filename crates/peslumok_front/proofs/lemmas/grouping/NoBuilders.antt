@@ -12,13 +12,13 @@ use Rattle.agg_request_tree.specs.declared.aggregation.Aggregation.{Aggregation}
 use Rattle.agg_request_tree.specs.declared.aggregation.Aggregation.TheFolds.{fold_out-Aggregation}
 use Rattle.agg_request_tree.specs.declared.aggregation.AggregationVariants.{AggregationVariants}
 use Rattle.agg_request_tree.proofs.RequestTrees.{agg-made, below-made, listed-out}
-use Rattle.agg_words.specs.declared.metric.Metric.{Metric}
-use Rattle.agg_words.specs.declared.metric.MetricKind.{MetricKind}
-use Rattle.agg_words.specs.declared.metric.MetricKind.TheVariants.{Count, Sum, Min, Max}
-use Rattle.agg_grouping.specs.Request.{AreMetricsOf, AreTotals, IsRequestOf}
-use Rattle.agg_grouping.specs.Request.{metric_asked, named_metric, of_kind}
-use Rattle.agg_grouping.specs.declared.grouping.Grouping.{Grouping}
-use Rattle.agg_grouping.specs.declared.request.Page.{Page}
+use Rattle.peslumok_texts.specs.declared.words.metric.Metric.{Metric}
+use Rattle.peslumok_texts.specs.declared.words.metric.MetricKind.{MetricKind}
+use Rattle.peslumok_texts.specs.declared.words.metric.MetricKind.TheVariants.{Count, Sum, Min, Max}
+use Rattle.peslumok_front.specs.grouping.Request.{AreMetricsOf, AreTotals, IsRequestOf}
+use Rattle.peslumok_front.specs.grouping.Request.{metric_asked, named_metric, of_kind}
+use Rattle.peslumok_front.specs.declared.grouping.grouping.Grouping.{Grouping}
+use Rattle.peslumok_front.specs.declared.grouping.request.Page.{Page}
 
 -- what holds always holds of all
 every : {X : Type 0} (P : X → Type 0) → ((x : X) → P x) → (xs : List X) → All P xs

@@ -7,15 +7,16 @@ use Rattle.serde_json.specs.Data.{Data}
 use Rattle.serde_json.specs.Read.{read}
 use Rattle.agg_values.specs.Nothing.{NoneIs}
 use Rattle.agg_segment.specs.declared.query.QueryTree.{QueryTree}
-use Rattle.agg_json.specs.Query.{HasUnsupportedQuery, IsQuery}
-use Rattle.agg_json.specs.declared.read_error.ReadError.{ReadError}
-use Rattle.agg_json.specs.declared.read_error.ReadError.TheVariants as reading
-use Rattle.agg_words.specs.Condition.{parts}
-use Rattle.agg_words.specs.declared.condition.Condition.{Condition}
-use Rattle.agg_grouping.specs.Query.{RefusesCondition, RefusesConditions, RefusesSaid, refusal_of}
-use Rattle.agg_grouping.specs.declared.error.GroupingError.{GroupingError}
-use Rattle.agg_grouping.specs.declared.error.GroupingError.TheVariants as error
-use Rattle.agg_grouping.specs.declared.grouping.Grouping.{Grouping}
+use Rattle.agg_request.specs.json_values.Query.{HasUnsupportedQuery, IsQuery}
+use Rattle.agg_request.specs.declared.json_values.read_error.ReadError.{ReadError}
+use Rattle.agg_request.specs.declared.json_values.read_error.ReadError.TheVariants as reading
+use Rattle.peslumok_texts.specs.words.Condition.{parts}
+use Rattle.peslumok_texts.specs.declared.words.condition.Condition.{Condition}
+use Rattle.peslumok_front.specs.grouping.Query.{RefusesCondition, RefusesConditions, RefusesSaid}
+use Rattle.peslumok_front.specs.grouping.Query.{refusal_of}
+use Rattle.peslumok_front.specs.declared.grouping.error.GroupingError.{GroupingError}
+use Rattle.peslumok_front.specs.declared.grouping.error.GroupingError.TheVariants as error
+use Rattle.peslumok_front.specs.declared.grouping.grouping.Grouping.{Grouping}
 
 -- what holds of an item holds of some item
 any_at : {X : Type 0} (P : X → Type 0) (xs : List X) (i : ℕ) (d : X) → i < length xs

@@ -3,12 +3,14 @@ use Rattle.std.proofs.Common.{◌≡◌, ◌+◌, ◌<◌, ◌≤◌, ◌++◌, 
 use Rattle.std.proofs.Common.{◌∙◌, map, refl, subst, sym, take}
 use Rattle.std.proofs.lemmas.List.{append-nil, drop_all, map-append, take_more}
 use Rattle.std.proofs.lemmas.Slice.Zip.{all_zipped_more}
-use Rattle.agg_final_results.specs.declared.types.AggregationResults.{AggregationResults}
-use Rattle.agg_final_results.specs.declared.types.CompositeBucketEntry.{CompositeBucketEntry}
-use Rattle.agg_tables.specs.Cells.{Shown, shown_by}
-use Rattle.agg_tables.specs.Groups.{IsGroupCell, ShowsGroup, ShowsTotals}
-use Rattle.agg_tables.specs.declared.columns.Column.{Column}
-use Rattle.agg_tables.specs.declared.row.Cell.{Cell}
+use Rattle.agg_results.specs.declared.final_results.types.AggregationResults.{AggregationResults}
+use Rattle.agg_results.specs.declared.final_results.types.CompositeBucketEntry.{
+  CompositeBucketEntry,
+}
+use Rattle.peslumok_front.specs.tables.Cells.{Shown, shown_by}
+use Rattle.peslumok_front.specs.tables.Groups.{IsGroupCell, ShowsGroup, ShowsTotals}
+use Rattle.peslumok_front.specs.declared.tables.columns.Column.{Column}
+use Rattle.peslumok_front.specs.declared.tables.row.Cell.{Cell}
 
 -- one more cell of a group
 pub group-more : (entry : CompositeBucketEntry) (columns : List Column) (index : ℕ)

@@ -15,7 +15,7 @@ use Rattle.std.specs.Fmt.{digits}
 use Rattle.std.specs.List.{list_all}
 use Rattle.std.specs.Str.{IsAscii, IsUtf8}
 use Rattle.std.specs.Str.Parse.{AllDigits}
-use Rattle.agg_tables.specs.Visible.{IsHarmless, is_escaped, visible, visible_char}
+use Rattle.peslumok_front.specs.tables.Visible.{IsHarmless, is_escaped, visible, visible_char}
 
 -- printable ASCII
 abbrev Printable : List ℕ → Type 0

@@ -3,13 +3,13 @@ use Rattle.std.proofs.Common.{◌≡◌, ◌++◌, ◌⊎◌, ℕ, List, [], ◌
 use Rattle.std.proofs.Common.{◌∙◌, append_assoc, map, refl, sym}
 use Rattle.std.proofs.lemmas.List.{append-nil}
 use Rattle.std.specs.Prelude.{codes, if◌then◌else◌, not}
-use Rattle.agg_final_results.specs.Appending.{more_items}
-use Rattle.agg_final_results.specs.ResultsText.{braced}
-use Rattle.agg_final_results.proofs.AppendedItems.{joined}
-use Rattle.agg_tables.specs.Cells.{Shown, shown_by}
-use Rattle.agg_tables.specs.JsonLines.{column_members, total_members}
-use Rattle.agg_tables.specs.declared.columns.Column.{Column}
-use Rattle.agg_tables.specs.declared.row.Cell.{Cell}
+use Rattle.agg_results.specs.final_results.Appending.{more_items}
+use Rattle.agg_results.specs.final_results.ResultsText.{braced}
+use Rattle.agg_results.proofs.lemmas.final_results.AppendedItems.{joined}
+use Rattle.peslumok_front.specs.tables.Cells.{Shown, shown_by}
+use Rattle.peslumok_front.specs.tables.JsonLines.{column_members, total_members}
+use Rattle.peslumok_front.specs.declared.tables.columns.Column.{Column}
+use Rattle.peslumok_front.specs.declared.tables.row.Cell.{Cell}
 
 -- there is no member where there is no column or no cell
 no-members : (total : Bool) (columns : List Column) (cells : List Cell)

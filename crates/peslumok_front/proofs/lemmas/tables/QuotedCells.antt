@@ -8,7 +8,7 @@ use Rattle.std.proofs.lemmas.Str.{encode_ascii, inside_one}
 use Rattle.std.specs.Prelude.{◌==◌, encode_utf8}
 use Rattle.csv.specs.Writing.{default_writer, escaped, quoted}
 use Rattle.csv.proofs.WriteFacts.{escaped-append, escaped-none}
-use Rattle.agg_tables.proofs.Parts.{none-left, part-appended}
+use Rattle.peslumok_front.proofs.lemmas.tables.Parts.{none-left, part-appended}
 
 -- no byte of another character is a quote
 not-quote : (c k d : ℕ) → (c ≡ 34 → ⊥) → k < length (encode_utf8 c)

@@ -5,7 +5,7 @@ use Rattle.csv.specs.Reading.{Reached, default_config}
 use Rattle.csv.specs.Writing.{read_back}
 use Rattle.csv.specs.declared.parser.State.TheVariants as st
 use Rattle.csv.proofs.RoundTrip.{read-write}
-use Rattle.agg_tables.specs.Output.{ReadBack, csv_lines}
+use Rattle.peslumok_front.specs.tables.Output.{ReadBack, csv_lines}
 
 -- the records are read one after another
 reached : (records : List (List (List ℕ)))
@@ -20,7 +20,7 @@ reached (first ∷ records) = (
   reached records,
 )
 
--- and then no more
+-- after the records there are no more
 at-end : next_record default_config st.StartRecord [] [] [] ≡ None
 unfolding next_record
 at-end = refl

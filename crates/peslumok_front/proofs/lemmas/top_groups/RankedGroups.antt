@@ -12,8 +12,10 @@ use Rattle.std.proofs.lemmas.List.Elements.{filter-append, recursion_from_All}
 use Rattle.std.proofs.lemmas.List.MinMax.{IsStrictWeakOrder-flip}
 use Rattle.std.proofs.lemmas.List.Sorted.{IsStrictWeakOrder-by_number, sorted_far}
 use Rattle.std.specs.Prelude.{if◌then◌else◌}
-use Rattle.agg_final_results.specs.declared.types.CompositeBucketEntry.{CompositeBucketEntry}
-use Rattle.agg_top_groups.specs.Top.{AreRanked, has_more}
+use Rattle.agg_results.specs.declared.final_results.types.CompositeBucketEntry.{
+  CompositeBucketEntry,
+}
+use Rattle.peslumok_front.specs.top_groups.Top.{AreRanked, has_more}
 
 -- a group among others: after each that has as many documents or more
 abbrev pub ranked_in : CompositeBucketEntry → List CompositeBucketEntry → List CompositeBucketEntry
@@ -45,7 +47,7 @@ no-more groups sorted i j d before within =
     sorted_far has_more by_count groups sorted i j d before within in
     grind (arith, nat_tests, test)
 
--- the same of groups of which none has more than one before it
+-- a group has no more than the one before it, where they fall
 fall-steps : (groups : List CompositeBucketEntry) → Fall groups → (k : ℕ)
     (d : CompositeBucketEntry) → suc k < length groups
     → (get_or groups (suc k) d).doc_count ≤ (get_or groups k d).doc_count

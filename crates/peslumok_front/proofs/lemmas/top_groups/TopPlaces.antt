@@ -11,9 +11,12 @@ use Rattle.std.proofs.lemmas.List.Edits.{length-insert}
 use Rattle.std.proofs.lemmas.List.{get_or-take, length-take}
 use Rattle.std.proofs.lemmas.List.Sums.{position_or_len_is}
 use Rattle.std.proofs.lemmas.Option.{get_or_from_slice_get}
-use Rattle.agg_final_results.specs.declared.types.CompositeBucketEntry.{CompositeBucketEntry}
-use Rattle.agg_top_groups.specs.Top.{AreTop, has_more}
-use Rattle.agg_top_groups.proofs.RankedGroups.{no-more, ranked-more, ranked-none, ranked_in}
+use Rattle.agg_results.specs.declared.final_results.types.CompositeBucketEntry.{
+  CompositeBucketEntry,
+}
+use Rattle.peslumok_front.specs.top_groups.Top.{AreTop, has_more}
+use Rattle.peslumok_front.proofs.lemmas.top_groups.RankedGroups.{no-more, ranked-more, ranked-none}
+use Rattle.peslumok_front.proofs.lemmas.top_groups.RankedGroups.{ranked_in}
 
 -- the place of a group among others
 abbrev pub rank : CompositeBucketEntry → List CompositeBucketEntry → ℕ

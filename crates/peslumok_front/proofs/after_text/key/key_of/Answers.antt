@@ -1,6 +1,6 @@
-use Rattle.agg_fields.specs.Types.{type_of}
-use Rattle.agg_after_text.proofs.ReadKeys.{found-only, found-reads, none-found}
-use Rattle.agg_after_text.proofs.key.key_of.Goals as goal
+use Rattle.peslumok_texts.specs.fields.Types.{type_of}
+use Rattle.peslumok_front.proofs.lemmas.after_text.ReadKeys.{found-only, found-reads, none-found}
+use Rattle.peslumok_front.proofs.after_text.key.key_of.Goals as goal
 
 pub returns-in-Some : goal.returns-in-Some
 returns-in-Some c = record {

@@ -1,7 +1,7 @@
 use Rattle.std.proofs.Common.{Some, ap, subst, sym}
 use Rattle.agg_values.specs.KeyText.{IsKeyText}
-use Rattle.agg_after_text.proofs.ReadKeys.{not-found, nothing-found}
-use Rattle.agg_after_text.proofs.key.prefixed_key.Goals as goal
+use Rattle.peslumok_front.proofs.lemmas.after_text.ReadKeys.{not-found, nothing-found}
+use Rattle.peslumok_front.proofs.after_text.key.prefixed_key.Goals as goal
 
 pub returns-in-Ok-clause-each : goal.returns-in-Ok-clause-each
 returns-in-Ok-clause-each c key is =

@@ -1,11 +1,13 @@
 use Rattle.std.proofs.Common.{◌≡◌, ◌⊎◌, Err, Ok, ap, subst, sym, ◌∙◌}
-use Rattle.agg_fields.specs.Types.{type_of}
-use Rattle.agg_fields.specs.Values.{text_value}
-use Rattle.agg_fields.specs.declared.error.ValueError.TheVariants as why
-use Rattle.agg_after_text.specs.After.{IsUnreadKey, refusal_of}
-use Rattle.agg_after_text.proofs.ReadKeys.{refusal-cause, refused-only, value-only, value-reads}
-use Rattle.agg_after_text.proofs.key.value_key.Goals as goal
-use Rattle.agg_after_text.proofs.key.value_key.Goals.{After-drop-field-inside, After-refusal_of}
+use Rattle.peslumok_texts.specs.fields.Types.{type_of}
+use Rattle.peslumok_texts.specs.fields.Values.{text_value}
+use Rattle.peslumok_texts.specs.declared.fields.error.ValueError.TheVariants as why
+use Rattle.peslumok_front.specs.after_text.After.{IsUnreadKey, refusal_of}
+use Rattle.peslumok_front.proofs.lemmas.after_text.ReadKeys.{refusal-cause, refused-only}
+use Rattle.peslumok_front.proofs.lemmas.after_text.ReadKeys.{value-only, value-reads}
+use Rattle.peslumok_front.proofs.after_text.key.value_key.Goals as goal
+use Rattle.peslumok_front.proofs.after_text.key.value_key.Goals.{After-drop-field-inside}
+use Rattle.peslumok_front.proofs.after_text.key.value_key.Goals.{After-refusal_of}
 
 -- the type of the field
 typed : (c : After-drop-field-inside)

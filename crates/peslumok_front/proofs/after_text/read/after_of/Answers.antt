@@ -1,7 +1,7 @@
 use Rattle.std.proofs.Common.{ap, arith, option_map, sym, ◌∙◌}
 use Rattle.csv.specs.Records.{fields_of}
-use Rattle.agg_after_text.proofs.NamedKeys.{extra-none}
-use Rattle.agg_after_text.proofs.read.after_of.Goals as goal
+use Rattle.peslumok_front.proofs.lemmas.after_text.NamedKeys.{extra-none}
+use Rattle.peslumok_front.proofs.after_text.read.after_of.Goals as goal
 
 pub returns-then-len-clause-each : goal.returns-then-len-clause-each
 returns-then-len-clause-each c after is =

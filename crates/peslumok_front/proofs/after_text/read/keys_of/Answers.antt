@@ -1,15 +1,16 @@
 use Rattle.std.proofs.Common.{IfErr, MatchResult, ◌≡◌, ◌-◌, [], Some, ap, arith, drop}
 use Rattle.std.proofs.Common.{option_map, subst, sym, ◌∙◌}
 use Rattle.csv.specs.Records.{field_at, fields_of}
-use Rattle.agg_after_text.proofs.NamedKeys.{ReadFrom, field-some, none-from, read-step}
-use Rattle.agg_after_text.proofs.NamedKeys.{unread-there}
-use Rattle.agg_after_text.proofs.NamedKeys.{drop-all, read-there}
-use Rattle.agg_after_text.proofs.Passed.{error-passed}
-use Rattle.agg_after_text.specs.After.{IsUnreadValue}
+use Rattle.peslumok_front.proofs.lemmas.after_text.NamedKeys.{ReadFrom, field-some, none-from}
+use Rattle.peslumok_front.proofs.lemmas.after_text.NamedKeys.{read-step, unread-there, drop-all}
+use Rattle.peslumok_front.proofs.lemmas.after_text.NamedKeys.{read-there}
+use Rattle.peslumok_front.proofs.lemmas.after_text.Passed.{error-passed}
+use Rattle.peslumok_front.specs.after_text.After.{IsUnreadValue}
 use Rattle.agg_values.specs.Names.{put}
-use Rattle.agg_grouping.specs.declared.error.GroupingError.TheVariants as error
-use Rattle.agg_after_text.proofs.read.keys_of.Goals as goal
-use Rattle.agg_after_text.proofs.read.keys_of.Goals.{After-drop-after-inside, In_ok-insert}
+use Rattle.peslumok_front.specs.declared.grouping.error.GroupingError.TheVariants as error
+use Rattle.peslumok_front.proofs.after_text.read.keys_of.Goals as goal
+use Rattle.peslumok_front.proofs.after_text.read.keys_of.Goals.{After-drop-after-inside}
+use Rattle.peslumok_front.proofs.after_text.read.keys_of.Goals.{In_ok-insert}
 
 pub loop-place-init : goal.loop-place-init
 loop-place-init c =

@@ -1,7 +1,7 @@
 use Rattle.std.proofs.Common.{drop}
 use Rattle.csv.specs.Records.{fields_of}
-use Rattle.agg_after_text.proofs.NamedKeys.{ReadFrom}
-use Rattle.agg_after_text.proofs.read.keys_of.Given as goal
+use Rattle.peslumok_front.proofs.lemmas.after_text.NamedKeys.{ReadFrom}
+use Rattle.peslumok_front.proofs.after_text.read.keys_of.Given as goal
 
 -- the values from here on are read
 abbrev pub invariant-loop-place : goal.invariant-loop-place

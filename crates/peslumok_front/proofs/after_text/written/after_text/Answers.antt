@@ -1,5 +1,5 @@
-use Rattle.agg_after_text.proofs.WrittenKeys.{written-cell}
-use Rattle.agg_after_text.proofs.written.after_text.Goals as goal
+use Rattle.peslumok_front.proofs.lemmas.after_text.WrittenKeys.{written-cell}
+use Rattle.peslumok_front.proofs.after_text.written.after_text.Goals as goal
 
 pub returns-else-branch-clause-cell : goal.returns-else-branch-clause-cell
 returns-else-branch-clause-cell c =

@@ -1,8 +1,8 @@
 use Rattle.std.proofs.Common.{subst, sym, ◌∙◌}
 use Rattle.agg_values.specs.KeyText.{IsKeyText}
 use Rattle.agg_values.specs.Nothing.{NoneIs}
-use Rattle.agg_after_text.proofs.ReadKeys.{none-found, not-some}
-use Rattle.agg_after_text.proofs.written.has_kind.Goals as goal
+use Rattle.peslumok_front.proofs.lemmas.after_text.ReadKeys.{none-found, not-some}
+use Rattle.peslumok_front.proofs.after_text.written.has_kind.Goals as goal
 
 pub returns : goal.returns
 returns c none =

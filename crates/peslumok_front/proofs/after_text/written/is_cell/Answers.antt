@@ -1,6 +1,6 @@
 use Rattle.std.proofs.Common.{sym}
-use Rattle.agg_after_text.proofs.ReadKeys.{unmarked-cell}
-use Rattle.agg_after_text.proofs.written.is_cell.Goals as goal
+use Rattle.peslumok_front.proofs.lemmas.after_text.ReadKeys.{unmarked-cell}
+use Rattle.peslumok_front.proofs.after_text.written.is_cell.Goals as goal
 
 pub returns-then-not-is_empty : goal.returns-then-not-is_empty
 returns-then-not-is_empty c =

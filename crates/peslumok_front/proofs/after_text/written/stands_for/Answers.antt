@@ -1,5 +1,5 @@
-use Rattle.agg_after_text.proofs.ReadKeys.{value-stands}
-use Rattle.agg_after_text.proofs.written.stands_for.Goals as goal
+use Rattle.peslumok_front.proofs.lemmas.after_text.ReadKeys.{value-stands}
+use Rattle.peslumok_front.proofs.after_text.written.stands_for.Goals as goal
 
 pub returns-clause-back : goal.returns-clause-back
 returns-clause-back c =

@@ -1,7 +1,7 @@
 use Rattle.std.proofs.Common.{ap, arith, option_map, sym, ◌∙◌}
-use Rattle.agg_after_text.proofs.WrittenKeys.{begin-all, begin-more, begin-none, named-same}
-use Rattle.agg_after_text.proofs.WrittenKeys.{reads-same}
-use Rattle.agg_after_text.proofs.written.texts_of.Goals as goal
+use Rattle.peslumok_front.proofs.lemmas.after_text.WrittenKeys.{begin-all, begin-more, begin-none}
+use Rattle.peslumok_front.proofs.lemmas.after_text.WrittenKeys.{named-same, reads-same}
+use Rattle.peslumok_front.proofs.after_text.written.texts_of.Goals as goal
 
 pub returns-in-None : goal.returns-in-None
 returns-in-None c =

@@ -1,8 +1,8 @@
 use Rattle.std.proofs.Common.{◌≡◌, ◌++◌, ℕ, List, drop}
 use Rattle.agg_values.specs.declared.after_key.AfterKey.{AfterKey}
-use Rattle.agg_after_text.specs.After.{HaveOwnColumns, keys_by_name}
-use Rattle.agg_after_text.specs.AfterCells.{AreTextsOf}
-use Rattle.agg_after_text.proofs.written.texts_of.Given as goal
+use Rattle.peslumok_front.specs.after_text.After.{HaveOwnColumns, keys_by_name}
+use Rattle.peslumok_front.specs.after_text.AfterCells.{AreTextsOf}
+use Rattle.peslumok_front.proofs.after_text.written.texts_of.Given as goal
 
 -- the texts so far begin those of the keys
 abbrev pub invariant-loop-by : goal.invariant-loop-by

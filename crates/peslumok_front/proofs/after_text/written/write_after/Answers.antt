@@ -1,9 +1,9 @@
 use Rattle.std.proofs.Common.{string_bytes, subst, ◌++◌, ◌≡◌}
 use Rattle.std.specs.Prelude.{OnOk}
 use Rattle.csv.specs.Writing.{default_writer, row_body}
-use Rattle.agg_after_text.specs.After.{HaveOwnColumns, IsAfterText, NamesFirst}
-use Rattle.agg_after_text.proofs.WrittenKeys.{line-back, written-back}
-use Rattle.agg_after_text.proofs.written.write_after.Goals as goal
+use Rattle.peslumok_front.specs.after_text.After.{HaveOwnColumns, IsAfterText, NamesFirst}
+use Rattle.peslumok_front.proofs.lemmas.after_text.WrittenKeys.{line-back, written-back}
+use Rattle.peslumok_front.proofs.after_text.written.write_after.Goals as goal
 
 pub returns : goal.returns
 returns c =

@@ -1,9 +1,9 @@
 use Rattle.std.proofs.Common.{ap, arith, string_bytes, ◌++◌, ◌∙◌}
 use Rattle.csv.specs.Writing.{default_writer, field_text}
-use Rattle.agg_tables.proofs.CsvCells.{no-cells}
-use Rattle.agg_tables.proofs.Parts.{byte-appended}
-use Rattle.agg_after_text.proofs.CsvCells.{cell-appended}
-use Rattle.agg_after_text.proofs.written.write_rest.Goals as goal
+use Rattle.peslumok_front.proofs.lemmas.tables.CsvCells.{no-cells}
+use Rattle.peslumok_front.proofs.lemmas.tables.Parts.{byte-appended}
+use Rattle.peslumok_front.proofs.lemmas.after_text.CsvCells.{cell-appended}
+use Rattle.peslumok_front.proofs.after_text.written.write_rest.Goals as goal
 
 pub loop-text-init : goal.loop-text-init
 loop-text-init c = no-cells (string_bytes c.args.out.now)

@@ -1,6 +1,6 @@
 use Rattle.std.proofs.Common.{◌≡◌, ◌++◌, string_bytes, take}
 use Rattle.csv.specs.Writing.{default_writer, fields_text}
-use Rattle.agg_after_text.proofs.written.write_rest.Given as goal
+use Rattle.peslumok_front.proofs.after_text.written.write_rest.Given as goal
 
 -- the texts so far are appended
 abbrev pub invariant-loop-text : goal.invariant-loop-text

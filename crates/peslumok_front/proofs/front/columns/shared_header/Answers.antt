@@ -1,7 +1,7 @@
 use Rattle.std.proofs.Common.{ap, arith, subst, sym, take, ◌∙◌}
-use Rattle.agg_front.specs.Columns.{ShareHeader, has_header}
-use Rattle.agg_front.proofs.ColumnNames.{apart-all, apart-more, shared}
-use Rattle.agg_front.proofs.columns.shared_header.Goals as goal
+use Rattle.peslumok_front.specs.front.Columns.{ShareHeader, has_header}
+use Rattle.peslumok_front.proofs.lemmas.front.ColumnNames.{apart-all, apart-more, shared}
+use Rattle.peslumok_front.proofs.front.columns.shared_header.Goals as goal
 
 pub returns-then-has_header-clause-shared : goal.returns-then-has_header-clause-shared
 returns-then-has_header-clause-shared c =

@@ -1,6 +1,6 @@
 use Rattle.std.proofs.Common.{take}
-use Rattle.agg_front.specs.Columns.{HaveOwnHeaders}
-use Rattle.agg_front.proofs.columns.shared_header.Given as goal
+use Rattle.peslumok_front.specs.front.Columns.{HaveOwnHeaders}
+use Rattle.peslumok_front.proofs.front.columns.shared_header.Given as goal
 
 -- the columns so far have names of their own
 abbrev pub invariant-loop-place : goal.invariant-loop-place

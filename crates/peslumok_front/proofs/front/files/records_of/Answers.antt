@@ -1,10 +1,10 @@
 use Rattle.std.proofs.Common.{length, rules, subst, sym}
 use Rattle.std.proofs.lemmas.Iterator.Adapters.{YieldsList-from_vec}
 use Rattle.std.proofs.lemmas.Iterator.Consumers.{YieldsList-turn}
-use Rattle.agg_held_records.specs.Held.{held_documents}
-use Rattle.agg_records.specs.Formats.{AreDocumentsOf}
-use Rattle.agg_front.proofs.FileDocuments.{file-more}
-use Rattle.agg_front.proofs.files.records_of.Goals as goal
+use Rattle.peslumok_records.specs.held.Held.{held_documents}
+use Rattle.peslumok_records.specs.records.Formats.{AreDocumentsOf}
+use Rattle.peslumok_front.proofs.lemmas.front.FileDocuments.{file-more}
+use Rattle.peslumok_front.proofs.front.files.records_of.Goals as goal
 
 pub returns-in-Err-clause-cause : goal.returns-in-Err-clause-cause
 returns-in-Err-clause-cause c =

@@ -1,6 +1,6 @@
-use Rattle.agg_held_records.specs.Held.{held_documents}
-use Rattle.agg_front.specs.Files.{AreDocumentsOfFiles}
-use Rattle.agg_front.proofs.files.records_of.Given as goal
+use Rattle.peslumok_records.specs.held.Held.{held_documents}
+use Rattle.peslumok_front.specs.front.Files.{AreDocumentsOfFiles}
+use Rattle.peslumok_front.proofs.front.files.records_of.Given as goal
 
 -- the documents so far are those of the files so far
 abbrev pub invariant-loop-file : goal.invariant-loop-file

@@ -1,7 +1,7 @@
 use Rattle.std.proofs.Common.{subst}
-use Rattle.agg_held_records.specs.Asked.{Asks}
-use Rattle.agg_front.proofs.AskedAll.{ask-more, ask-start}
-use Rattle.agg_front.proofs.grouped.ask_all.Goals as goal
+use Rattle.peslumok_records.specs.held.Asked.{Asks}
+use Rattle.peslumok_front.proofs.lemmas.front.AskedAll.{ask-more, ask-start}
+use Rattle.peslumok_front.proofs.front.grouped.ask_all.Goals as goal
 
 pub loop-name-init : goal.loop-name-init
 loop-name-init c =

@@ -1,6 +1,6 @@
 use Rattle.std.proofs.Common.{◌≡◌, ◌++◌, map}
-use Rattle.agg_front.specs.Asking.{named_type}
-use Rattle.agg_front.proofs.grouped.ask_all.Given as goal
+use Rattle.peslumok_front.specs.front.Asking.{named_type}
+use Rattle.peslumok_front.proofs.front.grouped.ask_all.Given as goal
 
 -- the fields so far are asked for
 abbrev pub invariant-loop-name : goal.invariant-loop-name

@@ -2,12 +2,12 @@ use Rattle.std.proofs.Common.{List, subst, sym, ℕ}
 use Rattle.std.specs.Global.{Vec}
 use Rattle.agg_segment.specs.Snapshot.{snapshots_documents}
 use Rattle.agg_segment.specs.declared.snapshot.Snapshot.{Snapshot}
-use Rattle.agg_record_index.specs.Index.{AreOneOf}
-use Rattle.agg_after_text.proofs.Passed.{cause-passed}
-use Rattle.agg_front.specs.Answer.{AreRead, IsWritten}
-use Rattle.agg_front.specs.Pages.{room_of}
-use Rattle.agg_front.proofs.Failed.{files-failed, query-failed, text-failed}
-use Rattle.agg_front.proofs.grouped.group.Goals as goal
+use Rattle.peslumok_records.specs.record_index.Index.{AreOneOf}
+use Rattle.peslumok_front.proofs.lemmas.after_text.Passed.{cause-passed}
+use Rattle.peslumok_front.specs.front.Answer.{AreRead, IsWritten}
+use Rattle.peslumok_front.specs.front.Pages.{room_of}
+use Rattle.peslumok_front.proofs.lemmas.front.Failed.{files-failed, query-failed, text-failed}
+use Rattle.peslumok_front.proofs.front.grouped.group.Goals as goal
 
 pub returns-clause-answered : goal.returns-clause-answered
 returns-clause-answered g c =

@@ -1,10 +1,10 @@
 use Rattle.std.proofs.Common.{subst}
-use Rattle.agg_held_records.specs.Held.{held_documents}
+use Rattle.peslumok_records.specs.held.Held.{held_documents}
 use Rattle.agg_segment.specs.Snapshot.{snapshots_documents}
-use Rattle.agg_record_index.specs.Index.{AreOneOf}
-use Rattle.agg_after_text.proofs.Passed.{cause-passed}
-use Rattle.agg_front.proofs.Failed.{no-records}
-use Rattle.agg_front.proofs.grouped.index_of.Goals as goal
+use Rattle.peslumok_records.specs.record_index.Index.{AreOneOf}
+use Rattle.peslumok_front.proofs.lemmas.after_text.Passed.{cause-passed}
+use Rattle.peslumok_front.proofs.lemmas.front.Failed.{no-records}
+use Rattle.peslumok_front.proofs.front.grouped.index_of.Goals as goal
 
 pub returns-clause-index : goal.returns-clause-index
 returns-clause-index c = (

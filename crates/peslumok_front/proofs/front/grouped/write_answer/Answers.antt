@@ -1,11 +1,11 @@
 use Rattle.std.proofs.Common.{IfOk, List, None, subst, sym, ℕ}
 use Rattle.std.specs.Io.KnownBytes.{Appends}
-use Rattle.agg_column.specs.Document.{Fields}
+use Rattle.agg_segment.specs.storage.Document.{Fields}
 use Rattle.agg_segment.specs.Snapshot.{snapshots_documents}
-use Rattle.agg_record_index.specs.Index.{AreOneOf}
-use Rattle.agg_front.specs.Answer.{IsWritten}
-use Rattle.agg_front.specs.Pages.{room_of}
-use Rattle.agg_front.proofs.grouped.write_answer.Goals as goal
+use Rattle.peslumok_records.specs.record_index.Index.{AreOneOf}
+use Rattle.peslumok_front.specs.front.Answer.{IsWritten}
+use Rattle.peslumok_front.specs.front.Pages.{room_of}
+use Rattle.peslumok_front.proofs.front.grouped.write_answer.Goals as goal
 
 pub returns-in_default-clause-written : goal.returns-in_default-clause-written
 returns-in_default-clause-written g c =

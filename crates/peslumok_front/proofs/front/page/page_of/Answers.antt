@@ -1,7 +1,7 @@
 use Rattle.std.proofs.Common.{◌≡◌, ◌∙◌, ap, arith, get_or, length}
 use Rattle.agg_segment.specs.Snapshot.{snapshots_documents}
-use Rattle.agg_front.proofs.OnePage.{one-page, page-over}
-use Rattle.agg_front.proofs.page.page_of.Goals as goal
+use Rattle.peslumok_front.proofs.lemmas.front.OnePage.{one-page, page-over}
+use Rattle.peslumok_front.proofs.front.page.page_of.Goals as goal
 
 pub remove-requires : goal.remove-requires
 remove-requires c =

@@ -1,14 +1,14 @@
 use Rattle.std.proofs.Common.{List}
 use Rattle.agg_cache.proofs.SameLimits.{same-limits}
-use Rattle.agg_column.specs.Document.{Fields}
+use Rattle.agg_segment.specs.storage.Document.{Fields}
 use Rattle.agg_segment.specs.Snapshot.{snapshots_documents}
-use Rattle.agg_record_index.specs.Index.{AreOneOf}
-use Rattle.agg_after_text.proofs.Passed.{cause-passed}
-use Rattle.agg_front.specs.Causes.{HasNoPage, limits_of_people}
-use Rattle.agg_front.specs.Codes.{failure_of_grouping, failure_of_walk}
-use Rattle.agg_front.proofs.BuiltRefusals.{no-request, no-walk}
-use Rattle.agg_front.proofs.BuiltRequests.{page-walk}
-use Rattle.agg_front.proofs.page.walk_over.Goals as goal
+use Rattle.peslumok_records.specs.record_index.Index.{AreOneOf}
+use Rattle.peslumok_front.proofs.lemmas.after_text.Passed.{cause-passed}
+use Rattle.peslumok_front.specs.front.Causes.{HasNoPage, limits_of_people}
+use Rattle.peslumok_front.specs.front.Codes.{failure_of_grouping, failure_of_walk}
+use Rattle.peslumok_front.proofs.lemmas.front.BuiltRefusals.{no-request, no-walk}
+use Rattle.peslumok_front.proofs.lemmas.front.BuiltRequests.{page-walk}
+use Rattle.peslumok_front.proofs.front.page.walk_over.Goals as goal
 
 pub returns-clause-walk : goal.returns-clause-walk
 returns-clause-walk g c =

@@ -1,4 +1,4 @@
-use Rattle.agg_front.proofs.page.walk_page.Given as goal
+use Rattle.peslumok_front.proofs.front.page.walk_page.Given as goal
 
 -- the ledger is the one of the blank
 abbrev pub ghosts-walk_over : goal.ghosts-walk_over

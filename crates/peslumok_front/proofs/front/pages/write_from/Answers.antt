@@ -1,13 +1,13 @@
 use Rattle.std.proofs.Common.{◌++◌, ◌∙◌, arith, subst, sym}
 use Rattle.std.proofs.KnownBytes.{Appends-trans}
 use Rattle.agg_segment.specs.Snapshot.{snapshots_documents}
-use Rattle.agg_record_index.specs.Index.{AreOneOf}
-use Rattle.agg_after_text.proofs.Passed.{cause-passed}
-use Rattle.agg_front.specs.Pages.{room_of}
-use Rattle.agg_front.proofs.NoTexts.{no-page, not-taken-later}
-use Rattle.agg_front.proofs.OnePage.{page-at}
-use Rattle.agg_front.proofs.PageRuns.{run-end, run-more}
-use Rattle.agg_front.proofs.pages.write_from.Goals as goal
+use Rattle.peslumok_records.specs.record_index.Index.{AreOneOf}
+use Rattle.peslumok_front.proofs.lemmas.after_text.Passed.{cause-passed}
+use Rattle.peslumok_front.specs.front.Pages.{room_of}
+use Rattle.peslumok_front.proofs.lemmas.front.NoTexts.{no-page, not-taken-later}
+use Rattle.peslumok_front.proofs.lemmas.front.OnePage.{page-at}
+use Rattle.peslumok_front.proofs.lemmas.front.PageRuns.{run-end, run-more}
+use Rattle.peslumok_front.proofs.front.pages.write_from.Goals as goal
 
 pub returns-then-is_last-clause-written : goal.returns-then-is_last-clause-written
 returns-then-is_last-clause-written g c = λ documents are.

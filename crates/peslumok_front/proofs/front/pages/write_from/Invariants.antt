@@ -1,11 +1,11 @@
 use Rattle.std.proofs.Common.{◌≡◌, ◌==◌, ◌≤◌, List, ℕ}
 use Rattle.std.specs.Io.KnownBytes.{Appends}
-use Rattle.agg_column.specs.Document.{Fields}
+use Rattle.agg_segment.specs.storage.Document.{Fields}
 use Rattle.agg_segment.specs.Snapshot.{snapshots_documents}
-use Rattle.agg_record_index.specs.Index.{AreOneOf}
-use Rattle.agg_front.specs.Pages.{room_of}
-use Rattle.agg_front.proofs.PageRuns.{Leads}
-use Rattle.agg_front.proofs.pages.write_from.Given as goal
+use Rattle.peslumok_records.specs.record_index.Index.{AreOneOf}
+use Rattle.peslumok_front.specs.front.Pages.{room_of}
+use Rattle.peslumok_front.proofs.lemmas.front.PageRuns.{Leads}
+use Rattle.peslumok_front.proofs.front.pages.write_from.Given as goal
 
 -- what is written so far leads from the first key to the next one, and no fault is forgotten
 abbrev pub invariant-loop-number : goal.invariant-loop-number

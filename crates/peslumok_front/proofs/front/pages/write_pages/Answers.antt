@@ -1,11 +1,11 @@
 use Rattle.std.proofs.Common.{subst, sym}
-use Rattle.agg_after_text.specs.After.{NamesFirst}
-use Rattle.agg_front.specs.Columns.{columns_asked}
-use Rattle.agg_front.specs.Pages.{room_of}
-use Rattle.agg_front.proofs.NextKeys.{tells-next}
-use Rattle.agg_front.proofs.PageRuns.{written-as}
-use Rattle.agg_front.proofs.ShownKeys.{last-names}
-use Rattle.agg_front.proofs.pages.write_pages.Goals as goal
+use Rattle.peslumok_front.specs.after_text.After.{NamesFirst}
+use Rattle.peslumok_front.specs.front.Columns.{columns_asked}
+use Rattle.peslumok_front.specs.front.Pages.{room_of}
+use Rattle.peslumok_front.proofs.lemmas.front.NextKeys.{tells-next}
+use Rattle.peslumok_front.proofs.lemmas.front.PageRuns.{written-as}
+use Rattle.peslumok_front.proofs.lemmas.front.ShownKeys.{last-names}
+use Rattle.peslumok_front.proofs.front.pages.write_pages.Goals as goal
 
 pub returns-clause-written : goal.returns-clause-written
 returns-clause-written g c = λ documents are.

@@ -1,14 +1,16 @@
 use Rattle.std.proofs.Common.{List, subst, sym, ℕ, ◌++◌, ◌∙◌, ◌≡◌}
-use Rattle.agg_final_results.specs.declared.types.CompositeBucketEntry.{CompositeBucketEntry}
+use Rattle.agg_results.specs.declared.final_results.types.CompositeBucketEntry.{
+  CompositeBucketEntry,
+}
 use Rattle.agg_segment.specs.Snapshot.{snapshots_documents}
-use Rattle.agg_record_index.specs.Index.{AreOneOf}
-use Rattle.agg_front.specs.Pages.{room_of}
-use Rattle.agg_top_groups.specs.Top.{AreTop}
-use Rattle.agg_after_text.proofs.Passed.{cause-passed}
-use Rattle.agg_front.proofs.NoTexts.{no-page}
-use Rattle.agg_front.proofs.OnePage.{page-at}
-use Rattle.agg_front.proofs.TopRuns.{leads-end, leads-more, leads-start}
-use Rattle.agg_front.proofs.top.most_of.Goals as goal
+use Rattle.peslumok_records.specs.record_index.Index.{AreOneOf}
+use Rattle.peslumok_front.specs.front.Pages.{room_of}
+use Rattle.peslumok_front.specs.top_groups.Top.{AreTop}
+use Rattle.peslumok_front.proofs.lemmas.after_text.Passed.{cause-passed}
+use Rattle.peslumok_front.proofs.lemmas.front.NoTexts.{no-page}
+use Rattle.peslumok_front.proofs.lemmas.front.OnePage.{page-at}
+use Rattle.peslumok_front.proofs.lemmas.front.TopRuns.{leads-end, leads-more, leads-start}
+use Rattle.peslumok_front.proofs.front.top.most_of.Goals as goal
 
 -- groups that are added are among those with the most documents
 adds : (own count : ℕ) (old new added : List CompositeBucketEntry) → own ≡ count

@@ -1,10 +1,10 @@
 use Rattle.std.proofs.Common.{◌≡◌, List}
-use Rattle.agg_column.specs.Document.{Fields}
+use Rattle.agg_segment.specs.storage.Document.{Fields}
 use Rattle.agg_segment.specs.Snapshot.{snapshots_documents}
-use Rattle.agg_record_index.specs.Index.{AreOneOf}
-use Rattle.agg_front.specs.Pages.{room_of}
-use Rattle.agg_front.proofs.TopRuns.{Leads}
-use Rattle.agg_front.proofs.top.most_of.Given as goal
+use Rattle.peslumok_records.specs.record_index.Index.{AreOneOf}
+use Rattle.peslumok_front.specs.front.Pages.{room_of}
+use Rattle.peslumok_front.proofs.lemmas.front.TopRuns.{Leads}
+use Rattle.peslumok_front.proofs.front.top.most_of.Given as goal
 
 -- the pages so far lead from the first key to the next one, and their groups are added
 abbrev pub invariant-loop-number : goal.invariant-loop-number

@@ -1,7 +1,7 @@
 use Rattle.std.proofs.Common.{ap, ◌∙◌}
 use Rattle.agg_values.specs.Names.{without}
-use Rattle.agg_front.proofs.PageParts.{same-total}
-use Rattle.agg_front.proofs.top.take_groups.Goals as goal
+use Rattle.peslumok_front.proofs.lemmas.front.PageParts.{same-total}
+use Rattle.peslumok_front.proofs.front.top.take_groups.Goals as goal
 
 pub returns-in-Some-BucketResult-Composite-clause-total
     : goal.returns-in-Some-BucketResult-Composite-clause-total

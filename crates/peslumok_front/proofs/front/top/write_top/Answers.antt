@@ -1,6 +1,6 @@
-use Rattle.agg_after_text.proofs.Passed.{cause-passed}
-use Rattle.agg_front.proofs.NoTexts.{sink-weaker}
-use Rattle.agg_front.proofs.top.write_top.Goals as goal
+use Rattle.peslumok_front.proofs.lemmas.after_text.Passed.{cause-passed}
+use Rattle.peslumok_front.proofs.lemmas.front.NoTexts.{sink-weaker}
+use Rattle.peslumok_front.proofs.front.top.write_top.Goals as goal
 
 pub returns-in_err-most-clause-cause : goal.returns-in_err-most-clause-cause
 returns-in_err-most-clause-cause g c =

@@ -1,5 +1,5 @@
 use Rattle.std.proofs.Common.{◌∷◌, [], refl}
-use Rattle.agg_front.proofs.written.add_total.Goals as goal
+use Rattle.peslumok_front.proofs.front.written.add_total.Goals as goal
 
 pub returns-in_ok-push : goal.returns-in_ok-push
 returns-in_ok-push c =

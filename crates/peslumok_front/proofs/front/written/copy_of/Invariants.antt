@@ -1,5 +1,5 @@
 use Rattle.std.proofs.Common.{◌≡◌, ◌++◌}
-use Rattle.agg_front.proofs.written.copy_of.Given as goal
+use Rattle.peslumok_front.proofs.front.written.copy_of.Given as goal
 
 -- the entries so far are copied
 abbrev pub invariant-loop-source : goal.invariant-loop-source

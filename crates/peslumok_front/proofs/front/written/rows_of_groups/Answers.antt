@@ -1,5 +1,5 @@
-use Rattle.agg_front.proofs.Rows.{group-more}
-use Rattle.agg_front.proofs.written.rows_of_groups.Goals as goal
+use Rattle.peslumok_front.proofs.lemmas.front.Rows.{group-more}
+use Rattle.peslumok_front.proofs.front.written.rows_of_groups.Goals as goal
 
 pub loop-group-preserved : goal.loop-group-preserved
 loop-group-preserved c =

@@ -1,7 +1,7 @@
 use Rattle.std.proofs.Common.{take}
 use Rattle.std.specs.List.{AllZip}
-use Rattle.agg_front.specs.Written.{IsGroupRow}
-use Rattle.agg_front.proofs.written.rows_of_groups.Given as goal
+use Rattle.peslumok_front.specs.front.Written.{IsGroupRow}
+use Rattle.peslumok_front.proofs.front.written.rows_of_groups.Given as goal
 
 -- the rows so far are those of the groups so far
 abbrev pub invariant-loop-group : goal.invariant-loop-group

@@ -1,7 +1,7 @@
 use Rattle.std.proofs.Common.{◌≢◌, arith, length}
 use Rattle.std.proofs.lemmas.Bool.Decides.{nat_tests}
-use Rattle.agg_grouping.proofs.MatchedTerms.{matches-all}
-use Rattle.agg_grouping.proofs.boolean.all_of.Goals as goal
+use Rattle.peslumok_front.proofs.lemmas.grouping.MatchedTerms.{matches-all}
+use Rattle.peslumok_front.proofs.grouping.boolean.all_of.Goals as goal
 
 pub returns : goal.returns
 returns c document =

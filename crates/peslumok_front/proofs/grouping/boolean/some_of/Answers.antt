@@ -1,5 +1,5 @@
-use Rattle.agg_grouping.proofs.MatchedTerms.{matches-some}
-use Rattle.agg_grouping.proofs.boolean.some_of.Goals as goal
+use Rattle.peslumok_front.proofs.lemmas.grouping.MatchedTerms.{matches-some}
+use Rattle.peslumok_front.proofs.grouping.boolean.some_of.Goals as goal
 
 pub returns : goal.returns
 returns c document =

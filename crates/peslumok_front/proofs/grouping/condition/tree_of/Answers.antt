@@ -1,10 +1,10 @@
 use Rattle.std.proofs.Common.{◌≡◌, ◌∙◌, ap, subst, IfOk, IfErr}
-use Rattle.agg_column.specs.Document.{Fields}
+use Rattle.agg_segment.specs.storage.Document.{Fields}
 use Rattle.agg_segment.specs.Query.{matches}
-use Rattle.agg_fields.specs.Types.{type_of}
-use Rattle.agg_words.specs.Condition.{demand}
-use Rattle.agg_grouping.specs.Query.{RefusesTest, passes}
-use Rattle.agg_grouping.proofs.condition.tree_of.Goals as goal
+use Rattle.peslumok_texts.specs.fields.Types.{type_of}
+use Rattle.peslumok_texts.specs.words.Condition.{demand}
+use Rattle.peslumok_front.specs.grouping.Query.{RefusesTest, passes}
+use Rattle.peslumok_front.proofs.grouping.condition.tree_of.Goals as goal
 
 pub returns-clause-met : goal.returns-clause-met
 returns-clause-met c =

@@ -1,6 +1,6 @@
 use Rattle.std.proofs.lemmas.Result.{on_ok_weaker}
-use Rattle.agg_grouping.proofs.AddedFields.{added-Boolean}
-use Rattle.agg_grouping.proofs.fields.+queries.Goals as goal
+use Rattle.peslumok_front.proofs.lemmas.grouping.AddedFields.{added-Boolean}
+use Rattle.peslumok_front.proofs.grouping.fields.+queries.Goals as goal
 
 pub ask_query-returns-in_ok-ask_all-in-Boolean-2 :
     goal.ask_query-returns-in_ok-ask_all-in-Boolean-2

@@ -1,7 +1,7 @@
 use Rattle.std.proofs.Common.{take}
 use Rattle.std.specs.List.{flat_map}
-use Rattle.agg_grouping.specs.Fields.{AreAdded, fields_in}
-use Rattle.agg_grouping.proofs.fields.+queries.Given as goal
+use Rattle.peslumok_front.specs.grouping.Fields.{AreAdded, fields_in}
+use Rattle.peslumok_front.proofs.grouping.fields.+queries.Given as goal
 
 -- the fields of the queries so far are asked for
 abbrev pub invariant-ask_all-loop-query : goal.invariant-ask_all-loop-query

@@ -1,7 +1,7 @@
 use Rattle.std.proofs.Common.{◌∙◌, ap}
 use Rattle.agg_values.specs.Names.{put}
-use Rattle.agg_grouping.proofs.AddedFields.{added-put}
-use Rattle.agg_grouping.proofs.fields.ask.Goals as goal
+use Rattle.peslumok_front.proofs.lemmas.grouping.AddedFields.{added-put}
+use Rattle.peslumok_front.proofs.grouping.fields.ask.Goals as goal
 
 pub returns : goal.returns
 returns c =

@@ -1,5 +1,5 @@
-use Rattle.agg_grouping.proofs.AddedFields.{added-item}
-use Rattle.agg_grouping.proofs.fields.ask_metrics.Goals as goal
+use Rattle.peslumok_front.proofs.lemmas.grouping.AddedFields.{added-item}
+use Rattle.peslumok_front.proofs.grouping.fields.ask_metrics.Goals as goal
 
 pub loop-metric-preserved : goal.loop-metric-preserved
 loop-metric-preserved c =

@@ -1,6 +1,6 @@
 use Rattle.std.proofs.Common.{map, take}
-use Rattle.agg_grouping.specs.Fields.{AreAdded}
-use Rattle.agg_grouping.proofs.fields.ask_metrics.Given as goal
+use Rattle.peslumok_front.specs.grouping.Fields.{AreAdded}
+use Rattle.peslumok_front.proofs.grouping.fields.ask_metrics.Given as goal
 
 -- the fields so far are asked for
 abbrev pub invariant-loop-metric : goal.invariant-loop-metric

@@ -1,5 +1,5 @@
-use Rattle.agg_grouping.proofs.AddedFields.{added-item}
-use Rattle.agg_grouping.proofs.fields.ask_sources.Goals as goal
+use Rattle.peslumok_front.proofs.lemmas.grouping.AddedFields.{added-item}
+use Rattle.peslumok_front.proofs.grouping.fields.ask_sources.Goals as goal
 
 pub loop-by-preserved : goal.loop-by-preserved
 loop-by-preserved c =

@@ -1,5 +1,5 @@
-use Rattle.agg_grouping.proofs.NoBuilders.{request-alike, request-none}
-use Rattle.agg_grouping.proofs.laws.groupings_have_no_builders.Goals as goal
+use Rattle.peslumok_front.proofs.lemmas.grouping.NoBuilders.{request-alike, request-none}
+use Rattle.peslumok_front.proofs.grouping.laws.groupings_have_no_builders.Goals as goal
 
 pub returns-clause-none : goal.returns-clause-none
 returns-clause-none g c = request-none

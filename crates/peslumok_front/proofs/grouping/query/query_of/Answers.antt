@@ -1,5 +1,5 @@
-use Rattle.agg_grouping.proofs.AskedQueries.{no_text, with_text}
-use Rattle.agg_grouping.proofs.query.query_of.Goals as goal
+use Rattle.peslumok_front.proofs.lemmas.grouping.AskedQueries.{no_text, with_text}
+use Rattle.peslumok_front.proofs.grouping.query.query_of.Goals as goal
 
 pub returns-in_default-clause-met : goal.returns-in_default-clause-met
 returns-in_default-clause-met c =

@@ -1,7 +1,7 @@
 use Rattle.std.proofs.lemmas.Result.{err_from_is_err_and}
 use Rattle.serde_json.specs.View.{view}
-use Rattle.agg_grouping.proofs.Refusals.{said_refused}
-use Rattle.agg_grouping.proofs.query.query_said.Goals as goal
+use Rattle.peslumok_front.proofs.lemmas.grouping.Refusals.{said_refused}
+use Rattle.peslumok_front.proofs.grouping.query.query_said.Goals as goal
 
 pub returns-in_err-read_query-clause-cause : goal.returns-in_err-read_query-clause-cause
 returns-in_err-read_query-clause-cause c =

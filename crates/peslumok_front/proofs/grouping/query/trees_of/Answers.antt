@@ -1,6 +1,6 @@
 use Rattle.std.proofs.lemmas.Result.{err_from_is_err_and}
-use Rattle.agg_grouping.proofs.Refusals.{condition_refused}
-use Rattle.agg_grouping.proofs.query.trees_of.Goals as goal
+use Rattle.peslumok_front.proofs.lemmas.grouping.Refusals.{condition_refused}
+use Rattle.peslumok_front.proofs.grouping.query.trees_of.Goals as goal
 
 pub returns-in_err-tree-clause-cause : goal.returns-in_err-tree-clause-cause
 returns-in_err-tree-clause-cause c =

@@ -1,10 +1,10 @@
 use Rattle.std.proofs.Common.{◌≡◌, take}
 use Rattle.std.specs.List.{list_all}
-use Rattle.agg_column.specs.Document.{Fields}
+use Rattle.agg_segment.specs.storage.Document.{Fields}
 use Rattle.agg_segment.specs.Query.{all_match, matches}
-use Rattle.agg_words.specs.Condition.{parts}
-use Rattle.agg_grouping.specs.Query.{meets}
-use Rattle.agg_grouping.proofs.query.trees_of.Given as goal
+use Rattle.peslumok_texts.specs.words.Condition.{parts}
+use Rattle.peslumok_front.specs.grouping.Query.{meets}
+use Rattle.peslumok_front.proofs.grouping.query.trees_of.Given as goal
 
 -- all queries so far match what meets the conditions so far
 abbrev pub invariant-loop-condition : goal.invariant-loop-condition

@@ -1,7 +1,7 @@
 use Rattle.std.proofs.Common.{◌≡◌, Ok, map, take}
-use Rattle.agg_words.specs.By.{parts}
-use Rattle.agg_grouping.specs.Sources.{source_asked}
-use Rattle.agg_grouping.proofs.request.composite_of.Given as goal
+use Rattle.peslumok_texts.specs.words.By.{parts}
+use Rattle.peslumok_front.specs.grouping.Sources.{source_asked}
+use Rattle.peslumok_front.proofs.grouping.request.composite_of.Given as goal
 
 -- the sources so far are those that are asked for
 abbrev pub invariant-loop-by : goal.invariant-loop-by

@@ -1,5 +1,5 @@
-use Rattle.agg_grouping.proofs.AskedRequests.{groups-made}
-use Rattle.agg_grouping.proofs.request.groups_of.Goals as goal
+use Rattle.peslumok_front.proofs.lemmas.grouping.AskedRequests.{groups-made}
+use Rattle.peslumok_front.proofs.grouping.request.groups_of.Goals as goal
 
 pub returns-clause-asked : goal.returns-clause-asked
 returns-clause-asked g c =

@@ -1,5 +1,5 @@
-use Rattle.agg_grouping.proofs.NamedMetrics.{metrics-more}
-use Rattle.agg_grouping.proofs.request.metrics_of.Goals as goal
+use Rattle.peslumok_front.proofs.lemmas.grouping.NamedMetrics.{metrics-more}
+use Rattle.peslumok_front.proofs.grouping.request.metrics_of.Goals as goal
 
 pub loop-metric-preserved : goal.loop-metric-preserved
 loop-metric-preserved g c =

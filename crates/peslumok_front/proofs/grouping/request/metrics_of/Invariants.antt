@@ -1,6 +1,6 @@
 use Rattle.std.proofs.Common.{take}
-use Rattle.agg_grouping.specs.Request.{AreMetricsOf}
-use Rattle.agg_grouping.proofs.request.metrics_of.Given as goal
+use Rattle.peslumok_front.specs.grouping.Request.{AreMetricsOf}
+use Rattle.peslumok_front.proofs.grouping.request.metrics_of.Given as goal
 
 -- the metrics so far are below
 abbrev pub invariant-loop-metric : goal.invariant-loop-metric

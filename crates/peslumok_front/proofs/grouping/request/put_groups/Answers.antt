@@ -1,5 +1,5 @@
 use Rattle.std.proofs.Common.{refl}
-use Rattle.agg_grouping.proofs.request.put_groups.Goals as goal
+use Rattle.peslumok_front.proofs.grouping.request.put_groups.Goals as goal
 
 pub returns-clause-asked : goal.returns-clause-asked
 returns-clause-asked g c = record {

@@ -1,5 +1,5 @@
-use Rattle.agg_grouping.proofs.NamedMetrics.{metric-put}
-use Rattle.agg_grouping.proofs.request.put_metric.Goals as goal
+use Rattle.peslumok_front.proofs.lemmas.grouping.NamedMetrics.{metric-put}
+use Rattle.peslumok_front.proofs.grouping.request.put_metric.Goals as goal
 
 pub returns : goal.returns
 returns g c =

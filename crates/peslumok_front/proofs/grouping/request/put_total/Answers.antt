@@ -1,5 +1,5 @@
 use Rattle.std.proofs.Common.{refl}
-use Rattle.agg_grouping.proofs.request.put_total.Goals as goal
+use Rattle.peslumok_front.proofs.grouping.request.put_total.Goals as goal
 
 pub returns : goal.returns
 returns g c = record {

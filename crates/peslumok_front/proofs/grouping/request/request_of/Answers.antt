@@ -1,5 +1,5 @@
-use Rattle.agg_grouping.proofs.AskedRequests.{with_total, without_total}
-use Rattle.agg_grouping.proofs.request.request_of.Goals as goal
+use Rattle.peslumok_front.proofs.lemmas.grouping.AskedRequests.{with_total, without_total}
+use Rattle.peslumok_front.proofs.grouping.request.request_of.Goals as goal
 use goal.{else-grouping, then-grouping+in_ok-put_total}
 
 pub returns-clause-asked : goal.returns-clause-asked

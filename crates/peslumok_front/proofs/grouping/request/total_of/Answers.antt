@@ -1,5 +1,5 @@
-use Rattle.agg_grouping.proofs.AskedRequests.{total-made}
-use Rattle.agg_grouping.proofs.request.total_of.Goals as goal
+use Rattle.peslumok_front.proofs.lemmas.grouping.AskedRequests.{total-made}
+use Rattle.peslumok_front.proofs.grouping.request.total_of.Goals as goal
 
 pub returns : goal.returns
 returns g c =

@@ -1,7 +1,7 @@
 use Rattle.std.proofs.Common.{◌∙◌, ap, sym, option_map}
-use Rattle.agg_words.specs.By.{parts}
-use Rattle.agg_grouping.proofs.AskedSources.{not_divided, source_divided}
-use Rattle.agg_grouping.proofs.source.source_of.Goals as goal
+use Rattle.peslumok_texts.specs.words.By.{parts}
+use Rattle.peslumok_front.proofs.lemmas.grouping.AskedSources.{not_divided, source_divided}
+use Rattle.peslumok_front.proofs.grouping.source.source_of.Goals as goal
 
 pub returns-in-Ok-clause-source : goal.returns-in-Ok-clause-source
 returns-in-Ok-clause-source c =

@@ -1,6 +1,6 @@
 use Rattle.std.proofs.Common.{arith}
-use Rattle.agg_tables.proofs.CellLists.{group-more}
-use Rattle.agg_tables.proofs.cells.cells_of_group.Goals as goal
+use Rattle.peslumok_front.proofs.lemmas.tables.CellLists.{group-more}
+use Rattle.peslumok_front.proofs.tables.cells.cells_of_group.Goals as goal
 
 pub loop-column-preserved : goal.loop-column-preserved
 loop-column-preserved c =

@@ -1,7 +1,7 @@
 use Rattle.std.proofs.Common.{map, take}
-use Rattle.agg_tables.specs.Cells.{shown_by}
-use Rattle.agg_tables.specs.Groups.{ShowsGroup}
-use Rattle.agg_tables.proofs.cells.cells_of_group.Given as goal
+use Rattle.peslumok_front.specs.tables.Cells.{shown_by}
+use Rattle.peslumok_front.specs.tables.Groups.{ShowsGroup}
+use Rattle.peslumok_front.proofs.tables.cells.cells_of_group.Given as goal
 
 -- the cells so far are those of the columns so far
 abbrev pub invariant-loop-column : goal.invariant-loop-column

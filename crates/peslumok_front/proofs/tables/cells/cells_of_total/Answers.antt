@@ -1,8 +1,8 @@
 use Rattle.std.proofs.Common.{arith, map}
 use Rattle.std.specs.Prelude.{codes}
-use Rattle.agg_tables.specs.Cells.{shown_by}
-use Rattle.agg_tables.proofs.CellLists.{totals-done}
-use Rattle.agg_tables.proofs.cells.cells_of_total.Goals as goal
+use Rattle.peslumok_front.specs.tables.Cells.{shown_by}
+use Rattle.peslumok_front.proofs.lemmas.tables.CellLists.{totals-done}
+use Rattle.peslumok_front.proofs.tables.cells.cells_of_total.Goals as goal
 
 pub returns-clause-cells : goal.returns-clause-cells
 returns-clause-cells c =

@@ -2,9 +2,9 @@ use Rattle.std.proofs.Common.{◌++◌, List, drop, map}
 use Rattle.std.specs.Prelude.{codes}
 use denote.Text.{Utf8}
 use denote.Shadow.{shadow}
-use Rattle.agg_tables.specs.Cells.{Shown, shown_by}
-use Rattle.agg_tables.specs.Groups.{ShowsTotals}
-use Rattle.agg_tables.proofs.cells.cells_of_total.Given as goal
+use Rattle.peslumok_front.specs.tables.Cells.{Shown, shown_by}
+use Rattle.peslumok_front.specs.tables.Groups.{ShowsTotals}
+use Rattle.peslumok_front.proofs.tables.cells.cells_of_total.Given as goal
 
 -- the label is text, and the cells so far with those of the columns that are left are the whole
 abbrev pub invariant-loop-column : goal.invariant-loop-column

@@ -1,6 +1,6 @@
 use Rattle.std.proofs.Common.{◌∙◌}
-use Rattle.agg_tables.proofs.CsvCells.{blank-many, blank-none, blank-one}
-use Rattle.agg_tables.proofs.csv_lines.is_blank.Goals as goal
+use Rattle.peslumok_front.proofs.lemmas.tables.CsvCells.{blank-many, blank-none, blank-one}
+use Rattle.peslumok_front.proofs.tables.csv_lines.is_blank.Goals as goal
 
 pub returns-in-empty : goal.returns-in-empty
 returns-in-empty c = blank-none c.args.cells.now c.in-empty.len_below

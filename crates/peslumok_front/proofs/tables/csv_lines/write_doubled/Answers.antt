@@ -1,6 +1,6 @@
 use Rattle.std.proofs.Common.{◌++◌, ◌∙◌, ap, string_bytes, sym}
-use Rattle.agg_tables.proofs.QuotedCells.{escaped-other, escaped-quote}
-use Rattle.agg_tables.proofs.csv_lines.write_doubled.Goals as goal
+use Rattle.peslumok_front.proofs.lemmas.tables.QuotedCells.{escaped-other, escaped-quote}
+use Rattle.peslumok_front.proofs.tables.csv_lines.write_doubled.Goals as goal
 
 pub returns-then-c-eq34 : goal.returns-then-c-eq34
 returns-then-c-eq34 c =

@@ -1,7 +1,7 @@
 use Rattle.std.proofs.Common.{arith}
-use Rattle.agg_tables.proofs.Parts.{byte-appended}
-use Rattle.agg_tables.proofs.QuotedCells.{character-appended, quoted-appended}
-use Rattle.agg_tables.proofs.csv_lines.write_in_quotes.Goals as goal
+use Rattle.peslumok_front.proofs.lemmas.tables.Parts.{byte-appended}
+use Rattle.peslumok_front.proofs.lemmas.tables.QuotedCells.{character-appended, quoted-appended}
+use Rattle.peslumok_front.proofs.tables.csv_lines.write_in_quotes.Goals as goal
 
 pub loop-c-preserved : goal.loop-c-preserved
 loop-c-preserved c =

@@ -1,7 +1,7 @@
 use Rattle.std.proofs.Common.{arith, string_bytes}
-use Rattle.agg_tables.proofs.CsvCells.{cell-appended, no-cells}
-use Rattle.agg_tables.proofs.Parts.{byte-appended}
-use Rattle.agg_tables.proofs.csv_lines.write_rest.Goals as goal
+use Rattle.peslumok_front.proofs.lemmas.tables.CsvCells.{cell-appended, no-cells}
+use Rattle.peslumok_front.proofs.lemmas.tables.Parts.{byte-appended}
+use Rattle.peslumok_front.proofs.tables.csv_lines.write_rest.Goals as goal
 
 pub loop-cell-init : goal.loop-cell-init
 loop-cell-init c = no-cells (string_bytes c.args.out.now)

@@ -1,6 +1,6 @@
 use Rattle.std.proofs.Common.{◌≡◌, ◌++◌, map, string_bytes, take}
 use Rattle.csv.specs.Writing.{default_writer, fields_text}
-use Rattle.agg_tables.proofs.csv_lines.write_rest.Given as goal
+use Rattle.peslumok_front.proofs.tables.csv_lines.write_rest.Given as goal
 
 -- the cells so far are appended
 abbrev pub invariant-loop-cell : goal.invariant-loop-cell

@@ -1,11 +1,11 @@
 use Rattle.std.proofs.Common.{◌++◌, ◌∙◌, [], ap, arith, string_bytes}
 use Rattle.std.specs.Prelude.{codes, if◌then◌else◌, not}
-use Rattle.agg_final_results.specs.Appending.{more_items}
-use Rattle.agg_tables.specs.Cells.{is_total, shown_cells}
-use Rattle.agg_tables.specs.JsonLines.{column_members}
-use Rattle.agg_tables.proofs.JsonMembers.{line-written}
-use Rattle.agg_tables.proofs.Parts.{byte-appended}
-use Rattle.agg_tables.proofs.json_lines.write_json_line.Goals as goal
+use Rattle.agg_results.specs.final_results.Appending.{more_items}
+use Rattle.peslumok_front.specs.tables.Cells.{is_total, shown_cells}
+use Rattle.peslumok_front.specs.tables.JsonLines.{column_members}
+use Rattle.peslumok_front.proofs.lemmas.tables.JsonMembers.{line-written}
+use Rattle.peslumok_front.proofs.lemmas.tables.Parts.{byte-appended}
+use Rattle.peslumok_front.proofs.tables.json_lines.write_json_line.Goals as goal
 
 pub returns : goal.returns
 returns c =

@@ -1,11 +1,11 @@
 use Rattle.std.proofs.Common.{◌++◌, ◌∙◌, ap, string_bytes}
 use Rattle.std.proofs.lemmas.Slice.Zip.{either_empty_from_Zip}
 use Rattle.std.specs.Prelude.{not}
-use Rattle.agg_final_results.specs.Appending.{more_items}
-use Rattle.agg_tables.specs.Cells.{shown_cells}
-use Rattle.agg_tables.specs.JsonLines.{column_members}
-use Rattle.agg_tables.proofs.JsonMembers.{members-done}
-use Rattle.agg_tables.proofs.json_lines.write_members.Goals as goal
+use Rattle.agg_results.specs.final_results.Appending.{more_items}
+use Rattle.peslumok_front.specs.tables.Cells.{shown_cells}
+use Rattle.peslumok_front.specs.tables.JsonLines.{column_members}
+use Rattle.peslumok_front.proofs.lemmas.tables.JsonMembers.{members-done}
+use Rattle.peslumok_front.proofs.tables.json_lines.write_members.Goals as goal
 
 pub returns : goal.returns
 returns c =

@@ -1,10 +1,10 @@
 use Rattle.std.proofs.Common.{◌≡◌, ◌++◌, map, string_bytes}
 use Rattle.std.specs.Iterator.Adapters.{zip_first, zip_second}
 use Rattle.std.specs.Slice.Iter.{iter_rest}
-use Rattle.agg_final_results.specs.Appending.{more_items}
-use Rattle.agg_tables.specs.Cells.{shown_by, shown_cells}
-use Rattle.agg_tables.specs.JsonLines.{column_members}
-use Rattle.agg_tables.proofs.json_lines.write_members.Given as goal
+use Rattle.agg_results.specs.final_results.Appending.{more_items}
+use Rattle.peslumok_front.specs.tables.Cells.{shown_by, shown_cells}
+use Rattle.peslumok_front.specs.tables.JsonLines.{column_members}
+use Rattle.peslumok_front.proofs.tables.json_lines.write_members.Given as goal
 
 -- the text so far with the members that are left is the whole
 abbrev pub invariant-loop-column : goal.invariant-loop-column

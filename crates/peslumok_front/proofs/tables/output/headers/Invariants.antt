@@ -1,6 +1,6 @@
 use Rattle.std.proofs.Common.{◌≡◌, map, take}
-use Rattle.agg_tables.specs.Columns.{header_of}
-use Rattle.agg_tables.proofs.output.headers.Given as goal
+use Rattle.peslumok_front.specs.tables.Columns.{header_of}
+use Rattle.peslumok_front.proofs.tables.output.headers.Given as goal
 
 -- the headers of the columns so far
 abbrev pub invariant-loop-column : goal.invariant-loop-column

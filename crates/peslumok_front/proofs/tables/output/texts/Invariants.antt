@@ -1,7 +1,7 @@
 use Rattle.std.proofs.Common.{◌≡◌, map, take}
-use Rattle.agg_tables.specs.Cells.{shown_by}
-use Rattle.agg_tables.specs.Output.{csv_cell}
-use Rattle.agg_tables.proofs.output.texts.Given as goal
+use Rattle.peslumok_front.specs.tables.Cells.{shown_by}
+use Rattle.peslumok_front.specs.tables.Output.{csv_cell}
+use Rattle.peslumok_front.proofs.tables.output.texts.Given as goal
 
 -- the texts of the cells so far
 abbrev pub invariant-loop-cell : goal.invariant-loop-cell

@@ -1,6 +1,6 @@
-use Rattle.agg_tables.specs.Output.{csv_records}
-use Rattle.agg_tables.proofs.RecordsBack.{records-read-back}
-use Rattle.agg_tables.proofs.output.write_csv.Goals as goal
+use Rattle.peslumok_front.specs.tables.Output.{csv_records}
+use Rattle.peslumok_front.proofs.lemmas.tables.RecordsBack.{records-read-back}
+use Rattle.peslumok_front.proofs.tables.output.write_csv.Goals as goal
 
 pub returns-in_err-write_csv_header-clause-reads_back :
     goal.returns-in_err-write_csv_header-clause-reads_back

@@ -1,6 +1,6 @@
 use Rattle.std.proofs.Common.{◌≡◌, ◌++◌, map, string_bytes, take}
-use Rattle.agg_tables.specs.Output.{csv_lines, csv_record}
-use Rattle.agg_tables.proofs.output.write_csv_rows.Given as goal
+use Rattle.peslumok_front.specs.tables.Output.{csv_lines, csv_record}
+use Rattle.peslumok_front.proofs.tables.output.write_csv_rows.Given as goal
 
 -- the lines of the rows so far are appended
 abbrev pub invariant-loop-row : goal.invariant-loop-row

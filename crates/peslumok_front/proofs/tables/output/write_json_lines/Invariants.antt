@@ -1,7 +1,7 @@
 use Rattle.std.proofs.Common.{◌≡◌, ◌++◌, string_bytes, take}
 use Rattle.std.specs.Prelude.{flat_map}
-use Rattle.agg_tables.specs.JsonLines.{json_line}
-use Rattle.agg_tables.proofs.output.write_json_lines.Given as goal
+use Rattle.peslumok_front.specs.tables.JsonLines.{json_line}
+use Rattle.peslumok_front.proofs.tables.output.write_json_lines.Given as goal
 
 -- the lines of the rows so far are appended
 abbrev pub invariant-loop-row : goal.invariant-loop-row

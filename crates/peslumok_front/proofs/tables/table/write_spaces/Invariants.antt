@@ -1,5 +1,5 @@
 use Rattle.std.proofs.Common.{◌≡◌, ◌++◌, replicate, string_bytes}
-use Rattle.agg_tables.proofs.table.write_spaces.Given as goal
+use Rattle.peslumok_front.proofs.tables.table.write_spaces.Given as goal
 
 -- so many spaces so far
 abbrev pub invariant-loop : goal.invariant-loop

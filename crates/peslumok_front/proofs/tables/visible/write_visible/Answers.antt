@@ -2,9 +2,9 @@ use Rattle.std.proofs.Common.{◌++◌, ◌∙◌, ap, map-id, string_bytes, sym
 use Rattle.std.proofs.lemmas.Iterator.{YieldsList-from_chars}
 use Rattle.std.proofs.lemmas.Iterator.Consumers.{YieldsList-end}
 use Rattle.std.specs.Prelude.{flat_map}
-use Rattle.agg_tables.specs.Visible.{visible_char}
-use Rattle.agg_tables.proofs.Harmless.{visible-harmless}
-use Rattle.agg_tables.proofs.visible.write_visible.Goals as goal
+use Rattle.peslumok_front.specs.tables.Visible.{visible_char}
+use Rattle.peslumok_front.proofs.lemmas.tables.Harmless.{visible-harmless}
+use Rattle.peslumok_front.proofs.tables.visible.write_visible.Goals as goal
 
 pub returns-clause-appends : goal.returns-clause-appends
 returns-clause-appends c =

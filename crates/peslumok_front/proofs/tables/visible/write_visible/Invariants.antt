@@ -1,7 +1,7 @@
 use Rattle.std.proofs.Common.{◌≡◌, ◌++◌, string_bytes}
 use Rattle.std.specs.Prelude.{flat_map}
-use Rattle.agg_tables.specs.Visible.{visible_char}
-use Rattle.agg_tables.proofs.visible.write_visible.Given as goal
+use Rattle.peslumok_front.specs.tables.Visible.{visible_char}
+use Rattle.peslumok_front.proofs.tables.visible.write_visible.Given as goal
 
 -- what shows for the characters so far is appended
 abbrev pub invariant-loop-c : goal.invariant-loop-c

@@ -1,7 +1,8 @@
 use Rattle.std.proofs.Common.{leb, rules}
 use Rattle.std.proofs.lemmas.List.Sorted.{IsPartitionPoint-from_clause}
-use Rattle.agg_top_groups.proofs.TopPlaces.{cut-by-count, last-count, place-at-cut, place-at-end}
-use Rattle.agg_top_groups.proofs.groups.rank_of.Goals as goal
+use Rattle.peslumok_front.proofs.lemmas.top_groups.TopPlaces.{cut-by-count, last-count}
+use Rattle.peslumok_front.proofs.lemmas.top_groups.TopPlaces.{place-at-cut, place-at-end}
+use Rattle.peslumok_front.proofs.top_groups.groups.rank_of.Goals as goal
 
 pub returns-clause-place : goal.returns-clause-place
 returns-clause-place c = λ sorted.

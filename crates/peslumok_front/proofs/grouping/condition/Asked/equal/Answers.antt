@@ -1,7 +1,7 @@
 use Rattle.std.proofs.Common.{◌∙◌, ap}
 use Rattle.agg_segment.specs.Query.{matches}
-use Rattle.agg_grouping.proofs.MatchedTerms.{holds-one, one-term}
-use Rattle.agg_grouping.proofs.condition.Asked.equal.Goals as goal
+use Rattle.peslumok_front.proofs.lemmas.grouping.MatchedTerms.{holds-one, one-term}
+use Rattle.peslumok_front.proofs.grouping.condition.Asked.equal.Goals as goal
 
 pub returns-in_ok-term-in_default : goal.returns-in_ok-term-in_default
 returns-in_ok-term-in_default c = record {

@@ -1,8 +1,8 @@
 use Rattle.std.proofs.Common.{◌∙◌, ◌∷◌, ap, sym}
 use Rattle.agg_segment.specs.Query.{matches, some_matches}
-use Rattle.agg_grouping.specs.Query.{plain_values}
-use Rattle.agg_grouping.proofs.MatchedTerms.{some-terms, three-terms, two-terms}
-use Rattle.agg_grouping.proofs.condition.Asked.plain.Goals as goal
+use Rattle.peslumok_front.specs.grouping.Query.{plain_values}
+use Rattle.peslumok_front.proofs.lemmas.grouping.MatchedTerms.{some-terms, three-terms, two-terms}
+use Rattle.peslumok_front.proofs.grouping.condition.Asked.plain.Goals as goal
 
 pub returns-in_default : goal.returns-in_default
 returns-in_default c document =

@@ -1,11 +1,12 @@
 use Rattle.std.proofs.Common.{ap, arith, length, subst, sym, ◌∙◌, ◌≤◌}
 use Rattle.std.specs.Prelude.{insert}
 use Rattle.std.specs.List.Sorted.{IsSortedBy}
-use Rattle.agg_top_groups.specs.Top.{has_more}
-use Rattle.agg_top_groups.proofs.TopPlaces.{left-out, pushed-out, put-in, rank, top-more}
-use Rattle.agg_top_groups.proofs.TopPlaces.{top-sorted}
-use Rattle.agg_top_groups.proofs.groups.TopGroups.add.Goals as goal
-use Rattle.agg_top_groups.proofs.groups.TopGroups.add.Goals.{then-len-self, else-len-self}
+use Rattle.peslumok_front.specs.top_groups.Top.{has_more}
+use Rattle.peslumok_front.proofs.lemmas.top_groups.TopPlaces.{left-out, pushed-out, put-in, rank}
+use Rattle.peslumok_front.proofs.lemmas.top_groups.TopPlaces.{top-more, top-sorted}
+use Rattle.peslumok_front.proofs.top_groups.groups.TopGroups.add.Goals as goal
+use Rattle.peslumok_front.proofs.top_groups.groups.TopGroups.add.Goals.{then-len-self}
+use Rattle.peslumok_front.proofs.top_groups.groups.TopGroups.add.Goals.{else-len-self}
 
 pub returns-then-place-self-clause-groups : goal.returns-then-place-self-clause-groups
 returns-then-place-self-clause-groups c = λ before are.

@@ -1,6 +1,6 @@
 use Rattle.std.proofs.Common.{[], append_assoc, subst, sym, ◌++◌, ◌∙◌, ◌∷◌, ℕ}
-use Rattle.agg_top_groups.specs.Top.{AreTop}
-use Rattle.agg_top_groups.proofs.groups.TopGroups.add_all.Goals as goal
+use Rattle.peslumok_front.specs.top_groups.Top.{AreTop}
+use Rattle.peslumok_front.proofs.top_groups.groups.TopGroups.add_all.Goals as goal
 
 pub loop-group-preserved : goal.loop-group-preserved
 loop-group-preserved c = record {

@@ -1,7 +1,9 @@
 use Rattle.std.proofs.Common.{◌≡◌, ◌++◌, List}
-use Rattle.agg_final_results.specs.declared.types.CompositeBucketEntry.{CompositeBucketEntry}
-use Rattle.agg_top_groups.specs.Top.{AreTop}
-use Rattle.agg_top_groups.proofs.groups.TopGroups.add_all.Given as goal
+use Rattle.agg_results.specs.declared.final_results.types.CompositeBucketEntry.{
+  CompositeBucketEntry,
+}
+use Rattle.peslumok_front.specs.top_groups.Top.{AreTop}
+use Rattle.peslumok_front.proofs.top_groups.groups.TopGroups.add_all.Given as goal
 
 -- the groups so far are added
 abbrev pub invariant-loop-group : goal.invariant-loop-group

@@ -1,5 +1,0 @@
-use Rattle.agg_grouping.proofs.AskedSources.{called-as_column}
-use Rattle.agg_grouping.proofs.laws.sources_are_called_as_their_columns.Goals as goal
-
-pub returns : goal.returns
-returns c types by source is = called-as_column types by source is
