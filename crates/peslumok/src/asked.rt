@@ -1,17 +1,18 @@
 //! What the options ask.
-use agg_command_line::{GroupOptions, OutputFormat as Chosen};
-use agg_fields::{FieldType, FieldTypes};
-use agg_front::{Asked, Failure, Pages};
-use agg_grouping::{Grouping, GroupingError};
-use agg_tables::OutputFormat;
 use agg_values::Text;
-use agg_words::DateField;
+use peslumok_command_line::{GroupOptions, OutputFormat as Chosen};
+use peslumok_front::front::{Asked, Failure, Pages};
+use peslumok_front::grouping::{Grouping, GroupingError};
+use peslumok_front::tables::OutputFormat;
+use peslumok_texts::fields::{FieldType, FieldTypes};
+use peslumok_texts::words::DateField;
 use std::alloc::Global;
 
 // How many groups are made at once where all pages are written.
 const PAGE_OF_ALL: u32 = 100_000;
 
-/// What the options ask, with a table for a terminal where they don't tell the format.
+/// What the options ask. Where they tell no format, it is a table on a terminal and JSON lines
+/// elsewhere. The error is of a field to which they give two types, or of memory.
 pub fn asked_of<'a>(
     alloc: Global,
     options: GroupOptions<'a>,

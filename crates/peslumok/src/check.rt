@@ -5,8 +5,8 @@ use crate::stop::Stop;
 use agg_check::{Finding, Severity, check_input};
 use std::process::ExitCode;
 
-/// Tells on standard error what is wrong with an input, and answers the exit code: 3 if there is a
-/// mistake, and 0 after warnings alone.
+/// Tells on standard error what is wrong with the input in a file, or in standard input where no
+/// file is given, and answers the exit code: 3 if there is a mistake, and 0 after warnings alone.
 pub fn check_file(
     rt: &HostRuntime,
     file: Option<&str>,

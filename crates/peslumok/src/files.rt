@@ -1,9 +1,9 @@
 //! The files of the command line.
 use crate::progress::Progress;
-use agg_command_line::InputFormat;
-use agg_front::{Failure, RecordFile, format_of};
-use agg_records::RecordFormat;
 use agg_values::Text;
+use peslumok_command_line::InputFormat;
+use peslumok_front::front::{Failure, RecordFile, format_of};
+use peslumok_records::records::RecordFormat;
 use std::alloc::Global;
 use std::fs::File;
 use std::io::{self, ErrorKind, Read};
@@ -12,7 +12,9 @@ use std::rt::{Clock, Files};
 // How many bytes are read at a time.
 const PIECE_BYTES: u64 = 1_048_576;
 
-/// Reads the files, or standard input where there is none.
+/// Reads the files in their order, or standard input where there is none. Where no format is given,
+/// the name and the bytes of a file tell its own. The error names the first file that can't be
+/// read, or is of memory.
 pub fn read_files<'a, R: Files + Input + Clock + Eprint + AllocGlobal>(
     rt: &R,
     names: &[&'a str],
@@ -50,7 +52,7 @@ fn read_records<'a, R: Files + Input + Clock + Eprint + AllocGlobal>(
     })
 }
 
-/// Reads a file, or standard input for `-`.
+/// All bytes of a file, or of standard input for `-`. The error names the file, or is of memory.
 pub fn read_file<R: Files + Input + Clock + Eprint + AllocGlobal>(
     rt: &R,
     name: &str,
@@ -62,7 +64,7 @@ pub fn read_file<R: Files + Input + Clock + Eprint + AllocGlobal>(
     }
 }
 
-/// The name of a file in messages.
+/// The name of a file in messages: `standard input` for `-`.
 pub fn shown_name(name: &str) -> &str {
     if name == "-" { "standard input" } else { name }
 }

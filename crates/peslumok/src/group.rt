@@ -4,12 +4,13 @@ use crate::files::read_files;
 use crate::output::Output;
 use crate::progress::Progress;
 use crate::stop::Stop;
-use agg_command_line::GroupOptions;
-use agg_front::{Failure, Report, check_asked, group};
 use agg_streams::sink::StdSink;
+use peslumok_command_line::GroupOptions;
+use peslumok_front::front::{Failure, Report, check_asked, group};
 use std::io::IsTerminal;
 
-/// Groups the records of files, and writes the pages that are asked for.
+/// Groups the records of files, and writes the pages that are asked for to standard output. What
+/// options ask is checked before a file is read.
 pub fn group_files(
     rt: &HostRuntime,
     options: GroupOptions<'_>,

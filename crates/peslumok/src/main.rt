@@ -12,11 +12,11 @@ mod request;
 mod stop;
 mod walk;
 
-use agg_command_line::{Chosen, CommandLineError, read_command_line};
-use agg_front::Failure;
 use check::check_file;
 use group::group_files;
 use messages::{complain, tell};
+use peslumok_command_line::{Chosen, CommandLineError, read_command_line};
+use peslumok_front::front::Failure;
 use progress::Progress;
 use request::write_request;
 use std::env;

@@ -1,17 +1,18 @@
 //! What is told beside the groups.
-use agg_front::Report;
+use peslumok_front::front::Report;
 use std::fmt::Display;
 use std::io;
 use std::process::ExitCode;
 
-/// Tells why there are no groups, on standard error, and answers the exit code.
+/// Tells why there are no groups, on standard error, and answers the exit code that is given.
 pub fn complain(rt: &impl Eprint, code: u8, why: &impl Display) -> ExitCode {
     // Where even this can't be written, the exit code tells it alone.
     let _written = eprintln!(rt; "{why}");
     ExitCode::from(code)
 }
 
-/// Tells of fields that no record has, and where the next page begins.
+/// Tells on standard error of fields that no record has, and where the next page begins. The exit
+/// code is 0, or 5 where it can't be written.
 pub fn tell(rt: &impl Eprint, report: &Report) -> ExitCode {
     match try_tell(rt, report) {
         Ok(()) => ExitCode::SUCCESS,

@@ -3,18 +3,19 @@ use crate::asked::asked_of;
 use crate::output::Output;
 use crate::progress::Progress;
 use crate::stop::Stop;
-use agg_command_line::GroupOptions;
-use agg_fields::FieldType;
-use agg_front::{Asked, Failure, after_of, check_asked};
-use agg_grouping::{GROUPS, Page, asked_fields, query_of, request_of};
-use agg_header_text::header_line;
+use agg_pages::header_text::header_line;
 use agg_request::{Aggregation, Aggregations, may_be_written};
 use agg_segment::Schema;
 use agg_streams::sink::{StdSink, write_all};
 use agg_values::{NameMap, OutOfMemory, Text};
+use peslumok_command_line::GroupOptions;
+use peslumok_front::front::{Asked, Failure, after_of, check_asked};
+use peslumok_front::grouping::{GROUPS, Page, asked_fields, query_of, request_of};
+use peslumok_texts::fields::FieldType;
 use std::alloc::Global;
 
-/// Writes the header of `walk` that options stand for.
+/// Writes the header of `walk` that options stand for, a line, to standard output. `--top` has no
+/// place in it, and some requests are in no header: then nothing is written.
 pub fn write_request(
     rt: &HostRuntime,
     options: GroupOptions<'_>,

@@ -1,8 +1,8 @@
 //! Why a run ends before its answer is written.
 use crate::messages::complain;
-use agg_front::Failure;
-use agg_grouping::GroupingError;
 use agg_values::{OutOfMemory, Text};
+use peslumok_front::front::Failure;
+use peslumok_front::grouping::GroupingError;
 use std::process::ExitCode;
 
 /// Why a run ends before its answer is written.
@@ -22,7 +22,8 @@ pub enum Stop {
 }
 
 impl Stop {
-    /// Tells it on standard error, and answers the exit code.
+    /// Tells on standard error why the run ends, unless the reader is gone, and answers the exit
+    /// code.
     pub fn tell(&self, rt: &impl Eprint) -> ExitCode {
         match self {
             Stop::Failed(failure) => complain(rt, failure.code(), failure),

@@ -6,20 +6,21 @@ use crate::output::Output;
 use crate::progress::Progress;
 use crate::stop::Stop;
 use agg_cache::LimitsLedger;
+use agg_check::refusals::write_refusal;
 use agg_engine::{Walk, WalkError, walk_pages};
-use agg_front::Failure;
-use agg_input::{Input as WalkInput, read_input};
+use agg_pages::input_text::{Input as WalkInput, read_input};
 use agg_pages::source::StdSource;
 use agg_pages::{AnyField, Status, run_uncounted};
-use agg_refusals::write_refusal;
 use agg_request::NamedBuilder;
 use agg_streams::sink::{Sink, StdSink};
 use agg_values::{OutOfMemory, Steps, Text};
+use peslumok_front::front::Failure;
 use std::alloc::Global;
 use std::marker::Brand;
 use std::sync::ledger::{Blank, Ledger};
 
-/// Writes the pages of an input.
+/// Writes to standard output the pages of the input in a file, or in standard input where no file
+/// is given. The error tells why there are none, or no more.
 pub fn walk_file(
     rt: &HostRuntime,
     file: Option<&str>,

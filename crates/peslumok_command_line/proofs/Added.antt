@@ -6,10 +6,10 @@ use Rattle.clap.specs.Words.{App, AddsArg, AddsSubcommand, Rule, app_of, rule_of
 use Rattle.clap.specs.Words.{with_subcommand}
 use Rattle.clap.specs.declared.builder.arg.Arg.{Arg}
 use Rattle.clap.specs.declared.builder.command.Command.{Command}
-use Rattle.agg_command_line.specs.Adds.{AddsRules, HasNoGlobals}
-use Rattle.agg_command_line.specs.CommandLine.{with_rules}
-use Rattle.agg_command_line.specs.OptionRules.{option_rule}
-use Rattle.agg_command_line.specs.declared.named_option.NamedOption.{NamedOption}
+use Rattle.peslumok_command_line.specs.Adds.{AddsRules, HasNoGlobals}
+use Rattle.peslumok_command_line.specs.CommandLine.{with_rules}
+use Rattle.peslumok_command_line.specs.OptionRules.{option_rule}
+use Rattle.peslumok_command_line.specs.declared.named_option.NamedOption.{NamedOption}
 
 -- rules that are added to those of a command
 with_more : App → List Rule → App

@@ -5,7 +5,7 @@ use Rattle.std.specs.Str.Parse.{ParsesUnsigned, ExplainsUnsignedError, HasUnsign
 use Rattle.std.specs.Str.Parse.{IsNumeral, digits_value, without_leading_plus}
 use Rattle.std.specs.Prelude.{IfSome}
 use Rattle.clap.specs.Words.{ReadsOne, Row, Text, one_of}
-use Rattle.agg_command_line.specs.Asked.{ReadsNumber}
+use Rattle.peslumok_command_line.specs.Asked.{ReadsNumber}
 
 -- a number that was read is what the digits write
 pub read_number : (text : Text) (read : Option ℕ) (other : ℕ)

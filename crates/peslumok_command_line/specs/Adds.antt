@@ -3,7 +3,7 @@ use Rattle.std.specs.Prelude.{◌≡◌, List, false}
 use Rattle.clap.specs.Words.{Rule, app_of}
 use Rattle.clap.specs.declared.builder.command.Command.{Command}
 use Rattle.clap.specs.declared.builder.command.Command.TheViews.{out-Command}
-use Rattle.agg_command_line.specs.CommandLine.{with_rules}
+use Rattle.peslumok_command_line.specs.CommandLine.{with_rules}
 
 -- no argument of a command is one of its subcommands too
 abbrev pub HasNoGlobals : Command → Type 0

@@ -8,24 +8,24 @@ use Rattle.std.specs.List.{AllZip}
 use Rattle.std.specs.Str.{bytes_eq}
 use Rattle.std.specs.Str.Parse.{IsNumeral, digits_value, without_leading_plus}
 use Rattle.clap.specs.Words.{Row, Text, all_of, first_of, one_of}
-use Rattle.agg_words.specs.By as by_text
-use Rattle.agg_words.specs.Condition as condition_text
-use Rattle.agg_words.specs.DateField as date_text
-use Rattle.agg_words.specs.DecimalField.{IsDecimalField}
-use Rattle.agg_words.specs.declared.by.BySpec.{BySpec}
-use Rattle.agg_words.specs.declared.condition.Condition.{Condition}
-use Rattle.agg_words.specs.declared.date_field.DateField.{DateField}
-use Rattle.agg_words.specs.declared.decimal_field.DecimalField.{DecimalField}
-use Rattle.agg_command_line.specs.declared.options.Chosen.{Chosen}
-use Rattle.agg_command_line.specs.declared.options.Chosen.TheVariants as chosen
-use Rattle.agg_command_line.specs.declared.options.GroupOptions.{GroupOptions}
-use Rattle.agg_command_line.specs.declared.options.InputFormat.{InputFormat}
-use Rattle.agg_command_line.specs.declared.options.InputFormat.TheVariants as input
-use Rattle.agg_words.specs.declared.metric.Metric.{Metric}
-use Rattle.agg_words.specs.declared.metric.MetricKind.{MetricKind}
-use Rattle.agg_words.specs.declared.metric.MetricKind.TheVariants.{Count, Sum, Min, Max}
-use Rattle.agg_command_line.specs.declared.options.OutputFormat.{OutputFormat}
-use Rattle.agg_command_line.specs.declared.options.OutputFormat.TheVariants as output
+use Rattle.peslumok_texts.specs.words.By as by_text
+use Rattle.peslumok_texts.specs.words.Condition as condition_text
+use Rattle.peslumok_texts.specs.words.DateField as date_text
+use Rattle.peslumok_texts.specs.words.DecimalField.{IsDecimalField}
+use Rattle.peslumok_texts.specs.declared.words.by.BySpec.{BySpec}
+use Rattle.peslumok_texts.specs.declared.words.condition.Condition.{Condition}
+use Rattle.peslumok_texts.specs.declared.words.date_field.DateField.{DateField}
+use Rattle.peslumok_texts.specs.declared.words.decimal_field.DecimalField.{DecimalField}
+use Rattle.peslumok_command_line.specs.declared.options.Chosen.{Chosen}
+use Rattle.peslumok_command_line.specs.declared.options.Chosen.TheVariants as chosen
+use Rattle.peslumok_command_line.specs.declared.options.GroupOptions.{GroupOptions}
+use Rattle.peslumok_command_line.specs.declared.options.InputFormat.{InputFormat}
+use Rattle.peslumok_command_line.specs.declared.options.InputFormat.TheVariants as input
+use Rattle.peslumok_texts.specs.declared.words.metric.Metric.{Metric}
+use Rattle.peslumok_texts.specs.declared.words.metric.MetricKind.{MetricKind}
+use Rattle.peslumok_texts.specs.declared.words.metric.MetricKind.TheVariants.{Count, Sum, Min, Max}
+use Rattle.peslumok_command_line.specs.declared.options.OutputFormat.{OutputFormat}
+use Rattle.peslumok_command_line.specs.declared.options.OutputFormat.TheVariants as output
 
 -- the values of all uses of an option
 abbrev pub texts_of : Text → List Row → List Text

@@ -2,12 +2,12 @@
 use Rattle.std.specs.Prelude.{◌≡◌, List, map, codes, false, None, option_map, IsSome}
 use Rattle.std.specs.List.{AllZip}
 use Rattle.clap.specs.Words.{Row, first_of}
-use Rattle.agg_command_line.specs.Asked.{ReadsCondition, ReadsDate, ReadsDecimal, ReadsFlag}
-use Rattle.agg_command_line.specs.Asked.{ReadsNumber, ReadsOptionalNumber, all_columns, column}
-use Rattle.agg_command_line.specs.Asked.{texts_of}
-use Rattle.agg_command_line.specs.declared.read.ColumnOptions.{ColumnOptions}
-use Rattle.agg_command_line.specs.declared.read.PageOptions.{PageOptions}
-use Rattle.agg_command_line.specs.declared.read.RecordOptions.{RecordOptions}
+use Rattle.peslumok_command_line.specs.Asked.{ReadsCondition, ReadsDate, ReadsDecimal, ReadsFlag}
+use Rattle.peslumok_command_line.specs.Asked.{ReadsNumber, ReadsOptionalNumber, all_columns, column}
+use Rattle.peslumok_command_line.specs.Asked.{texts_of}
+use Rattle.peslumok_command_line.specs.declared.read.ColumnOptions.{ColumnOptions}
+use Rattle.peslumok_command_line.specs.declared.read.PageOptions.{PageOptions}
+use Rattle.peslumok_command_line.specs.declared.read.RecordOptions.{RecordOptions}
 
 -- which groups are shown
 pub record AsksPage (rows : List Row) (page : PageOptions) : Type 0 where

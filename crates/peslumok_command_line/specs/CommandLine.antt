@@ -2,8 +2,8 @@
 use Rattle.std.specs.Prelude.{◌≡◌, List, [], ◌∷◌, ◌++◌, map, Some, true, codes}
 use Rattle.clap.specs.Words.{App, Rule, Text, new_app, new_rule, with_subcommand}
 use Rattle.clap.specs.declared.builder.ArgAction.TheVariants.{Append}
-use Rattle.agg_command_line.specs.OptionRules.{Names, choice_rule, flag_rule, many_rule}
-use Rattle.agg_command_line.specs.OptionRules.{number_rule, one_rule}
+use Rattle.peslumok_command_line.specs.OptionRules.{Names, choice_rule, flag_rule, many_rule}
+use Rattle.peslumok_command_line.specs.OptionRules.{number_rule, one_rule}
 
 -- a command with further arguments
 abbrev pub with_rules : App → List Rule → App

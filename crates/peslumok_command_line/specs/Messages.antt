@@ -1,7 +1,7 @@
 -- What is written of a mistake.
 use Rattle.std.specs.Prelude.{ℕ, List, ◌++◌, Option, Some, None, codes}
-use Rattle.agg_command_line.specs.declared.error.CommandLineError.{CommandLineError}
-use Rattle.agg_command_line.specs.declared.error.CommandLineError.TheVariants as error
+use Rattle.peslumok_command_line.specs.declared.error.CommandLineError.{CommandLineError}
+use Rattle.peslumok_command_line.specs.declared.error.CommandLineError.TheVariants as error
 
 -- where to find help
 abbrev pub more : List ℕ

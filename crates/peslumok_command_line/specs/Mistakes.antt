@@ -4,14 +4,14 @@ use Rattle.std.specs.Prelude.{Bool, true, false, Option, Some, None, length}
 use Rattle.std.specs.Prelude.{Contains, IsSome, codes}
 use Rattle.clap.specs.Words.{Row, Text, first_of, kind_of, subcommand_of}
 use Rattle.clap.specs.declared.error.ErrorKind.TheVariants.{DisplayHelp, DisplayVersion}
-use Rattle.agg_words.specs.By.{IsByFault, by_of}
-use Rattle.agg_words.specs.Condition.{IsConditionFault, condition_of}
-use Rattle.agg_words.specs.DateField.{IsDateFieldFault, date_field_of}
-use Rattle.agg_words.specs.DecimalField.{IsDecimalField, IsDecimalFieldFault}
-use Rattle.agg_command_line.specs.Asked.{ReadsFlag, ReadsOptionalNumber, texts_of}
-use Rattle.agg_command_line.specs.CommandLine.{Formats, peslumok}
-use Rattle.agg_command_line.specs.declared.error.CommandLineError.{CommandLineError}
-use Rattle.agg_command_line.specs.declared.error.CommandLineError.TheVariants as error
+use Rattle.peslumok_texts.specs.words.By.{IsByFault, by_of}
+use Rattle.peslumok_texts.specs.words.Condition.{IsConditionFault, condition_of}
+use Rattle.peslumok_texts.specs.words.DateField.{IsDateFieldFault, date_field_of}
+use Rattle.peslumok_texts.specs.words.DecimalField.{IsDecimalField, IsDecimalFieldFault}
+use Rattle.peslumok_command_line.specs.Asked.{ReadsFlag, ReadsOptionalNumber, texts_of}
+use Rattle.peslumok_command_line.specs.CommandLine.{Formats, peslumok}
+use Rattle.peslumok_command_line.specs.declared.error.CommandLineError.{CommandLineError}
+use Rattle.peslumok_command_line.specs.declared.error.CommandLineError.TheVariants as error
 
 -- `--top` is used
 abbrev pub HasTop : List Row → Type 0

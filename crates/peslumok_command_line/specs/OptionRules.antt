@@ -4,9 +4,9 @@ use Rattle.std.specs.Borrow.{Bor}
 use Rattle.clap.specs.Words.{Rule, Text, new_rule}
 use Rattle.clap.specs.declared.builder.ArgAction.TheVariants.{Append, SetTrue}
 use Rattle.clap.specs.declared.builder.value_parser.ValueParser.TheVariants as vp
-use Rattle.agg_command_line.specs.declared.named_option.NamedOption.{NamedOption}
-use Rattle.agg_command_line.specs.declared.named_option.Usage.{Usage}
-use Rattle.agg_command_line.specs.declared.named_option.Usage.TheVariants as usage
+use Rattle.peslumok_command_line.specs.declared.named_option.NamedOption.{NamedOption}
+use Rattle.peslumok_command_line.specs.declared.named_option.Usage.{Usage}
+use Rattle.peslumok_command_line.specs.declared.named_option.Usage.TheVariants as usage
 
 -- an option that is used once, with a value
 abbrev pub one_rule : Text → Rule

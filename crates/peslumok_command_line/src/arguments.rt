@@ -1,9 +1,9 @@
 //! The arguments of `group` and `request`.
 ghost use Rattle.std.specs.Prelude.{◌≡◌, false, map, IfOk};
 ghost use Rattle.clap.specs.Words.{rule_of};
-ghost use Rattle.agg_command_line.specs.Adds.{AddsRules};
-ghost use Rattle.agg_command_line.specs.CommandLine as spec;
-ghost use Rattle.agg_command_line.specs.OptionRules.{option_rule};
+ghost use Rattle.peslumok_command_line.specs.Adds.{AddsRules};
+ghost use Rattle.peslumok_command_line.specs.CommandLine as spec;
+ghost use Rattle.peslumok_command_line.specs.OptionRules.{option_rule};
 
 use crate::named_option::{NamedOption, Usage};
 use crate::rules::{choice, flag, many, number, one};

@@ -1,10 +1,10 @@
 ghost use Rattle.std.specs.Prelude.{◌≡◌, IfOk, map, string_bytes};
 ghost use Rattle.clap.specs.Words.{app_of, new_app, subcommand_of, subcommand_rows_of};
 ghost use Rattle.clap.specs.Words.{with_subcommand};
-ghost use Rattle.agg_command_line.specs.Adds.{HasNoGlobals};
-ghost use Rattle.agg_command_line.specs.CommandLine as spec;
-ghost use Rattle.agg_command_line.specs.CommandLine.{Formats};
-ghost use Rattle.agg_command_line.specs.Subcommands.{subcommand_app};
+ghost use Rattle.peslumok_command_line.specs.Adds.{HasNoGlobals};
+ghost use Rattle.peslumok_command_line.specs.CommandLine as spec;
+ghost use Rattle.peslumok_command_line.specs.CommandLine.{Formats};
+ghost use Rattle.peslumok_command_line.specs.Subcommands.{subcommand_app};
 
 use crate::arguments::{FormatNames, file, files, format_names, with_options};
 use clap::{ArgMatches, Command, Error};

@@ -1,12 +1,14 @@
 ghost use Rattle.std.specs.Prelude.{◌≡◌, false, OnOk, IfSome};
 ghost use Rattle.std.specs.Fmt.{WritesOnOk};
 ghost use Rattle.std.specs.Io.KnownBytes.{Appends};
-ghost use Rattle.agg_command_line.specs.declared.error.CommandLineError.TheVariants.{OutOfMemory};
-ghost use Rattle.agg_command_line.specs.Messages.{conflict_with, message_of};
-ghost use Rattle.agg_command_line.specs.Mistakes.{IsHelp, is_own};
+ghost use Rattle.peslumok_command_line.specs.declared.error.CommandLineError.TheVariants.{
+  OutOfMemory,
+};
+ghost use Rattle.peslumok_command_line.specs.Messages.{conflict_with, message_of};
+ghost use Rattle.peslumok_command_line.specs.Mistakes.{IsHelp, is_own};
 
-use agg_words::{BySpecError, ConditionError, DateFieldError, DecimalFieldError};
 use clap::error::ErrorKind;
+use peslumok_texts::words::{BySpecError, ConditionError, DateFieldError, DecimalFieldError};
 use std::alloc::{AllocError, AllocFailed};
 use std::{error, fmt, io};
 

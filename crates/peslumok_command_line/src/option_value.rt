@@ -1,11 +1,11 @@
 //! The values of options that have a grammar of their own.
 ghost use Rattle.std.specs.Prelude.{ℕ, List, Contains, IfOk, IfErr, codes};
 ghost use Rattle.clap.specs.Words.{Row};
-ghost use Rattle.agg_command_line.specs.Asked as spec;
-ghost use Rattle.agg_command_line.specs.Mistakes.{Tells};
+ghost use Rattle.peslumok_command_line.specs.Asked as spec;
+ghost use Rattle.peslumok_command_line.specs.Mistakes.{Tells};
 
 use crate::CommandLineError;
-use agg_words::{
+use peslumok_texts::words::{
     BySpec, Condition, DateField, DecimalField, read_by, read_condition, read_date_field,
     read_decimal_field,
 };

@@ -1,4 +1,4 @@
-use agg_words::{BySpec, Condition, DateField, DecimalField, Metric};
+use peslumok_texts::words::{BySpec, Condition, DateField, DecimalField, Metric};
 
 /// What the words ask.
 #[derive(Debug, Drop)]

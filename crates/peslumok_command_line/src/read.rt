@@ -2,17 +2,17 @@ ghost use Rattle.std.specs.Prelude.{◌≡◌, ◌≤◌, IfOk, IfErr, Some, tru
 ghost use Rattle.std.specs.Prelude.{string_bytes};
 ghost use Rattle.std.specs.List.{AllZip};
 ghost use Rattle.clap.specs.Words.{found_of, rows_of, subcommand_of};
-ghost use Rattle.agg_command_line.specs.Asked.{Asks, IsAsked, ReadsBy, texts_of};
-ghost use Rattle.agg_command_line.specs.CommandLine.{Formats, peslumok};
-ghost use Rattle.agg_command_line.specs.AskedParts.{AsksColumns, AsksPage, AsksRecords};
-ghost use Rattle.agg_command_line.specs.Mistakes.{IsTold, Tells, TellsOf, is_own};
+ghost use Rattle.peslumok_command_line.specs.Asked.{Asks, IsAsked, ReadsBy, texts_of};
+ghost use Rattle.peslumok_command_line.specs.CommandLine.{Formats, peslumok};
+ghost use Rattle.peslumok_command_line.specs.AskedParts.{AsksColumns, AsksPage, AsksRecords};
+ghost use Rattle.peslumok_command_line.specs.Mistakes.{IsTold, Tells, TellsOf, is_own};
 
 use crate::command::matches_of;
 use crate::readings::{metric_columns, read_all};
 use crate::values::{from, is_used, size, text, texts, to, top};
 use crate::{Chosen, CommandLineError, GroupOptions};
-use agg_words::{BySpec, Condition, DateField, DecimalField, Metric};
 use clap::ArgMatches;
+use peslumok_texts::words::{BySpec, Condition, DateField, DecimalField, Metric};
 use std::alloc::Global;
 
 /// What the words of a command line ask; the first word is the program's name.

@@ -2,14 +2,14 @@
 ghost use Rattle.std.specs.Prelude.{◌≡◌, ◌++◌, IfOk, IfErr, List, OnOk, codes, map};
 ghost use Rattle.std.specs.List.{AllZip};
 ghost use Rattle.clap.specs.Words.{Row, found_of, rows_of};
-ghost use Rattle.agg_command_line.specs.Asked as spec;
-ghost use Rattle.agg_command_line.specs.Mistakes.{Tells};
+ghost use Rattle.peslumok_command_line.specs.Asked as spec;
+ghost use Rattle.peslumok_command_line.specs.Mistakes.{Tells};
 
 use crate::CommandLineError;
 use crate::option_value::OptionValue;
 use crate::values::texts;
-use agg_words::{Metric, MetricKind};
 use clap::ArgMatches;
+use peslumok_texts::words::{Metric, MetricKind};
 use std::alloc::{AllocError, Global};
 
 /// What the texts of an option stand for.

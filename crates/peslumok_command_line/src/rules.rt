@@ -1,7 +1,7 @@
 //! The kinds of arguments.
 ghost use Rattle.std.specs.Prelude.{◌≡◌, Some, false};
 ghost use Rattle.clap.specs.Words.{rule_of};
-ghost use Rattle.agg_command_line.specs.OptionRules as spec;
+ghost use Rattle.peslumok_command_line.specs.OptionRules as spec;
 
 use clap::{Arg, ArgAction};
 use std::alloc::Global;

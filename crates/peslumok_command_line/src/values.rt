@@ -1,8 +1,8 @@
 //! The values of single arguments.
 ghost use Rattle.std.specs.Prelude.{◌≡◌, IfOk, map, option_map, option_and_then, codes};
 ghost use Rattle.clap.specs.Words.{first_of, found_of, rows_of};
-ghost use Rattle.agg_command_line.specs.Asked as spec;
-ghost use Rattle.agg_command_line.specs.Asked.{ReadsFlag, ReadsNumber, ReadsOptionalNumber};
+ghost use Rattle.peslumok_command_line.specs.Asked as spec;
+ghost use Rattle.peslumok_command_line.specs.Asked.{ReadsFlag, ReadsNumber, ReadsOptionalNumber};
 
 use crate::{InputFormat, OutputFormat};
 use clap::ArgMatches;

@@ -1,8 +1,8 @@
 use Rattle.std.proofs.Common.{[], ◌∷◌, codes}
 use Rattle.std.proofs.lemmas.Result.{IfOk-weaker}
-use Rattle.agg_command_line.specs.OptionRules.{choice_rule}
-use Rattle.agg_command_line.proofs.Added.{adds_last, adds_none}
-use Rattle.agg_command_line.proofs.arguments.with_formats.Goals as goal
+use Rattle.peslumok_command_line.specs.OptionRules.{choice_rule}
+use Rattle.peslumok_command_line.proofs.Added.{adds_last, adds_none}
+use Rattle.peslumok_command_line.proofs.arguments.with_formats.Goals as goal
 
 pub returns : goal.returns
 returns c =

@@ -1,5 +1,5 @@
-use Rattle.agg_command_line.proofs.Added.{adds_next}
-use Rattle.agg_command_line.proofs.arguments.with_named.Goals as goal
+use Rattle.peslumok_command_line.proofs.Added.{adds_next}
+use Rattle.peslumok_command_line.proofs.arguments.with_named.Goals as goal
 
 pub loop-option-preserved : goal.loop-option-preserved
 loop-option-preserved c =

@@ -1,11 +1,11 @@
 use Rattle.std.proofs.Common.{ap, map, List, subst}
 use Rattle.std.proofs.lemmas.Result.{IfOk-weaker}
 use Rattle.clap.specs.Words.{Rule}
-use Rattle.agg_command_line.specs.Adds.{AddsRules}
-use Rattle.agg_command_line.specs.CommandLine.{format_rules, named_rules}
-use Rattle.agg_command_line.specs.OptionRules.{option_rule}
-use Rattle.agg_command_line.proofs.Added.{adds_both}
-use Rattle.agg_command_line.proofs.arguments.with_options.Goals as goal
+use Rattle.peslumok_command_line.specs.Adds.{AddsRules}
+use Rattle.peslumok_command_line.specs.CommandLine.{format_rules, named_rules}
+use Rattle.peslumok_command_line.specs.OptionRules.{option_rule}
+use Rattle.peslumok_command_line.proofs.Added.{adds_both}
+use Rattle.peslumok_command_line.proofs.arguments.with_options.Goals as goal
 
 pub returns : goal.returns
 returns c =

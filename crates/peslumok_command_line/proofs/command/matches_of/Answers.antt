@@ -2,8 +2,8 @@ use Rattle.std.proofs.Common.{ap, refl, true, map, string_bytes, ◌≡◌, ◌�
 use Rattle.std.proofs.lemmas.Result.{IfOk-weaker}
 use Rattle.clap.specs.Words.{App, is_simple, subcommand_of}
 use Rattle.clap.proofs.OnLiterals.{clap_on_literals}
-use Rattle.agg_command_line.specs.CommandLine.{Formats, peslumok}
-use Rattle.agg_command_line.proofs.command.matches_of.Goals as goal
+use Rattle.peslumok_command_line.specs.CommandLine.{Formats, peslumok}
+use Rattle.peslumok_command_line.proofs.command.matches_of.Goals as goal
 
 simple : (formats : Formats) → is_simple (peslumok formats) ≡ true
 unfolding clap_on_literals

@@ -1,11 +1,11 @@
 use Rattle.std.proofs.Common.{◌∙◌, ap}
 use Rattle.std.proofs.lemmas.Result.{IfOk-weaker}
 use Rattle.clap.specs.Words.{App, with_subcommand}
-use Rattle.agg_command_line.specs.Subcommands.{subcommand_app}
-use Rattle.agg_command_line.specs.declared.command.Subcommand.{Subcommand}
-use Rattle.agg_command_line.specs.declared.command.Subcommand.TheVariants.{Group, Request, Walk}
-use Rattle.agg_command_line.specs.declared.command.Subcommand.TheVariants.{Check}
-use Rattle.agg_command_line.proofs.command.root.Goals as goal
+use Rattle.peslumok_command_line.specs.Subcommands.{subcommand_app}
+use Rattle.peslumok_command_line.specs.declared.command.Subcommand.{Subcommand}
+use Rattle.peslumok_command_line.specs.declared.command.Subcommand.TheVariants.{Group, Request}
+use Rattle.peslumok_command_line.specs.declared.command.Subcommand.TheVariants.{Walk, Check}
+use Rattle.peslumok_command_line.proofs.command.root.Goals as goal
 
 pub returns : goal.returns
 returns c =

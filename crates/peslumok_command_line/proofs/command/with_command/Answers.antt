@@ -1,7 +1,7 @@
 use Rattle.std.proofs.Common.{refl}
 use Rattle.std.proofs.lemmas.Result.{IfOk-weaker}
-use Rattle.agg_command_line.proofs.Added.{adds_command}
-use Rattle.agg_command_line.proofs.command.with_command.Goals as goal
+use Rattle.peslumok_command_line.proofs.Added.{adds_command}
+use Rattle.peslumok_command_line.proofs.command.with_command.Goals as goal
 
 pub returns : goal.returns
 returns c =

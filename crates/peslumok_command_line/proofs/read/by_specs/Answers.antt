@@ -1,8 +1,8 @@
 use Rattle.std.proofs.Common.{◌<◌, ℕ, arith, length, subst}
 use Rattle.std.proofs.lemmas.Grind.{common_steps}
 use Rattle.std.proofs.lemmas.Slice.Zip.{AllZip-long}
-use Rattle.agg_command_line.specs.Asked.{ReadsBy}
-use Rattle.agg_command_line.proofs.read.by_specs.Goals as goal
+use Rattle.peslumok_command_line.specs.Asked.{ReadsBy}
+use Rattle.peslumok_command_line.proofs.read.by_specs.Goals as goal
 
 pub returns-then-len-gt16-clause-told : goal.returns-then-len-gt16-clause-told
 returns-then-len-gt16-clause-told c =

@@ -1,4 +1,4 @@
-use Rattle.agg_command_line.proofs.read.group_options.Goals as goal
+use Rattle.peslumok_command_line.proofs.read.group_options.Goals as goal
 
 pub returns-clause-asked : goal.returns-clause-asked
 returns-clause-asked c =

@@ -1,11 +1,11 @@
 use Rattle.std.proofs.Common.{◌≡◌, ◌∙◌, List, Option, Some, map, string_bytes, subst, sym}
 use Rattle.std.proofs.lemmas.Result.{IfErr-weaker, IfOk-weaker}
 use Rattle.clap.specs.Words.{Row, Text, found_of, rows_of, subcommand_of, subcommand_rows_of}
-use Rattle.agg_command_line.specs.Asked.{IsAsked}
-use Rattle.agg_command_line.specs.CommandLine.{peslumok}
-use Rattle.agg_command_line.specs.Mistakes.{TellsOf}
-use Rattle.agg_command_line.proofs.NamedCommand.{first-option_map, found_command}
-use Rattle.agg_command_line.proofs.read.read_command_line.Goals as goal
+use Rattle.peslumok_command_line.specs.Asked.{IsAsked}
+use Rattle.peslumok_command_line.specs.CommandLine.{peslumok}
+use Rattle.peslumok_command_line.specs.Mistakes.{TellsOf}
+use Rattle.peslumok_command_line.proofs.NamedCommand.{first-option_map, found_command}
+use Rattle.peslumok_command_line.proofs.read.read_command_line.Goals as goal
 
 -- the command that was found is the one that the words name
 is_named : (c : goal.Joined-matches-2)

@@ -1,6 +1,6 @@
 use Rattle.std.proofs.Common.{◌≡◌, ◌++◌, map, take}
-use Rattle.agg_command_line.specs.Asked.{column, columns_of}
-use Rattle.agg_command_line.proofs.readings.push_columns.Given as goal
+use Rattle.peslumok_command_line.specs.Asked.{column, columns_of}
+use Rattle.peslumok_command_line.proofs.readings.push_columns.Given as goal
 
 abbrev pub invariant-loop-field : goal.invariant-loop-field
 invariant-loop-field l =

@@ -3,8 +3,8 @@ use Rattle.std.specs.List.{AllZip}
 use Rattle.std.specs.Prelude.{IfOk}
 use Rattle.std.proofs.lemmas.Result.{IfErr-weaker}
 use Rattle.clap.specs.Words.{Text, found_of, rows_of}
-use Rattle.agg_command_line.specs.Asked.{texts_of}
-use Rattle.agg_command_line.proofs.readings.read_all.Goals as goal
+use Rattle.peslumok_command_line.specs.Asked.{texts_of}
+use Rattle.peslumok_command_line.proofs.readings.read_all.Goals as goal
 
 pub returns-clause-read : goal.returns-clause-read
 returns-clause-read g c =

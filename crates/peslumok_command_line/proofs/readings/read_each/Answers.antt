@@ -1,6 +1,6 @@
 use Rattle.std.proofs.Common.{[]}
-use Rattle.agg_command_line.proofs.Zips.{is_among, zip_more}
-use Rattle.agg_command_line.proofs.readings.read_each.Goals as goal
+use Rattle.peslumok_command_line.proofs.Zips.{is_among, zip_more}
+use Rattle.peslumok_command_line.proofs.readings.read_each.Goals as goal
 
 pub loop-text-preserved : goal.loop-text-preserved
 loop-text-preserved g c =

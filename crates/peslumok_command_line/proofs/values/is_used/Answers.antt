@@ -1,7 +1,7 @@
 use Rattle.std.proofs.Common.{◌∙◌}
 use Rattle.clap.specs.Words.{found_of}
 use Rattle.clap.proofs.WalkLemmas.{one_text-rows}
-use Rattle.agg_command_line.proofs.values.is_used.Goals as goal
+use Rattle.peslumok_command_line.proofs.values.is_used.Goals as goal
 
 pub returns : goal.returns
 returns c =

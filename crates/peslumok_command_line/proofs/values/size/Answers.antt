@@ -1,8 +1,8 @@
 use Rattle.std.proofs.Common.{◌∙◌, codes}
 use Rattle.clap.specs.Words.{found_of}
 use Rattle.clap.proofs.WalkLemmas.{one_text-rows}
-use Rattle.agg_command_line.proofs.Rows.{read_number}
-use Rattle.agg_command_line.proofs.values.size.Goals as goal
+use Rattle.peslumok_command_line.proofs.Rows.{read_number}
+use Rattle.peslumok_command_line.proofs.values.size.Goals as goal
 
 pub returns : goal.returns
 returns c text is_text is_numeral fits =

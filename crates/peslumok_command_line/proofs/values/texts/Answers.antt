@@ -2,7 +2,7 @@ use Rattle.std.proofs.Common.{◌∙◌, ap, [], List, Option, Bor, map, unwrap_
 use Rattle.std.proofs.lemmas.Result.{IfOk-weaker}
 use Rattle.clap.specs.Words.{Text, found_of}
 use Rattle.clap.proofs.WalkLemmas.{raw_values-rows}
-use Rattle.agg_command_line.proofs.values.texts.Goals as goal
+use Rattle.peslumok_command_line.proofs.values.texts.Goals as goal
 
 pub returns-in-Some : goal.returns-in-Some
 returns-in-Some c =

@@ -1,8 +1,8 @@
 use Rattle.std.proofs.Common.{◌∙◌, codes}
 use Rattle.clap.specs.Words.{found_of, rows_of}
 use Rattle.clap.proofs.WalkLemmas.{one_text-rows}
-use Rattle.agg_command_line.proofs.Rows.{read_some}
-use Rattle.agg_command_line.proofs.values.top.Goals as goal
+use Rattle.peslumok_command_line.proofs.Rows.{read_some}
+use Rattle.peslumok_command_line.proofs.values.top.Goals as goal
 
 pub returns : goal.returns
 returns c =
