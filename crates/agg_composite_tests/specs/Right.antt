@@ -1,6 +1,8 @@
 -- Collectors that are right for some visits.
 use Rattle.std.specs.Prelude.{ℕ, List}
-use Rattle.agg_accessor.specs.declared.request_data.CompositeAggReqData.{CompositeAggReqData}
+use Rattle.agg_composite.specs.declared.accessor.request_data.CompositeAggReqData.{
+  CompositeAggReqData,
+}
 use Rattle.agg_composite.specs.Composite.{Composite, CompositeFor}
 use Rattle.agg_composite.specs.Visits.{TypedVisit}
 

@@ -2,9 +2,9 @@
 use crate::found::{ALL, NONE, Standing, standing, types};
 use agg_composite::{CompositeSourceAccessors, PrecomputedAfterKey};
 use agg_expect::{expect_equal, expect_equal_for};
+use agg_low_tests::segment::given::{Given, segment_of};
 use agg_request_tree::{CompositeAggregationSource, TermCompositeAggregationSource};
 use agg_segment::{ColumnType, SegmentReader};
-use agg_segment_tests::given::{Given, segment_of};
 use agg_values::{
     CompositeIntermediateKey, InvalidArgument, MissingOrder, Order, OutOfMemory, RequestError, Text,
 };
@@ -83,6 +83,7 @@ fn source(
         order,
         missing_bucket,
         missing_order,
+        min: None,
     }))
 }
 

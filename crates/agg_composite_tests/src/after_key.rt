@@ -3,8 +3,8 @@ use crate::given::key;
 use agg_calendar::PrecomputedDateInterval;
 use agg_composite::{CompositeAccessor, PrecomputedAfterKey};
 use agg_expect::expect_equal_for;
+use agg_low_tests::segment::given::{Given, segment_of};
 use agg_segment::{Column, SegmentReader};
-use agg_segment_tests::given::{Given, segment_of};
 use agg_values::{CompositeIntermediateKey, MissingOrder, Order, Text};
 use std::alloc::Global;
 use std::test::Fail;
@@ -52,6 +52,7 @@ fn place(column: &Column, key: &CompositeIntermediateKey, order: Order) -> Preco
     let accessor = CompositeAccessor {
         column,
         date_histogram_interval: PrecomputedDateInterval::NotApplicable,
+        date_offset_ns: 0,
     };
     PrecomputedAfterKey::precompute(&accessor, key, MissingOrder::Default, order)
 }
@@ -71,7 +72,7 @@ fn place_in(
     Ok(place(column, key, order))
 }
 
-// The same of the key that a text says.
+// Where the key that a text says stands among the numbers of the one column of a field.
 fn place_of(
     alloc: Global,
     segment: &SegmentReader,

@@ -4,8 +4,8 @@ ghost use Rattle.std.specs.Map.{keys_of};
 ghost use Rattle.agg_values.specs.Names.{Named};
 ghost use Rattle.agg_values.specs.declared.after_key.AfterKey.{AfterKey};
 ghost use Rattle.agg_segment.specs.Segment.{Stored};
-ghost use Rattle.agg_accessor.specs.Accessors.{Fits};
-ghost use Rattle.agg_accessor.specs.Decoded.{IsEncoded};
+ghost use Rattle.agg_composite.specs.accessor.Accessors.{Fits};
+ghost use Rattle.agg_composite.specs.accessor.Decoded.{IsEncoded};
 ghost use Rattle.agg_composite_tests.specs.Right.{IsRight};
 
 use crate::collector::{Values, collector_for, composite_over, number_of, request_in};
@@ -14,9 +14,9 @@ use agg_cache::{
 };
 use agg_composite::{CompositeAggReqData, PageEntries, PageEntry, SegmentCompositeCollector};
 use agg_expect::expect_equal;
+use agg_low_tests::segment::given::{Given, segment_of};
 use agg_request_tree::CompositeAggregation;
 use agg_segment::SegmentReader;
-use agg_segment_tests::given::{Given, segment_of};
 use agg_values::{AggregationError, DocId, Steps};
 use std::alloc::Global;
 use std::marker::Brand;
@@ -212,7 +212,7 @@ fn expect_case<C: SubAggCache, L: Ledger>(
     }
 }
 
-// The same of a composite in a segment, with a count of steps of its own.
+// The last documents of a case give their page, or are refused, with a count of steps of their own.
 fn expect_counted<L: Ledger>(
     rt: &(impl Abort + AllocGlobal),
     segment: &SegmentReader,
@@ -229,7 +229,7 @@ fn expect_counted<L: Ledger>(
     expect_case::<LowCardSubAggCache, L>(rt, case, &req, &mut steps)
 }
 
-// The same of a composite over the one field.
+// The last documents of a case give the page of a composite over one field, or are refused.
 fn expect_charges(
     rt: &(impl Abort + AllocGlobal),
     segment: &SegmentReader,

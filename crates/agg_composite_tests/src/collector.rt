@@ -3,9 +3,9 @@ ghost use Rattle.std.specs.Prelude.{◌≡◌, ◌≤◌, ◌<◌, [], IfOk, OnO
 ghost use Rattle.agg_values.specs.Names.{Named};
 ghost use Rattle.agg_values.specs.declared.after_key.AfterKey.{AfterKey};
 ghost use Rattle.agg_segment.specs.Segment.{Stored};
-ghost use Rattle.agg_accessor.specs.Accessors.{AllFit, Fits};
+ghost use Rattle.agg_composite.specs.accessor.Accessors.{AllFit, Fits};
 ghost use Rattle.agg_request_tree.specs.Faults.{max_sources};
-ghost use Rattle.agg_accessor.specs.declared.request_data.CompositeAggReqData as declared;
+ghost use Rattle.agg_composite.specs.declared.accessor.request_data.CompositeAggReqData as declared;
 ghost use Rattle.agg_composite.specs.Composite.{CompositeFor};
 ghost use Rattle.agg_composite_tests.specs.Right.{IsRight};
 
@@ -15,10 +15,10 @@ use agg_composite::{
     SegmentCompositeCollector,
 };
 use agg_expect::{expect_equal, expect_equal_for};
+use agg_low_tests::segment::given::{Given, segment_of};
+use agg_request_tests::request_tree::given::{GivenSource, Kind, composite_of};
 use agg_request_tree::{CompositeAggregation, CompositeAggregationSource};
-use agg_request_tree_tests::given::{GivenSource, Kind, composite_of};
 use agg_segment::SegmentReader;
-use agg_segment_tests::given::{Given, segment_of};
 use agg_values::{CompositeIntermediateKey, DocId, ItemList, OutOfMemory, Steps, Text};
 use std::alloc::Global;
 use std::marker::Brand;
@@ -132,10 +132,11 @@ fn collect<C: SubAggCache, L: Ledger>(
     Ok(())
 }
 
-/// A signed key of an entry.
+/// The number of an entry's key that is signed or a date.
 pub(crate) fn number_of(entry: &PageEntry, index: usize) -> Option<i64> {
     match entry.key.as_slice().get(index) {
         Some(CompositeIntermediateKey::I64(number)) => Some(*number),
+        Some(CompositeIntermediateKey::DateTime(nanoseconds)) => Some(*nanoseconds),
         _ => None,
     }
 }
@@ -287,7 +288,7 @@ fn expect_shown_and_taken<C: SubAggCache, L: Ledger>(
     expect_taken(rt.alloc(), collector, taken)
 }
 
-// So does a new collector.
+// A new collector shows these pages, and hands their documents on, if it hands any on.
 fn expect_pages_of<C: SubAggCache, L: Ledger>(
     rt: &(impl Abort + AllocGlobal),
     case: (&Pages, bool),
@@ -300,7 +301,7 @@ fn expect_pages_of<C: SubAggCache, L: Ledger>(
     expect_shown_and_taken(rt, case, &mut collector, req, steps)
 }
 
-// So does the collector of a composite.
+// The collector of a composite shows these pages, and hands their documents on, if any.
 fn expect_pages<C: SubAggCache, L: Ledger>(
     rt: &(impl Abort + AllocGlobal),
     segment: &SegmentReader,
@@ -330,7 +331,7 @@ pub(crate) fn composite_over(
     Ok(composite_of(alloc, sources.as_slice(), size)?)
 }
 
-// The same with a count of steps of its own.
+// Composites over a case's fields show these pages, with a count of steps of their own.
 fn expect_counted(
     rt: &(impl Abort + AllocGlobal),
     segment: &SegmentReader,

@@ -2,10 +2,10 @@
 use crate::found::{ALL, NONE, Standing, standing, types};
 use agg_composite::PrecomputedAfterKey;
 use agg_expect::{expect_equal, expect_equal_for};
+use agg_low_tests::segment::given::{Given, segment_of};
+use agg_request_tests::request_tree::given::{GivenSource, Kind};
 use agg_request_tree::CompositeAggregationSource;
-use agg_request_tree_tests::given::{GivenSource, Kind};
 use agg_segment::{ColumnType, SegmentReader};
-use agg_segment_tests::given::{Given, segment_of};
 use agg_values::{MissingOrder, Order, OutOfMemory};
 use std::alloc::Global;
 use std::test::Fail;

@@ -30,7 +30,7 @@ pub(crate) fn standing(
     }
 }
 
-// The same of a key.
+// Where a key stands in a source, if there is one.
 fn standing_of(
     alloc: Global,
     segment: &SegmentReader,

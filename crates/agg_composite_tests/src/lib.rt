@@ -1,4 +1,5 @@
-//! Tests of what a source reads in a segment, and of what a collector holds and charges.
+//! Tests of what a source reads in a segment, of what a collector holds and charges, and of
+//! requests in a segment.
 #![tactic(auto)]
 
 #[cfg(test)]
@@ -10,10 +11,16 @@ mod charges;
 #[cfg(test)]
 mod collector;
 #[cfg(test)]
+mod date_offset;
+#[cfg(test)]
 mod divided_accessor;
 #[cfg(test)]
 mod found;
 #[cfg(test)]
 mod given;
 #[cfg(test)]
+mod least_value;
+#[cfg(test)]
 mod listing;
+#[cfg(test)]
+mod segment_context;

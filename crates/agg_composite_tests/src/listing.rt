@@ -4,24 +4,26 @@ ghost use Rattle.std.specs.Map.{keys_of};
 ghost use Rattle.agg_values.specs.Names.{Named};
 ghost use Rattle.agg_values.specs.declared.after_key.AfterKey.{AfterKey};
 ghost use Rattle.agg_segment.specs.Segment.{Stored};
-ghost use Rattle.agg_accessor.specs.Accessors.{Fits};
-ghost use Rattle.agg_accessor.specs.Decoded.{IsEncoded};
+ghost use Rattle.agg_composite.specs.accessor.Accessors.{Fits};
+ghost use Rattle.agg_composite.specs.accessor.Decoded.{IsEncoded};
 
 use crate::collector::{DOCUMENTS, composite_over, number_of, request_in};
 use agg_composite::{CompositeAggReqData, PageEntries, PageEntry, list_entries};
 use agg_expect::expect_equal;
+use agg_low_tests::segment::given::segment_of;
 use agg_request_tree::CompositeAggregation;
 use agg_segment::SegmentReader;
-use agg_segment_tests::given::segment_of;
-use agg_values::Steps;
+use agg_values::{DocId, Steps};
 use std::alloc::Global;
 use std::marker::Brand;
 use std::process::Abort;
 use std::sync::ledger::{Blank, Ledger};
 use std::test::Fail;
 
-// An entry of one signed key: this, and how many documents it has.
-type Shown = (Option<i64>, u64);
+/// An entry of one key that is signed or a date: its number, and how many documents it has.
+pub(crate) type Shown = (Option<i64>, u64);
+
+const ALL: &[DocId] = &[0, 1, 2, 3, 4, 5];
 
 // Terms of a field, how many entries a page has, and these.
 const LISTED: &[(&str, u32, &[Shown])] = &[
@@ -64,10 +66,11 @@ fn expect_entries(
     expect_equal(shown.as_slice(), expected)
 }
 
-// Those of all documents say this.
+// The entries of these documents say this.
 fn expect_shown<L: Ledger>(
     rt: &(impl Abort + AllocGlobal),
     req: &CompositeAggReqData<'_>,
+    docs: &[DocId],
     expected: &[Shown],
     blank: Blank,
 ) -> Result<(), Fail>
@@ -77,35 +80,36 @@ fn expect_shown<L: Ledger>(
     requires shared { 0 < L.parts }
 {
     let mut steps: Steps<L> = Steps::new(blank);
-    let docs = [0, 1, 2, 3, 4, 5];
-    assert!(rt; req.req.sources.as_slice().len() == 1 && req.are_starts_in_range(&docs));
-    let mut entries = list_entries(rt.alloc(), &docs, req, &mut steps)?;
+    assert!(rt; req.req.sources.as_slice().len() == 1 && req.are_starts_in_range(docs));
+    let mut entries = list_entries(rt.alloc(), docs, req, &mut steps)?;
     expect_entries(rt.alloc(), &mut entries, req, expected)
 }
 
-// The same with a count of steps of its own.
+// The entries of all documents say this, with a count of steps of their own.
 fn expect_listed(
     rt: &(impl Abort + AllocGlobal),
     req: &CompositeAggReqData<'_>,
+    docs: &[DocId],
     expected: &[Shown],
 ) -> Result<(), Fail>
     requires { (segment : Stored) × (after : Named AfterKey) × Fits segment after req.now }
 {
-    expect_shown::<Brand>(rt, req, expected, Blank::new(1))
+    expect_shown::<Brand>(rt, req, docs, expected, Blank::new(1))
 }
 
-// The same of a composite.
-fn expect_composite(
+/// The entries of documents whose tuples are listed for a composite say this.
+pub(crate) fn expect_composite(
     rt: &(impl Abort + AllocGlobal),
     segment: &SegmentReader,
     composite: &CompositeAggregation,
+    docs: &[DocId],
     expected: &[Shown],
 ) -> Result<(), Fail> {
     let req = request_in(rt.alloc(), segment, composite)?;
-    expect_listed(rt, &req, expected)
+    expect_listed(rt, &req, docs, expected)
 }
 
-// The same of terms of a field, with so many entries on a page.
+// The entries of terms of a field say this, with so many on a page.
 fn expect_terms(
     rt: &(impl Abort + AllocGlobal),
     segment: &SegmentReader,
@@ -114,7 +118,7 @@ fn expect_terms(
     expected: &[Shown],
 ) -> Result<(), Fail> {
     let composite = composite_over(rt.alloc(), &[field], size)?;
-    expect_composite(rt, segment, &composite, expected)
+    expect_composite(rt, segment, &composite, ALL, expected)
 }
 
 // A segment lists the entries of the table.

@@ -1,14 +1,14 @@
 //! Documents whose tuples would be too many to walk, and values of which a source reads some.
 ghost use Rattle.std.specs.Prelude.{[], IfOk};
-ghost use Rattle.agg_accessor.specs.Accessors.{AllFit, Fits};
+ghost use Rattle.agg_composite.specs.accessor.Accessors.{AllFit, Fits};
 
-use agg_accessor::{CompositeAggReqData, CompositeSourceAccessors};
 use agg_calendar::CalendarInterval;
+use agg_composite::accessor::{CompositeAggReqData, CompositeSourceAccessors};
 use agg_expect::{expect_equal, expect_equal_for};
+use agg_low_tests::segment::given::{Given, segment_of};
+use agg_request_tests::request_tree::given::{GivenSource, Kind, composite_of};
 use agg_request_tree::{CompositeAggregation, CompositeAggregationSource};
-use agg_request_tree_tests::given::{GivenSource, Kind, composite_of};
 use agg_segment::{Document, FieldValue, SegmentBuilder, SegmentReader};
-use agg_segment_tests::given::{Given, segment_of};
 use agg_values::{ItemList, Text};
 use std::alloc::Global;
 use std::test::Fail;

@@ -4,11 +4,11 @@ ghost use Rattle.std.specs.Prelude.{◌≡◌, ◌<◌};
 use agg_cache::LimitsLedger;
 use agg_engine::{Snapshot, Walk, WalkError, walk_pages};
 use agg_expect::expect_equal;
+use agg_request_tests::request_tree::given::{GivenSource, Kind, composite_of, lone, request_of};
 use agg_request_tree::{
     Aggregation, AggregationVariants, Aggregations, FilterAggregation, NamedBuilder,
     QueryBuildError, QueryBuilder,
 };
-use agg_request_tree_tests::given::{GivenSource, Kind, composite_of, lone, request_of};
 use agg_segment::{QueryTree, Schema};
 use agg_values::{ItemList, NameMap, OutOfMemory, Steps, Text};
 use std::alloc::Global;

@@ -1,5 +1,2 @@
 //! Tests of the results of a request over the segments of a snapshot.
-#![tactic(auto)]
-
-#[cfg(test)]
 mod results;

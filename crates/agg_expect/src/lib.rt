@@ -17,7 +17,8 @@ pub fn expect_equal<T: PartialEq + Debug + Drop>(found: T, expected: T) -> Resul
     Err(Fail::new(format_args!("found {found:?}\nexpected {expected:?}")))
 }
 
-/// The same for a case of a table, which the message names.
+/// Fails exactly where the value that was found for a case of a table is not the expected one. The
+/// message names the case.
 pub fn expect_equal_for<T: PartialEq + Debug + Drop>(
     case: impl Debug + Drop,
     found: T,

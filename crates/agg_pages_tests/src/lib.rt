@@ -1,16 +1,16 @@
-//! Tests of runs and of what they read, and the runs that other tests use too.
+//! Tests of runs whose sources and sinks fail, or give and take a few bytes at a time, and of
+//! inputs that are read and generated.
 #![tactic(auto)]
 
 #[cfg(test)]
 mod drip;
-pub mod given;
+#[cfg(test)]
+mod given;
+#[cfg(test)]
+mod input_text;
 #[cfg(test)]
 mod make;
 #[cfg(test)]
-mod nested;
-#[cfg(test)]
 mod program;
-#[cfg(test)]
-mod requests;
 #[cfg(test)]
 mod source;

@@ -1,18 +1,16 @@
-//! Tests of requests that are read and written, and of what their queries match.
+//! Tests of requests that are read and written, and of requests as trees. The sources and requests
+//! of tables are for the tests of crates above too.
 #![tactic(auto)]
 
 #[cfg(test)]
-mod composite;
+mod builders;
 #[cfg(test)]
 mod custom_order;
 #[cfg(test)]
 mod field_names;
 #[cfg(test)]
-mod matches;
-#[cfg(test)]
-mod query;
-#[cfg(test)]
-mod request;
+mod refused;
+pub mod request_tree;
 #[cfg(test)]
 mod same;
 #[cfg(test)]

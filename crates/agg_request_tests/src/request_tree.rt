@@ -1,7 +1,5 @@
 //! Tests of requests as trees, and the sources and requests of tables, which the tests of crates
 //! above use too.
-#![tactic(auto)]
-
 #[cfg(test)]
 mod builder;
 #[cfg(test)]

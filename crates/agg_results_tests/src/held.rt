@@ -1,6 +1,6 @@
 //! What machines hold, as the tables hold it.
 ghost use Rattle.std.specs.Prelude.{◌≡◌, ◌≢◌, [], IfOk};
-ghost use Rattle.agg_intermediate_results.specs.Intermediate.{entries_of, target_size_of};
+ghost use Rattle.agg_results.specs.intermediate_results.Intermediate.{entries_of, target_size_of};
 
 use agg_results::{
     IntermediateAggregationResult, IntermediateAggregationResults, IntermediateBucketResult,

@@ -50,7 +50,7 @@ const OTHERS: &[Pair] = &[
     ),
 ];
 
-// The same, where counts or sums are too large too.
+// Results of one name that differ, where counts or sums are too large too.
 const OTHERS_AND_TOO_MANY: &[Pair] = &[
     (
         &[("a", Metric(Count(u64::MAX))), ("b", Metric(Max(None)))],

@@ -47,7 +47,8 @@ pub fn shown(
     Ok(text)
 }
 
-/// The same, and the number of its buckets. The text is the same where the results end with it.
+/// What is held, as a request shows it, and the number of its buckets. The text is the same where
+/// the results end with it.
 pub fn shown_with_count(
     alloc: Global,
     request: &str,

@@ -1,5 +1,5 @@
-use agg_dates::{DateError, DateUnit, read_date, write_date};
 use agg_expect::{expect_equal, expect_equal_for};
+use peslumok_texts::dates::{DateError, DateUnit, read_date, write_date};
 use std::test::Fail;
 
 // Texts of dates, and their nanoseconds since 1970.

@@ -1,5 +1,5 @@
-use agg_decimals::{DecimalError, Places, read_decimal, write_decimal};
 use agg_expect::{expect_equal, expect_equal_for};
+use peslumok_texts::decimals::{DecimalError, Places, read_decimal, write_decimal};
 use std::test::Fail;
 
 // Texts in so many places, and the whole number of the last place that each one is.

@@ -1,12 +1,12 @@
-use agg_column::FieldValue;
-use agg_dates::{DateError, DateUnit};
-use agg_decimals::{DecimalError, Places};
 use agg_expect::{expect_equal, expect_equal_for};
-use agg_fields::{
+use agg_segment::storage::FieldValue;
+use agg_values::{CompositeIntermediateKey, CompositeKey, Text};
+use peslumok_texts::dates::{DateError, DateUnit};
+use peslumok_texts::decimals::{DecimalError, Places};
+use peslumok_texts::fields::{
     FieldType, FieldTypes, ValueError, value_of_number, value_of_string, value_of_text,
     write_number, write_shown_key, write_value,
 };
-use agg_values::{CompositeIntermediateKey, CompositeKey, Text};
 use std::alloc::Global;
 use std::test::Fail;
 

@@ -1,7 +1,7 @@
-use agg_dates::DateUnit;
-use agg_decimals::Places;
 use agg_expect::expect_equal_for;
-use agg_words::{
+use peslumok_texts::dates::DateUnit;
+use peslumok_texts::decimals::Places;
+use peslumok_texts::words::{
     BySpec, BySpecError, Condition, ConditionError, DateField, DateFieldError, DecimalFieldError,
     Missing, Test, read_by, read_condition, read_date_field, read_decimal_field,
 };

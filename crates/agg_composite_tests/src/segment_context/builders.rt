@@ -1,9 +1,9 @@
+use agg_engine_tree::segment_context::{AggContextParams, SetupError};
 use agg_expect::expect_equal;
 use agg_request_tree::{
     Aggregation, AggregationVariants, FilterAggregation, FilterQuery, QueryBuildError, QueryBuilder,
 };
 use agg_segment::{QueryTree, Schema};
-use agg_segment_context::{AggContextParams, SetupError};
 use agg_values::{NameMap, OutOfMemory, Text};
 use std::alloc::{AllocError, Global};
 use std::cell::Cell;

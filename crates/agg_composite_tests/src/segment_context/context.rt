@@ -1,12 +1,12 @@
-use crate::given::{nested, two_documents};
+use crate::segment_context::given::{nested, two_documents};
+use agg_engine_tree::segment_context::{
+    AggContextParams, AggKind, AggRefNode, AggTreeViewNode, AggregationsSegmentCtx,
+    PerRequestAggSegCtx, segment_context,
+};
 use agg_expect::expect_equal;
 use agg_metric::StatsType;
 use agg_request_tree::{Aggregations, check_request};
 use agg_segment::{Schema, SegmentReader};
-use agg_segment_context::{
-    AggContextParams, AggKind, AggRefNode, AggTreeViewNode, AggregationsSegmentCtx,
-    PerRequestAggSegCtx, segment_context,
-};
 use agg_values::{NameMap, OutOfMemory, Text};
 use std::alloc::{AllocError, Global};
 use std::test::Fail;
@@ -99,7 +99,7 @@ fn expect_children(alloc: Global, ctx: &PerRequestAggSegCtx<'_>) -> Result<(), F
     )
 }
 
-// So has that of a request in a segment.
+// The first node of a request in a segment has this name and these children.
 fn expect_children_in(
     alloc: Global,
     request: &Aggregations,

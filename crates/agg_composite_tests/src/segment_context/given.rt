@@ -1,10 +1,10 @@
 //! Requests with filters, in a segment of two documents.
+use agg_low_tests::segment::given::{Given, segment_of};
+use agg_request_tests::request_tree::given::{GivenSource, Kind, composite_of, request_of};
 use agg_request_tree::{
     Aggregation, AggregationVariants, Aggregations, FilterAggregation, SumAggregation,
 };
-use agg_request_tree_tests::given::{GivenSource, Kind, composite_of, request_of};
 use agg_segment::{BuildError, QueryTree, SegmentReader};
-use agg_segment_tests::given::{Given, segment_of};
 use agg_values::{NameMap, OutOfMemory, Text};
 use std::alloc::Global;
 

@@ -1,13 +1,15 @@
 //! Which requests may be asked with the page that is set, and the fault of each of the others.
-use crate::given::nested;
+use crate::segment_context::given::nested;
+use agg_engine_tree::segment_context::{AggContextParams, SetupError, check_paged};
 use agg_expect::expect_equal;
+use agg_low_tests::segment::given::Given;
+use agg_request_tests::request_tree::given::{
+    GivenSource, Kind, composite_of, key_of, lone, request_of,
+};
 use agg_request_tree::{
     Aggregation, AggregationVariants, Aggregations, CompositeAggregation, FilterAggregation,
 };
-use agg_request_tree_tests::given::{GivenSource, Kind, composite_of, key_of, lone, request_of};
 use agg_segment::{QueryTree, Schema};
-use agg_segment_context::{AggContextParams, SetupError, check_paged};
-use agg_segment_tests::given::Given;
 use agg_values::{AfterKey, InvalidArgument, NameMap, OutOfMemory, RequestError, Text};
 use std::alloc::Global;
 use std::test::Fail;
@@ -81,7 +83,7 @@ fn fault_of(
     Ok(check_paged(alloc, request, &params).err())
 }
 
-// The same of a request of one composite named g, which asks this by itself.
+// The fault of a request of one composite named g, which asks this by itself.
 fn fault_of_one(
     alloc: Global,
     own: Asked,

@@ -4,10 +4,12 @@ use Rattle.agg_segment.specs.Segment.{Stored}
 use Rattle.agg_segment.specs.declared.query.QueryTree.{QueryTree}
 use Rattle.agg_request_tree.specs.Names.{NamesAscend}
 use Rattle.agg_request_tree.specs.Request.{Request}
-use Rattle.agg_segment_context.specs.Context.{IsContextOf, Meaning}
-use Rattle.agg_segment_context.specs.declared.context.PerRequestAggSegCtx.{PerRequestAggSegCtx}
-use Rattle.agg_collector_tree.specs.Tree.{Held}
-use Rattle.agg_snapshot.specs.Trees.{IsRight}
+use Rattle.agg_engine_tree.specs.segment_context.Context.{IsContextOf, Meaning}
+use Rattle.agg_engine_tree.specs.declared.segment_context.context.PerRequestAggSegCtx.{
+  PerRequestAggSegCtx,
+}
+use Rattle.agg_engine_tree.specs.collector_tree.Tree.{Held}
+use Rattle.agg_engine.specs.snapshot_results.Trees.{IsRight}
 
 -- a context is that of some request in a segment
 pub record IsContextIn (segment : Stored) (ctx : PerRequestAggSegCtx) : Type 0 where

@@ -1,16 +1,16 @@
 //! Tests of the collector of a request, whose results over segments become one final result.
 ghost use Rattle.std.specs.Prelude.{◌≡◌, ◌<◌, IfOk};
-ghost use Rattle.agg_segment_context.specs.Trees.{AreOfRequest};
+ghost use Rattle.agg_engine_tree.specs.segment_context.Trees.{AreOfRequest};
 
-use crate::given::{
+use crate::collectors::given::{
     FIRST, REQUEST, RESULTS, SECOND, Values, context_of, fruit, request_of, text_of,
 };
 use agg_cache::LimitsLedger;
-use agg_collectors::AggregationCollector;
+use agg_engine::collectors::AggregationCollector;
 use agg_expect::expect_equal;
+use agg_low_tests::segment::given::segment_of;
 use agg_request::Aggregations;
 use agg_results::{AggregationResults, IntermediateAggregationResults};
-use agg_segment_tests::given::segment_of;
 use agg_values::{ItemList, Steps, Text};
 use std::alloc::Global;
 use std::marker::Brand;
@@ -59,7 +59,7 @@ fn results_of<L: Ledger>(
     Ok(collector.merge_fruits(fruits, &LimitsLedger::new(None, None))?)
 }
 
-// The same of the collector of a request, as they are shown.
+// The final results of two segments by the collector of a request, as they are shown.
 fn shown<L: Ledger>(
     rt: &(impl Abort + AllocGlobal),
     request: &Aggregations,

@@ -1,14 +1,16 @@
 //! Tests of the collector of a request, whose results over segments go on elsewhere.
 ghost use Rattle.std.specs.Prelude.{◌≡◌, ◌<◌, IfOk};
-ghost use Rattle.agg_segment_context.specs.Trees.{AreOfRequest};
+ghost use Rattle.agg_engine_tree.specs.segment_context.Trees.{AreOfRequest};
 
-use crate::given::{FIRST, REQUEST, RESULTS, SECOND, Values, context_of, fruit, request_of, shown};
+use crate::collectors::given::{
+    FIRST, REQUEST, RESULTS, SECOND, Values, context_of, fruit, request_of, shown,
+};
 use agg_cache::LimitsLedger;
-use agg_collectors::DistributedAggregationCollector;
+use agg_engine::collectors::DistributedAggregationCollector;
 use agg_expect::expect_equal;
+use agg_low_tests::segment::given::segment_of;
 use agg_request::Aggregations;
 use agg_results::IntermediateAggregationResults;
-use agg_segment_tests::given::segment_of;
 use agg_values::{ItemList, Steps, Text};
 use std::alloc::Global;
 use std::marker::Brand;
@@ -81,7 +83,7 @@ fn whole_of<L: Ledger>(
     Ok(collector.merge_fruits(fruits)?)
 }
 
-// The same of the collector of a request, as they are shown.
+// The merged results of two segments by the collector of a request, as they are shown.
 fn merged<L: Ledger>(
     rt: &(impl Abort + AllocGlobal),
     request: &Aggregations,

@@ -1,15 +1,15 @@
 //! A request over two segments, and what the collector of a request takes and gives in one.
 ghost use Rattle.std.specs.Prelude.{◌≡◌, ◌≤◌, IfOk};
-ghost use Rattle.agg_segment_context.specs.Trees.{AreOfRequest};
-ghost use Rattle.agg_collectors.specs.Segment.{MayBeUsed};
+ghost use Rattle.agg_engine_tree.specs.segment_context.Trees.{AreOfRequest};
+ghost use Rattle.agg_engine.specs.collectors.Segment.{MayBeUsed};
 
 use agg_cache::{CollectError, LimitsLedger};
-use agg_collectors::AggregationSegmentCollector;
+use agg_engine::collectors::AggregationSegmentCollector;
+use agg_engine_tree::segment_context::AggContextParams;
+use agg_low_tests::segment::given::Given;
 use agg_request::{Aggregations, read_aggregations};
 use agg_results::{AggregationResults, IntermediateAggregationResults};
 use agg_segment::{Schema, SegmentReader};
-use agg_segment_context::AggContextParams;
-use agg_segment_tests::given::Given;
 use agg_values::{NameMap, Steps, Text};
 use serde_json::Value;
 use std::alloc::Global;
@@ -26,7 +26,7 @@ pub(crate) const FIRST: &[Values] = &[
     &[("colour", Given::Text("blue")), ("size", Given::Signed(3))],
 ];
 
-/// Those of another.
+/// The documents of another segment.
 pub(crate) const SECOND: &[Values] = &[
     &[("colour", Given::Text("blue")), ("size", Given::Signed(5))],
     &[("colour", Given::Text("red")), ("size", Given::Signed(7))],

@@ -1,19 +1,19 @@
 //! Tests of the collector of a request in a segment: what it tells of itself, and what is in use
 //! after it ends.
 ghost use Rattle.std.specs.Prelude.{◌≡◌, ◌≤◌, ◌<◌};
-ghost use Rattle.agg_segment_context.specs.Trees.{AreOfRequest};
-ghost use Rattle.agg_collectors.specs.Segment.{MayBeUsed};
+ghost use Rattle.agg_engine_tree.specs.segment_context.Trees.{AreOfRequest};
+ghost use Rattle.agg_engine.specs.collectors.Segment.{MayBeUsed};
 
-use crate::given::{FIRST, REQUEST, Values, context_of, request_of};
+use crate::collectors::given::{FIRST, REQUEST, Values, context_of, request_of};
 use agg_cache::{CollectError, LimitsLedger};
-use agg_collectors::AggregationSegmentCollector;
+use agg_engine::collectors::AggregationSegmentCollector;
+use agg_engine_tree::segment_context::{AggContextParams, AggKind, AggRefNode};
 use agg_expect::expect_equal;
+use agg_low_tests::segment::given::{Given, segment_of};
 use agg_metric::StatsType;
 use agg_request::Aggregations;
 use agg_results::IntermediateAggregationResults;
 use agg_segment::SegmentReader;
-use agg_segment_context::{AggContextParams, AggKind, AggRefNode};
-use agg_segment_tests::given::{Given, segment_of};
 use agg_values::{AggregationError, Steps};
 use std::alloc::{AllocError, Global};
 use std::marker::Brand;
@@ -49,7 +49,7 @@ fn expect_told(alloc: Global, collector: &AggregationSegmentCollector<'_>) -> Re
     expect_equal(kinds.as_slice(), KINDS.as_slice())
 }
 
-// So does the collector of a request in the first segment.
+// The collector of a request tells this of the first segment.
 fn expect_told_by(
     alloc: Global,
     request: &Aggregations,

@@ -1,19 +1,21 @@
 //! Tests of the trait of collectors in a segment, by a tree of them.
 ghost use Rattle.std.specs.Prelude.{◌≡◌, ◌<◌, IfOk, OnOk};
-ghost use Rattle.agg_collector_tree.specs.Tree.{IsFlushed, held_of};
-ghost use Rattle.agg_segment_context.specs.Trees.{AreOfRequest};
-ghost use Rattle.agg_collectors_tests.specs.Trees.{IsContextIn, IsTreeFor};
+ghost use Rattle.agg_engine_tree.specs.collector_tree.Tree.{IsFlushed, held_of};
+ghost use Rattle.agg_engine_tree.specs.segment_context.Trees.{AreOfRequest};
+ghost use Rattle.agg_engine_tests.specs.collectors.Trees.{IsContextIn, IsTreeFor};
 
-use crate::given::{FIRST, context_of, request_of, shown};
+use crate::collectors::given::{FIRST, context_of, request_of, shown};
 use agg_cache::{BucketId, CollectError, LimitsLedger};
-use agg_collector_tree::{SegmentCollectorTree, tree_for};
-use agg_collectors::SegmentAggregationCollector;
+use agg_engine::collectors::SegmentAggregationCollector;
+use agg_engine_tree::collector_tree::{SegmentCollectorTree, tree_for};
+use agg_engine_tree::segment_context::{
+    AggContextParams, AggregationsSegmentCtx, check_paged, segment_context,
+};
 use agg_expect::expect_equal;
+use agg_low_tests::segment::given::segment_of;
 use agg_request::Aggregations;
 use agg_results::IntermediateAggregationResults;
 use agg_segment::SegmentReader;
-use agg_segment_context::{AggContextParams, AggregationsSegmentCtx, check_paged, segment_context};
-use agg_segment_tests::given::segment_of;
 use agg_values::{OutOfMemory, Steps};
 use std::alloc::Global;
 use std::marker::Brand;
@@ -64,7 +66,7 @@ fn data_in<'s>(
     data_with(alloc, request, reader, &context)
 }
 
-// The same with this context.
+// What the aggregations of a request are asked in a segment, with this context.
 fn data_with<'s>(
     alloc: Global,
     request: &'s Aggregations,
@@ -143,7 +145,7 @@ fn expect_rows(
     Ok(())
 }
 
-// So has a new tree that took documents.
+// A new tree that took documents has the results for each parent.
 fn expect_rows_of_new<L: Ledger>(
     alloc: Global,
     agg_data: &AggregationsSegmentCtx<'_>,
@@ -158,7 +160,7 @@ fn expect_rows_of_new<L: Ledger>(
     expect_rows(alloc, &mut tree, agg_data, request)
 }
 
-// So has that of a request in the first segment.
+// The tree of a request in the first segment has the results for each parent.
 fn expect_results<L: Ledger>(
     alloc: Global,
     request: &Aggregations,

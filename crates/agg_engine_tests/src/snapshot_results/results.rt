@@ -1,15 +1,15 @@
 //! Tests of results over no segment and over several, of all documents and of some, and of limits.
 ghost use Rattle.std.specs.Prelude.{◌≡◌, ◌<◌};
-ghost use Rattle.agg_snapshot.specs.Asked.{MayBeAsked};
+ghost use Rattle.agg_engine.specs.snapshot_results.Asked.{MayBeAsked};
 
 use agg_cache::LimitsLedger;
+use agg_engine::snapshot_results::{PageRequest, SnapshotError, snapshot_results};
+use agg_engine_tree::segment_context::AggContextParams;
 use agg_expect::expect_equal;
+use agg_low_tests::segment::given::{Given, segment_of};
 use agg_request::{read_aggregations, read_query};
 use agg_request_tree::{Aggregations, NamedBuilder, check_request};
 use agg_segment::{QueryTree, Schema, SegmentReader};
-use agg_segment_context::AggContextParams;
-use agg_segment_tests::given::{Given, segment_of};
-use agg_snapshot::{PageRequest, SnapshotError, snapshot_results};
 use agg_values::{ItemList, Steps, Text};
 use serde_json::Value;
 use std::alloc::Global;
@@ -170,7 +170,7 @@ fn shown<L: Ledger>(
     }
 }
 
-// The same of a request over a snapshot.
+// The results of a request over a snapshot, as they are shown, or why there are none.
 fn shown_of<L: Ledger>(
     alloc: Global,
     request: &Aggregations,

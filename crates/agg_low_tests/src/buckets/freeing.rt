@@ -1,6 +1,6 @@
 //! Tests of lists that give their memory back.
 use agg_expect::expect_equal;
-use agg_freeing::FreeingIter;
+use agg_values::freeing::FreeingIter;
 use std::test::Fail;
 
 #[test]

@@ -1,8 +1,8 @@
 //! Tests of a page that is full, and of a second parent.
 ghost use Rattle.std.specs.Prelude.{◌≡◌, ◌<◌, ◌∷◌, [], length};
 
-use agg_buckets::{Bucket, BucketsByParent};
 use agg_cache::BucketId;
+use agg_composite::buckets::{Bucket, BucketsByParent};
 use agg_values::{DocId, Steps};
 use arrayvec::ArrayVec;
 use std::marker::Brand;

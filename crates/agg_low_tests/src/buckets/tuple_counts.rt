@@ -1,6 +1,6 @@
 //! Tests of lists of tuples that are counted.
+use agg_composite::tuple_counts::TupleCounts;
 use agg_expect::expect_equal;
-use agg_tuple_counts::TupleCounts;
 use std::test::Fail;
 
 #[test]

@@ -34,7 +34,7 @@ const TAKEN: &[(Option<&str>, Option<CalendarInterval>, Parts)] = &[
     ),
 ];
 
-// The same of sources that may not be, and why.
+// Intervals of sources that may not be asked, and why.
 const REFUSED: &[(Option<&str>, Option<CalendarInterval>, InvalidArgument)] = &[
     (None, None, InvalidArgument::IntervalChoice),
     (

@@ -60,6 +60,8 @@ fn reads_every_unit(rt: HostRuntime) -> Result<(), Fail> {
 const NO_INTERVALS: &[(&str, Fault, &str)] = &[
     ("", Fault::NumberMissing, ""),
     ("ms", Fault::NumberMissing, "ms"),
+    ("day", Fault::NumberMissing, "day"),
+    (" 1d", Fault::NumberMissing, " 1d"),
     ("-1m", Fault::NumberMissing, "-1m"),
     ("１m", Fault::NumberMissing, "１m"),
     ("2000", Fault::UnitMissing, "2000"),
@@ -79,6 +81,7 @@ const NO_INTERVALS: &[(&str, Fault, &str)] = &[
         "9223372036854775808ms",
     ),
     ("2y", Fault::UnitNotRecognized, "y"),
+    ("0y", Fault::UnitNotRecognized, "y"),
     ("1 m", Fault::UnitNotRecognized, " m"),
     ("1M", Fault::UnitNotRecognized, "M"),
     ("1minute", Fault::UnitNotRecognized, "minute"),

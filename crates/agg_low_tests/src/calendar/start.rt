@@ -75,7 +75,7 @@ fn years_begin_on_their_first_of_january() -> Result<(), Fail> {
     Ok(())
 }
 
-// The same, and the starts of their months.
+// Moments with the days that they lie in, and the starts of their months.
 const MONTHS: &[(&str, i64, Result<i64, StartError>)] = &[
     ("1970-01-15", 1_209_600_000_000_000, Ok(0)),
     (
@@ -137,7 +137,7 @@ fn months_begin_on_their_first() -> Result<(), Fail> {
     Ok(())
 }
 
-// The same, and the starts of their weeks.
+// Moments with the days that they lie in, and the starts of their weeks.
 const WEEKS: &[(&str, i64, Result<i64, StartError>)] = &[
     ("1970-01-05", 345_600_000_000_000, Ok(345_600_000_000_000)),
     ("1970-01-05", 431_999_000_000_000, Ok(345_600_000_000_000)),

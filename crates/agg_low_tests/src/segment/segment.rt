@@ -1,5 +1,5 @@
 //! What small segments answer.
-use crate::given::{Given, document_of};
+use crate::segment::given::{Given, document_of};
 use agg_expect::{expect_equal, expect_equal_for};
 use agg_segment::{
     BuildError, Column, ColumnType, FieldValue, OrdHit, QueryTree, RangeBound, Schema,

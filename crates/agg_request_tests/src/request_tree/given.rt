@@ -3,14 +3,15 @@ ghost use Rattle.std.specs.Prelude.{◌≡◌, ◌∷◌, [], IfOk};
 ghost use Rattle.agg_request_tree.specs.Request.{agg_of, below_of};
 
 use agg_calendar::CalendarInterval;
+use agg_low_tests::segment::given::Given;
 use agg_request_tree::{
     Aggregation, AggregationVariants, Aggregations, CompositeAggregation,
     CompositeAggregationSource, DateHistogramCompositeAggregationSource,
     HistogramCompositeAggregationSource, TermCompositeAggregationSource,
 };
-use agg_segment_tests::given::Given;
 use agg_values::{
-    Address, CompositeIntermediateKey, ItemList, MissingOrder, NameMap, Order, OutOfMemory, Text,
+    Address, AfterKey, CompositeIntermediateKey, ItemList, MissingOrder, NameMap, Order,
+    OutOfMemory, Text,
 };
 use std::alloc::Global;
 
@@ -31,6 +32,10 @@ pub struct GivenSource {
     pub order: Order,
     pub missing_bucket: bool,
     pub missing_order: MissingOrder,
+    /// By how much the buckets of dates begin later.
+    pub offset: Option<&'static str>,
+    /// The least value that is read.
+    pub min: Option<Given>,
 }
 
 impl GivenSource {
@@ -43,6 +48,8 @@ impl GivenSource {
             order: Order::Asc,
             missing_bucket,
             missing_order: MissingOrder::Default,
+            offset: None,
+            min: None,
         }
     }
 
@@ -62,6 +69,7 @@ impl GivenSource {
             order: self.order,
             missing_bucket: self.missing_bucket,
             missing_order: self.missing_order,
+            min: self.least(alloc)?,
         }))
     }
 
@@ -77,6 +85,7 @@ impl GivenSource {
             order: self.order,
             missing_bucket: self.missing_bucket,
             missing_order: self.missing_order,
+            min: self.least(alloc)?,
         }))
     }
 
@@ -86,19 +95,31 @@ impl GivenSource {
         fixed: Option<&str>,
         calendar_interval: Option<CalendarInterval>,
     ) -> Result<CompositeAggregationSource, OutOfMemory> {
-        let fixed_interval = match fixed {
-            Some(text) => Some(Text::copy_of(alloc, text)?),
-            None => None,
-        };
         Ok(CompositeAggregationSource::DateHistogram(DateHistogramCompositeAggregationSource {
             name: Text::copy_of(alloc, self.name)?,
             field: Text::copy_of(alloc, self.field)?,
-            fixed_interval,
+            fixed_interval: text_of(alloc, fixed)?,
             calendar_interval,
+            offset: text_of(alloc, self.offset)?,
             order: self.order,
             missing_bucket: self.missing_bucket,
             missing_order: self.missing_order,
+            min: self.least(alloc)?,
         }))
+    }
+
+    fn least(self, alloc: Global) -> Result<Option<AfterKey>, OutOfMemory> {
+        match self.min {
+            Some(least) => Ok(Some(AfterKey(key_of(alloc, Some(least))?))),
+            None => Ok(None),
+        }
+    }
+}
+
+fn text_of(alloc: Global, text: Option<&str>) -> Result<Option<Text>, OutOfMemory> {
+    match text {
+        Some(text) => Ok(Some(Text::copy_of(alloc, text)?)),
+        None => Ok(None),
     }
 }
 

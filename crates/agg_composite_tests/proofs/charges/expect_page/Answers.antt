@@ -1,8 +1,8 @@
 use Rattle.std.proofs.Common.{All, sym, subst}
 use Rattle.std.specs.Map.{keys_of}
-use Rattle.agg_accessor.specs.Decoded.{IsEncoded}
-use Rattle.agg_accessor.specs.Encoding.{EncodedTuple}
-use Rattle.agg_buckets.specs.Page.{Page}
+use Rattle.agg_composite.specs.accessor.Decoded.{IsEncoded}
+use Rattle.agg_composite.specs.accessor.Encoding.{EncodedTuple}
+use Rattle.agg_composite.specs.buckets.Page.{Page}
 use Rattle.agg_composite.proofs.BucketPages.{page-encoded}
 use Rattle.agg_composite_tests.proofs.charges.expect_page.Goals as goal
 

@@ -1,6 +1,6 @@
 use Rattle.std.proofs.Common.{All, length}
 use Rattle.std.specs.Map.{keys_of}
-use Rattle.agg_accessor.specs.Decoded.{IsEncoded}
+use Rattle.agg_composite.specs.accessor.Decoded.{IsEncoded}
 use Rattle.agg_composite_tests.proofs.charges.numbers_of.Given as goal
 
 -- the tuples that are still to come stand for tuples

@@ -1,6 +1,6 @@
 use Rattle.std.proofs.Common.{[], arith}
 use Rattle.agg_request_tree.specs.Source.{after_of}
-use Rattle.agg_accessor.specs.Accessors.{AreAccessorsOf}
+use Rattle.agg_composite.specs.accessor.Accessors.{AreAccessorsOf}
 use Rattle.agg_composite_tests.proofs.OneMore.{one_more}
 use Rattle.agg_composite_tests.proofs.collector.accessors_of.Goals as goal
 

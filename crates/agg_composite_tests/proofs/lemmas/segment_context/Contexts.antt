@@ -12,17 +12,22 @@ use Rattle.agg_request_tree.specs.declared.aggregation.AggregationVariants.TheVa
 use Rattle.agg_request_tree.specs.declared.aggregation.CompositeAggregation.{CompositeAggregation}
 use Rattle.agg_request_tree.specs.declared.aggregation.filter.FilterQuery.TheVariants as by
 use Rattle.agg_request_tree.proofs.RequestTrees.{agg-made, below-made}
-use Rattle.agg_accessor.specs.Accessors.{Fits}
-use Rattle.agg_accessor.specs.declared.request_data.CompositeAggReqData.{CompositeAggReqData}
+use Rattle.agg_composite.specs.accessor.Accessors.{Fits}
+use Rattle.agg_composite.specs.declared.accessor.request_data.CompositeAggReqData.{
+  CompositeAggReqData,
+}
 use Rattle.agg_filter.specs.declared.request_data.FilterAggReqData.{FilterAggReqData}
 use Rattle.agg_metric.specs.declared.request_data.StatsType.TheVariants as stats
-use Rattle.agg_segment_context.specs.Context.{ArePlansOf, HasFewSources, IsAskedAt, IsMeant}
-use Rattle.agg_segment_context.specs.Context.{IsCompositeMeant, IsPlanOf, Meaning}
-use Rattle.agg_segment_context.specs.Plan.{Plan, Plans, plan_of, plans_of}
-use Rattle.agg_segment_context.specs.declared.context.PerRequestAggSegCtx.{PerRequestAggSegCtx}
-use Rattle.agg_segment_context.specs.declared.node.AggKind.{AggKind}
-use Rattle.agg_segment_context.specs.declared.node.AggKind.TheVariants as kind
-use Rattle.agg_segment_context_tests.specs.Context.{HasCountFirst, IsContextIn, planned}
+use Rattle.agg_engine_tree.specs.segment_context.Context.{ArePlansOf, HasFewSources, IsAskedAt}
+use Rattle.agg_engine_tree.specs.segment_context.Context.{IsMeant, IsCompositeMeant, IsPlanOf}
+use Rattle.agg_engine_tree.specs.segment_context.Context.{Meaning}
+use Rattle.agg_engine_tree.specs.segment_context.Plan.{Plan, Plans, plan_of, plans_of}
+use Rattle.agg_engine_tree.specs.declared.segment_context.context.PerRequestAggSegCtx.{
+  PerRequestAggSegCtx,
+}
+use Rattle.agg_engine_tree.specs.declared.segment_context.node.AggKind.{AggKind}
+use Rattle.agg_engine_tree.specs.declared.segment_context.node.AggKind.TheVariants as kind
+use Rattle.agg_composite_tests.specs.segment_context.Context.{HasCountFirst, IsContextIn, planned}
 
 -- what four facts say of a result
 pub together : {X E : Type 0} (r : Result X E) (P Q R S T : X → Type 0)

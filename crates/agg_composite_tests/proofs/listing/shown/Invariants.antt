@@ -1,6 +1,6 @@
 use Rattle.std.proofs.Common.{All, length}
 use Rattle.std.specs.Map.{keys_of}
-use Rattle.agg_accessor.specs.Decoded.{IsEncoded}
+use Rattle.agg_composite.specs.accessor.Decoded.{IsEncoded}
 use Rattle.agg_composite_tests.proofs.listing.shown.Given as goal
 
 abbrev pub invariant-loop-shown : goal.invariant-loop-shown

@@ -1,4 +1,4 @@
-use crate::filter::given::red_in_segment;
+use crate::segment_context::filter::given::red_in_segment;
 use agg_cache::{Batch, BucketId, CollectError, LowCardSubAggCache};
 use agg_expect::expect_equal;
 use agg_filter::{FilterAggReqData, SegmentFilterCollector};

@@ -1,4 +1,4 @@
-use crate::filter::given::{Values, filter_of, red_in_segment};
+use crate::segment_context::filter::given::{Values, filter_of, red_in_segment};
 use agg_expect::expect_equal;
 use agg_segment::QueryTree;
 use agg_values::{DocId, ItemList};

@@ -1,7 +1,7 @@
 //! Filters over segments of coloured documents.
 use agg_filter::{DocumentQueryEvaluator, FilterAggReqData};
+use agg_low_tests::segment::given::{Given, segment_of};
 use agg_segment::{FieldValue, QueryTree};
-use agg_segment_tests::given::{Given, segment_of};
 use agg_values::{OutOfMemory, Text};
 use std::alloc::Global;
 use std::test::Fail;

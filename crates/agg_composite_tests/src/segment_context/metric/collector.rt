@@ -1,4 +1,4 @@
-use crate::metric::given::{collector_of, segment, shown};
+use crate::segment_context::metric::given::{collector_of, segment, shown};
 use agg_cache::BucketId;
 use agg_expect::expect_equal;
 use agg_metric::{SegmentMetricCollector, StatsType};

@@ -1,8 +1,8 @@
 //! A segment of documents with values of all classes, and metrics of its fields.
+use agg_low_tests::segment::given::{Given, segment_of};
 use agg_metric::{MetricAggReqData, SegmentMetricCollector, StatsType};
-use agg_metric_results::IntermediateMetricResult;
+use agg_results::metric_results::IntermediateMetricResult;
 use agg_segment::SegmentReader;
-use agg_segment_tests::given::{Given, segment_of};
 use agg_values::Text;
 use std::alloc::Global;
 use std::test::Fail;

@@ -1,13 +1,13 @@
 //! Tests of counts over blocks of documents.
-ghost use Rattle.agg_segment_context_tests.specs.Context.{IsContextIn};
+ghost use Rattle.agg_composite_tests.specs.segment_context.Context.{IsContextIn};
 
-use crate::uncut::given::{context_of, segment};
+use crate::segment_context::uncut::given::{context_of, segment};
+use agg_engine_tree::segment_context::PerRequestAggSegCtx;
+use agg_engine_tree::uncut::{UncutCounts, are_starts_in_range, uncut_lengths};
 use agg_expect::expect_equal;
+use agg_request_tests::request_tree::given::{GivenSource, Kind, composite_of};
 use agg_request_tree::CompositeAggregation;
-use agg_request_tree_tests::given::{GivenSource, Kind, composite_of};
 use agg_segment::SegmentReader;
-use agg_segment_context::PerRequestAggSegCtx;
-use agg_uncut::{UncutCounts, are_starts_in_range, uncut_lengths};
 use agg_values::DocId;
 use std::alloc::Global;
 use std::process::Abort;

@@ -3,18 +3,19 @@
 ghost use Rattle.std.specs.Prelude.{◌≡◌, ◌≢◌, [], ◌∷◌, IfOk, map};
 ghost use Rattle.agg_segment.specs.Marks.{AreMarks};
 ghost use Rattle.agg_segment.specs.Query.{matches};
-ghost use Rattle.agg_accessor.specs.Accessors.{Fits};
-ghost use Rattle.agg_segment_context.specs.Context.{HasFewSources};
-ghost use Rattle.agg_segment_context.specs.Plan.{Plan, plan_of, plans_of};
-ghost use Rattle.agg_segment_context_tests.specs.Context.{HasCountFirst, IsContextIn, planned};
+ghost use Rattle.agg_composite.specs.accessor.Accessors.{Fits};
+ghost use Rattle.agg_engine_tree.specs.segment_context.Context.{HasFewSources};
+ghost use Rattle.agg_engine_tree.specs.segment_context.Plan.{Plan, plan_of, plans_of};
+ghost use Rattle.agg_composite_tests.specs.segment_context.Context.{HasCountFirst, IsContextIn};
+ghost use Rattle.agg_composite_tests.specs.segment_context.Context.{planned};
 
-use agg_accessor::{CompositeAggReqData, CompositeSourceAccessors};
+use agg_composite::accessor::{CompositeAggReqData, CompositeSourceAccessors};
+use agg_engine_tree::segment_context::{AggKind, AggRefNode, PerRequestAggSegCtx};
 use agg_filter::{DocumentQueryEvaluator, FilterAggReqData};
+use agg_low_tests::segment::given::{Given, segment_of};
 use agg_metric::{MetricAggReqData, StatsType};
 use agg_request_tree::CompositeAggregation;
 use agg_segment::{FieldValue, QueryTree, SegmentReader};
-use agg_segment_context::{AggKind, AggRefNode, PerRequestAggSegCtx};
-use agg_segment_tests::given::{Given, segment_of};
 use agg_values::{ItemList, OutOfMemory, Text};
 use std::alloc::Global;
 use std::test::Fail;

@@ -2,15 +2,20 @@
 use Rattle.std.proofs.Common.{◌≡◌, ◌++◌, ℕ, List, [], Bool, Ok, Err, map, refl}
 use Rattle.std.specs.Prelude.{IfOk, Result}
 use Rattle.agg_segment.specs.Segment.{Stored}
-use Rattle.agg_segment_context.specs.Context.{IsMeant, Meaning}
-use Rattle.agg_segment_context.specs.Plan.{plan_of, plans_of}
-use Rattle.agg_segment_context.specs.declared.context.PerRequestAggSegCtx.{PerRequestAggSegCtx}
-use Rattle.agg_collector_tree.specs.Tree.{Fits, Held, IsFlushed, IsFor, IsGroupOf, Takes, held_of}
-use Rattle.agg_collector_tree.specs.declared.tree.SegmentCollectorTree.{SegmentCollectorTree}
-use Rattle.agg_tree_results.specs.Results.{MayAdd}
-use Rattle.agg_tree_results.proofs.ApartNames.{apart-group}
-use Rattle.agg_snapshot.proofs.RightTrees.{right-more}
-use Rattle.agg_collectors_tests.specs.Trees.{IsContextIn, IsTreeFor}
+use Rattle.agg_engine_tree.specs.segment_context.Context.{IsMeant, Meaning}
+use Rattle.agg_engine_tree.specs.segment_context.Plan.{plan_of, plans_of}
+use Rattle.agg_engine_tree.specs.declared.segment_context.context.PerRequestAggSegCtx.{
+  PerRequestAggSegCtx,
+}
+use Rattle.agg_engine_tree.specs.collector_tree.Tree.{Fits, Held, IsFlushed, IsFor, IsGroupOf}
+use Rattle.agg_engine_tree.specs.collector_tree.Tree.{Takes, held_of}
+use Rattle.agg_engine_tree.specs.declared.collector_tree.tree.SegmentCollectorTree.{
+  SegmentCollectorTree,
+}
+use Rattle.agg_engine_tree.specs.tree_results.Results.{MayAdd}
+use Rattle.agg_engine_tree.proofs.lemmas.tree_results.ApartNames.{apart-group}
+use Rattle.agg_engine.proofs.lemmas.snapshot_results.RightTrees.{right-more}
+use Rattle.agg_engine_tests.specs.collectors.Trees.{IsContextIn, IsTreeFor}
 
 module _ (ctx : PerRequestAggSegCtx) where
   -- a new tree took nothing

@@ -1,7 +1,7 @@
 use Rattle.std.proofs.Common.{[], arith}
 use Rattle.agg_request_tree.specs.Source.{after_of}
-use Rattle.agg_accessor.specs.Accessors.{AreAccessorsOf}
-use Rattle.agg_segment_context.proofs.Accessors.{AllZip-one_more}
+use Rattle.agg_composite.specs.accessor.Accessors.{AreAccessorsOf}
+use Rattle.agg_engine_tree.proofs.lemmas.segment_context.Accessors.{AllZip-one_more}
 use Rattle.agg_engine_tests.proofs.occurrences.accessors_of.Goals as goal
 
 pub loop-source-preserved : goal.loop-source-preserved

@@ -1,5 +1,5 @@
 use Rattle.std.proofs.Common.{[], take}
-use Rattle.agg_accessor.specs.Accessors.{AllFit}
+use Rattle.agg_composite.specs.accessor.Accessors.{AllFit}
 use Rattle.agg_engine_tests.proofs.occurrences.accessors_of.Given as goal
 
 -- the accessors of the sources so far

@@ -1,7 +1,7 @@
 //! Tests of a map of many keys, which are expected.
 ghost use Rattle.std.specs.Prelude.{◌≡◌, ◌<◌};
 
-use crate::heap_map::array_keys::insert;
+use crate::buckets::heap_map::array_keys::insert;
 use agg_expect::expect_equal;
 use agg_heap_map::LazyHeapMap;
 use agg_values::Steps;

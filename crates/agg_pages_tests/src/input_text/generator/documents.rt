@@ -1,9 +1,9 @@
 //! The documents of generated inputs.
 use agg_expect::{expect_equal, expect_equal_for};
-use agg_generator::generated_input;
-use agg_input::Input;
+use agg_pages::generator::generated_input;
+use agg_pages::input_text::Input;
 use agg_segment::{SegmentReader, Snapshot};
-use agg_values::{CompositeIntermediateKey, Text};
+use agg_values::{AfterKey, CompositeIntermediateKey, Text};
 use std::alloc::Global;
 use std::collections::BTreeSet;
 use std::test::Fail;
@@ -30,22 +30,27 @@ fn key_of(
     Ok(None)
 }
 
-// The first key of a field of a document as a text.
-fn shown_key(
+// Appends the first key of a field of a document to a text, and a space.
+fn show_key(
     alloc: Global,
+    shown: &mut String,
     segment: &SegmentReader,
     field: &str,
     doc: u32,
-) -> Result<String, Fail> {
-    let key = key_of(alloc, segment, field, doc)?;
-    Ok(format!(in alloc; "{key:?}")?)
+) -> Result<(), Fail> {
+    if let Some(key) = key_of(alloc, segment, field, doc)? {
+        shown.push_str(AfterKey::from(key).write(alloc)?.as_str())?;
+    }
+    shown.push(' ')?;
+    Ok(())
 }
 
 // The number and the text of a document as one text.
 fn pair_of(alloc: Global, segment: &SegmentReader, doc: u32) -> Result<String, Fail> {
-    let number = shown_key(alloc, segment, "a", doc)?;
-    let text = shown_key(alloc, segment, "b", doc)?;
-    Ok(format!(in alloc; "{number} {text}")?)
+    let mut pair = String::new(alloc);
+    show_key(alloc, &mut pair, segment, "a", doc)?;
+    show_key(alloc, &mut pair, segment, "b", doc)?;
+    Ok(pair)
 }
 
 // Adds the pairs of a segment's documents.

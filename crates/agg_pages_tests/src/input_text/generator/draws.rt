@@ -1,6 +1,6 @@
 //! The first numbers of seeds.
 use agg_expect::expect_equal_for;
-use agg_generator::Generator;
+use agg_pages::generator::Generator;
 use std::test::Fail;
 
 // Seeds, and their first two numbers.

@@ -1,7 +1,7 @@
 //! What a generated input asks for.
 use agg_expect::expect_equal;
-use agg_generator::generated_input;
-use agg_input::{Header, Input, InputError, read_input};
+use agg_pages::generator::generated_input;
+use agg_pages::input_text::{Header, Input, InputError, read_input};
 use agg_request::{Aggregations, NamedBuilder, may_be_written, write_aggregations};
 use agg_segment::QueryTree;
 use std::alloc::Global;

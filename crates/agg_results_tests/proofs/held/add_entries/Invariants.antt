@@ -1,5 +1,5 @@
 use Rattle.std.proofs.Common.{◌≡◌}
-use Rattle.agg_intermediate_results.specs.Intermediate.{target_size_of}
+use Rattle.agg_results.specs.intermediate_results.Intermediate.{target_size_of}
 use Rattle.agg_results_tests.proofs.held.add_entries.Given as goal
 
 abbrev pub invariant-loop-key : goal.invariant-loop-key

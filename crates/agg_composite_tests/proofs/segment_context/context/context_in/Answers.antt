@@ -1,7 +1,7 @@
 use Rattle.std.proofs.Common.{subst, sym}
 use Rattle.agg_request_tree.specs.Faults.{IsSoundRequest}
-use Rattle.agg_segment_context.specs.Pages.{paged}
-use Rattle.agg_segment_context_tests.proofs.context.context_in.Goals as goal
+use Rattle.agg_engine_tree.specs.segment_context.Pages.{paged}
+use Rattle.agg_composite_tests.proofs.segment_context.context.context_in.Goals as goal
 
 pub segment_context-requires-clause-sound : goal.segment_context-requires-clause-sound
 segment_context-requires-clause-sound g c =

@@ -1,4 +1,4 @@
-use Rattle.agg_collectors_tests.proofs.distributed.collector_of.Goals as goal
+use Rattle.agg_engine_tests.proofs.collectors.collector.collector_of.Goals as goal
 
 pub returns : goal.returns
 returns g c =

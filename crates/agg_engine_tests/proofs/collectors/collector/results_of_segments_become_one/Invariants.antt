@@ -1,4 +1,4 @@
-use Rattle.agg_collectors_tests.proofs.collector.results_of_segments_become_one.Given as goal
+use Rattle.agg_engine_tests.proofs.collectors.collector.results_of_segments_become_one.Given as goal
 
 -- the ledger is the one of the blank
 abbrev pub ghosts-shown : goal.ghosts-shown

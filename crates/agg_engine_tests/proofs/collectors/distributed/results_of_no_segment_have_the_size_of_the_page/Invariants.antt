@@ -1,4 +1,4 @@
-use Rattle.agg_collectors_tests.proofs.distributed as distributed
+use Rattle.agg_engine_tests.proofs.collectors.distributed as distributed
 use distributed.results_of_no_segment_have_the_size_of_the_page.Given as goal
 
 -- the ledger is the one of the blank

@@ -1,4 +1,5 @@
-use Rattle.agg_collectors_tests.proofs.distributed.results_of_segments_are_merged.Given as goal
+use Rattle.agg_engine_tests.proofs.collectors.distributed.results_of_segments_are_merged.Given
+    as goal
 
 -- the ledger is the one of the blank
 abbrev pub ghosts-merged : goal.ghosts-merged

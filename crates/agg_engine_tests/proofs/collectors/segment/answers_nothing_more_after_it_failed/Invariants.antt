@@ -1,4 +1,5 @@
-use Rattle.agg_collectors_tests.proofs.segment.answers_nothing_more_after_it_failed.Given as goal
+use Rattle.agg_engine_tests.proofs.collectors.segment.answers_nothing_more_after_it_failed.Given
+    as goal
 
 -- the ledger is the one of the blank
 abbrev pub ghosts-expect_failed : goal.ghosts-expect_failed

@@ -1,4 +1,4 @@
-use Rattle.agg_collectors_tests.proofs.segment.holds_as_much_as_memory_allows.Given as goal
+use Rattle.agg_engine_tests.proofs.collectors.segment.holds_as_much_as_memory_allows.Given as goal
 
 -- the ledger is the one of the blank
 abbrev pub ghosts-expect_limits : goal.ghosts-expect_limits

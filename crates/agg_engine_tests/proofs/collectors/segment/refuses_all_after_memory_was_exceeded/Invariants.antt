@@ -1,4 +1,5 @@
-use Rattle.agg_collectors_tests.proofs.segment.refuses_all_after_memory_was_exceeded.Given as goal
+use Rattle.agg_engine_tests.proofs.collectors.segment.refuses_all_after_memory_was_exceeded.Given
+    as goal
 
 -- the ledger is the one of the blank
 abbrev pub ghosts-expect_failed : goal.ghosts-expect_failed

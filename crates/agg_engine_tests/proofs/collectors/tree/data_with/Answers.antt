@@ -1,7 +1,7 @@
 use Rattle.agg_request_tree.specs.Request.{with_builders}
-use Rattle.agg_segment_context.specs.Pages.{paged}
-use Rattle.agg_snapshot.proofs.AskedNames.{names-asked}
-use Rattle.agg_collectors_tests.proofs.tree.data_with.Goals as goal
+use Rattle.agg_engine_tree.specs.segment_context.Pages.{paged}
+use Rattle.agg_engine.proofs.lemmas.snapshot_results.AskedNames.{names-asked}
+use Rattle.agg_engine_tests.proofs.collectors.tree.data_with.Goals as goal
 
 pub returns : goal.returns
 returns g c =

@@ -1,6 +1,6 @@
-use Rattle.agg_collector_tree.specs.Tree.{IsFlushed, held_of}
-use Rattle.agg_collectors_tests.specs.Trees.{IsTreeFor}
-use Rattle.agg_collectors_tests.proofs.tree.expect_rows.Given as goal
+use Rattle.agg_engine_tree.specs.collector_tree.Tree.{IsFlushed, held_of}
+use Rattle.agg_engine_tests.specs.collectors.Trees.{IsTreeFor}
+use Rattle.agg_engine_tests.proofs.collectors.tree.expect_rows.Given as goal
 
 -- the tree is as it was
 abbrev pub invariant-loop-asked : goal.invariant-loop-asked

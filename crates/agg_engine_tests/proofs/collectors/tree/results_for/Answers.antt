@@ -1,6 +1,6 @@
-use Rattle.agg_collector_tree.specs.Tree.{held_of}
-use Rattle.agg_collectors_tests.proofs.TakingTrees.{tree-adds}
-use Rattle.agg_collectors_tests.proofs.tree.results_for.Goals as goal
+use Rattle.agg_engine_tree.specs.collector_tree.Tree.{held_of}
+use Rattle.agg_engine_tests.proofs.lemmas.collectors.TakingTrees.{tree-adds}
+use Rattle.agg_engine_tests.proofs.collectors.tree.results_for.Goals as goal
 
 pub add_intermediate_aggregation_result-requires :
     goal.add_intermediate_aggregation_result-requires

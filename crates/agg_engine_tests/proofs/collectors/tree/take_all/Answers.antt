@@ -1,7 +1,7 @@
 use Rattle.std.proofs.lemmas.Result.{on_ok_weaker}
-use Rattle.agg_collector_tree.specs.Tree.{held_of}
-use Rattle.agg_collectors_tests.proofs.TakingTrees.{tree-fits, tree-more}
-use Rattle.agg_collectors_tests.proofs.tree.take_all.Goals as goal
+use Rattle.agg_engine_tree.specs.collector_tree.Tree.{held_of}
+use Rattle.agg_engine_tests.proofs.lemmas.collectors.TakingTrees.{tree-fits, tree-more}
+use Rattle.agg_engine_tests.proofs.collectors.tree.take_all.Goals as goal
 
 pub collect-requires-clause-fits : goal.collect-requires-clause-fits
 collect-requires-clause-fits g c =

@@ -1,5 +1,5 @@
-use Rattle.agg_collectors_tests.proofs.TakingTrees.{tree-new}
-use Rattle.agg_collectors_tests.proofs.tree.tree_in.Goals as goal
+use Rattle.agg_engine_tests.proofs.lemmas.collectors.TakingTrees.{tree-new}
+use Rattle.agg_engine_tests.proofs.collectors.tree.tree_in.Goals as goal
 
 pub returns : goal.returns
 returns c =

@@ -1,4 +1,4 @@
-use Rattle.agg_snapshot_tests.proofs.results.expect_refusal.Given as goal
+use Rattle.agg_engine_tests.proofs.snapshot_results.results.expect_results.Given as goal
 
 -- the ledger is the one of the blank
 abbrev pub ghosts-shown_of : goal.ghosts-shown_of

@@ -1,7 +1,7 @@
 use Rattle.std.proofs.Common.{subst, sym}
 use Rattle.agg_request_tree.specs.Faults.{IsSoundRequest}
-use Rattle.agg_segment_context.specs.Pages.{paged}
-use Rattle.agg_snapshot_tests.proofs.results.shown_of.Goals as goal
+use Rattle.agg_engine_tree.specs.segment_context.Pages.{paged}
+use Rattle.agg_engine_tests.proofs.snapshot_results.results.shown_of.Goals as goal
 
 pub shown-requires : goal.shown-requires
 shown-requires g c =

@@ -1,4 +1,4 @@
-use Rattle.agg_buckets_tests.proofs.full_page.evicts_for_good.Given as goal
+use Rattle.agg_low_tests.proofs.buckets.full_page.evicts_for_good.Given as goal
 
 -- the ledger is the one of the blank
 abbrev pub ghosts-expect_over : goal.ghosts-expect_over

@@ -1,8 +1,8 @@
 use Rattle.std.proofs.Common.{[], arith}
 use Rattle.agg_request_tree.specs.Source.{after_of}
-use Rattle.agg_accessor.specs.Accessors.{AreAccessorsOf}
-use Rattle.agg_segment_context_tests.proofs.OneMore.{one_more}
-use Rattle.agg_segment_context_tests.proofs.uncut.given.composite_data.Goals as goal
+use Rattle.agg_composite.specs.accessor.Accessors.{AreAccessorsOf}
+use Rattle.agg_composite_tests.proofs.lemmas.segment_context.OneMore.{one_more}
+use Rattle.agg_composite_tests.proofs.segment_context.uncut.given.composite_data.Goals as goal
 
 pub loop-source-preserved : goal.loop-source-preserved
 loop-source-preserved c =

@@ -1,10 +1,12 @@
 use Rattle.std.proofs.Common.{◌≡◌, [], ◌∷◌}
 use Rattle.std.specs.Prelude.{map}
-use Rattle.agg_segment_context.specs.Plan.{plan_of, plans_of}
-use Rattle.agg_segment_context.specs.declared.context.PerRequestAggSegCtx.{PerRequestAggSegCtx}
-use Rattle.agg_segment_context_tests.specs.Context.{HasCountFirst, IsContextIn, planned}
-use Rattle.agg_segment_context_tests.proofs.Contexts.{is-context, together}
-use Rattle.agg_segment_context_tests.proofs.uncut.given.context_of.Goals as goal
+use Rattle.agg_engine_tree.specs.segment_context.Plan.{plan_of, plans_of}
+use Rattle.agg_engine_tree.specs.declared.segment_context.context.PerRequestAggSegCtx.{
+  PerRequestAggSegCtx,
+}
+use Rattle.agg_composite_tests.specs.segment_context.Context.{HasCountFirst, IsContextIn, planned}
+use Rattle.agg_composite_tests.proofs.lemmas.segment_context.Contexts.{is-context, together}
+use Rattle.agg_composite_tests.proofs.segment_context.uncut.given.context_of.Goals as goal
 
 pub returns : goal.returns
 returns c =

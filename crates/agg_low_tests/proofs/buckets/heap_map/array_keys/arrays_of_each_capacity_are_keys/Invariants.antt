@@ -1,4 +1,5 @@
-use Rattle.agg_buckets_tests.proofs.heap_map.array_keys.arrays_of_each_capacity_are_keys.Given as goal
+use Rattle.agg_low_tests.proofs.buckets.heap_map.array_keys.arrays_of_each_capacity_are_keys.Given
+    as goal
 
 -- the ledger is the one of the blank
 abbrev pub ghosts-expect_over : goal.ghosts-expect_over

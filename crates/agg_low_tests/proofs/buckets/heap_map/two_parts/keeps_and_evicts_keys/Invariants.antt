@@ -1,4 +1,4 @@
-use Rattle.agg_buckets_tests.proofs.heap_map.two_parts.keeps_and_evicts_keys.Given as goal
+use Rattle.agg_low_tests.proofs.buckets.heap_map.two_parts.keeps_and_evicts_keys.Given as goal
 
 -- the ledger is the one of the blank
 abbrev pub ghosts-expect_over : goal.ghosts-expect_over

@@ -1,2 +1,0 @@
-mod Contexts
-mod OneMore
