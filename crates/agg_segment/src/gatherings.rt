@@ -9,6 +9,7 @@ ghost use Rattle.agg_segment.specs.Gatherings.{AreLinked, IsColumnOf, forgotten}
 
 mod by_text;
 mod columns;
+mod dictionaries;
 
 use crate::storage::{Cell, CellValue, FROM_ZERO, GrowingRows, from_zero};
 use agg_values::{ColumnPaginationOrder, OutOfMemory};

@@ -1,10 +1,8 @@
-ghost use Rattle.std.specs.Prelude.{◌≡◌, ◌≢◌, ◌<◌, ◌≤◌, ◌↔◌, ◌∷◌, ◌++◌, [], ℕ, List};
-ghost use Rattle.std.specs.Prelude.{IsTrue, IfOk, OnOk, reverse};
-ghost use Rattle.std.specs.Prelude.{length, map, filter, get_or};
-ghost use Rattle.std.specs.List.{All, Contains, flat_map};
-ghost use Rattle.std.specs.List.Sorted.{IsPermutation, IsStrictlySortedBy};
-ghost use Rattle.agg_values.specs.Names.{name_cmp};
-ghost use Rattle.std.specs.declared.cmp.Ordering.TheVariants.{Less};
+//! The columns of gathered values.
+ghost use Rattle.std.specs.Prelude.{◌≡◌, ◌<◌, ◌≤◌, ◌∷◌, ◌++◌, [], ℕ, List};
+ghost use Rattle.std.specs.Prelude.{IfOk, OnOk, filter, get_or, length, map};
+ghost use Rattle.std.specs.List.{All, flat_map};
+ghost use Rattle.std.specs.List.Sorted.{IsPermutation};
 ghost use Rattle.agg_segment.specs.storage.Document.{by_class};
 ghost use Rattle.agg_segment.specs.storage.Cells.{keys_at};
 ghost use Rattle.agg_values.specs.Column.{order_rank};
@@ -17,16 +15,28 @@ ghost use Rattle.agg_segment.specs.Gatherings.{kind_of, IsRaw};
 ghost use Rattle.agg_segment.specs.Gatherings.{column_cmp, is_column, AreAlike, AreSorted};
 ghost use Rattle.agg_segment.specs.storage.GatheredNumbers.{IsEncodable};
 ghost use Rattle.agg_segment.specs.Gatherings.{IsWide, AreWide, gathering_classes, column_classes};
-ghost use Rattle.agg_segment.specs.storage.Dictionary.{address_at, last_text};
-ghost use Rattle.agg_segment.specs.storage.Dictionary.{HasOrdinal, AreByText};
-ghost use Rattle.agg_segment.specs.declared.storage.sign.Sign.TheVariants.{Small, Large};
+ghost use Rattle.agg_segment.specs.declared.storage.sign.Sign.TheVariants.{Small};
 
-use super::by_text::sort_by_text;
+use super::dictionaries::{address_list_of, dictionary_of};
 use super::{Gathering, Gatherings};
-use crate::storage::{AddressList, Column, ColumnKeys, Dictionary, Sign};
+use crate::storage::{Column, ColumnKeys, Sign};
 use agg_values::{Address, ColumnPaginationOrder, OutOfMemory, Text};
 use std::alloc::Global;
 use std::cmp::Ordering;
+
+// The texts and addresses that numbers are places of.
+#[derive(Clone, Copy)]
+struct Listed<'l> {
+    texts: &'l [Text],
+    addresses: &'l [Address],
+}
+
+// What the numbers of a column are: their class, with the sign of their field's numbers.
+#[derive(Clone, Copy)]
+struct Kind {
+    sign: Sign,
+    class: ColumnPaginationOrder,
+}
 
 impl Gatherings {
     /// The columns of the values, by field and class. The signs are those of the fields' numbers.
@@ -91,11 +101,12 @@ fn encode_all(
     ensures classes { IfOk result
         (λ columns. column_classes columns.items ≡ gathering_classes gatherings.items) }
 {
+    let listed = Listed { texts, addresses };
     let mut ordinals = Vec::from_elem(alloc, 0, texts.len())?;
     let mut columns = Vec::with_capacity(alloc, gatherings.len())?;
     while let Some(gathering) = gatherings.pop() {
         let sign = sign_in(signs, gathering.field);
-        let column = column_of(alloc, texts, addresses, &mut ordinals, sign, gathering)?;
+        let column = column_of(alloc, &listed, &mut ordinals, sign, gathering)?;
         columns.push(column)?;
         give_back(&mut gatherings);
     }
@@ -125,20 +136,19 @@ fn sign_in(signs: &[Sign], field: u32) -> Sign
 // The column of numbers that were gathered. It writes the ordinals of its texts.
 fn column_of(
     alloc: Global,
-    texts: &[Text],
-    addresses: &[Address],
+    listed: &Listed<'_>,
     ordinals: &mut [u64],
     sign: Sign,
     gathering: Gathering,
 ) -> Result<Column, OutOfMemory>
-    requires kept { All (λ r. IsRaw (length texts.now) (length addresses.now) gathering.class r.1)
+    requires kept { All (λ r. IsRaw (length listed.now.texts.now) (length listed.now.addresses.now) gathering.class r.1)
         gathering.rows }
     requires wide { IsWide sign gathering }
-    requires each { length ordinals.old ≡ length texts.now }
+    requires each { length ordinals.old ≡ length listed.now.texts.now }
     ensures field { IfOk result (λ column. column.field ≡ gathering.field) }
     ensures kind { IfOk result (λ column. type_of column.keys ≡ kind_of sign gathering.class) }
     ensures cells { IfOk result (λ column. keyed_rows (encoded_key column.keys) column.cells
-        ≡ keyed_rows (raw_key texts.now addresses.now (kind_of sign gathering.class))
+        ≡ keyed_rows (raw_key listed.now.texts.now listed.now.addresses.now (kind_of sign gathering.class))
         gathering.rows) }
 {
     let Gathering {
@@ -147,168 +157,38 @@ fn column_of(
         mut rows,
         ..
     } = gathering;
-    let keys = keys_of(
-        alloc,
-        texts,
-        addresses,
-        ordinals,
-        sign,
-        class,
-        rows.numbers(),
-    )?;
-    rows.encode(&keys, ordinals, addresses);
+    let kind = Kind { sign, class };
+    let keys = keys_of(alloc, listed, ordinals, kind, rows.numbers())?;
+    rows.encode(&keys, ordinals, listed.addresses);
     Ok(Column::new(field, keys, rows.into_rows(alloc)?))
 }
 
 // What the numbers of a class stand for. The ordinals of their texts are written.
 fn keys_of(
     alloc: Global,
-    texts: &[Text],
-    addresses: &[Address],
+    listed: &Listed<'_>,
     ordinals: &mut [u64],
-    sign: Sign,
-    class: ColumnPaginationOrder,
+    kind: Kind,
     numbers: &[u64],
 ) -> Result<ColumnKeys, OutOfMemory>
-    requires kept { All (IsRaw (length texts.now) (length addresses.now) class) numbers.now }
-    requires each { length ordinals.old ≡ length texts.now }
-    ensures kind { IfOk result (λ keys. type_of keys ≡ kind_of sign class) }
+    requires kept { All (IsRaw (length listed.now.texts.now) (length listed.now.addresses.now) kind.class) numbers.now }
+    requires each { length ordinals.old ≡ length listed.now.texts.now }
+    ensures kind { IfOk result (λ keys. type_of keys ≡ kind_of kind.sign kind.class) }
     ensures encodable { IfOk result (λ keys.
-        All (IsEncodable texts.now ordinals.new addresses.now keys) numbers.now) }
+        All (IsEncodable listed.now.texts.now ordinals.new listed.now.addresses.now keys) numbers.now) }
 {
-    Ok(match class {
+    Ok(match kind.class {
         ColumnPaginationOrder::Bool => ColumnKeys::Bools,
         ColumnPaginationOrder::Str => {
-            ColumnKeys::Texts(dictionary_of(alloc, texts, ordinals, numbers)?)
+            ColumnKeys::Texts(dictionary_of(alloc, listed.texts, ordinals, numbers)?)
         }
-        ColumnPaginationOrder::Numeric => match sign {
+        ColumnPaginationOrder::Numeric => match kind.sign {
             Sign::Large => ColumnKeys::Unsigned,
             _ => ColumnKeys::Signed,
         },
         ColumnPaginationOrder::IpAddr => {
-            ColumnKeys::Addresses(address_list_of(alloc, addresses, numbers)?)
+            ColumnKeys::Addresses(address_list_of(alloc, listed.addresses, numbers)?)
         }
         ColumnPaginationOrder::DateTime => ColumnKeys::Dates,
     })
-}
-
-// The dictionary of the texts at places. The ordinals of the places are written.
-fn dictionary_of(
-    alloc: Global,
-    texts: &[Text],
-    ordinals: &mut [u64],
-    numbers: &[u64],
-) -> Result<Dictionary, OutOfMemory>
-    requires within { All (λ n. n < length texts.now) numbers.now }
-    requires each { length ordinals.old ≡ length texts.now }
-    ensures { IfOk result (λ dictionary.
-        All (HasOrdinal texts.now dictionary ordinals.new) numbers.now) }
-{
-    let places = places_by_text(alloc, texts, numbers)?;
-    let found = number_places(alloc, texts, ordinals, &places)?;
-    Dictionary::of(alloc, found)
-}
-
-// The distinct texts of places that ascend by text. The ordinals of the places are written.
-fn number_places(
-    alloc: Global,
-    texts: &[Text],
-    ordinals: &mut [u64],
-    places: &[usize],
-) -> Result<Vec<Text>, OutOfMemory>
-    requires within { All (λ p. p < length texts.now) places.now }
-    requires sorted { AreByText texts.now places.now }
-    requires each { length ordinals.old ≡ length texts.now }
-    ensures ascending { IfOk result (λ found. IsStrictlySortedBy name_cmp found.items) }
-    ensures ordinals { IfOk result
-        (λ found. All (HasOrdinal texts.now found.items ordinals.new) places.now) }
-{
-    let mut found = Vec::with_capacity(alloc, places.len())?;
-    for place in places {
-        add_text(alloc, &mut found, &texts[*place])?;
-        ordinals[*place] = (found.len() - 1) as u64;
-    }
-    Ok(found)
-}
-
-// Appends a text, unless it is the last.
-fn add_text(alloc: Global, found: &mut Vec<Text>, text: &Text) -> Result<(), OutOfMemory>
-    requires ascending { IsStrictlySortedBy name_cmp found.old.items }
-    requires after { 0 < length found.old.items
-        → name_cmp text.now (last_text found.old.items) ≢ Less }
-    ensures ascending { IsStrictlySortedBy name_cmp found.new.items }
-    ensures more { (more : List (List ℕ)) × (found.new.items ≡ found.old.items ++ more) }
-    ensures some { OnOk result (0 < length found.new.items) }
-    ensures last { OnOk result (last_text found.new.items ≡ text.now) }
-{
-    if is_last(found, text) {
-        return Ok(());
-    }
-    found.push(text.try_clone(alloc)?)?;
-    Ok(())
-}
-
-// Whether a text is the last of a list.
-fn is_last(found: &[Text], text: &Text) -> bool
-    ensures some { IsTrue result → 0 < length found.now }
-    ensures last { 0 < length found.now → IsTrue result ↔ (last_text found.now ≡ text.now) }
-{
-    let count = found.len();
-    count > 0 && found[count - 1] == *text
-}
-
-// The distinct places, ascending by text.
-fn places_by_text(alloc: Global, texts: &[Text], numbers: &[u64]) -> Result<Vec<usize>, OutOfMemory>
-    requires { All (λ n. n < length texts.now) numbers.now }
-    ensures all { IfOk result (λ places. All (Contains places.items) numbers.now) }
-    ensures within { IfOk result (λ places. All (λ p. p < length texts.now) places.items) }
-    ensures sorted { IfOk result (λ places. AreByText texts.now places.items) }
-{
-    let places = places_of(alloc, numbers)?;
-    sort_by_text(alloc, texts, places)
-}
-
-// The list of the addresses at places.
-fn address_list_of(
-    alloc: Global,
-    addresses: &[Address],
-    numbers: &[u64],
-) -> Result<AddressList, OutOfMemory>
-    requires { All (λ n. n < length addresses.now) numbers.now }
-    ensures { IfOk result (λ list. All
-        (λ n. Contains list (address_at addresses.now n)) numbers.now) }
-{
-    let found = addresses_of(alloc, addresses, numbers)?;
-    AddressList::of(alloc, found)
-}
-
-// The distinct places, ascending.
-fn places_of(alloc: Global, numbers: &[u64]) -> Result<Vec<usize>, OutOfMemory>
-    ensures all { IfOk result (λ places. All (Contains places.items) numbers.now) }
-    ensures only { IfOk result (λ places. All (Contains numbers.now) places.items) }
-{
-    let mut places = Vec::with_capacity(alloc, numbers.len())?;
-    for number in numbers {
-        places.push(*number as usize)?;
-    }
-    places.sort_unstable();
-    places.dedup();
-    Ok(places)
-}
-
-// The numbers of the addresses at places.
-fn addresses_of(
-    alloc: Global,
-    addresses: &[Address],
-    numbers: &[u64],
-) -> Result<Vec<u128>, OutOfMemory>
-    requires { All (λ n. n < length addresses.now) numbers.now }
-    ensures { IfOk result (λ found. All
-        (λ n. Contains found.items (address_at addresses.now n).0) numbers.now) }
-{
-    let mut found = Vec::with_capacity(alloc, numbers.len())?;
-    for number in numbers {
-        found.push(addresses[*number as usize].0)?;
-    }
-    Ok(found)
 }

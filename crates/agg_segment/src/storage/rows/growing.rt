@@ -8,7 +8,8 @@ ghost use Rattle.agg_segment.specs.storage.Columns.{StandsForKey};
 ghost use Rattle.agg_segment.specs.storage.GatheredNumbers.{raw_key, keyed_rows, IsEncodable};
 ghost use Rattle.agg_segment.specs.storage.Growing.{many_docs, many_rows, AreMany};
 
-use super::{DocNumber, Rows, narrow};
+use super::ends::narrow;
+use super::{DocNumber, Rows};
 use crate::storage::keys::ColumnKeys;
 use agg_values::{Address, DocId, OutOfMemory};
 use std::alloc::Global;

@@ -9,14 +9,14 @@ use Rattle.agg_segment.proofs.gatherings.columns.column_of.Goals as goal
 
 pub keys_of-requires-clause-kept : goal.keys_of-requires-clause-kept
 keys_of-requires-clause-kept c =
-    rw c.numbers.ensures (numbers_all (IsRaw (length c.args.texts.now)
-    (length c.args.addresses.now) c.args.gathering.class) c.args.gathering.rows c.requires.kept)
+    rw c.numbers.ensures (numbers_all (IsRaw (length c.args.listed.now.texts.now)
+    (length c.args.listed.now.addresses.now) c.args.gathering.class) c.args.gathering.rows c.requires.kept)
 
 pub encode-requires : goal.encode-requires
 encode-requires c k d l =
-    let texts = c.args.texts.now in
+    let texts = c.args.listed.now.texts.now in
     let ordinals = c.keys_of.new.ordinals in
-    let addresses = c.args.addresses.now in
+    let addresses = c.args.listed.now.addresses.now in
     encodable_itself texts ordinals addresses c.in_ok-keys.keys (get_or c.args.gathering.rows k d).1
     (all_numbers (IsEncodable texts ordinals addresses c.in_ok-keys.keys) c.args.gathering.rows
     (subst (All (IsEncodable texts ordinals addresses c.in_ok-keys.keys)) c.numbers.ensures
@@ -25,12 +25,12 @@ encode-requires c k d l =
 -- what the numbers stand for
 keys_are : (c : goal.In_ok-into_rows)
     → keyed_rows (encoded_key c.in_ok-keys.keys) c.in_ok-into_rows.field-0
-    ≡ keyed_rows (raw_key c.args.texts.now c.args.addresses.now
+    ≡ keyed_rows (raw_key c.args.listed.now.texts.now c.args.listed.now.addresses.now
     (kind_of c.args.sign c.args.gathering.class)) c.args.gathering.rows
 keys_are c =
-    let texts = c.args.texts.now in
+    let texts = c.args.listed.now.texts.now in
     let ordinals = c.keys_of.new.ordinals in
-    let addresses = c.args.addresses.now in
+    let addresses = c.args.listed.now.addresses.now in
     let keys = c.in_ok-keys.keys in
     let rows = c.args.gathering.rows in
     ap (keyed_rows (encoded_key keys)) c.in_ok-into_rows.ensures ∙ c.encode.ensures.keys
@@ -42,7 +42,7 @@ keys_are c =
 
 pub new-requires-clause-wide : goal.new-requires-clause-wide
 new-requires-clause-wide c is =
-    wide_rows c.args.texts.now c.args.addresses.now c.args.sign c.args.gathering
+    wide_rows c.args.listed.now.texts.now c.args.listed.now.addresses.now c.args.sign c.args.gathering
     c.args.gathering.field c.in_ok-keys.keys c.in_ok-into_rows.field-0 c.requires.wide is
     c.in_ok-keys.ensures.kind (keys_are c)
 
