@@ -9,4 +9,3 @@ pub mod Growing
 pub mod Names
 pub mod Rows
 pub mod Signs
-pub mod TextPlaces

@@ -1,6 +1,8 @@
 ghost use Rattle.std.specs.Prelude.{◌≡◌, ◌≢◌, ◌↔◌, Err, [], ◌∷◌, ◌++◌, ℕ, List, length};
 ghost use Rattle.std.specs.Prelude.{IsTrue, IfOk, OnOk, OnErr, IsErrOf};
+ghost use Rattle.agg_segment.specs.storage.Cells.{pushed_key};
 ghost use Rattle.agg_segment.specs.storage.Document.{key_of, meaning};
+ghost use Rattle.agg_values.specs.declared.typed_key.CompositeIntermediateKey.TheVariants as key;
 ghost use Rattle.agg_segment.specs.Segment.{gathered_documents, open_document};
 ghost use Rattle.agg_segment.specs.Segment.{no_fields, with_key, documents_of};
 ghost use Rattle.agg_segment.specs.Segment.{IsNameOf, IsMixed, max_documents};
@@ -9,7 +11,7 @@ ghost use Rattle.agg_segment.specs.declared.builder.BuildError.TheVariants.{OutO
 use crate::SegmentReader;
 use crate::gatherings::Gatherings;
 use crate::signs::{give_signs, take_back};
-use crate::storage::{Document, FieldNames, FieldValue, Log, Sign};
+use crate::storage::{Document, FieldNames, FieldValue, Log, PushedValue, Sign};
 use agg_values::{OutOfMemory, Text};
 use std::alloc::{AllocFailed, Global};
 use std::marker::Model;
@@ -112,6 +114,29 @@ impl SegmentBuilder {
         requires { (name : List ℕ) × IsNameOf self.old field name }
         ensures ok { OnOk result ((name : List ℕ) → IsNameOf self.old field name
             → open_document self.new ≡ with_key name (key_of value) (open_document self.old)) }
+        ensures err { OnErr result (open_document self.new ≡ open_document self.old) }
+        ensures documents { gathered_documents self.new ≡ gathered_documents self.old }
+        ensures names { self.new.names ≡ self.old.names }
+    {
+        self.push_value(field, PushedValue::Owned(value))
+    }
+
+    /// Appends a text to a field of the open document. It is copied unless it is there already.
+    pub fn push_text(&mut self, field: u32, text: &str) -> Result<(), OutOfMemory>
+        requires { (name : List ℕ) × IsNameOf self.old field name }
+        ensures ok { OnOk result ((name : List ℕ) → IsNameOf self.old field name
+            → open_document self.new ≡ with_key name (key.Str text.now) (open_document self.old)) }
+        ensures err { OnErr result (open_document self.new ≡ open_document self.old) }
+        ensures documents { gathered_documents self.new ≡ gathered_documents self.old }
+        ensures names { self.new.names ≡ self.old.names }
+    {
+        self.push_value(field, PushedValue::Text(text))
+    }
+
+    fn push_value(&mut self, field: u32, value: PushedValue<'_>) -> Result<(), OutOfMemory>
+        requires { (name : List ℕ) × IsNameOf self.old field name }
+        ensures ok { OnOk result ((name : List ℕ) → IsNameOf self.old field name
+            → open_document self.new ≡ with_key name (pushed_key value.entry) (open_document self.old)) }
         ensures err { OnErr result (open_document self.new ≡ open_document self.old) }
         ensures documents { gathered_documents self.new ≡ gathered_documents self.old }
         ensures names { self.new.names ≡ self.old.names }

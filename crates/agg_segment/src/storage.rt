@@ -20,7 +20,7 @@ pub use field_names::FieldNames;
 pub use hit::{ColumnType, OrdHit};
 pub use keys::{ColumnKeys, FROM_ZERO, from_zero};
 pub use laws::{by_class_keeps_the_keys, values_types_and_hits_are_equal_by_content};
-pub use log::{Cell, CellValue, Log};
+pub use log::{Cell, CellValue, Log, PushedValue};
 pub use names::{find_number, set_number};
 pub use rows::{GrowingRows, Rows};
 pub use sign::Sign;

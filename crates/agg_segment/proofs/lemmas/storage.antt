@@ -9,4 +9,3 @@ pub mod Members
 pub mod Numbers
 pub mod OneEachNumbers
 pub mod Places
-pub mod TextPlaces

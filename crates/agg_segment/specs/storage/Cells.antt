@@ -6,11 +6,13 @@ use Rattle.agg_values.specs.Names.{Named, value_of}
 use Rattle.agg_values.specs.declared.address.Address.{Address}
 use Rattle.agg_values.specs.TypedKey.{CompositeIntermediateKey}
 use Rattle.agg_values.specs.declared.typed_key.CompositeIntermediateKey.TheVariants as key
-use Rattle.agg_segment.specs.storage.Document.{Fields}
+use Rattle.agg_segment.specs.storage.Document.{Fields, key_of}
 use Rattle.agg_segment.specs.storage.Dictionary.{text_at, address_at}
 use Rattle.agg_segment.specs.declared.storage.log.Cell.{Cell}
 use Rattle.agg_segment.specs.declared.storage.log.CellValue.{CellValue}
 use Rattle.agg_segment.specs.declared.storage.log.CellValue.TheVariants as cell
+use Rattle.agg_segment.specs.declared.storage.log.PushedValue.{PushedValue}
+use Rattle.agg_segment.specs.declared.storage.log.PushedValue.TheVariants as pushed
 
 -- a key of a document, in the field of a number
 pub record Placed : Type 0 where
@@ -34,6 +36,11 @@ number_of names name = value_of name names
 abbrev pub named_keys : Named ℕ → List Placed → ℕ → Fields
 named_keys names cells doc name =
     option_map_or (λ field. keys_at cells field doc) (number_of names name) []
+
+-- the key of a value that a document gets
+abbrev pub pushed_key : PushedValue → CompositeIntermediateKey
+pushed_key (pushed.Owned value) = key_of value
+pushed_key (pushed.Text text) = key.Str text.now
 
 -- the key that is kept in a cell
 abbrev pub stored_key : List (List ℕ) → List Address → CellValue → CompositeIntermediateKey

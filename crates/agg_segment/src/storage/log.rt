@@ -2,7 +2,7 @@ ghost use Rattle.std.specs.Prelude.{◌≡◌, ◌≤◌, ◌++◌, ◌∷◌, [
 ghost use Rattle.std.specs.Prelude.{length, map, IfOk, OnOk, OnErr};
 ghost use Rattle.std.specs.List.{All};
 ghost use Rattle.agg_segment.specs.storage.Document.{key_of};
-ghost use Rattle.agg_segment.specs.storage.Cells.{placed, stored_key, IsKept};
+ghost use Rattle.agg_segment.specs.storage.Cells.{placed, pushed_key, stored_key, IsKept};
 ghost use Rattle.agg_segment.specs.storage.CellOrder.{cell_class};
 
 use crate::storage::FieldValue;
@@ -13,6 +13,13 @@ use std::marker::Model;
 
 // More cells than these give their memory back.
 const MANY_CELLS: usize = 65_536;
+
+/// A value that a document gets: one of its own, or a text that is copied unless it is there.
+#[derive(Drop)]
+pub enum PushedValue<'t> {
+    Owned(FieldValue),
+    Text(&'t str),
+}
 
 /// What a cell keeps of a value. Texts and addresses are kept in lists, and a cell has their place.
 #[derive(Clone, Copy)]
@@ -98,15 +105,15 @@ impl Log {
     }
 
     /// Appends a value.
-    pub fn push(&mut self, field: u32, doc: u32, value: FieldValue) -> Result<(), OutOfMemory>
-        ensures ok { OnOk result (self.new.cells
-            ≡ self.old.cells ++ record { field = field; doc = doc; key = key_of value } ∷ []) }
+    pub fn push(&mut self, field: u32, doc: u32, value: PushedValue<'_>) -> Result<(), OutOfMemory>
+        ensures ok { OnOk result (self.new.cells ≡ self.old.cells
+            ++ record { field = field; doc = doc; key = pushed_key value.entry } ∷ []) }
         ensures err { OnErr result (self.new.cells ≡ self.old.cells) }
         ensures texts { (more : List (List ℕ)) × (self.new.texts ≡ self.old.texts ++ more) }
         ensures addresses { (more : List Address)
             × (self.new.addresses ≡ self.old.addresses ++ more) }
     {
-        let value = keep(&mut self.texts, &mut self.addresses, value)?;
+        let value = keep_pushed(&mut self.texts, &mut self.addresses, value)?;
         self.cells.push(Cell { field, doc, value })?;
         Ok(())
     }
@@ -136,6 +143,25 @@ impl Log {
         } = self;
         texts.forget_places();
         (texts, addresses)
+    }
+}
+
+// What a cell keeps of a value that a document gets.
+fn keep_pushed(
+    texts: &mut Texts,
+    addresses: &mut Vec<Address>,
+    value: PushedValue<'_>,
+) -> Result<CellValue, OutOfMemory>
+    ensures texts { (more : List (List ℕ)) × (texts.new ≡ texts.old ++ more) }
+    ensures addresses { (more : List Address)
+        × (addresses.new.items ≡ addresses.old.items ++ more) }
+    ensures kept { IfOk result (IsKept (length texts.new) (length addresses.new.items)) }
+    ensures key { IfOk result
+        (λ kept. stored_key texts.new addresses.new.items kept ≡ pushed_key value.entry) }
+{
+    match value {
+        PushedValue::Owned(value) => keep(texts, addresses, value),
+        PushedValue::Text(text) => Ok(CellValue::Str(texts.place_of(text)?)),
     }
 }
 

@@ -1,10 +1,10 @@
-ghost use Rattle.std.specs.Prelude.{◌≡◌, ◌<◌, ◌++◌, [], ℕ, List, Some, length, IfOk};
+ghost use Rattle.std.specs.Prelude.{◌≡◌, ◌<◌, ◌++◌, [], ℕ, List, length, IfOk, IfSome};
 ghost use Rattle.agg_segment.specs.storage.Dictionary.{text_at};
 
-use crate::storage::names::{find_number, set_number};
 use agg_values::{OutOfMemory, Text};
 use std::alloc::Global;
-use std::collections::BTreeMap;
+use std::collections::HashMap;
+use std::hash::{BuildHasher, BuildHasherDefault, FoldHasher};
 use std::marker::Model;
 
 // How many texts can be found at once. More would cost more time than they save memory.
@@ -15,20 +15,17 @@ const MAX_PLACES: usize = 65_536;
 #[derive(Drop)]
 pub struct Texts {
     alloc: Global,
-    places: BTreeMap<String, u32>,
+    // The place of the last text of each hash, so that no text is held twice.
+    places: HashMap<u64, u32>,
     texts: Vec<Text>,
 }
 
 impl Model for Texts {
     ghost use Rattle.std.specs.Prelude.{List, ℕ};
-    ghost use Rattle.agg_segment.specs.storage.Names.{numbered_names};
-    ghost use Rattle.agg_segment.specs.storage.TextPlaces.{ArePlacesIn};
 
     ghost Value = { List (List ℕ) };
 
     ghost view = { λ t. t.texts.items };
-
-    ghost invariant = { λ t. ArePlacesIn t.texts.items (numbered_names t.places) };
 }
 
 impl Texts {
@@ -38,7 +35,7 @@ impl Texts {
     {
         Texts {
             alloc,
-            places: BTreeMap::new(alloc),
+            places: HashMap::new(alloc),
             texts: Vec::new(alloc),
         }
     }
@@ -56,39 +53,68 @@ impl Texts {
         ensures within { IfOk result (λ place. place < length self.new) }
         ensures text { IfOk result (λ place. text_at self.new place ≡ text) }
     {
-        if let Some(place) = find_number(&self.places, text.as_str()) {
-            return Ok(place as usize);
+        let hash = hash_of(text.as_str());
+        if let Some(place) = self.find(hash, text.as_str()) {
+            return Ok(place);
         }
-        if self.places.len() < MAX_PLACES {
-            return self.append(text);
-        }
-        self.forget_places();
-        self.append(text)
+        self.append(hash, text)
     }
 
-    fn append(&mut self, text: Text) -> Result<usize, OutOfMemory>
+    /// The place of a text. One that can't be found is copied and appended.
+    pub fn place_of(&mut self, text: &str) -> Result<usize, OutOfMemory>
+        ensures more { (more : List (List ℕ)) × (self.new ≡ self.old ++ more) }
+        ensures within { IfOk result (λ place. place < length self.new) }
+        ensures text { IfOk result (λ place. text_at self.new place ≡ text.now) }
+    {
+        let hash = hash_of(text);
+        if let Some(place) = self.find(hash, text) {
+            return Ok(place);
+        }
+        self.append(hash, Text::copy_of(self.alloc, text)?)
+    }
+
+    // The place of a text with its hash, unless another one of that hash came after it.
+    fn find(&self, hash: u64, text: &str) -> Option<usize>
+        ensures within { IfSome result (λ place. place < length self.now) }
+        ensures text { IfSome result (λ place. text_at self.now place ≡ text.now) }
+    {
+        let place = *self.places.get(&hash)? as usize;
+        let found = self.texts.get(place)?;
+        if found.as_str() == text {
+            Some(place)
+        } else {
+            None
+        }
+    }
+
+    fn append(&mut self, hash: u64, text: Text) -> Result<usize, OutOfMemory>
         ensures more { (more : List (List ℕ)) × (self.new ≡ self.old ++ more) }
         ensures within { IfOk result (λ place. place < length self.new) }
         ensures text { IfOk result (λ place. text_at self.new place ≡ text) }
     {
-        let place = narrow(self.texts.len())?;
+        if self.places.len() >= MAX_PLACES {
+            self.forget_places();
+        }
+        let place = self.texts.len();
         self.texts.reserve(1)?;
-        set_number(self.alloc, &mut self.places, text.as_str(), place)?;
+        self.places.insert(hash, narrow(place)?)?;
         self.texts.push(text)?;
-        Ok(place as usize)
+        Ok(place)
     }
 
     /// Forgets how to find the texts that there are.
     pub fn forget_places(&mut self)
         ensures { self.new ≡ self.old }
     {
-        self.places = BTreeMap::new(self.alloc);
+        self.places = HashMap::new(self.alloc);
     }
 }
 
+fn hash_of(text: &str) -> u64 {
+    BuildHasherDefault::<FoldHasher>::new().hash_one(text)
+}
+
 // The place of the next text. More take more memory than there is.
-fn narrow(count: usize) -> Result<u32, OutOfMemory>
-    ensures { IfOk result (λ place. place ≡ count) }
-{
+fn narrow(count: usize) -> Result<u32, OutOfMemory> {
     u32::try_from(count).map_err(|_| OutOfMemory)
 }

@@ -1,21 +1,20 @@
 use Rattle.std.proofs.Common.{◌≡◌, ◌<◌, ◌++◌, ◌∷◌, [], List, length, subst, sym, ap, ◌∙◌, arith}
 use Rattle.std.proofs.Common.{length-append}
 use Rattle.std.proofs.lemmas.Result.{on_ok_weaker, on_err_weaker}
-use Rattle.agg_segment.specs.storage.Document.{key_of}
-use Rattle.agg_segment.specs.storage.Cells.{Placed}
+use Rattle.agg_segment.specs.storage.Cells.{Placed, pushed_key}
 use Rattle.agg_segment.specs.Segment.{Gathered, IsNameOf, IsGathered, with_key, builder_cells}
 use Rattle.agg_segment.specs.Segment.{gathered_documents, open_document}
 use Rattle.agg_segment.proofs.BuilderKeys.{read_beside, read_pushed, raws_longer}
 use Rattle.agg_segment.proofs.lemmas.storage.KeptCells.{on_either}
 use Rattle.agg_segment.proofs.BuilderDocuments.{push_open, push_documents, push_inv}
-use Rattle.agg_segment.proofs.builder.SegmentBuilder.push.Goals as goal
+use Rattle.agg_segment.proofs.builder.SegmentBuilder.push_value.Goals as goal
 
 -- the key of the value in its field and document
 abbrev one : (c : goal.After-push) → Placed
 one c = record {
   field = c.args.field;
   doc = c.self.inside.count;
-  key = key_of c.args.value;
+  key = pushed_key c.args.value;
 }
 
 abbrev whole : (c : goal.After-push) → List Placed
@@ -58,7 +57,7 @@ invariant_of-self c =
     }) s.signs.items (length s.columns) in (
       on_either c.push.result c.push.ensures.ok c.push.ensures.err
           (λ is. subst P (sym (pushed c is)) (push_inv s.count s.names (whole c) s.signs.items
-          (length s.columns) c.self.invariant.0 c.args.field (key_of c.args.value) within))
+          (length s.columns) c.self.invariant.0 c.args.field (pushed_key c.args.value) within))
           (λ is. subst P (sym (stayed c is)) c.self.invariant.0),
       raws_longer (length s.log.texts) (length s.log.addresses) (length c.push.new.self.texts)
           (length c.push.new.self.addresses) s.columns
@@ -76,9 +75,9 @@ returns-clause-ok c =
       cells = cells;
     })) (pushed c is)
     ∙ push_open s.count s.names (whole c) s.signs.items (length s.columns) c.self.invariant.0
-    c.args.field (key_of c.args.value) name (subst (λ (b : Gathered).
+    c.args.field (pushed_key c.args.value) name (subst (λ (b : Gathered).
     IsNameOf b c.args.field name) (sym c.self.view_is) at)
-    ∙ ap (λ (b : Gathered). with_key name (key_of c.args.value) (open_document b)) c.self.view_is)
+    ∙ ap (λ (b : Gathered). with_key name (pushed_key c.args.value) (open_document b)) c.self.view_is)
     c.push.ensures.ok
 
 pub returns-clause-err : goal.returns-clause-err
@@ -100,6 +99,6 @@ returns-clause-documents c =
     }) in
     on_either c.push.result c.push.ensures.ok c.push.ensures.err
     (λ is. ap f (pushed c is) ∙ push_documents s.count s.names (whole c) s.signs.items
-    (length s.columns) c.self.invariant.0 c.args.field (key_of c.args.value)
+    (length s.columns) c.self.invariant.0 c.args.field (pushed_key c.args.value)
     ∙ ap gathered_documents c.self.view_is)
     (λ is. ap f (stayed c is) ∙ ap gathered_documents c.self.view_is)
