@@ -1,6 +1,6 @@
 //! The buckets of each parent, and what is visited now.
 ghost use Rattle.std.specs.Prelude.{◌≡◌, ◌≤◌, ◌<◌, ◌+◌, [], ◌∷◌, IfOk, IsErrOf, OnOk, get_or};
-ghost use Rattle.std.specs.Prelude.{◌^◌, length, nat_lt};
+ghost use Rattle.std.specs.Prelude.{◌^◌, length};
 ghost use Rattle.std.specs.List.{sum_by};
 
 use crate::buckets::bucket::Bucket;
@@ -92,13 +92,6 @@ impl<S: Ord + Hash> BucketsByParent<S> {
         Ok(())
     }
 
-    /// Whether a parent is prepared.
-    pub fn has_parent(&self, parent: BucketId) -> bool
-        ensures { result ≡ nat_lt parent (length self.now.parents) }
-    {
-        (parent as usize) < self.parents.len()
-    }
-
     /// Visits documents of this parent from here on, which has so many buckets at most. What was to
     /// be handed on is forgotten.
     pub fn begin_parent(&mut self, parent: BucketId, size: usize)
@@ -178,13 +171,6 @@ impl<S: Ord + Hash> BucketsByParent<S> {
         ensures { result.now ≡ self.now.pushes }
     {
         self.pushes.as_slice()
-    }
-
-    /// Forgets what was to be handed on.
-    pub fn clear_pushes(&mut self)
-        ensures { self.new ≡ record self.old { pushes = [] } }
-    {
-        self.pushes.clear();
     }
 
     /// How many buckets a parent has: none where it isn't prepared.

@@ -78,7 +78,7 @@ fn expect_lowest<L: Ledger>(
     visit(&mut buckets, 2, 5, steps)?;
     expect_page(rt, &buckets, 0, [(5, 2, 0), (6, 1, 2)])?;
     assert!(rt; buckets.pushes() == [(0, 0), (1, 0), (2, 1), (0, 2)].as_slice());
-    assert!(rt; !buckets.has_parent(1) && buckets.total_num_buckets() == 2);
+    assert!(rt; buckets.num_buckets(1) == 0 && buckets.total_num_buckets() == 2);
     Ok(())
 }
 
@@ -98,7 +98,7 @@ fn expect_parents<L: Ledger>(
     assert!(rt; buckets.num_buckets(0) == 1 && buckets.num_buckets(2) == 0);
     assert!(rt; buckets.total_num_buckets() == 3);
     assert!(rt; buckets.pushes() == [(1, 1), (2, 2)].as_slice());
-    buckets.clear_pushes();
+    buckets.begin_parent(1, 2);
     assert!(rt; buckets.pushes().is_empty());
     let page: Vec<(Tuple, Bucket)> = buckets.into_parent(1)?.collect(rt.alloc())?;
     expect_buckets(rt, &page, [(5, 1, 2), (6, 1, 1)])
