@@ -25,6 +25,23 @@ pub struct Gathered {
     pub sizes: Vec<usize>,
 }
 
+// A column that a source reads: the accessor at an index.
+#[derive(Clone, Copy)]
+struct SourceColumn<'r, 's> {
+    source: &'r CompositeAggregationSource,
+    accessors: &'r CompositeSourceAccessors<'s>,
+    accessor: &'r CompositeAccessor<'s>,
+    index: usize,
+}
+
+// The lane at an index, in a source's order.
+#[derive(Clone, Copy)]
+struct Lane<'r, 's> {
+    order: Order,
+    accessors: &'r CompositeSourceAccessors<'s>,
+    index: usize,
+}
+
 impl Gathered {
     /// No choices.
     pub fn new(alloc: Global) -> Gathered
@@ -83,10 +100,10 @@ fn add_choices(
 }
 
 // Appends the values of a document, by class ascending.
-fn add_values(
+fn add_values<'r>(
     choices: &mut Vec<Choice>,
-    source: &CompositeAggregationSource,
-    accessors: &CompositeSourceAccessors<'_>,
+    source: &'r CompositeAggregationSource,
+    accessors: &'r CompositeSourceAccessors<'_>,
     doc: DocId,
 ) -> Result<(), OutOfMemory>
     ensures { OnOk result (AddsChoices source.now accessors.now doc
@@ -98,112 +115,109 @@ fn add_values(
         let index = index_at(order, columns.len(), turn);
         let accessor = &columns[index];
         let numbers = accessor.column.values_for_doc(doc);
-        add_from(choices, source, accessors, accessor, index, numbers)?;
+        let column = SourceColumn {
+            source,
+            accessors,
+            accessor,
+            index,
+        };
+        add_from(choices, &column, numbers)?;
     }
     Ok(())
 }
 
-// Appends those numbers of the accessor at an index that aren't below the source's least value.
+// Appends those numbers of a column that aren't below the source's least value.
 fn add_from(
     choices: &mut Vec<Choice>,
-    source: &CompositeAggregationSource,
-    accessors: &CompositeSourceAccessors<'_>,
-    accessor: &CompositeAccessor<'_>,
-    index: usize,
+    read: &SourceColumn<'_, '_>,
     numbers: &[u64],
 ) -> Result<(), OutOfMemory>
-    requires { index < 2 ^ 63 }
+    requires { read.now.index < 2 ^ 63 }
     ensures { OnOk result (choices.new.items ≡ choices.old.items
-        ++ divided_choices source.now accessors.now accessor.now index
-        (numbers_from (least_at accessors.now.min index) numbers.now)) }
+        ++ divided_choices read.now.source.now read.now.accessors.now read.now.accessor.now
+        read.now.index
+        (numbers_from (least_at read.now.accessors.now.min read.now.index) numbers.now)) }
 {
-    let least = accessors.least(index);
+    let least = read.accessors.least(read.index);
     // Most sources have no least value: then no number is looked at one by one.
     if let PrecomputedAfterKey::Next(0) = least {
-        return add_column(choices, source, accessors, accessor, index, numbers);
+        return add_column(choices, read, numbers);
     }
     for number in numbers {
         if least.gt(*number) {
             continue;
         }
-        add_column(choices, source, accessors, accessor, index, &[*number])?;
+        add_column(choices, read, &[*number])?;
     }
     Ok(())
 }
 
-// Appends numbers of the accessor at an index, divided where the source divides them.
+// Appends numbers of a column, divided where the source divides them.
 fn add_column(
     choices: &mut Vec<Choice>,
-    source: &CompositeAggregationSource,
-    accessors: &CompositeSourceAccessors<'_>,
-    accessor: &CompositeAccessor<'_>,
-    index: usize,
+    read: &SourceColumn<'_, '_>,
     numbers: &[u64],
 ) -> Result<(), OutOfMemory>
-    requires { index < 2 ^ 63 }
+    requires { read.now.index < 2 ^ 63 }
     ensures { OnOk result (choices.new.items ≡ choices.old.items
-        ++ divided_choices source.now accessors.now accessor.now index numbers.now) }
+        ++ divided_choices read.now.source.now read.now.accessors.now read.now.accessor.now
+        read.now.index numbers.now) }
 {
-    let (order, lane) = (source.order(), lane_of(source, index));
-    let column = DividedColumn::new(source, accessor);
+    let lane = Lane {
+        order: read.source.order(),
+        accessors: read.accessors,
+        index: lane_of(read.source, read.index),
+    };
+    let column = DividedColumn::new(read.source, read.accessor);
     match column.divisor {
-        Divisor::Nothing => add_numbers(choices, order, accessors, lane, numbers),
-        _ => add_starts(choices, order, accessors, lane, &column, numbers),
+        Divisor::Nothing => add_numbers(choices, &lane, numbers),
+        _ => add_starts(choices, &lane, &column, numbers),
     }
 }
 
-// Appends numbers of the lane at an index.
+// Appends numbers of a lane.
 fn add_numbers(
     choices: &mut Vec<Choice>,
-    order: Order,
-    accessors: &CompositeSourceAccessors<'_>,
-    index: usize,
+    lane: &Lane<'_, '_>,
     numbers: &[u64],
 ) -> Result<(), OutOfMemory>
-    requires { index < 2 ^ 63 }
-    ensures { OnOk result (choices.new.items
-        ≡ choices.old.items ++ map (choice_at order accessors.now index) numbers.now) }
+    requires { lane.now.index < 2 ^ 63 }
+    ensures { OnOk result (choices.new.items ≡ choices.old.items
+        ++ map (choice_at lane.now.order lane.now.accessors.now lane.now.index) numbers.now) }
 {
     for number in numbers {
-        choices.push(choice_of(order, accessors, index, *number))?;
+        choices.push(choice_of(lane, *number))?;
     }
     Ok(())
 }
 
-// Appends the starts of numbers of a column, in the lane at an index.
+// Appends the starts of numbers of a column, in a lane.
 fn add_starts(
     choices: &mut Vec<Choice>,
-    order: Order,
-    accessors: &CompositeSourceAccessors<'_>,
-    index: usize,
+    lane: &Lane<'_, '_>,
     column: &DividedColumn<'_>,
     numbers: &[u64],
 ) -> Result<(), OutOfMemory>
-    requires index { index < 2 ^ 63 }
+    requires index { lane.now.index < 2 ^ 63 }
     requires can { CanDivide column.now.divisor }
     ensures { OnOk result (choices.new.items ≡ choices.old.items
-        ++ map (λ n. choice_at order accessors.now index
+        ++ map (λ n. choice_at lane.now.order lane.now.accessors.now lane.now.index
         (lane_number column.now.divisor column.now.column.now.keys n)) numbers.now) }
 {
     for number in numbers {
         let start = column.lane_number(*number);
-        choices.push(choice_of(order, accessors, index, start))?;
+        choices.push(choice_of(lane, start))?;
     }
     Ok(())
 }
 
-// A number of the lane at an index as a choice.
-fn choice_of(
-    order: Order,
-    accessors: &CompositeSourceAccessors<'_>,
-    index: usize,
-    number: u64,
-) -> Choice
-    requires { index < 2 ^ 63 }
-    ensures { result ≡ choice_at order accessors.now index number }
+// A number of a lane as a choice.
+fn choice_of(lane: &Lane<'_, '_>, number: u64) -> Choice
+    requires { lane.now.index < 2 ^ 63 }
+    ensures { result ≡ choice_at lane.now.order lane.now.accessors.now lane.now.index number }
 {
     Choice {
-        value: Encoded::at(order, index, number),
-        side: side_of(order, accessors, index, number),
+        value: Encoded::at(lane.order, lane.index, number),
+        side: side_of(lane.order, lane.accessors, lane.index, number),
     }
 }

@@ -9,10 +9,10 @@ use Rattle.agg_composite.proofs.walk.gather.add_from.Goals as goal
 
 pub returns-in-Next-eq0 : goal.returns-in-Next-eq0
 returns-in-Next-eq0 c =
-    let source = c.args.source.now in
-    let a = c.args.accessors.now in
-    let accessor = c.args.accessor.now in
-    let index = c.args.index in
+    let source = c.args.read.now.source.now in
+    let a = c.args.read.now.accessors.now in
+    let accessor = c.args.read.now.accessor.now in
+    let index = c.args.read.now.index in
     let numbers = c.args.numbers.now in
     let start : least_at a.min index ≡ Next 0 = cc in
     on_ok_weaker c.add_column.result

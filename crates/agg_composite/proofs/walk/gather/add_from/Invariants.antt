@@ -7,5 +7,5 @@ abbrev pub invariant-loop-number : goal.invariant-loop-number
 invariant-loop-number l =
     l.choices.items
     ≡ l.fn.choices.items
-    ++ divided_choices l.source l.accessors l.accessor l.index
+    ++ divided_choices l.read.source.now l.read.accessors.now l.read.accessor.now l.read.index
     (numbers_from l.least (take l.number-index l.numbers))

@@ -7,5 +7,5 @@ abbrev pub invariant-loop-number : goal.invariant-loop-number
 invariant-loop-number l =
     l.choices.items
     ≡ l.fn.choices.items
-    ++ map (λ n. choice_at l.order l.accessors l.index
+    ++ map (λ n. choice_at l.lane.order l.lane.accessors.now l.lane.index
     (lane_number l.column.divisor l.column.column.now.keys n)) (take l.number-index l.numbers)
