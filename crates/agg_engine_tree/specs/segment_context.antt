@@ -4,5 +4,6 @@ pub mod Pages
 pub mod Params
 pub mod Plan
 pub mod SetupError
+pub mod Tops
 pub mod Trees
 pub mod Views

@@ -13,5 +13,6 @@ pub mod Pages
 pub mod Parts
 pub mod Queries
 pub mod Stays
+pub mod Tops
 pub mod Trees
 pub mod Views

@@ -110,6 +110,7 @@ AppendsFilter from name index old new =
     (req : FilterAggReqData)
     × (new ≡ record old { filter_req_data = old.filter_req_data ++ req ∷ [] })
     × (index ≡ length old.filter_req_data) × (req.name ≡ name)
+    × (req.is_top_level ≡ from.is_top_level)
     × ((tree : QueryTree) → slice_get from.trees.now index ≡ Some tree
     → AreMarks (matches tree) from.reader.now req.evaluator)
 

@@ -1,5 +1,5 @@
 //! The context of a request in a segment.
-ghost use Rattle.std.specs.Prelude.{◌≡◌, IfErr, IfOk};
+ghost use Rattle.std.specs.Prelude.{◌≡◌, IfErr, IfOk, map, true};
 ghost use Rattle.agg_segment.specs.declared.query.QueryTree.{QueryTree as Tree};
 ghost use Rattle.agg_request_tree.specs.Faults.{IsSoundRequest};
 ghost use Rattle.agg_request_tree.specs.Request.{listed_in, with_builders, with_builders_in};
@@ -7,6 +7,8 @@ ghost use Rattle.agg_engine_tree.specs.segment_context.Additions.{AddsIn, AddsRe
 ghost use Rattle.agg_engine_tree.specs.segment_context.Additions.{IsReadyIn, TreesFollow};
 ghost use Rattle.agg_engine_tree.specs.segment_context.Context.{IsContextOf, Meaning};
 ghost use Rattle.agg_engine_tree.specs.segment_context.Pages.{paged};
+ghost use Rattle.agg_engine_tree.specs.segment_context.Plan.{plan_of, plans_of};
+ghost use Rattle.agg_engine_tree.specs.segment_context.Tops.{KnowsTop, KnowTop};
 ghost use Rattle.agg_engine_tree.specs.segment_context.Trees.{AreOfRequest, AreTreesOf, own_tree};
 ghost use Rattle.agg_engine_tree.specs.segment_context.Trees.{trees_of};
 
@@ -25,7 +27,7 @@ use own::add_data;
 use std::alloc::Global;
 
 /// The context of a request in a segment. A composite at top level that has the name of the page
-/// that is set takes the page's size and after key.
+/// that is set takes the page's size and after key. Filters at the top level know it, and no others.
 pub fn segment_context<'s, B: Drop>(
     alloc: Global,
     request: &'s NameMap<Aggregation<B>>,
@@ -39,6 +41,9 @@ pub fn segment_context<'s, B: Drop>(
         → (meaning : Meaning) × (meaning.segment ≡ reader.now)
         × IsContextOf meaning ctx.per_request
         (paged params.now.page (with_builders made request.now))) }
+    ensures top { IfOk result (λ ctx.
+        KnowTop true ctx.per_request.filter_req_data
+        (plans_of (map plan_of ctx.per_request.agg_tree))) }
     ensures err { IfErr result (λ error. error ≡ SetupError.OutOfMemory) }
 {
     let from = Origin {
@@ -69,6 +74,8 @@ fn request_nodes<'s, B: Drop>(
     ensures ok { IfOk result (λ nodes. (made : B → Tree)
         → TreesFollow from.now ctx.old (trees_of (with_builders made request.now))
         → AddsRequest made from.now request.now nodes ctx.old ctx.new) }
+    ensures top { IfOk result (λ nodes.
+        KnowTop from.now.is_top_level ctx.new.filter_req_data (plans_of (map plan_of nodes))) }
     ensures err { IfErr result (λ error. error ≡ SetupError.OutOfMemory) }
 {
     let mut nodes = ItemList::new(from.alloc);
@@ -90,6 +97,8 @@ fn aggregation_node<'s, B: Drop>(
     ensures ok { IfOk result (λ node. (made : B → Tree)
         → TreesFollow from.now ctx.old (listed_in own_tree (with_builders_in made aggregation.now))
         → AddsIn made from.now name.now aggregation.now node ctx.old ctx.new) }
+    ensures top { IfOk result (λ node.
+        KnowsTop from.now.is_top_level ctx.new.filter_req_data (plan_of node)) }
     ensures err { IfErr result (λ error. error ≡ SetupError.OutOfMemory) }
 {
     let (kind, idx_in_req_data) = add_data(from, name, &aggregation.agg, ctx)?;

@@ -102,7 +102,7 @@ module _ (from : Origin) (name : List ℕ) (old : PerRequestAggSegCtx) where
       (λ meaning ctx. (req : FilterAggReqData)
       × (slice_get ctx.filter_req_data index ≡ Some req) × (req.name ≡ name)
       × (meaning.query_at index ≡ tree)) old new
-  adds-filter tree index new (req, is, here, named, marks) follows =
+  adds-filter tree index new (req, is, here, named, top, marks) follows =
       subst (λ (x : PerRequestAggSegCtx). AddsData from.reader.now (tree ∷ []) []
       (λ meaning ctx. (req : FilterAggReqData)
       × (slice_get ctx.filter_req_data index ≡ Some req) × (req.name ≡ name)

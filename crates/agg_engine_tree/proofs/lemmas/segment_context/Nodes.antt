@@ -46,7 +46,7 @@ each-unpaged {B = B} page unpaged request =
     ap (λ (p : Option Page). paged_each p request) unpaged ∙ sym (paged-each None request)
 
 -- a node's plan
-plan-rolled : (k : AggKind) (index : ℕ) (children : List AggRefNode)
+pub plan-rolled : (k : AggKind) (index : ℕ) (children : List AggRefNode)
     → plan_of (roll-AggRefNode
     (record { kind = k; idx_in_req_data = index; children = children }))
     ≡ Plan.node k index (plans_of (map plan_of children))

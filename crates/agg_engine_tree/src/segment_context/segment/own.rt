@@ -7,6 +7,7 @@ ghost use Rattle.agg_engine_tree.specs.segment_context.Additions.{AddsOwn, Appen
 ghost use Rattle.agg_engine_tree.specs.segment_context.Additions.{AppendsFilter, AppendsMetric};
 ghost use Rattle.agg_engine_tree.specs.segment_context.Additions.{IsReadyForOwn, TreesFollow};
 ghost use Rattle.agg_engine_tree.specs.segment_context.Additions.{page_of, paged_composite};
+ghost use Rattle.agg_engine_tree.specs.segment_context.Tops.{KnowsOwn};
 ghost use Rattle.agg_engine_tree.specs.segment_context.Trees.{own_tree};
 
 use super::accessors::accessors_for;
@@ -31,6 +32,8 @@ pub fn add_data<'s, B: Drop>(
     ensures ok { IfOk result (λ place. (made : B → Tree)
         → TreesFollow from.now ctx.old (own_tree (with_own_builder made agg.now))
         → AddsOwn made from.now name.now agg.now place ctx.old ctx.new) }
+    ensures top { IfOk result (λ place.
+        KnowsOwn from.now.is_top_level ctx.new.filter_req_data place.0 place.1) }
     ensures err { IfErr result (λ error. error ≡ SetupError.OutOfMemory) }
 {
     let alloc = from.alloc;
