@@ -66,6 +66,7 @@ pub fn summary_of<L: Ledger>(
             refused: false,
         }),
         Err(WalkError::OutOfMemory) => Err(OutOfMemory),
+        // By the condition, nothing but want of memory refuses the input.
         Err(_) => unreachable!(),
     }
 }

@@ -52,6 +52,7 @@ pub fn charge_bytes(
         Err(AggregationError::MemoryExceeded { limit, current }) => {
             Err(ChargeError::MemoryExceeded { limit, current })
         }
+        // A charge is refused for memory alone.
         Err(
             AggregationError::DateHistogramParseError(_)
             | AggregationError::BucketLimitExceeded { .. },

@@ -75,6 +75,7 @@ fn out_of_memory(error: VisitError) -> OutOfMemory
 {
     match error {
         VisitError::OutOfMemory => OutOfMemory,
+        // By the condition.
         VisitError::TooMany => unreachable!(),
     }
 }

@@ -99,6 +99,7 @@ fn out_of_memory(error: MergeError) -> SnapshotError
 {
     match error {
         MergeError::OutOfMemory => SnapshotError::OutOfMemory,
+        // By the condition.
         MergeError::Mismatch | MergeError::TooMany => unreachable!(),
     }
 }

@@ -29,6 +29,8 @@ pub fn page_results(
         Ok(results) => Ok(results),
         Err(FinalError::Aggregation(error)) => Err(WalkError::Aggregation(error)),
         Err(FinalError::OutOfMemory) => Err(WalkError::OutOfMemory),
+        // By the conditions, the results are those of the request, so they match it; that a sum is
+        // too large is found where results are merged.
         Err(FinalError::Mismatch | FinalError::TooMany | FinalError::UnknownAggregation) => {
             unreachable!()
         }

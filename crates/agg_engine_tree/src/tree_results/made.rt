@@ -115,6 +115,7 @@ fn out_of_memory(error: MergeError) -> OutOfMemory
 {
     match error {
         MergeError::OutOfMemory => OutOfMemory,
+        // By the condition.
         MergeError::Mismatch | MergeError::TooMany => unreachable!(),
     }
 }

@@ -83,6 +83,7 @@ fn unless_refused<T: Drop>(built: Result<T, BuildError>) -> Result<T, OutOfMemor
     match built {
         Ok(value) => Ok(value),
         Err(BuildError::OutOfMemory) => Err(OutOfMemory),
+        // By the condition.
         Err(BuildError::MixedNumbers | BuildError::TooManyDocuments) => unreachable!(),
     }
 }

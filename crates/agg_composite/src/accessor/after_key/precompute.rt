@@ -49,6 +49,7 @@ pub fn precompute_among_starts(
         }
         CompositeIntermediateKey::U64(number) => PrecomputedAfterKey::from(u64_to_i64(*number)),
         CompositeIntermediateKey::Null => precompute_null(missing_order, order),
+        // By the condition, the key is a number or Null.
         _ => unreachable!(),
     }
 }
@@ -65,6 +66,7 @@ pub fn precompute_in_class(column: &Column, key: &CompositeIntermediateKey) -> P
         CompositeIntermediateKey::U64(number) => precompute_u64(column, *number),
         CompositeIntermediateKey::IpAddr(address) => precompute_address(column, *address),
         CompositeIntermediateKey::DateTime(time) => precompute_date(*time),
+        // Null has no class, so by the condition the key is another.
         CompositeIntermediateKey::Null => unreachable!(),
     }
 }
