@@ -1,10 +1,10 @@
 //! What the options ask.
 use agg_values::Text;
-use peslumok_command_line::{GroupOptions, OutputFormat as Chosen};
+use peslumok_command_line::GroupOptions;
 use peslumok_front::front::{Asked, Failure, Pages};
 use peslumok_front::grouping::{Grouping, GroupingError};
-use peslumok_front::tables::OutputFormat;
 use peslumok_texts::fields::{FieldType, FieldTypes};
+use peslumok_texts::formats::OutputFormat;
 use peslumok_texts::words::DateField;
 use std::alloc::Global;
 
@@ -47,18 +47,12 @@ pub fn asked_of<'a>(
             is_all,
             top,
         },
-        output: output_of(to, is_terminal),
+        output: match to {
+            Some(format) => format,
+            None if is_terminal => OutputFormat::Table,
+            None => OutputFormat::JsonLines,
+        },
     })
-}
-
-fn output_of(to: Option<Chosen>, is_terminal: bool) -> OutputFormat {
-    match to {
-        Some(Chosen::Table) => OutputFormat::Table,
-        Some(Chosen::JsonLines) => OutputFormat::JsonLines,
-        Some(Chosen::Csv) => OutputFormat::Csv,
-        None if is_terminal => OutputFormat::Table,
-        None => OutputFormat::JsonLines,
-    }
 }
 
 // The types of the fields that the options name.

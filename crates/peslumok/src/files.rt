@@ -1,9 +1,8 @@
 //! The files of the command line.
 use crate::progress::Progress;
 use agg_values::Text;
-use peslumok_command_line::InputFormat;
 use peslumok_front::front::{Failure, RecordFile, format_of};
-use peslumok_records::records::RecordFormat;
+use peslumok_texts::formats::RecordFormat;
 use std::alloc::Global;
 use std::fs::File;
 use std::io::{self, ErrorKind, Read};
@@ -18,7 +17,7 @@ const PIECE_BYTES: u64 = 1_048_576;
 pub fn read_files<'a, R: Files + Input + Clock + Eprint + AllocGlobal>(
     rt: &R,
     names: &[&'a str],
-    from: Option<InputFormat>,
+    from: Option<RecordFormat>,
     progress: &mut Progress<'_, R>,
 ) -> Result<Vec<RecordFile<'a>>, Failure> {
     let mut files = Vec::new(rt.alloc());
@@ -37,12 +36,12 @@ pub fn read_files<'a, R: Files + Input + Clock + Eprint + AllocGlobal>(
 fn read_records<'a, R: Files + Input + Clock + Eprint + AllocGlobal>(
     rt: &R,
     name: &'a str,
-    from: Option<InputFormat>,
+    from: Option<RecordFormat>,
     progress: &mut Progress<'_, R>,
 ) -> Result<RecordFile<'a>, Failure> {
     let bytes = read_file(rt, name, progress)?;
     let format = match from {
-        Some(from) => record_format(from),
+        Some(from) => from,
         None => format_of(name, bytes.as_slice()),
     };
     Ok(RecordFile {
@@ -106,14 +105,5 @@ fn unreadable(alloc: Global, name: &str, error: &io::Error) -> Failure {
     match Text::copy_of(alloc, name) {
         Ok(name) => Failure::Unreadable(name),
         Err(error) => Failure::from(error),
-    }
-}
-
-fn record_format(from: InputFormat) -> RecordFormat {
-    match from {
-        InputFormat::JsonLines => RecordFormat::JsonLines,
-        InputFormat::Json => RecordFormat::Json,
-        InputFormat::Csv => RecordFormat::Csv,
-        InputFormat::Tsv => RecordFormat::Tsv,
     }
 }

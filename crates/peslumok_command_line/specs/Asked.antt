@@ -19,13 +19,13 @@ use Rattle.peslumok_texts.specs.declared.words.decimal_field.DecimalField.{Decim
 use Rattle.peslumok_command_line.specs.declared.options.Chosen.{Chosen}
 use Rattle.peslumok_command_line.specs.declared.options.Chosen.TheVariants as chosen
 use Rattle.peslumok_command_line.specs.declared.options.GroupOptions.{GroupOptions}
-use Rattle.peslumok_command_line.specs.declared.options.InputFormat.{InputFormat}
-use Rattle.peslumok_command_line.specs.declared.options.InputFormat.TheVariants as input
+use Rattle.peslumok_texts.specs.declared.formats.RecordFormat.{RecordFormat}
+use Rattle.peslumok_texts.specs.declared.formats.RecordFormat.TheVariants as input
 use Rattle.peslumok_texts.specs.declared.words.metric.Metric.{Metric}
 use Rattle.peslumok_texts.specs.declared.words.metric.MetricKind.{MetricKind}
 use Rattle.peslumok_texts.specs.declared.words.metric.MetricKind.TheVariants.{Count, Sum, Min, Max}
-use Rattle.peslumok_command_line.specs.declared.options.OutputFormat.{OutputFormat}
-use Rattle.peslumok_command_line.specs.declared.options.OutputFormat.TheVariants as output
+use Rattle.peslumok_texts.specs.declared.formats.OutputFormat.{OutputFormat}
+use Rattle.peslumok_texts.specs.declared.formats.OutputFormat.TheVariants as output
 
 -- the values of all uses of an option
 abbrev pub texts_of : Text → List Row → List Text
@@ -48,8 +48,8 @@ all_columns rows =
     ++ columns_of Max (texts_of (codes "max") rows)
 
 -- the format of records by its name
-abbrev pub input_format_of : Text → Option InputFormat
-input_format_of name =
+abbrev pub record_format_of : Text → Option RecordFormat
+record_format_of name =
     if bytes_eq name (codes "jsonl") then Some input.JsonLines
     else if bytes_eq name (codes "json") then Some input.Json
     else if bytes_eq name (codes "csv") then Some input.Csv
@@ -121,7 +121,7 @@ pub record Asks (rows : List Row) (options : GroupOptions) : Type 0 where
   pub dates : AllZip ReadsDate (texts_of (codes "date") rows) options.dates.items
   pub decimals : AllZip ReadsDecimal (texts_of (codes "decimal") rows) options.decimals.items
   pub texts : map (λ field. field.now) options.texts.items ≡ texts_of (codes "text") rows
-  pub from : options.from ≡ option_and_then input_format_of (first_of (codes "from") rows)
+  pub from : options.from ≡ option_and_then record_format_of (first_of (codes "from") rows)
   pub to : options.to ≡ option_and_then output_format_of (first_of (codes "to") rows)
 
 -- the matches of one file ask for it, or for standard input where it is none

@@ -13,5 +13,5 @@ mod rules;
 mod values;
 
 pub use error::CommandLineError;
-pub use options::{Chosen, GroupOptions, InputFormat, OutputFormat};
+pub use options::{Chosen, GroupOptions};
 pub use read::read_command_line;

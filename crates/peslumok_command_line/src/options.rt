@@ -1,3 +1,4 @@
+use peslumok_texts::formats::{OutputFormat, RecordFormat};
 use peslumok_texts::words::{BySpec, Condition, DateField, DecimalField, Metric};
 
 /// What the words ask.
@@ -39,24 +40,7 @@ pub struct GroupOptions<'a> {
     /// The fields that hold texts, also where these look like numbers.
     pub texts: Vec<&'a str>,
     /// The format of the input, where it is not told by the names of files.
-    pub from: Option<InputFormat>,
+    pub from: Option<RecordFormat>,
     /// The format of the output, where it is not told by where it goes.
     pub to: Option<OutputFormat>,
-}
-
-/// How records are written.
-#[derive(Clone, Copy, Debug, PartialEq, Eq)]
-pub enum InputFormat {
-    JsonLines,
-    Json,
-    Csv,
-    Tsv,
-}
-
-/// How groups are written.
-#[derive(Clone, Copy, Debug, PartialEq, Eq)]
-pub enum OutputFormat {
-    Table,
-    JsonLines,
-    Csv,
 }

@@ -4,8 +4,8 @@ ghost use Rattle.clap.specs.Words.{first_of, found_of, rows_of};
 ghost use Rattle.peslumok_command_line.specs.Asked as spec;
 ghost use Rattle.peslumok_command_line.specs.Asked.{ReadsFlag, ReadsNumber, ReadsOptionalNumber};
 
-use crate::{InputFormat, OutputFormat};
 use clap::ArgMatches;
+use peslumok_texts::formats::{OutputFormat, RecordFormat};
 use std::alloc::{AllocError, Global};
 
 /// The values of all uses of an option.
@@ -53,12 +53,12 @@ pub(crate) fn top(matches: &ArgMatches<'_>) -> Option<u32>
 }
 
 /// How records are written.
-pub(crate) fn from(matches: &ArgMatches<'_>) -> Option<InputFormat>
+pub(crate) fn from(matches: &ArgMatches<'_>) -> Option<RecordFormat>
     ensures { result ≡ option_and_then
-        spec.input_format_of
+        spec.record_format_of
         (first_of (codes "from") (rows_of (found_of matches.now))) }
 {
-    text(matches, "from").and_then(input_format)
+    text(matches, "from").and_then(record_format)
 }
 
 /// How groups are written.
@@ -71,14 +71,14 @@ pub(crate) fn to(matches: &ArgMatches<'_>) -> Option<OutputFormat>
 }
 
 #[tactic(auto, using(crate::proofs::Names::other))]
-fn input_format(name: &str) -> Option<InputFormat>
-    ensures { result ≡ spec.input_format_of name.now }
+fn record_format(name: &str) -> Option<RecordFormat>
+    ensures { result ≡ spec.record_format_of name.now }
 {
     match name {
-        "jsonl" => Some(InputFormat::JsonLines),
-        "json" => Some(InputFormat::Json),
-        "csv" => Some(InputFormat::Csv),
-        "tsv" => Some(InputFormat::Tsv),
+        "jsonl" => Some(RecordFormat::JsonLines),
+        "json" => Some(RecordFormat::Json),
+        "csv" => Some(RecordFormat::Csv),
+        "tsv" => Some(RecordFormat::Tsv),
         _ => None,
     }
 }

@@ -11,5 +11,5 @@ pub(crate) mod visible;
 pub use cells::{cells_of_group, cells_of_total};
 pub use columns::{Column, Columns};
 pub use csv_lines::write_csv_cell;
-pub use output::{OutputFormat, write_rows};
+pub use output::write_rows;
 pub use row::{Cell, Row};

@@ -3,4 +3,5 @@
 pub mod dates;
 pub mod decimals;
 pub mod fields;
+pub mod formats;
 pub mod words;

@@ -15,7 +15,7 @@ use Rattle.peslumok_records.specs.declared.held.asked.AskedField.{AskedField}
 use Rattle.peslumok_front.specs.grouping.Query.{IsQueryOf}
 use Rattle.peslumok_front.specs.declared.grouping.grouping.Grouping.{Grouping}
 use Rattle.peslumok_front.specs.declared.tables.columns.Column.{Column}
-use Rattle.peslumok_front.specs.declared.tables.output.OutputFormat.{OutputFormat}
+use Rattle.peslumok_texts.specs.declared.formats.OutputFormat.{OutputFormat}
 use Rattle.peslumok_front.specs.after_text.After.{HaveOwnColumns, IsAfterText, NamesFirst}
 use Rattle.peslumok_records.specs.record_index.Index.{unseen_names}
 use Rattle.peslumok_front.specs.front.Asking.{AskAll}

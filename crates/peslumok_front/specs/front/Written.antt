@@ -16,7 +16,7 @@ use Rattle.peslumok_front.specs.tables.Cells.{is_total, shown_cells}
 use Rattle.peslumok_front.specs.tables.Groups.{ShowsGroup, ShowsTotals}
 use Rattle.peslumok_front.specs.tables.Output.{AppendsRows}
 use Rattle.peslumok_front.specs.declared.tables.columns.Column.{Column}
-use Rattle.peslumok_front.specs.declared.tables.output.OutputFormat.{OutputFormat}
+use Rattle.peslumok_texts.specs.declared.formats.OutputFormat.{OutputFormat}
 use Rattle.peslumok_front.specs.declared.tables.row.Row.{Row}
 
 -- ---- what a page shows

@@ -8,8 +8,8 @@ use Rattle.peslumok_front.specs.tables.Cells.{Shown, shown_cells, shown_text}
 use Rattle.peslumok_front.specs.tables.Columns.{header_of}
 use Rattle.peslumok_front.specs.tables.JsonLines.{json_line}
 use Rattle.peslumok_front.specs.declared.tables.columns.Column.{Column}
-use Rattle.peslumok_front.specs.declared.tables.output.OutputFormat.{OutputFormat}
-use Rattle.peslumok_front.specs.declared.tables.output.OutputFormat.TheVariants as format
+use Rattle.peslumok_texts.specs.declared.formats.OutputFormat.{OutputFormat}
+use Rattle.peslumok_texts.specs.declared.formats.OutputFormat.TheVariants as format
 use Rattle.peslumok_front.specs.declared.tables.row.Row.{Row}
 
 -- a cell of CSV, empty where there is no value

@@ -3,8 +3,7 @@ ghost use Rattle.std.specs.Prelude.{◌≡◌};
 ghost use Rattle.peslumok_front.specs.front.Pages.{room_of};
 
 use crate::grouping::Grouping;
-use crate::tables::OutputFormat;
-use peslumok_records::records::RecordFormat;
+use peslumok_texts::formats::{OutputFormat, RecordFormat};
 
 /// The records of a file.
 #[derive(Drop)]

@@ -13,11 +13,12 @@ use crate::front::asked::Asked;
 use crate::front::columns::columns_of;
 use crate::front::failure::Failure;
 use crate::grouping::{GROUPS, TOTAL};
-use crate::tables::{Columns, OutputFormat, Row, cells_of_group, cells_of_total, write_rows};
+use crate::tables::{Columns, Row, cells_of_group, cells_of_total, write_rows};
 use agg_results::final_results::{
     AggregationResult, AggregationResults, BucketResult, CompositeBucketEntry, FilterBucketResult,
 };
 use agg_values::{AfterKey, NameMap, OutOfMemory, Text};
+use peslumok_texts::formats::OutputFormat;
 use std::alloc::Global;
 
 /// Writes pages, one after another, and keeps the memory of their text.

@@ -10,15 +10,8 @@ use crate::tables::json_lines::write_json_line;
 use crate::tables::table::write_table;
 use crate::tables::{Columns, Row};
 use agg_values::OutOfMemory;
+use peslumok_texts::formats::OutputFormat;
 use std::alloc::Global;
-
-/// How rows are written.
-#[derive(Clone, Copy, Debug, PartialEq, Eq)]
-pub enum OutputFormat {
-    Table,
-    JsonLines,
-    Csv,
-}
 
 /// Appends rows, after the header where there is to be one. JSON lines have none.
 pub fn write_rows(

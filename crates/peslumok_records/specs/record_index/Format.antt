@@ -5,8 +5,8 @@ use Rattle.std.specs.Char.{is_ascii_whitespace}
 use Rattle.std.specs.Path.{path_extension}
 use Rattle.std.specs.Str.{bytes_eq}
 use Rattle.csv.specs.Reading.{strip_bom}
-use Rattle.peslumok_records.specs.declared.records.format.RecordFormat.{RecordFormat}
-use Rattle.peslumok_records.specs.declared.records.format.RecordFormat.TheVariants as format
+use Rattle.peslumok_texts.specs.declared.formats.RecordFormat.{RecordFormat}
+use Rattle.peslumok_texts.specs.declared.formats.RecordFormat.TheVariants as format
 
 -- the format that a file's extension tells
 unfoldable pub format_of_end : List ℕ → Option RecordFormat

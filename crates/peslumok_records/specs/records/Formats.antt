@@ -7,8 +7,8 @@ use Rattle.peslumok_records.specs.declared.held.asked.AskedField.{AskedField}
 use Rattle.peslumok_records.specs.cells.Table.{AreTableDocuments}
 use Rattle.peslumok_records.specs.objects.JsonRecords.{AreItemDocuments}
 use Rattle.peslumok_records.specs.objects.Lines.{AreLineDocuments, lines_of}
-use Rattle.peslumok_records.specs.declared.records.format.RecordFormat.{RecordFormat}
-use Rattle.peslumok_records.specs.declared.records.format.RecordFormat.TheVariants as format
+use Rattle.peslumok_texts.specs.declared.formats.RecordFormat.{RecordFormat}
+use Rattle.peslumok_texts.specs.declared.formats.RecordFormat.TheVariants as format
 
 -- these are the documents of a text in a format, by the asked fields
 abbrev pub AreDocumentsOf : RecordFormat → List AskedField → List ℕ → List Fields → Type 0

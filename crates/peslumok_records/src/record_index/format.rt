@@ -4,7 +4,7 @@ ghost use Rattle.std.specs.Char.{is_ascii_whitespace};
 ghost use Rattle.csv.specs.Reading.{strip_bom};
 ghost use Rattle.peslumok_records.specs.record_index.Format as spec;
 
-use crate::records::RecordFormat;
+use peslumok_texts::formats::RecordFormat;
 use std::path::Path;
 
 /// The format of a file: by the end of its name, or else by its first byte that isn't blank.

@@ -14,8 +14,8 @@ ghost use Rattle.peslumok_records.specs.records.Formats.{AreDocumentsOf};
 use crate::cells::{read_table, without_mark};
 use crate::held::{AskedFields, RecordCause, RecordError, Records, line_of};
 use crate::objects::{read_array, read_lines};
-use crate::records::RecordFormat;
 use crate::records::encoding::refuse_other_encodings;
+use peslumok_texts::formats::RecordFormat;
 use std::alloc::Global;
 use std::str::from_utf8;
 

@@ -12,7 +12,7 @@ use Rattle.agg_segment.specs.declared.query.QueryTree.{QueryTree}
 use Rattle.agg_results.specs.declared.final_results.types.AggregationResults.{AggregationResults}
 use Rattle.peslumok_front.specs.declared.grouping.grouping.Grouping.{Grouping}
 use Rattle.peslumok_front.specs.declared.tables.columns.Column.{Column}
-use Rattle.peslumok_front.specs.declared.tables.output.OutputFormat.{OutputFormat}
+use Rattle.peslumok_texts.specs.declared.formats.OutputFormat.{OutputFormat}
 use Rattle.peslumok_front.specs.front.Answer.{AreWritten}
 use Rattle.peslumok_front.specs.front.Pages.{ArePages, IsPageOf, is_end, is_last, last_after}
 use Rattle.peslumok_front.specs.front.Pages.{next_after, room_of}

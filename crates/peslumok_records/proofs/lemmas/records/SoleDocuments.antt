@@ -7,8 +7,8 @@ use Rattle.peslumok_records.proofs.lemmas.held.SoleDocuments.{read_once}
 use Rattle.peslumok_records.proofs.lemmas.cells.SoleRows.{table_once}
 use Rattle.peslumok_records.proofs.lemmas.objects.SoleItems.{items_once}
 use Rattle.peslumok_records.specs.records.Formats.{AreDocumentsOf}
-use Rattle.peslumok_records.specs.declared.records.format.RecordFormat.{RecordFormat}
-use Rattle.peslumok_records.specs.declared.records.format.RecordFormat.TheVariants as format
+use Rattle.peslumok_texts.specs.declared.formats.RecordFormat.{RecordFormat}
+use Rattle.peslumok_texts.specs.declared.formats.RecordFormat.TheVariants as format
 
 pub documents_once : (f : RecordFormat) (asked : List AskedField) (bytes : List ℕ)
     (first second : List Fields) → AreDocumentsOf f asked bytes first

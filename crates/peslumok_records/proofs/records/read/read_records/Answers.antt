@@ -9,7 +9,7 @@ use Rattle.peslumok_records.proofs.lemmas.held.HeldDocuments.{adds_later}
 use Rattle.peslumok_records.specs.objects.JsonRecords.{AreItemDocuments}
 use Rattle.peslumok_records.specs.objects.Lines.{AreLineDocuments, IsFirstFault, lines_of}
 use Rattle.peslumok_records.specs.records.Formats.{AreDocumentsOf}
-use Rattle.peslumok_records.specs.declared.records.format.RecordFormat.TheVariants as format
+use Rattle.peslumok_texts.specs.declared.formats.RecordFormat.TheVariants as format
 use Rattle.peslumok_records.proofs.records.read.read_records.Goals as goal
 
 pub returns-in_ok-text_of-in-JsonLines-clause-held :

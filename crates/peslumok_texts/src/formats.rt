@@ -1,3 +1,5 @@
+//! Formats of records and of groups.
+
 /// How the records of a text are written.
 #[derive(Clone, Copy, Debug, PartialEq, Eq)]
 pub enum RecordFormat {
@@ -9,4 +11,15 @@ pub enum RecordFormat {
     Csv,
     /// Cells between tabs, under a header.
     Tsv,
+}
+
+/// How groups are written.
+#[derive(Clone, Copy, Debug, PartialEq, Eq)]
+pub enum OutputFormat {
+    /// Aligned columns, under a header.
+    Table,
+    /// An object on each line.
+    JsonLines,
+    /// Cells between commas, under a header.
+    Csv,
 }
