@@ -2,6 +2,8 @@
 pub(crate) mod document;
 pub(crate) mod input_error;
 pub(crate) mod line_value;
+pub(crate) mod plain;
+pub(crate) mod token_reader;
 pub(crate) mod tokens;
 
 pub use document::read_document;

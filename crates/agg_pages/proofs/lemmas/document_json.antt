@@ -3,6 +3,10 @@ pub mod DistinctNumbers
 pub mod DocumentMembers
 pub mod Documents
 pub mod FieldValues
+pub mod PlainDigits
+pub mod PlainLexemes
+pub mod PlainNumbers
+pub mod PlainTexts
 pub mod TokenFields
 pub mod TokenLines
 pub mod TokenMembers

@@ -1,18 +1,22 @@
 //! A document, from the tokens of its line: no tree of values is built.
-ghost use Rattle.std.specs.Prelude.{◌≡◌, true, false, IfOk, IsErrOf, IsTrue};
+ghost use Rattle.std.specs.Prelude.{◌≡◌, ℕ, List, true, false, IfOk, IsErrOf, IsTrue};
+ghost use Rattle.std.specs.List.Sorted.{IsStrictlyIncreasing};
+ghost use Rattle.json.specs.Lex.{tokens};
 ghost use Rattle.agg_segment.specs.Segment.{gathered_documents, no_fields, open_document};
 ghost use Rattle.agg_pages.specs.document_json.DocumentLine.{IsDocumentLine};
 ghost use Rattle.agg_pages.specs.document_json.AddedDocument.{HasNoDocument, HoldsLine};
 ghost use Rattle.agg_pages.specs.document_json.Tokens.{AreDistinct, TakesMembers};
 
-mod number;
+pub(crate) mod number;
 mod value;
 mod values;
 
 use crate::document_json::InputError;
+use crate::document_json::plain::PlainReader;
+use crate::document_json::token_reader::{LineToken, TokenReader};
 use agg_segment::SegmentBuilder;
 use agg_values::OutOfMemory;
-use json::{Reader, Scratch, Token};
+use json::{Reader, Scratch};
 use std::alloc::Global;
 use values::read_values;
 
@@ -68,7 +72,7 @@ pub fn read_document_tokens(
     Ok(true)
 }
 
-// Makes the document of a line the open one.
+// Makes the document of a line the open one. A line that isn't plain is indexed first.
 fn open_line(
     alloc: Global,
     builder: &mut SegmentBuilder,
@@ -79,40 +83,64 @@ fn open_line(
         → IsDocumentLine line.now (open_document builder.new)) }
     ensures documents { gathered_documents builder.new ≡ gathered_documents builder.old }
 {
-    builder.discard();
+    if open_tokens(
+        alloc,
+        builder,
+        &mut PlainReader::new(line),
+        &mut room.fields,
+    )? {
+        return Ok(true);
+    }
     let Ok(mut reader) = Reader::new(line, &mut room.tokens) else {
         return Err(OutOfMemory);
     };
-    let Some(Token::BeginObject) = reader.next() else {
+    open_tokens(alloc, builder, &mut reader, &mut room.fields)
+}
+
+// Makes the document of a line's tokens the open one.
+fn open_tokens<'a, R: TokenReader<'a>>(
+    alloc: Global,
+    builder: &mut SegmentBuilder,
+    reader: &mut R,
+    fields: &mut Vec<u32>,
+) -> Result<bool, OutOfMemory>
+    ensures taken { IfOk result (λ taken. IsTrue taken
+        → (line : List ℕ) → R.tokens reader.old ≡ tokens line
+        → IsDocumentLine line (open_document builder.new)) }
+    ensures documents { gathered_documents builder.new ≡ gathered_documents builder.old }
+{
+    builder.discard();
+    let Some(LineToken::BeginObject) = reader.next_token() else {
         return Ok(false);
     };
-    if !read_members(alloc, builder, &mut reader, &mut room.fields)? {
+    if !read_members(alloc, builder, reader, fields)? {
         return Ok(false);
     }
-    if reader.next().is_some() {
+    if !reader.has_ended() {
         return Ok(false);
     }
-    Ok(are_distinct(&mut room.fields))
+    Ok(are_distinct(fields))
 }
 
 // Appends the members of an object to the open document. Their fields are then in `fields`.
-fn read_members(
+fn read_members<'a, R: TokenReader<'a>>(
     alloc: Global,
     builder: &mut SegmentBuilder,
-    reader: &mut Reader<'_>,
+    reader: &mut R,
     fields: &mut Vec<u32>,
 ) -> Result<bool, OutOfMemory>
     requires { open_document builder.old ≡ no_fields }
     ensures taken { IfOk result (λ taken. IsTrue taken
-        → TakesMembers reader.old reader.new fields.new.items builder.new) }
+        → TakesMembers (R.tokens reader.old) (R.tokens reader.new)
+        fields.new.items builder.new) }
     ensures documents { gathered_documents builder.new ≡ gathered_documents builder.old }
 {
     fields.clear();
     'members: loop {
-        let Ok(key) = reader.next_key() else {
+        let Ok(found) = reader.next_name() else {
             return Ok(false);
         };
-        let Some(name) = key else {
+        let Some(name) = found else {
             return Ok(true);
         };
         let field = builder.field(name)?;
@@ -123,15 +151,29 @@ fn read_members(
     }
 }
 
-// Whether no number is there twice. Two numbers or more are sorted by it.
+// Whether no number is there twice. Numbers that don't ascend are sorted by it.
 fn are_distinct(numbers: &mut Vec<u32>) -> bool
     ensures { IsTrue result → AreDistinct numbers.old.items }
 {
-    let count = numbers.len();
-    if count < 2 {
+    if ascend(numbers) {
         return true;
     }
+    let count = numbers.len();
     numbers.sort_unstable();
     numbers.dedup();
     numbers.len() == count
+}
+
+// Whether each number is above the one before it.
+fn ascend(numbers: &[u32]) -> bool
+    ensures { IsTrue result → IsStrictlyIncreasing numbers.now }
+{
+    let mut i = 1;
+    while i < numbers.len() {
+        if numbers[i - 1] >= numbers[i] {
+            return false;
+        }
+        i += 1;
+    }
+    true
 }

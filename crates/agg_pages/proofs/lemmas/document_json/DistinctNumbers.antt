@@ -16,12 +16,6 @@ use Rattle.agg_pages.specs.document_json.Tokens.{AreDistinct}
 abbrev same : ℕ → ℕ → Bool
 same a b = a == b
 
--- fewer than two numbers are distinct
-pub few_distinct : (numbers : List ℕ) → length numbers < 2 → AreDistinct numbers
-few_distinct numbers few =
-    IsDistinct-from_apart same numbers
-    (λ i j d before within. absurd (omega (arith, few, before, within)))
-
 -- ---- what `dedup` leaves, where it takes nothing away
 
 no_more_by : (b : Bool) (k x : ℕ) (xs : List ℕ)
@@ -51,7 +45,7 @@ all_kept : (xs : List ℕ) → length (dedup same xs) ≡ length xs → dedup sa
 all_kept [] all = refl
 all_kept (x ∷ xs) all = kept_from x xs all
 
-rising_apart : (xs : List ℕ) → IsStrictlyIncreasing xs → AreDistinct xs
+pub rising_apart : (xs : List ℕ) → IsStrictlyIncreasing xs → AreDistinct xs
 rising_apart xs rising = IsDistinct-from_apart same xs (λ i j d before within.
     let sorted = sorted_from_strictly_increasing xs rising in
     let below = below_from_sorted xs i j d sorted before within in

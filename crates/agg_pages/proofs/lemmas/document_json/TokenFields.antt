@@ -16,6 +16,9 @@ use Rattle.agg_segment.specs.storage.Document.{Fields, by_class}
 use Rattle.agg_segment.specs.Segment.{Gathered, IsNameOf, open_document, with_key}
 use Rattle.agg_segment.proofs.lemmas.storage.Classes.{by_class_more}
 use Rattle.agg_pages.specs.document_json.DocumentLine.{HasKey, field_values, values_among}
+use Rattle.agg_pages.specs.declared.document_json.token_reader.LineToken.{LineToken}
+use Rattle.agg_pages.specs.declared.document_json.token_reader.LineToken.TheVariants as line
+use Rattle.agg_pages.specs.document_json.LineTokens.{StandsFor}
 use Rattle.agg_pages.specs.document_json.Tokens.{GainsKeys, TakesItem, TakesItems, TakesValue}
 use Rattle.agg_pages.specs.document_json.Tokens.{TakesValues}
 use Rattle.agg_pages.proofs.lemmas.document_json.Beside.{AllZip-append}
@@ -161,6 +164,17 @@ array_values field ts new before after all = record {
 }
 
 -- ---- the items of an array, one by one
+
+-- what begins a value ends no array
+pub no_array_end : (token : LineToken) (first : Token) (rest : List Token)
+    → StandsFor token first → after_end_array (first ∷ rest) ≡ None
+no_array_end line.BeginObject first rest is = ap (λ t. after_end_array (t ∷ rest)) is
+no_array_end line.BeginArray first rest is = ap (λ t. after_end_array (t ∷ rest)) is
+no_array_end line.Null first rest is = ap (λ t. after_end_array (t ∷ rest)) is
+no_array_end (line.Bool b) first rest is = ap (λ t. after_end_array (t ∷ rest)) is
+no_array_end (line.Text text) first rest is = ap (λ t. after_end_array (t ∷ rest)) is
+no_array_end (line.Number n) first rest stands =
+    ap (λ t. after_end_array (t ∷ rest)) stands.1
 
 -- the items before these were taken
 pub record HasTakenItems (field : ℕ) (old now : List Token) (before after : Gathered) : Type 0 where

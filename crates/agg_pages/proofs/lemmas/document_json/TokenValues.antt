@@ -1,7 +1,7 @@
 -- Values that are read from tokens.
 use Rattle.std.proofs.Common.{◌≡◌, inl, inr, ℕ, List, ◌∷◌, length, Bool}
 use Rattle.std.proofs.Common.{Option, None, Some, option_map, codes}
-use Rattle.std.proofs.Common.{IfSome, ◌-◌, refl, sym, ap, ◌∙◌, arith}
+use Rattle.std.proofs.Common.{IfSome, ◌-◌, refl, sym, ap, ◌∙◌, subst, arith}
 use Rattle.json.specs.Token.{Token}
 use Rattle.json.specs.Json.{members, parse_map, read_key, value}
 use Rattle.json.proofs.Grammar.{read_key-shorter, value_is, value-begin_object}
@@ -15,7 +15,10 @@ use Rattle.agg_values.specs.TypedKey.{CompositeIntermediateKey, typed_number}
 use Rattle.agg_values.specs.declared.typed_key.CompositeIntermediateKey.TheVariants as key
 use Rattle.agg_segment.specs.storage.Document.{key_of}
 use Rattle.agg_segment.specs.declared.storage.document.FieldValue.{FieldValue}
-use Rattle.agg_pages.specs.document_json.Tokens.{IsOnlyMember, TakesValue}
+use Rattle.agg_pages.specs.declared.document_json.token_reader.LineToken.TheVariants as line
+use Rattle.agg_pages.specs.declared.document_json.tokens.number.WholeNumber.{WholeNumber}
+use Rattle.agg_pages.specs.document_json.LineTokens.{StandsFor}
+use Rattle.agg_pages.specs.document_json.Tokens.{IsOnlyMember, TakesValue, num_of}
 use Rattle.agg_pages.proofs.lemmas.document_json.TokenTurns.{converted-object, member_read}
 use Rattle.agg_pages.proofs.lemmas.document_json.TokenTurns.{members_over}
 
@@ -64,11 +67,14 @@ date_member s n k is within = record {
   read = number_read s n is;
 }
 
-pub if_date : (s : List ℕ) (n : Num) (found : Option FieldValue) → number_of s ≡ Some n
-    → option_map key_of found ≡ option_map key.DateTime (as_i64 n)
-    → IfSome found (λ value. IsOnlyMember (codes "dt") (Token.number s) (key_of value))
-if_date s n None is within = tt
-if_date s n (Some value) is within = date_member s n (key_of value) is (sym within)
+pub if_date : (n : WholeNumber) (found : Option FieldValue)
+    → option_map key_of found ≡ option_map key.DateTime (as_i64 (num_of n))
+    → IfSome found (λ value. (first : Token) → StandsFor (line.Number n) first
+    → IsOnlyMember (codes "dt") first (key_of value))
+if_date n None within = tt
+if_date n (Some value) within = λ first stands.
+    subst (λ token. IsOnlyMember (codes "dt") token (key_of value)) (sym stands.1)
+    (date_member stands.0 (num_of n) (key_of value) stands.2 (sym within))
 
 pub address_member : (s : List ℕ) (address : Address) → IsAddressText s address.0
     → IsOnlyMember (codes "ip") (Token.string s) (key.IpAddr address)
@@ -100,12 +106,3 @@ object_value ts us rest name token k first one last =
           (omega (arith, less)) last);
       shorter = omega (arith, less, less_too);
     }
-
--- ---- where a number was read
-
-pub if_number : (s : List ℕ) (rest : List Token) (found : Option FieldValue)
-    → IfSome found (λ value. (n : Num) × (number_of s ≡ Some n)
-    × (option_map typed_number (as_integer n) ≡ Some (key_of value)))
-    → IfSome found (λ value. TakesValue (Token.number s ∷ rest) (key_of value) rest)
-if_number s rest None h = tt
-if_number s rest (Some value) (n, is, typed) = number_value s rest n (key_of value) is typed

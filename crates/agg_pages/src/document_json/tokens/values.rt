@@ -1,50 +1,53 @@
 //! The values of a field, from their tokens.
 ghost use Rattle.std.specs.Prelude.{◌≡◌, ◌∷◌, ℕ, List, IfOk, IsTrue};
-ghost use Rattle.json.specs.Reads.{token_of};
+ghost use Rattle.json.specs.Token.{Token as SpecToken};
 ghost use Rattle.agg_segment.specs.Segment.{IsNameOf, gathered_documents};
+ghost use Rattle.agg_pages.specs.document_json.LineTokens.{StandsFor};
 ghost use Rattle.agg_pages.specs.document_json.Tokens.{TakesItem, TakesItems, TakesValues};
 
 use super::value::read_value;
+use crate::document_json::token_reader::{LineToken, TokenReader};
 use agg_segment::SegmentBuilder;
 use agg_values::OutOfMemory;
-use json::{Reader, Token};
 use std::alloc::Global;
 
 /// Appends the values of a field to the open document: one, those of an array, or none for `null`.
 /// False where they are of another form.
 #[inline(always)]
-pub fn read_values(
+pub fn read_values<'a, R: TokenReader<'a>>(
     alloc: Global,
     builder: &mut SegmentBuilder,
     field: u32,
-    reader: &mut Reader<'_>,
+    reader: &mut R,
 ) -> Result<bool, OutOfMemory>
     requires { (name : List ℕ) × IsNameOf builder.old field name }
     ensures taken { IfOk result (λ taken. IsTrue taken
-        → TakesValues field reader.old reader.new builder.old builder.new) }
+        → TakesValues field (R.tokens reader.old) (R.tokens reader.new)
+        builder.old builder.new) }
     ensures documents { gathered_documents builder.new ≡ gathered_documents builder.old }
 {
-    match reader.next() {
-        Some(Token::BeginArray) => read_items(alloc, builder, field, reader),
+    match reader.next_token() {
+        Some(LineToken::BeginArray) => read_items(alloc, builder, field, reader),
         Some(token) => read_item(alloc, builder, field, token, reader),
         None => Ok(false),
     }
 }
 
 // The items of an array, after its bracket.
-fn read_items(
+fn read_items<'a, R: TokenReader<'a>>(
     alloc: Global,
     builder: &mut SegmentBuilder,
     field: u32,
-    reader: &mut Reader<'_>,
+    reader: &mut R,
 ) -> Result<bool, OutOfMemory>
     requires { (name : List ℕ) × IsNameOf builder.old field name }
     ensures taken { IfOk result (λ taken. IsTrue taken
-        → TakesItems field reader.old reader.new builder.old builder.new) }
+        → TakesItems field (R.tokens reader.old) (R.tokens reader.new)
+        builder.old builder.new) }
     ensures documents { gathered_documents builder.new ≡ gathered_documents builder.old }
 {
-    'items: while !reader.take_end_array() {
-        let Some(token) = reader.next() else {
+    'items: while !reader.take_array_end() {
+        let Some(token) = reader.next_token() else {
             return Ok(false);
         };
         if !read_item(alloc, builder, field, token, reader)? {
@@ -56,19 +59,20 @@ fn read_items(
 
 // The item that begins with a token: a value, or `null`, which is none.
 #[inline(always)]
-fn read_item(
+fn read_item<'a, R: TokenReader<'a>>(
     alloc: Global,
     builder: &mut SegmentBuilder,
     field: u32,
-    token: Token<'_>,
-    reader: &mut Reader<'_>,
+    token: LineToken<'a>,
+    reader: &mut R,
 ) -> Result<bool, OutOfMemory>
     requires { (name : List ℕ) × IsNameOf builder.old field name }
-    ensures taken { IfOk result (λ taken. IsTrue taken → TakesItem field
-        (token_of token.entry ∷ reader.old) reader.new builder.old builder.new) }
+    ensures taken { IfOk result (λ taken. IsTrue taken → (first : SpecToken)
+        → StandsFor token.entry first → TakesItem field (first ∷ R.tokens reader.old)
+        (R.tokens reader.new) builder.old builder.new) }
     ensures documents { gathered_documents builder.new ≡ gathered_documents builder.old }
 {
-    if let Token::Null = token {
+    if let LineToken::Null = token {
         return Ok(true);
     }
     let Some(value) = read_value(alloc, token, reader)? else {

@@ -1,11 +1,14 @@
-use Rattle.std.proofs.Common.{◌≡◌, ◌==◌, length, ap, sym, ◌∙◌, arith}
+use Rattle.std.proofs.Common.{◌≡◌, ◌==◌, length, ap, sym, ◌∙◌, subst, arith, rules}
 use Rattle.std.proofs.lemmas.List.Filters.{dedup_is}
 use Rattle.std.specs.List.{dedup}
-use Rattle.agg_pages.proofs.lemmas.document_json.DistinctNumbers.{distinct_numbers, few_distinct}
+use Rattle.std.specs.List.Sorted.{IsStrictlyIncreasing}
+use Rattle.agg_pages.proofs.lemmas.document_json.DistinctNumbers.{distinct_numbers, rising_apart}
 use Rattle.agg_pages.proofs.document_json.tokens.are_distinct.Goals as goal
 
-pub returns-then-count-lt2 : goal.returns-then-count-lt2
-returns-then-count-lt2 c = λ _. few_distinct c.args.numbers.now.items (grind arith)
+pub returns-then-ascend : goal.returns-then-ascend
+returns-then-ascend c = λ _.
+    rising_apart c.args.numbers.now.items
+    (subst IsStrictlyIncreasing c.deref.ensures.value (c.ascend.ensures (search rules)))
 
 pub returns : goal.returns
 returns c = λ all.

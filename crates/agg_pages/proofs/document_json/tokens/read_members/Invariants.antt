@@ -5,9 +5,10 @@ use Rattle.agg_pages.proofs.document_json.tokens.read_members.Given as goal
 
 -- the members so far were taken, and no document was closed
 abbrev pub invariant-members : goal.invariant-members
-invariant-members l =
-    HasTakenMembers l.fn.reader l.reader l.fields.items l.builder
+invariant-members g l =
+    let tokens = g.R.TokenReader.tokens in
+    HasTakenMembers (tokens l.fn.reader) (tokens l.reader) l.fields.items l.builder
     × (gathered_documents l.builder ≡ gathered_documents l.fn.builder)
 
 abbrev pub decreases-members : goal.decreases-members
-decreases-members l = length l.reader
+decreases-members g l = length (g.R.TokenReader.tokens l.reader)

@@ -4,7 +4,6 @@ use Rattle.agg_pages.proofs.lemmas.document_json.TokenValues.{address_member}
 use Rattle.agg_pages.proofs.document_json.tokens.value.read_address.Goals as goal
 
 pub returns : goal.returns
-returns c =
-    rw c.in-String.is (address_member c.in-String.text.now c.in-Some.address
+returns c = rw c.in-Text.is (λ first is. rw is (address_member c.in-Text.text.now c.in-Some.address
     (subst (λ s. IsAddressText s c.in-Some.address.0) c.in_ok-copy_of.ensures
-    c.in-Some.ensures.read))
+    c.in-Some.ensures.read)))

@@ -1,15 +1,21 @@
-use Rattle.agg_pages.proofs.lemmas.document_json.TokenValues.{bool_value, if_number, text_value}
+use Rattle.agg_segment.specs.storage.Document.{key_of}
+use Rattle.agg_pages.specs.document_json.Tokens.{num_of}
+use Rattle.agg_pages.proofs.lemmas.document_json.TokenValues.{bool_value, number_value, text_value}
 use Rattle.agg_pages.proofs.document_json.tokens.value.read_value.Goals as goal
 
 pub returns-in-Bool : goal.returns-in-Bool
-returns-in-Bool c = rw c.in-Bool.is (bool_value c.in-Bool.b c.args.reader.now)
+returns-in-Bool g c =
+    let rest = g.R.TokenReader.tokens c.args.reader.now in
+    rw c.in-Bool.is (λ first is. rw is (bool_value c.in-Bool.b rest))
 
-pub returns-in_ok-copy_of-in-String : goal.returns-in_ok-copy_of-in-String
-returns-in_ok-copy_of-in-String c =
-    rw (c.in-String.is, c.in_ok-copy_of-in-String.ensures)
-    (text_value c.in-String.text.now c.args.reader.now)
+pub returns-in_ok-copy_of-in-Text : goal.returns-in_ok-copy_of-in-Text
+returns-in_ok-copy_of-in-Text g c =
+    let rest = g.R.TokenReader.tokens c.args.reader.now in
+    rw (c.in-Text.is, c.in_ok-copy_of-in-Text.ensures)
+    (λ first is. rw is (text_value c.in-Text.text.now rest))
 
 pub returns-in-Number : goal.returns-in-Number
-returns-in-Number c =
-    rw c.in-Number.is
-    (if_number c.in-Number.text.now c.args.reader.now c.read_number.result c.read_number.ensures)
+returns-in-Number g c =
+    let rest = g.R.TokenReader.tokens c.args.reader.now in
+    rw c.in-Number.is (λ first stands. rw stands.1 (number_value stands.0 rest
+    (num_of c.in-Number.n) (key_of c.value.result) stands.2 c.value.ensures))

@@ -5,9 +5,10 @@ use Rattle.agg_pages.proofs.document_json.tokens.values.read_items.Given as goal
 
 -- the items so far were taken into the field, and no document was closed
 abbrev pub invariant-items : goal.invariant-items
-invariant-items l =
-    HasTakenItems l.field l.initial.reader l.reader l.initial.builder l.builder
+invariant-items g l =
+    let tokens = g.R.TokenReader.tokens in
+    HasTakenItems l.field (tokens l.initial.reader) (tokens l.reader) l.initial.builder l.builder
     × (gathered_documents l.builder ≡ gathered_documents l.initial.builder)
 
 abbrev pub decreases-items : goal.decreases-items
-decreases-items l = length l.reader
+decreases-items g l = length (g.R.TokenReader.tokens l.reader)
