@@ -7,6 +7,8 @@ pub mod PlainDigits
 pub mod PlainLexemes
 pub mod PlainNumbers
 pub mod PlainTexts
+pub mod PlainTokens
+pub mod PlainWords
 pub mod TokenFields
 pub mod TokenLines
 pub mod TokenMembers

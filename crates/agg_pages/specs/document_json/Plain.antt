@@ -1,10 +1,12 @@
--- Plain texts and whole numbers as they are written, and the tokens from a place of a line on.
+-- Plain texts, words and whole numbers as they are written, and the tokens from a place on.
 use Rattle.std.specs.Prelude.{◌≡◌, ◌⊎◌, ℕ, List, decimal, length}
 use Rattle.std.specs.Fmt.{signed_decimal}
 use Rattle.std.specs.List.{prefix_len}
 use Rattle.json.specs.Lex as lexed
 use Rattle.json.specs.Lex.{punctuate}
+use Rattle.json.specs.Print.{token_text}
 use Rattle.json.specs.Run.{is_plain}
+use Rattle.json.specs.Token as spec
 use Rattle.json.specs.Token.{Token}
 use Rattle.json.specs.Word.{head}
 use Rattle.agg_pages.specs.declared.document_json.plain.reader.Place.{Place}
@@ -22,6 +24,12 @@ use Rattle.agg_pages.specs.declared.document_json.tokens.number.WholeNumber.TheV
 -- a text that is written as it is
 abbrev pub IsPlain : List ℕ → Type 0
 IsPlain text = prefix_len is_plain text ≡ length text
+
+-- a token that is written as this word
+abbrev pub IsWord : Token → List ℕ → Type 0
+IsWord (spec.boolean b) word = token_text (spec.boolean b) ≡ word
+IsWord spec.null word = token_text spec.null ≡ word
+IsWord _ _ = ⊥
 
 -- how a whole number is written
 abbrev pub text_of : WholeNumber → List ℕ

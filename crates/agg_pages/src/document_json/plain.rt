@@ -1,5 +1,5 @@
 //! Lines in the plainest JSON, read byte by byte with no index: names and texts without escapes,
-//! whole numbers, objects and arrays, with no space but after a comma or a colon.
+//! words, whole numbers, objects and arrays, with no space but after a comma or a colon.
 mod cursor;
 mod digits;
 mod reader;

@@ -1,19 +1,17 @@
--- The tokens that begin with given bytes.
-use Rattle.std.proofs.Common.{◌≡◌, ◌⊎◌, inl, inr, ℕ, ◌-◌, List, [], ◌∷◌, ◌++◌, length, take, drop}
-use Rattle.std.proofs.Common.{get_or, Bool, true, false, Some, refl, sym, ap, ◌∙◌, subst, arith}
-use Rattle.std.proofs.Common.{take_all}
-use Rattle.std.proofs.lemmas.Bool.{false≢true}
+-- The lexemes that begin with given bytes.
+use Rattle.std.proofs.Common.{◌≡◌, inl, inr, ℕ, ◌-◌, List, [], ◌∷◌, ◌++◌, length, take, drop, true}
+use Rattle.std.proofs.Common.{false, cond, refl, sym, ap, ap₂, ◌∙◌, arith, take_all}
 use Rattle.std.proofs.lemmas.List.{append-nil, drop_all}
-use Rattle.json.specs.Token.{begin_object, end_object, begin_array, end_array, key, string, number}
+use Rattle.json.specs.Token.{Token, begin_object, end_object, begin_array, end_array, key, string}
+use Rattle.json.specs.Token.{number, boolean, null, bad}
 use Rattle.json.specs.Text.{content, plain}
-use Rattle.json.specs.Word.{ends_word, head}
+use Rattle.json.specs.Word.{ends_word, head, word}
 use Rattle.json.specs.Lex.{Lexeme, lex, between, in_string, token, comma, colon, string_token}
-use Rattle.json.specs.Lex.{Place, fresh, after_value, after_comma, after_key, begins_colon}
-use Rattle.json.specs.Lex.{may_begin, may_close, punctuate}
-use Rattle.json.specs.Print.{IsNumber, escape}
-use Rattle.json.proofs.Printed.Numbers.{lex-number}
+use Rattle.json.specs.Lex.{begins_colon}
+use Rattle.json.specs.Print.{IsNumber, escape, token_text}
+use Rattle.json.proofs.Printed.Numbers.{in_word-ended, lex-number}
 use Rattle.json.proofs.Printed.Strings.{content-escape, lex-escape, escape_to_stop}
-use Rattle.agg_pages.specs.document_json.Plain.{EndsValue, IsPlain}
+use Rattle.agg_pages.specs.document_json.Plain.{EndsValue, IsPlain, IsWord}
 
 -- ---- lexemes of one byte
 
@@ -112,129 +110,38 @@ pub lex-whole : (s r : List ℕ) → IsNumber s → EndsValue r
     → lex between (s ++ r) ≡ token (number s) ∷ lex between r
 lex-whole s r is ends = lex-number s r is (value_ends r ends)
 
--- ---- tokens of lexemes
+-- ---- words
 
-pub key_token : (p : Place) (s : List ℕ) (ls : List Lexeme) → may_begin p ≡ true
-    → punctuate p (token (string s) ∷ colon ∷ ls) ≡ key s ∷ punctuate fresh ls
-unfolding punctuate
-key_token fresh s ls h = refl
-key_token after_value s ls h = absurd (false≢true h)
-key_token after_comma s ls h = refl
-key_token after_key s ls h = absurd (false≢true h)
+lex_true : (r : List ℕ) → ends_word r ≡ true
+    → lex between (token_text (boolean true) ++ r) ≡ token (boolean true) ∷ lex between r
+unfolding lex word
+lex_true r ended =
+    ap₂ (λ b l. token (cond b (boolean true) bad) ∷ l) ended (in_word-ended r ended)
 
-pub text_token : (p : Place) (s : List ℕ) (ls : List Lexeme) → may_begin p ≡ true
-    → begins_colon ls ≡ false
-    → punctuate p (token (string s) ∷ ls) ≡ string s ∷ punctuate after_value ls
-unfolding punctuate
-text_token fresh s ls h plain_next = rw plain_next
-text_token after_value s ls h plain_next = absurd (false≢true h)
-text_token after_comma s ls h plain_next = rw plain_next
-text_token after_key s ls h plain_next = absurd (false≢true h)
+lex_false : (r : List ℕ) → ends_word r ≡ true
+    → lex between (token_text (boolean false) ++ r) ≡ token (boolean false) ∷ lex between r
+unfolding lex word
+lex_false r ended =
+    ap₂ (λ b l. token (cond b (boolean false) bad) ∷ l) ended (in_word-ended r ended)
 
-pub number_token : (p : Place) (s : List ℕ) (ls : List Lexeme) → may_begin p ≡ true
-    → punctuate p (token (number s) ∷ ls) ≡ number s ∷ punctuate after_value ls
-unfolding punctuate
-number_token fresh s ls h = refl
-number_token after_value s ls h = absurd (false≢true h)
-number_token after_comma s ls h = refl
-number_token after_key s ls h = absurd (false≢true h)
+lex_null : (r : List ℕ) → ends_word r ≡ true
+    → lex between (token_text null ++ r) ≡ token null ∷ lex between r
+unfolding lex word
+lex_null r ended = ap₂ (λ b l. token (cond b null bad) ∷ l) ended (in_word-ended r ended)
 
-pub begin_object_token : (p : Place) (ls : List Lexeme) → may_begin p ≡ true
-    → punctuate p (token begin_object ∷ ls) ≡ begin_object ∷ punctuate fresh ls
-unfolding punctuate
-begin_object_token fresh ls h = refl
-begin_object_token after_value ls h = absurd (false≢true h)
-begin_object_token after_comma ls h = refl
-begin_object_token after_key ls h = absurd (false≢true h)
-
-pub begin_array_token : (p : Place) (ls : List Lexeme) → may_begin p ≡ true
-    → punctuate p (token begin_array ∷ ls) ≡ begin_array ∷ punctuate fresh ls
-unfolding punctuate
-begin_array_token fresh ls h = refl
-begin_array_token after_value ls h = absurd (false≢true h)
-begin_array_token after_comma ls h = refl
-begin_array_token after_key ls h = absurd (false≢true h)
-
-pub end_object_token : (p : Place) (ls : List Lexeme) → may_close p ≡ true
-    → punctuate p (token end_object ∷ ls) ≡ end_object ∷ punctuate after_value ls
-unfolding punctuate
-end_object_token fresh ls h = refl
-end_object_token after_value ls h = refl
-end_object_token after_comma ls h = absurd (false≢true h)
-end_object_token after_key ls h = absurd (false≢true h)
-
-pub end_array_token : (p : Place) (ls : List Lexeme) → may_close p ≡ true
-    → punctuate p (token end_array ∷ ls) ≡ end_array ∷ punctuate after_value ls
-unfolding punctuate
-end_array_token fresh ls h = refl
-end_array_token after_value ls h = refl
-end_array_token after_comma ls h = absurd (false≢true h)
-end_array_token after_key ls h = absurd (false≢true h)
-
-pub comma_passed : (ls : List Lexeme)
-    → punctuate after_value (comma ∷ ls) ≡ punctuate after_comma ls
-unfolding punctuate
-comma_passed ls = refl
-
-pub over : (p : Place) → may_close p ≡ true → punctuate p [] ≡ []
-unfolding punctuate
-over fresh h = refl
-over after_value h = refl
-over after_comma h = absurd (false≢true h)
-over after_key h = absurd (false≢true h)
-
--- ---- tokens of bytes
-
-module _ (p : Place) (old new : List ℕ) where
-  pub begin_object_at : may_begin p ≡ true → old ≡ 123 ∷ new
-      → punctuate p (lex between old) ≡ begin_object ∷ punctuate fresh (lex between new)
-  begin_object_at h is =
-      ap (λ t. punctuate p (lex between t)) is ∙ ap (punctuate p) (lex-open_brace new)
-      ∙ begin_object_token p (lex between new) h
-
-  pub begin_array_at : may_begin p ≡ true → old ≡ 91 ∷ new
-      → punctuate p (lex between old) ≡ begin_array ∷ punctuate fresh (lex between new)
-  begin_array_at h is =
-      ap (λ t. punctuate p (lex between t)) is ∙ ap (punctuate p) (lex-open_bracket new)
-      ∙ begin_array_token p (lex between new) h
-
-  pub end_object_at : may_close p ≡ true → old ≡ 125 ∷ new
-      → punctuate p (lex between old) ≡ end_object ∷ punctuate after_value (lex between new)
-  end_object_at h is =
-      ap (λ t. punctuate p (lex between t)) is ∙ ap (punctuate p) (lex-close_brace new)
-      ∙ end_object_token p (lex between new) h
-
-  pub end_array_at : may_close p ≡ true → old ≡ 93 ∷ new
-      → punctuate p (lex between old) ≡ end_array ∷ punctuate after_value (lex between new)
-  end_array_at h is =
-      ap (λ t. punctuate p (lex between t)) is ∙ ap (punctuate p) (lex-close_bracket new)
-      ∙ end_array_token p (lex between new) h
-
-  pub key_at : (s : List ℕ) → may_begin p ≡ true
-      → lex between old ≡ token (string s) ∷ colon ∷ lex between new
-      → punctuate p (lex between old) ≡ key s ∷ punctuate fresh (lex between new)
-  key_at s h is = ap (punctuate p) is ∙ key_token p s (lex between new) h
-
-  pub text_at : (s : List ℕ) → may_begin p ≡ true → EndsValue new
-      → lex between old ≡ token (string s) ∷ lex between new
-      → punctuate p (lex between old) ≡ string s ∷ punctuate after_value (lex between new)
-  text_at s h ends is =
-      ap (punctuate p) is ∙ text_token p s (lex between new) h (value_no_colon new ends)
-
-  pub number_at : (s : List ℕ) → may_begin p ≡ true
-      → lex between old ≡ token (number s) ∷ lex between new
-      → punctuate p (lex between old) ≡ number s ∷ punctuate after_value (lex between new)
-  number_at s h is = ap (punctuate p) is ∙ number_token p s (lex between new) h
-
-  pub comma_at : p ≡ after_value → (mid : List ℕ) → old ≡ 44 ∷ mid
-      → lex between new ≡ lex between mid
-      → punctuate after_comma (lex between new) ≡ punctuate p (lex between old)
-  comma_at at mid is spaces =
-      ap (punctuate after_comma) spaces ∙ sym (comma_passed (lex between mid))
-      ∙ ap (punctuate after_value) (sym (lex-comma mid))
-      ∙ ap (λ t. punctuate after_value (lex between t)) (sym is)
-      ∙ ap (λ q. punctuate q (lex between old)) (sym at)
-
-pub end_at : (p : Place) (old : List ℕ) → may_close p ≡ true → old ≡ []
-    → punctuate p (lex between old) ≡ []
-end_at p old h is = ap (λ t. punctuate p (lex between t)) is ∙ ap (punctuate p) lex-end ∙ over p h
+pub lex-word : (v : Token) (word r : List ℕ) → IsWord v word → EndsValue r
+    → lex between (word ++ r) ≡ token v ∷ lex between r
+lex-word (boolean true) word r is ends =
+    ap (λ w. lex between (w ++ r)) (sym is) ∙ lex_true r (value_ends r ends)
+lex-word (boolean false) word r is ends =
+    ap (λ w. lex between (w ++ r)) (sym is) ∙ lex_false r (value_ends r ends)
+lex-word null word r is ends =
+    ap (λ w. lex between (w ++ r)) (sym is) ∙ lex_null r (value_ends r ends)
+lex-word begin_object word r is ends = absurd is
+lex-word end_object word r is ends = absurd is
+lex-word begin_array word r is ends = absurd is
+lex-word end_array word r is ends = absurd is
+lex-word (key s) word r is ends = absurd is
+lex-word (string s) word r is ends = absurd is
+lex-word (number s) word r is ends = absurd is
+lex-word bad word r is ends = absurd is

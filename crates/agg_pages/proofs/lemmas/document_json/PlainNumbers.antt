@@ -1,5 +1,5 @@
 -- A whole number writes a number of JSON that reads as itself.
-use Rattle.std.proofs.Common.{◌≡◌, ℕ, suc, ◌-◌, ◌^◌, ◌<◌, decimal, negsuc, Some, ◌∷◌, refl, ap, ◌∙◌}
+use Rattle.std.proofs.Common.{◌≡◌, ℕ, ◌^◌, ◌<◌, decimal, negsuc, Some}
 use Rattle.std.proofs.Common.{arith}
 use Rattle.std.specs.Fmt.{signed_decimal}
 use Rattle.json.specs.Print.{IsNumber}

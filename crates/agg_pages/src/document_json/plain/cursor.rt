@@ -138,6 +138,31 @@ impl<'a> Cursor<'a> {
         Some(text)
     }
 
+    /// Takes a word that ends a value, if it follows.
+    #[inline(always)]
+    pub fn take_word(&mut self, word: &str) -> bool
+        ensures word { IsTrue result → self.old ≡ word.now ++ self.new }
+        ensures ended { IsTrue result → EndsValue self.new }
+    {
+        if !self.take_all(word.as_bytes()) {
+            return false;
+        }
+        self.ends_value()
+    }
+
+    // Takes these bytes, if they follow.
+    #[inline(always)]
+    fn take_all(&mut self, bytes: &[u8]) -> bool
+        ensures { IsTrue result → self.old ≡ bytes.now ++ self.new }
+    {
+        for byte in bytes {
+            if !self.take(*byte) {
+                return false;
+            }
+        }
+        true
+    }
+
     /// A whole number that ends a value.
     #[inline(always)]
     pub fn number(&mut self) -> Option<WholeNumber>

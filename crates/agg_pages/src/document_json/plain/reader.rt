@@ -3,8 +3,9 @@ ghost use Rattle.std.specs.Prelude.{◌≡◌, ◌∷◌, Some, IfSome, IsTrue};
 ghost use Rattle.std.specs.Bool.{MatchBool};
 ghost use Rattle.json.specs.Lex.{after_value, may_begin, may_close, tokens};
 ghost use Rattle.json.specs.Token as spec;
+ghost use Rattle.json.specs.Token.{Token as SpecToken};
 ghost use Rattle.serde_json.specs.Read.{number_of};
-ghost use Rattle.agg_pages.specs.document_json.Plain.{place_of, text_of};
+ghost use Rattle.agg_pages.specs.document_json.Plain.{IsWord, place_of, text_of};
 ghost use Rattle.agg_pages.specs.document_json.Tokens.{num_of};
 
 use crate::document_json::plain::cursor::Cursor;
@@ -134,6 +135,22 @@ impl<'a> PlainReader<'a> {
         true
     }
 
+    // Takes a word that is a value.
+    #[inline(always)]
+    fn take_word(&mut self, word: &str) -> bool
+        ensures { IsTrue result → (value : SpecToken) → IsWord value word.now
+            → self.old ≡ value ∷ self.new }
+    {
+        if !self.place.may_begin() {
+            return false;
+        }
+        if !self.cursor.take_word(word) {
+            return false;
+        }
+        self.place = Place::AfterValue;
+        true
+    }
+
     #[inline(always)]
     fn name(&mut self) -> Option<&'a str>
         ensures { IfSome result (λ name. self.old ≡ spec.key name.now ∷ self.new) }
@@ -197,6 +214,9 @@ impl<'a> TokenReader<'a> for PlainReader<'a> {
             }
             b'{' => self.take_object().then_some(LineToken::BeginObject),
             b'[' => self.take_array().then_some(LineToken::BeginArray),
+            b't' => self.take_word("true").then_some(LineToken::Bool(true)),
+            b'f' => self.take_word("false").then_some(LineToken::Bool(false)),
+            b'n' => self.take_word("null").then_some(LineToken::Null),
             _ => {
                 let number = self.number()?;
                 Some(LineToken::Number(number))

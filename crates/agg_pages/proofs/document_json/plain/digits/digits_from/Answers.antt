@@ -1,4 +1,4 @@
-use Rattle.std.proofs.Common.{◌≡◌, ◌<◌, ◌*◌, ◌+◌, arith, get_or}
+use Rattle.std.proofs.Common.{arith}
 use Rattle.agg_pages.proofs.lemmas.document_json.PlainDigits.{first_digit, one_more_digit}
 use Rattle.agg_pages.proofs.document_json.plain.digits.digits_from.Goals as goal
 

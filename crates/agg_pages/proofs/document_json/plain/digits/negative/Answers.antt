@@ -15,7 +15,8 @@ returns-clause-text c =
 pub returns-clause-number : goal.returns-clause-number
 returns-clause-number c =
     let fits : c.args.n - 1 < 2 ^ 63 = grind arith in
-    subst (λ w. IsNumber (text_of w)) (sym c.negated.ensures) (negative_number (c.args.n - 1) fits).0
+    subst (λ w. IsNumber (text_of w)) (sym c.negated.ensures)
+    (negative_number (c.args.n - 1) fits).0
 
 pub returns-clause-reads : goal.returns-clause-reads
 returns-clause-reads c =

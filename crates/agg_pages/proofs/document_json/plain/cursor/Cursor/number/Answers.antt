@@ -1,4 +1,4 @@
-use Rattle.std.proofs.Common.{◌≡◌, ap, ◌∙◌, rules}
+use Rattle.std.proofs.Common.{ap, ◌∙◌, rules}
 use Rattle.json.specs.Lex.{between, lex}
 use Rattle.agg_pages.specs.document_json.Plain.{EndsValue, text_of}
 use Rattle.agg_pages.proofs.lemmas.document_json.PlainLexemes.{lex-whole}

@@ -1,7 +1,7 @@
-use Rattle.std.proofs.Common.{◌≡◌, ◌∷◌, sym, ◌∙◌, rules}
+use Rattle.std.proofs.Common.{◌≡◌, ◌∷◌, ◌∙◌, rules}
 use Rattle.json.specs.Lex.{after_value}
 use Rattle.agg_pages.specs.document_json.Plain.{place_of}
-use Rattle.agg_pages.proofs.lemmas.document_json.PlainLexemes.{comma_at}
+use Rattle.agg_pages.proofs.lemmas.document_json.PlainTokens.{comma_at}
 use Rattle.agg_pages.proofs.document_json.plain.reader.PlainReader.pass_comma.Goals as goal
 
 pub returns : goal.returns

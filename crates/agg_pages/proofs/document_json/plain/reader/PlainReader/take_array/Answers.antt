@@ -1,7 +1,7 @@
 use Rattle.std.proofs.Common.{◌≡◌, ◌∷◌, true, sym, ◌∙◌, rules}
 use Rattle.json.specs.Lex.{may_begin}
 use Rattle.agg_pages.specs.document_json.Plain.{place_of}
-use Rattle.agg_pages.proofs.lemmas.document_json.PlainLexemes.{begin_array_at}
+use Rattle.agg_pages.proofs.lemmas.document_json.PlainTokens.{begin_array_at}
 use Rattle.agg_pages.proofs.document_json.plain.reader.PlainReader.take_array.Goals as goal
 
 pub returns : goal.returns
