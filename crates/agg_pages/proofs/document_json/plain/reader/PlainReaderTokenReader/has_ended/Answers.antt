@@ -2,7 +2,8 @@ use Rattle.std.proofs.Common.{◌≡◌, true, sym, ◌∙◌, rules}
 use Rattle.json.specs.Lex.{may_close}
 use Rattle.agg_pages.specs.document_json.Plain.{place_of}
 use Rattle.agg_pages.proofs.lemmas.document_json.PlainTokens.{end_at}
-use Rattle.agg_pages.proofs.document_json.plain.reader.PlainReaderTokenReader.has_ended.Goals as goal
+use Rattle.agg_pages.proofs.document_json.plain.reader.PlainReaderTokenReader.has_ended.Goals
+    as goal
 
 pub returns : goal.returns
 returns c = λ over.

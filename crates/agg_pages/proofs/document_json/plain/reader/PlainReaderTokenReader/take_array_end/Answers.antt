@@ -3,7 +3,8 @@ use Rattle.json.specs.Json.{after_end_array}
 use Rattle.json.specs.Lex.{may_close}
 use Rattle.agg_pages.specs.document_json.Plain.{place_of}
 use Rattle.agg_pages.proofs.lemmas.document_json.PlainTokens.{end_array_at}
-use Rattle.agg_pages.proofs.document_json.plain.reader.PlainReaderTokenReader.take_array_end.Goals as goal
+use Rattle.agg_pages.proofs.document_json.plain.reader.PlainReaderTokenReader.take_array_end.Goals
+    as goal
 
 pub returns : goal.returns
 returns c =
