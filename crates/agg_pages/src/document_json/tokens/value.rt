@@ -10,7 +10,8 @@ use agg_segment::FieldValue;
 use agg_values::{Address, OutOfMemory, Text};
 use std::alloc::Global;
 
-/// The value that begins with a token. None where there is none, or one of another form.
+/// The value that begins with a token, and is no text. None where there is none, or one of another
+/// form.
 #[inline(always)]
 pub fn read_value<'a, R: TokenReader<'a>>(
     alloc: Global,
@@ -23,7 +24,6 @@ pub fn read_value<'a, R: TokenReader<'a>>(
 {
     match token {
         LineToken::Bool(b) => Ok(Some(FieldValue::Bool(b))),
-        LineToken::Text(text) => Ok(Some(FieldValue::Str(Text::copy_of(alloc, text)?))),
         LineToken::Number(n) => Ok(Some(n.value())),
         LineToken::BeginObject => read_object(alloc, reader),
         _ => Ok(None),

@@ -75,6 +75,10 @@ fn read_item<'a, R: TokenReader<'a>>(
     if let LineToken::Null = token {
         return Ok(true);
     }
+    if let LineToken::Text(text) = token {
+        builder.push_text(field, text)?;
+        return Ok(true);
+    }
     let Some(value) = read_value(alloc, token, reader)? else {
         return Ok(false);
     };

@@ -1,18 +1,12 @@
 use Rattle.agg_segment.specs.storage.Document.{key_of}
 use Rattle.agg_pages.specs.document_json.Tokens.{num_of}
-use Rattle.agg_pages.proofs.lemmas.document_json.TokenValues.{bool_value, number_value, text_value}
+use Rattle.agg_pages.proofs.lemmas.document_json.TokenValues.{bool_value, number_value}
 use Rattle.agg_pages.proofs.document_json.tokens.value.read_value.Goals as goal
 
 pub returns-in-Bool : goal.returns-in-Bool
 returns-in-Bool g c =
     let rest = g.R.TokenReader.tokens c.args.reader.now in
     rw c.in-Bool.is (λ first is. rw is (bool_value c.in-Bool.b rest))
-
-pub returns-in_ok-copy_of-in-Text : goal.returns-in_ok-copy_of-in-Text
-returns-in_ok-copy_of-in-Text g c =
-    let rest = g.R.TokenReader.tokens c.args.reader.now in
-    rw (c.in-Text.is, c.in_ok-copy_of-in-Text.ensures)
-    (λ first is. rw is (text_value c.in-Text.text.now rest))
 
 pub returns-in-Number : goal.returns-in-Number
 returns-in-Number g c =
