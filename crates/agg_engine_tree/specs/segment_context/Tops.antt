@@ -20,4 +20,5 @@ abbrev mutual
   -- so do all of these
   pub KnowTop : Bool → List FilterAggReqData → Plans → Type 0
   KnowTop top filters Plans.none = ⊤
-  KnowTop top filters (Plans.more plan plans) = KnowsTop top filters plan × KnowTop top filters plans
+  KnowTop top filters (Plans.more plan plans) =
+      KnowsTop top filters plan × KnowTop top filters plans

@@ -27,7 +27,7 @@ use own::add_data;
 use std::alloc::Global;
 
 /// The context of a request in a segment. A composite at top level that has the name of the page
-/// that is set takes the page's size and after key. Filters at the top level know it, and no others.
+/// that is set takes the page's size and after key. Filters at top level know it, and no others.
 pub fn segment_context<'s, B: Drop>(
     alloc: Global,
     request: &'s NameMap<Aggregation<B>>,

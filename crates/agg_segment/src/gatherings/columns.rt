@@ -141,14 +141,17 @@ fn column_of(
     sign: Sign,
     gathering: Gathering,
 ) -> Result<Column, OutOfMemory>
-    requires kept { All (λ r. IsRaw (length listed.now.texts.now) (length listed.now.addresses.now) gathering.class r.1)
+    requires kept { All
+        (λ r. IsRaw (length listed.now.texts.now) (length listed.now.addresses.now)
+        gathering.class r.1)
         gathering.rows }
     requires wide { IsWide sign gathering }
     requires each { length ordinals.old ≡ length listed.now.texts.now }
     ensures field { IfOk result (λ column. column.field ≡ gathering.field) }
     ensures kind { IfOk result (λ column. type_of column.keys ≡ kind_of sign gathering.class) }
     ensures cells { IfOk result (λ column. keyed_rows (encoded_key column.keys) column.cells
-        ≡ keyed_rows (raw_key listed.now.texts.now listed.now.addresses.now (kind_of sign gathering.class))
+        ≡ keyed_rows
+        (raw_key listed.now.texts.now listed.now.addresses.now (kind_of sign gathering.class))
         gathering.rows) }
 {
     let Gathering {
@@ -171,11 +174,14 @@ fn keys_of(
     kind: Kind,
     numbers: &[u64],
 ) -> Result<ColumnKeys, OutOfMemory>
-    requires kept { All (IsRaw (length listed.now.texts.now) (length listed.now.addresses.now) kind.class) numbers.now }
+    requires kept { All
+        (IsRaw (length listed.now.texts.now) (length listed.now.addresses.now) kind.class)
+        numbers.now }
     requires each { length ordinals.old ≡ length listed.now.texts.now }
     ensures kind { IfOk result (λ keys. type_of keys ≡ kind_of kind.sign kind.class) }
     ensures encodable { IfOk result (λ keys.
-        All (IsEncodable listed.now.texts.now ordinals.new listed.now.addresses.now keys) numbers.now) }
+        All (IsEncodable listed.now.texts.now ordinals.new listed.now.addresses.now keys)
+        numbers.now) }
 {
     Ok(match kind.class {
         ColumnPaginationOrder::Bool => ColumnKeys::Bools,

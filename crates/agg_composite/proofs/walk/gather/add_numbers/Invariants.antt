@@ -6,4 +6,5 @@ abbrev pub invariant-loop-number : goal.invariant-loop-number
 invariant-loop-number l =
     l.choices.items
     ≡ l.fn.choices.items
-    ++ map (choice_at l.lane.order l.lane.accessors.now l.lane.index) (take l.number-index l.numbers)
+    ++ map (choice_at l.lane.order l.lane.accessors.now l.lane.index)
+    (take l.number-index l.numbers)

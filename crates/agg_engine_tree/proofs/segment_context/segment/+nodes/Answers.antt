@@ -57,7 +57,8 @@ request_nodes-aggregation_node-requires g t c κs within = (
     within,
     AreAddedUpTo-ready c.args.from.now c.args.request.now c.loop-name.name-iterator
         c.next.new.self c.in-Some.name.now c.in-Some.aggregation.now c.loop-name.nodes
-        c.args.ctx.now c.loop-name.ctx c.loop-name.invariant.added c.in-Some.ensures.steps c.requires,
+        c.args.ctx.now c.loop-name.ctx c.loop-name.invariant.added c.in-Some.ensures.steps
+        c.requires,
   ),
 )
 

@@ -10,7 +10,8 @@ use Rattle.agg_segment.proofs.gatherings.columns.column_of.Goals as goal
 pub keys_of-requires-clause-kept : goal.keys_of-requires-clause-kept
 keys_of-requires-clause-kept c =
     rw c.numbers.ensures (numbers_all (IsRaw (length c.args.listed.now.texts.now)
-    (length c.args.listed.now.addresses.now) c.args.gathering.class) c.args.gathering.rows c.requires.kept)
+    (length c.args.listed.now.addresses.now) c.args.gathering.class) c.args.gathering.rows
+    c.requires.kept)
 
 pub encode-requires : goal.encode-requires
 encode-requires c k d l =
@@ -42,8 +43,8 @@ keys_are c =
 
 pub new-requires-clause-wide : goal.new-requires-clause-wide
 new-requires-clause-wide c is =
-    wide_rows c.args.listed.now.texts.now c.args.listed.now.addresses.now c.args.sign c.args.gathering
-    c.args.gathering.field c.in_ok-keys.keys c.in_ok-into_rows.field-0 c.requires.wide is
+    wide_rows c.args.listed.now.texts.now c.args.listed.now.addresses.now c.args.sign
+    c.args.gathering c.args.gathering.field c.in_ok-keys.keys c.in_ok-into_rows.field-0 c.requires.wide is
     c.in_ok-keys.ensures.kind (keys_are c)
 
 pub returns-clause-cells : goal.returns-clause-cells
