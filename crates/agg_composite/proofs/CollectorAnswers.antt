@@ -2,6 +2,7 @@
 use Rattle.std.proofs.Common.{◌≡◌, ℕ, ◌+◌, ◌≤◌, List, [], ◌++◌, Bool, true, false, Ok, Err, Result}
 use Rattle.std.proofs.Common.{IsErrAnd, MatchBool, Option, None, Some, length, get_or, refl, sym}
 use Rattle.std.proofs.Common.{ap, ◌∙◌, ◌⊎◌, ◌^◌, subst, ⊎_elim, append-nil, append_assoc, arith}
+use Rattle.std.specs.Prelude.{IsErrOf}
 use Rattle.std.proofs.lemmas.List.{append_cancel_left}
 use Rattle.std.proofs.lemmas.Result.{err_from_is_err_and}
 use Rattle.std.proofs.lemmas.Slice.Zip.{AllZip-long}
@@ -31,7 +32,7 @@ use Rattle.agg_composite.proofs.lemmas.buckets.Labels.{docs_of-append}
 use Rattle.agg_composite.proofs.lemmas.buckets.Owners.{above-none}
 use Rattle.agg_composite.proofs.lemmas.buckets.StandingNodes.{stay-right}
 use Rattle.agg_composite.specs.Answers.{Answers, AnswersDocuments, TakesVisits}
-use Rattle.agg_composite.specs.Composite.{AnswersCollect, Composite, CompositeFor}
+use Rattle.agg_composite.specs.Composite.{AnswersCollect, AnswersVisits, Composite, CompositeFor}
 use Rattle.agg_composite.specs.Composite.{CompositeTakes, bucket_of}
 use Rattle.agg_composite.specs.Visits.{StandsForVisit, TypedVisit, visits_past}
 use Rattle.agg_composite.proofs.DocumentsInRow.{visits_compose}
@@ -195,6 +196,16 @@ module _ {C : Type 0} (waiting : C → ℕ → List ℕ) (req : CompositeAggReqD
       many in
       omega (arith, long, large)
 
+  -- that many where visits are refused for it
+  pub too_many-visits : (typed : List TypedVisit) (old new : Composite C) (steps steps_now : ℕ)
+      (result : Result (Unit {0}) VisitError)
+      → AnswersVisits waiting req typed old new steps steps_now result
+      → (visited : List TypedVisit) (given : List (ℕ × ℕ))
+      → CompositeFor waiting req old visited given → IsErrOf result TooMany
+      → 2 ^ 32 ≤ length visited + length typed
+  too_many-visits typed old new steps steps_now result answers visited given f e =
+      many-visits old visited given (length typed) f (answers.too_many e)
+
 -- ---- errors
 
 -- what is found to be so
@@ -209,15 +220,10 @@ refused-too_many OutOfMemory is = absurd (cc is)
 
 module _ {C : Type 0} (waiting : C → ℕ → List ℕ) (req : CompositeAggReqData)
     (typed : List TypedVisit) (old new : Composite C) (steps steps_now : ℕ) where
-  -- what the visits of a collector answer
-  abbrev pub AnswersVisits : Result (Unit {0}) VisitError → Type 0
-  AnswersVisits =
-      Answers TooMany (CompositeTakes waiting req typed old new)
-      (TooManyVisits encoded_tuple_order (length typed) old.node) (length typed) steps steps_now
-
   -- their error is the collector's
   pub collected-error : (error : VisitError) (returned : Result (Unit {0}) CollectError)
-      → AnswersVisits (Err error) → IsErrAnd returned (λ e. e ≡ refused error)
+      → AnswersVisits waiting req typed old new steps steps_now (Err error)
+      → IsErrAnd returned (λ e. e ≡ refused error)
       → AnswersCollect waiting req typed old new steps steps_now returned
   collected-error error returned walked is_err =
       let given = err_from_is_err_and returned is_err in
@@ -231,7 +237,7 @@ module _ {C : Type 0} (waiting : C → ℕ → List ℕ) (req : CompositeAggReqD
       })
 
   -- where all visits were made, the collector has made them
-  pub collected-all : AnswersVisits (Ok tt)
+  pub collected-all : AnswersVisits waiting req typed old new steps steps_now (Ok tt)
       → AnswersCollect waiting req typed old new steps steps_now (Ok tt)
   collected-all walked = record {
     ok = walked.ok;

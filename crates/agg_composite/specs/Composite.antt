@@ -19,6 +19,8 @@ use Rattle.agg_composite.specs.buckets.Node.{found}
 use Rattle.agg_composite.specs.buckets.Page.{Page}
 use Rattle.agg_composite.specs.buckets.Visits.{Owner, Visit, is_owner}
 use Rattle.agg_composite.specs.declared.buckets.bucket.Bucket.{Bucket}
+use Rattle.agg_composite.specs.declared.buckets.visit_error.VisitError.{VisitError}
+use Rattle.agg_composite.specs.declared.buckets.visit_error.VisitError.TheVariants.{TooMany}
 use Rattle.agg_composite.specs.Answers.{Answers}
 use Rattle.agg_composite.specs.Visits.{StandsForVisit, TypedVisit}
 
@@ -90,8 +92,15 @@ pub record CompositeTakes {C : Type 0} (waiting : C → ℕ → List ℕ) (req :
   pub hands_on : new.hands_on ≡ old.hands_on
   pub unpushed : old.hands_on ≡ false → new.cache ≡ old.cache
 
--- what a collector answers for visits: an Ok has made them, and too many are so many that an id
--- would be the last of its type, or a count would pass its type
+-- what visits of a collector answer: an Ok has made them, and too many are so many that an id would
+-- be the last of its type, or a count would pass its type
+abbrev pub AnswersVisits : {C : Type 0} → (C → ℕ → List ℕ) → CompositeAggReqData
+    → List TypedVisit → Composite C → Composite C → ℕ → ℕ → Result (Unit {0}) VisitError → Type 0
+AnswersVisits waiting req typed old new =
+    Answers TooMany (CompositeTakes waiting req typed old new)
+    (TooManyVisits encoded_tuple_order (length typed) old.node) (length typed)
+
+-- what a collector answers for visits, as these do
 abbrev pub AnswersCollect : {C : Type 0} → (C → ℕ → List ℕ) → CompositeAggReqData
     → List TypedVisit → Composite C → Composite C → ℕ → ℕ → Result (Unit {0}) CollectError → Type 0
 AnswersCollect waiting req typed old new =

@@ -12,12 +12,10 @@ ghost use Rattle.agg_request_tree.specs.Groups.{Group, Groups};
 ghost use Rattle.agg_request_tree.specs.Source.{rules_of};
 ghost use Rattle.agg_request_tree.specs.charges.Charges as spec;
 ghost use Rattle.agg_composite.specs.accessor.Accessors.{Fits};
-ghost use Rattle.agg_composite.specs.accessor.Encoding.{encoded_tuple_order};
 ghost use Rattle.agg_composite.specs.accessor.Ranges.{AreAllInRange};
 ghost use Rattle.agg_composite.specs.declared.accessor.request_data.CompositeAggReqData as declared;
 ghost use Rattle.agg_composite.specs.buckets.Cut.{tuples_under};
-ghost use Rattle.agg_composite.specs.buckets.Node.{Prepares, TooManyVisits};
-ghost use Rattle.agg_composite.specs.Answers.{Answers};
+ghost use Rattle.agg_composite.specs.buckets.Node.{Prepares};
 ghost use Rattle.agg_composite.specs.Charged.{AnswersRangeOrLimit, Charges, IfLimit, OpenedBytes};
 ghost use Rattle.agg_composite.specs.Charged.{more_bytes};
 ghost use Rattle.agg_composite.specs.PageEntries.{decoded_buckets, entry_bucket, entry_group};
@@ -63,9 +61,9 @@ impl<C: SubAggCache> Model for SegmentCompositeCollector<C> {
 }
 
 impl<C: SubAggCache> SegmentCompositeCollector<C> {
-    ghost use Rattle.agg_composite.specs.Composite.{AnswersCollect, CompositeFor, CompositeGives};
-    ghost use Rattle.agg_composite.specs.Composite.{CompositeTakes, docs_under, num_buckets};
-    ghost use Rattle.agg_composite.specs.Composite.{page_of};
+    ghost use Rattle.agg_composite.specs.Composite.{AnswersCollect, AnswersVisits, CompositeFor};
+    ghost use Rattle.agg_composite.specs.Composite.{CompositeGives, CompositeTakes, docs_under};
+    ghost use Rattle.agg_composite.specs.Composite.{num_buckets, page_of};
 
     /// A collector for a composite of so many sources, which has visited nothing. It hands
     /// documents on.
@@ -232,31 +230,37 @@ impl<C: SubAggCache> SegmentCompositeCollector<C> {
         if !req.are_starts_in_range(docs) {
             return Err(CollectError::BucketOutOfRange);
         }
-        self.visit(parent_bucket_id, docs, req, steps)?;
+        self.collect_in_range(parent_bucket_id, docs, req, steps)?;
         Ok(())
     }
 
-    // Visits the tuples of documents whose starts lie within 64 bits.
-    fn visit<L: Ledger>(
+    /// Visits the tuples of documents as `collect_uncharged` does, without a look at their starts:
+    /// all lie within 64 bits. What is there after an error isn't said.
+    pub fn collect_in_range<L: Ledger>(
         &mut self,
-        parent: BucketId,
+        parent_bucket_id: BucketId,
         docs: &[DocId],
         req: &CompositeAggReqData<'_>,
         steps: &mut Steps<L>,
     ) -> Result<(), VisitError>
-        requires parent { parent < length self.old.node.parents }
-        requires fits { (segment : Stored) × (after : Named AfterKey) × Fits segment after req.now }
+        requires parent { parent_bucket_id < length self.old.node.parents }
+        requires in_range { (segment : Stored) × (after : Named AfterKey)
+            × Fits segment after req.now
+            × AreAllInRange segment req.now.req.now.sources docs.now }
         requires room { length req.now.req.now.sources ≤ self.old.room }
-        ensures { (segment : Stored) (after : Named AfterKey) → Fits segment after req.now
-            → AreAllInRange segment req.now.req.now.sources docs.now
-            → (typed : List TypedVisit)
-            → typed ≡ visits_past req.now.req.now.sources segment after parent docs.now
-            → Answers VisitError.TooMany
-            (CompositeTakes C.waiting req.now typed self.old self.new)
-            (TooManyVisits encoded_tuple_order (length typed) self.old.node) (length typed)
-            steps.old steps.new result }
+        ensures visits { (segment : Stored) (after : Named AfterKey) → Fits segment after req.now
+            → AnswersVisits C.waiting req.now
+            (visits_past req.now.req.now.sources segment after parent_bucket_id docs.now)
+            self.old self.new steps.old steps.new result }
+        ensures many { (segment : Stored) (after : Named AfterKey) → Fits segment after req.now
+            → (visited : List TypedVisit) (given : List (ℕ × ℕ))
+            → CompositeFor C.waiting req.now self.old visited given
+            → IsErrOf result VisitError.TooMany
+            → 2 ^ 32 ≤ length visited + length
+            (visits_past req.now.req.now.sources segment after parent_bucket_id docs.now) }
     {
-        self.buckets.begin_parent(parent, req.size as usize);
+        self.buckets
+            .begin_parent(parent_bucket_id, req.size as usize);
         self.buckets.visit_documents(self.alloc, docs, req, steps)?;
         if self.hands_on {
             push_all(&mut self.cache, self.buckets.pushes())?;

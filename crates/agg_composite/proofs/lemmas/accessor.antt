@@ -24,5 +24,6 @@ pub mod Places
 pub mod ReadColumns
 pub mod ReadCounts
 pub mod SameTuples
+pub mod SegmentRanges
 pub mod StartRanges
 pub mod TypedOrder
