@@ -9,6 +9,7 @@ pub mod CollectorAnswers
 pub mod CollectorCalls
 pub mod ColumnChoices
 pub mod DocumentsInRow
+pub mod HeldTuples
 pub mod ListedEntries
 pub mod ListedTuples
 pub mod NullChoices

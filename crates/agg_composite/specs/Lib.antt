@@ -3,6 +3,7 @@ pub mod Charged
 pub mod Choices
 pub mod Composite
 pub mod EncodedEntries
+pub mod HeldTuples
 pub mod Listing
 pub mod PageEntries
 pub mod SubResults

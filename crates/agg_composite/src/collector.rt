@@ -18,6 +18,7 @@ ghost use Rattle.agg_composite.specs.buckets.Cut.{tuples_under};
 ghost use Rattle.agg_composite.specs.buckets.Node.{Prepares};
 ghost use Rattle.agg_composite.specs.Charged.{AnswersRangeOrLimit, Charges, IfLimit, OpenedBytes};
 ghost use Rattle.agg_composite.specs.Charged.{more_bytes};
+ghost use Rattle.agg_composite.specs.HeldTuples.{HoldsTuplesOf};
 ghost use Rattle.agg_composite.specs.PageEntries.{decoded_buckets, entry_bucket, entry_group};
 ghost use Rattle.agg_composite.specs.Visits.{AnswersRange, TypedVisit, visits_past};
 
@@ -75,6 +76,8 @@ impl<C: SubAggCache> SegmentCompositeCollector<C> {
         requires few { num_sources ≤ max_sources }
         ensures empty { IfOk result (λ collector. (req : declared.CompositeAggReqData)
             → CompositeFor C.waiting req collector [] []) }
+        ensures tuples { IfOk result (λ collector. (req : declared.CompositeAggReqData)
+            → HoldsTuplesOf req collector) }
         ensures parents { IfOk result (λ collector. length collector.node.parents ≡ 1) }
         ensures room { IfOk result (λ collector. num_sources ≤ collector.room) }
         ensures waiting { IfOk result (λ collector. (id : ℕ)
@@ -99,6 +102,8 @@ impl<C: SubAggCache> SegmentCompositeCollector<C> {
         requires few { num_sources ≤ max_sources }
         ensures empty { IfOk result (λ collector. (req : declared.CompositeAggReqData)
             → CompositeFor C.waiting req collector [] []) }
+        ensures tuples { IfOk result (λ collector. (req : declared.CompositeAggReqData)
+            → HoldsTuplesOf req collector) }
         ensures parents { IfOk result (λ collector. length collector.node.parents ≡ 1) }
         ensures room { IfOk result (λ collector. num_sources ≤ collector.room) }
         ensures waiting { IfOk result (λ collector. (id : ℕ)
@@ -129,6 +134,8 @@ impl<C: SubAggCache> SegmentCompositeCollector<C> {
         ensures right { (req : declared.CompositeAggReqData) (visited : List TypedVisit)
             (given : List (ℕ × ℕ)) → CompositeFor C.waiting req self.old visited given
             → CompositeFor C.waiting req self.new visited given }
+        ensures tuples { (req : declared.CompositeAggReqData) → HoldsTuplesOf req self.old
+            → HoldsTuplesOf req self.new }
     {
         self.buckets.prepare(max_bucket)
     }
@@ -276,8 +283,7 @@ impl<C: SubAggCache> SegmentCompositeCollector<C> {
         req: &CompositeAggReqData<'_>,
     ) -> Result<ItemList<PageEntry>, OutOfMemory>
         requires fits { (segment : Stored) × (after : Named AfterKey) × Fits segment after req.now }
-        requires visited { (visited : List TypedVisit) × (given : List (ℕ × ℕ))
-            × CompositeFor C.waiting req.now self.now visited given }
+        requires tuples { HoldsTuplesOf req.now self.now }
         ensures buckets { IfOk result (λ page. map entry_bucket page
             ≡ decoded_buckets req.now (page_of self.now parent_bucket_id)) }
         ensures groups { IfOk result (λ page. (visited : List TypedVisit) (given : List (ℕ × ℕ))
@@ -333,6 +339,8 @@ impl<C: SubAggCache> SegmentCompositeCollector<C> {
         ensures err { OnErr result
             ((id : ℕ) → C.waiting self.new.cache.0 id ≡ C.waiting self.old.cache.0 id) }
         ensures rest { self.new ≡ record self.old { cache = self.new.cache } }
+        ensures tuples { (req : declared.CompositeAggReqData) → HoldsTuplesOf req self.old
+            → HoldsTuplesOf req self.new }
     {
         self.cache.take()
     }

@@ -1,7 +1,6 @@
 //! Laws of visits, of pages, and of collectors that made the same visits.
 ghost use Rattle.std.specs.Prelude.{◌≡◌, ℕ, All, List, length, map, take, true};
 ghost use Rattle.std.specs.List.{AllZip};
-ghost use Rattle.std.specs.Map.{keys_of};
 ghost use Rattle.agg_values.specs.Names.{Named};
 ghost use Rattle.agg_values.specs.declared.after_key.AfterKey.{AfterKey};
 ghost use Rattle.agg_cache.specs.Waiting.{docs_of, is_id};
@@ -10,12 +9,12 @@ ghost use Rattle.agg_request_tree.specs.Groups.{Group, Groups};
 ghost use Rattle.agg_request_tree.specs.Occurrences.{bound_of, past_occurrences};
 ghost use Rattle.agg_request_tree.specs.Source.{Sources, rules_of};
 ghost use Rattle.agg_composite.specs.accessor.Accessors.{Fits};
-ghost use Rattle.agg_composite.specs.accessor.Decoded.{IsEncoded};
 ghost use Rattle.agg_composite.specs.declared.accessor.request_data.CompositeAggReqData.{
   CompositeAggReqData,
 };
 ghost use Rattle.agg_composite.specs.buckets.Cut.{tuples_under};
 ghost use Rattle.agg_composite.specs.Composite.{Composite, CompositeFor, docs_under, page_of};
+ghost use Rattle.agg_composite.specs.HeldTuples.{HoldsTuplesOf};
 ghost use Rattle.agg_composite.specs.PageEntries.{entry_group, page_entries};
 ghost use Rattle.agg_composite.specs.SubResults.{AreAlike, HasHanded, IsPageOf};
 ghost use Rattle.agg_composite.specs.Visits.{TypedVisit, visits_past};
@@ -41,7 +40,7 @@ pub fn pages_have_the_lowest_groups<C: SubAggCache>()
     ensures encoded { (req : CompositeAggReqData) (collector : Composite C)
         (visited : List TypedVisit) (given : List (ℕ × ℕ))
         → CompositeFor C.waiting req collector visited given
-        → (parent : ℕ) → All (IsEncoded req) (keys_of (page_of collector parent)) }
+        → HoldsTuplesOf req collector }
     ensures groups { (segment : Stored) (after : Named AfterKey) (req : CompositeAggReqData)
         → Fits segment after req
         → (collector : Composite C) (visited : List TypedVisit) (given : List (ℕ × ℕ))

@@ -10,7 +10,7 @@ use Rattle.agg_composite.specs.buckets.Page.{Page}
 use Rattle.agg_composite.specs.PageEntries.{decoded_buckets, entry_bucket, page_entries}
 use Rattle.agg_composite.specs.declared.page_entry.PageEntry.{PageEntry}
 use Rattle.agg_composite.proofs.BucketDocuments.{page-handed}
-use Rattle.agg_composite.proofs.BucketPages.{entries-decoded, page-encoded, page-groups}
+use Rattle.agg_composite.proofs.BucketPages.{entries-decoded, page-groups}
 use Rattle.agg_composite.proofs.collector.SegmentCompositeCollector.page.Goals as goal
 
 -- the entries of buckets, decoded
@@ -22,11 +22,8 @@ decoded-page req buckets own same page is =
 
 pub into_list-requires : goal.into_list-requires
 into_list-requires g c =
-    let has = c.requires.visited in
     subst (λ (es : Page EncodedTuple). All (IsEncoded c.args.req.now) (keys_of es))
-    (sym c.in_ok-entries.ensures)
-    (page-encoded g.C.SubAggCache.waiting c.args.req.now c.args.self.now has.0 has.1
-    c.args.parent_bucket_id has.2)
+    (sym c.in_ok-entries.ensures) (c.requires.tuples c.args.parent_bucket_id)
 
 pub returns-clause-buckets : goal.returns-clause-buckets
 returns-clause-buckets g c =
