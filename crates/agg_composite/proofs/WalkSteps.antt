@@ -1,6 +1,6 @@
 -- A walk, one choice on.
-use Rattle.std.proofs.Common.{◌≡◌, ℕ, ◌+◌, ◌-◌, List, [], ◌∷◌, ◌++◌, Bool, None, Some, length}
-use Rattle.std.proofs.Common.{drop, take, sym, ap, ◌∙◌, arith, length-append}
+use Rattle.std.proofs.Common.{◌≡◌, ◌==◌, ℕ, ◌+◌, ◌-◌, List, [], ◌∷◌, ◌++◌, Bool, true, None, Some}
+use Rattle.std.proofs.Common.{drop, length, take, refl, sym, ap, ◌∙◌, arith, length-append}
 use Rattle.std.specs.Option.{option_map_or}
 use Rattle.std.proofs.lemmas.List.{append-nil, take-append-le, take_all}
 use Rattle.std.proofs.lemmas.List.Concat.{flat_map-append}
@@ -8,6 +8,7 @@ use Rattle.agg_composite.specs.accessor.Encoding.{EncodedTuple}
 use Rattle.agg_composite.specs.declared.accessor.encoded.Encoded.{Encoded}
 use Rattle.agg_composite.specs.Walk.{next_standing, parts, walked}
 use Rattle.agg_composite.specs.declared.walk.choice.Choice.{Choice}
+use Rattle.agg_composite.proofs.lemmas.buckets.Owners.{number-same}
 use Rattle.agg_composite.proofs.PartsInRow.{Appends}
 
 -- what is visited after one choice
@@ -57,3 +58,18 @@ pub rows-split : (size : ℕ) (sizes all : List ℕ) (own others choices : List 
     → own ∷ parts sizes others ≡ parts all choices
 rows-split size sizes all own others choices is front back =
     (λ i. front i ∷ parts sizes (back i)) ∙ (λ i. parts (is i) choices)
+
+-- no sizes, by their number
+none-left : (sizes : List ℕ) → (length sizes == 0) ≡ true → sizes ≡ []
+none-left [] is = refl
+none-left (size ∷ sizes) is =
+    let none = number-same (length (size ∷ sizes)) 0 is in
+    absurd (omega (arith, none))
+
+-- the choices of the last source are all rows that are left
+pub last-row : (size : ℕ) (sizes all : List ℕ) (own choices : List Choice)
+    → size ∷ sizes ≡ all → (length sizes == 0) ≡ true → own ≡ take size choices
+    → own ∷ [] ≡ parts all choices
+last-row size sizes all own choices is none front =
+    (λ i. front i ∷ []) ∙ (λ i. parts (size ∷ sym (none-left sizes none) i) choices)
+    ∙ (λ i. parts (is i) choices)

@@ -1,5 +1,5 @@
 //! The walk over the tuples of documents.
-ghost use Rattle.std.specs.Prelude.{◌≡◌, ◌+◌, ◌≤◌, [], ◌∷◌, length, sum, OnOk};
+ghost use Rattle.std.specs.Prelude.{◌≡◌, ◌+◌, ◌<◌, ◌≤◌, [], ◌∷◌, length, sum, OnOk};
 ghost use Rattle.agg_request_tree.specs.Faults.{max_sources};
 ghost use Rattle.agg_composite.specs.Answers.{AnswersDocuments, AnswersEncoded};
 ghost use Rattle.agg_composite.specs.Walk.{if_above, next_standing, parts, walked};
@@ -79,7 +79,6 @@ struct Rest<'a> {
 }
 
 // Visits the tuples that begin with these keys.
-#[cycle(tuples)]
 fn walk_from<const N: usize, L: Ledger>(
     buckets: &mut BucketsByParent<StoredTuple<Encoded, N>>,
     tuple: &mut StoredTuple<Encoded, N>,
@@ -98,6 +97,9 @@ fn walk_from<const N: usize, L: Ledger>(
         return visit_above(buckets, tuple, rest.is_above, steps);
     };
     let (own, choices) = rest.choices.split_at(*size);
+    if sizes.is_empty() {
+        return visit_each(buckets, tuple, own, rest.is_above, steps);
+    }
     for choice in own {
         if let Some(is_above) = standing_with(rest.is_above, choice.side) {
             let others = Rest {
@@ -106,33 +108,35 @@ fn walk_from<const N: usize, L: Ledger>(
                 is_above,
             };
             tuple.push(choice.value);
-            walk_on(buckets, tuple, &others, steps)?;
+            walk_from(buckets, tuple, &others, steps)?;
             tuple.pop();
         }
     }
     Ok(())
 }
 
-// Visits the tuples that begin with these keys; one that has all its keys without a further call.
-#[cycle(tuples)]
-fn walk_on<const N: usize, L: Ledger>(
+// Visits the tuples of these keys and one of the last source, without a further call of the walk
+// for each.
+fn visit_each<const N: usize, L: Ledger>(
     buckets: &mut BucketsByParent<StoredTuple<Encoded, N>>,
     tuple: &mut StoredTuple<Encoded, N>,
-    rest: &Rest<'_>,
+    choices: &[Choice],
+    was_above: bool,
     steps: &mut Steps<L>,
 ) -> Result<(), VisitError>
-    requires sizes { sum rest.now.sizes.now ≤ length rest.now.choices.now }
-    requires few { N ≤ max_sources }
-    requires room { length tuple.old + length rest.now.sizes.now ≤ N }
-    ensures answers { AnswersEncoded
-        (walked (parts rest.now.sizes.now rest.now.choices.now) tuple.old rest.now.is_above)
+    requires { length tuple.old < N }
+    ensures answers { AnswersEncoded (walked (choices.now ∷ []) tuple.old was_above)
         buckets.old buckets.new steps.old steps.new result }
     ensures same { OnOk result (tuple.new ≡ tuple.old) }
 {
-    if rest.sizes.is_empty() {
-        return visit_above(buckets, tuple, rest.is_above, steps);
+    for choice in choices {
+        if let Some(is_above) = standing_with(was_above, choice.side) {
+            tuple.push(choice.value);
+            visit_above(buckets, tuple, is_above, steps)?;
+            tuple.pop();
+        }
     }
-    walk_from(buckets, tuple, rest, steps)
+    Ok(())
 }
 
 // Visits a tuple where it is above the bound.

@@ -1,17 +1,14 @@
-use Rattle.std.proofs.Common.{◌≡◌, ◌∷◌, ◌+◌, ◌*◌, length}
+use Rattle.std.proofs.Common.{◌≡◌, ◌∷◌, length}
 use Rattle.agg_composite.specs.Walk.{parts, walked}
 use Rattle.agg_composite.proofs.TuplesInRow.{Visited}
 use Rattle.agg_composite.proofs.VisitsInRow.{SoFar}
-use Rattle.agg_composite.proofs.walk.+tuples.Given as goal
+use Rattle.agg_composite.proofs.walk.+walk_from.Given as goal
 
 abbrev pub decreases-walk_from : goal.decreases-walk_from
-decreases-walk_from g l = 2 * length l.rest.now.sizes.now
+decreases-walk_from g l = length l.rest.now.sizes.now
 
-abbrev pub decreases-walk_on : goal.decreases-walk_on
-decreases-walk_on g l = 2 * length l.rest.now.sizes.now + 1
-
-abbrev pub invariant-walk_from-loop-choice : goal.invariant-walk_from-loop-choice
-invariant-walk_from-loop-choice g l = record {
+abbrev pub invariant-loop-choice : goal.invariant-loop-choice
+invariant-loop-choice g l = record {
   answers :
       SoFar Visited
       (λ choices. walked (choices ∷ parts l.sizes l.choices) l.fn.tuple l.rest.is_above)

@@ -1,5 +1,5 @@
 use Rattle.std.proofs.Common.{rules, ◌≡◌, ◌≤◌, ◌+◌, List, [], ◌∷◌, Ok, Err, length, sum, arith}
-use Rattle.std.proofs.Common.{length-append, ap, ◌∙◌, subst}
+use Rattle.std.proofs.Common.{length-append, sym, ap, ◌∙◌, subst}
 use Rattle.std.proofs.lemmas.List.Sums.{sum_by-cons}
 use Rattle.agg_composite.specs.accessor.Encoding.{EncodedTuple}
 use Rattle.agg_composite.specs.Answers.{AnswersEncoded}
@@ -7,14 +7,14 @@ use Rattle.agg_composite.specs.Walk.{parts, walked}
 use Rattle.agg_composite.specs.declared.walk.choice.Choice.{Choice}
 use Rattle.agg_composite.proofs.TuplesInRow.{TooMany, Visited, encoded-visits}
 use Rattle.agg_composite.proofs.VisitsInRow.{error-visited, none-visited, one-visited, same-so_far}
-use Rattle.agg_composite.proofs.WalkSteps.{choices-append, rows-split, taken-away, walked-after}
-use Rattle.agg_composite.proofs.WalkSteps.{walked-below}
-use Rattle.agg_composite.proofs.walk.+tuples.Goals as goal
-use Rattle.agg_composite.proofs.walk.+tuples.Goals.{walk_from-in-Some-standing_with+in_ok-walk_on}
-use Rattle.agg_composite.proofs.walk.+tuples.Goals.{walk_from-in_default-standing_with}
+use Rattle.agg_composite.proofs.WalkSteps.{choices-append, last-row, rows-split, taken-away}
+use Rattle.agg_composite.proofs.WalkSteps.{walked-after, walked-below}
+use Rattle.agg_composite.proofs.walk.+walk_from.Goals as goal
+use Rattle.agg_composite.proofs.walk.+walk_from.Goals.{in-Some-standing_with+in_ok-walk_from}
+use Rattle.agg_composite.proofs.walk.+walk_from.Goals.{in_default-standing_with}
 
-pub walk_from-walk_on-requires : goal.walk_from-walk_on-requires
-walk_from-walk_on-requires g t c κs within =
+pub walk_from-requires : goal.walk_from-requires
+walk_from-requires g t c κs within =
     let long = ap length c.push.ensures
     ∙ length-append c.loop-choice.tuple (_ ∷ []) in
     let same = ap length c.loop-choice.invariant.same in
@@ -29,9 +29,23 @@ walk_from-walk_on-requires g t c κs within =
     omega (arith, total, whole, c.requires.sizes, c.split_at.ensures.back_len) in
     (search rules, (search rules, (search rules, (search rules, (enough, (search rules, fits))))))
 
-pub walk_from-returns-in_err-walk_on-clause-answers :
-    goal.walk_from-returns-in_err-walk_on-clause-answers
-walk_from-returns-in_err-walk_on-clause-answers g t c =
+pub returns-then-is_empty-clause-answers : goal.returns-then-is_empty-clause-answers
+returns-then-is_empty-clause-answers g t c =
+    let own = c.split_at.result.0.now in
+    let front = c.args.tuple.now in
+    let above = c.args.rest.now.is_above in
+    let sizes : c.in-Some.size.now ∷ c.in-Some.sizes.now ≡ c.args.rest.now.sizes.now =
+    search rules in
+    subst (λ (rs : List (List Choice)). AnswersEncoded (walked rs front above) c.args.buckets.now
+    c.visit_each.new.buckets c.args.steps.now c.visit_each.new.steps c.visit_each.result)
+    (last-row c.in-Some.size.now c.in-Some.sizes.now c.args.rest.now.sizes.now own
+    c.args.rest.now.choices.now sizes (sym c.is_empty.ensures ∙ c.if-is_empty.true)
+    c.split_at.ensures.front)
+    c.visit_each.ensures.answers
+
+pub returns-in_err-walk_from-clause-answers :
+    goal.returns-in_err-walk_from-clause-answers
+returns-in_err-walk_from-clause-answers g t c =
     let own = c.split_at.result.0.now in
     let rest = parts c.in-Some.sizes.now c.split_at.result.1.now in
     let front = c.args.tuple.now in
@@ -39,9 +53,9 @@ walk_from-returns-in_err-walk_on-clause-answers g t c =
     let standing = c.in-Some-standing_with.is_above in
     let i = c.loop-choice.choice-index in
     let now = c.loop-choice.buckets in
-    let after = c.walk_on.new.buckets in
+    let after = c.walk_from.new.buckets in
     let visited : List Choice → List EncodedTuple = λ cs. walked (cs ∷ rest) front above in
-    let error = c.in_err-walk_on.field-0.0 in
+    let error = c.in_err-walk_from.field-0.0 in
     let sizes : c.in-Some.size.now ∷ c.in-Some.sizes.now ≡ c.args.rest.now.sizes.now =
     search rules in
     let rows : own ∷ rest ≡ parts c.args.rest.now.sizes.now c.args.rest.now.choices.now =
@@ -49,19 +63,19 @@ walk_from-returns-in_err-walk_on-clause-answers g t c =
     c.split_at.result.1.now c.args.rest.now.choices.now sizes c.split_at.ensures.front
     c.split_at.ensures.back in
     subst (λ (rs : List (List Choice)). AnswersEncoded (walked rs front above) c.args.buckets.now
-    after c.args.steps.now c.walk_on.new.steps c.from_residual.result) rows
+    after c.args.steps.now c.walk_from.new.steps c.from_residual.result) rows
     (error-visited Visited TooMany encoded-visits visited (choices-append rest front above)
     own i c.args.buckets.now now c.args.steps.now c.loop-choice.steps
-    c.loop-choice.invariant.answers _ c.loop-choice-test.true after c.walk_on.new.steps error
+    c.loop-choice.invariant.answers _ c.loop-choice-test.true after c.walk_from.new.steps error
     c.from_residual.result
-    (subst (λ ts. AnswersEncoded ts now after c.loop-choice.steps c.walk_on.new.steps (Err error))
+    (subst (λ ts. AnswersEncoded ts now after c.loop-choice.steps c.walk_from.new.steps (Err error))
     (walked-after _ rest front c.loop-choice.tuple c.push.new.self above standing c.push.ensures
     c.loop-choice.invariant.same c.in-Some-standing_with.ensures)
-    c.in_err-walk_on.ensures.answers)
+    c.in_err-walk_from.ensures.answers)
     c.from_residual.ensures.1)
 
-pub walk_from-loop-choice-preserved : goal.walk_from-loop-choice-preserved
-walk_from-loop-choice-preserved g t c =
+pub loop-choice-preserved : goal.loop-choice-preserved
+loop-choice-preserved g t c =
     let own = c.split_at.result.0.now in
     let rest = parts c.in-Some.sizes.now c.split_at.result.1.now in
     let front = c.args.tuple.now in
@@ -70,28 +84,28 @@ walk_from-loop-choice-preserved g t c =
     let now = c.loop-choice.buckets in
     let visited : List Choice → List EncodedTuple = λ cs. walked (cs ∷ rest) front above in
     elim c.match-standing_with.branch [
-      | walk_from-in-Some-standing_with+in_ok-walk_on w ↦
-          let after = w.walk_on.new.buckets in
+      | in-Some-standing_with+in_ok-walk_from w ↦
+          let after = w.walk_from.new.buckets in
           let standing = w.in-Some-standing_with.is_above in
           record {
             answers =
                 same-so_far Visited visited own (i + 1) c.args.buckets.now after
-                c.match-standing_with.buckets c.args.steps.now w.walk_on.new.steps
+                c.match-standing_with.buckets c.args.steps.now w.walk_from.new.steps
                 c.match-standing_with.steps w.buckets-is w.steps-is
                 (one-visited Visited TooMany encoded-visits visited
                 (choices-append rest front above) own i c.args.buckets.now now c.args.steps.now
                 c.loop-choice.steps c.loop-choice.invariant.answers _ c.loop-choice-test.true after
-                w.walk_on.new.steps
-                (subst (λ ts. AnswersEncoded ts now after c.loop-choice.steps w.walk_on.new.steps
+                w.walk_from.new.steps
+                (subst (λ ts. AnswersEncoded ts now after c.loop-choice.steps w.walk_from.new.steps
                 (Ok tt))
                 (walked-after _ rest front c.loop-choice.tuple w.push.new.self above standing
                 w.push.ensures c.loop-choice.invariant.same w.in-Some-standing_with.ensures)
-                w.in_ok-walk_on.ensures.answers));
+                w.in_ok-walk_from.ensures.answers));
             same = w.tuple-is ∙ w.pop.ensures
-                ∙ taken-away front c.loop-choice.tuple w.push.new.self w.walk_on.new.tuple _
-                w.push.ensures c.loop-choice.invariant.same w.in_ok-walk_on.ensures.same;
+                ∙ taken-away front c.loop-choice.tuple w.push.new.self w.walk_from.new.tuple _
+                w.push.ensures c.loop-choice.invariant.same w.in_ok-walk_from.ensures.same;
           }
-      | walk_from-in_default-standing_with w ↦ record {
+      | in_default-standing_with w ↦ record {
         answers =
             same-so_far Visited visited own (i + 1) c.args.buckets.now now
             c.match-standing_with.buckets c.args.steps.now c.loop-choice.steps
