@@ -33,6 +33,7 @@ use Rattle.agg_composite.specs.declared.buckets.visit_error.VisitError.TheVarian
 use Rattle.agg_composite.proofs.lemmas.buckets.NodeLaws.{compose-visits}
 use Rattle.agg_composite.specs.Answers.{Answers, AnswersDocuments, AnswersEncoded, TakesVisits}
 use Rattle.agg_composite.specs.Choices.{AreChoicesIn}
+use Rattle.agg_composite.specs.HeldTuples.{KeepTuplesAt}
 use Rattle.agg_composite.specs.Walk.{parts, walked}
 use Rattle.agg_composite.specs.declared.walk.choice.Choice.{Choice}
 use Rattle.agg_composite.specs.Visits.{StandsForVisit, TypedVisit, visits_past}
@@ -234,3 +235,11 @@ module _ (req : CompositeAggReqData) (docs : List ℕ) where
           (visits_past-append req.req.now.sources segment after old.parent) docs i old now steps
           steps_now (so_far segment after fit range) d l then steps_then error returned
           (own-answers segment after fit range (Err error) own) is_err)
+
+-- a document more keeps the tuples of buckets those of request data
+pub document-keeps : (req : CompositeAggReqData) (docs : List ℕ) (i d : ℕ) → i < length docs
+    → (old now then : Node EncodedTuple) → KeepTuplesAt req docs old now
+    → KeepTuplesAt req (get_or docs i d ∷ []) now then → KeepTuplesAt req docs old then
+document-keeps req docs i d l old now then before keeps segment after fit range held =
+    keeps segment after fit (one-range segment req.req.now.sources docs i d l range)
+    (before segment after fit range held)

@@ -10,6 +10,7 @@ pub mod CollectorCalls
 pub mod ColumnChoices
 pub mod DocumentsInRow
 pub mod HeldTuples
+pub mod KeptTuples
 pub mod ListedEntries
 pub mod ListedTuples
 pub mod NullChoices

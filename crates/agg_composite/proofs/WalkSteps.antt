@@ -60,16 +60,15 @@ rows-split size sizes all own others choices is front back =
     (λ i. front i ∷ parts sizes (back i)) ∙ (λ i. parts (is i) choices)
 
 -- no sizes, by their number
-none-left : (sizes : List ℕ) → (length sizes == 0) ≡ true → sizes ≡ []
-none-left [] is = refl
-none-left (size ∷ sizes) is =
-    let none = number-same (length (size ∷ sizes)) 0 is in
-    absurd (omega (arith, none))
+pub none-left : (sizes : List ℕ) → length sizes ≡ 0 → sizes ≡ []
+none-left [] none = refl
+none-left (size ∷ sizes) none = absurd (omega (arith, none))
 
 -- the choices of the last source are all rows that are left
 pub last-row : (size : ℕ) (sizes all : List ℕ) (own choices : List Choice)
     → size ∷ sizes ≡ all → (length sizes == 0) ≡ true → own ≡ take size choices
     → own ∷ [] ≡ parts all choices
 last-row size sizes all own choices is none front =
-    (λ i. front i ∷ []) ∙ (λ i. parts (size ∷ sym (none-left sizes none) i) choices)
+    let no_more = none-left sizes (number-same (length sizes) 0 none) in
+    (λ i. front i ∷ []) ∙ (λ i. parts (size ∷ sym no_more i) choices)
     ∙ (λ i. parts (is i) choices)

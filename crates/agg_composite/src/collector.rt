@@ -189,6 +189,7 @@ impl<C: SubAggCache> SegmentCompositeCollector<C> {
             result }
 
         ensures grown { Grown limits.old limits.new guard.old guard.new }
+        ensures tuples { HoldsTuplesOf req.now self.old → HoldsTuplesOf req.now self.new }
         ensures ledger_kept { OnErr result (limits.new ≡ limits.old) }
         ensures guard_kept { OnErr result (guard.new ≡ guard.old) }
     {
@@ -210,7 +211,7 @@ impl<C: SubAggCache> SegmentCompositeCollector<C> {
 
     /// Visits the tuples of the documents of these numbers that lie past the bound, under a parent,
     /// by one to three steps each. It is refused where a bucket of what the sources read starts
-    /// outside 64 bits. What is there after another error isn't said.
+    /// outside 64 bits. After another error some of them may have been visited.
     pub fn collect_uncharged<L: Ledger>(
         &mut self,
         parent_bucket_id: BucketId,
@@ -233,6 +234,7 @@ impl<C: SubAggCache> SegmentCompositeCollector<C> {
             (visits_past req.now.req.now.sources segment after parent_bucket_id docs.now) }
         ensures range { (segment : Stored) (after : Named AfterKey) → Fits segment after req.now
             → AnswersRange (AreAllInRange segment req.now.req.now.sources docs.now) result }
+        ensures tuples { HoldsTuplesOf req.now self.old → HoldsTuplesOf req.now self.new }
     {
         if !req.are_starts_in_range(docs) {
             return Err(CollectError::BucketOutOfRange);
@@ -242,7 +244,7 @@ impl<C: SubAggCache> SegmentCompositeCollector<C> {
     }
 
     /// Visits the tuples of documents as `collect_uncharged` does, without a look at their starts:
-    /// all lie within 64 bits. What is there after an error isn't said.
+    /// all lie within 64 bits. After an error some of them may have been visited.
     pub fn collect_in_range<L: Ledger>(
         &mut self,
         parent_bucket_id: BucketId,
@@ -265,6 +267,7 @@ impl<C: SubAggCache> SegmentCompositeCollector<C> {
             → IsErrOf result VisitError.TooMany
             → 2 ^ 32 ≤ length visited + length
             (visits_past req.now.req.now.sources segment after parent_bucket_id docs.now) }
+        ensures tuples { HoldsTuplesOf req.now self.old → HoldsTuplesOf req.now self.new }
     {
         self.buckets
             .begin_parent(parent_bucket_id, req.size as usize);

@@ -4,6 +4,7 @@ ghost use Rattle.std.specs.List.{sum_by};
 ghost use Rattle.agg_request_tree.specs.Faults.{max_sources};
 ghost use Rattle.agg_composite.specs.buckets.Node.{IsNew, Prepares};
 ghost use Rattle.agg_composite.specs.Answers.{AnswersDocuments};
+ghost use Rattle.agg_composite.specs.HeldTuples.{KeepTuplesAt};
 ghost use Rattle.agg_composite.specs.TupleBuckets.{node_of, room_of};
 
 use crate::PageEntries;
@@ -106,6 +107,7 @@ impl TupleBuckets {
         requires room { length req.now.req.now.sources ≤ room_of self.old }
         ensures answers { AnswersDocuments req.now docs.now (node_of self.old) (node_of self.new)
             steps.old steps.new result }
+        ensures held { KeepTuplesAt req.now docs.now (node_of self.old) (node_of self.new) }
         ensures room { room_of self.new ≡ room_of self.old }
     {
         match self {

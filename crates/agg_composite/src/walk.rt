@@ -2,6 +2,7 @@
 ghost use Rattle.std.specs.Prelude.{◌≡◌, ◌+◌, ◌<◌, ◌≤◌, [], ◌∷◌, length, sum, OnOk};
 ghost use Rattle.agg_request_tree.specs.Faults.{max_sources};
 ghost use Rattle.agg_composite.specs.Answers.{AnswersDocuments, AnswersEncoded};
+ghost use Rattle.agg_composite.specs.HeldTuples.{KeepTuples, KeepTuplesAt};
 ghost use Rattle.agg_composite.specs.Walk.{if_above, next_standing, parts, walked};
 
 mod choice;
@@ -32,8 +33,9 @@ pub fn visit_documents<const N: usize, L: Ledger>(
     requires accessors { length req.now.req.now.sources ≡ length req.now.composite_accessors }
     requires few { N ≤ max_sources }
     requires room { length req.now.req.now.sources ≤ N }
-    ensures { AnswersDocuments req.now docs.now buckets.old buckets.new
+    ensures answers { AnswersDocuments req.now docs.now buckets.old buckets.new
         steps.old steps.new result }
+    ensures held { KeepTuplesAt req.now docs.now buckets.old buckets.new }
 {
     let mut gathered = Gathered::new(alloc);
     for doc in docs {
@@ -53,8 +55,9 @@ fn visit_document<const N: usize, L: Ledger>(
     requires accessors { length req.now.req.now.sources ≡ length req.now.composite_accessors }
     requires few { N ≤ max_sources }
     requires room { length req.now.req.now.sources ≤ N }
-    ensures { AnswersDocuments req.now (doc ∷ []) buckets.old buckets.new
+    ensures answers { AnswersDocuments req.now (doc ∷ []) buckets.old buckets.new
         steps.old steps.new result }
+    ensures held { KeepTuplesAt req.now (doc ∷ []) buckets.old buckets.new }
 {
     let sources = req.req.sources.as_slice();
     let accessors = req.composite_accessors.as_slice();
@@ -91,6 +94,9 @@ fn walk_from<const N: usize, L: Ledger>(
     ensures answers { AnswersEncoded
         (walked (parts rest.now.sizes.now rest.now.choices.now) tuple.old rest.now.is_above)
         buckets.old buckets.new steps.old steps.new result }
+    ensures held { KeepTuples
+        (walked (parts rest.now.sizes.now rest.now.choices.now) tuple.old rest.now.is_above)
+        buckets.old buckets.new }
     ensures same { OnOk result (tuple.new ≡ tuple.old) }
 {
     let Some((size, sizes)) = rest.sizes.split_first() else {
@@ -127,6 +133,8 @@ fn visit_each<const N: usize, L: Ledger>(
     requires { length tuple.old < N }
     ensures answers { AnswersEncoded (walked (choices.now ∷ []) tuple.old was_above)
         buckets.old buckets.new steps.old steps.new result }
+    ensures held { KeepTuples (walked (choices.now ∷ []) tuple.old was_above)
+        buckets.old buckets.new }
     ensures same { OnOk result (tuple.new ≡ tuple.old) }
 {
     for choice in choices {
@@ -146,8 +154,9 @@ fn visit_above<const N: usize, L: Ledger>(
     is_above: bool,
     steps: &mut Steps<L>,
 ) -> Result<(), VisitError>
-    ensures { AnswersEncoded (if_above tuple.now is_above) buckets.old buckets.new
+    ensures answers { AnswersEncoded (if_above tuple.now is_above) buckets.old buckets.new
         steps.old steps.new result }
+    ensures held { KeepTuples (if_above tuple.now is_above) buckets.old buckets.new }
 {
     if is_above {
         return visit(buckets, tuple, steps);
@@ -175,8 +184,9 @@ fn visit<const N: usize, L: Ledger>(
     tuple: &StoredTuple<Encoded, N>,
     steps: &mut Steps<L>,
 ) -> Result<(), VisitError>
-    ensures { AnswersEncoded (tuple.now ∷ []) buckets.old buckets.new
+    ensures answers { AnswersEncoded (tuple.now ∷ []) buckets.old buckets.new
         steps.old steps.new result }
+    ensures held { KeepTuples (tuple.now ∷ []) buckets.old buckets.new }
 {
     buckets.visit(tuple, steps)
 }

@@ -2,6 +2,7 @@ pub mod BucketSteps
 pub mod CutPages
 pub mod Errors
 pub mod Groups
+pub mod HeldPages
 pub mod Labels
 pub mod LargeNumbers
 pub mod NodeLaws

@@ -7,7 +7,7 @@ use Rattle.std.specs.List.Sorted.{IsStrictlySortedBy}
 use Rattle.std.specs.Map.{keys_of, lookup}
 use Rattle.std.specs.declared.cmp.Ordering.{Ordering}
 use Rattle.agg_cache.specs.Waiting.{docs_of, is_id}
-use Rattle.agg_composite.specs.buckets.Page.{IsAbove, Page}
+use Rattle.agg_composite.specs.buckets.Page.{AddsAtMost, IsAbove, Page}
 use Rattle.agg_composite.specs.buckets.Visits.{Owner, Visit, Within, docs_in, is_owner, visits_at}
 use Rattle.agg_composite.specs.declared.buckets.bucket.Bucket.{Bucket}
 
@@ -26,6 +26,11 @@ pub record Counts {S : Type 0} (num : ℕ) (parents : List (Page S)) (next : ℕ
   pub exact : num ≡ sum_by length parents
   pub few : num ≤ next
   pub fits : next < 2 ^ 32
+
+-- each tuple of each parent's buckets was there, or is this
+abbrev pub HoldsAtMost : {S : Type 0} → (S → S → Ordering) → S → Node S → Node S → Type 0
+HoldsAtMost R t old new =
+    (parent : ℕ) → AddsAtMost R t (get_or old.parents parent []) (get_or new.parents parent [])
 
 -- ---- a node is right for what it visited
 

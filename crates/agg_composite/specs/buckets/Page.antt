@@ -1,6 +1,6 @@
 -- The buckets of one parent: a page of the lowest tuples.
 use Rattle.std.specs.Prelude.{◌≡◌, ◌<◌, ◌≤◌, ◌^◌, ◌+◌, ◌++◌, ◌⊎◌, ℕ, List, [], ◌∷◌}
-use Rattle.std.specs.Prelude.{All, false, Option, None, Some, length}
+use Rattle.std.specs.Prelude.{All, IsSome, false, Option, None, Some, length, true}
 use Rattle.std.specs.BTreeMap.{is_at}
 use Rattle.std.specs.List.Sorted.{IsStrictlySortedBy}
 use Rattle.std.specs.Map.{keys_of, lookup, set_value}
@@ -19,6 +19,14 @@ more b = record { count = b.count + 1; id = b.id }
 -- a new bucket, with one document
 abbrev pub opened : ℕ → Bucket
 opened id = record { count = 1; id = id }
+
+-- a tuple has a bucket on a page
+abbrev pub Has : {S : Type 0} → (S → S → Ordering) → Page S → S → Type 0
+Has R page t = IsSome (lookup (is_at (R t)) page)
+
+-- each tuple of the new page is of the old one, or is this
+abbrev pub AddsAtMost : {S : Type 0} → (S → S → Ordering) → S → Page S → Page S → Type 0
+AddsAtMost {S} R t old new = (q : S) → Has R new q → Has R old q ⊎ (is_at (R t) q ≡ true)
 
 -- a tuple is above a full page: so many buckets are there, and each is below the tuple
 pub record IsAbove {S : Type 0} (R : S → S → Ordering) (size : ℕ) (page : Page S) (t : S)

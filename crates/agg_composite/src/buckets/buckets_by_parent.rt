@@ -49,7 +49,8 @@ impl<S: Ord + Hash> Model for BucketsByParent<S> {
 }
 
 impl<S: Ord + Hash> BucketsByParent<S> {
-    ghost use Rattle.agg_composite.specs.buckets.Node.{IsNew, Prepares, Takes, TooMany};
+    ghost use Rattle.agg_composite.specs.buckets.Node.{HoldsAtMost, IsNew, Prepares, Takes};
+    ghost use Rattle.agg_composite.specs.buckets.Node.{TooMany};
 
     /// One parent without buckets.
     pub fn new(alloc: Global) -> Result<BucketsByParent<S>, OutOfMemory>
@@ -110,8 +111,8 @@ impl<S: Ord + Hash> BucketsByParent<S> {
         self.doc = doc;
     }
 
-    /// Visits a tuple of the document once more, by at most three steps. Nothing is said of what is
-    /// there after an error.
+    /// Visits a tuple of the document once more, by at most three steps. After an error no other
+    /// tuple has come.
     pub fn visit<L: Ledger>(&mut self, tuple: &S, steps: &mut Steps<L>) -> Result<(), VisitError>
     where
         S: Clone + Drop,
@@ -119,6 +120,7 @@ impl<S: Ord + Hash> BucketsByParent<S> {
         ensures ok { OnOk result (Takes S.cmp (tuple.now ∷ []) self.old self.new) }
         ensures too_many { IsErrOf result VisitError.TooMany
             → TooMany S.cmp (tuple.now ∷ []) self.old }
+        ensures held { HoldsAtMost S.cmp tuple.now self.old self.new }
         ensures most { steps.new ≤ steps.old + 3 }
         ensures least { steps.old + 1 ≤ steps.new }
     {

@@ -1,9 +1,10 @@
 //! The buckets of one parent.
 ghost use Rattle.std.specs.Prelude.{◌≡◌, ◌<◌, ◌≤◌, ◌+◌, ◌⊎◌, None, IfOk, IsErrOf, MatchOption};
-ghost use Rattle.std.specs.Prelude.{◌^◌, OnOk, false, length, true};
+ghost use Rattle.std.specs.Prelude.{◌^◌, OnErr, OnOk, false, length, true};
 ghost use Rattle.std.specs.BTreeMap.{insert_entry, is_at};
 ghost use Rattle.std.specs.Map.{lookup};
 ghost use Rattle.agg_composite.specs.buckets.Page.{
+  AddsAtMost,
   HasRoom,
   IsAbove,
   IsAbsent,
@@ -23,7 +24,7 @@ use std::sync::ledger::Ledger;
 
 /// Visits a tuple: it is looked up once. A new one above a full page is left out, and one below its
 /// greatest takes the place of that one. Answers the id of its bucket. Whatever it answers, each
-/// bucket more takes an id.
+/// bucket more takes an id, and no other tuple comes onto the page.
 pub fn visit_page<S: Ord + Hash + Clone + Drop, L: Ledger>(
     page: &mut LazyHeapMap<S, Bucket>,
     ids: &mut BucketIdProvider,
@@ -35,6 +36,7 @@ pub fn visit_page<S: Ord + Hash + Clone + Drop, L: Ledger>(
     ensures ok { IfOk result (PageTakes S.cmp size tuple.now ids.old ids.new page.old page.new) }
     ensures too_many { IsErrOf result VisitError.TooMany
         → (4294967295 < ids.old + 1) ⊎ IsFull S.cmp page.old tuple.now }
+    ensures held { AddsAtMost S.cmp tuple.now page.old page.new }
     ensures ids { length page.new + ids.old ≤ length page.old + ids.new }
     ensures ids_fit { ids.old < 2 ^ 32 → ids.new < 2 ^ 32 }
     ensures most { steps.new ≤ steps.old + 3 }
@@ -62,6 +64,7 @@ fn count_more<S: Ord + Hash, L: Ledger>(
         ((page.new ≡ page.old) × IsAbsent S.cmp page.old tuple.now)
         (λ id. IsCountedMore S.cmp tuple.now id page.old page.new)) }
     ensures too_many { IsErrOf result VisitError.TooMany → IsFull S.cmp page.old tuple.now }
+    ensures err { OnErr result (page.new ≡ page.old) }
     ensures as_many { length page.new ≡ length page.old }
     ensures steps { steps.new ≡ steps.old + 1 }
 {
@@ -86,6 +89,7 @@ fn make_room<S: Ord + Hash + Clone + Drop, L: Ledger>(
         → HasRoom S.cmp size tuple.now page.old page.new) }
     ensures none { IfOk result (λ room. room ≡ false
         → (page.new ≡ page.old) × IsAbove S.cmp size page.old tuple.now) }
+    ensures err { OnErr result (page.new ≡ page.old) }
     ensures no_more { length page.new ≤ length page.old }
     ensures most { steps.new ≤ steps.old + 1 }
     ensures least { steps.old ≤ steps.new }
@@ -106,6 +110,7 @@ fn open<S: Ord + Hash + Clone + Drop, L: Ledger>(
     requires clones { (t q : S) → S.is_clone t q → q ≡ t }
     requires absent { lookup (is_at (S.cmp tuple.now)) page.old ≡ None }
     ensures ok { OnOk result (page.new ≡ insert_entry S.cmp page.old tuple.now (opened id)) }
+    ensures err { OnErr result (page.new ≡ page.old) }
     ensures one_more { length page.new ≤ length page.old + 1 }
     ensures most { steps.new ≤ steps.old + 1 }
     ensures least { steps.old ≤ steps.new }

@@ -1,4 +1,5 @@
 use Rattle.std.proofs.Common.{◌≡◌, ◌∷◌, length}
+use Rattle.agg_composite.specs.HeldTuples.{KeepTuples}
 use Rattle.agg_composite.specs.Walk.{parts, walked}
 use Rattle.agg_composite.proofs.TuplesInRow.{Visited}
 use Rattle.agg_composite.proofs.VisitsInRow.{SoFar}
@@ -13,5 +14,8 @@ invariant-loop-choice g l = record {
       SoFar Visited
       (λ choices. walked (choices ∷ parts l.sizes l.choices) l.fn.tuple l.rest.is_above)
       l.own l.choice-index l.fn.buckets l.buckets l.fn.steps l.steps;
+  held :
+      KeepTuples (walked (l.own ∷ parts l.sizes l.choices) l.fn.tuple l.rest.is_above)
+      l.fn.buckets l.buckets;
   same : l.tuple ≡ l.fn.tuple;
 }

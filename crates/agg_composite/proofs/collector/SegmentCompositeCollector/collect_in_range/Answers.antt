@@ -1,4 +1,4 @@
-use Rattle.std.proofs.Common.{◌++◌, Ok, Err, length, sym, ap, ◌∙◌, refl}
+use Rattle.std.proofs.Common.{◌++◌, Ok, Err, length, sym, ap, ◌∙◌, refl, subst}
 use Rattle.std.proofs.lemmas.Slice.Zip.{AllZip-long}
 use Rattle.agg_cache.specs.Waiting.{docs_of, is_id}
 use Rattle.agg_request_tree.specs.Source.{after_of}
@@ -6,6 +6,7 @@ use Rattle.agg_composite.specs.accessor.Accessors.{AreAccessorsOf}
 use Rattle.agg_composite.specs.accessor.Encoding.{encoded_tuple_order}
 use Rattle.agg_composite.specs.buckets.Node.{TooManyVisits}
 use Rattle.agg_composite.specs.declared.buckets.visit_error.VisitError.TheVariants.{OutOfMemory}
+use Rattle.agg_composite.specs.HeldTuples.{AreTuplesOf}
 use Rattle.agg_composite.specs.TupleBuckets.{node_of}
 use Rattle.agg_composite.specs.Visits.{visits_past}
 use Rattle.agg_composite.proofs.CollectorAnswers.{collector-takes, too_many-visits, walked-begun}
@@ -113,3 +114,27 @@ returns-else-self-clause-visits g c = rw (← c.self.view_is) (λ segment after 
       later = walked.later;
       most = walked.most;
     })
+
+pub returns-in_err-visit_documents-clause-tuples : goal.returns-in_err-visit_documents-clause-tuples
+returns-in_err-visit_documents-clause-tuples g c = rw (← c.self.view_is) (λ held.
+    let found = c.requires.in_range in
+    c.visit_documents.ensures.held found.0 found.1 found.2 found.3
+    (subst (AreTuplesOf c.args.req.now) (sym c.begin_parent.ensures.node) held))
+
+pub returns-in_err-push_all-clause-tuples : goal.returns-in_err-push_all-clause-tuples
+returns-in_err-push_all-clause-tuples g c = rw (← c.self.view_is) (λ held.
+    let found = c.requires.in_range in
+    c.visit_documents.ensures.held found.0 found.1 found.2 found.3
+    (subst (AreTuplesOf c.args.req.now) (sym c.begin_parent.ensures.node) held))
+
+pub returns-in_ok-push_all-clause-tuples : goal.returns-in_ok-push_all-clause-tuples
+returns-in_ok-push_all-clause-tuples g c = rw (← c.self.view_is) (λ held.
+    let found = c.requires.in_range in
+    c.visit_documents.ensures.held found.0 found.1 found.2 found.3
+    (subst (AreTuplesOf c.args.req.now) (sym c.begin_parent.ensures.node) held))
+
+pub returns-else-self-clause-tuples : goal.returns-else-self-clause-tuples
+returns-else-self-clause-tuples g c = rw (← c.self.view_is) (λ held.
+    let found = c.requires.in_range in
+    c.visit_documents.ensures.held found.0 found.1 found.2 found.3
+    (subst (AreTuplesOf c.args.req.now) (sym c.begin_parent.ensures.node) held))

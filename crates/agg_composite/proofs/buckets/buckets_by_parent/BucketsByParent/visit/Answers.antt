@@ -4,9 +4,10 @@ use Rattle.std.specs.BTreeMap.{is_at}
 use Rattle.std.specs.Map.{lookup}
 use Rattle.std.proofs.lemmas.List.{get_or_default}
 use Rattle.agg_composite.specs.buckets.Node.{Node, Takes, TooManyVisits}
-use Rattle.agg_composite.specs.buckets.Page.{PageTakes}
+use Rattle.agg_composite.specs.buckets.Page.{AddsAtMost, PageTakes}
 use Rattle.agg_composite.specs.declared.buckets.visit_error.VisitError.TheVariants.{TooMany}
 use Rattle.agg_composite.proofs.lemmas.buckets.Errors.{error-kept}
+use Rattle.agg_composite.proofs.lemmas.buckets.HeldPages.{adds-at}
 use Rattle.agg_composite.proofs.lemmas.buckets.NodeVisits.{takes-none, takes-some}
 use Rattle.agg_composite.proofs.buckets.buckets_by_parent.BucketsByParent.visit.Goals as goal
 
@@ -87,3 +88,59 @@ returns-in_default-clause-ok g c =
     } in
     subst (λ n. Takes R (t ∷ []) n after) c.self.view_is
     (takes-none R g.met.S.Ord.total node t page page_now read next_now takes)
+
+pub returns-in_err-id-clause-held : goal.returns-in_err-id-clause-held
+returns-in_err-id-clause-held g c =
+    let R = g.S.Ord.cmp in
+    let i = c.self.inside in
+    let t = c.args.tuple.now in
+    let page = c.index_mut-page.result.now in
+    let page_now = c.visit_page-visited.new.page in
+    let read : page ≡ get_or i.parents.items i.parent [] =
+    c.index_mut-page.ensures.value
+    ∙ get_or_default i.parents.items i.parent page [] c.self.invariant.0 in
+    rw (← c.self.view_is)
+    (adds-at R i.parents.items i.parent t page_now c.self.invariant.0
+    (subst (λ before. AddsAtMost R t before page_now) read c.visit_page-visited.ensures.held))
+
+pub returns-in_err-push-clause-held : goal.returns-in_err-push-clause-held
+returns-in_err-push-clause-held g c =
+    let R = g.S.Ord.cmp in
+    let i = c.self.inside in
+    let t = c.args.tuple.now in
+    let page = c.index_mut-page.result.now in
+    let page_now = c.visit_page-visited.new.page in
+    let read : page ≡ get_or i.parents.items i.parent [] =
+    c.index_mut-page.ensures.value
+    ∙ get_or_default i.parents.items i.parent page [] c.self.invariant.0 in
+    rw (← c.self.view_is)
+    (adds-at R i.parents.items i.parent t page_now c.self.invariant.0
+    (subst (λ before. AddsAtMost R t before page_now) read c.visit_page-visited.ensures.held))
+
+pub returns-in_ok-push-clause-held : goal.returns-in_ok-push-clause-held
+returns-in_ok-push-clause-held g c =
+    let R = g.S.Ord.cmp in
+    let i = c.self.inside in
+    let t = c.args.tuple.now in
+    let page = c.index_mut-page.result.now in
+    let page_now = c.visit_page-visited.new.page in
+    let read : page ≡ get_or i.parents.items i.parent [] =
+    c.index_mut-page.ensures.value
+    ∙ get_or_default i.parents.items i.parent page [] c.self.invariant.0 in
+    rw (← c.self.view_is)
+    (adds-at R i.parents.items i.parent t page_now c.self.invariant.0
+    (subst (λ before. AddsAtMost R t before page_now) read c.visit_page-visited.ensures.held))
+
+pub returns-in_default-clause-held : goal.returns-in_default-clause-held
+returns-in_default-clause-held g c =
+    let R = g.S.Ord.cmp in
+    let i = c.self.inside in
+    let t = c.args.tuple.now in
+    let page = c.index_mut-page.result.now in
+    let page_now = c.visit_page-visited.new.page in
+    let read : page ≡ get_or i.parents.items i.parent [] =
+    c.index_mut-page.ensures.value
+    ∙ get_or_default i.parents.items i.parent page [] c.self.invariant.0 in
+    rw (← c.self.view_is)
+    (adds-at R i.parents.items i.parent t page_now c.self.invariant.0
+    (subst (λ before. AddsAtMost R t before page_now) read c.visit_page-visited.ensures.held))
