@@ -1,37 +1,33 @@
 //! The collector that groups the documents of a segment.
-ghost use Rattle.std.specs.Prelude.{◌≡◌, ◌≤◌, ◌<◌, ◌+◌, ◌-◌, ◌*◌, ◌++◌, ◌^◌, ◌↔◌, [], ℕ, List};
-ghost use Rattle.std.specs.Prelude.{All, IfOk, IsErrOf, IsTrue, OnErr, OnOk, false, length, map};
-ghost use Rattle.std.specs.Prelude.{take, true};
+ghost use Rattle.std.specs.Prelude.{◌≡◌, ◌≤◌, ◌<◌, ◌+◌, ◌-◌, ◌*◌, ◌++◌, ◌^◌, [], ℕ, List};
+ghost use Rattle.std.specs.Prelude.{IfOk, IsErrOf, OnErr, OnOk, false, length, true};
 ghost use Rattle.agg_values.specs.Names.{Named};
 ghost use Rattle.agg_values.specs.declared.after_key.AfterKey.{AfterKey};
 ghost use Rattle.agg_cache.specs.Limits.{Grown, IsExceeded};
 ghost use Rattle.agg_cache.specs.Waiting.{docs_of, is_id};
 ghost use Rattle.agg_segment.specs.Segment.{Stored};
 ghost use Rattle.agg_request_tree.specs.Faults.{max_sources};
-ghost use Rattle.agg_request_tree.specs.Groups.{Group, Groups};
-ghost use Rattle.agg_request_tree.specs.Source.{rules_of};
 ghost use Rattle.agg_request_tree.specs.charges.Charges as spec;
 ghost use Rattle.agg_composite.specs.accessor.Accessors.{Fits};
 ghost use Rattle.agg_composite.specs.accessor.Ranges.{AreAllInRange};
 ghost use Rattle.agg_composite.specs.declared.accessor.request_data.CompositeAggReqData as declared;
-ghost use Rattle.agg_composite.specs.buckets.Cut.{tuples_under};
 ghost use Rattle.agg_composite.specs.buckets.Node.{Prepares};
 ghost use Rattle.agg_composite.specs.Charged.{AnswersRangeOrLimit, Charges, IfLimit, OpenedBytes};
 ghost use Rattle.agg_composite.specs.Charged.{more_bytes};
 ghost use Rattle.agg_composite.specs.HeldTuples.{HoldsTuplesOf};
-ghost use Rattle.agg_composite.specs.PageEntries.{decoded_buckets, entry_bucket, entry_group};
 ghost use Rattle.agg_composite.specs.Visits.{AnswersRange, TypedVisit, visits_past};
+
+mod giving;
 
 use crate::accessor::CompositeAggReqData;
 use crate::buckets::VisitError;
 use crate::tuple_buckets::TupleBuckets;
-use crate::{PageEntries, PageEntry};
 use agg_cache::{
-    AggregationLimitsGuard, Batch, BucketId, CachedSubAggs, CollectError, LimitsLedger, SubAggCache,
+    AggregationLimitsGuard, BucketId, CachedSubAggs, CollectError, LimitsLedger, SubAggCache,
 };
 use agg_request_tree::CompositeAggregation;
 use agg_request_tree::charges::bucket_bytes;
-use agg_values::{DocId, ItemList, OutOfMemory, Steps};
+use agg_values::{DocId, OutOfMemory, Steps};
 use std::alloc::Global;
 use std::marker::Model;
 use std::sync::ledger::Ledger;
@@ -63,8 +59,7 @@ impl<C: SubAggCache> Model for SegmentCompositeCollector<C> {
 
 impl<C: SubAggCache> SegmentCompositeCollector<C> {
     ghost use Rattle.agg_composite.specs.Composite.{AnswersCollect, AnswersVisits, CompositeFor};
-    ghost use Rattle.agg_composite.specs.Composite.{CompositeGives, CompositeTakes, docs_under};
-    ghost use Rattle.agg_composite.specs.Composite.{num_buckets, page_of};
+    ghost use Rattle.agg_composite.specs.Composite.{CompositeTakes, num_buckets, page_of};
 
     /// A collector for a composite of so many sources, which has visited nothing. It hands
     /// documents on.
@@ -278,74 +273,12 @@ impl<C: SubAggCache> SegmentCompositeCollector<C> {
         Ok(())
     }
 
-    /// The buckets of a parent, ascending, each with how often its tuple was visited and its id:
-    /// none where the parent isn't prepared.
-    pub fn page(
-        &self,
-        parent_bucket_id: BucketId,
-        req: &CompositeAggReqData<'_>,
-    ) -> Result<ItemList<PageEntry>, OutOfMemory>
-        requires fits { (segment : Stored) × (after : Named AfterKey) × Fits segment after req.now }
-        requires tuples { HoldsTuplesOf req.now self.now }
-        ensures buckets { IfOk result (λ page. map entry_bucket page
-            ≡ decoded_buckets req.now (page_of self.now parent_bucket_id)) }
-        ensures groups { IfOk result (λ page. (visited : List TypedVisit) (given : List (ℕ × ℕ))
-            → CompositeFor C.waiting req.now self.now visited given
-            → (groups : List Group)
-            × Groups (rules_of req.now.req.now.sources) (tuples_under parent_bucket_id visited)
-            groups
-            × (map entry_group page ≡ take req.now.size groups)) }
-        ensures handed { IfOk result (λ page. (visited : List TypedVisit) (given : List (ℕ × ℕ))
-            → CompositeFor C.waiting req.now self.now visited given
-            → self.now.hands_on ≡ true → ((id : ℕ) → C.waiting self.now.cache.0 id ≡ [])
-            → All (λ entry. docs_of (is_id entry.bucket_id) given
-            ≡ docs_under (rules_of req.now.req.now.sources) parent_bucket_id entry.key visited)
-            page) }
-    {
-        self.entries(parent_bucket_id)?.into_list(self.alloc, req)
-    }
-
-    /// The entries of that page, which are made one by one.
-    pub fn entries(&self, parent_bucket_id: BucketId) -> Result<PageEntries, OutOfMemory>
-        ensures { IfOk result (λ entries. entries ≡ page_of self.now parent_bucket_id) }
-    {
-        self.buckets.entries(parent_bucket_id)
-    }
-
-    /// The entries of that page, from a collector that ends: all else that it holds is dropped.
-    pub fn into_entries(self, parent_bucket_id: BucketId) -> Result<PageEntries, OutOfMemory>
-        ensures { IfOk result (λ entries. entries ≡ page_of self parent_bucket_id) }
-    {
-        let SegmentCompositeCollector { buckets, .. } = self;
-        buckets.into_entries(parent_bucket_id)
-    }
-
     /// How many buckets it holds, of all parents.
     pub fn num_buckets(&self) -> u64
         ensures total { result ≡ num_buckets self.now }
         ensures few { result < 2 ^ 32 }
     {
         self.buckets.num_buckets()
-    }
-
-    /// Whether enough documents wait to be handed on.
-    pub fn due(&self) -> bool
-        ensures { IsTrue result ↔ (2048 ≤ self.now.cache.1) }
-    {
-        self.cache.due()
-    }
-
-    /// The documents that wait, in batches. None is empty.
-    pub fn take(&mut self) -> Result<ItemList<Batch>, OutOfMemory>
-        ensures ok { IfOk result (λ batches. CompositeGives C.waiting batches self.old self.new) }
-        ensures filled { IfOk result (λ batches. All (λ batch. 0 < length batch.docs) batches) }
-        ensures err { OnErr result
-            ((id : ℕ) → C.waiting self.new.cache.0 id ≡ C.waiting self.old.cache.0 id) }
-        ensures rest { self.new ≡ record self.old { cache = self.new.cache } }
-        ensures tuples { (req : declared.CompositeAggReqData) → HoldsTuplesOf req self.old
-            → HoldsTuplesOf req self.new }
-    {
-        self.cache.take()
     }
 }
 
