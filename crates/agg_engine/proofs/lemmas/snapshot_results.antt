@@ -15,7 +15,6 @@ pub mod Refusals
 pub mod RightTrees
 pub mod SegmentMemory
 pub mod SegmentTrees
-pub mod StableRanges
 pub mod StartRanges
 pub mod TakenParts
 pub mod TakenTrees

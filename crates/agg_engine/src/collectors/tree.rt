@@ -193,7 +193,7 @@ impl SegmentAggregationCollector for SegmentCollectorTree<'_> {
     ) -> Result<(), CollectError> {
         let ctx = &agg_data.per_request;
         let before = bytes_of(self, ctx)?;
-        hand(self, Call::Collect(parent_bucket_id, docs), ctx, steps)?;
+        hand::<L, false>(self, Call::Collect(parent_bucket_id, docs), ctx, steps)?;
         charge_growth(self, before, ctx, limits, guard)
     }
 
@@ -229,7 +229,7 @@ impl SegmentAggregationCollector for SegmentCollectorTree<'_> {
     ) -> Result<(), CollectError> {
         let ctx = &agg_data.per_request;
         let before = bytes_of(self, ctx)?;
-        hand(self, Call::Flush, ctx, steps)?;
+        hand::<L, false>(self, Call::Flush, ctx, steps)?;
         charge_growth(self, before, ctx, limits, guard)
     }
 }
@@ -252,7 +252,7 @@ fn hand_each<L: Ledger>(
     ensures later { steps.old ≤ steps.new }
 {
     for (bucket_id, doc) in bucket_ids.iter().zip(docs) {
-        hand(tree, Call::Collect(*bucket_id, &[*doc]), ctx, steps)?;
+        hand::<L, false>(tree, Call::Collect(*bucket_id, &[*doc]), ctx, steps)?;
     }
     Ok(())
 }

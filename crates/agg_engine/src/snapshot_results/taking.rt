@@ -11,7 +11,7 @@ use agg_engine_tree::segment_context::PerRequestAggSegCtx;
 use agg_values::{OutOfMemory, Steps};
 use std::sync::ledger::Ledger;
 
-/// Takes documents, or hands down all that waits. Only memory may run out.
+/// Takes documents whose starts are checked, or hands down all that waits. Only memory may run out.
 pub fn take<L: Ledger>(
     tree: &mut SegmentCollectorTree<'_>,
     call: Call<'_>,
@@ -26,7 +26,7 @@ pub fn take<L: Ledger>(
         steps.old steps.new }
     ensures later { steps.old ≤ steps.new }
 {
-    match hand(tree, call, ctx, steps) {
+    match hand::<L, true>(tree, call, ctx, steps) {
         Ok(()) => Ok(()),
         Err(error) => Err(out_of_memory(error)),
     }
@@ -38,6 +38,7 @@ fn out_of_memory(error: CollectError) -> OutOfMemory
 {
     match error {
         CollectError::OutOfMemory => OutOfMemory,
+        // By the condition.
         CollectError::BucketOutOfRange
         | CollectError::TooMany
         | CollectError::Aggregation(_)

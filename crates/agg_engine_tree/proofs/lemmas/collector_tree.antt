@@ -7,6 +7,7 @@ pub mod FilterNodes
 pub mod Groups
 pub mod HandedDocuments
 pub mod HandedTrees
+pub mod InRangeTrees
 pub mod LastIds
 pub mod LaterParts
 pub mod Levels
@@ -31,6 +32,7 @@ pub mod PreparedTrees
 pub mod RefusedFilters
 pub mod RefusedNodes
 pub mod SmallNumbers
+pub mod StableRanges
 pub mod TakenParts
 pub mod UncutParts
 pub mod WithinLists

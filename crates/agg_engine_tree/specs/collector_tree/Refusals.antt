@@ -56,6 +56,17 @@ AreNotLast parents = All (λ parent. parent < 4294967295) parents
 
 -- ---- calls
 
+-- with these pairs after what a tree took, no composite of it, at any depth, has a start outside 64
+-- bits
+pub record TakesInRange (ctx : PerRequestAggSegCtx) (pairs : List (ℕ × ℕ)) (old : Held)
+    : Type 0 where
+  pub meaning : Meaning
+  pub meant : IsMeant meaning ctx
+  pub taken : List (ℕ × ℕ)
+  pub visits : ℕ
+  pub right : IsFor meaning ctx old taken visits
+  pub range : ¬ (HasStartOutOfRange meaning ctx old (docs_in (taken ++ pairs)))
+
 module _ (ctx : PerRequestAggSegCtx) (pairs : List (ℕ × ℕ)) (parents : List ℕ) (old : Held) where
   -- with these pairs after what a tree took, some composite of it has a start outside 64 bits
   pub record RangeTaken : Type 0 where

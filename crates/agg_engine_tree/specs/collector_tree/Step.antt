@@ -7,7 +7,7 @@ use Rattle.agg_engine_tree.specs.declared.segment_context.context.PerRequestAggS
   PerRequestAggSegCtx,
 }
 use Rattle.agg_engine_tree.specs.collector_tree.Bound.{TakesMost}
-use Rattle.agg_engine_tree.specs.collector_tree.Refusals.{IsRefused}
+use Rattle.agg_engine_tree.specs.collector_tree.Refusals.{IsRefused, TakesInRange}
 use Rattle.agg_engine_tree.specs.collector_tree.Tree.{Fits, Held, Helds, Takes}
 
 -- the index of a node's data, 0 for a group
@@ -36,6 +36,7 @@ module _ (ctx : PerRequestAggSegCtx) (pairs : List (ℕ × ℕ)) (parents : List
   pub record HandsOn (batches : List Batch) (h : Held) (now : Held → Held) (steps steps_now : ℕ)
       : Type 0 where
     pub below : Fits ctx h
+    pub in_range : TakesInRange ctx pairs old → TakesInRange ctx (pairs_of batches) h
     pub takes : (k : Held) (steps_then : ℕ)
         → Takes ctx (pairs_of batches) all h k steps_now steps_then
         → Takes ctx pairs all old (now k) steps steps_then

@@ -1,10 +1,10 @@
 //! How a tree of collectors takes documents and hands them down.
-ghost use Rattle.std.specs.Prelude.{◌≡◌, ◌≤◌, IfErr, IfOk, OnOk, map};
+ghost use Rattle.std.specs.Prelude.{◌≡◌, ◌≤◌, IfErr, IfOk, IsTrue, OnOk, map};
 ghost use Rattle.agg_cache.specs.Waiting.{pairs_of};
 ghost use Rattle.agg_engine_tree.specs.segment_context.Context.{IsMeant, Meaning};
 ghost use Rattle.agg_engine_tree.specs.collector_tree.Bound.{TakesMost};
 ghost use Rattle.agg_engine_tree.specs.collector_tree.Call.{is_flush, pairs_in, parents_in};
-ghost use Rattle.agg_engine_tree.specs.collector_tree.Refusals.{IsRefused};
+ghost use Rattle.agg_engine_tree.specs.collector_tree.Refusals.{IsRefused, TakesInRange};
 ghost use Rattle.agg_engine_tree.specs.collector_tree.Step.{TakesAt, index_in};
 ghost use Rattle.agg_engine_tree.specs.collector_tree.Tree.{Fits, Takes, group_of, held_of};
 
@@ -19,9 +19,10 @@ use std::sync::ledger::Ledger;
 
 /// Takes documents in each collector at the top of a tree, which prepares their parent first, or
 /// hands down all that waits. After each call a collector in which many documents wait hands them
-/// on to those below it.
+/// on to those below it. Each composite looks at the starts of what it takes, at any depth, unless
+/// these are checked.
 #[cycle(hand)]
-pub fn hand<L: Ledger>(
+pub fn hand<L: Ledger, const STARTS_CHECKED: bool>(
     node: &mut SegmentCollectorTree<'_>,
     call: Call<'_>,
     ctx: &PerRequestAggSegCtx<'_>,
@@ -29,6 +30,8 @@ pub fn hand<L: Ledger>(
 ) -> Result<(), CollectError>
     requires meant { (meaning : Meaning) × IsMeant meaning ctx.now }
     requires fits { Fits ctx.now (held_of node.old) }
+    requires range { IsTrue STARTS_CHECKED
+        → TakesInRange ctx.now (pairs_in call) (held_of node.old) }
     ensures ok { OnOk result (Takes ctx.now (pairs_in call.entry) (is_flush call.entry)
         (held_of node.old) (held_of node.new) steps.old steps.new) }
     ensures refused { IfErr result (IsRefused ctx.now (pairs_in call.entry)
@@ -37,28 +40,30 @@ pub fn hand<L: Ledger>(
         steps.new }
     ensures later { steps.old ≤ steps.new }
 {
-    let down = take_at(node, call, ctx, steps)?;
+    let down = take_at::<L, STARTS_CHECKED>(node, call, ctx, steps)?;
     match node {
         SegmentCollectorTree::Composite(_, _, child) => {
             let Some(down) = down else {
                 return Ok(());
             };
-            hand_batches(child, down.as_slice(), call.is_flush(), ctx, steps)
+            hand_batches::<L, STARTS_CHECKED>(child, down.as_slice(), call.is_flush(), ctx, steps)
         }
         SegmentCollectorTree::Filter(_, _, child) => {
             let Some(down) = down else {
                 return Ok(());
             };
-            hand_batches(child, down.as_slice(), call.is_flush(), ctx, steps)
+            hand_batches::<L, STARTS_CHECKED>(child, down.as_slice(), call.is_flush(), ctx, steps)
         }
         SegmentCollectorTree::Metric(_, _) => Ok(()),
-        SegmentCollectorTree::Group(children) => hand_all(children, call, ctx, steps),
+        SegmentCollectorTree::Group(children) => {
+            hand_all::<L, STARTS_CHECKED>(children, call, ctx, steps)
+        }
     }
 }
 
 // Takes batches in a tree, by a call each, and then hands down all that waits in it, if it is to.
 #[cycle(hand)]
-fn hand_batches<L: Ledger>(
+fn hand_batches<L: Ledger, const STARTS_CHECKED: bool>(
     node: &mut SegmentCollectorTree<'_>,
     batches: &[Batch],
     flush: bool,
@@ -67,6 +72,8 @@ fn hand_batches<L: Ledger>(
 ) -> Result<(), CollectError>
     requires meant { (meaning : Meaning) × IsMeant meaning ctx.now }
     requires fits { Fits ctx.now (held_of node.old) }
+    requires range { IsTrue STARTS_CHECKED
+        → TakesInRange ctx.now (pairs_of batches.now) (held_of node.old) }
     ensures ok { OnOk result (Takes ctx.now (pairs_of batches.now) flush (held_of node.old)
         (held_of node.new) steps.old steps.new) }
     ensures refused { IfErr result (IsRefused ctx.now (pairs_of batches.now)
@@ -77,17 +84,17 @@ fn hand_batches<L: Ledger>(
 {
     for batch in batches {
         let call = Call::Collect(batch.bucket_id, batch.docs.as_slice());
-        hand(node, call, ctx, steps)?;
+        hand::<L, STARTS_CHECKED>(node, call, ctx, steps)?;
     }
     if !flush {
         return Ok(());
     }
-    hand(node, Call::Flush, ctx, steps)
+    hand::<L, STARTS_CHECKED>(node, Call::Flush, ctx, steps)
 }
 
 // Does what is asked in each of several trees.
 #[cycle(hand)]
-fn hand_all<L: Ledger>(
+fn hand_all<L: Ledger, const STARTS_CHECKED: bool>(
     children: &mut Vec<SegmentCollectorTree<'_>>,
     call: Call<'_>,
     ctx: &PerRequestAggSegCtx<'_>,
@@ -95,6 +102,8 @@ fn hand_all<L: Ledger>(
 ) -> Result<(), CollectError>
     requires meant { (meaning : Meaning) × IsMeant meaning ctx.now }
     requires fits { Fits ctx.now (group_of children.old.items) }
+    requires range { IsTrue STARTS_CHECKED
+        → TakesInRange ctx.now (pairs_in call) (group_of children.old.items) }
     ensures ok { OnOk result (Takes ctx.now (pairs_in call.entry) (is_flush call.entry)
         (group_of children.old.items) (group_of children.new.items) steps.old steps.new) }
     ensures refused { IfErr result (IsRefused ctx.now (pairs_in call.entry)
@@ -104,14 +113,14 @@ fn hand_all<L: Ledger>(
     ensures later { steps.old ≤ steps.new }
 {
     for i in 0..children.len() {
-        hand(&mut children[i], call, ctx, steps)?;
+        hand::<L, STARTS_CHECKED>(&mut children[i], call, ctx, steps)?;
     }
     Ok(())
 }
 
 // Takes documents in the collector of a node, and gives what it is to hand on: what waits, if that
 // is much or all is to be handed down.
-fn take_at<L: Ledger>(
+fn take_at<L: Ledger, const STARTS_CHECKED: bool>(
     node: &mut SegmentCollectorTree<'_>,
     call: Call<'_>,
     ctx: &PerRequestAggSegCtx<'_>,
@@ -119,6 +128,8 @@ fn take_at<L: Ledger>(
 ) -> Result<Option<ItemList<Batch>>, CollectError>
     requires meant { (meaning : Meaning) × IsMeant meaning ctx.now }
     requires fits { Fits ctx.now (held_of node.old) }
+    requires range { IsTrue STARTS_CHECKED
+        → TakesInRange ctx.now (pairs_in call) (held_of node.old) }
     ensures ok { IfOk result (λ down. TakesAt ctx.now (pairs_in call.entry)
         (parents_in call.entry) (is_flush call.entry) (held_of node.old) down
         (held_of node.new) steps.old steps.new) }
@@ -132,7 +143,7 @@ fn take_at<L: Ledger>(
     match node {
         SegmentCollectorTree::Composite(_, collector, _) => {
             let req = &ctx.composite_req_data.as_slice()[index];
-            take_in_composite(collector, call, req, steps)?;
+            take_in_composite::<L, STARTS_CHECKED>(collector, call, req, steps)?;
             if !call.is_flush() && !collector.due() {
                 return Ok(None);
             }

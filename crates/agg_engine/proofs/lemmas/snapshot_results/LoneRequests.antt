@@ -31,7 +31,7 @@ use Rattle.agg_engine_tree.proofs.lemmas.collector_tree.ManyLists.{IsLong, many-
 use Rattle.agg_engine_tree.proofs.lemmas.collector_tree.MostVisits.{asked-composite, counted_in-out}
 use Rattle.agg_engine_tree.proofs.lemmas.collector_tree.MostVisits.{counted_of-more}
 use Rattle.agg_engine_tree.specs.tree_results.Leaves.{IsLeafOf}
-use Rattle.agg_engine.proofs.lemmas.snapshot_results.StableRanges.{ranges-stable}
+use Rattle.agg_engine_tree.proofs.lemmas.collector_tree.StableRanges.{ranges-stable}
 use Rattle.agg_engine.proofs.lemmas.snapshot_results.TreeRanges.{any-left}
 
 -- ---- of which data it is

@@ -9,20 +9,34 @@ use Rattle.agg_engine_tree.specs.declared.segment_context.context.PerRequestAggS
 }
 use Rattle.agg_engine_tree.specs.collector_tree.Bound.{TakesMost}
 use Rattle.agg_engine_tree.specs.collector_tree.Refusals.{AreNotLast, IsRefused}
+use Rattle.agg_engine_tree.specs.collector_tree.Refusals.{TakesInRange}
 use Rattle.agg_engine_tree.specs.collector_tree.Tree.{Held}
 use Rattle.agg_engine.specs.snapshot_results.Trees.{MayTake, MostSteps}
 use Rattle.agg_engine.proofs.lemmas.snapshot_results.TreeRanges.{group-out}
 
 module _ (ctx : PerRequestAggSegCtx) (pairs : List (ℕ × ℕ)) (parents : List ℕ)
     (old : Held) where
+  -- a tree that may take documents takes them in range
+  pub may-in_range : MayTake ctx old pairs → TakesInRange ctx pairs old
+  may-in_range may = record {
+    meaning = may.meaning;
+    meant = may.right.context.meant;
+    taken = may.taken;
+    visits = may.visits;
+    right = may.right.right;
+    range = λ out. may.all.range (group-out may.meaning ctx (docs_in (may.taken ++ pairs))
+        (plans_of (map plan_of ctx.agg_tree)) may.request may.right.context.tree old
+        may.right.nodes out);
+  }
+
   -- only memory may run out
   pub only-memory : MayTake ctx old pairs → AreNotLast parents → (e : CollectError)
       → IsRefused ctx pairs parents old e → e ≡ error.OutOfMemory
+  unfolding may-in_range
   only-memory may low error.OutOfMemory refused = refl
   only-memory may low error.BucketOutOfRange refused =
-      absurd (may.all.range (group-out may.meaning ctx (docs_in (may.taken ++ pairs))
-      (plans_of (map plan_of ctx.agg_tree)) may.request may.right.context.tree old may.right.nodes
-      (refused.range may.meaning may.right.context.meant may.taken may.visits may.right.right)))
+      absurd ((may-in_range may).range (refused.range may.meaning may.right.context.meant may.taken
+      may.visits may.right.right))
   only-memory may low error.TooMany refused =
       absurd (may.all.few (refused.group low may.meaning may.right.context.meant may.taken
       may.all.numbers may.visits may.right.right may.request (plans_of (map plan_of ctx.agg_tree))

@@ -1,7 +1,7 @@
 -- What a composite answers for documents under one parent, and for none.
 use Rattle.std.proofs.Common.{◌≡◌, ◌≤◌, ◌+◌, ◌^◌, ℕ, List, [], ◌∷◌, ◌++◌, inl, inr}
 use Rattle.std.proofs.Common.{length, refl, sym, ap, ◌∙◌, subst, arith, append-nil}
-use Rattle.std.proofs.Common.{length-append, Result, Ok, Err}
+use Rattle.std.proofs.Common.{length-append, Result, Ok, Err, IsErrAnd}
 use Rattle.std.specs.Prelude.{IsErrOf}
 use Rattle.std.proofs.lemmas.List.Concat.{flat_map-append}
 use Rattle.agg_values.specs.Names.{Named}
@@ -16,12 +16,18 @@ use Rattle.agg_composite.specs.declared.accessor.request_data.CompositeAggReqDat
   CompositeAggReqData,
 }
 use Rattle.agg_composite.specs.buckets.Visits.{docs_in, visits_at}
-use Rattle.agg_composite.specs.Composite.{AnswersCollect, Composite, CompositeFor, num_buckets}
+use Rattle.agg_composite.specs.buckets.Refusals.{refused}
+use Rattle.agg_composite.specs.declared.buckets.visit_error.VisitError.{VisitError}
+use Rattle.agg_composite.specs.declared.buckets.visit_error.VisitError.TheVariants as early
+use Rattle.agg_composite.specs.Composite.{AnswersCollect, AnswersVisits, Composite, CompositeFor}
+use Rattle.agg_composite.specs.Composite.{num_buckets}
+use Rattle.agg_composite.proofs.CollectorAnswers.{collected-all, collected-error, many-visits}
 use Rattle.agg_composite.proofs.OpenedBuckets.{no-fewer}
 use Rattle.agg_composite.specs.Visits.{AnswersRange, TypedVisit, visits_past}
 use Rattle.agg_engine_tree.specs.collector_tree.Took.{CompositeAnswers, CompositeTook, IsRefusal}
 use Rattle.agg_engine_tree.specs.collector_tree.Caches.{Cache, waiting_in}
 use Rattle.agg_engine_tree.specs.collector_tree.Tree.{visits_of}
+use Rattle.agg_engine_tree.proofs.lemmas.collector_tree.PassedErrors.{error-passed}
 
 -- an answer for its range is a refusal of a tree
 range-errors : (in_range : Type 0) (error : CollectError) → AnswersRange in_range (Err error)
@@ -31,6 +37,17 @@ range-errors in_range refusal.TooMany a = inr (inl refl)
 range-errors in_range refusal.OutOfMemory a = inr (inr refl)
 range-errors in_range (refusal.Aggregation limit) a = absurd a
 range-errors in_range refusal.CollectorFailed a = absurd a
+
+-- documents in range are refused for another reason
+refused-in_range : (in_range : Type 0) → in_range → (error : VisitError)
+    → AnswersRange in_range (Err (refused error))
+refused-in_range in_range all early.TooMany = all
+refused-in_range in_range all early.OutOfMemory = all
+
+-- the documents of pairs under one parent
+pub docs_in-under : (parent : ℕ) (docs : List ℕ) → docs_in (under parent docs) ≡ docs
+docs_in-under parent [] = refl
+docs_in-under parent (d ∷ docs) = ap (λ ds. d ∷ ds) (docs_in-under parent docs)
 
 module _ (req : CompositeAggReqData) (segment : Stored) (after : Named AfterKey) where
   -- the documents of pairs are in range
@@ -54,10 +71,6 @@ module _ (req : CompositeAggReqData) (segment : Stored) (after : Named AfterKey)
   pub visits-append : (xs ys : List (ℕ × ℕ)) → visits (xs ++ ys) ≡ visits xs ++ visits ys
   visits-append xs ys =
       flat_map-append (λ e. visits_past req.req.now.sources segment after e.0 (e.1 ∷ [])) xs ys
-
-  docs_in-under : (parent : ℕ) (docs : List ℕ) → docs_in (under parent docs) ≡ docs
-  docs_in-under parent [] = refl
-  docs_in-under parent (d ∷ docs) = ap (λ ds. d ∷ ds) (docs_in-under parent docs)
 
   -- ---- one parent
 
@@ -115,6 +128,36 @@ module _ (req : CompositeAggReqData) (segment : Stored) (after : Named AfterKey)
     later = a.later;
     most = omega (arith, a.most, ap length (visits-under parent docs));
   }
+
+  -- documents in range, with no look at their starts
+  module _ (parent : ℕ) (docs : List ℕ) (old new : Composite Cache) (steps steps_now : ℕ)
+      (all : AreAllInRange segment req.req.now.sources docs) where
+    abbrev typed : List TypedVisit
+    typed = visits_past req.req.now.sources segment after parent docs
+
+    unlooked : (returned : Result (Unit {0}) CollectError)
+        → AnswersCollect waiting_in req typed old new steps steps_now returned
+        → AnswersRange (AreAllInRange segment req.req.now.sources docs) returned
+        → CompositeAnswers req segment after (under parent docs) old new steps steps_now returned
+    unlooked returned a =
+        answers-under parent docs old new steps steps_now returned a
+        (λ visited given f e.
+        many-visits waiting_in req old visited given (length typed) f (a.too_many e))
+
+    pub answers-in_range : AnswersVisits waiting_in req typed old new steps steps_now (Ok tt)
+        → CompositeAnswers req segment after (under parent docs) old new steps steps_now (Ok tt)
+    answers-in_range walked =
+        unlooked (Ok tt) (collected-all waiting_in req typed old new steps steps_now walked) all
+
+    pub refuses-in_range : (error : VisitError) (returned : Result (Unit {0}) CollectError)
+        → AnswersVisits waiting_in req typed old new steps steps_now (Err error)
+        → IsErrAnd returned (λ e. e ≡ refused error)
+        → CompositeAnswers req segment after (under parent docs) old new steps steps_now returned
+    refuses-in_range error returned walked is_err =
+        unlooked returned
+        (collected-error waiting_in req typed old new steps steps_now error returned walked is_err)
+        (error-passed (AnswersRange (AreAllInRange segment req.req.now.sources docs)) returned
+        (refused error) is_err (refused-in_range _ all error))
 
   -- a composite that was prepared before
   pub answers-prepared : (pairs : List (ℕ × ℕ)) (old mid new : Composite Cache)

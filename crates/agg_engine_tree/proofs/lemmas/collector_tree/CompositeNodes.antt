@@ -19,7 +19,7 @@ use Rattle.agg_engine_tree.specs.declared.segment_context.context.PerRequestAggS
   PerRequestAggSegCtx,
 }
 use Rattle.agg_engine_tree.specs.collector_tree.Bound.{TakesMost}
-use Rattle.agg_engine_tree.specs.collector_tree.Refusals.{IsRefused}
+use Rattle.agg_engine_tree.specs.collector_tree.Refusals.{IsRefused, TakesInRange}
 use Rattle.agg_engine_tree.specs.collector_tree.Step.{TakesAt}
 use Rattle.agg_engine_tree.specs.collector_tree.Took.{CompositeTook}
 use Rattle.agg_engine_tree.specs.collector_tree.Caches.{Cache}
@@ -190,16 +190,18 @@ module _ (ctx : PerRequestAggSegCtx) (pairs : List (ℕ × ℕ)) (parents : List
       → ((error : CollectError)
       → IsRefused ctx (pairs_of down) (map (λ batch. batch.bucket_id) down) h error
       → IsRefused ctx pairs parents (Held.composite index old h) error)
+      → (TakesInRange ctx pairs (Held.composite index old h) → TakesInRange ctx (pairs_of down) h)
       → ((then : ℕ) → TakesMost ctx (pairs_of down) h mid then
       → TakesMost ctx pairs (Held.composite index old h) steps then)
       → TakesAt ctx pairs parents all (Held.composite index old h) (Some down)
       (Held.composite index b h) steps mid
-  composite-hands down b gives rest h fits refused most =
+  composite-hands down b gives rest h fits refused in_range most =
       let same : num_buckets b ≡ num_buckets now =
       ap (λ (x : Composite Cache). num_buckets x) rest in (
         refl,
         record {
           refused = refused;
+          in_range = in_range;
           most = most;
           below = fits.2;
           takes = λ k then t. record {

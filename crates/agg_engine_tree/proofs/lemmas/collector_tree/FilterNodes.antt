@@ -17,7 +17,7 @@ use Rattle.agg_engine_tree.specs.declared.segment_context.context.PerRequestAggS
   PerRequestAggSegCtx,
 }
 use Rattle.agg_engine_tree.specs.collector_tree.Bound.{TakesMost}
-use Rattle.agg_engine_tree.specs.collector_tree.Refusals.{IsRefused}
+use Rattle.agg_engine_tree.specs.collector_tree.Refusals.{IsRefused, TakesInRange}
 use Rattle.agg_engine_tree.specs.collector_tree.Step.{TakesAt}
 use Rattle.agg_engine_tree.specs.collector_tree.Took.{FilterTook}
 use Rattle.agg_engine_tree.specs.collector_tree.Caches.{Cache, waiting_in}
@@ -109,15 +109,17 @@ module _ (ctx : PerRequestAggSegCtx) (pairs : List (ℕ × ℕ)) (parents : List
       → ((error : CollectError)
       → IsRefused ctx (pairs_of down) (map (λ batch. batch.bucket_id) down) h error
       → IsRefused ctx pairs parents (Held.filter index old h) error)
+      → (TakesInRange ctx pairs (Held.filter index old h) → TakesInRange ctx (pairs_of down) h)
       → ((then : ℕ) → TakesMost ctx (pairs_of down) h steps then
       → TakesMost ctx pairs (Held.filter index old h) steps then)
       → TakesAt ctx pairs parents all (Held.filter index old h) (Some down) (Held.filter index b h)
       steps
       steps
-  filter-hands down b gives rest h fits refused most = (
+  filter-hands down b gives rest h fits refused in_range most = (
     refl,
     record {
       refused = refused;
+      in_range = in_range;
       most = most;
       below = fits.2;
       takes = λ k then t. record {

@@ -1,10 +1,11 @@
 -- A tree takes documents, one level at a time.
 use Rattle.std.proofs.Common.{◌≡◌, ◌<◌, ◌+◌, ℕ, List, [], ◌∷◌, ◌++◌, Bool, Option, Some, get_or}
 use Rattle.std.proofs.Common.{set, take, length, map}
-use Rattle.std.proofs.Common.{sym, ap, ◌∙◌, subst, arith, length-set}
+use Rattle.std.proofs.Common.{suc, sym, ap, ◌∙◌, subst, arith, length-set}
 use Rattle.std.proofs.lemmas.List.{get_or-set_same, map-append, take-set, take_more}
 use Rattle.std.specs.Box.{with_value}
 use Rattle.std.specs.declared.boxed.Box.{Box}
+use Rattle.std.specs.declared.vec.Vec.{Vec}
 use Rattle.std.specs.declared.alloc.Global.{Global}
 use Rattle.agg_cache.specs.Waiting.{pairs_of}
 use Rattle.agg_cache.specs.declared.cache.Batch.{Batch}
@@ -15,12 +16,14 @@ use Rattle.agg_engine_tree.specs.declared.segment_context.context.PerRequestAggS
 }
 use Rattle.agg_engine_tree.specs.declared.collector_tree.tree.SegmentCollectorTree as declared
 use declared.{SegmentCollectorTree as Tree}
-use declared.{Composite, Filter}
-use Rattle.agg_engine_tree.specs.collector_tree.Step.{TakesAt}
+use declared.{Composite, Filter, Group}
+use Rattle.agg_engine_tree.specs.collector_tree.Step.{HandsOn, TakesAt, depth}
 use Rattle.agg_engine_tree.specs.collector_tree.Caches.{Cache}
-use Rattle.agg_engine_tree.specs.collector_tree.Tree.{Held, Takes, held_of}
+use Rattle.agg_engine_tree.specs.collector_tree.Refusals.{TakesInRange}
+use Rattle.agg_engine_tree.specs.collector_tree.Tree.{Fits, Held, Takes, group_of, held_of}
 use Rattle.agg_engine_tree.proofs.lemmas.collector_tree.Groups.{AllTake, all-more}
 use Rattle.agg_engine_tree.proofs.lemmas.collector_tree.Levels.{held-composite, held-filter}
+use Rattle.agg_engine_tree.proofs.lemmas.collector_tree.Levels.{held-group}
 
 module _ (ctx : PerRequestAggSegCtx) (pairs : List (ℕ × ℕ)) (parents : List ℕ) (all : Bool)
     (old mid new : Tree)
@@ -60,6 +63,59 @@ module _ (ctx : PerRequestAggSegCtx) (pairs : List (ℕ × ℕ)) (parents : List
         (subst
         (λ (b : Box Tree Global). Takes ctx (pairs_of down) all (held_of b.value) (held_of new)
         steps_mid steps_now) same below))
+
+-- ---- what is handed down
+
+module _ (ctx : PerRequestAggSegCtx) (pairs : List (ℕ × ℕ)) (parents : List ℕ) (all : Bool)
+    (old mid : Tree) (field : ℕ) (child : Box Tree Global) (given : Option (List Batch))
+    (down batches : List Batch) (some : given ≡ Some down) (same : batches ≡ down)
+    (below : Tree) (read : below ≡ child.value) (steps steps_mid : ℕ)
+    (at : TakesAt ctx pairs parents all (held_of old) given (held_of mid) steps steps_mid)
+    {Checked : Type 0} (range : Checked → TakesInRange ctx pairs (held_of old)) where
+  -- a tree below a node is less deep, may take batches, and in range where starts are checked
+  abbrev pub MayTakeBelow : Type 0
+  MayTakeBelow =
+      (depth (held_of old) ≡ suc (depth (held_of below)))
+      × (Fits ctx (held_of below)
+      × (Checked → TakesInRange ctx (pairs_of batches) (held_of below)))
+
+  -- what a node that hands on has below it may take what it hands on
+  may-take : (now : Held → Held)
+      → (depth (held_of old) ≡ suc (depth (held_of child.value)))
+      × HandsOn ctx pairs parents all (held_of old) down (held_of child.value) now steps steps_mid
+      → MayTakeBelow
+  may-take now (deep, on) =
+      rw (read, same) (deep, (on.below, λ checked. on.in_range (range checked)))
+
+  -- what is below a composite may take what this hands on
+  pub below-composite : (collector : c.Composite Cache) → mid ≡ Composite field collector child
+      → MayTakeBelow
+  below-composite collector is =
+      may-take (Held.composite field collector)
+      (subst (λ g. TakesAt ctx pairs parents all (held_of old) g
+      (Held.composite field collector (held_of child.value)) steps steps_mid) some
+      (subst (λ h. TakesAt ctx pairs parents all (held_of old) given h steps steps_mid)
+      (ap held_of is ∙ held-composite field collector child) at))
+
+  -- so for a filter
+  pub below-filter : (collector : f.Filter Cache) → mid ≡ Filter field collector child
+      → MayTakeBelow
+  below-filter collector is =
+      may-take (Held.filter field collector)
+      (subst (λ g. TakesAt ctx pairs parents all (held_of old) g
+      (Held.filter field collector (held_of child.value)) steps steps_mid) some
+      (subst (λ h. TakesAt ctx pairs parents all (held_of old) given h steps steps_mid)
+      (ap held_of is ∙ held-filter field collector child) at))
+
+-- several trees take what all do
+pub same-group : (ctx : PerRequestAggSegCtx) (pairs : List (ℕ × ℕ)) (parents : List ℕ)
+    (all : Bool) (old mid : Tree) (children : Vec Tree Global) (given : Option (List Batch))
+    (steps steps_mid : ℕ) → mid ≡ Group children
+    → TakesAt ctx pairs parents all (held_of old) given (held_of mid) steps steps_mid
+    → held_of old ≡ group_of children.items
+same-group ctx pairs parents all old mid children given steps steps_mid is at =
+    (subst (λ h. TakesAt ctx pairs parents all (held_of old) given h steps steps_mid)
+    (ap held_of is ∙ held-group children) at).0
 
 -- ---- several
 

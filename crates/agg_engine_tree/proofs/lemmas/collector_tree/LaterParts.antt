@@ -17,6 +17,7 @@ use Rattle.agg_engine_tree.specs.declared.segment_context.context.PerRequestAggS
 use Rattle.agg_engine_tree.specs.collector_tree.Bound.{TakesMost}
 use Rattle.agg_engine_tree.specs.collector_tree.Refusals.{AreNotLast, HasStartOutOfRange, IsRefused}
 use Rattle.agg_engine_tree.specs.collector_tree.Refusals.{ManyTaken, RangeTaken, SomeHasStart}
+use Rattle.agg_engine_tree.specs.collector_tree.Refusals.{TakesInRange}
 use Rattle.agg_engine_tree.specs.collector_tree.Tree.{GrowsTo, AllGrowTo, Held, Helds, IsGroupOf}
 use Rattle.agg_engine_tree.specs.collector_tree.Tree.{Takes}
 use Rattle.agg_engine_tree.proofs.lemmas.collector_tree.Levels.{is-nothing, same-plan, same-plans}
@@ -59,17 +60,36 @@ module _ (ctx : PerRequestAggSegCtx) (xs ys zs : List (ℕ × ℕ)) (old mid : H
       (sym (docs_in-append (taken ++ xs ++ ys) zs) ∙ ap docs_in whole)
       (within-part [] (docs_in (taken ++ xs ++ ys)) (docs_in zs))
 
+  -- a start out of range after the first ones is one in all
+  later-start : (meaning : Meaning) (taken : List (ℕ × ℕ))
+      → HasStartOutOfRange meaning ctx mid (docs_in (taken ++ xs ++ ys))
+      → HasStartOutOfRange meaning ctx old (docs_in (taken ++ (xs ++ (ys ++ zs))))
+  later-start meaning taken out =
+      start-same meaning ctx (docs_in (taken ++ (xs ++ (ys ++ zs)))) old mid took.nodes
+      (start-part meaning ctx (docs_in (taken ++ xs ++ ys))
+      (docs_in (taken ++ (xs ++ (ys ++ zs))))
+      (within-contains _ _ (front-within taken)) mid out)
+
   later-range : (parents all : List ℕ) → RangeTaken ctx ys parents mid
       → RangeTaken ctx (xs ++ (ys ++ zs)) all old
   later-range parents all r = record {
     range = λ meaning is taken visits right.
         let now = took.takes meaning is taken visits right in
-        start-same meaning ctx (docs_in (taken ++ (xs ++ (ys ++ zs)))) old mid took.nodes
-        (start-part meaning ctx (docs_in (taken ++ xs ++ ys))
-        (docs_in (taken ++ (xs ++ (ys ++ zs))))
-        (within-contains _ _ (front-within taken)) mid
-        (r.range meaning is (taken ++ xs) now.0 now.1));
+        later-start meaning taken (r.range meaning is (taken ++ xs) now.0 now.1);
   }
+
+  -- where a tree takes all in range, it takes the next ones in range after the first
+  pub later-in_range : TakesInRange ctx (xs ++ (ys ++ zs)) old → TakesInRange ctx ys mid
+  later-in_range t =
+      let now = took.takes t.meaning t.meant t.taken t.visits t.right in
+      record {
+        meaning = t.meaning;
+        meant = t.meant;
+        taken = t.taken ++ xs;
+        visits = now.0;
+        right = now.1;
+        range = λ out. t.range (later-start t.meaning t.taken out);
+      }
 
   later-many : (parents all : List ℕ) → (AreNotLast all → AreNotLast parents)
       → ManyTaken ctx ys parents mid → ManyTaken ctx (xs ++ (ys ++ zs)) all old

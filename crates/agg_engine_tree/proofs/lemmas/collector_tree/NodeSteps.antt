@@ -37,7 +37,9 @@ use Rattle.agg_engine_tree.proofs.lemmas.collector_tree.Levels.{held-composite, 
 use Rattle.agg_engine_tree.proofs.lemmas.collector_tree.MostFilters.{filter-lower-most}
 use Rattle.agg_engine_tree.proofs.lemmas.collector_tree.MostSteps.{composite-lower-most}
 use Rattle.agg_engine_tree.proofs.lemmas.collector_tree.RefusedFilters.{filter-lower}
+use Rattle.agg_engine_tree.proofs.lemmas.collector_tree.RefusedFilters.{filter-lower-in_range}
 use Rattle.agg_engine_tree.proofs.lemmas.collector_tree.RefusedNodes.{composite-lower}
+use Rattle.agg_engine_tree.proofs.lemmas.collector_tree.RefusedNodes.{composite-lower-in_range}
 
 -- ---- composites
 
@@ -77,6 +79,8 @@ module _ (ctx : PerRequestAggSegCtx) (pairs : List (ℕ × ℕ)) (parents : List
       b gives rest (held_of child.value) here
       (composite-lower ctx pairs parents field req at meant collector now steps mid took-field
       down filled b gives rest (held_of child.value) here.1)
+      (composite-lower-in_range ctx pairs parents field req at meant collector now steps mid
+      took-field down filled b gives rest (held_of child.value) here.1)
       (composite-lower-most ctx pairs field req at meant collector now steps mid took-field
       down b gives rest (held_of child.value) here.1))
 
@@ -117,6 +121,8 @@ module _ (ctx : PerRequestAggSegCtx) (pairs : List (ℕ × ℕ)) (parents : List
       matched-field down
       b gives rest (held_of child.value) here
       (filter-lower ctx pairs parents field req at meant collector now matched-field
+      down filled b gives rest (held_of child.value) here.1)
+      (filter-lower-in_range ctx pairs parents field req at meant collector now matched-field
       down filled b gives rest (held_of child.value) here.1)
       (filter-lower-most ctx pairs field req at collector now steps matched-field
       down b gives rest (held_of child.value) here.1))

@@ -1,7 +1,7 @@
 -- Why a filter with what is below it, a metric or several trees refuse documents.
 use Rattle.std.proofs.Common.{◌≡◌, ◌<◌, ◌++◌, ◌⊎◌, ℕ, List, [], ◌∷◌, true, Some, inl, inr, Err, map}
 use Rattle.std.proofs.Common.{get_or}
-use Rattle.std.proofs.Common.{length, zero, suc, filter, ap, ◌∙◌, arith}
+use Rattle.std.proofs.Common.{length, zero, suc, filter, ap, ◌∙◌, ⊎_elim, arith}
 use Rattle.std.specs.Prelude.{slice_get}
 use Rattle.std.specs.List.{All}
 use Rattle.agg_cache.specs.Waiting.{pairs_of}
@@ -24,7 +24,8 @@ use Rattle.agg_engine_tree.specs.declared.segment_context.context.PerRequestAggS
 }
 use Rattle.agg_engine_tree.specs.declared.collector_tree.tree.SegmentCollectorTree as declared
 use declared.{SegmentCollectorTree as Tree}
-use Rattle.agg_engine_tree.specs.collector_tree.Refusals.{IsRefused, RangeTaken, SomeHasStart}
+use Rattle.agg_engine_tree.specs.collector_tree.Refusals.{HasStartOutOfRange, IsRefused, RangeTaken}
+use Rattle.agg_engine_tree.specs.collector_tree.Refusals.{SomeHasStart, TakesInRange}
 use Rattle.agg_engine_tree.specs.collector_tree.Took.{FilterAnswers, FilterTook, MetricAnswers}
 use Rattle.agg_engine_tree.specs.collector_tree.Caches.{Cache}
 use Rattle.agg_engine_tree.specs.collector_tree.Tree.{AllFor, Held, IsHandedTo, group_of, held_of}
@@ -34,7 +35,8 @@ use Rattle.agg_engine_tree.proofs.lemmas.collector_tree.ManyFilters.{filter-lowe
 use Rattle.agg_engine_tree.proofs.lemmas.collector_tree.ManyMetrics.{group-many, metric-many}
 use Rattle.agg_engine_tree.proofs.lemmas.collector_tree.MatchedDocuments.{given-matched}
 use Rattle.agg_engine_tree.proofs.lemmas.collector_tree.MatchedDocuments.{matching-within}
-use Rattle.agg_engine_tree.proofs.lemmas.collector_tree.RefusedNodes.{nothing-ranges, start-part}
+use Rattle.agg_engine_tree.proofs.lemmas.collector_tree.RefusedNodes.{nothing-ranges, nothing-start}
+use Rattle.agg_engine_tree.proofs.lemmas.collector_tree.RefusedNodes.{start-part}
 use Rattle.agg_engine_tree.proofs.lemmas.collector_tree.WithinLists.{within-both, within-contains}
 
 -- an error that is neither of two
@@ -91,20 +93,47 @@ module _ (ctx : PerRequestAggSegCtx) (pairs : List (ℕ × ℕ)) (parents : List
         (ap (λ (x : Filter Cache). x.hands_on) rest ∙ own.hands_on ∙ on)
         (gives.gives m (taken ++ pairs) given (own.takes taken given f))
 
+    -- a start out of range in what it gave is one in what it took
+    given-start : (meaning : Meaning) → IsMeant meaning ctx → old.hands_on ≡ true
+        → (taken given : List (ℕ × ℕ))
+        → FilterFor waiting_in (is_matching (meaning.query_at index) meaning.segment) old taken
+        given
+        → (h : Held) → HasStartOutOfRange meaning ctx h (docs_in (given ++ pairs_of down))
+        → HasStartOutOfRange meaning ctx h (docs_in (taken ++ pairs))
+    given-start meaning is on taken given own_for =
+        let m = is_matching (meaning.query_at index) meaning.segment in
+        start-part meaning ctx (docs_in (given ++ pairs_of down)) (docs_in (taken ++ pairs))
+        (within-contains (docs_in (given ++ pairs_of down)) (docs_in (taken ++ pairs))
+        (within-both (docs_in (given ++ pairs_of down)) (filter m (docs_in (taken ++ pairs)))
+        (docs_in (taken ++ pairs)) (given-lower meaning is on taken given own_for)
+        (matching-within m (docs_in (taken ++ pairs)))))
+
     lower-range : (h : Held) → IsHandedTo old.hands_on h → RangeTaken ctx (pairs_of down) ids h
         → RangeTaken ctx pairs parents (Held.filter index old h)
     lower-range h (inr none) r =
         absurd (nothing-ranges ctx (pairs_of down) ids meant.0 meant.1 h none r)
     lower-range h (inl on) r = record {
       range = λ meaning is taken visits (given, own_for, below_for).
-          let m = is_matching (meaning.query_at index) meaning.segment in
-          start-part meaning ctx (docs_in (given ++ pairs_of down)) (docs_in (taken ++ pairs))
-          (within-contains (docs_in (given ++ pairs_of down)) (docs_in (taken ++ pairs))
-          (within-both (docs_in (given ++ pairs_of down)) (filter m (docs_in (taken ++ pairs)))
-          (docs_in (taken ++ pairs)) (given-lower meaning is on taken given own_for)
-          (matching-within m (docs_in (taken ++ pairs))))) h
+          given-start meaning is on taken given own_for h
           (r.range meaning is given visits below_for);
     }
+
+    -- where a filter takes documents in range, so does what is below it
+    pub filter-lower-in_range : (h : Held) → IsHandedTo old.hands_on h
+        → TakesInRange ctx pairs (Held.filter index old h) → TakesInRange ctx (pairs_of down) h
+    filter-lower-in_range h handed t =
+        let (given, own_for, below_for) = t.right in
+        record {
+          meaning = t.meaning;
+          meant = t.meant;
+          taken = given;
+          visits = t.visits;
+          right = below_for;
+          range = ⊎_elim
+              (λ on out. t.range (given-start t.meaning t.meant on t.taken given own_for h out))
+              (λ none. nothing-start t.meaning ctx (docs_in (given ++ pairs_of down)) h none)
+              handed;
+        }
 
     -- what is below a filter refuses what it gave
     pub filter-lower : (h : Held) → IsHandedTo old.hands_on h → (error : CollectError)

@@ -1,6 +1,6 @@
 -- Why a composite or a filter with what is below it refuses documents.
 use Rattle.std.proofs.Common.{◌≡◌, ◌<◌, ◌++◌, ℕ, List, [], true, Some, inl, inr, Err, length, map}
-use Rattle.std.proofs.Common.{refl, sym, ap, ◌∙◌, subst, append-nil}
+use Rattle.std.proofs.Common.{refl, sym, ap, ◌∙◌, subst, ⊎_elim, append-nil}
 use Rattle.std.specs.Prelude.{slice_get}
 use Rattle.std.specs.List.{All, Contains}
 use Rattle.agg_values.specs.Names.{Named}
@@ -22,7 +22,7 @@ use Rattle.agg_engine_tree.specs.declared.segment_context.context.PerRequestAggS
   PerRequestAggSegCtx,
 }
 use Rattle.agg_engine_tree.specs.collector_tree.Refusals.{HasStartOutOfRange, IsRefused, RangeTaken}
-use Rattle.agg_engine_tree.specs.collector_tree.Refusals.{SomeHasStart}
+use Rattle.agg_engine_tree.specs.collector_tree.Refusals.{SomeHasStart, TakesInRange}
 use Rattle.agg_engine_tree.specs.collector_tree.Took.{CompositeAnswers, CompositeTook, IsRefusal}
 use Rattle.agg_engine_tree.specs.collector_tree.Caches.{Cache}
 use Rattle.agg_engine_tree.specs.collector_tree.Tree.{CompositeIsFor, Held, Helds, IsHandedTo}
@@ -61,7 +61,7 @@ module _ (meaning : Meaning) (ctx : PerRequestAggSegCtx) (docs others : List ℕ
     some-part (Helds.more h hs) (inr s) = inr (some-part hs s)
 
 -- pairs are among those after others
-within-after : (taken pairs : List (ℕ × ℕ)) → Within (docs_in pairs) (docs_in (taken ++ pairs))
+pub within-after : (taken pairs : List (ℕ × ℕ)) → Within (docs_in pairs) (docs_in (taken ++ pairs))
 within-after taken pairs =
     subst (Within (docs_in pairs))
     (ap (λ ds. docs_in taken ++ ds) (append-nil (docs_in pairs))
@@ -69,6 +69,11 @@ within-after taken pairs =
     (within-part (docs_in taken) (docs_in pairs) [])
 
 -- nothing has no start
+pub nothing-start : (meaning : Meaning) (ctx : PerRequestAggSegCtx) (docs : List ℕ) (h : Held)
+    → h ≡ nothing → HasStartOutOfRange meaning ctx h docs → ⊥
+nothing-start meaning ctx docs h none out =
+    subst (λ k. HasStartOutOfRange meaning ctx k docs) none out
+
 pub nothing-ranges : (ctx : PerRequestAggSegCtx) (pairs : List (ℕ × ℕ)) (parents : List ℕ)
     (meaning : Meaning) → IsMeant meaning ctx → (h : Held) → h ≡ nothing
     → RangeTaken ctx pairs parents h → ⊥
@@ -141,16 +146,43 @@ module _ (ctx : PerRequestAggSegCtx) (pairs : List (ℕ × ℕ)) (parents : List
         (given-visited req b visits (given ++ pairs_of down)
         (ap (λ (x : Composite Cache). x.hands_on) rest ∙ still ∙ on) for_now) d c)
 
+    -- a start out of range in what it gave is one in what it took
+    given-start : (meaning : Meaning) → IsMeant meaning ctx → old.hands_on ≡ true
+        → (taken given : List (ℕ × ℕ)) (own : ℕ)
+        → CompositeIsFor meaning ctx index old taken given own → (h : Held)
+        → HasStartOutOfRange meaning ctx h (docs_in (given ++ pairs_of down))
+        → HasStartOutOfRange meaning ctx h (docs_in (taken ++ pairs))
+    given-start meaning is on taken given own own_for =
+        start-part meaning ctx (docs_in (given ++ pairs_of down)) (docs_in (taken ++ pairs))
+        (given-part meaning is on taken given own own_for)
+
     lower-range : (h : Held) → IsHandedTo old.hands_on h → RangeTaken ctx (pairs_of down) ids h
         → RangeTaken ctx pairs parents (Held.composite index old h)
     lower-range h (inr none) r =
         absurd (nothing-ranges ctx (pairs_of down) ids meant.0 meant.1 h none r)
     lower-range h (inl on) r = record {
       range = λ meaning is taken visits (given, own, below, own_for, below_for, sum).
-          inr (start-part meaning ctx (docs_in (given ++ pairs_of down)) (docs_in (taken ++ pairs))
-          (given-part meaning is on taken given own own_for) h
+          inr (given-start meaning is on taken given own own_for h
           (r.range meaning is given below below_for));
     }
+
+    -- where a composite takes documents in range, so does what is below it
+    pub composite-lower-in_range : (h : Held) → IsHandedTo old.hands_on h
+        → TakesInRange ctx pairs (Held.composite index old h) → TakesInRange ctx (pairs_of down) h
+    composite-lower-in_range h handed t =
+        let (given, own, below, own_for, below_for, sum) = t.right in
+        record {
+          meaning = t.meaning;
+          meant = t.meant;
+          taken = given;
+          visits = below;
+          right = below_for;
+          range = ⊎_elim
+              (λ on out. t.range (inr (given-start t.meaning t.meant on t.taken given own own_for
+              h out)))
+              (λ none. nothing-start t.meaning ctx (docs_in (given ++ pairs_of down)) h none)
+              handed;
+        }
 
     -- what is below a composite refuses what it gave
     pub composite-lower : (h : Held) → IsHandedTo old.hands_on h → (error : CollectError)

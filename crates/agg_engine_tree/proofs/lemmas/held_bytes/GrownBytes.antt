@@ -1,5 +1,5 @@
 -- A tree that grows holds no fewer bytes.
-use Rattle.std.proofs.Common.{◌≡◌, ◌≤◌, ◌+◌, ◌*◌, ℕ, ap, arith}
+use Rattle.std.proofs.Common.{◌≡◌, ◌≤◌, ◌*◌, ap, arith}
 use Rattle.std.proofs.Math.Nat.{mul-le-mul_left}
 use Rattle.agg_composite.specs.Composite.{num_buckets}
 use Rattle.agg_engine_tree.specs.declared.segment_context.context.PerRequestAggSegCtx.{

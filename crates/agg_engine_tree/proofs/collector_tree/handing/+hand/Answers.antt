@@ -1,10 +1,18 @@
-use Rattle.std.proofs.Common.{◌≡◌, ◌<◌, ◌≤◌, ◌+◌, ◌∷◌, [], true, false, get_or, length, map}
+use mathlib.Core.List.{Mem, not-mem-nil}
+use Rattle.std.proofs.Common.{◌≡◌, ◌<◌, ◌≤◌, ◌+◌, ℕ, List, ◌∷◌, [], true, false, get_or, length}
+use Rattle.std.proofs.Common.{map}
 use Rattle.std.proofs.Common.{take, drop, append-nil, length-set, refl, sym, ap, ◌∙◌, subst, arith}
-use Rattle.std.specs.Prelude.{IfErr}
+use Rattle.std.specs.Prelude.{IfErr, IsTrue, not}
+use Rattle.std.proofs.Math.Dec.{eqb}
+use Rattle.std.specs.declared.alloc.Global.{Global}
+use Rattle.std.specs.declared.vec.Vec.{Vec}
 use Rattle.std.proofs.lemmas.List.{get_or-set_other, take_all}
 use Rattle.std.proofs.lemmas.List.Elements.{All-nil}
 use Rattle.std.proofs.lemmas.Result.{IfErr-weaker, on_ok_weaker}
 use Rattle.agg_cache.specs.Waiting.{pairs_of, under}
+use Rattle.agg_engine_tree.specs.declared.collector_tree.tree.SegmentCollectorTree.{
+  SegmentCollectorTree as Tree,
+}
 use Rattle.agg_engine_tree.specs.declared.collector_tree.tree.SegmentCollectorTree.TheViews.{
   outs-Composite,
 }
@@ -12,16 +20,20 @@ use Rattle.agg_engine_tree.specs.declared.collector_tree.tree.SegmentCollectorTr
   outs-Filter,
 }
 use Rattle.agg_engine_tree.specs.collector_tree.Bound.{TakesMost}
-use Rattle.agg_engine_tree.specs.collector_tree.Refusals.{IsRefused}
+use Rattle.agg_engine_tree.specs.collector_tree.Refusals.{IsRefused, TakesInRange}
 use Rattle.agg_engine_tree.specs.collector_tree.Step.{depth, depths}
 use Rattle.agg_engine_tree.specs.collector_tree.Call.{is_flush, pairs_in, parents_in}
-use Rattle.agg_engine_tree.specs.collector_tree.Tree.{Fits, Takes, group_of, held_of, helds_of}
+use Rattle.agg_engine_tree.specs.collector_tree.Tree.{Fits, Held, Takes, group_of, held_of}
+use Rattle.agg_engine_tree.specs.collector_tree.Tree.{helds_of}
 use Rattle.agg_engine_tree.proofs.lemmas.collector_tree.Batches.{bucket_of, pairs_of-more}
 use Rattle.agg_engine_tree.proofs.lemmas.collector_tree.Batches.{pairs_of-split}
 use Rattle.agg_engine_tree.proofs.lemmas.collector_tree.Groups.{AllTake, group-takes}
 use Rattle.agg_engine_tree.proofs.lemmas.collector_tree.HandedTrees.{all-next, handed-composite}
-use Rattle.agg_engine_tree.proofs.lemmas.collector_tree.HandedTrees.{handed-filter}
-use Rattle.agg_engine_tree.proofs.lemmas.collector_tree.LaterParts.{later-most, later-refused}
+use Rattle.agg_engine_tree.proofs.lemmas.collector_tree.HandedTrees.{below-composite, below-filter}
+use Rattle.agg_engine_tree.proofs.lemmas.collector_tree.HandedTrees.{handed-filter, same-group}
+use Rattle.agg_engine_tree.proofs.lemmas.collector_tree.InRangeTrees.{each-in_range}
+use Rattle.agg_engine_tree.proofs.lemmas.collector_tree.LaterParts.{later-in_range, later-most}
+use Rattle.agg_engine_tree.proofs.lemmas.collector_tree.LaterParts.{later-refused}
 use Rattle.agg_engine_tree.proofs.lemmas.collector_tree.Levels.{fits-each, less-deep, same-depth}
 use Rattle.agg_engine_tree.proofs.lemmas.collector_tree.MostGroups.{some-most}
 use Rattle.agg_engine_tree.proofs.lemmas.collector_tree.MostSteps.{takes-most}
@@ -30,6 +42,47 @@ use Rattle.agg_engine_tree.proofs.lemmas.collector_tree.RefusedFilters.{group-re
 use Rattle.agg_engine_tree.proofs.lemmas.collector_tree.TakenParts.{taken-all, takes-both}
 use Rattle.agg_engine_tree.proofs.lemmas.collector_tree.TakenParts.{takes-none}
 use Rattle.agg_engine_tree.proofs.collector_tree.handing.+hand.Goals as goal
+
+-- a number holds no loan
+no-loan : (loans : List ℕ) (a : ℕ) → Mem a [] → Mem a loans
+no-loan loans a mem = absurd (not-mem-nil mem)
+
+pub hand-hand_batches-requires : goal.hand-hand_batches-requires
+hand-hand_batches-requires g t c κs within =
+    let x = c.in-Composite in
+    let (deep, asked) = below-composite c.args.ctx.now (pairs_in c.args.call)
+    (parents_in c.args.call) (is_flush c.args.call) c.args.node.now c.take_at.new.node x.field-0
+    x.child c.in_ok-down.down c.in-Some.down c.as_slice.result.now c.in-Some.is c.as_slice.ensures
+    c.deref_mut.result.now (c.deref_mut.ensures.value ∙ ap (λ b. b.value) x.child-is)
+    c.args.steps.now c.take_at.new.steps c.in_ok-down.ensures.ok c.requires.range x.field-1
+    x.is in
+    (omega (arith, deep, c.decreases), (within, (no-loan _, (c.requires.meant, asked))))
+
+pub hand-hand_batches-requires-in-Filter : goal.hand-hand_batches-requires-in-Filter
+hand-hand_batches-requires-in-Filter g t c κs within =
+    let x = c.in-Filter in
+    let (deep, asked) = below-filter c.args.ctx.now (pairs_in c.args.call)
+    (parents_in c.args.call) (is_flush c.args.call) c.args.node.now c.take_at.new.node x.field-0
+    x.child c.in_ok-down.down c.in-Some-down.down c.as_slice-in-Filter.result.now c.in-Some-down.is
+    c.as_slice-in-Filter.ensures c.deref_mut-in-Filter.result.now
+    (c.deref_mut-in-Filter.ensures.value ∙ ap (λ b. b.value) x.child-is)
+    c.args.steps.now c.take_at.new.steps c.in_ok-down.ensures.ok c.requires.range x.field-1
+    x.is in
+    (omega (arith, deep, c.decreases), (within, (no-loan _, (c.requires.meant, asked))))
+
+pub hand-hand_all-requires : goal.hand-hand_all-requires
+hand-hand_all-requires g t c κs within =
+    let x = c.in-Group in
+    let ctx = c.args.ctx.now in
+    let pairs = pairs_in c.args.call in
+    let same = same-group ctx pairs (parents_in c.args.call) (is_flush c.args.call) c.args.node.now
+    c.take_at.new.node x.children c.in_ok-down.down c.args.steps.now c.take_at.new.steps x.is
+    c.in_ok-down.ensures.ok
+    ∙ ap (λ (ks : Vec Tree Global). group_of ks.items) (sym x.children-is) in
+    let asked = subst (λ (h : Held). Fits ctx h
+    × (IsTrue (not (eqb g.row.STARTS_CHECKED 0)) → TakesInRange ctx pairs h)) same
+    (c.requires.fits, c.requires.range) in
+    (omega (arith, ap depth same, c.decreases), (within, (no-loan _, (c.requires.meant, asked))))
 
 pub hand-returns-in-Some-clause-ok : goal.hand-returns-in-Some-clause-ok
 hand-returns-in-Some-clause-ok g t c =
@@ -94,9 +147,19 @@ hand_all-hand-requires g t c κs within =
       (
         within,
         (
-          c.requires.meant,
-          subst (λ n. Fits c.args.ctx.now (held_of n)) (sym read)
-              (fits-each c.args.ctx.now xs c.requires.fits i node inside),
+          no-loan _,
+          (
+            c.requires.meant,
+            (
+              subst (λ n. Fits c.args.ctx.now (held_of n)) (sym read)
+                  (fits-each c.args.ctx.now xs c.requires.fits i node inside),
+              λ checked.
+                  subst (λ n. TakesInRange c.args.ctx.now (pairs_in c.args.call) (held_of n))
+                  (sym read)
+                  (each-in_range c.args.ctx.now (pairs_in c.args.call) xs
+                  (c.requires.range checked) i node inside),
+            ),
+          ),
         ),
       ),
     )
@@ -185,11 +248,35 @@ hand_all-returns-clause-most g t c =
 
 pub hand_batches-hand-requires : goal.hand_batches-hand-requires
 hand_batches-hand-requires g t c κs within =
+    let ctx = c.args.ctx.now in
+    let bs = c.args.batches.now in
+    let b = c.batch-item.result in
     let l = c.loop-batch in
+    let i = l.batch-index in
+    let old = held_of c.args.node.now in
     let took = l.invariant.took in
-    let same = same-depth (held_of c.args.node.now) (held_of l.node) took.nodes in (
+    let same = same-depth old (held_of l.node) took.nodes in (
       omega (arith, same, c.decreases),
-      (within, (c.requires.meant, took.fits c.requires.fits)),
+      (
+        within,
+        (
+          no-loan _,
+          (
+            c.requires.meant,
+            (
+              took.fits c.requires.fits,
+              λ checked.
+                  subst (λ docs. TakesInRange ctx (under b.bucket_id docs) (held_of l.node))
+                  (sym c.as_slice.ensures)
+                  (later-in_range ctx (pairs_of (take i bs)) (under b.bucket_id b.docs)
+                  (pairs_of (drop (i + 1) bs)) old (held_of l.node) c.args.steps.now l.steps took
+                  (subst (λ pairs. TakesInRange ctx pairs old)
+                  (pairs_of-split bs i b c.loop-batch-test.true c.batch-item.is)
+                  (c.requires.range checked))),
+            ),
+          ),
+        ),
+      ),
     )
 
 pub hand_batches-returns-in_err-hand-clause-refused :
@@ -265,11 +352,32 @@ hand_batches-loop-batch-preserved g t c =
 
 pub hand_batches-hand-requires-2 : goal.hand_batches-hand-requires-2
 hand_batches-hand-requires-2 g t c κs within =
+    let ctx = c.args.ctx.now in
+    let bs = c.args.batches.now in
     let l = c.loop-batch in
+    let old = held_of c.args.node.now in
     let took = l.invariant.took in
-    let same = same-depth (held_of c.args.node.now) (held_of l.node) took.nodes in (
+    let all = taken-all ctx bs l.batch-index c.loop-batch-test.false old (held_of l.node)
+    c.args.steps.now l.steps took in
+    let same = same-depth old (held_of l.node) took.nodes in (
       omega (arith, same, c.decreases),
-      (within, (c.requires.meant, took.fits c.requires.fits)),
+      (
+        within,
+        (
+          no-loan _,
+          (
+            c.requires.meant,
+            (
+              took.fits c.requires.fits,
+              λ checked.
+                  later-in_range ctx (pairs_of bs) [] [] old (held_of l.node) c.args.steps.now
+                  l.steps all
+                  (subst (λ pairs. TakesInRange ctx pairs old) (sym (append-nil (pairs_of bs)))
+                  (c.requires.range checked)),
+            ),
+          ),
+        ),
+      ),
     )
 
 pub hand_batches-returns-then-not-flush-clause-most :

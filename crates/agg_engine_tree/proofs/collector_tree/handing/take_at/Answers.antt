@@ -5,7 +5,7 @@ use Rattle.agg_composite.specs.Composite.{Composite}
 use Rattle.agg_metric.specs.Collector.{MetricTakes}
 use Rattle.agg_engine_tree.specs.collector_tree.Bound.{TakesMost}
 use Rattle.agg_engine_tree.specs.collector_tree.Call.{is_flush, pairs_in, parents_in}
-use Rattle.agg_engine_tree.specs.collector_tree.Refusals.{IsRefused}
+use Rattle.agg_engine_tree.specs.collector_tree.Refusals.{IsRefused, TakesInRange}
 use Rattle.agg_engine_tree.specs.collector_tree.Caches.{Cache}
 use Rattle.agg_engine_tree.specs.collector_tree.Tree.{Fits, held_of}
 use Rattle.agg_engine_tree.specs.declared.collector_tree.tree.SegmentCollectorTree as declared
@@ -26,7 +26,8 @@ use Rattle.agg_engine_tree.proofs.lemmas.collector_tree.NodeSteps.{node-hands-fi
 use Rattle.agg_engine_tree.proofs.lemmas.collector_tree.NodeSteps.{node-keeps-composite}
 use Rattle.agg_engine_tree.proofs.lemmas.collector_tree.NodeSteps.{node-keeps-filter}
 use Rattle.agg_engine_tree.proofs.lemmas.collector_tree.Groups.{metric-takes}
-use Rattle.agg_engine_tree.proofs.lemmas.collector_tree.Levels.{held-metric}
+use Rattle.agg_engine_tree.proofs.lemmas.collector_tree.Levels.{held-composite, held-metric}
+use Rattle.agg_engine_tree.proofs.lemmas.collector_tree.InRangeTrees.{composite-in_range}
 use Rattle.agg_engine_tree.proofs.lemmas.collector_tree.NodeData.{composite-data, composite-read}
 use Rattle.agg_engine_tree.proofs.lemmas.collector_tree.NodeData.{filter-data, filter-read}
 use Rattle.agg_engine_tree.proofs.lemmas.collector_tree.NodeRefusals.{node-refused-composite}
@@ -68,6 +69,12 @@ take_in_composite-requires g c =
         meant.0.after_at x.field-0,
         (meant.1.composites x.field-0 req read.0).fits,
       );
+      range = λ checked.
+          composite-in_range c.args.ctx.now (pairs_in c.args.call) x.field-0 req read.0 x.collector
+          (held_of x.field-2.value)
+          (subst (TakesInRange c.args.ctx.now (pairs_in c.args.call))
+          (ap held_of x.is ∙ held-composite x.field-0 x.collector x.field-2)
+          (c.requires.range checked));
       room = subst (λ (y : Composite Cache). length req.req.now.sources ≤ y.room)
           (sym x.collector-is) read.1;
     }
