@@ -1,9 +1,7 @@
 -- A walk goes on after a full page, and ends with another.
-use Rattle.std.proofs.Common.{◌≡◌, ◌≢◌, ◌≤◌, ◌+◌, ◌*◌, ℕ, List, [], ◌∷◌, ◌++◌, Bool, true, false}
+use Rattle.std.proofs.Common.{◌≡◌, ◌≢◌, ◌≤◌, ◌+◌, ◌*◌, ℕ, List, [], ◌∷◌, ◌++◌, Bool, true}
 use Rattle.std.proofs.Common.{Option, None, Some, Result, Ok, sym, ap, ◌∙◌, subst, arith}
 use Rattle.std.specs.List.{All}
-use Rattle.std.specs.Option.{is_some}
-use Rattle.std.specs.Prelude.{unwrap_or}
 use Rattle.agg_values.specs.Names.{Named}
 use Rattle.agg_values.specs.Nothing.{NoneIs}
 use Rattle.agg_values.specs.declared.after_key.AfterKey.{AfterKey}
@@ -37,15 +35,17 @@ use Rattle.agg_engine.proofs.WalkState.{state-more}
 
 -- where there is no next key, none is shown
 none-shown : (next : Option (Named AfterKey)) (shown : Named AfterKey) → IsShown next shown
-    → is_some next ≡ false → shown ≡ []
-none-shown None shown is none = is
-none-shown (Some after) shown is none = cc none
+    → next ≡ None → shown ≡ []
+none-shown next shown is none = subst (λ n. IsShown n shown) none is
 
 -- where there is one, it is the one that is shown
-some-shown : (next : Option (Named AfterKey)) (shown own : Named AfterKey) → IsShown next shown
-    → is_some next ≡ true → (unwrap_or next own ≡ shown) × (shown ≢ [])
-some-shown None shown own is some = cc some
-some-shown (Some after) shown own is some = (is.0, λ none. is.1 (is.0 ∙ none))
+some-shown : (next : Option (Named AfterKey)) (shown given : Named AfterKey) → IsShown next shown
+    → next ≡ Some given → (given ≡ shown) × (shown ≢ [])
+some-shown next shown given is some =
+    let here = subst (λ n. IsShown n shown) some is in (
+      here.0,
+      λ none. here.1 (here.0 ∙ none),
+    )
 
 -- what a call for a page answers at a snapshot, where a request goes on from an after key
 abbrev pub AnswersAt : {B : Type 0} → (B → Fields → Bool) → Limits → List ℕ → QueryTree
@@ -57,21 +57,20 @@ AnswersAt is_match limits name query request after s =
 
 -- the page is set, and its segments are those of the snapshot
 pub answers-at : {B : Type 0} (is_match : B → Fields → Bool) (limits : Limits) (name : List ℕ)
-    (query : QueryTree) (request : Request B) (after given : Named AfterKey)
-    (s : SnapshotDocuments) (page : Option Page) (segments : List (List Fields))
+    (query : QueryTree) (request : Request B) (after : Named AfterKey) (s : SnapshotDocuments)
+    (page : Option Page) (segments : List (List Fields))
     (steps steps_now : ℕ) (result : Result AggregationResults WalkError)
-    → page ≡ Some (record { name = name; size = s.page_size; after = given }) → given ≡ after
+    → page ≡ Some (record { name = name; size = s.page_size; after = after })
     → segments ≡ s.segments
     → AnswersPage is_match limits query (paged page request) segments steps steps_now result
     → AnswersAt is_match limits name query request after s steps steps_now result
-answers-at is_match limits name query request after given s page segments steps steps_now result
-    page_is given_is are answer =
-    subst (λ k. AnswersAt is_match limits name query request k s steps steps_now result) given_is
-    (subst (λ all. AnswersPage is_match limits query
-    (request_at_size name s.page_size (request_after name given request)) all steps steps_now
+answers-at is_match limits name query request after s page segments steps steps_now result page_is
+    are answer =
+    subst (λ all. AnswersPage is_match limits query
+    (request_at_size name s.page_size (request_after name after request)) all steps steps_now
     result) are
     (subst (λ (p : Option Page). AnswersPage is_match limits query (paged p request) segments steps
-    steps_now result) page_is answer))
+    steps_now result) page_is answer)
 
 -- ---- the steps of a page
 
@@ -138,14 +137,14 @@ module _ {B : Type 0} {is_match : B → Fields → Bool} {limits : Limits} {name
   -- with the after key that it shows
   module _ (next : Option (Named AfterKey)) (next_is : IsShown next (after_in name results)) where
     -- the last page
-    pub walking-ended : is_some next ≡ false
+    pub walking-ended : next ≡ None
         → IsWalk is_match name query request snapshots (pages ++ results ∷ []) true
     walking-ended none =
         state-ended is_match limits name query request snapshots now s rest pages w.state results
         answer.results answer.fits answer.buckets (none-shown next (after_in name results) next_is
         none)
 
-    pub walking-ended-fits : is_some next ≡ false
+    pub walking-ended-fits : next ≡ None
         → NoneIs (HasToRefuse is_match limits name query request snapshots)
     walking-ended-fits none =
         state-ended-fits is_match limits name query request snapshots now s rest pages w.state
@@ -153,12 +152,12 @@ module _ {B : Type 0} {is_match : B → Fields → Bool} {limits : Limits} {name
         next_is none)
 
     -- a full page
-    pub walking-more : All HasNoNull (matching_documents query s) → (own : Named AfterKey)
-        → is_some next ≡ true
-        → IsWalking is_match limits name query request snapshots composite (unwrap_or next own)
-        rest (pages ++ results ∷ [])
-    walking-more no_null own some =
-        let key = some-shown next (after_in name results) own next_is some in
+    pub walking-more : All HasNoNull (matching_documents query s) → (given : Named AfterKey)
+        → next ≡ Some given
+        → IsWalking is_match limits name query request snapshots composite given rest
+        (pages ++ results ∷ [])
+    walking-more no_null given some =
+        let key = some-shown next (after_in name results) given next_is some in
         record {
           may = record {
             names = w.may.names;
@@ -175,13 +174,12 @@ module _ {B : Type 0} {is_match : B → Fields → Bool} {limits : Limits} {name
         }
 
     -- with the steps so far
-    pub counting-page : (own : Named AfterKey) → is_some next ≡ true → (done steps : ℕ)
+    pub counting-page : (given : Named AfterKey) → next ≡ Some given → (done steps : ℕ)
         → IsCounting is_match name query request snapshots now (s ∷ rest) pages done steps before
         → IsCounting is_match name query request snapshots
-        (request_after name (unwrap_or next own) request) rest (pages ++ results ∷ []) (done + 1)
-        steps later
-    counting-page own some done steps counting =
-        let key = some-shown next (after_in name results) own next_is some in
+        (request_after name given request) rest (pages ++ results ∷ []) (done + 1) steps later
+    counting-page given some done steps counting =
+        let key = some-shown next (after_in name results) given next_is some in
         subst (λ (r : Request B). IsCounting is_match name query request snapshots r rest
         (pages ++ results ∷ []) (done + 1) steps later)
         (later-key name request after (after_in name results)

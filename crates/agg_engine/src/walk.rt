@@ -101,10 +101,9 @@ pub fn walk_pages<L: Ledger>(
         return Err(WalkError::UnknownComposite);
     };
     let mut params = AggContextParams::new(alloc, request, schema)?;
-    let mut before = None;
+    let mut after = bound::copied(alloc, &composite.after)?;
     let mut pages = ItemList::new(alloc);
     for snapshot in snapshots.as_slice() {
-        let after = bound::after_key(&before, &composite.after);
         set_page(alloc, &mut params, name, snapshot.page_size, after)?;
         let page = PageRequest {
             request,
@@ -113,10 +112,11 @@ pub fn walk_pages<L: Ledger>(
         };
         let answer = snapshot_page(alloc, &page, snapshot.segments.as_slice(), limits, steps);
         let results = answer?;
-        before = bound::next_after(alloc, &results, name)?;
+        let next = bound::next_after(alloc, &results, name)?;
         pages.push(results)?;
-        if before.is_none() {
-            return Ok(Walk { pages, ended: true });
+        match next {
+            Some(next) => after = next,
+            None => return Ok(Walk { pages, ended: true }),
         }
     }
     Ok(Walk {

@@ -1,24 +1,11 @@
 //! Where the next page begins.
-ghost use Rattle.std.specs.Prelude.{◌≡◌, IfOk, unwrap_or};
+ghost use Rattle.std.specs.Prelude.{◌≡◌, IfOk};
 ghost use Rattle.agg_engine.specs.PageAnswers.{IsShown};
 ghost use Rattle.agg_engine.specs.Walk.{after_in};
 
 use agg_results::{AggregationResult, AggregationResults, BucketResult};
 use agg_values::{AfterKey, NameMap, OutOfMemory, Text};
 use std::alloc::Global;
-
-/// The after key of a page: that of the page before, or at first the request's own.
-pub fn after_key<'a>(
-    before: &'a Option<NameMap<AfterKey>>,
-    own: &'a NameMap<AfterKey>,
-) -> &'a NameMap<AfterKey>
-    ensures { result.now ≡ unwrap_or before.now own.now }
-{
-    match before {
-        Some(after) => after,
-        None => own,
-    }
-}
 
 /// The after key that the results of a name show, if they show one.
 pub fn next_after(

@@ -5,7 +5,6 @@ ghost use Rattle.agg_engine.specs.snapshot_results.Asked.{MayBeAsked};
 ghost use Rattle.agg_engine.specs.PageAnswers.{AnswersAsked};
 
 use super::WalkError;
-use super::bound::copied;
 use super::finish::page_results;
 use crate::snapshot_results::{PageRequest, snapshot_results};
 use agg_cache::LimitsLedger;
@@ -17,20 +16,20 @@ use agg_values::{AfterKey, NameMap, OutOfMemory, Steps, Text};
 use std::alloc::Global;
 use std::sync::ledger::Ledger;
 
-/// Sets the page of a name, which is copied, as its after key is.
+/// Sets the page of a name, which is copied, after a key, which is moved into it.
 pub fn set_page(
     alloc: Global,
     params: &mut AggContextParams,
     name: &Text,
     size: u32,
-    after: &NameMap<AfterKey>,
+    after: NameMap<AfterKey>,
 ) -> Result<(), OutOfMemory>
     ensures page { OnOk result (params.new.page
-        ≡ Some (record { name = name.now; size = size; after = after.now })) }
+        ≡ Some (record { name = name.now; size = size; after = after })) }
     ensures trees { params.new.trees ≡ params.old.trees }
 {
     let name = name.try_clone(alloc)?;
-    params.set_page(name, size, copied(alloc, after)?);
+    params.set_page(name, size, after);
     Ok(())
 }
 

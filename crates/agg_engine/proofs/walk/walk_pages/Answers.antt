@@ -1,6 +1,6 @@
 mod Turns
 use Rattle.std.proofs.Common.{Some, Err, Ok}
-use Rattle.std.proofs.Common.{drop, unwrap_or, refl, sym, arith}
+use Rattle.std.proofs.Common.{drop, refl, sym, subst, arith}
 use Rattle.std.proofs.Common.{◌∙◌, ap, inr}
 use Rattle.agg_engine_tree.specs.segment_context.Pages.{request_after}
 use Rattle.agg_segment.specs.Snapshot.{snapshot_documents, snapshots_documents}
@@ -53,17 +53,26 @@ returns-in_err-params-clause-most g c =
     (snapshots_documents c.args.snapshots.now)
     c.args.steps.now
 
+pub returns-in_err-after-clause-most : goal.returns-in_err-after-clause-most
+returns-in_err-after-clause-most g c =
+    takes-none _ c.args.name.now c.args.query.now c.args.request.now
+    (snapshots_documents c.args.snapshots.now)
+    c.args.steps.now
+
 pub loop-snapshot-init : goal.loop-snapshot-init
 loop-snapshot-init g c =
     let may = may-start c.args.name.now c.args.request.now c.in-Some.composite.now
     c.in-Some.ensures.named c.in_ok-check_request.ensures.ok c.in_ok-check_request.ensures.names in
     record {
-      walking = rw c.new-pages.ensures (walking-start _ c.args.limits.now
-          c.args.name.now c.args.query.now c.args.request.now
-          (snapshots_documents c.args.snapshots.now) c.in-Some.composite.now may);
-      counting = rw c.new-pages.ensures (counting-start _ c.args.name.now c.args.query.now
-          c.args.request.now (snapshots_documents c.args.snapshots.now) c.in-Some.composite.now may
-          c.args.steps.now);
+      walking = (
+        c.in-Some.composite.now,
+        rw (c.new-pages.ensures, c.in_ok-after.ensures) (walking-start _ c.args.limits.now
+            c.args.name.now c.args.query.now c.args.request.now
+            (snapshots_documents c.args.snapshots.now) c.in-Some.composite.now may),
+      );
+      counting = rw (c.new-pages.ensures, c.in_ok-after.ensures) (counting-start _ c.args.name.now
+          c.args.query.now c.args.request.now (snapshots_documents c.args.snapshots.now)
+          c.in-Some.composite.now may c.args.steps.now);
       trees = c.in_ok-params.ensures.trees;
       kept = refl;
       later = omega arith;
@@ -75,7 +84,7 @@ pub returns-in_err-set_page-clause-most : goal.returns-in_err-set_page-clause-mo
 returns-in_err-set_page-clause-most g c =
     counting-most _ c.args.name.now c.args.query.now c.args.request.now
     (snapshots_documents c.args.snapshots.now)
-    (request_after c.args.name.now (unwrap_or c.loop-snapshot.before c.in-Some.composite.now.after)
+    (request_after c.args.name.now c.loop-snapshot.after
     c.args.request.now)
     (snapshots_documents (drop c.loop-snapshot.snapshot-index c.args.snapshots.now))
     c.loop-snapshot.pages c.loop-snapshot.snapshot-index c.args.steps.now c.loop-snapshot.steps
@@ -84,22 +93,16 @@ returns-in_err-set_page-clause-most g c =
 pub snapshot_page-answer-requires : goal.snapshot_page-answer-requires
 snapshot_page-answer-requires g c =
     let set = (goal.at.snapshot_page-answer-requires g c).In_ok-set_page in
-    let page = c.in_ok-set_page.ensures.page ∙ ap (λ k. Some (record {
-      name = c.args.name.now;
-      size = c.snapshot-item.result.page_size;
-      after = k;
-    })) c.after_key-after.ensures in
     record {
       asked = record {
         trees = (_, trees g set);
-        sound = page-sound c.args.name.now c.args.request.now c.in-Some.composite.now
-            c.snapshot-item.result.page_size (unwrap_or c.loop-snapshot.before
-            c.in-Some.composite.now.after) c.set_page.new.params.page
-            c.loop-snapshot.invariant.walking.may
+        sound = page-sound c.args.name.now c.args.request.now c.loop-snapshot.invariant.walking.0
+            c.snapshot-item.result.page_size c.loop-snapshot.after c.set_page.new.params.page
+            c.loop-snapshot.invariant.walking.1.may
             (room-at c.args.snapshots.now _ _ c.as_slice.ensures c.as_slice-snapshot-items.ensures
             (sym c.if-some_page_has_no_room.ensures) c.loop-snapshot.snapshot-index
             c.snapshot-item.result (omega arith) c.snapshot-item.is)
-            page;
+            c.in_ok-set_page.ensures.page;
         names = c.in_ok-check_request.ensures.names;
       };
     }
@@ -144,22 +147,22 @@ returns-in_err-results-clause-builders_first g c is =
 
 -- ---- a page
 
-pub returns-in_err-before-clause-most : goal.returns-in_err-before-clause-most
-returns-in_err-before-clause-most g c =
-    most-of g (goal.at.returns-in_err-before-clause-most g c).In_ok-results
+pub returns-in_err-next-clause-most : goal.returns-in_err-next-clause-most
+returns-in_err-next-clause-most g c =
+    most-of g (goal.at.returns-in_err-next-clause-most g c).In_ok-results
 
 pub returns-in_err-push-clause-most : goal.returns-in_err-push-clause-most
 returns-in_err-push-clause-most g c =
     most-of g (goal.at.returns-in_err-push-clause-most g c).In_ok-results
 
-pub returns-then-is_none-clause-most : goal.returns-then-is_none-clause-most
-returns-then-is_none-clause-most g c =
-    most-of g (goal.at.returns-then-is_none-clause-most g c).In_ok-results
+pub returns-in-None-clause-most : goal.returns-in-None-clause-most
+returns-in-None-clause-most g c =
+    most-of g (goal.at.returns-in-None-clause-most g c).In_ok-results
 
-pub returns-then-is_none-clause-least : goal.returns-then-is_none-clause-least
-returns-then-is_none-clause-least g c =
-    let turn = (goal.at.returns-then-is_none-clause-least g c).In_ok-results in
-    let before = (goal.at.returns-then-is_none-clause-least g c).After-snapshot_page-answer in
+pub returns-in-None-clause-least : goal.returns-in-None-clause-least
+returns-in-None-clause-least g c =
+    let turn = (goal.at.returns-in-None-clause-least g c).In_ok-results in
+    let before = (goal.at.returns-in-None-clause-least g c).After-snapshot_page-answer in
     rw c.in_ok-push.ensures.ok
     (counting-last _ c.args.name.now c.args.query.now c.args.request.now
     (snapshots_documents c.args.snapshots.now) _
@@ -167,40 +170,40 @@ returns-then-is_none-clause-least g c =
     c.loop-snapshot.snapshot-index c.args.steps.now c.loop-snapshot.steps
     c.snapshot_page-answer.new.steps (counting g before) (page-most _ c.args.limits.now
     c.args.name.now c.args.query.now
-    c.args.request.now (unwrap_or c.loop-snapshot.before c.in-Some.composite.now.after)
+    c.args.request.now c.loop-snapshot.after
     (snapshot_documents c.snapshot-item.result) c.loop-snapshot.steps
     c.snapshot_page-answer.new.steps
     (Ok c.in_ok-results.results) (page-of g turn))
     c.in_ok-results.results (page-least _ c.args.limits.now c.args.name.now
     c.args.query.now
-    c.args.request.now (unwrap_or c.loop-snapshot.before c.in-Some.composite.now.after)
+    c.args.request.now c.loop-snapshot.after
     (snapshot_documents c.snapshot-item.result) c.loop-snapshot.steps
     c.snapshot_page-answer.new.steps
     c.in_ok-results.results (page-of g turn)))
 
-pub returns-then-is_none-clause-pages : goal.returns-then-is_none-clause-pages
-returns-then-is_none-clause-pages g c =
-    let turn = (goal.at.returns-then-is_none-clause-pages g c).In_ok-results in
-    let before = (goal.at.returns-then-is_none-clause-pages g c).After-snapshot_page-answer in
+pub returns-in-None-clause-pages : goal.returns-in-None-clause-pages
+returns-in-None-clause-pages g c =
+    let turn = (goal.at.returns-in-None-clause-pages g c).In_ok-results in
+    let before = (goal.at.returns-in-None-clause-pages g c).After-snapshot_page-answer in
     rw c.in_ok-push.ensures.ok
-    (walking-ended (here g before) (page-of g turn) c.in_ok-before.before c.in_ok-before.ensures
-    c.if-is_none.ensures)
+    (walking-ended (here g before) (page-of g turn) c.in_ok-next.next c.in_ok-next.ensures
+    c.in-None.is)
 
-pub returns-then-is_none-clause-asked : goal.returns-then-is_none-clause-asked
-returns-then-is_none-clause-asked g c =
-    asked g (goal.at.returns-then-is_none-clause-asked g c).In_ok-params
+pub returns-in-None-clause-asked : goal.returns-in-None-clause-asked
+returns-in-None-clause-asked g c =
+    asked g (goal.at.returns-in-None-clause-asked g c).In_ok-params
 
-pub returns-then-is_none-clause-fits : goal.returns-then-is_none-clause-fits
-returns-then-is_none-clause-fits g c =
-    let turn = (goal.at.returns-then-is_none-clause-fits g c).In_ok-results in
-    let before = (goal.at.returns-then-is_none-clause-fits g c).After-snapshot_page-answer in
-    walking-ended-fits (here g before) (page-of g turn) c.in_ok-before.before
-    c.in_ok-before.ensures c.if-is_none.ensures
+pub returns-in-None-clause-fits : goal.returns-in-None-clause-fits
+returns-in-None-clause-fits g c =
+    let turn = (goal.at.returns-in-None-clause-fits g c).In_ok-results in
+    let before = (goal.at.returns-in-None-clause-fits g c).After-snapshot_page-answer in
+    walking-ended-fits (here g before) (page-of g turn) c.in_ok-next.next
+    c.in_ok-next.ensures c.in-None.is
 
-pub returns-then-is_none-clause-buckets : goal.returns-then-is_none-clause-buckets
-returns-then-is_none-clause-buckets g c =
-    let turn = (goal.at.returns-then-is_none-clause-buckets g c).In_ok-results in
-    let before = (goal.at.returns-then-is_none-clause-buckets g c).After-snapshot_page-answer in
+pub returns-in-None-clause-buckets : goal.returns-in-None-clause-buckets
+returns-in-None-clause-buckets g c =
+    let turn = (goal.at.returns-in-None-clause-buckets g c).In_ok-results in
+    let before = (goal.at.returns-in-None-clause-buckets g c).After-snapshot_page-answer in
     rw c.in_ok-push.ensures.ok (walking-few (here g before) (page-of g turn))
 
 pub loop-snapshot-preserved : goal.loop-snapshot-preserved
@@ -208,14 +211,14 @@ loop-snapshot-preserved g c =
     let turn = (goal.at.loop-snapshot-preserved g c).In_ok-results in
     let before = (goal.at.loop-snapshot-preserved g c).After-snapshot_page-answer in
     let set = (goal.at.loop-snapshot-preserved g c).In_ok-set_page in
-    let more = walking-more (here g before) (page-of g turn) c.in_ok-before.before
-    c.in_ok-before.ensures (matching-no_Null c.args.query.now c.snapshot-item.result)
-    c.in-Some.composite.now.after c.if-is_none.ensures in
+    let more = walking-more (here g before) (page-of g turn) c.in_ok-next.next
+    c.in_ok-next.ensures (matching-no_Null c.args.query.now c.snapshot-item.result)
+    c.in-Some-next.next c.in-Some-next.is in
     record {
-      walking = rw c.in_ok-push.ensures.ok more;
+      walking = (c.loop-snapshot.invariant.walking.0, rw c.in_ok-push.ensures.ok more);
       counting = rw c.in_ok-push.ensures.ok (counting-page (here g before) (page-of g turn)
-          c.in_ok-before.before c.in_ok-before.ensures c.in-Some.composite.now.after
-          c.if-is_none.ensures c.loop-snapshot.snapshot-index c.args.steps.now
+          c.in_ok-next.next c.in_ok-next.ensures c.in-Some-next.next c.in-Some-next.is
+          c.loop-snapshot.snapshot-index c.args.steps.now
           (counting g before));
       trees = trees g set;
       kept = c.snapshot_page-answer.ensures.limits ∙ c.loop-snapshot.invariant.kept;
@@ -227,12 +230,12 @@ loop-snapshot-preserved g c =
 pub returns-clause-pages : goal.returns-clause-pages
 returns-clause-pages g c =
     walking-out (walking-end c.args.snapshots.now _ c.loop-snapshot.snapshot-index
-    c.loop-snapshot.invariant.walking c.as_slice-snapshot-items.ensures (omega arith))
+    c.loop-snapshot.invariant.walking.1 c.as_slice-snapshot-items.ensures (omega arith))
 
 pub returns-clause-fits : goal.returns-clause-fits
 returns-clause-fits g c =
     walking-out-fits (walking-end c.args.snapshots.now _ c.loop-snapshot.snapshot-index
-    c.loop-snapshot.invariant.walking c.as_slice-snapshot-items.ensures (omega arith))
+    c.loop-snapshot.invariant.walking.1 c.as_slice-snapshot-items.ensures (omega arith))
 
 pub returns-clause-asked : goal.returns-clause-asked
 returns-clause-asked g c = asked g (goal.at.returns-clause-asked g c).In_ok-params
@@ -241,7 +244,7 @@ pub returns-clause-most : goal.returns-clause-most
 returns-clause-most g c =
     counting-most _ c.args.name.now c.args.query.now c.args.request.now
     (snapshots_documents c.args.snapshots.now)
-    (request_after c.args.name.now (unwrap_or c.loop-snapshot.before c.in-Some.composite.now.after)
+    (request_after c.args.name.now c.loop-snapshot.after
     c.args.request.now)
     (snapshots_documents (drop c.loop-snapshot.snapshot-index c.args.snapshots.now))
     c.loop-snapshot.pages c.loop-snapshot.snapshot-index c.args.steps.now c.loop-snapshot.steps
@@ -251,7 +254,7 @@ pub returns-clause-least : goal.returns-clause-least
 returns-clause-least g c =
     counting-least _ c.args.name.now c.args.query.now c.args.request.now
     (snapshots_documents c.args.snapshots.now)
-    (request_after c.args.name.now (unwrap_or c.loop-snapshot.before c.in-Some.composite.now.after)
+    (request_after c.args.name.now c.loop-snapshot.after
     c.args.request.now)
     (snapshots_documents (drop c.loop-snapshot.snapshot-index c.args.snapshots.now))
     c.loop-snapshot.pages c.loop-snapshot.snapshot-index c.args.steps.now c.loop-snapshot.steps

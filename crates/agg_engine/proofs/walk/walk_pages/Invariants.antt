@@ -1,5 +1,6 @@
-use Rattle.std.proofs.Common.{◌≡◌, ◌≤◌, drop, unwrap_or}
+use Rattle.std.proofs.Common.{◌≡◌, ◌≤◌, drop}
 use Rattle.agg_request_tree.specs.Matching.{built_matches}
+use Rattle.agg_request_tree.specs.declared.aggregation.CompositeAggregation.{CompositeAggregation}
 use Rattle.agg_engine_tree.specs.segment_context.Pages.{request_after}
 use Rattle.agg_engine_tree.specs.segment_context.Trees.{AreTreesOf, built_tree}
 use Rattle.agg_segment.specs.Snapshot.{snapshots_documents}
@@ -11,17 +12,15 @@ use Rattle.agg_engine.proofs.walk.walk_pages.Given as goal
 -- as they allow, the trees are those of the request, and whatever was charged is given back
 abbrev pub invariant-loop-snapshot : goal.invariant-loop-snapshot
 invariant-loop-snapshot g l = record {
-  walking : IsWalking (built_matches (λ b.
+  walking : (composite : CompositeAggregation) × IsWalking (built_matches (λ b.
       (goal.QueryBuilder-dyn g (b.builder.vtable, b.builder.value)).tree_for
       b.builder.value l.schema)) l.initial.limits l.name l.query l.request
-      (snapshots_documents l.snapshots) l.composite
-      (unwrap_or l.before l.composite.after) (snapshots_documents
-      (drop l.snapshot-index l.snapshots))
-      l.pages;
+      (snapshots_documents l.snapshots) composite
+      l.after (snapshots_documents (drop l.snapshot-index l.snapshots)) l.pages;
   counting : IsCounting (built_matches (λ b.
       (goal.QueryBuilder-dyn g (b.builder.vtable, b.builder.value)).tree_for
       b.builder.value l.schema)) l.name l.query l.request (snapshots_documents l.snapshots)
-      (request_after l.name (unwrap_or l.before l.composite.after) l.request)
+      (request_after l.name l.after l.request)
       (snapshots_documents (drop l.snapshot-index l.snapshots)) l.pages l.snapshot-index
       l.initial.steps l.steps;
   trees : AreTreesOf (built_tree (λ b.

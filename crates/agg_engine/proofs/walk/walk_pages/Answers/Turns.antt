@@ -1,6 +1,6 @@
 -- A turn of the loop over the snapshots: how far the walk has come, and what its page answers.
 use Rattle.std.proofs.Common.{◌≡◌, ◌+◌, List, ◌∷◌, IsErrAnd, IsErrOf, Err, Ok, Result, drop}
-use Rattle.std.proofs.Common.{unwrap_or, map, sym, ap, subst, arith}
+use Rattle.std.proofs.Common.{map, sym, ap, subst, arith}
 use Rattle.std.proofs.Common.{◌∙◌}
 use Rattle.agg_segment.specs.Segment.{documents_of}
 use Rattle.agg_request_tree.specs.Matching.{built_matches}
@@ -46,8 +46,8 @@ Walking g c rest =
     IsWalking (built_matches (λ b.
     (goal.QueryBuilder-dyn g (b.builder.vtable, b.builder.value)).tree_for b.builder.value
     c.args.schema.now)) c.args.limits.now c.args.name.now c.args.query.now
-    c.args.request.now (snapshots_documents c.args.snapshots.now) c.in-Some.composite.now
-    (unwrap_or c.loop-snapshot.before c.in-Some.composite.now.after) rest c.loop-snapshot.pages
+    c.args.request.now (snapshots_documents c.args.snapshots.now)
+    c.loop-snapshot.invariant.walking.0 c.loop-snapshot.after rest c.loop-snapshot.pages
 
 abbrev pub Counting : (g : given.Over) (c : After-snapshot_page-answer g) → List SnapshotDocuments
     → Type 0
@@ -56,7 +56,7 @@ Counting g c rest =
     (goal.QueryBuilder-dyn g (b.builder.vtable, b.builder.value)).tree_for b.builder.value
     c.args.schema.now)) c.args.name.now c.args.query.now c.args.request.now
     (snapshots_documents c.args.snapshots.now)
-    (request_after c.args.name.now (unwrap_or c.loop-snapshot.before c.in-Some.composite.now.after)
+    (request_after c.args.name.now c.loop-snapshot.after
     c.args.request.now) rest c.loop-snapshot.pages
     c.loop-snapshot.snapshot-index c.args.steps.now c.loop-snapshot.steps
 
@@ -69,7 +69,7 @@ left g c =
 pub here : (g : given.Over) (c : After-snapshot_page-answer g) → Walking g c (left g c)
 here g c =
     left-at (Walking g c) c.args.snapshots.now _ c.loop-snapshot.snapshot-index
-    c.loop-snapshot.invariant.walking c.as_slice-snapshot-items.ensures c.snapshot-item.result
+    c.loop-snapshot.invariant.walking.1 c.as_slice-snapshot-items.ensures c.snapshot-item.result
     (omega arith) c.snapshot-item.is
 
 pub counting : (g : given.Over) (c : After-snapshot_page-answer g) → Counting g c (left g c)
@@ -85,7 +85,7 @@ Answered g c =
     AnswersAt (built_matches (λ b.
     (goal.QueryBuilder-dyn g (b.builder.vtable, b.builder.value)).tree_for b.builder.value
     c.args.schema.now)) c.args.limits.now c.args.name.now c.args.query.now
-    c.args.request.now (unwrap_or c.loop-snapshot.before c.in-Some.composite.now.after)
+    c.args.request.now c.loop-snapshot.after
     (snapshot_documents c.snapshot-item.result) c.loop-snapshot.steps
     c.snapshot_page-answer.new.steps
 
@@ -100,11 +100,10 @@ pub answered : (g : given.Over) (c : After-snapshot_page-answer g)
     → Answered g c result
 answered g c result answer =
     answers-at _ c.args.limits.now c.args.name.now c.args.query.now
-    c.args.request.now (unwrap_or c.loop-snapshot.before c.in-Some.composite.now.after)
-    c.after_key-after.result.now
+    c.args.request.now c.loop-snapshot.after
     (snapshot_documents c.snapshot-item.result) c.set_page.new.params.page
     (map documents_of c.as_slice-in-loop-snapshot.result.now) c.loop-snapshot.steps
-    c.snapshot_page-answer.new.steps result c.in_ok-set_page.ensures.page c.after_key-after.ensures
+    c.snapshot_page-answer.new.steps result c.in_ok-set_page.ensures.page
     (ap (map documents_of) c.as_slice-in-loop-snapshot.ensures)
     (subst (λ limits. AnswersPage (built_matches (λ b.
     (goal.QueryBuilder-dyn g (b.builder.vtable, b.builder.value)).tree_for b.builder.value
@@ -147,7 +146,7 @@ most g c result answer =
     c.loop-snapshot.snapshot-index c.args.steps.now c.loop-snapshot.steps
     c.snapshot_page-answer.new.steps (counting g c) (page-most _ c.args.limits.now
     c.args.name.now c.args.query.now
-    c.args.request.now (unwrap_or c.loop-snapshot.before c.in-Some.composite.now.after)
+    c.args.request.now c.loop-snapshot.after
     (snapshot_documents c.snapshot-item.result) c.loop-snapshot.steps
     c.snapshot_page-answer.new.steps result answer)
 
