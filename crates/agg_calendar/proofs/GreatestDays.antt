@@ -13,8 +13,9 @@ use Rattle.jiff_core.specs.Date.{epoch_day}
 use Rattle.jiff_core.specs.Timestamp.{IsTimestampNanos}
 use Rattle.jiff_core.proofs.DateLemmas.{days_from_civil-min, epoch_day_range}
 use Rattle.jiff_core.proofs.SignedLemmas.{signed_arith}
-use Rattle.agg_calendar.specs.FirstDay.{IsGreatestFirstDay, nth_year, nth_month}
-use Rattle.agg_calendar.specs.FirstDay.{greatest_at_most, greatest_first_day}
+use Rattle.agg_calendar.specs.FirstDay.{IsGreatestFirstDay}
+use Rattle.agg_calendar.specs.FirstDaySearch.{nth_year, nth_month}
+use Rattle.agg_calendar.specs.FirstDaySearch.{greatest_at_most, greatest_first_day}
 use Rattle.agg_calendar.specs.declared.interval.CalendarInterval.{CalendarInterval}
 use Rattle.agg_calendar.specs.declared.interval.CalendarInterval.TheVariants.{Year, Month, Week}
 use Rattle.agg_calendar.proofs.FirstDays.{week_is, greatest_unique}

@@ -3,6 +3,7 @@ pub mod GreatestDays
 pub mod IntervalGrammar
 pub mod IntervalTexts
 pub mod OffsetGrammar
+pub mod OneStart
 pub mod Refusals
 pub mod Starts
 pub mod Units

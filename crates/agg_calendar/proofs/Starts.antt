@@ -8,7 +8,7 @@ use borrow.Author.Differences.{up, down}
 use Rattle.jiff_core.specs.Timestamp.{IsTimestampNanos}
 use Rattle.jiff_core.proofs.SignedLemmas.{signed_arith}
 use Rattle.jiff_core.proofs.SignedLemmas.{int_div_euclid-parts}
-use Rattle.agg_calendar.specs.FirstDay.{greatest_first_day}
+use Rattle.agg_calendar.specs.FirstDaySearch.{greatest_first_day}
 use Rattle.agg_calendar.specs.Start.{day_ns, calendar_start, fixed_start, start_of, IsUsable}
 use Rattle.agg_calendar.specs.declared.interval.CalendarInterval.{CalendarInterval}
 use Rattle.agg_calendar.specs.declared.interval.PrecomputedDateInterval as interval

@@ -3,10 +3,11 @@ ghost use Rattle.std.specs.Prelude.{◌≡◌, ◌↔◌, List, ℕ, ℤ, pos, �
 ghost use Rattle.jiff_core.specs.Calendar.{IsEpochDay};
 ghost use Rattle.jiff_core.specs.Timestamp.{IsTimestampNanos};
 ghost use Rattle.agg_values.specs.Laws.{IsSameness};
-ghost use Rattle.agg_calendar.specs.FirstDay.{greatest_first_day, IsGreatestFirstDay};
+ghost use Rattle.agg_calendar.specs.FirstDay.{IsGreatestFirstDay};
+ghost use Rattle.agg_calendar.specs.FirstDaySearch.{greatest_first_day};
 ghost use Rattle.agg_calendar.specs.IntervalText.{read_interval, read_offset};
 ghost use Rattle.agg_calendar.specs.IntervalText.{IsIntervalText, IsOffsetText};
-ghost use Rattle.agg_calendar.specs.Start.{fixed_start, start_of, IsUsable};
+ghost use Rattle.agg_calendar.specs.Start.{fixed_start, start_of, IsStart, IsUsable};
 ghost use Rattle.agg_calendar.specs.Start.{PrecomputedDateInterval};
 ghost use Rattle.agg_calendar.specs.declared.interval.CalendarInterval.{CalendarInterval};
 
@@ -22,7 +23,15 @@ pub fn offset_texts_are_interval_texts_with_a_sign()
     ensures { (text : List ℕ) (ms : ℤ) → (read_offset text ≡ Ok ms) ↔ IsOffsetText text ms }
 {}
 
-/// The function that gives first days gives the greatest one, and there is no other.
+/// The function that gives starts gives the one that there is.
+pub fn each_timestamp_has_one_start()
+    ensures { (interval : PrecomputedDateInterval) (ns start : ℤ)
+        → IsUsable interval
+        → IsTimestampNanos ns
+        → IsStart interval ns start ↔ (start ≡ start_of interval ns) }
+{}
+
+/// The search for first days finds the greatest one, and there is no other.
 pub fn starts_are_of_first_days()
     ensures greatest { (interval : CalendarInterval) (day : ℤ)
         → IsEpochDay day

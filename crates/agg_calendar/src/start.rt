@@ -4,7 +4,7 @@ ghost use Rattle.jiff_core.specs.Calendar.{IsBetween, IsEpochDay};
 ghost use Rattle.jiff_core.specs.Date.{epoch_day};
 ghost use Rattle.jiff_core.specs.DateTime.{IsCivilNanos};
 ghost use Rattle.jiff_core.specs.Timestamp.{IsTimestampNanos};
-ghost use Rattle.agg_calendar.specs.FirstDay.{greatest_first_day};
+ghost use Rattle.agg_calendar.specs.FirstDaySearch.{greatest_first_day};
 ghost use Rattle.agg_calendar.specs.Start.{day_ns, fixed_start, calendar_start, start_of};
 ghost use Rattle.agg_calendar.specs.Start.{GivesStart, IsCalendarStart, IsUsable};
 ghost use Rattle.agg_calendar.specs.Start.{start_with_offset};
