@@ -11,7 +11,8 @@ use Rattle.agg_request_tree.specs.Request.{Request, agg_of, aggregation_of, with
 use Rattle.agg_request_tree.specs.Request.{below_of}
 use Rattle.agg_request_tree.specs.Request.{with_own_builder, with_query_builder, with_builders}
 use Rattle.agg_request.specs.ReadBack.{SaysKind}
-use Rattle.agg_request.specs.reading.RequestJson.{kind_word, may_hold}
+use Rattle.agg_request.specs.reading.RequestJson.{kind_word}
+use Rattle.agg_request.specs.reading.Kinds.{may_hold}
 use Rattle.agg_request_tree.specs.declared.aggregation.Aggregation.{Aggregation}
 use Rattle.agg_request_tree.specs.declared.aggregation.Aggregation.TheFolds as folds
 use folds.{fold_out-Aggregation}

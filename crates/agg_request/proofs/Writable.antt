@@ -9,7 +9,8 @@ use Rattle.std.proofs.lemmas.Map.Made.{keys_of-map_values}
 use Rattle.agg_values.specs.Names.{Named}
 use Rattle.serde_json.specs.Data.{Data, Members, no_members, member}
 use Rattle.agg_request.specs.json_values.Json.{EachNamedIs, names_in}
-use Rattle.agg_request.specs.reading.RequestJson.{kind_word, may_hold}
+use Rattle.agg_request.specs.reading.RequestJson.{kind_word}
+use Rattle.agg_request.specs.reading.Kinds.{may_hold}
 use Rattle.agg_request_tree.specs.Request.{Request, agg_of, below_of}
 use Rattle.agg_request.specs.Written.{all_may_be_written, has_no_null_min, may_be_written}
 use Rattle.agg_request.specs.Written.{may_be_written_step}

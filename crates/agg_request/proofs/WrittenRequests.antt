@@ -10,7 +10,7 @@ use Rattle.std.specs.Map.{keys_of}
 use Rattle.agg_request.specs.json_values.Json.{EachNamedIs, names_in, only_other}
 use Rattle.agg_request.specs.reading.RequestJson.{AreAggregations, IsAggregation, IsBelow}
 use Rattle.agg_request.specs.reading.RequestJson.{IsRequestJson}
-use Rattle.agg_request.specs.reading.RequestJson.{may_hold}
+use Rattle.agg_request.specs.reading.Kinds.{may_hold}
 use Rattle.agg_request_tree.specs.Request.{Request, agg_of, with_builders_in, below_of, builders_of}
 use Rattle.agg_request_tree.specs.Request.{listed_in, own_builder, with_builders}
 use Rattle.agg_request.specs.Written.{may_be_written}

@@ -8,7 +8,8 @@ use Rattle.agg_request_tree.specs.Request.{Request}
 use Rattle.agg_request_tree.specs.Source.{Sources, min_of}
 use Rattle.agg_request_tree.specs.declared.aggregation.AggregationVariants.{AggregationVariants}
 use Rattle.agg_request_tree.specs.declared.aggregation.AggregationVariants.TheVariants.{Composite}
-use Rattle.agg_request.specs.reading.RequestJson.{kind_word, may_hold}
+use Rattle.agg_request.specs.reading.RequestJson.{kind_word}
+use Rattle.agg_request.specs.reading.Kinds.{may_hold}
 use Rattle.agg_request_tree.specs.declared.aggregation.Aggregation.{Aggregation}
 use Rattle.agg_request_tree.specs.declared.aggregation.Aggregation.TheOpen.{Aggregation-F}
 use Rattle.agg_request_tree.specs.declared.aggregation.Aggregation.TheFolds.{fold-Aggregation}

@@ -1,3 +1,4 @@
 pub mod Json
 pub mod Query
 pub mod Reading
+pub mod Unsupported

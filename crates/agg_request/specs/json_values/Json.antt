@@ -147,7 +147,7 @@ IsGiven Is None None = ⊤
 IsGiven Is (Some d) (Some x) = Is d x
 IsGiven Is _ _ = ⊥
 
--- ---- what isn't supported
+-- ---- whole numbers
 
 -- a number that isn't whole, or lies outside 64 bits
 abbrev pub IsFloat : Data → Type 0
@@ -162,23 +162,3 @@ IsWhole taken true d n = (taken d ≡ Some n) ⊎ IsFloat d
 abbrev pub IsWholeAt : {A : Type 0} → (Data → Option A) → List ℕ → Bool → Data → A → Type 0
 IsWholeAt taken name lenient body n =
     (d : Data) × (get name body ≡ Some d) × IsWhole taken lenient d n
-
--- a number that isn't whole stands at a member
-abbrev pub HasFloatAt : List ℕ → Data → Type 0
-HasFloatAt name body = (d : Data) × (get name body ≡ Some d) × IsFloat d
-
--- some item has it
-abbrev pub HasUnsupportedItem : (Data → Type 0) → Items → Type 0
-HasUnsupportedItem Has no_items = ⊥
-HasUnsupportedItem Has (item d items) = Has d ⊎ HasUnsupportedItem Has items
-
--- some item of a list has it
-abbrev pub HasUnsupportedList : (Data → Type 0) → List ℕ → Data → Type 0
-HasUnsupportedList Has name body =
-    (items : Items) × (option_and_then as_array (get name body) ≡ Some items)
-    × HasUnsupportedItem Has items
-
--- some member has it
-abbrev pub HasUnsupportedMember : (Data → Type 0) → Members → Type 0
-HasUnsupportedMember Has no_members = ⊥
-HasUnsupportedMember Has (member name d members) = Has d ⊎ HasUnsupportedMember Has members

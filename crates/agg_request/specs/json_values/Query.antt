@@ -1,11 +1,11 @@
 -- Queries as JSON: the value that stands for a query is a filter, an object with one member, whose
 -- name is the filter's kind and whose value is its body.
 use Rattle.std.specs.Prelude.{◌≡◌, ◌⊎◌, ◌∷◌, [], ℕ, zero, suc, List, Bool, true}
-use Rattle.std.specs.Prelude.{false, None, Some, codes, IsSome, IsTrue}
+use Rattle.std.specs.Prelude.{false, None, Some, codes, IsTrue}
 use Rattle.serde_json.specs.Data.{Data}
 use Rattle.serde_json.specs.Data.{depth}
 use Rattle.serde_json.specs.Find.{as_str, get}
-use Rattle.agg_values.specs.KeyText.{IsKeyText, IsRefusedAs}
+use Rattle.agg_values.specs.KeyText.{IsKeyText}
 use Rattle.agg_values.specs.declared.error.KeyTextError.TheVariants as key_text
 use Rattle.agg_values.specs.TypedKey.{CompositeIntermediateKey}
 use Rattle.agg_segment.specs.storage.Document.{said_key}
@@ -15,15 +15,12 @@ use Rattle.agg_segment.specs.declared.query.RangeBound.TheVariants.{Unbounded, I
 use Rattle.agg_segment.specs.declared.query.QueryTree.{QueryTree}
 use Rattle.agg_segment.specs.declared.query.QueryTree.TheVariants.{All, Empty, Term, Range, Exists}
 use Rattle.agg_segment.specs.declared.query.QueryTree.TheVariants.{Boolean}
-use Rattle.agg_request.specs.json_values.Json.{HasUnsupportedList, IsField, IsListAt, has_only}
+use Rattle.agg_request.specs.json_values.Json.{IsField, IsListAt, has_only}
 use Rattle.agg_request.specs.json_values.Json.{only_member, text_at}
+use Rattle.agg_request.specs.json_values.Unsupported.{IsUnsupportedText}
 use Rattle.agg_values.specs.Nothing.{NoneIs}
 
 -- ---- values
-
--- a text of the type that isn't supported
-abbrev pub IsUnsupportedText : List ℕ → Type 0
-IsUnsupportedText text = IsRefusedAs text key_text.Unsupported
 
 -- a text says a key; leniently, one of the type that isn't supported says any
 abbrev pub SaysKey : Bool → List ℕ → CompositeIntermediateKey → Type 0
@@ -120,44 +117,3 @@ IsQuery = IsFilterOf false
 -- no text, and no filter, were texts of the type that isn't supported taken as values
 abbrev pub IsNoQueryAtAll : Data → Type 0
 IsNoQueryAtAll d = (as_str d ≡ None) × NoneIs (IsFilterOf true d)
-
--- ---- what isn't supported
-
--- the text at a member is of the type that isn't supported
-abbrev pub HasUnsupportedAt : List ℕ → Data → Type 0
-HasUnsupportedAt name d = (text : List ℕ) × (text_at name d ≡ Some text) × IsUnsupportedText text
-
--- the text at one of the two members of a bound is
-abbrev pub HasUnsupportedEnd : List ℕ → List ℕ → Data → Type 0
-HasUnsupportedEnd including excluding body =
-    HasUnsupportedAt including body ⊎ HasUnsupportedAt excluding body
-
--- the text at a bound of a range is
-abbrev pub HasUnsupportedBound : Data → Type 0
-HasUnsupportedBound body =
-    HasUnsupportedEnd (codes "gte") (codes "gt") body
-    ⊎ HasUnsupportedEnd (codes "lte") (codes "lt") body
-
--- some filter in one of the three lists of a body has a text of that type
-abbrev pub HasUnsupportedBody : (Data → Type 0) → Data → Type 0
-HasUnsupportedBody Has body =
-    HasUnsupportedList Has (codes "must") body ⊎ HasUnsupportedList Has (codes "should") body
-    ⊎ HasUnsupportedList Has (codes "must_not") body
-
--- a text of that type stands at the place of a value in a body of this kind
-abbrev pub HasUnsupportedIn : (Data → Type 0) → List ℕ → Data → Type 0
-HasUnsupportedIn Has kind body =
-    ((kind ≡ codes "term") × HasUnsupportedAt (codes "value") body)
-    ⊎ ((kind ≡ codes "range") × HasUnsupportedBound body)
-    ⊎ ((kind ≡ codes "bool") × HasUnsupportedBody Has body)
-
--- a text of that type stands at the place of a value in a filter, within so many levels
-abbrev pub HasUnsupportedFilter : ℕ → Data → Type 0
-HasUnsupportedFilter zero d = ⊥
-HasUnsupportedFilter (suc levels) d =
-    (kind : List ℕ) × (body : Data) × (only_member d ≡ Some (kind, body))
-    × HasUnsupportedIn (HasUnsupportedFilter levels) kind body
-
--- a text in place of a query, or a value's text of the type that isn't supported
-abbrev pub HasUnsupportedQuery : Data → Type 0
-HasUnsupportedQuery d = IsSome (as_str d) ⊎ HasUnsupportedFilter (suc (depth d)) d

@@ -1,5 +1,5 @@
 -- Composites as JSON: their sources, their size and their after key.
-use Rattle.std.specs.Prelude.{◌≡◌, ◌≢◌, ◌⊎◌, [], ℕ, ℤ, List, Bool, false, Option, Some}
+use Rattle.std.specs.Prelude.{◌≡◌, ◌≢◌, [], ℕ, ℤ, List, Bool, false, Option, Some}
 use Rattle.std.specs.Prelude.{codes, option_and_then, ⊤}
 use Rattle.serde_json.specs.Data.{Data, Items, Members}
 use Rattle.serde_json.specs.Find.{as_array, as_bool, as_object, as_str, get}
@@ -12,11 +12,10 @@ use Rattle.agg_values.specs.declared.order.MissingOrder.{MissingOrder}
 use Rattle.agg_values.specs.declared.order.MissingOrder.TheVariants.{Default, First, Last}
 use Rattle.agg_calendar.specs.declared.interval.CalendarInterval.{CalendarInterval}
 use Rattle.agg_calendar.specs.declared.interval.CalendarInterval.TheVariants.{Year, Month, Week}
-use Rattle.agg_request.specs.json_values.Json.{EachIs, EachNamedIs, HasFloatAt, HasUnsupportedList}
-use Rattle.agg_request.specs.json_values.Json.{HasUnsupportedMember, IsField, IsGiven, IsOr}
+use Rattle.agg_request.specs.json_values.Json.{EachIs, EachNamedIs, IsField, IsGiven, IsOr}
 use Rattle.agg_request.specs.json_values.Json.{IsWholeAt, only_member, present, small_number}
 use Rattle.agg_request.specs.json_values.Json.{whole_number}
-use Rattle.agg_request.specs.json_values.Query.{IsUnsupportedText, SaysKey}
+use Rattle.agg_request.specs.json_values.Query.{SaysKey}
 use Rattle.agg_request_tree.specs.Source.{Sources, field_of, missing_bucket_of, missing_order_of}
 use Rattle.agg_request_tree.specs.Source.{min_key_of, name_of, order_of}
 use Rattle.agg_request_tree.specs.declared.aggregation.CompositeAggregation.{CompositeAggregation}
@@ -156,46 +155,3 @@ pub record IsCompositeJson (lenient : Bool) (body : Data) (composite : Composite
   pub sources : AreSources lenient body composite.sources
   pub size : IsSizeOf lenient body composite.size
   pub after : IsAfter lenient (get (codes "after") body) composite.after
-
--- ---- what isn't supported
-
--- a text of the type that isn't supported
-abbrev pub IsUnsupportedKey : Data → Type 0
-IsUnsupportedKey d = (text : List ℕ) × (as_str d ≡ Some text) × IsUnsupportedText text
-
--- the least value of a body is such a text
-abbrev pub HasUnsupportedLeast : Data → Type 0
-HasUnsupportedLeast body =
-    (d : Data) × (present (codes "min") body ≡ Some d) × IsUnsupportedKey d
-
--- the body of a histogram has an interval that isn't whole, or its least value is such a text
-abbrev pub HasUnsupportedNumbers : Data → Type 0
-HasUnsupportedNumbers body = HasFloatAt (codes "interval") body ⊎ HasUnsupportedLeast body
-
--- the body of a source has an interval that isn't whole, or its least value is such a text
-abbrev pub HasUnsupportedInterval : List ℕ → Data → Type 0
-HasUnsupportedInterval kind body =
-    ((kind ≡ codes "histogram") × HasFloatAt (codes "interval") body) ⊎ HasUnsupportedLeast body
-
--- a source has such a body
-abbrev pub HasUnsupportedKind : Data → Type 0
-HasUnsupportedKind d =
-    (name : List ℕ) × (kind : List ℕ) × (named : Data) × (body : Data)
-    × (only_member d ≡ Some (name, named)) × (only_member named ≡ Some (kind, body))
-    × HasUnsupportedInterval kind body
-
--- some source of a body has
-abbrev pub HasUnsupportedSource : Data → Type 0
-HasUnsupportedSource = HasUnsupportedList HasUnsupportedKind (codes "sources")
-
--- some member of an after key is such a text
-abbrev pub HasUnsupportedAfter : Option Data → Type 0
-HasUnsupportedAfter d =
-    (members : Members) × (option_and_then as_object d ≡ Some members)
-    × HasUnsupportedMember IsUnsupportedKey members
-
--- a size or an interval that isn't whole, or a text of that type in the after key
-abbrev pub HasUnsupportedComposite : Data → Type 0
-HasUnsupportedComposite body =
-    HasFloatAt (codes "size") body ⊎ HasUnsupportedSource body
-    ⊎ HasUnsupportedAfter (get (codes "after") body)

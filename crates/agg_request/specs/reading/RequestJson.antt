@@ -2,19 +2,17 @@
 -- `aggs` is its kind, and at `aggs` those below it. `lenient` is false for what is read, and true
 -- only tells a fault of grammar from what isn't supported; `pool` has the unused builders, and
 -- `name_of` is a builder's name.
-use Rattle.std.specs.Prelude.{◌≡◌, ◌⊎◌, ◌∷◌, ◌&&◌, ◌||◌, [], ℕ, zero, suc, List, Bool, true, false}
-use Rattle.std.specs.Prelude.{Option, None, Some, option_and_then, option_map, codes}
-use Rattle.std.specs.Prelude.{◌==◌, IsSome, IsTrue, length, not, ⊤}
-use Rattle.std.specs.List.{list_any}
-use Rattle.std.specs.Str.{bytes_eq}
+use Rattle.std.specs.Prelude.{◌≡◌, ◌⊎◌, ◌∷◌, [], ℕ, zero, suc, List, Bool, true, false}
+use Rattle.std.specs.Prelude.{Option, None, Some, option_map, codes, IsSome, IsTrue, ⊤}
 use Rattle.serde_json.specs.Data.{Data, Members, no_members, member, depth}
 use Rattle.serde_json.specs.Find.{as_object, as_str, get}
 use Rattle.agg_request.specs.reading.Builders.{builder_name, left_behind, left_by_each}
 use Rattle.agg_request.specs.reading.Builders.{left_by_kind, taken}
-use Rattle.agg_request.specs.reading.CompositeJson.{HasUnsupportedComposite, IsCompositeJson}
-use Rattle.agg_request.specs.json_values.Json.{HasUnsupportedMember, IsField, is_among, names_in}
-use Rattle.agg_request.specs.json_values.Json.{only_other, present}
-use Rattle.agg_request.specs.json_values.Query.{HasUnsupportedQuery, IsFilterOf}
+use Rattle.agg_request.specs.reading.CompositeJson.{IsCompositeJson}
+use Rattle.agg_request.specs.reading.Kinds.{may_hold}
+use Rattle.agg_request.specs.reading.Unsupported.{IsUnsupportedKind}
+use Rattle.agg_request.specs.json_values.Json.{IsField, names_in, only_other, present}
+use Rattle.agg_request.specs.json_values.Query.{IsFilterOf}
 use Rattle.agg_values.specs.Nothing.{NoneIs}
 use Rattle.agg_request_tree.specs.Request.{Request, agg_of, below_of}
 use Rattle.agg_request_tree.specs.declared.aggregation.Aggregation.{Aggregation}
@@ -25,22 +23,7 @@ use Rattle.agg_request_tree.specs.declared.aggregation.filter.FilterQuery.{Filte
 use Rattle.agg_request_tree.specs.declared.aggregation.filter.FilterQuery.TheVariants as by
 use by.{Tree, CustomBuilder}
 
--- ---- kinds
-
--- the kinds that are numbers over a field
-abbrev pub metric_kinds : List (List ℕ)
-metric_kinds = codes "value_count" ∷ codes "max" ∷ codes "min" ∷ codes "sum" ∷ []
-
--- the kinds that are known and left out
-abbrev pub unsupported_kinds : List (List ℕ)
-unsupported_kinds =
-    codes "avg" ∷ codes "stats" ∷ codes "extended_stats" ∷ codes "percentiles"
-    ∷ codes "cardinality" ∷ codes "terms" ∷ codes "range" ∷ codes "histogram"
-    ∷ codes "date_histogram" ∷ codes "top_hits" ∷ []
-
--- a kind is one of those that are left out
-abbrev pub IsUnsupportedKind : List ℕ → Type 0
-IsUnsupportedKind kind = is_among kind unsupported_kinds ≡ true
+-- ---- one aggregation
 
 -- the field of a metric's body; leniently, a value for documents without one may stand there too
 abbrev pub IsMetric : Bool → Data → List ℕ → Type 0
@@ -90,18 +73,7 @@ abbrev pub IsKind : {B : Type 0} → Bool → (B → List ℕ) → List ℕ → 
 IsKind lenient name_of kind body pool agg =
     IsAsked lenient name_of kind body pool agg ⊎ (IsTrue lenient × IsUnsupportedKind kind)
 
--- ---- aggregations
-
--- whether none of these names is that of a member of a bucket
-abbrev pub are_free : List (List ℕ) → Bool
-are_free names =
-    not (list_any (λ name. bytes_eq name (codes "key") || bytes_eq name (codes "doc_count")) names)
-
--- whether an aggregation of this kind may have aggregations of these names below it: a metric may
--- have none, and none may have the name of a member of a bucket
-abbrev pub may_hold : List ℕ → List (List ℕ) → Bool
-may_hold kind names =
-    (not (is_among kind metric_kinds) || (length names == 0)) && are_free names
+-- ---- at any depth
 
 -- these builders are left; leniently, any
 abbrev pub IsLeft : {B : Type 0} → Bool → Option (List B) → List B → Type 0
@@ -165,35 +137,7 @@ abbrev pub IsNoRequestAtAll : {B : Type 0} → (B → List ℕ) → Data → Typ
 IsNoRequestAtAll {B = B} name_of d =
     (lenient : Bool) (some : List B) → NoneIs (IsRequestOf lenient name_of d some)
 
--- ---- what isn't supported
-
--- what a kind's body says isn't supported, or the kind itself isn't
-abbrev pub HasUnsupportedAsked : List ℕ → Data → Type 0
-HasUnsupportedAsked kind body =
-    IsUnsupportedKind kind
-    ⊎ ((kind ≡ codes "filter") × HasUnsupportedQuery body)
-    ⊎ ((kind ≡ codes "composite") × HasUnsupportedComposite body)
-    ⊎ ((is_among kind metric_kinds ≡ true) × IsSome (present (codes "missing") body))
-
--- an aggregation of this kind has below it what it may not hold, or something that has it
-abbrev pub HasUnsupportedBelow : (Data → Type 0) → List ℕ → Option Data → Type 0
-HasUnsupportedBelow Has kind d =
-    (members : Members) × (option_and_then as_object d ≡ Some members)
-    × ((may_hold kind (names_in members) ≡ false) ⊎ HasUnsupportedMember Has members)
-
--- an aggregation says something that isn't supported, within so many levels
-abbrev pub HasUnsupportedAggregation : ℕ → Data → Type 0
-HasUnsupportedAggregation zero d = ⊥
-HasUnsupportedAggregation (suc levels) d =
-    (kind : List ℕ) × (body : Data) × (only_other (codes "aggs") d ≡ Some (kind, body))
-    × (HasUnsupportedAsked kind body
-    ⊎ HasUnsupportedBelow (HasUnsupportedAggregation levels) kind (get (codes "aggs") d))
-
--- a request says something that isn't supported
-abbrev pub HasUnsupportedRequest : Data → Type 0
-HasUnsupportedRequest d =
-    (members : Members) × (as_object d ≡ Some members)
-    × HasUnsupportedMember (HasUnsupportedAggregation (suc (depth d))) members
+-- ---- builders
 
 -- a filter of a request asks for a builder of which none is left
 abbrev pub HasUnknownBuilder : {B : Type 0} → (B → List ℕ) → Data → List B → Type 0

@@ -2,10 +2,12 @@
 ghost use Rattle.std.specs.Prelude.{◌≡◌, ◌≢◌, ◌<◌, ◌⊎◌, ℕ, [], Err, IfOk, IsErrOf};
 ghost use Rattle.serde_json.specs.Data.{depth, items_depth};
 ghost use Rattle.serde_json.specs.View.{view, items_view};
-ghost use Rattle.agg_request.specs.json_values.Json.{EachIs, HasUnsupportedItem};
-ghost use Rattle.agg_request.specs.json_values.Json.{HasUnsupportedList, IsListAt};
-ghost use Rattle.agg_request.specs.json_values.Query.{HasUnsupportedBody, HasUnsupportedFilter};
-ghost use Rattle.agg_request.specs.json_values.Query.{HasUnsupportedIn, HasUnsupportedQuery};
+ghost use Rattle.agg_request.specs.json_values.Json.{EachIs};
+ghost use Rattle.agg_request.specs.json_values.Json.{IsListAt};
+ghost use Rattle.agg_request.specs.json_values.Unsupported.{HasUnsupportedItem, HasUnsupportedList};
+ghost use Rattle.agg_request.specs.json_values.Unsupported.{HasUnsupportedBody};
+ghost use Rattle.agg_request.specs.json_values.Unsupported.{HasUnsupportedFilter, HasUnsupportedIn};
+ghost use Rattle.agg_request.specs.json_values.Unsupported.{HasUnsupportedQuery};
 ghost use Rattle.agg_request.specs.json_values.Query.{IsBoolean, IsFilter, IsNoQueryAtAll};
 ghost use Rattle.agg_request.specs.json_values.Query.{IsOfKind, IsQuery};
 ghost use Rattle.agg_values.specs.Nothing.{NoneIs};

@@ -1,6 +1,7 @@
 //! Composites from JSON.
 ghost use Rattle.serde_json.specs.View.{view};
-ghost use Rattle.agg_request.specs.reading.CompositeJson.{HasUnsupportedComposite, IsCompositeJson};
+ghost use Rattle.agg_request.specs.reading.CompositeJson.{IsCompositeJson};
+ghost use Rattle.agg_request.specs.reading.Unsupported.{HasUnsupportedComposite};
 ghost use Rattle.agg_request.specs.json_values.Reading.{IsReading};
 
 mod after;

@@ -3,8 +3,8 @@ ghost use Rattle.std.specs.Prelude.{◌≡◌, ◌||◌, codes, not, option_map}
 ghost use Rattle.std.specs.Map.{keys_of};
 ghost use Rattle.std.specs.Str.{bytes_eq};
 ghost use Rattle.agg_request.specs.json_values.Json.{is_among};
-ghost use Rattle.agg_request.specs.reading.RequestJson.{are_free, kind_word, may_hold};
-ghost use Rattle.agg_request.specs.reading.RequestJson.{metric_kinds};
+ghost use Rattle.agg_request.specs.reading.RequestJson.{kind_word};
+ghost use Rattle.agg_request.specs.reading.Kinds.{are_free, may_hold, metric_kinds};
 ghost use Rattle.agg_request.specs.Written.{all_may_be_written, has_no_null_min, have_no_null_min};
 ghost use Rattle.agg_request.specs.Written.{is_null, may_be_written};
 

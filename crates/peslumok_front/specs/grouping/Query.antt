@@ -17,7 +17,8 @@ use Rattle.agg_segment.specs.declared.query.QueryTree.{QueryTree}
 use Rattle.agg_segment.specs.declared.query.QueryTree.TheVariants.{All}
 use Rattle.agg_segment.specs.declared.query.RangeBound.{RangeBound}
 use Rattle.agg_segment.specs.declared.query.RangeBound.TheVariants.{Unbounded, Included, Excluded}
-use Rattle.agg_request.specs.json_values.Query.{HasUnsupportedQuery, IsQuery}
+use Rattle.agg_request.specs.json_values.Query.{IsQuery}
+use Rattle.agg_request.specs.json_values.Unsupported.{HasUnsupportedQuery}
 use Rattle.agg_request.specs.declared.json_values.read_error.ReadError.{ReadError}
 use Rattle.agg_request.specs.declared.json_values.read_error.ReadError.TheVariants as reading
 use Rattle.peslumok_texts.specs.fields.Types.{type_of}

@@ -10,9 +10,10 @@ use Rattle.serde_json.specs.Find.{as_str}
 use Rattle.agg_segment.specs.declared.query.QueryTree.{QueryTree}
 use Rattle.agg_segment.specs.declared.query.QueryTree.TheVariants.{All, Empty}
 use Rattle.agg_request.specs.json_values.Json.{only_member}
-use Rattle.agg_request.specs.json_values.Query.{HasUnsupportedFilter, HasUnsupportedAt}
-use Rattle.agg_request.specs.json_values.Query.{HasUnsupportedBody, HasUnsupportedBound}
-use Rattle.agg_request.specs.json_values.Query.{HasUnsupportedIn, IsBoolean, IsExists, IsFilter}
+use Rattle.agg_request.specs.json_values.Query.{IsBoolean, IsExists, IsFilter}
+use Rattle.agg_request.specs.json_values.Unsupported.{HasUnsupportedFilter, HasUnsupportedAt}
+use Rattle.agg_request.specs.json_values.Unsupported.{HasUnsupportedBody, HasUnsupportedBound}
+use Rattle.agg_request.specs.json_values.Unsupported.{HasUnsupportedIn}
 use Rattle.agg_request.specs.json_values.Query.{IsFilterOf, IsNoQueryAtAll, IsOfKind, IsPlain}
 use Rattle.agg_request.specs.json_values.Query.{IsQuery, IsRange, IsTerm}
 use Rattle.agg_request.specs.json_values.Reading.{IsReading}

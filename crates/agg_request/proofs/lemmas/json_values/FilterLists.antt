@@ -11,9 +11,11 @@ use Rattle.serde_json.specs.Find.{as_array, get, get_member}
 use Rattle.serde_json.specs.View.{view, items_view}
 use Rattle.serde_json.specs.declared.value.Value.{Value}
 use Rattle.agg_segment.specs.declared.query.QueryTree.{QueryTree}
-use Rattle.agg_request.specs.json_values.Json.{EachIs, HasUnsupportedItem, HasUnsupportedList}
+use Rattle.agg_request.specs.json_values.Json.{EachIs}
 use Rattle.agg_request.specs.json_values.Json.{IsList, IsListAt}
-use Rattle.agg_request.specs.json_values.Query.{HasUnsupportedFilter, HasUnsupportedBody, IsBoolean}
+use Rattle.agg_request.specs.json_values.Query.{IsBoolean}
+use Rattle.agg_request.specs.json_values.Unsupported.{HasUnsupportedItem, HasUnsupportedList}
+use Rattle.agg_request.specs.json_values.Unsupported.{HasUnsupportedFilter, HasUnsupportedBody}
 use Rattle.agg_request.specs.json_values.Query.{IsFilter}
 use Rattle.agg_request.specs.json_values.Reading.{IsReading, IsRefusal}
 use Rattle.agg_request.specs.declared.json_values.read_error.ReadError.{ReadError}

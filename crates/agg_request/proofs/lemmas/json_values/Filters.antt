@@ -9,9 +9,10 @@ use Rattle.agg_segment.specs.declared.query.RangeBound.{RangeBound}
 use Rattle.agg_segment.specs.declared.query.RangeBound.TheVariants.{Unbounded, Included, Excluded}
 use Rattle.agg_segment.specs.declared.query.QueryTree.{QueryTree}
 use Rattle.agg_request.specs.json_values.Json.{IsField, text_at}
-use Rattle.agg_request.specs.json_values.Query.{HasUnsupportedAt, HasUnsupportedBound}
-use Rattle.agg_request.specs.json_values.Query.{HasUnsupportedEnd, IsBound, IsExists, IsRange}
-use Rattle.agg_request.specs.json_values.Query.{IsTerm, IsUnsupportedText, Says, SaysAt}
+use Rattle.agg_request.specs.json_values.Query.{IsBound, IsExists, IsRange}
+use Rattle.agg_request.specs.json_values.Query.{IsTerm, Says, SaysAt}
+use Rattle.agg_request.specs.json_values.Unsupported.{HasUnsupportedAt, HasUnsupportedBound}
+use Rattle.agg_request.specs.json_values.Unsupported.{HasUnsupportedEnd, IsUnsupportedText}
 use Rattle.agg_request.specs.json_values.Reading.{IsReading, IsRefusal}
 use Rattle.agg_request.specs.declared.json_values.read_error.ReadError.{ReadError}
 use Rattle.agg_request.proofs.lemmas.json_values.Readings.{read_as, refused_by}

@@ -5,7 +5,8 @@ use Rattle.std.proofs.lemmas.List.{take_more}
 use Rattle.serde_json.specs.Data.{Data}
 use Rattle.serde_json.specs.View.{view, items_view}
 use Rattle.serde_json.specs.declared.value.Value.{Value}
-use Rattle.agg_request.specs.json_values.Json.{EachIs, HasUnsupportedItem}
+use Rattle.agg_request.specs.json_values.Json.{EachIs}
+use Rattle.agg_request.specs.json_values.Unsupported.{HasUnsupportedItem}
 
 -- what one item is read as
 pub each_at : {A : Type 0} (Is : Data → A → Type 0) (vs : List Value) (i : ℕ) (v : Value)

@@ -12,7 +12,8 @@ use Rattle.agg_values.specs.declared.error.KeyTextError.{KeyTextError}
 use Rattle.agg_values.specs.declared.error.KeyTextError.TheVariants as key_text
 use Rattle.agg_segment.specs.storage.Document.{said_key}
 use Rattle.agg_segment.specs.declared.storage.document.FieldValue.{FieldValue}
-use Rattle.agg_request.specs.json_values.Query.{IsUnsupportedText, Says, SaysKey}
+use Rattle.agg_request.specs.json_values.Query.{Says, SaysKey}
+use Rattle.agg_request.specs.json_values.Unsupported.{IsUnsupportedText}
 use Rattle.agg_request.specs.json_values.Reading.{IsReading, IsRefusal, refusal_of}
 use Rattle.agg_request.specs.declared.json_values.read_error.ReadError.{ReadError}
 use Rattle.agg_request.specs.declared.json_values.read_error.ReadError.TheVariants.{Grammar}

@@ -15,9 +15,11 @@ use Rattle.agg_values.specs.TypedKey.{CompositeIntermediateKey}
 use Rattle.agg_values.specs.declared.after_key.AfterKey.{AfterKey}
 use Rattle.agg_values.specs.declared.error.KeyTextError.{KeyTextError}
 use Rattle.agg_values.specs.declared.error.KeyTextError.TheVariants.{OutOfMemory}
-use Rattle.agg_request.specs.reading.CompositeJson.{IsKeyJson, IsUnsupportedKey}
-use Rattle.agg_request.specs.json_values.Json.{EachNamedIs, HasUnsupportedMember}
-use Rattle.agg_request.specs.json_values.Query.{IsUnsupportedText, SaysKey}
+use Rattle.agg_request.specs.reading.CompositeJson.{IsKeyJson}
+use Rattle.agg_request.specs.reading.Unsupported.{IsUnsupportedKey}
+use Rattle.agg_request.specs.json_values.Json.{EachNamedIs}
+use Rattle.agg_request.specs.json_values.Query.{SaysKey}
+use Rattle.agg_request.specs.json_values.Unsupported.{HasUnsupportedMember, IsUnsupportedText}
 use Rattle.agg_request.specs.json_values.Reading.{IsReading, IsRefusal, refusal_of}
 use Rattle.agg_request.specs.declared.json_values.read_error.ReadError.{ReadError}
 use Rattle.agg_request.proofs.lemmas.json_values.JsonLemmas.{Ascends, Ascends-none, Ascends-more}

@@ -7,10 +7,13 @@ use Rattle.serde_json.specs.Data.{depth, members_depth}
 use Rattle.serde_json.specs.Find.{as_object, get}
 use Rattle.agg_request.specs.reading.Builders.{left_behind, left_below, left_by_each, left_by_kind}
 use Rattle.agg_request.specs.reading.Builders.{left_by_object, left_by_own}
-use Rattle.agg_request.specs.json_values.Json.{HasUnsupportedMember, names_in, only_other}
-use Rattle.agg_request.specs.reading.RequestJson.{HasUnsupportedAggregation, HasUnsupportedAsked}
-use Rattle.agg_request.specs.reading.RequestJson.{HasUnsupportedBelow, IsAggregation, IsBelow}
-use Rattle.agg_request.specs.reading.RequestJson.{IsKind, IsRequestWithin, may_hold}
+use Rattle.agg_request.specs.json_values.Json.{names_in, only_other}
+use Rattle.agg_request.specs.json_values.Unsupported.{HasUnsupportedMember}
+use Rattle.agg_request.specs.reading.RequestJson.{IsAggregation, IsBelow}
+use Rattle.agg_request.specs.reading.Unsupported.{HasUnsupportedAggregation, HasUnsupportedAsked}
+use Rattle.agg_request.specs.reading.Unsupported.{HasUnsupportedBelow}
+use Rattle.agg_request.specs.reading.RequestJson.{IsKind, IsRequestWithin}
+use Rattle.agg_request.specs.reading.Kinds.{may_hold}
 use Rattle.agg_request.specs.json_values.Reading.{IsReadingWith}
 use Rattle.agg_request_tree.specs.Request.{Request, agg_of, aggregation_of, below_of}
 use Rattle.agg_request_tree.specs.declared.aggregation.Aggregation.{Aggregation}

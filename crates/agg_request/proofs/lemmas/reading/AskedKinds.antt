@@ -7,9 +7,11 @@ use Rattle.serde_json.specs.Data.{Data}
 use Rattle.agg_segment.specs.declared.query.QueryTree.{QueryTree}
 use Rattle.agg_request.specs.reading.Builders.{builder_name, left_by_filter, left_by_kind}
 use Rattle.agg_request.specs.json_values.Json.{is_among, present}
-use Rattle.agg_request.specs.json_values.Query.{HasUnsupportedQuery, IsNoQueryAtAll, IsQuery}
-use Rattle.agg_request.specs.reading.RequestJson.{HasUnsupportedAsked, IsKind, IsMetric, IsQueryOf}
-use Rattle.agg_request.specs.reading.RequestJson.{metric_kinds, unsupported_kinds}
+use Rattle.agg_request.specs.json_values.Query.{IsNoQueryAtAll, IsQuery}
+use Rattle.agg_request.specs.json_values.Unsupported.{HasUnsupportedQuery}
+use Rattle.agg_request.specs.reading.RequestJson.{IsKind, IsMetric, IsQueryOf}
+use Rattle.agg_request.specs.reading.Unsupported.{HasUnsupportedAsked, unsupported_kinds}
+use Rattle.agg_request.specs.reading.Kinds.{metric_kinds}
 use Rattle.agg_request.specs.json_values.Reading.{IsReadingWith, IsRefusal}
 use Rattle.agg_request_tree.specs.declared.aggregation.AggregationVariants as variants
 use variants.{AggregationVariants}

@@ -6,11 +6,13 @@ use Rattle.serde_json.specs.Data.{Data, Items}
 use Rattle.serde_json.specs.Find.{as_array, get}
 use Rattle.agg_calendar.specs.declared.interval.CalendarInterval.{CalendarInterval}
 use Rattle.agg_calendar.specs.declared.interval.CalendarInterval.TheVariants.{Year, Month, Week}
-use Rattle.agg_request.specs.reading.CompositeJson.{AreSources, HasUnsupportedInterval}
-use Rattle.agg_request.specs.reading.CompositeJson.{HasUnsupportedKind, HasUnsupportedSource}
+use Rattle.agg_request.specs.reading.CompositeJson.{AreSources}
+use Rattle.agg_request.specs.reading.Unsupported.{HasUnsupportedInterval, HasUnsupportedKind}
+use Rattle.agg_request.specs.reading.Unsupported.{HasUnsupportedSource}
 use Rattle.agg_request.specs.reading.CompositeJson.{IsSourceBody, IsSourceJson, IsSourceOfKind}
 use Rattle.agg_request.specs.reading.CompositeJson.{unit_word}
-use Rattle.agg_request.specs.json_values.Json.{EachIs, HasUnsupportedItem, only_member}
+use Rattle.agg_request.specs.json_values.Json.{EachIs, only_member}
+use Rattle.agg_request.specs.json_values.Unsupported.{HasUnsupportedItem}
 use Rattle.agg_request.specs.json_values.Reading.{IsReading}
 use Rattle.agg_request_tree.specs.Source.{Sources}
 use Rattle.agg_request.specs.declared.json_values.read_error.ReadError.{ReadError}

@@ -11,8 +11,9 @@ use Rattle.agg_values.proofs.KeyTexts.{IsKeyText-unique}
 use Rattle.agg_request.specs.json_values.Json.{IsGiven, present}
 use Rattle.agg_request.specs.json_values.Query.{SaysKey}
 use Rattle.agg_request.specs.json_values.Reading.{IsReading, IsRefusal}
-use Rattle.agg_request.specs.reading.CompositeJson.{HasUnsupportedLeast, IsKeyJson, IsLeastOf}
-use Rattle.agg_request.specs.reading.CompositeJson.{IsUnsupportedKey, SaysValue}
+use Rattle.agg_request.specs.reading.CompositeJson.{IsKeyJson, IsLeastOf}
+use Rattle.agg_request.specs.reading.CompositeJson.{SaysValue}
+use Rattle.agg_request.specs.reading.Unsupported.{HasUnsupportedLeast, IsUnsupportedKey}
 use Rattle.agg_request.specs.declared.json_values.read_error.ReadError.{ReadError}
 use Rattle.agg_request.proofs.lemmas.json_values.Readings.{refused_by}
 use Rattle.agg_request.proofs.lemmas.json_values.ValueTexts.{said_strictly, supported}

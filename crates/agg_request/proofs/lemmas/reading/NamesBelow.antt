@@ -13,7 +13,7 @@ use Rattle.agg_values.specs.Names.{name_cmp}
 use Rattle.serde_json.specs.Data.{Data, Members, no_members, member}
 use Rattle.serde_json.specs.Events.{members_len}
 use Rattle.agg_request.specs.json_values.Json.{has_member, is_among, names_in}
-use Rattle.agg_request.specs.reading.RequestJson.{are_free, may_hold, metric_kinds}
+use Rattle.agg_request.specs.reading.Kinds.{are_free, may_hold, metric_kinds}
 
 -- an object has a member of a name where the first has it, or another
 has-next : (name other : List ℕ) (d : Data) (ms : Members)

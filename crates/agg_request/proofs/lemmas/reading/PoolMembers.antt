@@ -14,7 +14,7 @@ use Rattle.agg_values.specs.Names.{put}
 use Rattle.agg_request.specs.reading.Builders.{left_by_each}
 use Rattle.agg_request.specs.json_values.Reading.{IsReadingWith}
 use Rattle.agg_request_tree.specs.Request.{Request}
-use Rattle.agg_request.specs.json_values.Json.{HasUnsupportedMember}
+use Rattle.agg_request.specs.json_values.Unsupported.{HasUnsupportedMember}
 use Rattle.agg_request.specs.reading.RequestJson.{AreAggregations}
 use Rattle.agg_request_tree.specs.declared.aggregation.Aggregation.{Aggregation}
 use Rattle.agg_request.specs.declared.json_values.read_error.ReadError.{ReadError}

@@ -6,9 +6,10 @@ use Rattle.serde_json.specs.Find.{as_object}
 use Rattle.agg_request.specs.reading.Builders.{left_behind, left_by_each}
 use Rattle.agg_request.specs.json_values.Reading.{IsReadingWith}
 use Rattle.agg_request_tree.specs.Request.{Request}
-use Rattle.agg_request.specs.json_values.Json.{HasUnsupportedMember}
-use Rattle.agg_request.specs.reading.RequestJson.{HasUnknownBuilder, HasUnsupportedAggregation}
-use Rattle.agg_request.specs.reading.RequestJson.{HasUnsupportedRequest, IsAggregation, IsNoRequest}
+use Rattle.agg_request.specs.json_values.Unsupported.{HasUnsupportedMember}
+use Rattle.agg_request.specs.reading.RequestJson.{HasUnknownBuilder}
+use Rattle.agg_request.specs.reading.RequestJson.{IsAggregation, IsNoRequest}
+use Rattle.agg_request.specs.reading.Unsupported.{HasUnsupportedAggregation, HasUnsupportedRequest}
 use Rattle.agg_request.specs.reading.RequestJson.{IsNoRequestAtAll, IsRequestJson, IsRequestOf}
 use Rattle.agg_request.specs.reading.RequestJson.{IsRequestWithin}
 use Rattle.agg_request.specs.declared.json_values.read_error.ReadError.{ReadError}

@@ -1,8 +1,9 @@
 //! Filters with no filters inside.
 ghost use Rattle.std.specs.Prelude.{codes};
 ghost use Rattle.serde_json.specs.View.{view};
-ghost use Rattle.agg_request.specs.json_values.Query.{HasUnsupportedAt, HasUnsupportedBound};
-ghost use Rattle.agg_request.specs.json_values.Query.{IsBound, HasUnsupportedEnd, IsExists};
+ghost use Rattle.agg_request.specs.json_values.Query.{IsBound, IsExists};
+ghost use Rattle.agg_request.specs.json_values.Unsupported.{HasUnsupportedAt, HasUnsupportedBound};
+ghost use Rattle.agg_request.specs.json_values.Unsupported.{HasUnsupportedEnd};
 ghost use Rattle.agg_request.specs.json_values.Query.{IsPlain, IsRange, IsTerm};
 ghost use Rattle.agg_request.specs.json_values.Reading.{IsReading};
 

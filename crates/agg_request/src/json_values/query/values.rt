@@ -3,7 +3,8 @@ ghost use Rattle.std.specs.Prelude.{◌≡◌, ◌≢◌, IfNone, IfSome};
 ghost use Rattle.serde_json.specs.View.{view};
 ghost use Rattle.agg_segment.specs.storage.Document.{said_key};
 ghost use Rattle.agg_segment.specs.declared.storage.document.FieldValue.{FieldValue as Said};
-ghost use Rattle.agg_request.specs.json_values.Query.{HasUnsupportedAt, IsUnsupportedText, Says};
+ghost use Rattle.agg_request.specs.json_values.Query.{Says};
+ghost use Rattle.agg_request.specs.json_values.Unsupported.{HasUnsupportedAt, IsUnsupportedText};
 ghost use Rattle.agg_request.specs.json_values.Query.{SaysAt};
 ghost use Rattle.agg_request.specs.json_values.Reading.{IsReading};
 

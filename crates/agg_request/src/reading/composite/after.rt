@@ -3,9 +3,10 @@ ghost use Rattle.std.specs.Prelude.{◌≡◌, OnOk, codes};
 ghost use Rattle.serde_json.specs.Find.{get};
 ghost use Rattle.serde_json.specs.View.{members_view, view};
 ghost use Rattle.agg_values.specs.Names.{put};
-ghost use Rattle.agg_request.specs.reading.CompositeJson.{HasUnsupportedAfter, IsAfter, IsKeyJson};
-ghost use Rattle.agg_request.specs.reading.CompositeJson.{IsUnsupportedKey};
-ghost use Rattle.agg_request.specs.json_values.Json.{EachNamedIs, HasUnsupportedMember};
+ghost use Rattle.agg_request.specs.reading.CompositeJson.{IsAfter, IsKeyJson};
+ghost use Rattle.agg_request.specs.reading.Unsupported.{HasUnsupportedAfter, IsUnsupportedKey};
+ghost use Rattle.agg_request.specs.json_values.Json.{EachNamedIs};
+ghost use Rattle.agg_request.specs.json_values.Unsupported.{HasUnsupportedMember};
 ghost use Rattle.agg_request.specs.json_values.Reading.{IsReading};
 
 use crate::json_values::ReadError;

@@ -2,7 +2,8 @@
 ghost use Rattle.std.specs.Prelude.{◌≡◌, ◌↔◌, IsTrue, codes};
 ghost use Rattle.serde_json.specs.View.{view};
 ghost use Rattle.agg_request.specs.reading.CompositeJson.{IsSizeOf};
-ghost use Rattle.agg_request.specs.json_values.Json.{HasFloatAt, IsFloat};
+ghost use Rattle.agg_request.specs.json_values.Json.{IsFloat};
+ghost use Rattle.agg_request.specs.json_values.Unsupported.{HasFloatAt};
 ghost use Rattle.agg_request.specs.json_values.Reading.{IsReading};
 
 use crate::json_values::ReadError;

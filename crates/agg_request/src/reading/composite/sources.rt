@@ -2,10 +2,12 @@
 ghost use Rattle.std.specs.Prelude.{◌≡◌, codes, option_and_then, option_map};
 ghost use Rattle.serde_json.specs.Find.{as_array, get};
 ghost use Rattle.serde_json.specs.View.{items_view, view};
-ghost use Rattle.agg_request.specs.reading.CompositeJson.{AreSources, HasUnsupportedInterval};
-ghost use Rattle.agg_request.specs.reading.CompositeJson.{HasUnsupportedKind, HasUnsupportedSource};
+ghost use Rattle.agg_request.specs.reading.CompositeJson.{AreSources};
+ghost use Rattle.agg_request.specs.reading.Unsupported.{HasUnsupportedInterval, HasUnsupportedKind};
+ghost use Rattle.agg_request.specs.reading.Unsupported.{HasUnsupportedSource};
 ghost use Rattle.agg_request.specs.reading.CompositeJson.{IsSourceJson, IsSourceOfKind};
-ghost use Rattle.agg_request.specs.json_values.Json.{EachIs, HasUnsupportedItem};
+ghost use Rattle.agg_request.specs.json_values.Json.{EachIs};
+ghost use Rattle.agg_request.specs.json_values.Unsupported.{HasUnsupportedItem};
 ghost use Rattle.agg_request.specs.json_values.Reading.{IsReading};
 
 mod date_histogram;

@@ -4,10 +4,11 @@ ghost use Rattle.serde_json.specs.Find.{as_str};
 ghost use Rattle.serde_json.specs.View.{view};
 ghost use Rattle.agg_request.specs.reading.Builders.{builder_name, left_by_filter, left_by_kind};
 ghost use Rattle.agg_request.specs.json_values.Json.{is_among, present};
-ghost use Rattle.agg_request.specs.json_values.Query.{HasUnsupportedQuery};
-ghost use Rattle.agg_request.specs.reading.RequestJson.{HasUnsupportedAsked, IsKind, IsMetric};
+ghost use Rattle.agg_request.specs.json_values.Unsupported.{HasUnsupportedQuery};
+ghost use Rattle.agg_request.specs.reading.RequestJson.{IsKind, IsMetric};
 ghost use Rattle.agg_request.specs.reading.RequestJson.{IsQueryOf};
-ghost use Rattle.agg_request.specs.reading.RequestJson.{IsUnsupportedKind, metric_kinds};
+ghost use Rattle.agg_request.specs.reading.Unsupported.{HasUnsupportedAsked, IsUnsupportedKind};
+ghost use Rattle.agg_request.specs.reading.Kinds.{metric_kinds};
 ghost use Rattle.agg_request.specs.json_values.Reading.{IsReading, IsReadingWith};
 
 use super::builders::{HasName, take_builder};

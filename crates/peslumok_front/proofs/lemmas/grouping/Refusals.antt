@@ -7,7 +7,8 @@ use Rattle.serde_json.specs.Data.{Data}
 use Rattle.serde_json.specs.Read.{read}
 use Rattle.agg_values.specs.Nothing.{NoneIs}
 use Rattle.agg_segment.specs.declared.query.QueryTree.{QueryTree}
-use Rattle.agg_request.specs.json_values.Query.{HasUnsupportedQuery, IsQuery}
+use Rattle.agg_request.specs.json_values.Query.{IsQuery}
+use Rattle.agg_request.specs.json_values.Unsupported.{HasUnsupportedQuery}
 use Rattle.agg_request.specs.declared.json_values.read_error.ReadError.{ReadError}
 use Rattle.agg_request.specs.declared.json_values.read_error.ReadError.TheVariants as reading
 use Rattle.peslumok_texts.specs.words.Condition.{parts}

@@ -1,8 +1,9 @@
 use Rattle.std.proofs.Common.{inl, inr, codes}
 use Rattle.serde_json.specs.View.{view}
-use Rattle.agg_request.specs.reading.CompositeJson.{AreSources, HasUnsupportedComposite}
-use Rattle.agg_request.specs.reading.CompositeJson.{HasUnsupportedSource, IsCompositeJson, IsSizeOf}
-use Rattle.agg_request.specs.json_values.Json.{HasFloatAt}
+use Rattle.agg_request.specs.reading.CompositeJson.{AreSources}
+use Rattle.agg_request.specs.reading.CompositeJson.{IsCompositeJson, IsSizeOf}
+use Rattle.agg_request.specs.reading.Unsupported.{HasUnsupportedComposite, HasUnsupportedSource}
+use Rattle.agg_request.specs.json_values.Unsupported.{HasFloatAt}
 use Rattle.agg_request.proofs.lemmas.json_values.Readings.{refused_by}
 use Rattle.agg_request.proofs.reading.composite.read_composite.Goals as goal
 

@@ -5,8 +5,9 @@ use Rattle.serde_json.specs.View.{view, members_view}
 use Rattle.agg_values.specs.Names.{put}
 use Rattle.agg_request.specs.reading.Builders.{left_behind}
 use Rattle.agg_request.specs.json_values.Json.{names_in, only_other}
-use Rattle.agg_request.specs.reading.RequestJson.{HasUnsupportedAggregation, IsAggregation}
-use Rattle.agg_request.specs.reading.RequestJson.{may_hold}
+use Rattle.agg_request.specs.reading.RequestJson.{IsAggregation}
+use Rattle.agg_request.specs.reading.Unsupported.{HasUnsupportedAggregation}
+use Rattle.agg_request.specs.reading.Kinds.{may_hold}
 use Rattle.agg_request.proofs.lemmas.reading.AggregationReadings.{left_by_both, left_there}
 use Rattle.agg_request.proofs.lemmas.reading.AggregationReadings.{object_lower, read_both}
 use Rattle.agg_request.proofs.lemmas.reading.AggregationReadings.{read_there, refused_below}

@@ -2,7 +2,8 @@ use Rattle.std.proofs.Common.{◌<◌, ◌+◌, ◌*◌, ℕ}
 use Rattle.serde_json.specs.Data.{depth, members_depth}
 use Rattle.serde_json.specs.View.{view, members_view}
 use Rattle.agg_request.specs.reading.Builders.{left_behind}
-use Rattle.agg_request.specs.reading.RequestJson.{HasUnsupportedAggregation, IsAggregation}
+use Rattle.agg_request.specs.reading.RequestJson.{IsAggregation}
+use Rattle.agg_request.specs.reading.Unsupported.{HasUnsupportedAggregation}
 use Rattle.agg_request.proofs.lemmas.reading.PoolMembers.{IsInOrder, IsPartRead}
 use Rattle.agg_request.proofs.reading.request.+requests.Given as goal
 

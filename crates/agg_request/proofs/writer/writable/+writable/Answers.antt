@@ -3,7 +3,8 @@ use Rattle.std.specs.Prelude.{◌&&◌}
 use Rattle.std.specs.Map.{keys_of}
 use Rattle.agg_request_tree.specs.Request.{agg_of, below_of}
 use Rattle.agg_request_tree.specs.declared.aggregation.Aggregation.{Aggregation}
-use Rattle.agg_request.specs.reading.RequestJson.{kind_word, may_hold}
+use Rattle.agg_request.specs.reading.RequestJson.{kind_word}
+use Rattle.agg_request.specs.reading.Kinds.{may_hold}
 use Rattle.agg_request.specs.Written.{all_may_be_written, has_no_null_min, may_be_written}
 use Rattle.agg_request.proofs.Writable.{writable-out}
 use Rattle.agg_request.proofs.writer.writable.+writable.Goals as goal

@@ -1,6 +1,6 @@
 use Rattle.std.proofs.Common.{◌≡◌}
 use Rattle.std.specs.Map.{keys_of}
-use Rattle.agg_request.specs.reading.RequestJson.{are_free}
+use Rattle.agg_request.specs.reading.Kinds.{are_free}
 use Rattle.agg_request.proofs.writer.writable.are_free.Given as goal
 
 abbrev pub invariant-loop-name : goal.invariant-loop-name

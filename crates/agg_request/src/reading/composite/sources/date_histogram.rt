@@ -3,7 +3,8 @@ ghost use Rattle.std.specs.Prelude.{◌≡◌, ◌≢◌, IfNone, IfSome, Some, 
 ghost use Rattle.serde_json.specs.Find.{as_str};
 ghost use Rattle.serde_json.specs.View.{view};
 ghost use Rattle.agg_calendar.specs.declared.interval.CalendarInterval.{CalendarInterval as Unit};
-ghost use Rattle.agg_request.specs.reading.CompositeJson.{HasUnsupportedLeast, IsSourceBody};
+ghost use Rattle.agg_request.specs.reading.CompositeJson.{IsSourceBody};
+ghost use Rattle.agg_request.specs.reading.Unsupported.{HasUnsupportedLeast};
 ghost use Rattle.agg_request.specs.reading.CompositeJson.{unit_word};
 ghost use Rattle.agg_request.specs.json_values.Json.{IsGiven, present};
 ghost use Rattle.agg_request.specs.json_values.Reading.{IsReading};

@@ -1,9 +1,10 @@
 //! Histogram sources.
 ghost use Rattle.std.specs.Prelude.{codes};
 ghost use Rattle.serde_json.specs.View.{view};
-ghost use Rattle.agg_request.specs.reading.CompositeJson.{HasUnsupportedNumbers, IsIntervalOf};
+ghost use Rattle.agg_request.specs.reading.CompositeJson.{IsIntervalOf};
+ghost use Rattle.agg_request.specs.reading.Unsupported.{HasUnsupportedNumbers};
 ghost use Rattle.agg_request.specs.reading.CompositeJson.{IsSourceBody};
-ghost use Rattle.agg_request.specs.json_values.Json.{HasFloatAt};
+ghost use Rattle.agg_request.specs.json_values.Unsupported.{HasFloatAt};
 ghost use Rattle.agg_request.specs.json_values.Reading.{IsReading};
 ghost use Rattle.agg_request_tree.specs.declared.source.CompositeAggregationSource.TheVariants as s;
 

@@ -1,6 +1,7 @@
 //! Terms sources.
 ghost use Rattle.serde_json.specs.View.{view};
-ghost use Rattle.agg_request.specs.reading.CompositeJson.{HasUnsupportedLeast, IsSourceBody};
+ghost use Rattle.agg_request.specs.reading.CompositeJson.{IsSourceBody};
+ghost use Rattle.agg_request.specs.reading.Unsupported.{HasUnsupportedLeast};
 ghost use Rattle.agg_request.specs.json_values.Reading.{IsReading};
 ghost use Rattle.agg_request_tree.specs.declared.source.CompositeAggregationSource.TheVariants as s;
 

@@ -1,7 +1,9 @@
 use Rattle.std.proofs.Common.{false, sym, subst}
 use Rattle.serde_json.specs.View.{items_view, view}
-use Rattle.agg_request.specs.reading.CompositeJson.{HasUnsupportedKind, IsSourceJson}
-use Rattle.agg_request.specs.json_values.Json.{EachIs, HasUnsupportedItem}
+use Rattle.agg_request.specs.reading.CompositeJson.{IsSourceJson}
+use Rattle.agg_request.specs.reading.Unsupported.{HasUnsupportedKind}
+use Rattle.agg_request.specs.json_values.Json.{EachIs}
+use Rattle.agg_request.specs.json_values.Unsupported.{HasUnsupportedItem}
 use Rattle.agg_request.proofs.lemmas.json_values.Items.{each_at, each_more, some_at}
 use Rattle.agg_request.proofs.lemmas.json_values.Readings.{refused_by}
 use Rattle.agg_request.proofs.reading.composite.sources.read_items.Goals as goal

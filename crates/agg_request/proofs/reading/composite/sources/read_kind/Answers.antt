@@ -1,7 +1,8 @@
 use Rattle.std.proofs.Common.{⊎_elim, inl, inr}
 use Rattle.serde_json.specs.View.{view}
-use Rattle.agg_request.specs.reading.CompositeJson.{HasUnsupportedInterval, HasUnsupportedLeast}
-use Rattle.agg_request.specs.reading.CompositeJson.{HasUnsupportedNumbers, IsSourceBody}
+use Rattle.agg_request.specs.reading.CompositeJson.{IsSourceBody}
+use Rattle.agg_request.specs.reading.Unsupported.{HasUnsupportedInterval, HasUnsupportedLeast}
+use Rattle.agg_request.specs.reading.Unsupported.{HasUnsupportedNumbers}
 use Rattle.agg_request.specs.reading.CompositeJson.{IsSourceOfKind}
 use Rattle.agg_request_tree.specs.declared.source.CompositeAggregationSource.TheVariants as of
 use Rattle.agg_request.proofs.lemmas.reading.CompositeSources.{dates_of, numbers_of, terms_of}

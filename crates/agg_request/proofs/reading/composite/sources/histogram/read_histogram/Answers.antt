@@ -3,10 +3,11 @@ use Rattle.serde_json.specs.Find.{get}
 use Rattle.serde_json.specs.View.{view}
 use Rattle.agg_values.specs.declared.order.MissingOrder.TheVariants.{Default}
 use Rattle.agg_values.specs.declared.order.Order.TheVariants.{Asc}
-use Rattle.agg_request.specs.reading.CompositeJson.{HasUnsupportedLeast, HasUnsupportedNumbers}
+use Rattle.agg_request.specs.reading.Unsupported.{HasUnsupportedLeast, HasUnsupportedNumbers}
 use Rattle.agg_request.specs.reading.CompositeJson.{IsIntervalOf, IsLeastOf, IsSourceBody, IsWordOr}
 use Rattle.agg_request.specs.reading.CompositeJson.{missing_order_word, order_word}
-use Rattle.agg_request.specs.json_values.Json.{HasFloatAt, IsField}
+use Rattle.agg_request.specs.json_values.Json.{IsField}
+use Rattle.agg_request.specs.json_values.Unsupported.{HasFloatAt}
 use Rattle.agg_request_tree.specs.declared.source.CompositeAggregationSource.TheVariants as of
 use Rattle.agg_request.proofs.lemmas.json_values.Readings.{refused_by}
 use Rattle.agg_request.proofs.reading.composite.sources.histogram.read_histogram.Goals as goal

@@ -3,7 +3,8 @@ use Rattle.serde_json.specs.Find.{get}
 use Rattle.serde_json.specs.View.{view}
 use Rattle.agg_values.specs.declared.order.MissingOrder.TheVariants.{Default}
 use Rattle.agg_values.specs.declared.order.Order.TheVariants.{Asc}
-use Rattle.agg_request.specs.reading.CompositeJson.{HasUnsupportedLeast, IsLeastOf, IsSourceBody}
+use Rattle.agg_request.specs.reading.CompositeJson.{IsLeastOf, IsSourceBody}
+use Rattle.agg_request.specs.reading.Unsupported.{HasUnsupportedLeast}
 use Rattle.agg_request.specs.reading.CompositeJson.{IsWordOr, missing_order_word, order_word}
 use Rattle.agg_request.specs.json_values.Json.{IsField}
 use Rattle.agg_request_tree.specs.declared.source.CompositeAggregationSource.TheVariants as of
