@@ -4,6 +4,7 @@ pub mod final_results
 pub mod intermediate_results
 pub mod metric_results
 pub use Rattle.agg_results.specs.final_results.BucketCount
+pub use Rattle.agg_results.specs.final_results.PartTexts
 pub use Rattle.agg_results.specs.final_results.ResultsText
 pub use Rattle.agg_results.specs.intermediate_results.Empty
 pub use Rattle.agg_results.specs.intermediate_results.Final

@@ -4,6 +4,7 @@ use Rattle.std.specs.Prelude.{filter}
 use Rattle.std.specs.Ordering.{is_gt, is_lt}
 use Rattle.agg_values.specs.Names.{Named, name_cmp}
 use Rattle.agg_values.specs.declared.after_key.AfterKey.{AfterKey}
+use Rattle.agg_results.specs.final_results.JsonBytes.{comma}
 use Rattle.agg_results.specs.final_results.ResultsText.{Texts, comma_unless, member_text}
 use Rattle.agg_results.specs.final_results.ResultsText.{object_text, quoted_after_key}
 
@@ -38,4 +39,4 @@ above name members = filter (λ m. is_lt (name_cmp name m.0)) members
 abbrev pub after_key_member : Named AfterKey → List ℕ
 after_key_member [] = []
 after_key_member (k ∷ ks) =
-    codes "\"after_key\":" ++ (object_text quoted_after_key (k ∷ ks) ++ 44 ∷ [])
+    codes "\"after_key\":" ++ (object_text quoted_after_key (k ∷ ks) ++ comma ∷ [])

@@ -1,11 +1,12 @@
--- The texts of results as JSON: members ascend by their names, and there are no blanks. Of bytes,
--- 34 is the quote that `quoted` puts around a text, 44 a comma, 58 a colon, 91 and 93 are brackets,
--- and 123 and 125 braces.
+-- The texts of results as JSON: members ascend by their names, and there are no blanks. `quoted` is
+-- a text in quotes, as JSON writes it.
 use Rattle.std.specs.Prelude.{ℕ, ℤ, List, [], ◌∷◌, ◌++◌, Bool, Option, None, Some, if◌then◌else◌}
 use Rattle.std.specs.Prelude.{map, codes, decimal}
 use Rattle.std.specs.Fmt.{signed_decimal}
 use Rattle.std.specs.List.{join_with_byte}
 use Rattle.json.specs.Print.{quoted}
+use Rattle.agg_results.specs.final_results.JsonBytes.{close_list, close_object, colon, comma}
+use Rattle.agg_results.specs.final_results.JsonBytes.{open_list, open_object}
 use Rattle.agg_values.specs.KeyText.{key_text}
 use Rattle.agg_values.specs.declared.after_key.AfterKey.{AfterKey}
 use Rattle.agg_values.specs.declared.composite_key.CompositeKey.{CompositeKey}
@@ -13,17 +14,12 @@ use Rattle.agg_values.specs.declared.composite_key.CompositeKey.TheVariants as k
 use Rattle.agg_values.specs.Names.{Named, put}
 use Rattle.agg_results.specs.declared.final_results.types.AggregationResult.{AggregationResult}
 use Rattle.agg_results.specs.declared.final_results.types.AggregationResult.TheFolds as folds
-use folds.{fold-AggregationResult, fold-AggregationResults, fold-BucketResult}
-use folds.{fold-CompositeBucketEntry, fold-FilterBucketResult}
+use folds.{fold-AggregationResults}
 use Rattle.agg_results.specs.declared.final_results.types.AggregationResult.TheOpen as opened
 use opened.{AggregationResult-F, AggregationResults-F, BucketResult-F, CompositeBucketEntry-F}
 use opened.{FilterBucketResult-F}
 use Rattle.agg_results.specs.declared.final_results.types.AggregationResults.{AggregationResults}
 use Rattle.agg_results.specs.declared.final_results.types.BucketResult.{BucketResult}
-use Rattle.agg_results.specs.declared.final_results.types.CompositeBucketEntry.{
-  CompositeBucketEntry,
-}
-use Rattle.agg_results.specs.declared.final_results.types.FilterBucketResult.{FilterBucketResult}
 use Rattle.agg_results.specs.declared.final_results.types.MetricResult.{MetricResult}
 use Rattle.agg_results.specs.declared.final_results.types.MetricResult.TheVariants as metric
 
@@ -33,19 +29,19 @@ Texts = Named (List ℕ)
 
 -- a comma, but not before the first
 abbrev pub comma_unless : Bool → List ℕ
-comma_unless first = if first then [] else 44 ∷ []
+comma_unless first = if first then [] else comma ∷ []
 
 -- a member of an object: its quoted name and the text of its value
 abbrev pub member_text : List ℕ → List ℕ → List ℕ
-member_text name value = quoted name ++ 58 ∷ value
+member_text name value = quoted name ++ colon ∷ value
 
 -- an object of these members
 abbrev pub braced : List (List ℕ) → List ℕ
-braced members = 123 ∷ (join_with_byte 44 members ++ 125 ∷ [])
+braced members = open_object ∷ (join_with_byte comma members ++ close_object ∷ [])
 
 -- an array of these items
 abbrev pub bracketed : List (List ℕ) → List ℕ
-bracketed items = 91 ∷ (join_with_byte 44 items ++ 93 ∷ [])
+bracketed items = open_list ∷ (join_with_byte comma items ++ close_list ∷ [])
 
 -- a map from names as an object
 abbrev pub object_text : {T : Type 0} → (T → List ℕ) → Named T → List ℕ
@@ -143,35 +139,19 @@ of_filter filter = members_text (filter_members filter.doc_count filter.sub_aggr
 
 -- ---- of the whole
 
--- the result of an aggregation
-abbrev pub result_text : AggregationResult → List ℕ
-result_text =
-    fold-AggregationResult (List ℕ) (List ℕ) Texts (List ℕ) (List ℕ)
-    of_result of_buckets of_results of_entry of_filter
+-- the texts that a fold makes with these five, from whichever type it begins at
+abbrev pub texts_by : {X : Type 0} {Made : (R B S E F : Type 0) → Type 0}
+    → ((R B S E F : Type 0) → (AggregationResult-F R B S E F → R) → (BucketResult-F R B S E F → B)
+    → (AggregationResults-F R B S E F → S) → (CompositeBucketEntry-F R B S E F → E)
+    → (FilterBucketResult-F R B S E F → F) → X → Made R B S E F)
+    → X → Made (List ℕ) (List ℕ) Texts (List ℕ) (List ℕ)
+texts_by fold =
+    fold (List ℕ) (List ℕ) Texts (List ℕ) (List ℕ) of_result of_buckets of_results of_entry
+    of_filter
 
--- a result that has buckets
-abbrev pub bucket_result_text : BucketResult → List ℕ
-bucket_result_text =
-    fold-BucketResult (List ℕ) (List ℕ) Texts (List ℕ) (List ℕ)
-    of_result of_buckets of_results of_entry of_filter
-
--- results, each by its name
+-- the text of each of some results, by its name
 abbrev pub results_members : AggregationResults → Texts
-results_members =
-    fold-AggregationResults (List ℕ) (List ℕ) Texts (List ℕ) (List ℕ)
-    of_result of_buckets of_results of_entry of_filter
-
--- a bucket
-abbrev pub bucket_text : CompositeBucketEntry → List ℕ
-bucket_text =
-    fold-CompositeBucketEntry (List ℕ) (List ℕ) Texts (List ℕ) (List ℕ)
-    of_result of_buckets of_results of_entry of_filter
-
--- a filter
-abbrev pub filter_text : FilterBucketResult → List ℕ
-filter_text =
-    fold-FilterBucketResult (List ℕ) (List ℕ) Texts (List ℕ) (List ℕ)
-    of_result of_buckets of_results of_entry of_filter
+results_members = texts_by fold-AggregationResults
 
 -- the results of a request: an object from name to result
 abbrev pub results_text : AggregationResults → List ℕ

@@ -2,9 +2,10 @@
 //! text stands there, so that a long page doesn't stand in memory beside its whole text.
 ghost use Rattle.std.specs.Prelude.{◌≡◌, ◌∷◌, [], ◌++◌, IfOk, MatchOption, OnOk, map};
 ghost use Rattle.std.specs.Prelude.{string_bytes};
-ghost use Rattle.agg_results.specs.final_results.ResultsText.{bracketed, bucket_text};
+ghost use Rattle.agg_results.specs.final_results.ResultsText.{bracketed};
 ghost use Rattle.agg_results.specs.final_results.ResultsText.{composite_members, members_text};
-ghost use Rattle.agg_results.specs.final_results.ResultsText.{result_text, results_text};
+ghost use Rattle.agg_results.specs.final_results.ResultsText.{results_text};
+ghost use Rattle.agg_results.specs.final_results.PartTexts.{bucket_text, result_text};
 
 use crate::final_results::json_text::{write_comma, write_name};
 use crate::final_results::result_text::{write_after_key, write_bucket, write_result};

@@ -5,10 +5,12 @@ ghost use Rattle.std.specs.Map.{keys_of};
 ghost use Rattle.agg_values.specs.Names.{name_cmp};
 ghost use Rattle.agg_results.specs.final_results.Appending.{after_key_member};
 ghost use Rattle.agg_results.specs.final_results.OwnMembers.{own_members};
-ghost use Rattle.agg_results.specs.final_results.ResultsText.{bracketed, bucket_result_text};
-ghost use Rattle.agg_results.specs.final_results.ResultsText.{bucket_text, composite_members};
-ghost use Rattle.agg_results.specs.final_results.ResultsText.{filter_text, members_text};
-ghost use Rattle.agg_results.specs.final_results.ResultsText.{plain_members, put_all, result_text};
+ghost use Rattle.agg_results.specs.final_results.ResultsText.{bracketed};
+ghost use Rattle.agg_results.specs.final_results.ResultsText.{composite_members};
+ghost use Rattle.agg_results.specs.final_results.ResultsText.{members_text};
+ghost use Rattle.agg_results.specs.final_results.ResultsText.{plain_members, put_all};
+ghost use Rattle.agg_results.specs.final_results.PartTexts.{bucket_result_text, bucket_text};
+ghost use Rattle.agg_results.specs.final_results.PartTexts.{filter_text, result_text};
 ghost use Rattle.agg_results.specs.final_results.ResultsText.{results_members};
 
 use crate::final_results::json_text::{JsonText, write_comma, write_name};

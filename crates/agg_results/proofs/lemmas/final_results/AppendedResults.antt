@@ -15,7 +15,8 @@ use Rattle.agg_results.specs.final_results.Appending.{AppendsMembers, above, bel
 use Rattle.agg_results.specs.final_results.Appending.{still_first}
 use Rattle.agg_results.specs.final_results.OwnMembers.{member_of}
 use Rattle.agg_results.specs.final_results.ResultsText.{Texts, comma_unless, member_text}
-use Rattle.agg_results.specs.final_results.ResultsText.{members_text, put_all, result_text}
+use Rattle.agg_results.specs.final_results.ResultsText.{members_text, put_all}
+use Rattle.agg_results.specs.final_results.PartTexts.{result_text}
 use Rattle.agg_results.specs.final_results.ResultsText.{results_members, results_text}
 use Rattle.agg_results.specs.declared.final_results.types.AggregationResults.{AggregationResults}
 use Rattle.agg_results.proofs.lemmas.final_results.AppendedItems.{all-appended, item-appended}

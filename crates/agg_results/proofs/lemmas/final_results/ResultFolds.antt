@@ -10,10 +10,10 @@ use Rattle.agg_results.specs.final_results.BucketCount.{bucket_result_buckets, e
 use Rattle.agg_results.specs.final_results.BucketCount.{result_buckets, results_buckets}
 use Rattle.agg_results.specs.final_results.ResultsText as text
 use Rattle.agg_results.specs.final_results.ResultsText.{Texts, braced, bucket_members}
-use Rattle.agg_results.specs.final_results.ResultsText.{bucket_result_text, bucket_text}
 use Rattle.agg_results.specs.final_results.ResultsText.{composite_members, filter_members}
 use Rattle.agg_results.specs.final_results.ResultsText.{member_text, members_text, metric_text}
-use Rattle.agg_results.specs.final_results.ResultsText.{object_text, result_text, results_members}
+use Rattle.agg_results.specs.final_results.ResultsText.{object_text, results_members}
+use Rattle.agg_results.specs.final_results.PartTexts.{bucket_result_text, bucket_text, result_text}
 use Rattle.agg_results.specs.final_results.ResultsText.{results_text, shown_key_text}
 use Rattle.agg_results.specs.declared.final_results.types.AggregationResult.TheFolds as folds
 use folds.{fold-roll-AggregationResult, fold-roll-BucketResult}

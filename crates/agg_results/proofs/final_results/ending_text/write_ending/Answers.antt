@@ -1,5 +1,6 @@
 use Rattle.std.proofs.Common.{◌∙◌, ◌++◌, arith, ap, map, string_bytes, sym}
-use Rattle.agg_results.specs.final_results.ResultsText.{member_text, result_text}
+use Rattle.agg_results.specs.final_results.ResultsText.{member_text}
+use Rattle.agg_results.specs.final_results.PartTexts.{result_text}
 use Rattle.agg_results.proofs.lemmas.final_results.AppendedItems.{all-appended, byte-appended}
 use Rattle.agg_results.proofs.lemmas.final_results.ResultFolds.{results_text-object}
 use Rattle.agg_results.proofs.final_results.ending_text.write_ending.Goals as goal

@@ -1,6 +1,7 @@
 use Rattle.std.proofs.Common.{◌≡◌, ◌++◌, length, map, string_bytes, true}
 use Rattle.agg_results.specs.final_results.Appending.{more_items}
-use Rattle.agg_results.specs.final_results.ResultsText.{member_text, result_text}
+use Rattle.agg_results.specs.final_results.ResultsText.{member_text}
+use Rattle.agg_results.specs.final_results.PartTexts.{result_text}
 use Rattle.agg_results.proofs.final_results.ending_text.write_ending.Given as goal
 
 -- the text so far with the results that are left is the whole

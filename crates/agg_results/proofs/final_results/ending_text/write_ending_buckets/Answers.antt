@@ -1,5 +1,6 @@
 use Rattle.std.proofs.Common.{◌++◌, ◌∙◌, ap, append_assoc, arith, map, string_bytes}
-use Rattle.agg_results.specs.final_results.ResultsText.{bucket_text, comma_unless}
+use Rattle.agg_results.specs.final_results.ResultsText.{comma_unless}
+use Rattle.agg_results.specs.final_results.PartTexts.{bucket_text}
 use Rattle.agg_results.proofs.lemmas.final_results.AppendedItems.{all-appended, byte-appended}
 use Rattle.agg_results.proofs.lemmas.final_results.AppendedItems.{item-appended}
 use Rattle.agg_results.proofs.final_results.ending_text.write_ending_buckets.Goals as goal

@@ -1,6 +1,6 @@
 use Rattle.std.proofs.Common.{◌≡◌, ◌++◌, map, string_bytes, true}
 use Rattle.agg_results.specs.final_results.Appending.{more_items}
-use Rattle.agg_results.specs.final_results.ResultsText.{bucket_text}
+use Rattle.agg_results.specs.final_results.PartTexts.{bucket_text}
 use Rattle.agg_results.proofs.final_results.ending_text.write_ending_buckets.Given as goal
 
 -- the text so far with the buckets that are left is the whole

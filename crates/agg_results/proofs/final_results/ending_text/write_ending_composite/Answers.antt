@@ -1,5 +1,5 @@
 use Rattle.std.proofs.Common.{arith, map}
-use Rattle.agg_results.specs.final_results.ResultsText.{bucket_text}
+use Rattle.agg_results.specs.final_results.PartTexts.{bucket_text}
 use Rattle.agg_results.proofs.lemmas.final_results.AppendedComposites.{composite-appended}
 use Rattle.agg_results.proofs.lemmas.final_results.AppendedItems.{byte-appended}
 use Rattle.agg_results.proofs.final_results.ending_text.write_ending_composite.Goals as goal

@@ -7,8 +7,9 @@ use Rattle.std.specs.Map.{keys_of}
 use Rattle.agg_values.specs.Names.{name_cmp}
 use Rattle.agg_results.specs.final_results.Appending.{more_members}
 use Rattle.agg_results.specs.final_results.OwnMembers.{own_members}
-use Rattle.agg_results.specs.final_results.ResultsText.{bucket_text, comma_unless, object_text}
-use Rattle.agg_results.specs.final_results.ResultsText.{put_all, result_text, results_members}
+use Rattle.agg_results.specs.final_results.ResultsText.{comma_unless, object_text}
+use Rattle.agg_results.specs.final_results.ResultsText.{put_all, results_members}
+use Rattle.agg_results.specs.final_results.PartTexts.{bucket_text, result_text}
 use Rattle.agg_results.specs.final_results.ResultsText.{shown_key_text}
 use Rattle.agg_results.proofs.lemmas.final_results.AppendedItems.{all-appended, byte-appended}
 use Rattle.agg_results.proofs.lemmas.final_results.AppendedItems.{item-appended, left-at}

@@ -4,7 +4,8 @@ use Rattle.std.specs.Map.{keys_of}
 use Rattle.agg_values.specs.Names.{name_cmp}
 use Rattle.agg_results.specs.final_results.Appending.{more_items, more_members}
 use Rattle.agg_results.specs.final_results.OwnMembers.{own_members}
-use Rattle.agg_results.specs.final_results.ResultsText.{bucket_text, put_all, result_text}
+use Rattle.agg_results.specs.final_results.ResultsText.{put_all}
+use Rattle.agg_results.specs.final_results.PartTexts.{bucket_text, result_text}
 use Rattle.agg_results.specs.final_results.ResultsText.{results_members}
 use Rattle.agg_results.proofs.final_results.result_text.+result_text.Given as goal
 
