@@ -9,9 +9,9 @@ use Rattle.std.proofs.lemmas.List.Elements.{All-nil}
 use Rattle.agg_values.specs.declared.request_error.RequestError.{RequestError}
 use Rattle.agg_request_tree.specs.Faults.{HasFault, IsSoundRequest, RequestHasFault}
 use Rattle.agg_request_tree.specs.Request.{Request, builders_of}
-use Rattle.agg_segment.specs.Snapshot.{SnapshotDocuments}
+use Rattle.agg_segment.specs.SnapshotDocuments.{SnapshotDocuments}
 use Rattle.agg_engine.specs.Walk.{HaveRoom}
-use Rattle.agg_engine_tree.specs.segment_context.Trees.{EachMakesTree}
+use Rattle.agg_request_tree.specs.BuiltRequest.{EachMakesTree}
 use Rattle.agg_pages.specs.AnyField.{any_field}
 use Rattle.agg_pages.specs.input_text.Input.{Input, IsInput}
 use Rattle.agg_pages.proofs.lemmas.input_text.Inputs.{IsInput-unique}

@@ -1,6 +1,7 @@
 //! The findings of an input.
 ghost use Rattle.std.specs.Prelude.{◌≡◌, IfOk, IfSome, MatchOption, false, true};
-ghost use Rattle.agg_pages.specs.input_text.Input.{AreNoInput, IsInput, input_of};
+ghost use Rattle.agg_pages.specs.input_text.Input.{AreNoInput, IsInput};
+ghost use Rattle.agg_pages.specs.input_text.StoredInput.{input_of};
 ghost use Rattle.agg_check.specs.Check.{known_builders as known};
 ghost use Rattle.agg_check.specs.Check.{GoesOn, MayBeWalked};
 ghost use Rattle.agg_check.specs.findings.Findings.{has_mistake, is_mistake};

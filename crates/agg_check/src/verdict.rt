@@ -2,10 +2,10 @@
 ghost use Rattle.std.specs.Prelude.{◌≡◌, ◌==◌, [], IfOk, MatchBool, MatchOption};
 ghost use Rattle.std.specs.List.{list_any};
 ghost use Rattle.agg_engine.specs.NamedComposite.{NamesComposite};
-ghost use Rattle.agg_pages.specs.input_text.Input.{input_of};
+ghost use Rattle.agg_pages.specs.input_text.StoredInput.{input_of};
 ghost use Rattle.agg_pages.specs.AnyField.{any_field};
 ghost use Rattle.agg_request_tree.specs.Faults.{IsSoundRequest};
-ghost use Rattle.agg_engine_tree.specs.segment_context.Trees.{EachMakesTree};
+ghost use Rattle.agg_request_tree.specs.BuiltRequest.{EachMakesTree};
 ghost use Rattle.agg_request_tree.specs.Request.{builders_of, listed_in, own_builder};
 ghost use Rattle.agg_check.specs.Check.{MayBeWalked, known_builders as builders};
 

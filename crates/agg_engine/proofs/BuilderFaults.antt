@@ -6,12 +6,12 @@ use Rattle.agg_segment.specs.declared.query.QueryTree.{QueryTree}
 use Rattle.agg_request_tree.specs.Faults.{IsSoundRequest}
 use Rattle.agg_request_tree.specs.Request.{Request}
 use Rattle.agg_engine_tree.specs.segment_context.SetupError.{IsOfBuilders}
-use Rattle.agg_engine_tree.specs.segment_context.Trees.{SomeMakesNone}
+use Rattle.agg_request_tree.specs.BuiltRequest.{SomeMakesNone}
 use Rattle.agg_engine_tree.specs.declared.segment_context.error.SetupError.{SetupError}
 use Rattle.agg_engine_tree.specs.declared.segment_context.error.SetupError.TheVariants as setup
 use Rattle.agg_engine.specs.NamedComposite.{NamesComposite}
 use Rattle.agg_engine.specs.Refusals.{HasCause}
-use Rattle.agg_segment.specs.Snapshot.{SnapshotDocuments}
+use Rattle.agg_segment.specs.SnapshotDocuments.{SnapshotDocuments}
 use Rattle.agg_engine.specs.Walk.{HaveRoom}
 use Rattle.agg_engine.specs.WalkError.{error_from_setup}
 

@@ -12,6 +12,7 @@ use variants.{AggregationVariants}
 use variants.TheVariants.{Filter, Composite, Count, Max, Min, Sum}
 use Rattle.agg_request_tree.proofs.Lists.{AllByRecursion-always}
 use Rattle.agg_request_tree.specs.charges.Roof.{Counts, counts, counts_by, counts_of, together}
+use Rattle.agg_request_tree.specs.charges.Roof.Height.{High, Low}
 use Rattle.agg_request_tree.proofs.lemmas.charges.CountsOut.{counts-out}
 use Rattle.agg_engine_tree.proofs.lemmas.segment_context.Built.{agg-built, below-built}
 use Rattle.agg_engine_tree.proofs.lemmas.segment_context.Levels.{OfEach, by_levels}
@@ -25,13 +26,8 @@ module _ {B : Type 0} (is_match : B → Fields → Bool) (of : B → QueryTree)
     (built : (b : B) (d : Fields) → is_match b d ≡ matches (of b) d) where
   counts_by-built : (agg : AggregationVariants B) (below : Counts)
       → counts_by matches (with_own_builder of agg) below ≡ counts_by is_match agg below
-  counts_by-built (Filter a) below = λ i. record {
-    has_composite = below.has_composite;
-    uncut_bytes = λ ds. below.uncut_bytes (same-matching is_match of built a.query ds i);
-    bytes = λ ds. below.bytes (same-matching is_match of built a.query ds i);
-    low_bytes = λ ds. below.low_bytes (same-matching is_match of built a.query ds i);
-    is_settled = λ ds. below.is_settled (same-matching is_match of built a.query ds i);
-  }
+  counts_by-built (Filter a) below = λ i height ds.
+      below height (same-matching is_match of built a.query ds i)
   counts_by-built (Composite c) below = refl
   counts_by-built (Count a) below = refl
   counts_by-built (Max a) below = refl
@@ -74,7 +70,7 @@ module _ {B : Type 0} (is_match : B → Fields → Bool) (of : B → QueryTree)
         → roof_in matches query (with_builders of request) ≡ roof_in is_match query request
     roof-built query = λ i documents.
         fixed-built of (length documents) request i
-        + (counts-built i).bytes (filter (matches query) documents)
+        + counts-built i High (filter (matches query) documents)
 
     -- its low roof in a segment is the same
     pub low_roof-built : (query : QueryTree)
@@ -82,4 +78,4 @@ module _ {B : Type 0} (is_match : B → Fields → Bool) (of : B → QueryTree)
         ≡ low_roof_in is_match query request
     low_roof-built query = λ i documents.
         fixed-built of (length documents) request i
-        + (counts-built i).low_bytes (filter (matches query) documents)
+        + counts-built i Low (filter (matches query) documents)

@@ -15,8 +15,8 @@ use Rattle.agg_request_tree.specs.declared.aggregation.AggregationVariants as va
 use variants.{AggregationVariants}
 use variants.TheVariants.{Filter, Composite, Count, Max, Min, Sum}
 use Rattle.agg_request_tree.proofs.RequestTrees.{agg-made, below-made}
-use Rattle.agg_engine_tree.specs.segment_context.Pages.{changed, request_after, request_at_size}
-use Rattle.agg_engine_tree.specs.segment_context.Pages.{request_changed_at, with_after, with_size}
+use Rattle.agg_request_tree.specs.ChangedRequest.{changed, request_after, request_at_size}
+use Rattle.agg_request_tree.specs.ChangedRequest.{request_changed_at, with_after, with_size}
 use Rattle.agg_engine.specs.snapshot_results.Steps.{counted_in, counted_of, own_counted, past_named}
 use Rattle.agg_engine.specs.snapshot_results.Steps.{past_own}
 use Rattle.agg_engine.proofs.lemmas.snapshot_results.JoinedCounts.{counted_in-out}

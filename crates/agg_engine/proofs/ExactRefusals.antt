@@ -6,12 +6,12 @@ use Rattle.agg_values.specs.declared.request_error.AggregationError.TheVariants 
 use Rattle.agg_cache.specs.Limits.{Limits}
 use Rattle.agg_segment.specs.storage.Document.{Fields}
 use Rattle.agg_segment.specs.Query.{matches}
-use Rattle.agg_segment.specs.Snapshot.{SnapshotDocuments}
+use Rattle.agg_segment.specs.SnapshotDocuments.{SnapshotDocuments}
 use Rattle.agg_segment.specs.declared.query.QueryTree.{QueryTree}
 use Rattle.agg_request_tree.specs.Request.{Request}
-use Rattle.agg_request_tree.specs.charges.Roof.{IsSettled}
+use Rattle.agg_request_tree.specs.charges.Settled.{IsSettled}
 use Rattle.agg_request_tree.proofs.lemmas.charges.Roofs.{low-at_most, low-settled}
-use Rattle.agg_engine_tree.specs.segment_context.Pages.{request_after, request_at_size}
+use Rattle.agg_request_tree.specs.ChangedRequest.{request_after, request_at_size}
 use Rattle.agg_engine.specs.snapshot_results.MemoryLimits.{TellsMemory, low_roof_in}
 use Rattle.agg_engine.specs.Refusals.{AreSettled, HasToBeRefused, HasToRefuse, MayBeRefused}
 use Rattle.agg_engine.specs.Refusals.{MayRefuse}

@@ -19,7 +19,7 @@ use Rattle.agg_request_tree.specs.declared.aggregation.AggregationVariants.TheVa
 use Rattle.agg_request_tree.specs.declared.aggregation.CompositeAggregation.{CompositeAggregation}
 use Rattle.agg_request_tree.proofs.PageFromGroups.{equal-from_is_eq}
 use Rattle.agg_request_tree.proofs.RequestTrees.{agg-made, composites-out}
-use Rattle.agg_engine_tree.specs.segment_context.Pages.{changed, request_changed_at}
+use Rattle.agg_request_tree.specs.ChangedRequest.{changed, request_changed_at}
 use Rattle.agg_engine.specs.NamedComposite.{IsCompositeNamed}
 
 agg_in : {B : Type 0} → AggregationVariants B → Option (AggregationVariants B)

@@ -7,11 +7,11 @@ use Rattle.agg_segment.specs.declared.query.QueryTree.{QueryTree}
 use Rattle.agg_request_tree.specs.Request.{Request}
 use Rattle.agg_results.specs.declared.final_results.types.AggregationResults.{AggregationResults}
 use Rattle.agg_request_tree.proofs.Reorderings.{same}
-use Rattle.agg_engine_tree.specs.segment_context.Pages.{request_after, request_at_size}
+use Rattle.agg_request_tree.specs.ChangedRequest.{request_after, request_at_size}
 use Rattle.agg_results.proofs.ResultExists.{AreResults-exist}
 use Rattle.agg_results.proofs.ResultOrders.{AreResults-reordering}
 use Rattle.agg_results.specs.Results.{AreResults}
-use Rattle.agg_segment.specs.Snapshot.{SnapshotDocuments}
+use Rattle.agg_segment.specs.SnapshotDocuments.{SnapshotDocuments}
 use Rattle.agg_engine.specs.Walk.{AreResultsAt, IfFull, IsWalk, after_in, matching_documents}
 
 -- a request has one result

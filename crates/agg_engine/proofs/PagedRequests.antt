@@ -24,8 +24,8 @@ use Rattle.agg_request_tree.proofs.Faults.{IsSound-names, IsSound-parts}
 use Rattle.agg_request_tree.proofs.PageKeys.{AllByRecursion-weaker}
 use Rattle.agg_request_tree.proofs.RequestTrees.{agg-made, below-made, composites-out}
 use Rattle.agg_request_tree.proofs.RequestTrees.{made-of_parts}
-use Rattle.agg_engine_tree.specs.segment_context.Pages.{changed, request_after, request_at_size}
-use Rattle.agg_engine_tree.specs.segment_context.Pages.{request_changed_at, with_after, with_size}
+use Rattle.agg_request_tree.specs.ChangedRequest.{changed, request_after, request_at_size}
+use Rattle.agg_request_tree.specs.ChangedRequest.{request_changed_at, with_after, with_size}
 use Rattle.agg_engine.specs.NamedComposite.{IsCompositeNamed}
 use Rattle.agg_engine.specs.PageAnswers.{MayGoOnFrom}
 use Rattle.agg_engine.proofs.NamedPlaces.{AtName, named-changed, only-named, sound-named}

@@ -14,10 +14,11 @@ use Rattle.agg_segment.specs.declared.query.QueryTree.{QueryTree}
 use Rattle.agg_request_tree.specs.Faults.{IsSoundRequest}
 use Rattle.agg_request_tree.specs.Request.{Request}
 use Rattle.agg_request_tree.specs.declared.aggregation.CompositeAggregation.{CompositeAggregation}
-use Rattle.agg_engine_tree.specs.segment_context.Trees.{EachMakesTree}
+use Rattle.agg_request_tree.specs.BuiltRequest.{EachMakesTree}
 use Rattle.agg_engine.specs.snapshot_results.Documents.{matching_in}
 use Rattle.agg_engine.specs.NamedComposite.{IsCompositeNamed}
-use Rattle.agg_segment.specs.Snapshot.{SnapshotDocuments, snapshot_documents, snapshots_documents}
+use Rattle.agg_segment.specs.Snapshot.{snapshot_documents, snapshots_documents}
+use Rattle.agg_segment.specs.SnapshotDocuments.{SnapshotDocuments}
 use Rattle.agg_engine.specs.Walk.{HaveRoom, MayBeAsked, matching_among}
 use Rattle.agg_segment.specs.declared.snapshot.Snapshot.{Snapshot}
 

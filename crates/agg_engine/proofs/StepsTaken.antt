@@ -7,9 +7,9 @@ use Rattle.agg_segment.specs.declared.query.QueryTree.{QueryTree}
 use Rattle.agg_request_tree.specs.Request.{Request}
 use Rattle.agg_request_tree.specs.declared.aggregation.CompositeAggregation.{CompositeAggregation}
 use Rattle.agg_results.specs.declared.final_results.types.AggregationResults.{AggregationResults}
-use Rattle.agg_engine_tree.specs.segment_context.Pages.{request_after}
+use Rattle.agg_request_tree.specs.ChangedRequest.{request_after}
 use Rattle.agg_engine.specs.snapshot_results.Steps.{counted_of, past_named}
-use Rattle.agg_segment.specs.Snapshot.{SnapshotDocuments}
+use Rattle.agg_segment.specs.SnapshotDocuments.{SnapshotDocuments}
 use Rattle.agg_engine.specs.Steps.{TakesAtMost, counted_over, past_pages}
 use Rattle.agg_engine.specs.Walk.{AreResultsAt, IsWalk, after_in, matching_documents}
 use Rattle.agg_engine.proofs.PagedRequests.{after-own}

@@ -16,12 +16,14 @@ use Rattle.agg_request_tree.specs.Request.{Request}
 use Rattle.agg_request_tree.specs.declared.aggregation.CompositeAggregation.{CompositeAggregation}
 use Rattle.agg_request_tree.proofs.Faults.{IsSound-sources}
 use Rattle.agg_results.specs.declared.final_results.types.AggregationResults.{AggregationResults}
-use Rattle.agg_engine_tree.specs.segment_context.Pages.{paged, request_after}
+use Rattle.agg_engine_tree.specs.segment_context.Pages.{paged}
+use Rattle.agg_request_tree.specs.ChangedRequest.{request_after}
 use Rattle.agg_engine_tree.specs.declared.segment_context.params.Page.{Page}
 use Rattle.agg_engine.specs.NamedComposite.{IsCompositeNamed}
 use Rattle.agg_engine.specs.PageAnswers.{MayGoOnFrom}
 use Rattle.agg_engine.specs.Refusals.{HasToRefuse}
-use Rattle.agg_segment.specs.Snapshot.{SnapshotDocuments, snapshot_documents, snapshots_documents}
+use Rattle.agg_segment.specs.Snapshot.{snapshot_documents, snapshots_documents}
+use Rattle.agg_segment.specs.SnapshotDocuments.{SnapshotDocuments}
 use Rattle.agg_engine.specs.Walk.{IsWalk}
 use Rattle.agg_segment.specs.declared.snapshot.Snapshot.{Snapshot}
 use Rattle.agg_engine.proofs.NamedPlaces.{sound-named}

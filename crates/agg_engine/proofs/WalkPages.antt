@@ -14,12 +14,13 @@ use Rattle.agg_request_tree.specs.declared.aggregation.CompositeAggregation.{Com
 use Rattle.agg_request_tree.proofs.Faults.{IsSound-intervals, IsSound-names}
 use Rattle.agg_results.specs.final_results.BucketCount.{results_buckets}
 use Rattle.agg_results.specs.declared.final_results.types.AggregationResults.{AggregationResults}
-use Rattle.agg_engine_tree.specs.segment_context.Pages.{paged, request_after, request_at_size}
+use Rattle.agg_engine_tree.specs.segment_context.Pages.{paged}
+use Rattle.agg_request_tree.specs.ChangedRequest.{request_after, request_at_size}
 use Rattle.agg_engine_tree.specs.declared.segment_context.params.Page.{Page}
 use Rattle.agg_engine.specs.snapshot_results.Steps.{counted_of, past_named}
 use Rattle.agg_engine.specs.PageAnswers.{AnswersPage, IsShown, MayGoOnFrom}
 use Rattle.agg_engine.specs.Refusals.{HasToRefuse}
-use Rattle.agg_segment.specs.Snapshot.{SnapshotDocuments}
+use Rattle.agg_segment.specs.SnapshotDocuments.{SnapshotDocuments}
 use Rattle.agg_engine.specs.Walk.{IsWalk, after_in, matching_documents}
 use Rattle.agg_engine.specs.declared.walk.error.WalkError.{WalkError}
 use Rattle.agg_engine.proofs.AfterKeys.{HasNoNull, MayGoOnFrom-after}

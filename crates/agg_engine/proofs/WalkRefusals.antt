@@ -13,10 +13,11 @@ use Rattle.agg_request_tree.specs.Matching.{built_matches}
 use Rattle.agg_request_tree.specs.Request.{Request}
 use Rattle.agg_request_tree.specs.declared.aggregation.CompositeAggregation.{CompositeAggregation}
 use Rattle.agg_results.specs.declared.final_results.types.AggregationResults.{AggregationResults}
-use Rattle.agg_engine_tree.specs.segment_context.Pages.{request_after}
+use Rattle.agg_request_tree.specs.ChangedRequest.{request_after}
 use Rattle.agg_engine.specs.PageAnswers.{AnswersPage}
-use Rattle.agg_engine.specs.Refusals.{HasCause, MayBeRefused, MayBeRefusedAt, MayRefuse}
-use Rattle.agg_segment.specs.Snapshot.{SnapshotDocuments}
+use Rattle.agg_engine.specs.Refusals.{MayBeRefused, MayBeRefusedAt, HasCause}
+use Rattle.agg_engine.specs.Refusals.{MayRefuse}
+use Rattle.agg_segment.specs.SnapshotDocuments.{SnapshotDocuments}
 use Rattle.agg_engine.specs.Walk.{MayBeAsked}
 use Rattle.agg_engine.specs.declared.walk.error.WalkError.{WalkError}
 use Rattle.agg_engine.specs.declared.walk.error.WalkError.TheVariants as error

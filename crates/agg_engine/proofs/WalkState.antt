@@ -12,10 +12,11 @@ use Rattle.agg_segment.specs.declared.query.QueryTree.{QueryTree}
 use Rattle.agg_request_tree.specs.Request.{Request}
 use Rattle.agg_results.specs.final_results.BucketCount.{results_buckets}
 use Rattle.agg_results.specs.declared.final_results.types.AggregationResults.{AggregationResults}
-use Rattle.agg_engine_tree.specs.segment_context.Pages.{request_after}
-use Rattle.agg_engine.specs.Refusals.{HasToBeRefusedAt, HasToRefuse, MayBeRefusedAt}
+use Rattle.agg_request_tree.specs.ChangedRequest.{request_after}
+use Rattle.agg_engine.specs.Refusals.{HasToBeRefusedAt, MayBeRefusedAt}
+use Rattle.agg_engine.specs.Refusals.{HasToRefuse}
 use Rattle.agg_engine.specs.Refusals.{MayRefuse}
-use Rattle.agg_segment.specs.Snapshot.{SnapshotDocuments}
+use Rattle.agg_segment.specs.SnapshotDocuments.{SnapshotDocuments}
 use Rattle.agg_engine.specs.Walk.{AreResultsAt, IfFull, IsWalk, after_in}
 use Rattle.agg_engine.specs.declared.walk.error.WalkError.{WalkError}
 use Rattle.agg_engine.proofs.OneWalk.{results-same}
@@ -29,7 +30,8 @@ pub record WalkState {B : Type 0} (is_match : B → Fields → Bool) (limits : L
   pub goes_on : (more : List AggregationResults) (ended : Bool)
       → IsWalk is_match name query now rest more ended
       → IsWalk is_match name query request snapshots (pages ++ more) ended
-  pub fits : (error : WalkError) → HasToRefuse is_match limits name query request snapshots error
+  pub fits : (error : WalkError)
+      → HasToRefuse is_match limits name query request snapshots error
       → HasToRefuse is_match limits name query now rest error
   pub reaches : (error : WalkError) → MayRefuse is_match limits name query now rest error
       → MayRefuse is_match limits name query request snapshots error

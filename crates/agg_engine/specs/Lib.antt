@@ -7,3 +7,4 @@ pub mod WalkError
 pub mod collectors
 pub mod snapshot_results
 pub use Rattle.agg_segment.specs.Snapshot
+pub use Rattle.agg_segment.specs.SnapshotDocuments

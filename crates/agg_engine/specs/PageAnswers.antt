@@ -17,7 +17,8 @@ use Rattle.agg_results.specs.intermediate_results.Intermediate.{Held}
 use Rattle.agg_results.specs.intermediate_results.Refusals.{TellsTooMany}
 use Rattle.agg_results.specs.Results.{AreResults}
 use Rattle.agg_engine_tree.specs.segment_context.Pages.{paged}
-use Rattle.agg_engine_tree.specs.segment_context.Trees.{AreTreesOf, built_tree}
+use Rattle.agg_engine_tree.specs.segment_context.Trees.{AreTreesOf}
+use Rattle.agg_request_tree.specs.BuiltRequest.{built_tree}
 use Rattle.agg_engine.specs.declared.snapshot_results.context.PageRequest.{PageRequest}
 use Rattle.agg_engine.specs.snapshot_results.Steps.{counted_of, past_named}
 use Rattle.agg_engine.specs.Refusals.{HasToBeRefused, MayBeRefused}

@@ -12,19 +12,19 @@ use Rattle.agg_values.specs.declared.request_error.RequestError.TheVariants as r
 use Rattle.agg_cache.specs.Limits.{Limits}
 use Rattle.agg_segment.specs.storage.Document.{Fields}
 use Rattle.agg_segment.specs.Query.{matches}
-use Rattle.agg_segment.specs.Snapshot.{SnapshotDocuments}
+use Rattle.agg_segment.specs.SnapshotDocuments.{SnapshotDocuments}
 use Rattle.agg_segment.specs.declared.query.QueryTree.{QueryTree}
 use Rattle.agg_request_tree.specs.Faults.{IsSoundRequest, RequestHasFault}
 use Rattle.agg_request_tree.specs.Matching.{built_matches}
 use Rattle.agg_request_tree.specs.Ranges.{HasStartOutOfRange}
 use Rattle.agg_request_tree.specs.Request.{Request}
-use Rattle.agg_request_tree.specs.charges.Roof.{IsSettled}
+use Rattle.agg_request_tree.specs.charges.Settled.{IsSettled}
 use Rattle.agg_request_tree.specs.Uncut.{CountsTooMany}
 use Rattle.agg_results.specs.final_results.BucketCount.{results_buckets}
 use Rattle.agg_results.specs.declared.final_results.types.AggregationResults.{AggregationResults}
 use Rattle.agg_results.specs.Results.{AreResults}
-use Rattle.agg_engine_tree.specs.segment_context.Pages.{request_after, request_at_size}
-use Rattle.agg_engine_tree.specs.segment_context.Trees.{SomeMakesNone}
+use Rattle.agg_request_tree.specs.ChangedRequest.{request_after, request_at_size}
+use Rattle.agg_request_tree.specs.BuiltRequest.{SomeMakesNone}
 use Rattle.agg_engine.specs.snapshot_results.MemoryLimits as memory
 use memory.{TellsMemory, low_roof_in, roof_in}
 use Rattle.agg_engine.specs.NamedComposite.{NamesComposite}

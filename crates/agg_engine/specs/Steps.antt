@@ -4,10 +4,10 @@ use Rattle.std.specs.List.{sum_by}
 use Rattle.agg_segment.specs.storage.Document.{Fields}
 use Rattle.agg_segment.specs.declared.query.QueryTree.{QueryTree}
 use Rattle.agg_request_tree.specs.Request.{Request}
-use Rattle.agg_engine_tree.specs.segment_context.Pages.{request_after}
+use Rattle.agg_request_tree.specs.ChangedRequest.{request_after}
 use Rattle.agg_engine.specs.snapshot_results.Steps.{counted_of, past_named}
 use Rattle.agg_results.specs.declared.final_results.types.AggregationResults.{AggregationResults}
-use Rattle.agg_segment.specs.Snapshot.{SnapshotDocuments}
+use Rattle.agg_segment.specs.SnapshotDocuments.{SnapshotDocuments}
 use Rattle.agg_engine.specs.Walk.{IsWalk, after_in, matching_documents}
 
 -- ---- the most

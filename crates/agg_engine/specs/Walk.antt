@@ -12,8 +12,8 @@ use Rattle.agg_segment.specs.Query.{matches}
 use Rattle.agg_segment.specs.declared.query.QueryTree.{QueryTree}
 use Rattle.agg_request_tree.specs.Faults.{IsSoundRequest, RequestHasFault}
 use Rattle.agg_request_tree.specs.Request.{Request}
-use Rattle.agg_engine_tree.specs.segment_context.Pages.{request_after, request_at_size}
-use Rattle.agg_engine_tree.specs.segment_context.Trees.{EachMakesTree}
+use Rattle.agg_request_tree.specs.ChangedRequest.{request_after, request_at_size}
+use Rattle.agg_request_tree.specs.BuiltRequest.{EachMakesTree}
 use Rattle.agg_engine.specs.NamedComposite.{NamesComposite}
 use Rattle.agg_results.specs.declared.final_results.types as final
 use final.AggregationResult.{AggregationResult}
@@ -24,7 +24,7 @@ use final.BucketResult as buckets
 use final.CompositeBucketEntry.{CompositeBucketEntry}
 use final.FilterBucketResult.{FilterBucketResult}
 use Rattle.agg_results.specs.Results.{AreResults}
-use Rattle.agg_segment.specs.Snapshot.{SnapshotDocuments}
+use Rattle.agg_segment.specs.SnapshotDocuments.{SnapshotDocuments}
 
 -- the documents of segments, joined, that a query matches
 abbrev pub matching_among : QueryTree → List (List Fields) → List Fields

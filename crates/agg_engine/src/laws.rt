@@ -9,15 +9,15 @@ ghost use Rattle.agg_request_tree.specs.Occurrences.{bound_of};
 ghost use Rattle.agg_request_tree.specs.Page.{Entry, IsPage};
 ghost use Rattle.agg_request_tree.specs.Request.{Request};
 ghost use Rattle.agg_request_tree.specs.declared.aggregation.CompositeAggregation as composites;
-ghost use Rattle.agg_request_tree.specs.charges.Roof.{IsSettled};
+ghost use Rattle.agg_request_tree.specs.charges.Settled.{IsSettled};
 ghost use Rattle.agg_results.specs.declared.final_results.types.AggregationResults.{
   AggregationResults,
 };
 ghost use Rattle.agg_results.specs.Results.{AreResults};
 ghost use Rattle.agg_engine.specs.NamedComposite.{IsCompositeNamed};
-ghost use Rattle.agg_engine.specs.Refusals.{AreSettled, HasToBeRefused, HasToRefuse, MayBeRefused};
-ghost use Rattle.agg_engine.specs.Refusals.{MayRefuse};
-ghost use Rattle.agg_segment.specs.Snapshot.{SnapshotDocuments};
+ghost use Rattle.agg_engine.specs.Refusals.{AreSettled, HasToBeRefused, MayBeRefused};
+ghost use Rattle.agg_engine.specs.Refusals.{HasToRefuse, MayRefuse};
+ghost use Rattle.agg_segment.specs.SnapshotDocuments.{SnapshotDocuments};
 ghost use Rattle.agg_engine.specs.Walk.{IsWalk, after_in};
 ghost use Rattle.agg_engine.specs.declared.walk.error.WalkError.{WalkError};
 

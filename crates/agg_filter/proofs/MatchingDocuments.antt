@@ -11,7 +11,8 @@ use Rattle.agg_filter.specs.Filter.{Filter, count_of}
 use Rattle.agg_filter.specs.Matching.{is_matching}
 use Rattle.agg_segment.specs.Marks.{AreMarks, mark_at}
 use Rattle.agg_segment.specs.Query.{matches}
-use Rattle.agg_segment.specs.Segment.{Stored, document_at, documents_of, max_documents}
+use Rattle.agg_segment.specs.Segment.{Stored, document_at, documents_of}
+use Rattle.agg_segment.specs.SegmentLimits.{max_documents}
 use Rattle.agg_segment.specs.declared.query.QueryTree.{QueryTree}
 
 no_mark : (marks : List Bool) (doc : ℕ) → length marks ≤ doc → mark_at marks doc ≡ false

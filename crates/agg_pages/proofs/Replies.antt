@@ -67,7 +67,8 @@ pub never-refused : {B : Type 0} (tree_for : B → List (List ℕ) → Option Qu
     (i j : Input B) (text : List ℕ) → i ≡ j → IsNeverRefused tree_for j
     → ¬ (IsRefusal tree_for i text)
 never-refused tree_for i j text same never (error, may, text_is) =
-    may_not_refuse tree_for j error never (subst (λ k. MayRefuse tree_for k error) same may)
+    may_not_refuse tree_for j error never
+    (subst (λ k. MayRefuse tree_for k error) same may)
 
 -- ---- what a walk answers, under the limits of its input
 
@@ -81,7 +82,8 @@ module _ {B : Type 0} (tree_for : B → List (List ℕ) → Option QueryTree) (i
       → IfOk result (λ walk. IsValid tree_for i)
   walked-IsValid (Ok walk) asked fits = record {
     asked = asked;
-    fits = subst (λ l. NoneIs (HasToRefuse (matches_in tree_for i) l i.header.name i.header.query
+    fits = subst (λ l.
+        NoneIs (HasToRefuse (matches_in tree_for i) l i.header.name i.header.query
         i.header.request i.snapshots)) are fits;
   }
   walked-IsValid (Err error) asked fits = tt
@@ -94,6 +96,7 @@ module _ {B : Type 0} (tree_for : B → List (List ℕ) → Option QueryTree) (i
   walked-MayRefuse (Ok walk) cause = tt
   walked-MayRefuse (Err error) cause = λ other. (
     other,
-    subst (λ l. HasCause (query_in tree_for i) l i.header.name i.header.query i.header.request
+    subst (λ l.
+        HasCause (query_in tree_for i) l i.header.name i.header.query i.header.request
         i.snapshots error) are cause,
   )

@@ -4,3 +4,4 @@ pub mod Lines
 pub mod PrintedAfterKeys
 pub mod SnapshotLines
 pub mod Snapshots
+pub mod StoredInput

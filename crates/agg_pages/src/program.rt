@@ -4,7 +4,8 @@ ghost use Rattle.std.specs.Prelude.{◌≡◌, ◌≢◌, ◌<◌, ◌+◌, ◌�
 ghost use Rattle.agg_pages.specs.Answer.{IsNeverRefused, IsReply, IsSummary};
 ghost use Rattle.agg_pages.specs.Answer.{IsSummaryPrefix};
 ghost use Rattle.agg_streams.specs.Causes.{Rose};
-ghost use Rattle.agg_pages.specs.input_text.Input.{Input as Meant, input_of, max_input_bytes};
+ghost use Rattle.agg_pages.specs.input_text.Input.{Input as Meant, max_input_bytes};
+ghost use Rattle.agg_pages.specs.input_text.StoredInput.{input_of};
 ghost use Rattle.agg_pages.specs.Observed.{over};
 ghost use Rattle.agg_pages.specs.Reading.{TakesAtMost};
 ghost use Rattle.agg_pages.specs.Run.{GaveInput, HadNoInput, HasAppended, IsAnswered};

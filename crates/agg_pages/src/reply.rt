@@ -3,7 +3,7 @@ ghost use Rattle.std.specs.Prelude.{◌≡◌, ◌≢◌, ◌⊎◌, ℕ, take, 
 ghost use Rattle.std.specs.Prelude.{string_bytes};
 ghost use Rattle.std.specs.Io.KnownBytes.{Appends};
 ghost use Rattle.agg_streams.specs.Causes.{Rose};
-ghost use Rattle.agg_pages.specs.input_text.Input.{input_of};
+ghost use Rattle.agg_pages.specs.input_text.StoredInput.{input_of};
 ghost use Rattle.agg_pages.specs.Answer.{IsNeverRefused, IsPlainWalk, IsReply, IsSummary};
 ghost use Rattle.agg_pages.specs.Answer.{IsValid, MayRefuse};
 
@@ -78,8 +78,8 @@ fn walk_of<L: Ledger>(alloc: Global, input: &Input, steps: &mut Steps<L>) -> Res
     ensures plain { IfOk result
         (IsPlainWalk (λ b. tree_for (b.builder.vtable, b.builder.value)) (input_of input.now)) }
     ensures cause { IfErr result (λ error. error ≢ WalkError.OutOfMemory
-        → MayRefuse (λ b. tree_for (b.builder.vtable, b.builder.value)) (input_of input.now)
-        error) }
+        → MayRefuse (λ b. tree_for (b.builder.vtable, b.builder.value))
+        (input_of input.now) error) }
 {
     let header = &input.header;
     let mut limits = LimitsLedger::new(header.memory_limit, header.bucket_limit);

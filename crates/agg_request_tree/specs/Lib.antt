@@ -1,5 +1,7 @@
 pub mod Alike
+pub mod BuiltRequest
 pub mod BySource
+pub mod ChangedRequest
 pub mod Faults
 pub mod FieldNames
 pub mod Groups

@@ -2,4 +2,5 @@ pub mod Charges
 pub mod Distinct
 pub mod Laws
 pub mod Roof
+pub mod Settled
 pub mod Within

@@ -19,7 +19,8 @@ use Rattle.agg_segment.specs.storage.Cells.{Placed, Logged}
 use Rattle.agg_segment.specs.Segment.{builder_cells}
 use Rattle.agg_segment.specs.Gatherings.{Raw, raw_placed, kind_of, IsRaw}
 use Rattle.agg_segment.specs.storage.GatheredNumbers.{raw_key}
-use Rattle.agg_segment.specs.storage.Signs.{sign_of, key_mark, IsFieldSign}
+use Rattle.agg_segment.specs.storage.Signs.{key_mark, IsFieldSign}
+use Rattle.agg_segment.specs.SegmentLimits.{sign_of}
 use Rattle.agg_segment.specs.declared.storage.hit.ColumnType.TheVariants as kind
 use Rattle.agg_segment.specs.declared.storage.sign.Sign.{Sign}
 use Rattle.agg_segment.specs.declared.storage.sign.Sign.TheVariants.{Small, Negative, Large}

@@ -14,10 +14,11 @@ use Rattle.std.proofs.lemmas.List.Sorted.{Contains-permutation, IsPermutation-sy
 use Rattle.agg_values.specs.TypedKey.{CompositeIntermediateKey}
 use Rattle.agg_segment.specs.storage.Document.{Fields, by_class}
 use Rattle.agg_segment.specs.storage.Cells.{Placed, is_at, keys_at, number_of}
-use Rattle.agg_segment.specs.storage.Signs.{key_mark, sign_of, IsFieldSign, AreSigns, HasBoth}
+use Rattle.agg_segment.specs.storage.Signs.{key_mark, IsFieldSign, AreSigns, HasBoth}
 use Rattle.agg_segment.specs.Segment.{Stored, Gathered, IsNameOf, gathered_fields}
 use Rattle.agg_segment.specs.Segment.{gathered_documents, open_document, document_at}
-use Rattle.agg_segment.specs.Segment.{documents_of, IsGathered, IsMixed, HasSign}
+use Rattle.agg_segment.specs.Segment.{documents_of, IsGathered}
+use Rattle.agg_segment.specs.SegmentLimits.{IsMixed, HasSign, sign_of}
 use Rattle.agg_segment.specs.storage.Columns.{StoredColumn, column_cells}
 use Rattle.agg_segment.specs.declared.storage.sign.Sign.{Sign}
 use Rattle.agg_segment.specs.declared.storage.sign.Sign.TheVariants.{Small, Negative, Large}

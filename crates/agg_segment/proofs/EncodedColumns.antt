@@ -20,7 +20,7 @@ use Rattle.agg_segment.specs.Gatherings.{Raw, raws, column_raws, kind_of}
 use Rattle.agg_segment.specs.storage.GatheredNumbers.{raw_key, keyed_rows}
 use Rattle.agg_segment.specs.Gatherings.{raw_placed, IsWide, IsRaw, gathering_classes}
 use Rattle.agg_segment.specs.Gatherings.{column_classes}
-use Rattle.agg_segment.specs.storage.Signs.{sign_of}
+use Rattle.agg_segment.specs.SegmentLimits.{sign_of}
 use Rattle.agg_segment.specs.declared.gatherings.Gathering.{Gathering}
 use Rattle.agg_segment.specs.declared.storage.hit.ColumnType.TheVariants as kind
 use Rattle.agg_segment.specs.declared.storage.keys.ColumnKeys.{ColumnKeys}

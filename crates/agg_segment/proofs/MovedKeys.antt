@@ -12,8 +12,9 @@ use Rattle.std.proofs.lemmas.List.Elements.{All-tail}
 use Rattle.agg_segment.specs.storage.Cells.{Placed, Logged, keys_at, number_of, placed, IsKept}
 use Rattle.agg_segment.specs.storage.Document.{by_class}
 use Rattle.agg_segment.specs.Segment.{gathered_fields, gathered_documents, open_document, no_fields}
-use Rattle.agg_segment.specs.Segment.{builder_cells, IsBuilding, IsMixed}
-use Rattle.agg_segment.specs.Segment.{IsGathered, max_documents}
+use Rattle.agg_segment.specs.Segment.{builder_cells, IsBuilding}
+use Rattle.agg_segment.specs.Segment.{IsGathered}
+use Rattle.agg_segment.specs.SegmentLimits.{IsMixed, max_documents}
 use Rattle.agg_segment.specs.storage.Signs.{cell_mark, key_mark, IsFieldSign, AreSigns}
 use Rattle.agg_segment.specs.declared.storage.sign.Sign.{Sign}
 use Rattle.agg_segment.specs.declared.storage.sign.Sign.TheVariants.{Small}

@@ -14,7 +14,8 @@ use Rattle.agg_segment.specs.storage.Cells.{Placed}
 use Rattle.agg_segment.specs.Gatherings.{Raw, raws, column_raws, raw_placed}
 use Rattle.agg_segment.specs.storage.GatheredNumbers.{raw_key}
 use Rattle.agg_segment.specs.Gatherings.{kind_of, AreLinked, AreWide}
-use Rattle.agg_segment.specs.storage.Signs.{sign_of, key_mark, AreSigns}
+use Rattle.agg_segment.specs.storage.Signs.{key_mark, AreSigns}
+use Rattle.agg_segment.specs.SegmentLimits.{sign_of}
 use Rattle.agg_segment.specs.declared.gatherings.Gathering.{Gathering}
 use Rattle.agg_segment.specs.declared.storage.sign.Sign.{Sign}
 use Rattle.agg_segment.specs.declared.storage.sign.Sign.TheVariants.{Small, Negative, Large}

@@ -3,7 +3,9 @@ pub mod Gatherings
 pub mod Marks
 pub mod Query
 pub mod Segment
+pub mod SegmentLimits
 pub mod Snapshot
+pub mod SnapshotDocuments
 pub mod Spans
 pub mod storage
 pub use Rattle.agg_segment.specs.storage.Columns

@@ -3,7 +3,8 @@ use Rattle.std.specs.Prelude.{◌≡◌, ◌<◌, ◌≤◌, ℕ, List, Bool, fa
 use Rattle.std.specs.List.{list_any, filter, range_with_len}
 use Rattle.agg_values.specs.TypedKey.{CompositeIntermediateKey}
 use Rattle.agg_segment.specs.storage.Document.{Fields}
-use Rattle.agg_segment.specs.Segment.{Stored, document_at, documents_of, max_documents}
+use Rattle.agg_segment.specs.Segment.{Stored, document_at, documents_of}
+use Rattle.agg_segment.specs.SegmentLimits.{max_documents}
 use Rattle.agg_segment.specs.storage.Columns.{StoredColumn, column_keys}
 use Rattle.agg_segment.specs.Query.{is_any, is_value, is_between}
 use Rattle.agg_segment.specs.declared.query.key_test.KeyTest.{KeyTest}

@@ -3,20 +3,16 @@ use Rattle.std.specs.Prelude.{◌≡◌, ◌<◌, ◌≤◌, ◌==◌, ℕ, List
 use Rattle.std.specs.Prelude.{filter, map, flat_map, length, take, drop}
 use Rattle.std.specs.Option.{option_map_or}
 use Rattle.std.specs.Str.{bytes_eq}
-use Rattle.std.specs.List.{range_with_len, All, Contains}
+use Rattle.std.specs.List.{range_with_len, All}
 use Rattle.agg_segment.specs.storage.Document.{Fields, by_class}
 use Rattle.agg_segment.specs.storage.Cells.{Placed, Logged, number_of, named_keys}
 use Rattle.agg_segment.specs.Gatherings.{Raw, raw_placed, IsRaw}
-use Rattle.agg_segment.specs.storage.Signs.{sign_of, key_mark, AreSigns}
+use Rattle.agg_segment.specs.SegmentLimits.{max_documents}
+use Rattle.agg_segment.specs.storage.Signs.{key_mark, AreSigns}
 use Rattle.agg_segment.specs.storage.Columns.{StoredColumn, column_cells}
 use Rattle.agg_segment.specs.declared.storage.sign.Sign.{Sign}
-use Rattle.agg_segment.specs.declared.storage.sign.Sign.TheVariants.{Negative, Large}
 use Rattle.agg_values.specs.Names.{Named}
 use Rattle.agg_values.specs.TypedKey.{CompositeIntermediateKey}
-
--- how many documents a segment may hold
-abbrev pub max_documents : ℕ
-max_documents = 16_777_216
 
 -- what a builder holds: how many documents are closed, the numbers of the fields, and the keys of
 -- all documents
@@ -74,16 +70,6 @@ documents_at segment docs = map (document_at segment) docs
 -- the documents of a segment
 abbrev pub documents_of : Stored → List Fields
 documents_of segment = documents_at segment (range_with_len 0 segment.count)
-
--- some document has a number of a sign in a field
-abbrev pub HasSign : List Fields → List ℕ → Sign → Type 0
-HasSign documents field sign =
-    Contains (map sign_of (flat_map (λ document. document field) documents)) sign
-
--- some field has a number below zero and one above those of an i64
-abbrev pub IsMixed : List Fields → Type 0
-IsMixed documents =
-    (field : List ℕ) × HasSign documents field Negative × HasSign documents field Large
 
 -- what is true of a builder: its closed documents come first, each field has one name and number,
 -- and its signs are those of the closed documents

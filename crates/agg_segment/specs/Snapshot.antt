@@ -1,13 +1,8 @@
--- Snapshots, as what they stand for.
-use Rattle.std.specs.Prelude.{ℕ, List, map}
-use Rattle.agg_segment.specs.storage.Document.{Fields}
+-- What snapshots in memory stand for.
+use Rattle.std.specs.Prelude.{List, map}
 use Rattle.agg_segment.specs.Segment.{documents_of}
+use Rattle.agg_segment.specs.SnapshotDocuments.{SnapshotDocuments}
 use Rattle.agg_segment.specs.declared.snapshot.Snapshot.{Snapshot}
-
--- a snapshot as what it stands for: the documents of each segment, and the page size
-pub record SnapshotDocuments : Type 0 where
-  pub segments : List (List Fields)
-  pub page_size : ℕ
 
 -- what a snapshot stands for
 abbrev pub snapshot_documents : Snapshot → SnapshotDocuments

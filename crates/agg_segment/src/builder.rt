@@ -5,7 +5,8 @@ ghost use Rattle.agg_segment.specs.storage.Document.{key_of, meaning};
 ghost use Rattle.agg_values.specs.declared.typed_key.CompositeIntermediateKey.TheVariants as key;
 ghost use Rattle.agg_segment.specs.Segment.{gathered_documents, open_document};
 ghost use Rattle.agg_segment.specs.Segment.{no_fields, with_key, documents_of};
-ghost use Rattle.agg_segment.specs.Segment.{IsNameOf, IsMixed, max_documents};
+ghost use Rattle.agg_segment.specs.Segment.{IsNameOf};
+ghost use Rattle.agg_segment.specs.SegmentLimits.{IsMixed, max_documents};
 ghost use Rattle.agg_segment.specs.declared.builder.BuildError.TheVariants.{OutOfMemory as Memory};
 
 use crate::SegmentReader;

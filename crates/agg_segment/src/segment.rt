@@ -3,7 +3,7 @@ ghost use Rattle.agg_segment.specs.storage.Names.{numbered_names};
 ghost use Rattle.agg_segment.specs.storage.Columns.{all_keys, AreInOrder, ClassesAscend};
 ghost use Rattle.agg_segment.specs.storage.Document.{HasNumbersOf64Bits};
 ghost use Rattle.agg_segment.specs.Segment.{columns_in, document_at, documents_of};
-ghost use Rattle.agg_segment.specs.Segment.{max_documents};
+ghost use Rattle.agg_segment.specs.SegmentLimits.{max_documents};
 
 use crate::storage::{Column, find_number};
 use agg_values::Text;
@@ -22,7 +22,8 @@ impl Model for SegmentReader {
     ghost use Rattle.std.specs.Prelude.{◌≤◌, All};
     ghost use Rattle.agg_segment.specs.storage.Columns.{AreInOrder};
     ghost use Rattle.agg_segment.specs.storage.Document.{HasNumbersOf64Bits};
-    ghost use Rattle.agg_segment.specs.Segment.{Stored, documents_of, max_documents};
+    ghost use Rattle.agg_segment.specs.Segment.{Stored, documents_of};
+    ghost use Rattle.agg_segment.specs.SegmentLimits.{max_documents};
     ghost use Rattle.agg_segment.specs.storage.Names.{numbered_names};
 
     ghost Value = { Stored };

@@ -7,6 +7,7 @@ use Rattle.agg_segment.specs.Query.{matches}
 use Rattle.agg_segment.specs.declared.query.QueryTree.{QueryTree}
 use Rattle.agg_request_tree.specs.Request.{Request}
 use Rattle.agg_request_tree.specs.charges.Roof.{counts_of}
+use Rattle.agg_request_tree.specs.charges.Roof.Height.{High}
 use Rattle.agg_engine_tree.specs.segment_context.Context.{Meaning}
 use Rattle.agg_engine_tree.specs.declared.segment_context.context.PerRequestAggSegCtx.{
   PerRequestAggSegCtx,
@@ -35,7 +36,7 @@ module _ (ctx : PerRequestAggSegCtx) (limits : Limits) (pairs : List (ℕ × ℕ
       → IsAsGroup old root → IsTreeOf meaning ctx request root taken
       → (count : ℕ) → AreUnder count (taken ++ pairs)
       → TellsMemory limits.memory_limit
-      (limits.in_use + over_parents (counts_of matches request).bytes meaning.segment
+      (limits.in_use + over_parents (counts_of matches request High) meaning.segment
       (taken ++ pairs) count)
       (held_bytes ctx old) told current
 

@@ -4,6 +4,7 @@ use Rattle.std.specs.List.{All}
 use Rattle.agg_cache.specs.Limits.{Limits}
 use Rattle.agg_request_tree.specs.charges.Charges.{fixed_charge}
 use Rattle.agg_request_tree.specs.charges.Roof.{counts_of}
+use Rattle.agg_request_tree.specs.charges.Roof.Height.{High}
 use Rattle.agg_request_tree.specs.Request.{Request}
 use Rattle.agg_segment.specs.Query.{matches}
 use Rattle.agg_segment.specs.Segment.{Stored, documents_at, documents_of}
@@ -56,7 +57,7 @@ IsChargeCause ctx pairs old limits (error.MemoryExceeded told current) =
     → All (λ e. e.0 ≡ 0) (taken ++ pairs)
     → TellsMemory limits.memory_limit
     (limits.in_use + old.fixed
-    + (counts_of matches request).bytes (documents_at meaning.segment (docs_in (taken ++ pairs))))
+    + counts_of matches request High (documents_at meaning.segment (docs_in (taken ++ pairs))))
     old.guard told current
 IsChargeCause ctx pairs old limits error.OutOfMemory = ⊤
 

@@ -12,8 +12,8 @@ ghost use Rattle.agg_request_tree.specs.Request.{with_builders};
 ghost use Rattle.agg_results.specs.final_results.BucketCount.{results_buckets};
 ghost use Rattle.agg_results.specs.Results.{AreResults};
 ghost use Rattle.agg_engine_tree.specs.segment_context.Pages.{paged};
-ghost use Rattle.agg_engine_tree.specs.segment_context.Trees.{AreOfRequest, AreTreesOf, built};
-ghost use Rattle.agg_engine_tree.specs.segment_context.Trees.{built_tree};
+ghost use Rattle.agg_engine_tree.specs.segment_context.Trees.{AreOfRequest, AreTreesOf};
+ghost use Rattle.agg_request_tree.specs.BuiltRequest.{built, built_tree};
 ghost use Rattle.agg_engine.specs.collectors.Fruits.{IsFinalCause, StandForEach, joined};
 ghost use Rattle.agg_engine.specs.collectors.Segment.{CollectorFor, IsSetupCause, MayBeUsed};
 

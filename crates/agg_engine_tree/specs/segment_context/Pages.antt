@@ -1,43 +1,8 @@
--- The page of a request: a size and an after key in place of those of a composite.
-use Rattle.std.specs.Prelude.{ℕ, List, Option, None, Some, if◌then◌else◌, map}
-use Rattle.std.specs.BTreeMap.{is_at}
-use Rattle.agg_values.specs.Names.{Named, name_cmp}
-use Rattle.agg_values.specs.declared.after_key.AfterKey.{AfterKey}
-use Rattle.agg_request_tree.specs.Request.{Request, agg_of, aggregation_of, below_of}
-use Rattle.agg_request_tree.specs.declared.aggregation.Aggregation.{Aggregation}
-use Rattle.agg_request_tree.specs.declared.aggregation.AggregationVariants.{AggregationVariants}
-use Rattle.agg_request_tree.specs.declared.aggregation.AggregationVariants.TheVariants.{Composite}
+-- The request that is asked where a page is set.
+use Rattle.std.specs.Prelude.{Option, None, Some}
+use Rattle.agg_request_tree.specs.ChangedRequest.{request_after, request_at_size}
+use Rattle.agg_request_tree.specs.Request.{Request}
 use Rattle.agg_engine_tree.specs.declared.segment_context.params.Page.{Page}
-
--- an aggregation with another size, if it is a composite
-abbrev pub with_size : {B : Type 0} → ℕ → AggregationVariants B → AggregationVariants B
-with_size size (Composite composite) = Composite (record composite { size = size })
-with_size size other = other
-
--- an aggregation with another after key, if it is a composite
-abbrev pub with_after : {B : Type 0} → Named AfterKey → AggregationVariants B
-    → AggregationVariants B
-with_after after (Composite composite) = Composite (record composite { after = after })
-with_after after other = other
-
--- an aggregation in which what it asks is changed
-abbrev pub changed : {B : Type 0} → (AggregationVariants B → AggregationVariants B)
-    → Aggregation B → Aggregation B
-changed change a = aggregation_of (change (agg_of a)) (below_of a)
-
--- a request in which the aggregation of a name is changed
-abbrev pub request_changed_at : {B : Type 0} → (AggregationVariants B → AggregationVariants B)
-    → List ℕ → Request B → Request B
-request_changed_at change name request =
-    map (λ a. if is_at (name_cmp name) a.0 then (a.0, changed change a.1) else a) request
-
--- the request with a size in place of that of the composite of a name
-abbrev pub request_at_size : {B : Type 0} → List ℕ → ℕ → Request B → Request B
-request_at_size name size = request_changed_at (with_size size) name
-
--- the request with an after key in place of that of the composite of a name
-abbrev pub request_after : {B : Type 0} → List ℕ → Named AfterKey → Request B → Request B
-request_after name after = request_changed_at (with_after after) name
 
 -- the request with a page, if one is set, in place of the size and the after key of the composite
 -- of its name, if there is one at top level

@@ -3,6 +3,7 @@ ghost use Rattle.std.specs.Prelude.{◌≡◌, ◌≤◌, ℕ, List};
 ghost use Rattle.std.specs.List.{All};
 ghost use Rattle.agg_composite.specs.buckets.Visits.{docs_in};
 ghost use Rattle.agg_request_tree.specs.charges.Roof.{counts_of};
+ghost use Rattle.agg_request_tree.specs.charges.Roof.Height.{High, Low};
 ghost use Rattle.agg_engine_tree.specs.collector_tree.Tree.{Held, IsFlushed};
 ghost use Rattle.agg_engine_tree.specs.held_bytes.HeldBytes.{held_bytes};
 ghost use Rattle.agg_engine_tree.specs.held_bytes.Trees.{AreOfSegment, AreUnder, IsTreeOf};
@@ -24,13 +25,13 @@ pub fn trees_hold_at_most_their_roof()
         → IsTreeOf meaning ctx request held taken
         → (parents : ℕ) → AreUnder parents taken
         → held_bytes ctx held
-        ≤ over_parents (counts_of matches request).bytes meaning.segment taken parents }
+        ≤ over_parents (counts_of matches request High) meaning.segment taken parents }
     ensures one_parent { (meaning : Meaning) (ctx : declared.PerRequestAggSegCtx)
         → (request : Request QueryTree) (held : Held) (taken : List (ℕ × ℕ))
         → IsTreeOf meaning ctx request held taken
         → All (λ e. e.0 ≡ 0) taken
         → held_bytes ctx held
-        ≤ (counts_of matches request).bytes (documents_at meaning.segment (docs_in taken)) }
+        ≤ counts_of matches request High (documents_at meaning.segment (docs_in taken)) }
 {}
 
 /// Where nothing waits in caches, a tree holds at least the low bytes of the buckets that its
@@ -43,7 +44,7 @@ pub fn flushed_trees_hold_at_least_their_low_roof()
         → IsFlushed held
         → AreOfSegment meaning.segment taken
         → (parents : ℕ)
-        → over_parents (counts_of matches request).low_bytes meaning.segment taken parents
+        → over_parents (counts_of matches request Low) meaning.segment taken parents
         ≤ held_bytes ctx held }
     ensures one_parent { (meaning : Meaning) (ctx : declared.PerRequestAggSegCtx)
         → (request : Request QueryTree) (held : Held) (taken : List (ℕ × ℕ))
@@ -51,6 +52,6 @@ pub fn flushed_trees_hold_at_least_their_low_roof()
         → IsFlushed held
         → AreOfSegment meaning.segment taken
         → All (λ e. e.0 ≡ 0) taken
-        → (counts_of matches request).low_bytes (documents_at meaning.segment (docs_in taken))
+        → counts_of matches request Low (documents_at meaning.segment (docs_in taken))
         ≤ held_bytes ctx held }
 {}

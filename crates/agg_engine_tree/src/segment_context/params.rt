@@ -1,8 +1,9 @@
 //! What contexts of a request are made with in each segment.
 ghost use Rattle.std.specs.Prelude.{◌≡◌, None, Some, IfErr, IfOk, IsErrOf, OnOk, option_map};
 ghost use Rattle.agg_engine_tree.specs.segment_context.SetupError.{IsOfBuilders};
-ghost use Rattle.agg_engine_tree.specs.segment_context.Trees.{AreOfRequest, EachMakesTree};
-ghost use Rattle.agg_engine_tree.specs.segment_context.Trees.{SomeMakesNone, built, trees_of};
+ghost use Rattle.agg_engine_tree.specs.segment_context.Trees.{AreOfRequest};
+ghost use Rattle.agg_engine_tree.specs.segment_context.Trees.{trees_of};
+ghost use Rattle.agg_request_tree.specs.BuiltRequest.{EachMakesTree, SomeMakesNone, built};
 
 mod queries;
 mod trees;

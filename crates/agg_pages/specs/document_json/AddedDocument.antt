@@ -1,7 +1,8 @@
 -- The document of a line, added to a segment in the making.
 use Rattle.std.specs.Prelude.{◌≡◌, ◌⊎◌, ℕ, List, [], ◌∷◌, ◌++◌, length}
 use Rattle.agg_segment.specs.storage.Document.{Fields}
-use Rattle.agg_segment.specs.Segment.{Gathered, IsMixed, gathered_documents, max_documents}
+use Rattle.agg_segment.specs.Segment.{Gathered, gathered_documents}
+use Rattle.agg_segment.specs.SegmentLimits.{IsMixed, max_documents}
 use Rattle.agg_pages.specs.document_json.DocumentLine.{IsDocumentLine}
 
 -- a segment of these documents takes no such one

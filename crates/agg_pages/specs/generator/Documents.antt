@@ -5,7 +5,7 @@ use Rattle.std.specs.List.{range_with_len}
 use Rattle.agg_segment.specs.storage.Document.{Fields, meaning}
 use Rattle.agg_segment.specs.declared.storage.document.FieldValue.{FieldValue}
 use Rattle.agg_segment.specs.declared.storage.document.FieldValue.TheVariants as value
-use Rattle.agg_segment.specs.Snapshot.{SnapshotDocuments}
+use Rattle.agg_segment.specs.SnapshotDocuments.{SnapshotDocuments}
 use Rattle.agg_pages.specs.generator.Draws.{draw}
 
 -- a number by its draw: one below 50

@@ -1,7 +1,7 @@
 -- What the bytes of an input stand for.
 use Rattle.std.specs.Prelude.{◌≤◌, ℕ, List, [], ◌∷◌, IsTrue, length}
 use Rattle.std.specs.Str.{is_utf8}
-use Rattle.agg_segment.specs.Snapshot.{SnapshotDocuments, snapshots_documents}
+use Rattle.agg_segment.specs.SnapshotDocuments.{SnapshotDocuments}
 use Rattle.agg_pages.specs.declared.input_text.input.Input as stored
 use Rattle.agg_pages.specs.declared.input_text.header.Header.{Header}
 use Rattle.agg_pages.specs.input_text.Header.{IsHeaderLine}
@@ -13,10 +13,6 @@ use Rattle.agg_pages.specs.input_text.SnapshotLines.{AreSnapshots}
 pub record Input (B : Type 0) : Type 0 where
   pub header : Header B
   pub snapshots : List SnapshotDocuments
-
--- what an input in memory stands for
-abbrev pub input_of : {B : Type 0} → stored.Input B → Input B
-input_of i = record { header = i.header; snapshots = snapshots_documents i.snapshots }
 
 -- the input of lines: a header, and then snapshots
 abbrev pub IsInputOfLines : {B : Type 0} → List B → (B → List ℕ) → List (List ℕ) → Input B

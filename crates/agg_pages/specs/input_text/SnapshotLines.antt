@@ -6,8 +6,8 @@ use Rattle.std.specs.List.{All, AllZip, starts_with}
 use Rattle.std.specs.Str.{all_ascii_digits}
 use Rattle.std.specs.Str.Parse.{digits_value}
 use Rattle.agg_segment.specs.storage.Document.{Fields}
-use Rattle.agg_segment.specs.Segment.{IsMixed, max_documents}
-use Rattle.agg_segment.specs.Snapshot.{SnapshotDocuments}
+use Rattle.agg_segment.specs.SegmentLimits.{IsMixed, max_documents}
+use Rattle.agg_segment.specs.SnapshotDocuments.{SnapshotDocuments}
 use Rattle.agg_pages.specs.document_json.DocumentLine.{IsDocumentLine}
 
 -- what a line after the header says: a snapshot of a page size begins, a segment begins in it, or

@@ -3,7 +3,8 @@ ghost use Rattle.std.specs.Prelude.{◌≤◌, ◌+◌, ℕ, Option};
 ghost use Rattle.agg_values.specs.Nothing.{NoneIs};
 ghost use Rattle.agg_cache.specs.Limits.{Limits};
 ghost use Rattle.agg_segment.specs.declared.query.QueryTree.{QueryTree};
-ghost use Rattle.agg_pages.specs.generated_walks.Walks.{GeneratedMayBeAsked, GeneratedMayRefuse};
+ghost use Rattle.agg_pages.specs.generated_walks.Walks.{GeneratedMayBeAsked};
+ghost use Rattle.agg_pages.specs.generated_walks.Walks.{GeneratedMayRefuse};
 ghost use Rattle.agg_pages.specs.generated_walks.Walks.{most_buckets, most_bytes};
 
 /// A generated walk may be asked, and is never refused where the limits leave it its room: 100

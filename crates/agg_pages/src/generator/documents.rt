@@ -1,7 +1,8 @@
 //! Documents as they are drawn, and segments of them.
 ghost use Rattle.std.specs.Prelude.{◌≡◌, ◌*◌, ◌≤◌, ◌++◌, Ok, IfOk, OnOk, IsOkUnless};
 ghost use Rattle.std.specs.Prelude.{codes, decimal};
-ghost use Rattle.agg_segment.specs.Segment.{documents_of, max_documents};
+ghost use Rattle.agg_segment.specs.Segment.{documents_of};
+ghost use Rattle.agg_segment.specs.SegmentLimits.{max_documents};
 ghost use Rattle.agg_pages.specs.generator.Draws.{draw, state_after};
 ghost use Rattle.agg_pages.specs.generator.Documents.{generated_documents, texts_drawn};
 ghost use Rattle.agg_pages.specs.generator.Documents.{values_drawn};

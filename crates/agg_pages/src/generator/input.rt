@@ -1,6 +1,6 @@
 //! The input that is generated from a seed.
 ghost use Rattle.std.specs.Prelude.{◌≡◌, [], ◌∷◌, IfOk, codes};
-ghost use Rattle.agg_pages.specs.input_text.Input.{input_of};
+ghost use Rattle.agg_pages.specs.input_text.StoredInput.{input_of};
 ghost use Rattle.agg_pages.specs.generator.Generator.{generated, generated_header};
 
 use crate::generator::request::generated_request;

@@ -2,7 +2,8 @@
 
 ghost use Rattle.std.specs.Prelude.{◌≡◌, IfOk, IsErrOf};
 ghost use Rattle.agg_segment.specs.Snapshot.{snapshots_documents};
-ghost use Rattle.agg_pages.specs.input_text.Input.{AreNoInput, IsInput, IsInputOfLines, input_of};
+ghost use Rattle.agg_pages.specs.input_text.Input.{AreNoInput, IsInput, IsInputOfLines};
+ghost use Rattle.agg_pages.specs.input_text.StoredInput.{input_of};
 ghost use Rattle.agg_values.specs.Nothing.{NoneIs};
 
 use crate::document_json::InputError;

@@ -2,7 +2,8 @@
 ghost use Rattle.std.specs.Prelude.{◌≡◌, ◌≢◌, ◌∷◌, ◌++◌, [], List, Err, IfOk, OnOk, IsErrOf};
 ghost use Rattle.std.specs.Prelude.{map};
 ghost use Rattle.agg_segment.specs.Segment.{documents_of, gathered_documents};
-ghost use Rattle.agg_segment.specs.Snapshot.{SnapshotDocuments, snapshot_documents};
+ghost use Rattle.agg_segment.specs.Snapshot.{snapshot_documents};
+ghost use Rattle.agg_segment.specs.SnapshotDocuments.{SnapshotDocuments};
 ghost use Rattle.agg_segment.specs.Snapshot.{snapshots_documents};
 ghost use Rattle.agg_values.specs.Nothing.{NoneIs};
 ghost use Rattle.agg_pages.specs.input_text.SnapshotLines.{AreSnapshots, begins};

@@ -1,4 +1,5 @@
 pub mod CompositeCounts
+pub mod CompositeSettling
 pub mod CompositeTuples
 pub mod CountsOut
 pub mod Distinct
@@ -6,6 +7,8 @@ pub mod KeySums
 pub mod Lawful
 pub mod LawfulRequests
 pub mod Roofs
+pub mod SettledRequests
+pub mod Settles
 pub mod Sums
 pub mod Tests
 pub mod WithinLists

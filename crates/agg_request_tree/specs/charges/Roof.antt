@@ -1,7 +1,17 @@
--- The buckets that a request counts over documents, and its roofs, in bytes.
-use Rattle.std.specs.Prelude.{◌≡◌, ◌+◌, ◌*◌, ◌&&◌, ◌||◌, ℕ, List, Bool, true, false, length, map}
-use Rattle.std.specs.Prelude.{if◌then◌else◌, min, nat_le, not}
-use Rattle.std.specs.List.{list_all, list_any, sum_by}
+-- The roofs of a request in a segment, in bytes: the fixed charge, and its buckets at a height. The
+-- roof is the one at `High`, and the low roof the one at `Low`.
+--
+-- A worked case, of terms sources over three documents, with 1 in `a` and 1, 2 and 3 in `b`. The
+-- fixed charge of a composite and one below it is 1024 bytes, and a bucket of either is 96.
+--     `b`, size 1, and below it `a`, size 1: the page of `b` has no room for its three tuples
+--         Low   1024 + 96            its one bucket, and nothing below
+--         High  1024 + 96 + 3 * 96   and a bucket for each place of the list below
+--     `a`, size 10, and below it `b`, size 1: the page of `a` has room for its one tuple
+--         Low   1024 + 96 + 96       a bucket of each
+--         High  the same
+use Rattle.std.specs.Prelude.{◌+◌, ◌*◌, ℕ, List, Bool, length, map}
+use Rattle.std.specs.Prelude.{if◌then◌else◌, min, nat_le}
+use Rattle.std.specs.List.{sum_by}
 use Rattle.agg_values.specs.Names.{Named}
 use Rattle.agg_values.specs.Tuple.{KeyTuple}
 use Rattle.agg_segment.specs.storage.Document.{Fields}
@@ -48,74 +58,46 @@ over_tuples composite bytes documents =
 
 -- ---- at any depth
 
--- what aggregations count over documents, with all below them; nothing is counted below a metric
-pub record Counts : Type 0 where
-  -- whether there is a composite among them
-  pub has_composite : Bool
-  -- the bytes of a bucket for each place of the composites' uncut lists
-  pub uncut_bytes : List Fields → ℕ
-  -- the bytes of the buckets that are counted
-  pub bytes : List Fields → ℕ
-  -- the bytes of the counted buckets that aren't counted as places of uncut lists
-  pub low_bytes : List Fields → ℕ
-  -- whether each composite that has a composite below it has room for its tuples
-  pub is_settled : List Fields → Bool
+-- which buckets of composites are counted
+pub data Height : Type 0 where
+  -- one for each place of their uncut lists
+  Uncut : Height
+  -- one for each tuple, as many as there is room for; below one without room, those at `Uncut`
+  High : Height
+  -- one for each tuple, as many as there is room for; below one without room, none
+  Low : Height
 
--- nothing is counted
+-- the bytes of the buckets that are counted at a height over documents
+abbrev pub Counts : Type 0
+Counts = Height → List Fields → ℕ
+
+-- nothing is counted, as below a metric
 abbrev pub nothing : Counts
-nothing = record {
-  has_composite = false;
-  uncut_bytes = λ documents. 0;
-  bytes = λ documents. 0;
-  low_bytes = λ documents. 0;
-  is_settled = λ documents. true;
-}
+nothing = λ height documents. 0
 
 -- what several aggregations count together
 abbrev pub together : Named Counts → Counts
-together each = record {
-  has_composite = list_any (λ c. c.1.has_composite) each;
-  uncut_bytes = λ documents. sum_by (λ c. c.1.uncut_bytes documents) each;
-  bytes = λ documents. sum_by (λ c. c.1.bytes documents) each;
-  low_bytes = λ documents. sum_by (λ c. c.1.low_bytes documents) each;
-  is_settled = λ documents. list_all (λ c. c.1.is_settled documents) each;
-}
+together each height documents = sum_by (λ c. c.1 height documents) each
 
--- what a composite counts, where those below it count this together: over the documents of each of
--- its tuples if it has room for these, else over its uncut list
+-- what a composite counts, where those below it count this together
 abbrev pub composite_counts : CompositeAggregation → Counts → Counts
-composite_counts composite below = record {
-  has_composite = true;
-  uncut_bytes = λ documents.
-      bucket_bytes composite * length (counted composite documents)
-      + below.uncut_bytes (counted composite documents);
-  bytes = λ documents.
-      own_bytes composite documents
-      + (if has_room composite documents then over_tuples composite below.bytes documents
-      else below.uncut_bytes (counted composite documents));
-  low_bytes = λ documents.
-      own_bytes composite documents
-      + (if has_room composite documents then over_tuples composite below.low_bytes documents
-      else 0);
-  is_settled = λ documents.
-      not below.has_composite
-      || (has_room composite documents
-      && list_all (λ tuple.
-      below.is_settled (documents_with composite.sources documents tuple))
-      (past_tuples composite documents));
-}
+composite_counts composite below Uncut documents =
+    bucket_bytes composite * length (counted composite documents)
+    + below Uncut (counted composite documents)
+composite_counts composite below High documents =
+    own_bytes composite documents
+    + (if has_room composite documents then over_tuples composite (below High) documents
+    else below Uncut (counted composite documents))
+composite_counts composite below Low documents =
+    own_bytes composite documents
+    + (if has_room composite documents then over_tuples composite (below Low) documents else 0)
 
 module _ {B : Type 0} (is_match : B → Fields → Bool) where
   -- what an aggregation counts, where those below it count this together: a filter what they count
   -- over the documents that it matches
   abbrev pub counts_by : AggregationVariants B → Counts → Counts
-  counts_by (Filter filter) below = record {
-    has_composite = below.has_composite;
-    uncut_bytes = λ documents. below.uncut_bytes (matching is_match filter.query documents);
-    bytes = λ documents. below.bytes (matching is_match filter.query documents);
-    low_bytes = λ documents. below.low_bytes (matching is_match filter.query documents);
-    is_settled = λ documents. below.is_settled (matching is_match filter.query documents);
-  }
+  counts_by (Filter filter) below =
+      λ height documents. below height (matching is_match filter.query documents)
   counts_by (Composite composite) below = composite_counts composite below
   counts_by _ below = nothing
 
@@ -131,20 +113,15 @@ module _ {B : Type 0} (is_match : B → Fields → Bool) where
   abbrev pub counts_of : Request B → Counts
   counts_of request = together (map (λ a. (a.0, counts a.1)) request)
 
-  -- the roof of a request in a segment of so many documents, of which these match: the fixed charge
-  -- and the bytes of the buckets that it counts
+  -- the roof of a request at a height, in a segment of so many documents, of which these match
+  abbrev pub roof_at : Height → Request B → ℕ → List Fields → ℕ
+  roof_at height request documents matches =
+      fixed_charge request documents + counts_of request height matches
+
+  -- the roof
   abbrev pub roof : Request B → ℕ → List Fields → ℕ
-  roof request documents matches =
-      fixed_charge request documents + (counts_of request).bytes matches
+  roof = roof_at High
 
-  -- the low roof: where a composite has no room for its tuples, nothing below it is counted; so for
-  -- terms of `b` with size 1, and of `a` below, over documents with 1 in `a` and 1, 2 and 3 in `b`,
-  -- it is 1024 + 96 bytes, the fixed charge and one bucket, and the roof 3 * 96 more
+  -- the low roof
   abbrev pub low_roof : Request B → ℕ → List Fields → ℕ
-  low_roof request documents matches =
-      fixed_charge request documents + (counts_of request).low_bytes matches
-
-  -- a request is settled over documents: each composite that has a composite below it has room for
-  -- its tuples
-  abbrev pub IsSettled : Request B → List Fields → Type 0
-  IsSettled request documents = (counts_of request).is_settled documents ≡ true
+  low_roof = roof_at Low

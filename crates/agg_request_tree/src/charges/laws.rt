@@ -8,8 +8,8 @@ ghost use Rattle.agg_request_tree.specs.Request.{Request};
 ghost use Rattle.agg_request_tree.specs.declared.aggregation.CompositeAggregation as declared;
 ghost use Rattle.agg_request_tree.specs.charges.Charges.{fixed_charge};
 ghost use Rattle.agg_request_tree.specs.charges.Laws.{AreGroupsOf};
-ghost use Rattle.agg_request_tree.specs.charges.Roof.{IsSettled, low_roof, over_tuples};
-ghost use Rattle.agg_request_tree.specs.charges.Roof.{past_tuples, roof};
+ghost use Rattle.agg_request_tree.specs.charges.Roof.{low_roof, over_tuples, past_tuples, roof};
+ghost use Rattle.agg_request_tree.specs.charges.Settled.{IsSettled};
 ghost use Rattle.agg_request_tree.specs.charges.Within.{Within};
 
 /// The low roof of a request is at least its fixed charge and at most its roof. Where the request

@@ -13,7 +13,7 @@ use Rattle.agg_values.specs.declared.column.ColumnPaginationOrder.TheVariants as
 use Rattle.agg_values.specs.TypedKey.{CompositeIntermediateKey}
 use Rattle.agg_values.specs.declared.typed_key.CompositeIntermediateKey.TheVariants as key
 use Rattle.agg_segment.specs.storage.Cells.{Placed}
-use Rattle.agg_segment.specs.storage.Signs.{sign_of}
+use Rattle.agg_segment.specs.SegmentLimits.{sign_of}
 use Rattle.agg_segment.specs.storage.Dictionary.{text_at, address_at}
 use Rattle.agg_segment.specs.declared.storage.keys.ColumnKeys.{ColumnKeys}
 use Rattle.agg_segment.specs.declared.storage.keys.ColumnKeys.TheVariants.{Bools, Texts, Signed}

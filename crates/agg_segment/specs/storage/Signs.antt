@@ -1,22 +1,17 @@
 -- Signs of numbers: whether one is below zero, or above those of an i64.
-use Rattle.std.specs.Prelude.{◌≡◌, ◌≢◌, ◌<◌, pos, int_lt, if◌then◌else◌}
+use Rattle.std.specs.Prelude.{◌≡◌, ◌≢◌, ◌<◌}
 use Rattle.std.specs.Prelude.{ℕ, List, [], ◌∷◌, length, get_or, set}
 use Rattle.std.specs.List.{All, Contains}
 use Rattle.agg_values.specs.TypedKey.{CompositeIntermediateKey}
 use Rattle.agg_values.specs.declared.typed_key.CompositeIntermediateKey.TheVariants as key
+use Rattle.agg_segment.specs.SegmentLimits.{sign_of}
 use Rattle.agg_segment.specs.declared.storage.log.Cell.{Cell}
 use Rattle.agg_segment.specs.declared.storage.log.CellValue.{CellValue}
 use Rattle.agg_segment.specs.declared.storage.sign.Sign.{Sign}
 use Rattle.agg_segment.specs.declared.storage.sign.Sign.TheVariants.{Small, Negative, Large}
 use Rattle.agg_segment.specs.storage.Cells.{Placed, stored_key}
 
--- whether a number is below zero, or above those of an i64
-abbrev pub sign_of : CompositeIntermediateKey → Sign
-sign_of (key.I64 n) = if int_lt n (pos 0) then Negative else Small
-sign_of (key.U64 n) = Large
-sign_of _ = Small
-
--- the same of what a cell keeps
+-- that of what a cell keeps
 abbrev pub cell_sign : CellValue → Sign
 cell_sign value = sign_of (stored_key [] [] value)
 

@@ -4,7 +4,7 @@ ghost use Rattle.std.specs.List.{All, list_any};
 ghost use Rattle.agg_values.specs.TypedKey.{CompositeIntermediateKey};
 ghost use Rattle.agg_segment.specs.Marks.{AreMarks, mark_at, passes, has_key};
 ghost use Rattle.agg_segment.specs.Query.{holds};
-ghost use Rattle.agg_segment.specs.Segment.{max_documents};
+ghost use Rattle.agg_segment.specs.SegmentLimits.{max_documents};
 ghost use Rattle.agg_segment.specs.Spans.{is_in, IsSpanOf};
 
 use super::key_test::{KeyTest, passing_span};

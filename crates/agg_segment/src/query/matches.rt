@@ -22,7 +22,7 @@ pub struct Matches {
 
 impl Model for Matches {
     ghost use Rattle.std.specs.Prelude.{List, Bool, ◌≤◌, length};
-    ghost use Rattle.agg_segment.specs.Segment.{max_documents};
+    ghost use Rattle.agg_segment.specs.SegmentLimits.{max_documents};
 
     ghost Value = { List Bool };
 

@@ -4,7 +4,7 @@ use Rattle.agg_values.specs.Names.{Named}
 use Rattle.agg_values.specs.declared.after_key.AfterKey.{AfterKey}
 use Rattle.agg_cache.specs.Limits.{Limits}
 use Rattle.agg_segment.specs.storage.Document.{Fields}
-use Rattle.agg_segment.specs.Snapshot.{SnapshotDocuments}
+use Rattle.agg_segment.specs.SnapshotDocuments.{SnapshotDocuments}
 use Rattle.agg_segment.specs.declared.query.QueryTree.{QueryTree}
 use Rattle.agg_request_tree.specs.Request.{Request}
 use Rattle.agg_engine.specs.Refusals.{HasCause}

@@ -2,7 +2,7 @@
 use Rattle.std.specs.Prelude.{◌≡◌, ◌∷◌, [], List, Option, Some}
 use Rattle.std.specs.List.{AllZip}
 use Rattle.agg_segment.specs.storage.Document.{Fields}
-use Rattle.agg_segment.specs.Segment.{IsMixed}
+use Rattle.agg_segment.specs.SegmentLimits.{IsMixed}
 
 -- a segment can hold the document: no field has a number below zero and one above those of an i64
 abbrev pub FitsSegment : Fields → Type 0

@@ -5,7 +5,7 @@ use Rattle.agg_segment.specs.storage.Columns.{StoredColumn, column_keys}
 use Rattle.agg_segment.specs.storage.Document.{Fields}
 use Rattle.peslumok_records.specs.declared.held.asked.AskedField.{AskedField}
 use Rattle.agg_segment.specs.Query.{holds, is_any}
-use Rattle.agg_segment.specs.Snapshot.{SnapshotDocuments}
+use Rattle.agg_segment.specs.SnapshotDocuments.{SnapshotDocuments}
 
 -- snapshots are one alone, which has these documents, in segments, and a page size
 pub record AreOneOf (documents : List Fields) (page_size : ℕ) (snapshots : List SnapshotDocuments)

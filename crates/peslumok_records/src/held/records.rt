@@ -1,7 +1,8 @@
 //! Records in the making: the segments of their documents.
 ghost use Rattle.std.specs.Prelude.{◌≡◌, ◌++◌, ◌∷◌, [], true, false, flat_map, IfOk, OnOk};
 ghost use Rattle.agg_segment.specs.Segment.{documents_of, gathered_documents, no_fields};
-ghost use Rattle.agg_segment.specs.Segment.{IsMixed, open_document};
+ghost use Rattle.agg_segment.specs.Segment.{open_document};
+ghost use Rattle.agg_segment.specs.SegmentLimits.{IsMixed};
 ghost use Rattle.peslumok_records.specs.held.Documents.{FitsSegment};
 ghost use Rattle.peslumok_records.specs.held.Held.{held_documents};
 

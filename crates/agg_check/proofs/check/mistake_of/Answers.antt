@@ -1,4 +1,5 @@
-use Rattle.agg_pages.specs.input_text.Input.{AreNoInput, IsInput, input_of}
+use Rattle.agg_pages.specs.input_text.Input.{AreNoInput, IsInput}
+use Rattle.agg_pages.specs.input_text.StoredInput.{input_of}
 use Rattle.agg_check.proofs.lemmas.refusals.SoundRequests.{told-none, told-some}
 use Rattle.agg_check.specs.Check.{known_builders}
 use Rattle.agg_check.proofs.Verdicts.{of_input, of_none}

@@ -25,8 +25,9 @@ use Rattle.agg_results.specs.declared.intermediate_results.results.IntermediateA
 use held.{IntermediateAggregationResults}
 use Rattle.agg_results.specs.StandsFor.{StandsFor}
 use Rattle.agg_results.proofs.Empties.{StandsFor-empty, empty-out}
-use Rattle.agg_engine_tree.specs.segment_context.Pages.{changed, paged, request_after}
-use Rattle.agg_engine_tree.specs.segment_context.Pages.{request_changed_at, with_after, with_size}
+use Rattle.agg_engine_tree.specs.segment_context.Pages.{paged}
+use Rattle.agg_request_tree.specs.ChangedRequest.{changed, request_after, request_changed_at}
+use Rattle.agg_request_tree.specs.ChangedRequest.{with_after, with_size}
 use Rattle.agg_engine_tree.specs.declared.segment_context.params.Page.{Page}
 use Rattle.agg_engine_tree.proofs.lemmas.segment_context.Built.{agg-built, below-built}
 use Rattle.agg_engine_tree.proofs.lemmas.segment_context.Levels.{OfEach, by_levels}

@@ -10,8 +10,9 @@ use Rattle.agg_request_tree.specs.declared.aggregation.AggregationVariants as va
 use variants.{AggregationVariants}
 use variants.TheVariants.{Filter, Composite, Count, Max, Min, Sum}
 use Rattle.agg_request_tree.proofs.RequestTrees.{agg-made, below-made}
-use Rattle.agg_engine_tree.specs.segment_context.Pages.{changed, paged, request_changed_at}
-use Rattle.agg_engine_tree.specs.segment_context.Pages.{with_after, request_after, with_size}
+use Rattle.agg_engine_tree.specs.segment_context.Pages.{paged}
+use Rattle.agg_request_tree.specs.ChangedRequest.{changed, request_changed_at, with_after}
+use Rattle.agg_request_tree.specs.ChangedRequest.{request_after, with_size}
 use Rattle.agg_engine_tree.specs.declared.segment_context.params.Page.{Page}
 use Rattle.agg_engine_tree.proofs.lemmas.segment_context.Built.{agg-built, below-built, built-out}
 

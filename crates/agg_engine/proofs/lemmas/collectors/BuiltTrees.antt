@@ -10,7 +10,7 @@ use Rattle.agg_segment.specs.declared.query.QueryTree.TheOpen as layer
 use Rattle.agg_segment.specs.declared.query.QueryTree.TheVariants as tree
 use tree.{Empty}
 use Rattle.agg_request_tree.specs.Matching.{built_matches}
-use Rattle.agg_engine_tree.specs.segment_context.Trees.{built_tree}
+use Rattle.agg_request_tree.specs.BuiltRequest.{built_tree}
 
 -- nothing matches the empty query
 none-matches : (document : Fields) → false ≡ matches Empty document

@@ -11,8 +11,8 @@ use variants.{AggregationVariants}
 use variants.TheVariants.{Filter, Composite, Count, Max, Min, Sum}
 use Rattle.agg_request_tree.specs.declared.aggregation.CompositeAggregation.{CompositeAggregation}
 use Rattle.agg_request_tree.proofs.RequestTrees.{agg-made, below-made}
-use Rattle.agg_engine_tree.specs.segment_context.Pages.{changed, request_changed_at, with_after}
-use Rattle.agg_engine_tree.specs.segment_context.Pages.{with_size}
+use Rattle.agg_request_tree.specs.ChangedRequest.{changed, request_changed_at, with_after}
+use Rattle.agg_request_tree.specs.ChangedRequest.{with_size}
 
 -- ---- what an aggregation asks
 

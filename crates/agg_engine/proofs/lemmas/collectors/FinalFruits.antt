@@ -21,7 +21,7 @@ use Rattle.agg_results.specs.StandsFor.{StandsFor}
 use Rattle.agg_results.proofs.FinalResults.{StandsFor-final}
 use Rattle.agg_results.proofs.StandingRefusals.{StandsFor-known, StandsFor-shapes}
 use Rattle.agg_engine_tree.specs.segment_context.Pages.{paged}
-use Rattle.agg_engine_tree.specs.segment_context.Trees.{built, built_tree}
+use Rattle.agg_request_tree.specs.BuiltRequest.{built, built_tree}
 use Rattle.agg_engine_tree.specs.declared.segment_context.params.Page.{Page}
 use Rattle.agg_results.specs.intermediate_results.FinalError.{error_from_merge}
 use Rattle.agg_engine.specs.collectors.Fruits.{IsFinalCause, IsMergeCause}

@@ -12,6 +12,7 @@ use Rattle.agg_segment.specs.declared.query.QueryTree.{QueryTree}
 use Rattle.agg_request_tree.specs.Request.{Request}
 use Rattle.agg_request_tree.specs.Uncut.{CountsTooMany}
 use Rattle.agg_request_tree.specs.charges.Roof.{counts_of, low_roof, roof}
+use Rattle.agg_request_tree.specs.charges.Roof.Height.{Low}
 use Rattle.agg_results.specs.intermediate_results.Intermediate.{Held as Results}
 use Rattle.agg_results.specs.StandsFor.{StandsFor}
 use Rattle.agg_engine_tree.specs.segment_context.Plan.{plan_of, plans_of}
@@ -97,14 +98,14 @@ module _ (request : Request QueryTree) (segment : Stored) (docs : List ℕ) (vis
           (subst (λ n. All (λ doc. doc < n) docs) long r.within))
 
       -- it holds at least the low bytes of the documents that were taken
-      least-flushed : (counts_of matches request).low_bytes (documents_at segment docs)
+      least-flushed : counts_of matches request Low (documents_at segment docs)
           ≤ held_bytes old.aggregations.per_request new
       least-flushed = omega (
         arith,
         least-one r.meaning old.aggregations.per_request request new (under 0 docs) tree-flushed
             (flushed.flushed refl) inside-flushed
             (All-map (λ e. e.0 ≡ 0) (λ doc. (0, doc)) docs (λ k d l. refl)),
-        ap (counts_of matches request).low_bytes
+        ap (counts_of matches request Low)
             (ap (documents_at r.meaning.segment) (docs_in-under docs)
             ∙ ap (λ s. documents_at s docs) r.same),
       )

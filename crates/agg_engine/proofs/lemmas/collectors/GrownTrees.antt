@@ -15,6 +15,7 @@ use Rattle.agg_segment.specs.Segment.{Stored, document_at, documents_at}
 use Rattle.agg_segment.specs.declared.query.QueryTree.{QueryTree}
 use Rattle.agg_request_tree.specs.Request.{Request}
 use Rattle.agg_request_tree.specs.charges.Roof.{counts_of}
+use Rattle.agg_request_tree.specs.charges.Roof.Height.{High}
 use Rattle.agg_request_tree.specs.charges.Within.{Within}
 use Rattle.agg_request_tree.proofs.lemmas.charges.LawfulRequests.{Lawful-request}
 use Rattle.agg_request_tree.proofs.lemmas.charges.Sums.{sum_by-at_most}
@@ -36,11 +37,11 @@ use Rattle.agg_engine.specs.collectors.Trees.{CountsTooMuch, IsGrowthRefusal, Is
 -- what a request counts over parents doesn't fall where documents are added
 over-more : (request : Request QueryTree) (segment : Stored) (taken pairs : List (ℕ × ℕ))
     (parents : ℕ)
-    → over_parents (counts_of matches request).bytes segment taken parents
-    ≤ over_parents (counts_of matches request).bytes segment (taken ++ pairs) parents
+    → over_parents (counts_of matches request High) segment taken parents
+    ≤ over_parents (counts_of matches request High) segment (taken ++ pairs) parents
 over-more request segment taken pairs parents =
-    sum_by-at_most (λ parent. (counts_of matches request).bytes (taken_under segment taken parent))
-    (λ parent. (counts_of matches request).bytes (taken_under segment (taken ++ pairs) parent))
+    sum_by-at_most (λ parent. counts_of matches request High (taken_under segment taken parent))
+    (λ parent. counts_of matches request High (taken_under segment (taken ++ pairs) parent))
     (range_with_len 0 parents)
     (λ parent. (Lawful-request matches request).rises (taken_under segment taken parent)
     (taken_under segment (taken ++ pairs) parent)

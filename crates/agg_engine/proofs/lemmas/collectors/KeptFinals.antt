@@ -26,7 +26,7 @@ use Rattle.agg_results.specs.intermediate_results.Shown.{shown_page}
 use Rattle.agg_results.specs.declared.intermediate_results.results.IntermediateAggregationResult
     as held
 use held.{IntermediateAggregationResult}
-use Rattle.agg_engine_tree.specs.segment_context.Pages.{changed, request_changed_at}
+use Rattle.agg_request_tree.specs.ChangedRequest.{changed, request_changed_at}
 use Rattle.agg_engine.proofs.lemmas.collectors.ChangedRequests.{AsksLike, IsLike, none-changed}
 use Rattle.agg_engine.proofs.lemmas.collectors.ChangedRequests.{some-changed}
 

@@ -19,7 +19,8 @@ use Rattle.agg_request_tree.proofs.RequestTrees.{agg-made, below-made}
 use Rattle.agg_results.specs.intermediate_results.Empty.{empty_by, empty_result, empty_results}
 use Rattle.agg_results.specs.intermediate_results.Intermediate.{as_composite, composite_of}
 use Rattle.agg_results.proofs.Empties.{empty-out}
-use Rattle.agg_engine_tree.specs.segment_context.Pages.{changed, paged, with_after, with_size}
+use Rattle.agg_engine_tree.specs.segment_context.Pages.{paged}
+use Rattle.agg_request_tree.specs.ChangedRequest.{changed, with_after, with_size}
 use Rattle.agg_engine_tree.specs.declared.segment_context.params.Page.{Page}
 use Rattle.agg_engine.proofs.lemmas.collectors.NamedEmpties.{AtName, Result, none-found, only-found}
 use Rattle.agg_engine.proofs.lemmas.collectors.NamedEmpties.{other_at, put-other, with_other}

@@ -4,7 +4,8 @@ use Rattle.agg_request_tree.specs.Request.{Request}
 use Rattle.agg_results.specs.intermediate_results.Final.{final_results}
 use Rattle.agg_results.specs.intermediate_results.Intermediate.{Held}
 use Rattle.agg_results.specs.intermediate_results.Refusals.{HoldsOther, HoldsUnknown}
-use Rattle.agg_engine_tree.specs.segment_context.Pages.{paged, request_after, with_after, with_size}
+use Rattle.agg_engine_tree.specs.segment_context.Pages.{paged}
+use Rattle.agg_request_tree.specs.ChangedRequest.{request_after, with_after, with_size}
 use Rattle.agg_engine_tree.specs.declared.segment_context.params.Page.{Page}
 use Rattle.agg_engine.proofs.lemmas.collectors.ChangedRequests.{after-like, size-like}
 use Rattle.agg_engine.proofs.lemmas.collectors.KeptFinals.{final-changed, other-changed}

@@ -14,6 +14,7 @@ use Rattle.agg_request_tree.specs.Ranges.{HasStartOutOfRange}
 use Rattle.agg_request_tree.specs.Request.{Request}
 use Rattle.agg_request_tree.specs.Uncut.{CountsTooMany}
 use Rattle.agg_request_tree.specs.charges.Roof.{counts_of, roof}
+use Rattle.agg_request_tree.specs.charges.Roof.Height.{High}
 use Rattle.agg_composite.specs.buckets.Visits.{docs_in}
 use Rattle.agg_engine_tree.specs.uncut.Uncut.{uncut_lengths}
 use Rattle.agg_engine_tree.specs.collector_tree.Counting.{counted_of}
@@ -77,13 +78,13 @@ module _ (request : Request QueryTree) (segment : Stored) (taken : List ℕ) (vi
       (documents_at segment (taken ++ docs)))
       old.tree.guard told current
   tells-roof docs limits told current cause =
-      let bytes : ℕ = (counts_of matches request).bytes
+      let bytes : ℕ = counts_of matches request High
       (documents_at r.meaning.segment (docs_in (under 0 taken ++ under 0 docs))) in
       tells-more limits.memory_limit (limits.in_use + old.tree.fixed + bytes)
       (limits.in_use + roof matches request (length (documents_of segment))
       (documents_at segment (taken ++ docs)))
       old.tree.guard told current
-      (omega (arith, r.fixed, ap (counts_of matches request).bytes (documents-pairs docs)))
+      (omega (arith, r.fixed, ap (counts_of matches request High) (documents-pairs docs)))
       (cause request r.meaning (under 0 taken) visits r.right (zero-pairs docs))
 
   -- documents that come after those that were taken pass the checks, and the counts are those of

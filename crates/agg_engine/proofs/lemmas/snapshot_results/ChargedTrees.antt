@@ -14,6 +14,7 @@ use Rattle.agg_segment.specs.declared.query.QueryTree.{QueryTree}
 use Rattle.agg_segment.proofs.EncodedColumns.{front_all}
 use Rattle.agg_request_tree.specs.Request.{Request}
 use Rattle.agg_request_tree.specs.charges.Roof.{counts_of}
+use Rattle.agg_request_tree.specs.charges.Roof.Height.{High}
 use Rattle.agg_request_tree.proofs.lemmas.charges.LawfulRequests.{Lawful-request}
 use Rattle.agg_request_tree.proofs.lemmas.charges.WithinLists.{Within-more}
 use Rattle.agg_composite.specs.buckets.Visits.{docs_in}
@@ -57,14 +58,14 @@ tells-within limit limit_now most most_now given_up given_up_now told current sa
 
 module _ (request : Request QueryTree) where
   -- no bytes are counted over no documents
-  pub no-bytes : (counts_of matches request).bytes [] ≡ 0
+  pub no-bytes : counts_of matches request High [] ≡ 0
   no-bytes =
       let lawful = Lawful-request matches request in
       omega (arith, lawful.most [], lawful.weighs [])
 
   -- no fewer bytes are counted where documents are added
   pub bytes-more : (xs ys : List Fields)
-      → (counts_of matches request).bytes xs ≤ (counts_of matches request).bytes (xs ++ ys)
+      → counts_of matches request High xs ≤ counts_of matches request High (xs ++ ys)
   bytes-more xs ys = (Lawful-request matches request).rises xs (xs ++ ys) (Within-more xs ys)
 
 -- documents that are taken under parent 0
@@ -93,7 +94,7 @@ module _ (ctx : PerRequestAggSegCtx) (request : Request QueryTree) (meaning : Me
     -- it holds at most what its request counts over the documents
     pub held-most : All (λ e. e.0 ≡ 0) taken
         → held_bytes ctx held
-        ≤ (counts_of matches request).bytes (documents_at meaning.segment (docs_in taken))
+        ≤ counts_of matches request High (documents_at meaning.segment (docs_in taken))
     held-most zero = most-one meaning ctx request held taken tree-of zero
 
   -- a new one holds nothing
@@ -155,7 +156,7 @@ module _ (ctx : PerRequestAggSegCtx) (pairs : List (ℕ × ℕ)) (old mid : Char
       tells-within limits.memory_limit limits.memory_limit
       (limits.in_use + mid.fixed + held_bytes ctx (held_of mid.tree))
       (limits.in_use + old.fixed
-      + (counts_of matches request).bytes
+      + counts_of matches request High
       (documents_at meaning.segment (docs_in (taken ++ pairs)))) mid.guard old.guard told current
       refl (omega (arith, most, fixed, guard)) tells
   cause-taken error.OutOfMemory tells = tt
@@ -193,7 +194,7 @@ module _ (ctx : PerRequestAggSegCtx) (xs ys : List (ℕ × ℕ)) (old : ChargedT
   cause-first (error.MemoryExceeded told current) cause = λ request meaning taken visits right zero.
       let documents : List (ℕ × ℕ) → List Fields =
       λ pairs. documents_at meaning.segment (docs_in pairs) in
-      let bytes : List Fields → ℕ = (counts_of matches request).bytes in
+      let bytes : List Fields → ℕ = counts_of matches request High in
       let same : taken ++ (xs ++ ys) ≡ taken ++ xs ++ ys = sym (append_assoc taken xs ys) in
       let front : All (λ e. e.0 ≡ 0) (taken ++ xs) =
       front_all (λ (e : ℕ × ℕ). e.0 ≡ 0) (taken ++ xs) ys (subst (All (λ e. e.0 ≡ 0)) same zero) in
@@ -218,7 +219,7 @@ module _ (ctx : PerRequestAggSegCtx) (xs ys : List (ℕ × ℕ)) (old : ChargedT
   cause-second mid limits_mid steps steps_mid took charges (error.MemoryExceeded told current)
       cause = λ request meaning taken visits right zero.
       let bytes : List (ℕ × ℕ) → ℕ = λ pairs.
-      (counts_of matches request).bytes (documents_at meaning.segment (docs_in pairs)) in
+      counts_of matches request High (documents_at meaning.segment (docs_in pairs)) in
       let same : taken ++ (xs ++ ys) ≡ taken ++ xs ++ ys = sym (append_assoc taken xs ys) in
       let now = right-more ctx request meaning xs false (held_of old.tree) (held_of mid.tree) steps
       steps_mid took taken visits right in

@@ -32,6 +32,7 @@ use Rattle.agg_request_tree.specs.charges.Distinct.{distinct}
 use Rattle.agg_request_tree.specs.charges.Roof.{composite_counts, counts, counts_by, counts_of}
 use Rattle.agg_request_tree.specs.charges.Roof.{has_room, over_tuples, own_bytes, past_tuples}
 use Rattle.agg_request_tree.specs.charges.Roof.{together}
+use Rattle.agg_request_tree.specs.charges.Roof.Height.{High, Low}
 use Rattle.agg_request_tree.proofs.lemmas.charges.CountsOut.{counts-out}
 use Rattle.agg_request_tree.proofs.lemmas.charges.Distinct.{Apart-distinct}
 use Rattle.agg_request_tree.proofs.lemmas.charges.KeySums.{sum_by-other_keys}
@@ -70,15 +71,15 @@ module _ (name : List ℕ) (a : Aggregation QueryTree) (asked : CompositeAggrega
 
   -- the bytes are those of its own buckets
   pub leaf-bytes : (documents : List Fields)
-      → (counts_of matches ((name, a) ∷ [])).bytes documents ≡ own_bytes asked documents
+      → counts_of matches ((name, a) ∷ []) High documents ≡ own_bytes asked documents
   leaf-bytes documents =
-      omega (arith, ap (λ c. c.bytes documents) counts-alone, none-below documents)
+      omega (arith, ap (λ c. c High documents) counts-alone, none-below documents)
 
   -- the low bytes are those of its own buckets
   pub leaf-low_bytes : (documents : List Fields)
-      → (counts_of matches ((name, a) ∷ [])).low_bytes documents ≡ own_bytes asked documents
+      → counts_of matches ((name, a) ∷ []) Low documents ≡ own_bytes asked documents
   leaf-low_bytes documents =
-      omega (arith, ap (λ c. c.low_bytes documents) counts-alone, none-below documents)
+      omega (arith, ap (λ c. c Low documents) counts-alone, none-below documents)
 
   -- its occurrences past its bound
   abbrev past : List Fields → List KeyTuple

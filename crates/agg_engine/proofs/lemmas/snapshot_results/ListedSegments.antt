@@ -7,6 +7,7 @@ use Rattle.agg_values.specs.declared.after_key.AfterKey.{AfterKey}
 use Rattle.agg_cache.specs.Limits.{Limits}
 use Rattle.agg_request_tree.specs.charges.Charges.{bucket_bytes}
 use Rattle.agg_request_tree.specs.charges.Roof.{Counts, counts_of, own_bytes}
+use Rattle.agg_request_tree.specs.charges.Roof.Height.{High, Low}
 use Rattle.agg_segment.specs.storage.Document.{Fields}
 use Rattle.agg_segment.specs.Query.{matches}
 use Rattle.agg_segment.specs.Segment.{Stored, documents_at, documents_of}
@@ -184,15 +185,15 @@ module _ (request : Request QueryTree) (query : QueryTree) (segment : Stored)
         ∙ ap (part (counts_of matches request)) (matched ∙ matching-one query segment)
 
     bytes-roof : bytes
-        ≡ (counts_of matches request).bytes (filter (matches query) (documents_of segment))
+        ≡ counts_of matches request High (filter (matches query) (documents_of segment))
     bytes-roof =
-        bytes-counted (λ c. c.bytes)
+        bytes-counted (λ c. c High)
         (leaf-bytes req.name leaf.a leaf.asked leaf.leaf.agg leaf.leaf.below documents)
 
     bytes-low : bytes
-        ≡ (counts_of matches request).low_bytes (filter (matches query) (documents_of segment))
+        ≡ counts_of matches request Low (filter (matches query) (documents_of segment))
     bytes-low =
-        bytes-counted (λ c. c.low_bytes)
+        bytes-counted (λ c. c Low)
         (leaf-low_bytes req.name leaf.a leaf.asked leaf.leaf.agg leaf.leaf.below documents)
 
     module _ (tree : ChargedTree)

@@ -14,6 +14,7 @@ use Rattle.agg_segment.specs.declared.query.QueryTree.{QueryTree}
 use Rattle.agg_request_tree.specs.Request.{Request}
 use Rattle.agg_request_tree.specs.charges.Charges.{fixed_charge}
 use Rattle.agg_request_tree.specs.charges.Roof.{Counts, counts_of}
+use Rattle.agg_request_tree.specs.charges.Roof.Height.{High, Low}
 use Rattle.agg_composite.specs.buckets.Visits.{docs_in}
 use Rattle.agg_engine_tree.specs.collector_tree.Tree.{Takes, held_of}
 use Rattle.agg_engine_tree.specs.held_bytes.Trees.{AreOfSegment}
@@ -111,11 +112,11 @@ module _ (request : Request QueryTree) (query : QueryTree) (segment : Stored)
       refl,
       tells-within limits.memory_limit limits.memory_limit
           (limits.in_use + tree.fixed
-          + (counts_of matches request).bytes
+          + counts_of matches request High
           (documents_at is.meaning.segment (docs_in (under 0 docs))))
           (limits.in_use - tree.guard + roof_in matches query request (documents_of segment))
           tree.guard 0 told current refl
-          (omega (arith, within, tree-fixed, counted-same (λ c. c.bytes)))
+          (omega (arith, within, tree-fixed, counted-same (λ c. c High)))
           (cause request is.meaning [] 0
           (right-new request query segment given ready docs same (held_of tree.tree) made.new)
           (under-zero docs)),
@@ -181,7 +182,7 @@ module _ (request : Request QueryTree) (query : QueryTree) (segment : Stored)
               room,
               least,
               tree-fixed,
-              counted-same (λ c. c.low_bytes),
+              counted-same (λ c. c Low),
             ))
             (All-nil (λ documents. (before tree.guard limits).in_use
             + low_roof_in matches query request documents ≤ limits.memory_limit))

@@ -2,7 +2,7 @@ mod Turns
 use Rattle.std.proofs.Common.{Some, Err, Ok}
 use Rattle.std.proofs.Common.{drop, refl, sym, subst, arith}
 use Rattle.std.proofs.Common.{◌∙◌, ap, inr}
-use Rattle.agg_engine_tree.specs.segment_context.Pages.{request_after}
+use Rattle.agg_request_tree.specs.ChangedRequest.{request_after}
 use Rattle.agg_segment.specs.Snapshot.{snapshot_documents, snapshots_documents}
 use Rattle.agg_engine.proofs.NoNull.{matching-no_Null}
 use Rattle.agg_engine.proofs.BuilderFaults.{cause-built}

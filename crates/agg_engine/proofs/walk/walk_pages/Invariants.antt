@@ -1,8 +1,9 @@
 use Rattle.std.proofs.Common.{◌≡◌, ◌≤◌, drop}
 use Rattle.agg_request_tree.specs.Matching.{built_matches}
 use Rattle.agg_request_tree.specs.declared.aggregation.CompositeAggregation.{CompositeAggregation}
-use Rattle.agg_engine_tree.specs.segment_context.Pages.{request_after}
-use Rattle.agg_engine_tree.specs.segment_context.Trees.{AreTreesOf, built_tree}
+use Rattle.agg_request_tree.specs.BuiltRequest.{built_tree}
+use Rattle.agg_request_tree.specs.ChangedRequest.{request_after}
+use Rattle.agg_engine_tree.specs.segment_context.Trees.{AreTreesOf}
 use Rattle.agg_segment.specs.Snapshot.{snapshots_documents}
 use Rattle.agg_engine.proofs.StepsTaken.{IsCounting}
 use Rattle.agg_engine.proofs.WalkLoop.{IsWalking}

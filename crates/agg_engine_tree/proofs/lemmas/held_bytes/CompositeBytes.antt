@@ -14,6 +14,7 @@ use Rattle.agg_request_tree.specs.declared.aggregation.CompositeAggregation.{Com
 use Rattle.agg_request_tree.specs.charges.Charges.{bucket_bytes}
 use Rattle.agg_request_tree.specs.charges.Roof.{Counts, composite_counts, has_room, over_tuples}
 use Rattle.agg_request_tree.specs.charges.Roof.{own_bytes, past_tuples}
+use Rattle.agg_request_tree.specs.charges.Roof.Height.{Uncut, High, Low}
 use Rattle.agg_request_tree.specs.charges.Within.{Within}
 use Rattle.agg_request_tree.proofs.lemmas.charges.Lawful.{Lawful}
 use Rattle.agg_request_tree.proofs.lemmas.charges.Sums.{sum_by-at_most, sum_by-both, sum_by-map}
@@ -115,19 +116,19 @@ module _ {S : Type 0} (composite : CompositeAggregation) (below : Counts) (lawfu
   abbrev own_below : ℕ → ℕ
   own_below p =
       by_room (has_room composite (documents p))
-      (over_tuples composite below.bytes (documents p))
-      (below.uncut_bytes (counted composite (documents p)))
+      (over_tuples composite (below High) (documents p))
+      (below Uncut (counted composite (documents p)))
 
   abbrev own_low : ℕ → ℕ
   own_low p =
       by_room (has_room composite (documents p))
-      (over_tuples composite below.low_bytes (documents p)) 0
+      (over_tuples composite (below Low) (documents p)) 0
 
   -- what a document of the segment adds to the bytes of uncut lists
   abbrev cost : ℕ → ℕ
   cost doc = lawful.weight (document_at segment doc)
 
-  uncut-cost : (docs : List ℕ) → below.uncut_bytes (documents_at segment docs) ≡ weight cost docs
+  uncut-cost : (docs : List ℕ) → below Uncut (documents_at segment docs) ≡ weight cost docs
   uncut-cost docs =
       lawful.weighs (documents_at segment docs)
       ∙ sum_by-map lawful.weight (document_at segment) docs
@@ -138,39 +139,39 @@ module _ {S : Type 0} (composite : CompositeAggregation) (below : Counts) (lawfu
   most_at id = weight cost (docs_of (is_id id) handed)
 
   low-each : (p : ℕ) → own_low p
-      ≤ sum_by (λ e. below.low_bytes (those e.1.id)) (get_or parents p [])
+      ≤ sum_by (λ e. below Low (those e.1.id)) (get_or parents p [])
   low-each p = by_test (has_room composite (documents p)) (pages.sums p)
     where
       by_test : (room : Bool) → (room ≡ true → (bytes : List Fields → ℕ)
           → sum_by (λ e. bytes (those e.1.id)) (get_or parents p [])
           ≡ over_tuples composite bytes (documents p))
-          → by_room room (over_tuples composite below.low_bytes (documents p)) 0
-          ≤ sum_by (λ e. below.low_bytes (those e.1.id)) (get_or parents p [])
-      by_test true sums = omega (arith, sums refl below.low_bytes)
+          → by_room room (over_tuples composite (below Low) (documents p)) 0
+          ≤ sum_by (λ e. below Low (those e.1.id)) (get_or parents p [])
+      by_test true sums = omega (arith, sums refl (below Low))
       by_test false sums = omega arith
 
   -- with all handed on, a composite holds at least what it counts at least
   pub composite-least : (n : ℕ)
-      → sum_by (λ p. whole.low_bytes (documents p)) (up_to n)
+      → sum_by (λ p. whole Low (documents p)) (up_to n)
       ≤ bucket_bytes composite * sum_by length parents
-      + sum_by (λ id. below.low_bytes (those id)) (up_to next)
+      + sum_by (λ id. below Low (those id)) (up_to next)
   composite-least n = omega (
     arith,
     sum_by-both (λ p. own_bytes composite (documents p)) own_low (up_to n),
     own-least n,
     sum_by-at_most own_low
-        (λ p. sum_by (λ e. below.low_bytes (those e.1.id)) (get_or parents p [])) (up_to n)
+        (λ p. sum_by (λ e. below Low (those e.1.id)) (get_or parents p [])) (up_to n)
         low-each,
-    once (λ id. below.low_bytes (those id)) n,
+    once (λ id. below Low (those id)) n,
   )
 
   module _ (given : List (ℕ × ℕ)) (waiting : ℕ → List ℕ)
       (waits : (id : ℕ) → docs_of (is_id id) given ++ waiting id ≡ docs_of (is_id id) handed) where
     -- what is counted below for the documents that were given under an id
     abbrev counted_at : ℕ → ℕ
-    counted_at id = below.bytes (documents_at segment (docs_of (is_id id) given))
+    counted_at id = below High (documents_at segment (docs_of (is_id id) given))
 
-    counted-those : (id : ℕ) → counted_at id ≤ below.bytes (those id)
+    counted-those : (id : ℕ) → counted_at id ≤ below High (those id)
     counted-those id =
         lawful.rises (documents_at segment (docs_of (is_id id) given)) (those id)
         (within-front segment (docs_of (is_id id) given) (waiting id) (docs_of (is_id id) handed)
@@ -200,18 +201,18 @@ module _ {S : Type 0} (composite : CompositeAggregation) (below : Counts) (lawfu
             ≤ sum_by (λ e. most_at e.1.id) (get_or parents p []))
             → weight cost (visited p)
             ≤ spare
-            + by_room room (over_tuples composite below.bytes (documents p))
-            (below.uncut_bytes (counted composite (documents p)))
+            + by_room room (over_tuples composite (below High) (documents p))
+            (below Uncut (counted composite (documents p)))
         by_test true sums covers = omega (
           arith,
           covers refl,
-          sums refl below.bytes,
+          sums refl (below High),
           sum_by-same (λ e. most_at e.1.id - counted_at e.1.id + counted_at e.1.id)
               (λ e. most_at e.1.id) (get_or parents p [])
               (λ e. omega (arith, counted-most e.1.id)),
           sum_by-both (λ e. most_at e.1.id - counted_at e.1.id) (λ e. counted_at e.1.id)
               (get_or parents p []),
-          sum_by-at_most (λ e. counted_at e.1.id) (λ e. below.bytes (those e.1.id))
+          sum_by-at_most (λ e. counted_at e.1.id) (λ e. below High (those e.1.id))
               (get_or parents p []) (λ e. counted-those e.1.id),
         )
         by_test false sums covers = omega (
@@ -226,7 +227,7 @@ module _ {S : Type 0} (composite : CompositeAggregation) (below : Counts) (lawfu
     pub composite-most : (n : ℕ) → ((p : ℕ) → n ≤ p → documents p ≡ [])
         → ((f : ℕ → ℕ) → weight f (docs_in handed) ≤ sum_by (λ p. weight f (visited p)) (up_to n))
         → bucket_bytes composite * sum_by length parents + sum_by counted_at (up_to next)
-        ≤ sum_by (λ p. whole.bytes (documents p)) (up_to n)
+        ≤ sum_by (λ p. whole High (documents p)) (up_to n)
     composite-most n none all =
         let ids : sum_by most_at (up_to next) ≤ sum_by (λ p. weight cost (visited p)) (up_to n) =
         omega (arith, weight-labels cost next handed, all cost) in

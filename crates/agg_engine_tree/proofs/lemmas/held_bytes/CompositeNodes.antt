@@ -8,6 +8,7 @@ use Rattle.agg_cache.specs.Waiting.{docs_of, is_id}
 use Rattle.agg_request_tree.specs.declared.aggregation.CompositeAggregation.{CompositeAggregation}
 use Rattle.agg_request_tree.specs.charges.Charges.{bucket_bytes}
 use Rattle.agg_request_tree.specs.charges.Roof.{Counts, composite_counts}
+use Rattle.agg_request_tree.specs.charges.Roof.Height.{High, Low}
 use Rattle.agg_request_tree.proofs.lemmas.charges.Lawful.{Lawful}
 use Rattle.agg_request_tree.proofs.lemmas.charges.Sums.{sum_by-same}
 use Rattle.agg_composite.specs.accessor.Accessors as accessors
@@ -135,8 +136,8 @@ module _ (meaning : Meaning) (ctx : PerRequestAggSegCtx) where
       module _ (below : Counts) (lawful : Lawful below) (n : ℕ) where
         pub node-most : AllByRecursion (λ e. e.0 < n) taken
             → bytes_at ctx index * num_buckets collector
-            + over_parents below.bytes meaning.segment down.given collector.node.next
-            ≤ over_parents (composite_counts made below).bytes meaning.segment taken n
+            + over_parents (below High) meaning.segment down.given collector.node.next
+            ≤ over_parents (composite_counts made below High) meaning.segment taken n
         node-most low =
             let most = composite-most made below lawful meaning.segment collector.node.parents
             right.handed (λ p. docs_of (is_under p) visits) (taken_under meaning.segment taken)
@@ -150,9 +151,9 @@ module _ (meaning : Meaning) (ctx : PerRequestAggSegCtx) where
             omega (arith, most, ap (λ price. price * num_buckets collector) price)
 
         pub node-least : ((id : ℕ) → waiting id ≡ [])
-            → over_parents (composite_counts made below).low_bytes meaning.segment taken n
+            → over_parents (composite_counts made below Low) meaning.segment taken n
             ≤ bytes_at ctx index * num_buckets collector
-            + over_parents below.low_bytes meaning.segment down.given collector.node.next
+            + over_parents (below Low) meaning.segment down.given collector.node.next
         node-least flushed =
             let least = composite-least made below lawful meaning.segment collector.node.parents
             right.handed (λ p. docs_of (is_under p) visits) (taken_under meaning.segment taken)
@@ -161,10 +162,10 @@ module _ (meaning : Meaning) (ctx : PerRequestAggSegCtx) where
               arith,
               least,
               ap (λ price. price * num_buckets collector) price,
-              sum_by-same (λ id. below.low_bytes (taken_under meaning.segment down.given id))
-                  (λ id. below.low_bytes (taken_under meaning.segment right.handed id))
+              sum_by-same (λ id. below Low (taken_under meaning.segment down.given id))
+                  (λ id. below Low (taken_under meaning.segment right.handed id))
                   (up_to collector.node.next)
-                  (λ id. ap (λ docs. below.low_bytes (documents_at meaning.segment docs))
+                  (λ id. ap (λ docs. below Low (documents_at meaning.segment docs))
                   (sym (append-nil (docs_of (is_id id) down.given))
                   ∙ ap (λ docs. docs_of (is_id id) down.given ++ docs) (sym (flushed id))
                   ∙ down.waits id)),

@@ -16,6 +16,7 @@ use Rattle.agg_request_tree.specs.Matching.{matching}
 use Rattle.agg_request_tree.specs.declared.aggregation.filter.FilterQuery.{FilterQuery}
 use Rattle.agg_request_tree.proofs.Lists.{AllByRecursion-from_Has, Contains-from_Has}
 use Rattle.agg_request_tree.specs.charges.Roof.{Counts}
+use Rattle.agg_request_tree.specs.charges.Roof.Height.{High}
 use Rattle.agg_request_tree.specs.charges.Within.{Within}
 use Rattle.agg_request_tree.proofs.lemmas.charges.Lawful.{Lawful}
 use Rattle.agg_request_tree.proofs.lemmas.charges.Tests.{by_answer, clash, not_true, second}
@@ -102,17 +103,17 @@ module _ (tree : QueryTree) (segment : Stored) (query : FilterQuery QueryTree)
   -- whatever waits, what was given counts at most as what matches
   pub filter-most : (below : Counts) → Lawful below → (m n : ℕ)
       → ((p : ℕ) → n ≤ p → docs_of (is_id p) taken ≡ [])
-      → sum_by (λ id. below.bytes (given_at id)) (up_to m)
-      ≤ sum_by (λ p. below.bytes (matched p)) (up_to n)
+      → sum_by (λ id. below High (given_at id)) (up_to m)
+      ≤ sum_by (λ p. below High (matched p)) (up_to n)
   filter-most below lawful m n low =
-      let nothing : below.bytes [] ≡ 0 = omega (arith, lawful.most [], lawful.weighs []) in
+      let nothing : below High [] ≡ 0 = omega (arith, lawful.most [], lawful.weighs []) in
       omega (
         arith,
-        sum-listed (λ id. below.bytes (given_at id)) collector.ids m
-            (λ id none. ap below.bytes (given-none id none) ∙ nothing),
-        places-most (λ id. below.bytes (given_at id)) (λ p. below.bytes (matched p)) collector.ids
+        sum-listed (λ id. below High (given_at id)) collector.ids m
+            (λ id none. ap (below High) (given-none id none) ∙ nothing),
+        places-most (λ id. below High (given_at id)) (λ p. below High (matched p)) collector.ids
             n (λ p id at. lawful.rises (given_at id) (matched p) (given-inside p id at))
-            (λ p l. ap below.bytes (matched-none p (low p l)) ∙ nothing),
+            (λ p l. ap (below High) (matched-none p (low p l)) ∙ nothing),
       )
 
   module _ (flushed : (id : ℕ) → waiting_in collector.cache.0 id ≡ [])

@@ -13,6 +13,7 @@ use Rattle.agg_request_tree.specs.Request.{Request}
 use Rattle.agg_request_tree.proofs.Lists.{AllByRecursion-Has, AllByRecursion-map}
 use Rattle.agg_request_tree.proofs.Lists.{Has-from_Contains}
 use Rattle.agg_request_tree.specs.charges.Roof.{counts_of}
+use Rattle.agg_request_tree.specs.charges.Roof.Height.{High, Low}
 use Rattle.agg_composite.specs.buckets.Visits.{docs_in}
 use Rattle.agg_composite.proofs.lemmas.buckets.Labels.{is_id-same}
 use Rattle.agg_engine_tree.specs.segment_context.Context.{Meaning}
@@ -52,24 +53,24 @@ module _ (meaning : Meaning) (ctx : PerRequestAggSegCtx) (request : Request Quer
     (held : Held) (taken : List (ℕ × ℕ)) (tree : IsTreeOf meaning ctx request held taken) where
   pub most : (parents : ℕ) → AreUnder parents taken
       → held_bytes ctx held
-      ≤ over_parents (counts_of matches request).bytes meaning.segment taken parents
+      ≤ over_parents (counts_of matches request High) meaning.segment taken parents
   most parents low =
       most-group meaning ctx tree.meant held request tree.plans tree.asked tree.nodes tree.fits
       taken tree.visits tree.right parents (recursion_from_All (λ e. e.0 < parents) taken low)
 
   pub most-one : All (λ e. e.0 ≡ 0) taken
       → held_bytes ctx held
-      ≤ (counts_of matches request).bytes (documents_at meaning.segment (docs_in taken))
+      ≤ counts_of matches request High (documents_at meaning.segment (docs_in taken))
   most-one zero = omega (
     arith,
     most 1 (All-weaker (λ e. e.0 ≡ 0) (λ e. e.0 < 1) (λ e is. omega (arith, is)) taken zero),
-    one-parent (counts_of matches request).bytes meaning.segment taken zero,
+    one-parent (counts_of matches request High) meaning.segment taken zero,
   )
 
   module _ (flushed : IsFlushed held)
       (inside : AreOfSegment meaning.segment taken) where
     pub least : (parents : ℕ)
-        → over_parents (counts_of matches request).low_bytes meaning.segment taken parents
+        → over_parents (counts_of matches request Low) meaning.segment taken parents
         ≤ held_bytes ctx held
     least parents =
         let count = meaning.segment.count in
@@ -82,10 +83,10 @@ module _ (meaning : Meaning) (ctx : PerRequestAggSegCtx) (request : Request Quer
         parents
 
     pub least-one : All (λ e. e.0 ≡ 0) taken
-        → (counts_of matches request).low_bytes (documents_at meaning.segment (docs_in taken))
+        → counts_of matches request Low (documents_at meaning.segment (docs_in taken))
         ≤ held_bytes ctx held
     least-one zero = omega (
       arith,
       least 1,
-      one-parent (counts_of matches request).low_bytes meaning.segment taken zero,
+      one-parent (counts_of matches request Low) meaning.segment taken zero,
     )

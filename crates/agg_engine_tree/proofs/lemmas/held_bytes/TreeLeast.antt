@@ -9,6 +9,7 @@ use Rattle.agg_request_tree.specs.Request.{Request, below_of}
 use Rattle.agg_request_tree.specs.declared.aggregation.Aggregation.{Aggregation}
 use Rattle.agg_request_tree.specs.declared.aggregation.AggregationVariants.TheVariants as asks
 use Rattle.agg_request_tree.specs.charges.Roof.{Counts, counts, counts_of}
+use Rattle.agg_request_tree.specs.charges.Roof.Height.{Low}
 use Rattle.agg_request_tree.proofs.lemmas.charges.LawfulRequests.{Lawful-request}
 use Rattle.agg_composite.specs.buckets.Visits.{docs_in}
 use Rattle.agg_engine_tree.specs.segment_context.Context.{ArePlansOf, IsMeant, IsPlanOf, Meaning}
@@ -39,7 +40,7 @@ module _ (meaning : Meaning) (ctx : PerRequestAggSegCtx) (is : IsMeant meaning c
   AreInside taken = (d : ℕ) → Contains (docs_in taken) d → d < meaning.segment.count
 
   -- nothing is counted over no documents
-  no-low : (request : Request QueryTree) → (counts_of matches request).low_bytes [] ≡ 0
+  no-low : (request : Request QueryTree) → counts_of matches request Low [] ≡ 0
   no-low request =
       let lawful = Lawful-request matches request in
       omega (arith, lawful.lower [], lawful.most [], lawful.weighs [])
@@ -50,7 +51,7 @@ module _ (meaning : Meaning) (ctx : PerRequestAggSegCtx) (is : IsMeant meaning c
         → IsPlanOf meaning ctx name a plan → IsOf plan h → Fits ctx h → IsFlushed h
         → (taken : List (ℕ × ℕ)) (visits : ℕ) → IsFor meaning ctx h taken visits
         → AreInside taken → (n : ℕ)
-        → over_parents (counts matches a).low_bytes meaning.segment taken n ≤ held_bytes ctx h
+        → over_parents (counts matches a Low) meaning.segment taken n ≤ held_bytes ctx h
     least-in (Held.composite index collector h) name a plan asked of fits flushed taken visits
         (given, own, under, own_for, below_for, sum) inside n =
         let node = composite-node meaning ctx name a plan index collector h asked of in
@@ -70,7 +71,7 @@ module _ (meaning : Meaning) (ctx : PerRequestAggSegCtx) (is : IsMeant meaning c
           arith,
           lower,
           here,
-          ap (λ (c : Counts). over_parents c.low_bytes meaning.segment taken n) counted,
+          ap (λ (c : Counts). over_parents (c Low) meaning.segment taken n) counted,
         )
     least-in (Held.filter index collector h) name a plan asked of (data_at, inr none, fits) flushed
         taken visits (given, own_for, below_for) inside n =
@@ -79,14 +80,14 @@ module _ (meaning : Meaning) (ctx : PerRequestAggSegCtx) (is : IsMeant meaning c
         in
         omega (
           arith,
-          ap (λ (c : Counts). over_parents c.low_bytes meaning.segment taken n)
+          ap (λ (c : Counts). over_parents (c Low) meaning.segment taken n)
               (counts-asked a (asks.Filter (record { query = node.query })) node.agg_is),
           no-counts meaning.segment taken n
               (λ documents.
-              (counts_of matches (below_of a)).low_bytes (matching matches node.query documents))
+              counts_of matches (below_of a) Low (matching matches node.query documents))
               (λ documents.
               ap (λ (request : Request QueryTree).
-              (counts_of matches request).low_bytes (matching matches node.query documents))
+              counts_of matches request Low (matching matches node.query documents))
               nothing),
         )
     least-in (Held.filter index collector h) name a plan asked of (data_at, inl on, fits) flushed
@@ -103,12 +104,12 @@ module _ (meaning : Meaning) (ctx : PerRequestAggSegCtx) (is : IsMeant meaning c
         (λ d c. inside d (within-contains (docs_in given) (docs_in taken) part d c))
         (above collector.ids) in
         let here = filter-least tree meaning.segment node.query node.at.3 collector taken given on
-        own_for flushed.0 inside below.low_bytes (no-low (below_of a)) n in
+        own_for flushed.0 inside (below Low) (no-low (below_of a)) n in
         omega (
           arith,
           lower,
           here,
-          ap (λ (c : Counts). over_parents c.low_bytes meaning.segment taken n)
+          ap (λ (c : Counts). over_parents (c Low) meaning.segment taken n)
               (counts-asked a (asks.Filter (record { query = node.query })) node.agg_is),
         )
     least-in (Held.metric index collector) name a plan asked of fits flushed taken visits f
@@ -116,8 +117,8 @@ module _ (meaning : Meaning) (ctx : PerRequestAggSegCtx) (is : IsMeant meaning c
         let node = metric-node meaning ctx name a plan index collector asked of in
         omega (
           arith,
-          no-counts meaning.segment taken n (counts matches a).low_bytes
-              (λ documents. ap (λ (c : Counts). c.low_bytes documents)
+          no-counts meaning.segment taken n (counts matches a Low)
+              (λ documents. ap (λ (c : Counts). c Low documents)
               (asked-metric meaning ctx name a node.0 index node.1)),
         )
     least-in (Held.group hs) name a plan asked of fits flushed taken visits f inside n =
@@ -128,7 +129,7 @@ module _ (meaning : Meaning) (ctx : PerRequestAggSegCtx) (is : IsMeant meaning c
         → ArePlansOf meaning ctx request plans → IsGroupOf plans h → Fits ctx h → IsFlushed h
         → (taken : List (ℕ × ℕ)) (visits : ℕ) → IsFor meaning ctx h taken visits
         → AreInside taken → (n : ℕ)
-        → over_parents (counts_of matches request).low_bytes meaning.segment taken n
+        → over_parents (counts_of matches request Low) meaning.segment taken n
         ≤ held_bytes ctx h
     least-group (Held.group hs) request plans asked of fits flushed taken visits f inside n =
         least-all hs request plans asked of fits flushed taken visits f inside n
@@ -143,12 +144,12 @@ module _ (meaning : Meaning) (ctx : PerRequestAggSegCtx) (is : IsMeant meaning c
         → ArePlansOf meaning ctx request plans → AreOf plans hs → AllFit ctx hs → AreFlushed hs
         → (taken : List (ℕ × ℕ)) (visits : ℕ) → AllFor meaning ctx hs taken visits
         → AreInside taken → (n : ℕ)
-        → over_parents (counts_of matches request).low_bytes meaning.segment taken n
+        → over_parents (counts_of matches request Low) meaning.segment taken n
         ≤ bytes_of_all ctx hs
     least-all Helds.none [] plans asked of fits flushed taken visits f inside n =
         omega (
           arith,
-          no-counts meaning.segment taken n (counts_of matches []).low_bytes (λ documents. refl),
+          no-counts meaning.segment taken n (counts_of matches [] Low) (λ documents. refl),
         )
     least-all Helds.none (a ∷ request) Plans.none asked of fits flushed taken visits f inside n
         = absurd asked
@@ -165,6 +166,6 @@ module _ (meaning : Meaning) (ctx : PerRequestAggSegCtx) (is : IsMeant meaning c
           least-in h a.0 a.1 plan asked.0 of.0 fits.0 flushed.0 taken own own_for inside n,
           least-all hs request plans asked.1 of.1 fits.1 flushed.1 taken others others_for
               inside n,
-          counts-more meaning.segment taken n (λ c. c.low_bytes) (λ request documents. refl) a
+          counts-more meaning.segment taken n (λ c. c Low) (λ request documents. refl) a
               request,
         )

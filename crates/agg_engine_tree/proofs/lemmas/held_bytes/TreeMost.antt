@@ -7,6 +7,7 @@ use Rattle.agg_request_tree.specs.Request.{Request, below_of}
 use Rattle.agg_request_tree.specs.declared.aggregation.Aggregation.{Aggregation}
 use Rattle.agg_request_tree.specs.declared.aggregation.AggregationVariants.TheVariants as asks
 use Rattle.agg_request_tree.specs.charges.Roof.{Counts, counts, counts_of}
+use Rattle.agg_request_tree.specs.charges.Roof.Height.{High}
 use Rattle.agg_request_tree.proofs.lemmas.charges.LawfulRequests.{Lawful-request}
 use Rattle.agg_engine_tree.specs.segment_context.Context.{ArePlansOf, IsMeant, IsPlanOf, Meaning}
 use Rattle.agg_engine_tree.specs.segment_context.Plan.{Plan, Plans}
@@ -38,7 +39,7 @@ module _ (meaning : Meaning) (ctx : PerRequestAggSegCtx) (is : IsMeant meaning c
         → IsPlanOf meaning ctx name a plan → IsOf plan h → Fits ctx h
         → (taken : List (ℕ × ℕ)) (visits : ℕ) → IsFor meaning ctx h taken visits
         → (n : ℕ) → AllByRecursion (λ e. e.0 < n) taken
-        → held_bytes ctx h ≤ over_parents (counts matches a).bytes meaning.segment taken n
+        → held_bytes ctx h ≤ over_parents (counts matches a High) meaning.segment taken n
     most-in (Held.composite index collector h) name a plan asked of fits taken visits
         (given, own, under, own_for, below_for, sum) n low =
         let node = composite-node meaning ctx name a plan index collector h asked of in
@@ -58,7 +59,7 @@ module _ (meaning : Meaning) (ctx : PerRequestAggSegCtx) (is : IsMeant meaning c
           arith,
           lower,
           here,
-          ap (λ (c : Counts). over_parents c.bytes meaning.segment taken n) counted,
+          ap (λ (c : Counts). over_parents (c High) meaning.segment taken n) counted,
         )
     most-in (Held.filter index collector h) name a plan asked of (data_at, inr none, fits) taken
         visits (given, own_for, below_for) n low =
@@ -76,7 +77,7 @@ module _ (meaning : Meaning) (ctx : PerRequestAggSegCtx) (is : IsMeant meaning c
           arith,
           lower,
           here,
-          ap (λ (c : Counts). over_parents c.bytes meaning.segment taken n)
+          ap (λ (c : Counts). over_parents (c High) meaning.segment taken n)
               (counts-asked a (asks.Filter (record { query = node.query })) node.agg_is),
         )
     most-in (Held.metric index collector) name a plan asked of fits taken visits f n low =
@@ -90,7 +91,7 @@ module _ (meaning : Meaning) (ctx : PerRequestAggSegCtx) (is : IsMeant meaning c
         → (taken : List (ℕ × ℕ)) (visits : ℕ) → IsFor meaning ctx h taken visits
         → (n : ℕ) → AllByRecursion (λ e. e.0 < n) taken
         → held_bytes ctx h
-        ≤ over_parents (counts_of matches request).bytes meaning.segment taken n
+        ≤ over_parents (counts_of matches request High) meaning.segment taken n
     most-group (Held.group hs) request plans asked of fits taken visits f n low =
         most-all hs request plans asked of fits taken visits f n low
     most-group (Held.composite index collector h) request plans asked of fits taken visits f n low =
@@ -105,7 +106,7 @@ module _ (meaning : Meaning) (ctx : PerRequestAggSegCtx) (is : IsMeant meaning c
         → (taken : List (ℕ × ℕ)) (visits : ℕ) → AllFor meaning ctx hs taken visits
         → (n : ℕ) → AllByRecursion (λ e. e.0 < n) taken
         → bytes_of_all ctx hs
-        ≤ over_parents (counts_of matches request).bytes meaning.segment taken n
+        ≤ over_parents (counts_of matches request High) meaning.segment taken n
     most-all Helds.none request plans asked of fits taken visits f n low = omega arith
     most-all (Helds.more h hs) request Plans.none asked of fits taken visits f n low = absurd of
     most-all (Helds.more h hs) [] (Plans.more plan plans) asked of fits taken visits f n low =
@@ -116,5 +117,5 @@ module _ (meaning : Meaning) (ctx : PerRequestAggSegCtx) (is : IsMeant meaning c
           arith,
           most-in h a.0 a.1 plan asked.0 of.0 fits.0 taken own own_for n low,
           most-all hs request plans asked.1 of.1 fits.1 taken others others_for n low,
-          counts-more meaning.segment taken n (λ c. c.bytes) (λ request documents. refl) a request,
+          counts-more meaning.segment taken n (λ c. c High) (λ request documents. refl) a request,
         )

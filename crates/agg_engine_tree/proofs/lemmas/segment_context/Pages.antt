@@ -21,7 +21,8 @@ use Rattle.agg_request_tree.proofs.RequestTrees.{agg-made, below-made, composite
 use Rattle.agg_request_tree.proofs.RequestTrees.{made-of_parts}
 use Rattle.agg_engine_tree.specs.segment_context.Additions.{paged_agg, paged_composite, paged_each}
 use Rattle.agg_engine_tree.specs.segment_context.Additions.{paged_in}
-use Rattle.agg_engine_tree.specs.segment_context.Pages.{changed, paged, with_after, with_size}
+use Rattle.agg_engine_tree.specs.segment_context.Pages.{paged}
+use Rattle.agg_request_tree.specs.ChangedRequest.{changed, with_after, with_size}
 use Rattle.agg_engine_tree.specs.declared.segment_context.params.Page.{Page}
 
 -- ---- the page for a composite

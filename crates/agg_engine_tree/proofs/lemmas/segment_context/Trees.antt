@@ -25,8 +25,8 @@ use Rattle.agg_engine_tree.specs.segment_context.Context.{tree_in}
 use Rattle.agg_engine_tree.specs.segment_context.SetupError.{error_from_builder}
 use Rattle.agg_engine_tree.specs.declared.segment_context.error.SetupError.{SetupError}
 use Rattle.agg_engine_tree.specs.declared.segment_context.error.SetupError.TheVariants.{QueryBuild}
-use Rattle.agg_engine_tree.specs.segment_context.Trees.{EachMakesTree, SomeMakesNone, built}
-use Rattle.agg_engine_tree.specs.segment_context.Trees.{built_tree, own_query, own_tree, queries_of}
+use Rattle.agg_engine_tree.specs.segment_context.Trees.{own_query, own_tree, queries_of}
+use Rattle.agg_request_tree.specs.BuiltRequest.{EachMakesTree, SomeMakesNone, built, built_tree}
 use Rattle.agg_engine_tree.specs.segment_context.Trees.{trees_of}
 use Rattle.agg_engine_tree.proofs.lemmas.segment_context.Built.{listed-built}
 use Rattle.agg_engine_tree.proofs.lemmas.segment_context.Listed.{listed-flat}

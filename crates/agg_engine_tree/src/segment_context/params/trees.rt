@@ -3,7 +3,7 @@ ghost use Rattle.std.specs.Prelude.{◌≡◌, None, Some, All, Any, IfErr, IfOk
 ghost use Rattle.agg_request_tree.specs.Request.{query_builder, with_query_builder};
 ghost use Rattle.agg_engine_tree.specs.segment_context.Context.{tree_in};
 ghost use Rattle.agg_engine_tree.specs.segment_context.SetupError.{IsOfBuilders};
-ghost use Rattle.agg_engine_tree.specs.segment_context.Trees.{built_tree};
+ghost use Rattle.agg_request_tree.specs.BuiltRequest.{built_tree};
 
 use crate::segment_context::SetupError;
 use agg_request_tree::{FilterQuery, NamedBuilder, QueryBuildError, QueryBuilder};

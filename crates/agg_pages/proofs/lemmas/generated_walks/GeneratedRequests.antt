@@ -15,7 +15,7 @@ use Rattle.agg_request_tree.specs.declared.aggregation.CompositeAggregation.{Com
 use Rattle.agg_request_tree.proofs.RequestTrees.{agg-made, below-made}
 use Rattle.agg_request_tree.proofs.UncutLists.{uncut_lists-out}
 use Rattle.agg_request_tree.proofs.lemmas.charges.CountsOut.{listed-made}
-use Rattle.agg_engine_tree.specs.segment_context.Pages.{request_changed_at}
+use Rattle.agg_request_tree.specs.ChangedRequest.{request_changed_at}
 use Rattle.agg_pages.specs.generator.Request.{count_of_dates, generated_composite}
 
 -- the generated composite that goes on from an after key

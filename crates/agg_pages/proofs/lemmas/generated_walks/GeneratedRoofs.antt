@@ -8,6 +8,7 @@ use Rattle.agg_segment.specs.storage.Document.{Fields}
 use Rattle.agg_request_tree.specs.charges.Charges.{fixed_charge, node_charge}
 use Rattle.agg_request_tree.specs.charges.Roof.{Counts, composite_counts, counts_of, has_room}
 use Rattle.agg_request_tree.specs.charges.Roof.{nothing, past_tuples, roof, together}
+use Rattle.agg_request_tree.specs.charges.Roof.Height.{High}
 use Rattle.agg_request_tree.proofs.lemmas.charges.CountsOut.{counts-made}
 use Rattle.agg_request_tree.proofs.lemmas.charges.Sums.{sum_by-none}
 use Rattle.agg_pages.specs.generated_walks.Walks.{most_bytes}
@@ -20,7 +21,7 @@ nothing_below = together ((codes "n", nothing) ∷ [])
 
 -- a composite counts 100 buckets at most
 bytes-most : (after : Named AfterKey) (documents : List Fields)
-    → (composite_counts (composite_after after) nothing_below).bytes documents ≤ 12_800
+    → composite_counts (composite_after after) nothing_below High documents ≤ 12_800
 bytes-most after documents =
     let composite = composite_after after in
     omega (
@@ -55,6 +56,6 @@ module _ {B : Type 0} (is_match : B → Fields → Bool) (after : Named AfterKey
   roof-most count documents = omega (
     arith,
     fixed-same count,
-    ap (λ (c : Counts). c.bytes documents) counts-same,
+    ap (λ (c : Counts). c High documents) counts-same,
     bytes-most after documents,
   )

@@ -11,10 +11,10 @@ use Rattle.agg_values.specs.declared.request_error.AggregationError.TheVariants 
 use Rattle.agg_cache.specs.Limits.{Limits}
 use Rattle.agg_segment.specs.storage.Document.{Fields}
 use Rattle.agg_segment.specs.Query.{matches}
-use Rattle.agg_segment.specs.Snapshot.{SnapshotDocuments}
+use Rattle.agg_segment.specs.SnapshotDocuments.{SnapshotDocuments}
 use Rattle.agg_segment.specs.declared.query.QueryTree.{QueryTree}
 use Rattle.agg_request_tree.specs.Request.{Request}
-use Rattle.agg_engine_tree.specs.segment_context.Pages.{with_after, with_size}
+use Rattle.agg_request_tree.specs.ChangedRequest.{with_after, with_size}
 use Rattle.agg_engine.specs.Refusals.{MayBeRefused, MayBeRefusedAt, MayRefuse}
 use Rattle.agg_engine.specs.Walk.{after_in, documents_in, matching_among}
 use Rattle.agg_engine.specs.declared.walk.error.WalkError.{WalkError}

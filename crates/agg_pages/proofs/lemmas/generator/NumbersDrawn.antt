@@ -11,12 +11,11 @@ use Rattle.std.proofs.lemmas.Map.Made.{Contains-from_values_of}
 use Rattle.agg_values.specs.TypedKey.{CompositeIntermediateKey}
 use Rattle.agg_values.specs.declared.typed_key.CompositeIntermediateKey.TheVariants as key
 use Rattle.agg_segment.specs.storage.Document.{Fields, key_of, meaning, values_in}
-use Rattle.agg_segment.specs.storage.Signs.{sign_of}
 use Rattle.agg_segment.specs.declared.storage.document.FieldValue.{FieldValue}
 use Rattle.agg_segment.specs.declared.storage.sign.Sign.TheVariants.{Small, Negative}
 use Rattle.agg_segment.proofs.lemmas.storage.Classes.{by_class_moves}
 use Rattle.agg_segment.proofs.lemmas.storage.Members.{from_filter, from_flat, from_map}
-use Rattle.agg_segment.specs.Segment.{IsMixed}
+use Rattle.agg_segment.specs.SegmentLimits.{IsMixed, sign_of}
 use Rattle.agg_pages.specs.generator.Documents.{date_drawn, generated_document, generated_documents}
 use Rattle.agg_pages.specs.generator.Documents.{generated_values, number_drawn, text_drawn}
 use Rattle.agg_pages.specs.generator.Documents.{texts_drawn, values_drawn}

@@ -3,7 +3,7 @@ use Rattle.std.proofs.Common.{◌≡◌, ◌≤◌, ◌<◌, ℕ, List, [], ◌�
 use Rattle.std.proofs.Common.{◌∙◌, subst, arith}
 use Rattle.std.specs.Str.{IsUtf8}
 use Rattle.std.proofs.lemmas.Str.{IsUtf8-from_is_utf8, is_utf8-from_IsUtf8}
-use Rattle.agg_segment.specs.Snapshot.{SnapshotDocuments}
+use Rattle.agg_segment.specs.SnapshotDocuments.{SnapshotDocuments}
 use Rattle.agg_pages.specs.input_text.Header.{IsHeaderLine}
 use Rattle.agg_pages.specs.input_text.Input.{AreNoInput, Input, IsInput, IsInputOfLines}
 use Rattle.agg_pages.specs.input_text.Lines.{lines_of}

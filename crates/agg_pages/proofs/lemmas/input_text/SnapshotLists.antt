@@ -7,10 +7,9 @@ use Rattle.std.proofs.lemmas.List.Elements.{All-append, All-cons, All-head, All-
 use Rattle.std.proofs.lemmas.List.Elements.{All-push, Contains-append_left}
 use Rattle.std.specs.List.{Contains, flat_map}
 use Rattle.agg_segment.specs.storage.Document.{Fields}
-use Rattle.agg_segment.specs.Segment.{HasSign, IsMixed}
-use Rattle.agg_segment.specs.storage.Signs.{sign_of}
+use Rattle.agg_segment.specs.SegmentLimits.{HasSign, IsMixed, sign_of}
 use Rattle.agg_segment.specs.declared.storage.sign.Sign.{Sign}
-use Rattle.agg_segment.specs.Snapshot.{SnapshotDocuments}
+use Rattle.agg_segment.specs.SnapshotDocuments.{SnapshotDocuments}
 use Rattle.agg_pages.specs.input_text.SnapshotLines.{FitSegment, Line, SegmentsFit}
 use Rattle.agg_pages.specs.input_text.SnapshotLines.{StandForSnapshots, begins, begun_snapshots}
 use Rattle.agg_pages.specs.input_text.SnapshotLines.{holds, leading_documents, opens}

@@ -10,7 +10,8 @@ use Rattle.json.specs.Word.{after_number, word}
 use Rattle.serde_json.specs.Read.{read}
 use Rattle.agg_segment.specs.storage.Document.{Fields}
 use Rattle.agg_segment.specs.Segment.{Gathered, gathered_documents}
-use Rattle.agg_segment.specs.Snapshot.{SnapshotDocuments, snapshots_documents}
+use Rattle.agg_segment.specs.Snapshot.{snapshots_documents}
+use Rattle.agg_segment.specs.SnapshotDocuments.{SnapshotDocuments}
 use Rattle.agg_pages.specs.declared.input_text.snapshots.OpenSnapshot.{OpenSnapshot}
 use Rattle.agg_pages.specs.declared.input_text.snapshots.SnapshotsBuilder.{SnapshotsBuilder}
 use Rattle.agg_pages.specs.declared.document_json.tokens.LineRoom.{LineRoom}

@@ -3,7 +3,8 @@ use Rattle.std.proofs.lemmas.Result.{err_from_is_err_and}
 use Rattle.agg_pages.specs.declared.document_json.input_error.InputError.TheVariants.{NotInput}
 use Rattle.agg_pages.specs.declared.source.reading.ReadAllError.TheVariants.{TooLong}
 use Rattle.agg_pages.specs.declared.status.Status.TheVariants.{Input}
-use Rattle.agg_pages.specs.input_text.Input.{AreNoInput, IsInput, input_of}
+use Rattle.agg_pages.specs.input_text.Input.{AreNoInput, IsInput}
+use Rattle.agg_pages.specs.input_text.StoredInput.{input_of}
 use Rattle.agg_pages.proofs.lemmas.input_text.Inputs.{too_long}
 use Rattle.agg_pages.proofs.Statuses.{not_input-from_status, too_long-from_status}
 use Rattle.agg_pages.proofs.program.answer.Goals as goal

@@ -1,5 +1,5 @@
 use Rattle.std.proofs.Common.{◌≡◌, ◌∙◌, refl, subst, sym, ap}
-use Rattle.agg_pages.specs.input_text.Input.{input_of}
+use Rattle.agg_pages.specs.input_text.StoredInput.{input_of}
 use Rattle.agg_pages.specs.generator.Generator.{generated}
 use Rattle.agg_pages.specs.Answer.{IsNeverRefused, IsSummary, IsSummaryPrefix}
 use Rattle.agg_pages.specs.Commands.{AskFor}

@@ -1,5 +1,5 @@
 use Rattle.std.proofs.Common.{rules}
-use Rattle.agg_pages.specs.input_text.Input.{input_of}
+use Rattle.agg_pages.specs.input_text.StoredInput.{input_of}
 use Rattle.agg_pages.proofs.Replies.{may_not_refuse}
 use Rattle.agg_pages.proofs.reply.summary_of.Goals as goal
 

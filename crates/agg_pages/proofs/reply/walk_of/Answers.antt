@@ -1,5 +1,5 @@
 use Rattle.agg_cache.proofs.SameLimits.{same-limits}
-use Rattle.agg_pages.specs.input_text.Input.{input_of}
+use Rattle.agg_pages.specs.input_text.StoredInput.{input_of}
 use Rattle.agg_pages.specs.Answer.{limits_of}
 use Rattle.agg_pages.proofs.Replies.{walked-IsValid, walked-MayRefuse}
 use Rattle.agg_pages.proofs.reply.walk_of.Goals as goal

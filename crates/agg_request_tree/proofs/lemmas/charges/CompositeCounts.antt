@@ -1,9 +1,8 @@
 -- What a composite counts keeps to the laws where what those below it count does.
-use Rattle.std.proofs.Common.{◌≡◌, ◌≤◌, ◌+◌, ◌&&◌, ◌||◌, ℕ, Bool, true, false, List, [], ◌∷◌, map}
-use Rattle.std.proofs.Common.{not, refl, sym, ap, ◌∙◌, arith}
+use Rattle.std.proofs.Common.{◌≡◌, ◌≤◌, ◌+◌, ℕ, Bool, true, false, List, map}
+use Rattle.std.proofs.Common.{refl, arith}
 use Rattle.std.specs.Prelude.{if◌then◌else◌}
-use Rattle.std.specs.List.{list_all, sum_by}
-use Rattle.std.proofs.lemmas.List.Sums.{sum_by-cons}
+use Rattle.std.specs.List.{sum_by}
 use Rattle.agg_values.specs.Tuple.{KeyTuple}
 use Rattle.agg_segment.specs.storage.Document.{Fields}
 use Rattle.agg_request_tree.specs.Occurrences.{occurrences}
@@ -12,32 +11,17 @@ use Rattle.agg_request_tree.specs.Uncut.{counted}
 use Rattle.agg_request_tree.specs.declared.aggregation.CompositeAggregation.{CompositeAggregation}
 use Rattle.agg_request_tree.specs.charges.Charges.{bucket_bytes}
 use Rattle.agg_request_tree.specs.charges.Roof.{Counts, composite_counts, has_room, over_tuples}
-use Rattle.agg_request_tree.specs.charges.Roof.{own_bytes, past_tuples}
+use Rattle.agg_request_tree.specs.charges.Roof.{past_tuples}
+use Rattle.agg_request_tree.specs.charges.Roof.Height.{Uncut, High, Low}
 use Rattle.agg_request_tree.specs.charges.Within.{Within}
-use Rattle.agg_request_tree.proofs.lemmas.charges.CompositeTuples.{all_tuples-within}
 use Rattle.agg_request_tree.proofs.lemmas.charges.CompositeTuples.{counted-within, each_tuple-most}
 use Rattle.agg_request_tree.proofs.lemmas.charges.CompositeTuples.{over_tuples-within, own-most}
 use Rattle.agg_request_tree.proofs.lemmas.charges.CompositeTuples.{own-within, room-within}
 use Rattle.agg_request_tree.proofs.lemmas.charges.CompositeTuples.{those-within}
-use Rattle.agg_request_tree.proofs.lemmas.charges.Lawful.{Lawful, bare-bytes, bare-low_bytes}
+use Rattle.agg_request_tree.proofs.lemmas.charges.Lawful.{Lawful}
 use Rattle.agg_request_tree.proofs.lemmas.charges.Sums.{sum_by-at_most, sum_by-both}
 use Rattle.agg_request_tree.proofs.lemmas.charges.Sums.{sum_by-constant, sum_by-flat_map}
 use Rattle.agg_request_tree.proofs.lemmas.charges.Sums.{sum_by-same}
-use Rattle.agg_request_tree.proofs.lemmas.charges.Tests.{both}
-
--- sums of terms that are equal where a test passes, which all pass
-sum_by-passing : {X : Type 0} (f g : X → ℕ) (test : X → Bool) (xs : List X)
-    → ((x : X) → test x ≡ true → f x ≡ g x) → list_all test xs ≡ true → sum_by f xs ≡ sum_by g xs
-sum_by-passing f g test [] same pass = refl
-sum_by-passing f g test (x ∷ xs) same pass =
-    let parts = both (test x) (list_all test xs) pass in
-    omega (
-      arith,
-      sum_by-cons f x xs,
-      sum_by-cons g x xs,
-      same x parts.0,
-      sum_by-passing f g test xs same parts.1,
-    )
 
 module _ (composite : CompositeAggregation) (below : Counts) (lawful : Lawful below) where
   abbrev whole : Counts
@@ -66,7 +50,7 @@ module _ (composite : CompositeAggregation) (below : Counts) (lawful : Lawful be
       sum_by (λ d. bucket + lawful.weight d)
       (map (λ t. document) (occurrences composite.sources document))
 
-  weighs : (documents : List Fields) → whole.uncut_bytes documents ≡ sum_by weight documents
+  weighs : (documents : List Fields) → whole Uncut documents ≡ sum_by weight documents
   weighs documents = omega (
     arith,
     lawful.weighs (uncut documents),
@@ -80,20 +64,20 @@ module _ (composite : CompositeAggregation) (below : Counts) (lawful : Lawful be
 
   -- what is counted over the documents of each tuple is at most what is over the uncut list
   tuples-uncut : (documents : List Fields)
-      → over_tuples composite below.bytes documents ≤ below.uncut_bytes (uncut documents)
+      → over_tuples composite (below High) documents ≤ below Uncut (uncut documents)
   tuples-uncut documents = omega (
     arith,
-    sum_by-at_most (λ t. below.bytes (those documents t))
-        (λ t. below.uncut_bytes (those documents t)) (tuples documents)
+    sum_by-at_most (λ t. below High (those documents t))
+        (λ t. below Uncut (those documents t)) (tuples documents)
         (λ t. lawful.most (those documents t)),
-    sum_by-same (λ t. below.uncut_bytes (those documents t))
+    sum_by-same (λ t. below Uncut (those documents t))
         (λ t. sum_by lawful.weight (those documents t)) (tuples documents)
         (λ t. lawful.weighs (those documents t)),
     each_tuple-most composite lawful.weight documents,
     lawful.weighs (uncut documents),
   )
 
-  most : (documents : List Fields) → whole.bytes documents ≤ whole.uncut_bytes documents
+  most : (documents : List Fields) → whole High documents ≤ whole Uncut documents
   most documents = omega (
     arith,
     own-most composite documents,
@@ -105,7 +89,7 @@ module _ (composite : CompositeAggregation) (below : Counts) (lawful : Lawful be
       by_room false few = omega arith
 
   uncut-rises : (documents others : List Fields) → Within documents others
-      → below.uncut_bytes (uncut documents) ≤ below.uncut_bytes (uncut others)
+      → below Uncut (uncut documents) ≤ below Uncut (uncut others)
   uncut-rises documents others inside = omega (
     arith,
     lawful.weighs (uncut documents),
@@ -114,15 +98,15 @@ module _ (composite : CompositeAggregation) (below : Counts) (lawful : Lawful be
   )
 
   tuples-rise : (documents others : List Fields) → Within documents others
-      → over_tuples composite below.bytes documents ≤ over_tuples composite below.bytes others
+      → over_tuples composite (below High) documents ≤ over_tuples composite (below High) others
   tuples-rise documents others inside =
-      over_tuples-within composite documents others inside below.bytes
+      over_tuples-within composite documents others inside (below High)
       (λ t.
       lawful.rises (those documents t) (those others t)
       (those-within composite documents others inside t))
 
   rises : (documents others : List Fields) → Within documents others
-      → whole.bytes documents ≤ whole.bytes others
+      → whole High documents ≤ whole High others
   rises documents others inside = omega (
     arith,
     own-within composite documents others inside,
@@ -140,12 +124,12 @@ module _ (composite : CompositeAggregation) (below : Counts) (lawful : Lawful be
 
   -- ---- low roofs
 
-  lower : (documents : List Fields) → whole.low_bytes documents ≤ whole.bytes documents
+  lower : (documents : List Fields) → whole Low documents ≤ whole High documents
   lower documents = omega (
     arith,
-    by_room (has_room composite documents) (below.uncut_bytes (uncut documents))
-        (sum_by-at_most (λ t. below.low_bytes (those documents t))
-        (λ t. below.bytes (those documents t)) (tuples documents)
+    by_room (has_room composite documents) (below Uncut (uncut documents))
+        (sum_by-at_most (λ t. below Low (those documents t))
+        (λ t. below High (those documents t)) (tuples documents)
         (λ t. lawful.lower (those documents t))),
   )
     where
@@ -155,10 +139,10 @@ module _ (composite : CompositeAggregation) (below : Counts) (lawful : Lawful be
 
   low-within : (documents others : List Fields) → Within documents others
       → Within others documents
-      → over_tuples composite below.low_bytes documents
-      ≤ over_tuples composite below.low_bytes others
+      → over_tuples composite (below Low) documents
+      ≤ over_tuples composite (below Low) others
   low-within documents others inside back =
-      over_tuples-within composite documents others inside below.low_bytes
+      over_tuples-within composite documents others inside (below Low)
       (λ t. omega (
         arith,
         lawful.low_same (those documents t) (those others t)
@@ -167,7 +151,7 @@ module _ (composite : CompositeAggregation) (below : Counts) (lawful : Lawful be
       ))
 
   low_same : (documents others : List Fields) → Within documents others
-      → Within others documents → whole.low_bytes documents ≡ whole.low_bytes others
+      → Within others documents → whole Low documents ≡ whole Low others
   low_same documents others inside back = omega (
     arith,
     own-within composite documents others inside,
@@ -185,53 +169,6 @@ module _ (composite : CompositeAggregation) (below : Counts) (lawful : Lawful be
       by_room false true fits also few many = absurd (let never = fits refl in cc)
       by_room false false fits also few many = refl
 
-  -- ---- settled requests
-
-  settled : (documents : List Fields) → whole.is_settled documents ≡ true
-      → whole.low_bytes documents ≡ whole.bytes documents
-  settled documents pass =
-      let low : KeyTuple → ℕ = λ t. below.low_bytes (those documents t) in
-      let bytes : KeyTuple → ℕ = λ t. below.bytes (those documents t) in
-      ap (λ n. own_bytes composite documents + n)
-      (by_test below.has_composite (has_room composite documents)
-      (λ none.
-      sum_by-same low bytes (tuples documents)
-      (λ t.
-      bare-low_bytes below lawful none (those documents t)
-      ∙ sym (bare-bytes below lawful none (those documents t))))
-      (λ none. lawful.bare none (uncut documents))
-      (sum_by-passing low bytes (λ t. below.is_settled (those documents t)) (tuples documents)
-      (λ t. lawful.settled (those documents t)))
-      pass)
-    where
-      by_test : {m n u : ℕ} {each : Bool} (nested room : Bool) → (nested ≡ false → m ≡ n)
-          → (nested ≡ false → u ≡ 0) → (each ≡ true → m ≡ n)
-          → (not nested || (room && each)) ≡ true
-          → (if room then m else 0) ≡ (if room then n else u)
-      by_test true true bare none each pass = each pass
-      by_test true false bare none each pass = absurd (cc)
-      by_test false true bare none each pass = bare refl
-      by_test false false bare none each pass = sym (none refl)
-
-  settles : (documents others : List Fields) → Within documents others
-      → whole.is_settled others ≡ true → whole.is_settled documents ≡ true
-  settles documents others inside pass =
-      by_test (not below.has_composite) (has_room composite others)
-      (has_room composite documents) (room-within composite documents others inside)
-      (all_tuples-within composite documents others inside below.is_settled
-      (λ t.
-      lawful.settles (those documents t) (those others t)
-      (those-within composite documents others inside t)))
-      pass
-    where
-      by_test : {each all : Bool} (bare room here : Bool) → (room ≡ true → here ≡ true)
-          → (each ≡ true → all ≡ true) → (bare || (room && each)) ≡ true
-          → (bare || (here && all)) ≡ true
-      by_test true room here fits every pass = refl
-      by_test false true true fits every pass = every pass
-      by_test false true false fits every pass = absurd (let never = fits refl in cc)
-      by_test false false here fits every pass = absurd (cc)
-
   -- ---- all laws
 
   -- a composite keeps to the laws
@@ -239,11 +176,8 @@ module _ (composite : CompositeAggregation) (below : Counts) (lawful : Lawful be
   Lawful-composite = record {
     weight = weight;
     weighs = weighs;
-    bare = λ none documents. absurd (cc);
     most = most;
     rises = rises;
     lower = lower;
-    settled = settled;
-    settles = settles;
     low_same = low_same;
   }

@@ -9,6 +9,8 @@ use folds.{fold_out-Aggregation}
 use Rattle.agg_request_tree.specs.declared.aggregation.AggregationVariants.{AggregationVariants}
 use Rattle.agg_request_tree.proofs.RequestTrees.{agg-made, below-made, listed-out}
 use Rattle.agg_request_tree.specs.charges.Roof.{Counts, counts, counts_by, counts_of, counts_step}
+use Rattle.agg_request_tree.specs.charges.Settled.{Settling, settling, settling_by, settling_of}
+use Rattle.agg_request_tree.specs.charges.Settled.{settling_step}
 
 -- what an aggregation of these parts lists
 pub listed-made : {B X : Type 0} (own : AggregationVariants B → List X)
@@ -32,3 +34,12 @@ module _ {B : Type 0} (is_match : B → Fields → Bool) where
       counts-out (aggregation_of agg below)
       ∙ (λ i. counts_by is_match (agg-made agg below i)
       (counts_of is_match (below-made agg below i)))
+
+  -- an aggregation of these parts is settled by them
+  pub settling-made : (agg : AggregationVariants B) (below : Request B)
+      → settling is_match (aggregation_of agg below)
+      ≡ settling_by is_match agg (settling_of is_match below)
+  settling-made agg below =
+      fold_out-Aggregation B Settling (settling_step is_match) (aggregation_of agg below)
+      ∙ (λ i. settling_by is_match (agg-made agg below i)
+      (settling_of is_match (below-made agg below i)))

@@ -29,16 +29,11 @@ module _ {B : Type 0} (is_match : B → Fields → Bool) where
         weight = λ document. cond (matches document) (lawful.weight document) 0;
         weighs = λ documents.
             lawful.weighs (those documents) ∙ sum_by-filter lawful.weight matches documents;
-        bare = λ none documents. lawful.bare none (those documents);
         most = λ documents. lawful.most (those documents);
         rises = λ documents others inside.
             lawful.rises (those documents) (those others)
             (Within-filter documents others inside matches);
         lower = λ documents. lawful.lower (those documents);
-        settled = λ documents pass. lawful.settled (those documents) pass;
-        settles = λ documents others inside pass.
-            lawful.settles (those documents) (those others)
-            (Within-filter documents others inside matches) pass;
         low_same = λ documents others inside back.
             lawful.low_same (those documents) (those others)
             (Within-filter documents others inside matches)

@@ -5,9 +5,11 @@ use Rattle.std.proofs.lemmas.List.Sorted.{IsPermutation-sym}
 use Rattle.agg_segment.specs.storage.Document.{Fields}
 use Rattle.agg_request_tree.specs.Request.{Request}
 use Rattle.agg_request_tree.specs.charges.Charges.{fixed_charge}
-use Rattle.agg_request_tree.specs.charges.Roof.{IsSettled, low_roof, roof}
+use Rattle.agg_request_tree.specs.charges.Roof.{low_roof, roof}
+use Rattle.agg_request_tree.specs.charges.Settled.{IsSettled}
 use Rattle.agg_request_tree.specs.charges.Within.{Within}
 use Rattle.agg_request_tree.proofs.lemmas.charges.LawfulRequests.{Lawful-request}
+use Rattle.agg_request_tree.proofs.lemmas.charges.SettledRequests.{Settles-request}
 use Rattle.agg_request_tree.proofs.lemmas.charges.WithinLists.{Within-more, Within-permutation}
 
 module _ {B : Type 0} (is_match : B → Fields → Bool) (request : Request B) (documents : ℕ) where
@@ -26,7 +28,7 @@ module _ {B : Type 0} (is_match : B → Fields → Bool) (request : Request B) (
       → low_roof is_match request documents matches ≡ roof is_match request documents matches
   low-settled matches settled =
       ap (λ n. fixed_charge request documents + n)
-      ((Lawful-request is_match request).settled matches settled)
+      ((Settles-request is_match request).settled matches settled)
 
   -- a roof doesn't fall from a list to one that it is within
   pub roof-within : (matches others : List Fields) → Within matches others
@@ -65,4 +67,4 @@ module _ {B : Type 0} (is_match : B → Fields → Bool) (request : Request B) w
   -- what is settled over a list is over each list within it
   pub settled-within : (matches others : List Fields) → Within matches others
       → IsSettled is_match request others → IsSettled is_match request matches
-  settled-within = (Lawful-request is_match request).settles
+  settled-within = (Settles-request is_match request).settles

@@ -18,9 +18,12 @@ use Rattle.agg_request_tree.specs.declared.source.CompositeAggregationSource as 
 use kind.{CompositeAggregationSource}
 use kind.TheVariants.{Terms}
 use Rattle.agg_request_tree.specs.charges.Charges.{fixed_charge, node_charge}
-use Rattle.agg_request_tree.specs.charges.Roof.{IsSettled, counts_by, counts_of, low_roof, roof}
-use Rattle.agg_request_tree.specs.charges.Roof.{together}
+use Rattle.agg_request_tree.specs.charges.Roof.{counts_by, counts_of, low_roof, roof, together}
+use Rattle.agg_request_tree.specs.charges.Roof.Height.{High, Low}
+use Rattle.agg_request_tree.specs.charges.Settled.{IsSettled, settling_by, settling_of}
+use Rattle.agg_request_tree.specs.charges.Settled.{settling_together}
 use Rattle.agg_request_tree.proofs.lemmas.charges.CountsOut.{counts-made, listed-made}
+use Rattle.agg_request_tree.proofs.lemmas.charges.CountsOut.{settling-made}
 
 -- two names
 abbrev a : List ℕ
@@ -76,10 +79,10 @@ module _ {B : Type 0} (is_match : B → Fields → Bool) where
 
   -- six values in a page of five, and in a page of ten
   six-in_five : roof is_match (single (page b 5)) 6 six ≡ 992
-  six-in_five i = single-charge (page b 5) 6 i + (single-counts (page b 5) i).bytes six
+  six-in_five i = single-charge (page b 5) 6 i + single-counts (page b 5) i High six
 
   six-in_ten : roof is_match (single (page b 10)) 6 six ≡ 1088
-  six-in_ten i = single-charge (page b 10) 6 i + (single-counts (page b 10) i).bytes six
+  six-in_ten i = single-charge (page b 10) 6 i + single-counts (page b 10) i High six
 
   -- ---- one below another
 
@@ -107,31 +110,44 @@ module _ {B : Type 0} (is_match : B → Fields → Bool) where
       (counts-made is_match agg (single inner)
       ∙ ap (counts_by is_match agg) (single-counts inner))
 
+  nested-settling : (agg inner : AggregationVariants B)
+      → settling_of is_match (nested agg inner)
+      ≡ settling_together ((
+        a,
+        settling_by is_match agg
+            (settling_together ((a, settling_by is_match inner (settling_together [])) ∷ [])),
+      ) ∷ [])
+  nested-settling agg inner =
+      ap (λ s. settling_together ((a, s) ∷ []))
+      (settling-made is_match agg (single inner)
+      ∙ ap (λ s. settling_by is_match agg (settling_together ((a, s) ∷ [])))
+      (settling-made is_match inner []))
+
   -- a page of one below a page with room for its value: a bucket of each
   roomy : roof is_match (nested (page a 10) (page b 1)) 3 three ≡ 1216
   roomy i =
       nested-charge (page a 10) (page b 1) 3 i
-      + (nested-counts (page a 10) (page b 1) i).bytes three
+      + nested-counts (page a 10) (page b 1) i High three
 
   roomy-low : low_roof is_match (nested (page a 10) (page b 1)) 3 three ≡ 1216
   roomy-low i =
       nested-charge (page a 10) (page b 1) 3 i
-      + (nested-counts (page a 10) (page b 1) i).low_bytes three
+      + nested-counts (page a 10) (page b 1) i Low three
 
   roomy-settled : IsSettled is_match (nested (page a 10) (page b 1)) three
-  roomy-settled i = (nested-counts (page a 10) (page b 1) i).is_settled three
+  roomy-settled i = (nested-settling (page a 10) (page b 1) i).is_settled three
 
   -- a page of one below a page without room for its three values: a bucket there, and one for each
   -- of the three places of the uncut list below, which the low roof doesn't have
   crowded : roof is_match (nested (page b 1) (page a 1)) 3 three ≡ 1408
   crowded i =
       nested-charge (page b 1) (page a 1) 3 i
-      + (nested-counts (page b 1) (page a 1) i).bytes three
+      + nested-counts (page b 1) (page a 1) i High three
 
   crowded-low : low_roof is_match (nested (page b 1) (page a 1)) 3 three ≡ 1120
   crowded-low i =
       nested-charge (page b 1) (page a 1) 3 i
-      + (nested-counts (page b 1) (page a 1) i).low_bytes three
+      + nested-counts (page b 1) (page a 1) i Low three
 
   -- a page below a metric: nothing is counted
   abbrev metric : AggregationVariants B
@@ -139,10 +155,10 @@ module _ {B : Type 0} (is_match : B → Fields → Bool) where
 
   measured : roof is_match (nested metric (page b 1)) 3 three ≡ 768
   measured i =
-      nested-charge metric (page b 1) 3 i + (nested-counts metric (page b 1) i).bytes three
+      nested-charge metric (page b 1) 3 i + nested-counts metric (page b 1) i High three
 
   measured-settled : IsSettled is_match (nested metric (page b 1)) three
-  measured-settled i = (nested-counts metric (page b 1) i).is_settled three
+  measured-settled i = (nested-settling metric (page b 1) i).is_settled three
 
 -- ---- a page below a filter, in a segment of nine documents
 
@@ -157,10 +173,10 @@ kept builder = Filter (record { query = CustomBuilder builder })
 kept-all : roof told (nested told (kept true) (page b 10)) 9 three ≡ 1058
 kept-all i =
     nested-charge told (kept true) (page b 10) 9 i
-    + (nested-counts told (kept true) (page b 10) i).bytes three
+    + nested-counts told (kept true) (page b 10) i High three
 
 -- no bucket where it doesn't match
 kept-none : roof told (nested told (kept false) (page b 10)) 9 three ≡ 770
 kept-none i =
     nested-charge told (kept false) (page b 10) 9 i
-    + (nested-counts told (kept false) (page b 10) i).bytes three
+    + nested-counts told (kept false) (page b 10) i High three

@@ -11,7 +11,8 @@ use Rattle.agg_values.specs.declared.address.Address.{Address}
 use Rattle.agg_values.specs.declared.typed_key.CompositeIntermediateKey.TheVariants
     as key
 use Rattle.agg_segment.specs.storage.Cells.{placed, stored_key, IsKept}
-use Rattle.agg_segment.specs.storage.Signs.{cell_mark, key_mark, cell_sign, sign_of}
+use Rattle.agg_segment.specs.storage.Signs.{cell_mark, key_mark, cell_sign}
+use Rattle.agg_segment.specs.SegmentLimits.{sign_of}
 use Rattle.agg_segment.specs.storage.Columns.{StandsForKey, numbers_at}
 use Rattle.agg_segment.specs.declared.storage.keys.ColumnKeys.{ColumnKeys}
 use Rattle.agg_segment.specs.declared.storage.log.Cell.{Cell}

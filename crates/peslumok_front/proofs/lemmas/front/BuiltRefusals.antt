@@ -8,21 +8,22 @@ use Rattle.agg_values.specs.declared.request_error.RequestError.{RequestError}
 use Rattle.agg_values.specs.declared.request_error.RequestError.TheVariants as refusal
 use Rattle.agg_segment.specs.storage.Document.{Fields}
 use Rattle.agg_segment.specs.Query.{matches}
-use Rattle.agg_segment.specs.Snapshot.{SnapshotDocuments}
+use Rattle.agg_segment.specs.SnapshotDocuments.{SnapshotDocuments}
 use Rattle.agg_segment.specs.declared.query.QueryTree.{QueryTree}
 use Rattle.agg_request_tree.specs.Faults.{HasFault, IsSound, RequestHasFault}
 use Rattle.agg_request_tree.specs.Matching.{built_matches}
 use Rattle.agg_request_tree.specs.Ranges.{HasOwnStartOutOfRange, HasStartOutOfRange}
 use Rattle.agg_request_tree.specs.Request.{Request, with_builders}
 use Rattle.agg_request_tree.specs.Uncut.{CountsTooMany}
-use Rattle.agg_engine_tree.specs.segment_context.Pages.{request_at_size, with_size}
-use Rattle.agg_engine_tree.specs.segment_context.Trees.{built_tree}
+use Rattle.agg_request_tree.specs.ChangedRequest.{request_at_size, with_size}
+use Rattle.agg_request_tree.specs.BuiltRequest.{built_tree}
 use Rattle.agg_engine.proofs.lemmas.collectors.BuiltLists.{lists-built}
 use Rattle.agg_engine.proofs.lemmas.collectors.BuiltPages.{built-changed}
 use Rattle.agg_engine.proofs.lemmas.collectors.BuiltTrees.{tree-matches}
 use Rattle.agg_cache.specs.Limits.{Limits}
 use Rattle.agg_engine.specs.snapshot_results.MemoryLimits.{TellsMemory}
-use Rattle.agg_engine.specs.Refusals.{HasCause, MayBeCounted, MayBeRefused, MayRefuse}
+use Rattle.agg_engine.specs.Refusals.{MayBeCounted, MayBeRefused, HasCause}
+use Rattle.agg_engine.specs.Refusals.{MayRefuse}
 use Rattle.agg_engine.specs.Walk.{MayBeAsked, matching_among}
 use Rattle.agg_engine.specs.declared.walk.error.WalkError.{WalkError}
 use Rattle.agg_engine.specs.declared.walk.error.WalkError.TheVariants as error
@@ -125,7 +126,8 @@ module _ {B : Type 0} (query_for : B → Option QueryTree) (limits : Limits) whe
       (asked : IsRequestOf grouping page request) (only : SnapshotDocuments) where
     -- of the one snapshot
     at-only : (why : WalkError)
-        → MayRefuse (built_matches query_for) limits (codes "groups") query request (only ∷ []) why
+        → MayRefuse (built_matches query_for) limits (codes "groups") query request
+        (only ∷ []) why
         → MayRefuse matches limits (codes "groups") query (built request) (only ∷ []) why
     at-only why (inr (none, (results, are, full, later))) = absurd later
     at-only why (inl here) =
@@ -199,11 +201,14 @@ page-refused query_for grouping query page request snapshots documents name limi
       snapshots = one.only ∷ [];
       one = subst (AreOneOf documents page.size) one.alone one;
       cause = refused-page query_for limits_of_people grouping query page request asked one.only why
-          (subst (λ ss. HasCause query_for limits_of_people (codes "groups") query request ss why)
+          (subst (λ ss.
+          HasCause query_for limits_of_people (codes "groups") query request ss why)
           one.alone
-          (subst (λ (l : Limits). HasCause query_for l (codes "groups") query request snapshots why)
+          (subst (λ (l : Limits).
+          HasCause query_for l (codes "groups") query request snapshots why)
           most
-          (subst (λ n. HasCause query_for limits n query request snapshots why) named cause)));
+          (subst (λ n. HasCause query_for limits n query request snapshots why) named
+          cause)));
     }
 
 -- so there is no page

@@ -6,7 +6,7 @@ use Rattle.std.specs.Prelude.{All, Contains, codes, option_map}
 use Rattle.std.specs.BTreeMap.{is_at}
 use Rattle.std.proofs.lemmas.Map.Made.{lookup-map_values}
 use Rattle.agg_values.specs.Names.{name_cmp}
-use Rattle.agg_segment.specs.Snapshot.{SnapshotDocuments}
+use Rattle.agg_segment.specs.SnapshotDocuments.{SnapshotDocuments}
 use Rattle.agg_segment.specs.declared.query.QueryTree.{QueryTree}
 use Rattle.agg_request_tree.specs.Matching.{built_matches}
 use Rattle.agg_request_tree.specs.Request.{Request, aggregation_of, below_of}
@@ -14,7 +14,7 @@ use Rattle.agg_request_tree.specs.Request.{with_builders, with_builders_in, with
 use Rattle.agg_request_tree.specs.declared.aggregation.Aggregation.{Aggregation}
 use Rattle.agg_request_tree.proofs.Lists.{Contains-map}
 use Rattle.agg_request_tree.proofs.RequestTrees.{agg-made, below-made}
-use Rattle.agg_engine_tree.specs.segment_context.Trees.{built_tree}
+use Rattle.agg_request_tree.specs.BuiltRequest.{built_tree}
 use Rattle.agg_engine_tree.proofs.lemmas.segment_context.Built.{agg-built, below-built, built-out}
 use Rattle.agg_engine.proofs.lemmas.collectors.BuiltTrees.{tree-matches}
 use Rattle.agg_results.specs.declared.final_results.types.AggregationResults.{AggregationResults}

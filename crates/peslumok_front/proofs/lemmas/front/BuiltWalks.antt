@@ -5,7 +5,7 @@ use Rattle.agg_values.specs.Names.{Named}
 use Rattle.agg_values.specs.declared.after_key.AfterKey.{AfterKey}
 use Rattle.agg_segment.specs.storage.Document.{Fields}
 use Rattle.agg_segment.specs.Query.{matches}
-use Rattle.agg_segment.specs.Snapshot.{SnapshotDocuments}
+use Rattle.agg_segment.specs.SnapshotDocuments.{SnapshotDocuments}
 use Rattle.agg_segment.specs.declared.query.QueryTree.{QueryTree}
 use Rattle.agg_request_tree.specs.Request.{Request, agg_of, below_of, with_builders}
 use Rattle.agg_request_tree.specs.Request.{with_builders_in, with_own_builder}
@@ -13,8 +13,8 @@ use Rattle.agg_request_tree.specs.declared.aggregation.Aggregation.{Aggregation}
 use Rattle.agg_request_tree.specs.declared.aggregation.AggregationVariants as variants
 use variants.{AggregationVariants}
 use variants.TheVariants.{Filter, Composite, Count, Max, Min, Sum}
-use Rattle.agg_engine_tree.specs.segment_context.Pages.{request_after, request_at_size, with_after}
-use Rattle.agg_engine_tree.specs.segment_context.Pages.{with_size}
+use Rattle.agg_request_tree.specs.ChangedRequest.{request_after, request_at_size, with_after}
+use Rattle.agg_request_tree.specs.ChangedRequest.{with_size}
 use Rattle.agg_engine_tree.proofs.lemmas.segment_context.Built.{agg-built, below-built}
 use Rattle.agg_engine.proofs.lemmas.collectors.BuiltPages.{built-changed}
 use Rattle.agg_engine.proofs.lemmas.collectors.BuiltRequests.{same-matching}

@@ -6,10 +6,11 @@ use Rattle.agg_values.specs.Names.{Named}
 use Rattle.agg_values.specs.declared.after_key.AfterKey.{AfterKey}
 use Rattle.agg_segment.specs.storage.Document.{Fields}
 use Rattle.agg_segment.specs.Query.{matches}
-use Rattle.agg_segment.specs.Snapshot.{SnapshotDocuments, snapshots_documents}
+use Rattle.agg_segment.specs.Snapshot.{snapshots_documents}
+use Rattle.agg_segment.specs.SnapshotDocuments.{SnapshotDocuments}
 use Rattle.agg_segment.specs.declared.query.QueryTree.{QueryTree}
 use Rattle.agg_segment.specs.declared.snapshot.Snapshot.{Snapshot}
-use Rattle.agg_engine_tree.specs.segment_context.Pages.{request_after, request_at_size}
+use Rattle.agg_request_tree.specs.ChangedRequest.{request_after, request_at_size}
 use Rattle.agg_request_tree.specs.Request.{Request}
 use Rattle.agg_results.specs.declared.final_results.types.AggregationResults.{AggregationResults}
 use Rattle.agg_results.specs.Results.{AreResults}

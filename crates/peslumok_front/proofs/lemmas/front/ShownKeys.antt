@@ -15,7 +15,7 @@ use Rattle.agg_request_tree.specs.Source.{Sources}
 use Rattle.agg_request_tree.specs.declared.aggregation.Aggregation.{Aggregation}
 use Rattle.agg_request_tree.specs.declared.aggregation.CompositeAggregation.{CompositeAggregation}
 use Rattle.peslumok_texts.specs.declared.fields.field_type.FieldType.{FieldType}
-use Rattle.agg_engine_tree.specs.segment_context.Pages.{request_at_size, with_size}
+use Rattle.agg_request_tree.specs.ChangedRequest.{request_at_size, with_size}
 use Rattle.agg_results.specs.declared.final_results.types.AggregationResults.{AggregationResults}
 use Rattle.agg_results.specs.intermediate_results.Shown.{shown_after}
 use Rattle.agg_results.specs.Results.{after_tuple}

@@ -3,7 +3,8 @@ use Rattle.std.proofs.Common.{◌≡◌, ℕ, List, [], ◌∷◌, ◌++◌, ap,
 use Rattle.std.specs.Prelude.{Option, flat_map, option_map}
 use Rattle.agg_segment.specs.storage.Document.{Fields, meaning}
 use Rattle.agg_segment.specs.declared.storage.document.FieldValue.{FieldValue}
-use Rattle.agg_segment.specs.Segment.{Gathered, IsMixed, documents_of, gathered_documents}
+use Rattle.agg_segment.specs.Segment.{Gathered, documents_of, gathered_documents}
+use Rattle.agg_segment.specs.SegmentLimits.{IsMixed}
 use Rattle.agg_segment.specs.Segment.{no_fields, open_document}
 use Rattle.peslumok_records.specs.held.Documents.{FitsSegment, IsRead}
 use Rattle.peslumok_records.specs.held.Held.{Holds, held_documents}

@@ -6,9 +6,8 @@ use Rattle.std.proofs.lemmas.Grind.{flat_map-append}
 use Rattle.std.proofs.lemmas.List.{map-append}
 use Rattle.std.proofs.lemmas.List.Elements.{Contains-append_right}
 use Rattle.agg_segment.specs.storage.Document.{Fields}
-use Rattle.agg_segment.specs.storage.Signs.{sign_of}
 use Rattle.agg_segment.specs.declared.storage.sign.Sign.{Sign}
-use Rattle.agg_segment.specs.Segment.{HasSign, IsMixed}
+use Rattle.agg_segment.specs.SegmentLimits.{HasSign, IsMixed, sign_of}
 use Rattle.peslumok_records.specs.held.Documents.{FitsSegment}
 
 sign_after : (before after : List Fields) (field : _) (sign : Sign) → HasSign after field sign

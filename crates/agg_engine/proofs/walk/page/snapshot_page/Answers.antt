@@ -1,6 +1,6 @@
 use Rattle.std.proofs.Common.{refl, sym}
 use Rattle.agg_segment.specs.Query.{matches}
-use Rattle.agg_engine_tree.specs.segment_context.Trees.{built_tree}
+use Rattle.agg_request_tree.specs.BuiltRequest.{built_tree}
 use Rattle.agg_engine.proofs.lemmas.collectors.BuiltTrees.{tree-matches}
 use Rattle.agg_engine.proofs.PageResults.{answers-final, answers-refused, asked-built, merged-page}
 use Rattle.agg_engine.proofs.ReachedPage.{alike-here, known-here}

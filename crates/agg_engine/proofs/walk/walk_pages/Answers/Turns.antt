@@ -4,11 +4,14 @@ use Rattle.std.proofs.Common.{map, sym, ap, subst, arith}
 use Rattle.std.proofs.Common.{◌∙◌}
 use Rattle.agg_segment.specs.Segment.{documents_of}
 use Rattle.agg_request_tree.specs.Matching.{built_matches}
-use Rattle.agg_engine_tree.specs.segment_context.Pages.{paged, request_after}
-use Rattle.agg_engine_tree.specs.segment_context.Trees.{AreTreesOf, built_tree}
+use Rattle.agg_engine_tree.specs.segment_context.Pages.{paged}
+use Rattle.agg_request_tree.specs.ChangedRequest.{request_after}
+use Rattle.agg_engine_tree.specs.segment_context.Trees.{AreTreesOf}
+use Rattle.agg_request_tree.specs.BuiltRequest.{built_tree}
 use Rattle.agg_results.specs.declared.final_results.types.AggregationResults.{AggregationResults}
 use Rattle.agg_engine.specs.PageAnswers.{AnswersPage}
-use Rattle.agg_segment.specs.Snapshot.{SnapshotDocuments, snapshot_documents, snapshots_documents}
+use Rattle.agg_segment.specs.Snapshot.{snapshot_documents, snapshots_documents}
+use Rattle.agg_segment.specs.SnapshotDocuments.{SnapshotDocuments}
 use Rattle.agg_engine.specs.Steps.{TakesAtMost}
 use Rattle.agg_engine.specs.Walk.{MayBeAsked}
 use Rattle.agg_engine.specs.declared.walk.error.WalkError.{WalkError}

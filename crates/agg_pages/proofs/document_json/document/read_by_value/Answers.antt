@@ -1,7 +1,8 @@
 use Rattle.std.proofs.Common.{[], ◌∷◌, ◌++◌, Err, inl, inr, ap, subst}
 use Rattle.std.proofs.lemmas.Result.{err_from_is_err_and}
 use Rattle.agg_segment.specs.storage.Document.{meaning}
-use Rattle.agg_segment.specs.Segment.{IsMixed, gathered_documents}
+use Rattle.agg_segment.specs.Segment.{gathered_documents}
+use Rattle.agg_segment.specs.SegmentLimits.{IsMixed}
 use Rattle.agg_pages.proofs.lemmas.document_json.Documents.{IsDocumentLine-unique}
 use Rattle.agg_pages.proofs.document_json.document.read_by_value.Goals as goal
 

@@ -1,6 +1,7 @@
 use Rattle.std.proofs.Common.{◌≡◌, [], ◌∷◌, ◌++◌, Err, inl, inr, ap, sym, ◌∙◌, subst, length, rules}
 use Rattle.std.proofs.lemmas.Result.{err_from_is_err_and}
-use Rattle.agg_segment.specs.Segment.{IsMixed, gathered_documents, open_document}
+use Rattle.agg_segment.specs.Segment.{gathered_documents, open_document}
+use Rattle.agg_segment.specs.SegmentLimits.{IsMixed}
 use Rattle.agg_pages.specs.document_json.DocumentLine.{IsDocumentLine}
 use Rattle.agg_pages.proofs.lemmas.document_json.Documents.{IsDocumentLine-unique}
 use Rattle.agg_pages.proofs.document_json.tokens.read_document_tokens.Goals as goal

@@ -3,7 +3,8 @@ use Rattle.std.proofs.Common.{length, refl, ap, subst, ◌∙◌, arith}
 use Rattle.std.specs.Prelude.{IsErrOf, IsOkUnless}
 use Rattle.std.proofs.lemmas.Result.{IfOk-at_ok}
 use Rattle.agg_segment.specs.storage.Document.{meaning}
-use Rattle.agg_segment.specs.Segment.{IsMixed, gathered_documents}
+use Rattle.agg_segment.specs.Segment.{gathered_documents}
+use Rattle.agg_segment.specs.SegmentLimits.{IsMixed}
 use Rattle.agg_segment.specs.declared.builder.BuildError.{BuildError}
 use Rattle.agg_segment.specs.declared.builder.BuildError.TheVariants as error
 use Rattle.agg_pages.specs.generator.Draws.{state_after}

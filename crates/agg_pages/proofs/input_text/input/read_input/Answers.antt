@@ -1,6 +1,7 @@
 use Rattle.std.proofs.Common.{ap, ◌∙◌, arith, subst}
 use Rattle.std.proofs.lemmas.Result.{IfOk-weaker}
-use Rattle.agg_pages.specs.input_text.Input.{IsInput, IsInputOfLines, input_of}
+use Rattle.agg_pages.specs.input_text.Input.{IsInput, IsInputOfLines}
+use Rattle.agg_pages.specs.input_text.StoredInput.{input_of}
 use Rattle.agg_pages.specs.input_text.Lines.{lines_of}
 use Rattle.agg_values.specs.Nothing.{NoneIs}
 use Rattle.agg_pages.proofs.lemmas.input_text.Inputs.{input_some, no_lines, no_text}

@@ -1,7 +1,8 @@
 use Rattle.std.proofs.Common.{sym, subst}
 use Rattle.std.proofs.lemmas.Result.{err_from_is_err_and}
 use Rattle.agg_pages.specs.declared.input_text.input.Input.{Input as Stored}
-use Rattle.agg_pages.specs.input_text.Input.{IsInputOfLines, input_of}
+use Rattle.agg_pages.specs.input_text.Input.{IsInputOfLines}
+use Rattle.agg_pages.specs.input_text.StoredInput.{input_of}
 use Rattle.agg_pages.proofs.lemmas.input_text.Inputs.{no_header_lines, no_snapshot_lines}
 use Rattle.agg_pages.proofs.input_text.input.read_lines.Goals as goal
 

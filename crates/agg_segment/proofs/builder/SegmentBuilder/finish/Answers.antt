@@ -5,7 +5,7 @@ use Rattle.std.proofs.lemmas.List.Elements.{All-drop}
 use Rattle.agg_segment.specs.storage.Cells.{Placed}
 use Rattle.agg_segment.specs.storage.Signs.{key_mark, AreSigns, HasBoth}
 use Rattle.agg_segment.specs.Segment.{Gathered, builder_cells, gathered_documents, open_document}
-use Rattle.agg_segment.specs.Segment.{IsMixed}
+use Rattle.agg_segment.specs.SegmentLimits.{IsMixed}
 use Rattle.agg_segment.specs.declared.builder.BuildError.TheVariants.{MixedNumbers}
 use Rattle.agg_segment.specs.declared.builder.BuildError.TheVariants.{TooManyDocuments}
 use Rattle.agg_segment.proofs.FieldSigns.{marked_fields}

@@ -2,7 +2,8 @@ use Rattle.std.proofs.Common.{◌≡◌, ◌∷◌, ◌++◌, [], length, sym, a
 use Rattle.std.proofs.lemmas.List.{nil_from_length}
 use Rattle.std.proofs.lemmas.Result.{on_ok_weaker}
 use Rattle.agg_segment.specs.storage.Document.{Fields, meaning}
-use Rattle.agg_segment.specs.Segment.{gathered_documents, open_document, IsMixed}
+use Rattle.agg_segment.specs.Segment.{gathered_documents, open_document}
+use Rattle.agg_segment.specs.SegmentLimits.{IsMixed}
 use Rattle.agg_segment.proofs.AddedValues.{add_all, add_all_is}
 use Rattle.agg_segment.proofs.builder.SegmentBuilder.try_document.Goals as goal
 

@@ -1,7 +1,8 @@
 use Rattle.std.proofs.Common.{◌≡◌, ℕ, ◌<◌, ◌≤◌, length, take}
 use Rattle.std.specs.List.{list_any}
 use Rattle.agg_segment.specs.Marks.{mark_at, has_key, passes}
-use Rattle.agg_segment.specs.Segment.{documents_of, max_documents}
+use Rattle.agg_segment.specs.Segment.{documents_of}
+use Rattle.agg_segment.specs.SegmentLimits.{max_documents}
 use Rattle.agg_segment.proofs.query.marks.field_marks.Given as goal
 
 abbrev pub invariant-loop-column : goal.invariant-loop-column

@@ -3,7 +3,7 @@ use Rattle.std.proofs.lemmas.Result.{IfErr-weaker, IfOk-weaker}
 use Rattle.agg_results.specs.Results.{AreResults}
 use Rattle.agg_request_tree.specs.Matching.{built_matches}
 use Rattle.agg_engine_tree.specs.segment_context.Pages.{paged}
-use Rattle.agg_engine_tree.specs.segment_context.Trees.{built}
+use Rattle.agg_request_tree.specs.BuiltRequest.{built}
 use Rattle.agg_engine.specs.collectors.Fruits.{IsFinalCause, joined}
 use Rattle.agg_engine.proofs.lemmas.collectors.FinalFruits.{final-cause, final-fruits, merge-cause}
 use Rattle.agg_engine.proofs.collectors.collector.AggregationCollector.merge_fruits.Goals as goal

@@ -1,5 +1,5 @@
 use Rattle.std.proofs.Common.{ap, map, ◌∙◌}
-use Rattle.agg_engine_tree.specs.segment_context.Trees.{built_tree}
+use Rattle.agg_request_tree.specs.BuiltRequest.{built_tree}
 use Rattle.agg_engine_tree.proofs.lemmas.segment_context.Trees.{kept-all, kept-more, makes-all}
 use Rattle.agg_engine_tree.proofs.lemmas.segment_context.Trees.{none-among}
 use Rattle.agg_engine_tree.proofs.segment_context.params.AggContextParams.new.Goals as goal

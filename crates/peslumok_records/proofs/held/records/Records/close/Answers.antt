@@ -1,5 +1,6 @@
 use Rattle.std.proofs.Common.{subst}
-use Rattle.agg_segment.specs.Segment.{IsMixed, gathered_documents, open_document}
+use Rattle.agg_segment.specs.Segment.{gathered_documents, open_document}
+use Rattle.agg_segment.specs.SegmentLimits.{IsMixed}
 use Rattle.peslumok_records.proofs.lemmas.held.SingleDocuments.{fits_alone}
 use Rattle.peslumok_records.proofs.held.records.Records.close.Goals as goal
 
