@@ -10,7 +10,7 @@ use Rattle.agg_request_tree.specs.BuiltRequest.{SomeMakesNone}
 use Rattle.agg_engine_tree.specs.declared.segment_context.error.SetupError.{SetupError}
 use Rattle.agg_engine_tree.specs.declared.segment_context.error.SetupError.TheVariants as setup
 use Rattle.agg_engine.specs.NamedComposite.{NamesComposite}
-use Rattle.agg_engine.specs.Refusals.{HasCause}
+use Rattle.agg_engine.specs.Refusals.{WalkFailsAtMost}
 use Rattle.agg_segment.specs.SnapshotDocuments.{SnapshotDocuments}
 use Rattle.agg_engine.specs.Walk.{HaveRoom}
 use Rattle.agg_engine.specs.WalkError.{error_from_setup}
@@ -21,7 +21,7 @@ pub cause-built : {B : Type 0} (query_for : B → Option QueryTree) (limits : Li
     (given : SetupError) → IsOfBuilders given → IsSoundRequest request → HaveRoom snapshots
     → NamesComposite name request
     → (given ≡ setup.QueryBuild → SomeMakesNone query_for request)
-    → HasCause query_for limits name query request snapshots (error_from_setup given)
+    → WalkFailsAtMost query_for limits name query request snapshots (error_from_setup given)
 cause-built query_for limits name query request snapshots setup.QueryBuild of sound room named
     none = (sound, room, named, none refl)
 cause-built query_for limits name query request snapshots setup.OutOfMemory of sound room named

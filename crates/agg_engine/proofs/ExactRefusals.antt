@@ -13,8 +13,8 @@ use Rattle.agg_request_tree.specs.charges.Settled.{IsSettled}
 use Rattle.agg_request_tree.proofs.lemmas.charges.Roofs.{low-at_most, low-settled}
 use Rattle.agg_request_tree.specs.ChangedRequest.{request_after, request_at_size}
 use Rattle.agg_engine.specs.snapshot_results.MemoryLimits.{TellsMemory, low_roof_in}
-use Rattle.agg_engine.specs.Refusals.{AreSettled, HasToBeRefused, HasToRefuse, MayBeRefused}
-use Rattle.agg_engine.specs.Refusals.{MayRefuse}
+use Rattle.agg_engine.specs.Refusals.{AreSettled, RefusedAtLeast, WalkRefusedAtLeast, RefusedAtMost}
+use Rattle.agg_engine.specs.Refusals.{WalkRefusedAtMost}
 use Rattle.agg_engine.specs.Walk.{after_in}
 use Rattle.agg_engine.specs.declared.walk.error.WalkError.{WalkError}
 use Rattle.agg_engine.specs.declared.walk.error.WalkError.TheVariants as error
@@ -23,8 +23,8 @@ module _ {B : Type 0} (is_match : B → Fields → Bool) (limits : Limits) (quer
     (request : Request B) (segments : List (List Fields)) where
   -- what has to be refused may be
   pub may-from_has : (why : WalkError)
-      → HasToBeRefused is_match limits query request segments why
-      → MayBeRefused is_match limits query request segments why
+      → RefusedAtLeast is_match limits query request segments why
+      → RefusedAtMost is_match limits query request segments why
   may-from_has error.BucketOutOfRange refused = refused
   may-from_has error.TooMany refused = refused
   may-from_has (error.Aggregation (aggregation.MemoryExceeded told current)) refused =
@@ -57,8 +57,8 @@ module _ {B : Type 0} (is_match : B → Fields → Bool) (limits : Limits) (quer
 
   -- what may be refused has to be, where the request is settled in each segment
   pub has-from_may : All (λ ds. IsSettled is_match request (filter (matches query) ds)) segments
-      → (why : WalkError) → MayBeRefused is_match limits query request segments why
-      → HasToBeRefused is_match limits query request segments why
+      → (why : WalkError) → RefusedAtMost is_match limits query request segments why
+      → RefusedAtLeast is_match limits query request segments why
   has-from_may settled error.BucketOutOfRange refused = refused
   has-from_may settled error.TooMany refused = refused
   has-from_may settled (error.Aggregation (aggregation.MemoryExceeded told current)) refused =
@@ -90,8 +90,8 @@ module _ {B : Type 0} (is_match : B → Fields → Bool) (limits : Limits) (name
     (query : QueryTree) where
   -- a walk that has to be refused may be
   pub may_refuse : (request : Request B) (snapshots : List SnapshotDocuments) (why : WalkError)
-      → HasToRefuse is_match limits name query request snapshots why
-      → MayRefuse is_match limits name query request snapshots why
+      → WalkRefusedAtLeast is_match limits name query request snapshots why
+      → WalkRefusedAtMost is_match limits name query request snapshots why
   may_refuse request [] why refused = absurd refused
   may_refuse request (s ∷ snapshots) why (inl here) =
       inl (may-from_has is_match limits query (request_at_size name s.page_size request)
@@ -111,8 +111,8 @@ module _ {B : Type 0} (is_match : B → Fields → Bool) (limits : Limits) (name
   -- and one that may be has to be, where its request is settled at each snapshot that it reaches
   pub has_to_refuse : (request : Request B) (snapshots : List SnapshotDocuments) (why : WalkError)
       → AreSettled is_match name query request snapshots
-      → MayRefuse is_match limits name query request snapshots why
-      → HasToRefuse is_match limits name query request snapshots why
+      → WalkRefusedAtMost is_match limits name query request snapshots why
+      → WalkRefusedAtLeast is_match limits name query request snapshots why
   has_to_refuse request [] why settled refused = absurd refused
   has_to_refuse request (s ∷ snapshots) why settled (inl here) =
       inl (has-from_may is_match limits query (request_at_size name s.page_size request)

@@ -10,7 +10,7 @@ use Rattle.agg_results.specs.final_results.BucketCount.{results_buckets}
 use Rattle.agg_results.specs.declared.final_results.types.AggregationResults.{AggregationResults}
 use Rattle.agg_results.specs.Results.{AreResults}
 use Rattle.agg_engine.specs.snapshot_results.MemoryLimits.{HaveRoom, TellsMemory, low_roof_in}
-use Rattle.agg_engine.specs.Refusals.{HasToBeRefused, MayBeCounted}
+use Rattle.agg_engine.specs.Refusals.{RefusedAtLeast, MayBeCounted}
 use Rattle.agg_engine.specs.Walk.{matching_among}
 use Rattle.agg_engine.specs.declared.walk.error.WalkError.TheVariants as error
 use Rattle.agg_engine.proofs.OneWalk.{AreResults-same}
@@ -23,7 +23,7 @@ module _ {B : Type 0} (is_match : B → Fields → Bool) (limits : Limits) (quer
     (short : results_buckets r ≤ limits.bucket_limit) where
   -- results don't have to be refused where they may be collected, each segment has room for its low
   -- roof, and there are no more buckets than the limit
-  pub not-refused : NoneIs (HasToBeRefused is_match limits query request segments)
+  pub not-refused : NoneIs (RefusedAtLeast is_match limits query request segments)
   not-refused error.BucketOutOfRange refused = may.0 refused
   not-refused error.TooMany refused = may.1 refused.1
   not-refused (error.Aggregation (aggregation.MemoryExceeded told current)) refused =

@@ -36,7 +36,7 @@ use Rattle.agg_engine.specs.snapshot_results.MemoryLimits.{HaveRoom, TellsMemory
 use Rattle.agg_engine.specs.snapshot_results.Steps.{counted_of, past_named}
 use Rattle.agg_engine.proofs.lemmas.collectors.BuiltPages.{built-paged}
 use Rattle.agg_engine.specs.PageAnswers.{AnswersPage, IsFinalRefusal}
-use Rattle.agg_engine.specs.Refusals.{MayBeRefused}
+use Rattle.agg_engine.specs.Refusals.{RefusedAtMost}
 use Rattle.agg_engine.specs.Walk.{matching_among}
 use Rattle.agg_engine.specs.WalkError.{error_from_snapshot}
 use Rattle.agg_engine.specs.declared.walk.error.WalkError.{WalkError}
@@ -98,7 +98,7 @@ module _ {B : Type 0} (is_match : B → Fields → Bool) (of : B → QueryTree)
   -- a refusal of the snapshot has its cause
   cause-of : (given : SnapshotError) → IsRefusal made query stored limits given
       → (error_from_snapshot given ≡ error.OutOfMemory)
-      ⊎ MayBeRefused is_match limits query now segments (error_from_snapshot given)
+      ⊎ RefusedAtMost is_match limits query now segments (error_from_snapshot given)
   cause-of snapshot.BucketOutOfRange out =
       inr (among (HasStartOutOfRange now)
       (range-built is_match of built now (matching_in query stored) out))
@@ -148,7 +148,7 @@ module _ {B : Type 0} (is_match : B → Fields → Bool) (of : B → QueryTree)
           fits = tt;
           buckets = tt;
           cause = subst
-              (λ e. (e ≡ error.OutOfMemory) ⊎ MayBeRefused is_match limits query now segments e)
+              (λ e. (e ≡ error.OutOfMemory) ⊎ RefusedAtMost is_match limits query now segments e)
               (sym found.2) (cause-of given refused);
           least = λ name. tt;
           most = most-of (Err given) answer;
@@ -160,7 +160,7 @@ module _ {B : Type 0} (is_match : B → Fields → Bool) (of : B → QueryTree)
         (room : HaveRoom matches query made limits segments) (answer : Given (Ok merged)) where
       final-cause : (given : WalkError)
           → IsFinalRefusal limits.bucket_limit request merged.results given
-          → (given ≡ error.OutOfMemory) ⊎ MayBeRefused is_match limits query now segments given
+          → (given ≡ error.OutOfMemory) ⊎ RefusedAtMost is_match limits query now segments given
       final-cause (error.Aggregation (aggregation.BucketLimitExceeded given n)) refused =
           let number = refused.1 in
           let more = refused.2 in

@@ -16,7 +16,7 @@ use Rattle.agg_engine_tree.specs.segment_context.Pages.{paged}
 use Rattle.agg_engine_tree.specs.declared.segment_context.params.Page.{Page}
 use Rattle.agg_engine.specs.snapshot_results.MemoryLimits.{HaveRoom}
 use Rattle.agg_engine.proofs.lemmas.collectors.PagedFinals.{final-paged, other-paged, unknown-paged}
-use Rattle.agg_engine.specs.Refusals.{HasToBeRefused}
+use Rattle.agg_engine.specs.Refusals.{RefusedAtLeast}
 use Rattle.agg_engine.specs.Walk.{matching_among}
 use Rattle.agg_engine.proofs.MergedResults.{IsMergedOf}
 use Rattle.agg_engine.proofs.NotRefused.{not-refused}
@@ -52,7 +52,7 @@ pub fit-here : {B : Type 0} (is_match : B → Fields → Bool) (limits : Limits)
     → IsMergedOf is_match (paged page request) (matching_among query segments) merged
     → HaveRoom is_match query (paged page request) limits segments
     → results_buckets (final_results request merged) ≤ limits.bucket_limit
-    → NoneIs (HasToBeRefused is_match limits query (paged page request) segments)
+    → NoneIs (RefusedAtLeast is_match limits query (paged page request) segments)
 fit-here is_match limits query page request segments merged h room short =
     not-refused is_match limits query (paged page request) segments (h.range, h.few) room
     (final_results request merged)

@@ -21,7 +21,7 @@ use Rattle.agg_request_tree.specs.ChangedRequest.{request_after}
 use Rattle.agg_engine_tree.specs.declared.segment_context.params.Page.{Page}
 use Rattle.agg_engine.specs.NamedComposite.{IsCompositeNamed}
 use Rattle.agg_engine.specs.PageAnswers.{MayGoOnFrom}
-use Rattle.agg_engine.specs.Refusals.{HasToRefuse}
+use Rattle.agg_engine.specs.Refusals.{WalkRefusedAtLeast}
 use Rattle.agg_segment.specs.Snapshot.{snapshot_documents, snapshots_documents}
 use Rattle.agg_segment.specs.SnapshotDocuments.{SnapshotDocuments}
 use Rattle.agg_engine.specs.Walk.{IsWalk}
@@ -91,7 +91,7 @@ module _ {B : Type 0} {is_match : B → Fields → Bool} {limits : Limits} {name
       state-out is_match limits name query request snapshots (request_after name after request)
       pages w.state
 
-  pub walking-out-fits : NoneIs (HasToRefuse is_match limits name query request snapshots)
+  pub walking-out-fits : NoneIs (WalkRefusedAtLeast is_match limits name query request snapshots)
   walking-out-fits error refused = w.state.fits error refused
 
 -- ---- the places of the list of snapshots

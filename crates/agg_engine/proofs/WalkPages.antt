@@ -19,7 +19,7 @@ use Rattle.agg_request_tree.specs.ChangedRequest.{request_after, request_at_size
 use Rattle.agg_engine_tree.specs.declared.segment_context.params.Page.{Page}
 use Rattle.agg_engine.specs.snapshot_results.Steps.{counted_of, past_named}
 use Rattle.agg_engine.specs.PageAnswers.{AnswersPage, IsShown, MayGoOnFrom}
-use Rattle.agg_engine.specs.Refusals.{HasToRefuse}
+use Rattle.agg_engine.specs.Refusals.{WalkRefusedAtLeast}
 use Rattle.agg_segment.specs.SnapshotDocuments.{SnapshotDocuments}
 use Rattle.agg_engine.specs.Walk.{IsWalk, after_in, matching_documents}
 use Rattle.agg_engine.specs.declared.walk.error.WalkError.{WalkError}
@@ -146,7 +146,7 @@ module _ {B : Type 0} {is_match : B → Fields → Bool} {limits : Limits} {name
         none)
 
     pub walking-ended-fits : next ≡ None
-        → NoneIs (HasToRefuse is_match limits name query request snapshots)
+        → NoneIs (WalkRefusedAtLeast is_match limits name query request snapshots)
     walking-ended-fits none =
         state-ended-fits is_match limits name query request snapshots now s rest pages w.state
         results answer.results answer.fits answer.buckets (none-shown next (after_in name results)

@@ -15,8 +15,8 @@ use Rattle.agg_request_tree.specs.declared.aggregation.CompositeAggregation.{Com
 use Rattle.agg_results.specs.declared.final_results.types.AggregationResults.{AggregationResults}
 use Rattle.agg_request_tree.specs.ChangedRequest.{request_after}
 use Rattle.agg_engine.specs.PageAnswers.{AnswersPage}
-use Rattle.agg_engine.specs.Refusals.{MayBeRefused, MayBeRefusedAt, HasCause}
-use Rattle.agg_engine.specs.Refusals.{MayRefuse}
+use Rattle.agg_engine.specs.Refusals.{RefusedAtMost, SnapshotRefusedAtMost, WalkFailsAtMost}
+use Rattle.agg_engine.specs.Refusals.{WalkRefusedAtMost}
 use Rattle.agg_segment.specs.SnapshotDocuments.{SnapshotDocuments}
 use Rattle.agg_engine.specs.Walk.{MayBeAsked}
 use Rattle.agg_engine.specs.declared.walk.error.WalkError.{WalkError}
@@ -41,12 +41,12 @@ module _ {B : Type 0} {query_for : B → Option QueryTree} {limits : Limits} {na
     (s ∷ rest) pages) (asked : MayBeAsked query_for name request snapshots) where
   abbrev Refused : WalkError → Type 0
   Refused =
-      MayBeRefusedAt (built_matches query_for) limits name query
+      SnapshotRefusedAtMost (built_matches query_for) limits name query
       (request_after name after request) s
 
   refused : (given : WalkError) → Refused given
       → MayBeAsked query_for name request snapshots
-      × MayRefuse (built_matches query_for) limits name query request snapshots given
+      × WalkRefusedAtMost (built_matches query_for) limits name query request snapshots given
   refused given is = (
     asked,
     state-refused (built_matches query_for) limits name query request snapshots
@@ -55,11 +55,11 @@ module _ {B : Type 0} {query_for : B → Option QueryTree} {limits : Limits} {na
 
   -- what a call for its page answers has its cause in the walk
   cause-page : (given : WalkError) → (given ≡ error.OutOfMemory) ⊎ Refused given
-      → HasCause query_for limits name query request snapshots given
+      → WalkFailsAtMost query_for limits name query request snapshots given
   cause-page given (inr is) = by given is
     where
       by : (given : WalkError) → Refused given
-          → HasCause query_for limits name query request snapshots given
+          → WalkFailsAtMost query_for limits name query request snapshots given
       by error.OutOfMemory is = tt
       by error.BucketOutOfRange is = refused error.BucketOutOfRange is
       by error.TooMany is = refused error.TooMany is
@@ -72,12 +72,12 @@ module _ {B : Type 0} {query_for : B → Option QueryTree} {limits : Limits} {na
       by error.UnknownComposite is = absurd is
       by error.QueryBuild is = absurd is
   cause-page given (inl is) =
-      subst (HasCause query_for limits name query request snapshots) (sym is) tt
+      subst (WalkFailsAtMost query_for limits name query request snapshots) (sym is) tt
 
   pub cause-answer : {before later : ℕ} (given : WalkError)
       → AnswersAt (built_matches query_for) limits name query request after s before later
       (Err given)
-      → HasCause query_for limits name query request snapshots given
+      → WalkFailsAtMost query_for limits name query request snapshots given
   cause-answer given answer = cause-page given answer.cause
 
 -- ---- what comes before any snapshot
@@ -93,7 +93,7 @@ IsFirst _ = ⊥
 module _ {B : Type 0} (is_match : B → Fields → Bool) (limits : Limits) (query : QueryTree)
     (request : Request B) (segments : List (List Fields)) where
   not-refused_first : (given : WalkError)
-      → MayBeRefused is_match limits query request segments given
+      → RefusedAtMost is_match limits query request segments given
       → ¬ (IsFirst given)
   not-refused_first (error.Invalid fault) refused first = refused
   not-refused_first error.UnknownComposite refused first = refused

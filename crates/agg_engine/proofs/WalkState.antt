@@ -13,9 +13,9 @@ use Rattle.agg_request_tree.specs.Request.{Request}
 use Rattle.agg_results.specs.final_results.BucketCount.{results_buckets}
 use Rattle.agg_results.specs.declared.final_results.types.AggregationResults.{AggregationResults}
 use Rattle.agg_request_tree.specs.ChangedRequest.{request_after}
-use Rattle.agg_engine.specs.Refusals.{HasToBeRefusedAt, MayBeRefusedAt}
-use Rattle.agg_engine.specs.Refusals.{HasToRefuse}
-use Rattle.agg_engine.specs.Refusals.{MayRefuse}
+use Rattle.agg_engine.specs.Refusals.{SnapshotRefusedAtLeast, SnapshotRefusedAtMost}
+use Rattle.agg_engine.specs.Refusals.{WalkRefusedAtLeast}
+use Rattle.agg_engine.specs.Refusals.{WalkRefusedAtMost}
 use Rattle.agg_segment.specs.SnapshotDocuments.{SnapshotDocuments}
 use Rattle.agg_engine.specs.Walk.{AreResultsAt, IfFull, IsWalk, after_in}
 use Rattle.agg_engine.specs.declared.walk.error.WalkError.{WalkError}
@@ -31,10 +31,10 @@ pub record WalkState {B : Type 0} (is_match : B → Fields → Bool) (limits : L
       → IsWalk is_match name query now rest more ended
       → IsWalk is_match name query request snapshots (pages ++ more) ended
   pub fits : (error : WalkError)
-      → HasToRefuse is_match limits name query request snapshots error
-      → HasToRefuse is_match limits name query now rest error
-  pub reaches : (error : WalkError) → MayRefuse is_match limits name query now rest error
-      → MayRefuse is_match limits name query request snapshots error
+      → WalkRefusedAtLeast is_match limits name query request snapshots error
+      → WalkRefusedAtLeast is_match limits name query now rest error
+  pub reaches : (error : WalkError) → WalkRefusedAtMost is_match limits name query now rest error
+      → WalkRefusedAtMost is_match limits name query request snapshots error
 
 -- a full page goes on
 pub full : (after : Named AfterKey) (WithRoom Full : Type 0) → after ≢ [] → Full
@@ -69,12 +69,12 @@ module _ {B : Type 0} (is_match : B → Fields → Bool) (limits : Limits) (name
         (pages : List AggregationResults) (state : State now (s ∷ rest) pages) where
       -- the request may be refused at the next snapshot
       pub state-refused : (error : WalkError)
-          → MayBeRefusedAt is_match limits name query now s error
-          → MayRefuse is_match limits name query request snapshots error
+          → SnapshotRefusedAtMost is_match limits name query now s error
+          → WalkRefusedAtMost is_match limits name query request snapshots error
       state-refused error refused = state.reaches error (inl refused)
 
       module _ (r : AggregationResults) (is : AreResultsAt is_match name query now s r)
-          (fit : NoneIs (HasToBeRefusedAt is_match limits name query now s))
+          (fit : NoneIs (SnapshotRefusedAtLeast is_match limits name query now s))
           (short : results_buckets r ≤ limits.bucket_limit) where
         -- the request after this page
         abbrev pub next : Request B
@@ -86,15 +86,15 @@ module _ {B : Type 0} (is_match : B → Fields → Bool) (limits : Limits) (name
 
         -- a refusal from here on comes after this page
         refused-goes_on : (error : WalkError)
-            → HasToRefuse is_match limits name query now (s ∷ rest) error
-            → (after_in name r ≢ []) × HasToRefuse is_match limits name query next rest error
+            → WalkRefusedAtLeast is_match limits name query now (s ∷ rest) error
+            → (after_in name r ≢ []) × WalkRefusedAtLeast is_match limits name query next rest error
         refused-goes_on error refused =
             elim refused [
               | inl h ↦ absurd (fit error h)
               | inr h ↦
                   let same = results-same is_match name query now s h.1.0 r h.1.1 is in (
                     subst (λ p. after_in name p ≢ []) same h.1.2,
-                    subst (λ p. HasToRefuse is_match limits name query
+                    subst (λ p. WalkRefusedAtLeast is_match limits name query
                         (request_after name (after_in name p) now) rest error) same h.1.3,
                   )
             ]
@@ -112,7 +112,7 @@ module _ {B : Type 0} (is_match : B → Fields → Bool) (limits : Limits) (name
             )
 
         pub state-ended-fits : after_in name r ≡ []
-            → NoneIs (HasToRefuse is_match limits name query request snapshots)
+            → NoneIs (WalkRefusedAtLeast is_match limits name query request snapshots)
         state-ended-fits none error refused =
             (refused-goes_on error (state.fits error refused)).0 none
 

@@ -21,7 +21,7 @@ use Rattle.agg_engine_tree.specs.segment_context.Trees.{AreTreesOf}
 use Rattle.agg_request_tree.specs.BuiltRequest.{built_tree}
 use Rattle.agg_engine.specs.declared.snapshot_results.context.PageRequest.{PageRequest}
 use Rattle.agg_engine.specs.snapshot_results.Steps.{counted_of, past_named}
-use Rattle.agg_engine.specs.Refusals.{HasToBeRefused, MayBeRefused}
+use Rattle.agg_engine.specs.Refusals.{RefusedAtLeast, RefusedAtMost}
 use Rattle.agg_engine.specs.Walk.{matching_among}
 use Rattle.agg_engine.specs.declared.walk.error.WalkError.{WalkError}
 use Rattle.agg_engine.specs.declared.walk.error.WalkError.TheVariants.{Aggregation, OutOfMemory}
@@ -38,10 +38,10 @@ pub record AnswersPage {B : Type 0} (is_match : B → Fields → Bool) (limits :
     (query : QueryTree) (request : Request B) (segments : List (List Fields))
     (steps steps_now : ℕ) (result : Result AggregationResults WalkError) : Type 0 where
   pub results : IfOk result (AreResults is_match request (matching_among query segments))
-  pub fits : OnOk result (NoneIs (HasToBeRefused is_match limits query request segments))
+  pub fits : OnOk result (NoneIs (RefusedAtLeast is_match limits query request segments))
   pub buckets : IfOk result (λ results. results_buckets results ≤ limits.bucket_limit)
   pub cause : IfErr result (λ error.
-      (error ≡ OutOfMemory) ⊎ MayBeRefused is_match limits query request segments error)
+      (error ≡ OutOfMemory) ⊎ RefusedAtMost is_match limits query request segments error)
   pub least : (name : List ℕ)
       → OnOk result
       (steps + past_named name request (matching_among query segments) ≤ steps_now)

@@ -1,8 +1,10 @@
--- Why a walk gave no pages. `IsRefusedBy` has six names, by what is held against the memory limit
--- and by what is walked:
---                   segments        a snapshot        a walk
---     the low roof  HasToBeRefused  HasToBeRefusedAt  HasToRefuse
---     the roof      MayBeRefused    MayBeRefusedAt    MayRefuse
+-- Why a walk gave no pages. What is refused is bounded from both sides, by the bytes that are held
+-- against the memory limit: the low roof of a segment, or its roof. Both are `IsRefusedBy`.
+--               by the bytes of  segments        a snapshot              a walk
+--     at least  the low roof     RefusedAtLeast  SnapshotRefusedAtLeast  WalkRefusedAtLeast
+--     at most   the roof         RefusedAtMost   SnapshotRefusedAtMost   WalkRefusedAtMost
+-- What is refused at least gives no pages in any run, and what is refused at most may in one.
+-- `WalkFailsAtMost` adds the errors that come before any snapshot.
 use Rattle.std.specs.Prelude.{◌≡◌, ◌≢◌, ◌<◌, ◌⊎◌, ◌+◌, ℕ, List, [], ◌∷◌, Bool, Option, Any, ⊤}
 use Rattle.std.specs.Prelude.{filter}
 use Rattle.std.specs.List.{All}
@@ -75,27 +77,27 @@ module _ {B : Type 0} (is_match : B → Fields → Bool) (limits : Limits) (quer
       × HasBuckets is_match query request segments n
   IsRefusedBy bytes request segments _ = ⊥
 
-  -- a request may be refused: for memory, where the limit is passed within the roof of a segment
-  abbrev pub MayBeRefused : Request B → List (List Fields) → WalkError → Type 0
-  MayBeRefused = IsRefusedBy (roof_in is_match query)
+  -- what is refused at most: for memory, where the limit is passed within the roof of a segment
+  abbrev pub RefusedAtMost : Request B → List (List Fields) → WalkError → Type 0
+  RefusedAtMost = IsRefusedBy (roof_in is_match query)
 
-  -- a request has to be refused: for memory, where the limit is passed within the low roof
-  abbrev pub HasToBeRefused : Request B → List (List Fields) → WalkError → Type 0
-  HasToBeRefused = IsRefusedBy (low_roof_in is_match query)
+  -- what is refused at least: for memory, where the limit is passed within the low roof
+  abbrev pub RefusedAtLeast : Request B → List (List Fields) → WalkError → Type 0
+  RefusedAtLeast = IsRefusedBy (low_roof_in is_match query)
 
 -- ---- a walk
 
 module _ {B : Type 0} (is_match : B → Fields → Bool) (limits : Limits) (name : List ℕ)
     (query : QueryTree) where
-  -- the request may be refused at a snapshot
-  abbrev pub MayBeRefusedAt : Request B → SnapshotDocuments → WalkError → Type 0
-  MayBeRefusedAt request s =
-      MayBeRefused is_match limits query (request_at_size name s.page_size request) s.segments
+  -- a request is refused at a snapshot at most so
+  abbrev pub SnapshotRefusedAtMost : Request B → SnapshotDocuments → WalkError → Type 0
+  SnapshotRefusedAtMost request s =
+      RefusedAtMost is_match limits query (request_at_size name s.page_size request) s.segments
 
-  -- the request has to be refused at a snapshot
-  abbrev pub HasToBeRefusedAt : Request B → SnapshotDocuments → WalkError → Type 0
-  HasToBeRefusedAt request s =
-      HasToBeRefused is_match limits query (request_at_size name s.page_size request) s.segments
+  -- a request is refused at a snapshot at least so
+  abbrev pub SnapshotRefusedAtLeast : Request B → SnapshotDocuments → WalkError → Type 0
+  SnapshotRefusedAtLeast request s =
+      RefusedAtLeast is_match limits query (request_at_size name s.page_size request) s.segments
 
   -- the walk reaches a snapshot where this is so: at those before it, its requests don't have to be
   -- refused, and their pages are full
@@ -104,21 +106,21 @@ module _ {B : Type 0} (is_match : B → Fields → Bool) (limits : Limits) (name
   Reaches IsSo request [] = ⊥
   Reaches IsSo request (s ∷ snapshots) =
       IsSo request s
-      ⊎ (NoneIs (HasToBeRefusedAt request s)
+      ⊎ (NoneIs (SnapshotRefusedAtLeast request s)
       × ((r : AggregationResults)
       × AreResultsAt is_match name query request s r
       × (after_in name r ≢ [])
       × Reaches IsSo (request_after name (after_in name r) request) snapshots))
 
-  -- the walk may be refused: it reaches a snapshot where its request may be
-  abbrev pub MayRefuse : Request B → List SnapshotDocuments → WalkError → Type 0
-  MayRefuse request snapshots error =
-      Reaches (λ now s. MayBeRefusedAt now s error) request snapshots
+  -- a walk is refused at most so: it reaches a snapshot where its request is
+  abbrev pub WalkRefusedAtMost : Request B → List SnapshotDocuments → WalkError → Type 0
+  WalkRefusedAtMost request snapshots error =
+      Reaches (λ now s. SnapshotRefusedAtMost now s error) request snapshots
 
-  -- the walk has to be refused: it reaches a snapshot where its request has to be
-  abbrev pub HasToRefuse : Request B → List SnapshotDocuments → WalkError → Type 0
-  HasToRefuse request snapshots error =
-      Reaches (λ now s. HasToBeRefusedAt now s error) request snapshots
+  -- a walk is refused at least so: it reaches a snapshot where its request is
+  abbrev pub WalkRefusedAtLeast : Request B → List SnapshotDocuments → WalkError → Type 0
+  WalkRefusedAtLeast request snapshots error =
+      Reaches (λ now s. SnapshotRefusedAtLeast now s error) request snapshots
 
 module _ {B : Type 0} (is_match : B → Fields → Bool) (name : List ℕ) (query : QueryTree) where
   -- at each snapshot that a walk reaches, its request is settled over the documents of each segment
@@ -134,16 +136,16 @@ module _ {B : Type 0} (is_match : B → Fields → Bool) (name : List ℕ) (quer
 
 module _ {B : Type 0} (query_for : B → Option QueryTree) (limits : Limits) (name : List ℕ)
     (query : QueryTree) where
-  -- an error of a walk has its cause; running out of memory needs none
-  abbrev pub HasCause : Request B → List SnapshotDocuments → WalkError → Type 0
-  HasCause request snapshots (error.Invalid fault) = HasFault request snapshots fault
-  HasCause request snapshots error.UnknownComposite = ¬ (NamesComposite name request)
-  HasCause request snapshots error.QueryBuild =
+  -- the errors of a walk at most: each has its cause; running out of memory needs none
+  abbrev pub WalkFailsAtMost : Request B → List SnapshotDocuments → WalkError → Type 0
+  WalkFailsAtMost request snapshots (error.Invalid fault) = HasFault request snapshots fault
+  WalkFailsAtMost request snapshots error.UnknownComposite = ¬ (NamesComposite name request)
+  WalkFailsAtMost request snapshots error.QueryBuild =
       IsSoundRequest request × HaveRoom snapshots × NamesComposite name request
       × SomeMakesNone query_for request
-  HasCause request snapshots (error.Aggregation (aggregation.DateHistogramParseError part)) =
+  WalkFailsAtMost request snapshots (error.Aggregation (aggregation.DateHistogramParseError part)) =
       RequestHasFault request (refusal.Aggregation (aggregation.DateHistogramParseError part))
-  HasCause request snapshots error.OutOfMemory = ⊤
-  HasCause request snapshots error =
+  WalkFailsAtMost request snapshots error.OutOfMemory = ⊤
+  WalkFailsAtMost request snapshots error =
       MayBeAsked query_for name request snapshots
-      × MayRefuse (built_matches query_for) limits name query request snapshots error
+      × WalkRefusedAtMost (built_matches query_for) limits name query request snapshots error

@@ -15,8 +15,8 @@ ghost use Rattle.agg_results.specs.declared.final_results.types.AggregationResul
 };
 ghost use Rattle.agg_results.specs.Results.{AreResults};
 ghost use Rattle.agg_engine.specs.NamedComposite.{IsCompositeNamed};
-ghost use Rattle.agg_engine.specs.Refusals.{AreSettled, HasToBeRefused, MayBeRefused};
-ghost use Rattle.agg_engine.specs.Refusals.{HasToRefuse, MayRefuse};
+ghost use Rattle.agg_engine.specs.Refusals.{AreSettled, RefusedAtLeast, RefusedAtMost};
+ghost use Rattle.agg_engine.specs.Refusals.{WalkRefusedAtLeast, WalkRefusedAtMost};
 ghost use Rattle.agg_segment.specs.SnapshotDocuments.{SnapshotDocuments};
 ghost use Rattle.agg_engine.specs.Walk.{IsWalk, after_in};
 ghost use Rattle.agg_engine.specs.declared.walk.error.WalkError.{WalkError};
@@ -65,13 +65,13 @@ pub fn a_full_page_shows_its_after_key<B>()
 pub fn what_has_to_be_refused_may_be_refused<B>()
     ensures segments { (is_match : B → Fields → Bool) (limits : Limits) (query : QueryTree)
         (request : Request B) (segments : List (List Fields)) (why : WalkError)
-        → HasToBeRefused is_match limits query request segments why
-        → MayBeRefused is_match limits query request segments why }
+        → RefusedAtLeast is_match limits query request segments why
+        → RefusedAtMost is_match limits query request segments why }
     ensures walk { (is_match : B → Fields → Bool) (limits : Limits) (name : List ℕ)
         (query : QueryTree) (request : Request B) (snapshots : List SnapshotDocuments)
         (why : WalkError)
-        → HasToRefuse is_match limits name query request snapshots why
-        → MayRefuse is_match limits name query request snapshots why }
+        → WalkRefusedAtLeast is_match limits name query request snapshots why
+        → WalkRefusedAtMost is_match limits name query request snapshots why }
 {}
 
 /// A request that is settled over the documents of each segment that match has to be refused
@@ -80,8 +80,8 @@ pub fn settled_snapshots_are_refused_exactly<B>()
     ensures { (is_match : B → Fields → Bool) (limits : Limits) (query : QueryTree)
         (request : Request B) (segments : List (List Fields)) (why : WalkError)
         → All (λ documents. IsSettled is_match request (filter (matches query) documents)) segments
-        → MayBeRefused is_match limits query request segments why
-        ↔ HasToBeRefused is_match limits query request segments why }
+        → RefusedAtMost is_match limits query request segments why
+        ↔ RefusedAtLeast is_match limits query request segments why }
 {}
 
 /// A walk whose request is settled at each snapshot that it reaches has to be refused exactly where
@@ -90,6 +90,6 @@ pub fn settled_walks_are_refused_exactly<B>()
     ensures { (is_match : B → Fields → Bool) (limits : Limits) (name : List ℕ) (query : QueryTree)
         (request : Request B) (snapshots : List SnapshotDocuments) (why : WalkError)
         → AreSettled is_match name query request snapshots
-        → MayRefuse is_match limits name query request snapshots why
-        ↔ HasToRefuse is_match limits name query request snapshots why }
+        → WalkRefusedAtMost is_match limits name query request snapshots why
+        ↔ WalkRefusedAtLeast is_match limits name query request snapshots why }
 {}

@@ -12,7 +12,7 @@ ghost use Rattle.agg_values.specs.declared.request_error.DateHistogramParseError
 ghost use Rattle.agg_values.specs.Nothing.{NoneIs};
 ghost use Rattle.agg_request_tree.specs.Matching.{built_matches};
 ghost use Rattle.agg_results.specs.final_results.BucketCount.{results_buckets};
-ghost use Rattle.agg_engine.specs.Refusals.{HasCause, HasToRefuse};
+ghost use Rattle.agg_engine.specs.Refusals.{WalkFailsAtMost, WalkRefusedAtLeast};
 ghost use Rattle.agg_segment.specs.Snapshot.{snapshots_documents};
 ghost use Rattle.agg_engine.specs.Steps.{TakesAtMost, past_pages};
 ghost use Rattle.agg_engine.specs.Walk.{IsWalk, MayBeAsked};
@@ -61,14 +61,14 @@ pub fn walk_pages<L: Ledger>(
     ensures asked { OnOk result (MayBeAsked
         (λ b. tree_for (b.builder.vtable, b.builder.value) schema.now)
         name.now request.now (snapshots_documents snapshots.now)) }
-    ensures fits { OnOk result (NoneIs (HasToRefuse
+    ensures fits { OnOk result (NoneIs (WalkRefusedAtLeast
         (built_matches (λ b. tree_for (b.builder.vtable, b.builder.value) schema.now))
         limits.old name.now query.now request.now (snapshots_documents snapshots.now))) }
     ensures buckets { IfOk result (λ walk.
         All (λ page. results_buckets page ≤ limits.old.bucket_limit) walk.pages) }
 
     // Each other answer has its cause.
-    ensures cause { IfErr result (HasCause
+    ensures cause { IfErr result (WalkFailsAtMost
         (λ b. tree_for (b.builder.vtable, b.builder.value) schema.now)
         limits.old name.now query.now request.now (snapshots_documents snapshots.now)) }
 

@@ -16,10 +16,10 @@ use Rattle.agg_request_tree.proofs.Lists.{none_of_all}
 use Rattle.agg_pages.specs.input_text.Input.{Input, IsInput}
 use Rattle.agg_values.specs.Nothing.{NoneIs}
 use Rattle.agg_cache.specs.Limits.{Limits}
-use Rattle.agg_engine.specs.Refusals.{HasCause, HasToRefuse}
+use Rattle.agg_engine.specs.Refusals.{WalkFailsAtMost, WalkRefusedAtLeast}
 use Rattle.agg_engine.specs.Walk.{MayBeAsked}
 use Rattle.agg_engine.specs.declared.walk.Walk.{Walk}
-use Rattle.agg_pages.specs.Answer.{IsNeverRefused, IsRefusal, IsValid, MayRefuse}
+use Rattle.agg_pages.specs.Answer.{IsNeverRefused, IsRefusal, IsValid, InputRefusedAtMost}
 use Rattle.agg_pages.specs.Answer.{limits_of, matches_in, query_in}
 use Rattle.agg_pages.specs.Reading.{GivesAll}
 use Rattle.agg_pages.proofs.lemmas.input_text.Inputs.{IsInput-unique}
@@ -27,7 +27,7 @@ use Rattle.agg_pages.proofs.lemmas.input_text.Inputs.{IsInput-unique}
 -- ---- what is never refused
 
 pub may_not_refuse : {B : Type 0} (tree_for : B → List (List ℕ) → Option QueryTree) (i : Input B)
-    (error : WalkError) → IsNeverRefused tree_for i → ¬ (MayRefuse tree_for i error)
+    (error : WalkError) → IsNeverRefused tree_for i → ¬ (InputRefusedAtMost tree_for i error)
 may_not_refuse tree_for i (Invalid fault) never (other, inl asked) =
     none_of_all (λ c. HasFault c (error.Invalid fault)) (composites_of i.header.request)
     (λ k c within. never.asked.sound k c within (error.Invalid fault)) asked
@@ -68,7 +68,7 @@ pub never-refused : {B : Type 0} (tree_for : B → List (List ℕ) → Option Qu
     → ¬ (IsRefusal tree_for i text)
 never-refused tree_for i j text same never (error, may, text_is) =
     may_not_refuse tree_for j error never
-    (subst (λ k. MayRefuse tree_for k error) same may)
+    (subst (λ k. InputRefusedAtMost tree_for k error) same may)
 
 -- ---- what a walk answers, under the limits of its input
 
@@ -77,26 +77,26 @@ module _ {B : Type 0} (tree_for : B → List (List ℕ) → Option QueryTree) (i
   -- the input of a walk that isn't refused is valid
   pub walked-IsValid : (result : Result Walk WalkError)
       → OnOk result (MayBeAsked (query_in tree_for i) i.header.name i.header.request i.snapshots)
-      → OnOk result (NoneIs (HasToRefuse (matches_in tree_for i) limits i.header.name
+      → OnOk result (NoneIs (WalkRefusedAtLeast (matches_in tree_for i) limits i.header.name
       i.header.query i.header.request i.snapshots))
       → IfOk result (λ walk. IsValid tree_for i)
   walked-IsValid (Ok walk) asked fits = record {
     asked = asked;
     fits = subst (λ l.
-        NoneIs (HasToRefuse (matches_in tree_for i) l i.header.name i.header.query
+        NoneIs (WalkRefusedAtLeast (matches_in tree_for i) l i.header.name i.header.query
         i.header.request i.snapshots)) are fits;
   }
   walked-IsValid (Err error) asked fits = tt
 
   -- an error that has its cause may be answered
-  pub walked-MayRefuse : (result : Result Walk WalkError)
-      → IfErr result (HasCause (query_in tree_for i) limits i.header.name i.header.query
+  pub walked-refused : (result : Result Walk WalkError)
+      → IfErr result (WalkFailsAtMost (query_in tree_for i) limits i.header.name i.header.query
       i.header.request i.snapshots)
-      → IfErr result (λ error. error ≢ OutOfMemory → MayRefuse tree_for i error)
-  walked-MayRefuse (Ok walk) cause = tt
-  walked-MayRefuse (Err error) cause = λ other. (
+      → IfErr result (λ error. error ≢ OutOfMemory → InputRefusedAtMost tree_for i error)
+  walked-refused (Ok walk) cause = tt
+  walked-refused (Err error) cause = λ other. (
     other,
     subst (λ l.
-        HasCause (query_in tree_for i) l i.header.name i.header.query i.header.request
+        WalkFailsAtMost (query_in tree_for i) l i.header.name i.header.query i.header.request
         i.snapshots error) are cause,
   )

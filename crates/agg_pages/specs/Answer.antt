@@ -9,8 +9,7 @@ use Rattle.agg_request_tree.specs.Matching.{built_matches}
 use Rattle.agg_engine.specs.declared.walk.Walk.{Walk}
 use Rattle.agg_engine.specs.declared.walk.error.WalkError.{WalkError}
 use Rattle.agg_engine.specs.declared.walk.error.WalkError.TheVariants.{OutOfMemory}
-use Rattle.agg_engine.specs.Refusals as refusals
-use refusals.{HasCause, HasToRefuse}
+use Rattle.agg_engine.specs.Refusals.{WalkFailsAtMost, WalkRefusedAtLeast, WalkRefusedAtMost}
 use Rattle.agg_engine.specs.Walk.{IsWalk, MayBeAsked}
 use Rattle.agg_pages.specs.input_text.Input.{AreNoInput, Input, max_input_bytes}
 use Rattle.agg_pages.specs.Output.{refusal_text, summary_text, walk_text}
@@ -33,23 +32,23 @@ module _ {B : Type 0} (tree_for : B → List (List ℕ) → Option QueryTree) wh
   matches_in i = built_matches (query_in i)
 
   -- an error that a walk of an input may answer, want of memory aside
-  abbrev pub MayRefuse : Input B → WalkError → Type 0
-  MayRefuse i error =
+  abbrev pub InputRefusedAtMost : Input B → WalkError → Type 0
+  InputRefusedAtMost i error =
       (error ≢ OutOfMemory)
-      × HasCause (query_in i) (limits_of i) i.header.name i.header.query i.header.request
+      × WalkFailsAtMost (query_in i) (limits_of i) i.header.name i.header.query i.header.request
       i.snapshots error
 
   -- an input whose walk doesn't have to be refused
   pub record IsValid (i : Input B) : Type 0 where
     pub asked : MayBeAsked (query_in i) i.header.name i.header.request i.snapshots
-    pub fits : NoneIs (HasToRefuse (matches_in i) (limits_of i) i.header.name i.header.query
+    pub fits : NoneIs (WalkRefusedAtLeast (matches_in i) (limits_of i) i.header.name i.header.query
         i.header.request i.snapshots)
 
   -- an input whose walk is never refused: in no segment that it reaches the memory limit is passed
   -- within the roof
   pub record IsNeverRefused (i : Input B) : Type 0 where
     pub asked : MayBeAsked (query_in i) i.header.name i.header.request i.snapshots
-    pub fits : NoneIs (refusals.MayRefuse (matches_in i) (limits_of i) i.header.name i.header.query
+    pub fits : NoneIs (WalkRefusedAtMost (matches_in i) (limits_of i) i.header.name i.header.query
         i.header.request i.snapshots)
 
   -- the plain walk of an input
@@ -68,7 +67,7 @@ module _ {B : Type 0} (tree_for : B → List (List ℕ) → Option QueryTree) wh
 
   -- the text is a refusal that a walk of an input may answer
   abbrev pub IsRefusal : Input B → List ℕ → Type 0
-  IsRefusal i text = (error : WalkError) × MayRefuse i error × (text ≡ refusal_text error)
+  IsRefusal i text = (error : WalkError) × InputRefusedAtMost i error × (text ≡ refusal_text error)
 
   -- the text answers an input, by a refusal or by the printed walk
   abbrev pub IsReply : Bool → Input B → List ℕ → Type 0

@@ -5,7 +5,7 @@ ghost use Rattle.std.specs.Io.KnownBytes.{Appends};
 ghost use Rattle.agg_streams.specs.Causes.{Rose};
 ghost use Rattle.agg_pages.specs.input_text.StoredInput.{input_of};
 ghost use Rattle.agg_pages.specs.Answer.{IsNeverRefused, IsPlainWalk, IsReply, IsSummary};
-ghost use Rattle.agg_pages.specs.Answer.{IsValid, MayRefuse};
+ghost use Rattle.agg_pages.specs.Answer.{IsValid, InputRefusedAtMost};
 
 use crate::input_text::Input;
 use crate::output::{refusal_text, summary_text, walk_text};
@@ -78,7 +78,7 @@ fn walk_of<L: Ledger>(alloc: Global, input: &Input, steps: &mut Steps<L>) -> Res
     ensures plain { IfOk result
         (IsPlainWalk (λ b. tree_for (b.builder.vtable, b.builder.value)) (input_of input.now)) }
     ensures cause { IfErr result (λ error. error ≢ WalkError.OutOfMemory
-        → MayRefuse (λ b. tree_for (b.builder.vtable, b.builder.value))
+        → InputRefusedAtMost (λ b. tree_for (b.builder.vtable, b.builder.value))
         (input_of input.now) error) }
 {
     let header = &input.header;

@@ -3,7 +3,7 @@ use Rattle.std.specs.Prelude.{ℕ, Option}
 use Rattle.agg_cache.specs.Limits.{Limits}
 use Rattle.agg_segment.specs.declared.query.QueryTree.{QueryTree}
 use Rattle.agg_request_tree.specs.Matching.{built_matches}
-use Rattle.agg_engine.specs.Refusals.{MayRefuse}
+use Rattle.agg_engine.specs.Refusals.{WalkRefusedAtMost}
 use Rattle.agg_engine.specs.Walk.{MayBeAsked}
 use Rattle.agg_engine.specs.declared.walk.error.WalkError.{WalkError}
 use Rattle.agg_pages.specs.input_text.Input.{Input}
@@ -33,7 +33,7 @@ module _ {B : Type 0} (query_for : B → Option QueryTree) (seed : ℕ) where
       MayBeAsked query_for input.header.name input.header.request input.snapshots
 
   -- the walk of a seed's input may be refused so
-  abbrev pub GeneratedMayRefuse : Limits → WalkError → Type 0
-  GeneratedMayRefuse limits =
-      MayRefuse (built_matches query_for) limits input.header.name input.header.query
+  abbrev pub GeneratedRefusedAtMost : Limits → WalkError → Type 0
+  GeneratedRefusedAtMost limits =
+      WalkRefusedAtMost (built_matches query_for) limits input.header.name input.header.query
       input.header.request input.snapshots

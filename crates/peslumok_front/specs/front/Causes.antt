@@ -7,7 +7,7 @@ use Rattle.agg_segment.specs.storage.Document.{Fields}
 use Rattle.agg_segment.specs.SnapshotDocuments.{SnapshotDocuments}
 use Rattle.agg_segment.specs.declared.query.QueryTree.{QueryTree}
 use Rattle.agg_request_tree.specs.Request.{Request}
-use Rattle.agg_engine.specs.Refusals.{HasCause}
+use Rattle.agg_engine.specs.Refusals.{WalkFailsAtMost}
 use Rattle.agg_engine.specs.declared.walk.error.WalkError.{WalkError}
 use Rattle.peslumok_front.specs.grouping.Query.{HasNoQuery, IsQueryOf}
 use Rattle.peslumok_front.specs.grouping.Request.{HasNoRequest, IsRequestOf}
@@ -62,7 +62,7 @@ module _ (grouping : Grouping) (query : QueryTree) (documents : List Fields) whe
     pub asked : IsRequestOf grouping page request
     pub snapshots : List SnapshotDocuments
     pub one : AreOneOf documents page.size snapshots
-    pub cause : HasCause Some limits_of_people (codes "groups") query request snapshots why
+    pub cause : WalkFailsAtMost Some limits_of_people (codes "groups") query request snapshots why
 
   -- why there is no page
   abbrev pub HasNoPage : Page → Failure → Type 0

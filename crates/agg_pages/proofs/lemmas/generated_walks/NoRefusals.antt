@@ -15,7 +15,7 @@ use Rattle.agg_segment.specs.SnapshotDocuments.{SnapshotDocuments}
 use Rattle.agg_segment.specs.declared.query.QueryTree.{QueryTree}
 use Rattle.agg_request_tree.specs.Request.{Request}
 use Rattle.agg_request_tree.specs.ChangedRequest.{with_after, with_size}
-use Rattle.agg_engine.specs.Refusals.{MayBeRefused, MayBeRefusedAt, MayRefuse}
+use Rattle.agg_engine.specs.Refusals.{RefusedAtMost, SnapshotRefusedAtMost, WalkRefusedAtMost}
 use Rattle.agg_engine.specs.Walk.{after_in, documents_in, matching_among}
 use Rattle.agg_engine.specs.declared.walk.error.WalkError.{WalkError}
 use Rattle.agg_engine.specs.declared.walk.error.WalkError.TheVariants as error
@@ -64,7 +64,7 @@ module _ {B : Type 0} (is_match : B → Fields → Bool) (limits : Limits)
 
     -- it isn't refused over them
     not-refused : (why : WalkError)
-        → ¬ (MayBeRefused is_match limits query (asked after) segments why)
+        → ¬ (RefusedAtMost is_match limits query (asked after) segments why)
     not-refused error.BucketOutOfRange out =
         not-out B after (matching_among query segments) out
     not-refused error.TooMany (within, many) =
@@ -91,10 +91,10 @@ module _ {B : Type 0} (is_match : B → Fields → Bool) (limits : Limits)
 
   -- it isn't refused at a snapshot
   not-here : (after : Named AfterKey) (s : SnapshotDocuments) → IsSmall s → (why : WalkError)
-      → ¬ (MayBeRefusedAt is_match limits (codes "g") query (asked after) s why)
+      → ¬ (SnapshotRefusedAtMost is_match limits (codes "g") query (asked after) s why)
   not-here after s small why is =
       not-refused after s.segments small.values small.short why
-      (subst (λ (request : Request B). MayBeRefused is_match limits query request s.segments why)
+      (subst (λ (request : Request B). RefusedAtMost is_match limits query request s.segments why)
       (changed-request (with_size s.page_size) (composite_after after)
       (record (composite_after after) { size = s.page_size }) refl
       ∙ ap (λ size. request_of (record (composite_after after) { size = size })) small.size)
@@ -103,13 +103,13 @@ module _ {B : Type 0} (is_match : B → Fields → Bool) (limits : Limits)
   -- no snapshot of a walk refuses it
   pub never-refused : (after : Named AfterKey) (snapshots : List SnapshotDocuments)
       → AllByRecursion IsSmall snapshots → (why : WalkError)
-      → ¬ (MayRefuse is_match limits (codes "g") query (asked after) snapshots why)
+      → ¬ (WalkRefusedAtMost is_match limits (codes "g") query (asked after) snapshots why)
   never-refused after [] small why is = is
   never-refused after (s ∷ snapshots) small why (inl here) = not-here after s small.0 why here
   never-refused after (s ∷ snapshots) small why (inr (none, (r, are, full, later))) =
       never-refused (after_in (codes "g") r) snapshots small.1 why
       (subst (λ (request : Request B).
-      MayRefuse is_match limits (codes "g") query request snapshots why)
+      WalkRefusedAtMost is_match limits (codes "g") query request snapshots why)
       (changed-request (with_after (after_in (codes "g") r)) (composite_after after)
       (composite_after (after_in (codes "g") r)) refl)
       later)

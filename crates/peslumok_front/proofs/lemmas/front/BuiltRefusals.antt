@@ -22,8 +22,8 @@ use Rattle.agg_engine.proofs.lemmas.collectors.BuiltPages.{built-changed}
 use Rattle.agg_engine.proofs.lemmas.collectors.BuiltTrees.{tree-matches}
 use Rattle.agg_cache.specs.Limits.{Limits}
 use Rattle.agg_engine.specs.snapshot_results.MemoryLimits.{TellsMemory}
-use Rattle.agg_engine.specs.Refusals.{MayBeCounted, MayBeRefused, HasCause}
-use Rattle.agg_engine.specs.Refusals.{MayRefuse}
+use Rattle.agg_engine.specs.Refusals.{MayBeCounted, RefusedAtMost, WalkFailsAtMost}
+use Rattle.agg_engine.specs.Refusals.{WalkRefusedAtMost}
 use Rattle.agg_engine.specs.Walk.{MayBeAsked, matching_among}
 use Rattle.agg_engine.specs.declared.walk.error.WalkError.{WalkError}
 use Rattle.agg_engine.specs.declared.walk.error.WalkError.TheVariants as error
@@ -85,8 +85,8 @@ module _ {B : Type 0} (query_for : B → Option QueryTree) (limits : Limits) whe
 
     -- why results are refused
     refused-built : (why : WalkError)
-        → MayBeRefused (built_matches query_for) limits query request segments why
-        → MayBeRefused matches limits query (built request) segments why
+        → RefusedAtMost (built_matches query_for) limits query request segments why
+        → RefusedAtMost matches limits query (built request) segments why
     refused-built error.BucketOutOfRange is =
         subst (λ P. P) (sym (out-same request matching)) is
     refused-built error.TooMany (within, many) = (
@@ -126,13 +126,13 @@ module _ {B : Type 0} (query_for : B → Option QueryTree) (limits : Limits) whe
       (asked : IsRequestOf grouping page request) (only : SnapshotDocuments) where
     -- of the one snapshot
     at-only : (why : WalkError)
-        → MayRefuse (built_matches query_for) limits (codes "groups") query request
+        → WalkRefusedAtMost (built_matches query_for) limits (codes "groups") query request
         (only ∷ []) why
-        → MayRefuse matches limits (codes "groups") query (built request) (only ∷ []) why
+        → WalkRefusedAtMost matches limits (codes "groups") query (built request) (only ∷ []) why
     at-only why (inr (none, (results, are, full, later))) = absurd later
     at-only why (inl here) =
         inl (subst
-        (λ (r : Request QueryTree). MayBeRefused matches limits query r only.segments why)
+        (λ (r : Request QueryTree). RefusedAtMost matches limits query r only.segments why)
         (built-changed (built_tree query_for) (with_size only.page_size)
         (with_size only.page_size) (size-built (built_matches query_for)
         (built_tree query_for) (tree-matches query_for) only.page_size)
@@ -160,8 +160,8 @@ module _ {B : Type 0} (query_for : B → Option QueryTree) (limits : Limits) whe
     }
 
     refused-page : (why : WalkError)
-        → HasCause query_for limits (codes "groups") query request (only ∷ []) why
-        → HasCause Some limits (codes "groups") query (built request) (only ∷ []) why
+        → WalkFailsAtMost query_for limits (codes "groups") query request (only ∷ []) why
+        → WalkFailsAtMost Some limits (codes "groups") query (built request) (only ∷ []) why
     refused-page (error.Invalid fault) (inl has) =
         inl (fault-built request (refusal.Invalid fault) has)
     refused-page (error.Invalid fault) (inr none) = inr none
@@ -192,7 +192,7 @@ pub page-refused : {B : Type 0} (query_for : B → Option QueryTree) (grouping :
     (documents : List Fields) (name : List ℕ) (limits : Limits) (why : WalkError)
     → name ≡ codes "groups" → limits ≡ limits_of_people → IsRequestOf grouping page request
     → AreOneOf documents page.size snapshots
-    → HasCause query_for limits name query request snapshots why
+    → WalkFailsAtMost query_for limits name query request snapshots why
     → IsPageRefused grouping query documents page why
 page-refused query_for grouping query page request snapshots documents name limits why named most
     asked one cause = record {
@@ -202,12 +202,12 @@ page-refused query_for grouping query page request snapshots documents name limi
       one = subst (AreOneOf documents page.size) one.alone one;
       cause = refused-page query_for limits_of_people grouping query page request asked one.only why
           (subst (λ ss.
-          HasCause query_for limits_of_people (codes "groups") query request ss why)
+          WalkFailsAtMost query_for limits_of_people (codes "groups") query request ss why)
           one.alone
           (subst (λ (l : Limits).
-          HasCause query_for l (codes "groups") query request snapshots why)
+          WalkFailsAtMost query_for l (codes "groups") query request snapshots why)
           most
-          (subst (λ n. HasCause query_for limits n query request snapshots why) named
+          (subst (λ n. WalkFailsAtMost query_for limits n query request snapshots why) named
           cause)));
     }
 
@@ -217,11 +217,11 @@ pub no-walk : {B : Type 0} (query_for : B → Option QueryTree) (grouping : Grou
     (documents : List Fields) (name : List ℕ) (limits : Limits) (why : WalkError)
     → name ≡ codes "groups" → limits ≡ limits_of_people → IsRequestOf grouping page request
     → AreOneOf documents page.size snapshots
-    → HasCause query_for limits name query request snapshots why
+    → WalkFailsAtMost query_for limits name query request snapshots why
     → HasNoPage grouping query documents page (failure_of_walk why)
 no-walk query_for grouping query page request snapshots documents name limits why named most asked
     one =
-    of-walk (HasCause query_for limits name query request snapshots)
+    of-walk (WalkFailsAtMost query_for limits name query request snapshots)
     (HasNoPage grouping query documents page) tt
     (λ error. page-refused query_for grouping query page request snapshots documents name limits
     error named most asked one) why
