@@ -3,6 +3,7 @@ pub mod AscendingKeys
 pub mod BuilderFaults
 pub mod BuiltCounts
 pub mod BuiltRoofs
+pub mod BuiltWalks
 pub mod ChangedCounts
 pub mod ExactRefusals
 pub mod MergedResults

@@ -26,11 +26,21 @@ pub fn generated_inputs_are_never_refused<B>()
         → IsNeverRefused tree_for (generated seed) }
 {}
 
-/// An input has exactly one summary. So has a seed, and each run that writes one writes that.
+/// An input has exactly one summary.
 pub fn an_input_has_one_summary<B>()
     ensures exists { (tree_for : B → List (List ℕ) → Option QueryTree) (i : Input B)
         → (text : List ℕ) × IsSummary tree_for i text }
     ensures only { (tree_for : B → List (List ℕ) → Option QueryTree) (i : Input B)
         (text other : List ℕ)
         → IsSummary tree_for i text → IsSummary tree_for i other → text ≡ other }
+{}
+
+/// A seed has exactly one summary, whatever the builders and the queries that they make: each run
+/// that writes a summary of it writes that.
+pub fn a_seed_has_one_summary<B, C>()
+    ensures { (tree_for : B → List (List ℕ) → Option QueryTree)
+        (others_for : C → List (List ℕ) → Option QueryTree) (seed : ℕ) (text other : List ℕ)
+        → IsSummary tree_for (generated seed) text
+        → IsSummary others_for (generated seed) other
+        → text ≡ other }
 {}

@@ -20,7 +20,8 @@ mod status;
 pub use agg_streams::{Failed, sink};
 pub use any_field::AnyField;
 pub use laws::{
-    a_printed_walk_is_the_plain_walk, an_input_has_one_summary, generated_inputs_are_never_refused,
+    a_printed_walk_is_the_plain_walk, a_seed_has_one_summary, an_input_has_one_summary,
+    generated_inputs_are_never_refused,
 };
 pub use program::{run, run_uncounted};
 pub use status::Status;

@@ -6,3 +6,4 @@ pub mod GeneratedRequests
 pub mod GeneratedRoofs
 pub mod NoRefusals
 pub mod Ones
+pub mod SeedSummaries

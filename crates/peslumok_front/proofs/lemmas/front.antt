@@ -1,7 +1,6 @@
 pub mod AskedAll
 pub mod BuiltRefusals
 pub mod BuiltRequests
-pub mod BuiltWalks
 pub mod ColumnNames
 pub mod Failed
 pub mod Failures

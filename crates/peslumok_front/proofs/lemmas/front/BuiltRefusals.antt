@@ -38,7 +38,7 @@ use Rattle.peslumok_records.specs.record_index.Index.{AreOneOf}
 use Rattle.peslumok_front.specs.front.Causes.{HasNoPage, IsPageRefused, limits_of_people}
 use Rattle.peslumok_front.specs.front.Codes.{failure_of_grouping, failure_of_walk}
 use Rattle.peslumok_front.proofs.lemmas.front.BuiltRequests.{request-built}
-use Rattle.peslumok_front.proofs.lemmas.front.BuiltWalks.{results-built, size-built}
+use Rattle.agg_engine.proofs.BuiltWalks.{results-built, size-built}
 use Rattle.peslumok_front.proofs.lemmas.front.Failures.{of-grouping, of-walk}
 use Rattle.peslumok_front.proofs.lemmas.front.ShownKeys.{groups-named}
 

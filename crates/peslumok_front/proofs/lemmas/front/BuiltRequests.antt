@@ -28,7 +28,7 @@ use Rattle.peslumok_front.specs.grouping.Request.{named_metric, of_kind}
 use Rattle.peslumok_front.specs.declared.grouping.grouping.Grouping.{Grouping}
 use Rattle.peslumok_front.specs.declared.grouping.request.Page.{Page}
 use Rattle.peslumok_front.specs.front.Pages.{IsPageWalk}
-use Rattle.peslumok_front.proofs.lemmas.front.BuiltWalks.{walk-built}
+use Rattle.agg_engine.proofs.BuiltWalks.{walk-built}
 
 -- what holds of each that is mapped holds of all of the map
 all-mapped : {X Y : Type 0} (P : Y → Type 0) (f : X → Y) (xs : List X) → All (λ x. P (f x)) xs
