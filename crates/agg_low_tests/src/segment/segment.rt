@@ -86,6 +86,29 @@ fn interleaved_classes_have_columns_of_their_own(rt: HostRuntime) -> Result<(), 
     Ok(())
 }
 
+// Adds a text to the open document in each way.
+fn push_twice(
+    alloc: Global,
+    builder: &mut SegmentBuilder,
+    text: &'static str,
+) -> Result<(), OutOfMemory> {
+    let field = builder.field("a")?;
+    builder.push_text(field, text)?;
+    push_all(alloc, builder, &[("a", Given::Text(text))])
+}
+
+#[test]
+fn pushed_texts_are_one_value_in_each_way(rt: HostRuntime) -> Result<(), Fail> {
+    let mut builder = SegmentBuilder::new(rt.alloc());
+    for text in ["b", "a", "b"] {
+        push_twice(rt.alloc(), &mut builder, text)?;
+    }
+    builder.finish()?;
+    let field = Text::copy_of(rt.alloc(), "a")?;
+    let segment = builder.build()?;
+    expect_equal(numbers(&segment, &field, 0), [1, 1, 0, 0, 1, 1].as_slice())
+}
+
 // Of a document with a signed number and one with a large number the second is refused.
 fn expect_mix(alloc: Global, builder: &mut SegmentBuilder) -> Result<(), Fail> {
     let signed = finish_with(alloc, builder, &OF_EACH_CLASS)?;
