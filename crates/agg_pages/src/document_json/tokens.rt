@@ -83,12 +83,8 @@ fn open_line(
         → IsDocumentLine line.now (open_document builder.new)) }
     ensures documents { gathered_documents builder.new ≡ gathered_documents builder.old }
 {
-    if open_tokens(
-        alloc,
-        builder,
-        &mut PlainReader::new(line),
-        &mut room.fields,
-    )? {
+    let mut plain = PlainReader::new(line);
+    if open_tokens(alloc, builder, &mut plain, &mut room.fields)? {
         return Ok(true);
     }
     let Ok(mut reader) = Reader::new(line, &mut room.tokens) else {
