@@ -1,5 +1,4 @@
 pub mod AfterKeys
-pub mod AscendingKeys
 pub mod BuilderFaults
 pub mod BuiltCounts
 pub mod BuiltRoofs

@@ -24,7 +24,7 @@ use agg_engine_tree::segment_context::AggContextParams;
 use agg_request_tree::{Aggregations, check_request};
 use agg_results::AggregationResults;
 use agg_segment::{QueryTree, Schema, Snapshot};
-use agg_values::{InvalidArgument, ItemList, Steps, Text};
+use agg_values::{InvalidArgument, ItemList, Steps, Text, copied_after_key};
 pub use error::WalkError;
 use page::{set_page, snapshot_page};
 use std::alloc::Global;
@@ -101,7 +101,7 @@ pub fn walk_pages<L: Ledger>(
         return Err(WalkError::UnknownComposite);
     };
     let mut params = AggContextParams::new(alloc, request, schema)?;
-    let mut after = bound::copied(alloc, &composite.after)?;
+    let mut after = copied_after_key(alloc, &composite.after)?;
     let mut pages = ItemList::new(alloc);
     for snapshot in snapshots.as_slice() {
         set_page(alloc, &mut params, name, snapshot.page_size, after)?;

@@ -1,4 +1,5 @@
 pub mod AddressTexts
+pub mod AscendingKeys
 pub mod GroupTexts
 pub mod Groups
 pub mod KeyOrder

@@ -11,7 +11,7 @@ ghost use Rattle.agg_values.specs.TypedKey.{CompositeIntermediateKey};
 ghost use Rattle.agg_values.specs.TypedKey.key.{Bool as Truth, IpAddr, U64};
 
 use crate::address::read_address;
-use crate::{Address, CompositeIntermediateKey, KeyTextError, OutOfMemory, Text};
+use crate::{Address, CompositeIntermediateKey, KeyTextError, NameMap, OutOfMemory, Text};
 use std::alloc::{AllocError, Global};
 
 /// A key that a page begins after.
@@ -39,6 +39,20 @@ impl AfterKey {
     {
         Text::from_string(written_key(alloc, &self.0)?)
     }
+}
+
+/// An equal after key.
+pub fn copied_after_key(
+    alloc: Global,
+    after: &NameMap<AfterKey>,
+) -> Result<NameMap<AfterKey>, OutOfMemory>
+    ensures { IfOk result (λ copy. copy ≡ after.now) }
+{
+    let mut copy = NameMap::new(alloc);
+    for (source, key) in after.iter() {
+        copy.insert(source.try_clone(alloc)?, AfterKey(key.0.try_clone(alloc)?))?;
+    }
+    Ok(copy)
 }
 
 impl From<CompositeIntermediateKey> for AfterKey {

@@ -25,7 +25,7 @@ pub mod tuple_map;
 mod typed_key;
 
 pub use address::Address;
-pub use after_key::AfterKey;
+pub use after_key::{AfterKey, copied_after_key};
 pub use column::ColumnPaginationOrder;
 pub use composite_key::CompositeKey;
 pub use error::{InvalidArgument, KeyTextError, OutOfMemory, TooMany};

@@ -1,10 +1,10 @@
 //! Where the next page begins.
-ghost use Rattle.std.specs.Prelude.{◌≡◌, IfOk};
+ghost use Rattle.std.specs.Prelude.{IfOk};
 ghost use Rattle.agg_engine.specs.PageAnswers.{IsShown};
 ghost use Rattle.agg_engine.specs.Walk.{after_in};
 
 use agg_results::{AggregationResult, AggregationResults, BucketResult};
-use agg_values::{AfterKey, NameMap, OutOfMemory, Text};
+use agg_values::{AfterKey, NameMap, OutOfMemory, Text, copied_after_key};
 use std::alloc::Global;
 
 /// The after key that the results of a name show, if they show one.
@@ -24,16 +24,5 @@ pub fn next_after(
     if after_key.is_empty() {
         return Ok(None);
     }
-    Ok(Some(copied(alloc, after_key)?))
-}
-
-/// An equal after key.
-pub fn copied(alloc: Global, after: &NameMap<AfterKey>) -> Result<NameMap<AfterKey>, OutOfMemory>
-    ensures { IfOk result (λ copy. copy ≡ after.now) }
-{
-    let mut copy = NameMap::new(alloc);
-    for (source, key) in after.iter() {
-        copy.insert(source.try_clone(alloc)?, AfterKey(key.0.try_clone(alloc)?))?;
-    }
-    Ok(copy)
+    Ok(Some(copied_after_key(alloc, after_key)?))
 }

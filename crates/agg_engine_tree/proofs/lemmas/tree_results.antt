@@ -1,5 +1,4 @@
 pub mod ApartNames
-pub mod AscendingKeys
 pub mod BelowNodes
 pub mod CompositeNodes
 pub mod FilterNodes

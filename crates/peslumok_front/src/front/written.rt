@@ -17,7 +17,7 @@ use crate::tables::{Columns, Row, cells_of_group, cells_of_total, write_rows};
 use agg_results::final_results::{
     AggregationResult, AggregationResults, BucketResult, CompositeBucketEntry, FilterBucketResult,
 };
-use agg_values::{AfterKey, NameMap, OutOfMemory, Text};
+use agg_values::{AfterKey, NameMap, OutOfMemory, Text, copied_after_key};
 use peslumok_texts::formats::OutputFormat;
 use std::alloc::Global;
 
@@ -105,18 +105,7 @@ pub fn next_after(
     else {
         return Ok(NameMap::new(alloc));
     };
-    copy_of(alloc, after_key)
-}
-
-// An equal after key.
-fn copy_of(alloc: Global, after: &NameMap<AfterKey>) -> Result<NameMap<AfterKey>, OutOfMemory>
-    ensures { IfOk result (λ copy. copy ≡ after.now) }
-{
-    let mut copy = NameMap::new(alloc);
-    for (source, key) in after.iter() {
-        copy.insert(source.try_clone(alloc)?, AfterKey(key.0.try_clone(alloc)?))?;
-    }
-    Ok(copy)
+    copied_after_key(alloc, after_key)
 }
 
 // The rows of groups, and that of a total.

@@ -24,7 +24,7 @@ use Rattle.agg_engine_tree.specs.declared.segment_context.context.PerRequestAggS
 use Rattle.agg_engine_tree.specs.collector_tree.Tree.{Held}
 use Rattle.agg_engine_tree.specs.tree_results.Entries.{HoldsPage, IsAscending, IsEntryOf}
 use Rattle.agg_engine_tree.specs.tree_results.Results.{GroupStands}
-use Rattle.agg_engine_tree.proofs.lemmas.tree_results.AscendingKeys.{below-before}
+use Rattle.agg_values.proofs.AscendingKeys.{below-before}
 
 -- the parts of a composite's result
 pub record HasParts (c : IntermediateCompositeBucketResult) (rules : SourceRules) (size : ℕ)

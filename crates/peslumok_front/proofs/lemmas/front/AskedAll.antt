@@ -11,7 +11,7 @@ use Rattle.agg_values.specs.Names.{Named, name_cmp}
 use Rattle.peslumok_texts.specs.declared.fields.field_type.FieldType.{FieldType}
 use Rattle.peslumok_records.specs.held.Asked.{Asks, IsAsked, StandsLast}
 use Rattle.peslumok_records.specs.declared.held.asked.AskedField.{AskedField}
-use Rattle.agg_engine.proofs.AscendingKeys.{below-before}
+use Rattle.agg_values.proofs.AscendingKeys.{below-before}
 use Rattle.peslumok_front.specs.front.Asking.{named_type}
 
 -- no name is below itself

@@ -1,5 +1,5 @@
 use Rattle.std.proofs.Common.{◌≡◌, ◌++◌}
-use Rattle.peslumok_front.proofs.front.written.copy_of.Given as goal
+use Rattle.agg_values.proofs.after_key.copied_after_key.Given as goal
 
 -- the entries so far are copied
 abbrev pub invariant-loop-source : goal.invariant-loop-source

@@ -1,7 +1,7 @@
 use Rattle.std.proofs.Common.{◌≡◌, ◌++◌, ap}
-use Rattle.agg_engine.proofs.AscendingKeys.{copied-more}
-use Rattle.peslumok_front.proofs.front.written.copy_of.Goals as goal
-use Rattle.peslumok_front.proofs.front.written.copy_of.Goals.{In_ok-insert}
+use Rattle.agg_values.proofs.AscendingKeys.{copied-more}
+use Rattle.agg_values.proofs.after_key.copied_after_key.Goals as goal
+use Rattle.agg_values.proofs.after_key.copied_after_key.Goals.{In_ok-insert}
 
 -- one entry more is copied
 more : (c : In_ok-insert) → c.args.after.now ≡ c.insert.new.self ++ c.next.new.self

@@ -1,7 +1,0 @@
-use Rattle.std.proofs.Common.{◌≡◌, ◌++◌}
-use Rattle.agg_engine.proofs.walk.bound.copied.Given as goal
-
--- the entries so far are copied
-abbrev pub invariant-loop-source : goal.invariant-loop-source
-invariant-loop-source l =
-    l.after ≡ l.copy ++ l.source-iterator
