@@ -137,7 +137,8 @@ impl SegmentBuilder {
     fn push_value(&mut self, field: u32, value: PushedValue<'_>) -> Result<(), OutOfMemory>
         requires { (name : List ℕ) × IsNameOf self.old field name }
         ensures ok { OnOk result ((name : List ℕ) → IsNameOf self.old field name
-            → open_document self.new ≡ with_key name (pushed_key value.entry) (open_document self.old)) }
+            → open_document self.new
+            ≡ with_key name (pushed_key value.entry) (open_document self.old)) }
         ensures err { OnErr result (open_document self.new ≡ open_document self.old) }
         ensures documents { gathered_documents self.new ≡ gathered_documents self.old }
         ensures names { self.new.names ≡ self.old.names }

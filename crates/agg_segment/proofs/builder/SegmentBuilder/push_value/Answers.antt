@@ -77,7 +77,8 @@ returns-clause-ok c =
     ∙ push_open s.count s.names (whole c) s.signs.items (length s.columns) c.self.invariant.0
     c.args.field (pushed_key c.args.value) name (subst (λ (b : Gathered).
     IsNameOf b c.args.field name) (sym c.self.view_is) at)
-    ∙ ap (λ (b : Gathered). with_key name (pushed_key c.args.value) (open_document b)) c.self.view_is)
+    ∙ ap (λ (b : Gathered). with_key name (pushed_key c.args.value) (open_document b))
+    c.self.view_is)
     c.push.ensures.ok
 
 pub returns-clause-err : goal.returns-clause-err

@@ -44,8 +44,8 @@ keys_are c =
 pub new-requires-clause-wide : goal.new-requires-clause-wide
 new-requires-clause-wide c is =
     wide_rows c.args.listed.now.texts.now c.args.listed.now.addresses.now c.args.sign
-    c.args.gathering c.args.gathering.field c.in_ok-keys.keys c.in_ok-into_rows.field-0 c.requires.wide is
-    c.in_ok-keys.ensures.kind (keys_are c)
+    c.args.gathering c.args.gathering.field c.in_ok-keys.keys c.in_ok-into_rows.field-0
+    c.requires.wide is c.in_ok-keys.ensures.kind (keys_are c)
 
 pub returns-clause-cells : goal.returns-clause-cells
 returns-clause-cells c =

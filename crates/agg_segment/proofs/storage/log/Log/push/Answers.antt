@@ -20,7 +20,8 @@ returns-in_err-push-clause-err c =
     let t = c.in_ok-value.ensures.texts in
     let a = c.in_ok-value.ensures.addresses in
     on_err_given c.from_residual-in_err-push.result
-    (ap (map (placed c.keep_pushed.new.texts c.keep_pushed.new.addresses.items)) c.in_err-push.ensures.items
+    (ap (map (placed c.keep_pushed.new.texts c.keep_pushed.new.addresses.items))
+    c.in_err-push.ensures.items
     ∙ still c.self.inside.texts t.0 c.self.inside.addresses.items a.0
     c.self.inside.cells.items _ _ t.1 a.1 c.self.invariant
     ∙ ap (λ (log : Logged). log.cells) c.self.view_is)
@@ -53,26 +54,28 @@ returns-clause-ok c =
     let texts = c.self.inside.texts in
     let addresses = c.self.inside.addresses.items in
     let cells = c.self.inside.cells.items in
+    let kept = c.keep_pushed.new.addresses.items in
+    let pushed = pushed_key c.args.value in
     rw (c.in_ok-push.ensures.items, ← c.self.view_is)
-    (map-append (placed c.keep_pushed.new.texts c.keep_pushed.new.addresses.items) cells (record {
+    (map-append (placed c.keep_pushed.new.texts kept) cells (record {
       field =
           c.args.field;
       doc = c.args.doc;
       value = c.in_ok-value.value;
     } ∷ [])
-    ∙ ap (λ k. map (placed c.keep_pushed.new.texts c.keep_pushed.new.addresses.items) cells ++ record
+    ∙ ap (λ k. map (placed c.keep_pushed.new.texts kept) cells ++ record
     { field = c.args.field; doc = c.args.doc; key = k } ∷ []) c.in_ok-value.ensures.key
-    ∙ ap (λ ts. map (placed ts c.keep_pushed.new.addresses.items) cells ++ record {
+    ∙ ap (λ ts. map (placed ts kept) cells ++ record {
       field =
           c.args.field;
       doc = c.args.doc;
-      key = pushed_key c.args.value;
+      key = pushed;
     } ∷ []) t.1
     ∙ ap (λ others. map (placed (texts ++ t.0) others) cells ++ record {
       field = c.args.field;
       doc =
           c.args.doc;
-      key = pushed_key c.args.value;
+      key = pushed;
     } ∷ []) a.1
-    ∙ ap (λ ps. ps ++ record { field = c.args.field; doc = c.args.doc; key = pushed_key c.args.value }
+    ∙ ap (λ ps. ps ++ record { field = c.args.field; doc = c.args.doc; key = pushed }
     ∷ []) (cells_longer texts t.0 addresses a.0 cells c.self.invariant))
