@@ -12,8 +12,10 @@ const SHOP: BySpec<'static> = BySpec {
     name: None,
     field: "shop",
     interval: None,
+    offset: None,
     is_descending: false,
     missing: Missing::NoGroup,
+    min: None,
 };
 
 // Texts of `--by`, and what they stand for.
@@ -27,6 +29,7 @@ const BY: &[(&str, Result<BySpec<'static>, BySpecError<'static>>)] = &[
             interval: Some("month"),
             is_descending: true,
             missing: Missing::First,
+            ..SHOP
         }),
     ),
     (
@@ -51,9 +54,66 @@ const BY: &[(&str, Result<BySpec<'static>, BySpecError<'static>>)] = &[
             ..SHOP
         }),
     ),
+    (
+        "day:1d+6h",
+        Ok(BySpec {
+            field: "day",
+            interval: Some("1d"),
+            offset: Some("+6h"),
+            ..SHOP
+        }),
+    ),
+    (
+        "start=day:month-1d,desc,missing=last,min=2026-01-31",
+        Ok(BySpec {
+            name: Some("start"),
+            field: "day",
+            interval: Some("month"),
+            offset: Some("-1d"),
+            is_descending: true,
+            missing: Missing::Last,
+            min: Some("2026-01-31"),
+        }),
+    ),
+    (
+        "day:1d+-6h",
+        Ok(BySpec {
+            field: "day",
+            interval: Some("1d"),
+            offset: Some("+-6h"),
+            ..SHOP
+        }),
+    ),
+    (
+        "shop,min=a=b:c,min=d",
+        Ok(BySpec {
+            min: Some("a=b:c,min=d"),
+            ..SHOP
+        }),
+    ),
+    (
+        "shop,min=",
+        Ok(BySpec {
+            min: Some(""),
+            ..SHOP
+        }),
+    ),
+    (
+        "a+b",
+        Ok(BySpec {
+            field: "a+b",
+            ..SHOP
+        }),
+    ),
     ("", Err(BySpecError::NoField)),
+    (",min=3", Err(BySpecError::NoField)),
     ("=shop", Err(BySpecError::NoName)),
     ("shop:", Err(BySpecError::NoInterval)),
+    ("day:+6h", Err(BySpecError::NoInterval)),
+    ("day:1d+", Err(BySpecError::NoOffset)),
+    ("day:month-,min=3", Err(BySpecError::NoOffset)),
+    ("shop,min", Err(BySpecError::UnknownWords("min"))),
+    ("shop,asc,min=3", Err(BySpecError::UnknownWords("asc"))),
     ("shop,", Err(BySpecError::UnknownWords(""))),
     ("shop,asc", Err(BySpecError::UnknownWords("asc"))),
     (

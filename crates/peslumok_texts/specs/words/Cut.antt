@@ -1,7 +1,7 @@
--- Texts that are cut at the first of a byte.
-use Rattle.std.specs.Prelude.{◌≡◌, ℕ, List, [], ◌∷◌, length, ◌==◌, nat_lt, false, ⊤}
+-- Texts that are cut at the first of a byte or of a word.
+use Rattle.std.specs.Prelude.{◌≡◌, ℕ, List, [], ◌∷◌, drop, length, ◌==◌, nat_eq, nat_lt, false, ⊤}
 use Rattle.std.specs.Prelude.{if◌then◌else◌, Option, Some, None}
-use Rattle.std.specs.List.{before_first, after_first, position_or_len}
+use Rattle.std.specs.List.{before_first, after_first, position_or_len, starts_with}
 
 -- a text up to a byte
 abbrev pub before : ℕ → List ℕ → List ℕ
@@ -20,6 +20,13 @@ abbrev pub cut : ℕ → List ℕ → List ℕ × Option (List ℕ)
 cut c text =
     if nat_lt (place_of c text) (length text) then (before c text, Some (after c text))
     else (text, None)
+
+-- a text up to the first of a word, and what stands after that where it is there
+abbrev pub cut_at : List ℕ → List ℕ → List ℕ × Option (List ℕ)
+cut_at word [] = ([], None)
+cut_at word (b ∷ bs) =
+    if starts_with nat_eq (b ∷ bs) word then ([], Some (drop (length word) (b ∷ bs)))
+    else (b ∷ (cut_at word bs).0, (cut_at word bs).1)
 
 -- a byte does not stand in a text
 abbrev pub Lacks : ℕ → List ℕ → Type 0

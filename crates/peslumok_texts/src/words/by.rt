@@ -1,9 +1,10 @@
 ghost use Rattle.std.specs.Prelude.{◌≡◌, Some, None, IfErr, MatchResult, option_map};
 ghost use Rattle.peslumok_texts.specs.words.By as spec;
+ghost use Rattle.std.specs.List.{position};
 ghost use Rattle.peslumok_texts.specs.words.By.{AreUnknownWords, Parts};
-ghost use Rattle.peslumok_texts.specs.words.Cut.{cut as cut_of};
+ghost use Rattle.peslumok_texts.specs.words.Cut.{cut as cut_of, cut_at as cut_at_of};
 
-use crate::words::cut::cut;
+use crate::words::cut::{cut, cut_at};
 use thiserror::Error;
 
 /// Whether records without a value have a group, and where it stands.
@@ -27,8 +28,12 @@ pub struct BySpec<'a> {
     pub field: &'a str,
     /// How wide a group is, as it was written.
     pub interval: Option<&'a str>,
+    /// By how much each group begins later, as it was written, with its sign.
+    pub offset: Option<&'a str>,
     pub is_descending: bool,
     pub missing: Missing,
+    /// The least value that has a group, as it was written.
+    pub min: Option<&'a str>,
 }
 
 /// What is wrong with a text of `--by`.
@@ -40,13 +45,17 @@ pub enum BySpecError<'a> {
     NoName,
     #[error("no interval after `:`")]
     NoInterval,
-    #[error("the words after the first comma are `desc`, `missing`, `missing=first` or \
-        `missing=last`, in this order")]
+    #[error("no offset after its sign")]
+    NoOffset,
+    #[error("the words after the first comma are `desc`, then `missing`, `missing=first` or \
+        `missing=last`, then `min=VALUE`")]
     UnknownWords(&'a str),
 }
 
-/// What a text of `--by` stands for: `[NAME=]FIELD[:INTERVAL][,desc][,missing]`, where `missing`
-/// may be `missing=first` or `missing=last`.
+/// What a text of `--by` stands for:
+/// `[NAME=]FIELD[:INTERVAL[OFFSET]][,desc][,missing][,min=VALUE]`, where `missing` may be
+/// `missing=first` or `missing=last`. The first `+` or `-` of an interval begins its offset, and
+/// what stands after the first `,min=` is a value.
 pub fn read_by(text: &str) -> Result<BySpec<'_>, BySpecError<'_>>
     ensures stands { MatchResult
         result
@@ -67,6 +76,9 @@ pub fn read_by(text: &str) -> Result<BySpec<'_>, BySpecError<'_>>
     if is_blank(by.interval) {
         return Err(BySpecError::NoInterval);
     }
+    if is_lone_sign(by.offset) {
+        return Err(BySpecError::NoOffset);
+    }
     Ok(by)
 }
 
@@ -75,18 +87,22 @@ fn split_parts(text: &str) -> Result<BySpec<'_>, &str>
     ensures { MatchResult
         result
         (λ by. spec.written text.now ≡ Some (spec.parts by))
-        (λ words. AreUnknownWords (cut_of 44 text.now).1 words.now) }
+        (λ words. AreUnknownWords (cut_of 44 (cut_at_of spec.min_word text.now).0).1 words.now) }
 {
-    let (head, words) = cut(text, ',');
+    let (front, min) = cut_at(text, ",min=");
+    let (head, words) = cut(front, ',');
     let (is_descending, missing) = read_optional_words(words)?;
     let (name, rest) = split_name(head);
-    let (field, interval) = cut(rest, ':');
+    let (field, division) = cut(rest, ':');
+    let (interval, offset) = split_division(division);
     Ok(BySpec {
         name,
         field,
         interval,
+        offset,
         is_descending,
         missing,
+        min,
     })
 }
 
@@ -114,12 +130,51 @@ fn split_name(head: &str) -> (Option<&str>, &str)
     }
 }
 
+// An interval, and the offset that begins at its first sign.
+fn split_division(division: Option<&str>) -> (Option<&str>, Option<&str>)
+    ensures { (
+      option_map (λ interval. interval.now) result.0,
+      option_map (λ offset. offset.now) result.1,
+    )
+        ≡ spec.interval_and_offset (option_map (λ text. text.now) division.entry) }
+{
+    let Some(text) = division else {
+        return (None, None);
+    };
+    match sign_place(text) {
+        Some(at) => {
+            let (interval, offset) = text.split_at(at);
+            (Some(interval), Some(offset))
+        }
+        None => (Some(text), None),
+    }
+}
+
+// Where the first sign stands.
+fn sign_place(text: &str) -> Option<usize>
+    ensures { result ≡ position spec.is_sign text.now }
+{
+    text.as_bytes()
+        .iter()
+        .position(|byte| matches!(byte, b'+' | b'-'))
+}
+
 // Whether a part is written, and empty.
 fn is_blank(part: Option<&str>) -> bool
     ensures { result ≡ spec.is_blank (option_map (λ text. text.now) part.entry) }
 {
     match part {
         Some(text) => text.is_empty(),
+        None => false,
+    }
+}
+
+// Whether an offset is a sign alone.
+fn is_lone_sign(offset: Option<&str>) -> bool
+    ensures { result ≡ spec.is_lone_sign (option_map (λ text. text.now) offset.entry) }
+{
+    match offset {
+        Some(text) => text.len() == 1,
         None => false,
     }
 }

@@ -3,5 +3,12 @@ use Rattle.peslumok_texts.proofs.words.by.split_parts.Goals as goal
 
 pub returns : goal.returns
 returns c =
-    rw (← c.cut.ensures, c.in_ok-is_descending.ensures, ← c.split_name.ensures, ← c.cut-2.ensures)
+    rw (
+      ← c.cut_at.ensures,
+      ← c.cut.ensures,
+      c.in_ok-is_descending.ensures,
+      ← c.split_name.ensures,
+      ← c.cut-2.ensures,
+      ← c.split_division.ensures,
+    )
     refl
