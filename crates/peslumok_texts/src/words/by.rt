@@ -1,6 +1,6 @@
 ghost use Rattle.std.specs.Prelude.{◌≡◌, Some, None, IfErr, MatchResult, option_map};
-ghost use Rattle.peslumok_texts.specs.words.By as spec;
 ghost use Rattle.std.specs.List.{position};
+ghost use Rattle.peslumok_texts.specs.words.By as spec;
 ghost use Rattle.peslumok_texts.specs.words.By.{AreUnknownWords, Parts};
 ghost use Rattle.peslumok_texts.specs.words.Cut.{cut as cut_of, cut_at as cut_at_of};
 
