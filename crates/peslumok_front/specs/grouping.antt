@@ -1,4 +1,6 @@
+pub mod Divisions
 pub mod Fields
+pub mod Mins
 pub mod Query
 pub mod Request
 pub mod Sources

@@ -100,7 +100,7 @@ pub record IsRequestOf {B : Type 0} (grouping : Grouping) (page : Page) (request
 
 -- ---- why there is no request
 
--- why a request isn't made: for want of memory, or by the interval of a source
+-- why a request isn't made: for want of memory, or by an interval, an offset or a least value
 abbrev pub HasNoRequest : Grouping → GroupingError → Type 0
 HasNoRequest grouping error.OutOfMemory = ⊤
 HasNoRequest grouping refusal =

@@ -200,9 +200,9 @@ impl End {
     }
 }
 
-// The truth value of a word.
+/// The truth value of a word.
 #[tactic(auto, using(peslumok_texts::proofs::lemmas::words::Words::other))]
-fn truth_of(text: &str) -> Option<bool>
+pub(crate) fn truth_of(text: &str) -> Option<bool>
     ensures { result ≡ truth_of text.now }
 {
     match text {

@@ -1,6 +1,7 @@
 //! Why a grouping can't be asked.
 ghost use Rattle.std.specs.Prelude.{◌≡◌};
 
+use crate::grouping::by_fault::ByFault;
 use agg_request::json_values::ReadError;
 use agg_values::{OutOfMemory, Text};
 use peslumok_texts::fields::ValueError;
@@ -10,12 +11,12 @@ use thiserror::Error;
 /// Why a grouping can't be asked, with the words that are wrong.
 #[derive(Debug, Drop, Error)]
 pub enum GroupingError {
-    /// An interval that divides neither the numbers nor the dates of its field.
-    #[error("--by {}:{}: {why}", field.as_str(), interval.as_str())]
-    Interval {
+    /// An interval, an offset or a least value of groups that its field can't have.
+    #[error("--by: {}: '{}' {why}", field.as_str(), text.as_str())]
+    By {
         field: Text,
-        interval: Text,
-        why: IntervalFault,
+        text: Text,
+        why: ByFault,
     },
     /// A value that its field can't have.
     #[error("--where: {}: '{}' {why}", field.as_str(), value.as_str())]
@@ -41,19 +42,6 @@ pub enum GroupingError {
     TwoTypes(Text),
     #[error("out of memory")]
     OutOfMemory,
-}
-
-/// What is wrong with an interval.
-#[derive(Clone, Copy, Debug, PartialEq, Eq, Error)]
-pub enum IntervalFault {
-    #[error("dates are divided by 1d, 12h, 30m, year, month or week")]
-    OfDates,
-    #[error("numbers are divided by a whole number from 1 on, and --date FIELD reads dates")]
-    OfNumbers,
-    #[error("the interval has more decimals than the field, or is not above 0")]
-    OfDecimals,
-    #[error("a text field has no intervals")]
-    OfTexts,
 }
 
 /// What is wrong with the text of a query.

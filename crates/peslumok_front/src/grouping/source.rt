@@ -1,24 +1,24 @@
 //! The sources of a composite.
-ghost use Rattle.std.specs.Prelude.{◌≡◌, Ok, IfOk, IfErr};
-ghost use Rattle.peslumok_texts.specs.decimals.Decimal.{decimal_of};
-ghost use Rattle.peslumok_front.specs.grouping.Sources.{HasNoSource, date_division, date_source};
-ghost use Rattle.peslumok_front.specs.grouping.Sources.{decimal_division, division_asked};
-ghost use Rattle.peslumok_front.specs.grouping.Sources.{divided_source, fixed_division, has_group};
-ghost use Rattle.peslumok_front.specs.grouping.Sources.{number_division, order_asked, source_asked};
-ghost use Rattle.peslumok_front.specs.grouping.Sources.{source_parts, standing_of, values_source};
-ghost use Rattle.peslumok_front.specs.grouping.Sources.{width_division, width_source};
+ghost use Rattle.std.specs.Prelude.{◌≡◌, [], Ok, IfOk, IfErr, option_map, unwrap_or};
+ghost use Rattle.peslumok_front.specs.grouping.Sources.{HasNoSource, date_source, divided_source};
+ghost use Rattle.peslumok_front.specs.grouping.Sources.{faulty_part, has_group, order_asked};
+ghost use Rattle.peslumok_front.specs.grouping.Sources.{source_asked, source_by, source_parts};
+ghost use Rattle.peslumok_front.specs.grouping.Sources.{standing_of, values_source, width_source};
+ghost use Rattle.peslumok_texts.specs.fields.Types.{type_of};
 ghost use Rattle.peslumok_texts.specs.words.By.{parts};
 
+use crate::grouping::by_fault::ByFault;
 use crate::grouping::column_of;
-use crate::grouping::error::{GroupingError, IntervalFault};
-use agg_calendar::{CalendarInterval, PrecomputedDateInterval};
+use crate::grouping::division::{DateInterval, Division};
+use crate::grouping::error::GroupingError;
+use crate::grouping::min::least_of;
+use agg_calendar::CalendarInterval;
 use agg_request_tree::{
     CompositeAggregationSource, DateHistogramCompositeAggregationSource,
     HistogramCompositeAggregationSource, TermCompositeAggregationSource,
 };
-use agg_values::{MissingOrder, Order, OutOfMemory, RequestError, Text};
-use peslumok_texts::decimals::{Places, read_decimal};
-use peslumok_texts::fields::{FieldType, FieldTypes};
+use agg_values::{AfterKey, MissingOrder, Order, OutOfMemory, Text};
+use peslumok_texts::fields::FieldTypes;
 use peslumok_texts::words::{BySpec, Missing};
 use std::alloc::Global;
 
@@ -31,106 +31,57 @@ pub fn source_of(
     ensures source { IfOk result (λ source. source_asked types.now (parts by.now) ≡ Ok source) }
     ensures cause { IfErr result (HasNoSource types.now (parts by.now)) }
 {
-    let parts = SourceParts::new(alloc, by)?;
-    let Some(interval) = by.interval else {
-        return Ok(parts.terms());
-    };
-    let of = types.get(&parts.field);
-    match Division::read(alloc, interval, of)? {
-        Ok(division) => Ok(parts.divided(division)),
-        Err(why) => Err(GroupingError::Interval {
-            field: Text::copy_of(alloc, by.field)?,
-            interval: Text::copy_of(alloc, interval)?,
+    let field = Text::copy_of(alloc, by.field)?;
+    match read_source(alloc, by, &field, types)? {
+        Ok(source) => Ok(source),
+        Err(why) => Err(GroupingError::By {
+            field,
+            text: Text::copy_of(alloc, faulty_text(by, &why))?,
             why,
         }),
     }
 }
 
-/// What the values of a source are divided by.
-#[derive(Drop)]
-enum Division {
-    Width(i64),
-    Fixed(Text),
-    Calendar(CalendarInterval),
+// The source for a field of the type of that name, or what is wrong with it.
+fn read_source(
+    alloc: Global,
+    by: &BySpec<'_>,
+    field: &Text,
+    types: &FieldTypes,
+) -> Result<Result<CompositeAggregationSource, ByFault>, OutOfMemory>
+    ensures { IfOk result (λ read. read
+        ≡ source_by (type_of types.now field.now) (parts by.now)) }
+{
+    let division = match Division::read(alloc, by, types.get(field))? {
+        Ok(division) => division,
+        Err(why) => return Ok(Err(why)),
+    };
+    let min = match least_of(alloc, by.min, types.get(field))? {
+        Ok(min) => min,
+        Err(why) => return Ok(Err(why)),
+    };
+    let parts = SourceParts::new(alloc, by, min)?;
+    Ok(Ok(parts.divided(division)))
 }
 
-impl Division {
-    // The division that an interval is, for a field of that type.
-    fn read(
-        alloc: Global,
-        interval: &str,
-        of: FieldType,
-    ) -> Result<Result<Division, IntervalFault>, OutOfMemory>
-        ensures { IfOk result (λ read. read ≡ division_asked of interval.now) }
-    {
-        match of {
-            FieldType::Date | FieldType::DateNumber(_) => Division::of_dates(alloc, interval),
-            FieldType::Decimal(places) => Ok(Division::of_decimals(interval, places)),
-            FieldType::Plain => Ok(Division::of_numbers(interval)),
-            FieldType::Text => Ok(Err(IntervalFault::OfTexts)),
-        }
+// The text of the part that a fault is of.
+fn faulty_text<'a>(by: &BySpec<'a>, why: &ByFault) -> &'a str
+    ensures { result.now ≡ unwrap_or (faulty_part (parts by.now) why.now) [] }
+{
+    match faulty_part(by, why) {
+        Some(text) => text,
+        None => "",
     }
+}
 
-    #[tactic(auto, using(peslumok_texts::proofs::lemmas::words::Words::other))]
-    fn of_dates(
-        alloc: Global,
-        interval: &str,
-    ) -> Result<Result<Division, IntervalFault>, OutOfMemory>
-        ensures { IfOk result (λ read. read ≡ date_division interval.now) }
-    {
-        match interval {
-            "year" => Ok(Ok(Division::Calendar(CalendarInterval::Year))),
-            "month" => Ok(Ok(Division::Calendar(CalendarInterval::Month))),
-            "week" => Ok(Ok(Division::Calendar(CalendarInterval::Week))),
-            _ => Division::of_time(alloc, interval),
-        }
-    }
-
-    fn of_time(
-        alloc: Global,
-        interval: &str,
-    ) -> Result<Result<Division, IntervalFault>, OutOfMemory>
-        ensures { IfOk result (λ read. read ≡ fixed_division interval.now) }
-    {
-        let text = Text::copy_of(alloc, interval)?;
-        match PrecomputedDateInterval::from_date_histogram_source_intervals(
-            alloc,
-            Some(&text),
-            None,
-        ) {
-            Ok(_) => Ok(Ok(Division::Fixed(text))),
-            Err(RequestError::OutOfMemory) => Err(OutOfMemory),
-            Err(_) => Ok(Err(IntervalFault::OfDates)),
-        }
-    }
-
-    fn of_numbers(interval: &str) -> Result<Division, IntervalFault>
-        ensures { result ≡ number_division interval.now }
-    {
-        match interval.parse::<i64>() {
-            Ok(width) => Division::of_width(width, IntervalFault::OfNumbers),
-            Err(_) => Err(IntervalFault::OfNumbers),
-        }
-    }
-
-    fn of_decimals(interval: &str, places: Places) -> Result<Division, IntervalFault>
-        ensures { result ≡ decimal_division (decimal_of places interval.now) }
-    {
-        match read_decimal(interval, places) {
-            Ok(width) => Division::of_width(width, IntervalFault::OfDecimals),
-            Err(_) => Err(IntervalFault::OfDecimals),
-        }
-    }
-
-    // The division by a width, which has to be above zero.
-    fn of_width(width: i64, fault: IntervalFault) -> Result<Division, IntervalFault>
-        ensures { result ≡ width_division fault width }
-    {
-        if width > 0 {
-            Ok(Division::Width(width))
-        } else {
-            Err(fault)
-        }
+// The part that a fault is of.
+fn faulty_part<'a>(by: &BySpec<'a>, why: &ByFault) -> Option<&'a str>
+    ensures { option_map (λ text. text.now) result ≡ faulty_part (parts by.now) why.now }
+{
+    match why {
+        ByFault::Interval(_) => by.interval,
+        ByFault::Offset(_) => by.offset,
+        ByFault::Min(_) => by.min,
     }
 }
 
@@ -142,11 +93,16 @@ struct SourceParts {
     order: Order,
     missing_bucket: bool,
     missing_order: MissingOrder,
+    min: Option<AfterKey>,
 }
 
 impl SourceParts {
-    fn new(alloc: Global, by: &BySpec<'_>) -> Result<SourceParts, OutOfMemory>
-        ensures { IfOk result (λ made. made ≡ source_parts (parts by.now)) }
+    fn new(
+        alloc: Global,
+        by: &BySpec<'_>,
+        min: Option<AfterKey>,
+    ) -> Result<SourceParts, OutOfMemory>
+        ensures { IfOk result (λ made. made ≡ source_parts (parts by.now) min) }
     {
         let (missing_bucket, missing_order) = missing_rule(by.missing);
         Ok(SourceParts {
@@ -155,6 +111,7 @@ impl SourceParts {
             order: order_of(by.is_descending),
             missing_bucket,
             missing_order,
+            min,
         })
     }
 
@@ -168,6 +125,7 @@ impl SourceParts {
             order,
             missing_bucket,
             missing_order,
+            min,
         } = self;
         CompositeAggregationSource::Terms(TermCompositeAggregationSource {
             name,
@@ -175,18 +133,32 @@ impl SourceParts {
             order,
             missing_bucket,
             missing_order,
-            min: None,
+            min,
         })
     }
 
-    // A source of the starts of intervals.
+    // A source of values that are divided so.
     fn divided(self, division: Division) -> CompositeAggregationSource
         ensures { result ≡ divided_source self division }
     {
         match division {
+            Division::Values => self.terms(),
             Division::Width(interval) => self.histogram(interval),
-            Division::Fixed(text) => self.dates(Some(text), None),
-            Division::Calendar(unit) => self.dates(None, Some(unit)),
+            Division::Dates(interval, offset) => self.divided_dates(interval, offset),
+        }
+    }
+
+    // A source of the starts of intervals of dates.
+    fn divided_dates(
+        self,
+        interval: DateInterval,
+        offset: Option<Text>,
+    ) -> CompositeAggregationSource
+        ensures { result ≡ divided_source self (Division.Dates interval offset) }
+    {
+        match interval {
+            DateInterval::Fixed(text) => self.dates(Some(text), None, offset),
+            DateInterval::Calendar(unit) => self.dates(None, Some(unit), offset),
         }
     }
 
@@ -199,6 +171,7 @@ impl SourceParts {
             order,
             missing_bucket,
             missing_order,
+            min,
         } = self;
         CompositeAggregationSource::Histogram(HistogramCompositeAggregationSource {
             name,
@@ -207,7 +180,7 @@ impl SourceParts {
             order,
             missing_bucket,
             missing_order,
-            min: None,
+            min,
         })
     }
 
@@ -215,8 +188,9 @@ impl SourceParts {
         self,
         fixed_interval: Option<Text>,
         calendar_interval: Option<CalendarInterval>,
+        offset: Option<Text>,
     ) -> CompositeAggregationSource
-        ensures { result ≡ date_source self fixed_interval calendar_interval }
+        ensures { result ≡ date_source self fixed_interval calendar_interval offset }
     {
         let SourceParts {
             name,
@@ -224,17 +198,18 @@ impl SourceParts {
             order,
             missing_bucket,
             missing_order,
+            min,
         } = self;
         CompositeAggregationSource::DateHistogram(DateHistogramCompositeAggregationSource {
             name,
             field,
             fixed_interval,
             calendar_interval,
-            offset: None,
+            offset,
             order,
             missing_bucket,
             missing_order,
-            min: None,
+            min,
         })
     }
 }

@@ -12,7 +12,7 @@ pub of-grouping : (Has : GroupingError → Type 0) (Fails : Failure → Type 0)
     → Fails failure.OutOfMemory → ((why : GroupingError) → Has why → Fails (failure.Usage why))
     → (error : GroupingError) → Has error → Fails (failure_of_grouping error)
 of-grouping Has Fails memory usage grouping.OutOfMemory has = memory
-of-grouping Has Fails memory usage (grouping.Interval field interval why) has = usage _ has
+of-grouping Has Fails memory usage (grouping.By field text why) has = usage _ has
 of-grouping Has Fails memory usage (grouping.Value field value why) has = usage _ has
 of-grouping Has Fails memory usage (grouping.Query why) has = usage _ has
 of-grouping Has Fails memory usage (grouping.AfterValue field why) has = usage _ has

@@ -7,9 +7,9 @@ use Rattle.std.proofs.lemmas.Bool.{and_parts}
 use Rattle.std.proofs.lemmas.Bool.Decides.{nat_tests}
 use Rattle.std.proofs.lemmas.Int.{ints}
 use Rattle.std.proofs.lemmas.Str.Parse.{IsNumeralModel, numerals_by_value, tells_all_ascii_digits}
-use Rattle.peslumok_front.specs.grouping.Sources.{has_64_bits, is_numeral, number_division}
-use Rattle.peslumok_front.specs.grouping.Sources.{width_division}
-use Rattle.peslumok_front.specs.declared.grouping.error.IntervalFault.TheVariants as fault
+use Rattle.peslumok_front.specs.grouping.Divisions.{has_64_bits, is_numeral, number_division}
+use Rattle.peslumok_front.specs.grouping.Divisions.{width_division}
+use Rattle.peslumok_front.specs.declared.grouping.by_fault.IntervalFault.TheVariants as fault
 
 own : IsNumeralModel (λ ds. all_ascii_digits ds ≡ true) (digits_value 10)
 own = numerals_by_value (λ ds. all_ascii_digits ds ≡ true) tells_all_ascii_digits

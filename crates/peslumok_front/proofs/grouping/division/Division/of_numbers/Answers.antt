@@ -2,7 +2,7 @@ use Rattle.std.proofs.Common.{◌≡◌, ◌∙◌, ℤ, ap, to_z, of_z, w64}
 use Rattle.std.specs.Str.Parse.{signed_digits_value}
 use Rattle.std.proofs.lemmas.Int.{to_z-of_z}
 use Rattle.peslumok_front.proofs.lemmas.grouping.Widths.{no_number, read_number}
-use Rattle.peslumok_front.proofs.grouping.source.Division.of_numbers.Goals as goal
+use Rattle.peslumok_front.proofs.grouping.division.Division.of_numbers.Goals as goal
 
 pub returns-in-Ok : goal.returns-in-Ok
 returns-in-Ok c =
