@@ -38,7 +38,8 @@ static OPTIONS: [NamedOption; 15] = [
         name: "by",
         usage: Usage::Required,
         value: "SPEC",
-        help: "Group by a field: [NAME=]FIELD[:INTERVAL][,desc][,missing[=first|last]]; \
+        help: "Group by a field: \
+               [NAME=]FIELD[:INTERVAL[OFFSET]][,desc][,missing[=first|last]][,min=VALUE]; \
                up to 16 times",
     },
     NamedOption {
