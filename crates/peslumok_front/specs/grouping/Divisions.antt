@@ -10,7 +10,6 @@ use Rattle.agg_calendar.specs.Refusal.{in_request}
 use Rattle.agg_calendar.specs.declared.interval.CalendarInterval.TheVariants.{Year, Month, Week}
 use Rattle.peslumok_texts.specs.decimals.Decimal.{decimal_of}
 use Rattle.peslumok_texts.specs.declared.decimals.error.DecimalError.{DecimalError}
-use Rattle.peslumok_texts.specs.words.By.{Parts}
 use Rattle.peslumok_texts.specs.declared.fields.field_type.FieldType.{FieldType}
 use Rattle.peslumok_texts.specs.declared.fields.field_type.FieldType.TheVariants as of
 use Rattle.peslumok_front.specs.declared.grouping.by_fault.ByFault.{ByFault}

@@ -22,7 +22,6 @@ use Rattle.peslumok_front.specs.declared.grouping.by_fault.ByFault.{ByFault}
 use Rattle.peslumok_front.specs.declared.grouping.by_fault.ByFault.TheVariants as by_fault
 use Rattle.peslumok_front.specs.declared.grouping.error.GroupingError.{GroupingError}
 use Rattle.peslumok_front.specs.declared.grouping.error.GroupingError.TheVariants as error
-use Rattle.peslumok_front.specs.declared.grouping.division.DateInterval.{DateInterval}
 use Rattle.peslumok_front.specs.declared.grouping.division.DateInterval.TheVariants.{Fixed}
 use Rattle.peslumok_front.specs.declared.grouping.division.DateInterval.TheVariants.{Calendar}
 use Rattle.peslumok_front.specs.declared.grouping.division.Division.{Division}

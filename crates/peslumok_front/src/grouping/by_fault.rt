@@ -1,5 +1,5 @@
-//! What is wrong with the parts of a text of `--by`, where their field decides. Each message follows
-//! the part.
+//! What is wrong with the parts of a text of `--by`, by the type of their field. Each message
+//! follows the part.
 ghost use Rattle.std.specs.Prelude.{◌≡◌};
 
 use peslumok_texts::fields::ValueError;

@@ -1,5 +1,5 @@
 -- Why the walk of a page's request is refused is why that of the request without builders is.
-use Rattle.std.proofs.Common.{◌≡◌, ◌≤◌, ◌+◌, ◌-◌, ◌^◌, ◌∷◌, [], ℕ, zero, suc, List}
+use Rattle.std.proofs.Common.{◌≡◌, ◌≤◌, ◌+◌, ◌^◌, ◌∷◌, [], ℕ, zero, suc, List}
 use Rattle.std.proofs.Common.{None, Option, Some, ap, arith, inl, inr, length}
 use Rattle.std.proofs.Common.{subst, sym}
 use Rattle.std.specs.Prelude.{All, Any, IsSome, codes}

@@ -1,9 +1,8 @@
 -- The request of a grouping.
-use Rattle.std.proofs.Common.{◌≡◌, ◌∙◌, refl, sym, ap, subst, ℕ, List, [], ◌∷◌, false, true}
+use Rattle.std.proofs.Common.{◌≡◌, ◌∙◌, refl, sym, ap, subst, List, [], ◌∷◌, false, true}
 use Rattle.std.proofs.Common.{codes}
 use Rattle.agg_segment.specs.declared.query.QueryTree.TheVariants as tree
 use Rattle.agg_request_tree.specs.Request.{Request, aggregation_of}
-use Rattle.agg_request_tree.specs.declared.aggregation.Aggregation.{Aggregation}
 use Rattle.agg_request_tree.specs.declared.aggregation.AggregationVariants.TheVariants as agg
 use Rattle.agg_request_tree.specs.declared.aggregation.CompositeAggregation.{CompositeAggregation}
 use Rattle.agg_request_tree.specs.declared.aggregation.filter.FilterAggregation.{FilterAggregation}

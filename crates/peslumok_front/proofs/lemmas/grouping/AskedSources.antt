@@ -1,7 +1,8 @@
 -- The source that is asked for.
-use Rattle.std.proofs.Common.{◌≡◌, ◌∙◌, refl, sym, ap, subst, ℕ, List, [], Option, None, Some}
-use Rattle.std.proofs.Common.{Result, Ok, Err}
+use Rattle.std.proofs.Common.{◌≡◌, ◌∙◌, ◌<◌, ◌+◌, ◌++◌, ◌∷◌, refl, sym, ap, subst, ℕ, List, []}
+use Rattle.std.proofs.Common.{Option, None, Some, Result, Ok, Err, get_or, length, map, take}
 use Rattle.std.specs.Prelude.{unwrap_or}
+use Rattle.std.proofs.lemmas.List.{map-append, map_more}
 use Rattle.agg_values.specs.Names.{Named}
 use Rattle.agg_values.specs.declared.after_key.AfterKey.{AfterKey}
 use Rattle.agg_segment.specs.declared.storage.document.FieldValue.{FieldValue}
@@ -13,7 +14,8 @@ use Rattle.peslumok_texts.specs.fields.Types.{type_of}
 use Rattle.peslumok_texts.specs.declared.fields.error.ValueError.{ValueError}
 use Rattle.peslumok_texts.specs.declared.fields.field_type.FieldType.{FieldType}
 use Rattle.peslumok_texts.specs.declared.fields.field_type.FieldType.TheVariants as of
-use Rattle.peslumok_texts.specs.words.By.{Parts}
+use Rattle.peslumok_texts.specs.words.By.{Parts, parts}
+use Rattle.peslumok_texts.specs.declared.words.by.BySpec.{BySpec}
 use Rattle.peslumok_front.specs.grouping.Divisions.{date_interval, dates_division}
 use Rattle.peslumok_front.specs.grouping.Divisions.{decimal_division, division_by}
 use Rattle.peslumok_front.specs.grouping.Divisions.{number_division, offset_asked}
@@ -176,3 +178,26 @@ pub called-as_column : (types : Named FieldType) (by : Parts) (source : Composit
 called-as_column types by source is =
     joined-called by (division_by (type_of types by.field) by.interval by.offset)
     (least_asked (type_of types by.field) by.min) source is
+
+-- ---- lists
+
+-- one source more
+pub sources-more : (types : Named FieldType) (by items : List BySpec) (i : ℕ) (d : BySpec)
+    (sources : List CompositeAggregationSource) (source : CompositeAggregationSource)
+    → by ≡ items → i < length by
+    → map Ok sources ≡ map (λ b. source_asked types (parts b)) (take i items)
+    → source_asked types (parts (get_or by i d)) ≡ Ok source
+    → map Ok (sources ++ source ∷ [])
+    ≡ map (λ b. source_asked types (parts b)) (take (i + 1) items)
+sources-more types by items i d sources source are within so_far is =
+    map-append Ok sources (source ∷ [])
+    ∙ ap (λ xs. xs ++ Ok source ∷ []) so_far
+    ∙ ap (λ s. map asked (take i items) ++ s ∷ []) (sym found)
+    ∙ sym (map_more asked items i d (subst (λ (xs : List BySpec). i < length xs) are within))
+  where
+    asked : BySpec → Result CompositeAggregationSource ByFault
+    asked b = source_asked types (parts b)
+
+    found : source_asked types (parts (get_or items i d)) ≡ Ok source
+    found =
+        subst (λ (xs : List BySpec). source_asked types (parts (get_or xs i d)) ≡ Ok source) are is
