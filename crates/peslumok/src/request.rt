@@ -10,7 +10,7 @@ use agg_streams::sink::{StdSink, write_all};
 use agg_values::{NameMap, OutOfMemory, Text};
 use peslumok_command_line::GroupOptions;
 use peslumok_front::front::{Asked, Failure, after_of, check_asked};
-use peslumok_front::grouping::{GROUPS, Page, asked_fields, query_of, request_of};
+use peslumok_front::grouping::{AskedPage, GROUPS, asked_fields, query_of, request_of};
 use peslumok_texts::fields::FieldType;
 use std::alloc::Global;
 
@@ -59,7 +59,7 @@ fn request_in<B: Drop>(alloc: Global, asked: &Asked<'_>) -> Result<NameMap<Aggre
         Some(text) => after_of(alloc, text, &asked.grouping)?,
         None => NameMap::new(alloc),
     };
-    let page = Page {
+    let page = AskedPage {
         size: asked.pages.size,
         after,
     };

@@ -18,4 +18,4 @@ pub use fields::asked_fields;
 pub use grouping::{Grouping, column_of, metric_name};
 pub use laws::{groupings_have_no_builders, sources_are_called_as_their_columns};
 pub use query::query_of;
-pub use request::{GROUPS, Page, TOTAL, request_of};
+pub use request::{AskedPage, GROUPS, TOTAL, request_of};

@@ -9,7 +9,7 @@ pub(crate) mod table;
 pub(crate) mod visible;
 
 pub use cells::{cells_of_group, cells_of_total};
-pub use columns::{Column, Columns};
+pub use columns::{Columns, TableColumn};
 pub use csv_lines::write_csv_cell;
 pub use output::write_rows;
-pub use row::{Cell, Row};
+pub use row::{Row, TableCell};

@@ -14,7 +14,7 @@ use Rattle.agg_results.specs.declared.final_results.types.FilterBucketResult.{Fi
 use Rattle.peslumok_records.specs.declared.held.asked.AskedField.{AskedField}
 use Rattle.peslumok_front.specs.grouping.Query.{IsQueryOf}
 use Rattle.peslumok_front.specs.declared.grouping.grouping.Grouping.{Grouping}
-use Rattle.peslumok_front.specs.declared.tables.columns.Column.{Column}
+use Rattle.peslumok_front.specs.declared.tables.columns.TableColumn.{TableColumn}
 use Rattle.peslumok_texts.specs.declared.formats.OutputFormat.{OutputFormat}
 use Rattle.peslumok_front.specs.after_text.After.{HaveOwnColumns, IsAfterText, NamesFirst}
 use Rattle.peslumok_records.specs.record_index.Index.{unseen_names}
@@ -56,7 +56,7 @@ TellsNext grouping (Some text) next = (next ≢ []) × IsAfterText grouping text
 module _ (grouping : Grouping) (query : QueryTree) (documents : List Fields) where
   -- the pages of documents after a key that are asked for, their text in columns, and the key that
   -- the last of them shows
-  pub record AreWritten (asked : Pages) (format : OutputFormat) (columns : List Column)
+  pub record AreWritten (asked : Pages) (format : OutputFormat) (columns : List TableColumn)
       (after next : Named AfterKey) (text : List ℕ) : Type 0 where
     pub pages : List AggregationResults
     pub are_pages : ArePages grouping query documents asked.is_all (room_of asked) after pages
@@ -73,7 +73,7 @@ module _ (grouping : Grouping) (query : QueryTree) (documents : List Fields) whe
     pub is_total : total ≡ last_total pages
 
   -- a text in columns has these groups and the total
-  pub record IsTopWritten (room count : ℕ) (format : OutputFormat) (columns : List Column)
+  pub record IsTopWritten (room count : ℕ) (format : OutputFormat) (columns : List TableColumn)
       (after : Named AfterKey) (text : List ℕ) : Type 0 where
     pub top : List CompositeBucketEntry
     pub total : Option FilterBucketResult
@@ -82,7 +82,7 @@ module _ (grouping : Grouping) (query : QueryTree) (documents : List Fields) whe
 
   -- the text of pages that are asked for, or of so many groups with the most documents, and that of
   -- the key after which the next page begins, which is told of pages alone
-  abbrev pub IsAskedText : Option ℕ → Pages → OutputFormat → List Column → Named AfterKey
+  abbrev pub IsAskedText : Option ℕ → Pages → OutputFormat → List TableColumn → Named AfterKey
       → Option (List ℕ) → List ℕ → Type 0
   IsAskedText None asked format columns after told text =
       (next : Named AfterKey)

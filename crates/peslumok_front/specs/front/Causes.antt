@@ -13,7 +13,7 @@ use Rattle.peslumok_front.specs.grouping.Query.{HasNoQuery, IsQueryOf}
 use Rattle.peslumok_front.specs.grouping.Request.{HasNoRequest, IsRequestOf}
 use Rattle.peslumok_front.specs.declared.grouping.error.GroupingError.{GroupingError}
 use Rattle.peslumok_front.specs.declared.grouping.grouping.Grouping.{Grouping}
-use Rattle.peslumok_front.specs.declared.grouping.request.Page.{Page}
+use Rattle.peslumok_front.specs.declared.grouping.request.AskedPage.{AskedPage}
 use Rattle.peslumok_front.specs.after_text.After.{IsNoAfterText}
 use Rattle.peslumok_records.specs.record_index.Index.{AreOneOf}
 use Rattle.peslumok_front.specs.front.Answer.{AreRead}
@@ -57,7 +57,7 @@ limits_of_people =
 module _ (grouping : Grouping) (query : QueryTree) (documents : List Fields) where
   -- a page is refused so: the walk of its request is, over the one snapshot of the documents, by
   -- these limits
-  pub record IsPageRefused (page : Page) (why : WalkError) : Type 0 where
+  pub record IsPageRefused (page : AskedPage) (why : WalkError) : Type 0 where
     pub request : Request QueryTree
     pub asked : IsRequestOf grouping page request
     pub snapshots : List SnapshotDocuments
@@ -65,7 +65,7 @@ module _ (grouping : Grouping) (query : QueryTree) (documents : List Fields) whe
     pub cause : WalkFailsAtMost Some limits_of_people (codes "groups") query request snapshots why
 
   -- why there is no page
-  abbrev pub HasNoPage : Page → Failure → Type 0
+  abbrev pub HasNoPage : AskedPage → Failure → Type 0
   HasNoPage page failure.OutOfMemory = ⊤
   HasNoPage page (failure.Usage why) = HasNoRequest grouping why
   HasNoPage page (failure.Refused why) = IsPageRefused page why

@@ -16,8 +16,8 @@ use Rattle.peslumok_front.specs.grouping.Request.{metric_name}
 use Rattle.peslumok_front.specs.grouping.Sources.{column_name}
 use Rattle.peslumok_front.specs.declared.grouping.grouping.Grouping.{Grouping}
 use Rattle.peslumok_front.specs.tables.Columns.{header_of}
-use Rattle.peslumok_front.specs.declared.tables.columns.Column.{Column}
-use Rattle.peslumok_front.specs.declared.tables.columns.Column.TheVariants as column
+use Rattle.peslumok_front.specs.declared.tables.columns.TableColumn.{TableColumn}
+use Rattle.peslumok_front.specs.declared.tables.columns.TableColumn.TheVariants as column
 use Rattle.peslumok_front.specs.declared.front.failure.Failure.{Failure}
 use Rattle.peslumok_front.specs.declared.front.failure.Failure.TheVariants as failure
 
@@ -32,36 +32,36 @@ metric_type kind.Min type = type
 metric_type kind.Max type = type
 
 -- the column of a source
-abbrev pub key_column : Named FieldType → BySpec → Column
+abbrev pub key_column : Named FieldType → BySpec → TableColumn
 key_column types by = column.Key (column_name (parts by)) (type_of types by.field.now)
 
 -- the column of a metric
-abbrev pub metric_column : Named FieldType → Metric → Column
+abbrev pub metric_column : Named FieldType → Metric → TableColumn
 metric_column types metric =
     column.Metric (metric_name metric) (metric_type metric.kind (type_of types metric.field.now))
 
 -- a column for each source, the number of records, and a column for each metric
-abbrev pub columns_asked : Grouping → List Column
+abbrev pub columns_asked : Grouping → List TableColumn
 columns_asked grouping =
     map (key_column grouping.types) grouping.by.items
     ++ column.Count ∷ map (metric_column grouping.types) grouping.metrics.items
 
 -- no two columns have one name
-abbrev pub HaveOwnHeaders : List Column → Type 0
+abbrev pub HaveOwnHeaders : List TableColumn → Type 0
 HaveOwnHeaders columns = AllPairs (λ c d. header_of c ≢ header_of d) columns
 
 -- whether a column has this name
-abbrev pub has_header : List ℕ → List Column → Bool
+abbrev pub has_header : List ℕ → List TableColumn → Bool
 has_header name columns = list_any (λ column. bytes_eq (header_of column) name) columns
 
 -- two columns have this name
-abbrev pub ShareHeader : List ℕ → List Column → Type 0
+abbrev pub ShareHeader : List ℕ → List TableColumn → Type 0
 ShareHeader name columns =
     (i j : ℕ) × (i < j) × (slice_get (map header_of columns) i ≡ Some name)
     × (slice_get (map header_of columns) j ≡ Some name)
 
 -- why there are no columns: for want of memory, or since two of them have one name
-abbrev pub HaveNoColumns : List Column → Failure → Type 0
+abbrev pub HaveNoColumns : List TableColumn → Failure → Type 0
 HaveNoColumns columns failure.OutOfMemory = ⊤
 HaveNoColumns columns (failure.SameColumn name) = ShareHeader name columns
 HaveNoColumns columns _ = ⊥

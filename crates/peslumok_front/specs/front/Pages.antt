@@ -12,7 +12,7 @@ use Rattle.agg_results.specs.declared.final_results.types.AggregationResults.{Ag
 use Rattle.agg_engine.specs.Walk.{IsWalk, after_in}
 use Rattle.peslumok_front.specs.grouping.Request.{IsRequestOf}
 use Rattle.peslumok_front.specs.declared.grouping.grouping.Grouping.{Grouping}
-use Rattle.peslumok_front.specs.declared.grouping.request.Page.{Page}
+use Rattle.peslumok_front.specs.declared.grouping.request.AskedPage.{AskedPage}
 use Rattle.peslumok_front.specs.declared.front.asked.Pages.{Pages}
 
 -- how many groups a page has room for: at least 100,000 where those with the most documents are
@@ -45,7 +45,7 @@ last_after (page ∷ later ∷ pages) = last_after (later ∷ pages)
 
 -- the walk of the request for a page over snapshots; the request has no filter but by a tree
 pub record IsPageWalk (grouping : Grouping) (query : QueryTree) (snapshots : List SnapshotDocuments)
-    (page : Page) (results : List AggregationResults) (ended : Bool) : Type 0 where
+    (page : AskedPage) (results : List AggregationResults) (ended : Bool) : Type 0 where
   pub request : Request QueryTree
   pub asked : IsRequestOf grouping page request
   pub walked : IsWalk matches (codes "groups") query request snapshots results ended
@@ -56,7 +56,7 @@ snapshot_of size documents = record { segments = documents ∷ []; page_size = s
 
 module _ (grouping : Grouping) (query : QueryTree) (documents : List Fields) where
   -- the results of a page: those of its walk over documents
-  abbrev pub IsPageOf : Page → AggregationResults → Type 0
+  abbrev pub IsPageOf : AskedPage → AggregationResults → Type 0
   IsPageOf page results =
       (ended : Bool)
       × IsPageWalk grouping query (snapshot_of page.size documents ∷ []) page (results ∷ []) ended

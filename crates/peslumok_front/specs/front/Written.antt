@@ -15,7 +15,7 @@ use final.FilterBucketResult.{FilterBucketResult}
 use Rattle.peslumok_front.specs.tables.Cells.{is_total, shown_cells}
 use Rattle.peslumok_front.specs.tables.Groups.{ShowsGroup, ShowsTotals}
 use Rattle.peslumok_front.specs.tables.Output.{AppendsRows}
-use Rattle.peslumok_front.specs.declared.tables.columns.Column.{Column}
+use Rattle.peslumok_front.specs.declared.tables.columns.TableColumn.{TableColumn}
 use Rattle.peslumok_texts.specs.declared.formats.OutputFormat.{OutputFormat}
 use Rattle.peslumok_front.specs.declared.tables.row.Row.{Row}
 
@@ -69,7 +69,7 @@ ends (page ∷ pages) = false
 
 -- ---- rows
 
-module _ (columns : List Column) where
+module _ (columns : List TableColumn) where
   -- the row of a group
   pub record IsGroupRow (group : CompositeBucketEntry) (row : Row) : Type 0 where
     pub kind : is_total row ≡ false

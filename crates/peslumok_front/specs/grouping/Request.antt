@@ -19,7 +19,7 @@ use Rattle.peslumok_front.specs.grouping.Sources.{HasNoSource, source_asked}
 use Rattle.peslumok_front.specs.declared.grouping.error.GroupingError.{GroupingError}
 use Rattle.peslumok_front.specs.declared.grouping.error.GroupingError.TheVariants as error
 use Rattle.peslumok_front.specs.declared.grouping.grouping.Grouping.{Grouping}
-use Rattle.peslumok_front.specs.declared.grouping.request.Page.{Page}
+use Rattle.peslumok_front.specs.declared.grouping.request.AskedPage.{AskedPage}
 
 -- ---- metrics
 
@@ -50,7 +50,7 @@ pub record AreMetricsOf {B : Type 0} (metrics : List Metric) (below : Request B)
 -- ---- groups and totals
 
 -- a composite has the sources that are asked for, and the size and the after key of a page
-pub record IsCompositeOf (grouping : Grouping) (page : Page) (composite : CompositeAggregation)
+pub record IsCompositeOf (grouping : Grouping) (page : AskedPage) (composite : CompositeAggregation)
     : Type 0 where
   pub sources : map Ok composite.sources
       ≡ map (λ by. source_asked grouping.types (parts by)) grouping.by.items
@@ -58,7 +58,8 @@ pub record IsCompositeOf (grouping : Grouping) (page : Page) (composite : Compos
   pub after : composite.after ≡ page.after
 
 -- the groups of a page, with the metrics below each
-pub record AreGroupsOf {B : Type 0} (grouping : Grouping) (page : Page) (groups : Aggregation B)
+pub record AreGroupsOf {B : Type 0} (grouping : Grouping) (page : AskedPage)
+    (groups : Aggregation B)
     : Type 0 where
   pub composite : CompositeAggregation
   pub is_composite : IsCompositeOf grouping page composite
@@ -71,7 +72,8 @@ pub record IsTotalOf {B : Type 0} (grouping : Grouping) (total : Aggregation B) 
   pub metrics : AreMetricsOf grouping.metrics.items (below_of total)
 
 -- a request has the groups of a page under their name, and what it had before
-pub record HasGroups {B : Type 0} (grouping : Grouping) (page : Page) (before after : Request B)
+pub record HasGroups {B : Type 0} (grouping : Grouping) (page : AskedPage)
+    (before after : Request B)
     : Type 0 where
   pub groups : Aggregation B
   pub are_groups : AreGroupsOf grouping page groups
@@ -90,7 +92,7 @@ AreTotals {B = B} true grouping totals =
 AreTotals false grouping totals = totals ≡ []
 
 -- a request of the groups of a page, and of the total where it is asked for
-pub record IsRequestOf {B : Type 0} (grouping : Grouping) (page : Page) (request : Request B)
+pub record IsRequestOf {B : Type 0} (grouping : Grouping) (page : AskedPage) (request : Request B)
     : Type 0 where
   pub groups : Aggregation B
   pub totals : Request B

@@ -1,8 +1,8 @@
 -- What the cells of a line show.
 use Rattle.std.specs.Prelude.{ℕ, List, Bool, Option, None, Some, codes, if◌then◌else◌, map}
 use Rattle.std.specs.Prelude.{string_bytes}
-use Rattle.peslumok_front.specs.declared.tables.row.Cell.{Cell}
-use Rattle.peslumok_front.specs.declared.tables.row.Cell.TheVariants as cell
+use Rattle.peslumok_front.specs.declared.tables.row.TableCell.{TableCell}
+use Rattle.peslumok_front.specs.declared.tables.row.TableCell.TheVariants as cell
 use Rattle.peslumok_front.specs.declared.tables.row.Row.{Row}
 
 -- a text, a number, true or false, or no value
@@ -13,7 +13,7 @@ pub data Shown : Type 0 where
   shows_nothing : Shown
 
 -- what a cell shows
-abbrev pub shown_by : Cell → Shown
+abbrev pub shown_by : TableCell → Shown
 shown_by (cell.Text text) = shows_text (string_bytes text)
 shown_by (cell.Number number) = shows_number (string_bytes number)
 shown_by (cell.Bool b) = shows_bool b

@@ -18,8 +18,8 @@ use final.MetricResult.TheVariants as metric
 use Rattle.peslumok_front.specs.tables.Cells.{Shown, shows_bool, shows_nothing, shows_number}
 use Rattle.peslumok_front.specs.tables.Cells.{shows_text}
 use Rattle.peslumok_front.specs.tables.Columns.{is_key}
-use Rattle.peslumok_front.specs.declared.tables.columns.Column.{Column}
-use Rattle.peslumok_front.specs.declared.tables.columns.Column.TheVariants as column
+use Rattle.peslumok_front.specs.declared.tables.columns.TableColumn.{TableColumn}
+use Rattle.peslumok_front.specs.declared.tables.columns.TableColumn.TheVariants as column
 
 -- whether numbers of a type are shown as dates
 abbrev pub is_date : FieldType → Bool
@@ -70,18 +70,18 @@ IsMetricCell type None cell = cell ≡ shows_nothing
 IsMetricCell type (Some n) cell = IsNumberCell type n cell
 
 -- what a group has in a column
-abbrev pub IsGroupCell : CompositeBucketEntry → Column → Shown → Type 0
+abbrev pub IsGroupCell : CompositeBucketEntry → TableColumn → Shown → Type 0
 IsGroupCell entry (column.Key name type) cell = IsKeyCell type (value_of name entry.key) cell
 IsGroupCell entry column.Count cell = cell ≡ shows_number (decimal entry.doc_count)
 IsGroupCell entry (column.Metric name type) cell =
     IsMetricCell type (metric_number name entry.sub_aggregation) cell
 
 -- a group's cells, one for each column
-abbrev pub ShowsGroup : List Column → CompositeBucketEntry → List Shown → Type 0
+abbrev pub ShowsGroup : List TableColumn → CompositeBucketEntry → List Shown → Type 0
 ShowsGroup columns entry cells = AllZip (IsGroupCell entry) columns cells
 
 -- what the totals have in a column, with this in the column of a key
-abbrev pub IsTotalCell : List ℕ → ℕ → AggregationResults → Column → Shown → Type 0
+abbrev pub IsTotalCell : List ℕ → ℕ → AggregationResults → TableColumn → Shown → Type 0
 IsTotalCell label doc_count metrics (column.Key name type) cell = cell ≡ shows_text label
 IsTotalCell label doc_count metrics column.Count cell = cell ≡ shows_number (decimal doc_count)
 IsTotalCell label doc_count metrics (column.Metric name type) cell =
@@ -89,7 +89,7 @@ IsTotalCell label doc_count metrics (column.Metric name type) cell =
 
 -- the totals' cells, one for each column, with this in the first column of a key and nothing in
 -- the others
-abbrev pub ShowsTotals : List ℕ → ℕ → AggregationResults → List Column → List Shown → Type 0
+abbrev pub ShowsTotals : List ℕ → ℕ → AggregationResults → List TableColumn → List Shown → Type 0
 ShowsTotals label doc_count metrics [] cells = cells ≡ []
 ShowsTotals label doc_count metrics (column ∷ columns) [] = ⊥
 ShowsTotals label doc_count metrics (column ∷ columns) (cell ∷ cells) =

@@ -5,7 +5,7 @@ use Rattle.agg_results.specs.final_results.ResultsText.{braced, member_text}
 use Rattle.peslumok_front.specs.tables.Cells.{Shown, bool_text, is_total, shown_cells}
 use Rattle.peslumok_front.specs.tables.Cells.{shows_bool, shows_nothing, shows_number, shows_text}
 use Rattle.peslumok_front.specs.tables.Columns.{header_of, is_key}
-use Rattle.peslumok_front.specs.declared.tables.columns.Column.{Column}
+use Rattle.peslumok_front.specs.declared.tables.columns.TableColumn.{TableColumn}
 use Rattle.peslumok_front.specs.declared.tables.row.Row.{Row}
 
 -- a cell as a value
@@ -16,7 +16,7 @@ json_text (shows_bool b) = bool_text b
 json_text shows_nothing = codes "null"
 
 -- a member for each column, but in the totals none for a key
-abbrev pub column_members : Bool → List Column → List Shown → List (List ℕ)
+abbrev pub column_members : Bool → List TableColumn → List Shown → List (List ℕ)
 column_members total [] cells = []
 column_members total (column ∷ columns) [] = []
 column_members total (column ∷ columns) (cell ∷ cells) =
@@ -28,7 +28,7 @@ abbrev pub total_members : Bool → List (List ℕ)
 total_members total = if total then codes "\"total\":true" ∷ [] else []
 
 -- the line of a row
-abbrev pub json_line : List Column → Row → List ℕ
+abbrev pub json_line : List TableColumn → Row → List ℕ
 json_line columns row =
     braced (total_members (is_total row) ++ column_members (is_total row) columns (shown_cells row))
     ++ 10 ∷ []

@@ -7,7 +7,7 @@ use Rattle.csv.specs.declared.parser.State.TheVariants as st
 use Rattle.peslumok_front.specs.tables.Cells.{Shown, shown_cells, shown_text}
 use Rattle.peslumok_front.specs.tables.Columns.{header_of}
 use Rattle.peslumok_front.specs.tables.JsonLines.{json_line}
-use Rattle.peslumok_front.specs.declared.tables.columns.Column.{Column}
+use Rattle.peslumok_front.specs.declared.tables.columns.TableColumn.{TableColumn}
 use Rattle.peslumok_texts.specs.declared.formats.OutputFormat.{OutputFormat}
 use Rattle.peslumok_texts.specs.declared.formats.OutputFormat.TheVariants as format
 use Rattle.peslumok_front.specs.declared.tables.row.Row.{Row}
@@ -21,11 +21,11 @@ abbrev pub csv_record : Row → List (List ℕ)
 csv_record row = map csv_cell (shown_cells row)
 
 -- the record of the header, where there is one
-abbrev pub header_records : Bool → List Column → List (List (List ℕ))
+abbrev pub header_records : Bool → List TableColumn → List (List (List ℕ))
 header_records has_header columns = if has_header then map header_of columns ∷ [] else []
 
 -- the records of rows, after that of the header
-abbrev pub csv_records : Bool → List Column → List Row → List (List (List ℕ))
+abbrev pub csv_records : Bool → List TableColumn → List Row → List (List (List ℕ))
 csv_records has_header columns rows = header_records has_header columns ++ map csv_record rows
 
 -- the lines of records
@@ -39,7 +39,8 @@ ReadBack records =
 
 -- the rows of a format are appended: of a table any text, of JSON a line for each, and of CSV the
 -- lines of records that read back
-abbrev pub AppendsRows : OutputFormat → List Column → List Row → Bool → List ℕ → List ℕ → Type 0
+abbrev pub AppendsRows : OutputFormat → List TableColumn → List Row → Bool → List ℕ → List ℕ
+    → Type 0
 AppendsRows format.Table columns rows has_header old new = ⊤
 AppendsRows format.JsonLines columns rows has_header old new =
     new ≡ old ++ flat_map (json_line columns) rows

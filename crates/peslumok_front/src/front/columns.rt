@@ -6,7 +6,7 @@ ghost use Rattle.peslumok_front.specs.front.Columns as spec;
 
 use crate::front::failure::Failure;
 use crate::grouping::{Grouping, column_of, metric_name};
-use crate::tables::{Column, Columns};
+use crate::tables::{Columns, TableColumn};
 use agg_values::{OutOfMemory, Text};
 use peslumok_texts::fields::{FieldType, FieldTypes};
 use peslumok_texts::words::{BySpec, Metric, MetricKind};
@@ -27,7 +27,7 @@ pub fn columns_of(alloc: Global, grouping: &Grouping<'_>) -> Result<Columns, Fai
 }
 
 // The name that two columns have, if any two have one.
-fn shared_header(columns: &[Column]) -> Option<&str>
+fn shared_header(columns: &[TableColumn]) -> Option<&str>
     ensures shared { IfSome result (λ name. spec.ShareHeader name.now columns.now) }
     ensures apart { IfNone result (spec.HaveOwnHeaders columns.now) }
 {
@@ -40,7 +40,7 @@ fn shared_header(columns: &[Column]) -> Option<&str>
 }
 
 // Whether a column has this name.
-fn has_header(columns: &[Column], header: &str) -> bool
+fn has_header(columns: &[TableColumn], header: &str) -> bool
     ensures { result ≡ spec.has_header header.now columns.now }
 {
     columns.iter().any(|column| column.header() == header)
@@ -54,7 +54,7 @@ fn all_columns(alloc: Global, grouping: &Grouping<'_>) -> Result<Columns, OutOfM
         let column = key_column(alloc, by, &grouping.types)?;
         columns.push(column)?;
     }
-    columns.push(Column::Count)?;
+    columns.push(TableColumn::Count)?;
     for metric in grouping.metrics.iter() {
         let column = metric_column(alloc, metric, &grouping.types)?;
         columns.push(column)?;
@@ -63,10 +63,14 @@ fn all_columns(alloc: Global, grouping: &Grouping<'_>) -> Result<Columns, OutOfM
 }
 
 // The column of a source.
-fn key_column(alloc: Global, by: &BySpec<'_>, types: &FieldTypes) -> Result<Column, OutOfMemory>
+fn key_column(
+    alloc: Global,
+    by: &BySpec<'_>,
+    types: &FieldTypes,
+) -> Result<TableColumn, OutOfMemory>
     ensures { IfOk result (λ column. column ≡ spec.key_column types.now by.now) }
 {
-    Ok(Column::Key {
+    Ok(TableColumn::Key {
         name: Text::copy_of(alloc, column_of(by))?,
         of: types.get(&Text::copy_of(alloc, by.field)?),
     })
@@ -77,11 +81,11 @@ fn metric_column(
     alloc: Global,
     metric: &Metric<'_>,
     types: &FieldTypes,
-) -> Result<Column, OutOfMemory>
+) -> Result<TableColumn, OutOfMemory>
     ensures { IfOk result (λ column. column ≡ spec.metric_column types.now metric.now) }
 {
     let of = types.get(&Text::copy_of(alloc, metric.field)?);
-    Ok(Column::Metric {
+    Ok(TableColumn::Metric {
         name: metric_name(alloc, metric)?,
         of: metric_type(metric.kind, of),
     })

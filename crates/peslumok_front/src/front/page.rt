@@ -8,7 +8,7 @@ ghost use Rattle.peslumok_front.specs.front.Pages.{IsPageOf, IsPageWalk};
 
 use crate::front::asked::Asked;
 use crate::front::failure::Failure;
-use crate::grouping::{GROUPS, Page, request_of};
+use crate::grouping::{AskedPage, GROUPS, request_of};
 use agg_cache::LimitsLedger;
 use agg_engine::{Snapshot, Walk, walk_pages};
 use agg_results::final_results::AggregationResults;
@@ -30,7 +30,7 @@ pub struct Question<'q, 'a> {
 pub fn page_of(
     alloc: Global,
     question: &Question<'_, '_>,
-    page: Page,
+    page: AskedPage,
 ) -> Result<AggregationResults, Failure>
     requires { length question.now.snapshots.now ≡ 1 }
     ensures page { IfOk result (λ results. (documents : List Fields)
@@ -47,7 +47,11 @@ pub fn page_of(
 }
 
 /// The walk over a page of the groups.
-pub fn walk_page(alloc: Global, question: &Question<'_, '_>, page: Page) -> Result<Walk, Failure>
+pub fn walk_page(
+    alloc: Global,
+    question: &Question<'_, '_>,
+    page: AskedPage,
+) -> Result<Walk, Failure>
     ensures walk { IfOk result (λ walk.
         IsPageWalk question.now.asked.now.grouping question.now.query.now
         (snapshots_documents question.now.snapshots.now) page walk.pages walk.ended) }
@@ -62,7 +66,7 @@ pub fn walk_page(alloc: Global, question: &Question<'_, '_>, page: Page) -> Resu
 fn walk_over<L: Ledger>(
     alloc: Global,
     question: &Question<'_, '_>,
-    page: Page,
+    page: AskedPage,
     blank: Blank,
 ) -> Result<Walk, Failure>
     requires name { blank.name ≡ L.name }

@@ -15,7 +15,7 @@ use crate::front::check::first_after;
 use crate::front::failure::Failure;
 use crate::front::page::{Question, page_of};
 use crate::front::written::{PageWriter, next_after};
-use crate::grouping::{Grouping, Page};
+use crate::grouping::{AskedPage, Grouping};
 use agg_results::final_results::AggregationResults;
 use agg_streams::sink::{Sink, write_all};
 use agg_values::{AfterKey, NameMap, OutOfMemory, Text};
@@ -71,7 +71,7 @@ fn write_from<W: Sink>(
     let mut writer = writer;
     let mut after = first;
     for number in 0..u64::MAX {
-        let page = Page { size: room, after };
+        let page = AskedPage { size: room, after };
         let page = page_of(writer.alloc, question, page)?;
         after = next_after(writer.alloc, &page)?;
         let is_last = is_last(&after, pages.is_all);

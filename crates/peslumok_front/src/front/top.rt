@@ -15,7 +15,7 @@ use crate::front::failure::Failure;
 use crate::front::page::{Question, page_of};
 use crate::front::pages::is_last;
 use crate::front::written::{PageWriter, next_after};
-use crate::grouping::{GROUPS, Page, TOTAL};
+use crate::grouping::{AskedPage, GROUPS, TOTAL};
 use crate::top_groups::TopGroups;
 use agg_results::final_results::{
     AggregationResult, AggregationResults, BucketResult, CompositeBucketEntry, FilterBucketResult,
@@ -83,7 +83,7 @@ fn most_of(
     let mut groups = TopGroups::new(alloc, count);
     let mut after = first;
     for _number in 0..u64::MAX {
-        let page = Page { size: room, after };
+        let page = AskedPage { size: room, after };
         let mut page = page_of(alloc, question, page)?;
         after = next_after(alloc, &page)?;
         let added = take_groups(alloc, &mut page)?;

@@ -10,14 +10,14 @@ ghost use Rattle.peslumok_texts.specs.words.By.{Parts};
 ghost use Rattle.peslumok_front.specs.grouping.Request.{IsRequestOf};
 ghost use Rattle.peslumok_front.specs.grouping.Sources.{column_name, source_asked};
 ghost use Rattle.peslumok_front.specs.declared.grouping.grouping.Grouping.{Grouping};
-ghost use Rattle.peslumok_front.specs.declared.grouping.request.Page.{Page};
+ghost use Rattle.peslumok_front.specs.declared.grouping.request.AskedPage.{AskedPage};
 
 /// The request of a grouping has no builder, so it asks the same whatever builders make.
 pub fn groupings_have_no_builders<B>()
-    ensures none { (grouping : Grouping) (page : Page) (request : Request B)
+    ensures none { (grouping : Grouping) (page : AskedPage) (request : Request B)
         → IsRequestOf grouping page request
         → builders_of request ≡ [] }
-    ensures same { (grouping : Grouping) (page : Page) (request : Request B)
+    ensures same { (grouping : Grouping) (page : AskedPage) (request : Request B)
         → (makes others : B → QueryTree)
         → IsRequestOf grouping page request
         → with_builders makes request ≡ with_builders others request }

@@ -26,7 +26,7 @@ pub const TOTAL: &str = "total";
 
 /// A page of the groups: how many it has room for, and the key after which it begins.
 #[derive(Drop)]
-pub struct Page {
+pub struct AskedPage {
     pub size: u32,
     pub after: NameMap<AfterKey>,
 }
@@ -36,7 +36,7 @@ pub struct Page {
 pub fn request_of<B: Drop>(
     alloc: Global,
     grouping: &Grouping<'_>,
-    page: Page,
+    page: AskedPage,
 ) -> Result<NameMap<Aggregation<B>>, GroupingError>
     ensures asked { IfOk result (IsRequestOf grouping.now page) }
     ensures cause { IfErr result (HasNoRequest grouping.now) }
@@ -53,7 +53,7 @@ pub fn request_of<B: Drop>(
 fn put_groups<B: Drop>(
     alloc: Global,
     grouping: &Grouping<'_>,
-    page: Page,
+    page: AskedPage,
     request: &mut NameMap<Aggregation<B>>,
 ) -> Result<(), GroupingError>
     ensures asked { OnOk result (HasGroups grouping.now page request.old request.new) }
@@ -81,7 +81,7 @@ fn put_total<B: Drop>(
 fn groups_of<B: Drop>(
     alloc: Global,
     grouping: &Grouping<'_>,
-    page: Page,
+    page: AskedPage,
 ) -> Result<Aggregation<B>, GroupingError>
     ensures asked { IfOk result (AreGroupsOf grouping.now page) }
     ensures cause { IfErr result (HasNoRequest grouping.now) }
@@ -108,7 +108,7 @@ fn total_of<B: Drop>(alloc: Global, grouping: &Grouping<'_>) -> Result<Aggregati
 fn composite_of(
     alloc: Global,
     grouping: &Grouping<'_>,
-    page: Page,
+    page: AskedPage,
 ) -> Result<CompositeAggregation, GroupingError>
     ensures asked { IfOk result (IsCompositeOf grouping.now page) }
     ensures cause { IfErr result (HasNoRequest grouping.now) }
@@ -118,7 +118,7 @@ fn composite_of(
         let source = source_of(alloc, by, &grouping.types)?;
         sources.push(source)?;
     }
-    let Page { size, after } = page;
+    let AskedPage { size, after } = page;
     Ok(CompositeAggregation {
         sources,
         size,

@@ -8,7 +8,7 @@ ghost use Rattle.peslumok_front.specs.tables.Groups.{IsGroupCell, IsKeyCell, IsM
 ghost use Rattle.peslumok_front.specs.tables.Groups.{IsTotalCell, ShowsGroup, ShowsTotals};
 ghost use Rattle.peslumok_front.specs.tables.Groups.{metric_number, metric_value, number_shown};
 
-use crate::tables::{Cell, Column, Columns, Row};
+use crate::tables::{Columns, Row, TableCell, TableColumn};
 use agg_results::final_results::{
     AggregationResult, AggregationResults, CompositeBucketEntry, MetricResult,
 };
@@ -63,55 +63,59 @@ pub fn cells_of_total(
 // What a group has in a column.
 fn group_cell(
     alloc: Global,
-    column: &Column,
+    column: &TableColumn,
     entry: &CompositeBucketEntry,
-) -> Result<Cell, OutOfMemory>
+) -> Result<TableCell, OutOfMemory>
     ensures { IfOk result (λ cell. IsGroupCell entry.now column.now (shown_by cell)) }
 {
     match column {
-        Column::Key { name, of } => key_cell(alloc, entry.key.get(name), of),
-        Column::Count => count_cell(alloc, entry.doc_count),
-        Column::Metric { name, of } => metric_cell(alloc, &entry.sub_aggregation, name, of),
+        TableColumn::Key { name, of } => key_cell(alloc, entry.key.get(name), of),
+        TableColumn::Count => count_cell(alloc, entry.doc_count),
+        TableColumn::Metric { name, of } => metric_cell(alloc, &entry.sub_aggregation, name, of),
     }
 }
 
 // What the totals have in a column.
 fn total_cell(
     alloc: Global,
-    column: &Column,
+    column: &TableColumn,
     label: &str,
     doc_count: u64,
     metrics: &AggregationResults,
-) -> Result<Cell, OutOfMemory>
+) -> Result<TableCell, OutOfMemory>
     ensures { IfOk result (λ cell.
         IsTotalCell label.now doc_count metrics.now column.now (shown_by cell)) }
 {
     match column {
-        Column::Key { .. } => Ok(Cell::Text(String::from_str(alloc, label)?)),
-        Column::Count => count_cell(alloc, doc_count),
-        Column::Metric { name, of } => metric_cell(alloc, metrics, name, of),
+        TableColumn::Key { .. } => Ok(TableCell::Text(String::from_str(alloc, label)?)),
+        TableColumn::Count => count_cell(alloc, doc_count),
+        TableColumn::Metric { name, of } => metric_cell(alloc, metrics, name, of),
     }
 }
 
 // What the totals have in the next column of a key.
-fn label_after<'a>(column: &Column, label: &'a str) -> &'a str
+fn label_after<'a>(column: &TableColumn, label: &'a str) -> &'a str
     ensures { result.now ≡ (if is_key column.now then [] else label.now) }
 {
     if column.is_key() { "" } else { label }
 }
 
 // What a key shows.
-fn key_cell(alloc: Global, key: Option<&CompositeKey>, of: &FieldType) -> Result<Cell, OutOfMemory>
+fn key_cell(
+    alloc: Global,
+    key: Option<&CompositeKey>,
+    of: &FieldType,
+) -> Result<TableCell, OutOfMemory>
     ensures { IfOk result (λ cell.
         IsKeyCell of.now (option_map (λ k. k.now) key.entry) (shown_by cell)) }
 {
     let Some(key) = key else {
-        return Ok(Cell::Missing);
+        return Ok(TableCell::Missing);
     };
     match key {
-        CompositeKey::Null => Ok(Cell::Missing),
-        CompositeKey::Bool(b) => Ok(Cell::Bool(*b)),
-        CompositeKey::Str(_) => Ok(Cell::Text(shown_key(alloc, key, *of)?)),
+        CompositeKey::Null => Ok(TableCell::Missing),
+        CompositeKey::Bool(b) => Ok(TableCell::Bool(*b)),
+        CompositeKey::Str(_) => Ok(TableCell::Text(shown_key(alloc, key, *of)?)),
         CompositeKey::I64(_) | CompositeKey::U64(_) => {
             Ok(number_cell(shown_key(alloc, key, *of)?, of))
         }
@@ -127,11 +131,11 @@ fn shown_key(alloc: Global, key: &CompositeKey, of: FieldType) -> Result<String,
 }
 
 // A number of documents.
-fn count_cell(alloc: Global, doc_count: u64) -> Result<Cell, OutOfMemory>
+fn count_cell(alloc: Global, doc_count: u64) -> Result<TableCell, OutOfMemory>
     ensures { IfOk result (λ cell. shown_by cell ≡ shows_number (decimal doc_count)) }
 {
     let mut digits = Buffer::new();
-    Ok(Cell::Number(String::from_str(alloc, digits.format(doc_count))?))
+    Ok(TableCell::Number(String::from_str(alloc, digits.format(doc_count))?))
 }
 
 // What a metric shows, by its name.
@@ -140,13 +144,13 @@ fn metric_cell(
     metrics: &AggregationResults,
     name: &Text,
     of: &FieldType,
-) -> Result<Cell, OutOfMemory>
+) -> Result<TableCell, OutOfMemory>
     ensures { IfOk result (λ cell.
         IsMetricCell of.now (metric_number name.now metrics.now) (shown_by cell)) }
 {
     match value_of_metric(metrics, name) {
         Some(number) => Ok(number_cell(shown_number(alloc, number, *of)?, of)),
-        None => Ok(Cell::Missing),
+        None => Ok(TableCell::Missing),
     }
 }
 
@@ -180,11 +184,11 @@ fn value_of(metric: MetricResult) -> Option<i128>
 }
 
 // The text of a number, which is a date's where the type is one of dates.
-fn number_cell(shown: String, of: &FieldType) -> Cell
+fn number_cell(shown: String, of: &FieldType) -> TableCell
     ensures { shown_by result ≡ number_shown of.now (string_bytes shown) }
 {
     match of {
-        FieldType::Date | FieldType::DateNumber(_) => Cell::Text(shown),
-        FieldType::Plain | FieldType::Text | FieldType::Decimal(_) => Cell::Number(shown),
+        FieldType::Date | FieldType::DateNumber(_) => TableCell::Text(shown),
+        FieldType::Plain | FieldType::Text | FieldType::Decimal(_) => TableCell::Number(shown),
     }
 }

@@ -9,7 +9,7 @@ use std::marker::Model;
 
 /// What a column shows.
 #[derive(Debug, Drop)]
-pub enum Column {
+pub enum TableColumn {
     /// The key of a source, by the name of the source and the type of its field.
     Key { name: Text, of: FieldType },
     /// The number of documents.
@@ -18,14 +18,14 @@ pub enum Column {
     Metric { name: Text, of: FieldType },
 }
 
-impl Column {
+impl TableColumn {
     /// What stands above the column: its name, or `count`.
     pub fn header(&self) -> &str
         ensures { result.now ≡ header_of self.now }
     {
         match self {
-            Column::Key { name, .. } | Column::Metric { name, .. } => name.as_str(),
-            Column::Count => "count",
+            TableColumn::Key { name, .. } | TableColumn::Metric { name, .. } => name.as_str(),
+            TableColumn::Count => "count",
         }
     }
 
@@ -33,19 +33,19 @@ impl Column {
     pub fn is_key(&self) -> bool
         ensures { result ≡ is_key self.now }
     {
-        matches!(self, Column::Key { .. })
+        matches!(self, TableColumn::Key { .. })
     }
 }
 
 /// Columns in their order, seen by contracts as their list.
 #[derive(Debug, Drop)]
-pub struct Columns(ItemList<Column>);
+pub struct Columns(ItemList<TableColumn>);
 
 impl Model for Columns {
     ghost use Rattle.std.specs.Prelude.{List};
-    ghost use Rattle.peslumok_front.specs.declared.tables.columns.Column.{Column};
+    ghost use Rattle.peslumok_front.specs.declared.tables.columns.TableColumn.{TableColumn};
 
-    ghost Value = { List Column };
+    ghost Value = { List TableColumn };
 
     ghost view = { λ columns. columns.0 };
 }
@@ -59,7 +59,7 @@ impl Columns {
     }
 
     /// Puts a column after the others.
-    pub fn push(&mut self, column: Column) -> Result<(), OutOfMemory>
+    pub fn push(&mut self, column: TableColumn) -> Result<(), OutOfMemory>
         ensures ok { OnOk result (self.new ≡ self.old ++ column ∷ []) }
         ensures err { OnErr result (self.new ≡ self.old) }
     {
@@ -67,7 +67,7 @@ impl Columns {
     }
 
     /// The columns.
-    pub fn as_slice(&self) -> &[Column]
+    pub fn as_slice(&self) -> &[TableColumn]
         ensures { result.now ≡ self.now }
     {
         self.0.as_slice()

@@ -8,7 +8,7 @@ ghost use Rattle.peslumok_front.specs.tables.Cells.{is_total, shown_by, shown_ce
 ghost use Rattle.peslumok_front.specs.tables.Columns.{header_of};
 ghost use Rattle.peslumok_front.specs.tables.JsonLines.{column_members, json_line, json_text};
 
-use crate::tables::{Cell, Column, Columns, Row};
+use crate::tables::{Columns, Row, TableCell, TableColumn};
 use agg_values::OutOfMemory;
 use json::Writer;
 use std::alloc::Global;
@@ -47,7 +47,7 @@ fn write_total(out: &mut String, is_total: bool) -> Result<(), OutOfMemory>
 fn write_members(
     alloc: Global,
     out: &mut String,
-    columns: &[Column],
+    columns: &[TableColumn],
     row: &Row,
 ) -> Result<(), OutOfMemory>
     ensures { OnOk result (string_bytes out.new
@@ -83,8 +83,8 @@ fn write_comma(out: &mut String, is_first: &mut bool) -> Result<(), OutOfMemory>
 fn write_member(
     alloc: Global,
     out: &mut String,
-    column: &Column,
-    cell: &Cell,
+    column: &TableColumn,
+    cell: &TableCell,
 ) -> Result<(), OutOfMemory>
     ensures { OnOk result (string_bytes out.new
         ≡ string_bytes out.old
@@ -96,16 +96,16 @@ fn write_member(
 }
 
 // Appends a cell as a value.
-fn write_json_cell(alloc: Global, out: &mut String, cell: &Cell) -> Result<(), OutOfMemory>
+fn write_json_cell(alloc: Global, out: &mut String, cell: &TableCell) -> Result<(), OutOfMemory>
     ensures { OnOk result
         (string_bytes out.new ≡ string_bytes out.old ++ json_text (shown_by cell.now)) }
 {
     match cell {
-        Cell::Text(text) => write_quoted(alloc, out, text.as_str())?,
-        Cell::Number(number) => out.push_str(number.as_str())?,
-        Cell::Bool(true) => out.push_str("true")?,
-        Cell::Bool(false) => out.push_str("false")?,
-        Cell::Missing => out.push_str("null")?,
+        TableCell::Text(text) => write_quoted(alloc, out, text.as_str())?,
+        TableCell::Number(number) => out.push_str(number.as_str())?,
+        TableCell::Bool(true) => out.push_str("true")?,
+        TableCell::Bool(false) => out.push_str("false")?,
+        TableCell::Missing => out.push_str("null")?,
     }
     Ok(())
 }

@@ -4,7 +4,7 @@ ghost use Rattle.peslumok_front.specs.tables.Cells.{is_total, shown_by, shown_ce
 
 /// What a line shows in a column.
 #[derive(Debug, Drop)]
-pub enum Cell {
+pub enum TableCell {
     Text(String),
     /// A number, as JSON has it.
     Number(String),
@@ -13,16 +13,16 @@ pub enum Cell {
     Missing,
 }
 
-impl Cell {
+impl TableCell {
     /// The text that the cell shows, None where it has no value.
     pub fn text(&self) -> Option<&str>
         ensures { option_map (λ text. text.now) result ≡ shown_text (shown_by self.now) }
     {
         match self {
-            Cell::Text(text) | Cell::Number(text) => Some(text.as_str()),
-            Cell::Bool(true) => Some("true"),
-            Cell::Bool(false) => Some("false"),
-            Cell::Missing => None,
+            TableCell::Text(text) | TableCell::Number(text) => Some(text.as_str()),
+            TableCell::Bool(true) => Some("true"),
+            TableCell::Bool(false) => Some("false"),
+            TableCell::Missing => None,
         }
     }
 }
@@ -31,7 +31,7 @@ impl Cell {
 #[derive(Debug, Drop)]
 pub struct Row {
     pub(crate) is_total: bool,
-    pub(crate) cells: Vec<Cell>,
+    pub(crate) cells: Vec<TableCell>,
 }
 
 impl Row {
@@ -43,7 +43,7 @@ impl Row {
     }
 
     /// The cells, one for each column.
-    pub fn cells(&self) -> &[Cell]
+    pub fn cells(&self) -> &[TableCell]
         ensures { map shown_by result.now ≡ shown_cells self.now }
     {
         self.cells.as_slice()

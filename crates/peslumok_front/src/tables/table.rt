@@ -4,7 +4,7 @@ ghost use Rattle.peslumok_front.specs.tables.Table.{padded};
 ghost use Rattle.peslumok_front.specs.tables.Visible.{visible};
 
 use crate::tables::visible::write_visible;
-use crate::tables::{Cell, Column, Columns, Row};
+use crate::tables::{Columns, Row, TableCell, TableColumn};
 use agg_values::OutOfMemory;
 use std::alloc::Global;
 use unicode_width::UnicodeWidthStr;
@@ -48,7 +48,11 @@ pub fn write_table(
 }
 
 // The side of each column's header and of what is missing in it.
-fn column_sides(alloc: Global, columns: &[Column], rows: &[Row]) -> Result<Vec<Side>, OutOfMemory> {
+fn column_sides(
+    alloc: Global,
+    columns: &[TableColumn],
+    rows: &[Row],
+) -> Result<Vec<Side>, OutOfMemory> {
     let mut sides = Vec::new(alloc);
     for place in 0..columns.len() {
         sides.push(side_of_column(rows, place))?;
@@ -61,8 +65,8 @@ fn side_of_column(rows: &[Row], place: usize) -> Side {
     let mut side = Side::Left;
     for row in rows {
         match row.cells().get(place) {
-            Some(Cell::Number(_)) => side = Side::Right,
-            Some(Cell::Text(_) | Cell::Bool(_)) if !row.is_total() => return Side::Left,
+            Some(TableCell::Number(_)) => side = Side::Right,
+            Some(TableCell::Text(_) | TableCell::Bool(_)) if !row.is_total() => return Side::Left,
             _ => {}
         }
     }
@@ -71,7 +75,7 @@ fn side_of_column(rows: &[Row], place: usize) -> Side {
 
 fn header_line(
     alloc: Global,
-    columns: &[Column],
+    columns: &[TableColumn],
     sides: &[Side],
 ) -> Result<Vec<Placed>, OutOfMemory> {
     let mut line = Vec::new(alloc);
@@ -95,11 +99,11 @@ fn row_line(alloc: Global, row: &Row, sides: &[Side]) -> Result<Vec<Placed>, Out
     Ok(line)
 }
 
-fn side_of_cell(cell: &Cell, column: Side) -> Side {
+fn side_of_cell(cell: &TableCell, column: Side) -> Side {
     match cell {
-        Cell::Text(_) | Cell::Bool(_) => Side::Left,
-        Cell::Number(_) => Side::Right,
-        Cell::Missing => column,
+        TableCell::Text(_) | TableCell::Bool(_) => Side::Left,
+        TableCell::Number(_) => Side::Right,
+        TableCell::Missing => column,
     }
 }
 

@@ -11,7 +11,7 @@ use Rattle.agg_values.specs.Nothing.{NoneIs}
 use Rattle.peslumok_records.specs.declared.held.asked.AskedField.{AskedField}
 use Rattle.peslumok_records.specs.cells.Csv.{AreEven, AreRowsOf, AreTexts, cells_config}
 use Rattle.peslumok_records.specs.cells.Table.{AreTableDocuments}
-use Rattle.peslumok_records.specs.declared.cells.rows.Rows.{Rows}
+use Rattle.peslumok_records.specs.declared.cells.rows.CellRows.{CellRows}
 
 -- how many cells the first of these rows has
 abbrev pub width_of : List (List (List ℕ)) → Option ℕ
@@ -19,7 +19,7 @@ width_of [] = None
 width_of (header ∷ rows) = Some (length header)
 
 -- these rows of a text were read, and the reader stands after them
-pub record HasRead (delimiter : ℕ) (text : List ℕ) (rows : List (List (List ℕ))) (at : Rows)
+pub record HasRead (delimiter : ℕ) (text : List ℕ) (rows : List (List (List ℕ))) (at : CellRows)
     : Type 0 where
   pub parted : at.delimiter ≡ delimiter
   pub whole : at.text.now ≡ text
@@ -38,20 +38,20 @@ pub record HasRead (delimiter : ℕ) (text : List ℕ) (rows : List (List (List 
       → row ≡ fields_of at.row
 
 -- one row more was read, and it is the one that is kept
-abbrev pub ReadsRow : Rows → Rows → Type 0
+abbrev pub ReadsRow : CellRows → CellRows → Type 0
 ReadsRow old new =
     (delimiter : ℕ) (text : List ℕ) (rows : List (List (List ℕ)))
     → HasRead delimiter text rows old
     → HasRead delimiter text (rows ++ fields_of new.row ∷ []) new
 
 -- the rows that were read are all of a text, and nothing is wrong with them
-abbrev pub HasReadAll : Rows → Type 0
+abbrev pub HasReadAll : CellRows → Type 0
 HasReadAll at =
     (delimiter : ℕ) (text : List ℕ) (rows : List (List (List ℕ)))
     → HasRead delimiter text rows at → AreRowsOf delimiter text rows
 
 -- the text that is read has no documents
-abbrev pub HasNoDocuments : Rows → Type 0
+abbrev pub HasNoDocuments : CellRows → Type 0
 HasNoDocuments at =
     (delimiter : ℕ) (text : List ℕ) (rows : List (List (List ℕ)))
     → HasRead delimiter text rows at → (asked : List AskedField)

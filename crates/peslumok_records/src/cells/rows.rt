@@ -13,7 +13,7 @@ use std::mem;
 
 /// The rows of a text of cells, read one after the other into the same room.
 #[derive(Drop)]
-pub struct Rows<'a> {
+pub struct CellRows<'a> {
     reader: Reader<&'a [u8]>,
     text: &'a [u8],
     delimiter: u8,
@@ -29,17 +29,17 @@ pub struct RowError {
     pub cell: Option<usize>,
 }
 
-impl<'a> Rows<'a> {
+impl<'a> CellRows<'a> {
     ghost use Rattle.peslumok_records.specs.cells.Csv.{IsClosed};
     ghost use Rattle.peslumok_records.specs.cells.Quotes.{MayBeOpenAfter};
     ghost use Rattle.peslumok_records.specs.cells.Rows.{HasNoDocuments, HasRead, HasReadAll};
     ghost use Rattle.peslumok_records.specs.cells.Rows.{ReadsRow};
 
     /// The rows of a text, of which none is read yet.
-    pub fn new(alloc: Global, delimiter: u8, text: &'a [u8]) -> Rows<'a>
+    pub fn new(alloc: Global, delimiter: u8, text: &'a [u8]) -> CellRows<'a>
         ensures { HasRead delimiter text.now [] result }
     {
-        Rows {
+        CellRows {
             reader: ReaderBuilder::new()
                 .delimiter(delimiter)
                 .has_headers(false)

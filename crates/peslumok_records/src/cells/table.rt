@@ -13,7 +13,7 @@ ghost use Rattle.peslumok_records.specs.cells.Table.{ArePlaces, AreTableDocument
 use crate::cells::cells::{add_row, places_of};
 use crate::cells::place::line_of_row;
 use crate::cells::quotes::ends_in_quotes;
-use crate::cells::rows::{RowError, Rows};
+use crate::cells::rows::{CellRows, RowError};
 use crate::held::{AskedField, AskedFields, RecordCause, RecordError, Records};
 use agg_values::OutOfMemory;
 use csv::StringRecord;
@@ -33,7 +33,7 @@ pub fn read_table(
     ensures none { IfErr result (λ error. is_fault error.cause ≡ true
         → NoneIs (AreTableDocuments delimiter bytes.now asked.now)) }
 {
-    let mut rows = Rows::new(alloc, delimiter, bytes);
+    let mut rows = CellRows::new(alloc, delimiter, bytes);
     let Err(error) = read_rows(alloc, &mut rows, asked, into) else {
         return Ok(());
     };
@@ -48,7 +48,7 @@ pub fn read_table(
 // Appends the records of the rows under the first one.
 fn read_rows(
     alloc: Global,
-    rows: &mut Rows<'_>,
+    rows: &mut CellRows<'_>,
     asked: &AskedFields,
     into: &mut Records,
 ) -> Result<(), RecordError>
@@ -70,7 +70,7 @@ fn read_rows(
 // Appends the records of the rows that are left.
 fn read_rest(
     alloc: Global,
-    rows: &mut Rows<'_>,
+    rows: &mut CellRows<'_>,
     asked: &AskedFields,
     places: &[Option<usize>],
     into: &mut Records,
@@ -99,7 +99,7 @@ fn read_rest(
 // Reads the next row, if there is one. The asked fields have these places in it.
 fn next_row(
     alloc: Global,
-    rows: &mut Rows<'_>,
+    rows: &mut CellRows<'_>,
     asked: &[AskedField],
     places: &[Option<usize>],
 ) -> Result<bool, RecordError>

@@ -32,7 +32,7 @@ use Rattle.agg_engine.proofs.BuiltRoofs.{low_roof-built, roof-built}
 use Rattle.peslumok_front.specs.grouping.Request.{HasNoRequest, IsRequestOf}
 use Rattle.peslumok_front.specs.declared.grouping.error.GroupingError.{GroupingError}
 use Rattle.peslumok_front.specs.declared.grouping.grouping.Grouping.{Grouping}
-use Rattle.peslumok_front.specs.declared.grouping.request.Page.{Page}
+use Rattle.peslumok_front.specs.declared.grouping.request.AskedPage.{AskedPage}
 use Rattle.peslumok_front.proofs.lemmas.grouping.NoBuilders.{request-none}
 use Rattle.peslumok_records.specs.record_index.Index.{AreOneOf}
 use Rattle.peslumok_front.specs.front.Causes.{HasNoPage, IsPageRefused, limits_of_people}
@@ -122,7 +122,7 @@ module _ {B : Type 0} (query_for : B → Option QueryTree) (limits : Limits) whe
     refused-built error.QueryBuild is = absurd is
     refused-built error.OutOfMemory is = absurd is
 
-  module _ (grouping : Grouping) (query : QueryTree) (page : Page) (request : Request B)
+  module _ (grouping : Grouping) (query : QueryTree) (page : AskedPage) (request : Request B)
       (asked : IsRequestOf grouping page request) (only : SnapshotDocuments) where
     -- of the one snapshot
     at-only : (why : WalkError)
@@ -188,7 +188,8 @@ module _ {B : Type 0} (query_for : B → Option QueryTree) (limits : Limits) whe
 
 -- the walk of a page's request over the one snapshot of documents is refused as that of the page is
 pub page-refused : {B : Type 0} (query_for : B → Option QueryTree) (grouping : Grouping)
-    (query : QueryTree) (page : Page) (request : Request B) (snapshots : List SnapshotDocuments)
+    (query : QueryTree) (page : AskedPage) (request : Request B)
+    (snapshots : List SnapshotDocuments)
     (documents : List Fields) (name : List ℕ) (limits : Limits) (why : WalkError)
     → name ≡ codes "groups" → limits ≡ limits_of_people → IsRequestOf grouping page request
     → AreOneOf documents page.size snapshots
@@ -213,7 +214,8 @@ page-refused query_for grouping query page request snapshots documents name limi
 
 -- so there is no page
 pub no-walk : {B : Type 0} (query_for : B → Option QueryTree) (grouping : Grouping)
-    (query : QueryTree) (page : Page) (request : Request B) (snapshots : List SnapshotDocuments)
+    (query : QueryTree) (page : AskedPage) (request : Request B)
+    (snapshots : List SnapshotDocuments)
     (documents : List Fields) (name : List ℕ) (limits : Limits) (why : WalkError)
     → name ≡ codes "groups" → limits ≡ limits_of_people → IsRequestOf grouping page request
     → AreOneOf documents page.size snapshots
@@ -227,7 +229,8 @@ no-walk query_for grouping query page request snapshots documents name limits wh
     error named most asked one) why
 
 -- there is no page where there is no request
-pub no-request : (grouping : Grouping) (query : QueryTree) (page : Page) (documents : List Fields)
+pub no-request : (grouping : Grouping) (query : QueryTree) (page : AskedPage)
+    (documents : List Fields)
     (why : GroupingError) → HasNoRequest grouping why
     → HasNoPage grouping query documents page (failure_of_grouping why)
 no-request grouping query page documents =

@@ -26,7 +26,7 @@ use Rattle.peslumok_front.specs.grouping.Request.{AreGroupsOf, AreMetricsOf, Are
 use Rattle.peslumok_front.specs.grouping.Request.{IsTotalOf, metric_asked, metric_name}
 use Rattle.peslumok_front.specs.grouping.Request.{named_metric, of_kind}
 use Rattle.peslumok_front.specs.declared.grouping.grouping.Grouping.{Grouping}
-use Rattle.peslumok_front.specs.declared.grouping.request.Page.{Page}
+use Rattle.peslumok_front.specs.declared.grouping.request.AskedPage.{AskedPage}
 use Rattle.peslumok_front.specs.front.Pages.{IsPageWalk}
 use Rattle.agg_engine.proofs.BuiltWalks.{walk-built}
 
@@ -84,7 +84,7 @@ module _ {B C : Type 0} (of : B → C) where
   }
 
   module _ (grouping : Grouping) where
-    groups-built : (page : Page) (groups : Aggregation B) → AreGroupsOf grouping page groups
+    groups-built : (page : AskedPage) (groups : Aggregation B) → AreGroupsOf grouping page groups
         → AreGroupsOf grouping page (with_builders_in of groups)
     groups-built page groups are = record {
       composite = are.composite;
@@ -108,7 +108,7 @@ module _ {B C : Type 0} (of : B → C) where
         (with_builders_in of total, total-built total is, ap (with_builders of) only)
     totals-built false totals none = ap (with_builders of) none
 
-    pub request-built : (page : Page) (request : Request B) → IsRequestOf grouping page request
+    pub request-built : (page : AskedPage) (request : Request B) → IsRequestOf grouping page request
         → IsRequestOf grouping page (with_builders of request)
     request-built page request is = record {
       groups = with_builders_in of is.groups;
@@ -120,7 +120,8 @@ module _ {B C : Type 0} (of : B → C) where
 
 -- the walk of a request that is asked for a page is that of the page
 pub page-walk : {B : Type 0} (query_for : B → Option QueryTree) (grouping : Grouping)
-    (page : Page) (query : QueryTree) (snapshots : List SnapshotDocuments) (request : Request B)
+    (page : AskedPage) (query : QueryTree) (snapshots : List SnapshotDocuments)
+    (request : Request B)
     (pages : List AggregationResults) (ended : Bool) (name : List ℕ) → name ≡ codes "groups"
     → IsRequestOf grouping page request
     → IsWalk (built_matches query_for) name query request snapshots pages ended

@@ -11,11 +11,11 @@ use Rattle.std.proofs.lemmas.List.{take_all, take_more}
 use Rattle.std.proofs.lemmas.List.Quantifiers.{all_pairs_push}
 use Rattle.std.proofs.lemmas.Slice.Eq.{bytes_eq-Decides}
 use Rattle.peslumok_front.specs.tables.Columns.{header_of}
-use Rattle.peslumok_front.specs.declared.tables.columns.Column.{Column}
+use Rattle.peslumok_front.specs.declared.tables.columns.TableColumn.{TableColumn}
 use Rattle.peslumok_front.specs.front.Columns.{HaveOwnHeaders, ShareHeader, has_header}
 
 -- what a list has at a place
-pub get-at : (columns : List Column) (i : ℕ) (column : Column) → i < length columns
+pub get-at : (columns : List TableColumn) (i : ℕ) (column : TableColumn) → i < length columns
     → column ≡ get_or columns i column
     → slice_get (map header_of columns) i ≡ Some (header_of column)
 get-at [] i column within is = absurd (omega arith)
@@ -23,7 +23,8 @@ get-at (c ∷ columns) zero column within is = ap (λ x. Some (header_of x)) (sy
 get-at (c ∷ columns) (suc i) column within is = get-at columns i column (omega arith) is
 
 -- a column before has the name
-found : (name : List ℕ) (columns : List Column) (i : ℕ) → has_header name (take i columns) ≡ true
+found : (name : List ℕ) (columns : List TableColumn) (i : ℕ)
+    → has_header name (take i columns) ≡ true
     → (k : ℕ) × (k < i) × (slice_get (map header_of columns) k ≡ Some name)
 found name columns zero is = absurd (false≢true is)
 found name [] (suc i) is = absurd (false≢true is)
@@ -36,7 +37,7 @@ found name (c ∷ columns) (suc i) is = elim (cases_Bool (bytes_eq (header_of c)
 ]
 
 -- so two columns have it
-pub shared : (columns : List Column) (i : ℕ) (column : Column) → i < length columns
+pub shared : (columns : List TableColumn) (i : ℕ) (column : TableColumn) → i < length columns
     → column ≡ get_or columns i column → has_header (header_of column) (take i columns) ≡ true
     → ShareHeader (header_of column) columns
 shared columns i column within is has =
@@ -52,8 +53,8 @@ or-right false b e = e
 or-right true b e = cc e
 
 -- no column before has the name
-none-before : (name : List ℕ) (columns : List Column) → has_header name columns ≡ false
-    → (k : ℕ) (d : Column) → k < length columns → header_of (get_or columns k d) ≢ name
+none-before : (name : List ℕ) (columns : List TableColumn) → has_header name columns ≡ false
+    → (k : ℕ) (d : TableColumn) → k < length columns → header_of (get_or columns k d) ≢ name
 none-before name [] is k d within same = absurd (omega arith)
 none-before name (c ∷ columns) is zero d within same =
     false≢true (sym (or-left (bytes_eq (header_of c) name) (has_header name columns) is)
@@ -63,7 +64,7 @@ none-before name (c ∷ columns) is (suc k) d within same =
     (or-right (bytes_eq (header_of c) name) (has_header name columns) is) k d (omega arith) same
 
 -- one more column of its own name
-pub apart-more : (columns : List Column) (i : ℕ) (column : Column) → i < length columns
+pub apart-more : (columns : List TableColumn) (i : ℕ) (column : TableColumn) → i < length columns
     → column ≡ get_or columns i column → has_header (header_of column) (take i columns) ≡ false
     → HaveOwnHeaders (take i columns) → HaveOwnHeaders (take (i + 1) columns)
 apart-more columns i column within is none own =
@@ -73,10 +74,10 @@ apart-more columns i column within is none own =
     (none-before (header_of column) (take i columns) none))
 
 -- as many as there are
-pub apart-all : (columns : List Column) (i : ℕ) → length columns ≤ i
+pub apart-all : (columns : List TableColumn) (i : ℕ) → length columns ≤ i
     → HaveOwnHeaders (take i columns) → HaveOwnHeaders columns
 apart-all columns i over own = subst HaveOwnHeaders (take_all i columns over) own
 
 -- of no columns
-pub apart-none : (columns : List Column) → HaveOwnHeaders (take 0 columns)
+pub apart-none : (columns : List TableColumn) → HaveOwnHeaders (take 0 columns)
 apart-none columns i j d before within = absurd (omega arith)

@@ -6,8 +6,8 @@ use Rattle.agg_values.specs.Names.{Named}
 use Rattle.agg_values.specs.declared.after_key.AfterKey.{AfterKey}
 use Rattle.peslumok_texts.specs.declared.fields.field_type.FieldType.{FieldType}
 use Rattle.peslumok_front.specs.tables.Columns.{header_of}
-use Rattle.peslumok_front.specs.declared.tables.columns.Column.{Column}
-use Rattle.peslumok_front.specs.declared.tables.columns.Column.TheVariants.{Count}
+use Rattle.peslumok_front.specs.declared.tables.columns.TableColumn.{TableColumn}
+use Rattle.peslumok_front.specs.declared.tables.columns.TableColumn.TheVariants.{Count}
 use Rattle.peslumok_texts.specs.declared.words.by.BySpec.{BySpec}
 use Rattle.peslumok_front.specs.declared.grouping.grouping.Grouping.{Grouping}
 use Rattle.peslumok_front.specs.after_text.After.{HaveOwnColumns, NamesFirst}
@@ -15,7 +15,8 @@ use Rattle.peslumok_front.specs.front.Answer.{TellsKey, TellsNext}
 use Rattle.peslumok_front.specs.front.Columns.{HaveOwnHeaders, columns_asked, key_column}
 use Rattle.peslumok_front.specs.front.Columns.{metric_column}
 
-at-source : (types : Named FieldType) (by : List BySpec) (rest : List Column) (i : ℕ) (d : BySpec)
+at-source : (types : Named FieldType) (by : List BySpec) (rest : List TableColumn) (i : ℕ)
+    (d : BySpec)
     → i < length by
     → get_or (map (key_column types) by ++ rest) i (key_column types d)
     ≡ key_column types (get_or by i d)
@@ -25,7 +26,7 @@ at-source types (b ∷ by) rest (suc i) d within =
     at-source types by rest i d (omega (arith, within))
 
 -- where no two columns have one name, no two sources are called the same
-pub own-columns : (types : Named FieldType) (by : List BySpec) (rest : List Column)
+pub own-columns : (types : Named FieldType) (by : List BySpec) (rest : List TableColumn)
     → HaveOwnHeaders (map (key_column types) by ++ rest) → HaveOwnColumns by
 own-columns types by rest own i j d below within same =
     own i j (key_column types d) below

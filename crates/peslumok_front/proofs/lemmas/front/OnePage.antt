@@ -16,7 +16,7 @@ use Rattle.agg_results.specs.declared.final_results.types.AggregationResults.{Ag
 use Rattle.agg_results.specs.Results.{AreResults}
 use Rattle.agg_engine.specs.Walk.{IfFull, IsWalk, after_in, documents_in}
 use Rattle.peslumok_front.specs.declared.grouping.grouping.Grouping.{Grouping}
-use Rattle.peslumok_front.specs.declared.grouping.request.Page.{Page}
+use Rattle.peslumok_front.specs.declared.grouping.request.AskedPage.{AskedPage}
 use Rattle.peslumok_records.specs.record_index.Index.{AreOneOf}
 use Rattle.peslumok_front.specs.front.Pages.{IsPageOf, IsPageWalk, snapshot_of}
 
@@ -42,7 +42,8 @@ one-walked request query (s ∷ []) (r ∷ rs) ended one walk =
 one-walked request query (s ∷ t ∷ snapshots) pages ended one walk = absurd (omega (arith, one))
 
 -- the walk over one snapshot has one page
-pub one-page : (grouping : Grouping) (query : QueryTree) (snapshots : List Snapshot) (page : Page)
+pub one-page : (grouping : Grouping) (query : QueryTree) (snapshots : List Snapshot)
+    (page : AskedPage)
     (pages : List AggregationResults) (ended : Bool) → length snapshots ≡ 1
     → IsPageWalk grouping query (snapshots_documents snapshots) page pages ended
     → length pages ≡ 1
@@ -78,7 +79,8 @@ only-one (r ∷ s ∷ pages) results one is = absurd (omega (arith, one))
 
 -- the page of a walk over the one snapshot of documents is that of documents
 pub page-over : (grouping : Grouping) (query : QueryTree) (snapshots : List SnapshotDocuments)
-    (page : Page) (pages : List AggregationResults) (results : AggregationResults) (ended : Bool)
+    (page : AskedPage) (pages : List AggregationResults) (results : AggregationResults)
+    (ended : Bool)
     (documents : List Fields)
     → IsPageWalk grouping query snapshots page pages ended → length pages ≡ 1
     → results ≡ get_or pages 0 results → AreOneOf documents page.size snapshots

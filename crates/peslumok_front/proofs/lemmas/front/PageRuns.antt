@@ -11,7 +11,7 @@ use Rattle.agg_segment.specs.storage.Document.{Fields}
 use Rattle.agg_segment.specs.declared.query.QueryTree.{QueryTree}
 use Rattle.agg_results.specs.declared.final_results.types.AggregationResults.{AggregationResults}
 use Rattle.peslumok_front.specs.declared.grouping.grouping.Grouping.{Grouping}
-use Rattle.peslumok_front.specs.declared.tables.columns.Column.{Column}
+use Rattle.peslumok_front.specs.declared.tables.columns.TableColumn.{TableColumn}
 use Rattle.peslumok_texts.specs.declared.formats.OutputFormat.{OutputFormat}
 use Rattle.peslumok_front.specs.front.Answer.{AreWritten}
 use Rattle.peslumok_front.specs.front.Pages.{ArePages, IsPageOf, is_end, is_last, last_after}
@@ -20,7 +20,7 @@ use Rattle.peslumok_front.specs.front.Written.{IsPageText, IsTextOf, ends}
 use Rattle.peslumok_front.specs.declared.front.asked.Pages.{Pages}
 
 module _ (grouping : Grouping) (query : QueryTree) (documents : List Fields) (asked : Pages)
-    (format : OutputFormat) (columns : List Column) where
+    (format : OutputFormat) (columns : List TableColumn) where
   -- the pages after a key that are asked for
   abbrev After : Named AfterKey → List AggregationResults → Type 0
   After = ArePages grouping query documents asked.is_all (room_of asked)
@@ -130,7 +130,7 @@ not-first number = ap (λ n. n == 0) (add-one number) ∙ suc-not_zero number
 -- ---- in the loop
 
 module _ (grouping : Grouping) (query : QueryTree) (documents : List Fields) (asked : Pages)
-    (format own_format : OutputFormat) (columns own_columns : List Column)
+    (format own_format : OutputFormat) (columns own_columns : List TableColumn)
     (same_format : own_format ≡ format) (same_columns : own_columns ≡ columns)
     (first after shown : Named AfterKey) (page : AggregationResults)
     (shows : shown ≡ next_after page) (number : ℕ) (last : Bool)
@@ -179,13 +179,14 @@ ok-weaker P Q weaker (Err error) is = is
 
 -- pages are written in the columns and the format that are asked for
 pub written-as : (grouping : Grouping) (query : QueryTree) (documents : List Fields)
-    (pages : Pages) (format asked : OutputFormat) (columns all : List Column)
+    (pages : Pages) (format asked : OutputFormat) (columns all : List TableColumn)
     (first next : Named AfterKey) (text : List ℕ) → format ≡ asked → columns ≡ all
     → AreWritten grouping query documents pages format columns first next text
     → AreWritten grouping query documents pages asked all first next text
 written-as grouping query documents pages format asked columns all first next text same are
     written =
-    subst (λ (cs : List Column). AreWritten grouping query documents pages asked cs first next text)
+    subst (λ (cs : List TableColumn). AreWritten grouping query documents pages asked cs first next
+    text)
     are
     (subst (λ (f : OutputFormat). AreWritten grouping query documents pages f columns first next
     text) same written)

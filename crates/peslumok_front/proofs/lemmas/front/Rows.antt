@@ -7,12 +7,12 @@ use Rattle.std.proofs.lemmas.Slice.Zip.{all_zipped_more}
 use Rattle.agg_results.specs.declared.final_results.types.CompositeBucketEntry.{
   CompositeBucketEntry,
 }
-use Rattle.peslumok_front.specs.declared.tables.columns.Column.{Column}
+use Rattle.peslumok_front.specs.declared.tables.columns.TableColumn.{TableColumn}
 use Rattle.peslumok_front.specs.declared.tables.row.Row.{Row}
 use Rattle.peslumok_front.specs.front.Written.{IsGroupRow}
 
 -- the row of one group more
-pub group-more : (columns : List Column) (groups : List CompositeBucketEntry) (index : ℕ)
+pub group-more : (columns : List TableColumn) (groups : List CompositeBucketEntry) (index : ℕ)
     (group : CompositeBucketEntry) (before after : List Row) (row : Row)
     → index < length groups → group ≡ get_or groups index group → after ≡ before ++ row ∷ []
     → IsGroupRow columns group row → AllZip (IsGroupRow columns) (take index groups) before

@@ -28,7 +28,7 @@ use Rattle.peslumok_texts.specs.declared.words.by.BySpec.{BySpec}
 use Rattle.peslumok_front.specs.grouping.Request.{IsRequestOf}
 use Rattle.peslumok_front.specs.grouping.Sources.{source_asked}
 use Rattle.peslumok_front.specs.declared.grouping.grouping.Grouping.{Grouping}
-use Rattle.peslumok_front.specs.declared.grouping.request.Page.{Page}
+use Rattle.peslumok_front.specs.declared.grouping.request.AskedPage.{AskedPage}
 use Rattle.peslumok_front.proofs.lemmas.grouping.AskedSources.{called-as_column}
 use Rattle.peslumok_front.specs.after_text.After.{NamesFirst, keys_by_name}
 use Rattle.peslumok_front.specs.front.Pages.{ArePages, IsPageOf, is_last, last_after, next_after}
@@ -68,7 +68,7 @@ module _ (types : Named FieldType) where
 
 module _ (grouping : Grouping) where
   -- under the name of the groups stands their composite
-  pub groups-named : {B : Type 0} (page : Page) (request : Request B)
+  pub groups-named : {B : Type 0} (page : AskedPage) (request : Request B)
       (asked : IsRequestOf grouping page request)
       → IsCompositeNamed (codes "groups") request asked.are_groups.composite
   groups-named {B} page request asked =
@@ -78,7 +78,7 @@ module _ (grouping : Grouping) where
 
   module _ (query : QueryTree) (documents : List Fields) where
     -- the key that a page shows names the first sources
-    pub page-names : (page : Page) (results : AggregationResults)
+    pub page-names : (page : AskedPage) (results : AggregationResults)
         → IsPageOf grouping query documents page results
         → NamesFirst grouping.by.items (next_after results)
     page-names page results (ended, walk) =

@@ -12,10 +12,10 @@ use Rattle.peslumok_texts.specs.declared.words.metric.Metric.{Metric}
 use Rattle.peslumok_front.specs.grouping.Request.{AreGroupsOf, AreMetricsOf, AreTotals, HasGroups}
 use Rattle.peslumok_front.specs.grouping.Request.{HasTotal, IsCompositeOf, IsRequestOf, IsTotalOf}
 use Rattle.peslumok_front.specs.declared.grouping.grouping.Grouping.{Grouping}
-use Rattle.peslumok_front.specs.declared.grouping.request.Page.{Page}
+use Rattle.peslumok_front.specs.declared.grouping.request.AskedPage.{AskedPage}
 
 -- the groups of a composite with the metrics below
-pub groups-made : {B : Type 0} (grouping : Grouping) (page : Page)
+pub groups-made : {B : Type 0} (grouping : Grouping) (page : AskedPage)
     (composite : CompositeAggregation) (metrics : List Metric) (below : Request B)
     → IsCompositeOf grouping page composite → metrics ≡ grouping.metrics.items
     → AreMetricsOf metrics below
@@ -41,7 +41,7 @@ total-made grouping all metrics below is same are = record {
 }
 
 -- the groups alone are a request without a total
-pub without_total : {B : Type 0} (grouping : Grouping) (page : Page) (none request : Request B)
+pub without_total : {B : Type 0} (grouping : Grouping) (page : AskedPage) (none request : Request B)
     → grouping.has_total ≡ false → none ≡ [] → HasGroups grouping page none request
     → IsRequestOf grouping page request
 without_total {B = B} grouping page none request has_total empty has = record {
@@ -53,7 +53,8 @@ without_total {B = B} grouping page none request has_total empty has = record {
 }
 
 -- the groups and a total are a request with a total
-pub with_total : {B : Type 0} (grouping : Grouping) (page : Page) (none some request : Request B)
+pub with_total : {B : Type 0} (grouping : Grouping) (page : AskedPage)
+    (none some request : Request B)
     → grouping.has_total ≡ true → none ≡ [] → HasGroups grouping page none some
     → HasTotal grouping some request → IsRequestOf grouping page request
 with_total grouping page none some request has_total empty has with = record {

@@ -18,7 +18,7 @@ use Rattle.peslumok_texts.specs.declared.words.metric.MetricKind.TheVariants.{Co
 use Rattle.peslumok_front.specs.grouping.Request.{AreMetricsOf, AreTotals, IsRequestOf}
 use Rattle.peslumok_front.specs.grouping.Request.{metric_asked, named_metric, of_kind}
 use Rattle.peslumok_front.specs.declared.grouping.grouping.Grouping.{Grouping}
-use Rattle.peslumok_front.specs.declared.grouping.request.Page.{Page}
+use Rattle.peslumok_front.specs.declared.grouping.request.AskedPage.{AskedPage}
 
 -- what holds always holds of all
 every : {X : Type 0} (P : X → Type 0) → ((x : X) → P x) → (xs : List X) → All P xs
@@ -84,7 +84,7 @@ none_of_totals grouping true totals (total, is, entries) =
     (none_of_metrics grouping.metrics.items (below_of total) is.metrics))
 none_of_totals grouping false totals none = ap builders_of none
 
-pub request-none : {B : Type 0} (grouping : Grouping) (page : Page) (request : Request B)
+pub request-none : {B : Type 0} (grouping : Grouping) (page : AskedPage) (request : Request B)
     → IsRequestOf grouping page request → builders_of request ≡ []
 request-none grouping page request is =
     let groups = is.are_groups in
@@ -155,7 +155,7 @@ module _ {B : Type 0} (makes others : B → QueryTree) where
   alike_totals grouping false totals none =
       ap (with_builders makes) none ∙ sym (ap (with_builders others) none)
 
-  pub request-alike : (grouping : Grouping) (page : Page) (request : Request B)
+  pub request-alike : (grouping : Grouping) (page : AskedPage) (request : Request B)
       → IsRequestOf grouping page request
       → with_builders makes request ≡ with_builders others request
   request-alike grouping page request is =

@@ -9,12 +9,12 @@ use Rattle.agg_results.specs.declared.final_results.types.CompositeBucketEntry.{
 }
 use Rattle.peslumok_front.specs.tables.Cells.{Shown, shown_by}
 use Rattle.peslumok_front.specs.tables.Groups.{IsGroupCell, ShowsGroup, ShowsTotals}
-use Rattle.peslumok_front.specs.declared.tables.columns.Column.{Column}
-use Rattle.peslumok_front.specs.declared.tables.row.Cell.{Cell}
+use Rattle.peslumok_front.specs.declared.tables.columns.TableColumn.{TableColumn}
+use Rattle.peslumok_front.specs.declared.tables.row.TableCell.{TableCell}
 
 -- one more cell of a group
-pub group-more : (entry : CompositeBucketEntry) (columns : List Column) (index : ℕ)
-    (column : Column) (before after : List Cell) (cell : Cell)
+pub group-more : (entry : CompositeBucketEntry) (columns : List TableColumn) (index : ℕ)
+    (column : TableColumn) (before after : List TableCell) (cell : TableCell)
     → index < length columns
     → column ≡ get_or columns index column
     → after ≡ before ++ cell ∷ []
@@ -31,7 +31,7 @@ group-more entry columns index column before after cell less is a here so_far =
 
 -- the totals' cells once no column is left
 pub totals-done : (label start : List ℕ) (doc_count : ℕ) (metrics : AggregationResults)
-    (items columns : List Column) (index : ℕ) (cells : List Shown)
+    (items columns : List TableColumn) (index : ℕ) (cells : List Shown)
     → items ≡ columns
     → length items ≤ index
     → ((rest : List Shown) → ShowsTotals label doc_count metrics (drop index items) rest

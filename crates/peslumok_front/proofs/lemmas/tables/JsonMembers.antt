@@ -8,11 +8,11 @@ use Rattle.agg_results.specs.final_results.ResultsText.{braced}
 use Rattle.agg_results.proofs.lemmas.final_results.AppendedItems.{joined}
 use Rattle.peslumok_front.specs.tables.Cells.{Shown, shown_by}
 use Rattle.peslumok_front.specs.tables.JsonLines.{column_members, total_members}
-use Rattle.peslumok_front.specs.declared.tables.columns.Column.{Column}
-use Rattle.peslumok_front.specs.declared.tables.row.Cell.{Cell}
+use Rattle.peslumok_front.specs.declared.tables.columns.TableColumn.{TableColumn}
+use Rattle.peslumok_front.specs.declared.tables.row.TableCell.{TableCell}
 
 -- there is no member where there is no column or no cell
-no-members : (total : Bool) (columns : List Column) (cells : List Cell)
+no-members : (total : Bool) (columns : List TableColumn) (cells : List TableCell)
     → (columns ≡ []) ⊎ (cells ≡ []) → column_members total columns (map shown_by cells) ≡ []
 no-members total [] cells e = refl
 no-members total (column ∷ columns) [] e = refl
@@ -20,8 +20,8 @@ no-members total (column ∷ columns) (cell ∷ cells) (inl e) = cc
 no-members total (column ∷ columns) (cell ∷ cells) (inr e) = cc
 
 -- all members are appended once no column or no cell is left
-pub members-done : (before whole : List ℕ) (first total : Bool) (columns : List Column)
-    (cells : List Cell)
+pub members-done : (before whole : List ℕ) (first total : Bool) (columns : List TableColumn)
+    (cells : List TableCell)
     → (columns ≡ []) ⊎ (cells ≡ [])
     → before ++ more_items first (column_members total columns (map shown_by cells)) ≡ whole
     → before ≡ whole
@@ -37,7 +37,7 @@ line-parts start label body = simp append_assoc
 
 -- a line is written member by member
 pub line-written : (start opened totalled listed closed : List ℕ) (total : Bool)
-    (columns : List Column) (cells : List Shown)
+    (columns : List TableColumn) (cells : List Shown)
     → opened ≡ start ++ 123 ∷ []
     → totalled ≡ opened ++ (if total then codes "\"total\":true" else [])
     → listed ≡ totalled ++ more_items (not total) (column_members total columns cells)

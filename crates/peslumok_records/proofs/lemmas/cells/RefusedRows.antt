@@ -27,7 +27,7 @@ use Rattle.peslumok_records.specs.cells.Cells.{row_document}
 use Rattle.peslumok_records.specs.cells.Csv.{AreEven, AreRowsOf, cells_config}
 use Rattle.peslumok_records.specs.cells.Rows.{HasRead, refuses_row, width_of}
 use Rattle.peslumok_records.specs.cells.Table.{ArePlaces, AreTableDocuments, IsPlaceOf}
-use Rattle.peslumok_records.specs.declared.cells.rows.Rows.{Rows}
+use Rattle.peslumok_records.specs.declared.cells.rows.CellRows.{CellRows}
 use Rattle.peslumok_records.proofs.lemmas.cells.SoleRows.{first_row, places_once, rows_after}
 use Rattle.peslumok_records.proofs.lemmas.cells.SoleRows.{rows_first}
 
@@ -105,7 +105,7 @@ taken config s text (Some rest) fields t reads =
     by None is next = absurd (true≢false next)
     by (Some p) is next = (p, is, next.1)
 
-module _ (d : ℕ) (text : List ℕ) (rows : List (List (List ℕ))) (at : Rows)
+module _ (d : ℕ) (text : List ℕ) (rows : List (List (List ℕ))) (at : CellRows)
     (has : HasRead d text rows at) where
   -- the rows of a text in which the next one is this
   next_among : (fields : List (List ℕ)) (left : Option (List ℕ)) (t : State)
@@ -157,7 +157,7 @@ no_places header (first ∷ asked) (suc at) field within is none (place ∷ plac
 -- ---- rows under a header
 
 module _ (d : ℕ) (text : List ℕ) (header : List (List ℕ)) (rows : List (List (List ℕ)))
-    (at : Rows) (has : HasRead d text (header ∷ rows) at) where
+    (at : CellRows) (has : HasRead d text (header ∷ rows) at) where
   all_under : (all : List (List (List ℕ))) → AreRowsOf d text all
       → (rest : List (List (List ℕ))) × (all ≡ header ∷ (rows ++ rest))
   all_under all are =
@@ -174,7 +174,7 @@ module _ (d : ℕ) (text : List ℕ) (header : List (List ℕ)) (rows : List (Li
       absurd (cc whole)
 
 -- no documents are those of a text whose header has been read, with these places
-abbrev pub NoneUnder : List AskedField → List (Option ℕ) → Rows → Type 0
+abbrev pub NoneUnder : List AskedField → List (Option ℕ) → CellRows → Type 0
 NoneUnder asked places at =
     (delimiter : ℕ) (text : List ℕ) (header : List (List ℕ)) (before : List (List (List ℕ)))
     → HasRead delimiter text (header ∷ before) at → ArePlaces header asked places
@@ -182,7 +182,7 @@ NoneUnder asked places at =
 
 -- a row has no document
 pub none_with_row : (d : ℕ) (text : List ℕ) (header : List (List ℕ))
-    (rows : List (List (List ℕ))) (row : List (List ℕ)) (at : Rows)
+    (rows : List (List (List ℕ))) (row : List (List ℕ)) (at : CellRows)
     → HasRead d text (header ∷ (rows ++ row ∷ [])) at
     → (asked : List AskedField) (places : List (Option ℕ)) → ArePlaces header asked places
     → NoneIs (IsRead (row_document asked places row)) → NoneIs (AreTableDocuments d text asked)

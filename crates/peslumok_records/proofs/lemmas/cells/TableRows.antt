@@ -8,10 +8,11 @@ use Rattle.peslumok_records.specs.declared.held.records.Records.{Records}
 use Rattle.peslumok_records.proofs.lemmas.held.HeldDocuments.{adds_none, adds_one}
 use Rattle.peslumok_records.specs.cells.Cells.{row_document}
 use Rattle.peslumok_records.specs.cells.Rows.{HasRead}
-use Rattle.peslumok_records.specs.declared.cells.rows.Rows.{Rows}
+use Rattle.peslumok_records.specs.declared.cells.rows.CellRows.{CellRows}
 
 -- more rows were read, and their documents appended
-abbrev pub GoesOn : List AskedField → List (Option ℕ) → Rows → Rows → Records → Records → Type 0
+abbrev pub GoesOn : List AskedField → List (Option ℕ) → CellRows → CellRows → Records → Records
+    → Type 0
 GoesOn asked places start at old new =
     (delimiter : ℕ) (text : List ℕ) (before : List (List (List ℕ)))
     → HasRead delimiter text before start
@@ -19,7 +20,7 @@ GoesOn asked places start at old new =
     × HasRead delimiter text (before ++ more) at
     × Adds (AreRead (map (row_document asked places) more)) old new
 
-pub goes_on-none : (asked : List AskedField) (places : List (Option ℕ)) (at : Rows)
+pub goes_on-none : (asked : List AskedField) (places : List (Option ℕ)) (at : CellRows)
     (records : Records) → GoesOn asked places at at records records
 goes_on-none asked places at records delimiter text before has = (
   [],
@@ -27,7 +28,7 @@ goes_on-none asked places at records delimiter text before has = (
   adds_none records,
 )
 
-pub goes_on-more : (asked : List AskedField) (places : List (Option ℕ)) (start at next : Rows)
+pub goes_on-more : (asked : List AskedField) (places : List (Option ℕ)) (start at next : CellRows)
     (row : List (List ℕ)) (old now new : Records)
     → GoesOn asked places start at old now
     → ((delimiter : ℕ) (text : List ℕ) (before : List (List (List ℕ)))

@@ -1,5 +1,5 @@
 use Rattle.std.proofs.Common.{◌≡◌, ◌++◌, ◌∷◌, [], map, take}
-use Rattle.peslumok_front.specs.declared.tables.columns.Column.TheVariants.{Count}
+use Rattle.peslumok_front.specs.declared.tables.columns.TableColumn.TheVariants.{Count}
 use Rattle.peslumok_front.specs.front.Columns.{key_column, metric_column}
 use Rattle.peslumok_front.proofs.front.columns.all_columns.Given as goal
 

@@ -12,7 +12,7 @@ use Rattle.peslumok_records.proofs.lemmas.held.HeldDocuments.{adds_later}
 use Rattle.peslumok_records.specs.cells.Cells.{row_document}
 use Rattle.peslumok_records.specs.cells.Rows.{HasRead}
 use Rattle.peslumok_records.specs.cells.Table.{ArePlaces, AreTableDocuments}
-use Rattle.peslumok_records.specs.declared.cells.rows.Rows.{Rows}
+use Rattle.peslumok_records.specs.declared.cells.rows.CellRows.{CellRows}
 use Rattle.peslumok_records.proofs.lemmas.cells.RefusedRows.{NoneUnder, error_passed, none_placed}
 use Rattle.peslumok_records.proofs.cells.table.read_rows.Goals as goal
 
@@ -59,7 +59,7 @@ returns-clause-ok c =
     )) c.read_rest.ensures.ok
 
 -- no documents are those of a text of which no row has been read
-abbrev NoneYet : List AskedField → Rows → Type 0
+abbrev NoneYet : List AskedField → CellRows → Type 0
 NoneYet asked at =
     (delimiter : ℕ) (text : List ℕ) → HasRead delimiter text [] at
     → NoneIs (AreTableDocuments delimiter text asked)

@@ -6,7 +6,7 @@ use Rattle.csv.specs.Reading.{with_names_headers}
 use Rattle.csv.specs.Records.{AllText}
 use Rattle.csv.specs.declared.parser.Config.{Config}
 use Rattle.peslumok_records.proofs.lemmas.cells.RefusedRows.{no_last}
-use Rattle.peslumok_records.proofs.cells.rows.Rows.new.Goals as goal
+use Rattle.peslumok_records.proofs.cells.rows.CellRows.new.Goals as goal
 
 pub returns : goal.returns
 unfolding Reached

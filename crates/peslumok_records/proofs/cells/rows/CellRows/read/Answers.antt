@@ -11,7 +11,7 @@ use Rattle.peslumok_records.specs.cells.Rows.{width_of}
 use Rattle.peslumok_records.proofs.lemmas.cells.OpenQuotes.{open_after}
 use Rattle.peslumok_records.proofs.lemmas.cells.RefusedRows.{even_more, no_table, none_refused}
 use Rattle.peslumok_records.proofs.lemmas.cells.RefusedRows.{same_last}
-use Rattle.peslumok_records.proofs.cells.rows.Rows.read.Goals as goal
+use Rattle.peslumok_records.proofs.cells.rows.CellRows.read.Goals as goal
 
 -- the bytes that are left of a text in memory
 abbrev left : Bor (List ℕ) → Option (List ℕ)
