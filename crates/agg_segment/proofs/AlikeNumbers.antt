@@ -12,8 +12,8 @@ use Rattle.agg_values.specs.TypedKey.{CompositeIntermediateKey}
 use Rattle.agg_values.specs.declared.typed_key.CompositeIntermediateKey.TheVariants as key
 use Rattle.agg_segment.specs.storage.Cells.{Placed, is_at, keys_at}
 use Rattle.agg_segment.specs.storage.Document.{by_class, of_class}
-use Rattle.agg_segment.specs.Gatherings.{Raw, raw_placed, kind_of, is_raw_of, AreAlike}
-use Rattle.agg_segment.specs.storage.GatheredNumbers.{raw_key}
+use Rattle.agg_segment.specs.Gatherings.{Raw, raw_placed, is_raw_of, AreAlike}
+use Rattle.agg_segment.specs.storage.GatheredNumbers.{raw_key, kind_of}
 use Rattle.agg_segment.specs.declared.storage.hit.ColumnType.{ColumnType}
 use Rattle.agg_segment.specs.declared.storage.hit.ColumnType.TheVariants as kind
 use Rattle.agg_segment.specs.declared.storage.sign.Sign.{Sign}
@@ -21,7 +21,7 @@ use Rattle.agg_segment.specs.declared.storage.sign.Sign.TheVariants.{Small}
 use Rattle.agg_segment.proofs.lemmas.storage.Classes.{same_classes}
 use Rattle.agg_segment.specs.storage.Columns.{type_class}
 use Rattle.agg_segment.proofs.EncodedColumns.{kind_rank}
-use Rattle.agg_segment.proofs.lemmas.storage.KeptCells.{filter_map_is}
+use Rattle.agg_segment.proofs.lemmas.storage.Filters.{filter_map_is}
 use Rattle.agg_segment.proofs.lemmas.storage.Members.{contains_filter, from_filter}
 
 -- ---- what such lists hold

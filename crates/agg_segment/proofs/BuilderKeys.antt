@@ -7,40 +7,27 @@ use Rattle.std.specs.List.{All}
 use Rattle.std.proofs.lemmas.Int.{ints}
 use Rattle.std.proofs.lemmas.Bool.{cases_Bool}
 use Rattle.std.proofs.lemmas.Bool.Decides.{nat_tests}
-use Rattle.std.proofs.lemmas.List.{append-nil, append_assoc, length-map}
-use Rattle.std.proofs.lemmas.List.{get_or_append_left}
+use Rattle.std.proofs.lemmas.List.{append-nil, append_assoc, length-map, map-append}
 use Rattle.std.proofs.Math.Seq.{take-append_seam, drop-append_seam}
 use Rattle.std.proofs.lemmas.List.Elements.{All-head, All-tail, All-weaker}
 use Rattle.agg_values.specs.declared.address.Address.{Address}
 use Rattle.agg_values.specs.declared.column.ColumnPaginationOrder.{ColumnPaginationOrder}
 use Rattle.agg_values.specs.declared.column.ColumnPaginationOrder.TheVariants as class
 use Rattle.agg_values.specs.declared.typed_key.CompositeIntermediateKey.TheVariants as key
-use Rattle.agg_segment.specs.storage.Cells.{Placed, Logged}
+use Rattle.agg_segment.specs.storage.Cells.{Placed}
+use Rattle.agg_segment.specs.storage.Runs.{Logged, FieldKey, in_document, open_cells}
 use Rattle.agg_segment.specs.Segment.{builder_cells}
-use Rattle.agg_segment.specs.Gatherings.{Raw, raw_placed, kind_of, IsRaw}
-use Rattle.agg_segment.specs.storage.GatheredNumbers.{raw_key}
+use Rattle.agg_segment.specs.Gatherings.{Raw, raw_placed}
+use Rattle.agg_segment.specs.storage.GatheredNumbers.{raw_key, kind_of, IsRaw}
 use Rattle.agg_segment.specs.storage.Signs.{key_mark, IsFieldSign}
 use Rattle.agg_segment.specs.SegmentLimits.{sign_of}
 use Rattle.agg_segment.specs.declared.storage.hit.ColumnType.TheVariants as kind
 use Rattle.agg_segment.specs.declared.storage.sign.Sign.{Sign}
 use Rattle.agg_segment.specs.declared.storage.sign.Sign.TheVariants.{Small, Negative, Large}
 use Rattle.agg_segment.proofs.NewFields.{padded}
+use Rattle.agg_segment.proofs.lemmas.storage.KeptNumbers.{longer_key, raw_more}
 
 -- ---- more texts and addresses with the same numbers
-
-longer_key : (texts more : List (List ℕ)) (addresses others : List Address) (sign : Sign)
-    (c : ColumnPaginationOrder) (n : ℕ) → IsRaw (length texts) (length addresses) c n
-    → raw_key (texts ++ more) (addresses ++ others) (kind_of sign c) n
-    ≡ raw_key texts addresses (kind_of sign c) n
-longer_key texts more addresses others sign class.Bool n raw = refl
-longer_key texts more addresses others sign class.Str n raw =
-    ap (λ t. key.Str t) (get_or_append_left texts more [] n raw)
-longer_key texts more addresses others Large class.Numeric n raw = refl
-longer_key texts more addresses others Small class.Numeric n raw = refl
-longer_key texts more addresses others Negative class.Numeric n raw = refl
-longer_key texts more addresses others sign class.IpAddr n raw = ap (λ a. key.IpAddr a)
-    (get_or_append_left addresses others (record { 0 = 0 }) n raw)
-longer_key texts more addresses others sign class.DateTime n raw = refl
 
 longer_rows : (signs : List Sign) (texts more : List (List ℕ)) (addresses others : List Address)
     (rs : List Raw) → All (λ r. IsRaw (length texts) (length addresses) r.class r.number) rs
@@ -56,7 +43,7 @@ longer_rows signs texts more addresses others (r ∷ rs) all =
     ∙ ap (λ ps. raw_placed signs texts addresses r ∷ ps)
     (longer_rows signs texts more addresses others rs (All-tail P r rs all))
 
-pub still_read : (signs : List Sign) (texts more : List (List ℕ)) (addresses others : List Address)
+still_read : (signs : List Sign) (texts more : List (List ℕ)) (addresses others : List Address)
     (rs : List Raw) (ts : List (List ℕ)) (as' : List Address) → ts ≡ texts ++ more
     → as' ≡ addresses ++ others
     → All (λ r. IsRaw (length texts) (length addresses) r.class r.number) rs
@@ -65,14 +52,6 @@ still_read signs texts more addresses others rs ts as' is are all =
     ap (λ t. map (raw_placed signs t as') rs) is
     ∙ ap (λ a. map (raw_placed signs (texts ++ more) a) rs) are
     ∙ longer_rows signs texts more addresses others rs all
-
-raw_more : (n m i j : ℕ) (c : ColumnPaginationOrder) (number : ℕ) → n ≤ i → m ≤ j
-    → IsRaw n m c number → IsRaw i j c number
-raw_more n m i j class.Bool number up on raw = raw
-raw_more n m i j class.Str number up on raw = omega (arith, up, raw)
-raw_more n m i j class.Numeric number up on raw = raw
-raw_more n m i j class.IpAddr number up on raw = omega (arith, on, raw)
-raw_more n m i j class.DateTime number up on raw = raw
 
 pub raws_longer : (n m i j : ℕ) (rs : List Raw) → n ≤ i → m ≤ j
     → All (λ r. IsRaw n m r.class r.number) rs → All (λ r. IsRaw i j r.class r.number) rs
@@ -95,17 +74,17 @@ padded_read signs texts addresses (r ∷ rs) =
 
 -- ---- numbers keep their keys when their fields get signs
 
-pub high_key : (texts : List (List ℕ)) (addresses : List Address) (sign : Sign) (n : ℕ)
+high_key : (texts : List (List ℕ)) (addresses : List Address) (sign : Sign) (n : ℕ)
     → nat_lt n (2 ^ 63) ≡ false
     → raw_key texts addresses (kind_of sign class.Numeric) n ≡ key.I64 (pos n -ℤ pos (2 ^ 63))
 high_key texts addresses Large n high = rw high refl
 high_key texts addresses Small n high = refl
 high_key texts addresses Negative n high = refl
 
-pub below_zero : (n : ℕ) → nat_lt n (2 ^ 63) ≡ true → int_lt (pos n -ℤ pos (2 ^ 63)) (pos 0) ≡ true
+below_zero : (n : ℕ) → nat_lt n (2 ^ 63) ≡ true → int_lt (pos n -ℤ pos (2 ^ 63)) (pos 0) ≡ true
 below_zero n low = let l : n < 2 ^ 63 = grind (arith, nat_tests) in grind (arith, ints, nat_tests)
 
-signed_key : (texts : List (List ℕ)) (addresses : List Address) (old new : Sign)
+pub signed_key : (texts : List (List ℕ)) (addresses : List Address) (old new : Sign)
     (c : ColumnPaginationOrder) (n : ℕ)
     → (sign_of (raw_key texts addresses (kind_of old c) n) ≢ Small
     → new ≡ sign_of (raw_key texts addresses (kind_of old c) n))
@@ -169,44 +148,52 @@ dropped read rs ps = ap (λ n. drop n (map read rs ++ ps)) (sym (length-map rs r
     ∙ drop-append_seam (map read rs) ps
 
 -- the keys of the closed documents alone
-pub read_again : (signs : List Sign) (rs : List Raw) (log new : Logged) → new.texts ≡ log.texts
-    → new.addresses ≡ log.addresses → new.cells ≡ []
-    → builder_cells signs rs new ≡ take (length rs) (builder_cells signs rs log)
-read_again signs rs log new texts addresses cells =
-    ap (λ ps. map (raw_placed signs new.texts new.addresses) rs ++ ps) cells
+pub read_again : (count : ℕ) (signs : List Sign) (rs : List Raw) (log new : Logged)
+    → new.texts ≡ log.texts → new.addresses ≡ log.addresses → new.keys ≡ []
+    → builder_cells count signs rs new ≡ take (length rs) (builder_cells count signs rs log)
+read_again count signs rs log new texts addresses keys =
+    ap (λ ks. map (raw_placed signs new.texts new.addresses) rs ++ map (in_document count) ks) keys
     ∙ append-nil (map (raw_placed signs new.texts new.addresses) rs)
     ∙ ap (λ ts. map (raw_placed signs ts new.addresses) rs) texts
     ∙ ap (λ as'. map (raw_placed signs log.texts as') rs) addresses
-    ∙ sym (taken (raw_placed signs log.texts log.addresses) rs log.cells)
+    ∙ sym (taken (raw_placed signs log.texts log.addresses) rs (open_cells count log))
 
 -- the keys with other ones of the open document
-pub read_beside : (signs : List Sign) (rs : List Raw) (log new : Logged) (more : List (List ℕ))
-    (others : List Address) (ps : List Placed) → new.texts ≡ log.texts ++ more
+pub read_beside : (count : ℕ) (signs : List Sign) (rs : List Raw) (log new : Logged) (more : List
+    (List ℕ))
+    (others : List Address) (ks : List FieldKey) → new.texts ≡ log.texts ++ more
     → new.addresses ≡ log.addresses ++ others
     → All (λ r. IsRaw (length log.texts) (length log.addresses) r.class r.number) rs
-    → new.cells ≡ ps
-    → builder_cells signs rs new ≡ map (raw_placed signs log.texts log.addresses) rs ++ ps
-read_beside signs rs log new more others ps texts addresses all cells =
-    ap (λ qs. map (raw_placed signs new.texts new.addresses) rs ++ qs) cells
-    ∙ ap (λ qs. qs ++ ps) (still_read signs log.texts more log.addresses others rs new.texts
+    → new.keys ≡ ks
+    → builder_cells count signs rs new
+    ≡ map (raw_placed signs log.texts log.addresses) rs ++ map (in_document count) ks
+read_beside count signs rs log new more others ks texts addresses all keys =
+    ap (λ js. map (raw_placed signs new.texts new.addresses) rs ++ map (in_document count) js) keys
+    ∙ ap (λ qs. qs ++ map (in_document count) ks)
+    (still_read signs log.texts more log.addresses others rs new.texts
     new.addresses texts addresses all)
 
-pub read_pushed : (signs : List Sign) (rs : List Raw) (log new : Logged) (more : List (List ℕ))
-    (others : List Address) (p : Placed) → new.texts ≡ log.texts ++ more
+pub read_pushed : (count : ℕ) (signs : List Sign) (rs : List Raw) (log new : Logged) (more : List
+    (List ℕ))
+    (others : List Address) (k : FieldKey) → new.texts ≡ log.texts ++ more
     → new.addresses ≡ log.addresses ++ others
     → All (λ r. IsRaw (length log.texts) (length log.addresses) r.class r.number) rs
-    → new.cells ≡ log.cells ++ p ∷ []
-    → builder_cells signs rs new ≡ builder_cells signs rs log ++ p ∷ []
-read_pushed signs rs log new more others p texts addresses all cells =
-    read_beside signs rs log new more others (log.cells ++ p ∷ []) texts addresses all cells
-    ∙ sym (append_assoc (map (raw_placed signs log.texts log.addresses) rs) log.cells (p ∷ []))
+    → new.keys ≡ log.keys ++ k ∷ []
+    → builder_cells count signs rs new
+    ≡ builder_cells count signs rs log ++ in_document count k ∷ []
+read_pushed count signs rs log new more others k texts addresses all keys =
+    let read = map (raw_placed signs log.texts log.addresses) rs in
+    read_beside count signs rs log new more others (log.keys ++ k ∷ []) texts addresses all keys
+    ∙ ap (λ ps. read ++ ps) (map-append (in_document count) log.keys (k ∷ []))
+    ∙ sym (append_assoc read (open_cells count log) (in_document count k ∷ []))
 
 -- the keys of the closed documents, by what was kept
-pub read_kept : (signs ss : List Sign) (rs : List Raw) (log : Logged) (ts : List (List ℕ))
+pub read_kept : (count : ℕ) (signs ss : List Sign) (rs : List Raw) (log : Logged) (ts : List
+    (List ℕ))
     (as' : List Address) → ss ≡ signs → ts ≡ log.texts → as' ≡ log.addresses
-    → map (raw_placed ss ts as') rs ≡ take (length rs) (builder_cells signs rs log)
-read_kept signs ss rs log ts as' same texts addresses =
+    → map (raw_placed ss ts as') rs ≡ take (length rs) (builder_cells count signs rs log)
+read_kept count signs ss rs log ts as' same texts addresses =
     ap (λ s. map (raw_placed s ts as') rs) same
     ∙ ap (λ t. map (raw_placed signs t as') rs) texts
     ∙ ap (λ a. map (raw_placed signs log.texts a) rs) addresses
-    ∙ sym (taken (raw_placed signs log.texts log.addresses) rs log.cells)
+    ∙ sym (taken (raw_placed signs log.texts log.addresses) rs (open_cells count log))

@@ -16,9 +16,9 @@ use Rattle.agg_segment.specs.storage.Cells.{Placed}
 use Rattle.agg_values.specs.Column.{order_rank}
 use Rattle.agg_segment.specs.storage.Columns.{StoredColumn, column_cells, encoded_key, type_of}
 use Rattle.agg_segment.specs.storage.Columns.{keys_rank, type_class}
-use Rattle.agg_segment.specs.Gatherings.{Raw, raws, column_raws, kind_of}
-use Rattle.agg_segment.specs.storage.GatheredNumbers.{raw_key, keyed_rows}
-use Rattle.agg_segment.specs.Gatherings.{raw_placed, IsWide, IsRaw, gathering_classes}
+use Rattle.agg_segment.specs.Gatherings.{Raw, raws, column_raws}
+use Rattle.agg_segment.specs.storage.GatheredNumbers.{raw_key, keyed_rows, kind_of, IsRaw}
+use Rattle.agg_segment.specs.Gatherings.{raw_placed, IsWide, gathering_classes}
 use Rattle.agg_segment.specs.Gatherings.{column_classes}
 use Rattle.agg_segment.specs.SegmentLimits.{sign_of}
 use Rattle.agg_segment.specs.declared.gatherings.Gathering.{Gathering}

@@ -17,7 +17,7 @@ use Rattle.agg_segment.specs.storage.Columns.{StoredColumn, column_cells, column
 use Rattle.agg_segment.specs.storage.Columns.{numbers_at, encoded_key, keys_rank, IsColumnBefore}
 use Rattle.agg_segment.specs.storage.Columns.{AreInOrder, ClassesAscend}
 use Rattle.agg_segment.proofs.DocumentKeys.{keys_split}
-use Rattle.agg_segment.proofs.lemmas.storage.KeptCells.{filter_map_is}
+use Rattle.agg_segment.proofs.lemmas.storage.Filters.{filter_map_is}
 
 -- ---- a part of a list that holds what passes
 

@@ -3,17 +3,17 @@ use Rattle.std.proofs.Common.{◌≡◌, ◌≢◌, ◌+◌, ◌<◌, ℕ, List,
 use Rattle.std.proofs.Common.{get_or, set, take, drop, map, refl, sym, ap}
 use Rattle.std.proofs.Common.{subst, ◌∙◌, inl, inr, arith}
 use Rattle.std.specs.Prelude.{◌⊎◌}
-use Rattle.std.specs.List.{All, Contains}
+use Rattle.std.specs.List.{Contains}
 use Rattle.std.proofs.lemmas.Bool.{cases_eq}
 use Rattle.std.proofs.lemmas.List.{length-set, get_or-set_same, get_or-set_other, append_assoc}
-use Rattle.std.proofs.lemmas.List.{set-set, set-get_or, length-map, get_or-map}
+use Rattle.std.proofs.lemmas.List.{set-set, set-get_or, get_or_default}
 use Rattle.std.proofs.lemmas.List.{map_more, map-append, take-append-drop}
-use Rattle.std.proofs.lemmas.List.Elements.{All-push, All-map, All-weaker, Contains-append_left}
-use Rattle.std.proofs.lemmas.List.Elements.{Contains-push}
+use Rattle.std.proofs.lemmas.List.Elements.{All-push, All-weaker, Contains-append_left}
+use Rattle.std.proofs.lemmas.List.Elements.{Contains-push, All-contains}
 use Rattle.agg_segment.specs.storage.Cells.{Placed}
-use Rattle.agg_segment.specs.storage.Signs.{cell_mark, key_mark, IsFieldSign, AreSigns, HasBoth}
+use Rattle.agg_segment.specs.storage.Signs.{run_mark, key_mark, IsFieldSign, AreSigns, HasBoth}
 use Rattle.agg_segment.specs.storage.Signs.{without_signs}
-use Rattle.agg_segment.specs.declared.storage.log.Cell.{Cell}
+use Rattle.agg_segment.specs.declared.storage.run.Run.{Run}
 use Rattle.agg_segment.specs.declared.storage.sign.Sign.{Sign}
 use Rattle.agg_segment.specs.declared.storage.sign.Sign.TheVariants.{Small, Negative, Large}
 
@@ -110,34 +110,35 @@ both_more marks more (field, low, high) = (
   Contains-append_left marks more (field, Large) high,
 )
 
--- ---- the numbers of cells, one by one
+-- marks that are all in others, and the other way round
+pub moved_marks : (marks others : List (ℕ × Sign))
+    → ((m : ℕ × Sign) → Contains marks m → Contains others m)
+    → ((m : ℕ × Sign) → Contains others m → Contains marks m)
+    → (signs : List Sign) → AreSigns signs marks → AreSigns signs others
+moved_marks marks others there back signs are = (
+  λ k d l.
+      let m : ℕ × Sign = get_or others k d in
+      All-contains (IsFieldSign signs) marks m are.0
+      (back m (k, l, get_or_default others k m d l)),
+  λ field within says. there (field, get_or signs field Small) (are.1 field within says),
+)
 
-pub marks_next : (before : List (ℕ × Sign)) (cells : List Cell) (i : ℕ) (d : Cell)
-    → i < length cells → (before ++ map cell_mark (take i cells)) ++ cell_mark (get_or cells i d)
-    ∷ [] ≡ before ++ map cell_mark (take (i + 1) cells)
-marks_next before cells i d l = append_assoc before (map cell_mark (take i cells))
-    (cell_mark (get_or cells i d) ∷ []) ∙ ap (λ ms. before ++ ms)
-    (sym (map_more cell_mark cells i d l))
+-- ---- the runs of numbers, one by one
 
-pub marks_all : (before : List (ℕ × Sign)) (cells : List Cell) (i : ℕ)
-    → (before ++ map cell_mark (take i cells)) ++ map cell_mark (drop i cells)
-    ≡ before ++ map cell_mark cells
-marks_all before cells i =
-    append_assoc before (map cell_mark (take i cells)) (map cell_mark (drop i cells))
-    ∙ ap (λ ms. before ++ ms) (sym (map-append cell_mark (take i cells) (drop i cells))
-    ∙ ap (map cell_mark) (take-append-drop i cells))
+pub marks_next : (before : List (ℕ × Sign)) (runs : List Run) (i : ℕ) (d : Run)
+    → i < length runs → (before ++ map run_mark (take i runs)) ++ run_mark (get_or runs i d)
+    ∷ [] ≡ before ++ map run_mark (take (i + 1) runs)
+marks_next before runs i d l = append_assoc before (map run_mark (take i runs))
+    (run_mark (get_or runs i d) ∷ []) ∙ ap (λ ms. before ++ ms)
+    (sym (map_more run_mark runs i d l))
 
--- the fields of cells are those of their numbers
-pub marked_fields : (cells : List Cell) (ps : List Placed) (n : ℕ)
-    → map cell_mark cells ≡ map key_mark ps → All (λ p. p.field < n) ps
-    → All (λ c. c.field < n) cells
-marked_fields cells ps n same within k d l =
-    let marks : All (λ (m : ℕ × Sign). m.0 < n) (map cell_mark cells) =
-    subst (All (λ (m : ℕ × Sign). m.0 < n)) (sym same) (All-map (λ (m : ℕ × Sign). m.0 < n)
-    key_mark ps within) in
-    let at = get_or-map cell_mark cells k d (cell_mark (get_or cells k d)) l in
-    subst (λ (m : ℕ × Sign). m.0 < n) at (marks k (cell_mark (get_or cells k d))
-    (omega (arith, l, length-map cells cell_mark)))
+pub marks_all : (before : List (ℕ × Sign)) (runs : List Run) (i : ℕ)
+    → (before ++ map run_mark (take i runs)) ++ map run_mark (drop i runs)
+    ≡ before ++ map run_mark runs
+marks_all before runs i =
+    append_assoc before (map run_mark (take i runs)) (map run_mark (drop i runs))
+    ∙ ap (λ ms. before ++ ms) (sym (map-append run_mark (take i runs) (drop i runs))
+    ∙ ap (map run_mark) (take-append-drop i runs))
 
 pub marks_joined : (ps : List Placed) (n : ℕ) → map key_mark (take n ps) ++ map key_mark (drop n ps)
     ≡ map key_mark ps

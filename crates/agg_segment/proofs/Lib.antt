@@ -3,7 +3,6 @@ pub mod AlikeNumbers
 pub mod BuilderDocuments
 pub mod BuilderKeys
 pub mod ByClass
-pub mod CellKeys
 pub mod ClosedDocuments
 pub mod ColumnOrder
 pub mod ColumnSort
@@ -17,12 +16,14 @@ pub mod ListedPlaces
 pub mod Marks
 pub mod MovedKeys
 pub mod NewFields
+pub mod NotedKeys
 pub mod NumbersOf64Bits
 pub mod OrdinalKeys
 pub mod Ordinals
 pub mod Queries
 pub mod QueryHits
 pub mod Raws
+pub mod RunMarks
 pub mod SortedKeys
 pub mod WideColumns
 pub mod lemmas

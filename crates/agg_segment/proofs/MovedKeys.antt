@@ -9,24 +9,24 @@ use Rattle.std.proofs.lemmas.List.{take_all, drop_all, get_or_default, append-ni
 use Rattle.std.proofs.lemmas.List.{map-append, length-map}
 use Rattle.std.proofs.lemmas.List.Elements.{All-contains, All-weaker, All-take, All-append}
 use Rattle.std.proofs.lemmas.List.Elements.{All-tail}
-use Rattle.agg_segment.specs.storage.Cells.{Placed, Logged, keys_at, number_of, placed, IsKept}
+use Rattle.agg_segment.specs.storage.Cells.{Placed, keys_at, number_of}
+use Rattle.agg_segment.specs.storage.Runs.{Logged, in_document, open_cells, noted_key, IsNoted}
 use Rattle.agg_segment.specs.storage.Document.{by_class}
 use Rattle.agg_segment.specs.Segment.{gathered_fields, gathered_documents, open_document, no_fields}
 use Rattle.agg_segment.specs.Segment.{builder_cells, IsBuilding}
 use Rattle.agg_segment.specs.Segment.{IsGathered}
 use Rattle.agg_segment.specs.SegmentLimits.{IsMixed, max_documents}
-use Rattle.agg_segment.specs.storage.Signs.{cell_mark, key_mark, IsFieldSign, AreSigns}
+use Rattle.agg_segment.specs.storage.Signs.{key_mark, IsFieldSign, AreSigns}
 use Rattle.agg_segment.specs.declared.storage.sign.Sign.{Sign}
-use Rattle.agg_segment.specs.declared.storage.sign.Sign.TheVariants.{Small}
-use Rattle.agg_segment.specs.Gatherings.{Raw, raw_placed, IsRaw, AreRawsOf, AreAlike}
-use Rattle.agg_segment.specs.declared.storage.log.Cell.{Cell}
+use Rattle.agg_segment.specs.Gatherings.{Raw, raw_placed, AreAlike}
+use Rattle.agg_segment.specs.declared.storage.run.RunKind.{RunKind}
+use Rattle.agg_segment.specs.storage.GatheredNumbers.{IsRaw}
 use Rattle.agg_segment.proofs.AlikeNumbers.{alike_contains, alike_back, alike_all, alike_keys}
 use Rattle.agg_segment.proofs.BuilderKeys.{signed_read, dropped, taken}
-use Rattle.agg_segment.proofs.CellKeys.{cells_read, cells_raw}
 use Rattle.agg_segment.proofs.ClosedDocuments.{all_docs, finish_documents, not_mixed}
 use Rattle.agg_segment.proofs.EncodedColumns.{front_all, back_all}
-use Rattle.agg_segment.proofs.lemmas.storage.KeptCells.{marks_are}
-use Rattle.agg_segment.proofs.FieldSigns.{marks_joined}
+use Rattle.agg_segment.proofs.FieldSigns.{marks_joined, moved_marks}
+use Rattle.agg_segment.proofs.NotedKeys.{note_raw, notes_read, notes_raw}
 use Rattle.agg_segment.proofs.DocumentKeys.{keys_none, no_keys_open, map_same}
 use Rattle.agg_segment.proofs.lemmas.storage.Members.{from_map, contains_map}
 
@@ -60,18 +60,14 @@ module _ (cells others : List Placed) (there : (p : Placed) → Contains cells p
 
   pub moved_signs : (signs : List Sign) → AreSigns signs (map key_mark cells)
       → AreSigns signs (map key_mark others)
-  moved_signs signs are = (
-    λ k d l.
-        let m = get_or (map key_mark others) k d in
-        let (p, in', is) = from_map key_mark others m
-        (k, l, get_or_default (map key_mark others) k m d l) in
-        subst (IsFieldSign signs) is (All-contains (IsFieldSign signs) (map key_mark cells)
-        (key_mark p) are.0 (contains_map key_mark cells p (back p in'))),
-    λ field within says.
-        let m : ℕ × Sign = (field, get_or signs field Small) in
-        let (p, in', is) = from_map key_mark cells m (are.1 field within says) in
-        subst (Contains (map key_mark others)) is (contains_map key_mark others p (there p in')),
-  )
+  moved_signs = moved_marks (map key_mark cells) (map key_mark others) (to cells others there)
+      (to others cells back)
+    where
+      to : (ps qs : List Placed) → ((p : Placed) → Contains ps p → Contains qs p)
+          → (m : ℕ × Sign) → Contains (map key_mark ps) m → Contains (map key_mark qs) m
+      to ps qs moved m has =
+          let (p, in', is) = from_map key_mark ps m has in
+          subst (Contains (map key_mark qs)) is (contains_map key_mark qs p (moved p in'))
 
 module _ (count : ℕ) (names : List (List ℕ × ℕ)) (cells : List Placed) (given : List Sign)
     (closed : ℕ) (inv : IsGathered (record { count = count; names = names; cells = cells }) given
@@ -133,22 +129,14 @@ discard_inv count names cells given closed inv =
 
 -- ---- the open document is closed
 
--- the marks of the open document's cells are those of its keys
-pub open_marks : (signs : List Sign) (rs : List Raw) (log : Logged) (cells : List Cell)
-    → map (placed log.texts log.addresses) cells ≡ log.cells
-    → map cell_mark cells ≡ map key_mark (drop (length rs) (builder_cells signs rs log))
-open_marks signs rs log cells are =
-    marks_are log.texts log.addresses cells ∙ ap (map key_mark) (are
-    ∙ sym (dropped (raw_placed signs log.texts log.addresses) rs log.cells))
-
--- with those of the closed documents they are the marks of all keys
-pub all_marks : (signs : List Sign) (rs : List Raw) (log : Logged) (cells : List Cell)
-    → map (placed log.texts log.addresses) cells ≡ log.cells
-    → map key_mark (take (length rs) (builder_cells signs rs log)) ++ map cell_mark cells
-    ≡ map key_mark (builder_cells signs rs log)
-all_marks signs rs log cells are =
-    let whole : List Placed = builder_cells signs rs log in
-    ap (λ ms. map key_mark (take (length rs) whole) ++ ms) (open_marks signs rs log cells are)
+-- the marks of all keys are those of the closed documents', and of the open one's
+pub all_marks : (count : ℕ) (signs : List Sign) (rs : List Raw) (log : Logged)
+    → map key_mark (take (length rs) (builder_cells count signs rs log))
+    ++ map key_mark (open_cells count log) ≡ map key_mark (builder_cells count signs rs log)
+all_marks count signs rs log =
+    let whole : List Placed = builder_cells count signs rs log in
+    ap (λ ps. map key_mark (take (length rs) whole) ++ map key_mark ps)
+    (sym (dropped (raw_placed signs log.texts log.addresses) rs (open_cells count log)))
     ∙ marks_joined whole (length rs)
 
 -- the documents of the columns' numbers are closed
@@ -156,7 +144,7 @@ pub docs_closed : (count : ℕ) (names : List (List ℕ × ℕ)) (signs : List S
     (log : Logged) → IsBuilding count names signs rs log → All (λ r. r.doc < count) rs
 docs_closed count names signs rs log inv =
     of_raws rs (subst (All (λ (p : Placed). p.doc < count))
-    (taken (raw_placed signs log.texts log.addresses) rs log.cells) inv.0.before)
+    (taken (raw_placed signs log.texts log.addresses) rs (open_cells count log)) inv.0.before)
   where
     of_raws : (rs : List Raw)
         → All (λ p. p.doc < count) (map (raw_placed signs log.texts log.addresses) rs)
@@ -169,13 +157,13 @@ docs_closed count names signs rs log inv =
         (map (raw_placed signs log.texts log.addresses) rs) all) k d (omega (arith, l))
 
 module _ (count : ℕ) (names : List (List ℕ × ℕ)) (old : List Sign) (before : List Raw)
-    (log : Logged) (inv : IsBuilding count names old before log) (cells : List Cell)
-    (are : map (placed log.texts log.addresses) cells ≡ log.cells)
-    (kept : All (λ c. IsKept (length log.texts) (length log.addresses) c.value) cells)
-    (signs : List Sign) (given : AreSigns signs (map key_mark (builder_cells old before log)))
-    (more : List Raw) (rows : AreRawsOf count cells more) (after : List Raw)
-    (alike : AreAlike after (before ++ more)) (new : Logged) (texts : new.texts ≡ log.texts)
-    (addresses : new.addresses ≡ log.addresses) (empty : new.cells ≡ []) where
+    (log : Logged) (inv : IsBuilding count names old before log) (notes : List (RunKind × ℕ))
+    (are : map (noted_key log.texts log.addresses) notes ≡ log.keys)
+    (kept : All (IsNoted (length log.texts) (length log.addresses)) notes) (signs : List Sign)
+    (given : AreSigns signs (map key_mark (builder_cells count old before log)))
+    (after : List Raw) (alike : AreAlike after (before ++ map (note_raw count) notes))
+    (new : Logged) (texts : new.texts ≡ log.texts) (addresses : new.addresses ≡ log.addresses)
+    (empty : new.keys ≡ []) where
   abbrev read : Raw → Placed
   read = raw_placed signs log.texts log.addresses
 
@@ -183,35 +171,40 @@ module _ (count : ℕ) (names : List (List ℕ × ℕ)) (old : List Sign) (befor
   was = raw_placed old log.texts log.addresses
 
   abbrev whole : List Placed
-  whole = builder_cells old before log
+  whole = builder_cells count old before log
 
-  marks : All (IsFieldSign signs) (map key_mark (map was before) ++ map key_mark log.cells)
-  marks = subst (All (IsFieldSign signs)) (map-append key_mark (map was before) log.cells) given.0
+  abbrev cells : List Placed
+  cells = open_cells count log
+
+  abbrev more : List Raw
+  more = map (note_raw count) notes
+
+  marks : All (IsFieldSign signs) (map key_mark (map was before) ++ map key_mark cells)
+  marks = subst (All (IsFieldSign signs)) (map-append key_mark (map was before) cells) given.0
 
   -- the keys of the closed documents stay
   closed_stay : map read before ≡ map was before
   closed_stay = signed_read old signs log.texts log.addresses before
-      (front_all (IsFieldSign signs) (map key_mark (map was before)) (map key_mark log.cells) marks)
+      (front_all (IsFieldSign signs) (map key_mark (map was before)) (map key_mark cells) marks)
 
   -- the keys of the open document are those of its numbers
-  opened : map read more ≡ log.cells
+  opened : map read more ≡ cells
   opened =
-      let docs : All (λ p. p.doc ≡ count) log.cells =
-      subst (All (λ (p : Placed). p.doc ≡ count)) (dropped was before log.cells) inv.0.after in
-      cells_read signs log.texts log.addresses count cells more rows
-      (subst (All (λ (p : Placed). p.doc ≡ count)) (sym are) docs)
-      (subst (All (IsFieldSign signs)) (sym (marks_are log.texts log.addresses cells
-      ∙ ap (map key_mark) are)) (back_all (IsFieldSign signs) (map key_mark (map was before))
-      (map key_mark log.cells) marks))
-      ∙ are
+      let same : map (in_document count) (map (noted_key log.texts log.addresses) notes) ≡ cells =
+      ap (map (in_document count)) are in
+      notes_read signs log.texts log.addresses count notes
+      (subst (All (IsFieldSign signs)) (sym (ap (map key_mark) same))
+      (back_all (IsFieldSign signs) (map key_mark (map was before)) (map key_mark cells) marks))
+      ∙ same
 
   whole_read : map read (before ++ more) ≡ whole
   whole_read = map-append read before more ∙ ap (λ ps. ps ++ map read more) closed_stay
       ∙ ap (λ ps. map was before ++ ps) opened
 
-  new_cells : builder_cells signs after new ≡ map read after
+  new_cells : builder_cells (count + 1) signs after new ≡ map read after
   new_cells =
-      ap (λ ps. map (raw_placed signs new.texts new.addresses) after ++ ps) empty
+      ap (λ ks. map (raw_placed signs new.texts new.addresses) after
+      ++ map (in_document (count + 1)) ks) empty
       ∙ append-nil (map (raw_placed signs new.texts new.addresses) after)
       ∙ ap (λ ts. map (raw_placed signs ts new.addresses) after) texts
       ∙ ap (λ as'. map (raw_placed signs log.texts as') after) addresses
@@ -247,14 +240,14 @@ module _ (count : ℕ) (names : List (List ℕ × ℕ)) (old : List Sign) (befor
             inv.0 (map read after) there back signs as_long few given (length after)
             (sym (length-map after read))),
         rw (texts, addresses) (alike_all P after (before ++ more) alike
-            (All-append P before more inv.1 (cells_raw (length log.texts) (length log.addresses)
-            count cells more rows kept))),
+            (All-append P before more inv.1 (notes_raw (length log.texts) (length log.addresses)
+            count notes kept))),
       )
 
   pub closed_documents : gathered_documents (record {
     count = count + 1;
     names = names;
-    cells = builder_cells signs after new;
+    cells = builder_cells (count + 1) signs after new;
   }) ≡ gathered_documents (record { count = count; names = names; cells = whole })
       ++ open_document (record { count = count; names = names; cells = whole }) ∷ []
   closed_documents =
@@ -269,7 +262,7 @@ module _ (count : ℕ) (names : List (List ℕ × ℕ)) (old : List Sign) (befor
   pub closed_open : open_document (record {
     count = count + 1;
     names = names;
-    cells = builder_cells signs after new;
+    cells = builder_cells (count + 1) signs after new;
   }) ≡ no_fields
   closed_open =
       ap (λ (ps : List Placed). open_document (record {
@@ -282,7 +275,7 @@ module _ (count : ℕ) (names : List (List ℕ × ℕ)) (old : List Sign) (befor
   pub closed_fits : IsMixed (gathered_documents (record {
     count = count + 1;
     names = names;
-    cells = builder_cells signs after new;
+    cells = builder_cells (count + 1) signs after new;
   })) → ⊥
   closed_fits mixed = not_mixed count names whole old (length before) inv.0 signs given
       (subst IsMixed (ap (λ (ps : List Placed). gathered_documents (record {

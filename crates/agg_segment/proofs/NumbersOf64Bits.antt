@@ -16,11 +16,11 @@ use Rattle.agg_values.specs.declared.typed_key.CompositeIntermediateKey.TheVaria
 use Rattle.agg_segment.specs.storage.Cells.{Placed, is_at, keys_at, number_of}
 use Rattle.agg_segment.specs.storage.Columns.{column_cells}
 use Rattle.agg_segment.specs.storage.Document.{HasNumbersOf64Bits, IsOf64Bits, by_class}
-use Rattle.agg_segment.specs.storage.GatheredNumbers.{raw_key}
+use Rattle.agg_segment.specs.storage.GatheredNumbers.{raw_key, IsRaw, kind_of}
 use Rattle.agg_segment.specs.declared.storage.sign.Sign.{Sign}
 use Rattle.agg_segment.specs.declared.storage.sign.Sign.TheVariants.{Small, Negative, Large}
 use Rattle.agg_segment.proofs.lemmas.storage.Classes.{by_class_moves}
-use Rattle.agg_segment.specs.Gatherings.{IsRaw, Raw, kind_of, raw_placed}
+use Rattle.agg_segment.specs.Gatherings.{Raw, raw_placed}
 use Rattle.agg_segment.specs.Segment.{Stored, document_at, documents_of}
 
 -- ---- one number

@@ -2,19 +2,20 @@
 use Rattle.std.proofs.Common.{◌≡◌, ◌<◌, ◌≤◌, ℕ, zero, suc, List, [], ◌∷◌, ◌++◌}
 use Rattle.std.proofs.Common.{length, get_or, set, map, true, false, refl, sym, ap}
 use Rattle.std.proofs.Common.{subst, ◌∙◌, inl, inr, arith}
-use Rattle.std.specs.Prelude.{Bool, filter, nat_lt}
+use Rattle.std.specs.Prelude.{Bool, filter, nat_lt, ◌==◌, ◌&&◌}
 use Rattle.std.specs.List.{All}
-use Rattle.std.proofs.lemmas.Bool.{cases_Bool}
+use mathlib.Core.Bool.{true≢false}
+use Rattle.std.proofs.lemmas.Bool.{cases_Bool, eq-eqb}
 use Rattle.std.proofs.lemmas.Bool.Decides.{nat_tests}
-use Rattle.std.proofs.lemmas.List.{append-nil, append_assoc, map-append, set-get_or}
-use Rattle.std.proofs.lemmas.List.Elements.{All-append, All-head, All-tail, All-cons, filter-append}
+use Rattle.std.proofs.lemmas.List.{append-nil, append_assoc, map-append}
+use Rattle.std.proofs.lemmas.List.Elements.{All-append, All-head, All-tail, filter-append}
 use Rattle.agg_values.specs.declared.column.ColumnPaginationOrder.{ColumnPaginationOrder}
 use Rattle.agg_values.specs.declared.column.ColumnPaginationOrder.TheVariants as class
 use Rattle.agg_values.specs.Column.{order_rank}
 use Rattle.agg_segment.specs.Gatherings.{Raw, column_raws, raws, is_raw_of, forgotten}
-use Rattle.agg_segment.specs.Gatherings.{AreAlike, AreApart, IsPutInto, IsRawOf, AreRawsOf}
+use Rattle.agg_segment.specs.Gatherings.{AreAlike, IsOfColumn, ArePutInto}
+use Rattle.agg_segment.specs.storage.Growing.{doc_rows}
 use Rattle.agg_segment.specs.declared.gatherings.Gathering.{Gathering}
-use Rattle.agg_segment.specs.declared.storage.log.Cell.{Cell}
 
 -- ---- classes by their ranks
 
@@ -59,45 +60,66 @@ filter_every p [] every = refl
 filter_every {X} p (x ∷ xs) every = rw (All-head (λ (y : X). p y ≡ true) x xs every)
     (ap (λ r. x ∷ r) (filter_every p xs (All-tail (λ (y : X). p y ≡ true) x xs every)))
 
--- ---- a number put after those of its column
+-- ---- numbers put after those of their column
 
 -- the numbers of other columns
-apart_raws : (r : Raw) (columns : List Gathering) → ((k : ℕ) (g : Gathering) → k < length columns
-    → r.field ≡ (get_or columns k g).field → r.class ≡ (get_or columns k g).class → ⊥)
-    → All (AreApart r) (raws columns)
-apart_raws r [] apart = λ k d l. absurd (omega (arith, l))
-apart_raws r (c ∷ columns) apart = All-append (AreApart r) (column_raws c) (raws columns)
-    (of_column c.rows) (apart_raws r columns (λ k g l. apart (suc k) g (omega (arith, l))))
+apart_raws : (field : ℕ) (c : ColumnPaginationOrder) (columns : List Gathering)
+    → ((k : ℕ) (g : Gathering) → k < length columns
+    → (get_or columns k g).field ≡ field → (get_or columns k g).class ≡ c → ⊥)
+    → All (λ r. IsOfColumn field c r → ⊥) (raws columns)
+apart_raws field c [] apart = λ k d l. absurd (omega (arith, l))
+apart_raws field c (g ∷ columns) apart =
+    All-append (λ (r : Raw). IsOfColumn field c r → ⊥) (column_raws g) (raws columns)
+    (of_column g.rows) (apart_raws field c columns (λ k h l. apart (suc k) h (omega (arith, l))))
   where
-    of_column : (rows : List (ℕ × ℕ)) → All (AreApart r) (map (λ s. let t : Raw = record {
-      field = c.field;
-      class = c.class;
-      doc = s.0;
-      number = s.1;
-    } in t) rows)
+    of_column : (rows : List (ℕ × ℕ)) → All (λ r. IsOfColumn field c r → ⊥) (map (λ s.
+        let t : Raw = record {
+          field = g.field;
+          class = g.class;
+          doc = s.0;
+          number = s.1;
+        } in t) rows)
     of_column [] k d l = absurd (omega (arith, l))
-    of_column (s ∷ rows) zero d l = λ field class'. apart 0 c (omega arith) field class'
+    of_column (s ∷ rows) zero d l = λ of. apart 0 g (omega arith) of.0 of.1
     of_column (s ∷ rows) (suc k) d l = of_column rows k d (omega (arith, l))
 
+-- the numbers of a document in a column
+abbrev pub doc_raws : ℕ → ColumnPaginationOrder → ℕ → List ℕ → List Raw
+doc_raws field c doc numbers =
+    map (λ n. record { field = field; class = c; doc = doc; number = n }) numbers
+
+own_raws : (field : ℕ) (c : ColumnPaginationOrder) (doc : ℕ) (numbers : List ℕ)
+    → All (IsOfColumn field c) (doc_raws field c doc numbers)
+own_raws field c doc [] k d l = absurd (omega (arith, l))
+own_raws field c doc (n ∷ numbers) zero d l = (refl, refl)
+own_raws field c doc (n ∷ numbers) (suc k) d l = own_raws field c doc numbers k d (omega (arith, l))
+
+doc_rows_raws : (field : ℕ) (c : ColumnPaginationOrder) (doc : ℕ) (numbers : List ℕ)
+    → map (λ (s : ℕ × ℕ). let t : Raw = record {
+      field = field;
+      class = c;
+      doc = s.0;
+      number = s.1;
+    } in t) (doc_rows doc numbers) ≡ doc_raws field c doc numbers
+doc_rows_raws field c doc [] = refl
+doc_rows_raws field c doc (n ∷ numbers) =
+    ap (λ rs. let t : Raw = record { field = field; class = c; doc = doc; number = n } in t ∷ rs)
+    (doc_rows_raws field c doc numbers)
+
 pub put_into : (columns : List Gathering) (i : ℕ) (x : Gathering) (rows : List (ℕ × ℕ))
-    (doc number : ℕ) → i < length columns → x ≡ get_or columns i x
-    → rows ≡ x.rows ++ (doc, number) ∷ []
+    (doc : ℕ) (numbers : List ℕ) → i < length columns → x ≡ get_or columns i x
+    → rows ≡ x.rows ++ doc_rows doc numbers
     → ((j : ℕ) (g : Gathering) → i < j → j < length columns
-    → x.field ≡ (get_or columns j g).field → x.class ≡ (get_or columns j g).class → ⊥)
-    → IsPutInto (raws columns) (record {
-      field = x.field;
-      class = x.class;
-      doc = doc;
-      number = number;
-    }) (raws (set columns i (record {
+    → (get_or columns j g).field ≡ x.field → (get_or columns j g).class ≡ x.class → ⊥)
+    → ArePutInto (raws columns) x.field x.class (doc_raws x.field x.class doc numbers)
+    (raws (set columns i (record {
       field = x.field;
       class = x.class;
       before = x.before;
       rows = rows;
     })))
-put_into [] i x rows doc number l is more apart = absurd (omega (arith, l))
-put_into (c ∷ columns) zero x rows doc number l is more apart =
-    let r : Raw = record { field = x.field; class = x.class; doc = doc; number = number } in
+put_into [] i x rows doc numbers l is more apart = absurd (omega (arith, l))
+put_into (c ∷ columns) zero x rows doc numbers l is more apart =
     let mk : ℕ × ℕ → Raw = λ s. record { field = x.field; class = x.class; doc = s.0; number = s.1 }
     in
     record {
@@ -105,12 +127,15 @@ put_into (c ∷ columns) zero x rows doc number l is more apart =
       after = raws columns;
       was = ap (λ g. column_raws g ++ raws columns) (sym is);
       is = ap (λ rs. map mk rs ++ raws columns) more
-          ∙ ap (λ rs. rs ++ raws columns) (map-append mk x.rows ((doc, number) ∷ []))
-          ∙ append_assoc (map mk x.rows) (r ∷ []) (raws columns);
-      apart = apart_raws r columns (λ k g in'. apart (suc k) g (omega arith) (omega (arith, in')));
+          ∙ ap (λ rs. rs ++ raws columns) (map-append mk x.rows (doc_rows doc numbers)
+          ∙ ap (λ rs. map mk x.rows ++ rs) (doc_rows_raws x.field x.class doc numbers))
+          ∙ append_assoc (map mk x.rows) (doc_raws x.field x.class doc numbers) (raws columns);
+      own = own_raws x.field x.class doc numbers;
+      apart = apart_raws x.field x.class columns
+          (λ k g in'. apart (suc k) g (omega arith) (omega (arith, in')));
     }
-put_into (c ∷ columns) (suc i) x rows doc number l is more apart =
-    let rest = put_into columns i x rows doc number (omega (arith, l)) is more
+put_into (c ∷ columns) (suc i) x rows doc numbers l is more apart =
+    let rest = put_into columns i x rows doc numbers (omega (arith, l)) is more
     (λ j g low in'. apart (suc j) g (omega (arith, low)) (omega (arith, in'))) in
     record {
       before = column_raws c ++ rest.before;
@@ -119,65 +144,67 @@ put_into (c ∷ columns) (suc i) x rows doc number l is more apart =
           ∙ sym (append_assoc (column_raws c) rest.before rest.after);
       is = ap (λ rs. column_raws c ++ rs) rest.is
           ∙ sym (append_assoc (column_raws c) rest.before _);
+      own = rest.own;
       apart = rest.apart;
     }
 
-module _ (old : List Raw) (r : Raw) (new : List Raw) (put : IsPutInto old r new) where
-  -- what isn't of it stays
-  pub put_filtered : (p : Raw → Bool) → p r ≡ false → filter p new ≡ filter p old
+module _ (old : List Raw) (column : ℕ) (c : ColumnPaginationOrder) (rs new : List Raw)
+    (put : ArePutInto old column c rs new) where
+  -- what isn't of them stays
+  pub put_filtered : (p : Raw → Bool) → filter p rs ≡ [] → filter p new ≡ filter p old
   put_filtered p out =
-      let gone : filter p (r ∷ put.after) ≡ filter p put.after = rw out refl in
-      ap (filter p) put.is ∙ filter-append p put.before (r ∷ put.after)
-      ∙ ap (λ rs. filter p put.before ++ rs) gone
+      ap (filter p) put.is ∙ filter-append p put.before (rs ++ put.after)
+      ∙ ap (λ ts. filter p put.before ++ ts) (filter-append p rs put.after
+      ∙ ap (λ ts. ts ++ filter p put.after) out)
       ∙ sym (ap (filter p) put.was ∙ filter-append p put.before put.after)
 
-  pub put_all : (P : Raw → Type 0) → P r → All P old → All P new
-  put_all P one all =
-      let both : All P (put.before ++ put.after) = subst (All P) put.was all in
-      rw put.is (All-append P put.before (r ∷ put.after) (front put.before put.after both)
-      (All-cons P r put.after one (back put.before put.after both)))
-    where
-      front : (xs ys : List Raw) → All P (xs ++ ys) → All P xs
-      front [] ys both = λ k d l. absurd (omega (arith, l))
-      front (x ∷ xs) ys both = All-cons P x xs (All-head P x (xs ++ ys) both)
-          (front xs ys (All-tail P x (xs ++ ys) both))
-
-      back : (xs ys : List Raw) → All P (xs ++ ys) → All P ys
-      back [] ys both = both
-      back (x ∷ xs) ys both = back xs ys (All-tail P x (xs ++ ys) both)
-
-  -- the numbers of each document are those of before, and then the new one
-  pub put_alike : AreAlike new (old ++ r ∷ [])
-  put_alike field rank doc = elim (cases_Bool (is_raw_of field rank doc r)) [
+  -- the numbers of each document are those of before, and then the new ones
+  pub put_alike : AreAlike new (old ++ rs)
+  put_alike field rank doc = elim (cases_Bool (is_there field rank)) [
     | inl here ↦
         let p : Raw → Bool = is_raw_of field rank doc in
         let none : filter p put.after ≡ [] = filter_none p put.after (λ k d l.
         of_other field rank doc (get_or put.after k d) here (put.apart k d l)) in
-        let last : filter p (r ∷ put.after) ≡ r ∷ [] = rw here (ap (λ rs. r ∷ rs) none) in
-        let one : filter p (r ∷ []) ≡ r ∷ [] = rw here refl in
         let first : filter p old ≡ filter p put.before =
         ap (filter p) put.was ∙ filter-append p put.before put.after
-        ∙ ap (λ rs. filter p put.before ++ rs) none ∙ append-nil (filter p put.before) in
-        ap (filter p) put.is ∙ filter-append p put.before (r ∷ put.after)
-        ∙ ap (λ rs. filter p put.before ++ rs) last
-        ∙ sym (filter-append p old (r ∷ []) ∙ ap (λ rs. filter p old ++ rs) one
-        ∙ ap (λ rs. rs ++ r ∷ []) first)
+        ∙ ap (λ ts. filter p put.before ++ ts) none ∙ append-nil (filter p put.before) in
+        ap (filter p) put.is ∙ filter-append p put.before (rs ++ put.after)
+        ∙ ap (λ ts. filter p put.before ++ ts) (filter-append p rs put.after
+        ∙ ap (λ ts. filter p rs ++ ts) none ∙ append-nil (filter p rs))
+        ∙ sym (filter-append p old rs ∙ ap (λ ts. ts ++ filter p rs) first)
     | inr other ↦
         let p : Raw → Bool = is_raw_of field rank doc in
-        let one : filter p (r ∷ []) ≡ [] = rw other refl in
-        put_filtered p other ∙ sym (filter-append p old (r ∷ [])
-        ∙ ap (λ rs. filter p old ++ rs) one ∙ append-nil (filter p old))
+        let gone : filter p rs ≡ [] = filter_none p rs (λ k d l.
+        of_own field rank doc (get_or rs k d) other (put.own k d l)) in
+        put_filtered p gone ∙ sym (filter-append p old rs
+        ∙ ap (λ ts. filter p old ++ ts) gone ∙ append-nil (filter p old))
   ]
     where
-      of_other : (field rank doc : ℕ) (s : Raw) → is_raw_of field rank doc r ≡ true
-          → AreApart r s → is_raw_of field rank doc s ≡ false
+      is_there : ℕ → ℕ → Bool
+      is_there field rank = (column == field) && (order_rank c == rank)
+
+      of_other : (field rank doc : ℕ) (s : Raw) → is_there field rank ≡ true
+          → (IsOfColumn column c s → ⊥) → is_raw_of field rank doc s ≡ false
       of_other field rank doc s here apart = elim (cases_Bool (is_raw_of field rank doc s)) [
         | inl also ↦
-            let rf : r.field ≡ field = grind (arith, nat_tests) in
+            let rf : column ≡ field = grind (arith, nat_tests) in
             let sf : s.field ≡ field = grind (arith, nat_tests) in
-            let rr : order_rank r.class ≡ rank = grind (arith, nat_tests) in
+            let rr : order_rank c ≡ rank = grind (arith, nat_tests) in
             let sr : order_rank s.class ≡ rank = grind (arith, nat_tests) in
-            absurd (apart (rf ∙ sym sf) (rank_apart r.class s.class (rr ∙ sym sr)))
+            absurd (apart (sf ∙ sym rf, rank_apart s.class c (sr ∙ sym rr)))
+        | inr out ↦ out
+      ]
+
+      of_own : (field rank doc : ℕ) (s : Raw) → is_there field rank ≡ false
+          → IsOfColumn column c s → is_raw_of field rank doc s ≡ false
+      of_own field rank doc s other own = elim (cases_Bool (is_raw_of field rank doc s)) [
+        | inl also ↦
+            let sf : s.field ≡ field = grind (arith, nat_tests) in
+            let sr : order_rank s.class ≡ rank = grind (arith, nat_tests) in
+            absurd (true≢false (sym (rw (
+              eq-eqb column field (sym own.0 ∙ sf),
+              eq-eqb (order_rank c) rank (ap order_rank (sym own.1) ∙ sr),
+            ) refl) ∙ other))
         | inr out ↦ out
       ]
 
@@ -217,20 +244,6 @@ rows_below (c ∷ columns) (suc i) x doc l is all = rows_below columns i x doc (
     after [] all = all
     after (s ∷ rows) all = after rows (λ j e in'. all (suc j) e (omega (arith, in')))
 
-pub set_same : (columns : List Gathering) (i : ℕ) (x : Gathering) (rows : List (ℕ × ℕ))
-    → x ≡ get_or columns i x → rows ≡ x.rows → set columns i (record {
-      field = x.field;
-      class = x.class;
-      before = x.before;
-      rows = rows;
-    }) ≡ columns
-set_same columns i x rows is same = ap (λ rs. set columns i (record {
-  field = x.field;
-  class = x.class;
-  before = x.before;
-  rows = rs;
-})) same ∙ ap (set columns i) is ∙ set-get_or columns i x
-
 -- ---- columns without the last documents
 
 pub forgotten_raws : (columns : List Gathering) (doc : ℕ)
@@ -268,21 +281,28 @@ forgotten_raws (c ∷ columns) doc =
       | inr up ↦ rw up (of_column rows)
     ]
 
--- ---- the cells of a document
+-- ---- the numbers of a document
 
-pub raws_more : (doc : ℕ) (cells : List Cell) (rs : List Raw) (c : Cell) (r : Raw)
-    → AreRawsOf doc cells rs → IsRawOf doc c r → AreRawsOf doc (cells ++ c ∷ []) (rs ++ r ∷ [])
-raws_more doc [] [] c r are is = (is, tt)
-raws_more doc [] (s ∷ rs) c r are is = absurd are
-raws_more doc (d ∷ cells) [] c r are is = absurd are
-raws_more doc (d ∷ cells) (s ∷ rs) c r are is = (are.0, raws_more doc cells rs c r are.1 is)
+-- none of them is of a document before it
+pub doc_gone : (field : ℕ) (c : ColumnPaginationOrder) (doc : ℕ) (numbers : List ℕ)
+    → filter (λ r. nat_lt r.doc doc) (doc_raws field c doc numbers) ≡ []
+doc_gone field c doc [] = refl
+doc_gone field c doc (n ∷ numbers) =
+    let out : nat_lt doc doc ≡ false = grind (arith, nat_tests) in
+    rw out (doc_gone field c doc numbers)
 
-pub alike_more : (old new next : List Raw) (more : List Raw) (r : Raw)
-    → AreAlike new (old ++ more) → AreAlike next (new ++ r ∷ [])
-    → AreAlike next (old ++ (more ++ r ∷ []))
-alike_more old new next more r so_far one field rank doc =
+pub doc_last : (field : ℕ) (c : ColumnPaginationOrder) (doc : ℕ) (numbers : List ℕ)
+    → All (λ r. r.doc ≤ doc) (doc_raws field c doc numbers)
+doc_last field c doc [] k d l = absurd (omega (arith, l))
+doc_last field c doc (n ∷ numbers) zero d l = omega arith
+doc_last field c doc (n ∷ numbers) (suc k) d l = doc_last field c doc numbers k d (omega (arith, l))
+
+pub alike_more : (old new next more rs : List Raw)
+    → AreAlike new (old ++ more) → AreAlike next (new ++ rs)
+    → AreAlike next (old ++ (more ++ rs))
+alike_more old new next more rs so_far one field rank doc =
     let p : Raw → Bool = is_raw_of field rank doc in
-    one field rank doc ∙ filter-append p new (r ∷ [])
-    ∙ ap (λ rs. rs ++ filter p (r ∷ [])) (so_far field rank doc)
-    ∙ sym (filter-append p (old ++ more) (r ∷ []))
-    ∙ ap (filter p) (append_assoc old more (r ∷ []))
+    one field rank doc ∙ filter-append p new rs
+    ∙ ap (λ ts. ts ++ filter p rs) (so_far field rank doc)
+    ∙ sym (filter-append p (old ++ more) rs)
+    ∙ ap (filter p) (append_assoc old more rs)

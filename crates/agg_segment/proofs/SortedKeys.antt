@@ -14,8 +14,8 @@ use Rattle.agg_values.specs.TypedKey.{CompositeIntermediateKey}
 use Rattle.agg_segment.specs.storage.Cells.{keys_at}
 use Rattle.agg_segment.specs.storage.Document.{by_class}
 use Rattle.agg_segment.specs.Gatherings.{Raw, raws, column_raws, raw_placed}
-use Rattle.agg_segment.specs.storage.GatheredNumbers.{raw_key}
-use Rattle.agg_segment.specs.Gatherings.{kind_of, AreSorted, AreAlike}
+use Rattle.agg_segment.specs.storage.GatheredNumbers.{raw_key, kind_of}
+use Rattle.agg_segment.specs.Gatherings.{AreSorted, AreAlike}
 use Rattle.agg_segment.specs.declared.gatherings.Gathering.{Gathering}
 use Rattle.agg_segment.specs.declared.storage.sign.Sign.{Sign}
 use Rattle.agg_segment.specs.declared.storage.sign.Sign.TheVariants.{Small}

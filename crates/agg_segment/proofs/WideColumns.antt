@@ -12,8 +12,8 @@ use Rattle.agg_values.specs.declared.column.ColumnPaginationOrder.{ColumnPaginat
 use Rattle.agg_values.specs.declared.column.ColumnPaginationOrder.TheVariants as class
 use Rattle.agg_segment.specs.storage.Cells.{Placed}
 use Rattle.agg_segment.specs.Gatherings.{Raw, raws, column_raws, raw_placed}
-use Rattle.agg_segment.specs.storage.GatheredNumbers.{raw_key}
-use Rattle.agg_segment.specs.Gatherings.{kind_of, AreLinked, AreWide}
+use Rattle.agg_segment.specs.storage.GatheredNumbers.{raw_key, kind_of}
+use Rattle.agg_segment.specs.Gatherings.{AreLinked, AreWide}
 use Rattle.agg_segment.specs.storage.Signs.{key_mark, AreSigns}
 use Rattle.agg_segment.specs.SegmentLimits.{sign_of}
 use Rattle.agg_segment.specs.declared.gatherings.Gathering.{Gathering}

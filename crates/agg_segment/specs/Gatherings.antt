@@ -1,8 +1,8 @@
 -- Numbers of fields and classes, while more may come.
-use Rattle.std.specs.Prelude.{◌≡◌, ◌≢◌, ◌==◌, ◌&&◌, ◌<◌, ◌≤◌, ◌+◌, ◌-◌, ◌^◌, ◌-ℤ◌, pos}
-use Rattle.std.specs.Prelude.{ℕ, Bool, List, ◌∷◌, ◌++◌, length, get_or, map, filter, flat_map}
-use Rattle.std.specs.Prelude.{if◌then◌else◌, nat_lt}
-use Rattle.std.specs.List.{All, AllPairs, AllZip, Contains}
+use Rattle.std.specs.Prelude.{◌≡◌, ◌≢◌, ◌==◌, ◌&&◌, ◌<◌, ◌≤◌, ◌-◌, ◌^◌}
+use Rattle.std.specs.Prelude.{ℕ, Bool, List, ◌++◌, length, get_or, map, filter, flat_map}
+use Rattle.std.specs.Prelude.{nat_lt}
+use Rattle.std.specs.List.{All, AllPairs, Contains}
 use Rattle.std.specs.Map.{values_of}
 use Rattle.std.specs.Ordering.{nat_cmp, ordering_then}
 use Rattle.std.specs.declared.cmp.Ordering.{Ordering}
@@ -10,18 +10,13 @@ use Rattle.agg_values.specs.declared.address.Address.{Address}
 use Rattle.agg_values.specs.declared.column.ColumnPaginationOrder.{ColumnPaginationOrder}
 use Rattle.agg_values.specs.declared.column.ColumnPaginationOrder.TheVariants as class
 use Rattle.agg_segment.specs.storage.Cells.{Placed}
-use Rattle.agg_segment.specs.storage.CellOrder.{cell_class}
 use Rattle.agg_values.specs.Column.{order_rank}
 use Rattle.agg_segment.specs.storage.Columns.{StoredColumn, keys_rank}
-use Rattle.agg_segment.specs.storage.GatheredNumbers.{raw_key}
+use Rattle.agg_segment.specs.storage.GatheredNumbers.{raw_key, kind_of}
 use Rattle.agg_segment.specs.declared.gatherings.Gathering.{Gathering}
-use Rattle.agg_segment.specs.declared.storage.hit.ColumnType.{ColumnType}
-use Rattle.agg_segment.specs.declared.storage.hit.ColumnType.TheVariants as kind
-use Rattle.agg_segment.specs.declared.storage.log.Cell.{Cell}
-use Rattle.agg_segment.specs.declared.storage.log.CellValue.{CellValue}
-use Rattle.agg_segment.specs.declared.storage.log.CellValue.TheVariants as cell
+use Rattle.agg_segment.specs.declared.storage.run.RunKind.{RunKind}
 use Rattle.agg_segment.specs.declared.storage.sign.Sign.{Sign}
-use Rattle.agg_segment.specs.declared.storage.sign.Sign.TheVariants.{Small, Negative, Large}
+use Rattle.agg_segment.specs.declared.storage.sign.Sign.TheVariants.{Small, Large}
 
 -- a number of a document, in the column of a field and a class
 pub record Raw : Type 0 where
@@ -59,38 +54,24 @@ forgotten doc column = record {
   rows = filter (λ r. nat_lt r.0 doc) column.rows;
 }
 
--- two numbers are of different columns
-abbrev pub AreApart : Raw → Raw → Type 0
-AreApart r s = r.field ≡ s.field → r.class ≡ s.class → ⊥
+-- a number is of the column of a field and a class
+abbrev pub IsOfColumn : ℕ → ColumnPaginationOrder → Raw → Type 0
+IsOfColumn field class r = (r.field ≡ field) × (r.class ≡ class)
 
--- a number is put after the others of its column
-pub record IsPutInto (old : List Raw) (r : Raw) (new : List Raw) : Type 0 where
+-- numbers are put after the others of their column
+pub record ArePutInto (old : List Raw) (field : ℕ) (class : ColumnPaginationOrder)
+    (rs new : List Raw)
+    : Type 0 where
   pub before : List Raw
   pub after : List Raw
   pub was : old ≡ before ++ after
-  pub is : new ≡ before ++ r ∷ after
-  pub apart : All (AreApart r) after
+  pub is : new ≡ before ++ (rs ++ after)
+  pub own : All (IsOfColumn field class) rs
+  pub apart : All (λ r. IsOfColumn field class r → ⊥) after
 
--- the number that a cell's value becomes: a place, or a signed number plus 2 ^ 63
-abbrev pub IsNumberOf : CellValue → ℕ → Type 0
-IsNumberOf (cell.Bool b) n = n ≡ (if b then 1 else 0)
-IsNumberOf (cell.Str place) n = n ≡ place
-IsNumberOf (cell.I64 m) n = pos n -ℤ pos (2 ^ 63) ≡ m
-IsNumberOf (cell.U64 m) n = (n < 2 ^ 63) × (n + 2 ^ 63 ≡ m)
-IsNumberOf (cell.Ip place) n = n ≡ place
-IsNumberOf (cell.Date ns) n = pos n -ℤ pos (2 ^ 63) ≡ ns
-
--- what a cell of a document becomes
-pub record IsRawOf (doc : ℕ) (c : Cell) (r : Raw) : Type 0 where
-  pub field : r.field ≡ c.field
-  pub class : r.class ≡ cell_class c.value
-  pub at : r.doc ≡ doc
-  pub fits : r.number < 2 ^ 64
-  pub number : IsNumberOf c.value r.number
-
--- what the cells of a document become
-abbrev pub AreRawsOf : ℕ → List Cell → List Raw → Type 0
-AreRawsOf doc = AllZip (IsRawOf doc)
+-- what a number of the open document becomes
+abbrev pub raw_of : ℕ → RunKind → ℕ → Raw
+raw_of doc kind n = record { field = kind.field; class = kind.class; doc = doc; number = n }
 
 -- a head is the place after that of a field's last column before a bound, 0 where there is none
 pub record IsLast (columns : List Gathering) (field head bound : ℕ) : Type 0 where
@@ -113,16 +94,6 @@ IsColumnOf field class column = (column.field ≡ field) × (column.class ≡ cl
 abbrev pub is_column : ℕ → ℕ → Gathering → Bool
 is_column field rank column = (column.field == field) && (order_rank column.class == rank)
 
--- the type of a column of a class, whose field has a sign
-abbrev pub kind_of : Sign → ColumnPaginationOrder → ColumnType
-kind_of sign class.Bool = kind.Bool
-kind_of sign class.Str = kind.Str
-kind_of Large class.Numeric = kind.U64
-kind_of Small class.Numeric = kind.I64
-kind_of Negative class.Numeric = kind.I64
-kind_of sign class.IpAddr = kind.IpAddr
-kind_of sign class.DateTime = kind.DateTime
-
 -- what a number stands for
 abbrev pub raw_placed : List Sign → List (List ℕ) → List Address → Raw → Placed
 raw_placed signs texts addresses r = record {
@@ -130,14 +101,6 @@ raw_placed signs texts addresses r = record {
   doc = r.doc;
   key = raw_key texts addresses (kind_of (get_or signs r.field Small) r.class) r.number;
 }
-
--- the numbers that a class may have, of so many texts and addresses
-abbrev pub IsRaw : ℕ → ℕ → ColumnPaginationOrder → ℕ → Type 0
-IsRaw texts addresses class.Bool n = n < 2
-IsRaw texts addresses class.Str n = n < texts
-IsRaw texts addresses class.Numeric n = n < 2 ^ 64
-IsRaw texts addresses class.IpAddr n = n < addresses
-IsRaw texts addresses class.DateTime n = n < 2 ^ 64
 
 -- how columns stand by their fields, and those of one field by their classes
 abbrev pub column_cmp : Gathering → Gathering → Ordering

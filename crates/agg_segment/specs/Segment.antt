@@ -5,11 +5,13 @@ use Rattle.std.specs.Option.{option_map_or}
 use Rattle.std.specs.Str.{bytes_eq}
 use Rattle.std.specs.List.{range_with_len, All}
 use Rattle.agg_segment.specs.storage.Document.{Fields, by_class}
-use Rattle.agg_segment.specs.storage.Cells.{Placed, Logged, number_of, named_keys}
-use Rattle.agg_segment.specs.Gatherings.{Raw, raw_placed, IsRaw}
+use Rattle.agg_segment.specs.storage.Cells.{Placed, number_of, named_keys}
+use Rattle.agg_segment.specs.Gatherings.{Raw, raw_placed}
 use Rattle.agg_segment.specs.SegmentLimits.{max_documents}
+use Rattle.agg_segment.specs.storage.Runs.{Logged, open_cells}
 use Rattle.agg_segment.specs.storage.Signs.{key_mark, AreSigns}
 use Rattle.agg_segment.specs.storage.Columns.{StoredColumn, column_cells}
+use Rattle.agg_segment.specs.storage.GatheredNumbers.{IsRaw}
 use Rattle.agg_segment.specs.declared.storage.sign.Sign.{Sign}
 use Rattle.agg_values.specs.Names.{Named}
 use Rattle.agg_values.specs.TypedKey.{CompositeIntermediateKey}
@@ -86,15 +88,15 @@ pub record IsGathered (builder : Gathered) (given : List Sign) (closed : ℕ) : 
   pub signs : AreSigns given (map key_mark (take closed builder.cells))
 
 -- the keys of a builder: those of the closed documents, and then those of the open one
-abbrev pub builder_cells : List Sign → List Raw → Logged → List Placed
-builder_cells signs columns log =
-    map (raw_placed signs log.texts log.addresses) columns ++ log.cells
+abbrev pub builder_cells : ℕ → List Sign → List Raw → Logged → List Placed
+builder_cells count signs columns log =
+    map (raw_placed signs log.texts log.addresses) columns ++ open_cells count log
 
 -- what is true of a builder, by its parts
 abbrev pub IsBuilding
     : ℕ → Named ℕ → List Sign → List Raw → Logged → Type 0
 IsBuilding count names signs columns log =
     IsGathered
-    (record { count = count; names = names; cells = builder_cells signs columns log })
+    (record { count = count; names = names; cells = builder_cells count signs columns log })
     signs (length columns)
     × All (λ r. IsRaw (length log.texts) (length log.addresses) r.class r.number) columns

@@ -1,4 +1,3 @@
-pub mod CellOrder
 pub mod Cells
 pub mod Columns
 pub mod Dictionary
@@ -8,4 +7,5 @@ pub mod GatheredNumbers
 pub mod Growing
 pub mod Names
 pub mod Rows
+pub mod Runs
 pub mod Signs

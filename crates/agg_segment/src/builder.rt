@@ -70,7 +70,7 @@ impl Model for SegmentBuilder {
     ghost view = { λ b. record {
       count = b.count;
       names = b.names;
-      cells = builder_cells b.signs.items b.columns b.log;
+      cells = builder_cells b.count b.signs.items b.columns b.log;
     } };
 
     ghost invariant = { λ b. IsBuilding b.count b.names b.signs.items b.columns b.log };
@@ -143,7 +143,7 @@ impl SegmentBuilder {
         ensures documents { gathered_documents self.new ≡ gathered_documents self.old }
         ensures names { self.new.names ≡ self.old.names }
     {
-        self.log.push(field, self.count, value)
+        self.log.push(field, value)
     }
 
     /// Closes the open document, which is then the last of the segment's. After an error it is
@@ -163,12 +163,12 @@ impl SegmentBuilder {
         if self.count == MAX_DOCUMENTS {
             return Err(BuildError::TooManyDocuments);
         }
-        let cells = self.log.cells();
-        let given = match give_signs(self.alloc, &mut self.signs, cells) {
+        let (runs, numbers) = self.log.runs();
+        let given = match give_signs(self.alloc, &mut self.signs, runs) {
             Ok(given) => given,
             Err(error) => return Err(error),
         };
-        if let Err(_) = self.columns.add_all(self.alloc, self.count, cells) {
+        if let Err(_) = self.columns.add_all(self.alloc, self.count, runs, numbers) {
             take_back(&mut self.signs, given);
             return Err(BuildError::OutOfMemory);
         }

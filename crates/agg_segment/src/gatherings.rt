@@ -1,17 +1,15 @@
 ghost use Rattle.std.specs.Prelude.{◌≡◌, ◌≢◌, ◌<◌, ◌≤◌, ◌+◌, ◌++◌, ◌∷◌, [], ℕ, List, None};
 ghost use Rattle.std.specs.Prelude.{length, get_or, map, filter, nat_lt, IfOk, IfSome, OnOk, OnErr};
 ghost use Rattle.std.specs.List.{All};
-ghost use Rattle.agg_segment.specs.storage.CellOrder.{cell_class};
-ghost use Rattle.agg_segment.specs.Gatherings.{Raw, raws, column_raws, AreAlike, IsPutInto};
-ghost use Rattle.agg_segment.specs.storage.Cells.{IsWideAsUnsigned};
-ghost use Rattle.agg_segment.specs.Gatherings.{IsNumberOf, IsRawOf, AreRawsOf};
+ghost use Rattle.agg_segment.specs.storage.Runs.{kinds, noted};
+ghost use Rattle.agg_segment.specs.Gatherings.{Raw, raws, column_raws, raw_of, AreAlike};
 ghost use Rattle.agg_segment.specs.Gatherings.{AreLinked, IsColumnOf, forgotten};
 
 mod by_text;
 mod columns;
 mod dictionaries;
 
-use crate::storage::{Cell, CellValue, FROM_ZERO, GrowingRows, from_zero};
+use crate::storage::{GrowingRows, Run, RunKind};
 use agg_values::{ColumnPaginationOrder, OutOfMemory};
 use std::alloc::Global;
 use std::marker::Model;
@@ -56,36 +54,54 @@ impl Gatherings {
         }
     }
 
-    /// Appends the cells of a document that comes after all others.
-    pub fn add_all(&mut self, alloc: Global, doc: u32, cells: &[Cell]) -> Result<(), OutOfMemory>
+    /// Appends the numbers of a document that comes after all others.
+    pub fn add_all(
+        &mut self,
+        alloc: Global,
+        doc: u32,
+        runs: &[Run],
+        numbers: &[u64],
+    ) -> Result<(), OutOfMemory>
         requires after { All (λ r. r.doc < doc) self.old }
-        requires wide { All (λ c. IsWideAsUnsigned c.value) cells.now }
-        ensures ok { OnOk result ((more : List Raw)
-            × AreRawsOf doc cells.now more × AreAlike self.new (self.old ++ more)) }
+        requires fit { length (kinds runs.now) ≡ length numbers.now }
+        ensures ok { OnOk result (AreAlike self.new
+            (self.old ++ map (λ note. raw_of doc note.0 note.1) (noted runs.now numbers.now))) }
         ensures err { OnErr result (self.new ≡ self.old) }
     {
-        for cell in cells {
-            if let Err(error) = self.add(alloc, doc, cell) {
+        let mut rest = numbers;
+        for run in runs {
+            let (own, others) = rest.split_at(run.count as usize);
+            if let Err(error) = self.add_run(alloc, doc, run.kind, own) {
                 self.forget(doc);
                 return Err(error);
             }
+            rest = others;
         }
         Ok(())
     }
 
-    // Appends a cell of the last document.
-    fn add(&mut self, alloc: Global, doc: u32, cell: &Cell) -> Result<(), OutOfMemory>
+    // Appends numbers of one kind of the last document. After an error some may be there.
+    fn add_run(
+        &mut self,
+        alloc: Global,
+        doc: u32,
+        kind: RunKind,
+        numbers: &[u64],
+    ) -> Result<(), OutOfMemory>
         requires after { All (λ r. r.doc ≤ doc) self.old }
-        requires wide { IsWideAsUnsigned cell.now.value }
-        ensures ok { OnOk result ((r : Raw)
-            × IsRawOf doc cell.now r × IsPutInto self.old r self.new) }
-        ensures err { OnErr result (self.new ≡ self.old) }
+        ensures ok { OnOk result
+            (AreAlike self.new (self.old ++ map (raw_of doc kind) numbers.now)) }
+        ensures closed { filter (λ r. nat_lt r.doc doc) self.new
+            ≡ filter (λ r. nat_lt r.doc doc) self.old }
     {
-        let class = cell.class();
-        let at = place(alloc, &mut self.columns, &mut self.last, cell.field, class)?;
-        self.columns[at]
-            .rows
-            .push(alloc, doc, number_of(cell.value))
+        let at = place(
+            alloc,
+            &mut self.columns,
+            &mut self.last,
+            kind.field,
+            kind.class,
+        )?;
+        self.columns[at].rows.push_all(alloc, doc, numbers)
     }
 
     // Forgets the numbers of a document and of those after it.
@@ -199,20 +215,5 @@ fn head_of(last: &[u32], field: u32) -> u32
     match last.get(field as usize) {
         Some(head) => *head,
         None => 0,
-    }
-}
-
-// The number that a cell's value becomes.
-fn number_of(value: CellValue) -> u64
-    requires { IsWideAsUnsigned value }
-    ensures { IsNumberOf value result }
-{
-    match value {
-        CellValue::Bool(b) => b as u64,
-        CellValue::Str(place) => place as u64,
-        CellValue::I64(n) => from_zero(n),
-        CellValue::U64(n) => n - FROM_ZERO,
-        CellValue::Ip(place) => place as u64,
-        CellValue::Date(ns) => from_zero(ns),
     }
 }

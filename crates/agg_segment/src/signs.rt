@@ -1,32 +1,21 @@
 ghost use Rattle.std.specs.Prelude.{◌≡◌, ◌≢◌, ◌<◌, ◌∷◌, ◌++◌, [], ℕ, List, Err, length, map};
 ghost use Rattle.std.specs.Prelude.{IfOk, OnOk, OnErr, IsErrOf};
 ghost use Rattle.std.specs.List.{All};
-ghost use Rattle.agg_segment.specs.storage.Signs.{cell_sign, cell_mark, AreSigns, HasBoth};
+ghost use Rattle.agg_segment.specs.storage.Signs.{run_mark, AreSigns, HasBoth};
 ghost use Rattle.agg_segment.specs.storage.Signs.{without_signs};
 
 use crate::BuildError;
-use crate::storage::{Cell, CellValue, Sign};
+use crate::storage::{Run, Sign};
 use std::alloc::Global;
 
-/// The sign of what a cell keeps.
-fn sign_of(value: CellValue) -> Sign
-    ensures { result ≡ cell_sign value }
-{
-    match value {
-        CellValue::I64(n) if n < 0 => Sign::Negative,
-        CellValue::U64(_) => Sign::Large,
-        _ => Sign::Small,
-    }
-}
-
-/// Gives the fields of cells the signs of their numbers. The fields that had none are returned.
-pub fn give_signs(alloc: Global, signs: &mut [Sign], cells: &[Cell]) -> Result<Vec<u32>, BuildError>
-    requires { All (λ c. c.field < length signs.old) cells.now }
+/// Gives the fields of runs the signs of their numbers. The fields that had none are returned.
+pub fn give_signs(alloc: Global, signs: &mut [Sign], runs: &[Run]) -> Result<Vec<u32>, BuildError>
+    requires { All (λ run. run.kind.field < length signs.old) runs.now }
     ensures ok { OnOk result ((before : List (ℕ × Sign)) → AreSigns signs.old before
-        → AreSigns signs.new (before ++ map cell_mark cells.now)) }
+        → AreSigns signs.new (before ++ map run_mark runs.now)) }
     ensures mixed { IsErrOf result BuildError.MixedNumbers
         → (before : List (ℕ × Sign)) → AreSigns signs.old before
-        → HasBoth (before ++ map cell_mark cells.now) }
+        → HasBoth (before ++ map run_mark runs.now) }
     ensures few { result ≢ Err BuildError.TooManyDocuments }
     ensures undone { IfOk result
         (λ given. without_signs given.items signs.new ≡ signs.old) }
@@ -35,8 +24,8 @@ pub fn give_signs(alloc: Global, signs: &mut [Sign], cells: &[Cell]) -> Result<V
     ensures err { OnErr result (signs.new ≡ signs.old) }
 {
     let mut given = Vec::new(alloc);
-    for cell in cells {
-        if let Err(error) = give_sign(signs, &mut given, cell.field, sign_of(cell.value)) {
+    for run in runs {
+        if let Err(error) = give_sign(signs, &mut given, run.kind.field, run.kind.sign) {
             take_back(signs, given);
             return Err(error);
         }

@@ -1,11 +1,13 @@
 pub mod AscendingAddresses
 pub mod Classes
 pub mod DenseEnds
+pub mod Filters
 pub mod FirstNames
 pub mod GrowingNumbers
-pub mod KeptCells
+pub mod KeptNumbers
 pub mod Layouts
 pub mod Members
+pub mod NotedRuns
 pub mod Numbers
 pub mod OneEachNumbers
 pub mod Places

@@ -1,5 +1,5 @@
 -- Numbers with their documents, while more may come.
-use Rattle.std.specs.Prelude.{◌≤◌, ◌-◌, ⊤, ℕ, List, [], ◌∷◌, ◌++◌, length}
+use Rattle.std.specs.Prelude.{◌≤◌, ◌-◌, ⊤, ℕ, List, [], ◌∷◌, ◌++◌, length, map}
 use Rattle.std.specs.List.{zip, range_with_len}
 use Rattle.std.specs.List.Sorted.{IsNonDecreasing}
 use Rattle.agg_segment.specs.declared.storage.rows.growing.ManyNumbers.{ManyNumbers}
@@ -32,3 +32,7 @@ abbrev pub AreGrowing : Growing → Type 0
 AreGrowing Empty = ⊤
 AreGrowing (One number) = ⊤
 AreGrowing (Many many) = AreMany many.value
+
+-- numbers of one document
+abbrev pub doc_rows : ℕ → List ℕ → List (ℕ × ℕ)
+doc_rows doc numbers = map {B = ℕ × ℕ} (λ n. (doc, n)) numbers

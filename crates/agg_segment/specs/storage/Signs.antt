@@ -2,22 +2,20 @@
 use Rattle.std.specs.Prelude.{◌≡◌, ◌≢◌, ◌<◌}
 use Rattle.std.specs.Prelude.{ℕ, List, [], ◌∷◌, length, get_or, set}
 use Rattle.std.specs.List.{All, Contains}
-use Rattle.agg_values.specs.TypedKey.{CompositeIntermediateKey}
-use Rattle.agg_values.specs.declared.typed_key.CompositeIntermediateKey.TheVariants as key
 use Rattle.agg_segment.specs.SegmentLimits.{sign_of}
-use Rattle.agg_segment.specs.declared.storage.log.Cell.{Cell}
-use Rattle.agg_segment.specs.declared.storage.log.CellValue.{CellValue}
+use Rattle.agg_segment.specs.declared.storage.run.Run.{Run}
+use Rattle.agg_segment.specs.declared.storage.run.RunKind.{RunKind}
 use Rattle.agg_segment.specs.declared.storage.sign.Sign.{Sign}
 use Rattle.agg_segment.specs.declared.storage.sign.Sign.TheVariants.{Small, Negative, Large}
-use Rattle.agg_segment.specs.storage.Cells.{Placed, stored_key}
+use Rattle.agg_segment.specs.storage.Cells.{Placed}
 
--- that of what a cell keeps
-abbrev pub cell_sign : CellValue → Sign
-cell_sign value = sign_of (stored_key [] [] value)
+-- the field and sign of numbers of one kind
+abbrev pub kind_mark : RunKind → ℕ × Sign
+kind_mark kind = (kind.field, kind.sign)
 
--- a cell's field and sign
-abbrev pub cell_mark : Cell → ℕ × Sign
-cell_mark c = (c.field, cell_sign c.value)
+-- those of a run
+abbrev pub run_mark : Run → ℕ × Sign
+run_mark run = kind_mark run.kind
 
 -- a key's field and sign
 abbrev pub key_mark : Placed → ℕ × Sign

@@ -6,7 +6,7 @@ ghost use Rattle.std.specs.Map.{values_of};
 ghost use Rattle.agg_segment.specs.storage.Columns.{encoded_key, type_of, named_texts};
 ghost use Rattle.agg_segment.specs.storage.Columns.{StandsForKey};
 ghost use Rattle.agg_segment.specs.storage.GatheredNumbers.{raw_key, keyed_rows, IsEncodable};
-ghost use Rattle.agg_segment.specs.storage.Growing.{many_docs, many_rows, AreMany};
+ghost use Rattle.agg_segment.specs.storage.Growing.{doc_rows, many_docs, many_rows, AreMany};
 
 use super::ends::narrow;
 use super::{DocNumber, Rows};
@@ -80,6 +80,25 @@ impl GrowingRows {
             }
             Growing::Many(many) => push_number(many, doc, number),
         }
+    }
+
+    /// Appends numbers of the last document, or of one after it. After an error the first ones may
+    /// be there.
+    pub fn push_all(
+        &mut self,
+        alloc: Global,
+        doc: DocId,
+        numbers: &[u64],
+    ) -> Result<(), OutOfMemory>
+        requires { All (λ r. r.0 ≤ doc) self.old }
+        ensures ok { OnOk result (self.new ≡ self.old ++ doc_rows doc numbers.now) }
+        ensures some { (count : ℕ)
+            × (self.new ≡ self.old ++ doc_rows doc (take count numbers.now)) }
+    {
+        for number in numbers {
+            self.push(alloc, doc, *number)?;
+        }
+        Ok(())
     }
 
     /// Forgets the numbers of a document and of those after it.

@@ -20,7 +20,7 @@ into_columns-requires-clause-kept c =
 pub into_columns-requires-clause-signs : goal.into_columns-requires-clause-signs
 into_columns-requires-clause-signs c =
     let s = c.self.inside in
-    rw (read_kept s.signs.items c.deref-2.result.now s.columns s.log c.as_slice.result.now
+    rw (read_kept s.count s.signs.items c.deref-2.result.now s.columns s.log c.as_slice.result.now
     c.deref.result.now c.deref-2.ensures.value
     (c.as_slice.ensures ∙ c.into_kept-texts.ensures.texts)
     (c.deref.ensures.value ∙ c.into_kept-texts.ensures.addresses))
@@ -35,11 +35,12 @@ returns-clause-built c =
       names = names;
       columns = c.in_ok-columns.columns.items;
     })) c.into_numbers.ensures
-    ∙ built_documents s.count s.names (builder_cells s.signs.items s.columns s.log) s.signs.items
+    ∙ built_documents s.count s.names
+    (builder_cells s.count s.signs.items s.columns s.log) s.signs.items
     (length s.columns) c.self.invariant.0 c.in_ok-columns.columns.items
     (λ field doc. c.in_ok-columns.ensures.keys field doc
     ∙ ap (λ (cells : List Placed). by_class (keys_at cells field doc))
-    (read_kept s.signs.items c.deref-2.result.now s.columns s.log c.as_slice.result.now
+    (read_kept s.count s.signs.items c.deref-2.result.now s.columns s.log c.as_slice.result.now
     c.deref.result.now c.deref-2.ensures.value
     (c.as_slice.ensures ∙ c.into_kept-texts.ensures.texts)
     (c.deref.ensures.value ∙ c.into_kept-texts.ensures.addresses)))

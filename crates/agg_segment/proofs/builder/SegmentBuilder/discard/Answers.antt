@@ -7,13 +7,15 @@ use Rattle.agg_segment.proofs.BuilderDocuments.{discard_open, discard_documents}
 use Rattle.agg_segment.proofs.builder.SegmentBuilder.discard.Goals as goal
 
 -- the keys that are left
-left : (c : goal.After-clear) → builder_cells c.self.inside.signs.items c.self.inside.columns
+left : (c : goal.After-clear)
+    → builder_cells c.self.inside.count c.self.inside.signs.items c.self.inside.columns
     c.clear.new.self ≡ take (length c.self.inside.columns)
-    (builder_cells c.self.inside.signs.items c.self.inside.columns c.self.inside.log)
+    (builder_cells c.self.inside.count c.self.inside.signs.items c.self.inside.columns
+    c.self.inside.log)
 left c =
     let e = c.clear.ensures in
-    read_again c.self.inside.signs.items c.self.inside.columns c.self.inside.log c.clear.new.self
-    e.texts e.addresses e.cells
+    read_again c.self.inside.count c.self.inside.signs.items c.self.inside.columns
+    c.self.inside.log c.clear.new.self e.texts e.addresses e.keys
 
 pub invariant_of-self : goal.invariant_of-self
 invariant_of-self c =
@@ -23,7 +25,7 @@ invariant_of-self c =
         names = s.names;
         cells = cells;
       }) s.signs.items (length s.columns)) (sym (left c)) (discard_inv s.count s.names
-          (builder_cells s.signs.items s.columns s.log) s.signs.items (length s.columns)
+          (builder_cells s.count s.signs.items s.columns s.log) s.signs.items (length s.columns)
           c.self.invariant.0),
       rw (c.clear.ensures.texts, c.clear.ensures.addresses) c.self.invariant.1,
     )
@@ -36,7 +38,8 @@ returns-clause-opened c =
       names = s.names;
       cells = cells;
     })) (left c)
-    ∙ discard_open s.count s.names (builder_cells s.signs.items s.columns s.log) s.signs.items
+    ∙ discard_open s.count s.names
+    (builder_cells s.count s.signs.items s.columns s.log) s.signs.items
     (length s.columns) c.self.invariant.0
 
 pub returns-clause-documents : goal.returns-clause-documents
@@ -47,6 +50,6 @@ returns-clause-documents c =
       names = s.names;
       cells = cells;
     })) (left c)
-    ∙ discard_documents s.count s.names (builder_cells s.signs.items s.columns s.log)
+    ∙ discard_documents s.count s.names (builder_cells s.count s.signs.items s.columns s.log)
     s.signs.items (length s.columns) c.self.invariant.0
     ∙ ap gathered_documents c.self.view_is

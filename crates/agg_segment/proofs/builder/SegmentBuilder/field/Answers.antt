@@ -2,6 +2,7 @@ use Rattle.std.proofs.Common.{◌≡◌, ◌++◌, ◌∷◌, [], ℕ, List, Som
 use Rattle.std.proofs.Common.{arith}
 use Rattle.std.specs.Str.{bytes_eq}
 use Rattle.agg_segment.specs.storage.Cells.{Placed, number_of}
+use Rattle.agg_segment.specs.storage.Runs.{open_cells}
 use Rattle.agg_segment.specs.Segment.{builder_cells, gathered_documents, open_document}
 use Rattle.agg_segment.specs.declared.storage.sign.Sign.TheVariants.{Small}
 use Rattle.agg_segment.proofs.BuilderKeys.{padded_read}
@@ -25,16 +26,19 @@ more c n =
     (number_of names n)) c.find.ensures.names
 
 abbrev whole : (c : goal.In_ok-push) → List Placed
-whole c = builder_cells c.self.inside.signs.items c.self.inside.columns c.self.inside.log
+whole c = builder_cells c.self.inside.count c.self.inside.signs.items c.self.inside.columns
+    c.self.inside.log
 
 -- the keys with one sign more
 same : (c : goal.In_ok-push)
-    → builder_cells c.push.new.self.items c.self.inside.columns c.self.inside.log ≡ whole c
+    → builder_cells c.self.inside.count c.push.new.self.items c.self.inside.columns
+    c.self.inside.log ≡ whole c
 same c =
     let s = c.self.inside in
-    ap (λ signs. builder_cells signs s.columns s.log)
+    ap (λ signs. builder_cells s.count signs s.columns s.log)
     (c.in_ok-push.ensures.items ∙ ap (λ signs. signs ++ Small ∷ []) c.in_ok-reserve.ensures.items)
-    ∙ ap (λ ps. ps ++ s.log.cells) (padded_read s.signs.items s.log.texts s.log.addresses s.columns)
+    ∙ ap (λ ps. ps ++ open_cells s.count s.log)
+    (padded_read s.signs.items s.log.texts s.log.addresses s.columns)
 
 pub invariant_of-self-2 : goal.invariant_of-self-2
 invariant_of-self-2 c =

@@ -2,44 +2,43 @@ use Rattle.std.proofs.Common.{◌≡◌, ◌<◌, ◌++◌, ◌∷◌, [], List,
 use Rattle.std.proofs.Common.{length-append}
 use Rattle.std.proofs.lemmas.Result.{on_ok_weaker, on_err_weaker}
 use Rattle.agg_segment.specs.storage.Cells.{Placed, pushed_key}
+use Rattle.agg_segment.specs.storage.Runs.{FieldKey, in_document}
 use Rattle.agg_segment.specs.Segment.{Gathered, IsNameOf, IsGathered, with_key, builder_cells}
 use Rattle.agg_segment.specs.Segment.{gathered_documents, open_document}
 use Rattle.agg_segment.proofs.BuilderKeys.{read_beside, read_pushed, raws_longer}
-use Rattle.agg_segment.proofs.lemmas.storage.KeptCells.{on_either}
+use Rattle.agg_segment.proofs.lemmas.storage.Filters.{on_either}
 use Rattle.agg_segment.proofs.BuilderDocuments.{push_open, push_documents, push_inv}
 use Rattle.agg_segment.proofs.builder.SegmentBuilder.push_value.Goals as goal
 
--- the key of the value in its field and document
-abbrev one : (c : goal.After-push) → Placed
-one c = record {
-  field = c.args.field;
-  doc = c.self.inside.count;
-  key = pushed_key c.args.value;
-}
+-- the key of the value in its field
+abbrev one : (c : goal.After-push) → FieldKey
+one c = record { field = c.args.field; key = pushed_key c.args.value }
 
 abbrev whole : (c : goal.After-push) → List Placed
-whole c = builder_cells c.self.inside.signs.items c.self.inside.columns c.self.inside.log
+whole c = builder_cells c.self.inside.count c.self.inside.signs.items c.self.inside.columns
+    c.self.inside.log
 
 abbrev whole_new : (c : goal.After-push) → List Placed
-whole_new c = builder_cells c.self.inside.signs.items c.self.inside.columns c.push.new.self
+whole_new c = builder_cells c.self.inside.count c.self.inside.signs.items c.self.inside.columns
+    c.push.new.self
 
 pushed : (c : goal.After-push)
-    → c.push.new.self.cells ≡ c.self.inside.log.cells ++ one c ∷ []
-    → whole_new c ≡ whole c ++ one c ∷ []
+    → c.push.new.self.keys ≡ c.self.inside.log.keys ++ one c ∷ []
+    → whole_new c ≡ whole c ++ in_document c.self.inside.count (one c) ∷ []
 pushed c is =
     let s = c.self.inside in
     let t = c.push.ensures.texts in
     let a = c.push.ensures.addresses in
-    read_pushed s.signs.items s.columns s.log c.push.new.self t.0 a.0 (one c) t.1 a.1
+    read_pushed s.count s.signs.items s.columns s.log c.push.new.self t.0 a.0 (one c) t.1 a.1
     c.self.invariant.1 is
 
-stayed : (c : goal.After-push) → c.push.new.self.cells ≡ c.self.inside.log.cells
+stayed : (c : goal.After-push) → c.push.new.self.keys ≡ c.self.inside.log.keys
     → whole_new c ≡ whole c
 stayed c is =
     let s = c.self.inside in
     let t = c.push.ensures.texts in
     let a = c.push.ensures.addresses in
-    read_beside s.signs.items s.columns s.log c.push.new.self t.0 a.0 s.log.cells t.1 a.1
+    read_beside s.count s.signs.items s.columns s.log c.push.new.self t.0 a.0 s.log.keys t.1 a.1
     c.self.invariant.1 is
 
 pub invariant_of-self : goal.invariant_of-self

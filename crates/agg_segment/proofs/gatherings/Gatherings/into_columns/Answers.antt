@@ -3,10 +3,11 @@ use Rattle.std.proofs.lemmas.List.Sorted.{All-permutation}
 use Rattle.std.proofs.lemmas.Result.{IfOk-weaker}
 use Rattle.agg_segment.specs.storage.Cells.{keys_at}
 use Rattle.agg_segment.specs.storage.Document.{by_class}
-use Rattle.agg_segment.specs.Gatherings.{Raw, raws, raw_placed, IsRaw, IsWide}
+use Rattle.agg_segment.specs.Gatherings.{Raw, raws, raw_placed, IsWide}
 use Rattle.agg_segment.specs.storage.Signs.{key_mark, AreSigns}
 use Rattle.agg_segment.specs.declared.gatherings.Gathering.{Gathering}
 use Rattle.agg_segment.specs.declared.storage.sign.Sign.TheVariants.{Small}
+use Rattle.agg_segment.specs.storage.GatheredNumbers.{IsRaw}
 use Rattle.agg_segment.proofs.AlikeNumbers.{alike_all}
 use Rattle.agg_segment.proofs.WideColumns.{wide_columns}
 use Rattle.agg_segment.proofs.ColumnOrder.{in_order}

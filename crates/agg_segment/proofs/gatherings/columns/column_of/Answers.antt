@@ -1,8 +1,8 @@
 use Rattle.std.proofs.Common.{◌≡◌, length, get_or, ap, subst, ◌∙◌}
 use Rattle.std.specs.List.{All}
 use Rattle.agg_segment.specs.storage.Columns.{StoredColumn, encoded_key}
-use Rattle.agg_segment.specs.Gatherings.{kind_of, IsRaw}
 use Rattle.agg_segment.specs.storage.GatheredNumbers.{raw_key, keyed_rows, IsEncodable}
+use Rattle.agg_segment.specs.storage.GatheredNumbers.{kind_of, IsRaw}
 use Rattle.agg_segment.proofs.OrdinalKeys.{encodable_itself, numbers_all, all_numbers, named_rows}
 use Rattle.agg_segment.proofs.EncodedColumns.{wide_rows}
 use Rattle.agg_segment.proofs.gatherings.columns.column_of.Goals as goal

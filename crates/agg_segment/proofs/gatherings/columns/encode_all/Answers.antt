@@ -3,10 +3,11 @@ use Rattle.std.specs.Prelude.{reverse, flat_map}
 use Rattle.std.specs.List.{All}
 use Rattle.std.proofs.lemmas.List.{with_items_is, reverse-append}
 use Rattle.agg_segment.specs.storage.Columns.{column_cells}
-use Rattle.agg_segment.specs.Gatherings.{Raw, raws, raw_placed, IsRaw, IsWide, column_classes}
+use Rattle.agg_segment.specs.Gatherings.{Raw, raws, raw_placed, IsWide, column_classes}
 use Rattle.agg_segment.specs.Gatherings.{gathering_classes}
 use Rattle.agg_segment.specs.declared.gatherings.Gathering.{Gathering}
 use Rattle.agg_segment.specs.declared.storage.sign.Sign.TheVariants.{Small}
+use Rattle.agg_segment.specs.storage.GatheredNumbers.{IsRaw}
 use Rattle.agg_segment.proofs.EncodedColumns.{column_is, next_cells, next_classes, rank_is}
 use Rattle.agg_segment.proofs.EncodedColumns.{kept_last, kept_rest, all_last, all_rest}
 use Rattle.agg_segment.proofs.gatherings.columns.encode_all.Goals as goal

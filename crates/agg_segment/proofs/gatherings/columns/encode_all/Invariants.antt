@@ -2,8 +2,9 @@ use Rattle.std.proofs.Common.{◌≡◌, ◌++◌, length, map, vec_len}
 use Rattle.std.specs.Prelude.{flat_map, reverse}
 use Rattle.std.specs.List.{All}
 use Rattle.agg_segment.specs.storage.Columns.{column_cells}
-use Rattle.agg_segment.specs.Gatherings.{raws, raw_placed, IsRaw, AreWide, gathering_classes}
+use Rattle.agg_segment.specs.Gatherings.{raws, raw_placed, AreWide, gathering_classes}
 use Rattle.agg_segment.specs.Gatherings.{column_classes}
+use Rattle.agg_segment.specs.storage.GatheredNumbers.{IsRaw}
 use Rattle.agg_segment.proofs.gatherings.columns.encode_all.Given as goal
 
 abbrev pub decreases-loop-gathering : goal.decreases-loop-gathering

@@ -1,4 +1,4 @@
-use Rattle.agg_segment.proofs.lemmas.storage.KeptCells.{numbers_stand}
+use Rattle.agg_segment.proofs.lemmas.storage.Filters.{numbers_stand}
 use Rattle.agg_segment.proofs.storage.column.Column.values_for_doc.Goals as goal
 
 pub returns-clause-stand : goal.returns-clause-stand
